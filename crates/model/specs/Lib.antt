@@ -1,5 +1,6 @@
 pub mod Lists
 pub mod Model
 pub mod Run
+pub mod Sound
 pub mod Snapshot
 pub mod Examples
