@@ -1,0 +1,16 @@
+pub mod SparseSets
+pub mod Groups
+pub mod Walk
+pub mod WalkDown
+pub mod Families
+pub mod Invariant
+pub mod Removal
+pub mod Regroup
+pub mod Draft
+pub mod Numbers
+pub mod Sound
+pub mod Demand
+pub mod Values
+pub mod Snapshots
+pub mod Encoding
+pub mod Listing

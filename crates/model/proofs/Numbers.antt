@@ -1,0 +1,176 @@
+-- The numbers: each issued index is live or recycled at most once. Assumes nothing.
+use mathlib.Core.Path.{_≡_, refl, ap, ap₂, sym, _∙_, subst}
+use mathlib.Core.Logic.{_⊎_, inl, inr, ⊎-elim}
+use mathlib.Core.Bool.{Bool, true, false, cond, _&&_, true≢false, false≢true}
+use mathlib.Core.List.{List, [], _∷_, _++_, map, append-assoc, append-nil}
+use Prim.Native.Nat.{ℕ, zero, suc, _+_, _-_, _≤_, _<_}
+use native.Mathlib.Omega.{arith}
+use native.Mathlib.Decide.{ℕ-discrete}
+use borrow.Author.Tests.{ltb-true, ltb-false, eqb-true, eq-eqb, ne-eqb}
+use lib.Dec.{ltb, eqb}
+use lib.ListN.{length, take, getD, set, List·getD-map, length-map}
+use Rattle.model.specs.Lists.{one, count, place, count-append, count-place, place-count, getD-place, cutAt, count-cutAt, map-cutAt, count-length-le}
+use Rattle.model.specs.Model.{Entity, Entities, Created, sameEntity, noEntity, create, createWith, destroy, isLive, lastVersion}
+use Rattle.model.proofs.SparseSets.{entity-eq, entity-same, cond-case, and-left}
+use Rattle.model.proofs.Groups.{cnt, plc}
+use Rattle.model.proofs.Walk.{bool-cases, But}
+
+abbrev pub idxOf : Entity → ℕ
+idxOf e = e .index
+
+-- how many entities of the list have index i
+abbrev pub num : ℕ → List Entity → ℕ
+num i l = count eqb i (map idxOf l)
+
+pub record EntitiesOk (c : Entities) : Type 0 where
+  pub single : (i : ℕ) → num i (c .live) + num i (c .recycled) ≤ 1
+  pub below : (i : ℕ) → 1 ≤ num i (c .live) + num i (c .recycled) → i < c .issued
+  pub positive : (x : Entity) → 1 ≤ cnt x (c .live) + cnt x (c .recycled) → 1 ≤ x .version
+  pub small : (x : Entity) → 1 ≤ cnt x (c .live) + cnt x (c .recycled) → x .version ≤ lastVersion
+
+one-le : (x y : Entity) → one (sameEntity x y) ≤ one (eqb (x .index) (y .index))
+one-le x y = go (eqb (x .index) (y .index)) (eqb (x .version) (y .version))
+  where
+    go : (a b : Bool) → one (a && b) ≤ one a
+    go true true = omega arith
+    go true false = omega arith
+    go false b = omega arith
+
+pub cnt-num : (x : Entity) (l : List Entity) → cnt x l ≤ num (x .index) l
+cnt-num x [] = omega arith
+cnt-num x (y ∷ l) = omega (arith, cnt-num x l, one-le x y)
+
+num-snoc : (i : ℕ) (l : List Entity) (e : Entity) → num i (l ++ (e ∷ [])) ≡ num i l + one (eqb i (e .index))
+num-snoc i [] e = omega arith
+num-snoc i (x ∷ l) e = omega (arith, num-snoc i l e)
+
+cnt-snoc : (x : Entity) (l : List Entity) (e : Entity) → cnt x (l ++ (e ∷ [])) ≡ cnt x l + one (sameEntity x e)
+cnt-snoc x l e = omega (arith, count-append sameEntity x l (e ∷ []))
+
+same-version : (x y : Entity) → 1 ≤ one (sameEntity x y) → x ≡ y
+same-version x y h = bool-cases (sameEntity x y) (λ t. entity-eq x y t) (λ t. absurd (omega (arith, rw t at h)))
+
+-- ---- a entity is created
+
+create-with : (w : List Entity) (c : Entities) → c .recycled ≡ w → EntitiesOk c → EntitiesOk ((createWith w c) .entities)
+create-with [] c e ok =
+    let new : Entity = record { index = c .issued; version = 1 } in
+    let w₀ : (i : ℕ) → num i (c .recycled) ≡ 0 = λ i. ap (num i) e in
+    let none : num (c .issued) (c .live) + num (c .issued) (c .recycled) ≡ 0 = zero-of (λ h. omega (arith, ok .below (c .issued) h)) in
+    record {
+      single = λ i. ⊎-elim
+          (λ p. omega (arith, num-snoc i (c .live) new, ok .single i, none, ap (λ (j : ℕ). num j (c .live)) p, ap one (eq-eqb i (c .issued) p)))
+          (λ p. omega (arith, num-snoc i (c .live) new, ok .single i, ap one (ne-eqb i (c .issued) p)))
+          (split i (c .issued));
+      below = λ i h. ⊎-elim
+          (λ p. omega (arith, p))
+          (λ p. omega (arith, ok .below i (omega (arith, num-snoc i (c .live) new, w₀ i, ap one (ne-eqb i (c .issued) p)))))
+          (split i (c .issued));
+      positive = λ x h. bool-cases (sameEntity x new) (λ t. omega (arith, ap (λ (y : Entity). y .version) (entity-eq x new t))) (λ t. ok .positive x (omega (arith, cnt-snoc x (c .live) new, ap one t)));
+      small = λ x h. bool-cases (sameEntity x new) (λ t. omega (arith, ap (λ (y : Entity). y .version) (entity-eq x new t))) (λ t. ok .small x (omega (arith, cnt-snoc x (c .live) new, ap one t)));
+    }
+  where
+    zero-of : {n : ℕ} → (1 ≤ n → ⊥) → n ≡ 0
+    zero-of f = let no : ¬ (1 ≤ _) = f in omega arith
+
+    split : (i j : ℕ) → (i ≡ j) ⊎ (i ≡ j → ⊥)
+    split i j = go (ℕ-discrete i j)
+      where
+        go : Dec (i ≡ j) → (i ≡ j) ⊎ (i ≡ j → ⊥)
+        go (yes p) = inl p
+        go (no p) = inr p
+create-with (e ∷ es) c p ok =
+    record {
+      single = λ i. omega (arith, num-snoc i (c .live) e, ok .single i, ap (num i) p);
+      below = λ i h. ok .below i (omega (arith, num-snoc i (c .live) e, ap (num i) p));
+      positive = λ x h. ok .positive x (omega (arith, cnt-snoc x (c .live) e, ap (cnt x) p));
+      small = λ x h. ok .small x (omega (arith, cnt-snoc x (c .live) e, ap (cnt x) p));
+    }
+
+pub create-ok : (c : Entities) → EntitiesOk c → EntitiesOk ((create c) .entities)
+unfolding create
+create-ok c ok = create-with (c .recycled) c refl ok
+
+create-live-with : (w : List Entity) (c : Entities) (x : Entity) → cnt x ((createWith w c) .entities .live) ≡ cnt x (c .live) + one (sameEntity x ((createWith w c) .entity))
+create-live-with [] c x = cnt-snoc x (c .live) (record { index = c .issued; version = 1 })
+create-live-with (e ∷ es) c x = cnt-snoc x (c .live) e
+
+pub create-live : (c : Entities) (x : Entity) → cnt x ((create c) .entities .live) ≡ cnt x (c .live) + one (sameEntity x ((create c) .entity))
+unfolding create
+create-live c x = create-live-with (c .recycled) c x
+
+-- ---- a entity is destroyed
+
+module _ (e : Entity) (c : Entities) (alive : 1 ≤ cnt e (c .live)) where
+  at-place : plc e (c .live) < length (c .live)
+  at-place = count-place sameEntity e (c .live) alive
+
+  pub cnt-cut : (x : Entity) → cnt x ((destroy e c) .live) + one (sameEntity x e) ≡ cnt x (c .live)
+  unfolding destroy
+  cnt-cut x = rw (getD-place sameEntity entity-eq e noEntity (c .live) at-place) at (count-cutAt sameEntity noEntity (plc e (c .live)) (c .live) at-place x)
+
+  num-cut : (i : ℕ) → num i ((destroy e c) .live) + one (eqb i (e .index)) ≡ num i (c .live)
+  unfolding destroy
+  num-cut i =
+      let p : plc e (c .live) < length (map idxOf (c .live)) = rw (length-map (c .live) idxOf) at-place in
+      let g : getD (map idxOf (c .live)) (plc e (c .live)) 0 ≡ e .index = List·getD-map idxOf (c .live) (plc e (c .live)) noEntity ∙ ap idxOf (getD-place sameEntity entity-eq e noEntity (c .live) at-place) in
+      let a = rw g at (count-cutAt eqb 0 (plc e (c .live)) (map idxOf (c .live)) p i) in
+      omega (arith, a, ap (count eqb i) (map-cutAt idxOf noEntity (plc e (c .live)) (c .live)))
+
+  abbrev next : Entity
+  next = record { index = e .index; version = suc (e .version) }
+
+  waits-at : (P : List Entity → Type 0) → (e .version < lastVersion → P (c .recycled ++ (next ∷ []))) → P (c .recycled) → P ((destroy e c) .recycled)
+  unfolding destroy
+  waits-at P a b = cond-case P (ltb (e .version) lastVersion) _ _ (λ t. a (ltb-true (e .version) lastVersion t)) (λ t. b)
+
+  waits : (P : List Entity → Type 0) → P (c .recycled ++ (next ∷ [])) → P (c .recycled) → P ((destroy e c) .recycled)
+  unfolding destroy
+  waits P a b = cond-case P (ltb (e .version) lastVersion) _ _ (λ t. a) (λ t. b)
+
+  issued-same : (i : ℕ) → i < c .issued → i < (destroy e c) .issued
+  unfolding destroy
+  issued-same i h = h
+
+  pub destroy-ok : EntitiesOk c → EntitiesOk (destroy e c)
+  destroy-ok ok =
+      record {
+        single = λ i. waits (λ (w : List Entity). num i ((destroy e c) .live) + num i w ≤ 1) (omega (arith, num-snoc i (c .recycled) next, num-cut i, ok .single i)) (omega (arith, num-cut i, ok .single i));
+        below = λ i. waits (λ (w : List Entity). 1 ≤ num i ((destroy e c) .live) + num i w → i < (destroy e c) .issued) (λ h. issued-same i (ok .below i (omega (arith, num-snoc i (c .recycled) next, num-cut i)))) (λ h. issued-same i (ok .below i (omega (arith, num-cut i))));
+        positive = λ x. waits (λ (w : List Entity). 1 ≤ cnt x ((destroy e c) .live) + cnt x w → 1 ≤ x .version)
+            (λ h. bool-cases (sameEntity x next) (λ t. omega (arith, ap (λ (y : Entity). y .version) (entity-eq x next t))) (λ t. ok .positive x (omega (arith, cnt-snoc x (c .recycled) next, ap one t, cnt-cut x))))
+            (λ h. ok .positive x (omega (arith, cnt-cut x)));
+        small = λ x. waits-at (λ (w : List Entity). 1 ≤ cnt x ((destroy e c) .live) + cnt x w → x .version ≤ lastVersion)
+            (λ lt h. bool-cases (sameEntity x next) (λ t. omega (arith, ap (λ (y : Entity). y .version) (entity-eq x next t))) (λ t. ok .small x (omega (arith, cnt-snoc x (c .recycled) next, ap one t, cnt-cut x))))
+            (λ h. ok .small x (omega (arith, cnt-cut x)));
+      }
+
+-- ---- how many are live
+
+abbrev upTo : ℕ → List ℕ
+upTo zero = []
+upTo (suc n) = n ∷ upTo n
+
+length-upTo : (n : ℕ) → length (upTo n) ≡ n
+length-upTo zero = refl
+length-upTo (suc n) = ap suc (length-upTo n)
+
+in-upTo : (n i : ℕ) → i < n → 1 ≤ count eqb i (upTo n)
+in-upTo zero i h = absurd (omega arith)
+in-upTo (suc n) i h = go (in-upTo n i) (ℕ-discrete i n)
+  where
+    go : (i < n → 1 ≤ count eqb i (upTo n)) → Dec (i ≡ n) → 1 ≤ one (eqb i n) + count eqb i (upTo n)
+    go r (yes p) = omega (arith, ap one (eq-eqb i n p))
+    go r (no p) = omega (arith, r (omega arith))
+
+pub live-few : (c : Entities) → EntitiesOk c → length (c .live) ≤ c .issued
+live-few c ok =
+    let le = count-length-le eqb (λ x y. eqb-true x y) (λ x. eq-eqb x x refl) (map idxOf (c .live)) (upTo (c .issued)) few in
+    omega (arith, le, length-upTo (c .issued), length-map (c .live) idxOf)
+  where
+    few : (i : ℕ) → num i (c .live) ≤ count eqb i (upTo (c .issued))
+    few i = go (num i (c .live)) refl
+      where
+        go : (m : ℕ) → num i (c .live) ≡ m → m ≤ count eqb i (upTo (c .issued))
+        go zero e = omega arith
+        go (suc m) e = omega (arith, e, ok .single i, in-upTo (c .issued) i (ok .below i (omega (arith, e))))

@@ -1,0 +1,179 @@
+-- Applying a layout, and wiping, establish the invariant. Assumes nothing.
+use mathlib.Core.Path.{_≡_, refl, ap, ap₂, sym, _∙_, subst}
+use mathlib.Core.Logic.{_⊎_, inl, inr, ⊎-elim}
+use mathlib.Core.Bool.{Bool, true, false, cond, true≢false, false≢true}
+use mathlib.Core.List.{List, [], _∷_, _++_, map, append-assoc}
+use Prim.Native.Nat.{ℕ, zero, suc, _+_, _-_, _≤_, _<_}
+use native.Mathlib.Omega.{arith}
+use lib.ListN.{length, take, drop, getD, length-map}
+use Rattle.model.specs.Lists.{one}
+use Rattle.model.specs.Model.{Entity, SparseSet, Group, Family, Storage, Walked, sameEntity, mem, headKind, kindsOf, setOf, groupFamily, groupAll, regroup, setLayout, clearAll, zeroCount}
+use Rattle.model.proofs.SparseSets.{entity-eq, key}
+use Rattle.model.proofs.Groups.{cnt, plc, In, Even, Full, SameEntities}
+use Rattle.model.proofs.Walk.{Below, Chain, Every, But, Plus, GroupRight, Up, groupFamily-good, bool-cases, in-left, in-right, or-false, mem-append, chain-weaken}
+use Rattle.model.proofs.Families.{Fams, Apart, allKinds, famKinds, chain-other, or-false-right, not-both}
+use Rattle.model.proofs.Invariant.{Fit, length-groupFamily}
+
+-- ---- families that are right for the entities of W
+
+abbrev FamsFor : (ℕ → List Entity) → (Entity → Type 0) → List Family → Type 0
+FamsFor key W [] = Unit {0}
+FamsFor key W (f ∷ fs) = Chain key W [] f × FamsFor key W fs
+
+fams-other : (key new : ℕ → List Entity) (W : Entity → Type 0) (fs : List Family) → ((k : ℕ) → In (allKinds (famKinds fs)) k → new k ≡ key k) → FamsFor key W fs → FamsFor new W fs
+fams-other key new W [] s fm = tt
+fams-other key new W (f ∷ fs) s fm = (
+  chain-other key new W [] f (λ k i. s k (in-left (kindsOf f) (allKinds (famKinds fs)) k i)) (fm .0),
+  fams-other key new W fs (λ k i. s k (in-right (kindsOf f) (allKinds (famKinds fs)) k i)) (fm .1),
+)
+
+fams-weaken : (key : ℕ → List Entity) (Z W : Entity → Type 0) → ((x : Entity) → Z x → W x) → (fs : List Family) → FamsFor key W fs → FamsFor key Z fs
+fams-weaken key Z W f [] fm = tt
+fams-weaken key Z W f (r ∷ rs) fm = (chain-weaken key Z W f [] r (fm .0), fams-weaken key Z W f rs (fm .1))
+
+record UpEvery (W : Entity → Type 0) (e : Entity) (sets : List SparseSet) (fs : List Family) (p : Storage) : Type 0 where
+  pub same : SameEntities (key sets) (key (p .sets))
+  pub fams : FamsFor (key (p .sets)) (Plus W e) (p .layout)
+  pub other : (k : ℕ) → mem k (allKinds (famKinds fs)) ≡ false → key (p .sets) k ≡ key sets k
+  pub kinds : famKinds (p .layout) ≡ famKinds fs
+  pub wide : length (p .sets) ≡ length sets
+
+groupFamily-every-good : (W : Entity → Type 0) (e : Entity) (sets : List SparseSet) (fs : List Family) → Apart (famKinds fs) → FamsFor (key sets) W fs → UpEvery W e sets fs (groupAll e sets fs)
+unfolding groupAll
+groupFamily-every-good W e sets [] a fm = record { same = record { entities = λ x k. refl; lengths = λ k. refl }; fams = tt; other = λ k n. refl; kinds = refl; wide = refl }
+groupFamily-every-good W e sets (f ∷ fs) a fm =
+    let w : Walked = groupFamily e [] sets f in
+    let K : List ℕ = allKinds (famKinds fs) in
+    let U : Up W e [] sets f (groupFamily e [] sets f) = groupFamily-good W e [] sets f (λ k i. absurd (false≢true i)) (fm .0) in
+    let R : UpEvery W e (w .sets) fs (groupAll e (w .sets) fs) = groupFamily-every-good W e ((groupFamily e [] sets f) .sets) fs (a .1) (fams-other (key sets) (key (w .sets)) W fs (λ k i. U .other k (not-both (kindsOf f) K k (a .0 k) i)) (fm .1)) in
+    record {
+      same = record { entities = λ x k. R .same .entities x k ∙ U .same .entities x k; lengths = λ k. R .same .lengths k ∙ U .same .lengths k };
+      fams = (chain-other (key (w .sets)) (key ((groupAll e (w .sets) fs) .sets)) (Plus W e) [] (w .groups) (λ k i. R .other k (a .0 k (rw (U .kinds) at i))) (U .chain), R .fams);
+      other = λ k n.
+          let n′ = sym (mem-append k (kindsOf f) K) ∙ n in
+          R .other k (or-false-right (mem k (kindsOf f)) (mem k K) n′) ∙ U .other k (or-false (mem k (kindsOf f)) (mem k K) n′);
+      kinds = ap₂ {C = List (List ℕ)} (λ x xs. x ∷ xs) (U .kinds) (R .kinds);
+      wide = R .wide ∙ length-groupFamily e [] sets f;
+    }
+
+-- ---- all live entities are walked
+
+abbrev Or : (Entity → Type 0) → List Entity → Entity → Type 0
+Or W es x = W x ⊎ (1 ≤ cnt x es)
+
+record Regrouped (W : Entity → Type 0) (es : List Entity) (s p : Storage) : Type 0 where
+  pub same : SameEntities (key (s .sets)) (key (p .sets))
+  pub fams : FamsFor (key (p .sets)) (Or W es) (p .layout)
+  pub kinds : famKinds (p .layout) ≡ famKinds (s .layout)
+  pub wide : length (p .sets) ≡ length (s .sets)
+
+regroup-good : (W : Entity → Type 0) (es : List Entity) (s : Storage) → Apart (famKinds (s .layout)) → FamsFor (key (s .sets)) W (s .layout) → Regrouped W es s (regroup es s)
+unfolding regroup
+regroup-good W [] s a fm =
+    record { same = record { entities = λ x k. refl; lengths = λ k. refl }; fams = fams-weaken (key (s .sets)) (Or W []) W (λ x. ⊎-elim (λ w. w) (λ h. absurd (omega arith))) (s .layout) fm; kinds = refl; wide = refl }
+regroup-good W (e ∷ es) s a fm =
+    let q : Storage = groupAll e (s .sets) (s .layout) in
+    let U : UpEvery W e (s .sets) (s .layout) (groupAll e (s .sets) (s .layout)) = groupFamily-every-good W e (s .sets) (s .layout) a fm in
+    let R : Regrouped (Plus W e) es q (regroup es q) = regroup-good (Plus W e) es (groupAll e (s .sets) (s .layout)) (rw (U .kinds) a) (U .fams) in
+    record {
+      same = record { entities = λ x k. R .same .entities x k ∙ U .same .entities x k; lengths = λ k. R .same .lengths k ∙ U .same .lengths k };
+      fams = fams-weaken (key ((regroup es q) .sets)) (Or W (e ∷ es)) (Or (Plus W e) es) (λ x. ⊎-elim (λ w. inl (inl w)) (λ h. bool-cases (sameEntity x e) (λ t. inl (inr t)) (λ t. inr (omega (arith, rw t at h))))) ((regroup es q) .layout) (R .fams);
+      kinds = R .kinds ∙ U .kinds;
+      wide = R .wide ∙ U .wide;
+    }
+
+-- ---- a draft's families, all counts 0
+
+abbrev pub Fresh : Family → Type 0
+Fresh [] = Unit {0}
+Fresh (r ∷ rs) = In (r .newKinds) (headKind (r .newKinds)) × (r .count ≡ 0) × Fresh rs
+
+abbrev pub FreshAll : List Family → Type 0
+FreshAll [] = Unit {0}
+FreshAll (f ∷ fs) = Fresh f × FreshAll fs
+
+abbrev None : Entity → Type 0
+None x = ⊥
+
+chain-fresh : (key : ℕ → List Entity) (acc : List ℕ) (rs : Family) → Fresh rs → Chain key None acc rs
+chain-fresh key acc [] fr = tt
+chain-fresh key acc (r ∷ rs) fr = (
+  record { head = fr .0; even = rw (fr .1) (record { fit = λ k i. omega arith; align = λ j k i i′. refl }); full = λ x w. absurd w },
+  below rs (fr .2),
+  chain-fresh key (acc ++ r .newKinds) rs (fr .2),
+)
+  where
+    below : (ss : Family) → Fresh ss → Below (r .count) ss
+    below [] g = tt
+    below (t ∷ ts) g = omega (arith, g .1)
+
+fams-fresh : (key : ℕ → List Entity) (fs : List Family) → FreshAll fs → FamsFor key None fs
+fams-fresh key [] fr = tt
+fams-fresh key (f ∷ fs) fr = (chain-fresh key [] f (fr .0), fams-fresh key fs (fr .1))
+
+-- where each entity of a sparse set is one of W, what is right for W is right
+chain-all : (key : ℕ → List Entity) (W : Entity → Type 0) → ((x : Entity) (k : ℕ) → 1 ≤ cnt x (key k) → W x) → (acc : List ℕ) (rs : Family) → Chain key W acc rs → Chain key Every acc rs
+chain-all key W f acc [] ch = tt
+chain-all key W f acc (r ∷ rs) ch = (
+  record { head = ch .0 .head; even = ch .0 .even; full = λ x w all k i. ch .0 .full x (f x (headKind (r .newKinds)) (all (headKind (r .newKinds)) (in-right acc (r .newKinds) (headKind (r .newKinds)) (ch .0 .head)))) all k i },
+  ch .1,
+  chain-all key W f (acc ++ r .newKinds) rs (ch .2),
+)
+
+fams-all : (key : ℕ → List Entity) (W : Entity → Type 0) → ((x : Entity) (k : ℕ) → 1 ≤ cnt x (key k) → W x) → (fs : List Family) → FamsFor key W fs → Fams key fs
+fams-all key W f [] fm = tt
+fams-all key W f (r ∷ rs) fm = (chain-all key W f [] r (fm .0), fams-all key W f rs (fm .1))
+
+pub setLayout-fit : (live : List Entity) (draft : List Family) (p : Storage) → ((x : Entity) (k : ℕ) → 1 ≤ cnt x (key (p .sets) k) → 1 ≤ cnt x live) → FreshAll draft → Apart (famKinds draft) → Fit p → Fit (setLayout live draft p)
+unfolding setLayout
+setLayout-fit live draft p alive fr a f =
+    let s : Storage = record { sets = p .sets; layout = draft } in
+    let R : Regrouped None live s (regroup live s) = regroup-good None live s a (fams-fresh (key (p .sets)) draft fr) in
+    record {
+      once = λ x k. rw (R .same .entities x k) (f .once x k);
+      fams = fams-all (key ((regroup live s) .sets)) (Or None live) (λ x k h. inr (alive x k (rw (R .same .entities x k) at h))) ((regroup live s) .layout) (R .fams);
+      apart = rw (R .kinds) a;
+      wide = R .wide ∙ f .wide;
+    }
+
+pub setLayout-entities : (live : List Entity) (draft : List Family) (p : Storage) → FreshAll draft → Apart (famKinds draft) → (x : Entity) (k : ℕ) → cnt x (key ((setLayout live draft p) .sets) k) ≡ cnt x (key (p .sets) k)
+unfolding setLayout
+setLayout-entities live draft p fr a x k = regroup-good None live (record { sets = p .sets; layout = draft }) a (fams-fresh (key (p .sets)) draft fr) .same .entities x k
+
+-- ---- a wiped store
+
+key-wiped : (sets : List SparseSet) (k : ℕ) → key (map (λ (c : SparseSet). []) sets) k ≡ []
+key-wiped [] k = refl
+key-wiped (c ∷ cs) zero = refl
+key-wiped (c ∷ cs) (suc k) = key-wiped cs k
+
+zero-kinds : (f : Family) → kindsOf (map zeroCount f) ≡ kindsOf f
+zero-kinds [] = refl
+zero-kinds (r ∷ rs) = ap (λ (l : List ℕ). r .newKinds ++ l) (zero-kinds rs)
+
+zero-fam-kinds : (fs : List Family) → famKinds (map (map zeroCount) fs) ≡ famKinds fs
+zero-fam-kinds [] = refl
+zero-fam-kinds (f ∷ fs) = ap₂ {C = List (List ℕ)} (λ x xs. x ∷ xs) (zero-kinds f) (zero-fam-kinds fs)
+
+zero-fresh : (key : ℕ → List Entity) (W : Entity → Type 0) (acc : List ℕ) (f : Family) → Chain key W acc f → Fresh (map zeroCount f)
+zero-fresh key W acc [] ch = tt
+zero-fresh key W acc (r ∷ rs) ch = (ch .0 .head, refl, zero-fresh key W (acc ++ r .newKinds) rs (ch .2))
+
+zero-fresh-all : (key : ℕ → List Entity) (fs : List Family) → Fams key fs → FreshAll (map (map zeroCount) fs)
+zero-fresh-all key [] fm = tt
+zero-fresh-all key (f ∷ fs) fm = (zero-fresh key Every [] f (fm .0), zero-fresh-all key fs (fm .1))
+
+pub clearAll-entities : (p : Storage) (x : Entity) (k : ℕ) → cnt x (key ((clearAll p) .sets) k) ≡ 0
+unfolding clearAll
+clearAll-entities p x k = rw (key-wiped (p .sets) k)
+
+pub clearAll-fit : (p : Storage) → Fit p → Fit (clearAll p)
+unfolding clearAll
+clearAll-fit p f =
+    let no : (x : Entity) (k : ℕ) → cnt x (key (map (λ (c : SparseSet). []) (p .sets)) k) ≡ 0 = λ x k. rw (key-wiped (p .sets) k) in
+    record {
+      once = λ x k. omega (arith, no x k);
+      fams = fams-all (key (map (λ (c : SparseSet). []) (p .sets))) None (λ x k h. omega (arith, no x k)) (map (map zeroCount) (p .layout)) (fams-fresh (key (map (λ (c : SparseSet). []) (p .sets))) (map (map zeroCount) (p .layout)) (zero-fresh-all (key (p .sets)) (p .layout) (f .fams)));
+      apart = rw (zero-fam-kinds (p .layout)) (f .apart);
+      wide = length-map (p .sets) (λ (c : SparseSet). []) ∙ f .wide;
+    }

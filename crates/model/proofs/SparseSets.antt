@@ -1,0 +1,65 @@
+-- Columns read by kind: what a walk's swap does to the entities of each. Assumes nothing.
+use mathlib.Core.Path.{_≡_, refl, ap, ap₂, sym, _∙_, subst}
+use mathlib.Core.Bool.{Bool, true, false, cond, _&&_, _||_}
+use mathlib.Core.List.{List, [], _∷_, _++_, map}
+use Prim.Native.Nat.{ℕ, zero, suc, _+_, _-_, _≤_, _<_}
+use native.Mathlib.Omega.{arith}
+use native.Mathlib.Nat.{zero-add, add-zero, suc-add, add-suc}
+use borrow.Author.Tests.{eqb-true, eqb-false, eq-eqb}
+use lib.Dec.{eqb, ltb}
+use lib.ListN.{length, take, drop, getD, set, length-map, List·getD-map}
+use Rattle.model.specs.Lists.{swap, count, place, one, after}
+use Rattle.model.specs.Model.{Entity, Row, SparseSet, sameEntity, noEntity, noRow, mem, setOf, keys, entityOf, at, swapTo, mapOn, onKinds}
+
+-- a property of a choice, from its two cases
+pub cond-case : {A : Type 0} (P : A → Type 0) (b : Bool) (x y : A) → (b ≡ true → P x) → (b ≡ false → P y) → P (cond b x y)
+cond-case P true x y f g = f refl
+cond-case P false x y f g = g refl
+
+pub cond-same : {A : Type 0} (b : Bool) (x : A) → cond b x x ≡ x
+cond-same true x = refl
+cond-same false x = refl
+
+pub and-left : (a b : Bool) → (a && b) ≡ true → a ≡ true
+and-left true b h = refl
+and-left false b h = h
+
+pub and-right : (a b : Bool) → (a && b) ≡ true → b ≡ true
+and-right true b h = h
+and-right false b h = cc
+
+pub entity-eq : (a b : Entity) → sameEntity a b ≡ true → a ≡ b
+entity-eq a b h =
+    let p : a .index ≡ b .index = eqb-true _ _ (and-left _ (eqb (a .version) (b .version)) h) in
+    let q : a .version ≡ b .version = eqb-true _ _ (and-right (eqb (a .index) (b .index)) _ h) in
+    λ i. record { index = p i; version = q i }
+
+pub entity-same : (a : Entity) → sameEntity a a ≡ true
+entity-same a = rw (eq-eqb (a .index) (a .index) refl, eq-eqb (a .version) (a .version) refl)
+
+-- the entities of kind k's sparse set, in order
+abbrev pub key : List SparseSet → ℕ → List Entity
+key sets k = keys (setOf sets k)
+
+pub map-set : {A B : Type 0} (f : A → B) (l : List A) (i : ℕ) (a : A) → map f (set l i a) ≡ set (map f l) i (f a)
+map-set f [] i a = refl
+map-set f (x ∷ l) zero a = refl
+map-set f (x ∷ l) (suc i) a = ap {B = List _} (λ r. f x ∷ r) (map-set f l i a)
+
+pub keys-swap : (i j : ℕ) (l : SparseSet) → keys (swap noRow i j l) ≡ swap noEntity i j (keys l)
+keys-swap i j l =
+    let a : getD (keys l) i noEntity ≡ entityOf (getD l i noRow) = List·getD-map entityOf l i noRow in
+    let b : getD (keys l) j noEntity ≡ entityOf (getD l j noRow) = List·getD-map entityOf l j noRow in
+    map-set entityOf (set l i (getD l j noRow)) j (getD l i noRow) ∙ rw (map-set entityOf l i (getD l j noRow), a, b)
+
+pub setOf-mapOn : (ks : List ℕ) (f : SparseSet → SparseSet) → f [] ≡ [] → (i : ℕ) (sets : List SparseSet) (n : ℕ) → getD (mapOn ks f i sets) n [] ≡ cond (mem (i + n) ks) (f (getD sets n [])) (getD sets n [])
+setOf-mapOn ks f z i [] n = rw z (sym (cond-same (mem (i + n) ks) []))
+setOf-mapOn ks f z i (c ∷ cs) zero = rw add-zero
+setOf-mapOn ks f z i (c ∷ cs) (suc n) = rw (add-suc, ← suc-add) (setOf-mapOn ks f z (suc i) cs n)
+
+pub key-swapped : (ks : List ℕ) (e : Entity) (c : ℕ) (sets : List SparseSet) (k : ℕ) → mem k ks ≡ true → key (onKinds ks (swapTo e c) sets) k ≡ swap noEntity (place sameEntity e (key sets k)) c (key sets k)
+key-swapped ks e c sets k h =
+    ap keys (setOf-mapOn ks (swapTo e c) refl 0 sets k) ∙ rw (zero-add, h) (keys-swap (at e (setOf sets k)) c (setOf sets k))
+
+pub key-kept : (ks : List ℕ) (e : Entity) (c : ℕ) (sets : List SparseSet) (k : ℕ) → mem k ks ≡ false → key (onKinds ks (swapTo e c) sets) k ≡ key sets k
+key-kept ks e c sets k h = ap keys (setOf-mapOn ks (swapTo e c) refl 0 sets k) ∙ rw (zero-add, h)

@@ -1,0 +1,136 @@
+-- What holds of every row's value, as that it fits eight bytes, holds after every operation, if it holds of the staged components's. Assumes nothing.
+use mathlib.Core.Path.{_≡_, refl, ap, sym, _∙_, subst}
+use mathlib.Core.Bool.{Bool, true, false, cond}
+use mathlib.Core.List.{List, [], _∷_, _++_, map}
+use Prim.Native.Nat.{ℕ, zero, suc, _+_, _-_, _≤_, _<_}
+use native.Mathlib.Omega.{arith}
+use native.Mathlib.Nat.{zero-add}
+use native.Mathlib.Decide.{ℕ-discrete, decLt}
+use lib.ListN.{length, take, drop, getD, set}
+use lib.Seq.{getD-set-same, getD-set-other, set-out}
+use Rattle.model.specs.Model.{Entity, Row, SparseSet, Group, Family, Component, Storage, Walked, Stepped, noRow, mem, meets, setOf, at, held, allHeld, isGrouped, swapTo, insertRow, removeRow, onKinds, insertAll, kindOf, kindsOf, groupComponents, ungroupComponents, groupFamily, ungroupFamily, groupTouched, ungroup, groupAll, regroup, setLayout, insert, remove, clearAll}
+use Rattle.model.proofs.SparseSets.{cond-case, setOf-mapOn}
+
+module _ {A : Type 0} (P : A → Type 0) (d : A) (pd : P d) where
+  abbrev pub AllOf : List A → Type 0
+  AllOf l = (j : ℕ) → P (getD l j d)
+
+  pub all-set : (l : List A) (i : ℕ) (a : A) → P a → AllOf l → AllOf (set l i a)
+  all-set [] i a pa h j = h j
+  all-set (x ∷ l) zero a pa h zero = pa
+  all-set (x ∷ l) zero a pa h (suc j) = h (suc j)
+  all-set (x ∷ l) (suc i) a pa h zero = h zero
+  all-set (x ∷ l) (suc i) a pa h (suc j) = all-set l i a pa (λ m. h (suc m)) j
+
+  pub all-take : (n : ℕ) (l : List A) → AllOf l → AllOf (take n l)
+  all-take zero l h j = pd
+  all-take (suc n) [] h j = pd
+  all-take (suc n) (x ∷ l) h zero = h zero
+  all-take (suc n) (x ∷ l) h (suc j) = all-take n l (λ m. h (suc m)) j
+
+  pub all-snoc : (l : List A) (a : A) → P a → AllOf l → AllOf (l ++ (a ∷ []))
+  all-snoc [] a pa h zero = pa
+  all-snoc [] a pa h (suc j) = pd
+  all-snoc (x ∷ l) a pa h zero = h zero
+  all-snoc (x ∷ l) a pa h (suc j) = all-snoc l a pa (λ m. h (suc m)) j
+
+-- q holds of each row's value
+module _ (q : ℕ → Type 0) (q0 : q 0) where
+  abbrev pub RowOk : Row → Type 0
+  RowOk r = q (r .value)
+
+  abbrev pub ColOk : SparseSet → Type 0
+  ColOk c = AllOf RowOk noRow q0 c
+
+  abbrev pub ColsOk : List SparseSet → Type 0
+  ColsOk sets = (k : ℕ) → ColOk (setOf sets k)
+
+  abbrev pub StagedOk : List Component → Type 0
+  StagedOk [] = Unit {0}
+  StagedOk (p ∷ ps) = q (p .value) × StagedOk ps
+
+  swap-ok : (e : Entity) (c : ℕ) (rows : SparseSet) → ColOk rows → ColOk (swapTo e c rows)
+  swap-ok e c rows h = all-set RowOk noRow q0 (set rows (at e rows) (getD rows c noRow)) c (getD rows (at e rows) noRow) (h (at e rows)) (all-set RowOk noRow q0 rows (at e rows) (getD rows c noRow) (h c) h)
+
+  put-ok : (e : Entity) (v : ℕ) (rows : SparseSet) → q v → ColOk rows → ColOk (insertRow e v rows)
+  put-ok e v rows qv h =
+      cond-case ColOk (held e rows) _ _ (λ t. all-set RowOk noRow q0 rows (at e rows) (record { entity = e; value = v }) qv h) (λ t. all-snoc RowOk noRow q0 rows (record { entity = e; value = v }) qv h)
+
+  take-ok : (e : Entity) (rows : SparseSet) → ColOk rows → ColOk (removeRow e rows)
+  take-ok e rows h =
+      cond-case ColOk (held e rows) _ _ (λ t. all-take RowOk noRow q0 (length rows - 1) (set rows (at e rows) (getD rows (length rows - 1) noRow)) (all-set RowOk noRow q0 rows (at e rows) (getD rows (length rows - 1) noRow) (h (length rows - 1)) h)) (λ t. h)
+
+  on-ok : (ks : List ℕ) (f : SparseSet → SparseSet) → f [] ≡ [] → ((c : SparseSet) → ColOk c → ColOk (f c)) → (sets : List SparseSet) → ColsOk sets → ColsOk (onKinds ks f sets)
+  on-ok ks f z g sets h k =
+      rw (setOf-mapOn ks f z 0 sets k, zero-add k) (cond-case ColOk (mem k ks) _ _ (λ t. g (setOf sets k) (h k)) (λ t. h k))
+
+  put-all-ok : (e : Entity) (staged : List Component) (sets : List SparseSet) → StagedOk staged → ColsOk sets → ColsOk (insertAll e staged sets)
+  put-all-ok e [] sets hh h = h
+  put-all-ok e (p ∷ ps) sets hh h =
+      put-all-ok e ps (set sets (p .kind) (insertRow e (p .value) (setOf sets (p .kind)))) (hh .1)
+      (all-set ColOk [] (λ j. q0) sets (p .kind) (insertRow e (p .value) (setOf sets (p .kind))) (put-ok e (p .value) (setOf sets (p .kind)) (hh .0) (h (p .kind))) h)
+
+  groupComponents-ok : (e : Entity) (ks : List ℕ) (r : Group) (sets : List SparseSet) → ColsOk sets → ColsOk ((groupComponents e ks r sets) .sets)
+  unfolding groupComponents
+  groupComponents-ok e ks r sets h = cond-case (λ (s : Stepped). ColsOk (s .sets)) (isGrouped e r sets) _ _ (λ t. h) (λ t. on-ok ks (swapTo e (r .count)) refl (swap-ok e (r .count)) sets h)
+
+  ungroupComponents-ok : (e : Entity) (ks : List ℕ) (r : Group) (sets : List SparseSet) → ColsOk sets → ColsOk ((ungroupComponents e ks r sets) .sets)
+  unfolding ungroupComponents
+  ungroupComponents-ok e ks r sets h = cond-case (λ (s : Stepped). ColsOk (s .sets)) (isGrouped e r sets) _ _ (λ t. on-ok ks (swapTo e (r .count - 1)) refl (swap-ok e (r .count - 1)) sets h) (λ t. h)
+
+  groupFamily-ok : (e : Entity) (acc : List ℕ) (sets : List SparseSet) (rs : Family) → ColsOk sets → ColsOk ((groupFamily e acc sets rs) .sets)
+  unfolding groupFamily
+  groupFamily-ok e acc sets [] h = h
+  groupFamily-ok e acc sets (r ∷ rs) h =
+      cond-case (λ (s : Walked). ColsOk (s .sets)) (allHeld e (r .newKinds) sets) _ _
+      (λ t. groupFamily-ok e (acc ++ r .newKinds) ((groupComponents e (acc ++ r .newKinds) r sets) .sets) rs (groupComponents-ok e (acc ++ r .newKinds) r sets h)) (λ t. h)
+
+  ungroupFamily-ok : (e : Entity) (gone acc : List ℕ) (sets : List SparseSet) (rs : Family) → ColsOk sets → ColsOk ((ungroupFamily e gone acc sets rs) .sets)
+  unfolding ungroupFamily
+  ungroupFamily-ok e gone acc sets [] h = h
+  ungroupFamily-ok e gone acc sets (r ∷ rs) h =
+      cond-case (λ (s : Walked). ColsOk (s .sets)) (meets gone (acc ++ r .newKinds)) _ _
+      (λ t. ungroupComponents-ok e (acc ++ r .newKinds) r ((ungroupFamily e gone (acc ++ r .newKinds) sets rs) .sets) (ungroupFamily-ok e gone (acc ++ r .newKinds) sets rs h))
+      (λ t. ungroupFamily-ok e gone (acc ++ r .newKinds) sets rs h)
+
+  groupFamily-all-ok : (e : Entity) (ks : List ℕ) (sets : List SparseSet) (fs : List Family) → ColsOk sets → ColsOk ((groupTouched e ks sets fs) .sets)
+  unfolding groupTouched
+  groupFamily-all-ok e ks sets [] h = h
+  groupFamily-all-ok e ks sets (f ∷ fs) h =
+      cond-case (λ (s : Storage). ColsOk (s .sets)) (meets ks (kindsOf f)) _ _ (λ t. groupFamily-all-ok e ks ((groupFamily e [] sets f) .sets) fs (groupFamily-ok e [] sets f h)) (λ t. groupFamily-all-ok e ks sets fs h)
+
+  ungroupFamily-all-ok : (e : Entity) (gone : List ℕ) (sets : List SparseSet) (fs : List Family) → ColsOk sets → ColsOk ((ungroup e gone sets fs) .sets)
+  unfolding ungroup
+  ungroupFamily-all-ok e gone sets [] h = h
+  ungroupFamily-all-ok e gone sets (f ∷ fs) h = ungroupFamily-all-ok e gone ((ungroupFamily e gone [] sets f) .sets) fs (ungroupFamily-ok e gone [] sets f h)
+
+  groupFamily-every-ok : (e : Entity) (sets : List SparseSet) (fs : List Family) → ColsOk sets → ColsOk ((groupAll e sets fs) .sets)
+  unfolding groupAll
+  groupFamily-every-ok e sets [] h = h
+  groupFamily-every-ok e sets (f ∷ fs) h = groupFamily-every-ok e ((groupFamily e [] sets f) .sets) fs (groupFamily-ok e [] sets f h)
+
+  pub insert-ok : (e : Entity) (staged : List Component) (p : Storage) → StagedOk staged → ColsOk (p .sets) → ColsOk ((insert e staged p) .sets)
+  unfolding insert
+  insert-ok e staged p hh h = groupFamily-all-ok e (map kindOf staged) (insertAll e staged (p .sets)) (p .layout) (put-all-ok e staged (p .sets) hh h)
+
+  pub remove-ok : (e : Entity) (gone : List ℕ) (p : Storage) → ColsOk (p .sets) → ColsOk ((remove e gone p) .sets)
+  unfolding remove
+  remove-ok e gone p h = on-ok gone (removeRow e) refl (take-ok e) ((ungroup e gone (p .sets) (p .layout)) .sets) (ungroupFamily-all-ok e gone (p .sets) (p .layout) h)
+
+  regroup-ok : (live : List Entity) (p : Storage) → ColsOk (p .sets) → ColsOk ((regroup live p) .sets)
+  unfolding regroup
+  regroup-ok [] p h = h
+  regroup-ok (e ∷ es) p h = regroup-ok es (groupAll e (p .sets) (p .layout)) (groupFamily-every-ok e (p .sets) (p .layout) h)
+
+  pub setLayout-ok : (live : List Entity) (draft : List Family) (p : Storage) → ColsOk (p .sets) → ColsOk ((setLayout live draft p) .sets)
+  unfolding setLayout
+  setLayout-ok live draft p h = regroup-ok live (record { sets = p .sets; layout = draft }) h
+
+  setOf-wiped : (sets : List SparseSet) (k : ℕ) → setOf (map (λ (c : SparseSet). []) sets) k ≡ []
+  setOf-wiped [] k = refl
+  setOf-wiped (c ∷ cs) zero = refl
+  setOf-wiped (c ∷ cs) (suc k) = setOf-wiped cs k
+
+  pub clearAll-ok : (p : Storage) → ColsOk ((clearAll p) .sets)
+  unfolding clearAll
+  clearAll-ok p k = rw (setOf-wiped (p .sets) k) (λ j. q0)

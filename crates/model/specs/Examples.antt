@@ -1,0 +1,131 @@
+-- The document's fourteen marked examples, computed. Assumes nothing.
+use mathlib.Core.Path.{_≡_, refl}
+use mathlib.Core.Bool.{Bool, true, false}
+use mathlib.Core.List.{List, [], _∷_, _++_, map}
+use Prim.Native.Nat.{ℕ, suc}
+use lib.ListN.{length, replicate, getD}
+use Rattle.model.specs.Model.{Entity, Component, Storage, Group, Family, SparseSet, Entities, Created, Range, none, found, Added, nothing, added, refused}
+use Rattle.model.specs.Run.{Ran, run, runFor, does, empty, le}
+use Rattle.model.specs.Model.{groupAll, clearAll, groupComponents, ungroupComponents, groupFamily, ungroupFamily, groupTouched, ungroup, insert, remove, range, addGroup, setLayout, regroup, create, destroy}
+
+pub record Example : Type 0 where
+  pub got : List ℕ
+  pub want : List ℕ
+
+abbrev draftOr : List Family → Added → List Family
+draftOr fs nothing = fs
+draftOr fs (added gs) = gs
+draftOr fs (refused n) = fs
+
+abbrev ofAdded : Added → List ℕ
+ofAdded nothing = 0 ∷ 0 ∷ []
+ofAdded (added gs) = 0 ∷ 1 ∷ []
+ofAdded (refused n) = n ∷ []
+
+abbrev ofRange : Range → List ℕ
+ofRange none = 0 ∷ 0 ∷ 0 ∷ []
+ofRange (found a b) = 1 ∷ a ∷ b ∷ []
+
+abbrev ofEntity : Entity → List ℕ
+ofEntity e = e .index ∷ e .version ∷ []
+
+countsOf : List Family → List ℕ
+countsOf [] = []
+countsOf (f ∷ fs) = map (λ (r : Group). r .count) f ++ countsOf fs
+
+columns : ℕ
+columns = 128
+
+bare : Storage
+unfolding columns
+bare = record { sets = replicate columns []; layout = [] }
+
+none-issued : Entities
+none-issued = record { live = []; recycled = []; issued = 0 }
+
+draft : List Family
+unfolding addGroup
+draft = draftOr [] (addGroup (1 ∷ 2 ∷ 3 ∷ 4 ∷ []) (draftOr [] (addGroup (1 ∷ 2 ∷ []) [])))
+
+staged : List ℕ → List Component
+staged ks = map (λ (k : ℕ). record { kind = k; value = 0 }) ks
+
+entity : ℕ → ℕ → Entity
+entity i v = record { index = i; version = v }
+
+-- four entities, each with the kinds of its staged components
+four : Entities
+unfolding create none-issued
+four = (create ((create ((create ((create none-issued) .entities)) .entities)) .entities)) .entities
+
+filled : Storage
+unfolding bare draft staged entity setLayout regroup groupAll insert groupTouched groupFamily groupComponents
+filled =
+    insert (entity 3 1) (staged (1 ∷ [])) (insert (entity 2 1) (staged (1 ∷ 2 ∷ [])) (insert (entity 1 1) (staged (1 ∷ 2 ∷ 3 ∷ 4 ∷ [])) (insert (entity 0 1) (staged (1 ∷ 2 ∷ 3 ∷ [])) (setLayout [] draft bare))))
+
+killed : Storage
+unfolding remove ungroup ungroupFamily ungroupComponents filled entity
+killed = remove (entity 1 1) (1 ∷ 2 ∷ 3 ∷ 4 ∷ 5 ∷ 6 ∷ []) filled
+
+asks : List ℕ → List ℕ → List ℕ
+unfolding range filled
+asks h b = ofRange (range h b filled)
+
+adds : List ℕ → List ℕ
+unfolding addGroup draft
+adds h = ofAdded (addGroup h draft)
+
+next : Created
+unfolding create destroy four entity
+next = create (destroy (entity 1 1) four)
+
+pub marked : List Example
+unfolding asks adds killed next countsOf
+marked =
+    record { got = asks (1 ∷ 2 ∷ []) []; want = 1 ∷ 0 ∷ 3 ∷ [] }
+    ∷ record { got = asks (1 ∷ 2 ∷ 3 ∷ 4 ∷ []) []; want = 1 ∷ 0 ∷ 1 ∷ [] }
+    ∷ record { got = asks (1 ∷ []) []; want = 1 ∷ 0 ∷ 4 ∷ [] }
+    ∷ record { got = asks (1 ∷ 3 ∷ []) []; want = 0 ∷ 0 ∷ 0 ∷ [] }
+    ∷ record { got = asks (1 ∷ 2 ∷ []) (3 ∷ 4 ∷ []); want = 1 ∷ 1 ∷ 3 ∷ [] }
+    ∷ record { got = asks (1 ∷ 2 ∷ []) (3 ∷ []); want = 0 ∷ 0 ∷ 0 ∷ [] }
+    ∷ record { got = asks [] []; want = 0 ∷ 0 ∷ 0 ∷ [] }
+    ∷ record { got = adds (1 ∷ 2 ∷ []); want = 0 ∷ 0 ∷ [] }
+    ∷ record { got = adds (1 ∷ 2 ∷ 3 ∷ []); want = 14 ∷ [] }
+    ∷ record { got = adds (1 ∷ 2 ∷ 5 ∷ []); want = 14 ∷ [] }
+    ∷ record { got = adds (3 ∷ 4 ∷ []); want = 14 ∷ [] }
+    ∷ record { got = adds (5 ∷ 6 ∷ []); want = 0 ∷ 1 ∷ [] }
+    ∷ record { got = adds (1 ∷ 2 ∷ 3 ∷ 4 ∷ 5 ∷ []); want = 0 ∷ 1 ∷ [] }
+    ∷ record { got = countsOf (killed .layout) ++ ofEntity (next .entity); want = 2 ∷ 0 ∷ 1 ∷ 2 ∷ [] }
+    ∷ []
+
+abbrev pub gots : List Example → List (List ℕ)
+gots es = map (λ (e : Example). e .got) es
+
+abbrev pub wants : List Example → List (List ℕ)
+wants es = map (λ (e : Example). e .want) es
+
+pub examples : gots marked ≡ wants marked
+unfolding marked
+examples = refl
+
+-- the document's command stream, and what the program writes of it
+abbrev pub hold0 : ℕ → List ℕ
+hold0 k = 2 ∷ k ∷ 0 ∷ 0 ∷ 0 ∷ 0 ∷ 0 ∷ 0 ∷ 0 ∷ 0 ∷ []
+
+abbrev pub holds : ℕ → ℕ → List ℕ
+holds k v = 2 ∷ k ∷ v ∷ 0 ∷ 0 ∷ 0 ∷ 0 ∷ 0 ∷ 0 ∷ 0 ∷ []
+
+pub sample : List ℕ
+sample = (1 ∷ 1 ∷ 1 ∷ 2 ∷ []) ++ hold0 1 ++ hold0 2 ++ (9 ∷ 10 ∷ []) ++ holds 1 5 ++ (3 ∷ []) ++ holds 1 6 ++ holds 2 7 ++ (3 ∷ []) ++ hold0 1 ++ hold0 2 ++ (12 ∷ [])
+
+abbrev pub written : Ran → List ℕ
+written r = r .bytes ++ (r .stop ∷ le 4 (r .commands) ++ le 4 (r .read) ++ le 4 (length (r .bytes)))
+
+pub answer : List ℕ
+answer =
+    0 ∷ 1 ∷ 0 ∷ 1 ∷ 0 ∷ 0 ∷ 0 ∷ 1 ∷ 0 ∷ 0 ∷ 0 ∷ 0 ∷ 0 ∷ 0 ∷ 0 ∷ 1 ∷ 0 ∷ 0 ∷ 0 ∷ 0 ∷ 0 ∷ 0 ∷ 1 ∷ 0 ∷ 0 ∷ 0 ∷ 1 ∷ 0 ∷ 0 ∷ 0 ∷ 0 ∷ 0 ∷ 0 ∷ 1 ∷ 0 ∷ 0 ∷ 0 ∷ 0 ∷ 1 ∷ 0 ∷ 0 ∷ 0
+    ∷ 0 ∷ 14 ∷ 0 ∷ 0 ∷ 0 ∷ 79 ∷ 0 ∷ 0 ∷ 0 ∷ 42 ∷ 0 ∷ 0 ∷ 0 ∷ []
+
+pub stream-example : written (run sample 16384 (empty 64 8)) ≡ answer
+unfolding sample answer run runFor does empty insert groupTouched groupFamily groupComponents ungroupComponents remove ungroup ungroupFamily setLayout regroup groupAll range addGroup create destroy clearAll
+stream-example = refl

@@ -1,0 +1,59 @@
+-- The snapshot: the listing of all that is held, as bytes. Assumes nothing.
+use mathlib.Core.Path.{_≡_}
+use mathlib.Core.Bool.{Bool, true, false, cond}
+use mathlib.Core.Option.{Option, some, none}
+use mathlib.Core.List.{List, [], _∷_, _++_, map}
+use Prim.Native.Nat.{ℕ, zero, suc, _≤_, _<_}
+use lib.Dec.{eqb}
+use lib.ListN.{length, getD}
+use Rattle.model.specs.Model.{Entity, SparseSet, Component, Entities, Storage, noRow, at, held, setOf}
+use Rattle.model.specs.Run.{Store, le}
+
+-- a live entity with its components, by rising kind
+pub record Entry : Type 0 where
+  pub entity : Entity
+  pub components : List Component
+
+-- the entity's value in a sparse set
+abbrev pub valueAt : Entity → SparseSet → Option ℕ
+valueAt e rows = let v = some (getD rows (at e rows) noRow .value) in cond (held e rows) v none
+
+abbrev pub addComponent : Option ℕ → ℕ → List Component → List Component
+addComponent none k ps = ps
+addComponent (some v) k ps = record { kind = k; value = v } ∷ ps
+
+-- the entity's components, by rising kind; k is the kind of the first sparse set
+abbrev pub componentsOf : Entity → ℕ → List SparseSet → List Component
+componentsOf e k [] = []
+componentsOf e k (c ∷ cs) = addComponent (valueAt e c) k (componentsOf e (suc k) cs)
+
+-- the version of the live entity with index i, 0 where there is none
+abbrev pub versionAt : ℕ → List Entity → ℕ
+versionAt i [] = 0
+versionAt i (e ∷ es) = cond (eqb i (e .index)) (e .version) (versionAt i es)
+
+abbrev pub entryOf : ℕ → ℕ → List SparseSet → List Entry
+entryOf zero i sets = []
+entryOf (suc v) i sets = record { entity = record { index = i; version = suc v }; components = componentsOf (record { index = i; version = suc v }) 0 sets } ∷ []
+
+-- the live entities with n indexes from i on, by rising index
+abbrev pub entries : ℕ → ℕ → List Entity → List SparseSet → List Entry
+entries i zero live sets = []
+entries i (suc n) live sets = entryOf (versionAt i live) i sets ++ entries (suc i) n live sets
+
+abbrev pub componentBytes : List Component → List ℕ
+componentBytes [] = []
+componentBytes (p ∷ ps) = p .kind ∷ le 8 (p .value) ++ componentBytes ps
+
+abbrev pub entryBytes : Entry → List ℕ
+entryBytes t = le 4 (t .entity .index) ++ (le 4 (t .entity .version) ++ (length (t .components) ∷ componentBytes (t .components)))
+
+abbrev pub flat : List Entry → List ℕ
+flat [] = []
+flat (t ∷ ts) = entryBytes t ++ flat ts
+
+abbrev pub listing : Store → List Entry
+listing s = entries 0 (s .entities .issued) (s .entities .live) (s .storage .sets)
+
+unfoldable pub snapshot : Store → List ℕ
+snapshot s = le 4 (length (s .entities .live)) ++ flat (listing s)

@@ -1,0 +1,25 @@
+use mathlib.Core.Path.{_≡_, refl, sym, ap, _∙_}
+use Prim.Native.Nat.{ℕ, _<_, _-_}
+use native.Mathlib.Omega.{arith}
+use lib.ListN.{length, length-set}
+use borrow.Author.Needs.{needs}
+use Rattle.words.specs.Offsets.{columnStart, columnStart-fits}
+use Rattle.words.proofs.column_start.Statement.{statement}
+use Rattle.words.proofs.column_start.Tie as tie
+
+mul-result-3 : tie.Need-mul-result-3
+unfolding columnStart
+mul-result-3 c = omega (arith, columnStart-fits (c .args .n) (c .args .k) (c .pre .0) (c .pre .1))
+
+add-result-3 : tie.Need-add-result-3
+unfolding columnStart
+add-result-3 c = omega (arith, columnStart-fits (c .args .n) (c .args .k) (c .pre .0) (c .pre .1))
+
+returns : tie.Need-returns
+unfolding columnStart
+returns c = refl
+
+pub column-start-spec : {M : Type 1} → statement M
+column-start-spec =
+    tie.close
+    (tie.spec (λ c. search needs) (λ c. search needs) (λ c. search needs) (λ c. search needs) mul-result-3 add-result-3 returns)

@@ -1,0 +1,6 @@
+pub mod Table
+pub mod Stores
+pub mod Links
+pub mod Part
+pub mod Pigeon
+pub mod Offsets
