@@ -15,6 +15,7 @@ use Rattle.model.specs.Model.{Entity, SparseSet, Group, Family, sameEntity, noE
 use Rattle.model.specs.Sound.{cnt, In, key, SetsSound, BuildableFamily, BuildableFamilies, holders, Right, RightFrom, AllRight}
 use Rattle.model.proofs.SparseSets.{entity-eq, entity-same, and-left}
 use Rattle.model.proofs.Walk.{bool-cases, or-true, in-left, in-right, in-cases, all-in, Missing, all-missing, held-count, lacks-count}
+use Rattle.soundness.proofs.KindLists.{all-true}
 use Rattle.soundness.specs.Groups.{GroupOk, GroupsOk, FamilyOk, FamiliesOk}
 
 -- ---- what stands at a place is held
@@ -29,10 +30,6 @@ count-held sets k x h = lt-ltb _ _ (rw length-map at (count-place sameEntity x (
 
 held-at : (sets : List SparseSet) (k i : ℕ) → i < length (key sets k) → held (getD (key sets k) i noEntity) (setOf sets k) ≡ true
 held-at sets k i h = count-held sets k (getD (key sets k) i noEntity) (count-at (key sets k) i h)
-
-all-true : (p : ℕ → Bool) (l : List ℕ) → ((k : ℕ) → In l k → p k ≡ true) → all p l ≡ true
-all-true p [] f = refl
-all-true p (j ∷ l) f = rw (f j (rw (eq-eqb j j refl)), all-true p l (λ k i. f k (rw i (or-true (eqb k j)))))
 
 all-append : (p : ℕ → Bool) (a b : List ℕ) → all p (a ++ b) ≡ (all p a && all p b)
 all-append p [] b = refl

@@ -1,1 +1,3 @@
+pub mod KindLists
 pub mod GroupLaws
+pub mod ListLaws
