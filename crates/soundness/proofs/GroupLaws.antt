@@ -20,7 +20,7 @@ use Rattle.soundness.specs.Groups.{GroupOk, GroupsOk, FamilyOk, Families
 
 -- ---- what stands at a place is held
 
-count-at : (l : List Entity) (i : ℕ) → i < length l → 1 ≤ cnt (getD l i noEntity) l
+pub count-at : (l : List Entity) (i : ℕ) → i < length l → 1 ≤ cnt (getD l i noEntity) l
 count-at [] i h = absurd (not-suc-le-zero h)
 count-at (y ∷ l) zero h = omega (arith, ap one (entity-same y))
 count-at (y ∷ l) (suc i) h = omega (arith, count-at l i (le-of-suc-le-suc h))
