@@ -1,0 +1,4 @@
+pub mod Header
+pub mod Meaning
+pub mod Change
+pub mod Arranged

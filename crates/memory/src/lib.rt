@@ -1,0 +1,4 @@
+// Stub.
+pub fn unit() -> u32 {
+    0
+}
