@@ -1,8 +1,13 @@
 -- Changes of several slots, one after the other. Assumes nothing.
 use mathlib.Core.Path.{_≡_, refl, ap, _∙_}
 use mathlib.Core.Logic.{_≢_}
+use mathlib.Core.Bool.{cond}
 use mathlib.Core.List.{List}
-use Prim.Native.Nat.{ℕ, _<_}
+use Prim.Native.Nat.{ℕ, _+_, _<_}
+use native.Mathlib.Omega.{arith}
+use native.Mathlib.Decide.{decLt}
+use borrow.Author.Tests.{lt-ltb, le-ltb}
+use lib.Dec.{ltb}
 use lib.ListN.{getD}
 use Rattle.model.specs.Model.{SparseSet}
 use Rattle.words.specs.Table.{by-eq}
@@ -60,3 +65,27 @@ changes-then n m g h w₀ w w′ c d =
       front = d .front ∙ c .front;
       past = d .past ∙ c .past;
     }
+
+-- ---- a loop over all slots: f of those below k so far
+
+abbrev pub upTo : ℕ → (SparseSet → SparseSet) → ℕ → SparseSet → SparseSet
+upTo k f s rs = cond (ltb s k) (f rs) rs
+
+pub upTo-none : (n m : ℕ) (f : SparseSet → SparseSet) (w : List ℕ) → Columns n m w → Changes n m (upTo 0 f) w w
+upTo-none n m f w c =
+    changes-as n m (λ (s : ℕ) (rs : SparseSet). rs) (upTo 0 f) w w (changes-none n m w c) (λ s h. rw (le-ltb s 0 (omega arith)))
+
+pub upTo-more : (n m k : ℕ) (f : SparseSet → SparseSet) (w₀ w w′ : List ℕ) → k < m → Changes n m (upTo k f) w₀ w → One n m k f w w′
+    → Changes n m (upTo (k + 1) f) w₀ w′
+upTo-more n m k f w₀ w w′ h c o =
+    changes-one n m k f (upTo k f) (upTo (k + 1) f) w₀ w w′ c o
+    (rw (le-ltb k k (omega arith), lt-ltb k (k + 1) (omega arith)))
+    (λ j hj ne.
+    elim (decLt j k) [
+      | yes l ↦ rw (lt-ltb j k l, lt-ltb j (k + 1) (omega arith))
+      | no l ↦ rw (le-ltb j k (omega arith), le-ltb j (k + 1) (omega arith))
+    ])
+    h
+
+pub upTo-all : (n m : ℕ) (f : SparseSet → SparseSet) (w w′ : List ℕ) → Changes n m (upTo m f) w w′ → Changes n m (λ (s : ℕ). f) w w′
+upTo-all n m f w w′ c = changes-as n m (upTo m f) (λ (s : ℕ). f) w w′ c (λ s h. rw (lt-ltb s m h))

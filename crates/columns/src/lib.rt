@@ -5,12 +5,12 @@ use component::Value;
 ghost use mathlib.Core.Path.{_≡_};
 ghost use mathlib.Core.Bool.{true};
 ghost use mathlib.Core.List.{[]};
-ghost use Prim.Native.Nat.{_<_, _≤_};
+ghost use Prim.Native.Nat.{ℕ, _<_, _≤_};
 ghost use lib.ListN.{length, getD};
 ghost use Rattle.model.specs.Model.{SparseSet, noRow, held, insertRow, swapTo};
 ghost use Rattle.component.specs.SparseSet.{entity, valueOf, Current};
 ghost use Rattle.component.specs.Answers.{Finds};
-ghost use Rattle.columns.specs.Columns.{rowsOf, Lent, Only, RemovesIn};
+ghost use Rattle.columns.specs.Columns.{rowsOf, Columns, Lent, Only, RemovesIn, Changes};
 
 pub fn len_in(words: &[u32], n: usize, slot: usize) -> usize
     requires { ⌜ Lent n slot (now words) ⌝ }
@@ -85,4 +85,16 @@ pub fn clear_in(words: &mut [u32], n: usize, slot: usize)
     let base = words::column_start(n, slot);
     let end = base + (8 + 6 * n);
     component::clear(&mut words[base..end], n);
+}
+
+// Every slot's rows go: 01's WIPE, as far as the sparse sets are concerned.
+pub fn clear_all(words: &mut [u32], n: usize, m: usize)
+    requires { ⌜ Columns n m (now words) ⌝ }
+    ensures { λ _. ⌜ Changes n m (λ (s : ℕ) (rs : SparseSet). []) (now (words .entry)) (now (words .exit)) ⌝ }
+{
+    let mut slot = 0;
+    while slot < m {
+        clear_in(words, n, slot);
+        slot += 1;
+    }
 }
