@@ -5,3 +5,4 @@ pub mod RingSteps
 pub mod ModelSteps
 pub mod Lookups
 pub mod Numbering
+pub mod Zeros

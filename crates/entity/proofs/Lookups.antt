@@ -154,3 +154,13 @@ found-dead e s = go (isLive e s) refl
     go : (b : Bool) → isLive e s ≡ b → pickFound b (place sameEntity e (s .live)) ≡ Nothing → isLive e s ≡ false
     go true q h = absurd (let z : _≡_ {A = ℕ} 0 1 = cc in omega arith)
     go false q h = q
+
+-- a place that is found is in the live list, and has the index
+pub found-place : (n : ℕ) (w : List ℕ) (x v p : ℕ) → foundOf (entity x v) (entitiesOf n w) ≡ At p → (p < lenOf w) × (indexAt w p ≡ x)
+found-place n w x v p f =
+    let l = entitiesOf n w .live in
+    let q = found-live (entity x v) (entitiesOf n w) p f in
+    let b = ltb-true (place sameEntity (entity x v) l) (length l) (q .0) in
+    let h : p < lenOf w = omega (arith, q .1, length-live n w) in
+    let g : getD l p noEntity ≡ entity x v = ap (λ (k : ℕ). getD l k noEntity) (sym (q .1)) ∙ getD-place sameEntity entity-eq (entity x v) noEntity l b in
+    (h, ap (λ (e : Entity). e .index) (sym (getD-live n w p h) ∙ g))

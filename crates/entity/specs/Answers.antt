@@ -55,3 +55,4 @@ pub record Issued (n : ℕ) (w w′ : List ℕ) (r : Answer) : Type 0 where
   pub changed : Changed n numbered w w′
   pub entity : entityOf r ≡ entity (entitiesOf n w .issued) 1
   pub idle : Idle n w′ (r .index)
+  pub positive : 1 ≤ r .version

@@ -1,5 +1,10 @@
 // Entities over their part of the lent words: the live list with its lookups by index, and the ring of recycled numbers.
 // The part has 16 * n words for a capacity of n (docs/WORDS.md).
+pub mod entity_allocator;
+pub mod entity_sparse_set;
+pub mod entity_storage;
+pub mod sparse_vec;
+
 // An index and a version. Versions start at 1.
 pub struct Entity {
     pub index: u32,
@@ -10,8 +15,4 @@ pub struct Entity {
 pub enum Found {
     At(usize),
     Nothing,
-}
-
-pub fn unit() -> u32 {
-    0
 }
