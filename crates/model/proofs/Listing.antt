@@ -13,7 +13,7 @@ use lib.Dec.{eqb, ltb, eqb·suc-zero}
 use lib.ListN.{length, getD}
 use Rattle.model.specs.Lists.{count, one, count-length}
 use Rattle.model.specs.Model.{sameEntity, Entity, SparseSet, Component, setOf}
-use Rattle.model.specs.Run.{Store, le}
+use Rattle.model.specs.Store.{Store, le}
 use Rattle.model.specs.Snapshot.{Entry, valueAt, addComponent, componentsOf, versionAt, entryOf, entries, flat, listing, snapshot}
 use Rattle.model.proofs.SparseSets.{entity-eq, entity-same}
 use Rattle.model.proofs.Encoding.{FitEntries, flat-inj, le-inj}

@@ -8,7 +8,7 @@ use lib.Dec.{eqb}
 use lib.ListN.{length, take, getD}
 use Rattle.model.specs.Lists.{count}
 use Rattle.model.specs.Model.{Entity, Entities, Row, SparseSet, Component, Group, Family, Storage, sameEntity, noRow, mem, setOf, keys, kindOf, kindsOf, groupsOf, allHeld, lastVersion}
-use Rattle.model.specs.Run.{Store, Control}
+use Rattle.model.specs.Store.{Store, Control}
 
 -- ---- words for what follows
 
