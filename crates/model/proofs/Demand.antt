@@ -11,7 +11,7 @@ use Rattle.model.specs.Model.{Entity, SparseSet, Group, Family, Storage,
 use Rattle.model.specs.Store.{Store, empty}
 use Rattle.model.specs.Run.{Step, stops, goes, step, Ran, halt, more, runFor, run}
 use Rattle.model.specs.History.{trailFor, trail}
-use Rattle.model.specs.Sound.{cnt, In, key, holders, Limits, Right, RightFrom, AllRight, Sound}
+use Rattle.model.specs.Sound.{cnt, In, key, holders, Limits, Right, RightFrom, AllRight, Between, BetweenFrom, AllBetween, GroupsRight, GroupsBetween, Sound}
 use Rattle.model.proofs.Walk.{in-left}
 use Rattle.model.proofs.Held.{holders-fewer}
 use Rattle.model.proofs.Sound.{Bytes, Each, run-sound, trail-sound}
@@ -42,9 +42,6 @@ trail-passes t room s = passes-for (length t) t room s
 
 -- ---- the groups after each command
 
-abbrev pub GroupsRight : Store → Type 0
-GroupsRight s = AllRight (s .storage .sets) (s .entities .live) (s .storage .layout)
-
 each-right : (ss : List Store) → Each Sound ss → Each GroupsRight ss
 each-right [] h = tt
 each-right (s ∷ ss) h = (h .0 .groups, each-right ss (h .1))
@@ -67,21 +64,6 @@ between-at sets live g h c d k i j le R S x =
     let t = ap (cnt x) (take-take d c (key sets k) le) in
     omega (arith, R .exact k i x, S .exact k j x)
 
--- at every group that has a larger one: its count is no smaller, and between the two counts, in each of the smaller's sparse sets, stand exactly the
--- entities with all kinds of the smaller that lack one or more of the larger
-pub record Between (sets : List SparseSet) (live : List Entity) (g more : List ℕ) (c d : ℕ) : Type 0 where
-  pub falls : d ≤ c
-  pub exact : (k : ℕ) → In g k → (x : Entity) → cnt x (drop d (take c (key sets k))) + cnt x (holders (g ++ more) sets live) ≡ cnt x (holders g sets live)
-
-abbrev pub BetweenFrom : List SparseSet → List Entity → List ℕ → Family → Type 0
-BetweenFrom sets live acc [] = Unit {0}
-BetweenFrom sets live acc (r ∷ []) = Unit {0}
-BetweenFrom sets live acc (r ∷ q ∷ rs) = Between sets live (acc ++ r .newKinds) (q .newKinds) (r .count) (q .count) × BetweenFrom sets live (acc ++ r .newKinds) (q ∷ rs)
-
-abbrev pub AllBetween : List SparseSet → List Entity → List Family → Type 0
-AllBetween sets live [] = Unit {0}
-AllBetween sets live (f ∷ fs) = BetweenFrom sets live [] f × AllBetween sets live fs
-
 module _ (sets : List SparseSet) (live : List Entity) where
   pub between : (g more : List ℕ) (c d : ℕ) → Right sets live g c → Right sets live (g ++ more) d → Between sets live g more c d
   between g more c d R S =
@@ -96,9 +78,6 @@ module _ (sets : List SparseSet) (live : List Entity) where
   pub all-between : (fs : List Family) → AllRight sets live fs → AllBetween sets live fs
   all-between [] R = tt
   all-between (f ∷ fs) R = (between-from [] f (R .0), all-between fs (R .1))
-
-abbrev pub GroupsBetween : Store → Type 0
-GroupsBetween s = AllBetween (s .storage .sets) (s .entities .live) (s .storage .layout)
 
 each-between : (ss : List Store) → Each GroupsRight ss → Each GroupsBetween ss
 each-between [] h = tt

@@ -19,3 +19,5 @@ pub mod Demand
 pub mod Encoding
 pub mod Listing
 pub mod Snapshots
+pub mod Lengths
+pub mod Retired

@@ -10,27 +10,13 @@ use borrow.Author.Tests.{ltb-true, ltb-false, lt-ltb, le-ltb, leb-true, leb-fals
 use lib.Dec.{ltb, leb, eqb}
 use lib.ListN.{length, take, drop, getD}
 use Rattle.model.specs.Store.{Store, Control, withControl, counted}
+pub use Rattle.model.specs.Refusals.{Unchanged}
 use Rattle.model.specs.Commands.{Command, REG, HOLD, NEW, PUT, TAKE, DROP, KILL, WIPE, GROUP, APPLY, BAR, RANGE, EMPTY, TALLY, Done, accepted, width, commandAt}
-use Rattle.model.specs.Refusals.{Line, firstLine, linesOf, Ready, beforeLines}
+use Rattle.model.specs.Refusals.{Line, firstLine, NoneHolds, First, linesOf, Ready, beforeLines}
 use Rattle.model.specs.Run.{Outcome, refuses, accepts, outcome, does, Step, stops, goes, stepOf, stepIf, step}
 use Rattle.model.proofs.Walk.{bool-cases}
 
 -- ---- the first line that holds
-
--- no line of the list holds
-abbrev pub NoneHolds : {A : Type 0} → List (Line A) → A → Type 0
-NoneHolds [] a = Unit {0}
-NoneHolds (l ∷ ls) a = (l .holds a ≡ false) × NoneHolds ls a
-
--- "its line holds and no line above does"
-pub record First {A : Type 0} (ls : List (Line A)) (a : A) (n : ℕ) : Type 0 where
-  pub above : List (Line A)
-  pub here : Line A
-  pub under : List (Line A)
-  pub table : ls ≡ above ++ (here ∷ under)
-  pub passed : NoneHolds above a
-  pub holds : here .holds a ≡ true
-  pub number : here .number ≡ n
 
 pub some-eq : {m n : ℕ} → some m ≡ some n → m ≡ n
 some-eq p = cc
@@ -145,16 +131,6 @@ unfolding does
 refusal-number c s n e = first-number (linesOf c) s 7 15 n (lines-numbers c) (outcome-refuses (firstLine (linesOf c) s) (accepted c s) n e)
 
 -- ---- what a refused command changes: the refusal count alone, which saturates
-
-pub record Unchanged (s t : Store) : Type 0 where
-  pub capacity : t .capacity ≡ s .capacity
-  pub kindCapacity : t .kindCapacity ≡ s .kindCapacity
-  pub kinds : t .kinds ≡ s .kinds
-  pub entities : t .entities ≡ s .entities
-  pub storage : t .storage ≡ s .storage
-  pub staged : t .control .staged ≡ s .control .staged
-  pub excluded : t .control .excluded ≡ s .control .excluded
-  pub draft : t .control .draft ≡ s .control .draft
 
 pub record Refused (n w : ℕ) (s : Store) (p : Step) : Type 0 where
   pub after : Store

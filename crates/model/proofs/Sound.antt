@@ -10,18 +10,21 @@ use borrow.Author.Tests.{ltb-true, ltb-false, leb-false}
 use lib.Dec.{ltb, leb, eqb, lit<}
 use lib.ListN.{length, take, drop, getD, length-take, length-drop, length-map}
 use Rattle.model.specs.Model.{Entity, Created, kindOf, isLive, mem, addsNothing, joins, withGroup, groupsOf, create}
+pub use Rattle.model.specs.Store.{Bytes}
 use Rattle.model.specs.Store.{Store, empty, number, stagedKinds, isKind, withControl, withStorage, withAll, counted, emptyStaged, emptyBoth}
 use Rattle.model.specs.Commands.{Command, REG, HOLD, NEW, PUT, TAKE, DROP, KILL, WIPE, GROUP, APPLY, BAR, RANGE, EMPTY, TALLY, Done, accepted, widths, width, entityOfBytes, commandAt}
 use Rattle.model.specs.Refusals.{Line, firstLine, linesOf, beforeLines}
 use Rattle.model.specs.Run.{Outcome, refuses, accepts, outcome, does, Step, stops, goes, stepOf, stepIf, step, Ran, halt, more, runFor, run}
 use Rattle.model.specs.History.{trailFor, trail}
+pub use Rattle.model.specs.History.{Each}
 use Rattle.model.specs.Sound.{Eight, Limits, Sound}
 use Rattle.model.proofs.SparseSets.{cond-case}
 use Rattle.model.proofs.Walk.{bool-cases, or-false}
 use Rattle.model.proofs.Families.{or-false-right}
 use Rattle.model.proofs.Draft.{DraftSound, withGroup-sound}
 use Rattle.model.proofs.Operations.{control-of, control-sound, register-sound, create-sound, create-is-live, insert-sound, remove-sound, kill-sound, clearAll-sound, setLayout-sound, stage-sound, exclude-sound, draft-sound, emptyStaged-sound, emptyBoth-sound, counted-sound, no-draft, empty-sound}
-use Rattle.model.proofs.Lines.{NoneHolds, none-to, outcome-case}
+use Rattle.model.specs.Refusals.{NoneHolds}
+use Rattle.model.proofs.Lines.{none-to, outcome-case}
 
 -- ---- a command's operands are of their widths: a value is of eight bytes
 
@@ -109,10 +112,6 @@ refused-sound s S = control-sound s S (counted (s .control)) (counted-sound (s .
 
 -- ---- the tape's bytes
 
-abbrev pub Bytes : List ℕ → Type 0
-Bytes [] = Unit {0}
-Bytes (b ∷ bs) = (b < 256) × Bytes bs
-
 bytes-take : (n : ℕ) (l : List ℕ) → Bytes l → Bytes (take n l)
 bytes-take zero l h = tt
 bytes-take (suc n) [] h = tt
@@ -187,11 +186,6 @@ unfolding step
 step-sound b t room s h S =
     stepIf-after Sound (firstLine beforeLines (record { byte = b; rest = t; room = room; store = s })) (stepOf (suc (width b)) s (does (commandAt b (take (width b) t)) s))
     (stepOf-sound (suc (width b)) s (does (commandAt b (take (width b) t)) s) S (does-sound (commandAt b (take (width b) t)) s (tape-fits b t h) S))
-
--- of each store of a list
-abbrev pub Each : (Store → Type 0) → List Store → Type 0
-Each P [] = Unit {0}
-Each P (s ∷ ss) = P s × Each P ss
 
 -- the stores after the commands of a run are sound
 pub trail-sound-for : (fuel : ℕ) (t : List ℕ) (room : ℕ) (s : Store) → Bytes t → Sound s → Each Sound (trailFor fuel t room s)

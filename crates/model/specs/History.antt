@@ -54,3 +54,8 @@ retiredFor (suc fuel) (b ∷ t) room s =
 
 unfoldable pub retired : List ℕ → ℕ → Store → ℕ
 retired t room s = retiredFor (length t) t room s
+
+-- of each store of a list, as of a trail
+abbrev pub Each : (Store → Type 0) → List Store → Type 0
+Each P [] = Unit {0}
+Each P (s ∷ ss) = P s × Each P ss

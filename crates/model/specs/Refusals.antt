@@ -1,4 +1,5 @@
 -- "Refusals by place": 01's table, place by place in its order. Assumes nothing.
+use mathlib.Core.Path.{_≡_}
 use mathlib.Core.Bool.{Bool, true, false, cond, not, _&&_, _||_}
 use mathlib.Core.Option.{Option, some, none}
 use mathlib.Core.List.{List, [], _∷_, _++_}
@@ -24,6 +25,21 @@ line n t = record { number = n; holds = t }
 abbrev pub firstLine : {A : Type 0} → List (Line A) → A → Option ℕ
 firstLine [] a = none
 firstLine (l ∷ ls) a = let r = firstLine ls a in cond (l .holds a) (some (l .number)) r
+
+-- no line of the list holds
+abbrev pub NoneHolds : {A : Type 0} → List (Line A) → A → Type 0
+NoneHolds [] a = Unit {0}
+NoneHolds (l ∷ ls) a = (l .holds a ≡ false) × NoneHolds ls a
+
+-- "its line holds and no line above does": what it means that a line is the first (first-exact in proofs/Lines.antt)
+pub record First {A : Type 0} (ls : List (Line A)) (a : A) (n : ℕ) : Type 0 where
+  pub above : List (Line A)
+  pub here : Line A
+  pub under : List (Line A)
+  pub table : ls ≡ above ++ (here ∷ under)
+  pub passed : NoneHolds above a
+  pub holds : here .holds a ≡ true
+  pub number : here .number ≡ n
 
 -- the number that an entry gives: "An accepted entry gives number 0"
 abbrev pub numberOf : Option ℕ → ℕ
@@ -207,3 +223,16 @@ columnLines =
     -- "start above end or end above length"
     ∷ line BEYOND (λ p. ltb (p .end) (p .start) || ltb (length (setOf (p .store .storage .sets) (p .kind))) (p .end))
     ∷ []
+
+-- ---- a refused command inside a run
+
+-- "change no other word": all but the refusal count is as it was
+pub record Unchanged (s t : Store) : Type 0 where
+  pub capacity : t .capacity ≡ s .capacity
+  pub kindCapacity : t .kindCapacity ≡ s .kindCapacity
+  pub kinds : t .kinds ≡ s .kinds
+  pub entities : t .entities ≡ s .entities
+  pub storage : t .storage ≡ s .storage
+  pub staged : t .control .staged ≡ s .control .staged
+  pub excluded : t .control .excluded ≡ s .control .excluded
+  pub draft : t .control .draft ≡ s .control .draft

@@ -7,7 +7,8 @@ use mathlib.Core.List.{List, [], _∷_, _++_, map}
 use Prim.Native.Nat.{ℕ, zero, suc, _≤_, _<_}
 use lib.Dec.{eqb}
 use lib.ListN.{length, getD}
-use Rattle.model.specs.Model.{Entity, SparseSet, Component, Entities, Storage, noRow, at, held, setOf}
+use Rattle.model.specs.Lists.{count}
+use Rattle.model.specs.Model.{Entity, SparseSet, Component, Entities, Storage, sameEntity, noRow, at, held, setOf}
 use Rattle.model.specs.Store.{Store, le}
 
 -- a live entity with its components, by rising kind
@@ -65,3 +66,10 @@ listing s = entries 0 (s .entities .issued) (s .entities .live) (s .storage .set
 -- "live count 4, then each live card"
 unfoldable pub snapshot : Store → List ℕ
 snapshot s = le 4 (length (s .entities .live)) ++ flat (listing s)
+
+-- ---- what two equal snapshots say
+
+-- the same entities are live, and each has the same value, or none, at each kind
+pub record Same (s t : Store) : Type 0 where
+  pub live : (x : Entity) → count sameEntity x (s .entities .live) ≡ count sameEntity x (t .entities .live)
+  pub values : (x : Entity) → 1 ≤ count sameEntity x (s .entities .live) → (k : ℕ) → valueAt x (setOf (s .storage .sets) k) ≡ valueAt x (setOf (t .storage .sets) k)

@@ -1,7 +1,7 @@
 -- The whole store, and numbers in bytes. Assumes nothing.
 use mathlib.Core.Bool.{Bool, true, false, cond}
 use mathlib.Core.List.{List, [], _∷_, _++_, map}
-use Prim.Native.Nat.{ℕ, zero, suc, _+_, _*_, _/_, _%_}
+use Prim.Native.Nat.{ℕ, zero, suc, _+_, _*_, _/_, _%_, _<_}
 use lib.Dec.{ltb}
 use lib.ListN.{replicate}
 use Rattle.model.specs.Model.{Entity, SparseSet, Family, Component, Storage, Entities, mem, kindOf}
@@ -17,6 +17,11 @@ le (suc n) x = x % 256 ∷ le n (x / 256)
 abbrev pub number : List ℕ → ℕ
 number [] = 0
 number (b ∷ bs) = b + 256 * number bs
+
+-- the numbers of a list are bytes, as those of a tape
+abbrev pub Bytes : List ℕ → Type 0
+Bytes [] = Unit {0}
+Bytes (b ∷ bs) = (b < 256) × Bytes bs
 
 -- ---- the store
 
