@@ -1,2 +1,3 @@
 pub mod Fronts
 pub mod Upward
+pub mod UpReady

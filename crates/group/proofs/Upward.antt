@@ -95,7 +95,7 @@ module _ (e : Entity) {acc : List ℕ} {first top p : ℕ} (H : Hole acc first t
 
 -- ---- the model's steps
 
-stop : (e : Entity) (acc : List ℕ) (sets : List SparseSet) (r : Group) (rs : Family) → allHeld e (r .newKinds) sets ≡ false → groupFamily e acc sets (r ∷ rs) ≡ record { sets = sets; groups = r ∷ rs }
+pub stop : (e : Entity) (acc : List ℕ) (sets : List SparseSet) (r : Group) (rs : Family) → allHeld e (r .newKinds) sets ≡ false → groupFamily e acc sets (r ∷ rs) ≡ record { sets = sets; groups = r ∷ rs }
 unfolding groupFamily
 stop e acc sets r rs a = rw a
 
