@@ -1,3 +1,5 @@
 pub mod Fronts
 pub mod Upward
 pub mod UpReady
+pub mod Commute
+pub mod Downward
