@@ -1,4 +1,5 @@
 pub mod Fronts
+pub mod Counts
 pub mod Upward
 pub mod UpReady
 pub mod Commute
