@@ -4,3 +4,4 @@ pub mod Upward
 pub mod UpReady
 pub mod Commute
 pub mod Downward
+pub mod MaskWalk
