@@ -5,3 +5,5 @@ pub mod UpReady
 pub mod Commute
 pub mod Downward
 pub mod MaskWalk
+pub mod Positions
+pub mod KindPositions
