@@ -7,3 +7,4 @@ pub mod Downward
 pub mod MaskWalk
 pub mod Positions
 pub mod KindPositions
+pub mod EachKind
