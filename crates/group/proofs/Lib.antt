@@ -8,3 +8,4 @@ pub mod MaskWalk
 pub mod Positions
 pub mod KindPositions
 pub mod EachKind
+pub mod AllGroups
