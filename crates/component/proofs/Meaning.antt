@@ -7,8 +7,8 @@ use native.Mathlib.Omega.{arith}
 use native.Mathlib.Decide.{ℕ-discrete}
 use lib.ListN.{length, getD}
 use Rattle.model.specs.Model.{Row, noRow}
-use Rattle.words.specs.Table.{table, length-table, getD-table}
-use Rattle.words.specs.Links.{apart}
+use Rattle.words.specs.Table.{table, length-table, getD-table, table-same}
+use Rattle.words.specs.Links.{apart, linked-same}
 use Rattle.words.specs.Pigeon.{pigeon-free}
 use Rattle.component.specs.SparseSet.{lengthOf, indexAt, versionAt, lowAt, highAt, placeOf, heldOf, row, rowAt, rows, Sized, Sound}
 use Rattle.component.specs.Stored.{Absent}
@@ -75,3 +75,29 @@ module _ (n : ℕ) (w : List ℕ) (s : Sound n w) where
     absent-room =
         pigeon-free n (lengthOf w) x (indexAt w) hx (λ i hi. s .linked .tied i hi .below) rows-apart
         (λ i hi e. f i (omega (arith, length-rows n w)) (index-rows n w i hi ∙ e))
+
+-- ---- words 1 to 7 are the storage's: other words there leave the rows as they were
+
+module _ (n : ℕ) (w w′ : List ℕ) (s : Sound n w) (size : length w′ ≡ length w) (first : lengthOf w′ ≡ lengthOf w)
+    (rest : (i : ℕ) → 8 ≤ i → getD w′ i 0 ≡ getD w i 0) where
+  pub head-sound : Sound n w′
+  head-sound =
+      record {
+        size = size ∙ s .size;
+        small = s .small;
+        linked =
+            rw first
+            (linked-same n (lengthOf w) (indexAt w) (versionAt w) (placeOf n w) (heldOf n w) (s .linked)
+            (indexAt w′) (versionAt w′) (placeOf n w′) (heldOf n w′)
+            (λ i hi. rest _ (omega arith))
+            (λ i hi. rest _ (omega arith))
+            (λ x hx. rest _ (omega arith))
+            (λ x hx. rest _ (omega arith)));
+      }
+
+  pub head-rows : rows n w′ ≡ rows n w
+  unfolding rows
+  head-rows =
+      rw first
+      (table-same noRow (lengthOf w) (rowAt n w) (rowAt n w′)
+      (λ i hi. row-is n w′ i _ _ _ _ (rest _ (omega arith)) (rest _ (omega arith)) (rest _ (omega arith)) (rest _ (omega arith))))

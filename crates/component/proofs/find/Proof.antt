@@ -21,7 +21,7 @@ returns-3 : tie.Need-returns-3
 returns-3 c =
     let s = c .before .before .before .before in
     let a = s .args in
-    finds-nothing (a .n) (a .part .now) (s .pre) (a .index) (a .version) (c .if3 .taken)
+    finds-nothing (a .n) (a .part .now) (s .pre) (a .index) (a .version) (omega arith)
 
 cast-t11 : tie.Need-cast-t11
 cast-t11 c = let a = c .before .before .before .before .before .args in omega (arith, c .shared-slice-known2 .given (8 + 4 * a .n + 2 * a .index))
@@ -30,7 +30,7 @@ returns-4 : tie.Need-returns-4
 returns-4 c =
     let s = c .before .before .before .before .before in
     let a = s .args in
-    finds-at (a .n) (a .part .now) (s .pre) (a .index) (a .version) (omega arith) (omega arith) (c .before .if3 .left)
+    finds-at (a .n) (a .part .now) (s .pre) (a .index) (a .version) (omega arith) (omega arith) (omega arith)
 
 pub find-spec : {M : Type 1} → statement M
 find-spec =
