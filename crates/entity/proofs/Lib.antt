@@ -7,3 +7,4 @@ pub mod Lookups
 pub mod Numbering
 pub mod Zeros
 pub mod Checking
+pub mod InWords

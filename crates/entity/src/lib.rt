@@ -3,6 +3,7 @@
 pub mod entity_allocator;
 pub mod entity_sparse_set;
 pub mod entity_storage;
+pub mod in_words;
 pub mod soundness;
 pub mod sparse_vec;
 
