@@ -5,10 +5,10 @@ use mathlib.Core.Bool.{Bool, true, false, cond}
 use mathlib.Core.List.{List, [], _∷_, _++_, map}
 use Prim.Native.Nat.{ℕ, zero, suc, _+_, _^_, _≤_, _<_}
 use lib.Dec.{eqb}
-use lib.ListN.{length, take, getD}
+use lib.ListN.{length, take, drop, getD}
 use Rattle.model.specs.Lists.{count}
 use Rattle.model.specs.Model.{Entity, Entities, Row, SparseSet, Component, Group, Family, Storage, sameEntity, noRow, mem, setOf, keys, kindOf, kindsOf, groupsOf, allHeld, lastVersion}
-use Rattle.model.specs.Run.{Store, Control}
+use Rattle.model.specs.Store.{Store, Control}
 
 -- ---- words for what follows
 
@@ -165,3 +165,26 @@ pub record Sound (s : Store) : Type 0 where
   pub groups : AllRight (s .storage .sets) (s .entities .live) (s .storage .layout)
   -- "a tally of refused commands that stays at 4,294,967,295"
   pub refusals : s .control .refusals ≤ 4294967295
+
+-- ---- demand 3 of a store, for the theorems on runs
+
+abbrev pub GroupsRight : Store → Type 0
+GroupsRight s = AllRight (s .storage .sets) (s .entities .live) (s .storage .layout)
+
+-- at every group that has a larger one: its count is no smaller, and between the two counts, in each of the smaller's sparse sets, stand exactly the
+-- entities with all kinds of the smaller that lack one or more of the larger
+pub record Between (sets : List SparseSet) (live : List Entity) (g more : List ℕ) (c d : ℕ) : Type 0 where
+  pub falls : d ≤ c
+  pub exact : (k : ℕ) → In g k → (x : Entity) → cnt x (drop d (take c (key sets k))) + cnt x (holders (g ++ more) sets live) ≡ cnt x (holders g sets live)
+
+abbrev pub BetweenFrom : List SparseSet → List Entity → List ℕ → Family → Type 0
+BetweenFrom sets live acc [] = Unit {0}
+BetweenFrom sets live acc (r ∷ []) = Unit {0}
+BetweenFrom sets live acc (r ∷ q ∷ rs) = Between sets live (acc ++ r .newKinds) (q .newKinds) (r .count) (q .count) × BetweenFrom sets live (acc ++ r .newKinds) (q ∷ rs)
+
+abbrev pub AllBetween : List SparseSet → List Entity → List Family → Type 0
+AllBetween sets live [] = Unit {0}
+AllBetween sets live (f ∷ fs) = BetweenFrom sets live [] f × AllBetween sets live fs
+
+abbrev pub GroupsBetween : Store → Type 0
+GroupsBetween s = AllBetween (s .storage .sets) (s .entities .live) (s .storage .layout)
