@@ -1,4 +1,4 @@
--- Demand 3's statement of the groups, after every command stream from an empty store. Assumes nothing.
+-- Demand 3's statement of the groups, after each command of every tape from an empty store. Assumes nothing.
 use mathlib.Core.Path.{_≡_, refl, ap, sym, _∙_}
 use mathlib.Core.Bool.{true, false, cond}
 use mathlib.Core.List.{List, [], _∷_, _++_, map}
@@ -7,73 +7,81 @@ use native.Mathlib.Omega.{arith}
 use lib.ListN.{length, take, drop, take-append-drop}
 use lib.Seq.{take-take}
 use Rattle.model.specs.Lists.{count-take-le, count-append}
-use Rattle.model.specs.Model.{Entity, SparseSet, Group, Family, Storage, headKind, sameEntity}
-use Rattle.model.specs.Run.{Store, Ran, run, empty}
-use Rattle.model.proofs.SparseSets.{key}
-use Rattle.model.proofs.Groups.{cnt, In, Even, Full}
-use Rattle.model.proofs.Walk.{Chain, Every, GroupRight, in-right}
-use Rattle.model.proofs.Families.{Fams}
-use Rattle.model.proofs.Invariant.{Fit, holders, count-is, count-number}
-use Rattle.model.proofs.Numbers.{EntitiesOk, cnt-num}
-use Rattle.model.proofs.Sound.{Held, Sound, run-sound}
+use Rattle.model.specs.Model.{Entity, SparseSet, Group, Family, Storage, sameEntity}
+use Rattle.model.specs.Store.{Store, empty}
+use Rattle.model.specs.Run.{Step, stops, goes, step, Ran, halt, more, runFor, run}
+use Rattle.model.specs.History.{trailFor, trail}
+use Rattle.model.specs.Sound.{cnt, In, key, holders, Limits, Right, RightFrom, AllRight, Between, BetweenFrom, AllBetween, GroupsRight, GroupsBetween, Sound}
+use Rattle.model.proofs.Walk.{in-left}
+use Rattle.model.proofs.Held.{holders-fewer}
+use Rattle.model.proofs.Sound.{Bytes, Each, run-sound, trail-sound}
 
--- the group with kinds g and count c: c is the number of live entities that hold all its kinds, and the first c places of each of its sparse sets
--- hold those entities, once each, the same entity at the same place
-pub record Right (sets : List SparseSet) (live : List Entity) (g : List ℕ) (c : ℕ) : Type 0 where
-  pub number : c ≡ length (holders g sets live)
-  pub places : (k : ℕ) → In g k → c ≤ length (key sets k)
-  pub aligned : (j k : ℕ) → In g j → In g k → take c (key sets j) ≡ take c (key sets k)
-  pub exact : (k : ℕ) → In g k → (x : Entity) → cnt x (take c (key sets k)) ≡ cnt x (holders g sets live)
-  pub once : (k : ℕ) → In g k → (x : Entity) → cnt x (take c (key sets k)) ≤ 1
+-- ---- the trail is what the run passes through: a store for each command, the last one the run's
 
--- of each group of a family, and of each family
-abbrev pub RightFrom : List SparseSet → List Entity → List ℕ → Family → Type 0
-RightFrom sets live acc [] = Unit {0}
-RightFrom sets live acc (r ∷ rs) = Right sets live (acc ++ r .newKinds) (r .count) × RightFrom sets live (acc ++ r .newKinds) rs
+abbrev lastOf : Store → List Store → Store
+lastOf s [] = s
+lastOf s (t ∷ ts) = lastOf t ts
 
-abbrev pub AllRight : List SparseSet → List Entity → List Family → Type 0
-AllRight sets live [] = Unit {0}
-AllRight sets live (f ∷ fs) = RightFrom sets live [] f × AllRight sets live fs
+pub record Passes (s : Store) (r : Ran) (ts : List Store) : Type 0 where
+  pub commands : length ts ≡ r .commands
+  pub last : lastOf s ts ≡ r .store
 
-module _ (s : Store) (S : Sound s) where
-  abbrev C : List SparseSet
-  C = s .storage .sets
+passes-for : (fuel : ℕ) (t : List ℕ) (room : ℕ) (s : Store) → Passes s (runFor fuel t room s) (trailFor fuel t room s)
+unfolding runFor trailFor
+passes-for zero t room s = record { commands = refl; last = refl }
+passes-for (suc fuel) [] room s = record { commands = refl; last = refl }
+passes-for (suc fuel) (b ∷ t) room s = go (step b t room s) (λ w r s′. passes-for fuel (drop w (b ∷ t)) r s′)
+  where
+    go : (p : Step) → ((w r : ℕ) (s′ : Store) → Passes s′ (runFor fuel (drop w (b ∷ t)) r s′) (trailFor fuel (drop w (b ∷ t)) r s′)) → Passes s (elim p as (λ p. Ran) [ stops n ↦ halt n s | goes w a s′ ↦ more w a (runFor fuel (drop w (b ∷ t)) (room - length a) s′) ]) (elim p as (λ p. List Store) [ stops n ↦ [] | goes w a s′ ↦ s′ ∷ trailFor fuel (drop w (b ∷ t)) (room - length a) s′ ])
+    go (stops n) rec = record { commands = refl; last = refl }
+    go (goes w a s′) rec = let P = rec w (room - length a) s′ in record { commands = ap suc (P .commands); last = P .last }
 
-  abbrev L : List Entity
-  L = s .entities .live
+pub trail-passes : (t : List ℕ) (room : ℕ) (s : Store) → Passes s (run t room s) (trail t room s)
+unfolding run trail
+trail-passes t room s = passes-for (length t) t room s
 
-  live-once : (x : Entity) → cnt x L ≤ 1
-  live-once x = omega (arith, cnt-num x L, S .held .numbers .single (x .index))
+-- ---- the groups after each command
 
-  right : (g : List ℕ) (r : Group) (k : ℕ) → In g k → GroupRight (key C) Every g r → Right C L g (r .count)
-  right g r k i G =
-      let e : (k : ℕ) → In g k → (x : Entity) → cnt x (take (r .count) (key C k)) ≡ cnt x (holders g C L) = λ k i. count-is C L g r k i (S .held .fit .once) live-once (S .held .alive) G in
-      record {
-        number = count-number C L g r k i (S .held .fit .once) live-once (S .held .alive) G;
-        places = G .even .fit;
-        aligned = G .even .align;
-        exact = e;
-        once = λ k i x. omega (arith, S .held .fit .once x k, count-take-le sameEntity x (r .count) (key C k));
-      }
+each-right : (ss : List Store) → Each Sound ss → Each GroupsRight ss
+each-right [] h = tt
+each-right (s ∷ ss) h = (h .0 .groups, each-right ss (h .1))
 
-  right-from : (acc : List ℕ) (rs : Family) → Chain (key C) Every acc rs → RightFrom C L acc rs
-  right-from acc [] ch = tt
-  right-from acc (r ∷ rs) ch = (right (acc ++ r .newKinds) r (headKind (r .newKinds)) (in-right acc (r .newKinds) (headKind (r .newKinds)) (ch .0 .head)) (ch .0), right-from (acc ++ r .newKinds) rs (ch .2))
+-- after each command of every tape from an empty store, each group's count is the number of live entities holding all its kinds, and the first that
+-- many places of each of its sparse sets hold exactly those, once each, the same at the same place
+pub after-each-command : (t : List ℕ) (room n k : ℕ) → Bytes t → Limits n k → Each GroupsRight (trail t room (empty n k))
+after-each-command t room n k h l = each-right (trail t room (empty n k)) (trail-sound t room n k h l)
 
-  all-right : (fs : List Family) → Fams (key C) fs → AllRight C L fs
-  all-right [] fm = tt
-  all-right (f ∷ fs) fm = (right-from [] f (fm .0), all-right fs (fm .1))
+pub after-every-run : (t : List ℕ) (room n k : ℕ) → Bytes t → Limits n k → GroupsRight ((run t room (empty n k)) .store)
+after-every-run t room n k h l = run-sound t room n k h l .groups
 
-  pub groups-right : AllRight C L (s .storage .layout)
-  groups-right = all-right (s .storage .layout) (S .held .fit .fams)
+-- ---- between a group and the next larger one
 
-pub after-every-run : (t : List ℕ) (room n k : ℕ) → AllRight ((run t room (empty n k)) .store .storage .sets) ((run t room (empty n k)) .store .entities .live) ((run t room (empty n k)) .store .storage .layout)
-after-every-run t room n k = groups-right ((run t room (empty n k)) .store) (run-sound t room n k)
-
--- between a group and the next larger one stand exactly the entities with all kinds of the smaller that lack one or more of the larger
-pub between : (sets : List SparseSet) (live : List Entity) (g h : List ℕ) (c d k : ℕ) → In g k → In h k → d ≤ c → Right sets live g c → Right sets live h d → (x : Entity) → cnt x (drop d (take c (key sets k))) + cnt x (holders h sets live) ≡ cnt x (holders g sets live)
-between sets live g h c d k i j le R S x =
+-- stand exactly the entities with all kinds of the smaller that lack one or more of the larger
+between-at : (sets : List SparseSet) (live : List Entity) (g h : List ℕ) (c d k : ℕ) → In g k → In h k → d ≤ c → Right sets live g c → Right sets live h d → (x : Entity) → cnt x (drop d (take c (key sets k))) + cnt x (holders h sets live) ≡ cnt x (holders g sets live)
+between-at sets live g h c d k i j le R S x =
     let a = count-append sameEntity x (take d (take c (key sets k))) (drop d (take c (key sets k))) in
     let b = ap (cnt x) (take-append-drop d (take c (key sets k))) in
     let t = ap (cnt x) (take-take d c (key sets k) le) in
     omega (arith, R .exact k i x, S .exact k j x)
+
+module _ (sets : List SparseSet) (live : List Entity) where
+  pub between : (g more : List ℕ) (c d : ℕ) → Right sets live g c → Right sets live (g ++ more) d → Between sets live g more c d
+  between g more c d R S =
+      let le : d ≤ c = omega (arith, R .number, S .number, holders-fewer g more sets live) in
+      record { falls = le; exact = λ k i x. between-at sets live g (g ++ more) c d k i (in-left g more k i) le R S x }
+
+  between-from : (acc : List ℕ) (rs : Family) → RightFrom sets live acc rs → BetweenFrom sets live acc rs
+  between-from acc [] R = tt
+  between-from acc (r ∷ []) R = tt
+  between-from acc (r ∷ q ∷ rs) R = (between (acc ++ r .newKinds) (q .newKinds) (r .count) (q .count) (R .0) (R .1 .0), between-from (acc ++ r .newKinds) (q ∷ rs) (R .1))
+
+  pub all-between : (fs : List Family) → AllRight sets live fs → AllBetween sets live fs
+  all-between [] R = tt
+  all-between (f ∷ fs) R = (between-from [] f (R .0), all-between fs (R .1))
+
+each-between : (ss : List Store) → Each GroupsRight ss → Each GroupsBetween ss
+each-between [] h = tt
+each-between (s ∷ ss) h = (all-between (s .storage .sets) (s .entities .live) (s .storage .layout) (h .0), each-between ss (h .1))
+
+pub between-after-each-command : (t : List ℕ) (room n k : ℕ) → Bytes t → Limits n k → Each GroupsBetween (trail t room (empty n k))
+between-after-each-command t room n k h l = each-between (trail t room (empty n k)) (after-each-command t room n k h l)

@@ -1,30 +1,27 @@
--- Adding a group keeps the draft a layout: families with no kind in common, no new kinds empty, all counts 0. Assumes nothing.
+-- Adding a group keeps the draft a layout that commands can build, with all counts 0. Assumes nothing.
 use mathlib.Core.Path.{_≡_, refl, ap, ap₂, sym, _∙_, subst}
-use mathlib.Core.Logic.{_⊎_, inl, inr, ⊎-elim}
 use mathlib.Core.Bool.{Bool, true, false, cond, not, _&&_, _||_, true≢false, false≢true}
 use mathlib.Core.List.{List, [], _∷_, _++_, map, append-assoc, append-nil}
 use Prim.Native.Nat.{ℕ, zero, suc, _+_, _-_, _≤_, _<_}
 use native.Mathlib.Omega.{arith}
-use borrow.Author.Tests.{ltb-true, ltb-false, leb-false, eqb-true, eqb-false, eq-eqb}
+use borrow.Author.Tests.{ltb-true, ltb-false, leb-true, leb-false, eqb-true, eqb-false, eq-eqb}
 use lib.Dec.{ltb, leb, eqb}
-use lib.ListN.{length}
-use Rattle.model.specs.Model.{Group, Family, Added, nothing, added, refused, mem, any, all, meets, within, sameSet, without, headKind, kindsOf, groupsOf, isGroup, present, touched, covers, newGroup, grown, addGroup}
-use Rattle.model.proofs.SparseSets.{cond-case}
+use lib.ListN.{length, length-append}
+use Rattle.model.specs.Lists.{one, count, count-append, count-length-le}
+use Rattle.model.specs.Model.{Group, Family, Added, nothing, added, refused, mem, any, all, meets, within, sameSet, without, headKind, kindsOf, groupsOf, isGroup, present, touched, covers, newGroup, grown, addGroup, addsNothing, joins, withGroup}
+use Rattle.model.specs.Sound.{Distinct, layoutKinds, Rising, BuildableFamily, BuildableFamilies, Buildable, Uncounted, AllUncounted}
+use Rattle.model.proofs.SparseSets.{cond-case, and-left, and-right}
 use Rattle.model.proofs.Groups.{In}
-use Rattle.model.proofs.Walk.{bool-cases, in-left, in-right, in-cases, or-false, or-true, or-cases, mem-append, Missing, all-missing}
-use Rattle.model.proofs.Families.{Apart, allKinds, famKinds, or-false-right}
+use Rattle.model.proofs.Walk.{bool-cases, in-left, in-right, in-cases, or-false, or-true, or-cases, mem-append, Missing, all-missing, all-in}
+use Rattle.model.proofs.Families.{or-false-right}
 use Rattle.model.proofs.Invariant.{any-in}
-use Rattle.model.proofs.Regroup.{Fresh, FreshAll}
+use Rattle.model.proofs.KindLists.{not-true, in-count, out-count, count-in, count-without, distinct-right, in-length}
 
-pub record DraftOk (fs : List Family) : Type 0 where
-  pub fresh : FreshAll fs
-  pub apart : Apart (famKinds fs)
+pub record DraftSound (kinds : List ℕ) (fs : List Family) : Type 0 where
+  pub buildable : Buildable kinds fs
+  pub uncounted : AllUncounted fs
 
 -- ---- lists of kinds
-
-head-in : (l : List ℕ) (k : ℕ) → In l k → In l (headKind l)
-head-in [] k i = absurd (false≢true i)
-head-in (j ∷ l) k i = rw (eq-eqb j j refl)
 
 without-in : (ks js : List ℕ) (k : ℕ) → In ks k → mem k js ≡ false → In (without ks js) k
 without-in [] js k i n = i
@@ -40,21 +37,17 @@ without-sub (j ∷ ks) js k i =
     (λ t. rw (without-sub ks js k (rw t at i)) (or-true (eqb k j)))
     (λ t. or-cases (eqb k j) (mem k (without ks js)) (rw t at i) (λ u. rw u) (λ u. rw (without-sub ks js k u) (or-true (eqb k j))))
 
-no-in : (b : Bool) → (b ≡ true → ⊥) → b ≡ false
-no-in true f = absurd (f refl)
-no-in false f = refl
-
 unmet : (ks js : List ℕ) → meets ks js ≡ false → (k : ℕ) → In js k → mem k ks ≡ false
-unmet ks js m k i = no-in (mem k ks) (λ t. true≢false (sym (any-in (λ y. mem y js) ks k t i) ∙ m))
+unmet ks js m k i = not-true (mem k ks) (λ t. true≢false (sym (any-in (λ y. mem y js) ks k t i) ∙ m))
 
 -- ---- a family with no kind of ks
 
-untouched : (ks : List ℕ) (fs : List Family) → touched ks fs ≡ 0 → (k : ℕ) → In (allKinds (famKinds fs)) k → mem k ks ≡ false
+untouched : (ks : List ℕ) (fs : List Family) → touched ks fs ≡ 0 → (k : ℕ) → In (layoutKinds fs) k → mem k ks ≡ false
 untouched ks [] z k i = absurd (false≢true i)
 untouched ks (f ∷ fs) z k i =
     bool-cases (meets ks (kindsOf f))
     (λ t. absurd (omega (arith, rw t at z)))
-    (λ t. in-cases (kindsOf f) (allKinds (famKinds fs)) k i (λ j. unmet ks (kindsOf f) t k j) (λ j. untouched ks fs (rw t at z) k j))
+    (λ t. in-cases (kindsOf f) (layoutKinds fs) k i (λ j. unmet ks (kindsOf f) t k j) (λ j. untouched ks fs (rw t at z) k j))
 
 grown-same : (ks : List ℕ) (fs : List Family) → touched ks fs ≡ 0 → grown ks fs ≡ fs
 grown-same ks [] z = refl
@@ -63,33 +56,23 @@ grown-same ks (f ∷ fs) z =
     (λ t. absurd (omega (arith, rw t at z)))
     (λ t. rw t (ap {B = List Family} (λ r. f ∷ r) (grown-same ks fs (rw t at z))))
 
--- ---- a family with a new kinds more
+-- ---- a family with a group more
 
 kinds-snoc : (f : Family) (r : Group) → kindsOf (f ++ (r ∷ [])) ≡ kindsOf f ++ r .newKinds
 kinds-snoc [] r = append-nil (r .newKinds)
 kinds-snoc (s ∷ f) r = ap (λ (l : List ℕ). s .newKinds ++ l) (kinds-snoc f r) ∙ sym (append-assoc (s .newKinds) (kindsOf f) (r .newKinds))
 
-fresh-snoc : (f : Family) (r : Group) → Fresh f → In (r .newKinds) (headKind (r .newKinds)) → r .count ≡ 0 → Fresh (f ++ (r ∷ []))
-fresh-snoc [] r fr h z = (h, z, tt)
-fresh-snoc (s ∷ f) r fr h z = (fr .0, fr .1, fresh-snoc f r (fr .2) h z)
+rising-snoc : (f : Family) (r : Group) → Rising f → 1 ≤ length (r .newKinds) → Rising (f ++ (r ∷ []))
+rising-snoc [] r h l = (l, tt)
+rising-snoc (q ∷ f) r h l = (h .0, rising-snoc f r (h .1) l)
 
-neither : (a b : List ℕ) (k : ℕ) → mem k a ≡ false → mem k b ≡ false → mem k (a ++ b) ≡ false
-neither a b k n m = mem-append k a b ∙ rw (n, m)
+uncounted-snoc : (f : Family) (r : Group) → Uncounted f → r .count ≡ 0 → Uncounted (f ++ (r ∷ []))
+uncounted-snoc [] r h z = (z, tt)
+uncounted-snoc (q ∷ f) r h z = (h .0, uncounted-snoc f r (h .1) z)
 
-more-kinds : (ks : List ℕ) (f : Family) (k : ℕ) → mem k ks ≡ false → mem k (kindsOf f) ≡ false → mem k (kindsOf (f ++ (newGroup (without ks (kindsOf f)) ∷ []))) ≡ false
-more-kinds ks f k n m =
-    rw (kinds-snoc f (newGroup (without ks (kindsOf f))))
-    (neither (kindsOf f) (without ks (kindsOf f)) k m (no-in (mem k (without ks (kindsOf f))) (λ t. true≢false (sym (without-sub ks (kindsOf f) k t) ∙ n))))
-
-grown-kinds : (ks : List ℕ) (fs : List Family) (k : ℕ) → mem k ks ≡ false → mem k (allKinds (famKinds fs)) ≡ false → mem k (allKinds (famKinds (grown ks fs))) ≡ false
-grown-kinds ks [] k n m = m
-grown-kinds ks (f ∷ fs) k n m =
-    let m′ = sym (mem-append k (kindsOf f) (allKinds (famKinds fs))) ∙ m in
-    let m₁ = or-false (mem k (kindsOf f)) (mem k (allKinds (famKinds fs))) m′ in
-    let m₂ = or-false-right (mem k (kindsOf f)) (mem k (allKinds (famKinds fs))) m′ in
-    neither (kindsOf (cond (meets ks (kindsOf f)) (f ++ (newGroup (without ks (kindsOf f)) ∷ [])) f)) (allKinds (famKinds (grown ks fs))) k
-    (cond-case (λ (h : Family). mem k (kindsOf h) ≡ false) (meets ks (kindsOf f)) _ _ (λ t. more-kinds ks f k n m₁) (λ t. m₁))
-    (grown-kinds ks fs k n m₂)
+family-snoc : (f : Family) (r : Group) → BuildableFamily f → 1 ≤ length (r .newKinds) → length (kindsOf f ++ r .newKinds) ≤ 15 → BuildableFamily (f ++ (r ∷ []))
+family-snoc [] r h l w = absurd h
+family-snoc (q ∷ f) r h l w = (h .0, rising-snoc f r (h .1) l, subst (λ (ks : List ℕ). length ks ≤ 15) (sym (kinds-snoc (q ∷ f) r)) w)
 
 -- ---- the family that grows
 
@@ -107,93 +90,174 @@ meets-none : (ks : List ℕ) → meets ks [] ≡ false
 meets-none [] = refl
 meets-none (k ∷ ks) = meets-none ks
 
--- a staged components that holds the family's kinds, and is none of its groups, has a kind more
-more-head : (ks : List ℕ) (f : Family) → meets ks (kindsOf f) ≡ true → within (kindsOf f) ks ≡ true → isGroup ks [] f ≡ false → In (without ks (kindsOf f)) (headKind (without ks (kindsOf f)))
-more-head ks [] m w g = absurd (true≢false (sym m ∙ meets-none ks))
-more-head ks (r ∷ rs) m w g =
+-- a hand that holds the family's kinds, and is none of its groups, has a kind more
+more-kinds : (ks : List ℕ) (f : Family) → meets ks (kindsOf f) ≡ true → within (kindsOf f) ks ≡ true → isGroup ks [] f ≡ false → 1 ≤ length (without ks (kindsOf f))
+more-kinds ks [] m w g = absurd (true≢false (sym m ∙ meets-none ks))
+more-kinds ks (r ∷ rs) m w g =
     let l : within ks (kindsOf (r ∷ rs)) ≡ false = and-false-left (within ks (kindsOf (r ∷ rs))) (within (kindsOf (r ∷ rs)) ks) (is-group-all ks [] r rs g) w in
     let x : Missing (λ k. mem k (kindsOf (r ∷ rs))) ks = all-missing (λ k. mem k (kindsOf (r ∷ rs))) ks l in
-    head-in (without ks (kindsOf (r ∷ rs))) (x .kind) (without-in ks (kindsOf (r ∷ rs)) (x .kind) (x .isIn) (x .fails))
+    in-length (without ks (kindsOf (r ∷ rs))) (x .kind) (without-in ks (kindsOf (r ∷ rs)) (x .kind) (x .isIn) (x .fails))
+
+-- and as many kinds as the hand, together with the family's
+joined-length : (ks js : List ℕ) → Distinct js → within js ks ≡ true → length (js ++ without ks js) ≤ length ks
+joined-length ks js d w = count-length-le eqb (λ x y. eqb-true x y) (λ x. eq-eqb x x refl) (js ++ without ks js) ks few
+  where
+    few : (z : ℕ) → count eqb z (js ++ without ks js) ≤ count eqb z ks
+    few z =
+        bool-cases (mem z js)
+        (λ t. omega (arith, count-append eqb z js (without ks js), rw t at (count-without ks js z), d z, in-count ks z (all-in (λ k. mem k ks) js w z t)))
+        (λ t. omega (arith, count-append eqb z js (without ks js), rw t at (count-without ks js z), out-count js z t))
 
 not-or : (a b : Bool) → (not a || b) ≡ true → a ≡ true → b ≡ true
 not-or true b h t = h
 not-or false b h t = absurd (false≢true t)
 
-and-l : (a b : Bool) → (a && b) ≡ true → a ≡ true
-and-l true b h = refl
-and-l false b h = h
+-- ---- what the grown layout's kinds are
 
-and-r : (a b : Bool) → (a && b) ≡ true → b ≡ true
-and-r true b h = h
-and-r false b h = absurd (false≢true h)
-
-grown-ok : (ks : List ℕ) (fs : List Family) → touched ks fs ≡ 1 → covers ks fs ≡ true → present ks fs ≡ false → DraftOk fs → DraftOk (grown ks fs)
-grown-ok ks [] t c p d = absurd (omega arith)
-grown-ok ks (f ∷ fs) t c p d =
-    bool-cases (meets ks (kindsOf f)) here
-    (later (λ z. grown-ok ks fs z (and-r (not (meets ks (kindsOf f)) || within (kindsOf f) ks) (covers ks fs) c) (or-false-right (isGroup ks [] f) (present ks fs) p) (record { fresh = d .fresh .1; apart = d .apart .1 })))
+grown-out : (ks : List ℕ) (fs : List Family) (z : ℕ) → mem z ks ≡ false → count eqb z (layoutKinds (grown ks fs)) ≡ count eqb z (layoutKinds fs)
+grown-out ks [] z n = refl
+grown-out ks (f ∷ fs) z n =
+    let r = grown-out ks fs z n in
+    cond-case (λ (h : Family). count eqb z (kindsOf h ++ layoutKinds (grown ks fs)) ≡ count eqb z (kindsOf f ++ layoutKinds fs)) (meets ks (kindsOf f)) _ _
+    (λ t. rw (kinds-snoc f (newGroup (without ks (kindsOf f)))) (omega (arith, r, none, count-append eqb z (kindsOf f ++ without ks (kindsOf f)) (layoutKinds (grown ks fs)), count-append eqb z (kindsOf f) (without ks (kindsOf f)), count-append eqb z (kindsOf f) (layoutKinds fs))))
+    (λ t. omega (arith, r, count-append eqb z (kindsOf f) (layoutKinds (grown ks fs)), count-append eqb z (kindsOf f) (layoutKinds fs)))
   where
-    c₁ : (not (meets ks (kindsOf f)) || within (kindsOf f) ks) ≡ true
-    c₁ = and-l (not (meets ks (kindsOf f)) || within (kindsOf f) ks) (covers ks fs) c
+    none : count eqb z (without ks (kindsOf f)) ≡ 0
+    none = count-without ks (kindsOf f) z ∙ bool-cases (mem z (kindsOf f)) (λ t. rw t) (λ t. rw t (out-count ks z n))
 
-    p₁ : isGroup ks [] f ≡ false
-    p₁ = or-false (isGroup ks [] f) (present ks fs) p
+grown-once : (ks : List ℕ) (fs : List Family) → touched ks fs ≡ 1 → Distinct ks → Distinct (layoutKinds fs) → Distinct (layoutKinds (grown ks fs))
+grown-once ks [] t d o = absurd (omega arith)
+grown-once ks (f ∷ fs) t d o = bool-cases (meets ks (kindsOf f)) here (λ m. later m (grown-once ks fs (rw m at t) d (distinct-right (kindsOf f) (layoutKinds fs) o)))
+  where
+    here : meets ks (kindsOf f) ≡ true → Distinct (layoutKinds (grown ks (f ∷ fs)))
+    here m z =
+        let t0 : touched ks fs ≡ 0 = omega (arith, rw m at t) in
+        rw (m, grown-same ks fs t0, kinds-snoc f (newGroup (without ks (kindsOf f))))
+        (bool-cases (mem z (kindsOf f))
+        (λ u. omega (arith, parts z, o z, count-append eqb z (kindsOf f) (layoutKinds fs), rw u at (count-without ks (kindsOf f) z)))
+        (λ u. bool-cases (mem z ks)
+        (λ v. omega (arith, parts z, rw u at (count-without ks (kindsOf f) z), d z, out-count (kindsOf f) z u, out-count (layoutKinds fs) z (not-true (mem z (layoutKinds fs)) (λ i. true≢false (sym v ∙ untouched ks fs t0 z i)))))
+        (λ v. omega (arith, parts z, rw u at (count-without ks (kindsOf f) z), out-count ks z v, o z, count-append eqb z (kindsOf f) (layoutKinds fs)))))
+      where
+        parts : (z : ℕ) → count eqb z ((kindsOf f ++ without ks (kindsOf f)) ++ layoutKinds fs) ≡ count eqb z (kindsOf f) + count eqb z (without ks (kindsOf f)) + count eqb z (layoutKinds fs)
+        parts z = omega (arith, count-append eqb z (kindsOf f ++ without ks (kindsOf f)) (layoutKinds fs), count-append eqb z (kindsOf f) (without ks (kindsOf f)))
 
-    here : meets ks (kindsOf f) ≡ true → DraftOk (cond (meets ks (kindsOf f)) (f ++ (newGroup (without ks (kindsOf f)) ∷ [])) f ∷ grown ks fs)
-    here m =
-        let z : touched ks fs ≡ 0 = omega (arith, rw m at t) in
-        rw (m, grown-same ks fs z)
-        (record {
-          fresh = (fresh-snoc f (newGroup (without ks (kindsOf f))) (d .fresh .0) (more-head ks f m (not-or (meets ks (kindsOf f)) (within (kindsOf f) ks) c₁ m) p₁) refl, d .fresh .1);
-          apart = ((λ k i. in-cases (kindsOf f) (without ks (kindsOf f)) k (rw (kinds-snoc f (newGroup (without ks (kindsOf f)))) at i) (λ j. d .apart .0 k j) (λ j. no-in (mem k (allKinds (famKinds fs))) (λ u. true≢false (sym (without-sub ks (kindsOf f) k j) ∙ untouched ks fs z k u)))), d .apart .1);
-        })
+    later : meets ks (kindsOf f) ≡ false → Distinct (layoutKinds (grown ks fs)) → Distinct (layoutKinds (grown ks (f ∷ fs)))
+    later m r z =
+        rw m
+        (bool-cases (mem z ks)
+        (λ v. omega (arith, count-append eqb z (kindsOf f) (layoutKinds (grown ks fs)), r z, out-count (kindsOf f) z (not-true (mem z (kindsOf f)) (λ i. true≢false (sym v ∙ unmet ks (kindsOf f) m z i)))))
+        (λ v. omega (arith, count-append eqb z (kindsOf f) (layoutKinds (grown ks fs)), grown-out ks fs z v, o z, count-append eqb z (kindsOf f) (layoutKinds fs))))
 
-    later : (touched ks fs ≡ 1 → DraftOk (grown ks fs)) → meets ks (kindsOf f) ≡ false → DraftOk (cond (meets ks (kindsOf f)) (f ++ (newGroup (without ks (kindsOf f)) ∷ [])) f ∷ grown ks fs)
-    later rec m =
-        let r : DraftOk (grown ks fs) = rec (rw m at t) in
-        rw m (record { fresh = (d .fresh .0, r .fresh); apart = ((λ k i. grown-kinds ks fs k (unmet ks (kindsOf f) m k i) (d .apart .0 k i)), r .apart) })
+grown-in : (ks : List ℕ) (fs : List Family) (k : ℕ) → In (layoutKinds (grown ks fs)) k → mem k ks ≡ false → In (layoutKinds fs) k
+grown-in ks fs k i n = count-in (layoutKinds fs) k (omega (arith, grown-out ks fs k n, in-count (layoutKinds (grown ks fs)) k i))
+
+grown-groups : (ks : List ℕ) (fs : List Family) → groupsOf (grown ks fs) ≡ groupsOf fs + touched ks fs
+grown-groups ks [] = refl
+grown-groups ks (f ∷ fs) =
+    let r = grown-groups ks fs in
+    bool-cases (meets ks (kindsOf f))
+    (λ t. rw t (omega (arith, r, length-append f (newGroup (without ks (kindsOf f)) ∷ []))))
+    (λ t. rw t (omega (arith, r)))
+
+-- ---- the family that grows is one that commands can build, and so are the others
+
+record Grows (ks : List ℕ) (fs : List Family) : Type 0 where
+  pub families : BuildableFamilies (grown ks fs)
+  pub uncounted : AllUncounted (grown ks fs)
+
+grown-families : (ks : List ℕ) (fs : List Family) → covers ks fs ≡ true → present ks fs ≡ false → length ks ≤ 15 → Distinct (layoutKinds fs) → BuildableFamilies fs → AllUncounted fs → Grows ks fs
+grown-families ks [] c p l d b u = record { families = tt; uncounted = tt }
+grown-families ks (f ∷ fs) c p l d b u =
+    let r = grown-families ks fs (and-right (not (meets ks (kindsOf f)) || within (kindsOf f) ks) (covers ks fs) c) (or-false-right (isGroup ks [] f) (present ks fs) p) l (distinct-right (kindsOf f) (layoutKinds fs) d) (b .1) (u .1) in
+    record {
+      families = (cond-case BuildableFamily (meets ks (kindsOf f)) _ _ wider (λ t. b .0), r .families);
+      uncounted = (cond-case Uncounted (meets ks (kindsOf f)) _ _ (λ t. uncounted-snoc f (newGroup (without ks (kindsOf f))) (u .0) refl) (λ t. u .0), r .uncounted);
+    }
+  where
+    wider : meets ks (kindsOf f) ≡ true → BuildableFamily (f ++ (newGroup (without ks (kindsOf f)) ∷ []))
+    wider m =
+        let w = not-or (meets ks (kindsOf f)) (within (kindsOf f) ks) (and-left (not (meets ks (kindsOf f)) || within (kindsOf f) ks) (covers ks fs) c) m in
+        let dl : Distinct (kindsOf f) = λ k. omega (arith, d k, count-append eqb k (kindsOf f) (layoutKinds fs)) in
+        family-snoc f (newGroup (without ks (kindsOf f))) (b .0) (more-kinds ks f m w (or-false (isGroup ks [] f) (present ks fs) p)) (omega (arith, joined-length ks (kindsOf f) dl w))
 
 -- ---- a family of its own
 
-own-ok : (ks : List ℕ) (fs : List Family) → In ks (headKind ks) → touched ks fs ≡ 0 → DraftOk fs → DraftOk (fs ++ ((newGroup ks ∷ []) ∷ []))
-own-ok ks [] h z d = record { fresh = ((h, refl, tt), tt); apart = ((λ k i. refl), tt) }
-own-ok ks (f ∷ fs) h z d = bool-cases (meets ks (kindsOf f)) (λ t. absurd (omega (arith, rw t at z))) (λ t. go t (own-ok ks fs h (rw t at z) (record { fresh = d .fresh .1; apart = d .apart .1 })))
-  where
-    last : (gs : List Family) (k : ℕ) → mem k ks ≡ false → mem k (allKinds (famKinds gs)) ≡ false → mem k (allKinds (famKinds (gs ++ ((newGroup ks ∷ []) ∷ [])))) ≡ false
-    last [] k n m = rw (append-nil ks, append-nil ks) n
-    last (g ∷ gs) k n m =
-        let m′ = sym (mem-append k (kindsOf g) (allKinds (famKinds gs))) ∙ m in
-        neither (kindsOf g) (allKinds (famKinds (gs ++ ((newGroup ks ∷ []) ∷ [])))) k (or-false (mem k (kindsOf g)) (mem k (allKinds (famKinds gs))) m′) (last gs k n (or-false-right (mem k (kindsOf g)) (mem k (allKinds (famKinds gs))) m′))
+own-families : (ks : List ℕ) (fs : List Family) → 2 ≤ length ks → length ks ≤ 15 → BuildableFamilies fs → BuildableFamilies (fs ++ ((newGroup ks ∷ []) ∷ []))
+own-families ks [] h l b = ((h, tt, rw (append-nil ks) l), tt)
+own-families ks (f ∷ fs) h l b = (b .0, own-families ks fs h l (b .1))
 
-    go : meets ks (kindsOf f) ≡ false → DraftOk (fs ++ ((newGroup ks ∷ []) ∷ [])) → DraftOk (f ∷ (fs ++ ((newGroup ks ∷ []) ∷ [])))
-    go t r = record { fresh = (d .fresh .0, r .fresh); apart = ((λ k i. last fs k (unmet ks (kindsOf f) t k i) (d .apart .0 k i)), r .apart) }
+own-uncounted : (ks : List ℕ) (fs : List Family) → AllUncounted fs → AllUncounted (fs ++ ((newGroup ks ∷ []) ∷ []))
+own-uncounted ks [] u = ((refl, tt), tt)
+own-uncounted ks (f ∷ fs) u = (u .0, own-uncounted ks fs (u .1))
 
--- ---- the answer
+own-kinds : (ks : List ℕ) (fs : List Family) → layoutKinds (fs ++ ((newGroup ks ∷ []) ∷ [])) ≡ layoutKinds fs ++ ks
+own-kinds ks [] = append-nil (ks ++ []) ∙ append-nil ks
+own-kinds ks (f ∷ fs) = ap (λ (l : List ℕ). kindsOf f ++ l) (own-kinds ks fs) ∙ sym (append-assoc (kindsOf f) (layoutKinds fs) ks)
 
-abbrev pub AddedOk : Added → Type 0
-AddedOk nothing = Unit {0}
-AddedOk (added fs) = DraftOk fs
-AddedOk (refused n) = Unit {0}
+own-groups : (ks : List ℕ) (fs : List Family) → groupsOf (fs ++ ((newGroup ks ∷ []) ∷ [])) ≡ groupsOf fs + 1
+own-groups ks [] = refl
+own-groups ks (f ∷ fs) = omega (arith, own-groups ks fs)
 
-long-head : (ks : List ℕ) → ltb (length ks) 2 ≡ false → In ks (headKind ks)
-long-head [] h = absurd (true≢false h)
-long-head (k ∷ ks) h = rw (eq-eqb k k refl)
+-- ---- the draft with the group
 
 or-right : (a b : Bool) → (a || b) ≡ true → a ≡ false → b ≡ true
 or-right true b h n = absurd (true≢false n)
 or-right false b h n = h
 
-pub add-ok : (ks : List ℕ) (fs : List Family) → DraftOk fs → AddedOk (addGroup ks fs)
+module _ (kinds ks : List ℕ) (fs : List Family) (d : Distinct ks) (known : (k : ℕ) → In ks k → In kinds k) (narrow : length ks ≤ 15) (few : groupsOf fs < 63) (D : DraftSound kinds fs) where
+  own-sound : 2 ≤ length ks → touched ks fs ≡ 0 → DraftSound kinds (fs ++ ((newGroup ks ∷ []) ∷ []))
+  own-sound two z =
+      record {
+        buildable = record {
+          families = own-families ks fs two narrow (D .buildable .families);
+          once = rw (own-kinds ks fs) (λ k. bool-cases (mem k ks)
+              (λ t. omega (arith, count-append eqb k (layoutKinds fs) ks, d k, out-count (layoutKinds fs) k (not-true (mem k (layoutKinds fs)) (λ i. true≢false (sym t ∙ untouched ks fs z k i)))))
+              (λ t. omega (arith, count-append eqb k (layoutKinds fs) ks, D .buildable .once k, out-count ks k t)));
+          known = rw (own-kinds ks fs) (λ k i. in-cases (layoutKinds fs) ks k i (D .buildable .known k) (known k));
+          few = omega (arith, own-groups ks fs);
+        };
+        uncounted = own-uncounted ks fs (D .uncounted);
+      }
+
+  grown-sound : touched ks fs ≡ 1 → covers ks fs ≡ true → present ks fs ≡ false → DraftSound kinds (grown ks fs)
+  grown-sound t c p =
+      let G = grown-families ks fs c p narrow (D .buildable .once) (D .buildable .families) (D .uncounted) in
+      record {
+        buildable = record {
+          families = G .families;
+          once = grown-once ks fs t d (D .buildable .once);
+          known = λ k i. bool-cases (mem k ks) (known k) (λ n. D .buildable .known k (grown-in ks fs k i n));
+          few = omega (arith, grown-groups ks fs);
+        };
+        uncounted = G .uncounted;
+      }
+
+  pub withGroup-sound : addsNothing ks fs ≡ false → joins ks fs ≡ true → DraftSound kinds (withGroup ks fs)
+  withGroup-sound n j =
+      let two : 2 ≤ length ks = omega (arith, ltb-false (length ks) 2 (or-false (ltb (length ks) 2) (present ks fs) n)) in
+      cond-case (DraftSound kinds) (eqb (touched ks fs) 0) _ _
+      (λ z. own-sound two (eqb-true (touched ks fs) 0 z))
+      (λ z.
+      let b = or-right (eqb (touched ks fs) 0) (eqb (touched ks fs) 1 && covers ks fs) j z in
+      grown-sound (eqb-true (touched ks fs) 1 (and-left (eqb (touched ks fs) 1) (covers ks fs) b)) (and-right (eqb (touched ks fs) 1) (covers ks fs) b) (or-false-right (ltb (length ks) 2) (present ks fs) n))
+
+-- ---- the same of addGroup
+
+abbrev pub AddedSound : List ℕ → Added → Type 0
+AddedSound kinds nothing = Unit {0}
+AddedSound kinds (added fs) = DraftSound kinds fs
+AddedSound kinds (refused n) = Unit {0}
+
+pub addGroup-sound : (kinds ks : List ℕ) (fs : List Family) → Distinct ks → ((k : ℕ) → In ks k → In kinds k) → DraftSound kinds fs → AddedSound kinds (addGroup ks fs)
 unfolding addGroup
-add-ok ks fs d =
-    cond-case AddedOk (ltb (length ks) 2) _ _ (λ t. tt)
-    (λ small. cond-case AddedOk (leb 16 (length ks)) _ _ (λ t. tt)
-    (λ wide. cond-case AddedOk (present ks fs) _ _ (λ t. tt)
-    (λ known. cond-case AddedOk _ _ _
-    (λ fits. cond-case AddedOk (leb 63 (groupsOf fs)) _ _ (λ t. tt)
-    (λ few. cond-case AddedOk (eqb (touched ks fs) 0) _ _
-    (λ z. own-ok ks fs (long-head ks small) (eqb-true (touched ks fs) 0 z) d)
-    (λ z.
-    let b = or-right (eqb (touched ks fs) 0) (eqb (touched ks fs) 1 && covers ks fs) fits z in
-    grown-ok ks fs (eqb-true (touched ks fs) 1 (and-l (eqb (touched ks fs) 1) (covers ks fs) b)) (and-r (eqb (touched ks fs) 1) (covers ks fs) b) known d)))
+addGroup-sound kinds ks fs d known D =
+    cond-case (AddedSound kinds) (ltb (length ks) 2) _ _ (λ t. tt)
+    (λ small. cond-case (AddedSound kinds) (leb 16 (length ks)) _ _ (λ t. tt)
+    (λ wide. cond-case (AddedSound kinds) (present ks fs) _ _ (λ t. tt)
+    (λ new. cond-case (AddedSound kinds) (joins ks fs) _ _
+    (λ fits. cond-case (AddedSound kinds) (leb 63 (groupsOf fs)) _ _ (λ t. tt)
+    (λ few.
+    let S : DraftSound kinds (withGroup ks fs) = withGroup-sound kinds ks fs d known (omega (arith, leb-false 16 (length ks) wide)) (omega (arith, leb-false 63 (groupsOf fs) few)) D (rw (small, new)) fits in
+    bool-cases (eqb (touched ks fs) 0) (λ z. rw z (rw z at S)) (λ z. rw z (rw z at S))))
     (λ clash. tt))))

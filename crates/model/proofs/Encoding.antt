@@ -7,7 +7,7 @@ use native.Mathlib.Nat.{pow-suc, div-lt-iff-lt-mul}
 use lib.Dec.{lit<}
 use lib.ListN.{length}
 use Rattle.model.specs.Model.{Entity, Component}
-use Rattle.model.specs.Run.{le}
+use Rattle.model.specs.Store.{le}
 use Rattle.model.specs.Snapshot.{Entry, componentBytes, entryBytes, flat}
 
 -- a number of n bytes is read back, and so is what follows it

@@ -9,16 +9,11 @@ use lib.Seq.{length-take-le, take-take, take-suc, getD-set-same, lt-length-set}
 use Rattle.model.specs.Lists.{swap, count, place, one, after, length-swap, take-swap-lt, take-swap-le, take-suc-swap}
 use Rattle.model.specs.Lists.{count-append, count-swap, place-take, count-place, place-count, place-count-take, count-take-place, count-take-le, getD-place}
 use Rattle.model.specs.Model.{Entity, sameEntity, noEntity, mem}
+pub use Rattle.model.specs.Sound.{cnt, In}
 use Rattle.model.proofs.SparseSets.{entity-eq, entity-same}
-
-abbrev pub cnt : Entity → List Entity → ℕ
-cnt x l = count sameEntity x l
 
 abbrev pub plc : Entity → List Entity → ℕ
 plc x l = place sameEntity x l
-
-abbrev pub In : List ℕ → ℕ → Type 0
-In ks k = mem k ks ≡ true
 
 -- the first c places of every sparse set of ks hold the same entity at the same place
 pub record Even (key : ℕ → List Entity) (ks : List ℕ) (c : ℕ) : Type 0 where

@@ -11,6 +11,7 @@ use lib.ListN.{length, take, drop, getD, set, length-set}
 use lib.Seq.{length-take-le}
 use Rattle.model.specs.Lists.{one, count-take-le, count-length}
 use Rattle.model.specs.Model.{Entity, SparseSet, Group, Family, Component, Storage, Walked, Stepped, sameEntity, mem, any, all, meets, setOf, held, allHeld, headKind, kindsOf, kindOf, insertRow, insertAll, mapOn, onKinds, swapTo, isGrouped, groupComponents, groupFamily, groupTouched, insert}
+pub use Rattle.model.specs.Sound.{holders}
 use Rattle.model.proofs.SparseSets.{entity-eq, entity-same, cond-case, key}
 use Rattle.model.proofs.Groups.{cnt, plc, In, Even, Full, Inside, SameEntities}
 use Rattle.model.proofs.Walk.{Chain, Every, But, GroupRight, bool-cases, or-cases, or-true, all-in, Missing, all-missing, held-count, lacks-count}
@@ -96,12 +97,7 @@ module _ (e : Entity) (staged : List Component) (p : Storage) (lt : Kinds (lengt
 
 -- ---- what a right group's count is
 
--- the entities of the list that hold all kinds of g
-abbrev pub holders : List ℕ → List SparseSet → List Entity → List Entity
-holders g sets [] = []
-holders g sets (e ∷ es) = let r = holders g sets es in cond (allHeld e g sets) (e ∷ r) r
-
-holders-count : (g : List ℕ) (sets : List SparseSet) (live : List Entity) (x : Entity) → cnt x (holders g sets live) ≡ cond (allHeld x g sets) (cnt x live) 0
+pub holders-count : (g : List ℕ) (sets : List SparseSet) (live : List Entity) (x : Entity) → cnt x (holders g sets live) ≡ cond (allHeld x g sets) (cnt x live) 0
 holders-count g sets [] x = bool-cases (allHeld x g sets) (λ t. rw t) (λ t. rw t)
 holders-count g sets (e ∷ es) x = bool-cases (sameEntity x e) (λ t. rw (entity-eq x e t) (self (holders-count g sets es e))) (λ t. rw t (other t (holders-count g sets es x)))
   where

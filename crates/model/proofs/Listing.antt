@@ -13,7 +13,8 @@ use lib.Dec.{eqb, ltb, eqb·suc-zero}
 use lib.ListN.{length, getD}
 use Rattle.model.specs.Lists.{count, one, count-length}
 use Rattle.model.specs.Model.{sameEntity, Entity, SparseSet, Component, setOf}
-use Rattle.model.specs.Run.{Store, le}
+use Rattle.model.specs.Store.{Store, le}
+pub use Rattle.model.specs.Snapshot.{Same}
 use Rattle.model.specs.Snapshot.{Entry, valueAt, addComponent, componentsOf, versionAt, entryOf, entries, flat, listing, snapshot}
 use Rattle.model.proofs.SparseSets.{entity-eq, entity-same}
 use Rattle.model.proofs.Encoding.{FitEntries, flat-inj, le-inj}
@@ -153,11 +154,6 @@ live-count (e ∷ es) ok x = go (ℕ-discrete (x .index) (e .index)) (live-count
 record SameAt (s t : Store) : Type 0 where
   pub versions : (i : ℕ) → versionAt i (s .entities .live) ≡ versionAt i (t .entities .live)
   pub values : (i k : ℕ) → 1 ≤ versionAt i (s .entities .live) → valueAt (entityAt i (versionAt i (s .entities .live))) (setOf (s .storage .sets) k) ≡ valueAt (entityAt i (versionAt i (s .entities .live))) (setOf (t .storage .sets) k)
-
--- the same entities are live, and each has the same value, or none, at each kind
-pub record Same (s t : Store) : Type 0 where
-  pub live : (x : Entity) → count sameEntity x (s .entities .live) ≡ count sameEntity x (t .entities .live)
-  pub values : (x : Entity) → 1 ≤ count sameEntity x (s .entities .live) → (k : ℕ) → valueAt x (setOf (s .storage .sets) k) ≡ valueAt x (setOf (t .storage .sets) k)
 
 -- what the law asks of a store; a sound one has it
 pub record Listed (s : Store) : Type 0 where

@@ -11,16 +11,10 @@ use lib.Dec.{ltb, eqb}
 use lib.ListN.{length, take, getD, set, List·getD-map, length-map}
 use Rattle.model.specs.Lists.{one, count, place, count-append, count-place, place-count, getD-place, cutAt, count-cutAt, map-cutAt, count-length-le}
 use Rattle.model.specs.Model.{Entity, Entities, Created, sameEntity, noEntity, create, createWith, destroy, isLive, lastVersion}
+pub use Rattle.model.specs.Sound.{idxOf, num}
 use Rattle.model.proofs.SparseSets.{entity-eq, entity-same, cond-case, and-left}
 use Rattle.model.proofs.Groups.{cnt, plc}
 use Rattle.model.proofs.Walk.{bool-cases, But}
-
-abbrev pub idxOf : Entity → ℕ
-idxOf e = e .index
-
--- how many entities of the list have index i
-abbrev pub num : ℕ → List Entity → ℕ
-num i l = count eqb i (map idxOf l)
 
 pub record EntitiesOk (c : Entities) : Type 0 where
   pub single : (i : ℕ) → num i (c .live) + num i (c .recycled) ≤ 1

@@ -16,7 +16,7 @@ use Rattle.model.proofs.Invariant.{Fit, length-groupFamily}
 
 -- ---- families that are right for the entities of W
 
-abbrev FamsFor : (ℕ → List Entity) → (Entity → Type 0) → List Family → Type 0
+abbrev pub FamsFor : (ℕ → List Entity) → (Entity → Type 0) → List Family → Type 0
 FamsFor key W [] = Unit {0}
 FamsFor key W (f ∷ fs) = Chain key W [] f × FamsFor key W fs
 
@@ -31,14 +31,14 @@ fams-weaken : (key : ℕ → List Entity) (Z W : Entity → Type 0) → ((x : En
 fams-weaken key Z W f [] fm = tt
 fams-weaken key Z W f (r ∷ rs) fm = (chain-weaken key Z W f [] r (fm .0), fams-weaken key Z W f rs (fm .1))
 
-record UpEvery (W : Entity → Type 0) (e : Entity) (sets : List SparseSet) (fs : List Family) (p : Storage) : Type 0 where
+pub record UpEvery (W : Entity → Type 0) (e : Entity) (sets : List SparseSet) (fs : List Family) (p : Storage) : Type 0 where
   pub same : SameEntities (key sets) (key (p .sets))
   pub fams : FamsFor (key (p .sets)) (Plus W e) (p .layout)
   pub other : (k : ℕ) → mem k (allKinds (famKinds fs)) ≡ false → key (p .sets) k ≡ key sets k
   pub kinds : famKinds (p .layout) ≡ famKinds fs
   pub wide : length (p .sets) ≡ length sets
 
-groupFamily-every-good : (W : Entity → Type 0) (e : Entity) (sets : List SparseSet) (fs : List Family) → Apart (famKinds fs) → FamsFor (key sets) W fs → UpEvery W e sets fs (groupAll e sets fs)
+pub groupFamily-every-good : (W : Entity → Type 0) (e : Entity) (sets : List SparseSet) (fs : List Family) → Apart (famKinds fs) → FamsFor (key sets) W fs → UpEvery W e sets fs (groupAll e sets fs)
 unfolding groupAll
 groupFamily-every-good W e sets [] a fm = record { same = record { entities = λ x k. refl; lengths = λ k. refl }; fams = tt; other = λ k n. refl; kinds = refl; wide = refl }
 groupFamily-every-good W e sets (f ∷ fs) a fm =
@@ -92,7 +92,7 @@ abbrev pub FreshAll : List Family → Type 0
 FreshAll [] = Unit {0}
 FreshAll (f ∷ fs) = Fresh f × FreshAll fs
 
-abbrev None : Entity → Type 0
+abbrev pub None : Entity → Type 0
 None x = ⊥
 
 chain-fresh : (key : ℕ → List Entity) (acc : List ℕ) (rs : Family) → Fresh rs → Chain key None acc rs
@@ -107,7 +107,7 @@ chain-fresh key acc (r ∷ rs) fr = (
     below [] g = tt
     below (t ∷ ts) g = omega (arith, g .1)
 
-fams-fresh : (key : ℕ → List Entity) (fs : List Family) → FreshAll fs → FamsFor key None fs
+pub fams-fresh : (key : ℕ → List Entity) (fs : List Family) → FreshAll fs → FamsFor key None fs
 fams-fresh key [] fr = tt
 fams-fresh key (f ∷ fs) fr = (chain-fresh key [] f (fr .0), fams-fresh key fs (fr .1))
 

@@ -230,7 +230,7 @@ module _ (e : Entity) (gone : List ℕ) where
   unfolding ungroupComponents
   length-ungroupComponents ks r sets = cond-case (λ (s : Stepped). length (s .sets) ≡ length sets) (isGrouped e r sets) _ _ (λ t. length-mapOn ks (swapTo e (r .count - 1)) 0 sets) (λ t. refl)
 
-  length-ungroupFamily : (acc : List ℕ) (sets : List SparseSet) (rs : Family) → length ((ungroupFamily e gone acc sets rs) .sets) ≡ length sets
+  pub length-ungroupFamily : (acc : List ℕ) (sets : List SparseSet) (rs : Family) → length ((ungroupFamily e gone acc sets rs) .sets) ≡ length sets
   unfolding ungroupFamily
   length-ungroupFamily acc sets [] = refl
   length-ungroupFamily acc sets (r ∷ rs) =
@@ -238,7 +238,7 @@ module _ (e : Entity) (gone : List ℕ) where
       (λ t. length-ungroupComponents (acc ++ r .newKinds) r ((ungroupFamily e gone (acc ++ r .newKinds) sets rs) .sets) ∙ length-ungroupFamily (acc ++ r .newKinds) sets rs)
       (λ t. length-ungroupFamily (acc ++ r .newKinds) sets rs)
 
-  length-ungroupFamily-all : (sets : List SparseSet) (fs : List Family) → length ((ungroup e gone sets fs) .sets) ≡ length sets
+  pub length-ungroupFamily-all : (sets : List SparseSet) (fs : List Family) → length ((ungroup e gone sets fs) .sets) ≡ length sets
   unfolding ungroup
   length-ungroupFamily-all sets [] = refl
   length-ungroupFamily-all sets (f ∷ fs) = length-ungroupFamily-all ((ungroupFamily e gone [] sets f) .sets) fs ∙ length-ungroupFamily [] sets f

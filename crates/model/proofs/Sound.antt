@@ -1,244 +1,226 @@
--- Every command keeps a sound store sound, and so does every run. Assumes nothing.
-use mathlib.Core.Path.{_≡_, refl, ap, ap₂, sym, _∙_, subst}
-use mathlib.Core.Bool.{Bool, true, false, cond, _&&_, _||_, true≢false, false≢true}
+-- Every command keeps a sound store sound, so every run does, and so does every step of it. Assumes nothing.
+use mathlib.Core.Path.{_≡_, refl, ap, sym, _∙_}
+use mathlib.Core.Bool.{Bool, true, false, cond, not, _&&_, _||_, true≢false, false≢true}
+use mathlib.Core.Option.{Option, some, none}
 use mathlib.Core.List.{List, [], _∷_, _++_, map}
-use Prim.Native.Nat.{ℕ, zero, suc, _+_, _-_, _≤_, _<_}
+use Prim.Native.Nat.{ℕ, zero, suc, _+_, _-_, _*_, _^_, _≤_, _<_}
 use native.Mathlib.Omega.{arith}
-use borrow.Author.Tests.{ltb-true, ltb-false, leb-true, eqb-true, eq-eqb}
-use lib.Dec.{ltb, leb, eqb}
-use lib.ListN.{length, take, drop, getD, replicate, length-replicate}
-use Rattle.model.specs.Lists.{one, place-count}
-use Rattle.model.specs.Model.{Entity, Entities, SparseSet, Family, Component, Storage, Created, Added, nothing, added, refused, sameEntity, mem, kindOf, isLive, insert, remove, clearAll, setLayout, addGroup, create, destroy}
-use Rattle.model.specs.Run.{Control, Store, Command, REG, HOLD, NEW, PUT, TAKE, DROP, KILL, WIPE, GROUP, APPLY, BAR, RANGE, EMPTY, TALLY, Outcome, no′, ok, does, empty, grouped, stagedKinds, Ran, run, runFor, halt, more, widths, isCommand, commandAt, answerLength, withControl, withStaged, withKinds, counted}
-use Rattle.model.proofs.SparseSets.{entity-eq, entity-same, cond-case, key}
-use Rattle.model.proofs.Groups.{cnt, In}
-use Rattle.model.proofs.Walk.{bool-cases, in-cases, in-left, or-cases, or-true, or-false, mem-append, But}
-use Rattle.model.proofs.Families.{Fams, Kinds}
-use Rattle.model.proofs.Invariant.{Fit, insert-fit, insert-others, insert-kinds}
-use Rattle.model.proofs.Removal.{remove-fit, remove-fewer, remove-lost}
-use Rattle.model.proofs.Regroup.{setLayout-fit, setLayout-entities, clearAll-fit, clearAll-entities}
-use Rattle.model.proofs.Draft.{DraftOk, AddedOk, add-ok}
-use Rattle.model.proofs.Numbers.{EntitiesOk, create-ok, create-live, destroy-ok, cnt-cut}
+use native.Mathlib.Nat.{pow-suc}
+use borrow.Author.Tests.{ltb-true, ltb-false, leb-false}
+use lib.Dec.{ltb, leb, eqb, lit<}
+use lib.ListN.{length, take, drop, getD, length-take, length-drop, length-map}
+use Rattle.model.specs.Model.{Entity, Created, kindOf, isLive, mem, addsNothing, joins, withGroup, groupsOf, create}
+pub use Rattle.model.specs.Store.{Bytes}
+use Rattle.model.specs.Store.{Store, empty, number, stagedKinds, isKind, withControl, withStorage, withAll, counted, emptyStaged, emptyBoth}
+use Rattle.model.specs.Commands.{Command, REG, HOLD, NEW, PUT, TAKE, DROP, KILL, WIPE, GROUP, APPLY, BAR, RANGE, EMPTY, TALLY, Done, accepted, widths, width, entityOfBytes, commandAt}
+use Rattle.model.specs.Refusals.{Line, firstLine, linesOf, beforeLines}
+use Rattle.model.specs.Run.{Outcome, refuses, accepts, outcome, does, Step, stops, goes, stepOf, stepIf, step, Ran, halt, more, runFor, run}
+use Rattle.model.specs.History.{trailFor, trail}
+pub use Rattle.model.specs.History.{Each}
+use Rattle.model.specs.Sound.{Eight, Limits, Sound}
+use Rattle.model.proofs.SparseSets.{cond-case}
+use Rattle.model.proofs.Walk.{bool-cases, or-false}
+use Rattle.model.proofs.Families.{or-false-right}
+use Rattle.model.proofs.Draft.{DraftSound, withGroup-sound}
+use Rattle.model.proofs.Operations.{control-of, control-sound, register-sound, create-sound, create-is-live, insert-sound, remove-sound, kill-sound, clearAll-sound, setLayout-sound, stage-sound, exclude-sound, draft-sound, emptyStaged-sound, emptyBoth-sound, counted-sound, no-draft, empty-sound}
+use Rattle.model.specs.Refusals.{NoneHolds}
+use Rattle.model.proofs.Lines.{none-to, outcome-case}
 
--- entities, kinds and components together
-pub record Held (entities : Entities) (kinds : List ℕ) (storage : Storage) : Type 0 where
-  pub numbers : EntitiesOk entities
-  pub fit : Fit storage
-  pub alive : (x : Entity) (k : ℕ) → 1 ≤ cnt x (key (storage .sets) k) → 1 ≤ cnt x (entities .live)
-  pub bare : (k : ℕ) → mem k kinds ≡ false → (x : Entity) → cnt x (key (storage .sets) k) ≡ 0
-  pub small : (k : ℕ) → In kinds k → k < 128
+-- ---- a command's operands are of their widths: a value is of eight bytes
 
-pub record Listed (kinds : List ℕ) (d : Control) : Type 0 where
-  pub staged : (k : ℕ) → In (map kindOf (d .staged)) k → In kinds k
-  pub draft : DraftOk (d .draft)
+abbrev pub Fits : Command → Type 0
+Fits (REG k) = Unit {0}
+Fits (HOLD k v) = Eight v
+Fits NEW = Unit {0}
+Fits (PUT e) = Unit {0}
+Fits (TAKE e) = Unit {0}
+Fits (DROP e) = Unit {0}
+Fits (KILL e) = Unit {0}
+Fits WIPE = Unit {0}
+Fits GROUP = Unit {0}
+Fits APPLY = Unit {0}
+Fits (BAR k) = Unit {0}
+Fits RANGE = Unit {0}
+Fits EMPTY = Unit {0}
+Fits TALLY = Unit {0}
 
-pub record Sound (s : Store) : Type 0 where
-  pub held : Held (s .entities) (s .kinds) (s .storage)
-  pub control : Listed (s .kinds) (s .control)
+-- ---- accepted commands
 
--- ---- what a staged components's kinds are
+not-false : (b : Bool) → not b ≡ false → b ≡ true
+not-false true h = refl
+not-false false h = absurd (true≢false h)
 
-kinds-of : (staged : List Component) (n : ℕ) → ((k : ℕ) → In (map kindOf staged) k → k < n) → Kinds n staged
-kinds-of [] n h = tt
-kinds-of (p ∷ ps) n h = (h (p .kind) (rw (eq-eqb (p .kind) (p .kind) refl)), kinds-of ps n (λ k i. h k (rw i (or-true (eqb k (p .kind))))))
+not-and : (a b : Bool) → (not a && b) ≡ false → a ≡ false → b ≡ false
+not-and true b h e = absurd (true≢false e)
+not-and false b h e = h
 
-module _ (entities : Entities) (kinds : List ℕ) (storage : Storage) (H : Held entities kinds storage) where
-  staged-kinds : (staged : List Component) → ((k : ℕ) → In (map kindOf staged) k → In kinds k) → Kinds (length (storage .sets)) staged
-  staged-kinds staged h = kinds-of staged (length (storage .sets)) (λ k i. omega (arith, H .small k (h k i), H .fit .wide))
+not-not : (a b : Bool) → (not a && not b) ≡ false → a ≡ false → b ≡ true
+not-not a b h e = not-false b (not-and a (not b) h e)
 
-  -- insertion into a entity that is live in entities′, where those live before still are
-  insert-held : (entities′ : Entities) → EntitiesOk entities′ → ((x : Entity) → 1 ≤ cnt x (entities .live) → 1 ≤ cnt x (entities′ .live)) → (e : Entity) (staged : List Component) → ((k : ℕ) → In (map kindOf staged) k → In kinds k) → 1 ≤ cnt e (entities′ .live) → Held entities′ kinds (insert e staged storage)
-  insert-held entities′ ok′ more′ e staged h live =
-      let lt = staged-kinds staged h in
-      record {
-        numbers = ok′;
-        fit = insert-fit e staged storage lt (H .fit);
-        alive = λ x k i. bool-cases (sameEntity x e)
-            (λ t. subst (λ (y : Entity). 1 ≤ cnt y (entities′ .live)) (sym (entity-eq x e t)) live)
-            (λ t. more′ x (H .alive x k (rw (insert-others e staged storage lt (H .fit) x t k) at i)));
-        bare = λ k n x. insert-kinds e staged storage lt (H .fit) x k (no-in (mem k (map kindOf staged)) (λ t. true≢false (sym (h k t) ∙ n))) ∙ H .bare k n x;
-        small = H .small;
-      }
-    where
-      no-in : (b : Bool) → (b ≡ true → ⊥) → b ≡ false
-      no-in true f = absurd (f refl)
-      no-in false f = refl
+known-kind : (k : ℕ) (s : Store) → (ltb 127 k || not (isKind k s)) ≡ false → isKind k s ≡ true
+known-kind k s h = not-false (isKind k s) (or-false-right (ltb 127 k) (not (isKind k s)) h)
 
-  remove-held : (e : Entity) (gone : List ℕ) → Held entities kinds (remove e gone storage)
-  remove-held e gone =
-      record {
-        numbers = H .numbers;
-        fit = remove-fit e gone storage (H .fit);
-        alive = λ x k i. H .alive x k (omega (arith, remove-fewer e gone storage (H .fit) x k));
-        bare = λ k n x. omega (arith, remove-fewer e gone storage (H .fit) x k, H .bare k n x);
-        small = H .small;
-      }
+module _ (s : Store) (S : Sound s) where
+  -- the hand is emptied beside a change of the components
+  emptied : Sound (withControl s (emptyStaged (s .control)))
+  emptied = control-sound s S (emptyStaged (s .control)) (emptyStaged-sound (s .kinds) (s .control) (control-of s S))
 
-  kill-held : (e : Entity) → 1 ≤ cnt e (entities .live) → Held (destroy e entities) kinds (remove e kinds storage)
-  kill-held e live =
-      let R = remove-held e kinds in
-      let gone : (k : ℕ) → cnt e (key ((remove e kinds storage) .sets) k) ≡ 0 = λ k. bool-cases (mem k kinds) (λ t. remove-lost e kinds storage (H .fit) k t) (λ t. R .bare k t e) in
-      record {
-        numbers = destroy-ok e entities live (H .numbers);
-        fit = R .fit;
-        alive = λ x k i. bool-cases (sameEntity x e)
-            (λ t. absurd (omega (arith, gone k, subst (λ (y : Entity). 1 ≤ cnt y (key ((remove e kinds storage) .sets) k)) (entity-eq x e t) i)))
-            (λ t. omega (arith, cnt-cut e entities live x, ap one t, R .alive x k i));
-        bare = R .bare;
-        small = H .small;
-      }
+  both-emptied : Sound (withControl s (emptyBoth (s .control)))
+  both-emptied = control-sound s S (emptyBoth (s .control)) (emptyBoth-sound (s .kinds) (s .control) (control-of s S))
 
-  clearAll-held : Held entities kinds (clearAll storage)
-  clearAll-held =
-      record {
-        numbers = H .numbers;
-        fit = clearAll-fit storage (H .fit);
-        alive = λ x k i. absurd (omega (arith, clearAll-entities storage x k));
-        bare = λ k n x. clearAll-entities storage x k;
-        small = H .small;
-      }
+accepted-sound : (c : Command) (s : Store) → Fits c → Sound s → NoneHolds (linesOf c) s → Sound ((accepted c s) .store)
+unfolding accepted linesOf
+accepted-sound (REG k) s f S n =
+    cond-case (λ (d : Done). Sound (d .store)) (isKind k s) _ _ (λ t. S)
+    (λ t. register-sound s S k (omega (arith, ltb-false 127 k (n .0))) t (omega (arith, leb-false (s .kindCapacity) (length (s .kinds)) (not-and (isKind k s) (leb (s .kindCapacity) (length (s .kinds))) (n .1 .0) t))))
+accepted-sound (HOLD k v) s f S n = control-sound s S _ (stage-sound (s .kinds) (s .control) (control-of s S) k v (known-kind k s (n .0)) (n .1 .0) (omega (arith, leb-false 16 (length (s .control .staged)) (n .1 .1 .0))) f)
+accepted-sound NEW s f S n =
+    let c : Created = create (s .entities) in
+    let A : Sound (withAll s (c .entities) (s .storage) (s .control)) = create-sound s S (n .0) in
+    let B = insert-sound (withAll s (c .entities) (s .storage) (s .control)) A (c .entity) (s .control .staged) (create-is-live (s .entities)) (S .staged) in
+    emptied _ B
+accepted-sound (PUT e) s f S n = emptied _ (insert-sound s S e (s .control .staged) (not-false (isLive e (s .entities)) (n .0)) (S .staged))
+accepted-sound (TAKE e) s f S n = emptied _ (remove-sound s S e (stagedKinds s))
+accepted-sound (DROP e) s f S n = emptied _ (remove-sound s S e (stagedKinds s))
+accepted-sound (KILL e) s f S n = kill-sound s S e (not-false (isLive e (s .entities)) (n .0))
+accepted-sound WIPE s f S n = clearAll-sound s S
+accepted-sound GROUP s f S n =
+    cond-case (λ (d : Done). Sound (d .store)) (addsNothing (stagedKinds s) (s .control .draft)) _ _ (λ t. emptied s S)
+    (λ t.
+    let D : DraftSound (s .kinds) (withGroup (stagedKinds s) (s .control .draft)) = withGroup-sound (s .kinds) (stagedKinds s) (s .control .draft) (S .staged .once) (S .staged .known) (omega (arith, leb-false 16 (length (stagedKinds s)) (n .0))) (omega (arith, leb-false 63 (groupsOf (s .control .draft)) (not-and (addsNothing (stagedKinds s) (s .control .draft)) (leb 63 (groupsOf (s .control .draft))) (n .1 .1 .0) t))) (control-of s S .draft) t (not-not (addsNothing (stagedKinds s) (s .control .draft)) (joins (stagedKinds s) (s .control .draft)) (n .1 .0) t) in
+    control-sound s S _ (draft-sound (s .kinds) (emptyStaged (s .control)) (emptyStaged-sound (s .kinds) (s .control) (control-of s S)) (withGroup (stagedKinds s) (s .control .draft)) D))
+accepted-sound APPLY s f S n =
+    let A = setLayout-sound s S (s .control .draft) (control-of s S .draft) in
+    control-sound _ A _ (draft-sound (s .kinds) (s .control) (control-of s S) [] (no-draft (s .kinds)))
+accepted-sound (BAR k) s f S n = control-sound s S _ (exclude-sound (s .kinds) (s .control) (control-of s S) k (known-kind k s (n .0)) (n .1 .0) (omega (arith, leb-false 16 (length (s .control .excluded)) (n .1 .1 .0))))
+accepted-sound RANGE s f S n = both-emptied s S
+accepted-sound EMPTY s f S n = both-emptied s S
+accepted-sound TALLY s f S n = S
 
-  apply-held : (draft : List Family) → DraftOk draft → Held entities kinds (setLayout (entities .live) draft storage)
-  apply-held draft d =
-      record {
-        numbers = H .numbers;
-        fit = setLayout-fit (entities .live) draft storage (H .alive) (d .fresh) (d .apart) (H .fit);
-        alive = λ x k i. H .alive x k (rw (setLayout-entities (entities .live) draft storage (d .fresh) (d .apart) x k) at i);
-        bare = λ k n x. setLayout-entities (entities .live) draft storage (d .fresh) (d .apart) x k ∙ H .bare k n x;
-        small = H .small;
-      }
+abbrev pub OutSound : Outcome → Type 0
+OutSound (refuses n) = Unit {0}
+OutSound (accepts s a) = Sound s
 
--- ---- the commands
-
-abbrev pub OutOk : Outcome → Type 0
-OutOk (no′ n) = Unit {0}
-OutOk (ok s a) = Sound s
-
-live-count : (e : Entity) (s : Store) → isLive e (s .entities) ≡ true → 1 ≤ cnt e (s .entities .live)
-live-count e s t = place-count sameEntity e (s .entities .live) (ltb-true _ _ t)
-
-empty-staged : {kinds : List ℕ} (d e : Control) → e .staged ≡ [] → e .draft ≡ d .draft → Listed kinds d → Listed kinds e
-empty-staged {kinds} d e h f l = record { staged = λ k i. absurd (false≢true (rw h at i)); draft = rw f (l .draft) }
-
-in-one : (k j : ℕ) → In (j ∷ []) k → k ≡ j
-in-one k j i = or-cases (eqb k j) false i (λ t. eqb-true k j t) (λ t. absurd (false≢true t))
-
-reg-sound : (k : ℕ) (s : Store) → k < 128 → Sound s → Sound (withKinds s (s .kinds ++ (k ∷ [])))
-reg-sound k s lt S =
-    let H = S .held in
-    record {
-      held = record {
-        numbers = H .numbers;
-        fit = H .fit;
-        alive = H .alive;
-        bare = λ j n x. H .bare j (or-false (mem j (s .kinds)) (mem j (k ∷ [])) (sym (mem-append j (s .kinds) (k ∷ [])) ∙ n)) x;
-        small = λ j i. in-cases (s .kinds) (k ∷ []) j i (H .small j) (λ u. omega (arith, in-one j k u));
-      };
-      control = record { staged = λ j i. in-left (s .kinds) (k ∷ []) j (S .control .staged j i); draft = S .control .draft };
-    }
-
-map-snoc : (l : List Component) (p : Component) → map kindOf (l ++ (p ∷ [])) ≡ map kindOf l ++ (p .kind ∷ [])
-map-snoc [] p = refl
-map-snoc (q ∷ l) p = ap {B = List ℕ} (λ r. q .kind ∷ r) (map-snoc l p)
-
-hold-sound : (p : Component) (s : Store) → In (s .kinds) (p .kind) → Sound s → Sound (withControl s (withStaged (s .control) (s .control .staged ++ (p ∷ []))))
-hold-sound p s known S =
-    record {
-      held = S .held;
-      control = record {
-        staged = λ k i. in-cases (map kindOf (s .control .staged)) (p .kind ∷ []) k (rw (map-snoc (s .control .staged) p) at i) (S .control .staged k) (λ u. rw (in-one k (p .kind) u) known);
-        draft = S .control .draft;
-      };
-    }
-
-group-sound : (s : Store) (a : Added) → AddedOk a → Sound s → OutOk (grouped s a)
-group-sound s nothing d S = record { held = S .held; control = empty-staged (s .control) _ refl refl (S .control) }
-group-sound s (added fs) d S = record { held = S .held; control = record { staged = λ k i. absurd (false≢true i); draft = d } }
-group-sound s (refused n) d S = tt
-
-pub does-sound : (c : Command) (s : Store) → Sound s → OutOk (does c s)
+-- every command keeps a sound store sound
+pub does-sound : (c : Command) (s : Store) → Fits c → Sound s → OutSound (does c s)
 unfolding does
-does-sound (REG k) s S =
-    cond-case OutOk (ltb 127 k) _ _ (λ t. tt)
-    (λ big. cond-case OutOk (mem k (s .kinds)) _ _ (λ t. S)
-    (λ fresh. cond-case OutOk (ltb (length (s .kinds)) (s .kindCapacity)) _ _ (λ t. reg-sound k s (omega (arith, ltb-false 127 k big)) S) (λ t. tt)))
-does-sound (HOLD k v) s S =
-    cond-case OutOk (mem k (s .kinds)) _ _
-    (λ known. cond-case OutOk (mem k (stagedKinds s)) _ _ (λ t. tt)
-    (λ fresh. cond-case OutOk (ltb (length (s .control .staged)) 16) _ _ (λ t. hold-sound (record { kind = k; value = v }) s known S) (λ t. tt)))
-    (λ t. tt)
-does-sound NEW s S = cond-case OutOk (eqb (length (s .entities .recycled)) 0 && leb (s .capacity) (s .entities .issued)) _ _ (λ t. tt) (λ t.
-    record {
-      held = insert-held (s .entities) (s .kinds) (s .storage) (S .held) ((create (s .entities)) .entities) (create-ok (s .entities) (S .held .numbers)) (λ x h. omega (arith, create-live (s .entities) x)) ((create (s .entities)) .entity) (s .control .staged) (S .control .staged) (omega (arith, create-live (s .entities) ((create (s .entities)) .entity), ap one (entity-same ((create (s .entities)) .entity))));
-      control = empty-staged (s .control) _ refl refl (S .control);
-    })
-does-sound (PUT e) s S =
-    cond-case OutOk (isLive e (s .entities)) _ _
-    (λ t. record { held = insert-held (s .entities) (s .kinds) (s .storage) (S .held) (s .entities) (S .held .numbers) (λ x h. h) e (s .control .staged) (S .control .staged) (live-count e s t); control = empty-staged (s .control) _ refl refl (S .control) })
-    (λ t. tt)
-does-sound (TAKE e) s S = cond-case OutOk (isLive e (s .entities)) _ _ (λ t. record { held = remove-held (s .entities) (s .kinds) (s .storage) (S .held) e (stagedKinds s); control = empty-staged (s .control) _ refl refl (S .control) }) (λ t. tt)
-does-sound (DROP e) s S = cond-case OutOk (isLive e (s .entities)) _ _ (λ t. record { held = remove-held (s .entities) (s .kinds) (s .storage) (S .held) e (stagedKinds s); control = empty-staged (s .control) _ refl refl (S .control) }) (λ t. tt)
-does-sound (KILL e) s S = cond-case OutOk (isLive e (s .entities)) _ _ (λ t. record { held = kill-held (s .entities) (s .kinds) (s .storage) (S .held) e (live-count e s t); control = S .control }) (λ t. tt)
-does-sound WIPE s S = record { held = clearAll-held (s .entities) (s .kinds) (s .storage) (S .held); control = S .control }
-does-sound GROUP s S = group-sound s (addGroup (stagedKinds s) (s .control .draft)) (add-ok (stagedKinds s) (s .control .draft) (S .control .draft)) S
-does-sound APPLY s S = record { held = apply-held (s .entities) (s .kinds) (s .storage) (S .held) (s .control .draft) (S .control .draft); control = record { staged = S .control .staged; draft = record { fresh = tt; apart = tt } } }
-does-sound (BAR k) s S =
-    cond-case OutOk (mem k (s .kinds)) _ _
-    (λ known. cond-case OutOk (mem k (s .control .excluded)) _ _ (λ t. tt)
-    (λ fresh. cond-case OutOk (ltb (length (s .control .excluded)) 16) _ _ (λ t. record { held = S .held; control = record { staged = S .control .staged; draft = S .control .draft } }) (λ t. tt)))
-    (λ t. tt)
-does-sound RANGE s S = record { held = S .held; control = empty-staged (s .control) _ refl refl (S .control) }
-does-sound EMPTY s S = record { held = S .held; control = empty-staged (s .control) _ refl refl (S .control) }
-does-sound TALLY s S = S
+does-sound c s f S = outcome-case OutSound (firstLine (linesOf c) s) (accepted c s) (λ n e. tt) (λ e. accepted-sound c s f S (none-to (linesOf c) s e))
 
--- ---- a run
+-- a refused one too, which is counted
+pub refused-sound : (s : Store) → Sound s → Sound (withControl s (counted (s .control)))
+refused-sound s S = control-sound s S (counted (s .control)) (counted-sound (s .kinds) (s .control) (control-of s S))
 
-counted-sound : (s : Store) → Sound s → Sound (withControl s (counted (s .control)))
-counted-sound s S = record { held = S .held; control = record { staged = S .control .staged; draft = S .control .draft } }
+-- ---- the tape's bytes
 
-pub run-sound-for : (fuel : ℕ) (t : List ℕ) (room : ℕ) (s : Store) → Sound s → Sound ((runFor fuel t room s) .store)
+bytes-take : (n : ℕ) (l : List ℕ) → Bytes l → Bytes (take n l)
+bytes-take zero l h = tt
+bytes-take (suc n) [] h = tt
+bytes-take (suc n) (x ∷ l) h = (h .0, bytes-take n l (h .1))
+
+pub bytes-drop : (n : ℕ) (l : List ℕ) → Bytes l → Bytes (drop n l)
+bytes-drop zero l h = h
+bytes-drop (suc n) [] h = tt
+bytes-drop (suc n) (x ∷ l) h = bytes-drop n l (h .1)
+
+pow256 : (n : ℕ) → 0 < 256 ^ n
+pow256 zero = lit< tt
+pow256 (suc n) = rw (pow-suc 256 n) (omega (arith, pow256 n))
+
+pub number-lt : (n : ℕ) (bs : List ℕ) → Bytes bs → length bs ≤ n → number bs < 256 ^ n
+number-lt zero [] h le = lit< tt
+number-lt (suc n) [] h le = pow256 (suc n)
+number-lt zero (b ∷ bs) h le = absurd (omega arith)
+number-lt (suc n) (b ∷ bs) h le = let r = number-lt n bs (h .1) (omega arith) in rw (pow-suc 256 n) (omega (arith, h .0))
+
+abbrev AllFit : List Command → Type 0
+AllFit [] = Unit {0}
+AllFit (c ∷ cs) = Fits c × AllFit cs
+
+fit-at : (cs : List Command) → AllFit cs → (j : ℕ) → Fits (getD cs j TALLY)
+fit-at [] h j = tt
+fit-at (c ∷ cs) h zero = h .0
+fit-at (c ∷ cs) h (suc j) = fit-at cs (h .1) j
+
+-- the operands of a command read off a tape are of their widths
+pub command-fits : (b : ℕ) (ops : List ℕ) → Bytes ops → length ops ≤ 9 → Fits (commandAt b ops)
+command-fits b ops h le =
+    fit-at (TALLY ∷ REG (getD ops 0 0) ∷ HOLD (getD ops 0 0) (number (drop 1 ops)) ∷ NEW ∷ PUT (entityOfBytes ops) ∷ TAKE (entityOfBytes ops) ∷ DROP (entityOfBytes ops) ∷ KILL (entityOfBytes ops) ∷ WIPE ∷ GROUP ∷ APPLY ∷ BAR (getD ops 0 0) ∷ RANGE ∷ EMPTY ∷ TALLY ∷ [])
+    (tt, (tt, (number-lt 8 (drop 1 ops) (bytes-drop 1 ops h) (rw (length-drop 1 ops) (omega arith)), (tt, (tt, (tt, (tt, (tt, (tt, (tt, (tt, (tt, (tt, (tt, (tt, tt)))))))))))))))
+    b
+
+pub width-le : (b : ℕ) → width b ≤ 9
+width-le b = go widths tt′ b
+  where
+    Small : List ℕ → Type 0
+    Small [] = Unit {0}
+    Small (w ∷ ws) = (w ≤ 9) × Small ws
+
+    go : (l : List ℕ) → Small l → (j : ℕ) → getD l j 0 ≤ 9
+    go [] h j = omega arith
+    go (w ∷ ws) h zero = h .0
+    go (w ∷ ws) h (suc j) = go ws (h .1) j
+
+    tt′ : Small widths
+    tt′ = omega arith
+
+pub tape-fits : (b : ℕ) (t : List ℕ) → Bytes t → Fits (commandAt b (take (width b) t))
+tape-fits b t h = command-fits b (take (width b) t) (bytes-take (width b) t h) (rw (length-take (width b) t) (omega (arith, width-le b)))
+
+-- ---- steps and runs
+
+-- what holds of the store after a step that goes on
+abbrev pub After : (Store → Type 0) → Step → Type 0
+After P (stops n) = Unit {0}
+After P (goes w a s) = P s
+
+stepIf-after : (P : Store → Type 0) (r : Option ℕ) (p : Step) → After P p → After P (stepIf r p)
+stepIf-after P (some n) p h = tt
+stepIf-after P none p h = h
+
+stepOf-sound : (w : ℕ) (s : Store) (o : Outcome) → Sound s → OutSound o → After Sound (stepOf w s o)
+stepOf-sound w s (refuses n) S h = refused-sound s S
+stepOf-sound w s (accepts s′ a) S h = h
+
+pub step-sound : (b : ℕ) (t : List ℕ) (room : ℕ) (s : Store) → Bytes t → Sound s → After Sound (step b t room s)
+unfolding step
+step-sound b t room s h S =
+    stepIf-after Sound (firstLine beforeLines (record { byte = b; rest = t; room = room; store = s })) (stepOf (suc (width b)) s (does (commandAt b (take (width b) t)) s))
+    (stepOf-sound (suc (width b)) s (does (commandAt b (take (width b) t)) s) S (does-sound (commandAt b (take (width b) t)) s (tape-fits b t h) S))
+
+-- the stores after the commands of a run are sound
+pub trail-sound-for : (fuel : ℕ) (t : List ℕ) (room : ℕ) (s : Store) → Bytes t → Sound s → Each Sound (trailFor fuel t room s)
+unfolding trailFor
+trail-sound-for zero t room s h S = tt
+trail-sound-for (suc fuel) [] room s h S = tt
+trail-sound-for (suc fuel) (b ∷ t) room s h S = go (step b t room s) (step-sound b t room s (h .1) S) (λ w r s′. trail-sound-for fuel (drop w (b ∷ t)) r s′ (bytes-drop w (b ∷ t) h))
+  where
+    go : (p : Step) → After Sound p → ((w r : ℕ) (s′ : Store) → Sound s′ → Each Sound (trailFor fuel (drop w (b ∷ t)) r s′)) → Each Sound (elim p as (λ p. List Store) [ stops n ↦ [] | goes w a s′ ↦ s′ ∷ trailFor fuel (drop w (b ∷ t)) (room - length a) s′ ])
+    go (stops n) k rec = tt
+    go (goes w a s′) k rec = (k, rec w (room - length a) s′ k)
+
+pub run-sound-for : (fuel : ℕ) (t : List ℕ) (room : ℕ) (s : Store) → Bytes t → Sound s → Sound ((runFor fuel t room s) .store)
 unfolding runFor
-run-sound-for zero t room s S = S
-run-sound-for (suc fuel) [] room s S = S
-run-sound-for (suc fuel) (b ∷ t) room s S =
-    cond-case (λ (r : Ran). Sound (r .store)) (isCommand b) _ _
-    (λ i. cond-case (λ (r : Ran). Sound (r .store)) (leb w (length t)) _ _
-    (λ l. cond-case (λ (r : Ran). Sound (r .store)) (leb (answerLength c s) room) _ _
-    (λ f. go (does c s) (does-sound c s S) (λ room′ s′. run-sound-for fuel (drop w t) room′ s′)) (λ f. S)) (λ l. S)) (λ i. S)
+run-sound-for zero t room s h S = S
+run-sound-for (suc fuel) [] room s h S = S
+run-sound-for (suc fuel) (b ∷ t) room s h S = go (step b t room s) (step-sound b t room s (h .1) S) (λ w r s′. run-sound-for fuel (drop w (b ∷ t)) r s′ (bytes-drop w (b ∷ t) h))
   where
-    w : ℕ
-    w = getD widths b 0
+    go : (p : Step) → After Sound p → ((w r : ℕ) (s′ : Store) → Sound s′ → Sound ((runFor fuel (drop w (b ∷ t)) r s′) .store)) → Sound ((elim p as (λ p. Ran) [ stops n ↦ halt n s | goes w a s′ ↦ more w a (runFor fuel (drop w (b ∷ t)) (room - length a) s′) ]) .store)
+    go (stops n) k rec = S
+    go (goes w a s′) k rec = rec w (room - length a) s′ k
 
-    c : Command
-    c = commandAt b (take w t)
-
-    go : (o : Outcome) → OutOk o → ((room′ : ℕ) (s′ : Store) → Sound s′ → Sound ((runFor fuel (drop w t) room′ s′) .store)) → Sound ((elim o as (λ o. Ran) [ no′ n ↦ more (suc w) (n ∷ []) (runFor fuel (drop w t) (room - 1) (withControl s (counted (s .control)))) | ok s′ a ↦ more (suc w) (0 ∷ a) (runFor fuel (drop w t) (room - suc (length a)) s′) ]) .store)
-    go (no′ n) k rec = rec (room - 1) (withControl s (counted (s .control))) (counted-sound s S)
-    go (ok s′ a) k rec = rec (room - suc (length a)) s′ k
-
-key-empty : (n k : ℕ) → key (replicate n []) k ≡ []
-key-empty zero k = refl
-key-empty (suc n) zero = refl
-key-empty (suc n) (suc k) = key-empty n k
-
-pub empty-sound : (n k : ℕ) → Sound (empty n k)
-unfolding empty
-empty-sound n k =
-    record {
-      held = record {
-        numbers = record { single = λ i. omega arith; below = λ i h. absurd (omega arith); positive = λ x h. absurd (omega arith); small = λ x h. absurd (omega arith) };
-        fit = record { once = λ x j. omega (arith, none x j); fams = tt; apart = tt; wide = length-replicate {A = SparseSet} 128 [] };
-        alive = λ x j h. absurd (omega (arith, none x j));
-        bare = λ j m x. none x j;
-        small = λ j i. absurd (false≢true i);
-      };
-      control = record { staged = λ j i. absurd (false≢true i); draft = record { fresh = tt; apart = tt } };
-    }
-  where
-    none : (x : Entity) (j : ℕ) → cnt x (key (replicate 128 []) j) ≡ 0
-    none x j = ap (cnt x) (key-empty 128 j)
-
--- after every command stream, from an empty store
-pub run-sound : (t : List ℕ) (room n k : ℕ) → Sound ((run t room (empty n k)) .store)
+-- every run keeps a sound store sound
+pub run-keeps : (t : List ℕ) (room : ℕ) (s : Store) → Bytes t → Sound s → Sound ((run t room s) .store)
 unfolding run
-run-sound t room n k = run-sound-for (length t) t room (empty n k) (empty-sound n k)
+run-keeps t room s h S = run-sound-for (length t) t room s h S
+
+-- and so does each command of it
+pub trail-keeps : (t : List ℕ) (room : ℕ) (s : Store) → Bytes t → Sound s → Each Sound (trail t room s)
+unfolding trail
+trail-keeps t room s h S = trail-sound-for (length t) t room s h S
+
+-- from an empty store
+pub run-sound : (t : List ℕ) (room n k : ℕ) → Bytes t → Limits n k → Sound ((run t room (empty n k)) .store)
+run-sound t room n k h l = run-keeps t room (empty n k) h (empty-sound n k l)
+
+pub trail-sound : (t : List ℕ) (room n k : ℕ) → Bytes t → Limits n k → Each Sound (trail t room (empty n k))
+trail-sound t room n k h l = trail-keeps t room (empty n k) h (empty-sound n k l)

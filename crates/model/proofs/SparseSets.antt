@@ -9,6 +9,7 @@ use borrow.Author.Tests.{eqb-true, eqb-false, eq-eqb}
 use lib.Dec.{eqb, ltb}
 use lib.ListN.{length, take, drop, getD, set, length-map, List·getD-map}
 use Rattle.model.specs.Lists.{swap, count, place, one, after}
+pub use Rattle.model.specs.Sound.{key}
 use Rattle.model.specs.Model.{Entity, Row, SparseSet, sameEntity, noEntity, noRow, mem, setOf, keys, entityOf, at, swapTo, mapOn, onKinds}
 
 -- a property of a choice, from its two cases
@@ -36,10 +37,6 @@ entity-eq a b h =
 
 pub entity-same : (a : Entity) → sameEntity a a ≡ true
 entity-same a = rw (eq-eqb (a .index) (a .index) refl, eq-eqb (a .version) (a .version) refl)
-
--- the entities of kind k's sparse set, in order
-abbrev pub key : List SparseSet → ℕ → List Entity
-key sets k = keys (setOf sets k)
 
 pub map-set : {A B : Type 0} (f : A → B) (l : List A) (i : ℕ) (a : A) → map f (set l i a) ≡ set (map f l) i (f a)
 map-set f [] i a = refl

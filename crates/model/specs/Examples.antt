@@ -5,7 +5,10 @@ use mathlib.Core.List.{List, [], _∷_, _++_, map}
 use Prim.Native.Nat.{ℕ, suc}
 use lib.ListN.{length, replicate, getD}
 use Rattle.model.specs.Model.{Entity, Component, Storage, Group, Family, SparseSet, Entities, Created, Range, none, found, Added, nothing, added, refused}
-use Rattle.model.specs.Run.{Ran, run, runFor, does, empty, le}
+use Rattle.model.specs.Store.{empty, le}
+use Rattle.model.specs.Commands.{accepted}
+use Rattle.model.specs.Refusals.{linesOf}
+use Rattle.model.specs.Run.{Ran, run, runFor, step, does}
 use Rattle.model.specs.Model.{groupAll, clearAll, groupComponents, ungroupComponents, groupFamily, ungroupFamily, groupTouched, ungroup, insert, remove, range, addGroup, setLayout, regroup, create, destroy}
 
 pub record Example : Type 0 where
@@ -127,5 +130,5 @@ answer =
     ∷ 0 ∷ 14 ∷ 0 ∷ 0 ∷ 0 ∷ 79 ∷ 0 ∷ 0 ∷ 0 ∷ 42 ∷ 0 ∷ 0 ∷ 0 ∷ []
 
 pub stream-example : written (run sample 16384 (empty 64 8)) ≡ answer
-unfolding sample answer run runFor does empty insert groupTouched groupFamily groupComponents ungroupComponents remove ungroup ungroupFamily setLayout regroup groupAll range addGroup create destroy clearAll
+unfolding sample answer run runFor step does accepted linesOf empty insert groupTouched groupFamily groupComponents ungroupComponents remove ungroup ungroupFamily setLayout regroup groupAll range addGroup create destroy clearAll
 stream-example = refl

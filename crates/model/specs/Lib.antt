@@ -1,5 +1,12 @@
 pub mod Lists
 pub mod Model
-pub mod Run
+pub mod Store
+pub mod Commands
 pub mod Snapshot
+pub mod Refusals
+pub mod Run
+pub mod Entries
+pub mod History
+pub mod Sound
+pub mod Shown
 pub mod Examples

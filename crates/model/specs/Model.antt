@@ -1,4 +1,5 @@
 -- The store's model: entities, sparse sets, families, and the operations on them as functions that compute. Assumes nothing.
+-- A comment quotes the sentence of document 01 that its definition is.
 use mathlib.Core.Bool.{Bool, true, false, cond, not, _&&_, _||_}
 use mathlib.Core.List.{List, [], _∷_, _++_, map}
 use Prim.Native.Nat.{ℕ, zero, suc, _+_, _-_}
@@ -6,18 +7,22 @@ use lib.Dec.{eqb, leb, ltb}
 use lib.ListN.{length, take, drop, getD, set}
 use Rattle.model.specs.Lists.{swap, count, place}
 
--- ---- entities, rows, new kinds
+-- ---- entities, rows, components, groups
 
+-- "A card is an index and a version, 32 bits each."
 pub record Entity : Type 0 where
   pub index : ℕ
   pub version : ℕ
 
+-- "A lookup finds a card only with equal version."
 abbrev pub sameEntity : Entity → Entity → Bool
 sameEntity a b = eqb (a .index) (b .index) && eqb (a .version) (b .version)
 
+-- what a lookup past a list's end gives
 abbrev pub noEntity : Entity
 noEntity = record { index = 0; version = 0 }
 
+-- one row of a column: "A column is a kind's dense list of cards with their values."
 pub record Row : Type 0 where
   pub entity : Entity
   pub value : ℕ
@@ -25,80 +30,95 @@ pub record Row : Type 0 where
 abbrev pub noRow : Row
 noRow = record { entity = noEntity; value = 0 }
 
+-- "A part is a card's value of one kind, eight bytes."
 pub record Component : Type 0 where
   pub kind : ℕ
   pub value : ℕ
 
--- A family is the list of its groups' new kinds, smallest group first. A group's kinds are those of its new kinds and of the new kinds before.
+-- "A group's ring is its kinds that the next smaller group lacks; for the smallest, all its kinds." newKinds is the ring, count the group's count.
 pub record Group : Type 0 where
   pub newKinds : List ℕ
   pub count : ℕ
 
+-- "a family is a chain of groups, each holding the one before": smallest group first. A group's kinds are its new kinds and those of the groups
+-- before it, so that each holds the one before by construction.
 abbrev pub Family : Type 0
 Family = List Group
 
+-- "A column is a kind's dense list of cards with their values. Places count from 0."
 abbrev pub SparseSet : Type 0
 SparseSet = List Row
 
--- ---- sets of kinds
+-- ---- sets of kinds, as lists whose order says nothing
 
+-- the kind is in the list
 abbrev pub mem : ℕ → List ℕ → Bool
 mem k [] = false
 mem k (j ∷ ks) = eqb k j || mem k ks
 
+-- p holds of each kind of the list
 abbrev pub all : (ℕ → Bool) → List ℕ → Bool
 all p [] = true
 all p (k ∷ ks) = p k && all p ks
 
+-- p holds of a kind of the list
 abbrev pub any : (ℕ → Bool) → List ℕ → Bool
 any p [] = false
 any p (k ∷ ks) = p k || any p ks
 
+-- ks has no kind that js lacks
 abbrev pub within : List ℕ → List ℕ → Bool
 within ks js = all (λ k. mem k js) ks
 
+-- ks and js have a kind in common
 abbrev pub meets : List ℕ → List ℕ → Bool
 meets ks js = any (λ k. mem k js) ks
 
+-- ks and js have the same kinds
 abbrev pub sameSet : List ℕ → List ℕ → Bool
 sameSet ks js = within ks js && within js ks
 
+-- the kinds of ks that js lacks
 abbrev pub without : List ℕ → List ℕ → List ℕ
 without [] js = []
 without (k ∷ ks) js = let r = without ks js in cond (mem k js) r (k ∷ r)
 
--- ---- sparse sets. The list of sparse sets has one for each kind, at the kind's place; an unregistered kind's is empty.
+-- ---- sparse sets. The list of sparse sets has one for each of the 128 kinds, at the kind's place; an unregistered kind's is empty.
 
+-- kind k's sparse set
 abbrev pub setOf : List SparseSet → ℕ → SparseSet
 setOf sets k = getD sets k []
 
 abbrev pub entityOf : Row → Entity
 entityOf r = r .entity
 
+-- the entities of a sparse set, in order
 abbrev pub keys : SparseSet → List Entity
 keys rows = map entityOf rows
 
--- the entity's place in the sparse set, or the length where it has none
+-- the entity's place in the sparse set ("Places count from 0"), or the length where it has none
 abbrev pub at : Entity → SparseSet → ℕ
 at e rows = place sameEntity e (keys rows)
 
+-- the entity holds a component of the sparse set's kind
 abbrev pub held : Entity → SparseSet → Bool
 held e rows = ltb (at e rows) (length rows)
 
--- a held kind's value is replaced where it is, else the row is appended
+-- "Inserting a held kind replaces its value where it is, else appends."
 abbrev pub insertRow : Entity → ℕ → SparseSet → SparseSet
 insertRow e v rows =
     let replaced = set rows (at e rows) (record { entity = e; value = v }) in
     let appended = rows ++ (record { entity = e; value = v } ∷ []) in
     cond (held e rows) replaced appended
 
--- the last row goes into the gap
+-- "Removal puts the last row in the gap."
 abbrev pub removeRow : Entity → SparseSet → SparseSet
 removeRow e rows =
     let n = length rows - 1 in
     let gone = take n (set rows (at e rows) (getD rows n noRow)) in
     cond (held e rows) gone rows
 
+-- "swapped to the place": the entity's row and that at place c change places
 abbrev pub swapTo : Entity → ℕ → SparseSet → SparseSet
 swapTo e c rows = swap noRow (at e rows) c rows
 
@@ -107,44 +127,51 @@ abbrev pub mapOn : List ℕ → (SparseSet → SparseSet) → ℕ → List Spars
 mapOn ks f i [] = []
 mapOn ks f i (c ∷ cs) = let d = f c in cond (mem i ks) d c ∷ mapOn ks f (suc i) cs
 
+-- f at the sparse set of each kind of ks: "in every column of the group"
 abbrev pub onKinds : List ℕ → (SparseSet → SparseSet) → List SparseSet → List SparseSet
 onKinds ks f sets = mapOn ks f 0 sets
 
--- ---- the group walks
+-- ---- the group walks, of insertion and of removal
 
+-- a family after a walk, and the sparse sets
 pub record Walked : Type 0 where
   pub sets : List SparseSet
   pub groups : Family
 
+-- one group after its step, and the sparse sets
 pub record Stepped : Type 0 where
   pub sets : List SparseSet
   pub group : Group
 
+-- the first kind of the list
 abbrev pub headKind : List ℕ → ℕ
 headKind [] = 0
 headKind (k ∷ ks) = k
 
--- a entity is inside where its place, in the new kinds's first sparse set, is below the count
+-- "a card inside": its place, in the sparse set of the group's first new kind, is below the count
 abbrev pub isGrouped : Entity → Group → List SparseSet → Bool
 isGrouped e r sets = ltb (at e (setOf sets (headKind (r .newKinds)))) (r .count)
 
+-- the entity holds every kind of ks; where it does not, a kind is "missing"
 abbrev pub allHeld : Entity → List ℕ → List SparseSet → Bool
 allHeld e ks sets = all (λ k. held e (setOf sets k)) ks
 
--- ks are the kinds of the group whose new kinds is r: a entity not yet inside is swapped to the place equal to the count, in every sparse set of the group
+-- "a card not yet inside is swapped to the place equal to the count, in every column of the group, and the count grows"; ks are the group's kinds
 unfoldable pub groupComponents : Entity → List ℕ → Group → List SparseSet → Stepped
 groupComponents e ks r sets =
     let same : Stepped = record { sets = sets; group = r } in
     let moved : Stepped = record { sets = onKinds ks (swapTo e (r .count)) sets; group = record { newKinds = r .newKinds; count = suc (r .count) } } in
     cond (isGrouped e r sets) same moved
 
+-- "a card inside is swapped to the last counted place and the count falls"; ks are the group's kinds
 unfoldable pub ungroupComponents : Entity → List ℕ → Group → List SparseSet → Stepped
 ungroupComponents e ks r sets =
     let same : Stepped = record { sets = sets; group = r } in
     let moved : Stepped = record { sets = onKinds ks (swapTo e (r .count - 1)) sets; group = record { newKinds = r .newKinds; count = r .count - 1 } } in
     cond (isGrouped e r sets) moved same
 
--- upward, smallest group first; acc are the kinds of the group before. At the first new kinds with a kind missing the rest is skipped.
+-- Insertion: "the touched families' groups are walked upward. At the first group with a ring kind missing, the rest of that family is skipped."
+-- acc are the kinds of the group before.
 unfoldable pub groupFamily : Entity → List ℕ → List SparseSet → Family → Walked
 groupFamily e acc sets [] = record { sets = sets; groups = [] }
 groupFamily e acc sets (r ∷ rs) =
@@ -154,7 +181,8 @@ groupFamily e acc sets (r ∷ rs) =
     let stop : Walked = record { sets = sets; groups = r ∷ rs } in
     cond (allHeld e (r .newKinds) sets) on stop
 
--- downward, largest group first: each group that has a kind of gone
+-- Removal: "the groups from each removed kind's own (the one whose ring has it ..) to the family's largest are walked downward, each group once".
+-- Those are the groups that have a kind of gone, largest first; acc are the kinds of the group before.
 unfoldable pub ungroupFamily : Entity → List ℕ → List ℕ → List SparseSet → Family → Walked
 ungroupFamily e gone acc sets [] = record { sets = sets; groups = [] }
 ungroupFamily e gone acc sets (r ∷ rs) =
@@ -164,17 +192,19 @@ ungroupFamily e gone acc sets (r ∷ rs) =
     let kept : Walked = record { sets = w .sets; groups = r ∷ w .groups } in
     cond (meets gone (acc ++ r .newKinds)) left kept
 
+-- the kinds of a family, which are those of its largest group
 abbrev pub kindsOf : Family → List ℕ
 kindsOf [] = []
 kindsOf (r ∷ rs) = r .newKinds ++ kindsOf rs
 
 -- ---- components: the sparse sets and the layout
 
+-- the sparse sets, and the layout in force: "A layout is families with no kind in common"
 pub record Storage : Type 0 where
   pub sets : List SparseSet
   pub layout : List Family
 
--- each family that has a kind of ks is walked upward
+-- "the touched families' groups are walked upward": each family that has a kind of ks
 unfoldable pub groupTouched : Entity → List ℕ → List SparseSet → List Family → Storage
 groupTouched e ks sets [] = record { sets = sets; layout = [] }
 groupTouched e ks sets (f ∷ fs) =
@@ -185,6 +215,7 @@ groupTouched e ks sets (f ∷ fs) =
     let off : Storage = record { sets = q .sets; layout = f ∷ q .layout } in
     cond (meets ks (kindsOf f)) on off
 
+-- every family is walked downward; a family without a kind of gone has no group to leave
 unfoldable pub ungroup : Entity → List ℕ → List SparseSet → List Family → Storage
 ungroup e gone sets [] = record { sets = sets; layout = [] }
 ungroup e gone sets (f ∷ fs) =
@@ -192,28 +223,34 @@ ungroup e gone sets (f ∷ fs) =
     let p = ungroup e gone (w .sets) fs in
     record { sets = p .sets; layout = w .groups ∷ p .layout }
 
+-- "all parts go in"
 abbrev pub insertAll : Entity → List Component → List SparseSet → List SparseSet
 insertAll e [] sets = sets
 insertAll e (p ∷ ps) sets = insertAll e ps (set sets (p .kind) (insertRow e (p .value) (setOf sets (p .kind))))
 
+-- a component's kind
 abbrev pub kindOf : Component → ℕ
 kindOf p = p .kind
 
+-- "Insertion: all parts go in, then the touched families' groups are walked upward."
 unfoldable pub insert : Entity → List Component → Storage → Storage
 insert e staged s = groupTouched e (map kindOf staged) (insertAll e staged (s .sets)) (s .layout)
 
+-- "Removal: before any part goes, the groups .. are walked downward", then the parts of the kinds of gone go
 unfoldable pub remove : Entity → List ℕ → Storage → Storage
 remove e gone s =
     let p = ungroup e gone (s .sets) (s .layout) in
     record { sets = onKinds gone (removeRow e) (p .sets); layout = p .layout }
 
+-- the group with no entity in it
 abbrev pub zeroCount : Group → Group
 zeroCount r = record { newKinds = r .newKinds; count = 0 }
 
+-- WIPE: "all parts go, cards live on"; so no group has an entity left
 unfoldable pub clearAll : Storage → Storage
 clearAll s = record { sets = map (λ (c : SparseSet). []) (s .sets); layout = map (map zeroCount) (s .layout) }
 
--- every family is walked upward
+-- every family is walked upward for one entity
 unfoldable pub groupAll : Entity → List SparseSet → List Family → Storage
 groupAll e sets [] = record { sets = sets; layout = [] }
 groupAll e sets (f ∷ fs) =
@@ -221,30 +258,35 @@ groupAll e sets (f ∷ fs) =
     let p = groupAll e (w .sets) fs in
     record { sets = p .sets; layout = w .groups ∷ p .layout }
 
--- the layout's families are walked for each live entity, in live-list order
+-- "walks live cards in live-list order"
 unfoldable pub regroup : List Entity → Storage → Storage
 regroup [] s = s
 regroup (e ∷ es) s = regroup es (groupAll e (s .sets) (s .layout))
 
+-- "Applying a layout keeps every column's order, starts counts at 0 and walks live cards in live-list order." The draft's counts are 0.
 unfoldable pub setLayout : List Entity → List Family → Storage → Storage
 setLayout live draft s = regroup live (record { sets = s .sets; layout = draft })
 
--- ---- ranges
+-- ---- RANGE
 
+-- a range found, from its start to its end ("Ends are excluded."), or none
 pub data Range : Type 0 where
   none : Range
   found : ℕ → ℕ → Range
 
+-- the first range found
 abbrev pub orElse : Range → Range → Range
 orElse none q = q
 orElse (found a b) q = found a b
 
--- the new kinds after the group: with no excluded kinds the group's own range
+-- at the group that the hand is equal to, with count n and the larger groups rs: "a hand equal to a group gives 0 to its count"; "Bar not empty: a hand
+-- equal to a group and a bar equal to the next larger group's ring give the larger's count to the hand's."
 abbrev pub rangeAt : List ℕ → ℕ → Family → Range
 rangeAt [] n rs = found 0 n
 rangeAt (b ∷ bs) n [] = none
 rangeAt (b ∷ bs) n (r ∷ rs) = cond (sameSet (b ∷ bs) (r .newKinds)) (found (r .count) n) none
 
+-- "a hand equal to a group": looked for in a family; acc are the kinds of the group before
 abbrev pub rangeIn : List ℕ → List ℕ → List ℕ → Family → Range
 rangeIn staged excluded acc [] = none
 rangeIn staged excluded acc (r ∷ rs) =
@@ -252,56 +294,66 @@ rangeIn staged excluded acc (r ∷ rs) =
     let later = rangeIn staged excluded (acc ++ r .newKinds) rs in
     cond (sameSet staged (acc ++ r .newKinds)) here later
 
+-- and in all families; "None otherwise."
 abbrev pub rangeAll : List ℕ → List ℕ → List Family → Range
 rangeAll staged excluded [] = none
 rangeAll staged excluded (f ∷ fs) = orElse (rangeIn staged excluded [] f) (rangeAll staged excluded fs)
 
+-- "bar empty: a hand of one kind"
 abbrev pub single : List ℕ → List ℕ → Bool
 single staged excluded = eqb (length staged) 1 && eqb (length excluded) 0
 
+-- "RANGE, bar empty: a hand of one kind gives 0 to that column's length"; else by the groups
 unfoldable pub range : List ℕ → List ℕ → Storage → Range
 range staged excluded s =
     let one = found 0 (length (setOf (s .sets) (headKind staged))) in
     let many = rangeAll staged excluded (s .layout) in
     cond (single staged excluded) one many
 
--- ---- the draft
+-- ---- GROUP: the draft layout
 
+-- "1 added or 0 nothing added", or a refusal
 pub data Added : Type 0 where
   nothing : Added
   added : List Family → Added
   refused : ℕ → Added
 
+-- how many groups the layout has
 abbrev pub groupsOf : List Family → ℕ
 groupsOf [] = 0
 groupsOf (f ∷ fs) = length f + groupsOf fs
 
+-- ks is equal to a group of the family; acc are the kinds of the group before
 abbrev pub isGroup : List ℕ → List ℕ → Family → Bool
 isGroup ks acc [] = false
 isGroup ks acc (r ∷ rs) = sameSet ks (acc ++ r .newKinds) || isGroup ks (acc ++ r .newKinds) rs
 
+-- "equal to one present"
 abbrev pub present : List ℕ → List Family → Bool
 present ks [] = false
 present ks (f ∷ fs) = isGroup ks [] f || present ks fs
 
--- how many families share a kind with ks
+-- how many families share a kind with ks: "shares no kind with any group" is 0, "exactly one family" is 1
 abbrev pub touched : List ℕ → List Family → ℕ
 touched ks [] = 0
 touched ks (f ∷ fs) = cond (meets ks (kindsOf f)) (suc (touched ks fs)) (touched ks fs)
 
--- ks holds every kind of each family that it touches
+-- "holds every kind of" each family that it shares a kind with
 abbrev pub covers : List ℕ → List Family → Bool
 covers ks [] = true
 covers ks (f ∷ fs) = (not (meets ks (kindsOf f)) || within (kindsOf f) ks) && covers ks fs
 
+-- a group of no entity yet, with ks for its ring
 abbrev pub newGroup : List ℕ → Group
 newGroup ks = record { newKinds = ks; count = 0 }
 
--- each family that ks touches gets a new kinds more
+-- each family that ks shares a kind with gets a group more, whose ring is what ks has besides
 abbrev pub grown : List ℕ → List Family → List Family
 grown ks [] = []
 grown ks (f ∷ fs) = cond (meets ks (kindsOf f)) (f ++ (newGroup (without ks (kindsOf f)) ∷ [])) f ∷ grown ks fs
 
+-- "A new group of fewer than two kinds, or equal to one present, adds nothing. It is added if it shares no kind with any group, or if it holds every
+-- kind of exactly one family, has more, and shares none with the others. Everything else clashes." In the table's order: 13 WIDE, 14 CLASH, 15 MANY.
 unfoldable pub addGroup : List ℕ → List Family → Added
 addGroup ks fs =
     let fresh = added (fs ++ ((newGroup ks ∷ []) ∷ [])) in
@@ -313,33 +365,54 @@ addGroup ks fs =
     let wide = cond (leb 16 (length ks)) (refused 13) known in
     cond (ltb (length ks) 2) nothing wide
 
+-- the same, taken apart for the table of refusals: "A new group of fewer than two kinds, or equal to one present, adds nothing."
+abbrev pub addsNothing : List ℕ → List Family → Bool
+addsNothing ks fs = ltb (length ks) 2 || present ks fs
+
+-- "it shares no kind with any group, or .. holds every kind of exactly one family .. and shares none with the others". That it has more kinds than
+-- that family is that it is not equal to a group present.
+abbrev pub joins : List ℕ → List Family → Bool
+joins ks fs = eqb (touched ks fs) 0 || (eqb (touched ks fs) 1 && covers ks fs)
+
+-- the draft with the group added: a family of its own, or the largest group of the family that it shares kinds with
+abbrev pub withGroup : List ℕ → List Family → List Family
+withGroup ks fs =
+    let fresh = fs ++ ((newGroup ks ∷ []) ∷ []) in
+    let wider = grown ks fs in
+    cond (eqb (touched ks fs) 0) fresh wider
+
 -- ---- entities
 
+-- the live list, the waiting numbers (longest waiting first), and how many numbers are issued ("from index 0 without gaps")
 pub record Entities : Type 0 where
   pub live : List Entity
   pub recycled : List Entity
   pub issued : ℕ
 
+-- a new entity, and the entities with it
 pub record Created : Type 0 where
   pub entity : Entity
   pub entities : Entities
 
+-- "4,294,967,295 has no next."
 abbrev pub lastVersion : ℕ
 lastVersion = 4294967295
 
--- the longest recycled number, else the next index at version 1; it joins the live list at its end
+-- "A new card takes the longest waiting number, else the next index at version 1, and joins the live list at its end"
 abbrev pub createWith : List Entity → Entities → Created
 createWith [] s =
     record { entity = record { index = s .issued; version = 1 }; entities = record { live = s .live ++ (record { index = s .issued; version = 1 } ∷ []); recycled = []; issued = suc (s .issued) } }
 createWith (e ∷ es) s = record { entity = e; entities = record { live = s .live ++ (e ∷ []); recycled = es; issued = s .issued } }
 
+-- the same, by the store's own waiting numbers
 unfoldable pub create : Entities → Created
 create s = createWith (s .recycled) s
 
+-- the entity is in the live list; where it is not, DEAD
 abbrev pub isLive : Entity → Entities → Bool
 isLive e s = ltb (place sameEntity e (s .live)) (length (s .live))
 
--- the live list's last takes the entity's place; the number is recycled with the next version, or is retired
+-- "when a card is destroyed, the list's last takes its place there. A destroyed one waits with its version plus one, or is retired if there is none."
 unfoldable pub destroy : Entity → Entities → Entities
 destroy e s =
     let n = length (s .live) - 1 in

@@ -1,4 +1,5 @@
--- The snapshot: the listing of all that is held, as bytes. Assumes nothing.
+-- The snapshot, which *roll* writes: "live count 4, then each live card by rising index: index 4, version 4, part count 1, then each part by rising kind:
+-- kind 1, value 8". Assumes nothing.
 use mathlib.Core.Path.{_≡_}
 use mathlib.Core.Bool.{Bool, true, false, cond}
 use mathlib.Core.Option.{Option, some, none}
@@ -6,8 +7,9 @@ use mathlib.Core.List.{List, [], _∷_, _++_, map}
 use Prim.Native.Nat.{ℕ, zero, suc, _≤_, _<_}
 use lib.Dec.{eqb}
 use lib.ListN.{length, getD}
-use Rattle.model.specs.Model.{Entity, SparseSet, Component, Entities, Storage, noRow, at, held, setOf}
-use Rattle.model.specs.Run.{Store, le}
+use Rattle.model.specs.Lists.{count}
+use Rattle.model.specs.Model.{Entity, SparseSet, Component, Entities, Storage, sameEntity, noRow, at, held, setOf}
+use Rattle.model.specs.Store.{Store, le}
 
 -- a live entity with its components, by rising kind
 pub record Entry : Type 0 where
@@ -18,11 +20,12 @@ pub record Entry : Type 0 where
 abbrev pub valueAt : Entity → SparseSet → Option ℕ
 valueAt e rows = let v = some (getD rows (at e rows) noRow .value) in cond (held e rows) v none
 
+-- one component more, if there is a value
 abbrev pub addComponent : Option ℕ → ℕ → List Component → List Component
 addComponent none k ps = ps
 addComponent (some v) k ps = record { kind = k; value = v } ∷ ps
 
--- the entity's components, by rising kind; k is the kind of the first sparse set
+-- "each part by rising kind"; k is the kind of the first sparse set
 abbrev pub componentsOf : Entity → ℕ → List SparseSet → List Component
 componentsOf e k [] = []
 componentsOf e k (c ∷ cs) = addComponent (valueAt e c) k (componentsOf e (suc k) cs)
@@ -32,28 +35,41 @@ abbrev pub versionAt : ℕ → List Entity → ℕ
 versionAt i [] = 0
 versionAt i (e ∷ es) = cond (eqb i (e .index)) (e .version) (versionAt i es)
 
+-- an entry for the entity with index i and this version, none at version 0
 abbrev pub entryOf : ℕ → ℕ → List SparseSet → List Entry
 entryOf zero i sets = []
 entryOf (suc v) i sets = record { entity = record { index = i; version = suc v }; components = componentsOf (record { index = i; version = suc v }) 0 sets } ∷ []
 
--- the live entities with n indexes from i on, by rising index
+-- "each live card by rising index": those with n indexes from i on
 abbrev pub entries : ℕ → ℕ → List Entity → List SparseSet → List Entry
 entries i zero live sets = []
 entries i (suc n) live sets = entryOf (versionAt i live) i sets ++ entries (suc i) n live sets
 
+-- "kind 1, value 8"
 abbrev pub componentBytes : List Component → List ℕ
 componentBytes [] = []
 componentBytes (p ∷ ps) = p .kind ∷ le 8 (p .value) ++ componentBytes ps
 
+-- "index 4, version 4, part count 1, then each part"
 abbrev pub entryBytes : Entry → List ℕ
 entryBytes t = le 4 (t .entity .index) ++ (le 4 (t .entity .version) ++ (length (t .components) ∷ componentBytes (t .components)))
 
+-- the bytes of all entries
 abbrev pub flat : List Entry → List ℕ
 flat [] = []
 flat (t ∷ ts) = entryBytes t ++ flat ts
 
+-- all live entities: every live index is an issued one
 abbrev pub listing : Store → List Entry
 listing s = entries 0 (s .entities .issued) (s .entities .live) (s .storage .sets)
 
+-- "live count 4, then each live card"
 unfoldable pub snapshot : Store → List ℕ
 snapshot s = le 4 (length (s .entities .live)) ++ flat (listing s)
+
+-- ---- what two equal snapshots say
+
+-- the same entities are live, and each has the same value, or none, at each kind
+pub record Same (s t : Store) : Type 0 where
+  pub live : (x : Entity) → count sameEntity x (s .entities .live) ≡ count sameEntity x (t .entities .live)
+  pub values : (x : Entity) → 1 ≤ count sameEntity x (s .entities .live) → (k : ℕ) → valueAt x (setOf (s .storage .sets) k) ≡ valueAt x (setOf (t .storage .sets) k)

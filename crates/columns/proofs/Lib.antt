@@ -1,0 +1,4 @@
+pub mod Slots
+pub mod Several
+pub mod Frames
+pub mod Fresh

@@ -1,0 +1,30 @@
+-- A sparse set's soundness from its parts, and what a check's answer says. Assumes nothing.
+use mathlib.Core.Path.{_≡_, subst}
+use mathlib.Core.Bool.{Bool, true, false}
+use mathlib.Core.List.{List}
+use Prim.Native.Nat.{ℕ, _+_, _≤_}
+use native.Mathlib.Omega.{arith}
+use Rattle.words.specs.Table.{by-eq}
+use Rattle.component.specs.SparseSet.{lengthOf, Sized, Sound}
+use Rattle.component.specs.Decides.{Decides, RowOk, LookupOk, Each}
+
+pub each-more : (P : ℕ → Type 0) (k : ℕ) → Each k P → P k → Each (k + 1) P
+each-more P k e p i h = by-eq i k (λ q. rw q p) (λ ne. e i (omega arith))
+
+pub sound-of : (n : ℕ) (w : List ℕ) → Sized n w → lengthOf w ≤ n → Each (lengthOf w) (RowOk n w) → Each n (LookupOk n w) → Sound n w
+sound-of n w z r t s =
+    record {
+      size = z .size;
+      small = z .small;
+      linked = record { room = r; tied = t; inside = λ x hx hh. s x hx hh .0; back = λ x hx hh. s x hx hh .1 };
+    }
+
+pub lookups-of : (n : ℕ) (w : List ℕ) → Sound n w → Each n (LookupOk n w)
+lookups-of n w s x hx hh = (s .linked .inside x hx hh, s .linked .back x hx hh)
+
+-- what a caller learns from an answer
+pub granted : (P : Type 0) (b : Bool) → Decides b P → b ≡ true → P
+granted P b d e = subst (λ (t : Bool). Decides t P) e d
+
+pub denied : (P : Type 0) (b : Bool) → Decides b P → b ≡ false → P → ⊥
+denied P b d e = subst (λ (t : Bool). Decides t P) e d

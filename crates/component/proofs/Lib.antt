@@ -1,0 +1,4 @@
+pub mod Meaning
+pub mod Places
+pub mod Moves
+pub mod Checking

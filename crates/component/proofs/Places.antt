@@ -1,0 +1,126 @@
+-- Where the model finds an entity among rows, and what that says of a search, an insertion and a removal. Assumes nothing.
+use mathlib.Core.Path.{_≡_, sym, ap, _∙_, subst}
+use mathlib.Core.Logic.{_≢_}
+use mathlib.Core.Bool.{Bool, true, false, true≢false}
+use mathlib.Core.List.{List, [], _∷_, _++_}
+use Prim.Native.Nat.{ℕ, zero, suc, _+_, _-_, _≤_, _<_}
+use native.Mathlib.Omega.{arith}
+use native.Mathlib.Nat.{not-suc-le-zero, le-of-suc-le-suc}
+use native.Mathlib.Decide.{decLt}
+use borrow.Author.Tests.{ltb-true, lt-ltb, le-ltb}
+use lib.ListN.{length, getD, length-map, List·getD-map}
+use Rattle.model.specs.Lists.{after, getD-place, cutAt}
+use Rattle.model.specs.Model.{Entity, SparseSet, sameEntity, noEntity, noRow, keys, entityOf, at, held, insertRow, removeRow, swapTo}
+use Rattle.model.proofs.SparseSets.{entity-eq, entity-same}
+use Rattle.component.specs.declared.Found.the-variants as found
+use Rattle.component.specs.SparseSet.{lengthOf, indexAt, versionAt, placeOf, heldOf, entity, rows, Sound, Current, swapRows}
+use Rattle.component.specs.Answers.{HeldAt, Finds}
+use Rattle.component.specs.Stored.{Absent, valued}
+use Rattle.component.proofs.Meaning.{length-rows, getD-rows, rows-apart}
+
+-- ---- the model's place of an entity
+
+pub at-le : (e : Entity) (rs : SparseSet) (i : ℕ) → i < length rs → getD rs i noRow .entity ≡ e → at e rs ≤ i
+at-le e [] i h q = absurd (not-suc-le-zero h)
+at-le e (r ∷ rs) zero h q = rw (subst (λ (d : Entity). sameEntity e d ≡ true) (sym q) (entity-same e)) (omega arith)
+at-le e (r ∷ rs) (suc i) h q = go (sameEntity e (r .entity)) (at-le e rs i (le-of-suc-le-suc h) q)
+  where
+    go : (b : Bool) → at e rs ≤ i → after b (at e rs) ≤ suc i
+    go true k = omega arith
+    go false k = omega arith
+
+pub at-entity : (e : Entity) (rs : SparseSet) → at e rs < length rs → getD rs (at e rs) noRow .entity ≡ e
+at-entity e rs h =
+    sym (List·getD-map entityOf rs (at e rs) noRow)
+    ∙ getD-place sameEntity entity-eq e noEntity (keys rs) (omega (arith, length-map rs entityOf))
+
+module _ (e : Entity) (rs : SparseSet) where
+  -- a row of the entity, and no earlier one
+  pub held-first : (p : ℕ) → p < length rs → getD rs p noRow .entity ≡ e → ((i : ℕ) → i < p → getD rs i noRow .entity ≢ e) → p ≡ at e rs
+  held-first p h q f =
+      elim (decLt (at e rs) p) [
+        | yes l ↦ absurd (f (at e rs) l (at-entity e rs (omega arith)))
+        | no l ↦ omega (arith, at-le e rs p h q)
+      ]
+
+  pub held-some : (i : ℕ) → i < length rs → getD rs i noRow .entity ≡ e → held e rs ≡ true
+  held-some i h q = lt-ltb (at e rs) (length rs) (omega (arith, at-le e rs i h q))
+
+  pub held-none : ((i : ℕ) → i < length rs → getD rs i noRow .entity ≢ e) → held e rs ≡ false
+  held-none f =
+      elim (decLt (at e rs) (length rs)) [
+        | yes l ↦ absurd (f (at e rs) l (at-entity e rs l))
+        | no l ↦ le-ltb (at e rs) (length rs) (omega arith)
+      ]
+
+-- ---- a search in sound words
+
+module _ (n : ℕ) (w : List ℕ) (s : Sound n w) (x v : ℕ) where
+  -- a row that is the entity's
+  of-entity : (i : ℕ) → i < lengthOf w → getD (rows n w) i noRow .entity ≡ entity x v → (indexAt w i ≡ x) × (versionAt w i ≡ v)
+  of-entity i h q =
+      let r = ap entityOf (getD-rows n w i h) in (
+        ap (λ (d : Entity). d .index) (sym r ∙ q),
+        ap (λ (d : Entity). d .version) (sym r ∙ q),
+      )
+
+  pub finds-at : x < n → 1 ≤ v → heldOf n w x ≡ v → Finds n (entity x v) (rows n w) (found.At (placeOf n w x))
+  finds-at hx hv e =
+      let L = s .linked in
+      let h : 1 ≤ heldOf n w x = omega arith in
+      let k = placeOf n w x in
+      let p : k < lengthOf w = L .inside x hx h in
+      let b : indexAt w k ≡ x = L .back x hx h in
+      let c : versionAt w k ≡ v = sym (L .tied k p .agreed) ∙ ap (heldOf n w) b ∙ e in
+      let i : k < length (rows n w) = omega (arith, length-rows n w) in
+      let q : getD (rows n w) k noRow .entity ≡ entity x v = ap entityOf (getD-rows n w k p) ∙ (λ j. entity (b j) (c j)) in
+      record {
+        holds = held-some (entity x v) (rows n w) k i q;
+        place =
+            held-first (entity x v) (rows n w) k i q
+            (λ j hj z. rows-apart n w s j k (omega arith) p (omega arith) (of-entity j (omega arith) z .0 ∙ sym b));
+        inside = i;
+        below = omega (arith, L .room);
+      }
+
+  -- a row of the entity would have its index held
+  finds-none : ((i : ℕ) → i < lengthOf w → indexAt w i ≡ x → versionAt w i ≡ v → ⊥) → Finds n (entity x v) (rows n w) found.Nothing
+  finds-none f =
+      held-none (entity x v) (rows n w)
+      (λ i hi q. let h : i < lengthOf w = omega (arith, length-rows n w) in let z = of-entity i h q in f i h (z .0) (z .1))
+
+  pub finds-beyond : n ≤ x → Finds n (entity x v) (rows n w) found.Nothing
+  finds-beyond h = finds-none (λ i hi ei ev. omega (arith, s .linked .tied i hi .below))
+
+  pub finds-unissued : v ≡ 0 → Finds n (entity x v) (rows n w) found.Nothing
+  finds-unissued h = finds-none (λ i hi ei ev. omega (arith, s .linked .tied i hi .issued))
+
+  pub finds-nothing : (heldOf n w x ≡ v → ⊥) → Finds n (entity x v) (rows n w) found.Nothing
+  finds-nothing ne = finds-none (λ i hi ei ev. ne (ap (heldOf n w) (sym ei) ∙ s .linked .tied i hi .agreed ∙ ev))
+
+-- ---- the model's operations, where a search found the entity at p and where it found none
+
+module _ (n : ℕ) (e : Entity) (rs : SparseSet) where
+  module _ (p : ℕ) (f : HeldAt n e rs p) where
+    pub insert-held : (v : ℕ) → valued p v rs ≡ insertRow e v rs
+    insert-held v =
+        let q : getD rs p noRow .entity ≡ e = ap (λ (i : ℕ). getD rs i noRow .entity) (f .place) ∙ at-entity e rs (ltb-true _ _ (f .holds)) in
+        rw (f .holds, q, f .place)
+
+    pub remove-held : cutAt noRow p rs ≡ removeRow e rs
+    remove-held = rw (f .holds, f .place)
+
+    pub swap-held : (c : ℕ) → swapRows p c rs ≡ swapTo e c rs
+    swap-held c = ap (λ (i : ℕ). swapRows i c rs) (f .place)
+
+  pub insert-free : held e rs ≡ false → (v : ℕ) → rs ++ (record { entity = e; value = v } ∷ []) ≡ insertRow e v rs
+  insert-free f v = rw f
+
+  pub remove-free : held e rs ≡ false → rs ≡ removeRow e rs
+  remove-free f = rw f
+
+-- an entity that is not held, while its index has no other version
+pub absent : (x v : ℕ) (rs : SparseSet) → Current x v rs → held (entity x v) rs ≡ false → Absent x rs
+absent x v rs c f i hi q =
+    let q′ = c i hi q in
+    true≢false (sym (held-some (entity x v) rs i hi (λ j. entity (q j) (q′ j))) ∙ f)

@@ -1,0 +1,87 @@
+-- A component sparse set (01: a column) over its part of the lent words: what the words mean, when they are sound, what a change keeps.
+-- The part's 8 + 6 * n words (docs/WORDS.md): word 0 is the length, words 1 to 7 are the storage's; row i's entity (index, version) is at
+-- 8 + 2 * i, its value (low, high) at 8 + 2 * n + 2 * i; index x's lookup (place, version) is at 8 + 4 * n + 2 * x, version 0 where x is not held.
+-- Assumes nothing.
+use mathlib.Core.Path.{_≡_}
+use mathlib.Core.List.{List}
+use Prim.Native.Nat.{ℕ, _+_, _*_, _≤_, _<_}
+use lib.ListN.{length, getD}
+use Rattle.model.specs.Lists.{swap}
+use Rattle.model.specs.Model.{Entity, Row, SparseSet, noRow}
+use Rattle.words.specs.Table.{table}
+use Rattle.words.specs.Links.{Linked}
+
+-- ---- the words of a part
+
+abbrev pub lengthOf : List ℕ → ℕ
+lengthOf w = getD w 0 0
+
+-- row i
+abbrev pub indexAt : List ℕ → ℕ → ℕ
+indexAt w i = getD w (8 + 2 * i) 0
+
+abbrev pub versionAt : List ℕ → ℕ → ℕ
+versionAt w i = getD w (8 + 2 * i + 1) 0
+
+abbrev pub lowAt : ℕ → List ℕ → ℕ → ℕ
+lowAt n w i = getD w (8 + 2 * n + 2 * i) 0
+
+abbrev pub highAt : ℕ → List ℕ → ℕ → ℕ
+highAt n w i = getD w (8 + 2 * n + 2 * i + 1) 0
+
+-- index x's lookup
+abbrev pub placeOf : ℕ → List ℕ → ℕ → ℕ
+placeOf n w x = getD w (8 + 4 * n + 2 * x) 0
+
+abbrev pub heldOf : ℕ → List ℕ → ℕ → ℕ
+heldOf n w x = getD w (8 + 4 * n + 2 * x + 1) 0
+
+-- ---- what they mean
+
+-- 01: "A card is an index and a version, 32 bits each"
+abbrev pub entity : ℕ → ℕ → Entity
+entity x v = record { index = x; version = v }
+
+-- 01: a part's value is eight bytes, here a low and a high word
+abbrev pub valueOf : ℕ → ℕ → ℕ
+valueOf l h = l + 4294967296 * h
+
+abbrev pub row : ℕ → ℕ → ℕ → ℕ → Row
+row x v l h = record { entity = entity x v; value = valueOf l h }
+
+abbrev pub rowAt : ℕ → List ℕ → ℕ → Row
+rowAt n w i = row (indexAt w i) (versionAt w i) (lowAt n w i) (highAt n w i)
+
+-- 01: "A column is a kind's dense list of cards with their values"
+unfoldable pub rows : ℕ → List ℕ → SparseSet
+rows n w = table (lengthOf w) (rowAt n w)
+
+-- ---- soundness
+
+-- the words of a part of capacity n, whatever they hold
+pub record Sized (n : ℕ) (w : List ℕ) : Type 0 where
+  pub size : length w ≡ 8 + 6 * n
+  pub small : n ≤ 4096
+
+-- 01, a sound store: "each column with its own lookups" agrees
+pub record Sound (n : ℕ) (w : List ℕ) : Type 0 where
+  pub size : length w ≡ 8 + 6 * n
+  pub small : n ≤ 4096
+  pub linked : Linked n (lengthOf w) (indexAt w) (versionAt w) (placeOf n w) (heldOf n w)
+
+-- ---- changes
+
+-- a sound part whose rows have become f of what they were; words 1 to 7 are as they were
+pub record Changed (n : ℕ) (f : SparseSet → SparseSet) (w w′ : List ℕ) : Type 0 where
+  pub sound : Sound n w′
+  pub size : length w′ ≡ length w
+  pub becomes : rows n w′ ≡ f (rows n w)
+  pub kept : (i : ℕ) → 1 ≤ i → i < 8 → getD w′ i 0 ≡ getD w i 0
+
+-- the model's swap, on rows
+abbrev pub swapRows : ℕ → ℕ → SparseSet → SparseSet
+swapRows a b rs = swap noRow a b rs
+
+-- a row of the index x has the version v: no two versions of an index live at once
+abbrev pub Current : ℕ → ℕ → SparseSet → Type 0
+Current x v rs = (i : ℕ) → i < length rs → getD rs i noRow .entity .index ≡ x → getD rs i noRow .entity .version ≡ v

@@ -1,0 +1,64 @@
+-- A part of zeros holds no entity. Assumes nothing.
+use mathlib.Core.Path.{_≡_, refl, sym, ap, _∙_}
+use mathlib.Core.List.{List, []}
+use Prim.Native.Nat.{ℕ, _+_, _*_, _≤_, _<_}
+use native.Mathlib.Omega.{arith}
+use native.Mathlib.Nat.{not-suc-le-zero}
+use native.Mathlib.Decide.{decLt}
+use borrow.Author.Count.{below-more}
+use lib.ListN.{length, getD, set}
+use lib.Seq.{getD-set-same, getD-set-other}
+use Rattle.words.specs.Table.{by-eq, table, is-table}
+use Rattle.model.specs.Model.{Entity, Entities, noEntity}
+use Rattle.entity.specs.Meaning.{Sized, Sound, entitiesOf, lenOf, issuedOf, headOf, recycledLen, heldOf, ringSlot}
+use Rattle.entity.specs.Change.{Changed, noEntities}
+use Rattle.entity.proofs.Kept.{entities-path}
+
+-- the first i words are zeros
+abbrev pub ZerosTo : List ℕ → ℕ → Type 0
+ZerosTo w i = (k : ℕ) → k < i → getD w k 0 ≡ 0
+
+pub zeros-more : (w : List ℕ) (i : ℕ) → i < length w → ZerosTo w i → ZerosTo (set w i 0) (i + 1)
+zeros-more w i h z k hk =
+    by-eq k i
+    (λ e. rw e (getD-set-same w i 0 0 h))
+    (λ ne. getD-set-other w i k 0 0 ne ∙ z k (omega arith))
+
+table-none : (k : ℕ) (f : ℕ → Entity) → k ≡ 0 → table k f ≡ []
+table-none k f e = rw e (is-table noEntity 0 f [] refl (λ i h. absurd (not-suc-le-zero h)))
+
+pub zeros-changed : (n : ℕ) (w₀ w : List ℕ) → Sized n w₀ → length w ≡ length w₀ → ZerosTo w (length w) → Changed n (λ s. noEntities) w₀ w
+unfolding entitiesOf
+zeros-changed n w₀ w d l z =
+    let size : length w ≡ 16 * n = l ∙ d .size in
+    let some = d .some in
+    let e₀ : lenOf w ≡ 0 = z 0 (omega arith) in
+    let e₁ : issuedOf w ≡ 0 = z 1 (omega arith) in
+    let e₂ : headOf w ≡ 0 = z 2 (omega arith) in
+    let e₃ : recycledLen w ≡ 0 = z 3 (omega arith) in
+    let held : (x : ℕ) → x < n → heldOf n w x ≡ 0 = λ x h. z (8 + 2 * n + 2 * x + 1) (omega arith) in
+    let slot : (x : ℕ) → x < n → ringSlot n w x ≡ 0 = λ x h. z (8 + 6 * n + x) (omega arith) in
+    record {
+      sound =
+          record {
+            sized = record { size = size; some = some; small = d .small };
+            few = omega arith;
+            linked =
+                record {
+                  room = omega arith;
+                  tied = λ i h. absurd (omega arith);
+                  inside = λ x h b. absurd (omega (arith, held x h));
+                  back = λ x h b. absurd (omega (arith, held x h));
+                };
+            known = λ i h. absurd (omega arith);
+            ring =
+                record {
+                  start = omega arith;
+                  few = omega arith;
+                  waits = λ j h. absurd (omega arith);
+                  listed = λ x h b. absurd (omega (arith, slot x h));
+                };
+          };
+      size = l;
+      becomes = entities-path (table-none (lenOf w) _ e₀) (table-none (recycledLen w) _ e₃) e₁;
+    }

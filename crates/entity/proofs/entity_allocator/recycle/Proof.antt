@@ -1,0 +1,35 @@
+use mathlib.Core.Path.{_≡_, refl, sym, ap, _∙_}
+use Prim.Native.Nat.{ℕ, _≤_, _<_, _-_, _+_, _*_}
+use native.Mathlib.Omega.{arith}
+use lib.ListN.{length, getD, length-set}
+use borrow.Author.Needs.{needs}
+use Rattle.entity.proofs.ModelSteps.{recycled-next, recycled-last}
+use Rattle.entity.specs.Meaning.{entity, entitiesOf}
+use Rattle.entity.proofs.entity_allocator.recycle.Statement.{statement}
+use Rattle.entity.proofs.entity_allocator.recycle.Tie as tie
+
+-- src/entity_allocator.rt:101:1
+returns : tie.Need-returns
+returns c =
+    let s = c .before .before .before .before .before .before in
+    let a = s .args in
+    let r = c .before .before .push-back .ensures in
+    record {
+      sound = r .sound;
+      size = r .size;
+      becomes = r .becomes ∙ recycled-next (entitiesOf (a .n) (a .part .now)) (entity (a .index) (a .version)) (c .before .before .before .before .if1 .taken);
+    }
+
+-- src/entity_allocator.rt:101:1
+returns-2 : tie.Need-returns-2
+returns-2 c =
+    let s = c .before .before in
+    let a = s .args in
+    record {
+      sound = s .pre .0;
+      size = refl;
+      becomes = recycled-last (entitiesOf (a .n) (a .part .now)) (entity (a .index) (a .version)) (c .if1 .left);
+    }
+
+pub recycle-spec : {M : Type 1} → statement M
+recycle-spec = tie.close (tie.spec (λ c. search needs) (λ c κs. search needs) (λ c. search needs) returns returns-2)

@@ -1,0 +1,28 @@
+use mathlib.Core.Path.{_≡_, refl, sym, ap, _∙_}
+use Prim.Native.Nat.{ℕ, _≤_, _<_, _-_, _+_, _*_}
+use native.Mathlib.Omega.{arith}
+use lib.ListN.{length, getD, length-set}
+use borrow.Author.Needs.{needs}
+use Rattle.entity.proofs.Lookups.{found-live, found-dead}
+use Rattle.entity.specs.Meaning.{entity, entitiesOf}
+use Rattle.entity.proofs.entity_storage.contains.Statement.{statement}
+use Rattle.entity.proofs.entity_storage.contains.Tie as tie
+
+-- src/entity_storage.rt:21:9
+returns : tie.Need-returns
+returns c =
+    let a = c .before .before .before .before .args in
+    let e = entity (a .index) (a .version) in
+    let s = entitiesOf (a .n) (a .part .now) in
+    sym (found-dead e s (sym (c .before .before .get .ensures) ∙ c .enum-told2 .given .1))
+
+-- src/entity_storage.rt:15:1
+returns-2 : tie.Need-returns-2
+returns-2 c =
+    let a = c .before .before .before .before .args in
+    let e = entity (a .index) (a .version) in
+    let s = entitiesOf (a .n) (a .part .now) in
+    sym (found-live e s _ (sym (c .before .before .get .ensures) ∙ c .enum-told .given .1) .0)
+
+pub contains-spec : {M : Type 1} → statement M
+contains-spec = tie.close (tie.spec (λ c κs. search needs) (λ c. search needs) (λ c. search needs) returns returns-2)

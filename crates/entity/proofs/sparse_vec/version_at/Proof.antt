@@ -1,0 +1,27 @@
+use mathlib.Core.Path.{_≡_, refl, sym, ap, _∙_}
+use Prim.Native.Nat.{ℕ, _≤_, _<_, _-_, _+_, _*_}
+use native.Mathlib.Omega.{arith}
+use lib.ListN.{length, getD, length-set}
+use borrow.Author.Needs.{needs}
+use Rattle.entity.proofs.Lookups.{version-is}
+use Rattle.entity.proofs.sparse_vec.version_at.Statement.{statement}
+use Rattle.entity.proofs.sparse_vec.version_at.Tie as tie
+
+-- src/sparse_vec.rt:30:1
+returns : tie.Need-returns
+returns c =
+    let s = c .before in
+    version-is (s .args .n) (s .args .part .now) (s .pre .0) (s .args .index) (s .pre .1)
+
+pub version-at-spec : {M : Type 1} → statement M
+version-at-spec =
+    tie.close
+    (tie.spec
+    (λ c. search needs)
+    (λ c. search needs)
+    (λ c. search needs)
+    (λ c. search needs)
+    (λ c. search needs)
+    (λ c. search needs)
+    (λ c. search needs)
+    returns)

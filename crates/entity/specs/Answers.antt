@@ -1,0 +1,58 @@
+-- What the functions answer, in the model's terms. Assumes nothing.
+use mathlib.Core.Path.{_≡_}
+use mathlib.Core.Bool.{Bool, true, false}
+use mathlib.Core.List.{List}
+use Prim.Native.Nat.{ℕ, _≤_}
+use Rattle.model.specs.Lists.{place}
+use lib.ListN.{getD}
+use Rattle.model.specs.Model.{Entity, Entities, noEntity, sameEntity, isLive, create}
+use Rattle.entity.specs.declared.Entity.{Entity as Answer}
+use Rattle.entity.specs.declared.Found.{Found}
+use Rattle.entity.specs.declared.Found.the-variants.{At, Nothing}
+use Rattle.entity.specs.Meaning.{entity, entitiesOf, Idle}
+use Rattle.entity.specs.Change.{Changed, EntityChange, unqueued, numbered, allocated, entitiesIn}
+
+-- the answered entity, as the model has it
+abbrev pub entityOf : Answer → Entity
+entityOf r = entity (r .index) (r .version)
+
+abbrev pub pickFound : Bool → ℕ → Found
+pickFound true p = At p
+pickFound false p = Nothing
+
+-- a lookup finds an entity only with equal version: its place in the live list, or nothing
+abbrev pub foundOf : Entity → Entities → Found
+foundOf e s = pickFound (isLive e s) (place sameEntity e (s .live))
+
+-- a number taken for a new entity
+pub record Allocated (n : ℕ) (w w′ : List ℕ) (r : Answer) : Type 0 where
+  pub changed : Changed n allocated w w′
+  pub entity : entityOf r ≡ create (entitiesOf n w) .entity
+  pub idle : Idle n w′ (r .index)
+  pub positive : 1 ≤ r .version
+
+-- a new entity: the model's, which joins the live list
+abbrev pub created : Entities → Entities
+created s = create s .entities
+
+pub record Created (n : ℕ) (w w′ : List ℕ) (r : Answer) : Type 0 where
+  pub changed : Changed n created w w′
+  pub entity : entityOf r ≡ create (entitiesOf n w) .entity
+
+pub record CreatedIn (n : ℕ) (w w′ : List ℕ) (r : Answer) : Type 0 where
+  pub changed : EntityChange n created w w′
+  pub entity : entityOf r ≡ create (entitiesIn n w) .entity
+
+-- the longest waiting number, taken
+pub record Unqueued (n : ℕ) (w w′ : List ℕ) (r : Answer) : Type 0 where
+  pub changed : Changed n unqueued w w′
+  pub entity : entityOf r ≡ getD (entitiesOf n w .recycled) 0 noEntity
+  pub idle : Idle n w′ (r .index)
+  pub positive : 1 ≤ r .version
+
+-- the next index, issued
+pub record Issued (n : ℕ) (w w′ : List ℕ) (r : Answer) : Type 0 where
+  pub changed : Changed n numbered w w′
+  pub entity : entityOf r ≡ entity (entitiesOf n w .issued) 1
+  pub idle : Idle n w′ (r .index)
+  pub positive : 1 ≤ r .version

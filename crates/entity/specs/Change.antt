@@ -1,0 +1,85 @@
+-- Changes of the entities: of the model, of the part, and of the whole words that hold the part. Assumes nothing.
+use mathlib.Core.Path.{_≡_}
+use mathlib.Core.Bool.{Bool, cond, _&&_}
+use mathlib.Core.List.{List, [], _∷_, _++_}
+use Prim.Native.Nat.{ℕ, suc, _+_, _*_, _≤_}
+use lib.Dec.{eqb, leb, ltb}
+use lib.ListN.{length, take, drop}
+use Rattle.model.specs.Lists.{cutAt}
+use Rattle.model.specs.Model.{Entity, Entities, noEntity, lastVersion}
+use Rattle.words.specs.Part.{between}
+use Rattle.entity.specs.Meaning.{Sound, entitiesOf, entity}
+
+-- ---- the steps of create and destroy
+
+-- e joins the live list at its end
+abbrev pub joined : Entity → Entities → Entities
+joined e s = record { live = s .live ++ (e ∷ []); recycled = s .recycled; issued = s .issued }
+
+-- the live list's last takes the place p
+abbrev pub left : ℕ → Entities → Entities
+left p s = record { live = cutAt noEntity p (s .live); recycled = s .recycled; issued = s .issued }
+
+-- the number e waits, behind all that wait
+abbrev pub queued : Entity → Entities → Entities
+queued e s = record { live = s .live; recycled = s .recycled ++ (e ∷ []); issued = s .issued }
+
+-- the longest waiting number waits no more
+abbrev pub unqueued : Entities → Entities
+unqueued s = record { live = s .live; recycled = drop 1 (s .recycled); issued = s .issued }
+
+-- the next index is issued
+abbrev pub numbered : Entities → Entities
+numbered s = record { live = s .live; recycled = s .recycled; issued = suc (s .issued) }
+
+-- a number is taken for a new entity: the longest waiting one, else the next index
+abbrev pub allocatedFrom : List Entity → Entities → Entities
+allocatedFrom [] s = numbered s
+allocatedFrom (e ∷ es) s = unqueued s
+
+abbrev pub allocated : Entities → Entities
+allocated s = allocatedFrom (s .recycled) s
+
+-- a destroyed entity's number waits with its version plus one, or is retired if there is none
+abbrev pub recycledAs : Entity → Entities → Entities
+recycledAs e s =
+    let again = queued (entity (e .index) (suc (e .version))) s in
+    cond (ltb (e .version) lastVersion) again s
+
+-- 12 FULL: none waiting, N issued
+abbrev pub isFull : ℕ → Entities → Bool
+isFull n s = eqb (length (s .recycled)) 0 && leb n (s .issued)
+
+-- no number issued
+abbrev pub noEntities : Entities
+noEntities = record { live = []; recycled = []; issued = 0 }
+
+-- ---- the part
+
+-- the entities have become f of what they were, and the part is sound
+pub record Changed (n : ℕ) (f : Entities → Entities) (w w′ : List ℕ) : Type 0 where
+  pub sound : Sound n w′
+  pub size : length w′ ≡ length w
+  pub becomes : entitiesOf n w′ ≡ f (entitiesOf n w)
+
+-- ---- the whole words
+
+-- the part of the words that holds the entities
+abbrev pub entityPart : ℕ → List ℕ → List ℕ
+entityPart n w = between 1024 (1024 + 16 * n) w
+
+abbrev pub entitiesIn : ℕ → List ℕ → Entities
+entitiesIn n w = entitiesOf n (entityPart n w)
+
+-- the words have a sound entity part
+pub record SoundIn (n : ℕ) (w : List ℕ) : Type 0 where
+  pub fits : 1024 + 16 * n ≤ length w
+  pub sound : Sound n (entityPart n w)
+
+-- the entities have become f of what they were; the words before and after their part are as they were
+pub record EntityChange (n : ℕ) (f : Entities → Entities) (w w′ : List ℕ) : Type 0 where
+  pub sound : Sound n (entityPart n w′)
+  pub size : length w′ ≡ length w
+  pub becomes : entitiesIn n w′ ≡ f (entitiesIn n w)
+  pub front : take 1024 w′ ≡ take 1024 w
+  pub rest : drop (1024 + 16 * n) w′ ≡ drop (1024 + 16 * n) w

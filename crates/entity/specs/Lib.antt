@@ -1,0 +1,7 @@
+pub mod Decides
+pub mod Ring
+pub mod Meaning
+pub mod Change
+pub mod Answers
+pub mod Stored
+pub mod Checks

@@ -1,0 +1,89 @@
+-- What the entity part means, and when it is sound. A part of 16 * n words for a capacity of n (docs/WORDS.md): word 0 the live count,
+-- 1 the numbers issued, 2 the ring's head, 3 the recycled count; then the live list (index, version) from 8, the lookups by index
+-- (place, version; version 0: not live) from 8 + 2 * n, the ring of recycled numbers (index, version) from 8 + 4 * n, and from 8 + 6 * n
+-- for each index its place in the ring plus one, 0 where it does not wait. Assumes nothing.
+use mathlib.Core.Path.{_≡_}
+use mathlib.Core.List.{List}
+use Prim.Native.Nat.{ℕ, _+_, _*_, _≤_, _<_}
+use lib.ListN.{length, getD}
+use Rattle.model.specs.Model.{Entity, Entities}
+use Rattle.words.specs.Table.{table}
+use Rattle.words.specs.Links.{Linked}
+use Rattle.entity.specs.Ring.{Ring, wrapped}
+
+abbrev pub lenOf : List ℕ → ℕ
+lenOf w = getD w 0 0
+
+abbrev pub issuedOf : List ℕ → ℕ
+issuedOf w = getD w 1 0
+
+abbrev pub headOf : List ℕ → ℕ
+headOf w = getD w 2 0
+
+abbrev pub recycledLen : List ℕ → ℕ
+recycledLen w = getD w 3 0
+
+-- the live list's entity at place i
+abbrev pub indexAt : List ℕ → ℕ → ℕ
+indexAt w i = getD w (8 + 2 * i) 0
+
+abbrev pub versionAt : List ℕ → ℕ → ℕ
+versionAt w i = getD w (8 + 2 * i + 1) 0
+
+-- the lookup of index x: its place in the live list, and its version, 0 where it is not live
+abbrev pub placeOf : ℕ → List ℕ → ℕ → ℕ
+placeOf n w x = getD w (8 + 2 * n + 2 * x) 0
+
+abbrev pub heldOf : ℕ → List ℕ → ℕ → ℕ
+heldOf n w x = getD w (8 + 2 * n + 2 * x + 1) 0
+
+-- the number at the ring's place p
+abbrev pub ringIndex : ℕ → List ℕ → ℕ → ℕ
+ringIndex n w p = getD w (8 + 4 * n + 2 * p) 0
+
+abbrev pub ringVersion : ℕ → List ℕ → ℕ → ℕ
+ringVersion n w p = getD w (8 + 4 * n + 2 * p + 1) 0
+
+-- index x's place in the ring plus one
+abbrev pub ringSlot : ℕ → List ℕ → ℕ → ℕ
+ringSlot n w x = getD w (8 + 6 * n + x) 0
+
+abbrev pub entity : ℕ → ℕ → Entity
+entity x v = record { index = x; version = v }
+
+abbrev pub entityAt : List ℕ → ℕ → Entity
+entityAt w i = entity (indexAt w i) (versionAt w i)
+
+-- the number that waits behind j others
+abbrev pub waitingAt : ℕ → List ℕ → ℕ → Entity
+waitingAt n w j = entity (ringIndex n w (wrapped n (headOf w + j))) (ringVersion n w (wrapped n (headOf w + j)))
+
+-- the model's entities, read off the part
+unfoldable pub entitiesOf : ℕ → List ℕ → Entities
+entitiesOf n w =
+    record {
+      live = table (lenOf w) (entityAt w);
+      recycled = table (recycledLen w) (waitingAt n w);
+      issued = issuedOf w;
+    }
+
+-- a part for n entities, whatever it holds
+pub record Sized (n : ℕ) (w : List ℕ) : Type 0 where
+  pub size : length w ≡ 16 * n
+  pub some : 1 ≤ n
+  pub small : n ≤ 4096
+
+-- 01, a sound store: live list and card lookups that agree; at most N issued numbers, from index 0 without gaps, every live or waiting index
+-- among them; each issued number live, waiting once, or neither, with versions of 1 or more
+pub record Sound (n : ℕ) (w : List ℕ) : Type 0 where
+  pub sized : Sized n w
+  pub few : issuedOf w ≤ n
+  pub linked : Linked n (lenOf w) (indexAt w) (versionAt w) (placeOf n w) (heldOf n w)
+  pub known : (i : ℕ) → i < lenOf w → indexAt w i < issuedOf w
+  pub ring : Ring n (issuedOf w) (headOf w) (recycledLen w) (ringIndex n w) (ringVersion n w) (ringSlot n w) (heldOf n w)
+
+-- index x is issued, and neither live nor waiting: retired, or between the two
+pub record Idle (n : ℕ) (w : List ℕ) (x : ℕ) : Type 0 where
+  pub below : x < issuedOf w
+  pub free : heldOf n w x ≡ 0
+  pub unlisted : ringSlot n w x ≡ 0

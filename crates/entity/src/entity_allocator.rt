@@ -1,0 +1,110 @@
+// The numbers: those issued, and the ring of those that wait to be used again.
+use crate::Entity;
+ghost use mathlib.Core.Path.{_≡_};
+ghost use mathlib.Core.Bool.{false};
+ghost use Prim.Native.Nat.{_≤_, _<_, _+_};
+ghost use Rattle.entity.specs.Ring.{wrapped};
+ghost use Rattle.entity.specs.Meaning.{Sound, Idle, entity, entitiesOf, recycledLen, issuedOf};
+ghost use Rattle.entity.specs.Change.{Changed, isFull, queued, recycledAs};
+ghost use Rattle.entity.specs.Answers.{entityOf, Allocated, Unqueued, Issued};
+
+// How many numbers are issued.
+pub fn issued(part: &[u32], n: usize) -> usize
+    requires { ⌜ Sound n (now part) ⌝ }
+    ensures { λ r. ⌜ r ≡ entitiesOf n (now (part .entry)) .issued ⌝ }
+{
+    part[1] as usize
+}
+
+// Whether no number is left: none waits, and n are issued.
+pub fn is_full(part: &[u32], n: usize) -> bool
+    requires { ⌜ Sound n (now part) ⌝ }
+    ensures { λ r. ⌜ r ≡ isFull n (entitiesOf n (now (part .entry))) ⌝ }
+{
+    if part[3] != 0 {
+        return false;
+    }
+    let count = part[1] as usize;
+    if count < n {
+        return false;
+    }
+    true
+}
+
+// The ring's place k, counted on past the end.
+pub fn wrap(n: usize, k: usize) -> usize
+    requires { ⌜ k < n + n ⌝ }
+    ensures { λ r. ⌜ (r ≡ wrapped n k) × (r < n) ⌝ }
+{
+    if k < n {
+        return k;
+    }
+    k - n
+}
+
+// The longest waiting number, which waits no more.
+fn pop_front(part: &mut [u32], n: usize) -> Entity
+    requires { ⌜ Sound n (now part) ⌝ }
+    requires { ⌜ 1 ≤ recycledLen (now part) ⌝ }
+    ensures { λ r. ⌜ Unqueued n (now (part .entry)) (now (part .exit)) r ⌝ }
+{
+    let head = part[2] as usize;
+    let count = part[3];
+    let at = 8 + 4 * n + 2 * head;
+    let index = part[at];
+    let version = part[at + 1];
+    let next = wrap(n, head + 1);
+    part[2] = next as u32;
+    part[3] = count - 1;
+    part[8 + 6 * n + (index as usize)] = 0;
+    Entity { index, version }
+}
+
+// The number waits behind all others.
+fn push_back(part: &mut [u32], n: usize, index: u32, version: u32)
+    requires { ⌜ Sound n (now part) ⌝ }
+    requires { ⌜ Idle n (now part) index × (1 ≤ version) ⌝ }
+    ensures { λ _. ⌜ Changed n (queued (entity index version)) (now (part .entry)) (now (part .exit)) ⌝ }
+{
+    let count = part[3];
+    let place = wrap(n, part[2] as usize + count as usize);
+    let at = 8 + 4 * n + 2 * place;
+    part[at] = index;
+    part[at + 1] = version;
+    part[8 + 6 * n + (index as usize)] = (place + 1) as u32;
+    part[3] = count + 1;
+}
+
+// The next index, at version 1.
+fn issue(part: &mut [u32], n: usize) -> Entity
+    requires { ⌜ Sound n (now part) ⌝ }
+    requires { ⌜ issuedOf (now part) < n ⌝ }
+    ensures { λ r. ⌜ Issued n (now (part .entry)) (now (part .exit)) r ⌝ }
+{
+    let index = part[1];
+    part[1] = index + 1;
+    Entity { index, version: 1 }
+}
+
+// A number for a new entity: the longest waiting one, else the next index at version 1.
+pub fn allocate(part: &mut [u32], n: usize) -> Entity
+    requires { ⌜ Sound n (now part) ⌝ }
+    requires { ⌜ isFull n (entitiesOf n (now part)) ≡ false ⌝ }
+    ensures { λ r. ⌜ Allocated n (now (part .entry)) (now (part .exit)) r ⌝ }
+{
+    if part[3] < 1 {
+        return issue(part, n);
+    }
+    pop_front(part, n)
+}
+
+// The number waits with its version plus one, or is retired if there is none.
+pub fn recycle(part: &mut [u32], n: usize, index: u32, version: u32)
+    requires { ⌜ Sound n (now part) ⌝ }
+    requires { ⌜ Idle n (now part) index ⌝ }
+    ensures { λ _. ⌜ Changed n (recycledAs (entity index version)) (now (part .entry)) (now (part .exit)) ⌝ }
+{
+    if version < 4294967295 {
+        push_back(part, n, index, version + 1);
+    }
+}

@@ -1,0 +1,73 @@
+// The live list: a sparse set of entities.
+use crate::Entity;
+ghost use mathlib.Core.Path.{_≡_};
+ghost use Prim.Native.Nat.{_≤_, _<_};
+ghost use lib.ListN.{length, getD};
+ghost use Rattle.model.specs.Model.{noEntity};
+ghost use Rattle.words.specs.Stores.{stores};
+ghost use Rattle.entity.specs.Meaning.{Sized, Sound, Idle, entity, entitiesOf, lenOf, indexAt};
+ghost use Rattle.entity.specs.Change.{Changed, joined, left};
+ghost use Rattle.entity.specs.Answers.{entityOf};
+ghost use Rattle.entity.specs.Stored.{putStores};
+
+// How many entities are live.
+pub fn len(part: &[u32], n: usize) -> usize
+    requires { ⌜ Sound n (now part) ⌝ }
+    ensures { λ r. ⌜ r ≡ length (entitiesOf n (now (part .entry)) .live) ⌝ }
+{
+    part[0] as usize
+}
+
+// The live list's entity at place.
+pub fn live_at(part: &[u32], n: usize, place: usize) -> Entity
+    requires { ⌜ Sound n (now part) ⌝ }
+    requires { ⌜ place < length (entitiesOf n (now part) .live) ⌝ }
+    ensures { λ r. ⌜ entityOf r ≡ getD (entitiesOf n (now (part .entry)) .live) place noEntity ⌝ }
+{
+    let at = 8 + 2 * place;
+    Entity {
+        index: part[at],
+        version: part[at + 1],
+    }
+}
+
+// Has the live list's place say the entity, and the index's lookup the place.
+fn put(part: &mut [u32], n: usize, place: usize, index: u32, version: u32)
+    requires { ⌜ Sized n (now part) ⌝ }
+    requires { ⌜ (place < n) × (index < n) ⌝ }
+    ensures { λ _. ⌜ now (part .exit) ≡ stores (now (part .entry)) (putStores n place index version) ⌝ }
+{
+    let at = 8 + 2 * place;
+    let slot = 8 + 2 * n + 2 * (index as usize);
+    part[at] = index;
+    part[at + 1] = version;
+    part[slot] = place as u32;
+    part[slot + 1] = version;
+}
+
+// The entity joins the live list at its end.
+pub fn insert(part: &mut [u32], n: usize, index: u32, version: u32)
+    requires { ⌜ Sound n (now part) ⌝ }
+    requires { ⌜ Idle n (now part) index × (1 ≤ version) ⌝ }
+    ensures { λ _. ⌜ Changed n (joined (entity index version)) (now (part .entry)) (now (part .exit)) ⌝ }
+{
+    let k = part[0];
+    put(part, n, k as usize, index, version);
+    part[0] = k + 1;
+}
+
+// The entity at place leaves the live list, and the list's last takes its place.
+pub fn remove(part: &mut [u32], n: usize, place: usize)
+    requires { ⌜ Sound n (now part) ⌝ }
+    requires { ⌜ place < lenOf (now part) ⌝ }
+    ensures { λ _. ⌜ Changed n (left place) (now (part .entry)) (now (part .exit)) × Idle n (now (part .exit)) (indexAt (now (part .entry)) place) ⌝ }
+{
+    let k = part[0] - 1;
+    let last = 8 + 2 * (k as usize);
+    let gone = part[8 + 2 * place] as usize;
+    let index = part[last];
+    let version = part[last + 1];
+    put(part, n, place, index, version);
+    part[8 + 2 * n + 2 * gone + 1] = 0;
+    part[0] = k;
+}

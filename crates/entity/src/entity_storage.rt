@@ -1,0 +1,61 @@
+// Entities: created, looked up, destroyed.
+use crate::Entity;
+use crate::Found;
+use crate::entity_allocator;
+use crate::entity_sparse_set;
+use crate::sparse_vec;
+ghost use mathlib.Core.Path.{_≡_};
+ghost use mathlib.Core.Bool.{true, false};
+ghost use Rattle.model.specs.Model.{isLive, destroy};
+ghost use Rattle.entity.specs.Meaning.{Sized, Sound, entity, entitiesOf};
+ghost use Rattle.entity.specs.Change.{Changed, isFull, noEntities};
+ghost use Rattle.entity.specs.Answers.{Created};
+
+// Whether the entity is live.
+pub fn contains(part: &[u32], n: usize, index: u32, version: u32) -> bool
+    requires { ⌜ Sound n (now part) ⌝ }
+    ensures { λ r. ⌜ r ≡ isLive (entity index version) (entitiesOf n (now (part .entry))) ⌝ }
+{
+    let found = sparse_vec::get(part, n, index, version);
+    let Found::At(_) = found else {
+        return false;
+    };
+    true
+}
+
+// A new entity. The caller has seen that there is a number left.
+pub fn create(part: &mut [u32], n: usize) -> Entity
+    requires { ⌜ Sound n (now part) ⌝ }
+    requires { ⌜ isFull n (entitiesOf n (now part)) ≡ false ⌝ }
+    ensures { λ r. ⌜ Created n (now (part .entry)) (now (part .exit)) r ⌝ }
+{
+    let entity = entity_allocator::allocate(part, n);
+    entity_sparse_set::insert(part, n, entity.index, entity.version);
+    entity
+}
+
+// Destroys a live entity.
+pub fn destroy(part: &mut [u32], n: usize, index: u32, version: u32)
+    requires { ⌜ Sound n (now part) ⌝ }
+    requires { ⌜ isLive (entity index version) (entitiesOf n (now part)) ≡ true ⌝ }
+    ensures { λ _. ⌜ Changed n (destroy (entity index version)) (now (part .entry)) (now (part .exit)) ⌝ }
+{
+    let found = sparse_vec::get(part, n, index, version);
+    let Found::At(place) = found else {
+        return;
+    };
+    entity_sparse_set::remove(part, n, place);
+    entity_allocator::recycle(part, n, index, version);
+}
+
+// No entity, and no number issued, whatever the words held.
+pub fn reset(part: &mut [u32], n: usize)
+    requires { ⌜ Sized n (now part) ⌝ }
+    ensures { λ _. ⌜ Changed n (λ s. noEntities) (now (part .entry)) (now (part .exit)) ⌝ }
+{
+    let mut i = 0;
+    while i < part.len() {
+        part[i] = 0;
+        i += 1;
+    }
+}

@@ -1,0 +1,36 @@
+// The lookups by index: the place in the live list, and the version, 0 where the index is not live.
+use crate::Found;
+ghost use mathlib.Core.Path.{_≡_};
+ghost use Prim.Native.Nat.{_<_};
+ghost use Rattle.model.specs.Snapshot.{versionAt};
+ghost use Rattle.entity.specs.Meaning.{Sound, entity, entitiesOf};
+ghost use Rattle.entity.specs.Answers.{foundOf};
+
+// Where the entity is in the live list.
+pub fn get(part: &[u32], n: usize, index: u32, version: u32) -> Found
+    requires { ⌜ Sound n (now part) ⌝ }
+    ensures { λ r. ⌜ r ≡ foundOf (entity index version) (entitiesOf n (now (part .entry))) ⌝ }
+{
+    let x = index as usize;
+    if n <= x {
+        return Found::Nothing;
+    }
+    if version < 1 {
+        return Found::Nothing;
+    }
+    let slot = 8 + 2 * n + 2 * x;
+    let held = part[slot + 1];
+    if held != version {
+        return Found::Nothing;
+    }
+    Found::At(part[slot] as usize)
+}
+
+// The version of the live entity with this index, 0 where there is none.
+pub fn version_at(part: &[u32], n: usize, index: usize) -> u32
+    requires { ⌜ Sound n (now part) ⌝ }
+    requires { ⌜ index < n ⌝ }
+    ensures { λ r. ⌜ r ≡ versionAt index (entitiesOf n (now (part .entry)) .live) ⌝ }
+{
+    part[8 + 2 * n + 2 * index + 1]
+}

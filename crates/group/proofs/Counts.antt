@@ -1,0 +1,153 @@
+-- A count is set: the other groups, and all but the count of this one, are as before. Where a group's family begins and ends. Assumes nothing.
+use mathlib.Core.Path.{_≡_, refl, ap, ap₂, sym, _∙_}
+use mathlib.Core.Bool.{Bool, true, false, cond}
+use mathlib.Core.List.{List, [], _∷_, _++_, map}
+use Prim.Native.Nat.{ℕ, zero, suc, _+_, _-_, _≤_, _<_}
+use native.Mathlib.Omega.{arith}
+use native.Mathlib.Nat.{add-assoc, suc-add, le-of-suc-le-suc, not-suc-le-zero}
+use native.Mathlib.Decide.{decLt, ℕ-discrete}
+use borrow.Author.Tests.{lt-ltb, le-ltb}
+use lib.Dec.{ltb}
+use lib.ListN.{length, getD, set, length-set, length-append, List·getD-append}
+use lib.Seq.{getD-append-add, getD-set-same, getD-set-other, set-append-left}
+use Rattle.model.specs.Model.{Group, Family, kindsOf, groupsOf}
+use Rattle.model.proofs.Families.{famKinds}
+use Rattle.group.specs.Flat.{Located, nowhere, flattenFamily, flatten, located, withCount, setIn, setCount}
+use Rattle.group.proofs.Fronts.{length-flattenFamily, length-flatten, set-here, set-later}
+
+-- ---- a list of two parts
+
+pub set-append-right : {A : Type 0} (xs ys : List A) (i : ℕ) (a : A) → set (xs ++ ys) (length xs + i) a ≡ xs ++ set ys i a
+set-append-right [] ys i a = let z : 0 + i ≡ i = omega arith in ap (λ (n : ℕ). set ys n a) z
+set-append-right {A} (x ∷ xs) ys i a = rw (suc-add (length xs) i) (ap {B = List A} (λ r. x ∷ r) (set-append-right xs ys i a))
+
+-- a position is in the first family, or so far past it
+pub record Past (n g : ℕ) : Type 0 where
+  pub rest : ℕ
+  pub is : g ≡ n + rest
+
+pub past-of : (n g : ℕ) → n ≤ g → Past n g
+past-of n g h = record { rest = g - n; is = omega arith }
+
+-- ---- a count is set
+
+abbrev pub recount : ℕ → Located → Located
+recount c l = record { kinds = l .kinds; newKinds = l .newKinds; count = c; first = l .first; top = l .top }
+
+pub length-setIn : (g c : ℕ) (f : Family) → length (setIn g c f) ≡ length f
+length-setIn g c [] = refl
+length-setIn zero c (r ∷ rs) = refl
+length-setIn (suc g) c (r ∷ rs) = ap suc (length-setIn g c rs)
+
+kinds-setIn : (g c : ℕ) (f : Family) → kindsOf (setIn g c f) ≡ kindsOf f
+kinds-setIn g c [] = refl
+kinds-setIn zero c (r ∷ rs) = refl
+kinds-setIn (suc g) c (r ∷ rs) = ap (λ (l : List ℕ). r .newKinds ++ l) (kinds-setIn g c rs)
+
+pub flattenFamily-set : (first top : ℕ) (acc : List ℕ) (g c : ℕ) (f : Family)
+    → flattenFamily first top acc (setIn g c f) ≡ set (flattenFamily first top acc f) g (recount c (getD (flattenFamily first top acc f) g nowhere))
+flattenFamily-set first top acc g c [] = refl
+flattenFamily-set first top acc zero c (r ∷ rs) = refl
+flattenFamily-set first top acc (suc g) c (r ∷ rs) =
+    ap {B = List Located} (λ l. record { kinds = acc ++ r .newKinds; newKinds = r .newKinds; count = r .count; first = first; top = top } ∷ l) (flattenFamily-set first top (acc ++ r .newKinds) g c rs)
+
+pub flatten-set : (p g c : ℕ) (fs : List Family) → flatten p (setCount g c fs) ≡ set (flatten p fs) g (recount c (getD (flatten p fs) g nowhere))
+flatten-set p g c [] = refl
+flatten-set p g c (f ∷ fs) = go (decLt g (length f)) (λ i. flatten-set (p + length f) i c fs)
+  where
+    A : List Located
+    A = flattenFamily p (p + length f) [] f
+
+    B : List Located
+    B = flatten (p + length f) fs
+
+    n : length A ≡ length f
+    n = length-flattenFamily p (p + length f) [] f
+
+    later : (i : ℕ) → g ≡ length f + i → flatten (p + length f) (setCount i c fs) ≡ set B i (recount c (getD B i nowhere)) → flatten p (setCount g c (f ∷ fs)) ≡ set (A ++ B) g (recount c (getD (A ++ B) g nowhere))
+    later i e r =
+        let q : g ≡ length A + i = e ∙ ap (λ (m : ℕ). m + i) (sym n) in
+        ap (flatten p) (ap (λ (m : ℕ). setCount m c (f ∷ fs)) e ∙ set-later i c f fs)
+        ∙ ap (λ (l : List Located). A ++ l) r
+        ∙ sym (ap₂ (λ (m : ℕ) (l : Located). set (A ++ B) m (recount c l)) q (ap (λ (m : ℕ). getD (A ++ B) m nowhere) q ∙ getD-append-add A B i nowhere) ∙ set-append-right A B i (recount c (getD B i nowhere)))
+
+    go : Dec (g < length f) → ((i : ℕ) → flatten (p + length f) (setCount i c fs) ≡ set B i (recount c (getD B i nowhere))) → flatten p (setCount g c (f ∷ fs)) ≡ set (A ++ B) g (recount c (getD (A ++ B) g nowhere))
+    go (yes h) r =
+        let h′ : g < length A = omega (arith, n) in
+        ap (flatten p) (set-here g c f fs h)
+        ∙ ap (λ (m : ℕ). flattenFamily p (p + m) [] (setIn g c f) ++ flatten (p + m) fs) (length-setIn g c f)
+        ∙ ap (λ (l : List Located). l ++ B) (flattenFamily-set p (p + length f) [] g c f)
+        ∙ sym (ap (λ (l : Located). set (A ++ B) g (recount c l)) (List·getD-append A B nowhere g h′) ∙ set-append-left A B g (recount c (getD A g nowhere)) h′)
+    go (no h) r = let t : Past (length f) g = past-of (length f) g (omega arith) in later (t .rest) (t .is) (r (t .rest))
+
+pub located-at : (g c : ℕ) (fs : List Family) → g < groupsOf fs → located (setCount g c fs) g ≡ recount c (located fs g)
+located-at g c fs h =
+    ap (λ (l : List Located). getD l g nowhere) (flatten-set 0 g c fs)
+    ∙ getD-set-same (flatten 0 fs) g (recount c (located fs g)) nowhere (omega (arith, length-flatten 0 fs))
+
+pub located-other : (g c h : ℕ) (fs : List Family) → (h ≡ g → ⊥) → located (setCount g c fs) h ≡ located fs h
+located-other g c h fs ne =
+    ap (λ (l : List Located). getD l h nowhere) (flatten-set 0 g c fs) ∙ getD-set-other (flatten 0 fs) g h (recount c (located fs g)) nowhere ne
+
+pub groups-set : (g c : ℕ) (fs : List Family) → groupsOf (setCount g c fs) ≡ groupsOf fs
+groups-set g c fs =
+    sym (length-flatten 0 (setCount g c fs)) ∙ ap length (flatten-set 0 g c fs) ∙ length-set (flatten 0 fs) g (recount c (located fs g)) ∙ length-flatten 0 fs
+
+pub kinds-set : (g c : ℕ) (fs : List Family) → famKinds (setCount g c fs) ≡ famKinds fs
+kinds-set g c [] = refl
+kinds-set g c (f ∷ fs) = go (ltb g (length f)) (kinds-set (g - length f) c fs)
+  where
+    go : (b : Bool) → famKinds (setCount (g - length f) c fs) ≡ famKinds fs → famKinds (cond b (setIn g c f ∷ fs) (f ∷ setCount (g - length f) c fs)) ≡ famKinds (f ∷ fs)
+    go true r = ap {B = List (List ℕ)} (λ ks. ks ∷ famKinds fs) (kinds-setIn g c f)
+    go false r = ap {B = List (List ℕ)} (λ kss. kindsOf f ∷ kss) r
+
+-- all but the count, at every position
+pub located-shape : (g c h : ℕ) (fs : List Family) → g < groupsOf fs → recount 0 (located (setCount g c fs) h) ≡ recount 0 (located fs h)
+located-shape g c h fs lt = go (ℕ-discrete h g)
+  where
+    go : Dec (h ≡ g) → recount 0 (located (setCount g c fs) h) ≡ recount 0 (located fs h)
+    go (yes e) = ap (λ (n : ℕ). recount 0 (located (setCount g c fs) n)) e ∙ ap (recount 0) (located-at g c fs lt) ∙ ap (λ (n : ℕ). recount 0 (located fs n)) (sym e)
+    go (no e) = ap (recount 0) (located-other g c h fs e)
+
+-- ---- where a group's family begins and ends
+
+pub record Placed (p n i : ℕ) (l : Located) : Type 0 where
+  pub starts : p ≤ l .first
+  pub begun : l .first ≤ p + i
+  pub within : p + i < l .top
+  pub ends : l .top ≤ p + n
+
+pub family-at : (first top : ℕ) (acc : List ℕ) (f : Family) (i : ℕ) → i < length f → ((getD (flattenFamily first top acc f) i nowhere) .first ≡ first) × ((getD (flattenFamily first top acc f) i nowhere) .top ≡ top)
+family-at first top acc [] i h = absurd (not-suc-le-zero h)
+family-at first top acc (r ∷ rs) zero h = (refl, refl)
+family-at first top acc (r ∷ rs) (suc i) h = family-at first top (acc ++ r .newKinds) rs i (le-of-suc-le-suc h)
+
+placed-from : (p : ℕ) (fs : List Family) (i : ℕ) → i < groupsOf fs → Placed p (groupsOf fs) i (getD (flatten p fs) i nowhere)
+placed-from p [] i h = absurd (not-suc-le-zero h)
+placed-from p (f ∷ fs) i h = go (decLt i (length f)) (λ j. placed-from (p + length f) fs j)
+  where
+    A : List Located
+    A = flattenFamily p (p + length f) [] f
+
+    B : List Located
+    B = flatten (p + length f) fs
+
+    n : length A ≡ length f
+    n = length-flattenFamily p (p + length f) [] f
+
+    go : Dec (i < length f) → ((j : ℕ) → j < groupsOf fs → Placed (p + length f) (groupsOf fs) j (getD B j nowhere)) → Placed p (length f + groupsOf fs) i (getD (A ++ B) i nowhere)
+    go (yes q) r =
+        let t = family-at p (p + length f) [] f i q in
+        rw (List·getD-append A B nowhere i (omega (arith, n)))
+        (record { starts = omega (arith, t .0); begun = omega (arith, t .0); within = omega (arith, t .1); ends = omega (arith, t .1) })
+    go (no q) r =
+        let t : Past (length f) i = past-of (length f) i (omega arith) in
+        let e : i ≡ length A + t .rest = t .is ∙ ap (λ (m : ℕ). m + t .rest) (sym n) in
+        let P : Placed (p + length f) (groupsOf fs) (t .rest) (getD B (t .rest) nowhere) = r (t .rest) (omega (arith, t .is)) in
+        rw (ap (λ (m : ℕ). getD (A ++ B) m nowhere) e ∙ getD-append-add A B (t .rest) nowhere)
+        (record { starts = omega (arith, P .starts); begun = omega (arith, P .begun, t .is); within = omega (arith, P .within, t .is); ends = omega (arith, P .ends) })
+
+pub placed : (fs : List Family) (g : ℕ) → g < groupsOf fs → (located fs g .first ≤ g) × (g < located fs g .top) × (located fs g .top ≤ groupsOf fs)
+placed fs g h =
+    let P : Placed 0 (groupsOf fs) g (located fs g) = placed-from 0 fs g h in
+    (omega (arith, P .begun), omega (arith, P .within), omega (arith, P .ends))

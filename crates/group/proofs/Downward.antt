@@ -1,0 +1,224 @@
+-- The walk downward over positions, highest first, is the model's walk, and what its steps need holds. Assumes nothing.
+use mathlib.Core.Path.{_≡_, refl, ap, ap₂, sym, _∙_, subst}
+use mathlib.Core.Bool.{Bool, true, false, cond, true≢false}
+use mathlib.Core.List.{List, [], _∷_, _++_, reverse, reverse-cons, reverse-append}
+use Prim.Native.Nat.{ℕ, zero, suc, _+_, _-_, _≤_, _<_}
+use native.Mathlib.Omega.{arith}
+use borrow.Author.Tests.{ltb-true}
+use lib.Dec.{ltb}
+use lib.ListN.{length, getD, length-map}
+use Rattle.model.specs.Lists.{place-count-take, count-take-le}
+use Rattle.model.specs.Model.{Entity, SparseSet, Group, Family, Storage, Walked, Stepped, sameEntity, mem, any, meets, all, setOf, keys, entityOf, at, held, onKinds, swapTo, allHeld, isGrouped, headKind, kindsOf, ungroupComponents, ungroupFamily, ungroup}
+use Rattle.model.proofs.SparseSets.{cond-case, key}
+use Rattle.model.proofs.Groups.{cnt, plc, In, Even, SameEntities}
+use Rattle.model.proofs.Walk.{bool-cases, in-right, in-left, Chain, Every, GroupRight, Missing, all-missing}
+use Rattle.model.proofs.WalkDown.{Held, Down, ungroupFamily-good}
+use Rattle.model.proofs.Families.{Fams, Apart, allKinds, famKinds, chain-other}
+use Rattle.model.proofs.Invariant.{Fit}
+use Rattle.group.specs.declared.GroupStatus.{GroupStatus}
+use Rattle.group.specs.declared.GroupStatus.the-variants.{Incomplete, Ungrouped, Grouped}
+use Rattle.group.specs.Flat.{Located, nowhere, located, withCount, setCount, statusOf, statusAt, ungroupAt, stepDown, walkDown, deleteFamily, deleteFrom, deletePositions}
+use Rattle.group.specs.Ready.{Swappable, ReadyOut, ReadyDown}
+use Rattle.group.proofs.Fronts.{Front, whole, past, Hole, opened, next, Here, here, put-here}
+use Rattle.group.proofs.Upward.{At, status-here, grouped-here, ungrouped-here, incomplete-here, atHole, atFront}
+use Rattle.group.proofs.UpReady.{count-held}
+use Rattle.group.proofs.Commute.{HeadedAll, headed-all, ungroupBack, commutes, ungroup-other}
+
+-- ---- one step, and one list after another
+
+module _ (e : Entity) where
+  pub down-on : (g : ℕ) (ps : List ℕ) (s : Storage) (t : GroupStatus) → statusAt e g s ≡ t → walkDown e (g ∷ ps) s ≡ walkDown e ps (stepDown t e g s)
+  unfolding walkDown
+  down-on g ps s t q = rw q
+
+  pub down-ready-on : (g : ℕ) (ps : List ℕ) (s : Storage) (t : GroupStatus) → statusAt e g s ≡ t → ReadyDown e (g ∷ ps) s ≡ (ReadyOut t e (located (s .layout) g) (s .sets) × ReadyDown e ps (stepDown t e g s))
+  unfolding ReadyDown
+  down-ready-on g ps s t q = rw q
+
+  down-append : (ps qs : List ℕ) (s : Storage) → walkDown e (ps ++ qs) s ≡ walkDown e qs (walkDown e ps s)
+  unfolding walkDown
+  down-append [] qs s = refl
+  down-append (g ∷ ps) qs s = down-append ps qs (stepDown (statusAt e g s) e g s)
+
+  ready-append : (ps qs : List ℕ) (s : Storage) → ReadyDown e ps s → ReadyDown e qs (walkDown e ps s) → ReadyDown e (ps ++ qs) s
+  unfolding walkDown ReadyDown
+  ready-append [] qs s a b = b
+  ready-append (g ∷ ps) qs s a b = (a .0, ready-append ps qs (stepDown (statusAt e g s) e g s) (a .1) b)
+
+  -- ---- what a walk does
+
+  record Goes (ps : List ℕ) (s t : Storage) : Type 0 where
+    pub walks : walkDown e ps s ≡ t
+    pub ready : ReadyDown e ps s
+
+  goes-none : (s : Storage) → Goes [] s s
+  unfolding walkDown ReadyDown
+  goes-none s = record { walks = refl; ready = tt }
+
+  goes-then : (ps qs : List ℕ) (s t u : Storage) → Goes ps s t → Goes qs t u → Goes (ps ++ qs) s u
+  goes-then ps qs s t u a b =
+      record {
+        walks = down-append ps qs s ∙ ap (walkDown e qs) (a .walks) ∙ b .walks;
+        ready = ready-append ps qs s (a .ready) (rw (a .walks) (b .ready));
+      }
+
+  goes-one : (g : ℕ) (s : Storage) (t : GroupStatus) → statusAt e g s ≡ t → ReadyOut t e (located (s .layout) g) (s .sets) → Goes (g ∷ []) s (stepDown t e g s)
+  goes-one g s t q r =
+      let z = goes-none (stepDown t e g s) in
+      record { walks = down-on g [] s t q ∙ z .walks; ready = rw (down-ready-on g [] s t q) (r, z .ready) }
+
+  -- ---- a group
+
+  module _ {acc : List ℕ} {first top p : ℕ} (H : Hole acc first top p) (sets : List SparseSet) (r : Group) (rs : Family) (fits : p + suc (length rs) ≡ top)
+      (head : In (r .newKinds) (headKind (r .newKinds)))
+      (even : Even (key sets) (acc ++ r .newKinds) (r .count)) where
+    abbrev g : List ℕ
+    g = acc ++ r .newKinds
+
+    abbrev S : Storage
+    S = record { sets = sets; layout = H .build (r ∷ rs) }
+
+    ungroup-here : ungroupAt e p S ≡ record { sets = onKinds g (swapTo e (r .count - 1)) sets; layout = H .build (withCount (r .count - 1) r ∷ rs) }
+    unfolding ungroupAt
+    ungroup-here = λ i.
+        record {
+          sets = (ap (λ (l : Located). onKinds (l .kinds) (swapTo e (l .count - 1)) sets) (here H r rs fits)) i;
+          layout = (ap (λ (l : Located). setCount p (l .count - 1) (H .build (r ∷ rs))) (here H r rs fits) ∙ put-here H r rs (r .count - 1)) i;
+        }
+
+    -- inside, it is held in every kind of the group
+    held-inside : isGrouped e r sets ≡ true → (k : ℕ) → In g k → held e (setOf sets k) ≡ true
+    held-inside b k i =
+        let hd : ℕ = headKind (r .newKinds) in
+        let j : In g (headKind (r .newKinds)) = in-right acc (r .newKinds) (headKind (r .newKinds)) head in
+        let lt : plc e (key sets (headKind (r .newKinds))) < r .count = ltb-true _ _ b in
+        let one = place-count-take sameEntity e (r .count) (key sets (headKind (r .newKinds))) lt (even .fit (headKind (r .newKinds)) j) in
+        let same = ap (cnt e) (even .align k (headKind (r .newKinds)) i j) in
+        count-held e sets k (omega (arith, count-take-le sameEntity e (r .count) (key sets k)))
+
+    all-held : isGrouped e r sets ≡ true → allHeld e (r .newKinds) sets ≡ true
+    all-held b =
+        bool-cases (allHeld e (r .newKinds) sets) (λ a. a)
+        (λ a.
+        let m : Missing (λ k. held e (setOf sets k)) (r .newKinds) = all-missing (λ k. held e (setOf sets k)) (r .newKinds) a in
+        absurd (true≢false (sym (held-inside b (m .kind) (in-right acc (r .newKinds) (m .kind) (m .isIn))) ∙ m .fails)))
+
+    leaves : isGrouped e r sets ≡ true → ReadyOut Grouped e (located (S .layout) p) (S .sets)
+    leaves b =
+        let lt : at e (setOf sets (headKind (r .newKinds))) < r .count = ltb-true _ _ b in
+        rw (here H r rs fits) (
+          omega arith,
+          record {
+            holds = held-inside b;
+            room = λ k i. omega (arith, even .fit k i, length-map (setOf sets k) entityOf);
+          },
+        )
+
+    abbrev stepped : Stepped → Storage
+    stepped t = record { sets = t .sets; layout = H .build (t .group ∷ rs) }
+
+    out : isGrouped e r sets ≡ true → ungroupComponents e g r sets ≡ record { sets = onKinds g (swapTo e (r .count - 1)) sets; group = withCount (r .count - 1) r }
+    unfolding ungroupComponents
+    out b = rw b
+
+    stays : isGrouped e r sets ≡ false → ungroupComponents e g r sets ≡ record { sets = sets; group = r }
+    unfolding ungroupComponents
+    stays b = rw b
+
+    goes-here : Goes (p ∷ []) S (stepped (ungroupComponents e g r sets))
+    goes-here =
+        bool-cases (isGrouped e r sets)
+        (λ b.
+        subst (Goes (p ∷ []) S) (ungroup-here ∙ ap stepped (sym (out b)))
+        (goes-one p S Grouped (grouped-here e H sets r rs fits (all-held b) b) (leaves b)))
+        (λ b.
+        subst (Goes (p ∷ []) S) (ap stepped (sym (stays b)))
+        (bool-cases (allHeld e (r .newKinds) sets)
+        (λ a. goes-one p S Ungrouped (ungrouped-here e H sets r rs fits a b) tt)
+        (λ a. goes-one p S Incomplete (incomplete-here e H sets r rs fits a) tt)))
+
+  -- ---- a family
+
+  module _ (gone : List ℕ) where
+    length-down : (acc : List ℕ) (sets : List SparseSet) (rs : Family) → length ((ungroupFamily e gone acc sets rs) .groups) ≡ length rs
+    unfolding ungroupFamily
+    length-down acc sets [] = refl
+    length-down acc sets (r ∷ rs) =
+        cond-case (λ (w : Walked). length (w .groups) ≡ suc (length rs)) (meets gone (acc ++ r .newKinds)) _ _
+        (λ m. ap suc (length-down (acc ++ r .newKinds) sets rs))
+        (λ m. ap suc (length-down (acc ++ r .newKinds) sets rs))
+
+    family-down : {acc : List ℕ} {first top p : ℕ} (H : Hole acc first top p) (sets : List SparseSet) (rs : Family) → p + length rs ≡ top → ((k : ℕ) → cnt e (key sets k) ≤ 1) → Chain (key sets) Every acc rs
+        → Goes (reverse (deleteFamily gone p acc rs)) (record { sets = sets; layout = H .build rs }) (atHole H (ungroupFamily e gone acc sets rs))
+    unfolding deleteFamily ungroupFamily
+    family-down {acc} {first} {top} {p} H sets [] fits once ch = goes-none (record { sets = sets; layout = H .build [] })
+    family-down {acc} {first} {top} {p} H sets (r ∷ rs) fits once ch =
+        go (family-down (next H r) sets rs (omega arith) once (ch .2)) (meets gone (acc ++ r .newKinds))
+      where
+        g : List ℕ
+        g = acc ++ r .newKinds
+
+        w : Walked
+        w = ungroupFamily e gone g sets rs
+
+        rest : List ℕ
+        rest = deleteFamily gone (suc p) g rs
+
+        S : Storage
+        S = record { sets = sets; layout = H .build (r ∷ rs) }
+
+        s : Stepped
+        s = ungroupComponents e g r (w .sets)
+
+        D : Down e gone g sets rs (ungroupFamily e gone g sets rs)
+        D = ungroupFamily-good e gone g sets rs once (ch .2)
+
+        E : Held (key sets) (key (w .sets)) g (r .count)
+        E = D .smaller g (r .count) (λ k i. i) (ch .0 .even) (ch .1)
+
+        at-end : p + suc (length (w .groups)) ≡ top
+        at-end = ap (λ (n : ℕ). p + suc n) (length-down g sets rs) ∙ fits
+
+        go : Goes (reverse rest) S (record { sets = w .sets; layout = H .build (r ∷ w .groups) }) → (m : Bool)
+            → Goes (reverse (cond m (p ∷ rest) rest)) S (atHole H (cond m (record { sets = s .sets; groups = s .group ∷ w .groups }) (record { sets = w .sets; groups = r ∷ w .groups })))
+        go R true =
+            rw (reverse-cons p rest)
+            (goes-then (reverse rest) (p ∷ []) S (record { sets = w .sets; layout = H .build (r ∷ w .groups) }) (record { sets = s .sets; layout = H .build (s .group ∷ w .groups) }) R
+            (goes-here H (w .sets) r (w .groups) at-end (ch .0 .head) (E .even)))
+        go R false = R
+
+    -- ---- all families, the last first
+
+    record GoesBack {p : ℕ} (F : Front p) (sets : List SparseSet) (fs : List Family) : Type 0 where
+      pub goes : Goes (reverse (deleteFrom gone p fs)) (atFront F (record { sets = sets; layout = fs })) (atFront F (ungroupBack e gone sets fs))
+      pub same : SameEntities (key sets) (key ((ungroupBack e gone sets fs) .sets))
+
+    down-back : {p : ℕ} (F : Front p) (sets : List SparseSet) (fs : List Family) → Apart (famKinds fs) → Fams (key sets) fs → ((k : ℕ) → cnt e (key sets k) ≤ 1) → GoesBack F sets fs
+    unfolding deleteFrom ungroupBack
+    down-back {p} F sets [] apart fm once = record { goes = goes-none (atFront F (record { sets = sets; layout = [] })); same = record { entities = λ x k. refl; lengths = λ k. refl } }
+    down-back {p} F sets (f ∷ fs) apart fm once =
+        let R : GoesBack (past F f) sets fs = down-back (past F f) sets fs (apart .1) (fm .1) once in
+        let q : Storage = ungroupBack e gone sets fs in
+        let kept : (k : ℕ) → In (kindsOf f) k → key (q .sets) k ≡ key sets k = λ k i.
+        ap keys (ap (λ (b : Storage). setOf (b .sets) k) (commutes e gone sets fs (apart .1) (headed-all (key sets) fs (fm .1))) ∙ ungroup-other e gone sets fs k (apart .0 k i)) in
+        let ch : Chain (key (q .sets)) Every [] f = chain-other (key sets) (key (q .sets)) Every [] f kept (fm .0) in
+        let once′ : (k : ℕ) → cnt e (key (q .sets) k) ≤ 1 = λ k. rw (R .same .entities e k) (once k) in
+        let D : Down e gone [] (q .sets) f (ungroupFamily e gone [] (q .sets) f) = ungroupFamily-good e gone [] (q .sets) f once′ ch in
+        record {
+          goes =
+              rw (reverse-append (deleteFamily gone p [] f) (deleteFrom gone (p + length f) fs))
+              (goes-then (reverse (deleteFrom gone (p + length f) fs)) (reverse (deleteFamily gone p [] f))
+              (atFront F (record { sets = sets; layout = f ∷ fs })) (atFront (past F f) q) (atHole (opened F (p + length f) (q .layout)) (ungroupFamily e gone [] (q .sets) f))
+              (R .goes)
+              (family-down (opened F (p + length f) (q .layout)) (q .sets) f refl once′ ch));
+          same = record { entities = λ x k. D .same .entities x k ∙ R .same .entities x k; lengths = λ k. D .same .lengths k ∙ R .same .lengths k };
+        }
+
+    -- removal's walk
+    pub walk-ungroup : (s : Storage) → Fit s → walkDown e (reverse (deletePositions gone (s .layout))) s ≡ ungroup e gone (s .sets) (s .layout)
+    walk-ungroup s f =
+        down-back whole (s .sets) (s .layout) (f .apart) (f .fams) (f .once e) .goes .walks
+        ∙ commutes e gone (s .sets) (s .layout) (f .apart) (headed-all (key (s .sets)) (s .layout) (f .fams))
+
+    pub ready-remove : (s : Storage) → Fit s → ReadyDown e (reverse (deletePositions gone (s .layout))) s
+    ready-remove s f = down-back whole (s .sets) (s .layout) (f .apart) (f .fams) (f .once e) .goes .ready

@@ -1,0 +1,108 @@
+-- Where a group stands in the layout: a layout with the families before some position filled in, and one with the groups before some position filled
+-- in. A walk over families, or over a family's groups, goes from one to the next. Assumes nothing.
+use mathlib.Core.Path.{_≡_, refl, ap, ap₂, sym, _∙_}
+use mathlib.Core.Bool.{Bool, true, false, cond}
+use mathlib.Core.List.{List, [], _∷_, _++_}
+use Prim.Native.Nat.{ℕ, zero, suc, _+_, _-_, _≤_, _<_}
+use native.Mathlib.Omega.{arith}
+use native.Mathlib.Nat.{zero-add, add-zero, add-suc, suc-add, add-assoc}
+use borrow.Author.Tests.{lt-ltb, le-ltb}
+use lib.Dec.{ltb}
+use lib.ListN.{length, getD, length-append, List·getD-append}
+use lib.Seq.{getD-append-add}
+use Rattle.model.specs.Model.{Group, Family, groupsOf}
+use Rattle.group.specs.Flat.{Located, nowhere, flattenFamily, flatten, located, withCount, setIn, setCount}
+
+pub length-flattenFamily : (first top : ℕ) (acc : List ℕ) (f : Family) → length (flattenFamily first top acc f) ≡ length f
+length-flattenFamily first top acc [] = refl
+length-flattenFamily first top acc (r ∷ rs) = ap suc (length-flattenFamily first top (acc ++ r .newKinds) rs)
+
+pub length-flatten : (p : ℕ) (fs : List Family) → length (flatten p fs) ≡ groupsOf fs
+length-flatten p [] = refl
+length-flatten p (f ∷ fs) =
+    length-append (flattenFamily p (p + length f) [] f) (flatten (p + length f) fs)
+    ∙ ap₂ _+_ (length-flattenFamily p (p + length f) [] f) (length-flatten (p + length f) fs)
+
+-- ---- a count is set in the first family, or in a later one
+
+pub set-here : (g c : ℕ) (f : Family) (fs : List Family) → g < length f → setCount g c (f ∷ fs) ≡ setIn g c f ∷ fs
+set-here g c f fs h = rw (lt-ltb g (length f) h)
+
+pub set-later : (g c : ℕ) (f : Family) (fs : List Family) → setCount (length f + g) c (f ∷ fs) ≡ f ∷ setCount g c fs
+set-later g c f fs =
+    let back : length f + g - length f ≡ g = omega arith in
+    rw (le-ltb (length f + g) (length f) (omega arith), back)
+
+-- ---- the families before position p are filled in
+
+pub record Front (p : ℕ) : Type 0 where
+  pub build : List Family → List Family
+  pub locate : (fs : List Family) (i : ℕ) → i < groupsOf fs → located (build fs) (p + i) ≡ getD (flatten p fs) i nowhere
+  pub put : (fs : List Family) (i c : ℕ) → i < groupsOf fs → setCount (p + i) c (build fs) ≡ build (setCount i c fs)
+
+abbrev pub whole : Front 0
+whole =
+    record {
+      build = λ fs. fs;
+      locate = λ fs i h. ap (located fs) (zero-add i);
+      put = λ fs i c h. ap (λ (n : ℕ). setCount n c fs) (zero-add i);
+    }
+
+-- one family more
+abbrev pub past : {p : ℕ} → Front p → (f : Family) → Front (p + length f)
+past {p} F f =
+    record {
+      build = λ fs. F .build (f ∷ fs);
+      locate = λ fs i h.
+          ap (located (F .build (f ∷ fs))) (add-assoc p (length f) i)
+          ∙ F .locate (f ∷ fs) (length f + i) (omega arith)
+          ∙ ap (λ (n : ℕ). getD (flattenFamily p (p + length f) [] f ++ flatten (p + length f) fs) (n + i) nowhere) (sym (length-flattenFamily p (p + length f) [] f))
+          ∙ getD-append-add (flattenFamily p (p + length f) [] f) (flatten (p + length f) fs) i nowhere;
+      put = λ fs i c h.
+          ap (λ (n : ℕ). setCount n c (F .build (f ∷ fs))) (add-assoc p (length f) i)
+          ∙ F .put (f ∷ fs) (length f + i) c (omega arith)
+          ∙ ap (F .build) (set-later i c f fs);
+    }
+
+-- ---- the groups before position p are filled in, and the families after this one; acc are the kinds of the group before
+
+pub record Hole (acc : List ℕ) (first top p : ℕ) : Type 0 where
+  pub build : Family → List Family
+  pub locate : (rs : Family) → p + length rs ≡ top → (i : ℕ) → i < length rs → located (build rs) (p + i) ≡ getD (flattenFamily first top acc rs) i nowhere
+  pub put : (rs : Family) (i c : ℕ) → i < length rs → setCount (p + i) c (build rs) ≡ build (setIn i c rs)
+
+abbrev pub opened : {p : ℕ} → Front p → (top : ℕ) (fs : List Family) → Hole [] p top p
+opened {p} F top fs =
+    record {
+      build = λ rs. F .build (rs ∷ fs);
+      locate = λ rs e i h.
+          let h′ : i < length (flattenFamily p top [] rs) = rw (length-flattenFamily p top [] rs) h in
+          F .locate (rs ∷ fs) i (omega arith)
+          ∙ ap (λ (t : ℕ). getD (flattenFamily p t [] rs ++ flatten (p + length rs) fs) i nowhere) e
+          ∙ List·getD-append (flattenFamily p top [] rs) (flatten (p + length rs) fs) nowhere i h′;
+      put = λ rs i c h. F .put (rs ∷ fs) i c (omega arith) ∙ ap (F .build) (set-here i c rs fs h);
+    }
+
+-- one group more
+abbrev pub next : {acc : List ℕ} {first top p : ℕ} → Hole acc first top p → (r : Group) → Hole (acc ++ r .newKinds) first top (suc p)
+next {acc} {first} {top} {p} H r =
+    record {
+      build = λ rs. H .build (r ∷ rs);
+      locate = λ rs e i h.
+          let n : suc p + i ≡ p + suc i = suc-add p i ∙ sym (add-suc p i) in
+          ap (located (H .build (r ∷ rs))) n ∙ H .locate (r ∷ rs) (omega arith) (suc i) (omega arith);
+      put = λ rs i c h.
+          let n : suc p + i ≡ p + suc i = suc-add p i ∙ sym (add-suc p i) in
+          ap (λ (m : ℕ). setCount m c (H .build (r ∷ rs))) n ∙ H .put (r ∷ rs) (suc i) c (omega arith);
+    }
+
+-- what stands at p
+module _ {acc : List ℕ} {first top p : ℕ} (H : Hole acc first top p) (r : Group) (rs : Family) where
+  abbrev pub Here : Located
+  Here = record { kinds = acc ++ r .newKinds; newKinds = r .newKinds; count = r .count; first = first; top = top }
+
+  pub here : p + suc (length rs) ≡ top → located (H .build (r ∷ rs)) p ≡ Here
+  here e = ap (located (H .build (r ∷ rs))) (sym (add-zero p)) ∙ H .locate (r ∷ rs) e 0 (omega arith)
+
+  pub put-here : (c : ℕ) → setCount p c (H .build (r ∷ rs)) ≡ H .build (withCount c r ∷ rs)
+  put-here c = ap (λ (m : ℕ). setCount m c (H .build (r ∷ rs))) (sym (add-zero p)) ∙ H .put (r ∷ rs) 0 c (omega arith)

@@ -1,0 +1,11 @@
+pub mod Fronts
+pub mod Counts
+pub mod Upward
+pub mod UpReady
+pub mod Commute
+pub mod Downward
+pub mod MaskWalk
+pub mod Positions
+pub mod KindPositions
+pub mod EachKind
+pub mod AllGroups

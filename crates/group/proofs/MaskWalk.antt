@@ -1,0 +1,161 @@
+-- A walk over the set bits of a group mask, lowest or highest first, is a walk over their positions. Assumes nothing.
+use mathlib.Core.Path.{_≡_, refl, ap, ap₂, sym, _∙_, subst}
+use mathlib.Core.Bool.{Bool, true, false, cond, not, _&&_, _||_}
+use mathlib.Core.List.{List, [], _∷_, _++_, reverse, reverse-append}
+use Prim.Native.Nat.{ℕ, zero, suc, _+_, _-_, _/_, _%_, _≤_, _<_}
+use native.Mathlib.Omega.{arith}
+use native.Mathlib.Decide.{decLt}
+use borrow.Author.Tests.{lt-ltb, le-ltb, le-leb, lt-leb, leb-true, leb-false, eqb-true}
+use lib.Dec.{ltb, leb, eqb}
+use lib.ListN.{length}
+use Rattle.model.specs.Model.{Entity, SparseSet, Storage}
+use Rattle.model.proofs.Walk.{bool-cases, or-cases}
+use Rattle.masks.specs.Masks.{putIf, positions, bitsOf, upFrom, has, keepIf, keep, between, commonOf, skipping}
+use Rattle.masks.specs.Walk.{LowStep, HighStep}
+use Rattle.masks.proofs.Lists.{has-here, has-later, keep-same, keep-all, skip-common, between-in, between-high}
+use Rattle.masks.proofs.Bits.{bits-below}
+use Rattle.group.specs.declared.GroupStatus.{GroupStatus}
+use Rattle.group.specs.declared.GroupStatus.the-variants.{Incomplete, Ungrouped, Grouped}
+use Rattle.group.specs.Flat.{Located, located, statusAt, groupAt, ungroupAt, stepUp, skipAfter, walkUp, stepDown, walkDown}
+use Rattle.group.specs.Ready.{Swappable, ReadyIn, ReadyUp, ReadyOut, ReadyDown}
+use Rattle.group.proofs.Upward.{From, from-le, walk-pass, walk-on, walk-from}
+use Rattle.group.proofs.UpReady.{ready-pass, ready-on, ready-from}
+use Rattle.group.proofs.Downward.{down-on, down-ready-on}
+
+-- ---- rising lists
+
+abbrev pub Ascending : List ℕ → Type 0
+Ascending [] = Unit {0}
+Ascending (g ∷ ps) = From (suc g) ps × Ascending ps
+
+from-bits : (w p m : ℕ) → From p (positions w p m)
+unfolding positions
+from-bits zero p m = tt
+from-bits (suc w) p m = go (m % 2) (from-le p (suc p) (omega arith) (positions w (suc p) (m / 2)) (from-bits w (suc p) (m / 2)))
+  where
+    go : (d : ℕ) → From p (positions w (suc p) (m / 2)) → From p (putIf d p (positions w (suc p) (m / 2)))
+    go zero f = f
+    go (suc d) f = (omega arith, f)
+
+ascending-bits-from : (w p m : ℕ) → Ascending (positions w p m)
+unfolding positions
+ascending-bits-from zero p m = tt
+ascending-bits-from (suc w) p m = go (m % 2) (ascending-bits-from w (suc p) (m / 2))
+  where
+    go : (d : ℕ) → Ascending (positions w (suc p) (m / 2)) → Ascending (putIf d p (positions w (suc p) (m / 2)))
+    go zero a = a
+    go (suc d) a = (from-bits w (suc p) (m / 2), a)
+
+pub ascending-bits : (w m : ℕ) → Ascending (bitsOf w m)
+ascending-bits w m = ascending-bits-from w 0 m
+
+pub has-from : (t : ℕ) (ps : List ℕ) (i : ℕ) → From t ps → has i ps ≡ true → t ≤ i
+unfolding has
+has-from t [] i f h = absurd (let z : _≡_ {A = ℕ} 0 1 = cc in omega arith)
+has-from t (g ∷ ps) i f h = or-cases (eqb i g) (has i ps) h (λ q. omega (arith, eqb-true i g q, f .0)) (λ q. has-from t ps i (f .1) q)
+
+-- ---- skipping is leaving out
+
+keep-from : (t : ℕ) (ps : List ℕ) → From t ps → keep (leb t) ps ≡ ps
+keep-from t ps f = keep-all (leb t) ps (λ i h. le-leb t i (has-from t ps i f h))
+
+keep-miss : (t g : ℕ) (ps : List ℕ) → g < t → keep (leb t) (g ∷ ps) ≡ keep (leb t) ps
+unfolding keep
+keep-miss t g ps h = rw (lt-leb t g h)
+
+module _ (e : Entity) where
+  pub walk-keep : (t : ℕ) (ps : List ℕ) (s : Storage) → Ascending ps → walkUp e t ps s ≡ walkUp e 0 (keep (leb t) ps) s
+  unfolding walkUp keep
+  walk-keep t [] s a = refl
+  walk-keep t (g ∷ ps) s a = go (decLt g t) (walk-keep t ps s (a .1))
+    where
+      go : Dec (g < t) → walkUp e t ps s ≡ walkUp e 0 (keep (leb t) ps) s → walkUp e t (g ∷ ps) s ≡ walkUp e 0 (keep (leb t) (g ∷ ps)) s
+      go (yes h) r = walk-pass e t g ps s h ∙ r ∙ ap (λ (l : List ℕ). walkUp e 0 l s) (sym (keep-miss t g ps h))
+      go (no h) r =
+          let f : From t (g ∷ ps) = (omega arith, from-le t (suc g) (omega arith) ps (a .0)) in
+          walk-from e t (g ∷ ps) s f ∙ ap (λ (l : List ℕ). walkUp e 0 l s) (sym (keep-from t (g ∷ ps) f))
+
+  pub ready-keep : (t : ℕ) (ps : List ℕ) (s : Storage) → Ascending ps → ReadyUp e t ps s ≡ ReadyUp e 0 (keep (leb t) ps) s
+  unfolding ReadyUp keep
+  ready-keep t [] s a = refl
+  ready-keep t (g ∷ ps) s a = go (decLt g t) (ready-keep t ps s (a .1))
+    where
+      go : Dec (g < t) → ReadyUp e t ps s ≡ ReadyUp e 0 (keep (leb t) ps) s → ReadyUp e t (g ∷ ps) s ≡ ReadyUp e 0 (keep (leb t) (g ∷ ps)) s
+      go (yes h) r = ready-pass e t g ps s h ∙ r ∙ ap (λ (l : List ℕ). ReadyUp e 0 l s) (sym (keep-miss t g ps h))
+      go (no h) r =
+          let f : From t (g ∷ ps) = (omega arith, from-le t (suc g) (omega arith) ps (a .0)) in
+          ready-from e t (g ∷ ps) s f ∙ ap (λ (l : List ℕ). ReadyUp e 0 l s) (sym (keep-from t (g ∷ ps) f))
+
+-- the mask without the bits from g to top - 1, where all its bits are past g
+skip-rest : (w g top : ℕ) (ps : List ℕ) → From (suc g) ps → ((i : ℕ) → has i ps ≡ true → i < w) → commonOf ps (skipping w g top) ≡ keep (leb top) ps
+skip-rest w g top ps f low =
+    skip-common w g top ps low
+    ∙ keep-same (λ i. not (between g top i)) (leb top) ps
+    (λ i h.
+    let gt : suc g ≤ i = has-from (suc g) ps i f h in
+    bool-cases (leb top i)
+    (λ q. rw (between-high g top i (leb-true top i q), q))
+    (λ q. rw (between-in g top i (omega arith) (leb-false top i q), q)))
+
+-- ---- a step of the loop upward: m is the mask, g its lowest position, rest the mask without it
+
+module _ (e : Entity) (s : Storage) (m g rest : ℕ) (L : LowStep m g rest) where
+  rising : From (suc g) (bitsOf 64 rest) × Ascending (bitsOf 64 rest)
+  rising = subst Ascending (L .bits) (ascending-bits 64 m)
+
+  module _ (t : GroupStatus) (q : statusAt e g s ≡ t) where
+    abbrev next : ℕ
+    next = skipAfter t (located (s .layout) g .top) 0
+
+    walks : walkUp e 0 (bitsOf 64 m) s ≡ walkUp e next (bitsOf 64 rest) (stepUp t e g s)
+    walks = ap (λ (l : List ℕ). walkUp e 0 l s) (L .bits) ∙ walk-on e 0 g (bitsOf 64 rest) s (omega arith) t q
+
+    readies : ReadyUp e 0 (bitsOf 64 m) s ≡ (ReadyIn t e (located (s .layout) g) (s .sets) × ReadyUp e next (bitsOf 64 rest) (stepUp t e g s))
+    readies = ap (λ (l : List ℕ). ReadyUp e 0 l s) (L .bits) ∙ ready-on e 0 g (bitsOf 64 rest) s (omega arith) t q
+
+  -- a new kind is missing: the rest of the family goes out of the mask
+  module _ (q : statusAt e g s ≡ Incomplete) (skipped : ℕ) (b : bitsOf 64 skipped ≡ commonOf (bitsOf 64 rest) (skipping 64 g (located (s .layout) g .top))) where
+    left-out : bitsOf 64 skipped ≡ keep (leb (located (s .layout) g .top)) (bitsOf 64 rest)
+    left-out = b ∙ skip-rest 64 g (located (s .layout) g .top) (bitsOf 64 rest) (rising .0) (λ i h. bits-below 64 rest i h)
+
+    pub walk-incomplete : walkUp e 0 (bitsOf 64 m) s ≡ walkUp e 0 (bitsOf 64 skipped) s
+    walk-incomplete = walks Incomplete q ∙ walk-keep e (located (s .layout) g .top) (bitsOf 64 rest) s (rising .1) ∙ ap (λ (l : List ℕ). walkUp e 0 l s) (sym left-out)
+
+    pub ready-incomplete : ReadyUp e 0 (bitsOf 64 m) s → ReadyUp e 0 (bitsOf 64 skipped) s
+    ready-incomplete r =
+        let r′ : ReadyIn Incomplete e (located (s .layout) g) (s .sets) × ReadyUp e (located (s .layout) g .top) (bitsOf 64 rest) s = rw (readies Incomplete q) at r in
+        rw (left-out, ← ready-keep e (located (s .layout) g .top) (bitsOf 64 rest) s (rising .1)) (r′ .1)
+
+  module _ (q : statusAt e g s ≡ Ungrouped) where
+    pub walk-ungrouped : walkUp e 0 (bitsOf 64 m) s ≡ walkUp e 0 (bitsOf 64 rest) (groupAt e g s)
+    walk-ungrouped = walks Ungrouped q
+
+    pub ready-ungrouped : ReadyUp e 0 (bitsOf 64 m) s → Swappable e (located (s .layout) g .kinds) (located (s .layout) g .count) (s .sets) × ReadyUp e 0 (bitsOf 64 rest) (groupAt e g s)
+    ready-ungrouped r = rw (readies Ungrouped q) at r
+
+  module _ (q : statusAt e g s ≡ Grouped) where
+    pub walk-grouped : walkUp e 0 (bitsOf 64 m) s ≡ walkUp e 0 (bitsOf 64 rest) s
+    walk-grouped = walks Grouped q
+
+    pub ready-grouped : ReadyUp e 0 (bitsOf 64 m) s → ReadyUp e 0 (bitsOf 64 rest) s
+    ready-grouped r = (rw (readies Grouped q) at r) .1
+
+pub walk-none : (e : Entity) (s : Storage) → walkUp e 0 [] s ≡ s
+unfolding walkUp
+walk-none e s = refl
+
+-- ---- a step of the loop downward: g is the mask's highest position
+
+module _ (e : Entity) (s : Storage) (m g rest : ℕ) (L : HighStep m g rest) (t : GroupStatus) (q : statusAt e g s ≡ t) where
+  falling : reverse (bitsOf 64 m) ≡ g ∷ reverse (bitsOf 64 rest)
+  falling = ap reverse (L .bits) ∙ reverse-append (bitsOf 64 rest) (g ∷ [])
+
+  pub down-step : walkDown e (reverse (bitsOf 64 m)) s ≡ walkDown e (reverse (bitsOf 64 rest)) (stepDown t e g s)
+  down-step = ap (λ (l : List ℕ). walkDown e l s) falling ∙ down-on e g (reverse (bitsOf 64 rest)) s t q
+
+  pub down-ready : ReadyDown e (reverse (bitsOf 64 m)) s → ReadyOut t e (located (s .layout) g) (s .sets) × ReadyDown e (reverse (bitsOf 64 rest)) (stepDown t e g s)
+  down-ready r = rw (ap (λ (l : List ℕ). ReadyDown e l s) falling ∙ down-ready-on e g (reverse (bitsOf 64 rest)) s t q) at r
+
+pub down-none : (e : Entity) (s : Storage) → walkDown e [] s ≡ s
+unfolding walkDown
+down-none e s = refl

@@ -1,0 +1,223 @@
+-- The walk upward over positions is the model's walk family by family. Assumes nothing.
+use mathlib.Core.Path.{_≡_, refl, ap, ap₂, sym, _∙_}
+use mathlib.Core.Bool.{Bool, true, false, cond}
+use mathlib.Core.List.{List, [], _∷_, _++_}
+use Prim.Native.Nat.{ℕ, zero, suc, _+_, _-_, _≤_, _<_}
+use native.Mathlib.Omega.{arith}
+use native.Mathlib.Numerals.{add-one}
+use borrow.Author.Tests.{lt-ltb, le-ltb}
+use lib.Dec.{ltb}
+use lib.ListN.{length, getD}
+use Rattle.model.specs.Model.{Entity, SparseSet, Group, Family, Storage, Walked, Stepped, meets, setOf, at, onKinds, swapTo, allHeld, isGrouped, headKind, kindsOf, groupsOf, groupComponents, groupFamily, groupTouched, groupAll}
+use Rattle.model.proofs.SparseSets.{cond-case}
+use Rattle.model.proofs.Walk.{bool-cases}
+use Rattle.masks.specs.Masks.{upFrom}
+use Rattle.group.specs.declared.GroupStatus.{GroupStatus}
+use Rattle.group.specs.declared.GroupStatus.the-variants.{Incomplete, Ungrouped, Grouped}
+use Rattle.group.specs.Flat.{Located, nowhere, located, withCount, setCount, statusOf, statusAt, groupAt, stepUp, skipAfter, walkUp, familyPositions, insertPositions, allPositions}
+use Rattle.group.proofs.Fronts.{Front, whole, past, Hole, opened, next, Here, here, put-here}
+
+-- ---- one step of the walk
+
+module _ (e : Entity) (skip g : ℕ) (ps : List ℕ) (s : Storage) where
+  pub walk-pass : g < skip → walkUp e skip (g ∷ ps) s ≡ walkUp e skip ps s
+  unfolding walkUp
+  walk-pass h = rw (lt-ltb g skip h)
+
+  pub walk-on : skip ≤ g → (t : GroupStatus) → statusAt e g s ≡ t → walkUp e skip (g ∷ ps) s ≡ walkUp e (skipAfter t (located (s .layout) g .top) skip) ps (stepUp t e g s)
+  unfolding walkUp
+  walk-on h t q = rw (le-ltb g skip h, q)
+
+-- ---- positions at t or past it
+
+abbrev pub From : ℕ → List ℕ → Type 0
+From t [] = Unit {0}
+From t (g ∷ ps) = (t ≤ g) × From t ps
+
+pub from-le : (t u : ℕ) → t ≤ u → (ps : List ℕ) → From u ps → From t ps
+from-le t u h [] f = tt
+from-le t u h (g ∷ ps) f = (omega (arith, f .0), from-le t u h ps (f .1))
+
+-- what all positions are past need not be skipped
+pub walk-from : (e : Entity) (skip : ℕ) (ps : List ℕ) (s : Storage) → From skip ps → walkUp e skip ps s ≡ walkUp e 0 ps s
+unfolding walkUp
+walk-from e skip [] s f = refl
+walk-from e skip (g ∷ ps) s f =
+    walk-on e skip g ps s (f .0) (statusAt e g s) refl
+    ∙ same (statusAt e g s) (λ s′. walk-from e skip ps s′ (f .1))
+    ∙ sym (walk-on e 0 g ps s (omega arith) (statusAt e g s) refl)
+  where
+    top : ℕ
+    top = located (s .layout) g .top
+
+    same : (t : GroupStatus) → ((s′ : Storage) → walkUp e skip ps s′ ≡ walkUp e 0 ps s′) → walkUp e (skipAfter t top skip) ps (stepUp t e g s) ≡ walkUp e (skipAfter t top 0) ps (stepUp t e g s)
+    same Incomplete r = refl
+    same Ungrouped r = r (groupAt e g s)
+    same Grouped r = r s
+
+-- a run of positions below skip is passed over
+pub walk-past : (e : Entity) (skip p n : ℕ) (ps : List ℕ) (s : Storage) → p + n ≤ skip → walkUp e skip (upFrom p n ++ ps) s ≡ walkUp e skip ps s
+unfolding upFrom
+walk-past e skip p zero ps s h = refl
+walk-past e skip p (suc n) ps s h = walk-pass e skip p (upFrom (suc p) n ++ ps) s (omega arith) ∙ walk-past e skip (suc p) n ps s (omega arith)
+
+-- ---- a group of a family
+
+module _ (e : Entity) {acc : List ℕ} {first top p : ℕ} (H : Hole acc first top p) (sets : List SparseSet) (r : Group) (rs : Family) (fits : p + suc (length rs) ≡ top) where
+  abbrev pub At : Storage
+  At = record { sets = sets; layout = H .build (r ∷ rs) }
+
+  pub status-here : statusAt e p At ≡ statusOf e (Here H r rs) sets
+  status-here = ap (λ (l : Located). statusOf e l sets) (here H r rs fits)
+
+  pub top-here : located (At .layout) p .top ≡ top
+  top-here = ap (λ (l : Located). l .top) (here H r rs fits)
+
+  pub incomplete-here : allHeld e (r .newKinds) sets ≡ false → statusAt e p At ≡ Incomplete
+  incomplete-here a = status-here ∙ rw a
+
+  pub grouped-here : allHeld e (r .newKinds) sets ≡ true → isGrouped e r sets ≡ true → statusAt e p At ≡ Grouped
+  grouped-here a b = status-here ∙ rw (a, b)
+
+  pub ungrouped-here : allHeld e (r .newKinds) sets ≡ true → isGrouped e r sets ≡ false → statusAt e p At ≡ Ungrouped
+  ungrouped-here a b = status-here ∙ rw (a, b)
+
+  abbrev pub Moved : List SparseSet
+  Moved = onKinds (acc ++ r .newKinds) (swapTo e (r .count)) sets
+
+  pub group-here : groupAt e p At ≡ record { sets = Moved; layout = H .build (withCount (suc (r .count)) r ∷ rs) }
+  unfolding groupAt
+  group-here = λ i.
+      record {
+        sets = (ap (λ (l : Located). onKinds (l .kinds) (swapTo e (l .count)) sets) (here H r rs fits)) i;
+        layout = (ap (λ (l : Located). setCount p (l .count + 1) (H .build (r ∷ rs))) (here H r rs fits) ∙ put-here H r rs (r .count + 1) ∙ ap (λ (c : ℕ). H .build (withCount c r ∷ rs)) (add-one (r .count))) i;
+      }
+
+-- ---- the model's steps
+
+pub stop : (e : Entity) (acc : List ℕ) (sets : List SparseSet) (r : Group) (rs : Family) → allHeld e (r .newKinds) sets ≡ false → groupFamily e acc sets (r ∷ rs) ≡ record { sets = sets; groups = r ∷ rs }
+unfolding groupFamily
+stop e acc sets r rs a = rw a
+
+pub goes-on : (e : Entity) (acc : List ℕ) (sets : List SparseSet) (r : Group) (rs : Family) (t : Stepped) → allHeld e (r .newKinds) sets ≡ true → groupComponents e (acc ++ r .newKinds) r sets ≡ t
+    → groupFamily e acc sets (r ∷ rs) ≡ record { sets = (groupFamily e (acc ++ r .newKinds) (t .sets) rs) .sets; groups = t .group ∷ (groupFamily e (acc ++ r .newKinds) (t .sets) rs) .groups }
+unfolding groupFamily
+goes-on e acc sets r rs t a q = rw (a, q)
+
+pub stays : (e : Entity) (ks : List ℕ) (r : Group) (sets : List SparseSet) → isGrouped e r sets ≡ true → groupComponents e ks r sets ≡ record { sets = sets; group = r }
+unfolding groupComponents
+stays e ks r sets b = rw b
+
+pub moves : (e : Entity) (ks : List ℕ) (r : Group) (sets : List SparseSet) → isGrouped e r sets ≡ false → groupComponents e ks r sets ≡ record { sets = onKinds ks (swapTo e (r .count)) sets; group = withCount (suc (r .count)) r }
+unfolding groupComponents
+moves e ks r sets b = rw b
+
+-- ---- a family
+
+abbrev pub atHole : {acc : List ℕ} {first top p : ℕ} → Hole acc first top p → Walked → Storage
+atHole H w = record { sets = w .sets; layout = H .build (w .groups) }
+
+pub family-up : (e : Entity) {acc : List ℕ} {first top p : ℕ} (H : Hole acc first top p) (sets : List SparseSet) (rs : Family) (skip : ℕ) (ps : List ℕ) → p + length rs ≡ top → skip ≤ p → From top ps
+    → walkUp e skip (upFrom p (length rs) ++ ps) (record { sets = sets; layout = H .build rs }) ≡ walkUp e 0 ps (atHole H (groupFamily e acc sets rs))
+unfolding upFrom groupFamily
+family-up e {acc} {first} {top} {p} H sets [] skip ps fits le f = walk-from e skip ps _ (from-le skip top (omega arith) ps f)
+family-up e {acc} {first} {top} {p} H sets (r ∷ rs) skip ps fits le f =
+    bool-cases (allHeld e (r .newKinds) sets)
+    (λ a. bool-cases (isGrouped e r sets)
+    (λ b.
+    walk-on e skip p rest S le Grouped (grouped-here e H sets r rs fits a b)
+    ∙ family-up e (next H r) sets rs skip ps (omega arith) (omega arith) f
+    ∙ ap (λ (w : Walked). walkUp e 0 ps (atHole H w)) (sym (goes-on e acc sets r rs (record { sets = sets; group = r }) a (stays e (acc ++ r .newKinds) r sets b))))
+    (λ b.
+    walk-on e skip p rest S le Ungrouped (ungrouped-here e H sets r rs fits a b)
+    ∙ ap (walkUp e skip rest) (group-here e H sets r rs fits)
+    ∙ family-up e (next H (withCount (suc (r .count)) r)) (Moved e H sets r rs fits) rs skip ps (omega arith) (omega arith) f
+    ∙ ap (λ (w : Walked). walkUp e 0 ps (atHole H w)) (sym (goes-on e acc sets r rs _ a (moves e (acc ++ r .newKinds) r sets b)))))
+    (λ a.
+    walk-on e skip p rest S le Incomplete (incomplete-here e H sets r rs fits a)
+    ∙ ap (λ (t : ℕ). walkUp e t rest S) (top-here e H sets r rs fits)
+    ∙ walk-past e top (suc p) (length rs) ps S (omega arith)
+    ∙ walk-from e top ps S f
+    ∙ ap (λ (w : Walked). walkUp e 0 ps (atHole H w)) (sym (stop e acc sets r rs a)))
+  where
+    S : Storage
+    S = record { sets = sets; layout = H .build (r ∷ rs) }
+
+    rest : List ℕ
+    rest = upFrom (suc p) (length rs) ++ ps
+
+-- ---- all families
+
+-- the walk leaves as many groups
+pub length-up : (e : Entity) (acc : List ℕ) (sets : List SparseSet) (rs : Family) → length ((groupFamily e acc sets rs) .groups) ≡ length rs
+unfolding groupFamily
+length-up e acc sets [] = refl
+length-up e acc sets (r ∷ rs) =
+    cond-case (λ (w : Walked). length (w .groups) ≡ suc (length rs)) (allHeld e (r .newKinds) sets) _ _
+    (λ a. ap suc (length-up e (acc ++ r .newKinds) ((groupComponents e (acc ++ r .newKinds) r sets) .sets) rs))
+    (λ a. refl)
+
+from-run : (p n : ℕ) (t : ℕ) (ps : List ℕ) → t ≤ p → From t ps → From t (upFrom p n ++ ps)
+unfolding upFrom
+from-run p zero t ps h f = f
+from-run p (suc n) t ps h f = (h, from-run (suc p) n t ps (omega arith) f)
+
+pub from-families : (t : Family → Bool) (p : ℕ) (fs : List Family) → From p (familyPositions t p fs)
+unfolding familyPositions
+from-families t p [] = tt
+from-families t p (f ∷ fs) =
+    let rest : From p (familyPositions t (p + length f) fs) = from-le p (p + length f) (omega arith) (familyPositions t (p + length f) fs) (from-families t (p + length f) fs) in
+    cond-case (From p) (t f) _ _ (λ a. from-run p (length f) p (familyPositions t (p + length f) fs) (omega arith) rest) (λ a. rest)
+
+-- the families that pass the test are walked upward
+unfoldable pub groupWhere : (Family → Bool) → Entity → List SparseSet → List Family → Storage
+groupWhere t e sets [] = record { sets = sets; layout = [] }
+groupWhere t e sets (f ∷ fs) =
+    let w = groupFamily e [] sets f in
+    let p = groupWhere t e (w .sets) fs in
+    let q = groupWhere t e sets fs in
+    let on : Storage = record { sets = p .sets; layout = w .groups ∷ p .layout } in
+    let off : Storage = record { sets = q .sets; layout = f ∷ q .layout } in
+    cond (t f) on off
+
+touched-where : (e : Entity) (ks : List ℕ) (sets : List SparseSet) (fs : List Family) → groupWhere (λ f. meets ks (kindsOf f)) e sets fs ≡ groupTouched e ks sets fs
+unfolding groupWhere groupTouched
+touched-where e ks sets [] = refl
+touched-where e ks sets (f ∷ fs) = rw (touched-where e ks sets fs, touched-where e ks ((groupFamily e [] sets f) .sets) fs)
+
+all-where : (e : Entity) (sets : List SparseSet) (fs : List Family) → groupWhere (λ f. true) e sets fs ≡ groupAll e sets fs
+unfolding groupWhere groupAll
+all-where e sets [] = refl
+all-where e sets (f ∷ fs) = rw (all-where e ((groupFamily e [] sets f) .sets) fs)
+
+abbrev pub atFront : {p : ℕ} → Front p → Storage → Storage
+atFront F s = record { sets = s .sets; layout = F .build (s .layout) }
+
+pub walk-where : (t : Family → Bool) (e : Entity) {p : ℕ} (F : Front p) (sets : List SparseSet) (fs : List Family)
+    → walkUp e 0 (familyPositions t p fs) (atFront F (record { sets = sets; layout = fs })) ≡ atFront F (groupWhere t e sets fs)
+unfolding familyPositions groupWhere walkUp
+walk-where t e F sets [] = refl
+walk-where t e {p} F sets (f ∷ fs) =
+    bool-cases (t f)
+    (λ a. rw a (
+    family-up e (opened F (p + length f) fs) sets f 0 rest refl (omega arith) (from-families t (p + length f) fs)
+    ∙ ap (λ (n : ℕ). walkUp e 0 (familyPositions t n fs) S) (ap (λ (n : ℕ). p + n) (sym (length-up e [] sets f)))
+    ∙ walk-where t e (past F (w .groups)) (w .sets) fs))
+    (λ a. rw a (walk-where t e (past F f) sets fs))
+  where
+    w : Walked
+    w = groupFamily e [] sets f
+
+    rest : List ℕ
+    rest = familyPositions t (p + length f) fs
+
+    S : Storage
+    S = record { sets = w .sets; layout = F .build (w .groups ∷ fs) }
+
+-- insertion's walk
+pub walk-touched : (e : Entity) (ks : List ℕ) (s : Storage) → walkUp e 0 (insertPositions ks (s .layout)) s ≡ groupTouched e ks (s .sets) (s .layout)
+walk-touched e ks s = walk-where (λ f. meets ks (kindsOf f)) e whole (s .sets) (s .layout) ∙ touched-where e ks (s .sets) (s .layout)
+
+-- the walk of each live entity, when a layout is applied
+pub walk-all : (e : Entity) (s : Storage) → walkUp e 0 (allPositions (s .layout)) s ≡ groupAll e (s .sets) (s .layout)
+walk-all e s = walk-where (λ f. true) e whole (s .sets) (s .layout) ∙ all-where e (s .sets) (s .layout)

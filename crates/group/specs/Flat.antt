@@ -1,0 +1,142 @@
+-- The groups of the layout numbered in order, and the walks over their positions as the code makes them. Assumes nothing.
+use mathlib.Core.Bool.{Bool, true, false, cond}
+use mathlib.Core.List.{List, [], _∷_, _++_}
+use Prim.Native.Nat.{ℕ, zero, suc, _+_, _-_}
+use lib.Dec.{ltb}
+use lib.ListN.{length, getD}
+use Rattle.model.specs.Model.{Entity, SparseSet, Group, Family, Storage, meets, setOf, at, onKinds, swapTo, allHeld, headKind, kindsOf}
+use Rattle.masks.specs.Masks.{upFrom}
+use Rattle.group.specs.declared.GroupStatus.{GroupStatus}
+use Rattle.group.specs.declared.GroupStatus.the-variants.{Incomplete, Ungrouped, Grouped}
+
+-- ---- the groups in order
+
+-- the group at a position of the layout: its kinds, those of them that the next smaller group lacks (01: its ring), its count, and where its
+-- family's groups begin and end
+pub record Located : Type 0 where
+  pub kinds : List ℕ
+  pub newKinds : List ℕ
+  pub count : ℕ
+  pub first : ℕ
+  pub top : ℕ
+
+abbrev pub nowhere : Located
+nowhere = record { kinds = []; newKinds = []; count = 0; first = 0; top = 0 }
+
+-- a family's groups, smallest first; acc are the kinds of the group before
+abbrev pub flattenFamily : ℕ → ℕ → List ℕ → Family → List Located
+flattenFamily first top acc [] = []
+flattenFamily first top acc (r ∷ rs) =
+    record { kinds = acc ++ r .newKinds; newKinds = r .newKinds; count = r .count; first = first; top = top }
+    ∷ flattenFamily first top (acc ++ r .newKinds) rs
+
+-- the groups of the families, one family after another, numbered from p
+abbrev pub flatten : ℕ → List Family → List Located
+flatten p [] = []
+flatten p (f ∷ fs) = flattenFamily p (p + length f) [] f ++ flatten (p + length f) fs
+
+abbrev pub located : List Family → ℕ → Located
+located fs g = getD (flatten 0 fs) g nowhere
+
+abbrev pub withCount : ℕ → Group → Group
+withCount c r = record { newKinds = r .newKinds; count = c }
+
+-- c for the count of the family's group at g
+abbrev pub setIn : ℕ → ℕ → Family → Family
+setIn g c [] = []
+setIn zero c (r ∷ rs) = withCount c r ∷ rs
+setIn (suc g) c (r ∷ rs) = r ∷ setIn g c rs
+
+-- c for the count of the layout's group at g
+abbrev pub setCount : ℕ → ℕ → List Family → List Family
+setCount g c [] = []
+setCount g c (f ∷ fs) =
+    let here = setIn g c f ∷ fs in
+    let later = f ∷ setCount (g - length f) c fs in
+    cond (ltb g (length f)) here later
+
+-- ---- one group
+
+-- Incomplete where a new kind is missing; else Grouped where the entity's place, in the first new kind's sparse set, is below the count
+abbrev pub statusOf : Entity → Located → List SparseSet → GroupStatus
+statusOf e l sets =
+    let inside = cond (ltb (at e (setOf sets (headKind (l .newKinds)))) (l .count)) Grouped Ungrouped in
+    cond (allHeld e (l .newKinds) sets) inside Incomplete
+
+abbrev pub statusAt : Entity → ℕ → Storage → GroupStatus
+statusAt e g s = statusOf e (located (s .layout) g) (s .sets)
+
+-- "swapped to the place equal to the count, in every column of the group, and the count grows"
+unfoldable pub groupAt : Entity → ℕ → Storage → Storage
+groupAt e g s =
+    let l = located (s .layout) g in
+    record { sets = onKinds (l .kinds) (swapTo e (l .count)) (s .sets); layout = setCount g (l .count + 1) (s .layout) }
+
+-- "swapped to the last counted place and the count falls"
+unfoldable pub ungroupAt : Entity → ℕ → Storage → Storage
+ungroupAt e g s =
+    let l = located (s .layout) g in
+    record { sets = onKinds (l .kinds) (swapTo e (l .count - 1)) (s .sets); layout = setCount g (l .count - 1) (s .layout) }
+
+-- ---- the walks
+
+abbrev pub stepUp : GroupStatus → Entity → ℕ → Storage → Storage
+stepUp Incomplete e g s = s
+stepUp Ungrouped e g s = groupAt e g s
+stepUp Grouped e g s = s
+
+-- "At the first group with a ring kind missing, the rest of that family is skipped."
+abbrev pub skipAfter : GroupStatus → ℕ → ℕ → ℕ
+skipAfter Incomplete top skip = top
+skipAfter Ungrouped top skip = skip
+skipAfter Grouped top skip = skip
+
+-- upward over the positions, rising; those below skip are passed over
+unfoldable pub walkUp : Entity → ℕ → List ℕ → Storage → Storage
+walkUp e skip [] s = s
+walkUp e skip (g ∷ ps) s =
+    let t = statusAt e g s in
+    let passed = walkUp e skip ps s in
+    let on = walkUp e (skipAfter t (located (s .layout) g .top) skip) ps (stepUp t e g s) in
+    cond (ltb g skip) passed on
+
+abbrev pub stepDown : GroupStatus → Entity → ℕ → Storage → Storage
+stepDown Incomplete e g s = s
+stepDown Ungrouped e g s = s
+stepDown Grouped e g s = ungroupAt e g s
+
+-- downward over the positions, falling
+unfoldable pub walkDown : Entity → List ℕ → Storage → Storage
+walkDown e [] s = s
+walkDown e (g ∷ ps) s = walkDown e ps (stepDown (statusAt e g s) e g s)
+
+-- ---- the positions of a walk
+
+-- all positions of the families that pass the test, rising
+unfoldable pub familyPositions : (Family → Bool) → ℕ → List Family → List ℕ
+familyPositions t p [] = []
+familyPositions t p (f ∷ fs) =
+    let rest = familyPositions t (p + length f) fs in
+    cond (t f) (upFrom p (length f) ++ rest) rest
+
+-- "the touched families' groups": those of the families that have a kind of ks
+abbrev pub insertPositions : List ℕ → List Family → List ℕ
+insertPositions ks fs = familyPositions (λ f. meets ks (kindsOf f)) 0 fs
+
+abbrev pub allPositions : List Family → List ℕ
+allPositions fs = familyPositions (λ f. true) 0 fs
+
+-- a family's groups that have a kind of gone: from the first whose new kinds have one to the largest, rising
+unfoldable pub deleteFamily : List ℕ → ℕ → List ℕ → Family → List ℕ
+deleteFamily gone p acc [] = []
+deleteFamily gone p acc (r ∷ rs) =
+    let rest = deleteFamily gone (suc p) (acc ++ r .newKinds) rs in
+    cond (meets gone (acc ++ r .newKinds)) (p ∷ rest) rest
+
+unfoldable pub deleteFrom : List ℕ → ℕ → List Family → List ℕ
+deleteFrom gone p [] = []
+deleteFrom gone p (f ∷ fs) = deleteFamily gone p [] f ++ deleteFrom gone (p + length f) fs
+
+-- "the groups from each removed kind's own to the family's largest"
+abbrev pub deletePositions : List ℕ → List Family → List ℕ
+deletePositions gone fs = deleteFrom gone 0 fs

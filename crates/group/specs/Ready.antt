@@ -1,0 +1,48 @@
+-- What the steps of a walk need of the sparse sets, following the walk. Assumes nothing.
+use mathlib.Core.Path.{_≡_}
+use mathlib.Core.Bool.{Bool, true, false}
+use mathlib.Core.List.{List, [], _∷_}
+use Prim.Native.Nat.{ℕ, _-_, _≤_, _<_}
+use lib.Dec.{ltb}
+use lib.ListN.{length}
+use Rattle.model.specs.Model.{Entity, SparseSet, Storage, setOf, held, groupAll}
+use Rattle.model.specs.Sound.{In}
+use Rattle.group.specs.declared.GroupStatus.{GroupStatus}
+use Rattle.group.specs.declared.GroupStatus.the-variants.{Incomplete, Ungrouped, Grouped}
+use Rattle.group.specs.Flat.{Located, located, statusAt, stepUp, skipAfter, stepDown, allPositions}
+
+-- the entity can be swapped to place c in every sparse set of ks
+pub record Swappable (e : Entity) (ks : List ℕ) (c : ℕ) (sets : List SparseSet) : Type 0 where
+  pub holds : (k : ℕ) → In ks k → held e (setOf sets k) ≡ true
+  pub room : (k : ℕ) → In ks k → c < length (setOf sets k)
+
+abbrev pub Either : Bool → Type 0 → Type 0 → Type 0
+Either true A B = A
+Either false A B = B
+
+abbrev pub ReadyIn : GroupStatus → Entity → Located → List SparseSet → Type 0
+ReadyIn Incomplete e l sets = Unit {0}
+ReadyIn Ungrouped e l sets = Swappable e (l .kinds) (l .count) sets
+ReadyIn Grouped e l sets = Unit {0}
+
+unfoldable pub ReadyUp : Entity → ℕ → List ℕ → Storage → Type 0
+ReadyUp e skip [] s = Unit {0}
+ReadyUp e skip (g ∷ ps) s =
+    Either (ltb g skip)
+    (ReadyUp e skip ps s)
+    (ReadyIn (statusAt e g s) e (located (s .layout) g) (s .sets) × ReadyUp e (skipAfter (statusAt e g s) (located (s .layout) g .top) skip) ps (stepUp (statusAt e g s) e g s))
+
+abbrev pub ReadyOut : GroupStatus → Entity → Located → List SparseSet → Type 0
+ReadyOut Incomplete e l sets = Unit {0}
+ReadyOut Ungrouped e l sets = Unit {0}
+ReadyOut Grouped e l sets = (1 ≤ l .count) × Swappable e (l .kinds) (l .count - 1) sets
+
+unfoldable pub ReadyDown : Entity → List ℕ → Storage → Type 0
+ReadyDown e [] s = Unit {0}
+ReadyDown e (g ∷ ps) s =
+    ReadyOut (statusAt e g s) e (located (s .layout) g) (s .sets) × ReadyDown e ps (stepDown (statusAt e g s) e g s)
+
+-- each of the entities in turn, when a layout is applied
+unfoldable pub ReadyEach : List Entity → Storage → Type 0
+ReadyEach [] s = Unit {0}
+ReadyEach (e ∷ es) s = ReadyUp e 0 (allPositions (s .layout)) s × ReadyEach es (groupAll e (s .sets) (s .layout))

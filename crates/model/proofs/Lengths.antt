@@ -1,0 +1,142 @@
+-- Answers have their accepted lengths, refusals are one byte; a run writes no more than its room, and stops with 0 only at the tape's end. Assumes nothing.
+use mathlib.Core.Path.{_≡_, refl, ap, ap₂, sym, _∙_}
+use mathlib.Core.Logic.{_⊎_, inl, inr}
+use mathlib.Core.Bool.{Bool, true, false, cond}
+use mathlib.Core.Option.{Option, some, none}
+use mathlib.Core.List.{List, [], _∷_, _++_, map}
+use Prim.Native.Nat.{ℕ, zero, suc, _+_, _-_, _*_, _/_, _≤_, _<_}
+use native.Mathlib.Omega.{arith}
+use borrow.Author.Tests.{ltb-false}
+use lib.Dec.{ltb, eqb}
+use lib.ListN.{length, take, drop, getD, length-append, length-map, length-drop}
+use Rattle.model.specs.Model.{Entity, SparseSet, Storage, Created, Range, none, found, noRow, setOf, at, held, kindOf, range, addsNothing, create}
+use Rattle.model.specs.Store.{Store, le, stagedKinds, isKind}
+use Rattle.model.specs.Commands.{Command, REG, HOLD, NEW, PUT, TAKE, DROP, KILL, WIPE, GROUP, APPLY, BAR, RANGE, EMPTY, TALLY, Done, accepted, answerLength, componentBytes, heldBytes, rangeBytes, width, commandAt}
+use Rattle.model.specs.Refusals.{firstLine, NoneHolds, linesOf, Ready, beforeLines}
+use Rattle.model.specs.Run.{Outcome, refuses, accepts, outcome, does, Step, stops, goes, stepOf, stepIf, step, Ran, halt, more, runFor, run}
+use Rattle.model.proofs.SparseSets.{cond-case}
+use Rattle.model.proofs.Lines.{none-to, outcome-case, accepted-exact, stop-number}
+
+-- ---- answers
+
+pub le-length : (n x : ℕ) → length (le n x) ≡ n
+le-length zero x = refl
+le-length (suc n) x = ap suc (le-length n (x / 256))
+
+pair-length : (x y : ℕ) → length (le 4 x ++ le 4 y) ≡ 8
+pair-length x y = length-append (le 4 x) (le 4 y) ∙ ap₂ (λ (a b : ℕ). a + b) (le-length 4 x) (le-length 4 y)
+
+component-length : (e : Entity) (rows : SparseSet) → length (componentBytes e rows) ≡ 9
+component-length e rows = cond-case (λ (b : List ℕ). length b ≡ 9) (held e rows) _ _ (λ t. ap suc (le-length 8 (getD rows (at e rows) noRow .value))) (λ t. refl)
+
+held-length : (e : Entity) (ks : List ℕ) (p : Storage) → length (heldBytes e ks p) ≡ 9 * length ks
+held-length e [] p = refl
+held-length e (k ∷ ks) p = omega (arith, held-length e ks p, component-length e (setOf (p .sets) k), length-append (componentBytes e (setOf (p .sets) k)) (heldBytes e ks p))
+
+range-length : (r : Range) → length (rangeBytes r) ≡ 9
+range-length none = refl
+range-length (found a b) = ap suc (pair-length a b)
+
+-- an accepted answer, with its 0 byte, has the length that the room is judged by
+accepted-length : (c : Command) (s : Store) → suc (length ((accepted c s) .answer)) ≡ answerLength c s
+unfolding accepted
+accepted-length (REG k) s = cond-case (λ (d : Done). suc (length (d .answer)) ≡ 2) (isKind k s) _ _ (λ t. refl) (λ t. refl)
+accepted-length (HOLD k v) s = refl
+accepted-length NEW s = ap suc (pair-length ((create (s .entities)) .entity .index) ((create (s .entities)) .entity .version))
+accepted-length (PUT e) s = refl
+accepted-length (TAKE e) s = omega (arith, held-length e (stagedKinds s) (s .storage), length-map (s .control .staged) kindOf)
+accepted-length (DROP e) s = refl
+accepted-length (KILL e) s = refl
+accepted-length WIPE s = refl
+accepted-length GROUP s = cond-case (λ (d : Done). suc (length (d .answer)) ≡ 2) (addsNothing (stagedKinds s) (s .control .draft)) _ _ (λ t. refl) (λ t. refl)
+accepted-length APPLY s = refl
+accepted-length (BAR k) s = refl
+accepted-length RANGE s = ap suc (range-length (range (stagedKinds s) (s .control .excluded) (s .storage)))
+accepted-length EMPTY s = refl
+accepted-length TALLY s = ap suc (le-length 4 (s .control .refusals))
+
+pub answer-length : (c : Command) (s s′ : Store) (a : List ℕ) → does c s ≡ accepts s′ a → suc (length a) ≡ answerLength c s
+answer-length c s s′ a e = sym (ap (λ (b : List ℕ). suc (length b)) (accepted-exact c s s′ a .0 e .2)) ∙ accepted-length c s
+
+pub answer-positive : (c : Command) (s : Store) → 1 ≤ answerLength c s
+answer-positive c s = omega (arith, accepted-length c s)
+
+-- ---- one step
+
+abbrev pub Going : (ℕ → List ℕ → Store → Type 0) → Step → Type 0
+Going Q (stops n) = Unit {0}
+Going Q (goes w a s) = Q w a s
+
+-- a property of a step that goes on, from that of what it does where no line before the command holds
+pub step-case : (P : Step → Type 0) (b : ℕ) (t : List ℕ) (room : ℕ) (s : Store) → ((n : ℕ) → P (stops n)) → (NoneHolds beforeLines (record { byte = b; rest = t; room = room; store = s }) → P (stepOf (suc (width b)) s (does (commandAt b (take (width b) t)) s))) → P (step b t room s)
+unfolding step
+step-case P b t room s f g = go (firstLine beforeLines (record { byte = b; rest = t; room = room; store = s })) (λ e. g (none-to beforeLines (record { byte = b; rest = t; room = room; store = s }) e))
+  where
+    go : (r : Option ℕ) → (r ≡ none → P (stepOf (suc (width b)) s (does (commandAt b (take (width b) t)) s))) → P (stepIf r (stepOf (suc (width b)) s (does (commandAt b (take (width b) t)) s)))
+    go (some n) h = f n
+    go none h = h refl
+
+-- a step reads the command's bytes, all of which the tape has, and writes the accepted answer or one byte, for which there is room
+pub record Stepped (b : ℕ) (t : List ℕ) (room : ℕ) (s : Store) (w : ℕ) (a : List ℕ) : Type 0 where
+  pub read : w ≡ suc (width b)
+  pub whole : w ≤ suc (length t)
+  pub fits : length a ≤ room
+  pub refused : (n : ℕ) → does (commandAt b (take (width b) t)) s ≡ refuses n → length a ≡ 1
+  pub accepted : (s′ : Store) (x : List ℕ) → does (commandAt b (take (width b) t)) s ≡ accepts s′ x → length a ≡ answerLength (commandAt b (take (width b) t)) s
+
+clash : (o : Outcome) (n : ℕ) (s : Store) (a : List ℕ) → o ≡ refuses n → o ≡ accepts s a → ⊥
+clash o n s a p q = let z : _≡_ {A = ℕ} 0 1 = cc in omega arith
+
+pub step-lengths : (b : ℕ) (t : List ℕ) (room : ℕ) (s : Store) → Going (λ w a s′. Stepped b t room s w a) (step b t room s)
+step-lengths b t room s = step-case (Going (λ w a s′. Stepped b t room s w a)) b t room s (λ n. tt) (λ h. go (does (commandAt b (take (width b) t)) s) refl (h .1 .0) (h .1 .1 .0))
+  where
+    go : (o : Outcome) → does (commandAt b (take (width b) t)) s ≡ o → ltb (length t) (width b) ≡ false → ltb room (answerLength (commandAt b (take (width b) t)) s) ≡ false → Going (λ w a s′. Stepped b t room s w a) (stepOf (suc (width b)) s o)
+    go (refuses n) e v w =
+        record {
+          read = refl;
+          whole = omega (arith, ltb-false (length t) (width b) v);
+          fits = omega (arith, ltb-false room (answerLength (commandAt b (take (width b) t)) s) w, answer-positive (commandAt b (take (width b) t)) s);
+          refused = λ m p. refl;
+          accepted = λ s′ x p. absurd (clash (does (commandAt b (take (width b) t)) s) n s′ x e p);
+        }
+    go (accepts s′ a) e v w =
+        record {
+          read = refl;
+          whole = omega (arith, ltb-false (length t) (width b) v);
+          fits = omega (arith, ltb-false room (answerLength (commandAt b (take (width b) t)) s) w, answer-length (commandAt b (take (width b) t)) s s′ a e);
+          refused = λ m p. absurd (clash (does (commandAt b (take (width b) t)) s) m s′ a p e);
+          accepted = λ q x p. answer-length (commandAt b (take (width b) t)) s s′ a e;
+        }
+
+-- ---- a run
+
+-- it writes no more than its room, reads no more than the tape, and stops with 0 only where it has read all of it
+pub record RunFits (t : List ℕ) (room : ℕ) (r : Ran) : Type 0 where
+  pub bytes : length (r .bytes) ≤ room
+  pub tape : r .read ≤ length t
+  pub commands : r .commands ≤ r .read
+  pub stop : (r .stop ≡ 0) ⊎ ((4 ≤ r .stop) × (r .stop ≤ 6))
+  pub end : r .stop ≡ 0 → r .read ≡ length t
+
+run-fits-for : (fuel : ℕ) (t : List ℕ) (room : ℕ) (s : Store) → length t ≤ fuel → RunFits t room (runFor fuel t room s)
+unfolding runFor
+run-fits-for zero t room s le = record { bytes = omega arith; tape = omega arith; commands = omega arith; stop = inl refl; end = λ e. omega arith }
+run-fits-for (suc fuel) [] room s le = record { bytes = omega arith; tape = omega arith; commands = omega arith; stop = inl refl; end = λ e. refl }
+run-fits-for (suc fuel) (b ∷ t) room s le = go (step b t room s) refl (step-lengths b t room s) (λ w r s′ h. run-fits-for fuel (drop w (b ∷ t)) r s′ h)
+  where
+    go : (p : Step) → step b t room s ≡ p → Going (λ w a s′. Stepped b t room s w a) p → ((w r : ℕ) (s′ : Store) → length (drop w (b ∷ t)) ≤ fuel → RunFits (drop w (b ∷ t)) r (runFor fuel (drop w (b ∷ t)) r s′)) → RunFits (b ∷ t) room (elim p as (λ p. Ran) [ stops n ↦ halt n s | goes w a s′ ↦ more w a (runFor fuel (drop w (b ∷ t)) (room - length a) s′) ])
+    go (stops n) e h rec = let q = stop-number b t room s n e in record { bytes = omega arith; tape = omega arith; commands = omega arith; stop = inr q; end = λ z. absurd (omega (arith, q .0, z)) }
+    go (goes w a s′) e h rec =
+        let d : length (drop w (b ∷ t)) ≡ suc (length t) - w = length-drop w (b ∷ t) in
+        let R = rec w (room - length a) s′ (omega (arith, h .read)) in
+        record {
+          bytes = rw (length-append a ((runFor fuel (drop w (b ∷ t)) (room - length a) s′) .bytes)) (omega (arith, R .bytes, h .fits));
+          tape = omega (arith, R .tape, h .whole);
+          commands = omega (arith, R .commands, h .read);
+          stop = R .stop;
+          end = λ z. omega (arith, R .end z, h .whole);
+        }
+
+pub run-fits : (t : List ℕ) (room : ℕ) (s : Store) → RunFits t room (run t room s)
+unfolding run
+run-fits t room s = run-fits-for (length t) t room s (omega arith)

@@ -1,0 +1,177 @@
+-- The table of refusals: a refusal is the number of the first line that holds, and what a refused command changes. Assumes nothing.
+use mathlib.Core.Path.{_≡_, refl, ap, ap₂, sym, _∙_, subst}
+use mathlib.Core.Logic.{_↔_}
+use mathlib.Core.Bool.{Bool, true, false, cond, not, _&&_, _||_, true≢false, false≢true}
+use mathlib.Core.Option.{Option, some, none}
+use mathlib.Core.List.{List, [], _∷_, _++_, map}
+use Prim.Native.Nat.{ℕ, zero, suc, _+_, _-_, _≤_, _<_}
+use native.Mathlib.Omega.{arith}
+use borrow.Author.Tests.{ltb-true, ltb-false, lt-ltb, le-ltb, leb-true, leb-false}
+use lib.Dec.{ltb, leb, eqb}
+use lib.ListN.{length, take, drop, getD}
+use Rattle.model.specs.Store.{Store, Control, withControl, counted}
+pub use Rattle.model.specs.Refusals.{Unchanged}
+use Rattle.model.specs.Commands.{Command, REG, HOLD, NEW, PUT, TAKE, DROP, KILL, WIPE, GROUP, APPLY, BAR, RANGE, EMPTY, TALLY, Done, accepted, width, commandAt}
+use Rattle.model.specs.Refusals.{Line, firstLine, NoneHolds, First, linesOf, Ready, beforeLines}
+use Rattle.model.specs.Run.{Outcome, refuses, accepts, outcome, does, Step, stops, goes, stepOf, stepIf, step}
+use Rattle.model.proofs.Walk.{bool-cases}
+
+-- ---- the first line that holds
+
+pub some-eq : {m n : ℕ} → some m ≡ some n → m ≡ n
+some-eq p = cc
+
+pub some-none : {n : ℕ} → some n ≡ none → ⊥
+some-none {n} p = let z : _≡_ {A = ℕ} 0 1 = cc in omega arith
+
+module _ {A : Type 0} where
+  first-to : (ls : List (Line A)) (a : A) (n : ℕ) → firstLine ls a ≡ some n → First ls a n
+  first-to [] a n e = absurd (some-none (sym e))
+  first-to (l ∷ ls) a n e =
+      bool-cases (l .holds a)
+      (λ t. record { above = []; here = l; under = ls; table = refl; passed = tt; holds = t; number = some-eq (rw t at e) })
+      (λ t.
+      let r : First ls a n = first-to ls a n (rw t at e) in
+      record { above = l ∷ r .above; here = r .here; under = r .under; table = ap {B = List (Line A)} (λ x. l ∷ x) (r .table); passed = (t, r .passed); holds = r .holds; number = r .number })
+
+  first-at : (above under : List (Line A)) (here : Line A) (a : A) → NoneHolds above a → here .holds a ≡ true → firstLine (above ++ (here ∷ under)) a ≡ some (here .number)
+  first-at [] under here a p t = rw t
+  first-at (l ∷ above) under here a p t = rw (p .0) (first-at above under here a (p .1) t)
+
+  first-from : (ls : List (Line A)) (a : A) (n : ℕ) → First ls a n → firstLine ls a ≡ some n
+  first-from ls a n f = ap (λ (x : List (Line A)). firstLine x a) (f .table) ∙ first-at (f .above) (f .under) (f .here) a (f .passed) (f .holds) ∙ ap {B = Option ℕ} some (f .number)
+
+  -- a number is given exactly where its line holds and no line above does
+  pub first-exact : (ls : List (Line A)) (a : A) (n : ℕ) → (firstLine ls a ≡ some n) ↔ First ls a n
+  first-exact ls a n = (first-to ls a n, first-from ls a n)
+
+  pub none-to : (ls : List (Line A)) (a : A) → firstLine ls a ≡ none → NoneHolds ls a
+  none-to [] a e = tt
+  none-to (l ∷ ls) a e = bool-cases (l .holds a) (λ t. absurd (some-none (rw t at e))) (λ t. (t, none-to ls a (rw t at e)))
+
+  pub none-from : (ls : List (Line A)) (a : A) → NoneHolds ls a → firstLine ls a ≡ none
+  none-from [] a h = refl
+  none-from (l ∷ ls) a h = rw (h .0) (none-from ls a (h .1))
+
+  -- none is given exactly where no line holds
+  pub none-exact : (ls : List (Line A)) (a : A) → (firstLine ls a ≡ none) ↔ NoneHolds ls a
+  none-exact ls a = (none-to ls a, none-from ls a)
+
+-- ---- commands
+
+pub outcome-case : (P : Outcome → Type 0) (r : Option ℕ) (d : Done) → ((n : ℕ) → r ≡ some n → P (refuses n)) → (r ≡ none → P (accepts (d .store) (d .answer))) → P (outcome r d)
+outcome-case P (some n) d f g = f n refl
+outcome-case P none d f g = g refl
+
+refuses-eq : {m n : ℕ} → refuses m ≡ refuses n → m ≡ n
+refuses-eq p = cc
+
+outcome-refuses : (r : Option ℕ) (d : Done) (n : ℕ) → outcome r d ≡ refuses n → r ≡ some n
+outcome-refuses (some m) d n e = ap {B = Option ℕ} some (refuses-eq e)
+outcome-refuses none d n e = let z : _≡_ {A = ℕ} 0 1 = cc in absurd (omega arith)
+
+outcome-accepts : (r : Option ℕ) (d : Done) (s : Store) (a : List ℕ) → outcome r d ≡ accepts s a → (r ≡ none) × (d .store ≡ s) × (d .answer ≡ a)
+outcome-accepts (some m) d s a e = let z : _≡_ {A = ℕ} 0 1 = cc in absurd (omega arith)
+outcome-accepts none d s a e = (refl, cc, cc)
+
+-- a command is refused by a number exactly where the table gives it: the line of its number holds, and no line above does
+pub refusal-exact : (c : Command) (s : Store) (n : ℕ) → (does c s ≡ refuses n) ↔ First (linesOf c) s n
+unfolding does
+refusal-exact c s n = ((λ e. first-to (linesOf c) s n (outcome-refuses (firstLine (linesOf c) s) (accepted c s) n e)), (λ f. rw (first-from (linesOf c) s n f)))
+
+-- it is accepted, with what the table of commands says, exactly where no line holds
+pub accepted-exact : (c : Command) (s : Store) (s′ : Store) (a : List ℕ) → (does c s ≡ accepts s′ a) ↔ (NoneHolds (linesOf c) s × ((accepted c s) .store ≡ s′) × ((accepted c s) .answer ≡ a))
+unfolding does
+accepted-exact c s s′ a = (
+  (λ e. let o = outcome-accepts (firstLine (linesOf c) s) (accepted c s) s′ a e in (none-to (linesOf c) s (o .0), o .1, o .2)),
+  (λ h. rw (none-from (linesOf c) s (h .0)) (ap₂ accepts (h .1) (h .2))),
+)
+
+-- the same as laws to rewrite by
+pub does-refuses : (c : Command) (s : Store) (n : ℕ) → firstLine (linesOf c) s ≡ some n → does c s ≡ refuses n
+unfolding does
+does-refuses c s n e = rw e
+
+pub does-accepts : (c : Command) (s : Store) → firstLine (linesOf c) s ≡ none → does c s ≡ accepts ((accepted c s) .store) ((accepted c s) .answer)
+unfolding does
+does-accepts c s e = rw e
+
+-- the numbers of a list of lines
+abbrev pub NumbersIn : {A : Type 0} → ℕ → ℕ → List (Line A) → Type 0
+NumbersIn a b [] = Unit {0}
+NumbersIn a b (l ∷ ls) = (a ≤ l .number) × (l .number ≤ b) × NumbersIn a b ls
+
+pub first-number : {A : Type 0} (ls : List (Line A)) (x : A) (a b n : ℕ) → NumbersIn a b ls → firstLine ls x ≡ some n → (a ≤ n) × (n ≤ b)
+first-number [] x a b n h e = absurd (some-none (sym e))
+first-number (l ∷ ls) x a b n h e =
+    bool-cases (l .holds x)
+    (λ t. let p : l .number ≡ n = some-eq (rw t at e) in (omega (arith, h .0), omega (arith, h .1)))
+    (λ t. first-number ls x a b n (h .2) (rw t at e))
+
+pub lines-numbers : (c : Command) → NumbersIn 7 15 (linesOf c)
+unfolding linesOf
+lines-numbers (REG k) = omega arith
+lines-numbers (HOLD k v) = omega arith
+lines-numbers NEW = omega arith
+lines-numbers (PUT e) = omega arith
+lines-numbers (TAKE e) = omega arith
+lines-numbers (DROP e) = omega arith
+lines-numbers (KILL e) = omega arith
+lines-numbers WIPE = tt
+lines-numbers GROUP = omega arith
+lines-numbers APPLY = tt
+lines-numbers (BAR k) = omega arith
+lines-numbers RANGE = tt
+lines-numbers EMPTY = tt
+lines-numbers TALLY = tt
+
+-- a command's refusal is one of 7 to 15
+pub refusal-number : (c : Command) (s : Store) (n : ℕ) → does c s ≡ refuses n → (7 ≤ n) × (n ≤ 15)
+unfolding does
+refusal-number c s n e = first-number (linesOf c) s 7 15 n (lines-numbers c) (outcome-refuses (firstLine (linesOf c) s) (accepted c s) n e)
+
+-- ---- what a refused command changes: the refusal count alone, which saturates
+
+pub record Refused (n w : ℕ) (s : Store) (p : Step) : Type 0 where
+  pub after : Store
+  pub step : p ≡ goes w (n ∷ []) after
+  pub same : Unchanged s after
+  pub more : s .control .refusals < 4294967295 → after .control .refusals ≡ suc (s .control .refusals)
+  pub full : 4294967295 ≤ s .control .refusals → after .control .refusals ≡ s .control .refusals
+
+-- "7 to 15 in a run write their number as one byte, add to the tally, change no other word, and the run goes on."
+pub refused-step : (w : ℕ) (c : Command) (s : Store) (n : ℕ) → does c s ≡ refuses n → Refused n w s (stepOf w s (does c s))
+refused-step w c s n e =
+    record {
+      after = withControl s (counted (s .control));
+      step = rw e;
+      same = record { capacity = refl; kindCapacity = refl; kinds = refl; entities = refl; storage = refl; staged = refl; excluded = refl; draft = refl };
+      more = λ h. rw (lt-ltb (s .control .refusals) 4294967295 h);
+      full = λ h. rw (le-ltb (s .control .refusals) 4294967295 h);
+    }
+
+-- ---- stops
+
+stepIf-stops : (r : Option ℕ) (p : Step) (n : ℕ) → ((m : ℕ) → p ≡ stops m → ⊥) → stepIf r p ≡ stops n → r ≡ some n
+stepIf-stops (some m) p n f e = ap {B = Option ℕ} some (stops-eq e)
+  where
+    stops-eq : {a b : ℕ} → stops a ≡ stops b → a ≡ b
+    stops-eq q = cc
+stepIf-stops none p n f e = absurd (f n e)
+
+stepOf-goes : (w : ℕ) (s : Store) (o : Outcome) (m : ℕ) → stepOf w s o ≡ stops m → ⊥
+stepOf-goes w s (refuses n) m e = let z : _≡_ {A = ℕ} 0 1 = cc in omega arith
+stepOf-goes w s (accepts t a) m e = let z : _≡_ {A = ℕ} 0 1 = cc in omega arith
+
+-- a run stops before a command exactly where the table gives the number, one of 4 to 6
+pub stop-exact : (b : ℕ) (t : List ℕ) (room : ℕ) (s : Store) (n : ℕ) → (step b t room s ≡ stops n) ↔ First beforeLines (record { byte = b; rest = t; room = room; store = s }) n
+unfolding step
+stop-exact b t room s n = (
+  (λ e. first-to beforeLines (record { byte = b; rest = t; room = room; store = s }) n (stepIf-stops (firstLine beforeLines (record { byte = b; rest = t; room = room; store = s })) (stepOf (suc (width b)) s (does (commandAt b (take (width b) t)) s)) n (stepOf-goes (suc (width b)) s (does (commandAt b (take (width b) t)) s)) e)),
+  (λ f. ap (λ (r : Option ℕ). stepIf r (stepOf (suc (width b)) s (does (commandAt b (take (width b) t)) s))) (first-from beforeLines (record { byte = b; rest = t; room = room; store = s }) n f)),
+)
+
+pub stop-number : (b : ℕ) (t : List ℕ) (room : ℕ) (s : Store) (n : ℕ) → step b t room s ≡ stops n → (4 ≤ n) × (n ≤ 6)
+stop-number b t room s n e =
+    let f = stop-exact b t room s n .0 e in
+    first-number beforeLines (record { byte = b; rest = t; room = room; store = s }) 4 6 n (omega arith) (first-from beforeLines (record { byte = b; rest = t; room = room; store = s }) n f)

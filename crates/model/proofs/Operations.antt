@@ -1,0 +1,308 @@
+-- Each operation keeps a store sound, one law an operation, for the commands here and for the functions of the crates above. Assumes nothing.
+use mathlib.Core.Path.{_≡_, refl, ap, ap₂, sym, _∙_, subst}
+use mathlib.Core.Bool.{Bool, true, false, cond, _&&_, _||_, true≢false, false≢true}
+use mathlib.Core.List.{List, [], _∷_, _++_, map}
+use Prim.Native.Nat.{ℕ, zero, suc, _+_, _-_, _≤_, _<_}
+use native.Mathlib.Omega.{arith}
+use borrow.Author.Tests.{ltb-true, ltb-false, leb-false, lt-ltb, eqb-true, eq-eqb}
+use lib.Dec.{ltb, leb, eqb, lit<}
+use lib.ListN.{length, getD, replicate, length-append, length-map, length-replicate}
+use Rattle.model.specs.Lists.{one, place-count, count-place}
+use Rattle.model.specs.Model.{Entity, Entities, SparseSet, Row, Family, Component, Storage, Created, sameEntity, noRow, mem, setOf, keys, entityOf, kindOf, groupsOf, isLive, insert, remove, clearAll, setLayout, create, createWith, destroy}
+use Rattle.model.specs.Store.{Control, Store, empty, withControl, withStorage, withAll, withKinds, emptyStaged, emptyBoth, withStaged, withExcluded, withDraft, counted}
+use Rattle.model.specs.Sound.{Eight, noComponent, Limits, KindsSound, EntitiesSound, SetsSound, StagedSound, ExcludedSound, layoutKinds, Buildable, AllUncounted, Right, AllRight, Sound, Distinct}
+use Rattle.model.proofs.SparseSets.{entity-eq, entity-same, cond-case, key}
+use Rattle.model.proofs.Groups.{cnt, In}
+use Rattle.model.proofs.Walk.{bool-cases, in-cases, in-left, or-cases, or-false, mem-append}
+use Rattle.model.proofs.Invariant.{Fit}
+use Rattle.model.proofs.Numbers.{EntitiesOk, create-ok, create-live}
+use Rattle.model.proofs.Values.{AllOf, ColsOk, StagedOk, insert-ok, remove-ok, setLayout-ok, clearAll-ok}
+use Rattle.model.proofs.KindLists.{not-true, out-count, distinct-snoc}
+use Rattle.model.proofs.Shape.{plain, buildable-plain, insert-plain, remove-plain, setLayout-plain, clearAll-plain}
+use Rattle.model.proofs.Draft.{DraftSound}
+use Rattle.model.proofs.Held.{Held, insert-held, remove-held, destroy-held, removed-none, clearAll-held, apply-held, held-right, right-fams, distinct-families, buildable-fresh}
+
+pub eight0 : Eight 0
+eight0 = lit< tt
+
+-- ---- the two forms of soundness
+
+-- a sparse set with no entity has no row
+no-rows : (rows : SparseSet) → ((x : Entity) → cnt x (keys rows) ≡ 0) → rows ≡ []
+no-rows [] h = refl
+no-rows (r ∷ rows) h = absurd (omega (arith, h (r .entity), ap one (entity-same (r .entity))))
+
+pub sound-held : (s : Store) → Sound s → Held (s .entities) (s .kinds) (s .storage)
+sound-held s S =
+    record {
+      numbers = record { single = S .entities .single; below = S .entities .below; positive = S .entities .positive; small = S .entities .small };
+      fit = record {
+        once = S .sets .once;
+        fams = right-fams (s .storage .sets) (s .entities .live) (S .sets .alive) (s .storage .layout) (S .layout .families) (S .groups);
+        apart = distinct-families (s .storage .layout) (S .layout .once);
+        wide = S .sets .wide;
+      };
+      alive = S .sets .alive;
+      bare = λ k n x. ap (λ (c : SparseSet). cnt x (keys c)) (S .sets .bare k n);
+      small = S .kinds .small;
+    }
+
+-- hand, bar, draft and refusal count
+pub record ControlSound (kinds : List ℕ) (d : Control) : Type 0 where
+  pub staged : StagedSound kinds (d .staged)
+  pub excluded : ExcludedSound kinds (d .excluded)
+  pub draft : DraftSound kinds (d .draft)
+  pub refusals : d .refusals ≤ 4294967295
+
+pub control-of : (s : Store) → Sound s → ControlSound (s .kinds) (s .control)
+control-of s S = record { staged = S .staged; excluded = S .excluded; draft = record { buildable = S .draft; uncounted = S .uncounted }; refusals = S .refusals }
+
+-- a store whose parts are sound
+make : (s : Store) → Limits (s .capacity) (s .kindCapacity) → KindsSound (s .kindCapacity) (s .kinds) → s .entities .issued ≤ s .capacity → Held (s .entities) (s .kinds) (s .storage) → ColsOk Eight eight0 (s .storage .sets) → Buildable (s .kinds) (s .storage .layout) → ControlSound (s .kinds) (s .control) → Sound s
+make s limits kinds few H values layout C =
+    record {
+      limits = limits;
+      kinds = kinds;
+      entities = record { few = few; below = H .numbers .below; single = H .numbers .single; positive = H .numbers .positive; small = H .numbers .small };
+      sets = record { wide = H .fit .wide; bare = λ k n. no-rows (setOf (s .storage .sets) k) (H .bare k n); alive = H .alive; once = H .fit .once; values = values };
+      staged = C .staged;
+      excluded = C .excluded;
+      draft = C .draft .buildable;
+      uncounted = C .draft .uncounted;
+      layout = layout;
+      groups = held-right (s .entities) (s .kinds) (s .storage) H;
+      refusals = C .refusals;
+    }
+
+-- ---- live entities
+
+pub live-count : (e : Entity) (c : Entities) → isLive e c ≡ true → 1 ≤ cnt e (c .live)
+live-count e c t = place-count sameEntity e (c .live) (ltb-true _ _ t)
+
+pub count-live : (e : Entity) (c : Entities) → 1 ≤ cnt e (c .live) → isLive e c ≡ true
+count-live e c h = lt-ltb _ _ (count-place sameEntity e (c .live) h)
+
+-- the entity that is created is live
+pub create-is-live : (c : Entities) → isLive ((create c) .entity) ((create c) .entities) ≡ true
+create-is-live c = count-live ((create c) .entity) ((create c) .entities) (omega (arith, create-live c ((create c) .entity), ap one (entity-same ((create c) .entity))))
+
+-- ---- hand, bar, draft, refusal count
+
+staged-ok : (l : List Component) → ((j : ℕ) → Eight (getD l j noComponent .value)) → StagedOk Eight eight0 l
+staged-ok [] h = tt
+staged-ok (p ∷ ps) h = (h 0, staged-ok ps (λ j. h (suc j)))
+
+pub map-snoc : (l : List Component) (p : Component) → map kindOf (l ++ (p ∷ [])) ≡ map kindOf l ++ (p .kind ∷ [])
+map-snoc [] p = refl
+map-snoc (q ∷ l) p = ap {B = List ℕ} (λ r. q .kind ∷ r) (map-snoc l p)
+
+values-snoc : (l : List Component) (p : Component) → Eight (p .value) → ((j : ℕ) → Eight (getD l j noComponent .value)) → (j : ℕ) → Eight (getD (l ++ (p ∷ [])) j noComponent .value)
+values-snoc [] p v h zero = v
+values-snoc [] p v h (suc j) = eight0
+values-snoc (q ∷ l) p v h zero = h 0
+values-snoc (q ∷ l) p v h (suc j) = values-snoc l p v (λ i. h (suc i)) j
+
+pub in-one : (k j : ℕ) → In (j ∷ []) k → k ≡ j
+in-one k j i = or-cases (eqb k j) false i (λ t. eqb-true k j t) (λ t. absurd (false≢true t))
+
+known-snoc : (kinds l : List ℕ) (k : ℕ) → In kinds k → ((j : ℕ) → In l j → In kinds j) → (j : ℕ) → In (l ++ (k ∷ [])) j → In kinds j
+known-snoc kinds l k known h j i = in-cases l (k ∷ []) j i (h j) (λ u. rw (in-one j k u) known)
+
+pub no-staged : (kinds : List ℕ) → StagedSound kinds []
+no-staged kinds = record { few = omega arith; once = λ k. omega arith; known = λ k i. absurd (false≢true i); values = λ j. eight0 }
+
+pub no-excluded : (kinds : List ℕ) → ExcludedSound kinds []
+no-excluded kinds = record { few = omega arith; once = λ k. omega arith; known = λ k i. absurd (false≢true i) }
+
+pub no-draft : (kinds : List ℕ) → DraftSound kinds []
+no-draft kinds = record { buildable = record { families = tt; once = λ k. omega arith; known = λ k i. absurd (false≢true i); few = omega arith }; uncounted = tt }
+
+module _ (kinds : List ℕ) (d : Control) (C : ControlSound kinds d) where
+  pub emptyStaged-sound : ControlSound kinds (emptyStaged d)
+  emptyStaged-sound = record { staged = no-staged kinds; excluded = C .excluded; draft = C .draft; refusals = C .refusals }
+
+  pub emptyBoth-sound : ControlSound kinds (emptyBoth d)
+  emptyBoth-sound = record { staged = no-staged kinds; excluded = no-excluded kinds; draft = C .draft; refusals = C .refusals }
+
+  -- one component more in the hand
+  pub stage-sound : (k v : ℕ) → In kinds k → mem k (map kindOf (d .staged)) ≡ false → length (d .staged) < 16 → Eight v → ControlSound kinds (withStaged d (d .staged ++ (record { kind = k; value = v } ∷ [])))
+  stage-sound k v known new few fits =
+      record {
+        staged = record {
+          few = rw (length-append (d .staged) (record { kind = k; value = v } ∷ [])) (omega arith);
+          once = rw (map-snoc (d .staged) (record { kind = k; value = v })) (distinct-snoc (map kindOf (d .staged)) k (C .staged .once) new);
+          known = rw (map-snoc (d .staged) (record { kind = k; value = v })) (known-snoc kinds (map kindOf (d .staged)) k known (C .staged .known));
+          values = values-snoc (d .staged) (record { kind = k; value = v }) fits (C .staged .values);
+        };
+        excluded = C .excluded;
+        draft = C .draft;
+        refusals = C .refusals;
+      }
+
+  -- one kind more in the bar
+  pub exclude-sound : (k : ℕ) → In kinds k → mem k (d .excluded) ≡ false → length (d .excluded) < 16 → ControlSound kinds (withExcluded d (d .excluded ++ (k ∷ [])))
+  exclude-sound k known new few =
+      record {
+        staged = C .staged;
+        excluded = record {
+          few = rw (length-append (d .excluded) (k ∷ [])) (omega arith);
+          once = distinct-snoc (d .excluded) k (C .excluded .once) new;
+          known = known-snoc kinds (d .excluded) k known (C .excluded .known);
+        };
+        draft = C .draft;
+        refusals = C .refusals;
+      }
+
+  pub draft-sound : (fs : List Family) → DraftSound kinds fs → ControlSound kinds (withDraft d fs)
+  draft-sound fs D = record { staged = C .staged; excluded = C .excluded; draft = D; refusals = C .refusals }
+
+  pub counted-sound : ControlSound kinds (counted d)
+  counted-sound =
+      record {
+        staged = C .staged;
+        excluded = C .excluded;
+        draft = C .draft;
+        refusals = cond-case (λ (n : ℕ). n ≤ 4294967295) (ltb (d .refusals) 4294967295) _ _ (λ t. omega (arith, ltb-true (d .refusals) 4294967295 t)) (λ t. C .refusals);
+      }
+
+-- ---- more kinds are registered
+
+buildable-more : (kinds more : List ℕ) → ((j : ℕ) → In kinds j → In more j) → (fs : List Family) → Buildable kinds fs → Buildable more fs
+buildable-more kinds more sub fs b = record { families = b .families; once = b .once; known = λ j i. sub j (b .known j i); few = b .few }
+
+control-more : (kinds more : List ℕ) → ((j : ℕ) → In kinds j → In more j) → (d : Control) → ControlSound kinds d → ControlSound more d
+control-more kinds more sub d C =
+    record {
+      staged = record { few = C .staged .few; once = C .staged .once; known = λ j i. sub j (C .staged .known j i); values = C .staged .values };
+      excluded = record { few = C .excluded .few; once = C .excluded .once; known = λ j i. sub j (C .excluded .known j i) };
+      draft = record { buildable = buildable-more kinds more sub (d .draft) (C .draft .buildable); uncounted = C .draft .uncounted };
+      refusals = C .refusals;
+    }
+
+-- ---- the store
+
+issued-with : (w : List Entity) (c : Entities) (n : ℕ) → c .issued ≤ n → (eqb (length w) 0 && leb n (c .issued)) ≡ false → (createWith w c) .entities .issued ≤ n
+issued-with [] c n le t = leb-false n (c .issued) t
+issued-with (e ∷ es) c n le t = le
+
+issued-new : (c : Entities) (n : ℕ) → c .issued ≤ n → (eqb (length (c .recycled)) 0 && leb n (c .issued)) ≡ false → (create c) .entities .issued ≤ n
+unfolding create
+issued-new c n le t = issued-with (c .recycled) c n le t
+
+issued-old : (e : Entity) (c : Entities) (n : ℕ) → c .issued ≤ n → (destroy e c) .issued ≤ n
+unfolding destroy
+issued-old e c n le = le
+
+module _ (s : Store) (S : Sound s) where
+  abbrev H : Held (s .entities) (s .kinds) (s .storage)
+  H = sound-held s S
+
+  abbrev C : ControlSound (s .kinds) (s .control)
+  C = control-of s S
+
+  pub control-sound : (d : Control) → ControlSound (s .kinds) d → Sound (withControl s d)
+  control-sound d D = make (withControl s d) (S .limits) (S .kinds) (S .entities .few) H (S .sets .values) (S .layout) D
+
+  -- REG of a new kind
+  pub register-sound : (k : ℕ) → k < 128 → mem k (s .kinds) ≡ false → length (s .kinds) < s .kindCapacity → Sound (withKinds s (s .kinds ++ (k ∷ [])))
+  register-sound k lt new few =
+      let sub : (j : ℕ) → In (s .kinds) j → In (s .kinds ++ (k ∷ [])) j = in-left (s .kinds) (k ∷ []) in
+      make (withKinds s (s .kinds ++ (k ∷ []))) (S .limits)
+      (record {
+        few = rw (length-append (s .kinds) (k ∷ [])) (omega arith);
+        once = distinct-snoc (s .kinds) k (S .kinds .once) new;
+        small = λ j i. in-cases (s .kinds) (k ∷ []) j i (S .kinds .small j) (λ u. omega (arith, in-one j k u));
+      })
+      (S .entities .few)
+      (record {
+        numbers = H .numbers;
+        fit = H .fit;
+        alive = H .alive;
+        bare = λ j n x. H .bare j (or-false (mem j (s .kinds)) (mem j (k ∷ [])) (sym (mem-append j (s .kinds) (k ∷ [])) ∙ n)) x;
+        small = λ j i. in-cases (s .kinds) (k ∷ []) j i (H .small j) (λ u. omega (arith, in-one j k u));
+      })
+      (S .sets .values) (buildable-more (s .kinds) (s .kinds ++ (k ∷ [])) sub (s .storage .layout) (S .layout)) (control-more (s .kinds) (s .kinds ++ (k ∷ [])) sub (s .control) C)
+
+  -- an entity is created, with no components; `full` is 12's line
+  pub create-sound : (eqb (length (s .entities .recycled)) 0 && leb (s .capacity) (s .entities .issued)) ≡ false → Sound (withAll s ((create (s .entities)) .entities) (s .storage) (s .control))
+  create-sound room =
+      make (withAll s ((create (s .entities)) .entities) (s .storage) (s .control)) (S .limits) (S .kinds) (issued-new (s .entities) (s .capacity) (S .entities .few) room)
+      (record {
+        numbers = create-ok (s .entities) (H .numbers);
+        fit = H .fit;
+        alive = λ x k i. omega (arith, create-live (s .entities) x, H .alive x k i);
+        bare = H .bare;
+        small = H .small;
+      })
+      (S .sets .values) (S .layout) C
+
+  -- an entity that holds nothing is destroyed
+  pub destroy-sound : (e : Entity) → isLive e (s .entities) ≡ true → ((k : ℕ) → cnt e (key (s .storage .sets) k) ≡ 0) → Sound (withAll s (destroy e (s .entities)) (s .storage) (s .control))
+  destroy-sound e live none =
+      make (withAll s (destroy e (s .entities)) (s .storage) (s .control)) (S .limits) (S .kinds) (issued-old e (s .entities) (s .capacity) (S .entities .few))
+      (destroy-held (s .entities) (s .kinds) (s .storage) H e (live-count e (s .entities) live) none) (S .sets .values) (S .layout) C
+
+  -- components go into a live entity
+  pub insert-sound : (e : Entity) (staged : List Component) → isLive e (s .entities) ≡ true → StagedSound (s .kinds) staged → Sound (withStorage s (insert e staged (s .storage)) (s .control))
+  insert-sound e staged live h =
+      make (withStorage s (insert e staged (s .storage)) (s .control)) (S .limits) (S .kinds) (S .entities .few)
+      (insert-held (s .entities) (s .kinds) (s .storage) H (s .entities) (H .numbers) (λ x i. i) e staged (h .known) (live-count e (s .entities) live))
+      (insert-ok Eight eight0 e staged (s .storage) (staged-ok staged (h .values)) (S .sets .values))
+      (buildable-plain (s .kinds) (s .storage .layout) ((insert e staged (s .storage)) .layout) (insert-plain e staged (s .storage)) (S .layout)) C
+
+  -- components of some kinds go; the entity need not be live
+  pub remove-sound : (e : Entity) (gone : List ℕ) → Sound (withStorage s (remove e gone (s .storage)) (s .control))
+  remove-sound e gone =
+      make (withStorage s (remove e gone (s .storage)) (s .control)) (S .limits) (S .kinds) (S .entities .few) (remove-held (s .entities) (s .kinds) (s .storage) H e gone)
+      (remove-ok Eight eight0 e gone (s .storage) (S .sets .values))
+      (buildable-plain (s .kinds) (s .storage .layout) ((remove e gone (s .storage)) .layout) (remove-plain e gone (s .storage)) (S .layout)) C
+
+  pub clearAll-sound : Sound (withStorage s (clearAll (s .storage)) (s .control))
+  clearAll-sound =
+      make (withStorage s (clearAll (s .storage)) (s .control)) (S .limits) (S .kinds) (S .entities .few) (clearAll-held (s .entities) (s .kinds) (s .storage) H) (clearAll-ok Eight eight0 (s .storage))
+      (buildable-plain (s .kinds) (s .storage .layout) ((clearAll (s .storage)) .layout) (clearAll-plain (s .storage)) (S .layout)) C
+
+  -- a layout is applied
+  pub setLayout-sound : (fs : List Family) → DraftSound (s .kinds) fs → Sound (withStorage s (setLayout (s .entities .live) fs (s .storage)) (s .control))
+  setLayout-sound fs D =
+      make (withStorage s (setLayout (s .entities .live) fs (s .storage)) (s .control)) (S .limits) (S .kinds) (S .entities .few)
+      (apply-held (s .entities) (s .kinds) (s .storage) H fs (buildable-fresh fs (D .buildable .families) (D .uncounted)) (distinct-families fs (D .buildable .once)))
+      (setLayout-ok Eight eight0 (s .entities .live) fs (s .storage) (S .sets .values))
+      (buildable-plain (s .kinds) fs ((setLayout (s .entities .live) fs (s .storage)) .layout) (setLayout-plain (s .entities .live) fs (s .storage)) (D .buildable)) C
+
+-- a live entity is stripped of all its components and destroyed
+pub kill-sound : (s : Store) → Sound s → (e : Entity) → isLive e (s .entities) ≡ true → Sound (withAll s (destroy e (s .entities)) (remove e (s .kinds) (s .storage)) (s .control))
+kill-sound s S e live = destroy-sound (withStorage s (remove e (s .kinds) (s .storage)) (s .control)) (remove-sound s S e (s .kinds)) e live (removed-none (s .entities) (s .kinds) (s .storage) (sound-held s S) e)
+
+-- ---- the empty store
+
+setOf-empty : (n k : ℕ) → setOf (replicate n []) k ≡ []
+setOf-empty zero k = refl
+setOf-empty (suc n) zero = refl
+setOf-empty (suc n) (suc k) = setOf-empty n k
+
+pub empty-sound : (n k : ℕ) → Limits n k → Sound (empty n k)
+unfolding empty
+empty-sound n k limits =
+    record {
+      limits = limits;
+      kinds = record { few = omega arith; once = λ j. omega arith; small = λ j i. absurd (false≢true i) };
+      entities = record { few = omega arith; below = λ i h. absurd (omega arith); single = λ i. omega arith; positive = λ x h. absurd (omega arith); small = λ x h. absurd (omega arith) };
+      sets = record {
+        wide = length-replicate {A = SparseSet} 128 [];
+        bare = λ j m. setOf-empty 128 j;
+        alive = λ x j h. absurd (omega (arith, none x j));
+        once = λ x j. omega (arith, none x j);
+        values = λ j i. rw (setOf-empty 128 j) eight0;
+      };
+      staged = no-staged [];
+      excluded = no-excluded [];
+      draft = no-draft [] .buildable;
+      uncounted = tt;
+      layout = no-draft [] .buildable;
+      groups = tt;
+      refusals = omega arith;
+    }
+  where
+    none : (x : Entity) (j : ℕ) → cnt x (key (replicate 128 []) j) ≡ 0
+    none x j = ap (λ (c : SparseSet). cnt x (keys c)) (setOf-empty 128 j)

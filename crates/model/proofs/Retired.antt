@@ -1,0 +1,122 @@
+-- "From an empty store, numbers issued = live + waiting + retired; retired counts past destructions at the last version." Assumes nothing.
+use mathlib.Core.Path.{_≡_, refl, ap, sym, _∙_}
+use mathlib.Core.Bool.{Bool, true, false, cond, not, _&&_, true≢false, false≢true}
+use mathlib.Core.List.{List, [], _∷_, _++_, map}
+use Prim.Native.Nat.{ℕ, zero, suc, _+_, _-_, _≤_, _<_}
+use native.Mathlib.Omega.{arith}
+use native.Mathlib.Nat.{add-zero, zero-add}
+use borrow.Author.Tests.{ltb-true, ltb-false, le-leb, lt-leb}
+use lib.Dec.{ltb, leb}
+use lib.ListN.{length, take, drop, getD, set, length-append, length-set}
+use lib.Seq.{length-take-le}
+use Rattle.model.specs.Lists.{one, place}
+use Rattle.model.specs.Model.{Entity, Entities, Created, sameEntity, noEntity, isLive, addsNothing, lastVersion, create, createWith, destroy}
+use Rattle.model.specs.Store.{Store, empty, stagedKinds, isKind}
+use Rattle.model.specs.Commands.{Command, REG, HOLD, NEW, PUT, TAKE, DROP, KILL, WIPE, GROUP, APPLY, BAR, RANGE, EMPTY, TALLY, Done, accepted, width, commandAt}
+use Rattle.model.specs.Refusals.{NoneHolds, linesOf, beforeLines}
+use Rattle.model.specs.Run.{Outcome, refuses, accepts, does, Step, stops, goes, stepOf, step, Ran, halt, more, runFor, run}
+use Rattle.model.specs.History.{retires, retiredFor, retired}
+use Rattle.model.proofs.SparseSets.{cond-case}
+use Rattle.model.proofs.Walk.{bool-cases}
+use Rattle.model.proofs.Lines.{outcome-case, none-to, refusal-exact, accepted-exact}
+use Rattle.model.proofs.Lengths.{Going, step-case}
+
+-- the numbers issued are live, waiting, or among the r retired
+abbrev pub Balanced : Entities → ℕ → Type 0
+Balanced c r = c .issued ≡ length (c .live) + length (c .recycled) + r
+
+-- ---- creation and destruction
+
+create-with : (w : List Entity) (c : Entities) (r : ℕ) → c .recycled ≡ w → Balanced c r → Balanced ((createWith w c) .entities) r
+create-with [] c r p b = omega (arith, b, ap length p, length-append (c .live) (record { index = c .issued; version = 1 } ∷ []))
+create-with (e ∷ es) c r p b = omega (arith, b, ap length p, length-append (c .live) (e ∷ []))
+
+create-balanced : (c : Entities) (r : ℕ) → Balanced c r → Balanced ((create c) .entities) r
+unfolding create
+create-balanced c r b = create-with (c .recycled) c r refl b
+
+destroy-balanced : (e : Entity) (c : Entities) (r : ℕ) → isLive e c ≡ true → Balanced c r → Balanced (destroy e c) (r + one (isLive e c && leb lastVersion (e .version)))
+unfolding destroy
+destroy-balanced e c r live b =
+    let at : place sameEntity e (c .live) < length (c .live) = ltb-true (place sameEntity e (c .live)) (length (c .live)) live in
+    let n : length (take (length (c .live) - 1) (set (c .live) (place sameEntity e (c .live)) (getD (c .live) (length (c .live) - 1) noEntity))) ≡ length (c .live) - 1 = length-take-le (length (c .live) - 1) (set (c .live) (place sameEntity e (c .live)) (getD (c .live) (length (c .live) - 1) noEntity)) (rw (length-set (c .live) (place sameEntity e (c .live)) (getD (c .live) (length (c .live) - 1) noEntity)) (omega arith)) in
+    rw live
+    (bool-cases (ltb (e .version) lastVersion)
+    (λ t. rw (t, lt-leb lastVersion (e .version) (ltb-true (e .version) lastVersion t)) (omega (arith, b, n, at, length-append (c .recycled) (record { index = e .index; version = suc (e .version) } ∷ []))))
+    (λ t. rw (t, le-leb lastVersion (e .version) (ltb-false (e .version) lastVersion t)) (omega (arith, b, n, at))))
+
+-- ---- commands
+
+not-false : (b : Bool) → not b ≡ false → b ≡ true
+not-false true h = refl
+not-false false h = absurd (true≢false h)
+
+kept : (c : Entities) (r : ℕ) → Balanced c r → Balanced c (r + 0)
+kept c r b = rw (add-zero r) b
+
+accepted-balanced : (c : Command) (s : Store) (r : ℕ) → NoneHolds (linesOf c) s → Balanced (s .entities) r → Balanced ((accepted c s) .store .entities) (r + retires c s)
+unfolding accepted linesOf
+accepted-balanced (REG k) s r n b = cond-case (λ (d : Done). Balanced (d .store .entities) (r + 0)) (isKind k s) _ _ (λ t. kept (s .entities) r b) (λ t. kept (s .entities) r b)
+accepted-balanced (HOLD k v) s r n b = kept (s .entities) r b
+accepted-balanced NEW s r n b = kept ((create (s .entities)) .entities) r (create-balanced (s .entities) r b)
+accepted-balanced (PUT e) s r n b = kept (s .entities) r b
+accepted-balanced (TAKE e) s r n b = kept (s .entities) r b
+accepted-balanced (DROP e) s r n b = kept (s .entities) r b
+accepted-balanced (KILL e) s r n b = destroy-balanced e (s .entities) r (not-false (isLive e (s .entities)) (n .0)) b
+accepted-balanced WIPE s r n b = kept (s .entities) r b
+accepted-balanced GROUP s r n b = cond-case (λ (d : Done). Balanced (d .store .entities) (r + 0)) (addsNothing (stagedKinds s) (s .control .draft)) _ _ (λ t. kept (s .entities) r b) (λ t. kept (s .entities) r b)
+accepted-balanced APPLY s r n b = kept (s .entities) r b
+accepted-balanced (BAR k) s r n b = kept (s .entities) r b
+accepted-balanced RANGE s r n b = kept (s .entities) r b
+accepted-balanced EMPTY s r n b = kept (s .entities) r b
+accepted-balanced TALLY s r n b = kept (s .entities) r b
+
+-- a refused command retires nothing
+refused-retires : (c : Command) (s : Store) → (NoneHolds (linesOf c) s → ⊥) → retires c s ≡ 0
+unfolding linesOf
+refused-retires (REG k) s f = refl
+refused-retires (HOLD k v) s f = refl
+refused-retires NEW s f = refl
+refused-retires (PUT e) s f = refl
+refused-retires (TAKE e) s f = refl
+refused-retires (DROP e) s f = refl
+refused-retires (KILL e) s f = bool-cases (isLive e (s .entities)) (λ t. absurd (f (rw t, tt))) (λ t. rw t)
+refused-retires WIPE s f = refl
+refused-retires GROUP s f = refl
+refused-retires APPLY s f = refl
+refused-retires (BAR k) s f = refl
+refused-retires RANGE s f = refl
+refused-retires EMPTY s f = refl
+refused-retires TALLY s f = refl
+
+-- ---- steps and runs
+
+step-balanced : (b : ℕ) (t : List ℕ) (room : ℕ) (s : Store) (r : ℕ) → Balanced (s .entities) r → Going (λ w a s′. Balanced (s′ .entities) (r + retires (commandAt b (take (width b) t)) s)) (step b t room s)
+step-balanced b t room s r h = step-case (Going (λ w a s′. Balanced (s′ .entities) (r + retires (commandAt b (take (width b) t)) s))) b t room s (λ n. tt) (λ q. go (does (commandAt b (take (width b) t)) s) refl)
+  where
+    go : (o : Outcome) → does (commandAt b (take (width b) t)) s ≡ o → Going (λ w a s′. Balanced (s′ .entities) (r + retires (commandAt b (take (width b) t)) s)) (stepOf (suc (width b)) s o)
+    go (refuses n) e = rw (refused-retires (commandAt b (take (width b) t)) s (λ nh. clash n e (accepted-exact (commandAt b (take (width b) t)) s _ _ .1 (nh, refl, refl)))) (kept (s .entities) r h)
+      where
+        clash : (n : ℕ) {s′ : Store} {a : List ℕ} → does (commandAt b (take (width b) t)) s ≡ refuses n → does (commandAt b (take (width b) t)) s ≡ accepts s′ a → ⊥
+        clash n p q = let z : _≡_ {A = ℕ} 0 1 = cc in omega arith
+    go (accepts s′ a) e =
+        let x = accepted-exact (commandAt b (take (width b) t)) s s′ a .0 e in
+        ap (λ (z : Store). z .entities .issued) (sym (x .1)) ∙ accepted-balanced (commandAt b (take (width b) t)) s r (x .0) h ∙ ap (λ (z : Store). length (z .entities .live) + length (z .entities .recycled) + (r + retires (commandAt b (take (width b) t)) s)) (x .1)
+
+run-balanced-for : (fuel : ℕ) (t : List ℕ) (room : ℕ) (s : Store) (r : ℕ) → Balanced (s .entities) r → Balanced ((runFor fuel t room s) .store .entities) (r + retiredFor fuel t room s)
+unfolding runFor retiredFor
+run-balanced-for zero t room s r h = kept (s .entities) r h
+run-balanced-for (suc fuel) [] room s r h = kept (s .entities) r h
+run-balanced-for (suc fuel) (b ∷ t) room s r h = go (step b t room s) (step-balanced b t room s r h) (λ w m s′ q. run-balanced-for fuel (drop w (b ∷ t)) m s′ q)
+  where
+    k : ℕ
+    k = retires (commandAt b (take (width b) t)) s
+
+    go : (p : Step) → Going (λ w a s′. Balanced (s′ .entities) (r + k)) p → ((w m : ℕ) (s′ : Store) (q : ℕ) → Balanced (s′ .entities) q → Balanced ((runFor fuel (drop w (b ∷ t)) m s′) .store .entities) (q + retiredFor fuel (drop w (b ∷ t)) m s′)) → Balanced ((elim p as (λ p. Ran) [ stops n ↦ halt n s | goes w a s′ ↦ more w a (runFor fuel (drop w (b ∷ t)) (room - length a) s′) ]) .store .entities) (r + elim p as (λ p. ℕ) [ stops n ↦ 0 | goes w a s′ ↦ k + retiredFor fuel (drop w (b ∷ t)) (room - length a) s′ ])
+    go (stops n) g rec = kept (s .entities) r h
+    go (goes w a s′) g rec = omega (arith, rec w (room - length a) s′ (r + k) g)
+
+-- after every tape from an empty store
+pub issued-balance : (t : List ℕ) (room n k : ℕ) → Balanced ((run t room (empty n k)) .store .entities) (retired t room (empty n k))
+unfolding run retired empty
+issued-balance t room n k = rw (zero-add (retiredFor (length t) t room (empty n k))) at (run-balanced-for (length t) t room (empty n k) 0 refl)

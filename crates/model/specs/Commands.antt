@@ -1,0 +1,124 @@
+-- The fourteen commands: how they are read, what an accepted one does and answers, and how long its answer is. Assumes nothing.
+use mathlib.Core.Bool.{Bool, true, false, cond, _&&_}
+use mathlib.Core.List.{List, [], _∷_, _++_, map}
+use Prim.Native.Nat.{ℕ, zero, suc, _+_, _*_}
+use lib.Dec.{leb}
+use lib.ListN.{length, take, drop, getD}
+use Rattle.model.specs.Model.{Entity, SparseSet, Storage, Created, Range, none, found, noRow, setOf, at, held, insert, remove, clearAll, setLayout, range, addsNothing, withGroup, create, destroy}
+use Rattle.model.specs.Store.{Store, le, number, stagedKinds, isKind, withControl, withStorage, withAll, withKinds, emptyStaged, emptyBoth, withStaged, withExcluded, withDraft}
+
+-- a command with its operands
+pub data Command : Type 0 where
+  REG : ℕ → Command
+  HOLD : ℕ → ℕ → Command
+  NEW : Command
+  PUT TAKE DROP KILL : Entity → Command
+  WIPE GROUP APPLY : Command
+  BAR : ℕ → Command
+  RANGE EMPTY TALLY : Command
+
+-- ---- reading a command off the tape: "One command byte, then operands"
+
+-- "Operand widths: a constant table by command byte", from byte 0; only 1 to 14 (0E) are commands
+abbrev pub widths : List ℕ
+widths = 0 ∷ 1 ∷ 9 ∷ 0 ∷ 8 ∷ 8 ∷ 8 ∷ 8 ∷ 0 ∷ 0 ∷ 0 ∷ 1 ∷ 0 ∷ 0 ∷ 0 ∷ []
+
+abbrev pub width : ℕ → ℕ
+width b = getD widths b 0
+
+-- "byte not 01 to 0E" is UNKNOWN
+abbrev pub isCommand : ℕ → Bool
+isCommand b = leb 1 b && leb b 14
+
+-- "index 4, version 4"
+abbrev pub entityOfBytes : List ℕ → Entity
+entityOfBytes bs = record { index = number (take 4 bs); version = number (drop 4 bs) }
+
+-- the command of a byte from 1 to 14 with its operand bytes, in the order of 01's table
+abbrev pub commandAt : ℕ → List ℕ → Command
+commandAt b ops =
+    getD (TALLY ∷ REG (getD ops 0 0) ∷ HOLD (getD ops 0 0) (number (drop 1 ops)) ∷ NEW ∷ PUT (entityOfBytes ops) ∷ TAKE (entityOfBytes ops) ∷ DROP (entityOfBytes ops) ∷ KILL (entityOfBytes ops) ∷ WIPE ∷ GROUP ∷ APPLY ∷ BAR (getD ops 0 0) ∷ RANGE ∷ EMPTY ∷ TALLY ∷ []) b TALLY
+
+-- ---- answers
+
+-- TAKE: "for each in hand order 1 byte held, value 8 (zeros if not held)"
+abbrev pub componentBytes : Entity → SparseSet → List ℕ
+componentBytes e rows =
+    let yes′ : List ℕ = 1 ∷ le 8 (getD rows (at e rows) noRow .value) in
+    let no″ : List ℕ = 0 ∷ le 8 0 in
+    cond (held e rows) yes′ no″
+
+abbrev pub heldBytes : Entity → List ℕ → Storage → List ℕ
+heldBytes e [] p = []
+heldBytes e (k ∷ ks) p = componentBytes e (setOf (p .sets) k) ++ heldBytes e ks p
+
+-- RANGE: "1 byte found, start 4, end 4 (zeros if none)"
+abbrev pub rangeBytes : Range → List ℕ
+rangeBytes none = 0 ∷ le 4 0 ++ le 4 0
+rangeBytes (found a b) = 1 ∷ le 4 a ++ le 4 b
+
+-- how many bytes "the accepted answer .. takes", its 0 byte with them
+abbrev pub answerLength : Command → Store → ℕ
+answerLength (REG k) s = 2
+answerLength (HOLD k v) s = 1
+answerLength NEW s = 9
+answerLength (PUT e) s = 1
+answerLength (TAKE e) s = 1 + 9 * length (s .control .staged)
+answerLength (DROP e) s = 1
+answerLength (KILL e) s = 1
+answerLength WIPE s = 1
+answerLength GROUP s = 2
+answerLength APPLY s = 1
+answerLength (BAR k) s = 1
+answerLength RANGE s = 10
+answerLength EMPTY s = 1
+answerLength TALLY s = 5
+
+-- ---- accepted commands
+
+-- the store after the command, and the answer after the 0 byte
+pub record Done : Type 0 where
+  pub store : Store
+  pub answer : List ℕ
+
+abbrev pub done : Store → List ℕ → Done
+done s a = record { store = s; answer = a }
+
+-- "effect; answer after a 0 byte", row by row. "03 to 06, 09 and 0C, when accepted, empty the hand; 0C also the bar."
+unfoldable pub accepted : Command → Store → Done
+-- "register; 1 byte, 1 new or 0 known"
+accepted (REG k) s =
+    let known = done s (0 ∷ []) in
+    let new = done (withKinds s (s .kinds ++ (k ∷ []))) (1 ∷ []) in
+    cond (isKind k s) known new
+-- "into the hand"
+accepted (HOLD k v) s = done (withControl s (withStaged (s .control) (s .control .staged ++ (record { kind = k; value = v } ∷ [])))) []
+-- "create with the hand; index 4, version 4"
+accepted NEW s =
+    let c = create (s .entities) in
+    done (withAll s (c .entities) (insert (c .entity) (s .control .staged) (s .storage)) (emptyStaged (s .control))) (le 4 (c .entity .index) ++ le 4 (c .entity .version))
+-- "insert the hand"
+accepted (PUT e) s = done (withStorage s (insert e (s .control .staged) (s .storage)) (emptyStaged (s .control))) []
+-- "remove the hand's kinds; for each in hand order 1 byte held, value 8 (zeros if not held)"
+accepted (TAKE e) s = done (withStorage s (remove e (stagedKinds s) (s .storage)) (emptyStaged (s .control))) (heldBytes e (stagedKinds s) (s .storage))
+-- "remove, no values"
+accepted (DROP e) s = done (withStorage s (remove e (stagedKinds s) (s .storage)) (emptyStaged (s .control))) []
+-- "destroy"; "A destroyed card leaves all groups this way, highest first."
+accepted (KILL e) s = done (withAll s (destroy e (s .entities)) (remove e (s .kinds) (s .storage)) (s .control)) []
+-- "all parts go, cards live on"
+accepted WIPE s = done (withStorage s (clearAll (s .storage)) (s .control)) []
+-- "the hand's kinds into the draft; 1 added or 0 nothing added"
+accepted GROUP s =
+    let nothing-added = done (withControl s (emptyStaged (s .control))) (0 ∷ []) in
+    let group-added = done (withControl s (withDraft (emptyStaged (s .control)) (withGroup (stagedKinds s) (s .control .draft)))) (1 ∷ []) in
+    cond (addsNothing (stagedKinds s) (s .control .draft)) nothing-added group-added
+-- "draft becomes layout, draft emptied"
+accepted APPLY s = done (withStorage s (setLayout (s .entities .live) (s .control .draft) (s .storage)) (withDraft (s .control) [])) []
+-- "into the bar"
+accepted (BAR k) s = done (withControl s (withExcluded (s .control) (s .control .excluded ++ (k ∷ [])))) []
+-- "1 byte found, start 4, end 4 (zeros if none)"
+accepted RANGE s = done (withControl s (emptyBoth (s .control))) (rangeBytes (range (stagedKinds s) (s .control .excluded) (s .storage)))
+-- "empties hand and bar"
+accepted EMPTY s = done (withControl s (emptyBoth (s .control))) []
+-- "4 bytes"
+accepted TALLY s = done s (le 4 (s .control .refusals))

@@ -1,0 +1,72 @@
+-- The other entries: *start*, *column*, *roll*. Each gives its number, and zeros beside it where it is refused. Refusal 3 is of the words and is judged
+-- before these (otherLines). Assumes nothing.
+use mathlib.Core.Bool.{Bool, true, false, cond}
+use mathlib.Core.Option.{Option, some, none}
+use mathlib.Core.List.{List, [], _∷_, _++_, map}
+use Prim.Native.Nat.{ℕ, zero, suc, _/_, _%_}
+use lib.ListN.{length, take, drop}
+use Rattle.model.specs.Model.{Entity, Row, SparseSet, setOf, keys}
+use Rattle.model.specs.Store.{Store, empty}
+use Rattle.model.specs.Snapshot.{snapshot}
+use Rattle.model.specs.Refusals.{firstLine, startLines, rollLines, columnLines}
+
+-- ---- start: "whatever the words held, makes an empty store"
+
+pub data Started : Type 0 where
+  refusesStart : ℕ → Started
+  makes : Store → Started
+
+abbrev pub startedBy : Option ℕ → Store → Started
+startedBy (some n) s = refusesStart n
+startedBy none s = makes s
+
+-- told N, K and how many words are lent
+unfoldable pub start : ℕ → ℕ → ℕ → Started
+start n k words = startedBy (firstLine startLines (record { capacity = n; kindCapacity = k; words = words })) (empty n k)
+
+-- ---- column: "a kind's cards (index word, version word) or values (low word, high word) from start to end"
+
+abbrev pub entityWords : List Entity → List ℕ
+entityWords [] = []
+entityWords (e ∷ es) = e .index ∷ e .version ∷ entityWords es
+
+abbrev pub valueWords : List ℕ → List ℕ
+valueWords [] = []
+valueWords (v ∷ vs) = v % 4294967296 ∷ v / 4294967296 ∷ valueWords vs
+
+abbrev pub valueOf : Row → ℕ
+valueOf r = r .value
+
+-- the items of a list from a to e, which is excluded
+abbrev pub part : {A : Type 0} → ℕ → ℕ → List A → List A
+part a e l = drop a (take e l)
+
+-- the words that column hands back, of the entities (which = false) or of the values (which = true)
+abbrev pub partWords : Bool → ℕ → ℕ → SparseSet → List ℕ
+partWords false a e rows = entityWords (part a e (keys rows))
+partWords true a e rows = valueWords (part a e (map valueOf rows))
+
+-- "a second entry with the same operands gives column's number, 0 if accepted"
+unfoldable pub columnRefusal : ℕ → ℕ → ℕ → Store → Option ℕ
+columnRefusal k a e s = firstLine columnLines (record { kind = k; start = a; end = e; store = s })
+
+abbrev pub columnBy : Option ℕ → List ℕ → List ℕ
+columnBy (some n) w = []
+columnBy none w = w
+
+-- "A refused column is the empty part at the front"
+unfoldable pub column : Bool → ℕ → ℕ → ℕ → Store → List ℕ
+column which k a e s = columnBy (columnRefusal k a e s) (partWords which a e (setOf (s .storage .sets) k))
+
+-- ---- roll: the snapshot, if it has room
+
+pub data Rolled : Type 0 where
+  refusesRoll : ℕ → Rolled
+  writes : List ℕ → Rolled
+
+abbrev pub rolledBy : Option ℕ → List ℕ → Rolled
+rolledBy (some n) b = refusesRoll n
+rolledBy none b = writes b
+
+unfoldable pub roll : ℕ → Store → Rolled
+roll room s = rolledBy (firstLine rollLines (record { room = room; store = s })) (snapshot s)

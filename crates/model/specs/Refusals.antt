@@ -1,0 +1,238 @@
+-- "Refusals by place": 01's table, place by place in its order. Assumes nothing.
+use mathlib.Core.Path.{_≡_}
+use mathlib.Core.Bool.{Bool, true, false, cond, not, _&&_, _||_}
+use mathlib.Core.Option.{Option, some, none}
+use mathlib.Core.List.{List, [], _∷_, _++_}
+use Prim.Native.Nat.{ℕ, zero, suc, _+_, _*_}
+use lib.Dec.{eqb, leb, ltb}
+use lib.ListN.{length, take}
+use Rattle.model.specs.Model.{Entity, mem, setOf, groupsOf, addsNothing, joins, isLive}
+use Rattle.model.specs.Store.{Store, stagedKinds, isKind, wordsNeeded}
+use Rattle.model.specs.Commands.{Command, REG, HOLD, NEW, PUT, TAKE, DROP, KILL, WIPE, GROUP, APPLY, BAR, RANGE, EMPTY, TALLY, width, isCommand, commandAt, answerLength}
+use Rattle.model.specs.Snapshot.{snapshot}
+
+-- ---- lines
+
+-- a line of the table: its number, and when it holds of what the place is given
+pub record Line (A : Type 0) : Type 0 where
+  pub number : ℕ
+  pub holds : A → Bool
+
+abbrev pub line : {A : Type 0} → ℕ → (A → Bool) → Line A
+line n t = record { number = n; holds = t }
+
+-- "A refusal comes when its line holds and no line above does, else never"
+abbrev pub firstLine : {A : Type 0} → List (Line A) → A → Option ℕ
+firstLine [] a = none
+firstLine (l ∷ ls) a = let r = firstLine ls a in cond (l .holds a) (some (l .number)) r
+
+-- no line of the list holds
+abbrev pub NoneHolds : {A : Type 0} → List (Line A) → A → Type 0
+NoneHolds [] a = Unit {0}
+NoneHolds (l ∷ ls) a = (l .holds a ≡ false) × NoneHolds ls a
+
+-- "its line holds and no line above does": what it means that a line is the first (first-exact in proofs/Lines.antt)
+pub record First {A : Type 0} (ls : List (Line A)) (a : A) (n : ℕ) : Type 0 where
+  pub above : List (Line A)
+  pub here : Line A
+  pub under : List (Line A)
+  pub table : ls ≡ above ++ (here ∷ under)
+  pub passed : NoneHolds above a
+  pub holds : here .holds a ≡ true
+  pub number : here .number ≡ n
+
+-- the number that an entry gives: "An accepted entry gives number 0"
+abbrev pub numberOf : Option ℕ → ℕ
+numberOf none = 0
+numberOf (some n) = n
+
+-- ---- the numbers by name
+
+abbrev pub SIZE : ℕ
+SIZE = 1
+
+abbrev pub SHORT : ℕ
+SHORT = 2
+
+abbrev pub UNSOUND : ℕ
+UNSOUND = 3
+
+abbrev pub UNKNOWN : ℕ
+UNKNOWN = 4
+
+abbrev pub CUT : ℕ
+CUT = 5
+
+abbrev pub NOROOM : ℕ
+NOROOM = 6
+
+abbrev pub KIND : ℕ
+KIND = 7
+
+abbrev pub KINDS : ℕ
+KINDS = 8
+
+abbrev pub AGAIN : ℕ
+AGAIN = 9
+
+abbrev pub HANDFUL : ℕ
+HANDFUL = 10
+
+abbrev pub DEAD : ℕ
+DEAD = 11
+
+abbrev pub FULL : ℕ
+FULL = 12
+
+abbrev pub WIDE : ℕ
+WIDE = 13
+
+abbrev pub CLASH : ℕ
+CLASH = 14
+
+abbrev pub MANY : ℕ
+MANY = 15
+
+abbrev pub BEYOND : ℕ
+BEYOND = 16
+
+-- ---- start
+
+-- what start is told: N, K, and how many words are lent
+pub record Lent : Type 0 where
+  pub capacity : ℕ
+  pub kindCapacity : ℕ
+  pub words : ℕ
+
+abbrev pub startLines : List (Line Lent)
+startLines =
+    -- "N not 1 to 4,096 or K not 1 to 128"
+    line SIZE (λ l. (eqb (l .capacity) 0 || ltb 4096 (l .capacity)) || (eqb (l .kindCapacity) 0 || ltb 128 (l .kindCapacity)))
+    -- "too few words"
+    ∷ line SHORT (λ l. ltb (l .words) (wordsNeeded (l .capacity) (l .kindCapacity)))
+    ∷ []
+
+-- ---- other entries, first: told whether the lent words are sound
+
+abbrev pub otherLines : List (Line Bool)
+otherLines =
+    -- "store not sound"
+    line UNSOUND not
+    ∷ []
+
+-- ---- run, before a command
+
+-- the tape from the command's byte on, the free answer bytes, and the store
+pub record Ready : Type 0 where
+  pub byte : ℕ
+  pub rest : List ℕ
+  pub room : ℕ
+  pub store : Store
+
+-- the command that is to be done
+abbrev pub commandOf : Ready → Command
+commandOf r = commandAt (r .byte) (take (width (r .byte)) (r .rest))
+
+abbrev pub beforeLines : List (Line Ready)
+beforeLines =
+    -- "byte not 01 to 0E"
+    line UNKNOWN (λ r. not (isCommand (r .byte)))
+    -- "operands incomplete"
+    ∷ line CUT (λ r. ltb (length (r .rest)) (width (r .byte)))
+    -- "fewer free bytes than the accepted answer .. takes"
+    ∷ line NOROOM (λ r. ltb (r .room) (answerLength (commandOf r) (r .store)))
+    ∷ []
+
+-- ---- roll
+
+-- the free bytes, and the store
+pub record Asked : Type 0 where
+  pub room : ℕ
+  pub store : Store
+
+abbrev pub rollLines : List (Line Asked)
+rollLines =
+    -- "fewer free bytes than .. the roll, takes"
+    line NOROOM (λ a. ltb (a .room) (length (snapshot (a .store))))
+    ∷ []
+
+-- ---- each command
+
+-- PUT, TAKE, DROP, KILL: "card not live"
+abbrev pub deadLine : Entity → Line Store
+deadLine e = line DEAD (λ s. not (isLive e (s .entities)))
+
+-- for HOLD, BAR and column: "above 127; for all but REG also unregistered"
+abbrev pub unknownKind : ℕ → Store → Bool
+unknownKind k s = ltb 127 k || not (isKind k s)
+
+unfoldable pub linesOf : Command → List (Line Store)
+linesOf (REG k) =
+    -- "above 127"
+    line KIND (λ s. ltb 127 k)
+    -- "new, and K are registered"
+    ∷ line KINDS (λ s. not (isKind k s) && leb (s .kindCapacity) (length (s .kinds)))
+    ∷ []
+linesOf (HOLD k v) =
+    line KIND (unknownKind k)
+    -- "already in that list"
+    ∷ line AGAIN (λ s. mem k (stagedKinds s))
+    -- "list has 16"
+    ∷ line HANDFUL (λ s. leb 16 (length (s .control .staged)))
+    ∷ []
+linesOf (BAR k) =
+    line KIND (unknownKind k)
+    ∷ line AGAIN (λ s. mem k (s .control .excluded))
+    ∷ line HANDFUL (λ s. leb 16 (length (s .control .excluded)))
+    ∷ []
+linesOf (PUT e) = deadLine e ∷ []
+linesOf (TAKE e) = deadLine e ∷ []
+linesOf (DROP e) = deadLine e ∷ []
+linesOf (KILL e) = deadLine e ∷ []
+linesOf NEW =
+    -- "none waiting, N issued"
+    line FULL (λ s. eqb (length (s .entities .recycled)) 0 && leb (s .capacity) (s .entities .issued))
+    ∷ []
+-- "GROUP answers "nothing added" for a small hand before 13 and for an equal group before 14."
+linesOf GROUP =
+    -- "16 kinds"
+    line WIDE (λ s. leb 16 (length (stagedKinds s)))
+    -- "Everything else clashes."
+    ∷ line CLASH (λ s. not (addsNothing (stagedKinds s) (s .control .draft)) && not (joins (stagedKinds s) (s .control .draft)))
+    -- "draft has 63 groups"
+    ∷ line MANY (λ s. not (addsNothing (stagedKinds s) (s .control .draft)) && leb 63 (groupsOf (s .control .draft)))
+    ∷ []
+linesOf WIPE = []
+linesOf APPLY = []
+linesOf RANGE = []
+linesOf EMPTY = []
+linesOf TALLY = []
+
+-- ---- column
+
+-- the kind, start and end, and the store
+pub record Part : Type 0 where
+  pub kind : ℕ
+  pub start : ℕ
+  pub end : ℕ
+  pub store : Store
+
+abbrev pub columnLines : List (Line Part)
+columnLines =
+    line KIND (λ p. unknownKind (p .kind) (p .store))
+    -- "start above end or end above length"
+    ∷ line BEYOND (λ p. ltb (p .end) (p .start) || ltb (length (setOf (p .store .storage .sets) (p .kind))) (p .end))
+    ∷ []
+
+-- ---- a refused command inside a run
+
+-- "change no other word": all but the refusal count is as it was
+pub record Unchanged (s t : Store) : Type 0 where
+  pub capacity : t .capacity ≡ s .capacity
+  pub kindCapacity : t .kindCapacity ≡ s .kindCapacity
+  pub kinds : t .kinds ≡ s .kinds
+  pub entities : t .entities ≡ s .entities
+  pub storage : t .storage ≡ s .storage
+  pub staged : t .control .staged ≡ s .control .staged
+  pub excluded : t .control .excluded ≡ s .control .excluded
+  pub draft : t .control .draft ≡ s .control .draft
