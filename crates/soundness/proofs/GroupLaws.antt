@@ -14,8 +14,9 @@ use Rattle.model.specs.Lists.{one, place, count-append, count-place, count-take
 use Rattle.model.specs.Model.{Entity, SparseSet, Group, Family, sameEntity, noEntity, mem, all, setOf, keys, entityOf, held, headKind, kindsOf, allHeld}
 use Rattle.model.specs.Sound.{cnt, In, key, SetsSound, BuildableFamily, BuildableFamilies, holders, Right, RightFrom, AllRight}
 use Rattle.model.proofs.SparseSets.{entity-eq, entity-same, and-left}
+use Rattle.model.proofs.Invariant.{holders-count}
 use Rattle.model.proofs.Walk.{bool-cases, or-true, in-left, in-right, in-cases, all-in, Missing, all-missing, held-count, lacks-count}
-use Rattle.soundness.proofs.KindLists.{all-true}
+use Rattle.model.proofs.KindLists.{all-true}
 use Rattle.soundness.specs.Groups.{GroupOk, GroupsOk, FamilyOk, FamiliesOk}
 
 -- ---- what stands at a place is held
@@ -104,27 +105,6 @@ module _ (sets : List SparseSet) (h : ℕ) where
         }
 
 -- ---- beside h is right, and right is beside h
-
-holders-count : (g : List ℕ) (sets : List SparseSet) (live : List Entity) (x : Entity) → cnt x (holders g sets live) ≡ cond (allHeld x g sets) (cnt x live) 0
-holders-count g sets [] x = bool-cases (allHeld x g sets) (λ t. rw t) (λ t. rw t)
-holders-count g sets (e ∷ es) x = let ih = holders-count g sets es x in bool-cases (sameEntity x e) (same ih) (other ih)
-  where
-    R : List Entity
-    R = holders g sets es
-
-    same : cnt x R ≡ cond (allHeld x g sets) (cnt x es) 0 → sameEntity x e ≡ true → cnt x (holders g sets (e ∷ es)) ≡ cond (allHeld x g sets) (cnt x (e ∷ es)) 0
-    same ih t =
-        let q : e ≡ x = sym (entity-eq x e t) in
-        rw q
-        (bool-cases (allHeld x g sets)
-        (λ u. let r = rw u at ih in rw u (omega arith))
-        (λ u. let r = rw u at ih in rw u r))
-
-    other : cnt x R ≡ cond (allHeld x g sets) (cnt x es) 0 → sameEntity x e ≡ false → cnt x (holders g sets (e ∷ es)) ≡ cond (allHeld x g sets) (cnt x (e ∷ es)) 0
-    other ih t =
-        let z : cnt x (e ∷ es) ≡ cnt x es = omega (arith, ap one t) in
-        let y : cnt x (cond (allHeld e g sets) (e ∷ R) R) ≡ cnt x R = bool-cases (allHeld e g sets) (λ u. rw u (omega (arith, ap one t))) (λ u. rw u) in
-        y ∙ ih ∙ rw z
 
 module _ (kinds : List ℕ) (live : List Entity) (sets : List SparseSet) (S : SetsSound kinds live sets) (lonce : (x : Entity) → cnt x live ≤ 1)
     (h : ℕ) (g : List ℕ) (c : ℕ) (i : In g h) where

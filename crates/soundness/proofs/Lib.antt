@@ -1,6 +1,7 @@
-pub mod KindLists
 pub mod GroupLaws
 pub mod ListLaws
 pub mod TableLaws
 pub mod ColumnLaws
 pub mod StagedLaws
+pub mod LayoutLaws
+pub mod FlatLaws

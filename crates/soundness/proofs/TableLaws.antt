@@ -17,7 +17,7 @@ use Rattle.model.specs.Model.{Entity, Row, SparseSet, sameEntity, noEntity, noR
 use Rattle.model.specs.Sound.{cnt, In, Distinct, Eight, KindsSound, SetsSound, key}
 use Rattle.model.proofs.SparseSets.{entity-eq}
 use Rattle.words.specs.Table.{by-eq, table, length-table, getD-table}
-use Rattle.soundness.proofs.KindLists.{not-true}
+use Rattle.model.proofs.KindLists.{not-true}
 use Rattle.soundness.proofs.GroupLaws.{count-at}
 use Rattle.soundness.proofs.ListLaws.{at-in, in-at, new-distinct}
 
