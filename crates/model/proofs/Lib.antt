@@ -1,3 +1,4 @@
+pub mod Faults
 pub mod SparseSets
 pub mod Groups
 pub mod Walk
