@@ -1,5 +1,4 @@
 pub mod GroupLaws
-pub mod ListLaws
 pub mod TableLaws
 pub mod ColumnLaws
 pub mod StagedLaws

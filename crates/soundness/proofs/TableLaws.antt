@@ -19,7 +19,7 @@ use Rattle.model.proofs.SparseSets.{entity-eq}
 use Rattle.words.specs.Table.{by-eq, table, length-table, getD-table}
 use Rattle.model.proofs.KindLists.{not-true}
 use Rattle.soundness.proofs.GroupLaws.{count-at}
-use Rattle.soundness.proofs.ListLaws.{at-in, in-at, new-distinct}
+use Rattle.clauses.proofs.ListLaws.{at-in, in-at, new-distinct}
 
 pub getD-past : {A : Type 0} (l : List A) (i : ℕ) (d : A) → length l ≤ i → getD l i d ≡ d
 getD-past [] i d h = refl

@@ -6,10 +6,10 @@ use borrow.Author.Count.{below-more}
 use borrow.Author.Tests.{eq-eqb, ne-eqb}
 use lib.ListN.{length, getD, length-set}
 use Rattle.component.specs.Decides.{Each}
-use Rattle.soundness.specs.Listed.{Listed}
-use Rattle.soundness.proofs.ListLaws.{Marks, marks-more, marks-none, FreshAt, fresh-listed, listed-fresh}
-use Rattle.soundness.proofs.lists.is_listed.Statement.{statement}
-use Rattle.soundness.proofs.lists.is_listed.Tie as tie
+use Rattle.clauses.specs.Listed.{Listed}
+use Rattle.clauses.proofs.ListLaws.{Marks, marks-more, marks-none, FreshAt, fresh-listed, listed-fresh}
+use Rattle.clauses.proofs.lists.is_listed.Statement.{statement}
+use Rattle.clauses.proofs.lists.is_listed.Tie as tie
 
 abbrev Inv-loop : tie.InvT-loop
 Inv-loop kinds table seen₀ i₀ i-end seen i = (i ≤ length kinds) × (length seen ≡ 128) × Marks seen kinds i × Each i (FreshAt table kinds)

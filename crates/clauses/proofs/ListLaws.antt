@@ -17,7 +17,7 @@ use Rattle.model.specs.Sound.{In, Distinct}
 use Rattle.model.proofs.Walk.{or-true, mem-append}
 use Rattle.words.specs.Table.{by-eq}
 use Rattle.component.specs.Decides.{Each}
-use Rattle.soundness.specs.Listed.{Listed}
+use Rattle.clauses.specs.Listed.{Listed}
 use Rattle.model.proofs.KindLists.{not-true, in-count, count-in, self-count, distinct-snoc}
 
 -- ---- where a kind stands
