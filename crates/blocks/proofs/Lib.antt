@@ -1,0 +1,5 @@
+pub mod Agree
+pub mod Copying
+pub mod Checking
+pub mod Transfer
+pub mod Buildable
