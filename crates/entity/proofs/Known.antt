@@ -11,7 +11,6 @@ use Rattle.model.specs.Lists.{place, getD-place}
 use Rattle.model.specs.Model.{Entity, noEntity, sameEntity, isLive, create}
 use Rattle.model.proofs.SparseSets.{entity-eq}
 use Rattle.entity.specs.Meaning.{Sound, entitiesOf, lenOf}
-use Rattle.entity.specs.Change.{Changed}
 use Rattle.entity.specs.Answers.{created}
 use Rattle.entity.proofs.Lookups.{length-live, getD-live, issued-is}
 use Rattle.entity.proofs.ModelSteps.{create-steps, allocated-live}
@@ -41,10 +40,10 @@ module _ (n : ℕ) (w : List ℕ) (s : Sound n w) where
       rw (getD-place sameEntity entity-eq e noEntity l b) at (known-at (place sameEntity e l) b)
 
 -- a new entity is known
-pub known-created : (n : ℕ) (w w′ : List ℕ) → Changed n created w w′ → Known n (create (entitiesOf n w) .entity)
-known-created n w w′ c =
+pub known-created : (n : ℕ) (w w′ : List ℕ) → Sound n w′ → entitiesOf n w′ ≡ created (entitiesOf n w) → Known n (create (entitiesOf n w) .entity)
+known-created n w w′ d c =
     let s = entitiesOf n w in
     let e = create s .entity in
-    let q : entitiesOf n w′ .live ≡ s .live ++ (e ∷ []) = ap (λ t. t .live) (c .becomes ∙ create-steps s) ∙ ap (λ (l : List Entity). l ++ (e ∷ [])) (allocated-live s) in
+    let q : entitiesOf n w′ .live ≡ s .live ++ (e ∷ []) = ap (λ t. t .live) (c ∙ create-steps s) ∙ ap (λ (l : List Entity). l ++ (e ∷ [])) (allocated-live s) in
     let b : length (s .live) < length (entitiesOf n w′ .live) = omega (arith, ap length q, length-append (s .live) (e ∷ [])) in
-    rw (ap (λ (l : List Entity). getD l (length (s .live)) noEntity) q ∙ getD-append-seam (s .live) e [] noEntity) at (known-at n w′ (c .sound) (length (s .live)) b)
+    rw (ap (λ (l : List Entity). getD l (length (s .live)) noEntity) q ∙ getD-append-seam (s .live) e [] noEntity) at (known-at n w′ d (length (s .live)) b)
