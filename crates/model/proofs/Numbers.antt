@@ -44,7 +44,7 @@ cnt-snoc x l e = omega (arith, count-append sameEntity x l (e ∷ []))
 same-version : (x y : Entity) → 1 ≤ one (sameEntity x y) → x ≡ y
 same-version x y h = bool-cases (sameEntity x y) (λ t. entity-eq x y t) (λ t. absurd (omega (arith, rw t at h)))
 
--- ---- a entity is created
+-- ---- an entity is created
 
 create-with : (w : List Entity) (c : Entities) → c .recycled ≡ w → EntitiesOk c → EntitiesOk ((createWith w c) .entities)
 create-with [] c e ok =
@@ -93,7 +93,7 @@ pub create-live : (c : Entities) (x : Entity) → cnt x ((create c) .entities .l
 unfolding create
 create-live c x = create-live-with (c .recycled) c x
 
--- ---- a entity is destroyed
+-- ---- an entity is destroyed
 
 module _ (e : Entity) (c : Entities) (alive : 1 ≤ cnt e (c .live)) where
   at-place : plc e (c .live) < length (c .live)
