@@ -25,3 +25,4 @@ pub mod Snapshots
 pub mod Lengths
 pub mod Retired
 pub mod Ranges
+pub mod Bounds

@@ -141,15 +141,16 @@ module _ (e : Entity) (c : Entities) (alive : 1 ≤ cnt e (c .live)) where
 
 -- ---- how many are live
 
-abbrev upTo : ℕ → List ℕ
+-- the numbers below n
+abbrev pub upTo : ℕ → List ℕ
 upTo zero = []
 upTo (suc n) = n ∷ upTo n
 
-length-upTo : (n : ℕ) → length (upTo n) ≡ n
+pub length-upTo : (n : ℕ) → length (upTo n) ≡ n
 length-upTo zero = refl
 length-upTo (suc n) = ap suc (length-upTo n)
 
-in-upTo : (n i : ℕ) → i < n → 1 ≤ count eqb i (upTo n)
+pub in-upTo : (n i : ℕ) → i < n → 1 ≤ count eqb i (upTo n)
 in-upTo zero i h = absurd (omega arith)
 in-upTo (suc n) i h = go (in-upTo n i) (ℕ-discrete i n)
   where
