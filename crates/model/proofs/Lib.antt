@@ -1,3 +1,4 @@
+pub mod Faults
 pub mod SparseSets
 pub mod Groups
 pub mod Walk
@@ -21,3 +22,4 @@ pub mod Listing
 pub mod Snapshots
 pub mod Lengths
 pub mod Retired
+pub mod Ranges
