@@ -85,7 +85,7 @@ Which e l m = (m ≡ l) ⊎ ((cnt e l ≡ 0) × (m ≡ l ++ (e ∷ [])))
 put-of : (e : Entity) (ks : List ℕ) (key new : ℕ → List Entity) → ((k : ℕ) → Which e (key k) (new k)) → ((k : ℕ) → mem k ks ≡ false → new k ≡ key k) → Put e ks key new
 put-of e ks key new w o =
     record {
-      counts = λ x ne k. ⊎-elim (λ p. ap (cnt x) p) (λ p. ap (cnt x) (p .1) ∙ count-append sameEntity x (key k) (e ∷ []) ∙ rw ne (omega arith)) (w k);
+      counts = λ x ne k. ⊎-elim (λ p. ap (cnt x) p) (λ (p : (cnt e (key k) ≡ 0) × (new k ≡ key k ++ (e ∷ []))). ap (cnt x) (p .1) ∙ count-append sameEntity x (key k) (e ∷ []) ∙ rw ne (omega arith)) (w k);
       firsts = λ h k le. ⊎-elim (λ p. rw p) (λ p. rw (p .1) (take-append-le h (key k) (e ∷ []) le)) (w k);
       longer = λ k. ⊎-elim (λ p. rw p (omega arith)) (λ p. rw (p .1, length-append) (omega arith)) (w k);
       once = λ k le. ⊎-elim (λ p. rw p le) (λ p. rw (p .1, count-append, entity-same e) (omega (arith, p .0))) (w k);
@@ -161,7 +161,7 @@ chain-put e ks key new p acc (r ∷ rs) ch =
 abbrev pub famKinds : List Family → List (List ℕ)
 famKinds fs = map kindsOf fs
 
--- before the walk: right for the other entities where the staged components has a kind of the family, else right for all
+-- before the walk: right for the other entities where the staged components have a kind of the family, else right for all
 abbrev pub Pending : Entity → List ℕ → (ℕ → List Entity) → List Family → Type 0
 Pending e ks key [] = Unit {0}
 Pending e ks key (f ∷ fs) = (meets ks (kindsOf f) ≡ true → Chain key (But e) [] f) × (meets ks (kindsOf f) ≡ false → Chain key Every [] f) × Pending e ks key fs

@@ -82,7 +82,7 @@ insert-fit e staged p lt f =
       wide = length-groupFamily-all e (map kindOf staged) (insertAll e staged (p .sets)) (p .layout) ∙ length-put e staged (p .sets) ∙ f .wide;
     }
 
--- what insertion does to the other entities, and to the kinds that the staged components lacks
+-- what insertion does to the other entities, and to the kinds that are not staged
 module _ (e : Entity) (staged : List Component) (p : Storage) (lt : Kinds (length (p .sets)) staged) (f : Fit p) where
   inserted : SameEntities (key (insertAll e staged (p .sets))) (key ((insert e staged p) .sets))
   unfolding insert

@@ -59,7 +59,7 @@ entries-more zero b i live sets z = rw zero-add (go b i (λ k h. z k (omega arit
 entries-more (suc a) b i live sets z =
     rw suc-add (ap (λ (r : List Entry). entryOf (versionAt i live) i sets ++ r) (entries-more a b (suc i) live sets (λ k h. z k (omega arith))))
 
--- ---- a entity's components, looked up by kind
+-- ---- an entity's components, looked up by kind
 
 abbrev valIn : ℕ → List Component → Option ℕ
 valIn k [] = none

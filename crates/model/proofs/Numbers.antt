@@ -44,7 +44,7 @@ cnt-snoc x l e = omega (arith, count-append sameEntity x l (e ∷ []))
 same-version : (x y : Entity) → 1 ≤ one (sameEntity x y) → x ≡ y
 same-version x y h = bool-cases (sameEntity x y) (λ t. entity-eq x y t) (λ t. absurd (omega (arith, rw t at h)))
 
--- ---- a entity is created
+-- ---- an entity is created
 
 create-with : (w : List Entity) (c : Entities) → c .recycled ≡ w → EntitiesOk c → EntitiesOk ((createWith w c) .entities)
 create-with [] c e ok =
@@ -93,7 +93,7 @@ pub create-live : (c : Entities) (x : Entity) → cnt x ((create c) .entities .l
 unfolding create
 create-live c x = create-live-with (c .recycled) c x
 
--- ---- a entity is destroyed
+-- ---- an entity is destroyed
 
 module _ (e : Entity) (c : Entities) (alive : 1 ≤ cnt e (c .live)) where
   at-place : plc e (c .live) < length (c .live)
@@ -141,15 +141,16 @@ module _ (e : Entity) (c : Entities) (alive : 1 ≤ cnt e (c .live)) where
 
 -- ---- how many are live
 
-abbrev upTo : ℕ → List ℕ
+-- the numbers below n
+abbrev pub upTo : ℕ → List ℕ
 upTo zero = []
 upTo (suc n) = n ∷ upTo n
 
-length-upTo : (n : ℕ) → length (upTo n) ≡ n
+pub length-upTo : (n : ℕ) → length (upTo n) ≡ n
 length-upTo zero = refl
 length-upTo (suc n) = ap suc (length-upTo n)
 
-in-upTo : (n i : ℕ) → i < n → 1 ≤ count eqb i (upTo n)
+pub in-upTo : (n i : ℕ) → i < n → 1 ≤ count eqb i (upTo n)
 in-upTo zero i h = absurd (omega arith)
 in-upTo (suc n) i h = go (in-upTo n i) (ℕ-discrete i n)
   where

@@ -1,4 +1,4 @@
--- Columns read by kind: what a walk's swap does to the entities of each. Assumes nothing.
+-- Sparse sets read by kind: what a walk's swap does to the entities of each. Assumes nothing.
 use mathlib.Core.Path.{_≡_, refl, ap, ap₂, sym, _∙_, subst}
 use mathlib.Core.Bool.{Bool, true, false, cond, _&&_, _||_}
 use mathlib.Core.List.{List, [], _∷_, _++_, map}

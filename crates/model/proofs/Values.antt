@@ -1,4 +1,4 @@
--- What holds of every row's value, as that it fits eight bytes, holds after every operation, if it holds of the staged components's. Assumes nothing.
+-- What holds of every row's value, as that it fits eight bytes, holds after every operation, if it holds of the staged ones. Assumes nothing.
 use mathlib.Core.Path.{_≡_, refl, ap, sym, _∙_, subst}
 use mathlib.Core.Bool.{Bool, true, false, cond}
 use mathlib.Core.List.{List, [], _∷_, _++_, map}

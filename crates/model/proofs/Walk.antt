@@ -234,7 +234,7 @@ module _ (W : Entity → Type 0) (e : Entity) (acc : List ℕ) (sets : List Spar
   abbrev s′ : Stepped
   s′ = groupComponents e g′ r sets
 
-  -- a new kinds's kind is missing: nothing moves, and no group from here on can hold the entity
+  -- one of the group's new kinds is missing: nothing moves, and no group from here on can hold the entity
   groupFamily-stop : allHeld e (r .newKinds) sets ≡ false → Up W e acc sets (r ∷ rs) (record { sets = sets; groups = r ∷ rs })
   groupFamily-stop t =
       let m = all-missing (λ k. held e (setOf sets k)) (r .newKinds) t in
