@@ -4,6 +4,7 @@ use crate::side::Side;
 use crate::tape::{self, Case, Chunk, Run, ROOMY};
 use sparsey::harness::{words_needed, Oracle, Ran, Sets};
 use std::collections::{BTreeMap, BTreeSet};
+use std::fmt::Write;
 
 /// What was compared.
 #[derive(Clone, Default, Debug)]
@@ -36,6 +37,24 @@ impl Figures {
         for (mine, theirs) in self.seen.iter_mut().flatten().zip(other.seen.iter().flatten()) {
             *mine += theirs;
         }
+    }
+
+    /// The figures in words, with a table of answers by command.
+    pub fn text(&self) -> String {
+        let mut text = format!(
+            "{} cases, {} runs, {} commands, {} answer bytes; {} states with {} rows, {} group ranges\n",
+            self.cases, self.runs, self.commands, self.answer_bytes, self.states, self.rows, self.ranges
+        );
+        let stops: Vec<String> = (0..7).filter(|&i| self.stops[i] > 0).map(|i| format!("{i}: {}", self.stops[i])).collect();
+        writeln!(text, "runs by stop number: {}", stops.join(", ")).unwrap();
+        for byte in 1..15 {
+            let answers: Vec<String> = (0..16)
+                .filter(|&number| self.seen[byte][number] > 0)
+                .map(|number| format!("{number}: {}", self.seen[byte][number]))
+                .collect();
+            writeln!(text, "  {:<6} {}", tape::NAMES[byte], answers.join(", ")).unwrap();
+        }
+        text
     }
 }
 
@@ -130,7 +149,7 @@ impl Pair {
 
         let registered = self.rust.registered();
         for &kind in &registered {
-            let length = self.rust.column(kind).unwrap().0.len();
+            let length = self.rust.length(kind).unwrap();
             for values in [false, true] {
                 let what = format!("column of kind {kind}, {}", if values { "values" } else { "cards" });
                 for (start, end, number) in [
@@ -172,7 +191,7 @@ impl Pair {
     fn roll(&mut self) -> Result<(), String> {
         let name = self.other.name();
         let length = 4 + self.rust.live().len() * 9
-            + self.rust.registered().iter().map(|&kind| self.rust.column(kind).unwrap().0.len() * 9).sum::<usize>();
+            + self.rust.registered().iter().map(|&kind| self.rust.length(kind).unwrap() * 9).sum::<usize>();
         for room in [length, length + 3, length - 1] {
             let mut out = vec![self.fill; room];
             let mut theirs = out.clone();

@@ -103,6 +103,11 @@ fn theirs(layout: &GroupLayout, hand: Group) -> Theirs {
     }
 }
 
+/// Groups in the draft, then kinds in all.
+fn size(draft: &[Group], hand: Group) -> (usize, u32) {
+    (draft.len(), draft.iter().map(|group| group.count_ones()).sum::<u32>() + hand.count_ones())
+}
+
 /// Goes through all of them.
 pub fn enumerate() -> Drafts {
     let mut found = Drafts::default();
@@ -123,6 +128,9 @@ pub fn enumerate() -> Drafts {
             found.disputed += usize::from(answer(&mut rust, &draft, hand) != outcome.0);
             let entry = found.classes.entry(outcome).or_insert((0, draft.clone(), hand));
             entry.0 += 1;
+            if size(&draft, hand) < size(&entry.1, entry.2) {
+                (entry.1, entry.2) = (draft.clone(), hand);
+            }
             found.hands += 1;
             if outcome.0 == Ours::Added && draft.len() < 3 && groups.contains(&hand) {
                 drafts.push([draft.clone(), vec![hand]].concat());
@@ -145,7 +153,7 @@ impl Drafts {
             };
             writeln!(
                 text,
-                "  01 {ours:?}, Rust {theirs:?}: {count:>7} ({agree}), first: draft {}, hand {:?}",
+                "  01 {ours:?}, Rust {theirs:?}: {count:>7} ({agree}), smallest: draft {}, hand {:?}",
                 draft.join(" "),
                 kinds(*hand)
             )

@@ -76,10 +76,10 @@ pub fn starts(sets: Sets, make: Make) -> Result<Figures, String> {
     Ok(pair.finish())
 }
 
-/// Every limit of document 01.
-pub fn limits() -> Vec<Part> {
+/// Every limit of document 01, with stores for up to `most` entities.
+pub fn limits(most: usize) -> Vec<Part> {
     vec![
-        part("N full and churned", full_and_churned()),
+        part("N full and churned", full_and_churned().filter(move |case| case.n <= most)),
         part("K full", kinds_full()),
         part("16 staged", sixteen_staged()),
         part("63 groups", many_groups()),
@@ -304,9 +304,9 @@ pub fn exhaustive() -> Vec<Part> {
         part("all tapes of 0 to 2 bytes", short_tapes()),
         part("all tapes of 4 commands over 15", words_over(commands(), 4, vec![vec![tape::reg(0), tape::reg(1)]], 2, 2)),
         part("all tapes of 5 commands over 11", words_over(group_commands(), 5, vec![vec![tape::reg(0), tape::reg(1), tape::reg(2)]], 2, 3)),
-        part("all lists of 4 steps over 17, 6 layouts", words_over(steps(), 4, layouts(), 3, 4)),
-        part("all lists of 5 steps over 10, 6 layouts", words_over(few_steps(), 5, layouts(), 3, 4)),
-        part("all lists of 3 relayouts and steps over 24", words_over(relayouts(), 3, layouts(), 4, 4)),
+        part("all lists of 4 steps over 17, two cards, 6 layouts", words_over(steps(), 4, two_cards(), 4, 4)),
+        part("all lists of 5 steps over 10, no card, 6 layouts", words_over(few_steps(), 5, layouts(), 3, 4)),
+        part("all lists of 3 relayouts and steps over 28, three cards", words_over(relayouts(), 3, three_cards(), 6, 4)),
     ]
 }
 
@@ -357,6 +357,25 @@ fn layouts() -> Vec<Vec<Chunk>> {
     groups.iter().map(|groups| [kinds.clone(), layout(groups)].concat()).collect()
 }
 
+/// The layouts, and then two cards.
+fn two_cards() -> Vec<Vec<Chunk>> {
+    let cards = [tape::with(&[0, 1], tape::new()), tape::with(&[0, 1, 2, 3], tape::new())].concat();
+    layouts().into_iter().map(|layout| [layout, cards.clone()].concat()).collect()
+}
+
+/// Three cards, without a layout; the last one created stands first in the live list, and one index waits.
+fn three_cards() -> Vec<Vec<Chunk>> {
+    let kinds: Vec<Chunk> = (0..4).map(tape::reg).collect();
+    let cards = [
+        tape::with(&[2, 3], tape::new()),
+        tape::with(&[3, 1], tape::new()),
+        tape::with(&[0, 1, 2], tape::new()),
+        tape::with(&[2, 0, 1, 3], tape::new()),
+        vec![tape::kill((0, 1))],
+    ];
+    vec![[kinds, cards.concat()].concat()]
+}
+
 fn steps() -> Vec<Vec<Chunk>> {
     vec![
         tape::with(&[0, 1], tape::new()),
@@ -395,32 +414,30 @@ fn few_steps() -> Vec<Vec<Chunk>> {
 }
 
 fn relayouts() -> Vec<Vec<Chunk>> {
-    // Three cards with different parts stand before the steps.
     let mut steps: Vec<Vec<Chunk>> = layouts().into_iter().map(|chunks| chunks[4..].to_vec()).collect();
     steps.extend([
         layout(&[&[2, 3]]),
         layout(&[&[0, 1], &[2, 3]]),
         layout(&[&[2, 3], &[2, 3, 1]]),
+        layout(&[&[1, 3], &[1, 3, 0], &[1, 3, 0, 2]]),
         layout(&[&[0, 1, 2, 3]]),
         tape::with(&[0, 1, 2, 3], tape::new()),
         tape::with(&[3, 2], tape::new()),
         tape::with(&[1, 2, 3], tape::new()),
-        tape::with(&[0, 1], tape::put((0, 1))),
-        tape::with(&[0, 1, 2, 3], tape::put((0, 1))),
-        tape::with(&[2, 3], tape::put((1, 1))),
-        tape::with(&[1], tape::drop((0, 1))),
-        tape::with(&[2], tape::take((1, 1))),
-        tape::with(&[3], tape::drop((2, 1))),
-        vec![tape::kill((0, 1))],
+        tape::with(&[0, 1], tape::put((1, 1))),
+        tape::with(&[0, 1, 2, 3], tape::put((1, 1))),
+        tape::with(&[2, 3], tape::put((2, 1))),
+        tape::with(&[1], tape::drop((1, 1))),
+        tape::with(&[2], tape::take((2, 1))),
+        tape::with(&[1, 0], tape::drop((2, 1))),
+        tape::with(&[3], tape::drop((3, 1))),
+        tape::with(&[0, 2], tape::take((3, 1))),
         vec![tape::kill((1, 1))],
         vec![tape::kill((2, 1))],
+        vec![tape::kill((3, 1))],
+        vec![tape::kill((0, 2))],
         vec![tape::wipe()],
-        [
-            tape::with(&[3, 1], tape::new()),
-            tape::with(&[0, 1, 2], tape::new()),
-            tape::with(&[0, 1, 2, 3], tape::new()),
-        ]
-        .concat(),
+        [tape::with(&[3, 1], tape::new()), tape::with(&[0, 1, 2], tape::new())].concat(),
     ]);
     steps
 }

@@ -35,10 +35,10 @@ const DRAFT: [usize; 12] = [2, 2, 0, 0, 1, 0, 3, 6, 3, 1, 1, 10];
 fn profile(rng: &mut Rng) -> (Profile, usize, usize) {
     let (n, k, runs, steps) = match rng.below(20) {
         0..=8 => (rng.between(1, 6), rng.between(2, 6), rng.between(2, 12), rng.between(1, 8)),
-        9..=15 => (rng.between(3, 24), rng.between(3, 10), rng.between(4, 20), rng.between(2, 16)),
-        16..=17 => (rng.between(8, 64), rng.between(8, 40), rng.between(4, 12), rng.between(8, 40)),
-        18 => (rng.between(2, 12), rng.between(32, 128), rng.between(3, 8), rng.between(8, 40)),
-        _ => (rng.between(64, 400), rng.between(2, 12), rng.between(3, 6), rng.between(60, 300)),
+        9..=16 => (rng.between(3, 24), rng.between(3, 10), rng.between(4, 20), rng.between(2, 16)),
+        17..=18 => (rng.between(8, 64), rng.between(8, 40), rng.between(4, 12), rng.between(8, 40)),
+        _ if rng.once_in(2) => (rng.between(2, 12), rng.between(32, 128), rng.between(3, 8), rng.between(8, 40)),
+        _ => (rng.between(64, 400), rng.between(2, 12), rng.between(3, 6), rng.between(60, 200)),
     };
     // Low kinds reach the tuples; scattered ones the rest.
     let mut kinds: Vec<u8> = match rng.below(3) {
@@ -153,18 +153,7 @@ impl<'a> Steps<'a> {
                 all
             }
         };
-        match self.rng.below(6) {
-            0 if !kinds.is_empty() => {
-                kinds.swap_remove(self.rng.below(kinds.len()));
-            }
-            1 => {
-                let kind = self.kind();
-                if !kinds.contains(&kind) {
-                    kinds.push(kind);
-                }
-            }
-            _ => {}
-        }
+        self.vary(&mut kinds);
         if self.rng.once_in(2) {
             self.rng.shuffle(&mut kinds);
         }
@@ -172,7 +161,10 @@ impl<'a> Steps<'a> {
     }
 
     fn hold(&mut self, kinds: &[u8]) {
-        if self.rng.once_in(4) {
+        // A refused command leaves its hand behind.
+        let last = self.chunks.last().map_or(0, |chunk| chunk[0]);
+        let refused = matches!(last, 4..=6) && self.rng.once_in(3);
+        if refused || self.rng.once_in(6) {
             self.chunks.push(tape::empty());
         }
         for &kind in kinds {
@@ -234,40 +226,86 @@ impl<'a> Steps<'a> {
         groups
     }
 
+    /// One kind more or less, now and then.
+    fn vary(&mut self, kinds: &mut Vec<u8>) {
+        match self.rng.below(8) {
+            0 if !kinds.is_empty() => {
+                kinds.swap_remove(self.rng.below(kinds.len()));
+            }
+            1 => {
+                let kind = self.kind();
+                if !kinds.contains(&kind) {
+                    kinds.push(kind);
+                }
+            }
+            _ => {}
+        }
+    }
+
+    /// GROUP for a chain of groups, or for a drafted group as it is, with foreign kinds, or joined with another.
     fn group(&mut self) {
         let drafted: Vec<Vec<u8>> = self.draft.iter().flatten().cloned().collect();
-        let mut kinds = match self.rng.below(4) {
-            0 | 1 if !drafted.is_empty() => self.rng.pick(&drafted).clone(),
-            _ => self.kinds(),
-        };
-        for _ in 0..self.rng.below(3) {
-            let kind = self.kind();
-            if !kinds.contains(&kind) {
-                kinds.push(kind);
+        if drafted.is_empty() || self.rng.once_in(6) {
+            for group in self.layout() {
+                self.hold(&group);
+                self.chunks.push(tape::group());
             }
+            return;
         }
+        let mut kinds = self.rng.pick(&drafted).clone();
+        match self.rng.below(5) {
+            0 => {}
+            1 | 2 => {
+                let mut foreign = self.registered.clone();
+                foreign.retain(|kind| !drafted.iter().any(|group| group.contains(kind)));
+                self.rng.shuffle(&mut foreign);
+                foreign.truncate(self.rng.between(1, 3));
+                kinds.extend(foreign);
+            }
+            3 => {
+                let other = self.rng.pick(&drafted).clone();
+                let more: Vec<u8> = other.into_iter().filter(|kind| !kinds.contains(kind)).collect();
+                kinds.extend(more);
+            }
+            _ => kinds = self.kinds(),
+        }
+        self.vary(&mut kinds);
         self.hold(&kinds);
         self.chunks.push(tape::group());
     }
 
+    /// RANGE, with a bar of what a larger group has more, of some kinds, or none.
     fn range(&mut self) {
-        let kinds = self.kinds();
-        if self.rng.once_in(2) && !self.groups.is_empty() {
-            let larger = self.rng.pick(&self.groups).clone();
-            for kind in larger.into_iter().filter(|kind| !kinds.contains(kind)) {
-                self.chunks.push(tape::bar(kind));
+        let mut kinds = self.kinds();
+        let mut bar = vec![];
+        match self.rng.below(4) {
+            0 | 1 if !self.groups.is_empty() => {
+                kinds = self.rng.pick(&self.groups).clone();
+                let larger: Vec<Vec<u8>> = self
+                    .groups
+                    .iter()
+                    .filter(|group| kinds.iter().all(|kind| group.contains(kind)))
+                    .cloned()
+                    .collect();
+                bar = self.rng.pick(&larger).clone();
+                bar.retain(|kind| !kinds.contains(kind));
+                self.vary(&mut bar);
+                self.vary(&mut kinds);
+                self.rng.shuffle(&mut bar);
             }
-        } else if self.rng.once_in(4) {
-            for kind in self.kinds() {
-                self.chunks.push(tape::bar(kind));
-            }
+            2 if self.rng.once_in(3) => bar = self.kinds(),
+            _ => {}
         }
         self.hold(&kinds);
+        self.chunks.extend(bar.into_iter().map(tape::bar));
         self.chunks.push(tape::range());
     }
 
     fn step(&mut self) {
-        let step = self.rng.weighted(&self.profile.weights);
+        let mut step = self.rng.weighted(&self.profile.weights);
+        if self.live.is_empty() && matches!(step, 1..=4) && !self.rng.once_in(8) {
+            step = 0;
+        }
         let card = self.card();
         match step {
             0 => {
@@ -286,7 +324,10 @@ impl<'a> Steps<'a> {
                 self.hold_some();
                 self.chunks.push(tape::drop(card));
             }
-            4 => self.chunks.push(tape::kill(card)),
+            4 => {
+                self.live.retain(|&live| live != card);
+                self.chunks.push(tape::kill(card));
+            }
             5 => self.chunks.push(tape::wipe()),
             6 => {
                 for group in self.layout() {

@@ -143,11 +143,16 @@ impl Oracle {
     /// The number that *column* gives.
     pub fn column_number(&self, number: u8, start: usize, end: usize) -> u32 {
         let Some(store) = &self.store else { return 3 };
-        match store.column(number) {
+        match store.length(number) {
             None => 7,
-            Some((cards, _)) if start > end || end > cards.len() => 16,
+            Some(length) if start > end || end > length => 16,
             Some(_) => 0,
         }
+    }
+
+    /// The length of a registered kind's column.
+    pub fn length(&self, number: u8) -> Option<usize> {
+        self.store.as_ref()?.length(number)
     }
 
     /// *roll*: the number and how many bytes were written.
@@ -457,7 +462,7 @@ impl Store {
             let metadata = self.metadata(number);
             let info = ViewGroupInfo {
                 info: metadata.group_info,
-                len: self.world.components.components[metadata.storage_index].borrow().len(),
+                len: self.length(number).unwrap(),
             };
             group_info = group_info.add_view(&info)?;
         }
@@ -466,6 +471,14 @@ impl Store {
 
     fn metadata(&self, number: u8) -> ComponentMetadata {
         self.world.components.metadata[&kind(number).type_id()]
+    }
+
+    fn length(&self, number: u8) -> Option<usize> {
+        self.is_registered(number).then(|| {
+            self.world.components.components[self.metadata(number).storage_index]
+                .borrow()
+                .len()
+        })
     }
 
     fn column(&self, number: u8) -> Option<(Vec<Card>, Vec<u64>)> {
