@@ -5,17 +5,23 @@ mod drafts;
 mod faults;
 mod fixed;
 mod generate;
+#[cfg(feature = "linked")]
+mod linked;
+mod record;
 mod reference;
 mod rng;
 mod side;
 mod tape;
+#[cfg(test)]
+mod tests;
 
-use compare::{shrink, Difference, Figures, Make};
+use compare::{shrink, Difference, Figures, Make, Pair};
 use reference::Reference;
 use side::Side;
-use sparsey::harness::Sets;
+use sparsey::harness::{words_needed, Oracle, Preset, Sets};
 use std::process::ExitCode;
 use std::time::Instant;
+use tape::{Case, Run};
 
 struct Options {
     seed: u64,
@@ -25,6 +31,11 @@ struct Options {
     quick: bool,
     /// Print the smallest tapes.
     show: bool,
+    /// The file of recorded answers, and its size.
+    file: String,
+    kilobytes: usize,
+    /// Compare with the reference even where the library is linked.
+    reference: bool,
 }
 
 fn options() -> (String, Options) {
@@ -36,15 +47,24 @@ fn options() -> (String, Options) {
         cases: 1000,
         quick: false,
         show: false,
+        file: "recorded/answers.bin".to_string(),
+        kilobytes: 160,
+        reference: false,
     };
     while let Some(arg) = args.next() {
+        if arg == "--file" {
+            options.file = args.next().expect("--file wants a name");
+            continue;
+        }
         let mut number = || args.next().and_then(|text| text.parse().ok()).unwrap_or_else(|| panic!("{arg} wants a number"));
         match arg.as_str() {
             "--seed" => options.seed = number(),
             "--count" => options.count = number(),
             "--cases" => options.cases = number() as usize,
+            "--kilobytes" => options.kilobytes = number() as usize,
             "--quick" => options.quick = true,
             "--show" => options.show = true,
+            "--reference" => options.reference = true,
             _ => panic!("unknown option {arg}"),
         }
     }
@@ -53,16 +73,29 @@ fn options() -> (String, Options) {
 
 fn main() -> ExitCode {
     let (command, options) = options();
-    let make: Make = &|| Box::new(Reference::new()) as Box<dyn Side>;
+    let make: Make = &|| other(options.reference);
     match command.as_str() {
+        "all" => all(&options, make),
         "compare" => compare_everything(&options, make),
         "drafts" => show_drafts(),
         "faults" => show_faults(&options),
+        "record" => record_answers(&options),
+        "replay" => replay_answers(&options, make),
+        "wear" => wear(make),
         _ => {
-            eprintln!("oracle compare [--seed S] [--count C] [--quick] | drafts");
+            eprintln!("oracle all | compare | drafts | faults | record | replay: see README.md");
             ExitCode::from(2)
         }
     }
+}
+
+/// The other side: the linked library where there is one, unless the reference is asked for.
+fn other(_reference: bool) -> Box<dyn Side> {
+    #[cfg(feature = "linked")]
+    if !_reference {
+        return Box::new(linked::Linked::new());
+    }
+    Box::new(Reference::new())
 }
 
 fn progress(name: &str, figures: &Figures, since: Instant) {
@@ -169,6 +202,74 @@ fn show_faults(options: &Options) -> ExitCode {
         0 => ExitCode::SUCCESS,
         _ => ExitCode::FAILURE,
     }
+}
+
+fn record_answers(options: &Options) -> ExitCode {
+    let file = record::write(options.seed, 1000 * options.kilobytes);
+    let replayed = record::replay(&file, &|| Box::new(Oracle::new(Sets::Tuples)));
+    assert_eq!(replayed.agree, replayed.cases, "the Rust does not answer the same again");
+    std::fs::write(&options.file, &file).unwrap_or_else(|e| panic!("{}: {e}", options.file));
+    println!("{}: {} bytes, seed {}, {replayed:?}", options.file, file.len(), options.seed);
+    ExitCode::SUCCESS
+}
+
+fn replay_answers(options: &Options, make: Make) -> ExitCode {
+    let file = std::fs::read(&options.file).unwrap_or_else(|e| panic!("{}: {e}", options.file));
+    let replayed = record::replay(&file, make);
+    println!("{}: {replayed:?}", make().name());
+    match replayed.agree == replayed.cases {
+        true => ExitCode::SUCCESS,
+        false => ExitCode::FAILURE,
+    }
+}
+
+/// The comparison, the drafts and the faults, one after the other.
+fn all(options: &Options, make: Make) -> ExitCode {
+    let codes = [
+        compare_everything(options, make),
+        show_drafts(),
+        show_faults(options),
+        replay_answers(options, make),
+    ];
+    match codes.iter().all(|&code| code == ExitCode::SUCCESS) {
+        true => ExitCode::SUCCESS,
+        false => ExitCode::FAILURE,
+    }
+}
+
+/// Takes index 0 of the Rust through all its versions, one by one, and holds the last few to a store that was preset.
+fn wear(make: Make) -> ExitCode {
+    let since = Instant::now();
+    let version = u32::MAX - 2;
+    let case = Case {
+        n: 2,
+        k: 1,
+        preset: Some(Preset {
+            issued: 1,
+            waiting: vec![(0, version)],
+            ..Preset::default()
+        }),
+        runs: vec![],
+    };
+    let mut pair = Pair::start(&case, Sets::Tuples, make).unwrap();
+    let mut worn = Oracle::new(Sets::Tuples);
+    worn.start(words_needed(2, 1), 2, 1);
+    worn.wear(u64::from(version) - 1);
+    pair.rust = worn;
+    let mut chunks = vec![tape::reg(5)];
+    for version in version..=u32::MAX {
+        chunks.extend([tape::hold(5, 9), tape::new(), tape::kill((0, version))]);
+    }
+    chunks.extend([tape::new(), tape::new(), tape::kill((1, 1)), tape::kill((0, 1)), tape::new(), tape::new()]);
+    for chunk in chunks {
+        if let Err(what) = pair.step(&Run::new(vec![chunk]), true) {
+            println!("DIFFERENCE after all versions: {what}");
+            return ExitCode::FAILURE;
+        }
+    }
+    let figures = pair.finish();
+    println!("{version} versions of one index, then {} commands, no difference, {:.0} s", figures.commands, since.elapsed().as_secs_f64());
+    ExitCode::SUCCESS
 }
 
 fn show_drafts() -> ExitCode {

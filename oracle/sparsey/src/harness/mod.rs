@@ -107,6 +107,17 @@ impl Oracle {
         store.refusals = preset.refusals;
     }
 
+    /// Creates and destroys an entity without components so many times, on an empty store.
+    pub fn wear(&mut self, times: u64) {
+        let store = self.store.as_mut().expect("started");
+        assert!(store.issued == 0 && times < u64::from(u32::MAX));
+        for _ in 0..times {
+            let entity = store.world.create(());
+            assert!(store.world.destroy(entity));
+        }
+        store.issued = 1;
+    }
+
     /// *run*.
     pub fn run(&mut self, tape: &[u8], out: &mut [u8]) -> Ran {
         let sets = self.sets;
