@@ -2,7 +2,7 @@
 
 use crate::reference::Reference;
 use crate::side::Side;
-use crate::tape;
+use crate::tape::{self, Case, Run};
 use sparsey::component::GroupLayout;
 use sparsey::harness::{add_group, families, words_needed, Oracle, Sets};
 use std::collections::{BTreeMap, BTreeSet};
@@ -108,15 +108,41 @@ fn size(draft: &[Group], hand: Group) -> (usize, u32) {
     (draft.len(), draft.iter().map(|group| group.count_ones()).sum::<u32>() + hand.count_ones())
 }
 
-/// Goes through all of them.
-pub fn enumerate() -> Drafts {
-    let mut found = Drafts::default();
-    let groups: Vec<Group> = (0..64).filter(|group: &Group| group.count_ones() >= 2).collect();
+/// Every draft of up to `most` groups over `width` kinds that 01 accepts, one group after the other.
+pub fn accepted(width: u32, most: usize) -> Vec<Vec<Group>> {
     let mut drafts: Vec<Vec<Group>> = vec![vec![]];
     let mut at = 0;
     while at < drafts.len() {
         let draft = drafts[at].clone();
         at += 1;
+        if draft.len() < most {
+            let hands = (0..1u8 << width).filter(|&hand| ours(&draft, hand) == Ours::Added);
+            drafts.extend(hands.map(|hand| [draft.clone(), vec![hand]].concat()));
+        }
+    }
+    drafts
+}
+
+/// Each of these drafts with every further group, as cases. A draft is begun anew by APPLY.
+pub fn cases(width: u32, most: usize) -> impl Iterator<Item = Case> {
+    accepted(width, most).into_iter().map(move |draft| {
+        let mut runs = vec![Run::new((0..width as u8).map(tape::reg).collect())];
+        for hand in 0..1u8 << width {
+            let mut chunks = vec![tape::empty(), tape::apply()];
+            for &group in &draft {
+                chunks.extend(tape::with(&kinds(group), tape::group()));
+            }
+            chunks.extend(tape::with(&kinds(hand), tape::group()));
+            runs.push(Run::new(chunks));
+        }
+        Case { n: 1, k: width as usize, preset: None, runs }
+    })
+}
+
+/// Goes through all of them.
+pub fn enumerate() -> Drafts {
+    let mut found = Drafts::default();
+    for draft in accepted(6, 3) {
         let mut layout = GroupLayout::default();
         for &group in &draft {
             add_group(&mut layout, &kinds(group));
@@ -132,12 +158,9 @@ pub fn enumerate() -> Drafts {
                 (entry.1, entry.2) = (draft.clone(), hand);
             }
             found.hands += 1;
-            if outcome.0 == Ours::Added && draft.len() < 3 && groups.contains(&hand) {
-                drafts.push([draft.clone(), vec![hand]].concat());
-            }
         }
+        found.drafts += 1;
     }
-    found.drafts = drafts.len();
     found
 }
 

@@ -42,7 +42,7 @@ impl Found {
         };
         let start = if self.at_start { 1 } else { 0 };
         format!(
-            "| {} | {} of {} | {} of 6 | {start} | {least} |",
+            "| {} | {} of {} | {} of 8 | {start} | {least} |",
             self.fault.text(),
             self.random,
             self.tried,

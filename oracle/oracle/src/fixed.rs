@@ -1,6 +1,7 @@
 //! Cases that no chance is left to: every limit, and all tapes of a few steps over small alphabets.
 
 use crate::compare::{compare, Difference, Figures, Look, Make, Pair};
+use crate::drafts;
 use crate::rng::Rng;
 use crate::tape::{self, Case, Chunk, Run};
 use sparsey::harness::{words_needed, Preset, Sets};
@@ -83,6 +84,8 @@ pub fn limits(most: usize) -> Vec<Part> {
         part("K full", kinds_full()),
         part("16 staged", sixteen_staged()),
         part("63 groups", many_groups()),
+        part("drafts of up to 2 groups over 5 kinds with every further group", drafts::cases(5, 2)),
+        part("every hand and bar of 4 kinds, 6 layouts", hands_and_bars()),
         part("rooms", rooms()),
         part("versions run out", versions_run_out()),
     ]
@@ -301,6 +304,7 @@ fn versions_run_out() -> impl Iterator<Item = Case> {
 /// All tapes of a few steps over small alphabets and several layouts.
 pub fn exhaustive() -> Vec<Part> {
     vec![
+        part("drafts of up to 3 groups over 6 kinds with every further group", drafts::cases(6, 3)),
         part("all tapes of 0 to 2 bytes", short_tapes()),
         part("all tapes of 4 commands over 15", words_over(commands(), 4, vec![vec![tape::reg(0), tape::reg(1)]], 2, 2)),
         part("all tapes of 5 commands over 11", words_over(group_commands(), 5, vec![vec![tape::reg(0), tape::reg(1), tape::reg(2)]], 2, 3)),
@@ -374,6 +378,21 @@ fn three_cards() -> Vec<Vec<Chunk>> {
         vec![tape::kill((0, 1))],
     ];
     vec![[kinds, cards.concat()].concat()]
+}
+
+/// RANGE with every hand and every bar of four kinds, under each layout.
+fn hands_and_bars() -> impl Iterator<Item = Case> {
+    let subset = |mask: usize| -> Vec<u8> { (0..4).filter(|kind| mask >> kind & 1 == 1).collect() };
+    layouts().into_iter().map(move |layout| {
+        let mut runs = vec![run_of(layout)];
+        runs.push(run_of((0..16).flat_map(|hand| tape::with(&subset(hand * 7 % 16), tape::new())).collect()));
+        for (hand, bar) in (0..16).flat_map(|hand| (0..16).map(move |bar| (hand, bar))) {
+            let mut chunks: Vec<Chunk> = subset(bar).into_iter().map(tape::bar).collect();
+            chunks.extend(tape::with(&subset(hand), tape::range()));
+            runs.push(run_of(chunks));
+        }
+        Case { n: 16, k: 4, preset: None, runs }
+    })
 }
 
 fn steps() -> Vec<Vec<Chunk>> {

@@ -228,7 +228,7 @@ impl<'a> Steps<'a> {
 
     /// One kind more or less, now and then.
     fn vary(&mut self, kinds: &mut Vec<u8>) {
-        match self.rng.below(8) {
+        match self.rng.below(7) {
             0 if !kinds.is_empty() => {
                 kinds.swap_remove(self.rng.below(kinds.len()));
             }

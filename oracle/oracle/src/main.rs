@@ -44,7 +44,7 @@ fn options() -> (String, Options) {
     let mut options = Options {
         seed: 1,
         count: 2_000_000,
-        cases: 1000,
+        cases: 300,
         quick: false,
         show: false,
         file: "recorded/answers.bin".to_string(),

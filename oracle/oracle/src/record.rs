@@ -131,7 +131,9 @@ pub fn write(seed: u64, budget: usize) -> Vec<u8> {
             "K full" => (0, 2),
             "16 staged" => (1, 5),
             "63 groups" => (2, 5),
-            _ => (0, 17),
+            "rooms" => (0, 17),
+            // Long, and a random case or two has the like.
+            _ => (0, usize::MAX),
         };
         cases.extend(part.cases.skip(first).step_by(every).filter_map(|case| recorded(&case)));
     }

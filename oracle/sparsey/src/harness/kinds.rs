@@ -3,6 +3,8 @@
 use crate::component::{ComponentData, ComponentSparseSet};
 use crate::entity::Entity;
 use core::any::TypeId;
+use std::collections::HashMap;
+use std::sync::OnceLock;
 
 /// A component's value: low word, high word.
 pub type Value = [u32; 2];
@@ -73,4 +75,10 @@ pub(super) static KINDS: [Kind; 128] = kinds!(
 /// The kind's row in the table. Panics above 127: the harness refuses those first.
 pub(super) fn kind(number: u8) -> &'static Kind {
     &KINDS[usize::from(number)]
+}
+
+/// The kind whose component type it is.
+pub(super) fn number(type_id: TypeId) -> u8 {
+    static NUMBERS: OnceLock<HashMap<TypeId, u8>> = OnceLock::new();
+    NUMBERS.get_or_init(|| (0..128).map(|number| (kind(number).type_id(), number)).collect())[&type_id]
 }

@@ -9,7 +9,7 @@ mod tuples;
 pub use self::kinds::{Comp, Value};
 pub use self::preset::Preset;
 
-use self::kinds::{kind, KINDS};
+use self::kinds::{kind, number};
 use self::staged::{with_kinds, Staged};
 use crate::component::{ComponentMetadata, ComponentSet, GroupLayout, QueryGroupInfo, ViewGroupInfo};
 use crate::entity::{Entity, Version};
@@ -602,14 +602,11 @@ pub fn add_group(layout: &mut GroupLayout, kinds: &[u8]) {
 
 /// The groups of a layout of the library, one list a family, in its order, with their kinds in its order.
 pub fn families(layout: &GroupLayout) -> Vec<Vec<Vec<u8>>> {
-    let number = |data: &crate::component::ComponentData| -> u8 {
-        KINDS.iter().position(|kind| kind.data == *data).unwrap() as u8
-    };
     layout
         .families()
         .iter()
         .map(|family| {
-            let kinds: Vec<u8> = family.components().iter().map(number).collect();
+            let kinds: Vec<u8> = family.components().iter().map(|data| number(data.type_id())).collect();
             family.arities().iter().map(|&arity| kinds[..arity].to_vec()).collect()
         })
         .collect()
