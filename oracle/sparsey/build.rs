@@ -142,7 +142,7 @@ fn tuples() -> String {
     code
 }
 
-/// Code that asks the library's own query for the rows of every hand of the kinds 0 to 3 with every bar of them.
+/// Code that asks the library's own query for the rows of every list of the kinds 0 to 3, with every list of them excluded.
 fn ranges() -> String {
     let lists: Vec<Vec<u8>> = (0..16u8)
         .map(|mask| (0..4).filter(|kind| mask >> kind & 1 == 1).collect())

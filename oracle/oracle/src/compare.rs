@@ -142,37 +142,62 @@ impl Pair {
         Ok(ran)
     }
 
-    /// Live list, every column through *column*, and the roll.
+    /// Live list, every column through *column*, and the roll. One state in eight is looked at more closely.
     pub fn state(&mut self) -> Result<(), String> {
         let name = self.other.name();
+        let closely = self.figures.states % 8 == 0;
         same!("live list", self.rust.live(), self.other.live(), name);
 
         let registered = self.rust.registered();
         for &kind in &registered {
             let length = self.rust.length(kind).unwrap();
             for values in [false, true] {
-                let what = format!("column of kind {kind}, {}", if values { "values" } else { "cards" });
-                for (start, end, number) in [
-                    (0, length, 0),
-                    (0, length + 1, 16),
-                    (length, length, 0),
-                    (length / 2 + 1, length / 2, 16),
-                ] {
-                    let numbers = [
-                        Side::column_number(&mut self.rust, kind, values, start, end),
-                        self.other.column_number(kind, values, start, end),
-                    ];
-                    same!(format!("number of {what} {start}..{end}"), number, numbers[0], "Rust again");
-                    same!(format!("number of {what} {start}..{end}"), numbers[0], numbers[1], name);
-                }
                 let whole = Side::column(&mut self.rust, kind, values, 0, length);
+                let what = column_name(kind, values);
                 same!(what, whole, self.other.column(kind, values, 0, length), name);
-                let (start, end) = (length / 3, length / 2);
-                let part = whole[2 * start..2 * end].to_vec();
-                same!(format!("{what} {start}..{end}"), part, self.other.column(kind, values, start, end), name);
+                if closely {
+                    self.column_parts(kind, values, &whole)?;
+                }
             }
+            let past = self.other.column_number(kind, false, 0, length + 1);
+            same!(format!("number of {} past its end", column_name(kind, false)), 16, past, name);
             self.figures.rows += length as u64;
         }
+        if closely {
+            self.no_columns(&registered)?;
+        }
+        self.roll(closely)?;
+        self.complaint()?;
+        self.figures.states += 1;
+        Ok(())
+    }
+
+    /// The numbers of *column*, and a part from the middle.
+    fn column_parts(&mut self, kind: u8, values: bool, whole: &[u32]) -> Result<(), String> {
+        let name = self.other.name();
+        let what = column_name(kind, values);
+        let length = whole.len() / 2;
+        for (start, end, number) in [
+            (0, length, 0),
+            (0, length + 1, 16),
+            (length, length, 0),
+            (length / 2 + 1, length / 2, 16),
+            (1, usize::MAX, 16),
+        ] {
+            let rust = Side::column_number(&mut self.rust, kind, values, start, end);
+            let other = self.other.column_number(kind, values, start, end);
+            same!(format!("number of {what} {start}..{end}"), number, rust, "Rust again");
+            same!(format!("number of {what} {start}..{end}"), rust, other, name);
+        }
+        let (start, end) = (length / 3, length / 2);
+        let part = whole[2 * start..2 * end].to_vec();
+        same!(format!("{what} {start}..{end}"), part, self.other.column(kind, values, start, end), name);
+        Ok(())
+    }
+
+    /// Kinds without a column.
+    fn no_columns(&mut self, registered: &[u8]) -> Result<(), String> {
+        let name = self.other.name();
         for kind in [0, 1, 2, 63, 127, 128, 255] {
             if !registered.contains(&kind) {
                 same!(format!("number of column {kind}"), 7, self.other.column_number(kind, false, 0, 0), name);
@@ -180,19 +205,16 @@ impl Pair {
                 same!(format!("refused column {kind}"), none, self.other.column(kind, true, 0, 0), name);
             }
         }
-
-        self.roll()?;
-        self.complaint()?;
-        self.figures.states += 1;
         Ok(())
     }
 
-    /// The roll, in a buffer that it fills exactly, and in one that is a byte short.
-    fn roll(&mut self) -> Result<(), String> {
+    /// The roll, in a buffer that it fills exactly, in a longer one, and in one that is a byte short.
+    fn roll(&mut self, closely: bool) -> Result<(), String> {
         let name = self.other.name();
         let length = 4 + self.rust.live().len() * 9
             + self.rust.registered().iter().map(|&kind| self.rust.length(kind).unwrap() * 9).sum::<usize>();
-        for room in [length, length + 3, length - 1] {
+        let rooms = [length, length + 3, length - 1];
+        for room in rooms.into_iter().take(if closely { 3 } else { 1 }) {
             let mut out = vec![self.fill; room];
             let mut theirs = out.clone();
             let rust = self.rust.roll(&mut out);
@@ -206,7 +228,7 @@ impl Pair {
     }
 
     /// A run that asks for the counts of all groups through RANGE: every group, every one with the next larger
-    /// group's ring barred, and every kind alone. It empties hand and bar.
+    /// group's new kinds excluded, and every kind alone. It empties what is staged and excluded.
     pub fn range_run(&self) -> Run {
         let groups = self.rust.groups();
         let mut chunks: Vec<Chunk> = vec![tape::tally(), tape::empty()];
@@ -254,6 +276,10 @@ impl Pair {
     }
 }
 
+fn column_name(kind: u8, values: bool) -> String {
+    format!("column of kind {kind}, {}", if values { "values" } else { "entities" })
+}
+
 /// The length of buffer past which more room makes no difference.
 fn usable(tape: &[u8]) -> usize {
     8 + 145 * tape.len()
@@ -268,16 +294,16 @@ fn counted(rust: &Oracle, groups: &[(Vec<u8>, usize)]) -> Result<(), String> {
         .into_iter()
         .map(|kind| (kind, rust.column(kind).unwrap().0))
         .collect();
-    for (&kind, cards) in &columns {
-        for &card in cards {
-            assert!(held.entry(card).or_default().insert(kind), "a card twice in a column of the Rust");
+    for (&kind, ids) in &columns {
+        for &id in ids {
+            assert!(held.entry(id).or_default().insert(kind), "an entity twice in a column of the Rust");
         }
     }
     for (kinds, count) in groups {
         let all = held.values().filter(|held| kinds.iter().all(|kind| held.contains(kind))).count();
         let first = &columns[&kinds[0]][..*count];
         let aligned = kinds.iter().all(|kind| columns[kind].starts_with(first));
-        let whole = first.iter().all(|card| kinds.iter().all(|kind| held[card].contains(kind)));
+        let whole = first.iter().all(|id| kinds.iter().all(|kind| held[id].contains(kind)));
         if all != *count || !aligned || !whole {
             return Err(format!("the Rust's group {kinds:?} counts {count} of {all}, aligned {aligned}"));
         }
@@ -339,6 +365,7 @@ pub fn shrink(case: &Case, sets: Sets, make: Make) -> Option<Difference> {
         let before = size(&best.case);
         merge_runs(&mut best, &mut attempt);
         drop_runs(&mut best, &mut attempt);
+        drop_kinds(&mut best, &mut attempt);
         drop_chunks(&mut best, &mut attempt);
         simplify(&mut best, &mut attempt);
         if size(&best.case) == before {
@@ -390,6 +417,20 @@ fn drop_chunks(best: &mut Difference, attempt: &mut Attempt) {
                 at = at.min(best.case.runs[i].chunks.len());
             }
             width /= 2;
+        }
+    }
+}
+
+/// Takes a kind out of the case altogether.
+fn drop_kinds(best: &mut Difference, attempt: &mut Attempt) {
+    for kind in 0..=255 {
+        let mut case = best.case.clone();
+        let names = |chunk: &Chunk| matches!(chunk[..], [1 | 2 | 11, named, ..] if named == kind);
+        for run in &mut case.runs {
+            run.chunks.retain(|chunk| !names(chunk));
+        }
+        if case != best.case {
+            attempt(best, case);
         }
     }
 }

@@ -43,30 +43,30 @@ pub enum Theirs {
 #[derive(Default)]
 pub struct Drafts {
     pub drafts: usize,
-    pub hands: usize,
-    /// For each pair of outcomes: how often, and the smallest draft and hand.
+    pub groups: usize,
+    /// For each pair of outcomes: how often, and the smallest draft and group.
     pub classes: BTreeMap<(Ours, Theirs), (usize, Vec<Group>, Group)>,
-    /// Hands on which the reference and 01's rule in the harness differ.
+    /// Groups on which the reference and 01's rule in the harness differ.
     pub disputed: usize,
 }
 
 /// 01's answer by the reference, GROUP after GROUP.
-fn ours(draft: &[Group], hand: Group) -> Ours {
+fn ours(draft: &[Group], new: Group) -> Ours {
     let mut side = Reference::new();
     side.start(words_needed(1, 8), 1, 8);
-    answer(&mut side, draft, hand)
+    answer(&mut side, draft, new)
 }
 
-fn answer(side: &mut dyn Side, draft: &[Group], hand: Group) -> Ours {
+fn answer(side: &mut dyn Side, draft: &[Group], new: Group) -> Ours {
     let mut out = [0; 128];
     let mut chunks: Vec<tape::Chunk> = (0..6).map(tape::reg).collect();
     for &group in draft {
         chunks.extend(tape::with(&kinds(group), tape::group()));
     }
     side.run(&chunks.concat(), &mut out);
-    chunks = tape::with(&kinds(hand), tape::group());
+    chunks = tape::with(&kinds(new), tape::group());
     let ran = side.run(&chunks.concat(), &mut out);
-    let at = kinds(hand).len();
+    let at = kinds(new).len();
     match out[at..ran.written] {
         [0, 1] => Ours::Added,
         [0, 0] => Ours::Nothing,
@@ -87,13 +87,13 @@ fn groups_of(layout: &GroupLayout) -> BTreeSet<BTreeSet<u8>> {
     shape(layout).into_iter().flatten().collect()
 }
 
-fn theirs(layout: &GroupLayout, hand: Group) -> Theirs {
+fn theirs(layout: &GroupLayout, new: Group) -> Theirs {
     let before = groups_of(layout);
     let mut after = layout.clone();
-    let returned = catch_unwind(AssertUnwindSafe(|| add_group(&mut after, &kinds(hand)))).is_ok();
+    let returned = catch_unwind(AssertUnwindSafe(|| add_group(&mut after, &kinds(new)))).is_ok();
     let same = shape(layout) == shape(&after);
     let mut expected = before;
-    expected.insert(kinds(hand).into_iter().collect());
+    expected.insert(kinds(new).into_iter().collect());
     match (returned, same) {
         (false, true) => Theirs::Panic,
         (false, false) => Theirs::PanicAltered,
@@ -104,8 +104,8 @@ fn theirs(layout: &GroupLayout, hand: Group) -> Theirs {
 }
 
 /// Groups in the draft, then kinds in all.
-fn size(draft: &[Group], hand: Group) -> (usize, u32) {
-    (draft.len(), draft.iter().map(|group| group.count_ones()).sum::<u32>() + hand.count_ones())
+fn size(draft: &[Group], new: Group) -> (usize, u32) {
+    (draft.len(), draft.iter().map(|group| group.count_ones()).sum::<u32>() + new.count_ones())
 }
 
 /// Every draft of up to `most` groups over `width` kinds that 01 accepts, one group after the other.
@@ -116,8 +116,8 @@ pub fn accepted(width: u32, most: usize) -> Vec<Vec<Group>> {
         let draft = drafts[at].clone();
         at += 1;
         if draft.len() < most {
-            let hands = (0..1u8 << width).filter(|&hand| ours(&draft, hand) == Ours::Added);
-            drafts.extend(hands.map(|hand| [draft.clone(), vec![hand]].concat()));
+            let further = (0..1u8 << width).filter(|&new| ours(&draft, new) == Ours::Added);
+            drafts.extend(further.map(|new| [draft.clone(), vec![new]].concat()));
         }
     }
     drafts
@@ -127,12 +127,12 @@ pub fn accepted(width: u32, most: usize) -> Vec<Vec<Group>> {
 pub fn cases(width: u32, most: usize) -> impl Iterator<Item = Case> {
     accepted(width, most).into_iter().map(move |draft| {
         let mut runs = vec![Run::new((0..width as u8).map(tape::reg).collect())];
-        for hand in 0..1u8 << width {
+        for new in 0..1u8 << width {
             let mut chunks = vec![tape::empty(), tape::apply()];
             for &group in &draft {
                 chunks.extend(tape::with(&kinds(group), tape::group()));
             }
-            chunks.extend(tape::with(&kinds(hand), tape::group()));
+            chunks.extend(tape::with(&kinds(new), tape::group()));
             runs.push(Run::new(chunks));
         }
         Case { n: 1, k: width as usize, preset: None, runs }
@@ -147,17 +147,17 @@ pub fn enumerate() -> Drafts {
         for &group in &draft {
             add_group(&mut layout, &kinds(group));
         }
-        for hand in 0..64 {
-            let outcome = (ours(&draft, hand), theirs(&layout, hand));
+        for new in 0..64 {
+            let outcome = (ours(&draft, new), theirs(&layout, new));
             let mut rust = Oracle::new(Sets::Staged);
             rust.start(words_needed(1, 8), 1, 8);
-            found.disputed += usize::from(answer(&mut rust, &draft, hand) != outcome.0);
-            let entry = found.classes.entry(outcome).or_insert((0, draft.clone(), hand));
+            found.disputed += usize::from(answer(&mut rust, &draft, new) != outcome.0);
+            let entry = found.classes.entry(outcome).or_insert((0, draft.clone(), new));
             entry.0 += 1;
-            if size(&draft, hand) < size(&entry.1, entry.2) {
-                (entry.1, entry.2) = (draft.clone(), hand);
+            if size(&draft, new) < size(&entry.1, entry.2) {
+                (entry.1, entry.2) = (draft.clone(), new);
             }
-            found.hands += 1;
+            found.groups += 1;
         }
         found.drafts += 1;
     }
@@ -166,8 +166,8 @@ pub fn enumerate() -> Drafts {
 
 impl Drafts {
     pub fn text(&self) -> String {
-        let mut text = format!("{} drafts, {} hands\n", self.drafts, self.hands);
-        for ((ours, theirs), (count, draft, hand)) in &self.classes {
+        let mut text = format!("{} drafts, {} further groups\n", self.drafts, self.groups);
+        for ((ours, theirs), (count, draft, new)) in &self.classes {
             let draft: Vec<String> = draft.iter().map(|&group| format!("{:?}", kinds(group))).collect();
             let agree = match (ours, theirs) {
                 (Ours::Added, Theirs::Added) | (Ours::Nothing, Theirs::Nothing) => "agree",
@@ -176,9 +176,9 @@ impl Drafts {
             };
             writeln!(
                 text,
-                "  01 {ours:?}, Rust {theirs:?}: {count:>7} ({agree}), smallest: draft {}, hand {:?}",
+                "  01 {ours:?}, Rust {theirs:?}: {count:>7} ({agree}), smallest: draft {}, group {:?}",
                 draft.join(" "),
-                kinds(*hand)
+                kinds(*new)
             )
             .unwrap();
         }
@@ -206,6 +206,11 @@ pub fn limits() -> String {
         let applied = catch_unwind(AssertUnwindSafe(|| sparsey::World::new(&layout))).is_ok();
         writeln!(text, "  {groups} groups: add_group_dyn {}, set_layout {}", does(added), does(applied)).unwrap();
     }
+    let mut layout = GroupLayout::default();
+    for group in [&[0u8, 1][..], &[0, 1, 2, 3], &[0, 1, 4]] {
+        add_group(&mut layout, group);
+    }
+    writeln!(text, "  draft [0, 1] [0, 1, 2, 3] with [0, 1, 4] becomes {:?}", shape(&layout)).unwrap();
     let mut rust = Oracle::new(Sets::Staged);
     rust.start(words_needed(1, 8), 1, 8);
     let mut out = [0; 64];

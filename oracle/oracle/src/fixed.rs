@@ -85,7 +85,7 @@ pub fn limits(most: usize) -> Vec<Part> {
         part("16 staged", sixteen_staged()),
         part("63 groups", many_groups()),
         part("drafts of up to 2 groups over 5 kinds with every further group", drafts::cases(5, 2)),
-        part("every hand and bar of 4 kinds, 6 layouts", hands_and_bars()),
+        part("every list staged and excluded of 4 kinds, 6 layouts", staged_and_excluded()),
         part("rooms", rooms()),
         part("versions run out", versions_run_out()),
     ]
@@ -103,8 +103,8 @@ fn full_and_churned() -> impl Iterator<Item = Case> {
             let mut runs = vec![run_of((0..6).map(tape::reg).collect())];
             runs.push(run_of(layout(&[&[0, 1], &[0, 1, 2], &[4, 5]])));
             // Full, and two more.
-            let hands: [&[u8]; 6] = [&[0, 1], &[1], &[0, 1, 2, 3], &[], &[4, 5, 0], &[2, 1, 0, 4]];
-            runs.push(run_of((0..n + 2).flat_map(|i| tape::with(hands[i % 6], tape::new())).collect()));
+            let lists: [&[u8]; 6] = [&[0, 1], &[1], &[0, 1, 2, 3], &[], &[4, 5, 0], &[2, 1, 0, 4]];
+            runs.push(run_of((0..n + 2).flat_map(|i| tape::with(lists[i % 6], tape::new())).collect()));
             for round in 1..=3 {
                 let mut killed = all.clone();
                 match order {
@@ -122,7 +122,7 @@ fn full_and_churned() -> impl Iterator<Item = Case> {
                 });
                 runs.push(run_of(kills.collect()));
                 runs.push(run_of(
-                    (0..n + 1).flat_map(|i| tape::with(hands[(i + round as usize) % 6], tape::new())).collect(),
+                    (0..n + 1).flat_map(|i| tape::with(lists[(i + round as usize) % 6], tape::new())).collect(),
                 ));
             }
             Case { n, k: 6, preset: None, runs }
@@ -199,18 +199,18 @@ fn many_groups() -> impl Iterator<Item = Case> {
             for groups in groups[..count].chunks(8) {
                 runs.push(run_of(groups.iter().flat_map(|group| tape::with(group, tape::group())).collect()));
             }
-            // Small, equal, clashing, wide and new hands at the limit.
+            // Small, equal, clashing, wide and new lists at the limit.
             let more: [&[u8]; 8] = [
                 &[], &[3], &groups[0], &groups[count / 2], &[0, 127], &(100..116).collect::<Vec<u8>>(), &[110, 111], &[0, 1, 125],
             ];
-            for hand in more {
-                runs.push(run_of([tape::with(hand, tape::group()), vec![tape::empty()]].concat()));
+            for list in more {
+                runs.push(run_of([tape::with(list, tape::group()), vec![tape::empty()]].concat()));
             }
-            // Cards before and after the layout is applied.
-            let hands: Vec<&Vec<u8>> = groups[..count].iter().collect();
+            // Entities before and after the layout is applied.
+            let lists: Vec<&Vec<u8>> = groups[..count].iter().collect();
             let news = |from: usize| -> Run {
-                let hands = hands.clone();
-                run_of((0..10).flat_map(|i| tape::with(hands[(from + 7 * i) % hands.len()], tape::new())).collect())
+                let lists = lists.clone();
+                run_of((0..10).flat_map(|i| tape::with(lists[(from + 7 * i) % lists.len()], tape::new())).collect())
             };
             runs.push(news(0));
             runs.push(run_of(vec![tape::apply()]));
@@ -253,14 +253,14 @@ fn rooms() -> impl Iterator<Item = Case> {
         (0, vec![]),
     ];
     commands.into_iter().flat_map(|(needed, chunks)| {
-        // The hand has none, two or three kinds at the time.
-        [vec![], vec![1, 2], vec![1, 2, 0]].into_iter().flat_map(move |hand: Vec<u8>| {
+        // The list has none, two or three kinds at the time.
+        [vec![], vec![1, 2], vec![1, 2, 0]].into_iter().flat_map(move |list: Vec<u8>| {
             let chunks = chunks.clone();
             (0..needed + 3).map(move |room| {
                 let mut runs = vec![run_of((0..3).map(tape::reg).collect())];
                 runs.push(run_of(layout(&[&[0, 1], &[0, 1, 2]])));
                 runs.push(run_of(tape::with(&[0, 1], tape::new())));
-                runs.push(run_of(tape::hold_all(&hand)));
+                runs.push(run_of(tape::hold_all(&list)));
                 runs.push(Run { chunks: chunks.clone(), room });
                 runs.push(run_of(vec![tape::tally(), tape::new()]));
                 Case { n: 2, k: 4, preset: None, runs }
@@ -269,25 +269,25 @@ fn rooms() -> impl Iterator<Item = Case> {
     })
 }
 
-/// Numbers at their last versions, live and waiting, and tallies that are full.
+/// Numbers at their last versions, live and recycled, and refusal counts that are full.
 fn versions_run_out() -> impl Iterator<Item = Case> {
     const LAST: u32 = u32::MAX;
     let presets = vec![
         Preset { issued: 1, live: vec![(0, LAST)], ..Preset::default() },
         Preset { issued: 1, live: vec![(0, LAST - 1)], ..Preset::default() },
-        Preset { issued: 1, waiting: vec![(0, LAST)], ..Preset::default() },
+        Preset { issued: 1, recycled: vec![(0, LAST)], ..Preset::default() },
         Preset { issued: 1, ..Preset::default() },
         Preset { issued: 3, live: vec![(2, LAST), (0, 1), (1, LAST)], ..Preset::default() },
-        Preset { issued: 3, live: vec![(1, LAST)], waiting: vec![(2, LAST), (0, LAST - 1)], refusals: LAST - 1 },
-        Preset { issued: 3, live: vec![(1, 4)], waiting: vec![(0, LAST)], refusals: LAST },
+        Preset { issued: 3, live: vec![(1, LAST)], recycled: vec![(2, LAST), (0, LAST - 1)], refusals: LAST - 1 },
+        Preset { issued: 3, live: vec![(1, 4)], recycled: vec![(0, LAST)], refusals: LAST },
         Preset { issued: 3, refusals: LAST - 3, ..Preset::default() },
     ];
     presets.into_iter().flat_map(|preset| {
         [0usize, 1, 2].into_iter().map(move |spare| {
             let n = preset.issued + spare;
             let mut runs = vec![run_of((0..3).map(tape::reg).collect()), run_of(layout(&[&[0, 1], &[0, 1, 2]]))];
-            for &card in &preset.live {
-                runs.push(run_of(tape::with(&[1, 0], tape::put(card))));
+            for &id in &preset.live {
+                runs.push(run_of(tape::with(&[1, 0], tape::put(id))));
             }
             for _ in 0..4 {
                 runs.push(run_of((0..n + 1).flat_map(|_| tape::with(&[0, 1], tape::new())).collect()));
@@ -308,9 +308,9 @@ pub fn exhaustive() -> Vec<Part> {
         part("all tapes of 0 to 2 bytes", short_tapes()),
         part("all tapes of 4 commands over 15", words_over(commands(), 4, vec![vec![tape::reg(0), tape::reg(1)]], 2, 2)),
         part("all tapes of 5 commands over 11", words_over(group_commands(), 5, vec![vec![tape::reg(0), tape::reg(1), tape::reg(2)]], 2, 3)),
-        part("all lists of 4 steps over 17, two cards, 6 layouts", words_over(steps(), 4, two_cards(), 4, 4)),
-        part("all lists of 5 steps over 10, no card, 6 layouts", words_over(few_steps(), 5, layouts(), 3, 4)),
-        part("all lists of 3 relayouts and steps over 28, three cards", words_over(relayouts(), 3, three_cards(), 6, 4)),
+        part("all lists of 4 steps over 17, two entities, 6 layouts", words_over(steps(), 4, two_entities(), 4, 4)),
+        part("all lists of 5 steps over 10, no entity, 6 layouts", words_over(few_steps(), 5, layouts(), 3, 4)),
+        part("all lists of 3 relayouts and steps over 28, three entities", words_over(relayouts(), 3, three_entities(), 6, 4)),
     ]
 }
 
@@ -361,34 +361,34 @@ fn layouts() -> Vec<Vec<Chunk>> {
     groups.iter().map(|groups| [kinds.clone(), layout(groups)].concat()).collect()
 }
 
-/// The layouts, and then two cards.
-fn two_cards() -> Vec<Vec<Chunk>> {
-    let cards = [tape::with(&[0, 1], tape::new()), tape::with(&[0, 1, 2, 3], tape::new())].concat();
-    layouts().into_iter().map(|layout| [layout, cards.clone()].concat()).collect()
+/// The layouts, and then two entities.
+fn two_entities() -> Vec<Vec<Chunk>> {
+    let entities = [tape::with(&[0, 1], tape::new()), tape::with(&[0, 1, 2, 3], tape::new())].concat();
+    layouts().into_iter().map(|layout| [layout, entities.clone()].concat()).collect()
 }
 
-/// Three cards, without a layout; the last one created stands first in the live list, and one index waits.
-fn three_cards() -> Vec<Vec<Chunk>> {
+/// Three entities, without a layout; the last one created stands first in the live list, and one index is recycled.
+fn three_entities() -> Vec<Vec<Chunk>> {
     let kinds: Vec<Chunk> = (0..4).map(tape::reg).collect();
-    let cards = [
+    let entities = [
         tape::with(&[2, 3], tape::new()),
         tape::with(&[3, 1], tape::new()),
         tape::with(&[0, 1, 2], tape::new()),
         tape::with(&[2, 0, 1, 3], tape::new()),
         vec![tape::kill((0, 1))],
     ];
-    vec![[kinds, cards.concat()].concat()]
+    vec![[kinds, entities.concat()].concat()]
 }
 
-/// RANGE with every hand and every bar of four kinds, under each layout.
-fn hands_and_bars() -> impl Iterator<Item = Case> {
+/// RANGE with every list and every bar of four kinds, under each layout.
+fn staged_and_excluded() -> impl Iterator<Item = Case> {
     let subset = |mask: usize| -> Vec<u8> { (0..4).filter(|kind| mask >> kind & 1 == 1).collect() };
     layouts().into_iter().map(move |layout| {
         let mut runs = vec![run_of(layout)];
-        runs.push(run_of((0..16).flat_map(|hand| tape::with(&subset(hand * 7 % 16), tape::new())).collect()));
-        for (hand, bar) in (0..16).flat_map(|hand| (0..16).map(move |bar| (hand, bar))) {
+        runs.push(run_of((0..16).flat_map(|list| tape::with(&subset(list * 7 % 16), tape::new())).collect()));
+        for (list, bar) in (0..16).flat_map(|list| (0..16).map(move |bar| (list, bar))) {
             let mut chunks: Vec<Chunk> = subset(bar).into_iter().map(tape::bar).collect();
-            chunks.extend(tape::with(&subset(hand), tape::range()));
+            chunks.extend(tape::with(&subset(list), tape::range()));
             runs.push(run_of(chunks));
         }
         Case { n: 16, k: 4, preset: None, runs }

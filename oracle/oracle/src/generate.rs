@@ -4,7 +4,7 @@
 use crate::compare::{Difference, Figures, Make, Pair};
 use crate::rng::Rng;
 use crate::tape::{self, Case, Chunk, Run, ROOMY};
-use sparsey::harness::{Card, Oracle, Preset, Sets};
+use sparsey::harness::{Id, Oracle, Preset, Sets};
 
 /// What a case is like.
 struct Profile {
@@ -63,7 +63,7 @@ fn profile(rng: &mut Rng) -> (Profile, usize, usize) {
     (profile, n, k)
 }
 
-/// A store whose numbers are close to their last versions, or whose tally is full.
+/// A store whose numbers are close to their last versions, or whose refusal count is full.
 fn preset(rng: &mut Rng, n: usize) -> Preset {
     let issued = rng.between(0, n);
     let mut preset = Preset {
@@ -78,12 +78,12 @@ fn preset(rng: &mut Rng, n: usize) -> Preset {
         };
         match rng.below(5) {
             0 => {}
-            1 | 2 => preset.waiting.push((index, version)),
+            1 | 2 => preset.recycled.push((index, version)),
             _ => preset.live.push((index, version)),
         }
     }
     rng.shuffle(&mut preset.live);
-    rng.shuffle(&mut preset.waiting);
+    rng.shuffle(&mut preset.recycled);
     preset
 }
 
@@ -91,7 +91,7 @@ fn preset(rng: &mut Rng, n: usize) -> Preset {
 struct Steps<'a> {
     rng: &'a mut Rng,
     profile: &'a Profile,
-    live: Vec<Card>,
+    live: Vec<Id>,
     registered: Vec<u8>,
     groups: Vec<Vec<u8>>,
     draft: Vec<Vec<Vec<u8>>>,
@@ -125,7 +125,7 @@ impl<'a> Steps<'a> {
         }
     }
 
-    fn card(&mut self) -> Card {
+    fn id(&mut self) -> Id {
         if self.live.is_empty() || self.rng.once_in(24) {
             let index = self.rng.below(9) as u32;
             return (index, *self.rng.pick(&[0, 1, 1, 1, 2, 3, u32::MAX]));
@@ -161,7 +161,7 @@ impl<'a> Steps<'a> {
     }
 
     fn hold(&mut self, kinds: &[u8]) {
-        // A refused command leaves its hand behind.
+        // A refused command leaves behind what was staged.
         let last = self.chunks.last().map_or(0, |chunk| chunk[0]);
         let refused = matches!(last, 4..=6) && self.rng.once_in(3);
         if refused || self.rng.once_in(6) {
@@ -185,16 +185,16 @@ impl<'a> Steps<'a> {
             return;
         }
         let any = *self.rng.pick(&[0, 1, 2, 5, 127, 128, 200, 255]);
-        let (kind, card) = (self.kind(), self.card());
+        let (kind, id) = (self.kind(), self.id());
         let chunk = match self.rng.below(14) {
             0 => tape::reg(any),
             1 => tape::hold(any, 1),
             2 => tape::hold(kind, 2),
             3 => tape::bar(any),
             4 | 5 => tape::bar(kind),
-            6 => tape::put(card),
-            7 => tape::take(card),
-            8 => tape::kill(card),
+            6 => tape::put(id),
+            7 => tape::take(id),
+            8 => tape::kill(id),
             9 => tape::group(),
             10 => tape::range(),
             11 => tape::tally(),
@@ -306,7 +306,7 @@ impl<'a> Steps<'a> {
         if self.live.is_empty() && matches!(step, 1..=4) && !self.rng.once_in(8) {
             step = 0;
         }
-        let card = self.card();
+        let id = self.id();
         match step {
             0 => {
                 self.hold_some();
@@ -314,19 +314,19 @@ impl<'a> Steps<'a> {
             }
             1 => {
                 self.hold_some();
-                self.chunks.push(tape::put(card));
+                self.chunks.push(tape::put(id));
             }
             2 => {
                 self.hold_some();
-                self.chunks.push(tape::take(card));
+                self.chunks.push(tape::take(id));
             }
             3 => {
                 self.hold_some();
-                self.chunks.push(tape::drop(card));
+                self.chunks.push(tape::drop(id));
             }
             4 => {
-                self.live.retain(|&live| live != card);
-                self.chunks.push(tape::kill(card));
+                self.live.retain(|&live| live != id);
+                self.chunks.push(tape::kill(id));
             }
             5 => self.chunks.push(tape::wipe()),
             6 => {

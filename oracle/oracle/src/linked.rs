@@ -4,7 +4,7 @@
 
 use crate::rng::Rng;
 use crate::side::Side;
-use sparsey::harness::{words_needed, Card, Preset, Ran};
+use sparsey::harness::{words_needed, Id, Preset, Ran};
 
 #[repr(C)]
 struct LinkedRan {
@@ -138,13 +138,13 @@ impl Side for Linked {
         self.words[LIVE] = preset.live.len() as u32;
         self.words[ISSUED] = preset.issued as u32;
         self.words[RING_HEAD] = 0;
-        self.words[RECYCLED] = preset.waiting.len() as u32;
+        self.words[RECYCLED] = preset.recycled.len() as u32;
         for (place, &(index, version)) in preset.live.iter().enumerate() {
             let (row, lookup) = (LISTS + 2 * place, LISTS + 2 * n + 2 * index as usize);
             self.words[row..row + 2].copy_from_slice(&[index, version]);
             self.words[lookup..lookup + 2].copy_from_slice(&[place as u32, version]);
         }
-        for (place, &(index, version)) in preset.waiting.iter().enumerate() {
+        for (place, &(index, version)) in preset.recycled.iter().enumerate() {
             let row = LISTS + 4 * n + 2 * place;
             self.words[row..row + 2].copy_from_slice(&[index, version]);
             self.words[LISTS + 6 * n + index as usize] = place as u32 + 1;
@@ -217,7 +217,7 @@ impl Side for Linked {
         (rolled.number, rolled.written)
     }
 
-    fn live(&mut self) -> Vec<Card> {
+    fn live(&mut self) -> Vec<Id> {
         let rows = &self.words[LISTS..LISTS + 2 * self.word(LIVE)];
         rows.chunks(2).map(|row| (row[0], row[1])).collect()
     }

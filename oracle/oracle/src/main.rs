@@ -246,7 +246,7 @@ fn wear(make: Make) -> ExitCode {
         k: 1,
         preset: Some(Preset {
             issued: 1,
-            waiting: vec![(0, version)],
+            recycled: vec![(0, version)],
             ..Preset::default()
         }),
         runs: vec![],

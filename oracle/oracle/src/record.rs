@@ -72,14 +72,14 @@ fn recorded(case: &Case) -> Option<Vec<u8>> {
 pub fn examples() -> Vec<Case> {
     let kinds: Vec<tape::Chunk> = (1..=6).map(tape::reg).collect();
     let layout = fixed::layout(&[&[1, 2], &[1, 2, 3, 4]]);
-    let cards: Vec<tape::Chunk> = [&[1u8, 2, 3][..], &[1, 2, 3, 4], &[1, 2], &[1]]
+    let entities: Vec<tape::Chunk> = [&[1u8, 2, 3][..], &[1, 2, 3, 4], &[1, 2], &[1]]
         .iter()
-        .flat_map(|hand| tape::with(hand, tape::new()))
+        .flat_map(|staged| tape::with(staged, tape::new()))
         .collect();
-    let begin = [kinds.clone(), layout, cards].concat();
+    let begin = [kinds.clone(), layout, entities].concat();
 
     let mut runs = vec![Run::new(begin)];
-    for (hand, bar) in [
+    for (staged, excluded) in [
         (&[1u8, 2][..], &[][..]),
         (&[1, 2, 3, 4], &[]),
         (&[1], &[]),
@@ -88,17 +88,17 @@ pub fn examples() -> Vec<Case> {
         (&[1, 2], &[3]),
         (&[], &[]),
     ] {
-        let barred: Vec<tape::Chunk> = bar.iter().map(|&kind| tape::bar(kind)).collect();
-        runs.push(Run::new([barred, tape::with(hand, tape::range())].concat()));
+        let barred: Vec<tape::Chunk> = excluded.iter().map(|&kind| tape::bar(kind)).collect();
+        runs.push(Run::new([barred, tape::with(staged, tape::range())].concat()));
     }
     runs.push(Run::new([tape::with(&[1, 2], tape::group()), tape::with(&[1, 2, 3, 4], tape::group())].concat()));
-    for hand in [&[1u8, 2][..], &[1, 2, 3], &[1, 2, 5], &[3, 4], &[5, 6], &[1, 2, 3, 4, 5]] {
+    for staged in [&[1u8, 2][..], &[1, 2, 3], &[1, 2, 5], &[3, 4], &[5, 6], &[1, 2, 3, 4, 5]] {
         // {1,2,3,4,5} is added to the draft without {5,6}.
-        let again = match hand.len() {
+        let again = match staged.len() {
             5 => vec![vec![tape::apply()], tape::with(&[1, 2], tape::group()), tape::with(&[1, 2, 3, 4], tape::group())].concat(),
             _ => vec![],
         };
-        runs.push(Run::new([vec![tape::empty()], again, tape::with(hand, tape::group())].concat()));
+        runs.push(Run::new([vec![tape::empty()], again, tape::with(staged, tape::group())].concat()));
     }
     let marked = Case { n: 8, k: 6, preset: None, runs };
 

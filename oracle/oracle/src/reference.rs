@@ -2,7 +2,7 @@
 //! document's definitions alone. A fault can be switched on, to see whether the comparison finds it.
 
 use crate::side::Side;
-use sparsey::harness::{Card, Preset, Ran};
+use sparsey::harness::{Id, Preset, Ran};
 use std::collections::{BTreeMap, BTreeSet, VecDeque};
 
 /// Departures from document 01.
@@ -11,7 +11,7 @@ pub enum Fault {
     // The five that document 01 names.
     RemoveBeforeLeaving,
     SmallestFirst,
-    SwapRingOnly,
+    SwapNewKindsOnly,
     GoOnUpward,
     IgnoreVersions,
     // The hollow stores that it names.
@@ -36,21 +36,21 @@ pub enum Fault {
     ApplyByIndex,
     ApplyBackwards,
     ApplyKeepsDraft,
-    ApplyEmptiesHand,
+    ApplyEmptiesStaged,
     WipeKeepsCounts,
     WipeKillsAll,
-    BarAnyLarger,
-    BarPartOfRing,
+    ExcludeAnyLarger,
+    ExcludePart,
     RangeOfDraft,
-    RangeKeepsBar,
-    OneKindWithBar,
+    RangeKeepsExcluded,
+    OneKindWithExcluded,
     TakeByRisingKind,
     TakeGarbage,
-    RefusalEmptiesHand,
-    NothingAddedKeepsHand,
+    RefusalEmptiesStaged,
+    NothingAddedKeepsStaged,
     AgainAcrossLists,
-    EmptyKeepsBar,
-    HandOfFifteen,
+    EmptyKeepsExcluded,
+    FifteenStaged,
     RoomByAnswerGiven,
     CutBeforeUnknown,
     WideAfterClash,
@@ -62,11 +62,11 @@ pub enum Fault {
     ManyBeforeEqual,
     KindsBeforeKnown,
     FullByLive,
-    TallyWraps,
-    TallyCountsStops,
+    RefusalCountWraps,
+    RefusalCountHasStops,
     RollByLiveList,
     RollByRegistration,
-    StartKeepsTally,
+    StartKeepsRefusalCount,
 }
 
 impl Fault {
@@ -75,7 +75,7 @@ impl Fault {
         [
             RemoveBeforeLeaving,
             SmallestFirst,
-            SwapRingOnly,
+            SwapNewKindsOnly,
             GoOnUpward,
             IgnoreVersions,
             AcknowledgeAfterFirst,
@@ -98,21 +98,21 @@ impl Fault {
             ApplyByIndex,
             ApplyBackwards,
             ApplyKeepsDraft,
-            ApplyEmptiesHand,
+            ApplyEmptiesStaged,
             WipeKeepsCounts,
             WipeKillsAll,
-            BarAnyLarger,
-            BarPartOfRing,
+            ExcludeAnyLarger,
+            ExcludePart,
             RangeOfDraft,
-            RangeKeepsBar,
-            OneKindWithBar,
+            RangeKeepsExcluded,
+            OneKindWithExcluded,
             TakeByRisingKind,
             TakeGarbage,
-            RefusalEmptiesHand,
-            NothingAddedKeepsHand,
+            RefusalEmptiesStaged,
+            NothingAddedKeepsStaged,
             AgainAcrossLists,
-            EmptyKeepsBar,
-            HandOfFifteen,
+            EmptyKeepsExcluded,
+            FifteenStaged,
             RoomByAnswerGiven,
             CutBeforeUnknown,
             WideAfterClash,
@@ -124,11 +124,11 @@ impl Fault {
             ManyBeforeEqual,
             KindsBeforeKnown,
             FullByLive,
-            TallyWraps,
-            TallyCountsStops,
+            RefusalCountWraps,
+            RefusalCountHasStops,
             RollByLiveList,
             RollByRegistration,
-            StartKeepsTally,
+            StartKeepsRefusalCount,
         ]
     };
 
@@ -138,7 +138,7 @@ impl Fault {
         match self {
             RemoveBeforeLeaving => "removing before leaving the groups",
             SmallestFirst => "leaving the smallest group first",
-            SwapRingOnly => "swapping in the ring only",
+            SwapNewKindsOnly => "swapping in the group's new kinds only (the ring)",
             GoOnUpward => "going on upward after a missing part",
             IgnoreVersions => "ignoring versions",
             AcknowledgeAfterFirst => "running the first command and only acknowledging the others",
@@ -147,35 +147,35 @@ impl Fault {
             FixedRange => "a fixed range",
             InventedCounts => "invented group counts",
             RefuseAll => "refusing throughout",
-            LastInFirstOut => "the number that waited shortest is taken first",
-            NoVersionStep => "a destroyed number waits at its old version",
+            LastInFirstOut => "the number recycled last is taken first",
+            NoVersionStep => "a destroyed number is recycled at its old version",
             VersionWraps => "after the last version comes version 1",
             RetiredForgotten => "a retired number may be issued again",
-            LiveListShifts => "a destroyed card's place in the live list is closed by moving all behind it",
+            LiveListShifts => "a destroyed entity's place in the live list is closed by moving all behind it",
             RowsShift => "a removed row's gap is closed by moving all behind it",
             ReplaceAppends => "inserting a held kind moves its row to the end",
             ReplaceKeepsValue => "inserting a held kind keeps the old value",
             LeaveOwnGroupOnly => "removal leaves the kind's own group only",
             LeaveFromSmallest => "removal leaves every group of the family",
-            KillLeavesNoGroup => "a destroyed card leaves no group",
-            ApplyByIndex => "APPLY walks cards by index",
+            KillLeavesNoGroup => "a destroyed entity leaves no group",
+            ApplyByIndex => "APPLY walks entities by index",
             ApplyBackwards => "APPLY walks the live list from its end",
             ApplyKeepsDraft => "APPLY keeps the draft",
-            ApplyEmptiesHand => "APPLY empties the hand",
+            ApplyEmptiesStaged => "APPLY empties the staged components",
             WipeKeepsCounts => "WIPE keeps group counts",
-            WipeKillsAll => "WIPE destroys the cards too",
-            BarAnyLarger => "a bar equal to what any larger group has more is taken",
-            BarPartOfRing => "a bar that is part of the next larger group's ring is taken",
+            WipeKillsAll => "WIPE destroys the entities too",
+            ExcludeAnyLarger => "RANGE takes excluded kinds equal to what any larger group has more",
+            ExcludePart => "RANGE takes excluded kinds that are some of the next larger group's new ones",
             RangeOfDraft => "RANGE also sees groups of the draft, with count 0",
-            RangeKeepsBar => "RANGE keeps the bar",
-            OneKindWithBar => "a hand of one kind ignores the bar",
+            RangeKeepsExcluded => "RANGE keeps the excluded kinds",
+            OneKindWithExcluded => "RANGE of one kind ignores excluded kinds",
             TakeByRisingKind => "TAKE answers by rising kind",
-            TakeGarbage => "TAKE answers the hand's value for a kind that is not held",
-            RefusalEmptiesHand => "a refused command empties the hand",
-            NothingAddedKeepsHand => "GROUP answering 0 keeps the hand",
-            AgainAcrossLists => "BAR refuses a kind that is in the hand",
-            EmptyKeepsBar => "EMPTY keeps the bar",
-            HandOfFifteen => "a hand holds fifteen kinds",
+            TakeGarbage => "TAKE answers the staged value for a kind that is not held",
+            RefusalEmptiesStaged => "a refused command empties the staged components",
+            NothingAddedKeepsStaged => "GROUP answering 0 keeps the staged components",
+            AgainAcrossLists => "BAR refuses a kind that is staged",
+            EmptyKeepsExcluded => "EMPTY keeps the excluded kinds",
+            FifteenStaged => "fifteen kinds can be staged",
             RoomByAnswerGiven => "NOROOM goes by the answer given, not the accepted one",
             CutBeforeUnknown => "an unknown byte at the tape's end is CUT",
             WideAfterClash => "CLASH comes before WIDE",
@@ -186,40 +186,40 @@ impl Fault {
             SixtyFourGroups => "a draft holds 64 groups",
             ManyBeforeEqual => "MANY comes before nothing added",
             KindsBeforeKnown => "KINDS is answered for a known kind too",
-            FullByLive => "FULL goes by the cards live",
-            TallyWraps => "the tally starts over after 4,294,967,295",
-            TallyCountsStops => "the tally counts a stop",
+            FullByLive => "FULL goes by the entities live",
+            RefusalCountWraps => "the refusal count starts over after 4,294,967,295",
+            RefusalCountHasStops => "the refusal count has stops too",
             RollByLiveList => "the roll follows the live list",
             RollByRegistration => "the roll's parts follow the order of registration",
-            StartKeepsTally => "a second start keeps the tally",
+            StartKeepsRefusalCount => "a second start keeps the refusal count",
         }
     }
 }
 
 #[derive(Clone, Debug)]
 struct Row {
-    entity: Card,
+    entity: Id,
     value: u64,
 }
 
 /// A chain of groups: group g has the kinds of the rings up to its own.
 #[derive(Clone, Debug)]
 struct Family {
-    rings: Vec<Vec<u8>>,
+    new_kinds: Vec<Vec<u8>>,
     counts: Vec<usize>,
 }
 
 impl Family {
     fn kinds(&self, group: usize) -> Vec<u8> {
-        self.rings[..=group].concat()
+        self.new_kinds[..=group].concat()
     }
 
     fn all(&self) -> BTreeSet<u8> {
-        self.rings.iter().flatten().copied().collect()
+        self.new_kinds.iter().flatten().copied().collect()
     }
 
     fn own_group(&self, kind: u8) -> Option<usize> {
-        self.rings.iter().position(|ring| ring.contains(&kind))
+        self.new_kinds.iter().position(|kinds| kinds.contains(&kind))
     }
 }
 
@@ -232,16 +232,16 @@ struct Store {
     fault: Option<Fault>,
     n: usize,
     k: usize,
-    live: Vec<Card>,
-    waiting: VecDeque<Card>,
+    live: Vec<Id>,
+    recycled: VecDeque<Id>,
     issued: usize,
     registered: Vec<u8>,
     columns: BTreeMap<u8, Vec<Row>>,
     layout: Vec<Family>,
     draft: Vec<Family>,
-    hand: Vec<(u8, u64)>,
-    bar: Vec<u8>,
-    tally: u32,
+    staged: Vec<(u8, u64)>,
+    excluded: Vec<u8>,
+    refusals: u32,
     commands: u64,
 }
 
@@ -280,15 +280,15 @@ impl Side for Reference {
             n,
             k,
             live: vec![],
-            waiting: VecDeque::new(),
+            recycled: VecDeque::new(),
             issued: 0,
             registered: vec![],
             columns: BTreeMap::new(),
             layout: vec![],
             draft: vec![],
-            hand: vec![],
-            bar: vec![],
-            tally: old.filter(|_| self.fault == Some(Fault::StartKeepsTally)).map_or(0, |old| old.tally),
+            staged: vec![],
+            excluded: vec![],
+            refusals: old.filter(|_| self.fault == Some(Fault::StartKeepsRefusalCount)).map_or(0, |old| old.refusals),
             commands: 0,
         });
         0
@@ -297,9 +297,9 @@ impl Side for Reference {
     fn preset(&mut self, preset: &Preset) {
         let store = self.store.as_mut().unwrap();
         store.live = preset.live.clone();
-        store.waiting = preset.waiting.iter().copied().collect();
+        store.recycled = preset.recycled.iter().copied().collect();
         store.issued = preset.issued;
-        store.tally = preset.refusals;
+        store.refusals = preset.refusals;
     }
 
     fn run(&mut self, tape: &[u8], out: &mut [u8]) -> Ran {
@@ -342,7 +342,7 @@ impl Side for Reference {
         (0, roll.len())
     }
 
-    fn live(&mut self) -> Vec<Card> {
+    fn live(&mut self) -> Vec<Id> {
         self.store.as_ref().map_or(vec![], |store| store.live.clone())
     }
 }
@@ -377,8 +377,8 @@ impl Store {
             }
             let stop = self.stop(rest, out.len() - ran.written);
             if stop != 0 || self.has(Fault::StopAtOnce) {
-                if self.has(Fault::TallyCountsStops) {
-                    self.tally = self.tally.saturating_add(1);
+                if self.has(Fault::RefusalCountHasStops) {
+                    self.refusals = self.refusals.saturating_add(1);
                 }
                 ran.stop = stop.max(u32::from(self.has(Fault::StopAtOnce)) * 4);
                 return ran;
@@ -417,7 +417,7 @@ impl Store {
         1 + match byte {
             0x01 => 1,
             0x03 => 8,
-            0x05 => 9 * self.hand.len(),
+            0x05 => 9 * self.staged.len(),
             0x09 => 1,
             0x0c => 9,
             0x0e => 4,
@@ -428,7 +428,7 @@ impl Store {
     fn answer(&mut self, byte: u8, operands: &[u8]) -> Vec<u8> {
         self.commands += 1;
         if self.has(Fault::RefuseAll) {
-            self.tally = self.tally.saturating_add(1);
+            self.refusals = self.refusals.saturating_add(1);
             return vec![7];
         }
         if self.has(Fault::AcknowledgeAfterFirst) && self.commands > 1 {
@@ -441,12 +441,12 @@ impl Store {
                 bytes
             }
             Err(refusal) => {
-                self.tally = match self.has(Fault::TallyWraps) {
-                    true => self.tally.wrapping_add(1),
-                    false => self.tally.saturating_add(1),
+                self.refusals = match self.has(Fault::RefusalCountWraps) {
+                    true => self.refusals.wrapping_add(1),
+                    false => self.refusals.saturating_add(1),
                 };
-                if self.has(Fault::RefusalEmptiesHand) {
-                    self.hand.clear();
+                if self.has(Fault::RefusalEmptiesStaged) {
+                    self.staged.clear();
                 }
                 vec![refusal]
             }
@@ -461,7 +461,7 @@ impl Store {
         let entity = || (number(&operands[..4]) as u32, number(&operands[4..]) as u32);
         match byte {
             0x01 => self.register(operands[0]),
-            0x02 => self.hold(operands[0], number(&operands[1..])),
+            0x02 => self.stage(operands[0], number(&operands[1..])),
             0x03 => self.create(),
             0x04 => self.put(entity()),
             0x05 => self.take(entity()),
@@ -470,10 +470,10 @@ impl Store {
             0x08 => self.wipe(),
             0x09 => self.group(),
             0x0a => self.apply(),
-            0x0b => self.bar(operands[0]),
+            0x0b => self.exclude(operands[0]),
             0x0c => self.range(),
             0x0d => self.empty(),
-            _ => Ok(self.tally.to_le_bytes().to_vec()),
+            _ => Ok(self.refusals.to_le_bytes().to_vec()),
         }
     }
 
@@ -492,52 +492,52 @@ impl Store {
         Ok(vec![u8::from(!known)])
     }
 
-    fn hold(&mut self, kind: u8, value: u64) -> Answer {
+    fn stage(&mut self, kind: u8, value: u64) -> Answer {
         if kind > 127 || !self.registered.contains(&kind) {
             return Err(7);
         }
-        if self.hand.iter().any(|held| held.0 == kind) {
+        if self.staged.iter().any(|held| held.0 == kind) {
             return Err(9);
         }
-        if self.hand.len() == if self.has(Fault::HandOfFifteen) { 15 } else { 16 } {
+        if self.staged.len() == if self.has(Fault::FifteenStaged) { 15 } else { 16 } {
             return Err(10);
         }
-        self.hand.push((kind, value));
+        self.staged.push((kind, value));
         Ok(vec![])
     }
 
-    fn bar(&mut self, kind: u8) -> Answer {
+    fn exclude(&mut self, kind: u8) -> Answer {
         if kind > 127 || !self.registered.contains(&kind) {
             return Err(7);
         }
-        let in_hand = self.hand.iter().any(|held| held.0 == kind);
-        if self.bar.contains(&kind) || self.has(Fault::AgainAcrossLists) && in_hand {
+        let is_staged = self.staged.iter().any(|held| held.0 == kind);
+        if self.excluded.contains(&kind) || self.has(Fault::AgainAcrossLists) && is_staged {
             return Err(9);
         }
-        if self.bar.len() == 16 {
+        if self.excluded.len() == 16 {
             return Err(10);
         }
-        self.bar.push(kind);
+        self.excluded.push(kind);
         Ok(vec![])
     }
 
     fn empty(&mut self) -> Answer {
-        self.hand.clear();
-        if !self.has(Fault::EmptyKeepsBar) {
-            self.bar.clear();
+        self.staged.clear();
+        if !self.has(Fault::EmptyKeepsExcluded) {
+            self.excluded.clear();
         }
         Ok(vec![])
     }
 
-    fn same(&self, a: Card, b: Card) -> bool {
+    fn same(&self, a: Id, b: Id) -> bool {
         a.0 == b.0 && (a.1 == b.1 || self.has(Fault::IgnoreVersions))
     }
 
-    fn is_live(&self, entity: Card) -> bool {
+    fn is_live(&self, entity: Id) -> bool {
         self.live.iter().any(|&live| self.same(live, entity))
     }
 
-    fn place(&self, kind: u8, entity: Card) -> Option<usize> {
+    fn place(&self, kind: u8, entity: Id) -> Option<usize> {
         self.columns[&kind].iter().position(|row| self.same(row.entity, entity))
     }
 
@@ -553,12 +553,12 @@ impl Store {
             Some(Fault::FullByLive) => self.live.len() == self.n,
             _ => self.issued == self.n,
         };
-        if self.waiting.is_empty() && full {
+        if self.recycled.is_empty() && full {
             return Err(12);
         }
         let longest = match self.has(Fault::LastInFirstOut) {
-            true => self.waiting.pop_back(),
-            false => self.waiting.pop_front(),
+            true => self.recycled.pop_back(),
+            false => self.recycled.pop_front(),
         };
         let entity = longest.unwrap_or_else(|| {
             self.issued += 1;
@@ -569,7 +569,7 @@ impl Store {
         Ok([entity.0.to_le_bytes(), entity.1.to_le_bytes()].concat())
     }
 
-    fn put(&mut self, entity: Card) -> Answer {
+    fn put(&mut self, entity: Id) -> Answer {
         if !self.is_live(entity) {
             return Err(11);
         }
@@ -578,9 +578,9 @@ impl Store {
     }
 
     /// All parts go in, then the touched families' groups are walked upward.
-    fn insert(&mut self, entity: Card) {
-        let hand = std::mem::take(&mut self.hand);
-        for &(kind, value) in &hand {
+    fn insert(&mut self, entity: Id) {
+        let staged = std::mem::take(&mut self.staged);
+        for &(kind, value) in &staged {
             let held = self.place(kind, entity);
             let (appends, keeps) = (self.has(Fault::ReplaceAppends), self.has(Fault::ReplaceKeepsValue));
             let rows = self.columns.get_mut(&kind).unwrap();
@@ -595,27 +595,27 @@ impl Store {
             }
         }
         for family in 0..self.layout.len() {
-            if hand.iter().any(|&(kind, _)| self.layout[family].own_group(kind).is_some()) {
+            if staged.iter().any(|&(kind, _)| self.layout[family].own_group(kind).is_some()) {
                 self.enter(family, entity);
             }
         }
     }
 
-    fn enter(&mut self, family: usize, entity: Card) {
-        for group in 0..self.layout[family].rings.len() {
-            let ring = self.layout[family].rings[group].clone();
-            if ring.iter().any(|&kind| self.place(kind, entity).is_none()) {
+    fn enter(&mut self, family: usize, entity: Id) {
+        for group in 0..self.layout[family].new_kinds.len() {
+            let new = self.layout[family].new_kinds[group].clone();
+            if new.iter().any(|&kind| self.place(kind, entity).is_none()) {
                 match self.has(Fault::GoOnUpward) {
                     true => continue,
                     false => return,
                 }
             }
             let count = self.layout[family].counts[group];
-            if self.place(ring[0], entity).unwrap() < count {
+            if self.place(new[0], entity).unwrap() < count {
                 continue;
             }
-            let kinds = match self.has(Fault::SwapRingOnly) {
-                true => ring,
+            let kinds = match self.has(Fault::SwapNewKindsOnly) {
+                true => new,
                 false => self.layout[family].kinds(group),
             };
             for kind in kinds {
@@ -628,17 +628,17 @@ impl Store {
     }
 
     /// Leaves a group, if the entity is inside.
-    fn leave(&mut self, family: usize, group: usize, entity: Card) {
-        let ring = self.layout[family].rings[group].clone();
+    fn leave(&mut self, family: usize, group: usize, entity: Id) {
+        let new = self.layout[family].new_kinds[group].clone();
         let count = self.layout[family].counts[group];
-        let inside = ring
+        let inside = new
             .iter()
             .all(|&kind| self.place(kind, entity).is_some_and(|place| place < count));
         if !inside {
             return;
         }
-        let kinds = match self.has(Fault::SwapRingOnly) {
-            true => ring,
+        let kinds = match self.has(Fault::SwapNewKindsOnly) {
+            true => new,
             false => self.layout[family].kinds(group),
         };
         for kind in kinds {
@@ -650,8 +650,8 @@ impl Store {
     }
 
     /// Leaves the groups from `lowest` to the family's largest, the largest first.
-    fn leave_from(&mut self, family: usize, lowest: usize, entity: Card) {
-        let mut groups: Vec<usize> = (lowest..self.layout[family].rings.len()).rev().collect();
+    fn leave_from(&mut self, family: usize, lowest: usize, entity: Id) {
+        let mut groups: Vec<usize> = (lowest..self.layout[family].new_kinds.len()).rev().collect();
         match self.fault {
             Some(Fault::SmallestFirst) => groups.reverse(),
             Some(Fault::LeaveOwnGroupOnly) => groups = vec![lowest],
@@ -662,7 +662,7 @@ impl Store {
         }
     }
 
-    fn remove_rows(&mut self, entity: Card, kinds: &[u8]) -> Vec<Option<u64>> {
+    fn remove_rows(&mut self, entity: Id, kinds: &[u8]) -> Vec<Option<u64>> {
         let shifts = self.has(Fault::RowsShift);
         kinds
             .iter()
@@ -678,7 +678,7 @@ impl Store {
     }
 
     /// Before any part goes, the groups from each removed kind's own are left.
-    fn remove(&mut self, entity: Card, kinds: &[u8]) -> Vec<Option<u64>> {
+    fn remove(&mut self, entity: Id, kinds: &[u8]) -> Vec<Option<u64>> {
         let early = self.has(Fault::RemoveBeforeLeaving).then(|| self.remove_rows(entity, kinds));
         for family in 0..self.layout.len() {
             let own = kinds.iter().filter_map(|&kind| self.layout[family].own_group(kind));
@@ -690,17 +690,17 @@ impl Store {
         early.unwrap_or_else(|| self.remove_rows(entity, kinds))
     }
 
-    fn take(&mut self, entity: Card) -> Answer {
+    fn take(&mut self, entity: Id) -> Answer {
         if !self.is_live(entity) {
             return Err(11);
         }
-        let mut hand = std::mem::take(&mut self.hand);
+        let mut staged = std::mem::take(&mut self.staged);
         if self.has(Fault::TakeByRisingKind) {
-            hand.sort();
+            staged.sort();
         }
-        let kinds: Vec<u8> = hand.iter().map(|held| held.0).collect();
+        let kinds: Vec<u8> = staged.iter().map(|held| held.0).collect();
         let mut answer = vec![];
-        for (value, held) in self.remove(entity, &kinds).into_iter().zip(hand) {
+        for (value, held) in self.remove(entity, &kinds).into_iter().zip(staged) {
             let missing = if self.has(Fault::TakeGarbage) { held.1 } else { 0 };
             answer.push(u8::from(value.is_some()));
             answer.extend(value.unwrap_or(missing).to_le_bytes());
@@ -708,16 +708,16 @@ impl Store {
         Ok(answer)
     }
 
-    fn drop(&mut self, entity: Card) -> Answer {
+    fn drop(&mut self, entity: Id) -> Answer {
         if !self.is_live(entity) {
             return Err(11);
         }
-        let kinds: Vec<u8> = std::mem::take(&mut self.hand).iter().map(|held| held.0).collect();
+        let kinds: Vec<u8> = std::mem::take(&mut self.staged).iter().map(|held| held.0).collect();
         self.remove(entity, &kinds);
         Ok(vec![])
     }
 
-    fn kill(&mut self, entity: Card) -> Answer {
+    fn kill(&mut self, entity: Id) -> Answer {
         let Some(place) = self.live.iter().position(|&live| self.same(live, entity)) else {
             return Err(11);
         };
@@ -738,7 +738,7 @@ impl Store {
             _ => entity.1.checked_add(1),
         };
         match next {
-            Some(version) => self.waiting.push_back((entity.0, version)),
+            Some(version) => self.recycled.push_back((entity.0, version)),
             None if self.has(Fault::RetiredForgotten) => self.issued -= 1,
             None => {}
         }
@@ -761,10 +761,10 @@ impl Store {
     }
 
     fn group(&mut self) -> Answer {
-        let kinds: Vec<u8> = self.hand.iter().map(|held| held.0).collect();
+        let kinds: Vec<u8> = self.staged.iter().map(|held| held.0).collect();
         let added = self.add_group(&kinds)?;
-        if added || !self.has(Fault::NothingAddedKeepsHand) {
-            self.hand.clear();
+        if added || !self.has(Fault::NothingAddedKeepsStaged) {
+            self.staged.clear();
         }
         Ok(vec![u8::from(added)])
     }
@@ -778,11 +778,11 @@ impl Store {
             return Err(13);
         }
         let most = if self.has(Fault::SixtyFourGroups) { 64 } else { 63 };
-        let many = self.draft.iter().map(|family| family.rings.len()).sum::<usize>() == most;
+        let many = self.draft.iter().map(|family| family.new_kinds.len()).sum::<usize>() == most;
         if many && self.has(Fault::ManyBeforeEqual) {
             return Err(15);
         }
-        let is_present = |family: &Family| (0..family.rings.len()).any(|group| set(&family.kinds(group)) == new);
+        let is_present = |family: &Family| (0..family.new_kinds.len()).any(|group| set(&family.kinds(group)) == new);
         if self.draft.iter().any(is_present) {
             return match self.has(Fault::ClashBeforeEqual) {
                 true => Err(14),
@@ -796,7 +796,7 @@ impl Store {
         let place = match sharing[..] {
             [] => None,
             [family] if held(family) => Some(family),
-            [family] if self.has(Fault::GroupBelowAccepted) && new.is_subset(&set(&self.draft[family].rings[0])) => {
+            [family] if self.has(Fault::GroupBelowAccepted) && new.is_subset(&set(&self.draft[family].new_kinds[0])) => {
                 return Ok(true);
             }
             [family] if self.has(Fault::GroupBetweenAccepted) && self.is_between(family, &new) => return Ok(true),
@@ -811,13 +811,13 @@ impl Store {
         }
         match place {
             None => self.draft.push(Family {
-                rings: vec![kinds.to_vec()],
+                new_kinds: vec![kinds.to_vec()],
                 counts: vec![0],
             }),
             Some(family) => {
                 let old = self.draft[family].all();
-                let ring = kinds.iter().copied().filter(|kind| !old.contains(kind)).collect();
-                self.draft[family].rings.push(ring);
+                let added = kinds.iter().copied().filter(|kind| !old.contains(kind)).collect();
+                self.draft[family].new_kinds.push(added);
                 self.draft[family].counts.push(0);
             }
         }
@@ -828,7 +828,7 @@ impl Store {
     fn is_between(&self, family: usize, new: &BTreeSet<u8>) -> bool {
         let family = &self.draft[family];
         let shared: BTreeSet<u8> = family.all().intersection(new).copied().collect();
-        (1..family.rings.len())
+        (1..family.new_kinds.len())
             .any(|group| set(&family.kinds(group - 1)) == shared && new.len() < family.kinds(group).len())
     }
 
@@ -837,8 +837,8 @@ impl Store {
         if !self.has(Fault::ApplyKeepsDraft) {
             self.draft.clear();
         }
-        if self.has(Fault::ApplyEmptiesHand) {
-            self.hand.clear();
+        if self.has(Fault::ApplyEmptiesStaged) {
+            self.staged.clear();
         }
         let mut live = self.live.clone();
         match self.fault {
@@ -859,9 +859,9 @@ impl Store {
             Some(Fault::FixedRange) => Some((0, 1)),
             _ => self.find_range(),
         };
-        self.hand.clear();
-        if !self.has(Fault::RangeKeepsBar) {
-            self.bar.clear();
+        self.staged.clear();
+        if !self.has(Fault::RangeKeepsExcluded) {
+            self.excluded.clear();
         }
         let (start, end) = found.unwrap_or((0, 0));
         let mut answer = vec![u8::from(found.is_some())];
@@ -871,29 +871,29 @@ impl Store {
     }
 
     fn find_range(&self) -> Option<(usize, usize)> {
-        let hand: BTreeSet<u8> = self.hand.iter().map(|held| held.0).collect();
-        let bar = set(&self.bar);
-        if hand.len() == 1 && (bar.is_empty() || self.has(Fault::OneKindWithBar)) {
-            return Some((0, self.columns[&self.hand[0].0].len()));
+        let staged: BTreeSet<u8> = self.staged.iter().map(|held| held.0).collect();
+        let excluded = set(&self.excluded);
+        if staged.len() == 1 && (excluded.is_empty() || self.has(Fault::OneKindWithExcluded)) {
+            return Some((0, self.columns[&self.staged[0].0].len()));
         }
         let drafted = self.draft.iter().filter(|_| self.has(Fault::RangeOfDraft));
         for family in self.layout.iter().chain(drafted) {
-            for group in 0..family.rings.len() {
-                if set(&family.kinds(group)) != hand {
+            for group in 0..family.new_kinds.len() {
+                if set(&family.kinds(group)) != staged {
                     continue;
                 }
                 let count = match self.has(Fault::InventedCounts) {
                     true => group,
                     false => family.counts[group],
                 };
-                if bar.is_empty() {
+                if excluded.is_empty() {
                     return Some((0, count));
                 }
-                for larger in group + 1..family.rings.len() {
-                    let more = set(&family.rings[group + 1..=larger].concat());
+                for larger in group + 1..family.new_kinds.len() {
+                    let more = set(&family.new_kinds[group + 1..=larger].concat());
                     let next = larger == group + 1;
-                    let part = next && self.has(Fault::BarPartOfRing) && bar.is_subset(&more);
-                    if bar == more && (next || self.has(Fault::BarAnyLarger)) || part {
+                    let part = next && self.has(Fault::ExcludePart) && excluded.is_subset(&more);
+                    if excluded == more && (next || self.has(Fault::ExcludeAnyLarger)) || part {
                         return Some((family.counts[larger], count));
                     }
                 }

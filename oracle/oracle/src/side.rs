@@ -1,6 +1,6 @@
 //! The entries of document 01, as either side of the comparison offers them.
 
-use sparsey::harness::{Card, Oracle, Preset, Ran};
+use sparsey::harness::{Id, Oracle, Preset, Ran};
 
 /// One side of the comparison: a store, lent or of its own, and the entries on it.
 pub trait Side {
@@ -14,7 +14,7 @@ pub trait Side {
 
     fn run(&mut self, tape: &[u8], out: &mut [u8]) -> Ran;
 
-    /// *column*: the part's words, cards or values.
+    /// *column*: the part's words, entities or values.
     fn column(&mut self, kind: u8, values: bool, start: usize, end: usize) -> Vec<u32>;
 
     /// The number of *column* with the same operands.
@@ -24,7 +24,7 @@ pub trait Side {
     fn roll(&mut self, out: &mut [u8]) -> (u32, usize);
 
     /// The live list, in its order.
-    fn live(&mut self) -> Vec<Card>;
+    fn live(&mut self) -> Vec<Id>;
 
     /// What the side found wrong with itself since the last call.
     fn complaint(&mut self) -> Option<String> {
@@ -53,9 +53,9 @@ impl Side for Oracle {
         if Oracle::column_number(self, kind, start, end) != 0 {
             return vec![];
         }
-        let (cards, numbers) = Oracle::column(self, kind).unwrap();
+        let (ids, numbers) = Oracle::column(self, kind).unwrap();
         match values {
-            false => cards[start..end].iter().flat_map(|&(index, version)| [index, version]).collect(),
+            false => ids[start..end].iter().flat_map(|&(index, version)| [index, version]).collect(),
             true => numbers[start..end].iter().flat_map(|&v| [v as u32, (v >> 32) as u32]).collect(),
         }
     }
@@ -68,7 +68,7 @@ impl Side for Oracle {
         Oracle::roll(self, out)
     }
 
-    fn live(&mut self) -> Vec<Card> {
+    fn live(&mut self) -> Vec<Id> {
         Oracle::live(self)
     }
 }

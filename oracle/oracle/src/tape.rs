@@ -1,6 +1,6 @@
 //! Tapes as lists of commands, to be built, read by people and cut down.
 
-use sparsey::harness::{Card, Preset};
+use sparsey::harness::{Id, Preset};
 use std::fmt::Write;
 
 pub const NAMES: [&str; 15] = [
@@ -25,24 +25,24 @@ pub fn new() -> Chunk {
     vec![3]
 }
 
-fn with_card(byte: u8, (index, version): Card) -> Chunk {
+fn with_id(byte: u8, (index, version): Id) -> Chunk {
     [vec![byte], index.to_le_bytes().to_vec(), version.to_le_bytes().to_vec()].concat()
 }
 
-pub fn put(card: Card) -> Chunk {
-    with_card(4, card)
+pub fn put(id: Id) -> Chunk {
+    with_id(4, id)
 }
 
-pub fn take(card: Card) -> Chunk {
-    with_card(5, card)
+pub fn take(id: Id) -> Chunk {
+    with_id(5, id)
 }
 
-pub fn drop(card: Card) -> Chunk {
-    with_card(6, card)
+pub fn drop(id: Id) -> Chunk {
+    with_id(6, id)
 }
 
-pub fn kill(card: Card) -> Chunk {
-    with_card(7, card)
+pub fn kill(id: Id) -> Chunk {
+    with_id(7, id)
 }
 
 pub fn wipe() -> Chunk {
@@ -129,8 +129,8 @@ impl Case {
     pub fn text(&self) -> String {
         let mut text = format!("start N {}, K {}\n", self.n, self.k);
         if let Some(preset) = &self.preset {
-            let Preset { issued, live, waiting, refusals } = preset;
-            writeln!(text, "preset issued {issued}, live {live:?}, waiting {waiting:?}, tally {refusals}").unwrap();
+            let Preset { issued, live, recycled, refusals } = preset;
+            writeln!(text, "preset issued {issued}, live {live:?}, recycled {recycled:?}, refusals {refusals}").unwrap();
         }
         for run in &self.runs {
             match run.room {

@@ -97,7 +97,7 @@ fn tuples_and_staged_agree() {
     }
 }
 
-/// RANGE by the harness finds what the library's own query finds, for every hand and bar of four kinds.
+/// RANGE by the harness finds what the library's own query finds, for every list staged and excluded of four kinds.
 #[test]
 fn ranges_are_those_of_the_query() {
     let subset = |mask: u32| -> Vec<u8> { (0..4).filter(|kind| mask >> kind & 1 == 1).collect() };
@@ -151,7 +151,7 @@ fn a_preset_is_a_state() {
         k: 1,
         preset: Some(Preset {
             issued: 1,
-            waiting: vec![(0, 7)],
+            recycled: vec![(0, 7)],
             ..Preset::default()
         }),
         runs: vec![],
@@ -181,7 +181,7 @@ fn recorded_answers_replay() {
     let file = record::write(3, 60_000);
     let whole = record::replay(&file, &plain);
     assert!(whole.cases > 30 && whole.agree == whole.cases);
-    let faulty = record::replay(&file, &|| Box::new(Reference::with(Fault::SwapRingOnly)));
+    let faulty = record::replay(&file, &|| Box::new(Reference::with(Fault::SwapNewKindsOnly)));
     assert!(faulty.agree < whole.cases);
     // Of the bytes of answers, none may be other.
     let mut damaged = file.clone();

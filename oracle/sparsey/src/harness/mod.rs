@@ -26,7 +26,7 @@ pub struct Ran {
 }
 
 /// An entity as (index, version).
-pub type Card = (u32, u32);
+pub type Id = (u32, u32);
 
 /// Which of the library's component sets a command goes through.
 #[derive(Clone, Copy, PartialEq, Eq, Debug)]
@@ -103,7 +103,7 @@ impl Oracle {
         preset::check(preset, store.n);
         store.world.entities = preset::entities(preset);
         store.issued = preset.issued;
-        store.retired = preset.issued - preset.live.len() - preset.waiting.len();
+        store.retired = preset.issued - preset.live.len() - preset.recycled.len();
         store.refusals = preset.refusals;
     }
 
@@ -178,9 +178,9 @@ impl Oracle {
     }
 
     /// The live entities in the order of the library's list.
-    pub fn live(&self) -> Vec<Card> {
+    pub fn live(&self) -> Vec<Id> {
         let Some(store) = &self.store else { return vec![] };
-        store.world.entities().iter().map(card).collect()
+        store.world.entities().iter().map(id).collect()
     }
 
     /// The registered kinds, rising.
@@ -189,7 +189,7 @@ impl Oracle {
     }
 
     /// A registered kind's entities and values in row order.
-    pub fn column(&self, number: u8) -> Option<(Vec<Card>, Vec<u64>)> {
+    pub fn column(&self, number: u8) -> Option<(Vec<Id>, Vec<u64>)> {
         self.store.as_ref()?.column(number)
     }
 
@@ -345,8 +345,8 @@ impl Store {
     }
 
     fn create(&mut self, sets: Sets) -> Result<Vec<u8>, u8> {
-        let waiting = self.issued - self.retired - self.world.entities().len();
-        if waiting == 0 && self.issued == self.n {
+        let recycled = self.issued - self.retired - self.world.entities().len();
+        if recycled == 0 && self.issued == self.n {
             return Err(12);
         }
         let (kinds, values) = self.take_staged();
@@ -357,7 +357,7 @@ impl Store {
         };
         let entity = by_tuple
             .unwrap_or_else(|| self.world.create(Staged(kinds.into_iter().zip(values).collect())));
-        if waiting == 0 {
+        if recycled == 0 {
             assert_eq!(entity.sparse(), self.issued, "the next index was not taken");
             self.issued += 1;
         }
@@ -459,7 +459,7 @@ impl Store {
         .concat())
     }
 
-    /// As `QueryAll::get_group_range`, with hand and bar built up by `add_view`.
+    /// As `QueryAll::get_group_range`, with what is staged and excluded built up by `add_view`.
     fn group_range(&self, staged: &[u8], excluded: &[u8]) -> Option<(usize, usize)> {
         let include = self.query_group_info(staged)?;
         let exclude = self.query_group_info(excluded)?;
@@ -492,14 +492,14 @@ impl Store {
         })
     }
 
-    fn column(&self, number: u8) -> Option<(Vec<Card>, Vec<u64>)> {
+    fn column(&self, number: u8) -> Option<(Vec<Id>, Vec<u64>)> {
         if !self.is_registered(number) {
             return None;
         }
         let set = self.world.components.components[self.metadata(number).storage_index].borrow();
         let values = unsafe { (kind(number).values)(&set) };
         Some((
-            set.entities().iter().map(card).collect(),
+            set.entities().iter().map(id).collect(),
             values.into_iter().map(long).collect(),
         ))
     }
@@ -620,7 +620,7 @@ fn kinds_of(set: u128) -> Vec<u8> {
     (0..128).filter(|number| set >> number & 1 == 1).collect()
 }
 
-fn card(entity: &Entity) -> Card {
+fn id(entity: &Entity) -> Id {
     (entity.index, entity.version.0.get())
 }
 

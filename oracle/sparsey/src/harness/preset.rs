@@ -1,6 +1,6 @@
 //! Entity stores in states that an empty one reaches only by very many commands, as with versions that run out.
 
-use super::Card;
+use super::Id;
 use crate::entity::{Entity, EntityAllocator, EntitySparseSet, EntityStorage, Version};
 use core::num::NonZeroU32;
 
@@ -9,21 +9,21 @@ use core::num::NonZeroU32;
 #[derive(Clone, PartialEq, Eq, Default, Debug)]
 pub struct Preset {
     pub issued: usize,
-    pub live: Vec<Card>,
-    pub waiting: Vec<Card>,
+    pub live: Vec<Id>,
+    pub recycled: Vec<Id>,
     pub refusals: u32,
 }
 
 /// A preset names each issued number once at most, and a number that waits has had a version before.
 pub(super) fn check(preset: &Preset, n: usize) {
     let mut seen = vec![false; preset.issued];
-    for &(index, version) in preset.live.iter().chain(&preset.waiting) {
+    for &(index, version) in preset.live.iter().chain(&preset.recycled) {
         assert!(version > 0 && !core::mem::replace(&mut seen[index as usize], true));
     }
-    assert!(preset.issued <= n && preset.waiting.iter().all(|&(_, version)| version > 1));
+    assert!(preset.issued <= n && preset.recycled.iter().all(|&(_, version)| version > 1));
 }
 
-fn entity((index, version): Card) -> Entity {
+fn entity((index, version): Id) -> Entity {
     Entity::new(index, Version(NonZeroU32::new(version).unwrap()))
 }
 
@@ -46,13 +46,13 @@ fn assemble(preset: &Preset) -> EntityStorage {
     for index in 0..preset.issued {
         assert_eq!(allocator.allocate().unwrap().sparse(), index);
     }
-    for &(index, version) in &preset.waiting {
+    for &(index, version) in &preset.recycled {
         allocator.recycle(entity((index, version - 1)));
     }
 
     let mut entities = EntitySparseSet::default();
-    for &card in &preset.live {
-        entities.insert(entity(card));
+    for &id in &preset.live {
+        entities.insert(entity(id));
     }
 
     // Two structs with the same two fields are laid out alike by this compiler; `probe` sees that they are.
@@ -67,11 +67,11 @@ fn assemble(preset: &Preset) -> EntityStorage {
 
 /// Looks at everything that can be seen of the storage from outside, using it up.
 fn probe(preset: &Preset, storage: &mut EntityStorage) {
-    let live: Vec<Card> = storage.as_slice().iter().map(super::card).collect();
+    let live: Vec<Id> = storage.as_slice().iter().map(super::id).collect();
     assert_eq!(live, preset.live);
-    assert!(preset.live.iter().all(|&card| storage.contains(entity(card))));
-    for &card in &preset.waiting {
-        assert_eq!(super::card(&storage.create()), card);
+    assert!(preset.live.iter().all(|&id| storage.contains(entity(id))));
+    for &id in &preset.recycled {
+        assert_eq!(super::id(&storage.create()), id);
     }
-    assert_eq!(super::card(&storage.create()), (preset.issued as u32, 1));
+    assert_eq!(super::id(&storage.create()), (preset.issued as u32, 1));
 }
