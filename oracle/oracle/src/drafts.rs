@@ -35,8 +35,10 @@ pub enum Theirs {
     Wrong,
     /// It panics, the layout is as before.
     Panic,
-    /// It panics, the layout is altered.
+    /// It panics at a family that the group does not fit, and one before it is altered.
     PanicAltered,
+    /// It panics because two families took the group, both altered.
+    PanicTwice,
 }
 
 /// All that was found.
@@ -90,12 +92,16 @@ fn groups_of(layout: &GroupLayout) -> BTreeSet<BTreeSet<u8>> {
 fn theirs(layout: &GroupLayout, new: Group) -> Theirs {
     let before = groups_of(layout);
     let mut after = layout.clone();
-    let returned = catch_unwind(AssertUnwindSafe(|| add_group(&mut after, &kinds(new)))).is_ok();
+    let outcome = catch_unwind(AssertUnwindSafe(|| add_group(&mut after, &kinds(new))));
+    let twice = outcome.as_ref().is_err_and(|panic| {
+        panic.downcast_ref::<String>().is_some_and(|text| text.contains("may not have any component types in common"))
+    });
     let same = shape(layout) == shape(&after);
     let mut expected = before;
     expected.insert(kinds(new).into_iter().collect());
-    match (returned, same) {
+    match (outcome.is_ok(), same) {
         (false, true) => Theirs::Panic,
+        (false, false) if twice => Theirs::PanicTwice,
         (false, false) => Theirs::PanicAltered,
         (true, true) => Theirs::Nothing,
         (true, false) if groups_of(&after) == expected => Theirs::Added,
@@ -171,7 +177,7 @@ impl Drafts {
             let draft: Vec<String> = draft.iter().map(|&group| format!("{:?}", kinds(group))).collect();
             let agree = match (ours, theirs) {
                 (Ours::Added, Theirs::Added) | (Ours::Nothing, Theirs::Nothing) => "agree",
-                (Ours::Clash, Theirs::Panic | Theirs::PanicAltered) => "agree, the Rust by panic",
+                (Ours::Clash, Theirs::Panic | Theirs::PanicAltered | Theirs::PanicTwice) => "agree, the Rust by panic",
                 _ => "DIFFER",
             };
             writeln!(
