@@ -2,7 +2,7 @@
 use mathlib.Core.Path.{_≡_}
 use mathlib.Core.Bool.{Bool, cond, _&&_}
 use mathlib.Core.List.{List, [], _∷_, _++_}
-use Prim.Native.Nat.{ℕ, suc, _+_, _*_}
+use Prim.Native.Nat.{ℕ, suc, _+_, _*_, _≤_}
 use lib.Dec.{eqb, leb, ltb}
 use lib.ListN.{length, take, drop}
 use Rattle.model.specs.Lists.{cutAt}
@@ -70,6 +70,11 @@ entityPart n w = between 1024 (1024 + 16 * n) w
 
 abbrev pub entitiesIn : ℕ → List ℕ → Entities
 entitiesIn n w = entitiesOf n (entityPart n w)
+
+-- the words have a sound entity part
+pub record SoundIn (n : ℕ) (w : List ℕ) : Type 0 where
+  pub fits : 1024 + 16 * n ≤ length w
+  pub sound : Sound n (entityPart n w)
 
 -- the entities have become f of what they were; the words before and after their part are as they were
 pub record EntityChange (n : ℕ) (f : Entities → Entities) (w w′ : List ℕ) : Type 0 where

@@ -32,7 +32,7 @@ pub fn is_full(part: &[u32], n: usize) -> bool
 }
 
 // The ring's place k, counted on past the end.
-fn wrap(n: usize, k: usize) -> usize
+pub fn wrap(n: usize, k: usize) -> usize
     requires { ⌜ k < n + n ⌝ }
     ensures { λ r. ⌜ (r ≡ wrapped n k) × (r < n) ⌝ }
 {

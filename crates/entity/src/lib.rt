@@ -3,6 +3,8 @@
 pub mod entity_allocator;
 pub mod entity_sparse_set;
 pub mod entity_storage;
+pub mod in_words;
+pub mod soundness;
 pub mod sparse_vec;
 
 // An index and a version. Versions start at 1.

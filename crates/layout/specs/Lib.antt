@@ -1,1 +1,4 @@
 pub mod Layout
+pub mod Fit
+pub mod Grow
+pub mod Add

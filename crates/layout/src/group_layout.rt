@@ -1,9 +1,404 @@
+// The layout of groups by value, and a group added to it.
+ghost use mathlib.Core.Path.{_≡_};
+ghost use mathlib.Core.List.{[], _∷_, _++_};
+ghost use Prim.Native.Nat.{ℕ, _+_, _-_, _≤_, _<_};
+ghost use lib.ListN.{length, getD, take, drop};
+ghost use Rattle.model.specs.Model.{mem, within, meets, sameSet, isGroup, without};
+ghost use Rattle.layout.specs.Layout.{Formed, KindSet, groupsFrom, arraysIn, familiesOf, startOf, meaning};
+ghost use Rattle.layout.specs.Fit.{partOf, joinFit, fitFrom, GroupAsk, FamilyAsk, FitAsk};
+ghost use Rattle.layout.specs.Grow.{Appended, Spread, Raised, RaiseAsk, Extends, Extended, openedOf, FreshAsk, FreshDone, OntoAsk, OntoDone};
+ghost use Rattle.layout.specs.Add.{AddsGroup};
+
+// The families one after another: their kinds in order, their groups' arities, and where each family's kinds and groups end.
+// The group of arity a is the first a kinds of its family.
 pub struct Layout {
     pub kinds: [u8; 128],
     pub arities: [u8; 64],
     pub kind_ends: [u8; 64],
     pub ends: [u8; 64],
     pub families: usize,
+    // How many kinds and groups there are.
     pub width: usize,
     pub groups: usize,
+}
+
+// How staged kinds stand to one family.
+pub enum Part {
+    // No kind in common.
+    Apart,
+    // They are one of the family's groups.
+    Same,
+    // They hold all of the family's kinds, and more.
+    Whole,
+    // Anything else.
+    Cross,
+}
+
+// How they stand to all families.
+pub enum Fit {
+    Fresh,
+    Present,
+    Onto(usize),
+    Clash,
+}
+
+pub enum Outcome {
+    Nothing,
+    Added,
+    Wide,
+    Clash,
+    Many,
+}
+
+// A layout, with what became of the group.
+pub struct Answer {
+    pub outcome: Outcome,
+    pub layout: Layout,
+}
+
+// Is the kind among the kinds?
+pub fn among(kinds: &[u8], kind: u8) -> bool
+    ensures { λ r. ⌜ r ≡ mem kind (now (kinds .entry)) ⌝ }
+{
+    for i in 0..kinds.len() {
+        if kind == kinds[i] {
+            return true;
+        }
+    }
+    false
+}
+
+// Are all of ks among js?
+pub fn all_among(ks: &[u8], js: &[u8]) -> bool
+    ensures { λ r. ⌜ r ≡ within (now (ks .entry)) (now (js .entry)) ⌝ }
+{
+    for i in 0..ks.len() {
+        if !among(js, ks[i]) {
+            return false;
+        }
+    }
+    true
+}
+
+// Is one of ks among js?
+pub fn some_among(ks: &[u8], js: &[u8]) -> bool
+    ensures { λ r. ⌜ r ≡ meets (now (ks .entry)) (now (js .entry)) ⌝ }
+{
+    for i in 0..ks.len() {
+        if among(js, ks[i]) {
+            return true;
+        }
+    }
+    false
+}
+
+// Are the staged kinds the first a of the kinds?
+fn group_is(kinds: &[u8], a: usize, staged: &[u8]) -> bool
+    requires { ⌜ GroupAsk (now kinds) a (now staged) ⌝ }
+    ensures { λ r. ⌜ r ≡ sameSet (now (staged .entry)) (take a (now (kinds .entry))) ⌝ }
+{
+    if a != staged.len() {
+        return false;
+    }
+    all_among(&kinds[..a], staged)
+}
+
+// Are they one of the family's groups?
+fn same_group(kinds: &[u8], arities: &[u8], staged: &[u8]) -> bool
+    requires { ⌜ FamilyAsk (now kinds) (now arities) (now staged) ⌝ }
+    ensures { λ r. ⌜ r ≡ isGroup (now (staged .entry)) [] (groupsFrom [] 0 (now (kinds .entry)) 0 (now (arities .entry))) ⌝ }
+{
+    for j in 0..arities.len() {
+        if group_is(kinds, arities[j] as usize, staged) {
+            return true;
+        }
+    }
+    false
+}
+
+fn part_of(kinds: &[u8], arities: &[u8], staged: &[u8]) -> Part
+    requires { ⌜ FamilyAsk (now kinds) (now arities) (now staged) ⌝ }
+    ensures { λ r. ⌜ r ≡ partOf (now (staged .entry)) (groupsFrom [] 0 (now (kinds .entry)) 0 (now (arities .entry))) ⌝ }
+{
+    if same_group(kinds, arities, staged) {
+        return Part::Same;
+    }
+    if !some_among(staged, kinds) {
+        return Part::Apart;
+    }
+    if all_among(kinds, staged) {
+        return Part::Whole;
+    }
+    Part::Cross
+}
+
+fn joined(acc: Fit, f: usize, p: Part) -> Fit
+    ensures { λ r. ⌜ r ≡ joinFit acc f p ⌝ }
+{
+    match p {
+        Part::Apart => acc,
+        Part::Same => Fit::Present,
+        Part::Whole => match acc {
+            Fit::Fresh => Fit::Onto(f),
+            Fit::Present => Fit::Present,
+            Fit::Onto(_) => Fit::Clash,
+            Fit::Clash => Fit::Clash,
+        },
+        Part::Cross => match acc {
+            Fit::Fresh => Fit::Clash,
+            Fit::Present => Fit::Present,
+            Fit::Onto(_) => Fit::Clash,
+            Fit::Clash => Fit::Clash,
+        },
+    }
+}
+
+// How the staged kinds stand to the families that the arrays list.
+fn fit_of<'a>(
+    kinds: &'a [u8],
+    arities: &'a [u8],
+    kind_ends: &'a [u8],
+    ends: &'a [u8],
+    families: usize,
+    staged: &[u8],
+) -> Fit
+    requires { ⌜ FitAsk (arraysIn (now kinds) (now arities) (now «kind_ends») (now ends) families) (now staged) ⌝ }
+    ensures { λ r. ⌜ r ≡ fitFrom (now (staged .entry)) 0 Fit.Fresh (familiesOf [] (arraysIn (now (kinds .entry)) (now (arities .entry)) (now («kind_ends» .entry)) (now (ends .entry)) families)) ⌝ }
+{
+    let mut acc = Fit::Fresh;
+    let mut k: usize = 0;
+    let mut g: usize = 0;
+    for f in 0..families {
+        let ke = kind_ends[f] as usize;
+        let ge = ends[f] as usize;
+        let p = part_of(&kinds[k..ke], &arities[g..ge], staged);
+        acc = joined(acc, f, p);
+        k = ke;
+        g = ge;
+    }
+    acc
+}
+
+// Writes src into dst from at on; what lies before stays.
+fn append(dst: &mut [u8], at: usize, src: &[u8]) -> usize
+    requires { ⌜ at + length (now src) ≤ length (now dst) ⌝ }
+    ensures { λ r. ⌜ Appended (now (dst .entry)) at (now (src .entry)) (now (dst .exit)) r ⌝ }
+{
+    for i in 0..src.len() {
+        dst[at + i] = src[i];
+    }
+    at + src.len()
+}
+
+// Writes src into dst, with more put in at a place.
+fn spread(dst: &mut [u8], src: &[u8], at: usize, more: &[u8])
+    requires { ⌜ (at ≤ length (now src)) × (length (now src) + length (now more) ≤ length (now dst)) ⌝ }
+    ensures { λ r. ⌜ Spread (now (dst .entry)) (now (src .entry)) at (now (more .entry)) (now (dst .exit)) ⌝ }
+{
+    let first = append(&mut *dst, 0, &src[..at]);
+    let second = append(&mut *dst, first, more);
+    append(&mut *dst, second, &src[at..]);
+}
+
+// Adds to each number of a part.
+fn raise(ends: &mut [u8], from: usize, to: usize, by: u8)
+    requires { ⌜ RaiseAsk (now ends) from to by ⌝ }
+    ensures { λ r. ⌜ Raised (now (ends .entry)) from to by (now (ends .exit)) ⌝ }
+{
+    for i in from..to {
+        ends[i] = ends[i] + by;
+    }
+}
+
+// Kinds in the front of an array.
+struct Kinds16 {
+    kinds: [u8; 16],
+    count: usize,
+}
+
+// The staged kinds that ks lacks, in their order.
+fn missing(ks: &[u8], staged: &[u8]) -> Kinds16
+    requires { ⌜ length (now staged) ≤ 16 ⌝ }
+    ensures { λ r. ⌜ (take (r .count) (r .kinds) ≡ without (now (staged .entry)) (now (ks .entry))) × (r .count ≤ length (now (staged .entry))) ⌝ }
+{
+    let mut kinds = [0u8; 16];
+    let mut n: usize = 0;
+    for i in 0..staged.len() {
+        let kind = staged[i];
+        if !among(ks, kind) {
+            kinds[n] = kind;
+            n += 1;
+        }
+    }
+    Kinds16 { kinds, count: n }
+}
+
+// Where number f starts: where the one before ends.
+fn start_of(ends: &[u8], f: usize) -> usize
+    requires { ⌜ f ≤ length (now ends) ⌝ }
+    ensures { λ r. ⌜ r ≡ startOf (now (ends .entry)) f ⌝ }
+{
+    if f == 0 {
+        return 0;
+    }
+    let before = f - 1;
+    ends[before] as usize
+}
+
+pub fn empty() -> Layout
+    ensures { λ r. ⌜ Formed r × (meaning r ≡ []) ⌝ }
+{
+    Layout {
+        kinds: [0; 128],
+        arities: [0; 64],
+        kind_ends: [0; 64],
+        ends: [0; 64],
+        families: 0,
+        width: 0,
+        groups: 0,
+    }
+}
+
+// The layout with an empty family at its end, for `extended` to fill.
+fn opened(l: Layout) -> Layout
+    requires { ⌜ (l .families < 63) × (l .width ≤ 128) × (l .groups ≤ 63) ⌝ }
+    ensures { λ r. ⌜ r ≡ openedOf l ⌝ }
+{
+    let families = l.families;
+    let mut kind_ends = l.kind_ends;
+    kind_ends[families] = l.width as u8;
+    let mut ends = l.ends;
+    ends[families] = l.groups as u8;
+    let kinds = l.kinds;
+    let arities = l.arities;
+    Layout {
+        kinds,
+        arities,
+        kind_ends,
+        ends,
+        families: families + 1,
+        width: l.width,
+        groups: l.groups,
+    }
+}
+
+// Family f with more kinds after its own, and a group of all of them.
+fn extended(l: Layout, f: usize, more: &[u8], arity: u8) -> Layout
+    requires { ⌜ Extends l f (now more) arity ⌝ }
+    ensures { λ r. ⌜ Extended l f (now (more .entry)) arity r ⌝ }
+{
+    let families = l.families;
+    let width = l.width;
+    let groups = l.groups;
+    let mut kind_ends = l.kind_ends;
+    let mut ends = l.ends;
+    let ke = kind_ends[f] as usize;
+    let ge = ends[f] as usize;
+    let old = l.kinds;
+    let mut kinds = [0u8; 128];
+    spread(&mut kinds, &old[..width], ke, more);
+    let sizes = l.arities;
+    let one = [arity; 1];
+    let mut arities = [0u8; 64];
+    spread(&mut arities, &sizes[..groups], ge, &one);
+    raise(&mut kind_ends, f, families, more.len() as u8);
+    raise(&mut ends, f, families, 1);
+    Layout {
+        kinds,
+        arities,
+        kind_ends,
+        ends,
+        families,
+        width: width + more.len(),
+        groups: groups + 1,
+    }
+}
+
+// The staged kinds as a family of their own.
+fn fresh(l: Layout, staged: &[u8]) -> Layout
+    requires { ⌜ FreshAsk l (now staged) ⌝ }
+    ensures { λ r. ⌜ FreshDone l (now (staged .entry)) r ⌝ }
+{
+    let f = l.families;
+    let open = opened(l);
+    extended(open, f, staged, staged.len() as u8)
+}
+
+// The staged kinds as the next larger group of family f.
+fn grown(l: Layout, f: usize, staged: &[u8]) -> Layout
+    requires { ⌜ OntoAsk l f (now staged) ⌝ }
+    ensures { λ r. ⌜ OntoDone l f (now (staged .entry)) r ⌝ }
+{
+    let kinds = l.kinds;
+    let kind_ends = l.kind_ends;
+    let k = start_of(&kind_ends, f);
+    let ke = kind_ends[f] as usize;
+    let m = missing(&kinds[k..ke], staged);
+    let more = m.kinds;
+    let n = m.count;
+    extended(l, f, &more[..n], staged.len() as u8)
+}
+
+// Adds a group of the staged kinds.
+pub fn add_group(l: Layout, staged: &[u8]) -> Answer
+    requires { ⌜ Formed l × KindSet (now staged) × (length (now staged) ≤ 16) ⌝ }
+    ensures { λ r. ⌜ AddsGroup l (now (staged .entry)) r ⌝ }
+{
+    if staged.len() < 2 {
+        return Answer {
+            outcome: Outcome::Nothing,
+            layout: l,
+        };
+    }
+    if 16 <= staged.len() {
+        return Answer {
+            outcome: Outcome::Wide,
+            layout: l,
+        };
+    }
+    let groups = l.groups;
+    let stand = fit_of(
+        &l.kinds,
+        &l.arities,
+        &l.kind_ends,
+        &l.ends,
+        l.families,
+        staged,
+    );
+    match stand {
+        Fit::Present => Answer {
+            outcome: Outcome::Nothing,
+            layout: l,
+        },
+        Fit::Clash => Answer {
+            outcome: Outcome::Clash,
+            layout: l,
+        },
+        Fit::Fresh => {
+            if 63 <= groups {
+                return Answer {
+                    outcome: Outcome::Many,
+                    layout: l,
+                };
+            }
+            let layout = fresh(l, staged);
+            Answer {
+                outcome: Outcome::Added,
+                layout,
+            }
+        }
+        Fit::Onto(f) => {
+            if 63 <= groups {
+                return Answer {
+                    outcome: Outcome::Many,
+                    layout: l,
+                };
+            }
+            let layout = grown(l, f, staged);
+            Answer {
+                outcome: Outcome::Added,
+                layout,
+            }
+        }
+    }
 }

@@ -21,3 +21,4 @@ pub mod Listing
 pub mod Snapshots
 pub mod Lengths
 pub mod Retired
+pub mod Ranges

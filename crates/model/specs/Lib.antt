@@ -8,4 +8,5 @@ pub mod Run
 pub mod Entries
 pub mod History
 pub mod Sound
+pub mod Shown
 pub mod Examples

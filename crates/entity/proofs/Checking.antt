@@ -1,0 +1,48 @@
+-- A check's answer put to use, and soundness put together from its parts. Assumes nothing.
+use mathlib.Core.Path.{_≡_}
+use mathlib.Core.Bool.{Bool, true, false, not, true≢false, false≢true}
+use mathlib.Core.List.{List}
+use Prim.Native.Nat.{ℕ, _+_, _≤_, _<_}
+use native.Mathlib.Omega.{arith}
+use Rattle.entity.specs.Decides.{Decides}
+use Rattle.entity.specs.Meaning.{Sized, Sound, lenOf, recycledLen}
+use Rattle.entity.specs.Checks.{Each, Counts, LiveOk, WaitsOk, IndexOk}
+
+-- after `if !check(..) { return ..; }`, and in the branch
+pub granted : (P : Type 0) (b : Bool) → Decides b P → not b ≡ false → P
+granted P true d e = d
+granted P false d e = absurd (true≢false e)
+
+pub denied : (P : Type 0) (b : Bool) → Decides b P → not b ≡ true → P → ⊥
+denied P true d e = absurd (false≢true e)
+denied P false d e = d
+
+module _ (n : ℕ) (w : List ℕ) where
+  pub counts-of : Sound n w → Counts n w
+  counts-of s = record { issued = s .few; live = s .linked .room; head = s .ring .start; recycled = s .ring .few }
+
+  pub live-of : Sound n w → Each (lenOf w) (LiveOk n w)
+  live-of s i h = record { tied = s .linked .tied i h; known = s .known i h }
+
+  pub indexes-of : Sound n w → Each n (IndexOk n w)
+  indexes-of s x h =
+      record {
+        lookup = record { inside = s .linked .inside x h; back = s .linked .back x h };
+        listed = s .ring .listed x h;
+      }
+
+  pub sound-of : Sized n w → Counts n w → Each (lenOf w) (LiveOk n w) → Each (recycledLen w) (WaitsOk n w) → Each n (IndexOk n w) → Sound n w
+  sound-of z c l r x =
+      record {
+        sized = z;
+        few = c .issued;
+        linked =
+            record {
+              room = c .live;
+              tied = λ i h. l i h .tied;
+              inside = λ y h. x y h .lookup .inside;
+              back = λ y h. x y h .lookup .back;
+            };
+        known = λ i h. l i h .known;
+        ring = record { start = c .head; few = c .recycled; waits = r; listed = λ y h. x y h .listed };
+      }

@@ -1,0 +1,32 @@
+-- A change of the entity part, as a change of the whole words. Assumes nothing.
+use mathlib.Core.Path.{_≡_, refl, sym, ap, _∙_}
+use mathlib.Core.List.{List}
+use Prim.Native.Nat.{ℕ, _+_, _*_, _-_, _≤_}
+use native.Mathlib.Omega.{arith}
+use lib.ListN.{length}
+use Rattle.model.specs.Model.{Entities}
+use Rattle.words.specs.Part.{patch, patch-front, patch-rest, patch-between, patch-length, length-between}
+use Rattle.entity.specs.Meaning.{Sized, Sound}
+use Rattle.entity.specs.Change.{Changed, SoundIn, EntityChange, entityPart}
+
+-- the part, changed where it lies
+pub changed-in : (n : ℕ) (f : Entities → Entities) (w ys : List ℕ) → 1024 + 16 * n ≤ length w → Changed n f (entityPart n w) ys → EntityChange n f w (patch 1024 (1024 + 16 * n) w ys)
+changed-in n f w ys g c =
+    let e = 1024 + 16 * n in
+    let h : 1024 ≤ e = omega arith in
+    let l : length ys ≡ e - 1024 = omega (arith, c .sound .sized .size) in
+    let m : entityPart n (patch 1024 e w ys) ≡ ys = patch-between 1024 e w ys h g l in
+    record {
+      sound = rw m (c .sound);
+      size = patch-length 1024 e w ys h g l;
+      becomes = rw m (c .becomes);
+      front = patch-front 1024 e w ys h g l;
+      rest = patch-rest 1024 e w ys h g l;
+    }
+
+-- the words have a sound entity part still
+pub sound-in : (n : ℕ) (f : Entities → Entities) (w w′ : List ℕ) → 1024 + 16 * n ≤ length w → EntityChange n f w w′ → SoundIn n w′
+sound-in n f w w′ g c = record { fits = omega (arith, c .size); sound = c .sound }
+
+pub sized-in : (n : ℕ) (w : List ℕ) → 1 ≤ n → n ≤ 4096 → 1024 + 16 * n ≤ length w → Sized n (entityPart n w)
+sized-in n w some small g = record { size = length-between 1024 (1024 + 16 * n) w g ∙ omega arith; some = some; small = small }

@@ -1,0 +1,33 @@
+use mathlib.Core.Path.{_≡_, refl, sym, ap, _∙_}
+use Prim.Native.Nat.{ℕ, _≤_, _<_, _-_, _+_, _*_}
+use native.Mathlib.Omega.{arith}
+use lib.ListN.{length, getD, length-set}
+use borrow.Author.Needs.{needs}
+use Rattle.entity.proofs.InWords.{changed-in}
+use Rattle.entity.specs.Answers.{created}
+use Rattle.entity.proofs.in_words.create_in.Statement.{statement}
+use Rattle.entity.proofs.in_words.create_in.Tie as tie
+
+-- src/in_words.rt:95:1
+returns : tie.Need-returns
+returns c =
+    let s = c .before .before .before .before .before in
+    let a = s .args in
+    let r = c .before .before .create .ensures in
+    record {
+      changed = changed-in (a .n) created (a .words .now) (c .before .before .create .last .0) (s .pre .0 .fits) (r .changed);
+      entity = r .entity;
+    }
+
+pub create-in-spec : {M : Type 1} → statement M
+create-in-spec =
+    tie.close
+    (tie.spec
+    (λ c. search needs)
+    (λ c. search needs)
+    (λ c. search needs)
+    (λ c. search needs)
+    (λ c. search needs)
+    (λ c κs. search needs)
+    (λ c. search needs)
+    returns)

@@ -1,0 +1,56 @@
+use mathlib.Core.Path.{_≡_, refl, sym, ap, _∙_}
+use Prim.Native.Nat.{ℕ, _≤_, _<_, _-_, _+_, _*_}
+use native.Mathlib.Omega.{arith}
+use lib.ListN.{length, getD, length-set}
+use borrow.Author.Needs.{needs}
+use Rattle.entity.proofs.Checking.{granted, denied}
+use Rattle.entity.specs.Checks.{Each, LiveOk}
+use borrow.Author.Count.{below-none, below-more}
+use Rattle.entity.proofs.soundness.live_list_ok.Statement.{statement}
+use Rattle.entity.proofs.soundness.live_list_ok.Tie as tie
+
+abbrev Inv-loop : tie.InvT-loop
+Inv-loop part n k i₀ i = (i ≤ k) × Each i (LiveOk n part)
+
+abbrev μ-loop : tie.MeasureT-loop
+μ-loop part n k i₀ i = k - i
+
+-- src/soundness.rt:70:5
+loop-holds : tie.Need-loop-holds Inv-loop μ-loop
+loop-holds c = (omega arith, below-none _)
+
+-- src/soundness.rt:72:13
+returns : tie.Need-returns Inv-loop μ-loop
+returns c =
+    let n = c .before .before .before .before .before .before .args .n in
+    let w = c .before .before .before .before .before .before .args .part .now in
+    let l = c .before .before .before .loop in
+    λ e. denied (LiveOk n w (l .i)) (c .before .live-ok .result) (c .before .live-ok .ensures) (c .if1 .taken) (e (l .i) (omega arith))
+
+-- src/soundness.rt:70:5
+loop-again : tie.Need-loop-again Inv-loop μ-loop
+loop-again c =
+    let n = c .before .before .before .before .before .before .args .n in
+    let w = c .before .before .before .before .before .before .args .part .now in
+    let l = c .before .before .before .loop in
+    (omega arith, below-more _ _ (l .inv .1) (granted (LiveOk n w (l .i)) (c .before .live-ok .result) (c .before .live-ok .ensures) (c .if1 .left)))
+
+-- src/soundness.rt:63:1
+returns-2 : tie.Need-returns-2 Inv-loop μ-loop
+returns-2 c = λ m h. c .before .loop .inv .1 m (omega arith)
+
+pub live-list-ok-spec : {M : Type 1} → statement M
+live-list-ok-spec =
+    tie.close
+    (tie.spec
+    Inv-loop
+    μ-loop
+    (λ c. search needs)
+    (λ c. search needs)
+    loop-holds
+    (λ c κs. search needs)
+    returns
+    (λ c. omega arith)
+    (λ c. omega arith)
+    loop-again
+    returns-2)

@@ -1,0 +1,313 @@
+-- A group added to a well-formed layout: as a family of its own, or onto the one family that it holds. Assumes nothing.
+use mathlib.Core.Path.{_≡_, refl, sym, ap, ap₂, _∙_, subst}
+use mathlib.Core.Logic.{_≢_}
+use mathlib.Core.Bool.{Bool, true, false, _&&_, true≢false}
+use mathlib.Core.List.{List, [], _∷_, _++_}
+use Prim.Native.Nat.{ℕ, zero, suc, _+_, _-_, _≤_, _<_}
+use native.Mathlib.Nat.{sub-self}
+use native.Mathlib.Numerals.{add-one}
+use native.Mathlib.Omega.{arith}
+use borrow.Author.Tests.{eq-eqb}
+use lib.Dec.{eqb}
+use lib.ListN.{length, getD, take, drop, set}
+use lib.Seq.{getD-set-same, getD-set-other}
+use Rattle.model.specs.Lists.{count, count-append}
+use Rattle.model.specs.Model.{Family, newGroup, grown, mem, meets, within, without, sameSet, kindsOf}
+use Rattle.model.proofs.Walk.{bool-cases}
+use Rattle.words.specs.Part.{between}
+use Rattle.words.specs.Table.{table, table-snoc, table-set, by-eq}
+use Rattle.layout.specs.Layout.{Arrays, arraysOf, Sized, startOf, widthOf, groupCount, kindsAt, aritiesAt, groupsFrom, familyAt, familiesOf, meaning, KindSet, Rising, FamilyFormed, WellFormed, Formed}
+use Rattle.layout.specs.Grow.{LooseAt, widened, Extends, Extended, openedOf, GroupKinds, Unknown, FreshAsk, FreshDone, OntoAsk, OntoDone}
+use Rattle.layout.specs.declared.group_layout.Layout.{Layout}
+use Rattle.layout.proofs.KindSets.{sum-once, mem-count, count-mem, none-count, unmet, shorter, within-counts, same-set, without-held, without-le, without-length}
+use Rattle.layout.proofs.Family.{between-join, rising-snoc, rising-alone, from-snoc, from-alone, no-counts, start-next}
+use Rattle.layout.proofs.Fits.{IsFresh, IsOnto, Target, target, extend, not-all, untouched-at}
+use Rattle.layout.proofs.Arrays
+
+-- ---- a family of its own
+
+module _ (l : Layout) (hs : List ℕ) (ask : FreshAsk l hs) (sized : Sized (arraysOf l)) where
+  n : ℕ
+  n = l .families
+
+  abbrev now : Arrays
+  now = arraysOf l
+
+  abbrev opn : Arrays
+  opn = arraysOf (openedOf l)
+
+  good : WellFormed now
+  good = ask .group .formed .good
+
+  pub few : l .families < 63
+  few = omega (arith, Arrays.families-groups now good, ask .group .room, ask .group .formed .groups)
+
+  inKinds : l .families < length (l .«kind_ends»)
+  inKinds = omega (arith, few, sized .kindEnds)
+
+  inGroups : l .families < length (l .ends)
+  inGroups = omega (arith, few, sized .ends)
+
+  start-same : (es : List ℕ) (v i : ℕ) → i ≤ l .families → startOf (set es (l .families) v) i ≡ startOf es i
+  start-same es v zero h = refl
+  start-same es v (suc i) h = getD-set-other es (l .families) i v 0 (omega arith)
+
+  end-same : (es : List ℕ) (v i : ℕ) → i < l .families → getD (set es (l .families) v) i 0 ≡ getD es i 0
+  end-same es v i h = getD-set-other es (l .families) i v 0 (omega arith)
+
+  kinds-end : getD (opn .kindEnds) (l .families) 0 ≡ l .width
+  kinds-end = getD-set-same (l .«kind_ends») (l .families) (l .width) 0 inKinds
+
+  groups-end : getD (opn .ends) (l .families) 0 ≡ l .groups
+  groups-end = getD-set-same (l .ends) (l .families) (l .groups) 0 inGroups
+
+  kinds-start : startOf (opn .kindEnds) (l .families) ≡ l .width
+  kinds-start = start-same (l .«kind_ends») (l .width) (l .families) (omega arith) ∙ sym (ask .group .formed .width)
+
+  groups-start : startOf (opn .ends) (l .families) ≡ l .groups
+  groups-start = start-same (l .ends) (l .groups) (l .families) (omega arith) ∙ sym (ask .group .formed .groups)
+
+  pub opn-width : widthOf opn ≡ l .width
+  opn-width = start-next (opn .kindEnds) (l .families) ∙ kinds-end
+
+  pub opn-groups : groupCount opn ≡ l .groups
+  opn-groups = start-next (opn .ends) (l .families) ∙ groups-end
+
+  nothing-between : (k : ℕ) (xs : List ℕ) → between k k xs ≡ []
+  nothing-between k xs = ap (λ (m : ℕ). take m (drop k xs)) (sub-self k)
+
+  no-kinds : kindsAt opn (l .families) ≡ []
+  no-kinds = ap₂ (λ (a b : ℕ). between a b (l .kinds)) kinds-start kinds-end ∙ nothing-between (l .width) (l .kinds)
+
+  no-arities : aritiesAt opn (l .families) ≡ []
+  no-arities = ap₂ (λ (a b : ℕ). between a b (l .arities)) groups-start groups-end ∙ nothing-between (l .groups) (l .arities)
+
+  order-opn : (es : List ℕ) (v : ℕ) → startOf es (l .families) ≡ v → l .families < length es → ((i : ℕ) → i < l .families → startOf es i ≤ getD es i 0)
+      → (i : ℕ) → i < l .families + 1 → startOf (set es (l .families) v) i ≤ getD (set es (l .families) v) i 0
+  order-opn es v e b o i h =
+      by-eq i (l .families)
+      (λ q. rw q (omega (arith, start-same es v (l .families) (omega arith), getD-set-same es (l .families) v 0 b)))
+      (λ q. omega (arith, start-same es v i (omega arith), end-same es v i (omega arith), o i (omega arith)))
+
+  formed-opn : (i : ℕ) → i < l .families + 1 → i ≢ l .families → FamilyFormed opn i
+  formed-opn i h ne =
+      let f = good .family i (omega arith) in
+      let s = start-same (l .«kind_ends») (l .width) i (omega arith) in
+      let e = end-same (l .«kind_ends») (l .width) i (omega arith) in
+      let gs = start-same (l .ends) (l .groups) i (omega arith) in
+      let ge = end-same (l .ends) (l .groups) i (omega arith) in
+      record {
+        least = omega (arith, f .least);
+        most = omega (arith, f .most);
+        some = omega (arith, f .some);
+        rising = rw (s, e, gs, ge) (f .rising);
+      }
+
+  loose-opn : LooseAt opn (l .families)
+  loose-opn =
+      record {
+        few = omega (arith, few);
+        inside = omega arith;
+        wide = omega (arith, opn-width, ask .group .formed .width, good .wide);
+        many = omega (arith, opn-groups, ask .group .room);
+        kindOrder = order-opn (l .«kind_ends») (l .width) (sym (ask .group .formed .width)) inKinds (Arrays.kind-order now good);
+        order = order-opn (l .ends) (l .groups) (sym (ask .group .formed .groups)) inGroups (Arrays.group-order now good);
+        others = formed-opn;
+      }
+
+  kinds-opn : KindSet (widened (l .kinds) (l .width) hs (l .width))
+  kinds-opn =
+      record {
+        once = λ k. rw (counted k) (sum-once (count eqb k (take (l .width) (l .kinds))) (count eqb k hs) (w .once k) (s .once k) (apart k));
+        known = λ k h. omega (arith, counted k, s .known k h, w .known k h);
+      }
+    where
+      s : KindSet hs
+      s = ask .group .staged
+
+      w : KindSet (take (l .width) (l .kinds))
+      w = rw (ask .group .formed .width) (good .kinds)
+
+      counted : (k : ℕ) → count eqb k (widened (l .kinds) (l .width) hs (l .width)) ≡ count eqb k (take (l .width) (l .kinds)) + count eqb k hs
+      counted k =
+          count-append eqb k (take (l .width) (l .kinds)) (hs ++ between (l .width) (l .width) (l .kinds))
+          ∙ omega (arith, count-append eqb k hs (between (l .width) (l .width) (l .kinds)), ap (count eqb k) (nothing-between (l .width) (l .kinds)))
+
+      apart : (k : ℕ) → 1 ≤ count eqb k hs → count eqb k (take (l .width) (l .kinds)) ≡ 0
+      apart k h = rw (ask .group .formed .width) (ask .unknown k h)
+
+  pub fresh-extends : Extends (openedOf l) (l .families) hs (length hs)
+  fresh-extends =
+      record {
+        loose = loose-opn;
+        width = sym opn-width;
+        groups = sym opn-groups;
+        kinds = rw (kinds-end, opn-width) kinds-opn;
+        arity = omega (arith, kinds-end, kinds-start);
+        least = ask .group .least;
+        most = ask .group .most;
+        rising = rw no-arities (rising-alone (length hs) (ask .group .least));
+      }
+
+  same-family : (i : ℕ) → i < l .families → familyAt [] opn i ≡ familyAt [] now i
+  same-family i h =
+      let s = start-same (l .«kind_ends») (l .width) i (omega arith) in
+      let e = end-same (l .«kind_ends») (l .width) i (omega arith) in
+      let gs = start-same (l .ends) (l .groups) i (omega arith) in
+      let ge = end-same (l .ends) (l .groups) i (omega arith) in
+      rw (s, e, gs, ge)
+
+  pub fresh-done : (r : Layout) → Extended (openedOf l) (l .families) hs (length hs) r → FreshDone l hs r
+  fresh-done r x =
+      record {
+        formed = x .formed;
+        means =
+            ap (λ (m : ℕ). table m (familyAt [] (arraysOf r))) (x .families)
+            ∙ table-snoc [] (newGroup hs ∷ []) (l .families) (familyAt [] now) (familyAt [] (arraysOf r))
+            (x .here ∙ ap₂ (λ (ks ars : List ℕ). groupsFrom [] 0 (ks ++ hs) 0 (ars ++ (length hs ∷ []))) no-kinds no-arities ∙ from-alone 0 hs)
+            (λ i h. x .others i (omega arith) (omega arith) ∙ same-family i h);
+      }
+
+-- ---- onto a family
+
+module _ (l : Layout) (f : ℕ) (hs : List ℕ) (ask : OntoAsk l f hs) (sized : Sized (arraysOf l)) where
+  abbrev has : Arrays
+  has = arraysOf l
+
+  well : WellFormed has
+  well = ask .group .formed .good
+
+  abbrev own : List ℕ
+  own = kindsAt has f
+
+  abbrev lacks : List ℕ
+  lacks = without hs own
+
+  own-length : length own ≡ getD (l .«kind_ends») f 0 - startOf (l .«kind_ends») f
+  own-length = Arrays.kinds-length has well sized f (ask .inside)
+
+  grows-length : length own + length lacks ≡ length hs
+  grows-length = without-length hs own (ask .group .staged) (Arrays.family-kinds has well f (ask .inside)) (ask .holds)
+
+  kinds-grown : KindSet (widened (l .kinds) (getD (l .«kind_ends») f 0) lacks (widthOf has))
+  kinds-grown =
+      record {
+        once = λ k. rw (counted k) (sum-once (count eqb k (take (widthOf has) (l .kinds))) (count eqb k lacks) (well .kinds .once k) (omega (arith, ask .group .staged .once k, without-le k hs own)) (ask .unknown k));
+        known = λ k h. omega (arith, counted k, well .kinds .known k h, ask .group .staged .known k h, without-le k hs own);
+      }
+    where
+      counted : (k : ℕ) → count eqb k (widened (l .kinds) (getD (l .«kind_ends») f 0) lacks (widthOf has)) ≡ count eqb k (take (widthOf has) (l .kinds)) + count eqb k lacks
+      counted k =
+          count-append eqb k (take (getD (l .«kind_ends») f 0) (l .kinds)) (lacks ++ between (getD (l .«kind_ends») f 0) (widthOf has) (l .kinds))
+          ∙ omega (arith, count-append eqb k lacks (between (getD (l .«kind_ends») f 0) (widthOf has) (l .kinds)), count-append eqb k (take (getD (l .«kind_ends») f 0) (l .kinds)) (between (getD (l .«kind_ends») f 0) (widthOf has) (l .kinds)), ap (count eqb k) (between-join (l .kinds) (getD (l .«kind_ends») f 0) (widthOf has) (Arrays.kinds-inside has well f (ask .inside))))
+
+  pub onto-extends : Extends l f lacks (length hs)
+  onto-extends =
+      record {
+        loose = record {
+          few = well .few;
+          inside = ask .inside;
+          wide = well .wide;
+          many = omega (arith, ask .group .room, ask .group .formed .groups);
+          kindOrder = Arrays.kind-order has well;
+          order = Arrays.group-order has well;
+          others = λ i h ne. well .family i h;
+        };
+        width = ask .group .formed .width;
+        groups = ask .group .formed .groups;
+        kinds = kinds-grown;
+        arity = omega (arith, own-length, grows-length);
+        least = ask .group .least;
+        most = ask .group .most;
+        rising = rising-snoc 1 (getD (l .«kind_ends») f 0 - startOf (l .«kind_ends») f) (length hs) (aritiesAt has f) (well .family f (ask .inside) .rising) (omega (arith, own-length, ask .longer));
+      }
+
+  pub onto-done : (r : Layout) → Extended l f lacks (length hs) r → OntoDone l f hs r
+  onto-done r x =
+      record {
+        formed = x .formed;
+        means =
+            ap (λ (m : ℕ). table m (familyAt [] (arraysOf r))) (x .families)
+            ∙ table-set [] (familyAt [] has f ++ (newGroup lacks ∷ [])) (l .families) (familyAt [] has) (familyAt [] (arraysOf r)) f (ask .inside)
+            (x .here ∙ ap (λ (s : ℕ). groupsFrom [] 0 (own ++ lacks) 0 (aritiesAt has f ++ (s ∷ []))) (sym grows-length)
+            ∙ from-snoc 0 own lacks 0 (aritiesAt has f) (Arrays.family-rising has well sized f (ask .inside))
+            ∙ ap (λ (x : Family). x ++ (newGroup lacks ∷ [])) (no-counts 0 (startOf (l .ends) f) own 0 (aritiesAt has f)))
+            (λ i h ne. x .others i h ne);
+      }
+
+-- ---- what the model's rule says of the arrays
+
+module _ (l : Layout) (hs : List ℕ) (group : GroupKinds l hs) (sized : Sized (arraysOf l)) where
+  fine : WellFormed (arraysOf l)
+  fine = group .formed .good
+
+  unmet-at : (i : ℕ) → i < l .families → meets hs (kindsOf (getD (meaning l) i [])) ≡ false → (k : ℕ) → 1 ≤ count eqb k hs → count eqb k (kindsAt (arraysOf l) i) ≡ 0
+  unmet-at i h m k c =
+      unmet hs (kindsAt (arraysOf l) i) k
+      (ap (meets hs) (sym (ap kindsOf (Arrays.families-at [] (arraysOf l) i h) ∙ Arrays.family-kindsOf (arraysOf l) fine sized [] i h)) ∙ m) c
+
+  counted-length : length (meaning l) ≡ l .families
+  counted-length = Arrays.families-length [] (arraysOf l)
+
+  pub fresh-ask : IsFresh hs (meaning l) → FreshAsk l hs
+  fresh-ask s =
+      record {
+        group = group;
+        unknown = λ k c. Arrays.in-no-family k (l .«kind_ends») (l .kinds) (l .families) (Arrays.kind-order (arraysOf l) fine)
+            (λ i h. unmet-at i h (untouched-at hs (meaning l) (s .none) i (omega (arith, counted-length))) k c);
+      }
+
+  module _ (f : ℕ) (t : Target hs (meaning l) f) where
+    pub inside : f < l .families
+    inside = omega (arith, t .inside, counted-length)
+
+    own-kinds : kindsOf (getD (meaning l) f []) ≡ kindsAt (arraysOf l) f
+    own-kinds = ap kindsOf (Arrays.families-at [] (arraysOf l) f inside) ∙ Arrays.family-kindsOf (arraysOf l) fine sized [] f inside
+
+    holds : within (kindsAt (arraysOf l) f) hs ≡ true
+    holds = ap (λ (ks : List ℕ). within ks hs) (sym own-kinds) ∙ t .holds
+
+    some-group : 1 ≤ length (getD (meaning l) f [])
+    some-group =
+        omega (
+          arith,
+          ap length (Arrays.families-at [] (arraysOf l) f inside),
+          Arrays.groups-length [] (startOf (l .ends) f) (kindsAt (arraysOf l) f) 0 (aritiesAt (arraysOf l) f),
+          Arrays.arities-length (arraysOf l) fine sized f inside,
+          fine .family f inside .some,
+        )
+
+    unequal : sameSet hs (kindsAt (arraysOf l) f) ≡ false
+    unequal = ap (sameSet hs) (sym own-kinds) ∙ not-all hs [] (getD (meaning l) f []) some-group (t .other)
+
+    longer : length (kindsAt (arraysOf l) f) < length hs
+    longer =
+        let js = kindsAt (arraysOf l) f in
+        let s = Arrays.family-kinds (arraysOf l) fine f inside in
+        let le : length js ≤ length hs = shorter js hs (within-counts js hs s holds) in
+        let ne : length js ≢ length hs = λ e. true≢false (sym (same-set hs js (group .staged) s ∙ rw (eq-eqb (length js) (length hs) e, holds)) ∙ unequal) in
+        omega arith
+
+    pub onto-ask : OntoAsk l f hs
+    onto-ask =
+        record {
+          group = group;
+          inside = inside;
+          holds = holds;
+          longer = longer;
+          unknown = λ k c. Arrays.in-no-family k (l .«kind_ends») (l .kinds) (l .families) (Arrays.kind-order (arraysOf l) fine)
+              (λ i h. by-eq i f (λ e. rw e (own-none k c)) (λ ne. unmet-at i h (t .others i (omega (arith, counted-length)) ne) k (omega (arith, without-le k hs (kindsAt (arraysOf l) f)))));
+        }
+      where
+        own-none : (k : ℕ) → 1 ≤ count eqb k (without hs (kindsAt (arraysOf l) f)) → count eqb k (kindsAt (arraysOf l) f) ≡ 0
+        own-none k c =
+            none-count k (kindsAt (arraysOf l) f)
+            (bool-cases (mem k (kindsAt (arraysOf l) f)) (λ m. absurd (omega (arith, without-held k hs (kindsAt (arraysOf l) f) m))) (λ m. m))
+
+    pub onto-means : set (meaning l) f (familyAt [] (arraysOf l) f ++ (newGroup (without hs (kindsAt (arraysOf l) f)) ∷ [])) ≡ grown hs (meaning l)
+    onto-means =
+        ap₂ (λ (x : Family) (ks : List ℕ). set (meaning l) f (x ++ (newGroup (without hs ks) ∷ []))) (sym (Arrays.families-at [] (arraysOf l) f inside)) (sym own-kinds)
+        ∙ sym (t .grows)
+
+pub onto-target : (hs : List ℕ) (fs : List Family) (f : ℕ) → IsOnto hs fs f → Target hs fs f
+onto-target hs fs f s = subst (Target hs fs) (sym (s .first)) (target hs fs (s .alone) (s .held) (s .absent))

@@ -1,0 +1,94 @@
+-- The loops that append to the used front of an array, put kinds aside and add to a part. Assumes nothing.
+use mathlib.Core.Path.{_≡_, refl, sym, ap, _∙_}
+use mathlib.Core.Logic.{_≢_}
+use mathlib.Core.Bool.{Bool, true, false, cond}
+use mathlib.Core.List.{List, [], _∷_, _++_, append-assoc, append-nil}
+use Prim.Native.Nat.{ℕ, zero, suc, _+_, _-_, _≤_, _<_}
+use native.Mathlib.Nat.{add-suc, add-zero, zero-add}
+use native.Mathlib.Numerals.{add-one}
+use native.Mathlib.Omega.{arith}
+use lib.ListN.{length, getD, take, drop, set, length-set, length-append, length-drop, take-append-drop}
+use lib.Seq.{take-suc-set, take-suc, length-take-le, drop-length, getD-set-same, getD-set-other}
+use Rattle.model.specs.Model.{mem, without}
+use Rattle.words.specs.Table.{by-eq}
+use Rattle.layout.specs.Grow.{Appended, Spread, Raised}
+use Rattle.layout.proofs.Scan.{drop-step}
+
+-- a turn of the loop that appends
+pub append-step : (d d₀ s : List ℕ) (at i : ℕ) → at + i < length d → i < length s → take (at + i) d ≡ take at d₀ ++ take i s
+    → take (at + (i + 1)) (set d (at + i) (getD s i 0)) ≡ take at d₀ ++ take (i + 1) s
+append-step d d₀ s at i hd hs e =
+    ap (λ (k : ℕ). take k (set d (at + i) (getD s i 0))) (ap (λ (k : ℕ). at + k) (add-one i) ∙ add-suc at i)
+    ∙ take-suc-set d (at + i) (getD s i 0) hd
+    ∙ ap (λ (l : List ℕ). l ++ (getD s i 0 ∷ [])) e
+    ∙ append-assoc (take at d₀) (take i s) (getD s i 0 ∷ [])
+    ∙ ap (λ (l : List ℕ). take at d₀ ++ l) (sym (take-suc s i 0 hs) ∙ ap (λ (k : ℕ). take k s) (sym (add-one i)))
+
+pub append-none : (d₀ : List ℕ) (at : ℕ) (s : List ℕ) → take (at + 0) d₀ ≡ take at d₀ ++ take 0 s
+append-none d₀ at s = ap (λ (k : ℕ). take k d₀) (add-zero at) ∙ sym (append-nil (take at d₀))
+
+-- two in a row append the two together
+pub append-two : (d₀ d₁ d₂ s t : List ℕ) (at r₁ r₂ : ℕ) → Appended d₀ at s d₁ r₁ → Appended d₁ r₁ t d₂ r₂ → Appended d₀ at (s ++ t) d₂ r₂
+append-two d₀ d₁ d₂ s t at r₁ r₂ a b =
+    let n : r₁ ≡ at + length s = a .next in
+    let m : r₂ ≡ r₁ + length t = b .next in
+    let long : at + length (s ++ t) ≡ r₁ + length t = omega (arith, length-append s t) in
+    record {
+      next = m ∙ sym long;
+      size = b .size ∙ a .size;
+      front =
+          ap (λ (k : ℕ). take k d₂) long ∙ b .front ∙ ap (λ (l : List ℕ). l ++ t) (ap (λ (k : ℕ). take k d₁) n ∙ a .front)
+          ∙ append-assoc (take at d₀) s t;
+    }
+
+-- three from the start spread more into s
+pub spread-three : (d₀ d₁ d₂ d₃ s more : List ℕ) (at r₁ r₂ r₃ : ℕ) → at ≤ length s
+    → Appended d₀ 0 (take at s) d₁ r₁ → Appended d₁ r₁ more d₂ r₂ → Appended d₂ r₂ (drop at s) d₃ r₃ → Spread d₀ s at more d₃
+spread-three d₀ d₁ d₂ d₃ s more at r₁ r₂ r₃ h a b c =
+    let w = append-two d₀ d₂ d₃ (take at s ++ more) (drop at s) 0 r₂ r₃ (append-two d₀ d₁ d₂ (take at s) more 0 r₁ r₂ a b) c in
+    let long : 0 + length ((take at s ++ more) ++ drop at s) ≡ length s + length more =
+    omega (arith, length-append (take at s ++ more) (drop at s), length-append (take at s) more, length-take-le at s h, length-drop at s) in
+    record { size = w .size; front = ap (λ (k : ℕ). take k d₃) (sym long) ∙ w .front ∙ append-assoc (take at s) more (drop at s) }
+
+-- ---- those of a list that another lacks, put in the front of an array
+
+pub without-held : (ks hs out : List ℕ) (i n : ℕ) → i < length hs → mem (getD hs i 0) ks ≡ true
+    → take n out ++ without (drop i hs) ks ≡ take n out ++ without (drop (i + 1) hs) ks
+without-held ks hs out i n h e = rw (drop-step hs i 0 h, e)
+
+pub without-new : (ks hs out : List ℕ) (i n : ℕ) → i < length hs → n < length out → mem (getD hs i 0) ks ≡ false
+    → take n out ++ without (drop i hs) ks ≡ take (n + 1) (set out n (getD hs i 0)) ++ without (drop (i + 1) hs) ks
+without-new ks hs out i n h o e =
+    let front : take (n + 1) (set out n (getD hs i 0)) ≡ take n out ++ (getD hs i 0 ∷ []) = ap (λ (k : ℕ). take k (set out n (getD hs i 0))) (add-one n) ∙ take-suc-set out n (getD hs i 0) o in
+    rw (drop-step hs i 0 h, e, front, append-assoc)
+
+pub without-end : (ks hs out : List ℕ) (n : ℕ) → take n out ++ without (drop (length hs) hs) ks ≡ take n out
+without-end ks hs out n = rw drop-length (append-nil (take n out))
+
+-- ---- the loop that adds to a part
+
+pub record Raising (d₀ : List ℕ) (a e by : ℕ) (d : List ℕ) (i : ℕ) : Type 0 where
+  pub low : a ≤ i
+  pub high : (a ≤ e → i ≤ e)
+  pub size : length d ≡ length d₀
+  pub before : (j : ℕ) → j < a → getD d j 0 ≡ getD d₀ j 0
+  pub done : (j : ℕ) → a ≤ j → j < i → getD d j 0 ≡ getD d₀ j 0 + by
+  pub rest : (j : ℕ) → i ≤ j → getD d j 0 ≡ getD d₀ j 0
+
+pub raise-none : (d₀ : List ℕ) (a e by : ℕ) → Raising d₀ a e by d₀ a
+raise-none d₀ a e by =
+    record { low = omega arith; high = λ h. h; size = refl; before = λ j h. refl; done = λ j h l. absurd (omega arith); rest = λ j h. refl }
+
+pub raise-more : (d₀ : List ℕ) (a e by : ℕ) (d : List ℕ) (i : ℕ) → i < e → i < length d → Raising d₀ a e by d i → Raising d₀ a e by (set d i (getD d i 0 + by)) (i + 1)
+raise-more d₀ a e by d i h b r =
+    record {
+      low = omega (arith, r .low);
+      high = λ l. omega arith;
+      size = length-set d i (getD d i 0 + by) ∙ r .size;
+      before = λ j l. getD-set-other d i j (getD d i 0 + by) 0 (omega (arith, r .low)) ∙ r .before j l;
+      done = λ j l u. by-eq j i (λ q. rw q (getD-set-same d i (getD d i 0 + by) 0 b ∙ ap (λ (x : ℕ). x + by) (r .rest i (omega arith)))) (λ q. getD-set-other d i j (getD d i 0 + by) 0 q ∙ r .done j l (omega arith));
+      rest = λ j l. getD-set-other d i j (getD d i 0 + by) 0 (omega arith) ∙ r .rest j (omega arith);
+    }
+
+pub raise-done : (d₀ : List ℕ) (a e by : ℕ) (d : List ℕ) (i : ℕ) → e ≤ i → Raising d₀ a e by d i → Raised d₀ a e by d
+raise-done d₀ a e by d i h r = record { size = r .size; before = r .before; inside = λ j l u. r .done j l (omega arith) }

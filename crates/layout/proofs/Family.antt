@@ -1,0 +1,127 @@
+-- One family as the arrays have it: its groups from its kinds and arities. Assumes nothing.
+use mathlib.Core.Path.{_≡_, refl, sym, ap, ap₂, _∙_, subst}
+use mathlib.Core.Bool.{Bool, true, false, _||_}
+use mathlib.Core.List.{List, [], _∷_, _++_}
+use Prim.Native.Nat.{ℕ, zero, suc, _+_, _-_, _≤_, _<_}
+use native.Mathlib.Nat.{sub-zero}
+use native.Mathlib.Numerals.{add-one}
+use native.Mathlib.Omega.{arith}
+use lib.ListN.{length, getD, take, drop, take-append-drop, length-append}
+use lib.Seq.{take-add, take-all, drop-drop, drop-length, take-append-le, drop-append-seam, take-length}
+use Rattle.model.specs.Model.{Group, Family, kindsOf, isGroup, sameSet, newGroup}
+use Rattle.words.specs.Part.{between, between-front}
+use Rattle.layout.specs.Layout.{startOf, groupsFrom, Rising}
+use Rattle.layout.proofs.Scan.{drop-step}
+
+pub start-next : (es : List ℕ) (f : ℕ) → startOf es (f + 1) ≡ getD es f 0
+start-next es f = ap (startOf es) (add-one f)
+
+-- ---- parts
+
+pub between-join : (ks : List ℕ) (b a : ℕ) → b ≤ a → take b ks ++ between b a ks ≡ take a ks
+between-join ks b a h = let e : b + (a - b) ≡ a = omega arith in sym (take-add b (a - b) ks) ∙ ap (λ (n : ℕ). take n ks) e
+
+pub between-drop : (ks : List ℕ) (b a : ℕ) → b ≤ a → between b a ks ++ drop a ks ≡ drop b ks
+between-drop ks b a h =
+    let e : b + (a - b) ≡ a = omega arith in
+    ap (λ (l : List ℕ). between b a ks ++ l) (ap (λ (n : ℕ). drop n ks) (sym e) ∙ sym (drop-drop (a - b) b ks)) ∙ take-append-drop (a - b) (drop b ks)
+
+-- ---- arities
+
+pub rising-le : (b n : ℕ) (ars : List ℕ) → Rising b n ars → b ≤ n
+unfolding Rising
+rising-le b n [] r = omega (arith, r)
+rising-le b n (a ∷ ars) r = omega (arith, r .0, rising-le a n ars (r .1))
+
+pub rising-snoc : (b n s : ℕ) (ars : List ℕ) → Rising b n ars → n < s → Rising b s (ars ++ (s ∷ []))
+unfolding Rising
+rising-snoc b n s [] r h = (omega (arith, r), refl)
+rising-snoc b n s (a ∷ ars) r h = (r .0, rising-snoc a n s ars (r .1) h)
+
+-- a family that has a group starts its arities anywhere below
+pub rising-zero : (n : ℕ) (ars : List ℕ) → 2 ≤ n → Rising 1 n ars → Rising 0 n ars
+unfolding Rising
+rising-zero n [] h r = absurd (omega (arith, r))
+rising-zero n (a ∷ ars) h r = (omega (arith, r .0), r .1)
+
+-- one group alone
+pub rising-alone : (s : ℕ) → 2 ≤ s → Rising 1 s (s ∷ [])
+unfolding Rising
+rising-alone s h = (omega arith, refl)
+
+-- ---- the groups
+
+-- without counts the number of the first group does not matter
+pub no-counts : (g h : ℕ) (ks : List ℕ) (b : ℕ) (ars : List ℕ) → groupsFrom [] g ks b ars ≡ groupsFrom [] h ks b ars
+unfolding groupsFrom
+no-counts g h ks b [] = refl
+no-counts g h ks b (a ∷ ars) = ap (λ (r : Family). newGroup (between b a ks) ∷ r) (no-counts (suc g) (suc h) ks a ars)
+
+-- the kinds of the groups from arity b on
+pub kinds-from : (counts : List ℕ) (g : ℕ) (ks : List ℕ) (b : ℕ) (ars : List ℕ) → Rising b (length ks) ars → kindsOf (groupsFrom counts g ks b ars) ≡ drop b ks
+unfolding groupsFrom Rising
+kinds-from counts g ks b [] r = sym (ap (λ (n : ℕ). drop n ks) r ∙ drop-length ks)
+kinds-from counts g ks b (a ∷ ars) r =
+    ap (λ (l : List ℕ). between b a ks ++ l) (kinds-from counts (suc g) ks a ars (r .1)) ∙ between-drop ks b a (omega (arith, r .0))
+
+-- a turn of the loop over the arities: j is next
+pub record Turn (hs ks ars : List ℕ) (j : ℕ) : Type 0 where
+  pub low : startOf ars j < getD ars j 0
+  pub high : getD ars j 0 ≤ length ks
+  pub next : Rising (startOf ars (j + 1)) (length ks) (drop (j + 1) ars)
+  pub splits : isGroup hs (take (startOf ars j) ks) (groupsFrom [] 0 ks (startOf ars j) (drop j ars))
+      ≡ (sameSet hs (take (getD ars j 0) ks) || isGroup hs (take (startOf ars (j + 1)) ks) (groupsFrom [] 0 ks (startOf ars (j + 1)) (drop (j + 1) ars)))
+
+group-split : (hs ks : List ℕ) (b a : ℕ) (ars : List ℕ) → b ≤ a
+    → isGroup hs (take b ks) (groupsFrom [] 0 ks b (a ∷ ars)) ≡ (sameSet hs (take a ks) || isGroup hs (take a ks) (groupsFrom [] 0 ks a ars))
+unfolding groupsFrom
+group-split hs ks b a ars h =
+    ap (λ (l : List ℕ). sameSet hs l || isGroup hs l (groupsFrom [] 1 ks a ars)) (between-join ks b a h)
+    ∙ ap (λ (r : Family). sameSet hs (take a ks) || isGroup hs (take a ks) r) (no-counts 1 0 ks a ars)
+
+rising-head : (b n a : ℕ) (ars : List ℕ) → Rising b n (a ∷ ars) → (b < a) × Rising a n ars
+unfolding Rising
+rising-head b n a ars r = r
+
+pub turn : (hs ks ars : List ℕ) (j : ℕ) → j < length ars → Rising (startOf ars j) (length ks) (drop j ars) → Turn hs ks ars j
+turn hs ks ars j h r =
+    let d : drop j ars ≡ getD ars j 0 ∷ drop (j + 1) ars = drop-step ars j 0 h in
+    let s = rising-head (startOf ars j) (length ks) (getD ars j 0) (drop (j + 1) ars) (rw d at r) in
+    let n : startOf ars (j + 1) ≡ getD ars j 0 = start-next ars j in
+    record {
+      low = s .0;
+      high = rising-le (getD ars j 0) (length ks) (drop (j + 1) ars) (s .1);
+      next = rw n (s .1);
+      splits =
+          ap (λ (l : List ℕ). isGroup hs (take (startOf ars j) ks) (groupsFrom [] 0 ks (startOf ars j) l)) d
+          ∙ group-split hs ks (startOf ars j) (getD ars j 0) (drop (j + 1) ars) (omega (arith, s .0))
+          ∙ ap (λ (a : ℕ). sameSet hs (take (getD ars j 0) ks) || isGroup hs (take a ks) (groupsFrom [] 0 ks a (drop (j + 1) ars))) (sym n);
+    }
+
+pub no-groups : (hs ks ars : List ℕ) (b : ℕ) → isGroup hs (take b ks) (groupsFrom [] 0 ks b (drop (length ars) ars)) ≡ false
+unfolding groupsFrom
+no-groups hs ks ars b = rw drop-length
+
+-- ---- a family that grows
+
+same-front : (ks more : List ℕ) (b a : ℕ) → a ≤ length ks → between b a (ks ++ more) ≡ between b a ks
+same-front ks more b a h =
+    between-front (length ks) b a ks (ks ++ more) h (take-append-le (length ks) ks more (omega arith))
+
+last-part : (ks more : List ℕ) → between (length ks) (length ks + length more) (ks ++ more) ≡ more
+last-part ks more =
+    let e : length ks + length more - length ks ≡ length more = omega arith in
+    ap₂ (λ (n : ℕ) (l : List ℕ). take n l) e (drop-append-seam ks more) ∙ take-length more
+
+pub from-snoc : (g : ℕ) (ks more : List ℕ) (b : ℕ) (ars : List ℕ) → Rising b (length ks) ars
+    → groupsFrom [] g (ks ++ more) b (ars ++ ((length ks + length more) ∷ [])) ≡ groupsFrom [] g ks b ars ++ (newGroup more ∷ [])
+unfolding groupsFrom Rising
+from-snoc g ks more b [] r =
+    ap (λ (l : List ℕ). newGroup l ∷ []) (ap (λ (n : ℕ). between n (length ks + length more) (ks ++ more)) r ∙ last-part ks more)
+from-snoc g ks more b (a ∷ ars) r =
+    ap₂ (λ (l : List ℕ) (f : Family). newGroup l ∷ f) (same-front ks more b a (rising-le a (length ks) ars (r .1))) (from-snoc (suc g) ks more a ars (r .1))
+
+-- a family's first group of all
+pub from-alone : (g : ℕ) (more : List ℕ) → groupsFrom [] g more 0 (length more ∷ []) ≡ newGroup more ∷ []
+unfolding groupsFrom
+from-alone g more = ap (λ (l : List ℕ). newGroup l ∷ []) (ap (λ (n : ℕ). take n more) (sub-zero (length more)) ∙ take-length more)

@@ -1,0 +1,190 @@
+-- Sets of kinds as lists that have each kind once: what the tests on them decide, and how long they are. Assumes nothing.
+use mathlib.Core.Path.{_≡_, refl, sym, ap, ap₂, _∙_, subst}
+use mathlib.Core.Bool.{Bool, true, false, cond, _&&_, _||_, true≢false, false≢true}
+use mathlib.Core.List.{List, [], _∷_, _++_}
+use Prim.Native.Nat.{ℕ, zero, suc, _+_, _-_, _≤_, _<_, zero-le, suc-le-suc}
+use native.Mathlib.Omega.{arith}
+use native.Mathlib.Decide.{decLt}
+use borrow.Author.Tests.{eq-eqb, ne-eqb, eqb-true, eqb-false}
+use lib.Dec.{eqb}
+use lib.ListN.{length, take, drop, take-append-drop, length-append}
+use Rattle.model.specs.Lists.{one, count, count-append, count-length-le, count-length}
+use Rattle.model.specs.Model.{mem, all, any, within, meets, sameSet, without}
+use Rattle.model.proofs.Walk.{bool-cases, or-cases, or-true}
+use Rattle.words.specs.Part.{between}
+use Rattle.words.specs.Table.{by-eq}
+use Rattle.layout.specs.Layout.{KindSet}
+
+-- ---- members by count
+
+pub mem-count : (x : ℕ) (l : List ℕ) → mem x l ≡ true → 1 ≤ count eqb x l
+mem-count x [] e = absurd (false≢true e)
+mem-count x (y ∷ l) e = or-cases (eqb x y) (mem x l) e (λ t. omega (arith, ap one t)) (λ t. omega (arith, mem-count x l t))
+
+pub count-mem : (x : ℕ) (l : List ℕ) → 1 ≤ count eqb x l → mem x l ≡ true
+count-mem x [] h = absurd (omega arith)
+count-mem x (y ∷ l) h = bool-cases (eqb x y) (λ t. rw t) (λ t. rw t (count-mem x l (omega (arith, ap one t))))
+
+pub none-count : (x : ℕ) (l : List ℕ) → mem x l ≡ false → count eqb x l ≡ 0
+none-count x l e = go (count eqb x l) (count-mem x l)
+  where
+    go : (n : ℕ) → (1 ≤ n → mem x l ≡ true) → n ≡ 0
+    go zero f = refl
+    go (suc n) f = absurd (true≢false (sym (f (suc-le-suc zero-le)) ∙ e))
+
+pub count-none : (x : ℕ) (l : List ℕ) → count eqb x l ≡ 0 → mem x l ≡ false
+count-none x l z = bool-cases (mem x l) (λ t. absurd (omega (arith, mem-count x l t))) (λ t. t)
+
+-- ---- tests of all and of some
+
+pub all-mem : (p : ℕ → Bool) (l : List ℕ) (x : ℕ) → all p l ≡ true → mem x l ≡ true → p x ≡ true
+all-mem p [] x h m = absurd (false≢true m)
+all-mem p (y ∷ l) x h m = go (p y) refl h (all-mem p l x)
+  where
+    go : (b : Bool) → p y ≡ b → (b && all p l) ≡ true → (all p l ≡ true → mem x l ≡ true → p x ≡ true) → p x ≡ true
+    go true e h r = or-cases (eqb x y) (mem x l) m (λ t. ap p (eqb-true x y t) ∙ e) (λ t. r h t)
+    go false e h r = absurd (false≢true h)
+
+pub mem-all : (p : ℕ → Bool) (l : List ℕ) → ((x : ℕ) → mem x l ≡ true → p x ≡ true) → all p l ≡ true
+mem-all p [] h = refl
+mem-all p (y ∷ l) h =
+    rw (h y (rw (eq-eqb y y refl) refl)) (mem-all p l (λ x m. h x (rw m (or-true (eqb x y)))))
+
+pub any-none : (p : ℕ → Bool) (l : List ℕ) (x : ℕ) → any p l ≡ false → mem x l ≡ true → p x ≡ false
+any-none p [] x h m = absurd (false≢true m)
+any-none p (y ∷ l) x h m = go (p y) refl h (any-none p l x)
+  where
+    go : (b : Bool) → p y ≡ b → (b || any p l) ≡ false → (any p l ≡ false → mem x l ≡ true → p x ≡ false) → p x ≡ false
+    go true e h r = absurd (true≢false h)
+    go false e h r = or-cases (eqb x y) (mem x l) m (λ t. ap p (eqb-true x y t) ∙ e) (λ t. r h t)
+
+-- no kind in common
+pub unmet : (ks js : List ℕ) (x : ℕ) → meets ks js ≡ false → 1 ≤ count eqb x ks → count eqb x js ≡ 0
+unmet ks js x m h = none-count x js (any-none (λ k. mem k js) ks x m (count-mem x ks h))
+
+-- ---- once each
+
+below-counts : (x : ℕ) (s t : List ℕ) (l : List ℕ) → s ++ t ≡ l → (count eqb x s ≤ count eqb x l) × (count eqb x t ≤ count eqb x l)
+below-counts x s t l e = let c = sym (count-append eqb x s t) ∙ ap (count eqb x) e in (omega arith, omega arith)
+
+pub set-take : (n : ℕ) (l : List ℕ) → KindSet l → KindSet (take n l)
+set-take n l s =
+    record {
+      once = λ k. omega (arith, s .once k, below-counts k (take n l) (drop n l) l (take-append-drop n l) .0);
+      known = λ k h. omega (arith, s .known k h, below-counts k (take n l) (drop n l) l (take-append-drop n l) .0);
+    }
+
+pub set-drop : (n : ℕ) (l : List ℕ) → KindSet l → KindSet (drop n l)
+set-drop n l s =
+    record {
+      once = λ k. omega (arith, s .once k, below-counts k (take n l) (drop n l) l (take-append-drop n l) .1);
+      known = λ k h. omega (arith, s .known k h, below-counts k (take n l) (drop n l) l (take-append-drop n l) .1);
+    }
+
+pub set-between : (a e : ℕ) (l : List ℕ) → KindSet l → KindSet (between a e l)
+set-between a e l s = set-take (e - a) (drop a l) (set-drop a l s)
+
+-- where each of js is in ks, js has no kind more often
+pub within-counts : (js ks : List ℕ) → KindSet js → within js ks ≡ true → (x : ℕ) → count eqb x js ≤ count eqb x ks
+within-counts js ks s w x = go (count eqb x js) refl
+  where
+    go : (n : ℕ) → count eqb x js ≡ n → count eqb x js ≤ count eqb x ks
+    go zero e = omega arith
+    go (suc n) e = omega (arith, s .once x, mem-count x ks (all-mem (λ k. mem k ks) js x w (count-mem x js (omega arith))))
+
+-- two that are never both
+pub sum-once : (x y : ℕ) → x ≤ 1 → y ≤ 1 → (1 ≤ y → x ≡ 0) → x + y ≤ 1
+sum-once x zero hx hy h = omega arith
+sum-once x (suc y) hx hy h = omega (arith, h (omega arith))
+
+-- ---- lengths
+
+pub shorter : (l m : List ℕ) → ((x : ℕ) → count eqb x l ≤ count eqb x m) → length l ≤ length m
+shorter l m h = count-length-le eqb eqb-true (λ x. eq-eqb x x refl) l m h
+
+pub as-long : (l m : List ℕ) → ((x : ℕ) → count eqb x l ≡ count eqb x m) → length l ≡ length m
+as-long l m h = count-length eqb eqb-true (λ x. eq-eqb x x refl) l m h
+
+downFrom : ℕ → List ℕ
+downFrom zero = []
+downFrom (suc n) = n ∷ downFrom n
+
+down-length : (n : ℕ) → length (downFrom n) ≡ n
+unfolding downFrom
+down-length zero = refl
+down-length (suc n) = ap suc (down-length n)
+
+down-count : (n x : ℕ) → x < n → 1 ≤ count eqb x (downFrom n)
+unfolding downFrom
+down-count zero x h = absurd (omega arith)
+down-count (suc n) x h =
+    by-eq x n (λ e. omega (arith, ap one (eq-eqb x n e))) (λ ne. omega (arith, down-count n x (omega arith)))
+
+-- different kinds below 128 are 128 at most
+pub pigeon : (l : List ℕ) → KindSet l → length l ≤ 128
+pigeon l s = omega (arith, down-length 128, shorter l (downFrom 128) fits)
+  where
+    fits : (x : ℕ) → count eqb x l ≤ count eqb x (downFrom 128)
+    fits x = go (ltd x)
+      where
+        ltd : (x : ℕ) → Dec (x < 128)
+        ltd x = decLt x 128
+
+        go : Dec (x < 128) → count eqb x l ≤ count eqb x (downFrom 128)
+        go (yes h) = omega (arith, s .once x, down-count 128 x h)
+        go (no h) = omega (arith, s .known x (omega arith))
+
+-- ---- two sets are the same where they are as long and one holds the other
+
+and-none : (b : Bool) → (b && false) ≡ false
+and-none true = refl
+and-none false = refl
+
+pub same-set : (ks js : List ℕ) → KindSet ks → KindSet js → sameSet ks js ≡ (eqb (length js) (length ks) && within js ks)
+same-set ks js sk sj = bool-cases (within js ks) inside outside
+  where
+    outside : within js ks ≡ false → sameSet ks js ≡ (eqb (length js) (length ks) && within js ks)
+    outside e = rw e (and-none (within ks js) ∙ sym (and-none (eqb (length js) (length ks))))
+
+    missing : within js ks ≡ true → length js ≡ length ks → (x : ℕ) → mem x ks ≡ true → mem x js ≡ false → ⊥
+    missing w e x m n =
+        let more : length (x ∷ js) ≤ length ks =
+        shorter (x ∷ js) ks (λ z. by-eq z x (λ q. rw q (omega (arith, mem-count x ks m, none-count x js n, ap one (eq-eqb x x refl)))) (λ q. omega (arith, ap one (ne-eqb z x q), within-counts js ks sj w z))) in
+        omega arith
+
+    inside : within js ks ≡ true → sameSet ks js ≡ (eqb (length js) (length ks) && within js ks)
+    inside w =
+        by-eq (length js) (length ks)
+        (λ e. rw (w, eq-eqb (length js) (length ks) e, mem-all (λ k. mem k js) ks (λ x m. bool-cases (mem x js) (λ t. t) (λ t. absurd (missing w e x m t)))))
+        (λ ne. bool-cases (within ks js)
+        (λ v. absurd (ne (as-long js ks (λ x. omega (arith, within-counts js ks sj w x, within-counts ks js sk v x)))))
+        (λ v. rw (w, v, ne-eqb (length js) (length ks) ne)))
+
+-- ---- those of ks that js lacks
+
+pub count-without : (x : ℕ) (ks js : List ℕ) → mem x js ≡ false → count eqb x (without ks js) ≡ count eqb x ks
+count-without x [] js n = refl
+count-without x (k ∷ ks) js n =
+    bool-cases (mem k js)
+    (λ t. rw t (count-without x ks js n ∙ (let ne : eqb x k ≡ false = ne-eqb x k (λ e. true≢false (sym t ∙ ap (λ (y : ℕ). mem y js) (sym e) ∙ n)) in omega (arith, ap one ne))))
+    (λ t. rw t (omega (arith, count-without x ks js n)))
+
+pub without-held : (x : ℕ) (ks js : List ℕ) → mem x js ≡ true → count eqb x (without ks js) ≡ 0
+without-held x [] js n = refl
+without-held x (k ∷ ks) js n =
+    bool-cases (mem k js)
+    (λ t. rw t (without-held x ks js n))
+    (λ t. rw t (let ne : eqb x k ≡ false = ne-eqb x k (λ e. true≢false (sym n ∙ ap (λ (y : ℕ). mem y js) e ∙ t)) in omega (arith, ap one ne, without-held x ks js n)))
+
+pub without-le : (x : ℕ) (ks js : List ℕ) → count eqb x (without ks js) ≤ count eqb x ks
+without-le x ks js = bool-cases (mem x js) (λ t. omega (arith, without-held x ks js t)) (λ t. omega (arith, count-without x ks js t))
+
+-- a set that holds another is as long as it and what it lacks
+pub without-length : (ks js : List ℕ) → KindSet ks → KindSet js → within js ks ≡ true → length js + length (without ks js) ≡ length ks
+without-length ks js sk sj w =
+    sym (length-append js (without ks js))
+    ∙ as-long (js ++ without ks js) ks
+    (λ x. count-append eqb x js (without ks js)
+    ∙ bool-cases (mem x js)
+    (λ t. omega (arith, without-held x ks js t, mem-count x js t, sj .once x, sk .once x, within-counts js ks sj w x))
+    (λ t. omega (arith, count-without x ks js t, none-count x js t)))

@@ -1,0 +1,8 @@
+pub mod Scan
+pub mod KindSets
+pub mod Append
+pub mod Family
+pub mod Fits
+pub mod Arrays
+pub mod Extend
+pub mod Adding

@@ -1,0 +1,38 @@
+use mathlib.Core.Path.{_≡_, refl, _∙_, sym, ap, ap₂, subst}
+use Prim.Native.Nat.{ℕ, _+_, _≤_, _<_, _-_}
+use lib.ListN.{length}
+use Rattle.layout.specs.Layout.{arraysOf, Sized, startOf, widthOf, kindsAt, meaning}
+use Rattle.layout.specs.Grow.{Extends, Extended}
+use Rattle.layout.specs.declared.group_layout.Layout.{Layout}
+use Rattle.layout.proofs.Adding.{few, fresh-extends, fresh-done}
+use native.Mathlib.Omega.{arith}
+use borrow.Author.Needs.{needs}
+use Rattle.layout.proofs.group_layout.fresh.Statement.{statement}
+use Rattle.layout.proofs.group_layout.fresh.Tie as tie
+
+-- the arrays have their lengths
+sizes : (c : tie.Start) → Sized (arraysOf (c .args .l))
+sizes c = record { kinds = search needs; arities = search needs; kindEnds = search needs; ends = search needs }
+
+opened-requires : tie.Need-opened-requires
+opened-requires c κs =
+    let s = c .before in
+    let g = s .pre .group .formed in
+    (few (s .args .l) (s .args .staged .now) (s .pre) (sizes s), omega (arith, g .width, g .good .wide), omega (arith, s .pre .group .room))
+
+cast-extended : tie.Need-cast-extended
+cast-extended c = omega (arith, c .before .before .pre .group .most)
+
+extended-requires : tie.Need-extended-requires
+extended-requires c κs =
+    let s = c .before .before in
+    subst (λ (r : Layout). Extends r (s .args .l .families) (s .args .staged .now) (length (s .args .staged .now))) (sym (c .opened .ensures)) (fresh-extends (s .args .l) (s .args .staged .now) (s .pre) (sizes s))
+
+returns : tie.Need-returns
+returns c =
+    let s = c .before .before .before in
+    fresh-done (s .args .l) (s .args .staged .now) (s .pre) (sizes s) (c .extended .result)
+    (subst (λ (r : Layout). Extended r (s .args .l .families) (s .args .staged .now) (length (s .args .staged .now)) (c .extended .result)) (c .before .opened .ensures) (c .extended .ensures))
+
+pub fresh-spec : {M : Type 1} → statement M
+fresh-spec = tie.close (tie.spec opened-requires cast-extended extended-requires returns)

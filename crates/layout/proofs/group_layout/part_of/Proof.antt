@@ -1,0 +1,41 @@
+use mathlib.Core.Path.{_≡_, refl, _∙_, sym, ap, ap₂}
+use mathlib.Core.List.{List, [], _∷_, _++_}
+use mathlib.Core.Bool.{Bool, true, false}
+use borrow.Author.Tests.{not-true, not-false}
+use Rattle.model.specs.Model.{kindsOf}
+use Rattle.layout.specs.Layout.{groupsFrom}
+use Rattle.layout.proofs.Family.{kinds-from}
+use native.Mathlib.Omega.{arith}
+use borrow.Author.Needs.{needs}
+use Rattle.layout.proofs.group_layout.part_of.Statement.{statement}
+use Rattle.layout.proofs.group_layout.part_of.Tie as tie
+
+returns : tie.Need-returns
+returns c = rw (sym (c .before .same-group .ensures) ∙ c .if1 .taken)
+
+returns-2 : tie.Need-returns-2
+returns-2 c =
+    let s = c .before .before .before .before .before .before .before in
+    rw (sym (c .before .before .before .same-group .ensures) ∙ c .before .before .if1 .left, kinds-from [] 0 (s .args .kinds .now) 0 (s .args .arities .now) (s .pre .rising), sym (c .before .some-among .ensures) ∙ not-true (c .before .some-among .result) (c .if2 .taken))
+
+returns-3 : tie.Need-returns-3
+returns-3 c =
+    let s = c .before .before .before .before .before .before .before .before .before in
+    rw (sym (c .before .before .before .before .before .same-group .ensures) ∙ c .before .before .before .before .if1 .left, kinds-from [] 0 (s .args .kinds .now) 0 (s .args .arities .now) (s .pre .rising), sym (c .before .before .before .some-among .ensures) ∙ not-false (c .before .before .before .some-among .result) (c .before .before .if2 .left), sym (c .before .all-among .ensures) ∙ c .if3 .taken)
+
+returns-4 : tie.Need-returns-4
+returns-4 c =
+    let s = c .before .before .before .before .before .before .before .before .before in
+    rw (sym (c .before .before .before .before .before .same-group .ensures) ∙ c .before .before .before .before .if1 .left, kinds-from [] 0 (s .args .kinds .now) 0 (s .args .arities .now) (s .pre .rising), sym (c .before .before .before .some-among .ensures) ∙ not-false (c .before .before .before .some-among .result) (c .before .before .if2 .left), sym (c .before .all-among .ensures) ∙ c .if3 .left)
+
+pub part-of-spec : {M : Type 1} → statement M
+part-of-spec =
+    tie.close
+    (tie.spec
+    (λ c κs. search needs)
+    returns
+    (λ c κs. search needs)
+    returns-2
+    (λ c κs. search needs)
+    returns-3
+    returns-4)

@@ -1,0 +1,48 @@
+use mathlib.Core.Path.{_≡_, refl, _∙_, sym, ap, ap₂}
+use Prim.Native.Nat.{ℕ, _+_, _≤_, _<_, _-_}
+use lib.ListN.{length, take, drop, length-drop}
+use lib.Seq.{length-take-le, take-all}
+use Rattle.layout.proofs.Append.{spread-three}
+use native.Mathlib.Omega.{arith}
+use borrow.Author.Needs.{needs}
+use Rattle.layout.proofs.group_layout.spread.Statement.{statement}
+use Rattle.layout.proofs.group_layout.spread.Tie as tie
+
+slice-aggregate-append : tie.Need-slice-aggregate-append
+slice-aggregate-append c = sym (length-take-le _ _ (c .before .before .before .before .before .pre .0))
+
+append-requires : tie.Need-append-requires
+append-requires c κs = let s = c .before .before .before .before .before in omega (arith, length-take-le (s .args .at) (s .args .src .now) (s .pre .0), s .pre .1)
+
+append-requires-2 : tie.Need-append-requires-2
+append-requires-2 c κs = let s = c .before .before .before .before .before .before .before .before .before in omega (arith, length-take-le (s .args .at) (s .args .src .now) (s .pre .0), s .pre .1, c .before .before .before .append .ensures .next, c .before .before .before .append .ensures .size)
+
+append-requires-3 : tie.Need-append-requires-3
+append-requires-3 c κs =
+    let s = c .before .before .before .before .before .before .before .before .before .before .before .before .before .before in
+    let at = s .args .at in
+    let src = s .args .src .now in
+    let rest : length (take (length src - at) (drop at src)) ≡ length src - at = length-take-le (length src - at) (drop at src) (omega (arith, length-drop at src)) in
+    omega (arith, length-take-le at src (s .pre .0), s .pre .0, s .pre .1, c .before .before .before .before .before .before .before .before .append .ensures .next, c .before .before .before .before .before .before .before .before .append .ensures .size, c .before .before .before .before .append2 .ensures .next, c .before .before .before .before .append2 .ensures .size)
+
+returns : tie.Need-returns
+returns c =
+    let s = c .before .before .before .before .before .before .before .before .before .before .before .before .before .before .before .before .before in
+    let at = s .args .at in
+    let src = s .args .src .now in
+    let rest : take (length src - at) (drop at src) ≡ drop at src = take-all (length src - at) (drop at src) (omega (arith, length-drop at src)) in
+    spread-three _ _ _ _ src _ at _ _ _ (s .pre .0) (c .before .before .before .before .before .before .before .before .before .before .before .append .ensures) (c .before .before .before .before .before .before .before .append2 .ensures) (rw rest at (c .before .before .append3 .ensures))
+
+pub spread-spec : {M : Type 1} → statement M
+spread-spec =
+    tie.close
+    (tie.spec
+    slice-aggregate-append
+    append-requires
+    append-requires-2
+    (λ c. search needs)
+    (λ c. search needs)
+    (λ c. search needs)
+    append-requires-3
+    (λ c. search needs)
+    returns)

@@ -1,0 +1,40 @@
+-- What adding a group answers, in document 01's numbers and in the model's terms. Assumes nothing.
+use mathlib.Core.Path.{_≡_}
+use mathlib.Core.List.{List, [], _∷_}
+use Prim.Native.Nat.{ℕ}
+use Rattle.model.specs.Model.{Family, Added, nothing, added, refused, addGroup}
+use Rattle.layout.specs.Layout.{Formed, meaning}
+use Rattle.layout.specs.declared.group_layout.Layout.{Layout}
+use Rattle.layout.specs.declared.group_layout.Answer.{Answer}
+use Rattle.layout.specs.declared.group_layout.Outcome.{Outcome}
+use Rattle.layout.specs.declared.group_layout.Outcome.the-variants as outcome
+
+-- the number of the refusal (01: WIDE, CLASH, MANY), 0 where the command is accepted
+abbrev pub refusalOf : Outcome → ℕ
+refusalOf outcome.Nothing = 0
+refusalOf outcome.Added = 0
+refusalOf outcome.Wide = 13
+refusalOf outcome.Clash = 14
+refusalOf outcome.Many = 15
+
+-- the byte that GROUP answers after its 0 byte (01: 1 added or 0 nothing added)
+abbrev pub answerOf : Outcome → ℕ
+answerOf outcome.Nothing = 0
+answerOf outcome.Added = 1
+answerOf outcome.Wide = 0
+answerOf outcome.Clash = 0
+answerOf outcome.Many = 0
+
+-- the outcome with the families after it, as the model answers
+abbrev pub modelOf : Outcome → List Family → Added
+modelOf outcome.Nothing fs = nothing
+modelOf outcome.Added fs = added fs
+modelOf outcome.Wide fs = refused (refusalOf outcome.Wide)
+modelOf outcome.Clash fs = refused (refusalOf outcome.Clash)
+modelOf outcome.Many fs = refused (refusalOf outcome.Many)
+
+-- GROUP, as the model says; unless the group is added, the layout is the one that came
+pub record AddsGroup (l : Layout) (staged : List ℕ) (r : Answer) : Type 0 where
+  pub formed : Formed (r .layout)
+  pub says : modelOf (r .outcome) (meaning (r .layout)) ≡ addGroup staged (meaning l)
+  pub kept : (r .outcome ≡ outcome.Added → ⊥) → r .layout ≡ l

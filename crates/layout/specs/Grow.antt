@@ -1,0 +1,117 @@
+-- How a layout grows: a family with more kinds after its own and one group more. Assumes nothing.
+use mathlib.Core.Path.{_≡_}
+use mathlib.Core.Logic.{_≢_}
+use mathlib.Core.Bool.{true}
+use mathlib.Core.List.{List, [], _∷_, _++_}
+use Prim.Native.Nat.{ℕ, _+_, _-_, _≤_, _<_}
+use lib.Dec.{eqb}
+use lib.ListN.{length, getD, take, drop, set}
+use Rattle.model.specs.Lists.{count}
+use Rattle.model.specs.Model.{Family, newGroup, within, without}
+use Rattle.words.specs.Part.{between}
+use Rattle.layout.specs.Layout.{Arrays, arraysOf, startOf, widthOf, groupCount, kindsAt, aritiesAt, groupsFrom, familyAt, meaning, KindSet, Rising, FamilyFormed, Formed}
+use Rattle.layout.specs.declared.group_layout.Layout.{Layout}
+
+-- ---- arrays
+
+-- d has what it had before at, and then s; r is where s ends
+pub record Appended (d₀ : List ℕ) (at : ℕ) (s d : List ℕ) (r : ℕ) : Type 0 where
+  pub next : r ≡ at + length s
+  pub size : length d ≡ length d₀
+  pub front : take (at + length s) d ≡ take at d₀ ++ s
+
+-- d starts with s, and more put in at
+pub record Spread (d₀ s : List ℕ) (at : ℕ) (more d : List ℕ) : Type 0 where
+  pub size : length d ≡ length d₀
+  pub front : take (length s + length more) d ≡ take at s ++ (more ++ drop at s)
+
+-- each number from a to e - 1 is by more
+pub record Raised (d₀ : List ℕ) (a e by : ℕ) (d : List ℕ) : Type 0 where
+  pub size : length d ≡ length d₀
+  pub before : (i : ℕ) → i < a → getD d i 0 ≡ getD d₀ i 0
+  pub inside : (i : ℕ) → a ≤ i → i < e → getD d i 0 ≡ getD d₀ i 0 + by
+
+pub record RaiseAsk (d : List ℕ) (a e by : ℕ) : Type 0 where
+  pub within : e ≤ length d
+  pub fits : (i : ℕ) → a ≤ i → i < e → getD d i 0 + by < 256
+
+-- ---- one family of a layout
+
+-- all families but f are well formed, and f may still be empty
+pub record LooseAt (a : Arrays) (f : ℕ) : Type 0 where
+  pub few : a .families ≤ 63
+  pub inside : f < a .families
+  pub wide : widthOf a ≤ 128
+  pub many : groupCount a ≤ 62
+  pub kindOrder : (i : ℕ) → i < a .families → startOf (a .kindEnds) i ≤ getD (a .kindEnds) i 0
+  pub order : (i : ℕ) → i < a .families → startOf (a .ends) i ≤ getD (a .ends) i 0
+  pub others : (i : ℕ) → i < a .families → i ≢ f → FamilyFormed a i
+
+-- the kinds up to place k, then more, then the rest up to w
+abbrev pub widened : List ℕ → ℕ → List ℕ → ℕ → List ℕ
+widened ks k more w = take k ks ++ (more ++ between k w ks)
+
+-- family f may get these kinds and a group of arity s
+pub record Extends (l : Layout) (f : ℕ) (more : List ℕ) (s : ℕ) : Type 0 where
+  pub loose : LooseAt (arraysOf l) f
+  pub width : l .width ≡ widthOf (arraysOf l)
+  pub groups : l .groups ≡ groupCount (arraysOf l)
+  pub kinds : KindSet (widened (l .kinds) (getD (l .«kind_ends») f 0) more (widthOf (arraysOf l)))
+  pub arity : s ≡ getD (l .«kind_ends») f 0 - startOf (l .«kind_ends») f + length more
+  pub least : 2 ≤ s
+  pub most : s ≤ 15
+  pub rising : Rising 1 s (aritiesAt (arraysOf l) f ++ (s ∷ []))
+
+pub record Extended (l : Layout) (f : ℕ) (more : List ℕ) (s : ℕ) (r : Layout) : Type 0 where
+  pub formed : Formed r
+  pub families : r .families ≡ l .families
+  pub others : (i : ℕ) → i < l .families → i ≢ f → familyAt [] (arraysOf r) i ≡ familyAt [] (arraysOf l) i
+  pub here : familyAt [] (arraysOf r) f ≡ groupsFrom [] 0 (kindsAt (arraysOf l) f ++ more) 0 (aritiesAt (arraysOf l) f ++ (s ∷ []))
+
+-- the layout with an empty family at its end
+abbrev pub openedOf : Layout → Layout
+openedOf l =
+    record {
+      kinds = l .kinds;
+      arities = l .arities;
+      «kind_ends» = set (l .«kind_ends») (l .families) (l .width);
+      ends = set (l .ends) (l .families) (l .groups);
+      families = l .families + 1;
+      width = l .width;
+      groups = l .groups;
+    }
+
+-- ---- a group more
+
+-- kinds that may form a group in a layout that has room
+pub record GroupKinds (l : Layout) (hs : List ℕ) : Type 0 where
+  pub formed : Formed l
+  pub room : l .groups ≤ 62
+  pub staged : KindSet hs
+  pub least : 2 ≤ length hs
+  pub most : length hs ≤ 15
+
+-- no kind of the list is in the layout
+abbrev pub Unknown : Layout → List ℕ → Type 0
+Unknown l ks = (k : ℕ) → 1 ≤ count eqb k ks → count eqb k (take (widthOf (arraysOf l)) (l .kinds)) ≡ 0
+
+pub record FreshAsk (l : Layout) (staged : List ℕ) : Type 0 where
+  pub group : GroupKinds l staged
+  pub unknown : Unknown l staged
+
+-- a family of its own
+pub record FreshDone (l : Layout) (staged : List ℕ) (r : Layout) : Type 0 where
+  pub formed : Formed r
+  pub means : meaning r ≡ meaning l ++ ((newGroup staged ∷ []) ∷ [])
+
+pub record OntoAsk (l : Layout) (f : ℕ) (staged : List ℕ) : Type 0 where
+  pub group : GroupKinds l staged
+  pub inside : f < l .families
+  pub holds : within (kindsAt (arraysOf l) f) staged ≡ true
+  pub longer : length (kindsAt (arraysOf l) f) < length staged
+  pub unknown : Unknown l (without staged (kindsAt (arraysOf l) f))
+
+-- a group more in family f
+pub record OntoDone (l : Layout) (f : ℕ) (staged : List ℕ) (r : Layout) : Type 0 where
+  pub formed : Formed r
+  pub means : meaning r ≡ set (meaning l) f (familyAt [] (arraysOf l) f ++ (newGroup (without staged (kindsAt (arraysOf l) f)) ∷ []))

@@ -1,0 +1,354 @@
+-- What RANGE shows: exactly the entities that its hand and bar describe; and none exactly where 01 says none. Assumes nothing.
+use mathlib.Core.Path.{_≡_, refl, ap, ap₂, sym, _∙_, subst}
+use mathlib.Core.Logic.{_↔_, _⊎_, inl, inr, ⊎-elim}
+use mathlib.Core.Bool.{Bool, true, false, cond, _&&_, _||_, true≢false, false≢true}
+use mathlib.Core.List.{List, [], _∷_, _++_, map, append-assoc, append-nil}
+use Prim.Native.Nat.{ℕ, zero, suc, _+_, _-_, _≤_, _<_}
+use native.Mathlib.Omega.{arith}
+use native.Mathlib.Nat.{zero-add, le-of-suc-le-suc}
+use borrow.Author.Tests.{eqb-true, eqb-false, eq-eqb}
+use lib.Dec.{eqb}
+use lib.ListN.{length, take, drop, getD, length-drop, length-map, take-append-drop}
+use lib.Seq.{length-take-le, take-all, drop-cons}
+use Rattle.model.specs.Lists.{one, count, count-append, count-take-le, count-length}
+use Rattle.model.specs.Model.{Entity, SparseSet, Group, Family, Storage, Range, none, found, sameEntity, mem, all, within, sameSet, setOf, keys, entityOf, held, allHeld, headKind, kindsOf, newGroup, orElse, rangeAt, rangeIn, rangeAll, single, range}
+use Rattle.model.specs.Store.{Store}
+use Rattle.model.specs.Sound.{cnt, In, key, holders, Distinct, layoutKinds, Rising, BuildableFamily, BuildableFamilies, Right, RightFrom, AllRight, Between, Sound}
+use Rattle.model.specs.Shown.{lacking, described, Showing, EqualGroup, EqualRing, Shows, oneKind, aGroup, twoGroups}
+use Rattle.model.proofs.SparseSets.{entity-eq, entity-same, cond-case, and-left, and-right}
+use Rattle.model.proofs.Walk.{bool-cases, in-left, in-right, in-cases, or-cases, or-true, all-in, held-count, lacks-count}
+use Rattle.model.proofs.Invariant.{holders-count}
+use Rattle.model.proofs.Numbers.{cnt-num}
+use Rattle.model.proofs.KindLists.{not-true, all-true, head-in, in-count, distinct-left, distinct-right, distinct-apart}
+use Rattle.model.proofs.Demand.{between}
+
+-- ---- equal sets
+
+in-same : (h g : List ℕ) → sameSet h g ≡ true → (k : ℕ) → In h k → In g k
+in-same h g s k i = all-in (λ j. mem j g) h (and-left (within h g) (within g h) s) k i
+
+same-in : (h g : List ℕ) → sameSet h g ≡ true → (k : ℕ) → In g k → In h k
+same-in h g s k i = all-in (λ j. mem j h) g (and-right (within h g) (within g h) s) k i
+
+all-same : (p : ℕ → Bool) (h g : List ℕ) → sameSet h g ≡ true → all p h ≡ all p g
+all-same p h g s = bool-cases (all p h) (λ t. t ∙ sym (all-true p g (λ k i. all-in p h t k (same-in h g s k i)))) (λ t. t ∙ sym (not-true (all p g) (λ u. true≢false (sym (all-true p h (λ k i. all-in p g u k (in-same h g s k i))) ∙ t))))
+
+all-joined : (p : ℕ → Bool) (a b : List ℕ) → all p (a ++ b) ≡ (all p a && all p b)
+all-joined p [] b = refl
+all-joined p (k ∷ a) b = bool-cases (p k) (λ t. rw t (all-joined p a b)) (λ t. rw t)
+
+module _ (sets : List SparseSet) where
+  held-same : (x : Entity) (h g : List ℕ) → sameSet h g ≡ true → allHeld x h sets ≡ allHeld x g sets
+  held-same x h g s = all-same (λ k. held x (setOf sets k)) h g s
+
+  holders-same : (h g : List ℕ) → sameSet h g ≡ true → (l : List Entity) → holders h sets l ≡ holders g sets l
+  holders-same h g s [] = refl
+  holders-same h g s (e ∷ l) = rw (held-same e h g s, holders-same h g s l)
+
+  lacking-count : (b : List ℕ) (l : List Entity) (x : Entity) → cnt x (lacking b sets l) ≡ cond (allHeld x b sets) 0 (cnt x l)
+  lacking-count b [] x = bool-cases (allHeld x b sets) (λ t. rw t) (λ t. rw t)
+  lacking-count b (e ∷ l) x = bool-cases (sameEntity x e) (λ t. rw (entity-eq x e t) (self (lacking-count b l e))) (λ t. rw t (other t (lacking-count b l x)))
+    where
+      R : List Entity
+      R = lacking b sets l
+
+      self : cnt e R ≡ cond (allHeld e b sets) 0 (cnt e l) → cnt e (cond (allHeld e b sets) R (e ∷ R)) ≡ cond (allHeld e b sets) 0 (one (sameEntity e e) + cnt e l)
+      self ih = bool-cases (allHeld e b sets) (λ u. rw u (rw u at ih)) (λ u. rw u (ap (λ (n : ℕ). one (sameEntity e e) + n) (rw u at ih)))
+
+      other : sameEntity x e ≡ false → cnt x R ≡ cond (allHeld x b sets) 0 (cnt x l) → cnt x (cond (allHeld e b sets) R (e ∷ R)) ≡ cond (allHeld x b sets) 0 (0 + cnt x l)
+      other t ih = rw (zero-add (cnt x l)) (bool-cases (allHeld e b sets) (λ u. rw u ih) (λ u. rw (u, t, zero-add (cnt x R)) ih))
+
+-- ---- a range that is right shows them
+
+module _ (sets : List SparseSet) (live : List Entity) where
+  -- the start, from the rest
+  showing : (h b : List ℕ) (a e k : ℕ) → In h k → a ≤ e → e ≡ length (holders h sets live)
+      → ((k : ℕ) → In h k → e ≤ length (key sets k))
+      → ((j k : ℕ) → In h j → In h k → take e (key sets j) ≡ take e (key sets k))
+      → ((k : ℕ) → In h k → (x : Entity) → cnt x (drop a (take e (key sets k))) ≡ cnt x (described h b sets live))
+      → ((k : ℕ) → In h k → (x : Entity) → cnt x (take e (key sets k)) ≤ 1)
+      → Showing sets live h b a e
+  showing h b a e k i le end places aligned exact once =
+      let n : length (drop a (take e (key sets k))) ≡ length (take e (key sets k)) - a = length-drop a (take e (key sets k)) in
+      let m : length (take e (key sets k)) ≡ e = length-take-le e (key sets k) (places k i) in
+      let c : length (drop a (take e (key sets k))) ≡ length (described h b sets live) = count-length sameEntity entity-eq entity-same (drop a (take e (key sets k))) (described h b sets live) (exact k i) in
+      record {
+        start = omega arith;
+        end = end;
+        places = places;
+        aligned = λ j k i i′. ap (λ (l : List Entity). drop a l) (aligned j k i i′);
+        exact = exact;
+        once = λ k i x. omega (arith, once k i x, count-append sameEntity x (take a (take e (key sets k))) (drop a (take e (key sets k))), ap (cnt x) (take-append-drop a (take e (key sets k))));
+      }
+
+  -- a hand equal to a group, no bar
+  group-shown : (h g : List ℕ) (c k : ℕ) → In g k → sameSet h g ≡ true → Right sets live g c → Showing sets live h [] 0 c
+  group-shown h g c k i s R =
+      showing h [] 0 c k (same-in h g s k i) (omega arith) (R .number ∙ ap (λ (l : List Entity). length l) (sym (holders-same sets h g s live)))
+      (λ j u. R .places j (in-same h g s j u))
+      (λ j k u v. R .aligned j k (in-same h g s j u) (in-same h g s k v))
+      (λ j u x. R .exact j (in-same h g s j u) x ∙ ap (cnt x) (sym (holders-same sets h g s live)))
+      (λ j u x. R .once j (in-same h g s j u) x)
+
+  -- and a bar equal to the next larger group's ring
+  bar-shown : (h g b more : List ℕ) (c d k : ℕ) → In g k → 1 ≤ length b → sameSet h g ≡ true → sameSet b more ≡ true → Right sets live g c → Right sets live (g ++ more) d → Showing sets live h b d c
+  bar-shown h g [] more c d k i nb s z R Q = absurd (omega arith)
+  bar-shown h g (b₀ ∷ bs) more c d k i nb s z R Q =
+      let B : Between sets live g more c d = between sets live g more c d R Q in
+      showing h (b₀ ∷ bs) d c k (same-in h g s k i) (B .falls) (R .number ∙ ap (λ (l : List Entity). length l) (sym (holders-same sets h g s live)))
+      (λ j u. R .places j (in-same h g s j u))
+      (λ j k u v. R .aligned j k (in-same h g s j u) (in-same h g s k v))
+      (λ j u x. exact j (in-same h g s j u) x (B .exact j (in-same h g s j u) x))
+      (λ j u x. R .once j (in-same h g s j u) x)
+    where
+      exact : (j : ℕ) → In g j → (x : Entity) → cnt x (drop d (take c (key sets j))) + cnt x (holders (g ++ more) sets live) ≡ cnt x (holders g sets live) → cnt x (drop d (take c (key sets j))) ≡ cnt x (lacking (b₀ ∷ bs) sets (holders h sets live))
+      exact j u x e =
+          let hs : cnt x (holders h sets live) ≡ cnt x (holders g sets live) = ap (cnt x) (holders-same sets h g s live) in
+          let lk = lacking-count sets (b₀ ∷ bs) (holders h sets live) x in
+          let hb : allHeld x (b₀ ∷ bs) sets ≡ allHeld x more sets = held-same sets x (b₀ ∷ bs) more z in
+          let hm = holders-count (g ++ more) sets live x in
+          let hg = holders-count g sets live x in
+          let jn : allHeld x (g ++ more) sets ≡ (allHeld x g sets && allHeld x more sets) = all-joined (λ y. held x (setOf sets y)) g more in
+          bool-cases (allHeld x more sets)
+          (λ t. bool-cases (allHeld x g sets)
+          (λ v. omega (arith, e, hs, rw (hb ∙ t) at lk, rw (jn ∙ ap₂ _&&_ v t) at hm, rw v at hg))
+          (λ v. omega (arith, e, hs, rw (hb ∙ t) at lk, rw (jn ∙ ap₂ _&&_ v t) at hm, rw v at hg)))
+          (λ t. bool-cases (allHeld x g sets)
+          (λ v. omega (arith, e, hs, rw (hb ∙ t) at lk, rw (jn ∙ ap₂ _&&_ v t) at hm, rw v at hg))
+          (λ v. omega (arith, e, hs, rw (hb ∙ t) at lk, rw (jn ∙ ap₂ _&&_ v t) at hm, rw v at hg)))
+
+-- ---- what the search finds is right
+
+module _ (sets : List SparseSet) (live : List Entity) (h : List ℕ) where
+  abbrev ShownBy : List ℕ → Range → Type 0
+  ShownBy b none = Unit {0}
+  ShownBy b (found a e) = Showing sets live h b a e
+
+  at-shown : (b g : List ℕ) (c k : ℕ) (rs : Family) → In g k → sameSet h g ≡ true → Right sets live g c → RightFrom sets live g rs → ShownBy b (rangeAt b c rs)
+  at-shown [] g c k rs i s R Q = group-shown sets live h g c k i s R
+  at-shown (b₀ ∷ bs) g c k [] i s R Q = tt
+  at-shown (b₀ ∷ bs) g c k (q ∷ qs) i s R Q = cond-case (ShownBy (b₀ ∷ bs)) (sameSet (b₀ ∷ bs) (q .newKinds)) _ _ (λ t. bar-shown sets live h g (b₀ ∷ bs) (q .newKinds) c (q .count) k i (omega arith) s t R (Q .0)) (λ t. tt)
+
+  in-shown : (b acc : List ℕ) (rs : Family) → Rising rs → RightFrom sets live acc rs → ShownBy b (rangeIn h b acc rs)
+  in-shown b acc [] up R = tt
+  in-shown b acc (r ∷ rs) up R =
+      cond-case (ShownBy b) (sameSet h (acc ++ r .newKinds)) _ _
+      (λ t. at-shown b (acc ++ r .newKinds) (r .count) (headKind (r .newKinds)) rs (in-right acc (r .newKinds) (headKind (r .newKinds)) (head-in (r .newKinds) (up .0))) t (R .0) (R .1))
+      (λ t. in-shown b (acc ++ r .newKinds) rs (up .1) (R .1))
+
+  else-shown : (b : List ℕ) (p q : Range) → ShownBy b p → ShownBy b q → ShownBy b (orElse p q)
+  else-shown b none q x y = y
+  else-shown b (found a e) q x y = x
+
+  all-shown : (b : List ℕ) (fs : List Family) → BuildableFamilies fs → AllRight sets live fs → ShownBy b (rangeAll h b fs)
+  all-shown b [] B R = tt
+  all-shown b ([] ∷ fs) B R = absurd (B .0)
+  all-shown b ((r ∷ rs) ∷ fs) B R =
+      else-shown b (rangeIn h b [] (r ∷ rs)) (rangeAll h b fs) (in-shown b [] (r ∷ rs) (omega (arith, B .0 .0), B .0 .1) (R .0)) (all-shown b fs (B .1) (R .1))
+
+  -- a hand of one kind, no bar: the whole sparse set
+  one-shown : (k : ℕ) → ((x : Entity) (j : ℕ) → cnt x (key sets j) ≤ 1) → ((x : Entity) → cnt x live ≤ 1) → ((x : Entity) (j : ℕ) → 1 ≤ cnt x (key sets j) → 1 ≤ cnt x live) → Showing sets live (k ∷ []) [] 0 (length (setOf sets k))
+  one-shown k once lonce alive =
+      let whole : (j : ℕ) → In (k ∷ []) j → take (length (setOf sets k)) (key sets j) ≡ key sets k = λ j i. rw (only j i) (take-all (length (setOf sets k)) (key sets k) (omega (arith, length-map (setOf sets k) entityOf))) in
+      let ex : (x : Entity) → cnt x (key sets k) ≡ cnt x (holders (k ∷ []) sets live) = exact in
+      showing sets live (k ∷ []) [] 0 (length (setOf sets k)) k (rw (eq-eqb k k refl)) (omega arith)
+      (sym (length-map (setOf sets k) entityOf) ∙ count-length sameEntity entity-eq entity-same (key sets k) (holders (k ∷ []) sets live) exact)
+      (λ j i. rw (only j i) (omega (arith, length-map (setOf sets k) entityOf)))
+      (λ i j u v. whole i u ∙ sym (whole j v))
+      (λ j i x. ap (cnt x) (whole j i) ∙ exact x)
+      (λ j i x. omega (arith, ap (cnt x) (whole j i), once x k))
+    where
+      only : (j : ℕ) → In (k ∷ []) j → j ≡ k
+      only j i = or-cases (eqb j k) false i (λ t. eqb-true j k t) (λ t. absurd (false≢true t))
+
+      exact : (x : Entity) → cnt x (key sets k) ≡ cnt x (holders (k ∷ []) sets live)
+      exact x =
+          let c = holders-count (k ∷ []) sets live x in
+          bool-cases (held x (setOf sets k))
+          (λ t. omega (arith, held-count x sets k t, once x k, lonce x, alive x k (held-count x sets k t), rw t at c))
+          (λ t. omega (arith, lacks-count x sets k t, rw t at c))
+
+length-one : (h : List ℕ) → length h ≡ 1 → h ≡ headKind h ∷ []
+length-one [] e = absurd (omega arith)
+length-one (k ∷ []) e = refl
+length-one (k ∷ j ∷ h) e = absurd (omega arith)
+
+length-zero : (b : List ℕ) → length b ≡ 0 → b ≡ []
+length-zero [] e = refl
+length-zero (k ∷ b) e = absurd (omega arith)
+
+module _ (s : Store) (S : Sound s) (h b : List ℕ) where
+  abbrev C : List SparseSet
+  C = s .storage .sets
+
+  abbrev L : List Entity
+  L = s .entities .live
+
+  live-once : (x : Entity) → cnt x L ≤ 1
+  live-once x = omega (arith, cnt-num x L, S .entities .single (x .index))
+
+  shown : ShownBy C L h b (range h b (s .storage))
+  unfolding range
+  shown =
+      cond-case (ShownBy C L h b) (single h b) _ _
+      (λ t.
+      let p : length h ≡ 1 = eqb-true (length h) 1 (and-left (eqb (length h) 1) (eqb (length b) 0) t) in
+      let q : length b ≡ 0 = eqb-true (length b) 0 (and-right (eqb (length h) 1) (eqb (length b) 0) t) in
+      rw (length-zero b q) (subst (λ (l : List ℕ). Showing C L l [] 0 (length (setOf C (headKind h)))) (sym (length-one h p)) (one-shown C L h (headKind h) (S .sets .once) live-once (S .sets .alive))))
+      (λ t. all-shown C L h b (s .storage .layout) (S .layout .families) (S .groups))
+
+  -- the range found shows exactly the entities that hand and bar describe
+  pub range-shows : (a e : ℕ) → range h b (s .storage) ≡ found a e → Showing C L h b a e
+  range-shows a e p = subst (ShownBy C L h b) p shown
+
+-- ---- a range is found only where 01 says so
+
+-- a group of the family rs that the hand is equal to, and the bar's part; acc are the kinds of the group before
+record InFamily (h b acc : List ℕ) (rs : Family) : Type 0 where
+  pub group : ℕ
+  pub there : group < length rs
+  pub equal : sameSet h (acc ++ kindsOf (take (suc group) rs)) ≡ true
+  pub ring : (length b ≡ 0) ⊎ ((1 ≤ length b) × EqualRing b rs group)
+
+none-found : (a e : ℕ) → none ≡ found a e → ⊥
+none-found a e p = let z : _≡_ {A = ℕ} 0 1 = cc in omega arith
+
+at-where : (b : List ℕ) (c : ℕ) (r : Group) (rs : Family) (a e : ℕ) → rangeAt b c rs ≡ found a e → (length b ≡ 0) ⊎ ((1 ≤ length b) × EqualRing b (r ∷ rs) 0)
+at-where [] c r rs a e p = inl refl
+at-where (b₀ ∷ bs) c r [] a e p = absurd (none-found a e p)
+at-where (b₀ ∷ bs) c r (q ∷ qs) a e p =
+    bool-cases (sameSet (b₀ ∷ bs) (q .newKinds))
+    (λ t. inr (omega arith, record { there = omega arith; equal = t }))
+    (λ t. absurd (none-found a e (rw t at p)))
+
+in-where : (h b acc : List ℕ) (rs : Family) (a e : ℕ) → rangeIn h b acc rs ≡ found a e → InFamily h b acc rs
+in-where h b acc [] a e p = absurd (none-found a e p)
+in-where h b acc (r ∷ rs) a e p =
+    bool-cases (sameSet h (acc ++ r .newKinds))
+    (λ t. record { group = 0; there = omega arith; equal = rw (append-nil (r .newKinds)) t; ring = at-where b (r .count) r rs a e (rw t at p) })
+    (λ t. further (in-where h b (acc ++ r .newKinds) rs a e (rw t at p)))
+  where
+    further : InFamily h b (acc ++ r .newKinds) rs → InFamily h b acc (r ∷ rs)
+    further f =
+        record {
+          group = suc (f .group);
+          there = omega (arith, f .there);
+          equal = rw (append-assoc acc (r .newKinds) (kindsOf (take (suc (f .group)) rs))) at (f .equal);
+          ring = ⊎-elim (λ z. inl z) (λ z. inr (z .0, record { there = omega (arith, z .1 .there); equal = z .1 .equal })) (f .ring);
+        }
+
+record InLayout (h b : List ℕ) (fs : List Family) : Type 0 where
+  pub family : ℕ
+  pub inside : InFamily h b [] (getD fs family [])
+
+else-where : (P : Type 0) (p q : Range) → ((a e : ℕ) → p ≡ found a e → P) → ((a e : ℕ) → q ≡ found a e → P) → (a e : ℕ) → orElse p q ≡ found a e → P
+else-where P none q f g a e x = g a e x
+else-where P (found c d) q f g a e x = f c d refl
+
+all-where : (h b : List ℕ) (fs : List Family) (a e : ℕ) → rangeAll h b fs ≡ found a e → InLayout h b fs
+all-where h b [] a e p = absurd (none-found a e p)
+all-where h b (f ∷ fs) a e p =
+    else-where (InLayout h b (f ∷ fs)) (rangeIn h b [] f) (rangeAll h b fs)
+    (λ c d x. record { family = 0; inside = in-where h b [] f c d x })
+    (λ c d x. let r = all-where h b fs c d x in record { family = suc (r .family); inside = r .inside })
+    a e p
+
+layout-shows : (h b : List ℕ) (fs : List Family) → InLayout h b fs → Shows h b fs
+layout-shows h b fs x =
+    let g : EqualGroup h fs = record { family = x .family; group = x .inside .group; there = x .inside .there; equal = x .inside .equal } in
+    ⊎-elim (λ z. aGroup z g) (λ z. twoGroups (z .0) g (z .1)) (x .inside .ring)
+
+-- ---- and it is found wherever 01 says so
+
+abbrev Found : Range → Type 0
+Found none = ⊥
+Found (found a e) = Unit {0}
+
+-- the search comes to the group that the hand is equal to: no smaller one is
+in-hit : (h b acc : List ℕ) (rs : Family) (j : ℕ) → Distinct (acc ++ kindsOf rs) → Rising rs → j < length rs → sameSet h (acc ++ kindsOf (take (suc j) rs)) ≡ true → rangeIn h b acc rs ≡ rangeAt b (getD rs j (newGroup []) .count) (drop (suc j) rs)
+in-hit h b acc [] j d up lt s = absurd (omega arith)
+in-hit h b acc (r ∷ rs) zero d up lt s = rw (subst (λ (l : List ℕ). sameSet h (acc ++ l) ≡ true) (append-nil (r .newKinds)) s)
+in-hit h b acc (r ∷ []) (suc j) d up lt s = absurd (omega arith)
+in-hit h b acc (r ∷ q ∷ rs) (suc j) d up lt s = rw no-match (in-hit h b (acc ++ r .newKinds) (q ∷ rs) j (rw append-assoc d) (up .1) (omega arith) s′)
+  where
+    s′ : sameSet h ((acc ++ r .newKinds) ++ kindsOf (take (suc j) (q ∷ rs))) ≡ true
+    s′ = rw append-assoc s
+
+    k : ℕ
+    k = headKind (q .newKinds)
+
+    k∈q : In (q .newKinds) k
+    k∈q = head-in (q .newKinds) (up .1 .0)
+
+    k∈h : In h k
+    k∈h = same-in h ((acc ++ r .newKinds) ++ kindsOf (take (suc j) (q ∷ rs))) s′ k (in-right (acc ++ r .newKinds) (kindsOf (take (suc j) (q ∷ rs))) k (in-left (q .newKinds) (kindsOf (take j rs)) k k∈q))
+
+    no-match : sameSet h (acc ++ r .newKinds) ≡ false
+    no-match = not-true (sameSet h (acc ++ r .newKinds)) (λ t. true≢false (sym (in-left (q .newKinds) (kindsOf rs) k k∈q) ∙ distinct-apart (acc ++ r .newKinds) (kindsOf (q ∷ rs)) (rw append-assoc d) k (in-same h (acc ++ r .newKinds) t k k∈h)))
+
+at-hit : (b : List ℕ) (c : ℕ) (f : Family) (j : ℕ) → (length b ≡ 0) ⊎ EqualRing b f j → Found (rangeAt b c (drop (suc j) f))
+at-hit [] c f j x = tt
+at-hit (b₀ ∷ bs) c f j x = ⊎-elim (λ z. absurd (omega (arith, z))) (λ z. rw (drop-cons f (suc j) (newGroup []) (z .there), z .equal) tt) x
+
+else-left : (p q : Range) → Found p → Found (orElse p q)
+else-left none q x = absurd x
+else-left (found a e) q x = tt
+
+else-right : (p q : Range) → Found q → Found (orElse p q)
+else-right none q x = x
+else-right (found a e) q x = tt
+
+all-hit : (h b : List ℕ) (fs : List Family) (i : ℕ) → Found (rangeIn h b [] (getD fs i [])) → Found (rangeAll h b fs)
+all-hit h b [] i x = absurd x
+all-hit h b (f ∷ fs) zero x = else-left (rangeIn h b [] f) (rangeAll h b fs) x
+all-hit h b (f ∷ fs) (suc i) x = else-right (rangeIn h b [] f) (rangeAll h b fs) (all-hit h b fs i x)
+
+family-rising : (fs : List Family) → BuildableFamilies fs → (i : ℕ) → Rising (getD fs i [])
+family-rising [] B i = tt
+family-rising ([] ∷ fs) B i = absurd (B .0)
+family-rising ((r ∷ rs) ∷ fs) B zero = (omega (arith, B .0 .0), B .0 .1)
+family-rising ((r ∷ rs) ∷ fs) B (suc i) = family-rising fs (B .1) i
+
+family-distinct : (fs : List Family) → Distinct (layoutKinds fs) → (i : ℕ) → Distinct (kindsOf (getD fs i []))
+family-distinct [] d i k = omega arith
+family-distinct (f ∷ fs) d zero k = distinct-left (kindsOf f) (layoutKinds fs) d k
+family-distinct (f ∷ fs) d (suc i) k = family-distinct fs (distinct-right (kindsOf f) (layoutKinds fs) d) i k
+
+module _ (s : Store) (S : Sound s) (h b : List ℕ) where
+  abbrev F : List Family
+  F = s .storage .layout
+
+  hit : (g : EqualGroup h F) → (length b ≡ 0) ⊎ EqualRing b (getD F (g .family) []) (g .group) → Found (rangeAll h b F)
+  hit g x =
+      all-hit h b F (g .family)
+      (rw (in-hit h b [] (getD F (g .family) []) (g .group) (family-distinct F (S .layout .once) (g .family)) (family-rising F (S .layout .families) (g .family)) (g .there) (g .equal))
+      (at-hit b (getD (getD F (g .family) []) (g .group) (newGroup []) .count) (getD F (g .family) []) (g .group) x))
+
+  searched : Found (rangeAll h b F) → Found (range h b (s .storage))
+  unfolding range
+  searched x = cond-case Found (single h b) _ _ (λ t. tt) (λ t. x)
+
+  shows-found : Shows h b F → Found (range h b (s .storage))
+  unfolding range
+  shows-found (oneKind p q) = rw (eq-eqb (length h) 1 p, eq-eqb (length b) 0 q) tt
+  shows-found (aGroup p g) = searched (hit g (inl p))
+  shows-found (twoGroups p g q) = searched (hit g (inr q))
+
+  range-where : (a e : ℕ) → range h b (s .storage) ≡ found a e → Shows h b F
+  unfolding range
+  range-where a e p =
+      bool-cases (single h b)
+      (λ t. oneKind (eqb-true (length h) 1 (and-left (eqb (length h) 1) (eqb (length b) 0) t)) (eqb-true (length b) 0 (and-right (eqb (length h) 1) (eqb (length b) 0) t)))
+      (λ t. layout-shows h b F (all-where h b F a e (rw t at p)))
+
+  not-none : (r : Range) → Found r → r ≡ none → ⊥
+  not-none none f e = f
+  not-none (found a e′) f e = none-found a e′ (sym e)
+
+  -- none exactly where 01 says none
+  pub range-none : (range h b (s .storage) ≡ none) ↔ (Shows h b F → ⊥)
+  range-none = ((λ e w. not-none (range h b (s .storage)) (shows-found w) e), (λ f. go (range h b (s .storage)) (λ a e p. f (range-where a e p))))
+    where
+      go : (r : Range) → ((a e : ℕ) → r ≡ found a e → ⊥) → r ≡ none
+      go none f = refl
+      go (found a e) f = absurd (f a e refl)

@@ -1,0 +1,25 @@
+-- Within the limits no product or sum of the formula wraps. Assumes nothing.
+use mathlib.Core.Path.{_≡_, refl}
+use Prim.Native.Nat.{ℕ, _+_, _*_, _≤_}
+use native.Mathlib.Nat.{mul-le-mul}
+use native.Mathlib.Omega.{arith}
+use borrow.Author.Needs.{needs}
+use Rattle.model.specs.Store.{wordsNeeded}
+use Rattle.model.proofs.words_needed.Statement.{statement}
+use Rattle.model.proofs.words_needed.Tie as tie
+
+fits : (n k : ℕ) → n ≤ 4096 → k ≤ 128 → k * (8 + 6 * n) ≤ 128 * 24584
+fits n k hn hk = let m : 8 + 6 * n ≤ 24584 = omega arith in mul-le-mul hk m
+
+mul-result-3 : tie.Need-mul-result-3
+mul-result-3 c = omega (arith, fits (c .args .n) (c .args .k) (c .pre .0) (c .pre .1))
+
+add-result-3 : tie.Need-add-result-3
+add-result-3 c = omega (arith, fits (c .args .n) (c .args .k) (c .pre .0) (c .pre .1))
+
+returns : tie.Need-returns
+unfolding wordsNeeded
+returns c = refl
+
+pub words-needed-spec : {M : Type 1} → statement M
+words-needed-spec = tie.close (tie.spec (λ c. search needs) (λ c. search needs) (λ c. search needs) (λ c. search needs) mul-result-3 add-result-3 returns)

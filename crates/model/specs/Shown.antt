@@ -1,0 +1,52 @@
+-- What RANGE shows, said of the entities and not of the search: which of them the hand and the bar describe, and where 01 says none. Assumes nothing.
+use mathlib.Core.Path.{_≡_}
+use mathlib.Core.Bool.{Bool, true, false, cond}
+use mathlib.Core.List.{List, [], _∷_, _++_}
+use Prim.Native.Nat.{ℕ, zero, suc, _+_, _≤_, _<_}
+use lib.ListN.{length, take, drop, getD}
+use Rattle.model.specs.Model.{Entity, SparseSet, Group, Family, sameSet, allHeld, kindsOf, newGroup}
+use Rattle.model.specs.Sound.{cnt, In, key, holders}
+
+-- ---- the entities that a hand h and a bar b describe
+
+-- the entities of the list that lack one or more kinds of b
+abbrev pub lacking : List ℕ → List SparseSet → List Entity → List Entity
+lacking b sets [] = []
+lacking b sets (e ∷ es) = let r = lacking b sets es in cond (allHeld e b sets) r (e ∷ r)
+
+-- with no bar, those with all kinds of the hand; with a bar, those with all of the hand that lack one or more of the barred
+abbrev pub described : List ℕ → List ℕ → List SparseSet → List Entity → List Entity
+described h [] sets live = holders h sets live
+described h (k ∷ b) sets live = lacking (k ∷ b) sets (holders h sets live)
+
+-- the range from a to e shows them: in each sparse set of the hand the places from a to e hold exactly those, once each, the same at the same place
+pub record Showing (sets : List SparseSet) (live : List Entity) (h b : List ℕ) (a e : ℕ) : Type 0 where
+  pub start : a + length (described h b sets live) ≡ e
+  pub end : e ≡ length (holders h sets live)
+  pub places : (k : ℕ) → In h k → e ≤ length (key sets k)
+  pub aligned : (j k : ℕ) → In h j → In h k → drop a (take e (key sets j)) ≡ drop a (take e (key sets k))
+  pub exact : (k : ℕ) → In h k → (x : Entity) → cnt x (drop a (take e (key sets k))) ≡ cnt x (described h b sets live)
+  pub once : (k : ℕ) → In h k → (x : Entity) → cnt x (drop a (take e (key sets k))) ≤ 1
+
+-- ---- where a range is found; "None otherwise."
+
+-- "a hand equal to a group": the group at a place of a family of the layout
+pub record EqualGroup (h : List ℕ) (fs : List Family) : Type 0 where
+  pub family : ℕ
+  pub group : ℕ
+  pub there : group < length (getD fs family [])
+  pub equal : sameSet h (kindsOf (take (suc group) (getD fs family []))) ≡ true
+
+-- "a bar equal to the next larger group's ring"
+pub record EqualRing (b : List ℕ) (f : Family) (group : ℕ) : Type 0 where
+  pub there : suc group < length f
+  pub equal : sameSet b (getD f (suc group) (newGroup []) .newKinds) ≡ true
+
+-- the three cases of 01
+pub data Shows (h b : List ℕ) (fs : List Family) : Type 0 where
+  -- "bar empty: a hand of one kind"
+  oneKind : length h ≡ 1 → length b ≡ 0 → Shows h b fs
+  -- "a hand equal to a group"
+  aGroup : length b ≡ 0 → EqualGroup h fs → Shows h b fs
+  -- "Bar not empty: a hand equal to a group and a bar equal to the next larger group's ring"
+  twoGroups : 1 ≤ length b → (g : EqualGroup h fs) → EqualRing b (getD fs (g .family) []) (g .group) → Shows h b fs
