@@ -9,3 +9,4 @@ pub mod Positions
 pub mod KindPositions
 pub mod EachKind
 pub mod AllGroups
+pub mod FlatArrays
