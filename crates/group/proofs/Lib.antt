@@ -10,3 +10,4 @@ pub mod KindPositions
 pub mod EachKind
 pub mod AllGroups
 pub mod FlatArrays
+pub mod InWords

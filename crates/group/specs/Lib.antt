@@ -1,2 +1,3 @@
 pub mod Flat
 pub mod Ready
+pub mod Metadata
