@@ -13,19 +13,22 @@ use Rattle.model.specs.Model.{Family, Storage, groupsOf}
 use Rattle.model.specs.Sound.{In, Distinct, layoutKinds}
 use Rattle.model.proofs.Walk.{bool-cases}
 use Rattle.words.specs.Part.{between, length-between, getD-between}
-use Rattle.layout.specs.Layout.{Arrays, Sized, startOf, widthOf, groupCount, aritiesAt, familiesOf, WellFormed}
+use Rattle.layout.specs.Layout.{Arrays, Sized, startOf, widthOf, groupCount, aritiesAt, familiesOf, KindSet, WellFormed}
+use Rattle.layout.proofs.KindSets.{set-between}
 use Rattle.layout.proofs.Arrays.{kinds-inside, groups-inside, groups-of}
 use Rattle.memory.specs.Header.{layoutGroups, groupFamilyAt, countAt}
 use Rattle.memory.specs.Word.{Word}
 use Rattle.memory.specs.Meaning.{layoutArrays, layoutIn, meaning}
 use Rattle.memory.specs.Change.{onStorage, withLayout}
-use Rattle.memory.specs.Arranged.{Arranged, GroupSound, Becomes}
+use Rattle.memory.specs.Arranged.{Arranged, GroupSound, Becomes, memberAt}
 use Rattle.memory.proofs.Frames.{long}
-use Rattle.memory.proofs.Becomes.{count-becomes}
+use Rattle.memory.proofs.Becomes.{count-becomes, slot-real}
+use Rattle.kinds.proofs.Slot.{slot-known}
 use Rattle.group.specs.declared.GroupMetadata.{GroupMetadata}
 use Rattle.group.specs.Flat.{Located, located, setCount}
-use Rattle.group.specs.Metadata.{orderOf, Describes}
+use Rattle.group.specs.Metadata.{orderOf, Listed, Describes}
 use Rattle.group.proofs.FlatArrays.{kinds-are, arity-rises, located-is, counts-are}
+use Rattle.group.proofs.Places.{in-place}
 
 -- ---- words of the block
 
@@ -100,8 +103,8 @@ module _ (w : List ℕ) (A : Arranged w) where
       ∙ array-at w 0 128 p (omega (arith, order-wide)) (omega arith)
       ∙ ap (λ (i : ℕ). getD w i 0) n
 
-  pub order-once : Distinct (orderOf (meaning w))
-  order-once = subst Distinct (sym order-is) (good .kinds .once)
+  pub order-part-once : (x y : ℕ) → Distinct (between x y (orderOf (meaning w)))
+  order-part-once x y = set-between x y (orderOf (meaning w)) (subst KindSet (sym order-is) (good .kinds)) .once
 
   pub header : (i : ℕ) → i < 1024 → i < length w
   header i h = omega (arith, long w A)
@@ -157,10 +160,13 @@ module _ (w : List ℕ) (A : Arranged w) where
         let n : 576 + (256 + f) ≡ 832 + f = omega arith in
         array-at w 256 320 f (omega (arith, family-few)) (omega arith) ∙ ap (λ (m : ℕ). getD w m 0) n
 
-    arity-is : getD (layoutArrays w .arities) (startOf (layoutArrays w .ends) f + i) 0 ≡ arity
-    arity-is =
+    arity-at : getD (layoutArrays w .arities) g 0 ≡ arity
+    arity-at =
         let n : 576 + (128 + g) ≡ 704 + g = omega arith in
-        ap (λ (m : ℕ). getD (layoutArrays w .arities) m 0) at ∙ array-at w 128 192 g (omega (arith, group-few)) (omega arith) ∙ ap (λ (m : ℕ). getD w m 0) n
+        array-at w 128 192 g (omega (arith, group-few)) (omega arith) ∙ ap (λ (m : ℕ). getD w m 0) n
+
+    arity-is : getD (layoutArrays w .arities) (startOf (layoutArrays w .ends) f + i) 0 ≡ arity
+    arity-is = ap (λ (m : ℕ). getD (layoutArrays w .arities) m 0) at ∙ arity-at
 
     prior-is : getD (0 ∷ aritiesAt (layoutArrays w) f) i 0 ≡ prior
     prior-is =
@@ -207,6 +213,23 @@ module _ (w : List ℕ) (A : Arranged w) where
           omega (arith, top-is, groups-inside (layoutArrays w) good f (group-sound .family), good .many),
         )
 
+    -- a group's kinds are registered
+    kinds-registered : (k : ℕ) → In (between start (start + arity) (orderOf (meaning w))) k → In (meaning w .kinds) k
+    kinds-registered k n =
+        let r = in-place (between start (start + arity) (orderOf (meaning w))) k n in
+        let j : ℕ = r .at in
+        let fits : start + arity ≤ length (orderOf (meaning w)) = group-rises .1 in
+        let lt : r .at < arity = omega (arith, r .below, length-between start (start + arity) (orderOf (meaning w)) fits) in
+        let width : widthOf (layoutArrays w) ≡ length (orderOf (meaning w)) = sym order-length in
+        let reg = group-sound .known (r .at) (omega (arith, arity-at)) in
+        let e : memberAt (layoutArrays w) f (r .at) ≡ k =
+        ap (λ (m : ℕ). getD (layoutArrays w .kinds) (m + r .at) 0) start-is
+        ∙ sym (getD-take (widthOf (layoutArrays w)) (layoutArrays w .kinds) (start + r .at) 0 (omega arith))
+        ∙ sym (ap (λ (l : List ℕ). getD l (start + r .at) 0) order-is)
+        ∙ sym (getD-between start (start + arity) (r .at) (orderOf (meaning w)) 0 (omega arith))
+        ∙ r .is in
+        subst (In (meaning w .kinds)) e (slot-known w A (memberAt (layoutArrays w) f (r .at)) (reg .small) (slot-real w A (memberAt (layoutArrays w) f (r .at)) (reg .slot)))
+
     pub described : Describes (meaning w) g (record { «storage_start» = start; «new_storage_start» = start + prior; «storage_end» = start + arity; first = first; top = top })
     described =
         record {
@@ -216,8 +239,7 @@ module _ (w : List ℕ) (A : Arranged w) where
           top = sym (ap (λ (l : Located). l .top) located-words);
           low = omega arith;
           some = omega (arith, group-rises .0);
-          within = group-rises .1;
-          wide = order-wide;
+          listed = record { rising = omega arith; within = group-rises .1; known = kinds-registered };
           few = group-rises .2;
         }
 
