@@ -1,21 +1,21 @@
 -- The groups that a layout's arrays list, by position: each group's kinds stand in a row among the layout's, and its count is its number's. Assumes nothing.
-use mathlib.Core.Path.{_≡_, refl, ap, ap₂, sym, _∙_, subst}
+use mathlib.Core.Path.{_≡_, refl, ap, ap₂, sym, _∙_}
 use mathlib.Core.Logic.{_≢_}
 use mathlib.Core.List.{List, [], _∷_, _++_}
 use Prim.Native.Nat.{ℕ, zero, suc, _+_, _-_, _≤_, _<_}
 use native.Mathlib.Omega.{arith}
 use native.Mathlib.Decide.{decLt}
 use native.Mathlib.Nat.{le-of-suc-le-suc, not-suc-le-zero, sub-zero}
-use lib.ListN.{length, getD, set, take, drop, length-set, List·getD-append}
+use lib.ListN.{length, getD, set, take, drop, List·getD-append}
 use lib.Seq.{getD-append-add, getD-set-same, getD-set-other, take-add, take-take, drop-drop}
-use Rattle.model.specs.Model.{Group, Family, kindsOf, groupsOf}
+use Rattle.model.specs.Model.{Family, kindsOf}
 use Rattle.model.specs.Sound.{layoutKinds}
-use Rattle.words.specs.Part.{between, between-front, length-between, getD-between}
-use Rattle.words.specs.Table.{table, table-set, by-eq}
-use Rattle.layout.specs.Layout.{Arrays, Sized, startOf, widthOf, groupCount, kindsAt, aritiesAt, groupsFrom, familyAt, familiesOf, Rising, WellFormed}
+use Rattle.words.specs.Part.{between, between-front, getD-between}
+use Rattle.words.specs.Table.{table, table-set}
+use Rattle.layout.specs.Layout.{Arrays, Sized, startOf, widthOf, kindsAt, aritiesAt, groupsFrom, familyAt, familiesOf, Rising, WellFormed}
 use Rattle.layout.proofs.Family.{between-join, rising-le}
 use Rattle.layout.proofs.Arrays.{ends-rise, kind-order, group-order, kinds-inside, arities-length, kinds-length, family-rising, family-kindsOf, groups-length}
-use Rattle.group.specs.Flat.{Located, nowhere, flattenFamily, flatten, located, withCount, setIn, setCount}
+use Rattle.group.specs.Flat.{nowhere, flattenFamily, flatten, located, setIn, setCount}
 use Rattle.group.proofs.Fronts.{length-flattenFamily, set-here, set-later}
 
 -- ---- parts of a list

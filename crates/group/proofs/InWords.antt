@@ -1,19 +1,18 @@
 -- The layout in force as the words have it: its groups by position. Assumes nothing.
 use mathlib.Core.Path.{_≡_, refl, ap, ap₂, sym, _∙_, subst}
-use mathlib.Core.Bool.{Bool, true, false, cond}
-use mathlib.Core.List.{List, [], _∷_, _++_}
+use mathlib.Core.Bool.{cond}
+use mathlib.Core.List.{List, _∷_}
 use Prim.Native.Nat.{ℕ, zero, suc, _+_, _-_, _≤_, _<_}
 use native.Mathlib.Omega.{arith}
 use borrow.Author.Tests.{lt-ltb, le-ltb, ltb-true}
 use lib.Dec.{ltb}
-use lib.ListN.{length, getD, set, take, drop, length-set}
+use lib.ListN.{length, getD, set, take, drop}
 use lib.Seq.{getD-take, getD-drop, length-take-le}
-use Rattle.model.specs.Run.{Store}
 use Rattle.model.specs.Model.{Family, Storage, groupsOf}
 use Rattle.model.specs.Sound.{In, Distinct, layoutKinds}
 use Rattle.model.proofs.Walk.{bool-cases}
 use Rattle.words.specs.Part.{between, length-between, getD-between}
-use Rattle.layout.specs.Layout.{Arrays, Sized, startOf, widthOf, groupCount, aritiesAt, familiesOf, KindSet, WellFormed}
+use Rattle.layout.specs.Layout.{Arrays, Sized, startOf, widthOf, aritiesAt, familiesOf, KindSet, WellFormed}
 use Rattle.layout.proofs.KindSets.{set-between}
 use Rattle.layout.proofs.Arrays.{kinds-inside, groups-inside, groups-of}
 use Rattle.memory.specs.Header.{layoutGroups, groupFamilyAt, countAt}
@@ -24,9 +23,8 @@ use Rattle.memory.specs.Arranged.{Arranged, GroupSound, Becomes, memberAt}
 use Rattle.memory.proofs.Frames.{long}
 use Rattle.memory.proofs.Becomes.{count-becomes, slot-real}
 use Rattle.kinds.proofs.Slot.{slot-known}
-use Rattle.group.specs.declared.GroupMetadata.{GroupMetadata}
 use Rattle.group.specs.Flat.{Located, located, setCount}
-use Rattle.group.specs.Metadata.{orderOf, Listed, Describes}
+use Rattle.group.specs.Metadata.{orderOf, Describes}
 use Rattle.group.proofs.FlatArrays.{kinds-are, arity-rises, located-is, counts-are}
 use Rattle.group.proofs.Places.{in-place}
 
@@ -217,7 +215,6 @@ module _ (w : List ℕ) (A : Arranged w) where
     kinds-registered : (k : ℕ) → In (between start (start + arity) (orderOf (meaning w))) k → In (meaning w .kinds) k
     kinds-registered k n =
         let r = in-place (between start (start + arity) (orderOf (meaning w))) k n in
-        let j : ℕ = r .at in
         let fits : start + arity ≤ length (orderOf (meaning w)) = group-rises .1 in
         let lt : r .at < arity = omega (arith, r .below, length-between start (start + arity) (orderOf (meaning w)) fits) in
         let width : widthOf (layoutArrays w) ≡ length (orderOf (meaning w)) = sym order-length in

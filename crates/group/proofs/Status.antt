@@ -1,19 +1,18 @@
 -- Whether an entity is inside a group: a lookup in the first new kind's sparse set, then one in each other's. Assumes nothing.
-use mathlib.Core.Path.{_≡_, refl, ap, ap₂, sym, _∙_, subst}
-use mathlib.Core.Bool.{Bool, true, false, cond, _&&_}
-use mathlib.Core.List.{List, [], _∷_}
+use mathlib.Core.Path.{_≡_, ap, ap₂, _∙_, subst}
+use mathlib.Core.Bool.{Bool, true, false, _&&_}
+use mathlib.Core.List.{List, _∷_}
 use Prim.Native.Nat.{ℕ, _+_, _-_, _≤_, _<_}
-use native.Mathlib.Omega.{arith}
 use borrow.Author.Tests.{lt-ltb, le-ltb}
 use lib.ListN.{length, getD}
 use Rattle.model.specs.Run.{Store}
-use Rattle.model.specs.Model.{Entity, SparseSet, Storage, setOf, at, held, allHeld}
+use Rattle.model.specs.Model.{Entity, SparseSet, setOf, at, held, allHeld}
 use Rattle.model.specs.Sound.{In}
 use Rattle.model.proofs.Walk.{bool-cases, in-right}
 use Rattle.words.specs.Part.{between}
 use Rattle.group.specs.declared.GroupMetadata.{GroupMetadata}
 use Rattle.group.specs.declared.GroupStatus.the-variants.{Incomplete, Ungrouped, Grouped}
-use Rattle.group.specs.Flat.{Located, located, statusAt}
+use Rattle.group.specs.Flat.{statusAt}
 use Rattle.group.specs.Metadata.{orderOf, Listed, Stands}
 use Rattle.group.specs.Steps.{statusIn}
 use Rattle.group.proofs.FlatArrays.{between-split}

@@ -1,11 +1,11 @@
 -- One group: an entity goes in, goes out, or stays; what a step of either walk leaves. Assumes nothing.
-use mathlib.Core.Path.{_≡_, refl, ap, ap₂, sym, _∙_, subst}
+use mathlib.Core.Path.{_≡_, ap, sym, _∙_, subst}
 use mathlib.Core.List.{List}
 use Prim.Native.Nat.{ℕ, _+_, _-_, _≤_, _<_}
 use native.Mathlib.Omega.{arith}
 use lib.ListN.{length, getD}
 use Rattle.model.specs.Run.{Store}
-use Rattle.model.specs.Model.{Entity, Family, SparseSet, Storage, setOf, onKinds, swapTo, groupsOf}
+use Rattle.model.specs.Model.{Entity, Storage, setOf, onKinds, swapTo, groupsOf}
 use Rattle.model.specs.Sound.{In}
 use Rattle.masks.specs.Masks.{bitsOf, Ordered}
 use Rattle.words.specs.Part.{between}
@@ -19,14 +19,13 @@ use Rattle.memory.specs.Arranged.{Arranged, Becomes}
 use Rattle.kinds.proofs.Slot.{known-slot}
 use Rattle.group.specs.declared.GroupMetadata.{GroupMetadata}
 use Rattle.group.specs.declared.GroupStatus.{GroupStatus}
-use Rattle.group.specs.declared.GroupStatus.the-variants.{Incomplete, Ungrouped, Grouped}
-use Rattle.group.specs.Flat.{Located, located, setCount, statusAt, groupAt, ungroupAt, stepUp, stepDown}
+use Rattle.group.specs.Flat.{located, setCount, statusAt, groupAt, ungroupAt, stepUp, stepDown}
 use Rattle.group.specs.Ready.{Swappable, ReadyIn, ReadyOut}
-use Rattle.group.specs.Metadata.{orderOf, Listed, Describes, Stands}
+use Rattle.group.specs.Metadata.{orderOf, Stands}
 use Rattle.group.specs.Steps.{swapKinds, leftAfter, StepsUp}
 use Rattle.group.proofs.Counts.{placed}
 use Rattle.group.proofs.Places.{between-in}
-use Rattle.group.proofs.Storing.{becomes-same, becomes-then, storage-becomes}
+use Rattle.group.proofs.Storing.{becomes-then, storage-becomes}
 
 -- a sparse set has no more rows than the store has room for
 pub set-room : (w : List ℕ) → Arranged w → (k : ℕ) → In (meaning w .kinds) k → length (setOf (meaning w .storage .sets) k) ≤ 4096
@@ -66,7 +65,6 @@ module _ (w₀ : List ℕ) (A : Arranged w₀) (e : Entity) (g len : ℕ) (d : G
       pub goes-in : c ≡ len → n ≡ len + 1 → Becomes w₀ w₂ (onStorage (groupAt e g) (meaning w₀))
       unfolding groupAt
       goes-in qc qn =
-          let l : Located = located (meaning w₀ .storage .layout) g in
           let kinds = S .metadata .kinds in
           let place : c ≡ located (meaning w₀ .storage .layout) g .count = qc ∙ S .counted in
           let next : n ≡ located (meaning w₀ .storage .layout) g .count + 1 = qn ∙ ap (λ (x : ℕ). x + 1) (S .counted) in

@@ -3,7 +3,7 @@ use mathlib.Core.Path.{_≡_, refl, ap, ap₂, sym, _∙_, subst}
 use mathlib.Core.List.{List}
 use Prim.Native.Nat.{ℕ}
 use lib.ListN.{length, drop}
-use Rattle.model.specs.Model.{Storage, groupsOf}
+use Rattle.model.specs.Model.{Storage}
 use Rattle.model.specs.Run.{Store}
 use Rattle.words.specs.Offsets.{columnStart}
 use Rattle.words.specs.Table.{length-table}

@@ -1,13 +1,13 @@
 -- The loop over a group's kinds: an entity swapped to one place in each of their sparse sets. Assumes nothing.
-use mathlib.Core.Path.{_≡_, refl, ap, ap₂, sym, _∙_, subst}
+use mathlib.Core.Path.{_≡_, refl, ap, sym, _∙_, subst}
 use mathlib.Core.Bool.{Bool, true, false, cond}
 use mathlib.Core.List.{List, [], _∷_, _++_}
-use Prim.Native.Nat.{ℕ, zero, suc, _+_, _-_, _≤_, _<_}
+use Prim.Native.Nat.{ℕ, _+_, _-_, _≤_, _<_}
 use native.Mathlib.Omega.{arith}
 use borrow.Author.Tests.{eq-eqb}
 use lib.ListN.{length, getD, set}
 use Rattle.model.specs.Run.{Store}
-use Rattle.model.specs.Model.{Entity, SparseSet, Storage, mem, setOf, held, onKinds, swapTo}
+use Rattle.model.specs.Model.{Entity, SparseSet, Storage, mem, setOf, held, swapTo}
 use Rattle.model.specs.Sound.{In, Distinct}
 use Rattle.model.proofs.Walk.{in-left}
 use Rattle.words.specs.Part.{between}
@@ -22,7 +22,7 @@ use Rattle.group.proofs.KindPositions.{not-left}
 use Rattle.group.proofs.EachKind.{eachKind, each-append, setOf-each, each-kinds}
 use Rattle.group.proofs.FlatArrays.{between-split}
 use Rattle.group.proofs.Places.{between-none, between-more, between-in}
-use Rattle.group.proofs.Storing.{becomes-same, becomes-then, storage-becomes, sets-wide}
+use Rattle.group.proofs.Storing.{becomes-same, becomes-then, sets-wide}
 use Rattle.group.proofs.InWords.{order-part-once}
 
 abbrev pub eachSwap : Entity → ℕ → List ℕ → Storage → Storage

@@ -1,13 +1,13 @@
 -- The loops of the walks: what a turn leaves to be walked is what was left before it. Assumes nothing.
-use mathlib.Core.Path.{_≡_, refl, ap, ap₂, sym, _∙_, subst}
-use mathlib.Core.Bool.{Bool, true, false, cond, _&&_}
+use mathlib.Core.Path.{_≡_, refl, ap, sym, _∙_, subst}
+use mathlib.Core.Bool.{Bool, true, false}
 use mathlib.Core.List.{List, [], _∷_, _++_, reverse}
-use Prim.Native.Nat.{ℕ, zero, suc, _+_, _-_, _≤_, _<_}
+use Prim.Native.Nat.{ℕ, suc, _+_, _-_, _≤_, _<_}
 use native.Mathlib.Omega.{arith}
-use lib.ListN.{length, length-append}
+use lib.ListN.{length}
 use Rattle.model.specs.Run.{Store}
 use Rattle.model.specs.Model.{Entity, Storage, groupsOf}
-use Rattle.masks.specs.Masks.{bitsOf, upFrom, has, keep, keepIf, commonOf, skipping}
+use Rattle.masks.specs.Masks.{bitsOf, upFrom, has, keep, keepIf, skipping}
 use Rattle.masks.specs.Walk.{LowStep, HighStep}
 use Rattle.masks.proofs.Lists.{has-here, has-later, has-append, has-common, and-parts, or-right}
 use Rattle.memory.specs.Meaning.{meaning}
@@ -15,14 +15,14 @@ use Rattle.memory.specs.Change.{onStorage}
 use Rattle.memory.specs.Arranged.{Arranged, Becomes}
 use Rattle.group.specs.declared.GroupStatus.{GroupStatus}
 use Rattle.group.specs.declared.GroupStatus.the-variants.{Incomplete, Ungrouped, Grouped}
-use Rattle.group.specs.Flat.{Located, located, statusAt, groupAt, ungroupAt, stepUp, stepDown, walkUp, walkDown}
-use Rattle.group.specs.Ready.{Swappable, ReadyIn, ReadyOut, ReadyUp, ReadyDown}
+use Rattle.group.specs.Flat.{located, statusAt, groupAt, ungroupAt, stepUp, stepDown, walkUp, walkDown}
+use Rattle.group.specs.Ready.{ReadyIn, ReadyOut, ReadyUp, ReadyDown}
 use Rattle.group.specs.Steps.{Below, leftAfter, StepsUp}
 use Rattle.group.proofs.Counts.{groups-set}
 use Rattle.group.proofs.Downward.{down-on, down-ready-on}
-use Rattle.group.proofs.AllGroups.{highest-first, lowest-none}
+use Rattle.group.proofs.AllGroups.{highest-first}
 use Rattle.group.proofs.MaskWalk.{readies, walk-incomplete, ready-incomplete, walk-ungrouped, ready-ungrouped, walk-grouped, ready-grouped, walk-none, down-step, down-ready, down-none}
-use Rattle.group.proofs.Storing.{becomes-same, becomes-then, storage-becomes}
+use Rattle.group.proofs.Storing.{becomes-same, becomes-then}
 
 -- ---- the invariant of the three loops: of the positions ps₀, those of ps are left
 
@@ -115,15 +115,12 @@ module _ (e : Entity) (w₀ : List ℕ) (m₀ : ℕ) (w : List ℕ) (m : ℕ) (W
   module _ (w′ : List ℕ) (left : ℕ) (S : StepsUp w w′ e g rest left) where
     pub up-turn : Walking (walkUp e 0) (ReadyUp e 0) w₀ (bitsOf 64 m₀) w′ (bitsOf 64 left)
     up-turn =
-        let s : Storage = meaning w .storage in
-        let t : GroupStatus = statusAt e g s in
         walking-next (walkUp e 0) (ReadyUp e 0) w₀ (bitsOf 64 m₀) w (bitsOf 64 m) W w′ (bitsOf 64 left) (stepUp (statusAt e g (meaning w .storage)) e g) (S .becomes)
         (up-walk e (meaning w .storage) m g rest L left (statusAt e g (meaning w .storage)) refl (S .remains))
         (up-ready e (meaning w .storage) m g rest L left (statusAt e g (meaning w .storage)) refl (S .remains) (W .ready))
 
     pub up-keeps : Below (bitsOf 64 left) (meaning w′ .storage)
     up-keeps i h =
-        let t : GroupStatus = statusAt e g (meaning w .storage) in
         let n : groupsOf (meaning w′ .storage .layout) ≡ groupsOf (meaning w .storage .layout) =
         ap (λ (x : Store). groupsOf (x .storage .layout)) (S .becomes .means) ∙ up-groups (statusAt e g (meaning w .storage)) e g (meaning w .storage) in
         let i-rest : has i (bitsOf 64 rest) ≡ true = left-has (statusAt e g (meaning w .storage)) g (located (meaning w .storage .layout) g .top) (bitsOf 64 rest) i (sym (ap (has i) (S .remains)) ∙ h) in

@@ -12,6 +12,7 @@ ghost use Rattle.model.specs.Model.{Storage, groupsOf, setOf, held, allHeld};
 ghost use Rattle.model.specs.Sound.{In};
 ghost use Rattle.words.specs.Part.{between};
 ghost use Rattle.masks.specs.Masks.{bitsOf, upFrom};
+ghost use Rattle.masks.specs.Walk.{Highest};
 ghost use Rattle.component.specs.SparseSet.{entity};
 ghost use Rattle.layout.specs.Layout.{startOf};
 ghost use Rattle.memory.specs.Meaning.{meaning};
@@ -182,21 +183,21 @@ fn get_group_status(
     GroupStatus::Ungrouped
 }
 
-// Swaps the entity to a place in the sparse set of each kind from start to end.
+// Swaps the entity to a place in every sparse set of a group.
 fn swap_kinds(
     words: &mut [u32],
-    start: usize,
-    end: usize,
+    metadata: GroupMetadata,
     index: u32,
     version: u32,
     swap_index: usize,
 )
     requires { ⌜ Arranged (now words) ⌝ }
-    requires { ⌜ Listed (meaning (now words)) start end ⌝ }
-    requires { ⌜ Swappable (entity index version) (between start end (orderOf (meaning (now words)))) «swap_index» (meaning (now words) .storage .sets) ⌝ }
-    ensures { λ _. ⌜ Becomes (now (words .entry)) (now (words .exit)) (onStorage (swapKinds (entity index version) «swap_index» (between start end (orderOf (meaning (now (words .entry)))))) (meaning (now (words .entry)))) ⌝ }
+    requires { ⌜ Listed (meaning (now words)) (metadata .«storage_start») (metadata .«storage_end») ⌝ }
+    requires { ⌜ Swappable (entity index version) (between (metadata .«storage_start») (metadata .«storage_end») (orderOf (meaning (now words)))) «swap_index» (meaning (now words) .storage .sets) ⌝ }
+    ensures { λ _. ⌜ Becomes (now (words .entry)) (now (words .exit)) (onStorage (swapKinds (entity index version) «swap_index» (between (metadata .«storage_start») (metadata .«storage_end») (orderOf (meaning (now (words .entry)))))) (meaning (now (words .entry)))) ⌝ }
 {
-    let mut place = start;
+    let end = metadata.storage_end;
+    let mut place = metadata.storage_start;
     while place < end {
         let kind = kind_at(words, place);
         kinds::swap_to(words, kind, index, version, swap_index);
@@ -218,14 +219,7 @@ fn group_components(
     requires { ⌜ Swappable (entity index version) (located (meaning (now words) .storage .layout) g .kinds) (located (meaning (now words) .storage .layout) g .count) (meaning (now words) .storage .sets) ⌝ }
     ensures { λ _. ⌜ Becomes (now (words .entry)) (now (words .exit)) (onStorage (groupAt (entity index version) g) (meaning (now (words .entry)))) ⌝ }
 {
-    swap_kinds(
-        words,
-        metadata.storage_start,
-        metadata.storage_end,
-        index,
-        version,
-        group_len,
-    );
+    swap_kinds(words, metadata, index, version, group_len);
     set_count(words, g, group_len + 1);
 }
 
@@ -245,14 +239,7 @@ fn ungroup_components(
     ensures { λ _. ⌜ Becomes (now (words .entry)) (now (words .exit)) (onStorage (ungroupAt (entity index version) g) (meaning (now (words .entry)))) ⌝ }
 {
     let swap_index = group_len - 1;
-    swap_kinds(
-        words,
-        metadata.storage_start,
-        metadata.storage_end,
-        index,
-        version,
-        swap_index,
-    );
+    swap_kinds(words, metadata, index, version, swap_index);
     set_count(words, g, swap_index);
 }
 
@@ -335,6 +322,13 @@ fn ungroup_step(words: &mut [u32], g: usize, index: u32, version: u32)
     }
 }
 
+// The walk downward leaves a larger group before the smaller ones in it.
+fn highest(mask: GroupMask) -> NextBit
+    ensures { λ r. ⌜ Highest (mask .0) r ⌝ }
+{
+    mask.next_back()
+}
+
 // The walk downward over the groups of a mask, highest first.
 pub fn ungroup(words: &mut [u32], mask: GroupMask, index: u32, version: u32)
     requires { ⌜ Arranged (now words) ⌝ }
@@ -344,7 +338,7 @@ pub fn ungroup(words: &mut [u32], mask: GroupMask, index: u32, version: u32)
 {
     let mut left = mask;
     loop {
-        let NextBit::At(g, rest) = left.next_back() else {
+        let NextBit::At(g, rest) = highest(left) else {
             return;
         };
         ungroup_step(words, g as usize, index, version);

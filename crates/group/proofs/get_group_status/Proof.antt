@@ -1,13 +1,12 @@
 use mathlib.Core.Path.{_≡_, sym, _∙_, subst}
-use mathlib.Core.Bool.{true, false}
-use Prim.Native.Nat.{ℕ, _+_, _≤_, _<_}
+use mathlib.Core.Bool.{false}
+use Prim.Native.Nat.{ℕ, _+_}
 use native.Mathlib.Omega.{arith}
 use borrow.Author.Needs.{needs}
 use borrow.Author.Tests.{not-true, not-false}
-use lib.ListN.{length, getD}
-use Rattle.model.specs.Model.{at, held, allHeld}
+use lib.ListN.{getD}
+use Rattle.model.specs.Model.{at, held}
 use Rattle.model.specs.Sound.{In}
-use Rattle.words.specs.Part.{between}
 use Rattle.component.specs.SparseSet.{entity}
 use Rattle.component.specs.Answers.{Finds, HeldAt}
 use Rattle.component.specs.declared.Found.{Found}

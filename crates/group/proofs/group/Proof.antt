@@ -1,6 +1,5 @@
 use mathlib.Core.Path.{_≡_, subst}
 use mathlib.Core.List.{[]}
-use Prim.Native.Nat.{_<_}
 use native.Mathlib.Omega.{arith}
 use borrow.Author.Needs.{needs}
 use lib.ListN.{length}

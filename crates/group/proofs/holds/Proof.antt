@@ -2,7 +2,7 @@ use mathlib.Core.Path.{_≡_, sym, subst}
 use mathlib.Core.Bool.{true, false}
 use Prim.Native.Nat.{ℕ}
 use borrow.Author.Needs.{needs}
-use Rattle.model.specs.Model.{setOf, held}
+use Rattle.model.specs.Model.{held}
 use Rattle.model.specs.Sound.{In}
 use Rattle.component.specs.SparseSet.{entity}
 use Rattle.component.specs.Answers.{Finds}

@@ -1,9 +1,9 @@
 use mathlib.Core.Path.{_≡_, refl, sym, _∙_}
-use Prim.Native.Nat.{_+_, _-_, _≤_, _<_}
+use Prim.Native.Nat.{_-_, _≤_}
 use native.Mathlib.Omega.{arith}
 use borrow.Author.Tests.{not-true, not-false}
-use lib.ListN.{length, getD}
-use Rattle.model.specs.Model.{setOf, held, allHeld}
+use lib.ListN.{getD}
+use Rattle.model.specs.Model.{allHeld}
 use Rattle.words.specs.Part.{between}
 use Rattle.component.specs.SparseSet.{entity}
 use Rattle.memory.specs.Meaning.{meaning}
@@ -30,7 +30,6 @@ holds-requires c κs =
     let s = c .before .before .before in
     let a = s .args in
     let l = s .pre .1 in
-    let m = meaning (a .words .now) in
     let i = c .before .loop in (
       s .pre .0,
       (

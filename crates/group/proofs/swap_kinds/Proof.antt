@@ -1,5 +1,5 @@
-use mathlib.Core.Path.{_≡_, sym, _∙_, subst}
-use Prim.Native.Nat.{ℕ, _+_, _-_, _≤_, _<_}
+use mathlib.Core.Path.{_≡_, sym, subst}
+use Prim.Native.Nat.{ℕ, _-_, _<_}
 use native.Mathlib.Omega.{arith}
 use mathlib.Core.Bool.{true}
 use lib.ListN.{length}
@@ -12,16 +12,16 @@ use Rattle.group.proofs.swap_kinds.Statement.{statement}
 use Rattle.group.proofs.swap_kinds.Tie as tie
 
 abbrev Inv-loop : tie.InvT-loop
-Inv-loop words₀ start end index version swap-index place₀ words place = Swapping words₀ (entity index version) start end swap-index words place
+Inv-loop words₀ index version swap-index end place₀ words place = Swapping words₀ (entity index version) place₀ end swap-index words place
 
 abbrev μ-loop : tie.MeasureT-loop
-μ-loop words₀ start end index version swap-index place₀ words place = end - place
+μ-loop words₀ index version swap-index end place₀ words place = end - place
 
 loop-holds : tie.Need-loop-holds Inv-loop μ-loop
 loop-holds c =
     let s = c .before in
     let a = s .args in
-    swap-start (a .words .now) (s .pre .0) (entity (a .index) (a .version)) (a .start) (a .end) (a .swap-index) (s .pre .1 .0) (s .pre .1 .1)
+    swap-start (a .words .now) (s .pre .0) (entity (a .index) (a .version)) (a .metadata .«storage_start») (a .metadata .«storage_end») (a .swap-index) (s .pre .1 .0) (s .pre .1 .1)
 
 -- what a turn's swap asks
 ask : (c : tie.In-loop Inv-loop μ-loop) → SwapAsk (c .before .loop .words) (entity (c .before .before .before .args .index) (c .before .before .before .args .version)) (c .before .before .before .args .swap-index) (c .before .loop .place)
@@ -29,7 +29,7 @@ ask c =
     let s = c .before .before .before in
     let a = s .args in
     let i = c .before .loop in
-    swap-ask (a .words .now) (s .pre .0) (entity (a .index) (a .version)) (a .start) (a .end) (a .swap-index) (s .pre .1 .0) (s .pre .1 .1) (i .words) (i .place) (i .inv) (omega (arith, c .loop-test))
+    swap-ask (a .words .now) (s .pre .0) (entity (a .index) (a .version)) (a .metadata .«storage_start») (a .metadata .«storage_end») (a .swap-index) (s .pre .1 .0) (s .pre .1 .1) (i .words) (i .place) (i .inv) (omega (arith, c .loop-test))
 
 kind-at-requires : tie.Need-kind-at-requires Inv-loop μ-loop
 kind-at-requires c κs = (c .before .before .loop .inv .soFar .arranged, ask (c .before) .place)
@@ -61,7 +61,7 @@ loop-again c =
     let s = c .before .before .before .before .before .before .before .before .before in
     let a = s .args in
     let i = c .before .before .before .before .before .before .before .loop in
-    swap-turn (a .words .now) (s .pre .0) (entity (a .index) (a .version)) (a .start) (a .end) (a .swap-index) (s .pre .1 .0) (s .pre .1 .1) (i .words) (i .place) (i .inv) (omega (arith, c .before .before .before .before .before .before .loop-test)) (c .before .before .swap-to .last .0) (c .before .before .before .before .kind-at .result) (c .before .before .before .before .kind-at .ensures) (c .before .before .swap-to .ensures)
+    swap-turn (a .words .now) (s .pre .0) (entity (a .index) (a .version)) (a .metadata .«storage_start») (a .metadata .«storage_end») (a .swap-index) (s .pre .1 .0) (s .pre .1 .1) (i .words) (i .place) (i .inv) (omega (arith, c .before .before .before .before .before .before .loop-test)) (c .before .before .swap-to .last .0) (c .before .before .before .before .kind-at .result) (c .before .before .before .before .kind-at .ensures) (c .before .before .swap-to .ensures)
 
 same-length : tie.Need-same-length Inv-loop μ-loop
 same-length c = c .before .loop .inv .soFar .size
@@ -71,7 +71,7 @@ returns c =
     let s = c .before .before .before in
     let a = s .args in
     let i = c .before .loop in
-    swap-done (a .words .now) (s .pre .0) (entity (a .index) (a .version)) (a .start) (a .end) (a .swap-index) (s .pre .1 .0) (s .pre .1 .1) (i .words) (i .place) (i .inv) (omega (arith, c .loop-test))
+    swap-done (a .words .now) (s .pre .0) (entity (a .index) (a .version)) (a .metadata .«storage_start») (a .metadata .«storage_end») (a .swap-index) (s .pre .1 .0) (s .pre .1 .1) (i .words) (i .place) (i .inv) (omega (arith, c .loop-test))
 
 pub swap-kinds-spec : {M : Type 1} → statement M
 swap-kinds-spec =

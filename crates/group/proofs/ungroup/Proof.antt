@@ -1,6 +1,5 @@
 use mathlib.Core.Path.{_≡_, ap, subst}
 use mathlib.Core.List.{[], reverse}
-use Prim.Native.Nat.{_<_}
 use native.Mathlib.Omega.{arith}
 use borrow.Author.Needs.{needs}
 use Rattle.masks.specs.Masks.{bitsOf}
@@ -30,8 +29,8 @@ loop-holds c =
     (walking-start (walkDown e) (ReadyDown e) (s .args .words .now) (reverse (bitsOf 64 (s .args .mask .0))) (s .pre .0) (s .pre .1 .1), s .pre .1 .0)
 
 -- the highest group of the mask, and the mask without it
-highest : (c : tie.After-g Inv-loop μ-loop) → HighStep (c .before .before .before .loop .left .0) (c .g .given .0 .0) (c .g .given .0 .1 .0 .0)
-highest c = subst (λ (r : NextBit). Highest (c .before .before .before .loop .left .0) r) (c .g .given .1) (c .before .before .next-back .ensures)
+top : (c : tie.After-g Inv-loop μ-loop) → HighStep (c .before .before .before .loop .left .0) (c .g .given .0 .0) (c .g .given .0 .1 .0 .0)
+top c = subst (λ (r : NextBit). Highest (c .before .before .before .loop .left .0) r) (c .g .given .1) (c .before .before .highest .ensures)
 
 same-length : tie.Need-same-length Inv-loop μ-loop
 same-length c = c .before .before .before .loop .inv .0 .soFar .size
@@ -41,11 +40,11 @@ returns c =
     let a = c .before .before .before .before .before .args in
     let i = c .before .before .before .loop in
     let e = entity (a .index) (a .version) in
-    let over : bitsOf 64 (i .left .0) ≡ [] = subst (λ (r : NextBit). Highest (i .left .0) r) (c .enum-told .given .1) (c .before .before .next-back .ensures) in
+    let over : bitsOf 64 (i .left .0) ≡ [] = subst (λ (r : NextBit). Highest (i .left .0) r) (c .enum-told .given .1) (c .before .before .highest .ensures) in
     walking-end (walkDown e) (ReadyDown e) (a .words .now) (reverse (bitsOf 64 (a .mask .0))) (i .words) (reverse (bitsOf 64 (i .left .0))) (i .inv .0) (down-empty e (reverse (bitsOf 64 (i .left .0))) (ap reverse over))
 
 cast-ungroup-step : tie.Need-cast-ungroup-step Inv-loop μ-loop
-cast-ungroup-step c = omega (arith, highest (c .before .before) .inside)
+cast-ungroup-step c = omega (arith, top (c .before .before) .inside)
 
 ungroup-step-requires : tie.Need-ungroup-step-requires Inv-loop μ-loop
 ungroup-step-requires c κs =
@@ -55,13 +54,13 @@ ungroup-step-requires c κs =
     let e = entity (a .index) (a .version) in (
       i .inv .0 .soFar .arranged,
       (
-        down-below e (a .words .now) (a .mask .0) (i .words) (i .left .0) (i .inv .0) (i .inv .1) (g .0) (g .1 .0 .0) (highest (c .before .before)),
-        down-asks e (a .words .now) (a .mask .0) (i .words) (i .left .0) (i .inv .0) (i .inv .1) (g .0) (g .1 .0 .0) (highest (c .before .before)),
+        down-below e (a .words .now) (a .mask .0) (i .words) (i .left .0) (i .inv .0) (i .inv .1) (g .0) (g .1 .0 .0) (top (c .before .before)),
+        down-asks e (a .words .now) (a .mask .0) (i .words) (i .left .0) (i .inv .0) (i .inv .1) (g .0) (g .1 .0 .0) (top (c .before .before)),
       ),
     )
 
 loop-less : tie.Need-loop-less Inv-loop μ-loop
-loop-less c = highest (c .before .before .before .before .before) .less
+loop-less c = top (c .before .before .before .before .before) .less
 
 loop-again : tie.Need-loop-again Inv-loop μ-loop
 loop-again c =
@@ -69,8 +68,8 @@ loop-again c =
     let i = c .before .before .before .before .before .before .before .before .loop in
     let g = c .before .before .before .before .before .g .given .0 in
     let e = entity (a .index) (a .version) in (
-      down-turn e (a .words .now) (a .mask .0) (i .words) (i .left .0) (i .inv .0) (i .inv .1) (g .0) (g .1 .0 .0) (highest (c .before .before .before .before .before)) (c .before .before .ungroup-step .last .0) (c .before .before .ungroup-step .ensures),
-      down-keeps e (a .words .now) (a .mask .0) (i .words) (i .left .0) (i .inv .0) (i .inv .1) (g .0) (g .1 .0 .0) (highest (c .before .before .before .before .before)) (c .before .before .ungroup-step .last .0) (c .before .before .ungroup-step .ensures),
+      down-turn e (a .words .now) (a .mask .0) (i .words) (i .left .0) (i .inv .0) (i .inv .1) (g .0) (g .1 .0 .0) (top (c .before .before .before .before .before)) (c .before .before .ungroup-step .last .0) (c .before .before .ungroup-step .ensures),
+      down-keeps e (a .words .now) (a .mask .0) (i .words) (i .left .0) (i .inv .0) (i .inv .1) (g .0) (g .1 .0 .0) (top (c .before .before .before .before .before)) (c .before .before .ungroup-step .last .0) (c .before .before .ungroup-step .ensures),
     )
 
 pub ungroup-spec : {M : Type 1} → statement M
