@@ -1,5 +1,5 @@
-//! Document 01 again, in plain lists: no sparse sets, no masks, every lookup a search. It is written from the
-//! document's definitions alone. A fault can be switched on, to see whether the comparison finds it.
+//! Document 01 again, in plain lists: no sparse sets, no masks, every lookup a search. It is written after the
+//! document's definitions and shares no code with the harness. A fault can be switched on, to see whether the comparison finds it.
 
 use crate::side::Side;
 use sparsey::harness::{Id, Preset, Ran};
