@@ -174,7 +174,11 @@ fn copy(from: &Path, to: &Path, file: &str) {
     let (source, target) = (from.join(file), to.join(file));
     println!("cargo:rerun-if-changed={}", source.display());
     fs::create_dir_all(target.parent().unwrap()).unwrap();
-    let bytes = fs::read(&source)
-        .unwrap_or_else(|e| panic!("{}: {e} (set SPARSEY_SRC to the folder with src/component)", source.display()));
+    let bytes = fs::read(&source).unwrap_or_else(|e| {
+        panic!(
+            "{}: {e} (set SPARSEY_SRC to the folder with src/component)",
+            source.display()
+        )
+    });
     fs::write(&target, bytes).unwrap();
 }

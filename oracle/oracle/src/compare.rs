@@ -45,7 +45,10 @@ impl Figures {
             "{} cases, {} runs, {} commands, {} answer bytes; {} states with {} rows, {} group ranges\n",
             self.cases, self.runs, self.commands, self.answer_bytes, self.states, self.rows, self.ranges
         );
-        let stops: Vec<String> = (0..7).filter(|&i| self.stops[i] > 0).map(|i| format!("{i}: {}", self.stops[i])).collect();
+        let stops: Vec<String> = (0..7)
+            .filter(|&i| self.stops[i] > 0)
+            .map(|i| format!("{i}: {}", self.stops[i]))
+            .collect();
         writeln!(text, "runs by stop number: {}", stops.join(", ")).unwrap();
         for byte in 1..15 {
             let answers: Vec<String> = (0..16)
@@ -132,7 +135,12 @@ impl Pair {
         let other = self.other.run(&tape, &mut theirs);
         same!("run", ran, other, name);
         same!("answer bytes", out[..ran.written], theirs[..ran.written], name);
-        same!("bytes past the answers", out[ran.written..], theirs[ran.written..], name);
+        same!(
+            "bytes past the answers",
+            out[ran.written..],
+            theirs[ran.written..],
+            name
+        );
         self.complaint()?;
 
         self.figures.runs += 1;
@@ -160,7 +168,12 @@ impl Pair {
                 }
             }
             let past = self.other.column_number(kind, false, 0, length + 1);
-            same!(format!("number of {} past its end", column_name(kind, false)), 16, past, name);
+            same!(
+                format!("number of {} past its end", column_name(kind, false)),
+                16,
+                past,
+                name
+            );
             self.figures.rows += length as u64;
         }
         if closely {
@@ -191,7 +204,12 @@ impl Pair {
         }
         let (start, end) = (length / 3, length / 2);
         let part = whole[2 * start..2 * end].to_vec();
-        same!(format!("{what} {start}..{end}"), part, self.other.column(kind, values, start, end), name);
+        same!(
+            format!("{what} {start}..{end}"),
+            part,
+            self.other.column(kind, values, start, end),
+            name
+        );
         Ok(())
     }
 
@@ -200,9 +218,19 @@ impl Pair {
         let name = self.other.name();
         for kind in [0, 1, 2, 63, 127, 128, 255] {
             if !registered.contains(&kind) {
-                same!(format!("number of column {kind}"), 7, self.other.column_number(kind, false, 0, 0), name);
+                same!(
+                    format!("number of column {kind}"),
+                    7,
+                    self.other.column_number(kind, false, 0, 0),
+                    name
+                );
                 let none: Vec<u32> = vec![];
-                same!(format!("refused column {kind}"), none, self.other.column(kind, true, 0, 0), name);
+                same!(
+                    format!("refused column {kind}"),
+                    none,
+                    self.other.column(kind, true, 0, 0),
+                    name
+                );
             }
         }
         Ok(())
@@ -211,8 +239,14 @@ impl Pair {
     /// The roll, in a buffer that it fills exactly, in a longer one, and in one that is a byte short.
     fn roll(&mut self, closely: bool) -> Result<(), String> {
         let name = self.other.name();
-        let length = 4 + self.rust.live().len() * 9
-            + self.rust.registered().iter().map(|&kind| self.rust.length(kind).unwrap() * 9).sum::<usize>();
+        let length = 4
+            + self.rust.live().len() * 9
+            + self
+                .rust
+                .registered()
+                .iter()
+                .map(|&kind| self.rust.length(kind).unwrap() * 9)
+                .sum::<usize>();
         let rooms = [length, length + 3, length - 1];
         for room in rooms.into_iter().take(if closely { 3 } else { 1 }) {
             let mut out = vec![self.fill; room];
@@ -296,16 +330,24 @@ fn counted(rust: &Oracle, groups: &[(Vec<u8>, usize)]) -> Result<(), String> {
         .collect();
     for (&kind, ids) in &columns {
         for &id in ids {
-            assert!(held.entry(id).or_default().insert(kind), "an entity twice in a column of the Rust");
+            assert!(
+                held.entry(id).or_default().insert(kind),
+                "an entity twice in a column of the Rust"
+            );
         }
     }
     for (kinds, count) in groups {
-        let all = held.values().filter(|held| kinds.iter().all(|kind| held.contains(kind))).count();
+        let all = held
+            .values()
+            .filter(|held| kinds.iter().all(|kind| held.contains(kind)))
+            .count();
         let first = &columns[&kinds[0]][..*count];
         let aligned = kinds.iter().all(|kind| columns[kind].starts_with(first));
         let whole = first.iter().all(|id| kinds.iter().all(|kind| held[id].contains(kind)));
         if all != *count || !aligned || !whole {
-            return Err(format!("the Rust's group {kinds:?} counts {count} of {all}, aligned {aligned}"));
+            return Err(format!(
+                "the Rust's group {kinds:?} counts {count} of {all}, aligned {aligned}"
+            ));
         }
     }
     Ok(())
@@ -455,7 +497,12 @@ fn simplify(best: &mut Difference, attempt: &mut Attempt) {
             }
         }
     }
-    for (n, k) in [(1, 1), (best.case.n / 2, best.case.k / 2), (best.case.n - 1, best.case.k), (best.case.n, best.case.k - 1)] {
+    for (n, k) in [
+        (1, 1),
+        (best.case.n / 2, best.case.k / 2),
+        (best.case.n - 1, best.case.k),
+        (best.case.n, best.case.k - 1),
+    ] {
         let fits = best.case.preset.as_ref().is_none_or(|preset| preset.issued <= n);
         if n >= 1 && k >= 1 && n <= best.case.n && k <= best.case.k && (n, k) != (best.case.n, best.case.k) && fits {
             let mut case = best.case.clone();

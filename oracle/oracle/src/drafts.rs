@@ -94,7 +94,9 @@ fn theirs(layout: &GroupLayout, new: Group) -> Theirs {
     let mut after = layout.clone();
     let outcome = catch_unwind(AssertUnwindSafe(|| add_group(&mut after, &kinds(new))));
     let twice = outcome.as_ref().is_err_and(|panic| {
-        panic.downcast_ref::<String>().is_some_and(|text| text.contains("may not have any component types in common"))
+        panic
+            .downcast_ref::<String>()
+            .is_some_and(|text| text.contains("may not have any component types in common"))
     });
     let same = shape(layout) == shape(&after);
     let mut expected = before;
@@ -111,7 +113,10 @@ fn theirs(layout: &GroupLayout, new: Group) -> Theirs {
 
 /// Groups in the draft, then kinds in all.
 fn size(draft: &[Group], new: Group) -> (usize, u32) {
-    (draft.len(), draft.iter().map(|group| group.count_ones()).sum::<u32>() + new.count_ones())
+    (
+        draft.len(),
+        draft.iter().map(|group| group.count_ones()).sum::<u32>() + new.count_ones(),
+    )
 }
 
 /// Every draft of up to `most` groups over `width` kinds that 01 accepts, one group after the other.
@@ -141,7 +146,12 @@ pub fn cases(width: u32, most: usize) -> impl Iterator<Item = Case> {
             chunks.extend(tape::with(&kinds(new), tape::group()));
             runs.push(Run::new(chunks));
         }
-        Case { n: 1, k: width as usize, preset: None, runs }
+        Case {
+            n: 1,
+            k: width as usize,
+            preset: None,
+            runs,
+        }
     })
 }
 
@@ -197,9 +207,18 @@ pub fn limits() -> String {
     let mut text = String::new();
     for arity in 15..=17u8 {
         let mut layout = GroupLayout::default();
-        let added = catch_unwind(AssertUnwindSafe(|| add_group(&mut layout, &(0..arity).collect::<Vec<u8>>()))).is_ok();
+        let added = catch_unwind(AssertUnwindSafe(|| {
+            add_group(&mut layout, &(0..arity).collect::<Vec<u8>>())
+        }))
+        .is_ok();
         let applied = catch_unwind(AssertUnwindSafe(|| sparsey::World::new(&layout))).is_ok();
-        writeln!(text, "  a group of {arity} kinds: add_group_dyn {}, set_layout {}", does(added), does(applied)).unwrap();
+        writeln!(
+            text,
+            "  a group of {arity} kinds: add_group_dyn {}, set_layout {}",
+            does(added),
+            does(applied)
+        )
+        .unwrap();
     }
     for groups in 62..=64u8 {
         let mut layout = GroupLayout::default();
@@ -210,13 +229,24 @@ pub fn limits() -> String {
         }))
         .is_ok();
         let applied = catch_unwind(AssertUnwindSafe(|| sparsey::World::new(&layout))).is_ok();
-        writeln!(text, "  {groups} groups: add_group_dyn {}, set_layout {}", does(added), does(applied)).unwrap();
+        writeln!(
+            text,
+            "  {groups} groups: add_group_dyn {}, set_layout {}",
+            does(added),
+            does(applied)
+        )
+        .unwrap();
     }
     let mut layout = GroupLayout::default();
     for group in [&[0u8, 1][..], &[0, 1, 2, 3], &[0, 1, 4]] {
         add_group(&mut layout, group);
     }
-    writeln!(text, "  draft [0, 1] [0, 1, 2, 3] with [0, 1, 4] becomes {:?}", shape(&layout)).unwrap();
+    writeln!(
+        text,
+        "  draft [0, 1] [0, 1, 2, 3] with [0, 1, 4] becomes {:?}",
+        shape(&layout)
+    )
+    .unwrap();
     let mut rust = Oracle::new(Sets::Staged);
     rust.start(words_needed(1, 8), 1, 8);
     let mut out = [0; 64];

@@ -30,9 +30,9 @@ impl Found {
 
     /// Commands of the smallest tape.
     pub fn commands(&self) -> usize {
-        self.least
-            .as_ref()
-            .map_or(0, |least| least.case.runs.iter().map(|run: &Run| run.chunks.len()).sum())
+        self.least.as_ref().map_or(0, |least| {
+            least.case.runs.iter().map(|run: &Run| run.chunks.len()).sum()
+        })
     }
 
     pub fn line(&self) -> String {
@@ -93,6 +93,10 @@ pub fn find(fault: Fault, seed: u64, tried: usize) -> Found {
             keep(difference);
         }
     }
-    found.least = first.and_then(|first| catch_unwind(AssertUnwindSafe(|| shrink(&first.case, sets, make))).ok().flatten());
+    found.least = first.and_then(|first| {
+        catch_unwind(AssertUnwindSafe(|| shrink(&first.case, sets, make)))
+            .ok()
+            .flatten()
+    });
     found
 }

@@ -42,7 +42,10 @@ pub fn starts(sets: Sets, make: Make) -> Result<Figures, String> {
     if rust != other {
         return Err(format!("roll of no store: Rust {rust:?}, {name} {other:?}"));
     }
-    let (rust, other) = (pair.rust.column_number(0, 0, 0), pair.other.column_number(0, false, 0, 0));
+    let (rust, other) = (
+        pair.rust.column_number(0, 0, 0),
+        pair.other.column_number(0, false, 0, 0),
+    );
     if rust != other {
         return Err(format!("column of no store: Rust {rust}, {name} {other}"));
     }
@@ -53,7 +56,16 @@ pub fn starts(sets: Sets, make: Make) -> Result<Figures, String> {
             let needed = if fits { words_needed(n, k) } else { 1024 };
             for words in [0, 1, 1023, needed - 1, needed, needed + 5] {
                 let number = pair.start_number(words, n, k)?;
-                assert_eq!(number, if !fits { 1 } else if words < needed { 2 } else { 0 });
+                assert_eq!(
+                    number,
+                    if !fits {
+                        1
+                    } else if words < needed {
+                        2
+                    } else {
+                        0
+                    }
+                );
             }
         }
     }
@@ -63,8 +75,14 @@ pub fn starts(sets: Sets, make: Make) -> Result<Figures, String> {
         pair.start_number(small, 4, 3)?;
         pair.run(&Run::new(vec![tape::tally()]))?;
         pair.state()?;
-        let chunks = [vec![tape::reg(2), tape::reg(7), tape::bar(2)], tape::with(&[2, 7], tape::group())].concat();
-        pair.run(&Run::new([chunks, tape::with(&[7], tape::new()), vec![tape::hold(9, 9)]].concat()))?;
+        let chunks = [
+            vec![tape::reg(2), tape::reg(7), tape::bar(2)],
+            tape::with(&[2, 7], tape::group()),
+        ]
+        .concat();
+        pair.run(&Run::new(
+            [chunks, tape::with(&[7], tape::new()), vec![tape::hold(9, 9)]].concat(),
+        ))?;
         pair.state()?;
         if round % 2 == 0 {
             pair.start_number(small - 1, 4, 3)?;
@@ -80,12 +98,21 @@ pub fn starts(sets: Sets, make: Make) -> Result<Figures, String> {
 /// Every limit of document 01, with stores for up to `most` entities.
 pub fn limits(most: usize) -> Vec<Part> {
     vec![
-        part("N full and churned", full_and_churned().filter(move |case| case.n <= most)),
+        part(
+            "N full and churned",
+            full_and_churned().filter(move |case| case.n <= most),
+        ),
         part("K full", kinds_full()),
         part("16 staged", sixteen_staged()),
         part("63 groups", many_groups()),
-        part("drafts of up to 2 groups over 5 kinds with every further group", drafts::cases(5, 2)),
-        part("every list staged and excluded of 4 kinds, 6 layouts", staged_and_excluded()),
+        part(
+            "drafts of up to 2 groups over 5 kinds with every further group",
+            drafts::cases(5, 2),
+        ),
+        part(
+            "every list staged and excluded of 4 kinds, 6 layouts",
+            staged_and_excluded(),
+        ),
         part("rooms", rooms()),
         part("versions run out", versions_run_out()),
     ]
@@ -104,7 +131,9 @@ fn full_and_churned() -> impl Iterator<Item = Case> {
             runs.push(run_of(layout(&[&[0, 1], &[0, 1, 2], &[4, 5]])));
             // Full, and two more.
             let lists: [&[u8]; 6] = [&[0, 1], &[1], &[0, 1, 2, 3], &[], &[4, 5, 0], &[2, 1, 0, 4]];
-            runs.push(run_of((0..n + 2).flat_map(|i| tape::with(lists[i % 6], tape::new())).collect()));
+            runs.push(run_of(
+                (0..n + 2).flat_map(|i| tape::with(lists[i % 6], tape::new())).collect(),
+            ));
             for round in 1..=3 {
                 let mut killed = all.clone();
                 match order {
@@ -122,17 +151,27 @@ fn full_and_churned() -> impl Iterator<Item = Case> {
                 });
                 runs.push(run_of(kills.collect()));
                 runs.push(run_of(
-                    (0..n + 1).flat_map(|i| tape::with(lists[(i + round as usize) % 6], tape::new())).collect(),
+                    (0..n + 1)
+                        .flat_map(|i| tape::with(lists[(i + round as usize) % 6], tape::new()))
+                        .collect(),
                 ));
             }
-            Case { n, k: 6, preset: None, runs }
+            Case {
+                n,
+                k: 6,
+                preset: None,
+                runs,
+            }
         })
     })
 }
 
 /// HOLD and GROUP for each group, then APPLY.
 pub fn layout(groups: &[&[u8]]) -> Vec<Chunk> {
-    let mut chunks: Vec<Chunk> = groups.iter().flat_map(|group| tape::with(group, tape::group())).collect();
+    let mut chunks: Vec<Chunk> = groups
+        .iter()
+        .flat_map(|group| tape::with(group, tape::group()))
+        .collect();
     chunks.push(tape::apply());
     chunks
 }
@@ -144,15 +183,29 @@ fn kinds_full() -> impl Iterator<Item = Case> {
         first.push(tape::tally());
         let kept: Vec<u8> = (0..128).rev().take(k).collect();
         let mut runs = vec![run_of(first)];
-        runs.push(run_of((0..=255).flat_map(|kind| [tape::hold(kind, 1), tape::bar(kind), tape::empty()]).collect()));
+        runs.push(run_of(
+            (0..=255)
+                .flat_map(|kind| [tape::hold(kind, 1), tape::bar(kind), tape::empty()])
+                .collect(),
+        ));
         for kinds in kept.chunks(16) {
             runs.push(run_of(tape::with(kinds, tape::new())));
             runs.push(run_of(tape::with(kinds, tape::put((0, 1)))));
         }
-        runs.push(run_of(kept.chunks(2).flat_map(|pair| tape::with(pair, tape::group())).chain([tape::apply()]).collect()));
+        runs.push(run_of(
+            kept.chunks(2)
+                .flat_map(|pair| tape::with(pair, tape::group()))
+                .chain([tape::apply()])
+                .collect(),
+        ));
         runs.push(run_of(tape::with(&kept[..k.min(16)], tape::take((0, 1)))));
         runs.push(run_of(vec![tape::kill((0, 1))]));
-        Case { n: 9, k, preset: None, runs }
+        Case {
+            n: 9,
+            k,
+            preset: None,
+            runs,
+        }
     })
 }
 
@@ -160,8 +213,17 @@ fn sixteen_staged() -> impl Iterator<Item = Case> {
     (14..=18usize).flat_map(|width| {
         (0..7).map(move |which| {
             let mut runs = vec![run_of((0..20).map(tape::reg).collect())];
-            runs.push(run_of(layout(&[&[0, 1], &[0, 1, 2, 3, 4, 5, 6], &(0..15).collect::<Vec<u8>>(), &[15, 16]])));
-            runs.push(run_of((0..3).flat_map(|_| tape::with(&(0..16).collect::<Vec<u8>>(), tape::new())).collect()));
+            runs.push(run_of(layout(&[
+                &[0, 1],
+                &[0, 1, 2, 3, 4, 5, 6],
+                &(0..15).collect::<Vec<u8>>(),
+                &[15, 16],
+            ])));
+            runs.push(run_of(
+                (0..3)
+                    .flat_map(|_| tape::with(&(0..16).collect::<Vec<u8>>(), tape::new()))
+                    .collect(),
+            ));
             let kinds: Vec<u8> = (0..width as u8).collect();
             let mut chunks = tape::hold_all(&kinds);
             chunks.extend(kinds.iter().map(|&kind| tape::bar(kind)));
@@ -180,7 +242,12 @@ fn sixteen_staged() -> impl Iterator<Item = Case> {
             chunks.extend([tape::tally(), tape::hold(0, 3), tape::new()]);
             runs.push(run_of(chunks));
             runs.push(run_of(vec![tape::apply(), tape::kill((1, 1))]));
-            Case { n: 6, k: 20, preset: None, runs }
+            Case {
+                n: 6,
+                k: 20,
+                preset: None,
+                runs,
+            }
         })
     })
 }
@@ -191,17 +258,34 @@ fn many_groups() -> impl Iterator<Item = Case> {
     let chains: Vec<Vec<u8>> = (0..8u8)
         .flat_map(|family| (2..=15u8).map(move |arity| (family * 16..family * 16 + arity).collect()))
         .collect();
-    let mixed: Vec<Vec<u8>> = chains[..28].iter().cloned().chain(pairs[32..].iter().cloned()).chain([vec![14, 15]]).collect();
+    let mixed: Vec<Vec<u8>> = chains[..28]
+        .iter()
+        .cloned()
+        .chain(pairs[32..].iter().cloned())
+        .chain([vec![14, 15]])
+        .collect();
     [pairs, chains, mixed].into_iter().flat_map(|groups| {
         [61usize, 62, 63, 64, 65].into_iter().map(move |count| {
             let count = count.min(groups.len());
             let mut runs = vec![run_of((0..128).map(tape::reg).collect())];
             for groups in groups[..count].chunks(8) {
-                runs.push(run_of(groups.iter().flat_map(|group| tape::with(group, tape::group())).collect()));
+                runs.push(run_of(
+                    groups
+                        .iter()
+                        .flat_map(|group| tape::with(group, tape::group()))
+                        .collect(),
+                ));
             }
             // Small, equal, clashing, wide and new lists at the limit.
             let more: [&[u8]; 8] = [
-                &[], &[3], &groups[0], &groups[count / 2], &[0, 127], &(100..116).collect::<Vec<u8>>(), &[110, 111], &[0, 1, 125],
+                &[],
+                &[3],
+                &groups[0],
+                &groups[count / 2],
+                &[0, 127],
+                &(100..116).collect::<Vec<u8>>(),
+                &[110, 111],
+                &[0, 1, 125],
             ];
             for list in more {
                 runs.push(run_of([tape::with(list, tape::group()), vec![tape::empty()]].concat()));
@@ -210,7 +294,11 @@ fn many_groups() -> impl Iterator<Item = Case> {
             let lists: Vec<&Vec<u8>> = groups[..count].iter().collect();
             let news = |from: usize| -> Run {
                 let lists = lists.clone();
-                run_of((0..10).flat_map(|i| tape::with(lists[(from + 7 * i) % lists.len()], tape::new())).collect())
+                run_of(
+                    (0..10)
+                        .flat_map(|i| tape::with(lists[(from + 7 * i) % lists.len()], tape::new()))
+                        .collect(),
+                )
             };
             runs.push(news(0));
             runs.push(run_of(vec![tape::apply()]));
@@ -218,7 +306,12 @@ fn many_groups() -> impl Iterator<Item = Case> {
             runs.push(run_of((0..12).map(|index| tape::kill((index, 1))).collect()));
             runs.push(news(5));
             runs.push(run_of(vec![tape::apply(), tape::wipe()]));
-            Case { n: 24, k: 128, preset: None, runs }
+            Case {
+                n: 24,
+                k: 128,
+                preset: None,
+                runs,
+            }
         })
     })
 }
@@ -254,18 +347,28 @@ fn rooms() -> impl Iterator<Item = Case> {
     ];
     commands.into_iter().flat_map(|(needed, chunks)| {
         // The list has none, two or three kinds at the time.
-        [vec![], vec![1, 2], vec![1, 2, 0]].into_iter().flat_map(move |list: Vec<u8>| {
-            let chunks = chunks.clone();
-            (0..needed + 3).map(move |room| {
-                let mut runs = vec![run_of((0..3).map(tape::reg).collect())];
-                runs.push(run_of(layout(&[&[0, 1], &[0, 1, 2]])));
-                runs.push(run_of(tape::with(&[0, 1], tape::new())));
-                runs.push(run_of(tape::hold_all(&list)));
-                runs.push(Run { chunks: chunks.clone(), room });
-                runs.push(run_of(vec![tape::tally(), tape::new()]));
-                Case { n: 2, k: 4, preset: None, runs }
+        [vec![], vec![1, 2], vec![1, 2, 0]]
+            .into_iter()
+            .flat_map(move |list: Vec<u8>| {
+                let chunks = chunks.clone();
+                (0..needed + 3).map(move |room| {
+                    let mut runs = vec![run_of((0..3).map(tape::reg).collect())];
+                    runs.push(run_of(layout(&[&[0, 1], &[0, 1, 2]])));
+                    runs.push(run_of(tape::with(&[0, 1], tape::new())));
+                    runs.push(run_of(tape::hold_all(&list)));
+                    runs.push(Run {
+                        chunks: chunks.clone(),
+                        room,
+                    });
+                    runs.push(run_of(vec![tape::tally(), tape::new()]));
+                    Case {
+                        n: 2,
+                        k: 4,
+                        preset: None,
+                        runs,
+                    }
+                })
             })
-        })
     })
 }
 
@@ -273,30 +376,75 @@ fn rooms() -> impl Iterator<Item = Case> {
 fn versions_run_out() -> impl Iterator<Item = Case> {
     const LAST: u32 = u32::MAX;
     let presets = vec![
-        Preset { issued: 1, live: vec![(0, LAST)], ..Preset::default() },
-        Preset { issued: 1, live: vec![(0, LAST - 1)], ..Preset::default() },
-        Preset { issued: 1, recycled: vec![(0, LAST)], ..Preset::default() },
-        Preset { issued: 1, ..Preset::default() },
-        Preset { issued: 3, live: vec![(2, LAST), (0, 1), (1, LAST)], ..Preset::default() },
-        Preset { issued: 3, live: vec![(1, LAST)], recycled: vec![(2, LAST), (0, LAST - 1)], refusals: LAST - 1 },
-        Preset { issued: 3, live: vec![(1, 4)], recycled: vec![(0, LAST)], refusals: LAST },
-        Preset { issued: 3, refusals: LAST - 3, ..Preset::default() },
+        Preset {
+            issued: 1,
+            live: vec![(0, LAST)],
+            ..Preset::default()
+        },
+        Preset {
+            issued: 1,
+            live: vec![(0, LAST - 1)],
+            ..Preset::default()
+        },
+        Preset {
+            issued: 1,
+            recycled: vec![(0, LAST)],
+            ..Preset::default()
+        },
+        Preset {
+            issued: 1,
+            ..Preset::default()
+        },
+        Preset {
+            issued: 3,
+            live: vec![(2, LAST), (0, 1), (1, LAST)],
+            ..Preset::default()
+        },
+        Preset {
+            issued: 3,
+            live: vec![(1, LAST)],
+            recycled: vec![(2, LAST), (0, LAST - 1)],
+            refusals: LAST - 1,
+        },
+        Preset {
+            issued: 3,
+            live: vec![(1, 4)],
+            recycled: vec![(0, LAST)],
+            refusals: LAST,
+        },
+        Preset {
+            issued: 3,
+            refusals: LAST - 3,
+            ..Preset::default()
+        },
     ];
     presets.into_iter().flat_map(|preset| {
         [0usize, 1, 2].into_iter().map(move |spare| {
             let n = preset.issued + spare;
-            let mut runs = vec![run_of((0..3).map(tape::reg).collect()), run_of(layout(&[&[0, 1], &[0, 1, 2]]))];
+            let mut runs = vec![
+                run_of((0..3).map(tape::reg).collect()),
+                run_of(layout(&[&[0, 1], &[0, 1, 2]])),
+            ];
             for &id in &preset.live {
                 runs.push(run_of(tape::with(&[1, 0], tape::put(id))));
             }
             for _ in 0..4 {
-                runs.push(run_of((0..n + 1).flat_map(|_| tape::with(&[0, 1], tape::new())).collect()));
+                runs.push(run_of(
+                    (0..n + 1).flat_map(|_| tape::with(&[0, 1], tape::new())).collect(),
+                ));
                 for version in [1, 2, 4, LAST - 1, LAST] {
-                    runs.push(run_of((0..n as u32).map(|index| tape::kill((index, version))).collect()));
+                    runs.push(run_of(
+                        (0..n as u32).map(|index| tape::kill((index, version))).collect(),
+                    ));
                 }
                 runs.push(run_of(vec![tape::tally()]));
             }
-            Case { n, k: 3, preset: Some(preset.clone()), runs }
+            Case {
+                n,
+                k: 3,
+                preset: Some(preset.clone()),
+                runs,
+            }
         })
     })
 }
@@ -304,13 +452,37 @@ fn versions_run_out() -> impl Iterator<Item = Case> {
 /// All tapes of a few steps over small alphabets and several layouts.
 pub fn exhaustive() -> Vec<Part> {
     vec![
-        part("drafts of up to 3 groups over 6 kinds with every further group", drafts::cases(6, 3)),
+        part(
+            "drafts of up to 3 groups over 6 kinds with every further group",
+            drafts::cases(6, 3),
+        ),
         part("all tapes of 0 to 2 bytes", short_tapes()),
-        part("all tapes of 4 commands over 15", words_over(commands(), 4, vec![vec![tape::reg(0), tape::reg(1)]], 2, 2)),
-        part("all tapes of 5 commands over 11", words_over(group_commands(), 5, vec![vec![tape::reg(0), tape::reg(1), tape::reg(2)]], 2, 3)),
-        part("all lists of 4 steps over 17, two entities, 6 layouts", words_over(steps(), 4, two_entities(), 4, 4)),
-        part("all lists of 5 steps over 10, no entity, 6 layouts", words_over(few_steps(), 5, layouts(), 3, 4)),
-        part("all lists of 3 relayouts and steps over 28, three entities", words_over(relayouts(), 3, three_entities(), 6, 4)),
+        part(
+            "all tapes of 4 commands over 15",
+            words_over(commands(), 4, vec![vec![tape::reg(0), tape::reg(1)]], 2, 2),
+        ),
+        part(
+            "all tapes of 5 commands over 11",
+            words_over(
+                group_commands(),
+                5,
+                vec![vec![tape::reg(0), tape::reg(1), tape::reg(2)]],
+                2,
+                3,
+            ),
+        ),
+        part(
+            "all lists of 4 steps over 17, two entities, 6 layouts",
+            words_over(steps(), 4, two_entities(), 4, 4),
+        ),
+        part(
+            "all lists of 5 steps over 10, no entity, 6 layouts",
+            words_over(few_steps(), 5, layouts(), 3, 4),
+        ),
+        part(
+            "all lists of 3 relayouts and steps over 28, three entities",
+            words_over(relayouts(), 3, three_entities(), 6, 4),
+        ),
     ]
 }
 
@@ -319,13 +491,31 @@ fn short_tapes() -> impl Iterator<Item = Case> {
     let bytes = (0..=255u8).map(|byte| vec![byte]);
     let pairs = (0..=65535u32).map(|pair| vec![pair as u8, (pair >> 8) as u8]);
     let cut = (0..=20u8).flat_map(|byte| (0..=10usize).map(move |width| [vec![byte], vec![1; width]].concat()));
-    [vec![]].into_iter().chain(bytes).chain(pairs).chain(cut).map(|tape| Case::new(2, 3, vec![tape]))
+    [vec![]]
+        .into_iter()
+        .chain(bytes)
+        .chain(pairs)
+        .chain(cut)
+        .map(|tape| Case::new(2, 3, vec![tape]))
 }
 
 fn commands() -> Vec<Vec<Chunk>> {
     [
-        tape::reg(1), tape::reg(2), tape::hold(0, 5), tape::hold(1, 6), tape::new(), tape::put((0, 1)), tape::take((0, 1)),
-        tape::drop((0, 1)), tape::kill((0, 1)), tape::wipe(), tape::group(), tape::apply(), tape::bar(1), tape::range(), tape::empty(),
+        tape::reg(1),
+        tape::reg(2),
+        tape::hold(0, 5),
+        tape::hold(1, 6),
+        tape::new(),
+        tape::put((0, 1)),
+        tape::take((0, 1)),
+        tape::drop((0, 1)),
+        tape::kill((0, 1)),
+        tape::wipe(),
+        tape::group(),
+        tape::apply(),
+        tape::bar(1),
+        tape::range(),
+        tape::empty(),
     ]
     .into_iter()
     .map(|chunk| vec![chunk])
@@ -358,13 +548,19 @@ fn layouts() -> Vec<Vec<Chunk>> {
         &[&[0, 1], &[0, 1, 2], &[0, 1, 2, 3]],
         &[&[1, 2], &[0, 3]],
     ];
-    groups.iter().map(|groups| [kinds.clone(), layout(groups)].concat()).collect()
+    groups
+        .iter()
+        .map(|groups| [kinds.clone(), layout(groups)].concat())
+        .collect()
 }
 
 /// The layouts, and then two entities.
 fn two_entities() -> Vec<Vec<Chunk>> {
     let entities = [tape::with(&[0, 1], tape::new()), tape::with(&[0, 1, 2, 3], tape::new())].concat();
-    layouts().into_iter().map(|layout| [layout, entities.clone()].concat()).collect()
+    layouts()
+        .into_iter()
+        .map(|layout| [layout, entities.clone()].concat())
+        .collect()
 }
 
 /// Three entities, without a layout; the last one created stands first in the live list, and one index is recycled.
@@ -385,13 +581,22 @@ fn staged_and_excluded() -> impl Iterator<Item = Case> {
     let subset = |mask: usize| -> Vec<u8> { (0..4).filter(|kind| mask >> kind & 1 == 1).collect() };
     layouts().into_iter().map(move |layout| {
         let mut runs = vec![run_of(layout)];
-        runs.push(run_of((0..16).flat_map(|list| tape::with(&subset(list * 7 % 16), tape::new())).collect()));
+        runs.push(run_of(
+            (0..16)
+                .flat_map(|list| tape::with(&subset(list * 7 % 16), tape::new()))
+                .collect(),
+        ));
         for (list, bar) in (0..16).flat_map(|list| (0..16).map(move |bar| (list, bar))) {
             let mut chunks: Vec<Chunk> = subset(bar).into_iter().map(tape::bar).collect();
             chunks.extend(tape::with(&subset(list), tape::range()));
             runs.push(run_of(chunks));
         }
-        Case { n: 16, k: 4, preset: None, runs }
+        Case {
+            n: 16,
+            k: 4,
+            preset: None,
+            runs,
+        }
     })
 }
 
@@ -413,7 +618,12 @@ fn steps() -> Vec<Vec<Chunk>> {
         vec![tape::kill((0, 1))],
         vec![tape::kill((1, 1))],
         vec![tape::wipe()],
-        [tape::with(&[0, 1], tape::group()), tape::with(&[0, 1, 2], tape::group()), vec![tape::apply()]].concat(),
+        [
+            tape::with(&[0, 1], tape::group()),
+            tape::with(&[0, 1, 2], tape::group()),
+            vec![tape::apply()],
+        ]
+        .concat(),
     ]
 }
 
@@ -481,7 +691,12 @@ fn words_over(
                 let mark = runs.len() as u8;
                 runs.push(run_of(letter.iter().map(|chunk| marked(chunk, mark)).collect()));
             }
-            Case { n, k, preset: None, runs }
+            Case {
+                n,
+                k,
+                preset: None,
+                runs,
+            }
         })
     })
 }

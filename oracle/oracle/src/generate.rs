@@ -34,11 +34,36 @@ const DRAFT: [usize; 12] = [2, 2, 0, 0, 1, 0, 3, 6, 3, 1, 1, 10];
 
 fn profile(rng: &mut Rng) -> (Profile, usize, usize) {
     let (n, k, runs, steps) = match rng.below(20) {
-        0..=8 => (rng.between(1, 6), rng.between(2, 6), rng.between(2, 12), rng.between(1, 8)),
-        9..=16 => (rng.between(3, 24), rng.between(3, 10), rng.between(4, 20), rng.between(2, 16)),
-        17..=18 => (rng.between(8, 64), rng.between(8, 40), rng.between(4, 12), rng.between(8, 40)),
-        _ if rng.once_in(2) => (rng.between(2, 12), rng.between(32, 128), rng.between(3, 8), rng.between(8, 40)),
-        _ => (rng.between(64, 400), rng.between(2, 12), rng.between(3, 6), rng.between(60, 200)),
+        0..=8 => (
+            rng.between(1, 6),
+            rng.between(2, 6),
+            rng.between(2, 12),
+            rng.between(1, 8),
+        ),
+        9..=16 => (
+            rng.between(3, 24),
+            rng.between(3, 10),
+            rng.between(4, 20),
+            rng.between(2, 16),
+        ),
+        17..=18 => (
+            rng.between(8, 64),
+            rng.between(8, 40),
+            rng.between(4, 12),
+            rng.between(8, 40),
+        ),
+        _ if rng.once_in(2) => (
+            rng.between(2, 12),
+            rng.between(32, 128),
+            rng.between(3, 8),
+            rng.between(8, 40),
+        ),
+        _ => (
+            rng.between(64, 400),
+            rng.between(2, 12),
+            rng.between(3, 6),
+            rng.between(60, 200),
+        ),
     };
     // Low kinds reach the tuples; scattered ones the rest.
     let mut kinds: Vec<u8> = match rng.below(3) {
@@ -455,7 +480,8 @@ pub fn tight_case(seed: u64, case: &Case, sets: Sets, make: Make) -> Result<Figu
         }
         let rest = tight.runs[at].tape()[read..].to_vec();
         tight.runs.push(Run::new(vec![rest]));
-        pair.step(&tight.runs[at + 1], true).map_err(|what| part(what, &tight))?;
+        pair.step(&tight.runs[at + 1], true)
+            .map_err(|what| part(what, &tight))?;
         pair.ranges().map_err(|what| part(what, &tight))?;
         figures.add(&pair.finish());
     }

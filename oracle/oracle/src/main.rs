@@ -56,7 +56,11 @@ fn options() -> (String, Options) {
             options.file = args.next().expect("--file wants a name");
             continue;
         }
-        let mut number = || args.next().and_then(|text| text.parse().ok()).unwrap_or_else(|| panic!("{arg} wants a number"));
+        let mut number = || {
+            args.next()
+                .and_then(|text| text.parse().ok())
+                .unwrap_or_else(|| panic!("{arg} wants a number"))
+        };
         match arg.as_str() {
             "--seed" => options.seed = number(),
             "--count" => options.count = number(),
@@ -99,7 +103,11 @@ fn other(_reference: bool) -> Box<dyn Side> {
 }
 
 fn progress(name: &str, figures: &Figures, since: Instant) {
-    eprintln!("{:>7.1} s  {:>10} commands  {name}", since.elapsed().as_secs_f64(), figures.commands);
+    eprintln!(
+        "{:>7.1} s  {:>10} commands  {name}",
+        since.elapsed().as_secs_f64(),
+        figures.commands
+    );
 }
 
 fn report(difference: &Difference, sets: Sets, make: Make) {
@@ -207,9 +215,17 @@ fn show_faults(options: &Options) -> ExitCode {
 fn record_answers(options: &Options) -> ExitCode {
     let file = record::write(options.seed, 1000 * options.kilobytes);
     let replayed = record::replay(&file, &|| Box::new(Oracle::new(Sets::Tuples)));
-    assert_eq!(replayed.agree, replayed.cases, "the Rust does not answer the same again");
+    assert_eq!(
+        replayed.agree, replayed.cases,
+        "the Rust does not answer the same again"
+    );
     std::fs::write(&options.file, &file).unwrap_or_else(|e| panic!("{}: {e}", options.file));
-    println!("{}: {} bytes, seed {}, {replayed:?}", options.file, file.len(), options.seed);
+    println!(
+        "{}: {} bytes, seed {}, {replayed:?}",
+        options.file,
+        file.len(),
+        options.seed
+    );
     ExitCode::SUCCESS
 }
 
@@ -260,7 +276,14 @@ fn wear(make: Make) -> ExitCode {
     for version in version..=u32::MAX {
         chunks.extend([tape::hold(5, 9), tape::new(), tape::kill((0, version))]);
     }
-    chunks.extend([tape::new(), tape::new(), tape::kill((1, 1)), tape::kill((0, 1)), tape::new(), tape::new()]);
+    chunks.extend([
+        tape::new(),
+        tape::new(),
+        tape::kill((1, 1)),
+        tape::kill((0, 1)),
+        tape::new(),
+        tape::new(),
+    ]);
     for chunk in chunks {
         if let Err(what) = pair.step(&Run::new(vec![chunk]), true) {
             println!("DIFFERENCE after all versions: {what}");
@@ -268,7 +291,11 @@ fn wear(make: Make) -> ExitCode {
         }
     }
     let figures = pair.finish();
-    println!("{version} versions of one index, then {} commands, no difference, {:.0} s", figures.commands, since.elapsed().as_secs_f64());
+    println!(
+        "{version} versions of one index, then {} commands, no difference, {:.0} s",
+        figures.commands,
+        since.elapsed().as_secs_f64()
+    );
     ExitCode::SUCCESS
 }
 

@@ -91,16 +91,41 @@ pub fn examples() -> Vec<Case> {
         let barred: Vec<tape::Chunk> = excluded.iter().map(|&kind| tape::bar(kind)).collect();
         runs.push(Run::new([barred, tape::with(staged, tape::range())].concat()));
     }
-    runs.push(Run::new([tape::with(&[1, 2], tape::group()), tape::with(&[1, 2, 3, 4], tape::group())].concat()));
-    for staged in [&[1u8, 2][..], &[1, 2, 3], &[1, 2, 5], &[3, 4], &[5, 6], &[1, 2, 3, 4, 5]] {
+    runs.push(Run::new(
+        [
+            tape::with(&[1, 2], tape::group()),
+            tape::with(&[1, 2, 3, 4], tape::group()),
+        ]
+        .concat(),
+    ));
+    for staged in [
+        &[1u8, 2][..],
+        &[1, 2, 3],
+        &[1, 2, 5],
+        &[3, 4],
+        &[5, 6],
+        &[1, 2, 3, 4, 5],
+    ] {
         // {1,2,3,4,5} is added to the draft without {5,6}.
         let again = match staged.len() {
-            5 => vec![vec![tape::apply()], tape::with(&[1, 2], tape::group()), tape::with(&[1, 2, 3, 4], tape::group())].concat(),
+            5 => vec![
+                vec![tape::apply()],
+                tape::with(&[1, 2], tape::group()),
+                tape::with(&[1, 2, 3, 4], tape::group()),
+            ]
+            .concat(),
             _ => vec![],
         };
-        runs.push(Run::new([vec![tape::empty()], again, tape::with(staged, tape::group())].concat()));
+        runs.push(Run::new(
+            [vec![tape::empty()], again, tape::with(staged, tape::group())].concat(),
+        ));
     }
-    let marked = Case { n: 8, k: 6, preset: None, runs };
+    let marked = Case {
+        n: 8,
+        k: 6,
+        preset: None,
+        runs,
+    };
 
     let mut killed = marked.clone();
     killed.runs.truncate(1);
@@ -112,7 +137,14 @@ pub fn examples() -> Vec<Case> {
     let written = [
         vec![tape::reg(1), tape::reg(2)],
         tape::with(&[1, 2], tape::group()),
-        vec![tape::apply(), tape::hold(1, 5), tape::new(), tape::hold(1, 6), tape::hold(2, 7), tape::new()],
+        vec![
+            tape::apply(),
+            tape::hold(1, 5),
+            tape::new(),
+            tape::hold(1, 6),
+            tape::hold(2, 7),
+            tape::new(),
+        ],
         tape::with(&[1, 2], tape::range()),
     ]
     .concat();
@@ -141,7 +173,8 @@ pub fn write(seed: u64, budget: usize) -> Vec<u8> {
     while cases.iter().map(Vec::len).sum::<usize>() < budget {
         let seed = seed.wrapping_mul(0x1_0000_0000).wrapping_add(random);
         random += 1;
-        let (case, _) = generate::random_case(seed, Sets::Staged, make).unwrap_or_else(|difference| panic!("{}", difference.text()));
+        let (case, _) = generate::random_case(seed, Sets::Staged, make)
+            .unwrap_or_else(|difference| panic!("{}", difference.text()));
         cases.extend(recorded(&case).filter(|bytes| bytes.len() < 1500));
     }
 
@@ -162,7 +195,10 @@ impl<'a> Bytes<'a> {
     }
 
     fn number(&mut self, width: usize) -> usize {
-        self.take(width).iter().rev().fold(0, |number, &byte| number << 8 | usize::from(byte))
+        self.take(width)
+            .iter()
+            .rev()
+            .fold(0, |number, &byte| number << 8 | usize::from(byte))
     }
 }
 
@@ -214,7 +250,11 @@ fn replay_case(bytes: &mut Bytes, side: &mut dyn Side, replayed: &mut Replayed) 
     for _ in 0..bytes.number(1) {
         let (kind, length) = (bytes.number(1) as u8, bytes.number(2));
         for values in [false, true] {
-            let expected: Vec<u32> = bytes.take(8 * length).chunks(4).map(|word| Bytes(word).number(4) as u32).collect();
+            let expected: Vec<u32> = bytes
+                .take(8 * length)
+                .chunks(4)
+                .map(|word| Bytes(word).number(4) as u32)
+                .collect();
             agree &= side.column_number(kind, values, 0, length) == 0;
             agree &= side.column_number(kind, values, 0, length + 1) == 16;
             agree &= side.column(kind, values, 0, length) == expected;
@@ -223,4 +263,3 @@ fn replay_case(bytes: &mut Bytes, side: &mut dyn Side, replayed: &mut Replayed) 
     }
     agree
 }
-

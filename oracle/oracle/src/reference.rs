@@ -1,5 +1,5 @@
-//! Document 01 again, in plain lists: no sparse sets, no masks, every lookup a search. It is written from the
-//! document's definitions alone. A fault can be switched on, to see whether the comparison finds it.
+//! Document 01 again, in plain lists: no sparse sets, no masks, every lookup a search. It is written after the
+//! document's definitions and shares no code with the harness. A fault can be switched on, to see whether the comparison finds it.
 
 use crate::side::Side;
 use sparsey::harness::{Id, Preset, Ran};
@@ -254,11 +254,17 @@ pub struct Reference {
 
 impl Reference {
     pub fn new() -> Self {
-        Self { fault: None, store: None }
+        Self {
+            fault: None,
+            store: None,
+        }
     }
 
     pub fn with(fault: Fault) -> Self {
-        Self { fault: Some(fault), store: None }
+        Self {
+            fault: Some(fault),
+            store: None,
+        }
     }
 }
 
@@ -288,7 +294,9 @@ impl Side for Reference {
             draft: vec![],
             staged: vec![],
             excluded: vec![],
-            refusals: old.filter(|_| self.fault == Some(Fault::StartKeepsRefusalCount)).map_or(0, |old| old.refusals),
+            refusals: old
+                .filter(|_| self.fault == Some(Fault::StartKeepsRefusalCount))
+                .map_or(0, |old| old.refusals),
             commands: 0,
         });
         0
@@ -304,7 +312,10 @@ impl Side for Reference {
 
     fn run(&mut self, tape: &[u8], out: &mut [u8]) -> Ran {
         let Some(store) = &mut self.store else {
-            return Ran { stop: 3, ..Ran::default() };
+            return Ran {
+                stop: 3,
+                ..Ran::default()
+            };
         };
         store.run(tape, out)
     }
@@ -358,7 +369,10 @@ fn width(byte: u8) -> usize {
 }
 
 fn number(bytes: &[u8]) -> u64 {
-    bytes.iter().rev().fold(0, |number, &byte| number * 256 + u64::from(byte))
+    bytes
+        .iter()
+        .rev()
+        .fold(0, |number, &byte| number * 256 + u64::from(byte))
 }
 
 type Answer = Result<Vec<u8>, u8>;
@@ -595,7 +609,10 @@ impl Store {
             }
         }
         for family in 0..self.layout.len() {
-            if staged.iter().any(|&(kind, _)| self.layout[family].own_group(kind).is_some()) {
+            if staged
+                .iter()
+                .any(|&(kind, _)| self.layout[family].own_group(kind).is_some())
+            {
                 self.enter(family, entity);
             }
         }
@@ -679,7 +696,9 @@ impl Store {
 
     /// Before any part goes, the groups from each removed kind's own are left.
     fn remove(&mut self, entity: Id, kinds: &[u8]) -> Vec<Option<u64>> {
-        let early = self.has(Fault::RemoveBeforeLeaving).then(|| self.remove_rows(entity, kinds));
+        let early = self
+            .has(Fault::RemoveBeforeLeaving)
+            .then(|| self.remove_rows(entity, kinds));
         for family in 0..self.layout.len() {
             let own = kinds.iter().filter_map(|&kind| self.layout[family].own_group(kind));
             if let Some(lowest) = own.min() {
@@ -796,7 +815,9 @@ impl Store {
         let place = match sharing[..] {
             [] => None,
             [family] if held(family) => Some(family),
-            [family] if self.has(Fault::GroupBelowAccepted) && new.is_subset(&set(&self.draft[family].new_kinds[0])) => {
+            [family]
+                if self.has(Fault::GroupBelowAccepted) && new.is_subset(&set(&self.draft[family].new_kinds[0])) =>
+            {
                 return Ok(true);
             }
             [family] if self.has(Fault::GroupBetweenAccepted) && self.is_between(family, &new) => return Ok(true),

@@ -55,8 +55,14 @@ impl Side for Oracle {
         }
         let (ids, numbers) = Oracle::column(self, kind).unwrap();
         match values {
-            false => ids[start..end].iter().flat_map(|&(index, version)| [index, version]).collect(),
-            true => numbers[start..end].iter().flat_map(|&v| [v as u32, (v >> 32) as u32]).collect(),
+            false => ids[start..end]
+                .iter()
+                .flat_map(|&(index, version)| [index, version])
+                .collect(),
+            true => numbers[start..end]
+                .iter()
+                .flat_map(|&v| [v as u32, (v >> 32) as u32])
+                .collect(),
         }
     }
 

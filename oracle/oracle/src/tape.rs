@@ -129,8 +129,17 @@ impl Case {
     pub fn text(&self) -> String {
         let mut text = format!("start N {}, K {}\n", self.n, self.k);
         if let Some(preset) = &self.preset {
-            let Preset { issued, live, recycled, refusals } = preset;
-            writeln!(text, "preset issued {issued}, live {live:?}, recycled {recycled:?}, refusals {refusals}").unwrap();
+            let Preset {
+                issued,
+                live,
+                recycled,
+                refusals,
+            } = preset;
+            writeln!(
+                text,
+                "preset issued {issued}, live {live:?}, recycled {recycled:?}, refusals {refusals}"
+            )
+            .unwrap();
         }
         for run in &self.runs {
             match run.room {
@@ -162,7 +171,11 @@ pub fn disassemble(tape: &[u8]) -> Vec<String> {
         let word = |i: usize| u32::from_le_bytes(operands[i..i + 4].try_into().unwrap());
         lines.push(match byte {
             1 | 11 => format!("{} {}", NAMES[byte], operands[0]),
-            2 => format!("HOLD {} = {}", operands[0], u64::from_le_bytes(operands[1..].try_into().unwrap())),
+            2 => format!(
+                "HOLD {} = {}",
+                operands[0],
+                u64::from_le_bytes(operands[1..].try_into().unwrap())
+            ),
             4..=7 => format!("{} {} version {}", NAMES[byte], word(0), word(4)),
             _ => NAMES[byte].to_string(),
         });

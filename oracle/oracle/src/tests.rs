@@ -39,7 +39,9 @@ fn range(found: bool, start: u8, end: u8) -> Vec<u8> {
 
 #[test]
 fn marked_examples() {
-    let [marked, killed, _] = &record::examples()[..] else { panic!() };
+    let [marked, killed, _] = &record::examples()[..] else {
+        panic!()
+    };
     for mut side in sides() {
         let answers = answers(&mut *side, marked);
         let last = |i: usize, width: usize| answers[i][answers[i].len() - width..].to_vec();
@@ -74,9 +76,13 @@ fn marked_examples() {
 #[test]
 fn the_tape_of_document_01() {
     let case = &record::examples()[2];
-    let expected = "00 01 00 01 00 00 00 01 00 00 00 00 00 00 00 01 00 00 00 00 00 00 01 00 00 00 01 00 00 00 00 00 00 01 \
+    let expected =
+        "00 01 00 01 00 00 00 01 00 00 00 00 00 00 00 01 00 00 00 00 00 00 01 00 00 00 01 00 00 00 00 00 00 01 \
                     00 00 00 00 01 00 00 00";
-    let expected: Vec<u8> = expected.split_whitespace().map(|byte| u8::from_str_radix(byte, 16).unwrap()).collect();
+    let expected: Vec<u8> = expected
+        .split_whitespace()
+        .map(|byte| u8::from_str_radix(byte, 16).unwrap())
+        .collect();
     for mut side in sides() {
         side.start(words_needed(64, 8), 64, 8);
         let mut out = vec![0; 16384];
@@ -103,7 +109,9 @@ fn ranges_are_those_of_the_query() {
     let subset = |mask: u32| -> Vec<u8> { (0..4).filter(|kind| mask >> kind & 1 == 1).collect() };
     let mut found = 0;
     for seed in 0..3000 {
-        let Ok((case, _)) = generate::random_case(seed, Sets::Staged, &plain) else { panic!() };
+        let Ok((case, _)) = generate::random_case(seed, Sets::Staged, &plain) else {
+            panic!()
+        };
         let mut pair = Pair::start(&case, Sets::Tuples, &plain).unwrap();
         for run in &case.runs {
             pair.run(run).unwrap();
@@ -158,7 +166,14 @@ fn a_preset_is_a_state() {
     };
     let mut pair = Pair::start(&case, Sets::Tuples, &plain).unwrap();
     pair.rust = worn;
-    for chunk in [tape::new(), tape::new(), tape::kill((0, 7)), tape::new(), tape::new(), tape::new()] {
+    for chunk in [
+        tape::new(),
+        tape::new(),
+        tape::kill((0, 7)),
+        tape::new(),
+        tape::new(),
+        tape::new(),
+    ] {
         pair.step(&Run::new(vec![chunk]), true).unwrap();
     }
 }
@@ -167,7 +182,11 @@ fn a_preset_is_a_state() {
 fn a_difference_is_cut_down() {
     let faulty: Make = &|| Box::new(Reference::with(Fault::LastInFirstOut)) as Box<dyn Side>;
     let difference = (0..100)
-        .find_map(|seed| generate::random_case(seed, Sets::Staged, faulty).err().filter(|d| d.case.preset.is_none()))
+        .find_map(|seed| {
+            generate::random_case(seed, Sets::Staged, faulty)
+                .err()
+                .filter(|d| d.case.preset.is_none())
+        })
         .expect("the fault is found");
     let least = shrink(&difference.case, Sets::Staged, faulty).expect("it comes again");
     // Two created, both destroyed, one created.

@@ -122,7 +122,10 @@ impl Oracle {
     pub fn run(&mut self, tape: &[u8], out: &mut [u8]) -> Ran {
         let sets = self.sets;
         let Some(store) = &mut self.store else {
-            return Ran { stop: 3, ..Ran::default() };
+            return Ran {
+                stop: 3,
+                ..Ran::default()
+            };
         };
 
         let mut ran = Ran::default();
@@ -355,8 +358,7 @@ impl Store {
             Sets::Tuples => tuples::create(&mut self.world, &kinds, &values),
             Sets::Staged => None,
         };
-        let entity = by_tuple
-            .unwrap_or_else(|| self.world.create(Staged(kinds.into_iter().zip(values).collect())));
+        let entity = by_tuple.unwrap_or_else(|| self.world.create(Staged(kinds.into_iter().zip(values).collect())));
         if recycled == 0 {
             assert_eq!(entity.sparse(), self.issued, "the next index was not taken");
             self.issued += 1;
@@ -391,9 +393,8 @@ impl Store {
             Sets::Tuples => tuples::remove(&mut self.world, entity, &kinds),
             Sets::Staged => None,
         };
-        let removed = by_tuple.unwrap_or_else(|| {
-            with_kinds(&kinds, || unsafe { Staged::remove(&mut self.world, entity) })
-        });
+        let removed =
+            by_tuple.unwrap_or_else(|| with_kinds(&kinds, || unsafe { Staged::remove(&mut self.world, entity) }));
 
         let mut answer = vec![];
         for value in removed {
