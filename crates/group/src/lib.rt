@@ -257,13 +257,7 @@ fn ungroup_components(
 }
 
 // One group of the walk upward; answers what is left of the groups after it.
-fn group_step(
-    words: &mut [u32],
-    g: usize,
-    rest: GroupMask,
-    index: u32,
-    version: u32,
-) -> GroupMask
+fn group_step(words: &mut [u32], g: usize, rest: GroupMask, index: u32, version: u32) -> GroupMask
     requires { ⌜ Arranged (now words) ⌝ }
     requires { ⌜ g < groupsOf (meaning (now words) .storage .layout) ⌝ }
     requires { ⌜ ReadyIn (statusAt (entity index version) g (meaning (now words) .storage)) (entity index version) (located (meaning (now words) .storage .layout) g) (meaning (now words) .storage .sets) ⌝ }

@@ -1,0 +1,2 @@
+// Components of entities on the lent words (component_storage.rs, component_set.rs): they go in, out and away, with the groups kept right.
+pub mod insert;
