@@ -1,34 +1,40 @@
+use mathlib.Core.Path.{_≡_, sym, subst}
+use mathlib.Core.Bool.{true, false}
+use Prim.Native.Nat.{ℕ}
 use borrow.Author.Needs.{needs}
+use Rattle.model.specs.Model.{setOf, held}
+use Rattle.model.specs.Sound.{In}
+use Rattle.component.specs.SparseSet.{entity}
+use Rattle.component.specs.Answers.{Finds}
+use Rattle.component.specs.declared.Found.{Found}
+use Rattle.memory.specs.Header.{capacityOf}
+use Rattle.memory.specs.Meaning.{meaning}
+use Rattle.kinds.specs.Kinds.{kindSet}
 use Rattle.group.proofs.holds.Statement.{statement}
 use Rattle.group.proofs.holds.Tie as tie
-use Rattle.group.proofs.holds.Reads as reads
-use Rattle.group.proofs.holds.Lts as lts
-use Rattle.group.proofs.kind_at.Reads as kind-at-reads
-use Rattle.kinds.proofs.find.Reads as find-reads
 
--- src/lib.rt:133:9
-kind-at-requires : tie.Need-kind-at-requires
-kind-at-requires c κs = search needs
-
--- src/lib.rt:134:9
 find-requires : tie.Need-find-requires
-find-requires c κs = ?
+find-requires c κs =
+    let s = c .before .before in
+    (s .pre .0, subst (In (meaning (s .args .words .now) .kinds)) (sym (c .kind-at .ensures)) (s .pre .1 .1))
 
-enum-told : tie.Need-enum-told
-enum-told c = search needs
-
--- src/lib.rt:136:9
-enum-told-2 : tie.Need-enum-told-2
-enum-told-2 c = search needs
-
--- src/lib.rt:136:9
 returns : tie.Need-returns
-returns c = ?
+returns c =
+    let a = c .before .before .before .before .before .args in
+    let e = entity (a .index) (a .version) in
+    let k = c .before .before .before .kind-at in
+    let f = subst (λ (r : Found). Finds (capacityOf (a .words .now)) e (kindSet (a .words .now) (k .result)) r) (c .enum-told2 .given .1) (c .before .before .find .ensures) in
+    subst (λ (j : ℕ). false ≡ held e (kindSet (a .words .now) j)) (k .ensures) (sym f)
 
--- src/lib.rt:127:1
 returns-2 : tie.Need-returns-2
-returns-2 c = ?
+returns-2 c =
+    let a = c .before .before .before .before .before .args in
+    let e = entity (a .index) (a .version) in
+    let k = c .before .before .before .kind-at in
+    let f = subst (λ (r : Found). Finds (capacityOf (a .words .now)) e (kindSet (a .words .now) (k .result)) r) (c .enum-told .given .1) (c .before .before .find .ensures) in
+    subst (λ (j : ℕ). true ≡ held e (kindSet (a .words .now) j)) (k .ensures) (sym (f .holds))
 
 pub holds-spec : {M : Type 1} → statement M
 holds-spec =
-    tie.close (tie.spec kind-at-requires find-requires enum-told enum-told-2 returns returns-2)
+    tie.close
+    (tie.spec (λ c κs. search needs) find-requires (λ c. search needs) (λ c. search needs) returns returns-2)
