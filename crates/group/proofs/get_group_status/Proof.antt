@@ -27,11 +27,10 @@ find-requires : tie.Need-find-requires
 find-requires c κs =
     let s = c .before .before in
     let a = s .args in
-    let l = s .pre .1 .0 in
-    (
+    let l = s .pre .1 .0 in (
       s .pre .0,
       subst (In (meaning (a .words .now) .kinds)) (sym (c .kind-at .ensures))
-      (l .known (getD (orderOf (meaning (a .words .now))) (a .start) 0) (between-in (a .start) (a .end) (a .start) (orderOf (meaning (a .words .now))) (omega arith) (s .pre .1 .1) (l .within))),
+          (l .known (getD (orderOf (meaning (a .words .now))) (a .start) 0) (between-in (a .start) (a .end) (a .start) (orderOf (meaning (a .words .now))) (omega arith) (s .pre .1 .1) (l .within))),
     )
 
 returns : tie.Need-returns

@@ -1,55 +1,83 @@
+use mathlib.Core.Path.{_≡_, subst}
+use mathlib.Core.List.{[]}
+use Prim.Native.Nat.{_<_}
+use native.Mathlib.Omega.{arith}
+use borrow.Author.Needs.{needs}
+use lib.ListN.{length}
+use Rattle.masks.specs.Masks.{bitsOf}
+use Rattle.masks.specs.Walk.{LowStep, Lowest}
+use Rattle.masks.specs.declared.group_mask.NextBit.{NextBit}
+use Rattle.component.specs.SparseSet.{entity}
+use Rattle.memory.specs.Meaning.{meaning}
+use Rattle.group.specs.Flat.{walkUp}
+use Rattle.group.specs.Ready.{ReadyUp}
+use Rattle.group.specs.Steps.{Below}
+use Rattle.group.proofs.Walking.{Walking, walking-start, walking-end, up-below, up-asks, up-turn, up-keeps, up-less, walk-empty}
 use Rattle.group.proofs.group.Statement.{statement}
 use Rattle.group.proofs.group.Tie as tie
-use Rattle.group.proofs.group.Reads as reads
-use Rattle.group.proofs.group.Lts as lts
-use Rattle.group.proofs.group_step.Reads as group-step-reads
-use Rattle.masks.proofs.group_mask.GroupMask.next.Reads as next-reads
 
 abbrev Inv-loop : tie.InvT-loop
-Inv-loop words₀ index version left₀ words left = ?
+Inv-loop words₀ index version left₀ words left =
+    Walking (walkUp (entity index version) 0) (ReadyUp (entity index version) 0) words₀ (bitsOf 64 (left₀ .0)) words (bitsOf 64 (left .0))
+    × Below (bitsOf 64 (left .0)) (meaning words .storage)
 
 abbrev μ-loop : tie.MeasureT-loop
-μ-loop words₀ index version left₀ words left = ?
+μ-loop words₀ index version left₀ words left = length (bitsOf 64 (left .0))
 
--- src/lib.rt:305:5
 loop-holds : tie.Need-loop-holds Inv-loop μ-loop
-loop-holds c = ?
+loop-holds c =
+    let s = c .before in
+    let e = entity (s .args .index) (s .args .version) in
+    (walking-start (walkUp e 0) (ReadyUp e 0) (s .args .words .now) (bitsOf 64 (s .args .mask .0)) (s .pre .0) (s .pre .1 .1), s .pre .1 .0)
 
--- src/lib.rt:306:36
-next-requires : tie.Need-next-requires Inv-loop μ-loop
-next-requires c κs = ?
+-- the lowest group of the mask, and the mask without it
+lowest : (c : tie.After-g Inv-loop μ-loop) → LowStep (c .before .before .before .loop .left .0) (c .g .given .0 .0) (c .g .given .0 .1 .0 .0)
+lowest c = subst (λ (r : NextBit). Lowest (c .before .before .before .loop .left .0) r) (c .g .given .1) (c .before .before .next .ensures)
 
--- src/lib.rt:306:25
-enum-known-g : tie.Need-enum-known-g Inv-loop μ-loop
-enum-known-g c = ?
-
--- src/lib.rt:307:13
-enum-told : tie.Need-enum-told Inv-loop μ-loop
-enum-told c = ?
-
--- src/lib.rt:307:13
 same-length : tie.Need-same-length Inv-loop μ-loop
-same-length c = ?
+same-length c = c .before .before .before .loop .inv .0 .soFar .size
 
--- src/lib.rt:307:13
 returns : tie.Need-returns Inv-loop μ-loop
-returns c = ?
+returns c =
+    let a = c .before .before .before .before .before .args in
+    let i = c .before .before .before .loop in
+    let e = entity (a .index) (a .version) in
+    let over : bitsOf 64 (i .left .0) ≡ [] = subst (λ (r : NextBit). Lowest (i .left .0) r) (c .enum-told .given .1) (c .before .before .next .ensures) in
+    walking-end (walkUp e 0) (ReadyUp e 0) (a .words .now) (bitsOf 64 (a .mask .0)) (i .words) (bitsOf 64 (i .left .0)) (i .inv .0) (walk-empty e (bitsOf 64 (i .left .0)) over)
 
--- src/lib.rt:309:34
 cast-group-step : tie.Need-cast-group-step Inv-loop μ-loop
-cast-group-step c = ?
+cast-group-step c = omega (arith, lowest (c .before .before) .inside)
 
--- src/lib.rt:309:9
 group-step-requires : tie.Need-group-step-requires Inv-loop μ-loop
-group-step-requires c κs = ?
+group-step-requires c κs =
+    let a = c .before .before .before .before .before .before .before .args in
+    let i = c .before .before .before .before .before .loop in
+    let g = c .before .before .g .given .0 in
+    let e = entity (a .index) (a .version) in (
+      i .inv .0 .soFar .arranged,
+      (
+        up-below e (a .words .now) (a .mask .0) (i .words) (i .left .0) (i .inv .0) (i .inv .1) (g .0) (g .1 .0 .0) (lowest (c .before .before)),
+        up-asks e (a .words .now) (a .mask .0) (i .words) (i .left .0) (i .inv .0) (i .inv .1) (g .0) (g .1 .0 .0) (lowest (c .before .before)),
+      ),
+    )
 
--- src/lib.rt:305:5
 loop-less : tie.Need-loop-less Inv-loop μ-loop
-loop-less c = ?
+loop-less c =
+    let a = c .before .before .before .before .before .before .before .before .before .before .args in
+    let i = c .before .before .before .before .before .before .before .before .loop in
+    let g = c .before .before .before .before .before .g .given .0 in
+    up-less (entity (a .index) (a .version)) (a .words .now) (a .mask .0) (i .words) (i .left .0) (i .inv .0) (i .inv .1) (g .0) (g .1 .0 .0) (lowest (c .before .before .before .before .before))
+    (c .before .before .group-step .last .0) (c .before .before .group-step .result .0) (c .before .before .group-step .ensures)
 
--- src/lib.rt:305:5
 loop-again : tie.Need-loop-again Inv-loop μ-loop
-loop-again c = ?
+loop-again c =
+    let a = c .before .before .before .before .before .before .before .before .before .before .args in
+    let i = c .before .before .before .before .before .before .before .before .loop in
+    let g = c .before .before .before .before .before .g .given .0 in
+    let e = entity (a .index) (a .version) in (
+      up-turn e (a .words .now) (a .mask .0) (i .words) (i .left .0) (i .inv .0) (i .inv .1) (g .0) (g .1 .0 .0) (lowest (c .before .before .before .before .before)) (c .before .before .group-step .last .0) (c .before .before .group-step .result .0) (c .before .before .group-step .ensures),
+      up-keeps e (a .words .now) (a .mask .0) (i .words) (i .left .0) (i .inv .0) (i .inv .1) (g .0) (g .1 .0 .0) (lowest (c .before .before .before .before .before)) (c .before .before .group-step .last .0) (c .before .before .group-step .result .0) (c .before .before .group-step .ensures),
+    )
 
 pub group-spec : {M : Type 1} → statement M
 group-spec =
@@ -58,9 +86,9 @@ group-spec =
     Inv-loop
     μ-loop
     loop-holds
-    next-requires
-    enum-known-g
-    enum-told
+    (λ c κs. search needs)
+    (λ c. search needs)
+    (λ c. search needs)
     same-length
     returns
     cast-group-step

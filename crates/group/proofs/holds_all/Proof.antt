@@ -31,8 +31,7 @@ holds-requires c κs =
     let a = s .args in
     let l = s .pre .1 in
     let m = meaning (a .words .now) in
-    let i = c .before .loop in
-    (
+    let i = c .before .loop in (
       s .pre .0,
       (
         omega (arith, l .within),
@@ -61,12 +60,11 @@ loop-again c =
     let s = c .before .before .before .before .before in
     let a = s .args in
     let i = c .before .before .before .loop in
-    let m = meaning (a .words .now) in
-    (
+    let m = meaning (a .words .now) in (
       omega (arith, i .inv .0),
       omega (arith, c .before .before .loop-test),
       i .inv .2
-      ∙ all-hit (entity (a .index) (a .version)) (m .storage .sets) (orderOf m) (i .place) (a .end) (omega (arith, c .before .before .loop-test)) (s .pre .1 .within) (sym (c .before .holds .ensures) ∙ not-false (c .before .holds .result) (c .if1 .left)),
+          ∙ all-hit (entity (a .index) (a .version)) (m .storage .sets) (orderOf m) (i .place) (a .end) (omega (arith, c .before .before .loop-test)) (s .pre .1 .within) (sym (c .before .holds .ensures) ∙ not-false (c .before .holds .result) (c .if1 .left)),
     )
 
 returns-2 : tie.Need-returns-2 Inv-loop μ-loop

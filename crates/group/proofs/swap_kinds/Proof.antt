@@ -39,8 +39,7 @@ swap-to-requires c κs =
     let e = entity (c .before .before .before .before .before .before .args .index) (c .before .before .before .before .before .before .args .version) in
     let w = c .before .before .before .before .loop .words in
     let q = ask (c .before .before .before) in
-    let k = sym (c .before .kind-at .ensures) in
-    (
+    let k = sym (c .before .kind-at .ensures) in (
       c .before .before .before .before .loop .inv .soFar .arranged,
       (
         subst (In (meaning w .kinds)) k (q .known),
