@@ -1,1 +1,2 @@
 pub mod Slot
+pub mod Clear

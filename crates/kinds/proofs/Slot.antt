@@ -3,7 +3,7 @@ use mathlib.Core.Path.{_≡_, refl, sym, ap, _∙_, subst}
 use mathlib.Core.Logic.{_≢_}
 use mathlib.Core.Bool.{Bool, true, false, _||_, false≢true}
 use mathlib.Core.List.{List, [], _∷_}
-use Prim.Native.Nat.{ℕ, zero, suc, _+_, _≤_, _<_}
+use Prim.Native.Nat.{ℕ, zero, suc, _+_, _*_, _≤_, _<_}
 use native.Mathlib.Nat.{le-of-suc-le-suc, not-suc-le-zero}
 use native.Mathlib.Omega.{arith}
 use borrow.Author.Tests.{eqb-true, eq-eqb}
@@ -13,16 +13,17 @@ use Rattle.model.specs.Model.{SparseSet, mem, setOf}
 use Rattle.model.specs.Sound.{In}
 use Rattle.model.proofs.Walk.{or-cases, or-true}
 use Rattle.model.proofs.KindLists.{not-true}
+use Rattle.words.specs.Offsets.{columnStart}
 use Rattle.words.specs.Table.{table}
 use Rattle.columns.specs.Columns.{Lent, Only, rowsOf}
-use Rattle.columns.proofs.Slots.{lent}
+use Rattle.columns.proofs.Slots.{lent, getD-column}
 use Rattle.memory.specs.Header.{capacityOf, kindCapacityOf, registeredOf, slotOf}
 use Rattle.memory.specs.Meaning.{kindAt, kindsIn, setAt, setsIn, meaning}
 use Rattle.memory.specs.Change.{onSet, onStorage}
 use Rattle.memory.specs.Arranged.{Arranged, Becomes}
 use Rattle.memory.proofs.Frames.{long}
 use Rattle.memory.proofs.Becomes.{set-at, set-in, one-becomes}
-use Rattle.kinds.specs.Kinds.{kindSet, InSlot}
+use Rattle.kinds.specs.Kinds.{kindSet, InSlot, headOf}
 
 -- ---- a kind of a table
 
@@ -91,3 +92,7 @@ module _ (w : List ℕ) (n k s : ℕ) (e : n ≡ capacityOf w) (at : InSlot w k 
       let few : s < kindCapacityOf w = omega (arith, at .real, A .table .few) in
       subst (λ (j : ℕ). Becomes w w′ (onStorage (onSet j f) (meaning w))) (at .kind)
       (one-becomes w w′ A s (at .real) f ((rw e at o) (kindCapacityOf w) few (A .columns)))
+
+  -- word i of the column's head, where the code reads it
+  pub head-at : (i : ℕ) → i < 8 → getD w (columnStart n s + i) 0 ≡ headOf w k i
+  head-at i h = sym (getD-column n s i w (omega arith)) ∙ rw (e, at .is)
