@@ -1,2 +1,3 @@
 pub mod Slot
 pub mod Clear
+pub mod Registering

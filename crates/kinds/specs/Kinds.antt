@@ -1,9 +1,10 @@
 -- A kind's sparse set by way of the table of kinds: where its column is, what the column's head says, and what a change leaves. Assumes nothing.
 use mathlib.Core.Path.{_≡_}
 use mathlib.Core.List.{List, [], map}
-use Prim.Native.Nat.{ℕ, suc, _<_}
-use lib.ListN.{getD}
+use Prim.Native.Nat.{ℕ, suc, _+_, _<_}
+use lib.ListN.{getD, set}
 use Rattle.model.specs.Model.{Entity, SparseSet, Storage, setOf, removeRow}
+use Rattle.words.specs.Offsets.{columnStart}
 use Rattle.component.specs.declared.Removed.{Removed}
 use Rattle.component.specs.Answers.{Gives}
 use Rattle.columns.specs.Columns.{columnOf, Lent, rowsOf}
@@ -43,3 +44,13 @@ pub record RemovesKind (w w′ : List ℕ) (k : ℕ) (e : Entity) (r : Removed) 
 -- 01, WIPE: "all parts go", as far as the sparse sets are concerned
 abbrev pub emptied : Storage → Storage
 emptied s = record { sets = map (λ (c : SparseSet). []) (s .sets); layout = s .layout }
+
+-- ---- what a registration stores
+
+-- the head of slot s's column: its kind k, in no group
+abbrev pub withHead : ℕ → ℕ → ℕ → List ℕ → List ℕ
+withHead n s k w = set (set (set w (columnStart n s + 1) k) (columnStart n s + 2) 0) (columnStart n s + 3) 0
+
+-- the table's word of kind k, and the slots that kinds have
+abbrev pub withSlot : ℕ → ℕ → List ℕ → List ℕ
+withSlot s k w = set (set w (32 + k) s) 2 (s + 1)

@@ -3,18 +3,21 @@ use component::Found;
 use component::Removed;
 use component::Value;
 ghost use mathlib.Core.Path.{_≡_};
-ghost use mathlib.Core.Bool.{true};
+ghost use mathlib.Core.Bool.{true, false};
+ghost use mathlib.Core.List.{[], _∷_, _++_};
 ghost use Prim.Native.Nat.{_<_, _≤_};
 ghost use lib.ListN.{length, getD};
 ghost use Rattle.model.specs.Model.{noRow, mem, held, insertRow, swapTo};
+ghost use Rattle.model.specs.Run.{withKinds};
 ghost use Rattle.model.specs.Sound.{In};
 ghost use Rattle.component.specs.SparseSet.{entity, valueOf, Current};
 ghost use Rattle.component.specs.Answers.{Finds};
+ghost use Rattle.columns.specs.Columns.{Lent};
 ghost use Rattle.memory.specs.Header.{capacityOf, slotOf};
 ghost use Rattle.memory.specs.Meaning.{localAt, meaning};
 ghost use Rattle.memory.specs.Change.{onSet, onStorage};
 ghost use Rattle.memory.specs.Arranged.{Arranged, Becomes};
-ghost use Rattle.kinds.specs.Kinds.{kindSet, InSlot, headOf, OwnGroup, RemovesKind, emptied};
+ghost use Rattle.kinds.specs.Kinds.{kindSet, InSlot, headOf, OwnGroup, RemovesKind, emptied, withHead};
 
 // The group whose new kinds have the kind.
 pub enum Own {
@@ -156,4 +159,31 @@ pub fn place_in_family(words: &[u32], kind: usize) -> usize
     ensures { λ r. ⌜ r ≡ localAt (now (words .entry)) (slotOf (now (words .entry)) kind) ⌝ }
 {
     head(words, kind, 3)
+}
+
+// The head of a column that a kind gets: the kind, in no group.
+fn put_head(words: &mut [u32], n: usize, slot: usize, kind: usize)
+    requires { ⌜ Lent n slot (now words) ⌝ }
+    requires { ⌜ kind < 128 ⌝ }
+    ensures { λ _. ⌜ now (words .exit) ≡ withHead n slot kind (now (words .entry)) ⌝ }
+{
+    let base = words::column_start(n, slot);
+    words[base + 1] = kind as u32;
+    words[base + 2] = 0;
+    words[base + 3] = 0;
+}
+
+// The first slot that no kind has becomes the kind's. Its column has no rows.
+pub fn register(words: &mut [u32], kind: usize)
+    requires { ⌜ Arranged (now words) ⌝ }
+    requires { ⌜ kind < 128 ⌝ }
+    requires { ⌜ mem kind (meaning (now words) .kinds) ≡ false ⌝ }
+    requires { ⌜ length (meaning (now words) .kinds) < meaning (now words) .kindCapacity ⌝ }
+    ensures { λ _. ⌜ Becomes (now (words .entry)) (now (words .exit)) (withKinds (meaning (now (words .entry))) (meaning (now (words .entry)) .kinds ++ (kind ∷ []))) ⌝ }
+{
+    let n = memory::word(words, words::CAPACITY);
+    let slot = memory::word(words, words::REGISTERED);
+    put_head(words, n, slot, kind);
+    words[words::TABLE + kind] = slot as u32;
+    words[words::REGISTERED] = slot as u32 + 1;
 }

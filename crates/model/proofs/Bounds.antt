@@ -1,18 +1,17 @@
 -- How large the parts of a sound store are: none has more items than N, so that each has room in the words and each number fits four bytes. Assumes nothing.
-use mathlib.Core.Path.{_≡_, refl, ap, sym, _∙_}
-use mathlib.Core.Bool.{Bool, true, false, cond}
+use mathlib.Core.Path.{_≡_, refl, ap, _∙_}
 use mathlib.Core.List.{List, [], _∷_, _++_, map}
-use Prim.Native.Nat.{ℕ, zero, suc, _+_, _≤_, _<_}
+use Prim.Native.Nat.{ℕ, zero, suc, _+_, _≤_}
 use native.Mathlib.Omega.{arith}
 use borrow.Author.Tests.{eqb-true, eq-eqb}
 use lib.Dec.{eqb}
 use lib.ListN.{length, length-map, length-append}
 use Rattle.model.specs.Lists.{count, count-append, count-length-le}
-use Rattle.model.specs.Model.{Entity, Entities, SparseSet, Row, Group, Family, Range, none, found, sameEntity, setOf, keys, entityOf, allHeld, range}
+use Rattle.model.specs.Model.{Entity, Entities, SparseSet, Family, found, sameEntity, setOf, entityOf, allHeld, range}
 use Rattle.model.specs.Store.{Store}
 use Rattle.model.specs.Sound.{cnt, num, idxOf, key, holders, EntitiesSound, RightFrom, AllRight, Sound}
 use Rattle.model.proofs.SparseSets.{entity-eq, entity-same, cond-case}
-use Rattle.model.proofs.Numbers.{upTo, length-upTo, in-upTo, cnt-num}
+use Rattle.model.proofs.Numbers.{upTo, length-upTo, in-upTo}
 use Rattle.model.proofs.Ranges.{range-shows}
 
 -- ---- numbers

@@ -1,25 +1,26 @@
 -- The entries *start*, *column* and *roll*: refused exactly where the table gives it, and what an accepted one gives. Assumes nothing.
 use mathlib.Core.Path.{_≡_, refl, ap, sym, _∙_}
 use mathlib.Core.Logic.{_↔_}
-use mathlib.Core.Bool.{Bool, true, false, cond, not, _||_, true≢false, false≢true}
+use mathlib.Core.Bool.{Bool, true, false, not, _||_}
 use mathlib.Core.Option.{Option, some, none}
-use mathlib.Core.List.{List, [], _∷_, _++_, map}
-use Prim.Native.Nat.{ℕ, zero, suc, _+_, _-_, _*_, _≤_, _<_}
+use mathlib.Core.List.{List, [], _∷_, map}
+use Prim.Native.Nat.{ℕ, zero, suc, _-_, _*_, _≤_}
 use native.Mathlib.Omega.{arith}
 use borrow.Author.Tests.{ltb-false, eqb-false}
 use lib.Dec.{eqb, ltb}
-use lib.ListN.{length, take, drop, length-map, length-drop}
+use lib.ListN.{length, take, length-map, length-drop}
 use lib.Seq.{length-take-le}
-use Rattle.model.specs.Model.{Entity, Row, SparseSet, setOf, keys, entityOf}
+use Rattle.model.specs.Model.{Entity, SparseSet, setOf, keys, entityOf}
 use Rattle.model.specs.Store.{Store, empty, wordsNeeded, isKind}
 use Rattle.model.specs.Snapshot.{snapshot}
-use Rattle.model.specs.Refusals.{firstLine, NoneHolds, First, Lent, startLines, Asked, rollLines, Part, columnLines, unknownKind}
-use Rattle.model.specs.Entries.{Started, refusesStart, makes, startedBy, start, entityWords, valueWords, valueOf, part, partWords, columnRefusal, columnBy, column, Rolled, refusesRoll, writes, rolledBy, roll}
+use Rattle.model.specs.Refusals.{firstLine, NoneHolds, First, startLines, rollLines, columnLines}
+use Rattle.model.specs.Entries.{refusesStart, makes, startedBy, start, entityWords, valueWords, valueOf, part, partWords, columnRefusal, column, refusesRoll, writes, rolledBy, roll}
 use Rattle.model.specs.Sound.{Limits, Sound}
-use Rattle.model.proofs.Walk.{bool-cases, or-false}
+use Rattle.model.proofs.Walk.{or-false}
 use Rattle.model.proofs.Families.{or-false-right}
+use Rattle.model.proofs.KindLists.{not-false}
 use Rattle.model.proofs.Operations.{empty-sound}
-use Rattle.model.proofs.Lines.{some-eq, none-to, first-exact}
+use Rattle.model.proofs.Lines.{none-to, first-exact}
 
 -- ---- start
 
@@ -119,10 +120,6 @@ column-accepted which k a e s p =
       size = ap (λ (l : List ℕ). length l) w ∙ size which (setOf (s .storage .sets) k) inside;
     }
   where
-    not-false : (b : Bool) → not b ≡ false → b ≡ true
-    not-false true q = refl
-    not-false false q = absurd (true≢false q)
-
     size : (which : Bool) (rows : SparseSet) → e ≤ length rows → length (partWords which a e rows) ≡ 2 * (e - a)
     size false rows q = entity-words (part a e (keys rows)) ∙ ap (λ (n : ℕ). 2 * n) (part-length a e (keys rows) (omega (arith, length-map rows entityOf)))
     size true rows q = value-words (part a e (map valueOf rows)) ∙ ap (λ (n : ℕ). 2 * n) (part-length a e (map valueOf rows) (omega (arith, length-map rows valueOf)))

@@ -1,20 +1,20 @@
 -- The numbers: each issued index is live or recycled at most once. Assumes nothing.
-use mathlib.Core.Path.{_≡_, refl, ap, ap₂, sym, _∙_, subst}
+use mathlib.Core.Path.{_≡_, refl, ap, _∙_}
 use mathlib.Core.Logic.{_⊎_, inl, inr, ⊎-elim}
-use mathlib.Core.Bool.{Bool, true, false, cond, _&&_, true≢false, false≢true}
-use mathlib.Core.List.{List, [], _∷_, _++_, map, append-assoc, append-nil}
-use Prim.Native.Nat.{ℕ, zero, suc, _+_, _-_, _≤_, _<_}
+use mathlib.Core.Bool.{Bool, true, false, _&&_}
+use mathlib.Core.List.{List, [], _∷_, _++_, map}
+use Prim.Native.Nat.{ℕ, zero, suc, _+_, _≤_, _<_}
 use native.Mathlib.Omega.{arith}
 use native.Mathlib.Decide.{ℕ-discrete}
-use borrow.Author.Tests.{ltb-true, ltb-false, eqb-true, eq-eqb, ne-eqb}
+use borrow.Author.Tests.{ltb-true, eqb-true, eq-eqb, ne-eqb}
 use lib.Dec.{ltb, eqb}
-use lib.ListN.{length, take, getD, set, List·getD-map, length-map}
-use Rattle.model.specs.Lists.{one, count, place, count-append, count-place, place-count, getD-place, cutAt, count-cutAt, map-cutAt, count-length-le}
-use Rattle.model.specs.Model.{Entity, Entities, Created, sameEntity, noEntity, create, createWith, destroy, isLive, lastVersion}
+use lib.ListN.{length, getD, List·getD-map, length-map}
+use Rattle.model.specs.Lists.{one, count, count-append, count-place, getD-place, count-cutAt, map-cutAt, count-length-le}
+use Rattle.model.specs.Model.{Entity, Entities, sameEntity, noEntity, create, createWith, destroy, lastVersion}
 pub use Rattle.model.specs.Sound.{idxOf, num}
-use Rattle.model.proofs.SparseSets.{entity-eq, entity-same, cond-case, and-left}
+use Rattle.model.proofs.SparseSets.{entity-eq, cond-case}
 use Rattle.model.proofs.Groups.{cnt, plc}
-use Rattle.model.proofs.Walk.{bool-cases, But}
+use Rattle.model.proofs.Walk.{bool-cases}
 
 pub record EntitiesOk (c : Entities) : Type 0 where
   pub single : (i : ℕ) → num i (c .live) + num i (c .recycled) ≤ 1

@@ -1,10 +1,9 @@
 -- "Marked examples of the definitions": 01's fourteen, as a list under one theorem, and its byte-exact tape; all computed. Assumes nothing.
 use mathlib.Core.Path.{_≡_, refl}
-use mathlib.Core.Bool.{Bool, true, false}
 use mathlib.Core.List.{List, [], _∷_, _++_, map}
-use Prim.Native.Nat.{ℕ, suc}
-use lib.ListN.{length, replicate, getD}
-use Rattle.model.specs.Model.{Entity, Component, Storage, Group, Family, SparseSet, Entities, Created, Range, none, found, Added, nothing, added, refused}
+use Prim.Native.Nat.{ℕ}
+use lib.ListN.{length, replicate}
+use Rattle.model.specs.Model.{Entity, Component, Storage, Group, Family, Entities, Created, Range, none, found, Added, nothing, added, refused}
 use Rattle.model.specs.Store.{empty, le}
 use Rattle.model.specs.Commands.{accepted}
 use Rattle.model.specs.Refusals.{linesOf}

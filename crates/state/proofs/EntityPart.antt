@@ -1,4 +1,4 @@
--- The entity part lent on and back, and what is known of a live entity. Assumes nothing.
+-- The entities of a store in the whole words, and what is known of a live one. Assumes nothing.
 use mathlib.Core.Path.{_≡_, refl, sym, ap, _∙_, subst}
 use mathlib.Core.Bool.{true, false}
 use mathlib.Core.List.{List, [], _∷_, _++_}
@@ -11,11 +11,10 @@ use Rattle.model.specs.Lists.{one, place, count-place, count-append, getD-place
 use Rattle.model.specs.Model.{Entity, Entities, noEntity, sameEntity, isLive, create, createWith}
 use Rattle.model.proofs.SparseSets.{entity-eq, entity-same}
 use Rattle.words.specs.Offsets.{columnStart-mono}
-use Rattle.words.specs.Part.{patch, patch-front, patch-between, patch-rest, patch-length}
 use Rattle.entity.specs.declared.Entity.{Entity as Answer}
 use Rattle.entity.specs.Meaning.{Sound, entityAt, entitiesOf, lenOf}
-use Rattle.entity.specs.Change.{entityPart, Changed, EntityChange}
-use Rattle.entity.specs.Answers.{entityOf, created, Created}
+use Rattle.entity.specs.Change.{SoundIn, entityPart, entitiesIn, EntityChange}
+use Rattle.entity.specs.Answers.{entityOf, created, CreatedIn}
 use Rattle.entity.proofs.Lookups.{length-live, getD-live}
 use Rattle.memory.specs.Header.{capacityOf, kindCapacityOf}
 use Rattle.memory.specs.Word.{Word}
@@ -37,35 +36,17 @@ capacity-is w A n r =
       fits = omega (arith, r .is, A .enough, start-header (capacityOf w), columnStart-mono (capacityOf w) 0 (kindCapacityOf w) (omega arith));
     }
 
--- the part means the store's entities, and is sound
-module _ (w : List ℕ) (n : ℕ) (q : n ≡ capacityOf w) where
-  pub part-reads : entitiesOf n (entityPart n w) ≡ meaning w .entities
+-- what `entity` reads is the store's, and sound
+module _ (w : List ℕ) (n : ℕ) (C : Capacity w n) where
+  pub entities-read : entitiesIn n w ≡ meaning w .entities
   unfolding meaning
-  part-reads = rw q
+  entities-read = rw (C .word)
 
-  pub part-sound : Arranged w → Sound n (entityPart n w)
-  part-sound A = rw q (A .entities)
+  pub sound-in : Arranged w → SoundIn n w
+  sound-in A = record { fits = C .fits; sound = rw (C .word) (A .entities) }
 
--- the part changed where it lies
-change-at : (n : ℕ) (w ys : List ℕ) (f : Entities → Entities) → 1024 + 16 * n ≤ length w → Changed n f (entityPart n w) ys → EntityChange n f w (patch 1024 (1024 + 16 * n) w ys)
-change-at n w ys f fits c =
-    let e = 1024 + 16 * n in
-    let h : 1024 ≤ e = omega arith in
-    let z : length ys ≡ e - 1024 = omega (arith, c .sound .sized .size) in
-    let mid : entityPart n (patch 1024 e w ys) ≡ ys = patch-between 1024 e w ys h fits z in
-    record {
-      sound = subst (Sound n) (sym mid) (c .sound);
-      size = patch-length 1024 e w ys h fits z;
-      becomes = ap (entitiesOf n) mid ∙ c .becomes;
-      front = patch-front 1024 e w ys h fits z;
-      rest = patch-rest 1024 e w ys h fits z;
-    }
-
-pub part-becomes : (w : List ℕ) → Arranged w → (n : ℕ) → Capacity w n → (ys : List ℕ) (f : Entities → Entities) → Changed n f (entityPart n w) ys
-    → Becomes w (patch 1024 (1024 + 16 * n) w ys) (withEntities (meaning w) (f (meaning w .entities)))
-part-becomes w A n C ys f c =
-    entities-become w (patch 1024 (1024 + 16 * n) w ys) A f
-    (subst (λ (m : ℕ). EntityChange m f w (patch 1024 (1024 + 16 * n) w ys)) (C .word) (change-at n w ys f (C .fits) c))
+  pub changed-becomes : Arranged w → (w′ : List ℕ) (f : Entities → Entities) → EntityChange n f w w′ → Becomes w w′ (withEntities (meaning w) (f (meaning w .entities)))
+  changed-becomes A w′ f c = entities-become w w′ A f (subst (λ (m : ℕ). EntityChange m f w w′) (C .word) c)
 
 -- ---- live entities
 
@@ -98,14 +79,13 @@ created-live s = go (s .recycled)
     go [] = last-live (record { index = s .issued; version = 1 }) (s .live)
     go (e ∷ es) = last-live e (s .live)
 
-pub part-creates : (w : List ℕ) → Arranged w → (n : ℕ) → Capacity w n → (ys : List ℕ) (r : Answer) → Created n (entityPart n w) ys r → Creates w (patch 1024 (1024 + 16 * n) w ys) r
-part-creates w A n C ys r c =
-    let s = entitiesOf n (entityPart n w) in
-    let live : isLive (entityOf r) (entitiesOf n ys) ≡ true = rw (c .changed .becomes, c .entity) (created-live s) in
-    let small = live-in n ys (c .changed .sound) (entityOf r) live in
+pub created-becomes : (w : List ℕ) → Arranged w → (n : ℕ) → Capacity w n → (w′ : List ℕ) (r : Answer) → CreatedIn n w w′ r → Creates w w′ r
+created-becomes w A n C w′ r c =
+    let live : isLive (entityOf r) (entitiesIn n w′) ≡ true = rw (c .changed .becomes, c .entity) (created-live (entitiesIn n w)) in
+    let small = live-in n (entityPart n w′) (c .changed .sound) (entityOf r) live in
     record {
-      becomes = part-becomes w A n C ys created (c .changed);
-      entity = c .entity ∙ ap (λ (x : Entities). create x .entity) (part-reads w n (C .word));
+      becomes = changed-becomes w n C A w′ created (c .changed);
+      entity = c .entity ∙ ap (λ (x : Entities). create x .entity) (entities-read w n C);
       below = omega (arith, small .0, C .is);
       positive = small .1;
     }

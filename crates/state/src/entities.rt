@@ -1,7 +1,7 @@
-// The entities of a store: their part of the words is lent on to `entity`.
+// The entities of a store.
 use entity::Entity;
+use entity::in_words;
 use words::CAPACITY;
-use words::ENTITIES;
 ghost use mathlib.Core.Path.{_≡_};
 ghost use mathlib.Core.Bool.{true, false};
 ghost use Prim.Native.Nat.{_<_};
@@ -30,8 +30,7 @@ pub fn contains(words: &[u32], index: u32, version: u32) -> bool
     ensures { λ r. ⌜ r ≡ isLive (entity index version) (meaning (now (words .entry)) .entities) ⌝ }
 {
     let n = capacity(words);
-    let end = ENTITIES + 16 * n;
-    entity::entity_storage::contains(&words[ENTITIES..end], n, index, version)
+    in_words::contains_in(words, n, index, version)
 }
 
 // Whether no number is left: 01's FULL.
@@ -40,8 +39,7 @@ pub fn is_full(words: &[u32]) -> bool
     ensures { λ r. ⌜ r ≡ isFull (meaning (now (words .entry)) .capacity) (meaning (now (words .entry)) .entities) ⌝ }
 {
     let n = capacity(words);
-    let end = ENTITIES + 16 * n;
-    entity::entity_allocator::is_full(&words[ENTITIES..end], n)
+    in_words::is_full_in(words, n)
 }
 
 // A new entity. The caller has seen that there is a number left.
@@ -51,19 +49,17 @@ pub fn create(words: &mut [u32]) -> Entity
     ensures { λ r. ⌜ Creates (now (words .entry)) (now (words .exit)) r ⌝ }
 {
     let n = capacity(words);
-    let end = ENTITIES + 16 * n;
-    entity::entity_storage::create(&mut words[ENTITIES..end], n)
+    in_words::create_in(words, n)
 }
 
-// Destroys a live entity, which holds no component any more.
+// Destroys a live entity. That it holds no component any more is the caller's.
 pub fn destroy(words: &mut [u32], index: u32, version: u32)
     requires { ⌜ Arranged (now words) ⌝ }
     requires { ⌜ isLive (entity index version) (meaning (now words) .entities) ≡ true ⌝ }
     ensures { λ _. ⌜ Becomes (now (words .entry)) (now (words .exit)) (withEntities (meaning (now (words .entry))) (destroy (entity index version) (meaning (now (words .entry)) .entities))) ⌝ }
 {
     let n = capacity(words);
-    let end = ENTITIES + 16 * n;
-    entity::entity_storage::destroy(&mut words[ENTITIES..end], n, index, version);
+    in_words::destroy_in(words, n, index, version);
 }
 
 // How many entities are live.
@@ -72,8 +68,7 @@ pub fn live_len(words: &[u32]) -> usize
     ensures { λ r. ⌜ r ≡ length (meaning (now (words .entry)) .entities .live) ⌝ }
 {
     let n = capacity(words);
-    let end = ENTITIES + 16 * n;
-    entity::entity_sparse_set::len(&words[ENTITIES..end], n)
+    in_words::len_in(words, n)
 }
 
 // The live list's entity at place.
@@ -83,8 +78,7 @@ pub fn live_at(words: &[u32], place: usize) -> Entity
     ensures { λ r. ⌜ entityOf r ≡ getD (meaning (now (words .entry)) .entities .live) place noEntity ⌝ }
 {
     let n = capacity(words);
-    let end = ENTITIES + 16 * n;
-    entity::entity_sparse_set::live_at(&words[ENTITIES..end], n, place)
+    in_words::live_at_in(words, n, place)
 }
 
 // How many numbers are issued.
@@ -93,8 +87,7 @@ pub fn issued(words: &[u32]) -> usize
     ensures { λ r. ⌜ r ≡ meaning (now (words .entry)) .entities .issued ⌝ }
 {
     let n = capacity(words);
-    let end = ENTITIES + 16 * n;
-    entity::entity_allocator::issued(&words[ENTITIES..end], n)
+    in_words::issued_in(words, n)
 }
 
 // The version of the live entity with this index, 0 where there is none.
@@ -104,6 +97,5 @@ pub fn version_at(words: &[u32], index: usize) -> u32
     ensures { λ r. ⌜ r ≡ versionAt index (meaning (now (words .entry)) .entities .live) ⌝ }
 {
     let n = capacity(words);
-    let end = ENTITIES + 16 * n;
-    entity::sparse_vec::version_at(&words[ENTITIES..end], n, index)
+    in_words::version_at_in(words, n, index)
 }

@@ -1,23 +1,23 @@
 use mathlib.Core.Path.{ap, _∙_}
 use Rattle.model.specs.Model.{Entities}
 use borrow.Author.Needs.{needs}
-use Rattle.state.proofs.EntityPart.{part-reads, part-sound}
+use Rattle.state.proofs.EntityPart.{entities-read, sound-in}
 use Rattle.state.proofs.entities.issued.Statement.{statement}
 use Rattle.state.proofs.entities.issued.Tie as tie
 
-issued-requires : tie.Need-issued-requires
-issued-requires c κs =
-    let s = c .before .before .before in
-    let n = c .before .capacity .result in
-    let q = c .before .capacity .ensures .word in
-    part-sound (s .args .words .now) n q (s .pre)
+issued-in-requires : tie.Need-issued-in-requires
+issued-in-requires c κs =
+    let s = c .before .before in
+    let w = s .args .words .now in
+    let n = c .capacity .result in
+    let C = c .capacity .ensures in
+    sound-in w n C (s .pre)
 
 returns : tie.Need-returns
 returns c =
-    let s = c .before .before .before .before in
-    let n = c .before .before .capacity .result in
-    let C = c .before .before .capacity .ensures in
-    c .issued .ensures ∙ ap (λ (x : Entities). x .issued) (part-reads (s .args .words .now) n (C .word))
+    let s = c .before .before .before in
+    let e = entities-read (s .args .words .now) (c .before .capacity .result) (c .before .capacity .ensures) in
+    c .issued-in .ensures ∙ ap (λ (x : Entities). x .issued) e
 
 pub issued-spec : {M : Type 1} → statement M
-issued-spec = tie.close (tie.spec (λ c κs. search needs) (λ c. search needs) (λ c. search needs) (λ c. search needs) (λ c. search needs) (λ c. search needs) issued-requires returns)
+issued-spec = tie.close (tie.spec (λ c κs. search needs) issued-in-requires returns)
