@@ -161,7 +161,7 @@ module _ (kinds : List ℕ) (d : Control) (C : ControlSound kinds d) where
         staged = C .staged;
         excluded = C .excluded;
         draft = C .draft;
-        refusals = cond-case (λ (n : ℕ). n ≤ 4294967295) (ltb (d .refusals) 4294967295) _ _ (λ t. omega (arith, ltb-true (d .refusals) 4294967295 t)) (λ t. C .refusals);
+        refusals = cond-case (λ (n : ℕ). n ≤ 4294967295) (ltb (d .refusals) 4294967295) _ _ (λ t. omega (arith, ltb-true (d .refusals) 4294967295 t)) (λ t. omega (arith, C .refusals));
       }
 
 -- ---- more kinds are registered

@@ -4,3 +4,4 @@ pub mod Links
 pub mod Part
 pub mod Pigeon
 pub mod Offsets
+pub mod Decides

@@ -1,0 +1,4 @@
+pub mod Agree
+pub mod Copying
+pub mod Checking
+pub mod Transfer
