@@ -4,8 +4,8 @@ use mathlib.Core.Bool.{Bool, true, false, not, _||_}
 use mathlib.Core.List.{List, [], _∷_}
 use Prim.Native.Nat.{ℕ, _+_, _≤_, _<_}
 use native.Mathlib.Omega.{arith}
-use borrow.Author.Tests.{ltb-false}
-use lib.Dec.{ltb}
+use borrow.Author.Tests.{ltb-false, le-leb, lt-leb}
+use lib.Dec.{leb, ltb}
 use lib.ListN.{length}
 use Rattle.model.specs.Store.{Store, isKind}
 use Rattle.model.specs.Sound as modelSound
@@ -14,7 +14,9 @@ use Rattle.model.specs.Refusals.{unknownKind}
 use Rattle.model.specs.Run.{Outcome, refuses, accepts, does}
 use Rattle.model.proofs.Walk.{or-false}
 use Rattle.model.proofs.Sound.{Fits, OutSound, does-sound, refused-sound}
-use Rattle.memory.specs.Meaning.{meaning}
+use Rattle.words.specs.Table.{length-table}
+use Rattle.memory.specs.Header.{kindCapacityOf, registeredOf}
+use Rattle.memory.specs.Meaning.{kindAt, kindsIn, meaning}
 use Rattle.memory.specs.Arranged.{Arranged, Sound, Becomes}
 use Rattle.commands.specs.Acted.{Written, Acted, storeAfter}
 
@@ -45,3 +47,17 @@ acted-sound {w} c f S a =
 
 pub known-small : (k : ℕ) (s : Store) → unknownKind k s ≡ false → k < 128
 known-small k s h = omega (arith, ltb-false 127 k (or-false (ltb 127 k) (not (isKind k s)) h))
+
+-- how many kinds are registered, as the words have it
+registered-length : (w : List ℕ) → length (meaning w .kinds) ≡ registeredOf w
+unfolding meaning kindsIn
+registered-length w = length-table (registeredOf w) (kindAt w)
+
+module _ (w : List ℕ) (most count : ℕ) (m : most ≡ kindCapacityOf w) (c : count ≡ registeredOf w) where
+  pub slots-taken : most ≤ count → true ≡ leb (meaning w .kindCapacity) (length (meaning w .kinds))
+  unfolding meaning
+  slots-taken h = sym (le-leb (kindCapacityOf w) (length (meaning w .kinds)) (omega (arith, registered-length w)))
+
+  pub slots-left : count < most → false ≡ leb (meaning w .kindCapacity) (length (meaning w .kinds))
+  unfolding meaning
+  slots-left h = sym (lt-leb (kindCapacityOf w) (length (meaning w .kinds)) (omega (arith, registered-length w)))

@@ -1,25 +1,16 @@
+use borrow.Author.Tests.{lt-ltb, le-ltb}
 use borrow.Author.Needs.{needs}
 use Rattle.commands.proofs.lists.is_unknown.Statement.{statement}
 use Rattle.commands.proofs.lists.is_unknown.Tie as tie
-use Rattle.commands.proofs.lists.is_unknown.Reads as reads
-use Rattle.commands.proofs.lists.is_unknown.Lts as lts
-use Rattle.kinds.proofs.is_registered.Reads as is-registered-reads
 
--- src/lists.rt:23:9
 returns : tie.Need-returns
-returns c = ?
+returns c = rw (lt-ltb 127 (c .before .before .args .kind) (c .if1 .taken))
 
--- src/lists.rt:25:8
-is-registered-requires : tie.Need-is-registered-requires
-is-registered-requires c κs = search needs
-
--- src/lists.rt:26:9
 returns-2 : tie.Need-returns-2
-returns-2 c = ?
+returns-2 c = rw (le-ltb 127 (c .before .before .before .before .args .kind) (c .before .before .if1 .left), ← (c .before .is-registered .ensures), c .if2 .taken)
 
--- src/lists.rt:18:1
 returns-3 : tie.Need-returns-3
-returns-3 c = ?
+returns-3 c = rw (le-ltb 127 (c .before .before .before .before .args .kind) (c .before .before .if1 .left), ← (c .before .is-registered .ensures), c .if2 .left)
 
 pub is-unknown-spec : {M : Type 1} → statement M
-is-unknown-spec = tie.close (tie.spec returns is-registered-requires returns-2 returns-3)
+is-unknown-spec = tie.close (tie.spec returns (λ c κs. search needs) returns-2 returns-3)
