@@ -4,3 +4,5 @@ pub mod Removing
 pub mod Zeroing
 pub mod Owning
 pub mod Masking
+pub mod Live
+pub mod Whole

@@ -15,7 +15,7 @@ use Rattle.memory.specs.Arranged.{Arranged, Becomes}
 pub becomes-same : (w : List ℕ) → Arranged w → Becomes w w (meaning w)
 becomes-same w A = record { arranged = A; means = refl; size = refl; past = refl }
 
-capacity-means : (w : List ℕ) → meaning w .capacity ≡ capacityOf w
+pub capacity-means : (w : List ℕ) → meaning w .capacity ≡ capacityOf w
 unfolding meaning
 capacity-means w = refl
 

@@ -65,20 +65,20 @@ zero-groups i (f ∷ fs) = ap₂ (λ (a b : ℕ). a + b) (length-zero i f) (zero
 pub zero-step : (i : ℕ) (fs : List Family) → i < groupsOf fs → setCount i 0 (zeroTo i fs) ≡ zeroTo (suc i) fs
 unfolding zeroTo
 zero-step i [] h = absurd (not-suc-le-zero h)
-zero-step i (f ∷ fs) h = go (decLt i (length f))
+zero-step i (f ∷ fs) h = go (λ l. zero-step (i - length f) fs l) (decLt i (length f))
   where
-    go : Dec (i < length f) → setCount i 0 (zeroIn i f ∷ zeroTo (i - length f) fs) ≡ zeroIn (suc i) f ∷ zeroTo (suc i - length f) fs
-    go (yes q) =
+    go : (i - length f < groupsOf fs → setCount (i - length f) 0 (zeroTo (i - length f) fs) ≡ zeroTo (suc (i - length f)) fs) → Dec (i < length f) → setCount i 0 (zeroIn i f ∷ zeroTo (i - length f) fs) ≡ zeroIn (suc i) f ∷ zeroTo (suc i - length f) fs
+    go later (yes q) =
         let t = lt-ltb i (length (zeroIn i f)) (omega (arith, length-zero i f)) in
         let a : i - length f ≡ 0 = omega arith in
         let b : suc i - length f ≡ 0 = omega arith in
         rw (t, a, b) (ap {B = List Family} (λ (g : Family). g ∷ zeroTo 0 fs) (zero-next i f q))
-    go (no q) =
+    go later (no q) =
         let t = le-ltb i (length (zeroIn i f)) (omega (arith, length-zero i f)) in
         let a : i - length (zeroIn i f) ≡ i - length f = ap (λ (n : ℕ). i - n) (length-zero i f) in
         let b : suc i - length f ≡ suc (i - length f) = omega arith in
         rw (t, a, b)
-        (ap₂ {C = List Family} (λ (g : Family) (l : List Family). g ∷ l) (zero-family i f (omega arith) ∙ sym (zero-family (suc i) f (omega arith))) (zero-step (i - length f) fs (omega arith)))
+        (ap₂ {C = List Family} (λ (g : Family) (l : List Family). g ∷ l) (zero-family i f (omega arith) ∙ sym (zero-family (suc i) f (omega arith))) (later (omega arith)))
 
 pub zero-end : (i : ℕ) (fs : List Family) → groupsOf fs ≤ i → zeroTo i fs ≡ map (map zeroCount) fs
 unfolding zeroTo

@@ -1,13 +1,9 @@
 // Removal of the staged kinds: before any component goes, the entity leaves the groups that have one of the kinds.
-use component::Found;
 ghost use mathlib.Core.Path.{_≡_};
-ghost use mathlib.Core.List.{_∷_};
-ghost use Prim.Native.Nat.{_+_, _*_, _≤_, _<_};
+ghost use Prim.Native.Nat.{_<_};
 ghost use lib.ListN.{length, getD};
-ghost use lib.Seq.{sets};
-ghost use Rattle.model.specs.Model.{removeRow, remove, setOf};
-ghost use Rattle.model.specs.Store.{stagedKinds, le};
-ghost use Rattle.model.specs.Commands.{componentBytes, heldBytes};
+ghost use Rattle.model.specs.Model.{removeRow, remove};
+ghost use Rattle.model.specs.Store.{stagedKinds};
 ghost use Rattle.component.specs.SparseSet.{entity};
 ghost use Rattle.memory.specs.Meaning.{meaning};
 ghost use Rattle.memory.specs.Change.{onSet, onStorage};

@@ -1,38 +1,30 @@
+-- `storage::insert::insert` meets its contract. Assumes nothing.
 use borrow.Author.Needs.{needs}
+use Rattle.storage.proofs.Whole.{staged-sound, insertable, insert-below, insert-ready, insert-whole}
 use Rattle.storage.proofs.insert.insert.Statement.{statement}
 use Rattle.storage.proofs.insert.insert.Tie as tie
-use Rattle.storage.proofs.insert.insert.Reads as reads
-use Rattle.storage.proofs.insert.insert.Lts as lts
-use Rattle.group.proofs.group.Reads as group-reads
-use Rattle.storage.proofs.insert.insert_staged.Reads as insert-staged-reads
-use Rattle.storage.proofs.mask.staged_insert_mask.Reads as staged-insert-mask-reads
 
--- src/insert.rt:43:9
 staged-insert-mask-requires : tie.Need-staged-insert-mask-requires
-staged-insert-mask-requires c κs = search needs
+staged-insert-mask-requires c κs = let s = c .before .before in staged-sound (s .args .words .now) (s .pre .0)
 
--- src/insert.rt:44:5
 insert-staged-requires : tie.Need-insert-staged-requires
-insert-staged-requires c κs = ?
+insert-staged-requires c κs = let s = c .before .before .before .before in insertable (s .args .words .now) (s .pre .0) (s .args .index) (s .args .version) (s .pre .1)
 
--- src/insert.rt:45:5
 group-requires : tie.Need-group-requires
-group-requires c κs = ?
+group-requires c κs =
+    let s = c .before .before .before .before .before .before .before .before in
+    let a = s .args in
+    let w = c .before .before .before .insert-staged .last .0 in
+    let B = c .before .before .before .insert-staged .ensures in
+    let m = c .before .before .before .before .before .staged-insert-mask in
+    (B .arranged, (insert-below (a .words .now) (s .pre .0) (a .index) (a .version) (m .result .0) (m .ensures) w B, insert-ready (a .words .now) (s .pre .0) (a .index) (a .version) (m .result .0) (m .ensures) w B))
 
--- src/insert.rt:38:1
-same-length : tie.Need-same-length
-same-length c = search needs
-
--- src/insert.rt:38:1
 returns : tie.Need-returns
-returns c = ?
+returns c =
+    let s = c .before .before .before .before .before .before .before .before .before .before .before in
+    let a = s .args in
+    let m = c .before .before .before .before .before .before .before .before .staged-insert-mask in
+    insert-whole (a .words .now) (s .pre .0) (a .index) (a .version) (m .result .0) (m .ensures) (c .before .before .before .before .before .before .insert-staged .last .0) (c .before .before .before .before .before .before .insert-staged .ensures) (c .before .before .group .last .0) (c .before .before .group .ensures)
 
 pub insert-spec : {M : Type 1} → statement M
-insert-spec =
-    tie.close
-    (tie.spec
-    staged-insert-mask-requires
-    insert-staged-requires
-    group-requires
-    same-length
-    returns)
+insert-spec = tie.close (tie.spec staged-insert-mask-requires insert-staged-requires group-requires (λ c. search needs) returns)

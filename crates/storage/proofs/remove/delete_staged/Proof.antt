@@ -4,7 +4,7 @@ use mathlib.Core.List.{List}
 use Prim.Native.Nat.{ℕ, _≤_, _<_, _-_}
 use native.Mathlib.Omega.{arith}
 use borrow.Author.Needs.{needs}
-use lib.ListN.{length, getD, length-map}
+use lib.ListN.{length, getD, take, length-map}
 use Rattle.model.specs.Model.{kindOf}
 use Rattle.model.specs.Store.{Store, stagedKinds}
 use Rattle.component.specs.SparseSet.{entity}
@@ -34,7 +34,7 @@ delete-one-requires c κs =
     let v = c .before .before .loop .inv in
     let w = c .before .before .loop .words in
     let n : length (meaning w .control .staged) ≡ length (stagedKinds (meaning (a .words .now))) = sym (length-map (meaning w .control .staged) kindOf) ∙ ap (λ (m : Store). length (stagedKinds m)) (v .2 .means) in
-    (staged-kept (a .words .now) w _ (c .before .before .before .before .before .before .pre) (v .2), omega (arith, n, v .1, c .before .loop-test))
+    (staged-kept (a .words .now) w (eachGone (entity (a .index) (a .version)) (take (c .before .before .loop .i) (stagedKinds (meaning (a .words .now))))) (c .before .before .before .before .before .before .pre) (v .2), omega (arith, n, v .1, c .before .loop-test))
 
 loop-again : tie.Need-loop-again Inv-loop μ-loop
 loop-again c =
