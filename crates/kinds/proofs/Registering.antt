@@ -1,18 +1,18 @@
 -- A kind more in the table: what that leaves well arranged, and what the words mean then. Assumes nothing.
-use mathlib.Core.Path.{_≡_, refl, sym, ap, _∙_, subst}
+use mathlib.Core.Path.{_≡_, sym, ap, _∙_, subst}
 use mathlib.Core.Logic.{_≢_}
-use mathlib.Core.Bool.{Bool, true, false, cond, false≢true}
+use mathlib.Core.Bool.{true, false, false≢true}
 use mathlib.Core.List.{List, [], _∷_, _++_}
-use Prim.Native.Nat.{ℕ, zero, suc, _+_, _*_, _≤_, _<_}
+use Prim.Native.Nat.{ℕ, _+_, _*_, _≤_, _<_}
 use native.Mathlib.Omega.{arith}
 use native.Mathlib.Decide.{decLt}
 use borrow.Author.Tests.{lt-ltb, le-ltb}
 use lib.ListN.{length, getD, set, take, drop, length-set}
 use lib.Seq.{getD-set-same, getD-set-other, drop-set-lt}
 use Rattle.model.specs.Model.{mem}
-use Rattle.model.specs.Run.{Store, withKinds}
+use Rattle.model.specs.Run.{withKinds}
 use Rattle.model.specs.Sound.{In}
-use Rattle.words.specs.Offsets.{columnStart, columnStart-mono, columnStart-apart}
+use Rattle.words.specs.Offsets.{columnStart, columnStart-mono}
 use Rattle.words.specs.Part.{between}
 use Rattle.words.specs.Table.{table, table-same, table-snoc, length-table, by-eq}
 use Rattle.component.specs.SparseSet.{rows}
@@ -22,14 +22,18 @@ use Rattle.columns.proofs.Frames.{headed, front-column, front-columns}
 use Rattle.entity.specs.Meaning as entity
 use Rattle.entity.specs.Change.{entityPart, entitiesIn}
 use Rattle.layout.specs.Layout.{Arrays, WellFormed, widthOf, groupCount, familiesOf}
-use Rattle.memory.specs.Header.{capacityOf, kindCapacityOf, registeredOf, draftGroups, layoutGroups, refusalsOf, slotOf, groupFamilyAt}
-use Rattle.memory.specs.Meaning.{kindAt, ownAt, localAt, kindsIn, setAt, setsIn, draftArrays, layoutArrays, draftIn, layoutIn, controlIn, meaning}
+use Rattle.memory.specs.Header.{capacityOf, kindCapacityOf, registeredOf, layoutGroups, refusalsOf, slotOf, groupFamilyAt}
+use Rattle.memory.specs.Meaning.{kindAt, ownAt, kindsIn, setAt, setsIn, draftArrays, layoutArrays, draftIn, layoutIn, controlIn, meaning}
 use Rattle.memory.specs.Arranged.{TableSound, Registered, memberAt, GroupSound, LayoutSound, Arranged, Becomes}
 use Rattle.memory.proofs.Frames.{word-front, start-header, drop-later, part-same, draft-arrays-same, layout-arrays-same, counts-same, staged-same, excluded-same, long}
-use Rattle.kinds.specs.Kinds.{withHead, withSlot}
+use Rattle.kinds.specs.Steps.{withHead}
 use Rattle.kinds.proofs.Slot.{slot-known}
 
 -- ---- the words
+
+-- the table's word of kind k, and how many slots kinds have
+abbrev pub withSlot : ℕ → ℕ → List ℕ → List ℕ
+withSlot s k w = set (set w (32 + k) s) 2 (s + 1)
 
 -- what the stores leave: one kind more, k, whose slot is the first that no kind had
 pub record Registers (w w′ : List ℕ) (k : ℕ) : Type 0 where

@@ -17,7 +17,8 @@ ghost use Rattle.memory.specs.Header.{capacityOf, slotOf};
 ghost use Rattle.memory.specs.Meaning.{localAt, meaning};
 ghost use Rattle.memory.specs.Change.{onSet, onStorage};
 ghost use Rattle.memory.specs.Arranged.{Arranged, Becomes};
-ghost use Rattle.kinds.specs.Kinds.{kindSet, InSlot, headOf, OwnGroup, RemovesKind, emptied, withHead};
+ghost use Rattle.kinds.specs.Kinds.{kindSet, OwnGroup, RemovesKind, emptied};
+ghost use Rattle.kinds.specs.Steps.{InSlot, headOf, withHead};
 
 // The group whose new kinds have the kind.
 pub enum Own {

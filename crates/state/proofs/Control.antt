@@ -71,11 +71,11 @@ pub record Listed (w w′ : List ℕ) : Type 0 where
   pub rest : drop 1024 w′ ≡ drop 1024 w
 
 -- each store of the run is below k
-abbrev Below : ℕ → List (ℕ × ℕ) → Type 0
+abbrev pub Below : ℕ → List (ℕ × ℕ) → Type 0
 Below k [] = Unit {0}
 Below k (s ∷ ss) = (s .0 < k) × Below k ss
 
-drop-stores : (k : ℕ) (w : List ℕ) (ss : List (ℕ × ℕ)) → Below k ss → drop k (stores w ss) ≡ drop k w
+pub drop-stores : (k : ℕ) (w : List ℕ) (ss : List (ℕ × ℕ)) → Below k ss → drop k (stores w ss) ≡ drop k w
 drop-stores k w [] b = refl
 drop-stores k w (s ∷ ss) b = drop-stores k (set w (s .0) (s .1)) ss (b .1) ∙ drop-set-lt k w (s .0) (s .1) (b .0)
 

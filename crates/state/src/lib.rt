@@ -1,4 +1,5 @@
 // What a store keeps besides its sparse sets: entities, staged components, excluded kinds, the refusal count and the draft layout.
+pub mod draft;
 pub mod entities;
 pub mod excluded;
 mod lists;

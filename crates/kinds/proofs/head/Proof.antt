@@ -1,9 +1,8 @@
-use mathlib.Core.Path.{_≡_, sym, ap, _∙_}
-use Prim.Native.Nat.{ℕ, _+_, _*_, _≤_}
+use mathlib.Core.Path.{ap, _∙_}
+use Prim.Native.Nat.{ℕ, _+_}
 use borrow.Author.Needs.{needs}
 use native.Mathlib.Omega.{arith}
-use lib.ListN.{length, getD}
-use Rattle.words.specs.Offsets.{columnStart}
+use lib.ListN.{getD}
 use Rattle.kinds.proofs.Slot.{header-long, lent-at, head-at}
 use Rattle.kinds.proofs.head.Statement.{statement}
 use Rattle.kinds.proofs.head.Tie as tie

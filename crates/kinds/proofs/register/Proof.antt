@@ -1,8 +1,7 @@
-use mathlib.Core.Path.{_≡_, ap, _∙_}
 use Prim.Native.Nat.{_+_}
 use borrow.Author.Needs.{needs}
 use native.Mathlib.Omega.{arith}
-use lib.ListN.{length, length-set}
+use lib.ListN.{length-set}
 use Rattle.kinds.proofs.Slot.{header-long}
 use Rattle.kinds.proofs.Registering.{vacancy, vacant-lent, registered}
 use Rattle.kinds.proofs.register.Statement.{statement}
