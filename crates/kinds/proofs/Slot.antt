@@ -1,49 +1,58 @@
 -- A registered kind has a slot, whose column's rows are its sparse set; a change of that column is a change of the kind's sparse set. Assumes nothing.
 use mathlib.Core.Path.{_≡_, refl, sym, ap, _∙_, subst}
 use mathlib.Core.Logic.{_≢_}
-use mathlib.Core.Bool.{Bool, true, false, _||_, false≢true}
+use mathlib.Core.Bool.{true, false, false≢true}
 use mathlib.Core.List.{List, [], _∷_}
-use Prim.Native.Nat.{ℕ, zero, suc, _+_, _≤_, _<_}
+use Prim.Native.Nat.{ℕ, zero, suc, _+_, _<_}
 use native.Mathlib.Nat.{le-of-suc-le-suc, not-suc-le-zero}
 use native.Mathlib.Omega.{arith}
 use borrow.Author.Tests.{eqb-true, eq-eqb}
 use lib.Dec.{eqb}
 use lib.ListN.{length, getD}
-use Rattle.model.specs.Model.{SparseSet, mem, setOf}
+use Rattle.model.specs.Model.{SparseSet, mem}
 use Rattle.model.specs.Sound.{In}
 use Rattle.model.proofs.Walk.{or-cases, or-true}
 use Rattle.model.proofs.KindLists.{not-true}
-use Rattle.words.specs.Table.{table}
+use Rattle.words.specs.Offsets.{columnStart}
+use Rattle.words.specs.Table.{table, length-table, getD-table}
 use Rattle.columns.specs.Columns.{Lent, Only, rowsOf}
-use Rattle.columns.proofs.Slots.{lent}
+use Rattle.columns.proofs.Slots.{lent, getD-column}
 use Rattle.memory.specs.Header.{capacityOf, kindCapacityOf, registeredOf, slotOf}
-use Rattle.memory.specs.Meaning.{kindAt, kindsIn, setAt, setsIn, meaning}
+use Rattle.memory.specs.Meaning.{kindAt, kindsIn, setAt, meaning}
 use Rattle.memory.specs.Change.{onSet, onStorage}
 use Rattle.memory.specs.Arranged.{Arranged, Becomes}
 use Rattle.memory.proofs.Frames.{long}
 use Rattle.memory.proofs.Becomes.{set-at, set-in, one-becomes}
-use Rattle.kinds.specs.Kinds.{kindSet, InSlot}
+use Rattle.kinds.specs.Kinds.{kindSet}
+use Rattle.kinds.specs.Steps.{InSlot, headOf}
 
--- ---- a kind of a table
+-- ---- a kind of a list, and of a table
 
 pub record Somewhere (m : ℕ) (f : ℕ → ℕ) (k : ℕ) : Type 0 where
   pub place : ℕ
   pub below : place < m
   pub is : f place ≡ k
 
-pub in-table : (m : ℕ) (f : ℕ → ℕ) (k : ℕ) → In (table m f) k → Somewhere m f k
-unfolding table
-in-table zero f k i = absurd (false≢true i)
-in-table (suc m) f k i =
-    or-cases (eqb k (f 0)) (mem k (table m (λ j. f (suc j)))) i
-    (λ t. record { place = 0; below = omega arith; is = sym (eqb-true k (f 0) t) })
-    (λ t. let r = in-table m (λ j. f (suc j)) k t in record { place = suc (r .place); below = omega (arith, r .below); is = r .is })
+pub in-list : (l : List ℕ) (k : ℕ) → In l k → Somewhere (length l) (λ i. getD l i 0) k
+in-list [] k i = absurd (false≢true i)
+in-list (j ∷ l) k i =
+    or-cases (eqb k j) (mem k l) i
+    (λ t. record { place = 0; below = omega arith; is = sym (eqb-true k j t) })
+    (λ t. let r = in-list l k t in record { place = suc (r .place); below = omega (arith, r .below); is = r .is })
 
-pub table-in : (m : ℕ) (f : ℕ → ℕ) (k i : ℕ) → i < m → f i ≡ k → In (table m f) k
-unfolding table
-table-in zero f k i h e = absurd (not-suc-le-zero h)
-table-in (suc m) f k zero h e = rw (eq-eqb k (f 0) (sym e))
-table-in (suc m) f k (suc i) h e = rw (table-in m (λ j. f (suc j)) k i (le-of-suc-le-suc h) e) (or-true (eqb k (f 0)))
+pub list-in : (l : List ℕ) (k i : ℕ) → i < length l → getD l i 0 ≡ k → In l k
+list-in [] k i h e = absurd (not-suc-le-zero h)
+list-in (j ∷ l) k zero h e = rw (eq-eqb k j (sym e))
+list-in (j ∷ l) k (suc i) h e = rw (list-in l k i (le-of-suc-le-suc h) e) (or-true (eqb k j))
+
+in-table : (m : ℕ) (f : ℕ → ℕ) (k : ℕ) → In (table m f) k → Somewhere m f k
+in-table m f k i =
+    let r = in-list (table m f) k i in
+    let h : r .place < m = omega (arith, r .below, length-table m f) in
+    record { place = r .place; below = h; is = sym (getD-table m f (r .place) 0 h) ∙ r .is }
+
+table-in : (m : ℕ) (f : ℕ → ℕ) (k i : ℕ) → i < m → f i ≡ k → In (table m f) k
+table-in m f k i h e = list-in (table m f) k i (omega (arith, length-table m f)) (getD-table m f i 0 h ∙ e)
 
 -- ---- the table of kinds
 
@@ -91,3 +100,7 @@ module _ (w : List ℕ) (n k s : ℕ) (e : n ≡ capacityOf w) (at : InSlot w k 
       let few : s < kindCapacityOf w = omega (arith, at .real, A .table .few) in
       subst (λ (j : ℕ). Becomes w w′ (onStorage (onSet j f) (meaning w))) (at .kind)
       (one-becomes w w′ A s (at .real) f ((rw e at o) (kindCapacityOf w) few (A .columns)))
+
+  -- word i of the column's head, where the code reads it
+  pub head-at : (i : ℕ) → i < 8 → getD w (columnStart n s + i) 0 ≡ headOf w k i
+  head-at i h = sym (getD-column n s i w (omega arith)) ∙ rw (e, at .is)

@@ -1,20 +1,31 @@
--- A kind's sparse set by way of the table of kinds: where its column is. Assumes nothing.
+-- A kind's sparse set by way of the table of kinds, and what a change of it leaves. Assumes nothing.
 use mathlib.Core.Path.{_≡_}
-use mathlib.Core.List.{List}
-use Prim.Native.Nat.{ℕ, _<_}
-use Rattle.model.specs.Model.{SparseSet, setOf}
-use Rattle.columns.specs.Columns.{Lent, rowsOf}
-use Rattle.memory.specs.Header.{capacityOf, registeredOf, slotOf}
-use Rattle.memory.specs.Meaning.{kindAt, meaning}
+use mathlib.Core.List.{List, [], map}
+use Prim.Native.Nat.{ℕ, suc}
+use Rattle.model.specs.Model.{Entity, SparseSet, Storage, setOf, removeRow}
+use Rattle.component.specs.declared.Removed.{Removed}
+use Rattle.component.specs.Answers.{Gives}
+use Rattle.memory.specs.Header.{slotOf}
+use Rattle.memory.specs.Meaning.{ownAt, meaning}
+use Rattle.memory.specs.Change.{onSet, onStorage}
+use Rattle.memory.specs.Arranged.{Becomes}
+use Rattle.kinds.specs.declared.Own.{Own}
+use Rattle.kinds.specs.declared.Own.the-variants as own
 
 -- kind k's sparse set in the store that the words mean
 abbrev pub kindSet : List ℕ → ℕ → SparseSet
 kindSet w k = setOf (meaning w .storage .sets) k
 
--- 01: "each with a column of its own". Slot s is kind k's: its rows are the kind's sparse set
-pub record InSlot (w : List ℕ) (k s : ℕ) : Type 0 where
-  pub is : s ≡ slotOf w k
-  pub real : s < registeredOf w
-  pub kind : kindAt w s ≡ k
-  pub lent : Lent (capacityOf w) s w
-  pub rows : kindSet w k ≡ rowsOf (capacityOf w) s w
+-- 01: a kind's "own (the one whose ring has it; a kind in no group has none)", as the head of its column says it
+abbrev pub OwnGroup : List ℕ → ℕ → Own → Type 0
+OwnGroup w k (own.Group g) = ownAt w (slotOf w k) ≡ suc g
+OwnGroup w k own.None = ownAt w (slotOf w k) ≡ 0
+
+-- 01: "Removal puts the last row in the gap", in kind k's sparse set, and the answer
+pub record RemovesKind (w w′ : List ℕ) (k : ℕ) (e : Entity) (r : Removed) : Type 0 where
+  pub becomes : Becomes w w′ (onStorage (onSet k (removeRow e)) (meaning w))
+  pub gives : Gives e (kindSet w k) r
+
+-- 01, WIPE: "all parts go", as far as the sparse sets are concerned
+abbrev pub emptied : Storage → Storage
+emptied s = record { sets = map (λ (c : SparseSet). []) (s .sets); layout = s .layout }

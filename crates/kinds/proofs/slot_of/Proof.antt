@@ -1,7 +1,7 @@
-use mathlib.Core.Path.{_≡_, sym, subst}
+use mathlib.Core.Path.{sym, subst}
 use Prim.Native.Nat.{ℕ, _+_}
 use native.Mathlib.Omega.{arith}
-use Rattle.kinds.specs.Kinds.{InSlot}
+use Rattle.kinds.specs.Steps.{InSlot}
 use Rattle.kinds.proofs.Slot.{known-small, known-slot, header-long}
 use Rattle.kinds.proofs.slot_of.Statement.{statement}
 use Rattle.kinds.proofs.slot_of.Tie as tie

@@ -1,0 +1,3 @@
+pub mod Entities
+pub mod Lists
+pub mod Refusals
