@@ -20,7 +20,7 @@ pub record Listed (m : Store) (start end : ℕ) : Type 0 where
   pub within : end ≤ length (orderOf m)
   pub known : (k : ℕ) → In (between start end (orderOf m)) k → In (m .kinds) k
 
--- where group g's kinds and its new kinds stand, and where its family's groups begin and end
+-- where group g's kinds and its new kinds (01: its ring) stand, and where its family's groups begin and end
 pub record Describes (m : Store) (g : ℕ) (d : GroupMetadata) : Type 0 where
   pub kinds : between (d .«storage_start») (d .«storage_end») (orderOf m) ≡ located (m .storage .layout) g .kinds
   pub newKinds : between (d .«new_storage_start») (d .«storage_end») (orderOf m) ≡ located (m .storage .layout) g .newKinds
