@@ -6,7 +6,7 @@ ghost use Prim.Native.Nat.{_≤_, _<_, _+_};
 ghost use Rattle.entity.specs.Ring.{wrapped};
 ghost use Rattle.entity.specs.Meaning.{Sound, Idle, entity, entitiesOf, recycledLen, issuedOf};
 ghost use Rattle.entity.specs.Change.{Changed, isFull, queued, recycledAs};
-ghost use Rattle.entity.specs.Answers.{entityOf, Allocated, Unqueued, Issued};
+ghost use Rattle.entity.specs.Answers.{Allocated, Unqueued, Issued};
 
 // How many numbers are issued.
 pub fn issued(part: &[u32], n: usize) -> usize
@@ -49,13 +49,13 @@ fn pop_front(part: &mut [u32], n: usize) -> Entity
     ensures { λ r. ⌜ Unqueued n (now (part .entry)) (now (part .exit)) r ⌝ }
 {
     let head = part[2] as usize;
-    let count = part[3];
+    let rest = part[3] as usize - 1;
+    let next = wrap(n, head + 1);
     let at = 8 + 4 * n + 2 * head;
     let index = part[at];
     let version = part[at + 1];
-    let next = wrap(n, head + 1);
     part[2] = next as u32;
-    part[3] = count - 1;
+    part[3] = rest as u32;
     part[8 + 6 * n + (index as usize)] = 0;
     Entity { index, version }
 }

@@ -1,3 +1,4 @@
+pub mod Faults
 pub mod SparseSets
 pub mod Groups
 pub mod Walk
@@ -14,6 +15,8 @@ pub mod Values
 pub mod Held
 pub mod Operations
 pub mod Lines
+pub mod Outcomes
+pub mod Entries
 pub mod Sound
 pub mod Demand
 pub mod Encoding
@@ -22,3 +25,4 @@ pub mod Snapshots
 pub mod Lengths
 pub mod Retired
 pub mod Ranges
+pub mod Bounds

@@ -1,0 +1,6 @@
+pub mod Slots
+pub mod Table
+pub mod Rows
+pub mod Listed
+pub mod Spans
+pub mod Counts

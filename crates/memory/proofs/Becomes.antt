@@ -1,0 +1,287 @@
+-- A change of one column, of the entity part, of the control words or of a group's count, as a change of the model's store. Assumes nothing.
+use mathlib.Core.Path.{_≡_, refl, sym, ap, _∙_, subst}
+use mathlib.Core.Logic.{_≢_}
+use mathlib.Core.Bool.{Bool, true, false, cond}
+use mathlib.Core.List.{List, []}
+use Prim.Native.Nat.{ℕ, zero, suc, _+_, _*_, _-_, _≤_, _<_}
+use native.Mathlib.Omega.{arith}
+use borrow.Author.Tests.{lt-ltb, ltb-true}
+use lib.Dec.{ltb}
+use lib.ListN.{length, getD, set, take, drop, length-set}
+use lib.Seq.{getD-set-same, getD-set-other, drop-set-lt, ext-getD, lt-length-set}
+use Rattle.model.specs.Model.{Entities, SparseSet, Family, Storage, setOf}
+use Rattle.model.specs.Run.{Store, Control, withControl}
+use Rattle.words.specs.Offsets.{columnStart, columnStart-mono, columnStart-apart}
+use Rattle.words.specs.Part.{between, between-rest, length-between, getD-between}
+use Rattle.words.specs.Table.{table, table-same, table-set, getD-table, by-eq}
+use Rattle.component.specs.SparseSet.{rows, Sound}
+use Rattle.columns.specs.Columns.{columnOf, rowsOf, Columns, One}
+use Rattle.entity.specs.Meaning as entity
+use Rattle.entity.specs.Change.{entityPart, entitiesIn, EntityChange}
+use Rattle.layout.specs.Layout.{Arrays, WellFormed, groupCount, familiesOf}
+use Rattle.memory.specs.Header.{capacityOf, kindCapacityOf, registeredOf, stagedLen, excludedLen, draftGroups, slotOf}
+use Rattle.memory.specs.Meaning.{kindAt, kindsIn, setAt, setsIn, draftArrays, layoutArrays, layoutIn, storageIn, controlIn, meaning}
+use Rattle.memory.specs.Change.{onSet, withEntities, onStorage, withLayout}
+use Rattle.memory.specs.Arranged.{Arranged, Becomes}
+use Rattle.memory.proofs.Kept.{Kept, kinds-kept, arranged-kept}
+use Rattle.memory.proofs.Frames.{word-front, start-header, drop-later, part-same, draft-arrays-same, layout-arrays-same, long, control-parts, control-same, layout-same, header-kept, draft-formed}
+
+-- ---- reading a registered kind's sparse set
+
+module _ (w : List ℕ) (A : Arranged w) where
+  kinds-few : kindCapacityOf w ≤ 128
+  kinds-few = A .limits .mostKinds
+
+  -- slot s's rows are its kind's sparse set
+  pub set-at : (s : ℕ) → s < registeredOf w → setAt w (kindAt w s) ≡ rowsOf (capacityOf w) s w
+  set-at s h = rw (A .table .own s h, lt-ltb s (registeredOf w) h)
+
+  pub set-in : (k : ℕ) → k < 128 → setOf (setsIn w) k ≡ setAt w k
+  unfolding setsIn
+  set-in k h = getD-table 128 (setAt w) k [] h
+
+  -- a slot below the registered number is no 255
+  pub slot-real : (k : ℕ) → slotOf w k < registeredOf w → slotOf w k ≢ 255
+  slot-real k h = omega (arith, A .table .few, kinds-few)
+
+choose : {P : Type 0} (b : Bool) → (b ≡ true → P) → (b ≡ false → P) → P
+choose true f g = f refl
+choose false f g = g refl
+
+-- the sparse sets, from the registered columns
+module _ (w w′ : List ℕ) (K : Kept w w′) where
+  set-same : (k : ℕ) → k < 128 → (slotOf w k < registeredOf w → rowsOf (capacityOf w) (slotOf w k) w′ ≡ rowsOf (capacityOf w) (slotOf w k) w) → setAt w′ k ≡ setAt w k
+  set-same k h r =
+      rw (K .slots k h, K .registered, K .capacity)
+      (choose (ltb (slotOf w k) (registeredOf w)) (λ t. rw (t, r (ltb-true (slotOf w k) (registeredOf w) t))) (λ t. rw t))
+
+  pub sets-same : ((s : ℕ) → s < registeredOf w → rowsOf (capacityOf w) s w′ ≡ rowsOf (capacityOf w) s w) → setsIn w′ ≡ setsIn w
+  unfolding setsIn
+  sets-same r = table-same [] 128 (setAt w) (setAt w′) (λ k h. set-same k h (r (slotOf w k)))
+
+-- ---- one column
+
+module _ (w w′ : List ℕ) (A : Arranged w) (s : ℕ) (hs : s < registeredOf w) (f : SparseSet → SparseSet) (o : One (capacityOf w) (kindCapacityOf w) s f w w′) where
+  abbrev n : ℕ
+  n = capacityOf w
+
+  abbrev k : ℕ
+  k = kindAt w s
+
+  few : registeredOf w ≤ kindCapacityOf w
+  few = A .table .few
+
+  same : (i : ℕ) → i < 1024 → getD w′ i 0 ≡ getD w i 0
+  same i h = word-front (columnStart n 0) w w′ (o .front) i (omega (arith, start-header n))
+
+  one-kept : Kept w w′
+  one-kept =
+      header-kept w w′ A (o .size) same
+      (λ j hj i a b. by-eq j s (λ e. rw e (o .head i a b)) (λ ne. ap (λ (u : List ℕ). getD u i 0) (o .others j hj ne)))
+
+  rows-other : (j : ℕ) → j < kindCapacityOf w → j ≢ s → rowsOf n j w′ ≡ rowsOf n j w
+  rows-other j h ne = ap (rows n) (o .others j h ne)
+
+  one-sets : setsIn w′ ≡ set (setsIn w) k (f (setOf (setsIn w) k))
+  unfolding setsIn
+  one-sets =
+      let hk : k < 128 = A .table .small s hs in
+      let was : setOf (setsIn w) k ≡ rowsOf n s w = set-in w A k hk ∙ set-at w A s hs in
+      let sl : slotOf w′ k ≡ s = one-kept .slots k hk ∙ A .table .own s hs in
+      let here : setAt w′ k ≡ f (setOf (setsIn w) k) =
+      rw (sl, one-kept .registered, one-kept .capacity, lt-ltb s (registeredOf w) hs) (o .becomes ∙ ap f (sym was)) in
+      table-set [] (f (setOf (setsIn w) k)) 128 (setAt w) (setAt w′) k hk here
+      (λ j h ne.
+      set-same w w′ one-kept j h
+      (λ l. rows-other (slotOf w j) (omega arith) (λ e. ne (sym (A .table .back j h (slot-real w A j l)) ∙ ap (kindAt w) e))))
+
+  one-entities : entityPart n w′ ≡ entityPart n w
+  one-entities = part-same w w′ (o .size) 1024 (1024 + 16 * n) enough (λ i a b. word-front (columnStart n 0) w w′ (o .front) i (omega (arith, start-header n)))
+    where
+      enough : 1024 + 16 * n ≤ length w
+      enough = omega (arith, A .enough, start-header n, columnStart-mono n 0 (kindCapacityOf w) (omega arith))
+
+  pub one-becomes : Becomes w w′ (onStorage (onSet k f) (meaning w))
+  unfolding meaning
+  one-becomes =
+      let K = one-kept in
+      let D = draft-formed w w′ A (o .size) same in
+      let sets = one-sets in
+      let layout = layout-same w w′ A (o .size) same in
+      let cap = K .capacity in
+      let kcap = K .kindCapacity in
+      let kinds = kinds-kept A K in
+      let ents : entitiesIn (capacityOf w′) w′ ≡ entitiesIn n w = ap (λ (c : ℕ). entitiesIn c w′) cap ∙ ap (entity.entitiesOf n) one-entities in
+      let control = control-same w w′ A (o .size) same in
+      record {
+        arranged =
+            arranged-kept A K (subst (entity.Sound n) (sym one-entities) (A .entities)) (o .columns)
+            (λ j l h. rows-other j h (omega arith) ∙ A .vacant j l h)
+            (rw (same 3 (omega arith)) (A .staged)) (rw (same 4 (omega arith)) (A .excluded)) (D .0) (D .1);
+        means =
+            λ i. record { capacity = cap i; kindCapacity = kcap i; kinds = kinds i; entities = ents i; storage = record { sets = sets i; layout = layout i }; control = control i };
+        size = o .size;
+        past = o .past;
+      }
+
+-- ---- words from 1,024 + 16 * N on as they were
+
+module _ (w w′ : List ℕ) (A : Arranged w) (size : length w′ ≡ length w) (m : ℕ) (le : m ≤ 1024 + 16 * capacityOf w) (rest : drop m w′ ≡ drop m w) where
+  pub column-rest : (s : ℕ) → columnOf (capacityOf w) s w′ ≡ columnOf (capacityOf w) s w
+  unfolding columnOf
+  column-rest s =
+      between-rest m (columnStart (capacityOf w) s) (columnStart (capacityOf w) s + (8 + 6 * capacityOf w)) w w′
+      (omega (arith, start-header (capacityOf w), columnStart-mono (capacityOf w) 0 s (omega arith))) rest
+
+  rows-rest : (s : ℕ) → rowsOf (capacityOf w) s w′ ≡ rowsOf (capacityOf w) s w
+  rows-rest s = ap (rows (capacityOf w)) (column-rest s)
+
+  pub columns-rest : Columns (capacityOf w) (kindCapacityOf w) w′
+  columns-rest =
+      record {
+        small = A .columns .small;
+        few = A .columns .few;
+        size = omega (arith, A .columns .size);
+        columns = λ s h. subst (Sound (capacityOf w)) (sym (column-rest s)) (A .columns .columns s h);
+      }
+
+  vacant-rest : (s : ℕ) → registeredOf w ≤ s → s < kindCapacityOf w → rowsOf (capacityOf w) s w′ ≡ []
+  vacant-rest s l h = rows-rest s ∙ A .vacant s l h
+
+  past-rest : drop (columnStart (capacityOf w) (kindCapacityOf w)) w′ ≡ drop (columnStart (capacityOf w) (kindCapacityOf w)) w
+  past-rest =
+      drop-later m (columnStart (capacityOf w) (kindCapacityOf w)) w w′
+      (omega (arith, start-header (capacityOf w), columnStart-mono (capacityOf w) 0 (kindCapacityOf w) (omega arith))) rest
+
+-- ---- the entities
+
+module _ (w w′ : List ℕ) (A : Arranged w) (f : Entities → Entities) (o : EntityChange (capacityOf w) f w w′) where
+  entity-word : (i : ℕ) → i < 1024 → getD w′ i 0 ≡ getD w i 0
+  entity-word i h = word-front 1024 w w′ (o .front) i h
+
+  pub entities-become : Becomes w w′ (withEntities (meaning w) (f (meaning w .entities)))
+  unfolding meaning
+  entities-become =
+      let e = 1024 + 16 * capacityOf w in
+      let le : e ≤ 1024 + 16 * capacityOf w = omega arith in
+      let K = header-kept w w′ A (o .size) entity-word (λ s h i a b. ap (λ (u : List ℕ). getD u i 0) (column-rest w w′ A (o .size) e le (o .rest) s)) in
+      let D = draft-formed w w′ A (o .size) entity-word in
+      let sets = sets-same w w′ K (λ s h. rows-rest w w′ A (o .size) e le (o .rest) s) in
+      let layout = layout-same w w′ A (o .size) entity-word in
+      let cap = K .capacity in
+      let kcap = K .kindCapacity in
+      let kinds = kinds-kept A K in
+      let ents : entitiesIn (capacityOf w′) w′ ≡ f (entitiesIn (capacityOf w) w) = ap (λ (c : ℕ). entitiesIn c w′) cap ∙ o .becomes in
+      let control = control-same w w′ A (o .size) entity-word in
+      record {
+        arranged =
+            arranged-kept A K (o .sound) (columns-rest w w′ A (o .size) e le (o .rest)) (vacant-rest w w′ A (o .size) e le (o .rest))
+            (rw (entity-word 3 (omega arith)) (A .staged)) (rw (entity-word 4 (omega arith)) (A .excluded)) (D .0) (D .1);
+        means =
+            λ i. record { capacity = cap i; kindCapacity = kcap i; kinds = kinds i; entities = ents i; storage = record { sets = sets i; layout = layout i }; control = control i };
+        size = o .size;
+        past = past-rest w w′ A (o .size) e le (o .rest);
+      }
+
+-- ---- the header's other words
+
+-- the tables, the layout in force and all past the header are as they were
+pub record Static (w w′ : List ℕ) : Type 0 where
+  pub size : length w′ ≡ length w
+  pub limits : (i : ℕ) → i < 3 → getD w′ i 0 ≡ getD w i 0
+  pub force : (i : ℕ) → 7 ≤ i → i < 9 → getD w′ i 0 ≡ getD w i 0
+  pub table : (i : ℕ) → 32 ≤ i → i < 160 → getD w′ i 0 ≡ getD w i 0
+  pub layout : (i : ℕ) → 576 ≤ i → i < 960 → getD w′ i 0 ≡ getD w i 0
+  pub rest : drop 1024 w′ ≡ drop 1024 w
+
+module _ (w w′ : List ℕ) (A : Arranged w) (S : Static w w′) where
+  static-le : 1024 ≤ 1024 + 16 * capacityOf w
+  static-le = omega arith
+
+  pub static-kept : Kept w w′
+  static-kept =
+      record {
+        size = S .size;
+        capacity = S .limits 0 (omega arith);
+        kindCapacity = S .limits 1 (omega arith);
+        registered = S .limits 2 (omega arith);
+        slots = λ k h. S .table (32 + k) (omega arith) (omega arith);
+        heads = λ s h i a b. ap (λ (u : List ℕ). getD u i 0) (column-rest w w′ A (S .size) 1024 static-le (S .rest) s);
+        layout = layout-arrays-same w w′ (S .size) (long w A) (S .force 7 (omega arith) (omega arith)) (λ i a b. S .layout i a (omega arith));
+        groups = S .force 8 (omega arith) (omega arith);
+        families = λ g h. S .layout (896 + g) (omega arith) (omega arith);
+      }
+
+  static-entities : entityPart (capacityOf w) w′ ≡ entityPart (capacityOf w) w
+  static-entities = between-rest 1024 1024 (1024 + 16 * capacityOf w) w w′ (omega arith) (S .rest)
+
+  -- a change of the control and of the counts
+  static-becomes : (c : List ℕ) → between 960 1024 w′ ≡ c → stagedLen w′ ≤ 16 → excludedLen w′ ≤ 16 → WellFormed (draftArrays w′) → draftGroups w′ ≡ groupCount (draftArrays w′)
+      → Becomes w w′ (withControl (onStorage (λ (s : Storage). withLayout s (familiesOf c (layoutArrays w))) (meaning w)) (controlIn w′))
+  unfolding meaning layoutIn
+  static-becomes c counts st ex d g =
+      let K = static-kept in
+      let sets = sets-same w w′ K (λ s h. rows-rest w w′ A (S .size) 1024 static-le (S .rest) s) in
+      let layout : layoutIn w′ ≡ familiesOf c (layoutArrays w) = ap (λ (l : List ℕ). familiesOf l (layoutArrays w′)) counts ∙ ap (familiesOf c) (K .layout) in
+      let cap = K .capacity in
+      let kcap = K .kindCapacity in
+      let kinds = kinds-kept A K in
+      let ents : entitiesIn (capacityOf w′) w′ ≡ entitiesIn (capacityOf w) w = ap (λ (c : ℕ). entitiesIn c w′) cap ∙ ap (entity.entitiesOf (capacityOf w)) static-entities in
+      record {
+        arranged =
+            arranged-kept A K (subst (entity.Sound (capacityOf w)) (sym static-entities) (A .entities)) (columns-rest w w′ A (S .size) 1024 static-le (S .rest))
+            (vacant-rest w w′ A (S .size) 1024 static-le (S .rest)) st ex d g;
+        means =
+            λ i. record { capacity = cap i; kindCapacity = kcap i; kinds = kinds i; entities = ents i; storage = record { sets = sets i; layout = layout i }; control = controlIn w′ };
+        size = S .size;
+        past = past-rest w w′ A (S .size) 1024 static-le (S .rest);
+      }
+
+  -- a change of the control alone
+  pub control-becomes : ((i : ℕ) → 960 ≤ i → i < 1024 → getD w′ i 0 ≡ getD w i 0) → stagedLen w′ ≤ 16 → excludedLen w′ ≤ 16 → WellFormed (draftArrays w′) → draftGroups w′ ≡ groupCount (draftArrays w′)
+      → Becomes w w′ (withControl (meaning w) (controlIn w′))
+  unfolding meaning layoutIn
+  control-becomes counts st ex d g = static-becomes (between 960 1024 w) (part-same w w′ (S .size) 960 1024 (long w A) counts) st ex d g
+
+-- a group's count
+module _ (w : List ℕ) (A : Arranged w) (g c : ℕ) (hg : g < 64) where
+  abbrev w′ : List ℕ
+  w′ = set w (960 + g) c
+
+  set-other : (i : ℕ) → i < 960 → getD w′ i 0 ≡ getD w i 0
+  set-other i h = getD-set-other w (960 + g) i c 0 (omega arith)
+
+  count-static : Static w w′
+  count-static =
+      record {
+        size = length-set w (960 + g) c;
+        limits = λ i h. set-other i (omega arith);
+        force = λ i a b. set-other i (omega arith);
+        table = λ i a b. set-other i (omega arith);
+        layout = λ i a b. set-other i b;
+        rest = drop-set-lt 1024 w (960 + g) c (omega arith);
+      }
+
+  counts-set : between 960 1024 w′ ≡ set (between 960 1024 w) g c
+  counts-set =
+      let l : length (between 960 1024 w) ≡ 64 = length-between 960 1024 w (long w A) in
+      let l′ : length (between 960 1024 w′) ≡ 64 = length-between 960 1024 w′ (omega (arith, length-set w (960 + g) c, long w A)) in
+      ext-getD 0 (between 960 1024 w′) (set (between 960 1024 w) g c) (l′ ∙ sym (length-set (between 960 1024 w) g c ∙ l))
+      (λ i h.
+      let hi : i < 64 = omega arith in
+      getD-between 960 1024 i w′ 0 (omega arith)
+      ∙ by-eq i g
+      (λ e. rw e (getD-set-same w (960 + g) c 0 (omega (arith, long w A)) ∙ sym (getD-set-same (between 960 1024 w) g c 0 (omega arith))))
+      (λ ne. getD-set-other w (960 + g) (960 + i) c 0 (omega arith) ∙ sym (getD-between 960 1024 i w 0 (omega arith)) ∙ sym (getD-set-other (between 960 1024 w) g i c 0 ne)))
+
+  pub count-becomes : Becomes w w′ (onStorage (λ (s : Storage). withLayout s (familiesOf (set (between 960 1024 w) g c) (layoutArrays w))) (meaning w))
+  unfolding meaning layoutIn
+  count-becomes =
+      let D = draft-arrays-same w w′ (count-static .size) (long w A) (set-other 5 (omega arith)) (λ i a b. set-other i (omega arith)) in
+      let B = static-becomes w w′ A count-static (set (between 960 1024 w) g c) counts-set (rw (set-other 3 (omega arith)) (A .staged)) (rw (set-other 4 (omega arith)) (A .excluded))
+      (subst WellFormed (sym D) (A .draft)) (set-other 6 (omega arith) ∙ A .draftCount ∙ sym (ap groupCount D)) in
+      let k : controlIn w′ ≡ controlIn w = count-control in
+      record { arranged = B .arranged; means = B .means ∙ ap (withControl (onStorage (λ (s : Storage). withLayout s (familiesOf (set (between 960 1024 w) g c) (layoutArrays w))) (meaning w))) k; size = B .size; past = B .past }
+    where
+      count-control : controlIn w′ ≡ controlIn w
+      count-control = control-parts w w′ A (length-set w (960 + g) c) set-other

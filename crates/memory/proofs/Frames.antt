@@ -1,0 +1,129 @@
+-- What a change of one column, of the entity part, or of the header does to the meaning. Assumes nothing.
+use mathlib.Core.Path.{_≡_, refl, sym, ap, _∙_, subst}
+use mathlib.Core.Logic.{_≢_}
+use mathlib.Core.Bool.{Bool, true, false, cond}
+use mathlib.Core.List.{List, []}
+use Prim.Native.Nat.{ℕ, zero, suc, _+_, _*_, _-_, _≤_, _<_}
+use native.Mathlib.Omega.{arith}
+use borrow.Author.Tests.{lt-ltb, ltb-true}
+use lib.Dec.{ltb}
+use lib.ListN.{length, getD, set, take, drop}
+use lib.Seq.{getD-take, getD-drop, drop-drop, ext-getD}
+use Rattle.model.specs.Model.{Component, Entities, SparseSet, Family, Storage, setOf}
+use Rattle.model.specs.Run.{Store, Control, withControl}
+use Rattle.words.specs.Offsets.{columnStart, columnStart-needed, columnStart-mono, columnStart-apart}
+use Rattle.words.specs.Part.{between, length-between, getD-between, between-front, between-rest}
+use Rattle.words.specs.Table.{table, table-same, table-set, getD-table, by-eq}
+use Rattle.component.specs.SparseSet.{rows}
+use Rattle.columns.specs.Columns.{columnOf, rowsOf, Columns, One}
+use Rattle.entity.specs.Meaning as entity
+use Rattle.entity.specs.Change.{entityPart, entitiesIn, EntityChange}
+use Rattle.layout.specs.Layout.{Arrays, blockArrays, WellFormed, groupCount, familiesOf}
+use Rattle.memory.specs.Header.{capacityOf, kindCapacityOf, registeredOf, stagedLen, excludedLen, draftFamilies, draftGroups, layoutFamilies, layoutGroups, refusalsOf, slotOf, excludedAt, groupFamilyAt}
+use Rattle.memory.specs.Meaning.{kindAt, kindsIn, setAt, setsIn, draftArrays, layoutArrays, draftIn, layoutIn, storageIn, stagedAt, stagedIn, excludedIn, controlIn, meaning}
+use Rattle.memory.specs.Change.{onSet, withEntities, onStorage, withLayout}
+use Rattle.memory.specs.Arranged.{Arranged, Becomes}
+use Rattle.memory.proofs.Kept.{Kept, kind-kept, kinds-kept, arranged-kept}
+
+-- ---- words that agree up to a place, or from one on
+
+pub word-front : (m : ℕ) (w w′ : List ℕ) → take m w′ ≡ take m w → (i : ℕ) → i < m → getD w′ i 0 ≡ getD w i 0
+word-front m w w′ e i h = sym (getD-take m w′ i 0 h) ∙ ap (λ (l : List ℕ). getD l i 0) e ∙ getD-take m w i 0 h
+
+pub start-header : (n : ℕ) → columnStart n 0 ≡ 1024 + 16 * n
+start-header n = columnStart-needed n 0 ∙ omega arith
+
+pub drop-later : (e c : ℕ) (w v : List ℕ) → e ≤ c → drop e v ≡ drop e w → drop c v ≡ drop c w
+drop-later e c w v h q = from v ∙ ap (drop (c - e)) q ∙ sym (from w)
+  where
+    from : (u : List ℕ) → drop c u ≡ drop (c - e) (drop e u)
+    from u = let k : c ≡ e + (c - e) = omega arith in ap (λ (i : ℕ). drop i u) k ∙ sym (drop-drop (c - e) e u)
+
+-- ---- parts of the meaning, from the words that they are read from
+
+module _ (w w′ : List ℕ) (size : length w′ ≡ length w) where
+  pub part-same : (a e : ℕ) → e ≤ length w → ((i : ℕ) → a ≤ i → i < e → getD w′ i 0 ≡ getD w i 0) → between a e w′ ≡ between a e w
+  part-same a e le same =
+      ext-getD 0 (between a e w′) (between a e w) (length-between a e w′ (omega arith) ∙ sym (length-between a e w le))
+      (λ i h.
+      let q : i < e - a = omega (arith, length-between a e w′ (omega arith)) in
+      getD-between a e i w′ 0 (omega arith) ∙ same (a + i) (omega arith) (omega arith) ∙ sym (getD-between a e i w 0 (omega arith)))
+
+  block-same : (a f : ℕ) → a + 320 ≤ length w → getD w′ f 0 ≡ getD w f 0 → ((i : ℕ) → a ≤ i → i < a + 320 → getD w′ i 0 ≡ getD w i 0)
+      → blockArrays (between a (a + 320) w′) (getD w′ f 0) ≡ blockArrays (between a (a + 320) w) (getD w f 0)
+  block-same a f le e same = ap (λ (b : List ℕ). blockArrays b (getD w′ f 0)) (part-same a (a + 320) le same) ∙ ap (blockArrays (between a (a + 320) w)) e
+
+  module _ (long : 1024 ≤ length w) where
+    pub draft-arrays-same : getD w′ 5 0 ≡ getD w 5 0 → ((i : ℕ) → 256 ≤ i → i < 576 → getD w′ i 0 ≡ getD w i 0) → draftArrays w′ ≡ draftArrays w
+    draft-arrays-same e same = block-same 256 5 (omega arith) e same
+
+    pub layout-arrays-same : getD w′ 7 0 ≡ getD w 7 0 → ((i : ℕ) → 576 ≤ i → i < 896 → getD w′ i 0 ≡ getD w i 0) → layoutArrays w′ ≡ layoutArrays w
+    layout-arrays-same e same = block-same 576 7 (omega arith) e same
+
+    pub counts-same : ((i : ℕ) → 960 ≤ i → i < 1024 → getD w′ i 0 ≡ getD w i 0) → between 960 1024 w′ ≡ between 960 1024 w
+    counts-same same = part-same 960 1024 long same
+
+  pub staged-same : stagedLen w ≤ 16 → getD w′ 3 0 ≡ getD w 3 0 → ((i : ℕ) → 160 ≤ i → i < 240 → getD w′ i 0 ≡ getD w i 0) → stagedIn w′ ≡ stagedIn w
+  unfolding stagedIn
+  staged-same few e same =
+      ap (λ (n : ℕ). table n (stagedAt w′)) e
+      ∙ table-same (record { kind = 0; value = 0 }) (stagedLen w) (stagedAt w) (stagedAt w′)
+      (λ i h. rw (same (160 + i) (omega arith) (omega arith), same (176 + 4 * i) (omega arith) (omega arith), same (176 + 4 * i + 1) (omega arith) (omega arith)))
+
+  pub excluded-same : excludedLen w ≤ 16 → getD w′ 4 0 ≡ getD w 4 0 → ((i : ℕ) → 240 ≤ i → i < 256 → getD w′ i 0 ≡ getD w i 0) → excludedIn w′ ≡ excludedIn w
+  unfolding excludedIn
+  excluded-same few e same =
+      ap (λ (n : ℕ). table n (excludedAt w′)) e
+      ∙ table-same 0 (excludedLen w) (excludedAt w) (excludedAt w′) (λ i h. same (240 + i) (omega arith) (omega arith))
+
+-- well-arranged words have a header
+pub long : (w : List ℕ) → Arranged w → 1024 ≤ length w
+long w A =
+    omega (
+      arith,
+      A .enough,
+      start-header (capacityOf w),
+      columnStart-mono (capacityOf w) 0 (kindCapacityOf w) (omega arith),
+    )
+
+-- ---- the header below the counts as it was
+
+pub control-parts : (w w′ : List ℕ) → Arranged w → length w′ ≡ length w → ((i : ℕ) → i < 960 → getD w′ i 0 ≡ getD w i 0) → controlIn w′ ≡ controlIn w
+unfolding draftIn
+control-parts w w′ A size same =
+    let s = staged-same w w′ size (A .staged) (same 3 (omega arith)) (λ i a b. same i (omega arith)) in
+    let e = excluded-same w w′ size (A .excluded) (same 4 (omega arith)) (λ i a b. same i (omega arith)) in
+    let d : draftIn w′ ≡ draftIn w = ap (familiesOf []) (draft-arrays-same w w′ size (long w A) (same 5 (omega arith)) (λ i a b. same i (omega arith))) in
+    let r : refusalsOf w′ ≡ refusalsOf w = same 16 (omega arith) in
+    λ i. record { staged = s i; excluded = e i; draft = d i; refusals = r i }
+
+-- ---- all of the header as it was
+
+module _ (w w′ : List ℕ) (A : Arranged w) (size : length w′ ≡ length w) (same : (i : ℕ) → i < 1024 → getD w′ i 0 ≡ getD w i 0) where
+  pub control-same : controlIn w′ ≡ controlIn w
+  control-same = control-parts w w′ A size (λ i h. same i (omega arith))
+
+  pub layout-same : layoutIn w′ ≡ layoutIn w
+  unfolding layoutIn
+  layout-same =
+      ap (λ (c : List ℕ). familiesOf c (layoutArrays w′)) (counts-same w w′ size (long w A) (λ i a b. same i (omega arith)))
+      ∙ ap (familiesOf (between 960 1024 w)) (layout-arrays-same w w′ size (long w A) (same 7 (omega arith)) (λ i a b. same i (omega arith)))
+
+  pub header-kept : ((s : ℕ) → s < kindCapacityOf w → (i : ℕ) → 1 ≤ i → i < 8 → getD (columnOf (capacityOf w) s w′) i 0 ≡ getD (columnOf (capacityOf w) s w) i 0) → Kept w w′
+  header-kept heads =
+      record {
+        size = size;
+        capacity = same 0 (omega arith);
+        kindCapacity = same 1 (omega arith);
+        registered = same 2 (omega arith);
+        slots = λ k h. same (32 + k) (omega arith);
+        heads = heads;
+        layout = layout-arrays-same w w′ size (long w A) (same 7 (omega arith)) (λ i a b. same i (omega arith));
+        groups = same 8 (omega arith);
+        families = λ g h. same (896 + g) (omega arith);
+      }
+
+  pub draft-formed : WellFormed (draftArrays w′) × (draftGroups w′ ≡ groupCount (draftArrays w′))
+  draft-formed =
+      let e : draftArrays w ≡ draftArrays w′ = sym (draft-arrays-same w w′ size (long w A) (same 5 (omega arith)) (λ i a b. same i (omega arith))) in
+      (subst WellFormed e (A .draft), same 6 (omega arith) ∙ A .draftCount ∙ ap groupCount e)

@@ -1,0 +1,123 @@
+-- What stays well arranged when the tables, the heads of the columns and the layout in force stay. Assumes nothing.
+use mathlib.Core.Path.{_≡_, refl, sym, ap, _∙_, subst}
+use mathlib.Core.Logic.{_≢_}
+use mathlib.Core.Bool.{cond}
+use mathlib.Core.List.{List, []}
+use Prim.Native.Nat.{ℕ, zero, suc, _+_, _*_, _-_, _≤_, _<_}
+use native.Mathlib.Omega.{arith}
+use lib.ListN.{length, getD, take, drop}
+use Rattle.words.specs.Offsets.{columnStart}
+use Rattle.words.specs.Table.{table, table-same}
+use Rattle.columns.specs.Columns.{columnOf, rowsOf, Columns}
+use Rattle.entity.specs.Meaning as entity
+use Rattle.entity.specs.Change.{entityPart}
+use Rattle.layout.specs.Layout.{Arrays, WellFormed, widthOf, groupCount}
+use Rattle.model.specs.Sound.{In}
+use Rattle.memory.specs.Header.{capacityOf, kindCapacityOf, registeredOf, stagedLen, excludedLen, draftGroups, layoutGroups, slotOf, groupFamilyAt}
+use Rattle.memory.specs.Meaning.{kindAt, ownAt, localAt, kindsIn, draftArrays, layoutArrays}
+use Rattle.memory.specs.Arranged.{TableSound, Registered, memberAt, GroupSound, LayoutSound, Arranged}
+
+pub record Kept (w w′ : List ℕ) : Type 0 where
+  pub size : length w′ ≡ length w
+  pub capacity : capacityOf w′ ≡ capacityOf w
+  pub kindCapacity : kindCapacityOf w′ ≡ kindCapacityOf w
+  pub registered : registeredOf w′ ≡ registeredOf w
+  pub slots : (k : ℕ) → k < 128 → slotOf w′ k ≡ slotOf w k
+  pub heads : (s : ℕ) → s < kindCapacityOf w → (i : ℕ) → 1 ≤ i → i < 8 → getD (columnOf (capacityOf w) s w′) i 0 ≡ getD (columnOf (capacityOf w) s w) i 0
+  pub layout : layoutArrays w′ ≡ layoutArrays w
+  pub groups : layoutGroups w′ ≡ layoutGroups w
+  pub families : (g : ℕ) → g < 64 → groupFamilyAt w′ g ≡ groupFamilyAt w g
+
+module _ {w w′ : List ℕ} (A : Arranged w) (K : Kept w w′) where
+  head-kept : (s : ℕ) → s < kindCapacityOf w → (i : ℕ) → 1 ≤ i → i < 8 → getD (columnOf (capacityOf w′) s w′) i 0 ≡ getD (columnOf (capacityOf w) s w) i 0
+  head-kept s h i a b = ap (λ (c : ℕ). getD (columnOf c s w′) i 0) (K .capacity) ∙ K .heads s h i a b
+
+  registered-slot : (s : ℕ) → s < registeredOf w → s < kindCapacityOf w
+  registered-slot s h = omega (arith, A .table .few)
+
+  pub kind-kept : (s : ℕ) → s < registeredOf w → kindAt w′ s ≡ kindAt w s
+  kind-kept s h = head-kept s (registered-slot s h) 1 (omega arith) (omega arith)
+
+  own-kept : (s : ℕ) → s < registeredOf w → ownAt w′ s ≡ ownAt w s
+  own-kept s h = head-kept s (registered-slot s h) 2 (omega arith) (omega arith)
+
+  local-kept : (s : ℕ) → s < registeredOf w → localAt w′ s ≡ localAt w s
+  local-kept s h = head-kept s (registered-slot s h) 3 (omega arith) (omega arith)
+
+  pub kinds-kept : kindsIn w′ ≡ kindsIn w
+  unfolding kindsIn
+  kinds-kept = ap (λ (n : ℕ). table n (kindAt w′)) (K .registered) ∙ table-same 0 (registeredOf w) (kindAt w) (kindAt w′) kind-kept
+
+  pub table-kept : TableSound w′
+  table-kept =
+      let T = A .table in
+      record {
+        few = rw (K .registered, K .kindCapacity) (T .few);
+        slot = λ k h ne. rw (K .slots k h, K .registered) (T .slot k h (λ e. ne (K .slots k h ∙ e)));
+        back =
+            λ k h ne.
+            let ne₀ : slotOf w k ≢ 255 = λ e. ne (K .slots k h ∙ e) in
+            ap (kindAt w′) (K .slots k h) ∙ kind-kept (slotOf w k) (T .slot k h ne₀) ∙ T .back k h ne₀;
+        small = λ s h. let h₀ : s < registeredOf w = rw (K .registered) at h in rw (kind-kept s h₀) (T .small s h₀);
+        own =
+            λ s h.
+            let h₀ : s < registeredOf w = rw (K .registered) at h in
+            ap (slotOf w′) (kind-kept s h₀) ∙ K .slots (kindAt w s) (T .small s h₀) ∙ T .own s h₀;
+      }
+
+  registered-kept : (k : ℕ) → Registered w k → Registered w′ k
+  registered-kept k r = record { small = r .small; slot = rw (K .slots k (r .small), K .registered) (r .slot) }
+
+  group-kept : (a : Arrays) (g f : ℕ) → GroupSound w a g f → GroupSound w′ a g f
+  group-kept a g f G =
+      record {
+        family = G .family;
+        low = G .low;
+        high = G .high;
+        known = λ j h. registered-kept (memberAt a f j) (G .known j h);
+        own =
+            λ j l h.
+            let r = G .known j h in
+            ap (ownAt w′) (K .slots (memberAt a f j) (r .small)) ∙ own-kept (slotOf w (memberAt a f j)) (r .slot) ∙ G .own j l h;
+        local =
+            λ j l h.
+            let r = G .known j h in
+            ap (localAt w′) (K .slots (memberAt a f j) (r .small)) ∙ local-kept (slotOf w (memberAt a f j)) (r .slot) ∙ G .local j l h;
+      }
+
+  pub layout-kept : LayoutSound w′
+  layout-kept =
+      let L = A .layout in
+      record {
+        formed = subst WellFormed (sym (K .layout)) (L .formed);
+        count = K .groups ∙ L .count ∙ sym (ap groupCount (K .layout));
+        groups =
+            λ g h.
+            let h₀ : g < layoutGroups w = rw (K .groups) at h in
+            let few : g < 64 = omega (arith, L .count, L .formed .many) in
+            subst (λ (a : Arrays). GroupSound w′ a g (groupFamilyAt w′ g)) (sym (K .layout))
+            (subst (λ (f : ℕ). GroupSound w′ (layoutArrays w) g f) (sym (K .families g few)) (group-kept (layoutArrays w) g (groupFamilyAt w g) (L .groups g h₀)));
+        none =
+            λ s h o.
+            let h₀ : s < registeredOf w = rw (K .registered) at h in
+            let o₀ : 1 ≤ ownAt w s = rw (own-kept s h₀) at o in
+            rw (kind-kept s h₀) (subst (λ (a : Arrays). In (take (widthOf a) (a .kinds)) (kindAt w s)) (sym (K .layout)) (L .none s h₀ o₀));
+      }
+
+  pub arranged-kept : entity.Sound (capacityOf w) (entityPart (capacityOf w) w′) → Columns (capacityOf w) (kindCapacityOf w) w′
+      → ((s : ℕ) → registeredOf w ≤ s → s < kindCapacityOf w → rowsOf (capacityOf w) s w′ ≡ [])
+      → stagedLen w′ ≤ 16 → excludedLen w′ ≤ 16 → WellFormed (draftArrays w′) → draftGroups w′ ≡ groupCount (draftArrays w′) → Arranged w′
+  arranged-kept e c v st ex d g =
+      record {
+        limits = rw (K .capacity, K .kindCapacity) (A .limits);
+        enough = rw (K .capacity, K .kindCapacity, K .size) (A .enough);
+        table = table-kept;
+        entities = rw (K .capacity) e;
+        columns = rw (K .capacity, K .kindCapacity) c;
+        vacant = λ s r h. rw (K .capacity) (v s (rw (K .registered) at r) (rw (K .kindCapacity) at h));
+        staged = st;
+        excluded = ex;
+        draft = d;
+        draftCount = g;
+        layout = layout-kept;
+      }

@@ -1,0 +1,82 @@
+-- When lent words are well arranged, and when they are a sound store. Assumes nothing.
+use mathlib.Core.Path.{_≡_}
+use mathlib.Core.Logic.{_≢_}
+use mathlib.Core.List.{List, []}
+use Prim.Native.Nat.{ℕ, zero, suc, _+_, _≤_, _<_}
+use mathlib.Core.Bool.{cond}
+use lib.Dec.{ltb}
+use lib.ListN.{length, getD, take, drop}
+use Rattle.model.specs.Run.{Store}
+use Rattle.model.specs.Sound.{In, Limits}
+use Rattle.model.specs.Sound as modelSound
+use Rattle.words.specs.Offsets.{columnStart}
+use Rattle.columns.specs.Columns.{Columns, rowsOf}
+use Rattle.entity.specs.Meaning as entity
+use Rattle.entity.specs.Change.{entityPart}
+use Rattle.layout.specs.Layout.{Arrays, WellFormed, startOf, widthOf, groupCount}
+use Rattle.memory.specs.Header.{capacityOf, kindCapacityOf, registeredOf, stagedLen, excludedLen, draftGroups, layoutGroups, slotOf, groupFamilyAt}
+use Rattle.memory.specs.Meaning.{kindAt, ownAt, localAt, draftArrays, layoutArrays, meaning}
+
+-- "at most K registered kinds, each with a column of its own": the table of kinds and the columns' heads point to each other
+pub record TableSound (w : List ℕ) : Type 0 where
+  pub few : registeredOf w ≤ kindCapacityOf w
+  pub slot : (k : ℕ) → k < 128 → slotOf w k ≢ 255 → slotOf w k < registeredOf w
+  pub back : (k : ℕ) → k < 128 → slotOf w k ≢ 255 → kindAt w (slotOf w k) ≡ k
+  pub small : (s : ℕ) → s < registeredOf w → kindAt w s < 128
+  pub own : (s : ℕ) → s < registeredOf w → slotOf w (kindAt w s) ≡ s
+
+-- the arity of the group before g in its family f, 0 where g is the family's smallest
+abbrev pub priorArity : Arrays → ℕ → ℕ → ℕ
+priorArity a f zero = 0
+priorArity a f (suc g) = cond (ltb (startOf (a .ends) f) (suc g)) (getD (a .arities) g 0) 0
+
+-- kind k is registered: it has a slot of its own
+pub record Registered (w : List ℕ) (k : ℕ) : Type 0 where
+  pub small : k < 128
+  pub slot : slotOf w k < registeredOf w
+
+-- the kind at place j of family f
+abbrev pub memberAt : Arrays → ℕ → ℕ → ℕ
+memberAt a f j = getD (a .kinds) (startOf (a .kindEnds) f + j) 0
+
+-- group g is of family f, its kinds are registered, and the heads of its new kinds' columns say so
+pub record GroupSound (w : List ℕ) (a : Arrays) (g f : ℕ) : Type 0 where
+  pub family : f < a .families
+  pub low : startOf (a .ends) f ≤ g
+  pub high : g < getD (a .ends) f 0
+  pub known : (j : ℕ) → j < getD (a .arities) g 0 → Registered w (memberAt a f j)
+  pub own : (j : ℕ) → priorArity a f g ≤ j → j < getD (a .arities) g 0 → ownAt w (slotOf w (memberAt a f j)) ≡ suc g
+  pub local : (j : ℕ) → priorArity a f g ≤ j → j < getD (a .arities) g 0 → localAt w (slotOf w (memberAt a f j)) ≡ j
+
+-- the layout in force: its block, the family of each group, and the columns' own groups
+pub record LayoutSound (w : List ℕ) : Type 0 where
+  pub formed : WellFormed (layoutArrays w)
+  pub count : layoutGroups w ≡ groupCount (layoutArrays w)
+  pub groups : (g : ℕ) → g < layoutGroups w → GroupSound w (layoutArrays w) g (groupFamilyAt w g)
+  pub none : (s : ℕ) → s < registeredOf w → 1 ≤ ownAt w s → In (take (widthOf (layoutArrays w)) (layoutArrays w .kinds)) (kindAt w s)
+
+-- all that the words must be besides meaning a sound store: enough of them, and tables, lookups and blocks that agree
+pub record Arranged (w : List ℕ) : Type 0 where
+  pub limits : Limits (capacityOf w) (kindCapacityOf w)
+  pub enough : columnStart (capacityOf w) (kindCapacityOf w) ≤ length w
+  pub table : TableSound w
+  pub entities : entity.Sound (capacityOf w) (entityPart (capacityOf w) w)
+  pub columns : Columns (capacityOf w) (kindCapacityOf w) w
+  pub vacant : (s : ℕ) → registeredOf w ≤ s → s < kindCapacityOf w → rowsOf (capacityOf w) s w ≡ []
+  pub staged : stagedLen w ≤ 16
+  pub excluded : excludedLen w ≤ 16
+  pub draft : WellFormed (draftArrays w)
+  pub draftCount : draftGroups w ≡ groupCount (draftArrays w)
+  pub layout : LayoutSound w
+
+-- 01: "A sound store"
+pub record Sound (w : List ℕ) : Type 0 where
+  pub arranged : Arranged w
+  pub means : modelSound.Sound (meaning w)
+
+-- what an operation leaves: well-arranged words that mean the store s, as many as before, those past the needed ones as they were
+pub record Becomes (w w′ : List ℕ) (s : Store) : Type 0 where
+  pub arranged : Arranged w′
+  pub means : meaning w′ ≡ s
+  pub size : length w′ ≡ length w
+  pub past : drop (columnStart (capacityOf w) (kindCapacityOf w)) w′ ≡ drop (columnStart (capacityOf w) (kindCapacityOf w)) w

@@ -1,0 +1,60 @@
+-- The header's words, by name (docs/WORDS.md). Assumes nothing.
+use mathlib.Core.List.{List}
+use Prim.Native.Nat.{ℕ, _+_, _*_}
+use lib.ListN.{getD}
+
+-- capacity N (entities) and K (kinds), and how many kinds are registered
+abbrev pub capacityOf : List ℕ → ℕ
+capacityOf w = getD w 0 0
+
+abbrev pub kindCapacityOf : List ℕ → ℕ
+kindCapacityOf w = getD w 1 0
+
+abbrev pub registeredOf : List ℕ → ℕ
+registeredOf w = getD w 2 0
+
+-- the lengths of the staged and the excluded list
+abbrev pub stagedLen : List ℕ → ℕ
+stagedLen w = getD w 3 0
+
+abbrev pub excludedLen : List ℕ → ℕ
+excludedLen w = getD w 4 0
+
+-- the families and groups of the draft and of the layout in force
+abbrev pub draftFamilies : List ℕ → ℕ
+draftFamilies w = getD w 5 0
+
+abbrev pub draftGroups : List ℕ → ℕ
+draftGroups w = getD w 6 0
+
+abbrev pub layoutFamilies : List ℕ → ℕ
+layoutFamilies w = getD w 7 0
+
+abbrev pub layoutGroups : List ℕ → ℕ
+layoutGroups w = getD w 8 0
+
+abbrev pub refusalsOf : List ℕ → ℕ
+refusalsOf w = getD w 16 0
+
+-- the slot of kind k's column, 255 where the kind is not registered
+abbrev pub slotOf : List ℕ → ℕ → ℕ
+slotOf w k = getD w (32 + k) 0
+
+abbrev pub stagedKindAt : List ℕ → ℕ → ℕ
+stagedKindAt w i = getD w (160 + i) 0
+
+abbrev pub stagedLowAt : List ℕ → ℕ → ℕ
+stagedLowAt w i = getD w (176 + 4 * i) 0
+
+abbrev pub stagedHighAt : List ℕ → ℕ → ℕ
+stagedHighAt w i = getD w (176 + 4 * i + 1) 0
+
+abbrev pub excludedAt : List ℕ → ℕ → ℕ
+excludedAt w i = getD w (240 + i) 0
+
+-- the family and the count of group g of the layout in force
+abbrev pub groupFamilyAt : List ℕ → ℕ → ℕ
+groupFamilyAt w g = getD w (896 + g) 0
+
+abbrev pub countAt : List ℕ → ℕ → ℕ
+countAt w g = getD w (960 + g) 0

@@ -1,0 +1,5 @@
+pub mod Header
+pub mod Word
+pub mod Meaning
+pub mod Change
+pub mod Arranged

@@ -1,0 +1,82 @@
+-- The model's store, read off the lent words (docs/WORDS.md). Assumes nothing.
+use mathlib.Core.Bool.{cond}
+use mathlib.Core.List.{List, []}
+use Prim.Native.Nat.{ℕ, _+_, _*_}
+use lib.Dec.{ltb}
+use lib.ListN.{getD}
+use Rattle.model.specs.Model.{Entity, Component, Entities, SparseSet, Family, Storage}
+use Rattle.model.specs.Run.{Store, Control}
+use Rattle.words.specs.Table.{table}
+use Rattle.words.specs.Part.{between}
+use Rattle.component.specs.SparseSet.{valueOf}
+use Rattle.columns.specs.Columns.{columnOf, rowsOf}
+use Rattle.entity.specs.Change.{entitiesIn}
+use Rattle.layout.specs.Layout.{Arrays, blockArrays, familiesOf}
+use Rattle.memory.specs.Header.{capacityOf, kindCapacityOf, registeredOf, stagedLen, excludedLen, draftFamilies, layoutFamilies, refusalsOf, slotOf, stagedKindAt, stagedLowAt, stagedHighAt, excludedAt}
+
+-- ---- kinds and their columns
+
+-- the head of the column in slot s: its kind; its own group plus one, 0 where it is in none; its place among its family's kinds
+abbrev pub kindAt : List ℕ → ℕ → ℕ
+kindAt w s = getD (columnOf (capacityOf w) s w) 1 0
+
+abbrev pub ownAt : List ℕ → ℕ → ℕ
+ownAt w s = getD (columnOf (capacityOf w) s w) 2 0
+
+abbrev pub localAt : List ℕ → ℕ → ℕ
+localAt w s = getD (columnOf (capacityOf w) s w) 3 0
+
+-- the registered kinds, in the order of their slots
+unfoldable pub kindsIn : List ℕ → List ℕ
+kindsIn w = table (registeredOf w) (kindAt w)
+
+-- kind k's sparse set: the rows of its column, none where it is not registered
+abbrev pub setAt : List ℕ → ℕ → SparseSet
+setAt w k = cond (ltb (slotOf w k) (registeredOf w)) (rowsOf (capacityOf w) (slotOf w k) w) []
+
+unfoldable pub setsIn : List ℕ → List SparseSet
+setsIn w = table 128 (setAt w)
+
+-- ---- layouts: a block of 320 words, and the counts of the groups in force
+
+abbrev pub draftArrays : List ℕ → Arrays
+draftArrays w = blockArrays (between 256 576 w) (draftFamilies w)
+
+abbrev pub layoutArrays : List ℕ → Arrays
+layoutArrays w = blockArrays (between 576 896 w) (layoutFamilies w)
+
+unfoldable pub draftIn : List ℕ → List Family
+draftIn w = familiesOf [] (draftArrays w)
+
+unfoldable pub layoutIn : List ℕ → List Family
+layoutIn w = familiesOf (between 960 1024 w) (layoutArrays w)
+
+abbrev pub storageIn : List ℕ → Storage
+storageIn w = record { sets = setsIn w; layout = layoutIn w }
+
+-- ---- what a run keeps besides
+
+abbrev pub stagedAt : List ℕ → ℕ → Component
+stagedAt w i = record { kind = stagedKindAt w i; value = valueOf (stagedLowAt w i) (stagedHighAt w i) }
+
+unfoldable pub stagedIn : List ℕ → List Component
+stagedIn w = table (stagedLen w) (stagedAt w)
+
+unfoldable pub excludedIn : List ℕ → List ℕ
+excludedIn w = table (excludedLen w) (excludedAt w)
+
+abbrev pub controlIn : List ℕ → Control
+controlIn w = record { staged = stagedIn w; excluded = excludedIn w; draft = draftIn w; refusals = refusalsOf w }
+
+-- ---- the store
+
+unfoldable pub meaning : List ℕ → Store
+meaning w =
+    record {
+      capacity = capacityOf w;
+      kindCapacity = kindCapacityOf w;
+      kinds = kindsIn w;
+      entities = entitiesIn (capacityOf w) w;
+      storage = storageIn w;
+      control = controlIn w;
+    }

@@ -1,0 +1,66 @@
+-- The rows of a sound column: an entity once, and values of eight bytes. Assumes nothing.
+use mathlib.Core.Path.{_≡_, refl, ap, sym, _∙_, subst}
+use mathlib.Core.Logic.{_≢_}
+use mathlib.Core.Bool.{Bool, true, false}
+use mathlib.Core.List.{List, [], _∷_, map}
+use Prim.Native.Nat.{ℕ, zero, suc, _+_, _*_, _-_, _≤_, _<_}
+use native.Mathlib.Nat.{le-of-suc-le-suc, not-suc-le-zero}
+use native.Mathlib.Decide.{decLe}
+use native.Mathlib.Omega.{arith}
+use lib.ListN.{length, take, drop, getD, length-map, List·getD-map}
+use lib.Seq.{getD-drop}
+use Rattle.model.specs.Lists.{one, place, count-place, getD-place}
+use Rattle.model.specs.Model.{Entity, Row, SparseSet, sameEntity, noEntity, noRow, entityOf, keys}
+use Rattle.model.specs.Sound.{cnt, Eight}
+use Rattle.model.proofs.SparseSets.{entity-eq}
+use Rattle.model.proofs.Walk.{bool-cases}
+use Rattle.words.specs.Part.{between}
+use Rattle.component.specs.SparseSet.{lengthOf, indexAt, lowAt, highAt, valueOf, rows, Sound}
+use Rattle.component.proofs.Meaning.{length-rows, getD-rows, index-rows, rows-apart}
+use Rattle.soundness.proofs.TableLaws.{getD-past}
+
+-- where no two places have one index, no entity stands twice
+pub apart-once : (x : Entity) (l : List Entity) → ((i j : ℕ) → i < length l → j < length l → i ≢ j → getD l i noEntity .index ≢ getD l j noEntity .index) → cnt x l ≤ 1
+apart-once x [] f = omega arith
+apart-once x (y ∷ l) f =
+    let ih = apart-once x l (λ i j hi hj ne. f (suc i) (suc j) (omega arith) (omega arith) (omega arith)) in
+    bool-cases (sameEntity x y)
+    (λ t.
+    let none : ¬ (1 ≤ cnt x l) = λ h.
+    let p = count-place sameEntity x l h in
+    f 0 (suc (place sameEntity x l)) (omega arith) (omega arith) (omega arith) (ap (λ (e : Entity). e .index) (sym (entity-eq x y t) ∙ sym (getD-place sameEntity entity-eq x noEntity l p))) in
+    omega (arith, ap one t))
+    (λ t. omega (arith, ap one t))
+
+module _ (n : ℕ) (w : List ℕ) where
+  pub rows-once : Sound n w → (x : Entity) → cnt x (keys (rows n w)) ≤ 1
+  rows-once s x =
+      apart-once x (keys (rows n w))
+      (λ i j hi hj ne e.
+      let m = length-map (rows n w) entityOf in
+      let bi : i < lengthOf w = omega (arith, length-rows n w) in
+      let bj : j < lengthOf w = omega (arith, length-rows n w) in
+      let at : (k : ℕ) → k < lengthOf w → getD (keys (rows n w)) k noEntity .index ≡ indexAt w k =
+      λ k h. ap (λ (y : Entity). y .index) (List·getD-map entityOf (rows n w) k noRow) ∙ index-rows n w k h in
+      rows-apart n w s i j bi bj ne (sym (at i bi) ∙ e ∙ at j bj))
+
+  pub value-eight : (l h : ℕ) → l < 4294967296 → h < 4294967296 → Eight (valueOf l h)
+  value-eight l h a b = omega arith
+
+  pub rows-values : ((i : ℕ) → getD w i 0 < 4294967296) → (i : ℕ) → Eight (getD (rows n w) i noRow .value)
+  rows-values bits i =
+      elim (decLe (lengthOf w) i) [
+        | yes h ↦ rw (getD-past (rows n w) i noRow (omega (arith, length-rows n w))) (omega arith)
+        | no h ↦ rw (getD-rows n w i (omega arith)) (value-eight (lowAt n w i) (highAt n w i) (bits (8 + 2 * n + 2 * i)) (bits (8 + 2 * n + 2 * i + 1)))
+      ]
+
+-- ---- the words of a part are words
+
+take-below : (b n : ℕ) (l : List ℕ) → 1 ≤ b → ((i : ℕ) → getD l i 0 < b) → (i : ℕ) → getD (take n l) i 0 < b
+take-below b zero l h f i = h
+take-below b (suc n) [] h f i = h
+take-below b (suc n) (x ∷ l) h f zero = f 0
+take-below b (suc n) (x ∷ l) h f (suc i) = take-below b n l h (λ j. f (suc j)) i
+
+pub between-below : (b a e : ℕ) (w : List ℕ) → 1 ≤ b → ((i : ℕ) → getD w i 0 < b) → (i : ℕ) → getD (between a e w) i 0 < b
+between-below b a e w h f = take-below b (e - a) (drop a w) h (λ i. subst (λ (x : ℕ). x < b) (sym (getD-drop a w i 0)) (f (a + i)))

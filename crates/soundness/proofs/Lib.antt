@@ -1,0 +1,6 @@
+pub mod GroupLaws
+pub mod TableLaws
+pub mod ColumnLaws
+pub mod StagedLaws
+pub mod LayoutLaws
+pub mod FlatLaws

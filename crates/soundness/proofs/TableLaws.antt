@@ -1,0 +1,140 @@
+-- The table of kinds, over functions: `kindAt` is the kind of a slot's column, `slotOf` the slot of a kind, 255 where it has none. The registered kinds
+-- are those of the slots in use, and a kind's sparse set is its slot's. Assumes nothing.
+use mathlib.Core.Path.{_≡_, refl, ap, sym, _∙_, subst}
+use mathlib.Core.Logic.{_≢_}
+use mathlib.Core.Bool.{Bool, true, false, cond, false≢true, true≢false}
+use mathlib.Core.List.{List, [], _∷_, map}
+use Prim.Native.Nat.{ℕ, zero, suc, _+_, _≤_, _<_}
+use native.Mathlib.Nat.{le-of-suc-le-suc, not-suc-le-zero}
+use native.Mathlib.Decide.{decLe}
+use native.Mathlib.Omega.{arith}
+use borrow.Author.Tests.{lt-ltb, le-ltb}
+use lib.Dec.{ltb}
+use lib.ListN.{length, take, getD, length-map, List·getD-map}
+use lib.Seq.{getD-take, length-take-le}
+use Rattle.model.specs.Lists.{place, count-place, getD-place}
+use Rattle.model.specs.Model.{Entity, Row, SparseSet, sameEntity, noEntity, noRow, mem, setOf, entityOf, keys}
+use Rattle.model.specs.Sound.{cnt, In, Distinct, Eight, KindsSound, SetsSound, key}
+use Rattle.model.proofs.SparseSets.{entity-eq}
+use Rattle.words.specs.Table.{by-eq, table, length-table, getD-table}
+use Rattle.model.proofs.KindLists.{not-true}
+use Rattle.soundness.proofs.GroupLaws.{count-at}
+use Rattle.clauses.proofs.ListLaws.{at-in, in-at, new-distinct}
+
+pub getD-past : {A : Type 0} (l : List A) (i : ℕ) (d : A) → length l ≤ i → getD l i d ≡ d
+getD-past [] i d h = refl
+getD-past (x ∷ l) zero d h = absurd (not-suc-le-zero h)
+getD-past (x ∷ l) (suc i) d h = getD-past l i d (le-of-suc-le-suc h)
+
+-- the table and the columns' heads point to each other; there are fewer columns than 255
+pub record Tabled (reg : ℕ) (kindAt slotOf : ℕ → ℕ) : Type 0 where
+  pub few : reg ≤ 128
+  pub slot : (k : ℕ) → k < 128 → slotOf k ≢ 255 → slotOf k < reg
+  pub back : (k : ℕ) → k < 128 → slotOf k ≢ 255 → kindAt (slotOf k) ≡ k
+  pub small : (s : ℕ) → s < reg → kindAt s < 128
+  pub own : (s : ℕ) → s < reg → slotOf (kindAt s) ≡ s
+
+-- kind k's sparse set: its slot's rows, none where it has no slot
+abbrev pub setAt : ℕ → (ℕ → ℕ) → (ℕ → SparseSet) → ℕ → SparseSet
+setAt reg slotOf rowsAt k = cond (ltb (slotOf k) reg) (rowsAt (slotOf k)) []
+
+-- what the columns must be: an entity once, live ones only, values of eight bytes
+pub record RowsOk (live : List Entity) (rows : SparseSet) : Type 0 where
+  pub once : (x : Entity) → cnt x (keys rows) ≤ 1
+  pub alive : (i : ℕ) → i < length rows → 1 ≤ cnt (getD rows i noRow .entity) live
+  pub values : (i : ℕ) → Eight (getD rows i noRow .value)
+
+module _ (reg : ℕ) (kindAt slotOf : ℕ → ℕ) (T : Tabled reg kindAt slotOf) where
+  -- ---- the registered kinds
+
+  slot-in : (s : ℕ) → s < reg → In (table reg kindAt) (kindAt s)
+  slot-in s h =
+      let n = length-table reg kindAt in
+      subst (λ (k : ℕ). In (table reg kindAt) k) (getD-table reg kindAt s 0 h) (at-in (table reg kindAt) s (omega arith))
+
+  in-slot : (k : ℕ) → In (table reg kindAt) k → (s : ℕ) × (s < reg) × (kindAt s ≡ k)
+  in-slot k t =
+      let q = in-at (table reg kindAt) k t in
+      let b : q .0 < reg = omega (arith, q .1, length-table reg kindAt) in
+      (q .0, b, sym (getD-table reg kindAt (q .0) 0 b) ∙ q .2)
+
+  pub registered-slot : (k : ℕ) → In (table reg kindAt) k → slotOf k < reg
+  registered-slot k t = let q = in-slot k t in omega (arith, q .1, T .own (q .0) (q .1), ap slotOf (q .2))
+
+  pub registered-small : (k : ℕ) → In (table reg kindAt) k → k < 128
+  registered-small k t = let q = in-slot k t in omega (arith, T .small (q .0) (q .1), q .2)
+
+  pub slot-registered : (k : ℕ) → k < 128 → slotOf k ≢ 255 → In (table reg kindAt) k
+  slot-registered k h n = subst (λ (j : ℕ). In (table reg kindAt) j) (T .back k h n) (slot-in (slotOf k) (T .slot k h n))
+
+  pub registered-once : Distinct (table reg kindAt)
+  registered-once =
+      new-distinct (table reg kindAt)
+      (λ i h.
+      let n = length-table reg kindAt in
+      let l = take i (table reg kindAt) in
+      not-true (mem (getD (table reg kindAt) i 0) l)
+      (λ t.
+      let q = in-at l (getD (table reg kindAt) i 0) t in
+      let m = length-take-le i (table reg kindAt) (omega arith) in
+      let b : q .0 < i = omega (arith, q .1) in
+      let e : kindAt (q .0) ≡ kindAt i =
+      sym (getD-table reg kindAt (q .0) 0 (omega arith)) ∙ sym (getD-take i (table reg kindAt) (q .0) 0 b) ∙ q .2 ∙ getD-table reg kindAt i 0 (omega arith) in
+      omega (arith, ap slotOf e, T .own (q .0) (omega arith), T .own i (omega arith))))
+
+  pub kinds-sound : (most : ℕ) → reg ≤ most → KindsSound most (table reg kindAt)
+  kinds-sound most h = record { few = omega (arith, length-table reg kindAt); once = registered-once; small = registered-small }
+
+  -- ---- the sparse sets, of which each slot has one
+
+  module _ (rowsAt : ℕ → SparseSet) where
+    abbrev sets : List SparseSet
+    sets = table 128 (setAt reg slotOf rowsAt)
+
+    pub set-slot : (k : ℕ) → In (table reg kindAt) k → setOf sets k ≡ rowsAt (slotOf k)
+    set-slot k t = getD-table 128 (setAt reg slotOf rowsAt) k [] (registered-small k t) ∙ rw (lt-ltb (slotOf k) reg (registered-slot k t))
+
+    pub slot-set : (s : ℕ) → s < reg → setOf sets (kindAt s) ≡ rowsAt s
+    slot-set s h = set-slot (kindAt s) (slot-in s h) ∙ ap rowsAt (T .own s h)
+
+    pub set-none : (k : ℕ) → mem k (table reg kindAt) ≡ false → setOf sets k ≡ []
+    set-none k n =
+        elim (decLe 128 k) [
+          | yes h ↦ getD-past sets k [] (omega (arith, length-table 128 (setAt reg slotOf rowsAt)))
+          | no h ↦ getD-table 128 (setAt reg slotOf rowsAt) k [] (omega arith)
+              ∙ by-eq (slotOf k) 255
+              (λ e. rw (le-ltb (slotOf k) reg (omega (arith, T .few))))
+              (λ ne. absurd (true≢false (sym (slot-registered k (omega arith) ne) ∙ n)))
+        ]
+
+    -- a property of every sparse set, from the slots'
+    pub each-set : (P : SparseSet → Type 0) → P [] → ((s : ℕ) → s < reg → P (rowsAt s)) → (k : ℕ) → P (setOf sets k)
+    each-set P z f k = go (mem k (table reg kindAt)) refl
+      where
+        go : (b : Bool) → mem k (table reg kindAt) ≡ b → P (setOf sets k)
+        go true t = subst P (sym (set-slot k t)) (f (slotOf k) (registered-slot k t))
+        go false t = subst P (sym (set-none k t)) z
+
+    pub sets-sound : (live : List Entity) → ((s : ℕ) → s < reg → RowsOk live (rowsAt s)) → SetsSound (table reg kindAt) live sets
+    sets-sound live f =
+        record {
+          wide = length-table 128 (setAt reg slotOf rowsAt);
+          bare = set-none;
+          alive = λ x k.
+              each-set (λ (r : SparseSet). 1 ≤ cnt x (keys r) → 1 ≤ cnt x live) (λ h. absurd (omega arith))
+              (λ s h c.
+              let p = count-place sameEntity x (keys (rowsAt s)) c in
+              let i = place sameEntity x (keys (rowsAt s)) in
+              let e : getD (rowsAt s) i noRow .entity ≡ x = sym (List·getD-map entityOf (rowsAt s) i noRow) ∙ getD-place sameEntity entity-eq x noEntity (keys (rowsAt s)) p in
+              subst (λ (y : Entity). 1 ≤ cnt y live) e (f s h .alive i (omega (arith, length-map (rowsAt s) entityOf))))
+              k;
+          once = λ x k. each-set (λ (r : SparseSet). cnt x (keys r) ≤ 1) (omega arith) (λ s h. f s h .once x) k;
+          values = λ k j. each-set (λ (r : SparseSet). Eight (getD r j noRow .value)) (omega arith) (λ s h. f s h .values j) k;
+        }
+
+    pub sets-alive : (live : List Entity) → SetsSound (table reg kindAt) live sets → (s : ℕ) → s < reg → (i : ℕ) → i < length (rowsAt s) → 1 ≤ cnt (getD (rowsAt s) i noRow .entity) live
+    sets-alive live S s h i lt =
+        let x = getD (rowsAt s) i noRow .entity in
+        let e : getD (keys (rowsAt s)) i noEntity ≡ x = List·getD-map entityOf (rowsAt s) i noRow in
+        let c : 1 ≤ cnt x (keys (rowsAt s)) = subst (λ (y : Entity). 1 ≤ cnt y (keys (rowsAt s))) e (count-at (keys (rowsAt s)) i (omega (arith, length-map (rowsAt s) entityOf))) in
+        S .alive x (kindAt s) (subst (λ (r : SparseSet). 1 ≤ cnt x (keys r)) (sym (slot-set s h)) c)
