@@ -1,3 +1,2 @@
 pub mod ListLaws
 pub mod SlotLaws
-pub mod CountLaws

@@ -15,8 +15,7 @@ use Rattle.columns.specs.Columns.{columnOf, rowsOf, Lent}
 use Rattle.columns.proofs.Slots.{getD-column}
 use Rattle.memory.proofs.Frames.{start-header}
 use Rattle.clauses.specs.Slots.{Slot, Room, headAt, Over}
-use Rattle.clauses.specs.Rows.{entityIn}
-use Rattle.clauses.specs.Counts.{keyAt}
+use Rattle.clauses.specs.Rows.{entityIn, keyAt}
 
 -- ---- after `if !check(..) { return false; }`, and in the branch
 

@@ -2,5 +2,3 @@ pub mod Slots
 pub mod Table
 pub mod Rows
 pub mod Listed
-pub mod Spans
-pub mod Counts

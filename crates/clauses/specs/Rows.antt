@@ -4,16 +4,20 @@ use mathlib.Core.Bool.{true}
 use mathlib.Core.List.{List}
 use Prim.Native.Nat.{ℕ, _+_, _*_, _≤_}
 use lib.ListN.{getD}
-use Rattle.model.specs.Model.{Entity, isLive}
+use Rattle.model.specs.Model.{Entity, noEntity, keys, isLive}
 use Rattle.words.specs.Offsets.{columnStart}
 use Rattle.component.specs.SparseSet.{Sound, lengthOf, entity}
 use Rattle.component.specs.Decides.{Each}
-use Rattle.columns.specs.Columns.{columnOf}
+use Rattle.columns.specs.Columns.{columnOf, rowsOf}
 use Rattle.entity.specs.Change.{entitiesIn}
 
 -- the entity whose index is the word at a
 abbrev pub entityIn : List ℕ → ℕ → Entity
 entityIn w a = entity (getD w a 0) (getD w (a + 1) 0)
+
+-- the entity in row i of slot s
+abbrev pub keyAt : ℕ → List ℕ → ℕ → ℕ → Entity
+keyAt n w s i = getD (keys (rowsOf n s w)) i noEntity
 
 -- the entity of row i is live; the rows' entities start at word a
 abbrev pub RowLive : ℕ → List ℕ → ℕ → ℕ → Type 0

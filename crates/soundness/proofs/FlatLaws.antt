@@ -160,7 +160,7 @@ module _ (a : Arrays) (good : WellFormed a) where
   not-before g f e lt F E = omega (arith, F .high, E .low, ends-rise (a .ends) e (λ i l. group-order a good i (omega (arith, E .family))) (suc f) lt)
 
   -- a group is of one family
-  same-family : (g f e : ℕ) → Within a g f → Within a g e → f ≡ e
+  pub same-family : (g f e : ℕ) → Within a g f → Within a g e → f ≡ e
   same-family g f e F E =
       by-eq f e (λ q. q)
       (λ ne. elim (decLe f e) [ yes q ↦ absurd (not-before g f e (omega arith) F E) | no q ↦ absurd (not-before g e f (omega arith) E F) ])
@@ -179,3 +179,22 @@ module _ (sets : List SparseSet) (counts : List ℕ) (a : Arrays) (good : WellFo
       (λ g low high.
       let lt : g < groupCount a = omega (arith, groups-inside a good f hf) in
       subst (λ (e : ℕ). GroupAt sets counts a e g) (same-family a good g (of g) f (right g lt) (record { family = hf; low = low; high = high })) (G g lt)))
+
+  -- ---- a group's count is no more than the family's first kind has rows
+
+  pub prior-fits : ((g : ℕ) → g < groupCount a → GroupAt sets counts a (of g) g) → (g : ℕ) → g < groupCount a
+      → priorCount a counts (length (key sets (memberAt a (of g) 0))) (of g) g ≤ length (key sets (memberAt a (of g) 0))
+  prior-fits G zero lt = omega arith
+  prior-fits G (suc g) lt =
+      let f = of (suc g) in
+      let whole = length (key sets (memberAt a f 0)) in
+      let w = right (suc g) lt in
+      elim (decLe (startOf (a .ends) f) g) [
+        | yes q ↦
+            let e : of g ≡ f = same-family a good g (of g) f (right g (omega arith)) (record { family = w .family; low = q; high = omega (arith, w .high) }) in
+            let i = prior-fits G g (omega arith) in
+            let j : priorCount a counts whole f g ≤ whole = subst (λ (x : ℕ). priorCount a counts (length (key sets (memberAt a x 0))) x g ≤ length (key sets (memberAt a x 0))) e i in
+            let l : getD counts g 0 ≤ priorCount a counts whole f g = subst (λ (x : ℕ). GroupAt sets counts a x g) e (G g (omega arith)) .less in
+            rw (count-next a counts whole f g q) (omega arith)
+        | no q ↦ rw (count-first a counts whole f (suc g) (omega (arith, w .low))) (omega arith)
+      ]

@@ -4,3 +4,6 @@ pub mod ColumnLaws
 pub mod StagedLaws
 pub mod LayoutLaws
 pub mod FlatLaws
+pub mod WordLaws
+pub mod ForceLaws
+pub mod Whole

@@ -1,1 +1,132 @@
-// Whether lent words are a sound store, in time linear in the words.
+// Whether lent words are a sound store (01), in time linear in the words.
+use blocks::block_ok;
+use clauses::lists::is_list;
+use clauses::slots::are_columns;
+use clauses::table::is_table;
+use grouping::counts::are_counts;
+use grouping::heads::are_heads;
+use grouping::heads::are_own;
+use grouping::heads::start_in;
+ghost use mathlib.Core.Path.{_≡_};
+ghost use Prim.Native.Nat.{_≤_};
+ghost use lib.ListN.{length};
+ghost use Rattle.component.specs.Decides.{Decides};
+ghost use Rattle.memory.specs.Header.{capacityOf};
+ghost use Rattle.memory.specs.Arranged.{Sound};
+ghost use Rattle.soundness.specs.Parts.{SizeOk, PartsOk, ListsOk, Ground, LayoutOk, CountsOk};
+
+// N and K within the limits, and enough words for them.
+fn has_room(words: &[u32], n: usize, k: usize) -> bool
+    ensures { λ r. ⌜ Decides r (SizeOk n k (now (words .entry))) ⌝ }
+{
+    if n < 1 {
+        return false;
+    }
+    if 4096 < n {
+        return false;
+    }
+    if k < 1 {
+        return false;
+    }
+    if 128 < k {
+        return false;
+    }
+    if words.len() < words::column_start(n, k) {
+        return false;
+    }
+    true
+}
+
+// The table of kinds, the entities, the columns.
+fn has_parts(words: &[u32], n: usize, k: usize) -> bool
+    requires { ⌜ SizeOk n k (now words) ⌝ }
+    ensures { λ r. ⌜ Decides r (PartsOk n k (now (words .entry))) ⌝ }
+{
+    if !is_table(words, n, k) {
+        return false;
+    }
+    if !entity::in_words::is_sound_in(words, n) {
+        return false;
+    }
+    if !are_columns(words, n, k, words[2] as usize) {
+        return false;
+    }
+    true
+}
+
+// The staged and the excluded kinds, and the draft.
+fn has_lists(words: &[u32]) -> bool
+    requires { ⌜ 1024 ≤ length (now words) ⌝ }
+    ensures { λ r. ⌜ Decides r (ListsOk (now (words .entry))) ⌝ }
+{
+    if !is_list(words, 160, words[3] as usize) {
+        return false;
+    }
+    if !is_list(words, 240, words[4] as usize) {
+        return false;
+    }
+    let families = words[5] as usize;
+    let groups = words[6] as usize;
+    if !block_ok(&words[256..576], families, groups, &words[32..160]) {
+        return false;
+    }
+    true
+}
+
+// The layout in force, and the heads of the columns that it names.
+fn has_layout(words: &[u32]) -> bool
+    requires { ⌜ Ground (now words) ⌝ }
+    ensures { λ r. ⌜ Decides r (LayoutOk (capacityOf (now (words .entry))) (now (words .entry))) ⌝ }
+{
+    let n = words[0] as usize;
+    let families = words[7] as usize;
+    let groups = words[8] as usize;
+    if !block_ok(&words[576..896], families, groups, &words[32..160]) {
+        return false;
+    }
+    if !are_heads(words, n, families, groups) {
+        return false;
+    }
+    let width = start_in(words, 768, families);
+    if !are_own(words, n, words[2] as usize, width) {
+        return false;
+    }
+    true
+}
+
+// The groups' counts.
+fn has_counts(words: &[u32]) -> bool
+    requires { ⌜ Ground (now words) ⌝ }
+    requires { ⌜ LayoutOk (capacityOf (now words)) (now words) ⌝ }
+    ensures { λ r. ⌜ Decides r (CountsOk (capacityOf (now (words .entry))) (now (words .entry))) ⌝ }
+{
+    let n = words[0] as usize;
+    are_counts(words, n, words[7] as usize, words[8] as usize)
+}
+
+// Whether the words, however many and whatever they hold, are a sound store.
+pub fn is_sound(words: &[u32]) -> bool
+    ensures { λ r. ⌜ Decides r (Sound (now (words .entry))) ⌝ }
+{
+    if words.len() < 1024 {
+        return false;
+    }
+    let n = words[0] as usize;
+    let k = words[1] as usize;
+    if !has_room(words, n, k) {
+        return false;
+    }
+    if !has_parts(words, n, k) {
+        return false;
+    }
+    if !has_lists(words) {
+        return false;
+    }
+    if !has_layout(words) {
+        return false;
+    }
+    if !has_counts(words) {
+        return false;
+    }
+    true
+}

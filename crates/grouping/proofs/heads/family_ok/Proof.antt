@@ -1,0 +1,25 @@
+use mathlib.Core.Path.{_≡_, refl, sym, ap, _∙_, subst}
+use Prim.Native.Nat.{ℕ, _+_, _*_, _-_, _≤_, _<_}
+use native.Mathlib.Omega.{arith}
+use lib.ListN.{length, getD}
+use borrow.Author.Needs.{needs}
+use Rattle.grouping.proofs.heads.family_ok.Statement.{statement}
+use Rattle.grouping.proofs.heads.family_ok.Tie as tie
+
+-- src/heads.rt:93:15
+cast-end : tie.Need-cast-end
+cast-end c = let a = c .before .before .before .before .before .args in omega (arith, c .before .before .before .before .shared-slice-known .given (832 + a .f))
+
+pub family-ok-spec : {M : Type 1} → statement M
+family-ok-spec =
+    tie.close
+    (tie.spec
+    (λ c. search needs)
+    (λ c κs. search needs)
+    (λ c. search needs)
+    (λ c. search needs)
+    (λ c. search needs)
+    (λ c. search needs)
+    cast-end
+    (λ c. search needs)
+    (λ c. search needs))

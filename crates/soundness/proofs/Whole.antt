@@ -1,0 +1,533 @@
+-- The clauses together are soundness: of the words, and of the store that they mean. Assumes nothing.
+use mathlib.Core.Path.{_≡_, refl, ap, sym, _∙_, subst}
+use mathlib.Core.Logic.{_≢_}
+use mathlib.Core.Bool.{true}
+use mathlib.Core.List.{List, [], map}
+use Prim.Native.Nat.{ℕ, _+_, _*_, _-_, _≤_, _<_}
+use native.Mathlib.Decide.{decLe, decLt}
+use native.Mathlib.Omega.{arith}
+use borrow.Author.Tests.{ltb-true, lt-ltb}
+use lib.Dec.{eqb, ltb}
+use lib.ListN.{length, getD, take, List·getD-map}
+use lib.Seq.{getD-take, length-take-le}
+use Rattle.model.specs.Lists.{count, count-place, place-count}
+use Rattle.model.specs.Model.{Entity, SparseSet, Component, Family, sameEntity, noRow, kindOf, entityOf, isLive}
+use Rattle.model.specs.Sound.{cnt, In, Distinct, KindsSound, EntitiesSound, SetsSound, StagedSound, ExcludedSound, layoutKinds, Buildable, AllRight}
+use Rattle.model.specs.Sound as modelSound
+use Rattle.model.proofs.Numbers.{cnt-num}
+use Rattle.model.proofs.KindLists.{in-count, count-in}
+use Rattle.words.specs.Offsets.{columnStart, columnStart-mono}
+use Rattle.words.specs.Part.{between, getD-between, length-between}
+use Rattle.words.specs.Table.{table, length-table}
+use Rattle.component.specs.SparseSet.{Sound, lengthOf}
+use Rattle.component.specs.Decides.{Each}
+use Rattle.component.proofs.Meaning.{length-rows, empty-rows}
+use Rattle.columns.specs.Columns.{columnOf, rowsOf, Columns, Lent}
+use Rattle.columns.proofs.Slots.{lent}
+use Rattle.entity.specs.Meaning as entity
+use Rattle.entity.specs.Change.{entityPart, entitiesIn}
+use Rattle.entity.proofs.Lookups.{issued-is}
+use Rattle.entity.proofs.Numbering.{entities-ok}
+use Rattle.layout.specs.Layout.{Arrays, Sized, blockArrays, startOf, widthOf, groupCount, familiesOf, KindSet, WellFormed}
+use Rattle.blocks.specs.Blocks.{BlockFormed}
+use Rattle.blocks.specs.Checks.{BlockSound}
+use Rattle.blocks.proofs.Agree.{block-sized}
+use Rattle.blocks.proofs.Buildable.{block-buildable, uncounted}
+use Rattle.memory.specs.Header.{capacityOf, kindCapacityOf, registeredOf, stagedLen, excludedLen, draftFamilies, draftGroups, layoutFamilies, layoutGroups, refusalsOf, slotOf, stagedLowAt, stagedHighAt, excludedAt, groupFamilyAt}
+use Rattle.memory.specs.Meaning.{kindAt, ownAt, kindsIn, setAt, setsIn, draftArrays, layoutArrays, draftIn, layoutIn, stagedAt, stagedIn, excludedIn, meaning}
+use Rattle.memory.specs.Arranged.{TableSound, Registered, GroupSound, LayoutSound, Arranged, Sound as StoreSound}
+use Rattle.memory.proofs.Frames.{start-header}
+use Rattle.clauses.specs.Slots.{Room, headAt}
+use Rattle.clauses.specs.Table.{TableOk}
+use Rattle.clauses.specs.Rows.{entityIn, RowLive, ColumnOk}
+use Rattle.clauses.specs.Listed.{Listed, ListOk}
+use Rattle.grouping.specs.Spans.{startIn, Force, GroupOf, HeadsOk, OwnOk}
+use Rattle.grouping.specs.Counts.{CountedOk}
+use Rattle.clauses.proofs.ListLaws.{at-in}
+use Rattle.clauses.proofs.SlotLaws.{room-long, room-less, key-word}
+use Rattle.soundness.specs.ByNumber.{GroupAt}
+use Rattle.soundness.specs.Parts.{SizeOk, PartsOk, ListsOk, LayoutOk, CountsOk}
+use Rattle.soundness.proofs.TableLaws.{Tabled, RowsOk, registered-slot, registered-small, slot-registered, kinds-sound, sets-sound, sets-alive}
+use Rattle.soundness.proofs.ColumnLaws.{rows-once, rows-values, value-eight, between-below}
+use Rattle.soundness.proofs.StagedLaws.{map-table, table-between, staged-sound}
+use Rattle.soundness.proofs.LayoutLaws.{layout-kinds}
+use Rattle.soundness.proofs.GroupLaws.{families-right, right-families}
+use Rattle.soundness.proofs.FlatLaws.{Within, families-each, each-families, prior-fits}
+use Rattle.soundness.proofs.WordLaws.{Reads, layout-reads, kind-start, layout-words}
+use Rattle.soundness.proofs.ForceLaws.{force, group-of, low-of, high-of, heads-group, group-heads, counted-at, at-counted}
+
+-- ---- the table of kinds
+
+-- words are of 32 bits
+abbrev pub Bits : List ℕ → Type 0
+Bits w = (i : ℕ) → getD w i 0 < 4294967296
+
+module _ (n k : ℕ) (w : List ℕ) (Z : SizeOk n k w) where
+  pub size-room : Room n k w
+  size-room = record { small = Z .limits .most; few = Z .limits .mostKinds; size = Z .enough }
+
+  pub size-long : 1024 ≤ length w
+  size-long = room-long n k w size-room
+
+  pub size-entities : 1024 + 16 * n ≤ length w
+  size-entities = omega (arith, Z .enough, start-header n, columnStart-mono n 0 k (omega arith))
+
+module _ (w : List ℕ) where
+  abbrev n : ℕ
+  n = capacityOf w
+
+  abbrev k : ℕ
+  k = kindCapacityOf w
+
+  abbrev reg : ℕ
+  reg = registeredOf w
+
+  -- the table of kinds, as the lists' and the blocks' checks have it
+  abbrev slots : List ℕ
+  slots = between 32 160 w
+
+  slot-word : (j : ℕ) → j < 128 → getD slots j 0 ≡ slotOf w j
+  slot-word j h = getD-between 32 160 j w 0 (omega arith)
+
+  table-sound : TableOk n k w → TableSound w
+  table-sound T =
+      record {
+        few = T .few;
+        slot = λ j h. T .kinds j h .slot;
+        back = λ j h. T .kinds j h .back;
+        small = λ s h. T .slots s h .small;
+        own = λ s h. T .slots s h .own;
+      }
+
+  sound-table : TableSound w → TableOk n k w
+  sound-table T =
+      record {
+        few = T .few;
+        kinds = λ j h. record { slot = T .slot j h; back = T .back j h };
+        slots = λ s h. record { small = T .small s h; own = T .own s h };
+      }
+
+  module _ (T : TableSound w) (most : k ≤ 128) where
+    tabled : Tabled reg (kindAt w) (slotOf w)
+    tabled = record { few = omega (arith, T .few); slot = T .slot; back = T .back; small = T .small; own = T .own }
+
+    kinds-are : KindsSound k (kindsIn w)
+    unfolding kindsIn
+    kinds-are = kinds-sound reg (kindAt w) (slotOf w) tabled k (T .few)
+
+    known-in : (j : ℕ) → j < 128 → slotOf w j ≢ 255 → In (kindsIn w) j
+    unfolding kindsIn
+    known-in j h ne = slot-registered reg (kindAt w) (slotOf w) tabled j h ne
+
+    in-known : (j : ℕ) → In (kindsIn w) j → Registered w j
+    unfolding kindsIn
+    in-known j t = record { small = registered-small reg (kindAt w) (slotOf w) tabled j t; slot = registered-slot reg (kindAt w) (slotOf w) tabled j t }
+
+    -- so the table's words that are not 255 are those of the registered kinds
+    slots-in : (j : ℕ) → j < 128 → getD slots j 0 ≢ 255 → In (kindsIn w) j
+    slots-in j h ne = known-in j h (λ e. ne (slot-word j h ∙ e))
+
+    in-slots : (j : ℕ) → In (kindsIn w) j → getD slots j 0 ≢ 255
+    in-slots j t e = let r = in-known j t in omega (arith, r .slot, T .few, slot-word j (r .small))
+
+    -- ---- lists of kinds
+
+    listed-of : (l : List ℕ) → Distinct l → ((j : ℕ) → In l j → In (kindsIn w) j) → Listed slots l
+    listed-of l once known = record { once = once; small = λ j t. in-known j (known j t) .small; known = λ j t. in-slots j (known j t) }
+
+    of-listed : (l : List ℕ) → Listed slots l → (j : ℕ) → In l j → In (kindsIn w) j
+    of-listed l L j t = slots-in j (L .small j t) (L .known j t)
+
+    staged-words : stagedLen w ≤ 16 → 1024 ≤ length w → table (stagedLen w) (λ i. kindOf (stagedAt w i)) ≡ between 160 (160 + stagedLen w) w
+    staged-words few long = table-between 160 (stagedLen w) w (omega arith)
+
+    staged-are : Bits w → 1024 ≤ length w → ListOk w 160 (stagedLen w) → StagedSound (kindsIn w) (stagedIn w)
+    unfolding stagedIn
+    staged-are bits long L =
+        staged-sound (kindsIn w) (stagedLen w) (stagedAt w) (between 160 (160 + stagedLen w) w) (staged-words (L .few) long) (L .few) (L .listed .once)
+        (of-listed (between 160 (160 + stagedLen w) w) (L .listed))
+        (λ i. value-eight n w (stagedLowAt w i) (stagedHighAt w i) (bits (176 + 4 * i)) (bits (176 + 4 * i + 1)))
+
+    are-staged : 1024 ≤ length w → stagedLen w ≤ 16 → StagedSound (kindsIn w) (stagedIn w) → ListOk w 160 (stagedLen w)
+    unfolding stagedIn
+    are-staged long few S =
+        let e : map kindOf (table (stagedLen w) (stagedAt w)) ≡ between 160 (160 + stagedLen w) w = map-table kindOf (stagedLen w) (stagedAt w) ∙ staged-words few long in
+        record {
+          few = few;
+          listed =
+              listed-of (between 160 (160 + stagedLen w) w) (subst Distinct e (S .once))
+              (λ j t. S .known j (subst (λ (l : List ℕ). In l j) (sym e) t));
+        }
+
+    excluded-words : excludedLen w ≤ 16 → 1024 ≤ length w → excludedIn w ≡ between 240 (240 + excludedLen w) w
+    unfolding excludedIn
+    excluded-words few long = table-between 240 (excludedLen w) w (omega arith)
+
+    excluded-are : 1024 ≤ length w → ListOk w 240 (excludedLen w) → ExcludedSound (kindsIn w) (excludedIn w)
+    excluded-are long L =
+        let e = excluded-words (L .few) long in
+        record {
+          few = omega (arith, ap length e, length-between 240 (240 + excludedLen w) w (omega (arith, L .few)), L .few);
+          once = subst Distinct (sym e) (L .listed .once);
+          known = λ j t. of-listed (between 240 (240 + excludedLen w) w) (L .listed) j (subst (λ (l : List ℕ). In l j) e t);
+        }
+
+    are-excluded : 1024 ≤ length w → excludedLen w ≤ 16 → ExcludedSound (kindsIn w) (excludedIn w) → ListOk w 240 (excludedLen w)
+    are-excluded long few S =
+        let e = excluded-words few long in
+        record {
+          few = few;
+          listed =
+              listed-of (between 240 (240 + excludedLen w) w) (subst Distinct e (S .once))
+              (λ j t. S .known j (subst (λ (l : List ℕ). In l j) (sym e) t));
+        }
+
+    -- ---- blocks
+
+    block-of : (b : List ℕ) (f g : ℕ) (counts : List ℕ) → length b ≡ 320 → WellFormed (blockArrays b f) → g ≡ groupCount (blockArrays b f)
+        → Buildable (kindsIn w) (familiesOf counts (blockArrays b f)) → BlockSound b slots f g
+    block-of b f g counts size good groups B =
+        let a = blockArrays b f in
+        let e = layout-kinds counts a good (block-sized b f size) in
+        record {
+          formed = record { size = size; good = good; groups = groups };
+          registered = λ j c.
+              in-slots j (B .known j (subst (λ (l : List ℕ). In l j) (sym e) (count-in (take (widthOf a) (a .kinds)) j c)));
+        }
+
+    block-known : (b : List ℕ) (f g : ℕ) → BlockSound b slots f g → (j : ℕ) → In (take (widthOf (blockArrays b f)) (blockArrays b f .kinds)) j → Registered w j
+    block-known b f g B j t =
+        let l = take (widthOf (blockArrays b f)) (blockArrays b f .kinds) in
+        let c = in-count l j t in
+        let h : j < 128 = elim (decLt j 128) [ yes q ↦ q | no q ↦ absurd (omega (arith, B .formed .good .kinds .known j (omega arith))) ] in
+        in-known j (slots-in j h (B .registered j c))
+
+  -- the kinds of the layout in force, word by word
+  pub layout-known : TableSound w → k ≤ 128 → 1024 ≤ length w → BlockSound (between 576 896 w) slots (layoutFamilies w) (layoutGroups w)
+      → (i : ℕ) → i < widthOf (layoutArrays w) → Registered w (getD w (576 + i) 0)
+  layout-known T most long B i h =
+      let a = layoutArrays w in
+      let wide : widthOf a ≤ 128 = B .formed .good .wide in
+      let R = layout-reads w long in
+      let l = take (widthOf a) (a .kinds) in
+      let z : length (a .kinds) ≡ 128 = R .sized .kinds in
+      let m : length l ≡ widthOf a = length-take-le (widthOf a) (a .kinds) (omega arith) in
+      let e : getD l i 0 ≡ getD w (576 + i) 0 = getD-take (widthOf a) (a .kinds) i 0 h ∙ R .kinds i (omega arith) in
+      subst (Registered w) e (block-known T most (between 576 896 w) (layoutFamilies w) (layoutGroups w) B (getD l i 0) (at-in l i (omega arith)))
+
+  -- ---- columns
+
+  columns-are : SizeOk n k w → Each k (ColumnOk n reg w) → Columns n k w
+  columns-are Z C = record { small = Z .limits .most; few = Z .limits .mostKinds; size = Z .enough; columns = λ s h. C s h .sound }
+
+  abbrev live : List Entity
+  live = entitiesIn n w .live
+
+  live-count : (e : Entity) → isLive e (entitiesIn n w) ≡ true → 1 ≤ cnt e live
+  live-count e t = place-count sameEntity e live (ltb-true _ _ t)
+
+  count-live : (e : Entity) → 1 ≤ cnt e live → isLive e (entitiesIn n w) ≡ true
+  count-live e c = lt-ltb _ _ (count-place sameEntity e live c)
+
+  -- the entity of a row, as the words have it
+  row-entity : (s : ℕ) → Lent n s w → (i : ℕ) → i < length (rowsOf n s w) → getD (rowsOf n s w) i noRow .entity ≡ entityIn w (columnStart n s + 8 + 2 * i)
+  row-entity s L i h = sym (List·getD-map entityOf (rowsOf n s w) i noRow) ∙ key-word n s w L i h
+
+  column-bits : Bits w → (s : ℕ) → Bits (columnOf n s w)
+  unfolding columnOf
+  column-bits bits s = between-below 4294967296 (columnStart n s) (columnStart n s + (8 + 6 * n)) w (omega arith) bits
+
+  sets-are : TableSound w → k ≤ 128 → Bits w → Columns n k w → Each k (ColumnOk n reg w) → SetsSound (kindsIn w) live (setsIn w)
+  unfolding kindsIn setsIn
+  sets-are T most bits D C =
+      sets-sound reg (kindAt w) (slotOf w) (tabled T most) (λ s. rowsOf n s w) live
+      (λ s h.
+      let q : s < k = omega (arith, T .few) in
+      record {
+        once = rows-once n (columnOf n s w) (C s q .sound);
+        alive = λ i lt.
+            subst (λ (e : Entity). 1 ≤ cnt e live) (sym (row-entity s (lent n k s w D q) i lt))
+            (live-count (entityIn w (columnStart n s + 8 + 2 * i)) (C s q .alive i (omega (arith, length-rows n (columnOf n s w)))));
+        values = rows-values n (columnOf n s w) (column-bits bits s);
+      })
+
+  alive-of : TableSound w → k ≤ 128 → Columns n k w → SetsSound (kindsIn w) live (setsIn w) → (s : ℕ) → s < reg → Each (lengthOf (columnOf n s w)) (RowLive n w (columnStart n s + 8))
+  unfolding kindsIn setsIn
+  alive-of T most D S s h i lt =
+      let q : s < k = omega (arith, T .few) in
+      let l : i < length (rowsOf n s w) = omega (arith, length-rows n (columnOf n s w)) in
+      count-live (entityIn w (columnStart n s + 8 + 2 * i))
+      (subst (λ (e : Entity). 1 ≤ cnt e live) (row-entity s (lent n k s w D q) i l)
+      (sets-alive reg (kindAt w) (slotOf w) (tabled T most) (λ s. rowsOf n s w) live S s h i l))
+
+  entities-are : Bits w → entity.Sound n (entityPart n w) → EntitiesSound n (entitiesIn n w)
+  entities-are bits s =
+      let e = entities-ok n (entityPart n w) s (between-below 4294967296 1024 (1024 + 16 * n) w (omega arith) bits) in
+      record {
+        few = rw (issued-is n (entityPart n w)) (s .few);
+        below = e .below;
+        single = e .single;
+        positive = e .positive;
+        small = e .small;
+      }
+
+  live-once : EntitiesSound n (entitiesIn n w) → (x : Entity) → cnt x live ≤ 1
+  live-once E x = omega (arith, cnt-num x live, E .single (x .index))
+
+  -- ---- the layout in force
+
+  abbrev a : Arrays
+  a = layoutArrays w
+
+  module _ (long : 1024 ≤ length w) where
+    abbrev R : Reads w a
+    R = layout-reads w long
+
+    -- the kinds of the layout in force, as a part of the words
+    own-words : WellFormed a → take (widthOf a) (a .kinds) ≡ between 576 (576 + startIn w 768 (layoutFamilies w)) w
+    own-words good =
+        layout-words w a R good ∙ ap (λ (x : ℕ). between 576 (576 + x) w) (kind-start w a R (layoutFamilies w) (omega (arith, good .few)))
+
+    module _ (good : WellFormed a) (known : (i : ℕ) → i < widthOf a → Registered w (getD w (576 + i) 0)) where
+      layout-are : LayoutOk n w → LayoutSound w
+      layout-are Y =
+          record {
+            formed = good;
+            count = Y .block .formed .groups;
+            groups = λ g h.
+                let H = Y .heads g h in
+                let f = groupFamilyAt w g in
+                heads-group w a R good known f g (H .of .family) (low-of w a R good known g f (H .of)) (high-of w a R good known g f (H .of)) (H .heads);
+            none = λ s h o. subst (λ (l : List ℕ). In l (kindAt w s)) (sym (own-words good)) (Y .own s h o);
+          }
+
+      are-heads : LayoutSound w → Each (layoutGroups w) (HeadsOk n (layoutFamilies w) w)
+      are-heads Y g h =
+          let G = Y .groups g h in
+          let f = groupFamilyAt w g in
+          record {
+            of = group-of w a R good known g f (G .family) (G .low) (G .high);
+            heads = group-heads w a R good known f g (G .family) (G .low) (G .high) G;
+          }
+
+      are-own : LayoutSound w → Each (registeredOf w) (OwnOk n w (between 576 (576 + startIn w 768 (layoutFamilies w)) w))
+      are-own Y s h o = subst (λ (l : List ℕ). In l (kindAt w s)) (own-words good) (Y .none s h o)
+
+      -- ---- the counts
+
+      within : Each (layoutGroups w) (HeadsOk n (layoutFamilies w) w) → layoutGroups w ≡ groupCount a → (g : ℕ) → g < groupCount a → Within a g (groupFamilyAt w g)
+      within H e g lt =
+          let o = H g (omega arith) .of in
+          let f = groupFamilyAt w g in
+          record { family = o .family; low = low-of w a R good known g f o; high = high-of w a R good known g f o }
+
+      module _ (A : Arranged w) (H : Each (layoutGroups w) (HeadsOk n (layoutFamilies w) w)) (S : SetsSound (kindsIn w) live (setsIn w)) (once : (x : Entity) → cnt x live ≤ 1) (B : Buildable (kindsIn w) (layoutIn w)) where
+        abbrev of : ℕ → ℕ
+        of g = groupFamilyAt w g
+
+        abbrev counts : List ℕ
+        counts = between 960 1024 w
+
+        inside : (g : ℕ) → g < groupCount a → Within a g (of g)
+        inside = within H (A .layout .count)
+
+        groups-are : CountsOk n w → AllRight (setsIn w) live (layoutIn w)
+        unfolding layoutIn
+        groups-are K =
+            families-right (kindsIn w) live (setsIn w) S once (familiesOf counts a) (B .families)
+            (each-families (setsIn w) counts a good (R .sized) of inside
+            (λ g lt.
+            let i = inside g lt in
+            counted-at w a R good known (of g) g (i .family) (i .low) (i .high) A (K g (omega (arith, A .layout .count)))))
+
+        are-groups : AllRight (setsIn w) live (layoutIn w) → CountsOk n w
+        unfolding layoutIn
+        are-groups G g h =
+            let F = right-families (kindsIn w) live (setsIn w) S once (familiesOf counts a) (B .families) G in
+            let each = families-each (setsIn w) counts a good (R .sized) of inside F in
+            let lt : g < groupCount a = omega (arith, A .layout .count) in
+            let i = inside g lt in
+            at-counted w a R good known (of g) g (i .family) (i .low) (i .high) A (each g lt) (prior-fits (setsIn w) counts a good (R .sized) of inside each g lt)
+
+  -- ---- from the clauses
+
+  module _ (Z : SizeOk n k w) (P : PartsOk n k w) where
+    abbrev T : TableSound w
+    T = table-sound (P .table)
+
+    pub forced : (block : BlockSound (between 576 896 w) slots (layoutFamilies w) (layoutGroups w)) → Force n (layoutFamilies w) w
+    forced block =
+        let l = size-long n k w Z in
+        force w a (layout-reads w l) (block .formed .good) (layout-known T (Z .limits .mostKinds) l block) n k (columns-are Z (P .columns)) (P .table .few)
+
+    -- what the check of the columns' own groups asks, with the layout's width read
+    module _ (block : BlockSound (between 576 896 w) slots (layoutFamilies w) (layoutGroups w)) (width : ℕ) (e : width ≡ startIn w 768 (layoutFamilies w)) where
+      abbrev reach : 1024 ≤ length w
+      reach = size-long n k w Z
+
+      width-is : width ≡ widthOf a
+      width-is = e ∙ sym (kind-start w a (layout-reads w reach) (layoutFamilies w) (omega (arith, block .formed .good .few)))
+
+      pub own-room : Room n reg w
+      own-room = room-less n k w (size-room n k w Z) reg (P .table .few)
+
+      pub own-heads : (s : ℕ) → s < reg → headAt n w s 1 < 128
+      own-heads s h = P .table .slots s h .small
+
+      pub own-width : (width ≤ 128) × (704 ≤ length w)
+      own-width = (omega (arith, width-is, block .formed .good .wide), omega (arith, reach))
+
+      pub own-kinds : (i : ℕ) → i < width → getD w (576 + i) 0 < 128
+      own-kinds i h = layout-known T (Z .limits .mostKinds) reach block i (omega (arith, width-is)) .small
+
+    pub groups-few : BlockSound (between 576 896 w) slots (layoutFamilies w) (layoutGroups w) → layoutGroups w ≤ 63
+    groups-few block = omega (arith, block .formed .groups, block .formed .good .many)
+
+    module _ (L : ListsOk w) (Y : LayoutOk n w) where
+      abbrev most : k ≤ 128
+      most = Z .limits .mostKinds
+
+      abbrev long : 1024 ≤ length w
+      long = size-long n k w Z
+
+      layout-sound : LayoutSound w
+      layout-sound = layout-are long (Y .block .formed .good) (layout-known T most long (Y .block)) Y
+
+      arranged-of : Arranged w
+      arranged-of =
+          record {
+            limits = Z .limits;
+            enough = Z .enough;
+            table = T;
+            entities = P .entities;
+            columns = columns-are Z (P .columns);
+            vacant = λ s r h. empty-rows n (columnOf n s w) (P .columns s h .vacant r);
+            staged = L .staged .few;
+            excluded = L .excluded .few;
+            draft = L .draft .formed .good;
+            draftCount = L .draft .formed .groups;
+            layout = layout-sound;
+          }
+
+      draft-are : Buildable (kindsIn w) (draftIn w)
+      unfolding draftIn
+      draft-are = block-buildable (between 256 576 w) slots (draftFamilies w) (draftGroups w) [] (kindsIn w) (L .draft) (slots-in T most)
+
+      layout-build : Buildable (kindsIn w) (layoutIn w)
+      unfolding layoutIn
+      layout-build = block-buildable (between 576 896 w) slots (layoutFamilies w) (layoutGroups w) (between 960 1024 w) (kindsIn w) (Y .block) (slots-in T most)
+
+      uncounted-are : modelSound.AllUncounted (draftIn w)
+      unfolding draftIn
+      uncounted-are = uncounted (draftArrays w)
+
+      module _ (bits : Bits w) (K : CountsOk n w) where
+        abbrev E : EntitiesSound n (entitiesIn n w)
+        E = entities-are bits (P .entities)
+
+        abbrev S : SetsSound (kindsIn w) live (setsIn w)
+        S = sets-are T most bits (columns-are Z (P .columns)) (P .columns)
+
+        means-of : modelSound.Sound (meaning w)
+        unfolding meaning
+        means-of =
+            record {
+              limits = Z .limits;
+              kinds = kinds-are T most;
+              entities = E;
+              sets = S;
+              staged = staged-are T most bits long (L .staged);
+              excluded = excluded-are T most long (L .excluded);
+              draft = draft-are;
+              uncounted = uncounted-are;
+              layout = layout-build;
+              groups = groups-are long (Y .block .formed .good) (layout-known T most long (Y .block)) arranged-of (Y .heads) S (live-once E) layout-build K;
+              refusals = omega (arith, bits 16);
+            }
+
+        pub sound-of : StoreSound w
+        sound-of = record { arranged = arranged-of; means = means-of }
+
+  -- ---- and to them
+
+  -- what the model says of the store that the words mean
+  pub record Means : Type 0 where
+    pub entities : EntitiesSound n (entitiesIn n w)
+    pub sets : SetsSound (kindsIn w) live (setsIn w)
+    pub staged : StagedSound (kindsIn w) (stagedIn w)
+    pub excluded : ExcludedSound (kindsIn w) (excludedIn w)
+    pub draft : Buildable (kindsIn w) (draftIn w)
+    pub layout : Buildable (kindsIn w) (layoutIn w)
+    pub groups : AllRight (setsIn w) live (layoutIn w)
+
+  means : modelSound.Sound (meaning w) → Means
+  unfolding meaning
+  means S = record { entities = S .entities; sets = S .sets; staged = S .staged; excluded = S .excluded; draft = S .draft; layout = S .layout; groups = S .groups }
+
+  module _ (X : StoreSound w) where
+    abbrev A : Arranged w
+    A = X .arranged
+
+    abbrev M : Means
+    M = means (X .means)
+
+    abbrev small : k ≤ 128
+    small = A .limits .mostKinds
+
+    pub size-of : SizeOk n k w
+    size-of = record { limits = A .limits; enough = A .enough }
+
+    abbrev far : 1024 ≤ length w
+    far = size-long n k w size-of
+
+    pub parts-of : PartsOk n k w
+    parts-of =
+        record {
+          table = sound-table (A .table);
+          entities = A .entities;
+          columns = λ s h.
+              let z : reg ≤ s → lengthOf (columnOf n s w) ≡ 0 = λ r. sym (length-rows n (columnOf n s w)) ∙ ap length (A .vacant s r h) in
+              record {
+                sound = A .columns .columns s h;
+                vacant = z;
+                alive = λ i lt.
+                    elim (decLe reg s) [
+                      | yes q ↦ absurd (omega (arith, z q))
+                      | no q ↦ alive-of (A .table) small (A .columns) (M .sets) s (omega arith) i lt
+                    ];
+              };
+        }
+
+    draft-of : BlockSound (between 256 576 w) slots (draftFamilies w) (draftGroups w)
+    unfolding draftIn
+    draft-of =
+        block-of (A .table) small (between 256 576 w) (draftFamilies w) (draftGroups w) [] (length-between 256 576 w (omega (arith, far))) (A .draft) (A .draftCount) (M .draft)
+
+    layout-block : BlockSound (between 576 896 w) slots (layoutFamilies w) (layoutGroups w)
+    unfolding layoutIn
+    layout-block =
+        block-of (A .table) small (between 576 896 w) (layoutFamilies w) (layoutGroups w) (between 960 1024 w) (length-between 576 896 w (omega (arith, far)))
+        (A .layout .formed) (A .layout .count) (M .layout)
+
+    pub lists-of : ListsOk w
+    lists-of =
+        record {
+          staged = are-staged (A .table) small far (A .staged) (M .staged);
+          excluded = are-excluded (A .table) small far (A .excluded) (M .excluded);
+          draft = draft-of;
+        }
+
+    kinds-known : (i : ℕ) → i < widthOf a → Registered w (getD w (576 + i) 0)
+    kinds-known = layout-known (A .table) small far layout-block
+
+    pub layout-of : LayoutOk n w
+    layout-of =
+        record {
+          block = layout-block;
+          heads = are-heads far (A .layout .formed) kinds-known (A .layout);
+          own = are-own far (A .layout .formed) kinds-known (A .layout);
+        }
+
+    pub counts-of : CountsOk n w
+    counts-of =
+        are-groups far (A .layout .formed) kinds-known A (layout-of .heads) (M .sets) (live-once (M .entities)) (M .layout) (M .groups)

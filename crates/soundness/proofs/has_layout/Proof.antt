@@ -1,0 +1,93 @@
+use mathlib.Core.Path.{_≡_, refl, sym, ap, ap₂, _∙_, subst}
+use Prim.Native.Nat.{ℕ, _+_, _*_, _-_, _≤_, _<_}
+use native.Mathlib.Omega.{arith}
+use lib.ListN.{length, getD}
+use borrow.Author.Needs.{needs}
+use Rattle.clauses.proofs.SlotLaws.{granted, denied}
+use Rattle.words.specs.Decides.{granted as blockGranted, denied as blockDenied}
+use Rattle.words.specs.Part.{between}
+use Rattle.blocks.specs.Checks.{BlockSound}
+use Rattle.memory.specs.Header.{capacityOf, kindCapacityOf, registeredOf, layoutFamilies, layoutGroups}
+use Rattle.component.specs.Decides.{Each}
+use Rattle.grouping.specs.Spans.{startIn, HeadsOk, OwnOk}
+use Rattle.soundness.proofs.Whole.{size-long, forced, groups-few, own-room, own-heads, own-width, own-kinds}
+use Rattle.soundness.proofs.has_layout.Statement.{statement}
+use Rattle.soundness.proofs.has_layout.Tie as tie
+
+shared-slice-read-n : tie.Need-shared-slice-read-n
+shared-slice-read-n c = let a = c .before .before .args in omega (arith, size-long (capacityOf (a .words .now)) (kindCapacityOf (a .words .now)) (a .words .now) (c .before .before .pre .size))
+
+cast-n : tie.Need-cast-n
+cast-n c = omega (arith, c .before .shared-slice-known .given 0)
+
+shared-slice-read-families : tie.Need-shared-slice-read-families
+shared-slice-read-families c = let a = c .before .before .before .args in omega (arith, size-long (capacityOf (a .words .now)) (kindCapacityOf (a .words .now)) (a .words .now) (c .before .before .before .pre .size))
+
+cast-families : tie.Need-cast-families
+cast-families c = omega (arith, c .before .before .shared-slice-known .given 7)
+
+shared-slice-read-groups : tie.Need-shared-slice-read-groups
+shared-slice-read-groups c = let a = c .before .before .before .before .args in omega (arith, size-long (capacityOf (a .words .now)) (kindCapacityOf (a .words .now)) (a .words .now) (c .before .before .before .before .pre .size))
+
+cast-groups : tie.Need-cast-groups
+cast-groups c = omega (arith, c .before .before .before .shared-slice-known .given 8)
+
+part-block-ok-end : tie.Need-part-block-ok-end
+part-block-ok-end c = let a = c .before .before .before .before .args in omega (arith, size-long (capacityOf (a .words .now)) (kindCapacityOf (a .words .now)) (a .words .now) (c .before .before .before .before .pre .size))
+
+part-block-ok-end-2 : tie.Need-part-block-ok-end-2
+part-block-ok-end-2 c = let a = c .before .before .before .before .before .args in omega (arith, size-long (capacityOf (a .words .now)) (kindCapacityOf (a .words .now)) (a .words .now) (c .before .before .before .before .before .pre .size))
+
+returns : tie.Need-returns
+returns c = let a = c .before .before .before .before .before .before .before .before .args in λ T. blockDenied {P = BlockSound (between 576 896 (a .words .now)) (between 32 160 (a .words .now)) (layoutFamilies (a .words .now)) (layoutGroups (a .words .now))} (c .before .block-ok .result) (c .before .block-ok .ensures) (c .if1 .taken) (T .block)
+
+are-heads-requires : tie.Need-are-heads-requires
+are-heads-requires c κs = let a = c .before .before .before .before .before .before .before .before .args in let B : BlockSound (between 576 896 (a .words .now)) (between 32 160 (a .words .now)) (layoutFamilies (a .words .now)) (layoutGroups (a .words .now)) = blockGranted {P = BlockSound (between 576 896 (a .words .now)) (between 32 160 (a .words .now)) (layoutFamilies (a .words .now)) (layoutGroups (a .words .now))} (c .before .block-ok .result) (c .before .block-ok .ensures) (c .if1 .left) in (forced (a .words .now) (c .before .before .before .before .before .before .before .before .pre .size) (c .before .before .before .before .before .before .before .before .pre .parts) B, groups-few (a .words .now) (c .before .before .before .before .before .before .before .before .pre .size) (c .before .before .before .before .before .before .before .before .pre .parts) B)
+
+returns-2 : tie.Need-returns-2
+returns-2 c = let a = c .before .before .before .before .before .before .before .before .before .before .args in λ T. denied (Each (layoutGroups (a .words .now)) (HeadsOk (capacityOf (a .words .now)) (layoutFamilies (a .words .now)) (a .words .now))) (c .before .are-heads .result) (c .before .are-heads .ensures) (c .if2 .taken) (T .heads)
+
+start-in-requires : tie.Need-start-in-requires
+start-in-requires c κs = let a = c .before .before .before .before .before .before .before .before .before .before .args in let B : BlockSound (between 576 896 (a .words .now)) (between 32 160 (a .words .now)) (layoutFamilies (a .words .now)) (layoutGroups (a .words .now)) = blockGranted {P = BlockSound (between 576 896 (a .words .now)) (between 32 160 (a .words .now)) (layoutFamilies (a .words .now)) (layoutGroups (a .words .now))} (c .before .before .before .block-ok .result) (c .before .before .before .block-ok .ensures) (c .before .before .if1 .left) in omega (arith, size-long (capacityOf (a .words .now)) (kindCapacityOf (a .words .now)) (a .words .now) (c .before .before .before .before .before .before .before .before .before .before .pre .size), B .formed .good .few)
+
+shared-slice-read-are-own : tie.Need-shared-slice-read-are-own
+shared-slice-read-are-own c = let a = c .before .before .before .before .before .before .before .before .before .before .before .before .args in omega (arith, size-long (capacityOf (a .words .now)) (kindCapacityOf (a .words .now)) (a .words .now) (c .before .before .before .before .before .before .before .before .before .before .before .before .pre .size))
+
+cast-are-own : tie.Need-cast-are-own
+cast-are-own c = omega (arith, c .before .before .before .before .before .before .before .before .before .before .before .shared-slice-known .given 2)
+
+are-own-requires : tie.Need-are-own-requires
+are-own-requires c κs = let a = c .before .before .before .before .before .before .before .before .before .before .before .before .args in let B : BlockSound (between 576 896 (a .words .now)) (between 32 160 (a .words .now)) (layoutFamilies (a .words .now)) (layoutGroups (a .words .now)) = blockGranted {P = BlockSound (between 576 896 (a .words .now)) (between 32 160 (a .words .now)) (layoutFamilies (a .words .now)) (layoutGroups (a .words .now))} (c .before .before .before .before .before .block-ok .result) (c .before .before .before .before .before .block-ok .ensures) (c .before .before .before .before .if1 .left) in (own-room (a .words .now) (c .before .before .before .before .before .before .before .before .before .before .before .before .pre .size) (c .before .before .before .before .before .before .before .before .before .before .before .before .pre .parts) B (c .before .start-in .result) (c .before .start-in .ensures .is), (own-heads (a .words .now) (c .before .before .before .before .before .before .before .before .before .before .before .before .pre .size) (c .before .before .before .before .before .before .before .before .before .before .before .before .pre .parts) B (c .before .start-in .result) (c .before .start-in .ensures .is), (own-width (a .words .now) (c .before .before .before .before .before .before .before .before .before .before .before .before .pre .size) (c .before .before .before .before .before .before .before .before .before .before .before .before .pre .parts) B (c .before .start-in .result) (c .before .start-in .ensures .is), own-kinds (a .words .now) (c .before .before .before .before .before .before .before .before .before .before .before .before .pre .size) (c .before .before .before .before .before .before .before .before .before .before .before .before .pre .parts) B (c .before .start-in .result) (c .before .start-in .ensures .is))))
+
+returns-3 : tie.Need-returns-3
+returns-3 c = let a = c .before .before .before .before .before .before .before .before .before .before .before .before .before .before .args in λ T. denied (Each (registeredOf (a .words .now)) (OwnOk (capacityOf (a .words .now)) (a .words .now) (between 576 (576 + c .before .before .before .start-in .result) (a .words .now)))) (c .before .are-own .result) (c .before .are-own .ensures) (c .if3 .taken) (subst (λ (x : ℕ). Each (registeredOf (a .words .now)) (OwnOk (capacityOf (a .words .now)) (a .words .now) (between 576 (576 + x) (a .words .now)))) (sym (c .before .before .before .start-in .ensures .is)) (T .own))
+
+returns-4 : tie.Need-returns-4
+returns-4 c = let a = c .before .before .before .before .before .before .before .before .before .before .before .before .before .before .args in let B : BlockSound (between 576 896 (a .words .now)) (between 32 160 (a .words .now)) (layoutFamilies (a .words .now)) (layoutGroups (a .words .now)) = blockGranted {P = BlockSound (between 576 896 (a .words .now)) (between 32 160 (a .words .now)) (layoutFamilies (a .words .now)) (layoutGroups (a .words .now))} (c .before .before .before .before .before .before .before .block-ok .result) (c .before .before .before .before .before .before .before .block-ok .ensures) (c .before .before .before .before .before .before .if1 .left) in record { block = B; heads = granted (Each (layoutGroups (a .words .now)) (HeadsOk (capacityOf (a .words .now)) (layoutFamilies (a .words .now)) (a .words .now))) (c .before .before .before .before .before .are-heads .result) (c .before .before .before .before .before .are-heads .ensures) (c .before .before .before .before .if2 .left); own = subst (λ (x : ℕ). Each (registeredOf (a .words .now)) (OwnOk (capacityOf (a .words .now)) (a .words .now) (between 576 (576 + x) (a .words .now)))) (c .before .before .before .start-in .ensures .is) (granted (Each (registeredOf (a .words .now)) (OwnOk (capacityOf (a .words .now)) (a .words .now) (between 576 (576 + c .before .before .before .start-in .result) (a .words .now)))) (c .before .are-own .result) (c .before .are-own .ensures) (c .if3 .left)) }
+
+pub has-layout-spec : {M : Type 1} → statement M
+has-layout-spec =
+    tie.close
+    (tie.spec
+    shared-slice-read-n
+    cast-n
+    shared-slice-read-families
+    cast-families
+    shared-slice-read-groups
+    cast-groups
+    (λ c. search needs)
+    (λ c. search needs)
+    part-block-ok-end
+    (λ c. search needs)
+    (λ c. search needs)
+    part-block-ok-end-2
+    (λ c κs. search needs)
+    returns
+    are-heads-requires
+    returns-2
+    start-in-requires
+    shared-slice-read-are-own
+    cast-are-own
+    are-own-requires
+    returns-3
+    returns-4)

@@ -1,0 +1,50 @@
+-- The clauses of a sound store in the order in which they are decided, each on grounds of those before: together they are `memory`'s `Sound`
+-- (proofs/Whole.antt). Assumes nothing.
+use mathlib.Core.List.{List}
+use Prim.Native.Nat.{ℕ, _+_, _≤_}
+use lib.ListN.{length}
+use Rattle.model.specs.Sound.{Limits}
+use Rattle.words.specs.Offsets.{columnStart}
+use Rattle.words.specs.Part.{between}
+use Rattle.component.specs.Decides.{Each}
+use Rattle.entity.specs.Meaning as entity
+use Rattle.entity.specs.Change.{entityPart}
+use Rattle.blocks.specs.Checks.{BlockSound}
+use Rattle.memory.specs.Header.{capacityOf, kindCapacityOf, registeredOf, stagedLen, excludedLen, draftFamilies, draftGroups, layoutFamilies, layoutGroups}
+use Rattle.clauses.specs.Table.{TableOk}
+use Rattle.clauses.specs.Rows.{ColumnOk}
+use Rattle.clauses.specs.Listed.{ListOk}
+use Rattle.grouping.specs.Spans.{startIn, HeadsOk, OwnOk}
+use Rattle.grouping.specs.Counts.{CountedOk}
+
+-- "N and K within the limits of refusal 1, enough words for them"
+pub record SizeOk (n k : ℕ) (w : List ℕ) : Type 0 where
+  pub limits : Limits n k
+  pub enough : columnStart n k ≤ length w
+
+-- "at most K registered kinds, each with a column of its own"; the entities; "each column with its own lookups", "columns holding live cards only"
+pub record PartsOk (n k : ℕ) (w : List ℕ) : Type 0 where
+  pub table : TableOk n k w
+  pub entities : entity.Sound n (entityPart n w)
+  pub columns : Each k (ColumnOk n (registeredOf w) w)
+
+-- "hand, bar, draft .. of registered kinds, such as commands can build"
+pub record ListsOk (w : List ℕ) : Type 0 where
+  pub staged : ListOk w 160 (stagedLen w)
+  pub excluded : ListOk w 240 (excludedLen w)
+  pub draft : BlockSound (between 256 576 w) (between 32 160 w) (draftFamilies w) (draftGroups w)
+
+-- what the clauses on the layout stand on
+pub record Ground (w : List ℕ) : Type 0 where
+  pub size : SizeOk (capacityOf w) (kindCapacityOf w) w
+  pub parts : PartsOk (capacityOf w) (kindCapacityOf w) w
+
+-- "layout of registered kinds, such as commands can build", and the heads of the columns that it names
+pub record LayoutOk (n : ℕ) (w : List ℕ) : Type 0 where
+  pub block : BlockSound (between 576 896 w) (between 32 160 w) (layoutFamilies w) (layoutGroups w)
+  pub heads : Each (layoutGroups w) (HeadsOk n (layoutFamilies w) w)
+  pub own : Each (registeredOf w) (OwnOk n w (between 576 (576 + startIn w 768 (layoutFamilies w)) w))
+
+-- "groups as demand 3 says"
+abbrev pub CountsOk : ℕ → List ℕ → Type 0
+CountsOk n w = Each (layoutGroups w) (CountedOk n w)
