@@ -4,3 +4,4 @@ pub mod insert;
 pub mod mask;
 pub mod remove;
 pub mod strip;
+pub mod take;
