@@ -9,19 +9,13 @@ use lib.Seq.{getD-take, length-take-le}
 use Rattle.words.specs.Part.{between, length-between, getD-between}
 use Rattle.layout.specs.Layout.{Arrays, arraysIn, arraysOf, blockArrays, Sized, startOf, widthOf, groupCount, aritiesAt, familiesOf, meaning, blockMeaning, KindSet, Rising, WellFormed, Formed}
 use Rattle.layout.specs.declared.group_layout.Layout.{Layout}
-use Rattle.layout.proofs.Family.{rising-le}
+use Rattle.layout.proofs.Family.{rising-at}
 use Rattle.layout.proofs.Arrays.{kinds-inside, groups-inside, group-order, arities-length}
 use Rattle.blocks.specs.Blocks.{BlockFormed, ReadFrom, WrittenTo, FetchAsk, Fetched, PutAt}
 use Rattle.blocks.proofs.Agree.{block-sized, agree-means, agree-formed, agree-width, agree-groups}
 use Rattle.blocks.proofs.Checking.{kind-counts}
 
 -- ---- what stands in the used parts is small
-
-rising-at : (b n : ℕ) (ars : List ℕ) (j : ℕ) → Rising b n ars → j < length ars → getD ars j 0 ≤ n
-unfolding Rising
-rising-at b n [] j r h = absurd (omega arith)
-rising-at b n (a ∷ ars) zero r h = rising-le a n ars (r .1)
-rising-at b n (a ∷ ars) (suc j) r h = rising-at a n ars j (r .1) (omega arith)
 
 pub arity-small : (a : Arrays) → WellFormed a → Sized a → (m : ℕ) → m ≤ a .families → (g : ℕ) → g < startOf (a .ends) m → getD (a .arities) g 0 ≤ 15
 arity-small a good sized zero h g l = absurd (omega arith)

@@ -2,8 +2,7 @@
 use mathlib.Core.Path.{_≡_}
 use mathlib.Core.Bool.{Bool, true, false, not, true≢false, false≢true}
 use mathlib.Core.List.{List}
-use Prim.Native.Nat.{ℕ, _+_, _≤_, _<_}
-use native.Mathlib.Omega.{arith}
+use Prim.Native.Nat.{ℕ}
 use Rattle.entity.specs.Decides.{Decides}
 use Rattle.entity.specs.Meaning.{Sized, Sound, lenOf, recycledLen}
 use Rattle.entity.specs.Checks.{Each, Counts, LiveOk, WaitsOk, IndexOk}

@@ -1,12 +1,11 @@
 -- A change of the entity part, as a change of the whole words. Assumes nothing.
-use mathlib.Core.Path.{_≡_, refl, sym, ap, _∙_}
+use mathlib.Core.Path.{_≡_}
 use mathlib.Core.List.{List}
 use Prim.Native.Nat.{ℕ, _+_, _*_, _-_, _≤_}
 use native.Mathlib.Omega.{arith}
 use lib.ListN.{length}
 use Rattle.model.specs.Model.{Entities}
-use Rattle.words.specs.Part.{patch, patch-front, patch-rest, patch-between, patch-length, length-between}
-use Rattle.entity.specs.Meaning.{Sized, Sound}
+use Rattle.words.specs.Part.{patch, patch-front, patch-rest, patch-between, patch-length}
 use Rattle.entity.specs.Change.{Changed, SoundIn, EntityChange, entityPart}
 
 -- the part, changed where it lies
@@ -27,6 +26,3 @@ changed-in n f w ys g c =
 -- the words have a sound entity part still
 pub sound-in : (n : ℕ) (f : Entities → Entities) (w w′ : List ℕ) → 1024 + 16 * n ≤ length w → EntityChange n f w w′ → SoundIn n w′
 sound-in n f w w′ g c = record { fits = omega (arith, c .size); sound = c .sound }
-
-pub sized-in : (n : ℕ) (w : List ℕ) → 1 ≤ n → n ≤ 4096 → 1024 + 16 * n ≤ length w → Sized n (entityPart n w)
-sized-in n w some small g = record { size = length-between 1024 (1024 + 16 * n) w g ∙ omega arith; some = some; small = small }

@@ -1,13 +1,12 @@
 -- What a change of the ring leaves of the live list, and a change of the live list of the ring. Assumes nothing.
-use mathlib.Core.Path.{_≡_, refl, sym, ap, _∙_}
-use mathlib.Core.Logic.{_≢_}
+use mathlib.Core.Path.{_≡_}
 use mathlib.Core.List.{List}
-use Prim.Native.Nat.{ℕ, _+_, _*_, _≤_, _<_}
+use Prim.Native.Nat.{ℕ, _≤_, _<_}
 use native.Mathlib.Omega.{arith}
 use Rattle.model.specs.Model.{Entity, Entities, noEntity}
 use Rattle.words.specs.Table.{table, table-same}
 use Rattle.words.specs.Links.{Linked, linked-same}
-use Rattle.entity.specs.Ring.{wrapped, Ring}
+use Rattle.entity.specs.Ring.{Ring}
 use Rattle.entity.specs.Meaning.{Sound, entityAt, waitingAt, lenOf, issuedOf, headOf, recycledLen, indexAt, versionAt, placeOf, heldOf, ringIndex, ringVersion, ringSlot}
 use Rattle.entity.proofs.RingLaws.{wrapped-below, listed-free, ring-same}
 

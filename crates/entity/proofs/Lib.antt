@@ -8,3 +8,4 @@ pub mod Numbering
 pub mod Zeros
 pub mod Checking
 pub mod InWords
+pub mod Known

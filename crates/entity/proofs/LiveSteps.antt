@@ -1,5 +1,5 @@
 -- The words after an entity has joined the live list, and after one has left it. Assumes nothing.
-use mathlib.Core.Path.{_≡_, refl, sym, ap, _∙_}
+use mathlib.Core.Path.{_≡_, sym, ap, _∙_}
 use mathlib.Core.Logic.{_≢_}
 use mathlib.Core.List.{List, [], _∷_, _++_}
 use Prim.Native.Nat.{ℕ, _+_, _*_, _-_, _≤_, _<_}
@@ -9,7 +9,7 @@ use Rattle.words.specs.Table.{by-eq, table-snoc, table-removed}
 use Rattle.words.specs.Stores.{stores, miss, hit, length-stores}
 use Rattle.words.specs.Links.{apart, linked-appended, linked-removed}
 use Rattle.words.specs.Pigeon.{pigeon-free}
-use Rattle.entity.specs.Meaning.{Sized, Sound, Idle, entity, entitiesOf, entityAt, lenOf, issuedOf, headOf, recycledLen, indexAt, versionAt, placeOf, heldOf, ringIndex, ringVersion, ringSlot}
+use Rattle.entity.specs.Meaning.{Sound, Idle, entity, entitiesOf, entityAt, lenOf, issuedOf, indexAt, versionAt, placeOf, heldOf, ringSlot}
 use Rattle.entity.specs.Change.{Changed, joined, left}
 use Rattle.entity.specs.Stored.{putStores}
 use Rattle.entity.proofs.Kept.{entity-path, entities-path, kept-ring, live-unlisted}

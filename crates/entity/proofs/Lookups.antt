@@ -1,22 +1,20 @@
 -- What the lookups say of the live list. Assumes nothing.
 use mathlib.Core.Path.{_≡_, refl, sym, ap, _∙_}
 use mathlib.Core.Logic.{_≢_}
-use mathlib.Core.Bool.{Bool, true, false, cond}
+use mathlib.Core.Bool.{Bool, true, false}
 use mathlib.Core.List.{List, [], _∷_}
-use Prim.Native.Nat.{ℕ, zero, suc, _+_, _*_, _-_, _≤_, _<_}
+use Prim.Native.Nat.{ℕ, zero, suc, _-_, _≤_, _<_}
 use native.Mathlib.Omega.{arith}
 use native.Mathlib.Nat.{not-suc-le-zero, le-of-suc-le-suc}
 use native.Mathlib.Decide.{decLe}
 use borrow.Author.Tests.{lt-ltb, ltb-true, eq-eqb, ne-eqb}
-use lib.Dec.{ltb, eqb}
 use lib.ListN.{length, getD}
 use Rattle.model.specs.Lists.{place, after, getD-place}
 use Rattle.model.specs.Model.{Entity, Entities, noEntity, sameEntity, isLive}
 use Rattle.model.specs.Snapshot.{versionAt as versionIn}
 use Rattle.model.proofs.SparseSets.{entity-eq, entity-same}
 use Rattle.model.proofs.Walk.{bool-cases}
-use Rattle.words.specs.Table.{table, length-table, getD-table}
-use Rattle.entity.specs.declared.Found.{Found}
+use Rattle.words.specs.Table.{length-table, getD-table}
 use Rattle.entity.specs.declared.Found.the-variants.{At, Nothing}
 use Rattle.entity.specs.Meaning.{Sound, entity, entitiesOf, entityAt, waitingAt, lenOf, issuedOf, recycledLen, indexAt, versionAt, placeOf, heldOf}
 use Rattle.entity.specs.Answers.{foundOf, pickFound}

@@ -1,12 +1,12 @@
 -- The model's create and destroy, made of their steps. Assumes nothing.
-use mathlib.Core.Path.{_≡_, refl, sym, ap, _∙_}
+use mathlib.Core.Path.{_≡_, refl, sym, ap}
 use mathlib.Core.Bool.{Bool, true, false, cond, _&&_}
 use mathlib.Core.List.{List, [], _∷_, _++_}
 use Prim.Native.Nat.{ℕ, suc, _+_, _-_, _≤_, _<_}
 use native.Mathlib.Omega.{arith}
 use native.Mathlib.Nat.{not-suc-le-zero}
 use borrow.Author.Tests.{lt-ltb, le-ltb, le-leb, lt-leb, eq-eqb, ne-eqb, leb-false}
-use lib.Dec.{ltb, leb, eqb}
+use lib.Dec.{ltb, eqb}
 use lib.ListN.{length, getD, drop}
 use Rattle.model.specs.Lists.{place}
 use Rattle.model.specs.Model.{Entity, Entities, noEntity, sameEntity, lastVersion, create, createWith, destroy}
@@ -27,6 +27,13 @@ recycling true t x = refl
 recycling false t x = refl
 
 module _ (s : Entities) where
+  pub allocated-live : allocated s .live ≡ s .live
+  allocated-live = go (s .recycled)
+    where
+      go : (es : List Entity) → allocatedFrom es s .live ≡ s .live
+      go [] = refl
+      go (x ∷ es) = refl
+
   -- where none waits, the next index
   pub allocated-none : length (s .recycled) ≡ 0 → numbered s ≡ allocated s
   allocated-none h = go (s .recycled) h

@@ -1,18 +1,18 @@
 -- The words after a number has joined the ring, after the longest waiting one has left it, and after the next index is issued.
 -- Assumes nothing.
-use mathlib.Core.Path.{_≡_, refl, sym, ap, _∙_}
+use mathlib.Core.Path.{_≡_, sym, ap, _∙_}
 use mathlib.Core.Logic.{_≢_}
-use mathlib.Core.List.{List, [], _∷_, _++_}
-use Prim.Native.Nat.{ℕ, suc, _+_, _*_, _-_, _≤_, _<_}
+use mathlib.Core.List.{List, [], _∷_}
+use Prim.Native.Nat.{ℕ, _+_, _*_, _-_, _≤_, _<_}
 use native.Mathlib.Omega.{arith}
 use native.Mathlib.Numerals.{add-one}
-use lib.ListN.{length, getD, drop, length-drop}
+use lib.ListN.{getD, drop, length-drop}
 use lib.Seq.{getD-drop}
-use Rattle.model.specs.Model.{Entity, noEntity}
-use Rattle.words.specs.Table.{by-eq, table, is-table, length-table, getD-table, table-snoc}
+use Rattle.model.specs.Model.{noEntity}
+use Rattle.words.specs.Table.{table, is-table, length-table, getD-table, table-snoc}
 use Rattle.words.specs.Stores.{stores, miss, hit, length-stores}
 use Rattle.entity.specs.Ring.{wrapped, Waits}
-use Rattle.entity.specs.Meaning.{Sized, Sound, Idle, entity, entitiesOf, waitingAt, lenOf, issuedOf, headOf, recycledLen, indexAt, versionAt, placeOf, heldOf, ringIndex, ringVersion, ringSlot}
+use Rattle.entity.specs.Meaning.{Sound, Idle, entity, entitiesOf, waitingAt, issuedOf, headOf, recycledLen, placeOf, heldOf, ringIndex, ringVersion, ringSlot}
 use Rattle.entity.specs.Change.{Changed, queued, unqueued, numbered}
 use Rattle.entity.proofs.RingLaws.{wrapped-below, wrapped-start, wrapped-next, wrapped-apart, listed-below, ring-room, ring-pushed, ring-popped}
 use Rattle.entity.proofs.Kept.{entity-path, entities-path, none, kept-live, kept-ring}

@@ -1,16 +1,14 @@
 -- A part of zeros holds no entity. Assumes nothing.
-use mathlib.Core.Path.{_≡_, refl, sym, ap, _∙_}
+use mathlib.Core.Path.{_≡_, refl, _∙_}
 use mathlib.Core.List.{List, []}
-use Prim.Native.Nat.{ℕ, _+_, _*_, _≤_, _<_}
+use Prim.Native.Nat.{ℕ, _+_, _*_, _<_}
 use native.Mathlib.Omega.{arith}
 use native.Mathlib.Nat.{not-suc-le-zero}
-use native.Mathlib.Decide.{decLt}
-use borrow.Author.Count.{below-more}
 use lib.ListN.{length, getD, set}
 use lib.Seq.{getD-set-same, getD-set-other}
 use Rattle.words.specs.Table.{by-eq, table, is-table}
-use Rattle.model.specs.Model.{Entity, Entities, noEntity}
-use Rattle.entity.specs.Meaning.{Sized, Sound, entitiesOf, lenOf, issuedOf, headOf, recycledLen, heldOf, ringSlot}
+use Rattle.model.specs.Model.{Entity, noEntity}
+use Rattle.entity.specs.Meaning.{Sized, entitiesOf, lenOf, issuedOf, headOf, recycledLen, heldOf, ringSlot}
 use Rattle.entity.specs.Change.{Changed, noEntities}
 use Rattle.entity.proofs.Kept.{entities-path}
 

@@ -1,4 +1,4 @@
--- A ring of n places that holds c numbers from place h on, going round: the recycled numbers, longest recycled first. No words here:
+-- A ring of n places that holds c numbers from place h on, going round: the recycled numbers (01: waiting), longest recycled first. No words here:
 -- idx and ver are the places' numbers, back each index's place plus one (0: does not wait), held each index's live version (0: not live).
 -- Assumes nothing.
 use mathlib.Core.Path.{_≡_}

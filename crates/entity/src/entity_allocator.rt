@@ -6,7 +6,7 @@ ghost use Prim.Native.Nat.{_≤_, _<_, _+_};
 ghost use Rattle.entity.specs.Ring.{wrapped};
 ghost use Rattle.entity.specs.Meaning.{Sound, Idle, entity, entitiesOf, recycledLen, issuedOf};
 ghost use Rattle.entity.specs.Change.{Changed, isFull, queued, recycledAs};
-ghost use Rattle.entity.specs.Answers.{entityOf, Allocated, Unqueued, Issued};
+ghost use Rattle.entity.specs.Answers.{Allocated, Unqueued, Issued};
 
 // How many numbers are issued.
 pub fn issued(part: &[u32], n: usize) -> usize

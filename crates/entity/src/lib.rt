@@ -7,7 +7,7 @@ pub mod in_words;
 pub mod soundness;
 pub mod sparse_vec;
 
-// An index and a version. Versions start at 1.
+// An entity (01: card): an index and a version. Versions start at 1.
 pub struct Entity {
     pub index: u32,
     pub version: u32,

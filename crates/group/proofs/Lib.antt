@@ -9,3 +9,11 @@ pub mod Positions
 pub mod KindPositions
 pub mod EachKind
 pub mod AllGroups
+pub mod FlatArrays
+pub mod InWords
+pub mod Places
+pub mod Storing
+pub mod Swapping
+pub mod Status
+pub mod Stepping
+pub mod Walking

@@ -110,7 +110,7 @@ module _ (e : Entity) (s : Storage) (m g rest : ℕ) (L : LowStep m g rest) wher
     walks : walkUp e 0 (bitsOf 64 m) s ≡ walkUp e next (bitsOf 64 rest) (stepUp t e g s)
     walks = ap (λ (l : List ℕ). walkUp e 0 l s) (L .bits) ∙ walk-on e 0 g (bitsOf 64 rest) s (omega arith) t q
 
-    readies : ReadyUp e 0 (bitsOf 64 m) s ≡ (ReadyIn t e (located (s .layout) g) (s .sets) × ReadyUp e next (bitsOf 64 rest) (stepUp t e g s))
+    pub readies : ReadyUp e 0 (bitsOf 64 m) s ≡ (ReadyIn t e (located (s .layout) g) (s .sets) × ReadyUp e next (bitsOf 64 rest) (stepUp t e g s))
     readies = ap (λ (l : List ℕ). ReadyUp e 0 l s) (L .bits) ∙ ready-on e 0 g (bitsOf 64 rest) s (omega arith) t q
 
   -- a new kind is missing: the rest of the family goes out of the mask

@@ -1,2 +1,4 @@
 pub mod Flat
 pub mod Ready
+pub mod Metadata
+pub mod Steps

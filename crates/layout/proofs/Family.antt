@@ -49,6 +49,26 @@ pub rising-alone : (s : ℕ) → 2 ≤ s → Rising 1 s (s ∷ [])
 unfolding Rising
 rising-alone s h = (omega arith, refl)
 
+-- an arity is at most the number of kinds, above what comes before, and no smaller than an earlier one
+pub rising-at : (b n : ℕ) (ars : List ℕ) (j : ℕ) → Rising b n ars → j < length ars → getD ars j 0 ≤ n
+unfolding Rising
+rising-at b n [] j r h = absurd (omega arith)
+rising-at b n (a ∷ ars) zero r h = rising-le a n ars (r .1)
+rising-at b n (a ∷ ars) (suc j) r h = rising-at a n ars j (r .1) (omega arith)
+
+pub rising-above : (b n : ℕ) (ars : List ℕ) (j : ℕ) → Rising b n ars → j < length ars → b < getD ars j 0
+unfolding Rising
+rising-above b n [] j r h = absurd (omega arith)
+rising-above b n (a ∷ ars) zero r h = r .0
+rising-above b n (a ∷ ars) (suc j) r h = omega (arith, r .0, rising-above a n ars j (r .1) (omega arith))
+
+pub rising-less : (b n : ℕ) (ars : List ℕ) (i j : ℕ) → Rising b n ars → i < j → j < length ars → getD ars i 0 < getD ars j 0
+unfolding Rising
+rising-less b n [] i j r l h = absurd (omega arith)
+rising-less b n (a ∷ ars) i zero r l h = absurd (omega arith)
+rising-less b n (a ∷ ars) zero (suc j) r l h = rising-above a n ars j (r .1) (omega arith)
+rising-less b n (a ∷ ars) (suc i) (suc j) r l h = rising-less a n ars i j (r .1) (omega arith) (omega arith)
+
 -- ---- the groups
 
 -- without counts the number of the first group does not matter

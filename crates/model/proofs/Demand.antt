@@ -1,13 +1,12 @@
 -- Demand 3's statement of the groups, after each command of every tape from an empty store. Assumes nothing.
-use mathlib.Core.Path.{_≡_, refl, ap, sym, _∙_}
-use mathlib.Core.Bool.{true, false, cond}
-use mathlib.Core.List.{List, [], _∷_, _++_, map}
-use Prim.Native.Nat.{ℕ, zero, suc, _+_, _-_, _≤_, _<_}
+use mathlib.Core.Path.{_≡_, refl, ap}
+use mathlib.Core.List.{List, [], _∷_, _++_}
+use Prim.Native.Nat.{ℕ, zero, suc, _+_, _-_, _≤_}
 use native.Mathlib.Omega.{arith}
 use lib.ListN.{length, take, drop, take-append-drop}
 use lib.Seq.{take-take}
-use Rattle.model.specs.Lists.{count-take-le, count-append}
-use Rattle.model.specs.Model.{Entity, SparseSet, Group, Family, Storage, sameEntity}
+use Rattle.model.specs.Lists.{count-append}
+use Rattle.model.specs.Model.{Entity, SparseSet, Family, sameEntity}
 use Rattle.model.specs.Store.{Store, empty}
 use Rattle.model.specs.Run.{Step, stops, goes, step, Ran, halt, more, runFor, run}
 use Rattle.model.specs.History.{trailFor, trail}

@@ -1,18 +1,18 @@
 -- Adding a group keeps the draft a layout that commands can build, with all counts 0. Assumes nothing.
-use mathlib.Core.Path.{_≡_, refl, ap, ap₂, sym, _∙_, subst}
-use mathlib.Core.Bool.{Bool, true, false, cond, not, _&&_, _||_, true≢false, false≢true}
-use mathlib.Core.List.{List, [], _∷_, _++_, map, append-assoc, append-nil}
-use Prim.Native.Nat.{ℕ, zero, suc, _+_, _-_, _≤_, _<_}
+use mathlib.Core.Path.{_≡_, refl, ap, sym, _∙_, subst}
+use mathlib.Core.Bool.{Bool, true, false, not, _&&_, _||_, true≢false, false≢true}
+use mathlib.Core.List.{List, [], _∷_, _++_, append-assoc, append-nil}
+use Prim.Native.Nat.{ℕ, _+_, _≤_, _<_}
 use native.Mathlib.Omega.{arith}
-use borrow.Author.Tests.{ltb-true, ltb-false, leb-true, leb-false, eqb-true, eqb-false, eq-eqb}
+use borrow.Author.Tests.{ltb-false, leb-false, eqb-true, eq-eqb}
 use lib.Dec.{ltb, leb, eqb}
 use lib.ListN.{length, length-append}
-use Rattle.model.specs.Lists.{one, count, count-append, count-length-le}
-use Rattle.model.specs.Model.{Group, Family, Added, nothing, added, refused, mem, any, all, meets, within, sameSet, without, headKind, kindsOf, groupsOf, isGroup, present, touched, covers, newGroup, grown, addGroup, addsNothing, joins, withGroup}
+use Rattle.model.specs.Lists.{count, count-append, count-length-le}
+use Rattle.model.specs.Model.{Group, Family, Added, nothing, added, refused, mem, meets, within, sameSet, without, kindsOf, groupsOf, isGroup, present, touched, covers, newGroup, grown, addGroup, addsNothing, joins, withGroup}
 use Rattle.model.specs.Sound.{Distinct, layoutKinds, Rising, BuildableFamily, BuildableFamilies, Buildable, Uncounted, AllUncounted}
 use Rattle.model.proofs.SparseSets.{cond-case, and-left, and-right}
 use Rattle.model.proofs.Groups.{In}
-use Rattle.model.proofs.Walk.{bool-cases, in-left, in-right, in-cases, or-false, or-true, or-cases, mem-append, Missing, all-missing, all-in}
+use Rattle.model.proofs.Walk.{bool-cases, in-cases, or-false, or-true, or-cases, Missing, all-missing, all-in}
 use Rattle.model.proofs.Families.{or-false-right}
 use Rattle.model.proofs.Invariant.{any-in}
 use Rattle.model.proofs.KindLists.{not-true, in-count, out-count, count-in, count-without, distinct-right, in-length}

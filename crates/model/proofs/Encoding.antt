@@ -1,12 +1,12 @@
 -- The snapshot's bytes determine its entries. Assumes nothing.
-use mathlib.Core.Path.{_≡_, refl, ap, ap₂, sym, _∙_, subst}
-use mathlib.Core.List.{List, [], _∷_, _++_, map, append-assoc, head-eq-of-cons-eq, tail-eq-of-cons-eq, nil≢cons, cons≢nil}
-use Prim.Native.Nat.{ℕ, zero, suc, _+_, _*_, _/_, _%_, _^_, _≤_, _<_, zero-le}
+use mathlib.Core.Path.{_≡_, refl, ap₂}
+use mathlib.Core.List.{List, [], _∷_, _++_, head-eq-of-cons-eq, tail-eq-of-cons-eq, nil≢cons, cons≢nil}
+use Prim.Native.Nat.{ℕ, zero, suc, _/_, _%_, _^_, _<_}
 use native.Mathlib.Omega.{arith}
 use native.Mathlib.Nat.{pow-suc, div-lt-iff-lt-mul}
 use lib.Dec.{lit<}
 use lib.ListN.{length}
-use Rattle.model.specs.Model.{Entity, Component}
+use Rattle.model.specs.Model.{Component}
 use Rattle.model.specs.Store.{le}
 use Rattle.model.specs.Snapshot.{Entry, componentBytes, entryBytes, flat}
 

@@ -1,20 +1,19 @@
 -- Insertion over all families: every group of the layout is right after it. Assumes nothing.
-use mathlib.Core.Path.{_≡_, refl, ap, ap₂, sym, _∙_, subst}
+use mathlib.Core.Path.{_≡_, refl, ap, ap₂, sym, _∙_}
 use mathlib.Core.Logic.{_⊎_, inl, inr, ⊎-elim}
-use mathlib.Core.Bool.{Bool, true, false, cond, _&&_, _||_, true≢false, false≢true}
+use mathlib.Core.Bool.{Bool, true, false, cond, _||_, true≢false, false≢true}
 use mathlib.Core.List.{List, [], _∷_, _++_, map, append-assoc}
-use Prim.Native.Nat.{ℕ, zero, suc, _+_, _-_, _≤_, _<_}
+use Prim.Native.Nat.{ℕ, _≤_, _<_}
 use native.Mathlib.Omega.{arith}
 use native.Mathlib.Decide.{ℕ-discrete}
-use borrow.Author.Tests.{ltb-true, ltb-false, eqb-true, eq-eqb, ne-eqb}
-use lib.Dec.{ltb, eqb}
-use lib.ListN.{length, take, drop, getD, set, length-map, length-append, length-set}
+use borrow.Author.Tests.{ltb-true, eq-eqb}
+use lib.ListN.{length, take, set, length-map, length-append, length-set}
 use lib.Seq.{take-append-le, set-getD, getD-set-same, getD-set-other}
-use Rattle.model.specs.Lists.{one, place-count, place-count-take, count-take-place, count-take-le, count-place, count-append, getD-place}
-use Rattle.model.specs.Model.{Entity, Row, SparseSet, Group, Family, Component, Storage, Walked, sameEntity, noEntity, mem, any, meets, setOf, keys, entityOf, at, held, headKind, kindsOf, kindOf, insertRow, insertAll, groupFamily, groupTouched, insert}
+use Rattle.model.specs.Lists.{count-append, getD-place}
+use Rattle.model.specs.Model.{Entity, Row, SparseSet, Family, Component, Storage, Walked, sameEntity, noEntity, mem, meets, setOf, keys, entityOf, at, held, kindsOf, kindOf, insertRow, insertAll, groupFamily, groupTouched}
 use Rattle.model.proofs.SparseSets.{entity-eq, entity-same, cond-case, key, map-set}
-use Rattle.model.proofs.Groups.{cnt, plc, In, Even, Full, Inside, SameEntities, even-kept, full-kept}
-use Rattle.model.proofs.Walk.{Below, Chain, Every, But, GroupRight, Plus, Up, groupFamily-good, chain-weaken, either, bool-cases, in-left, in-right, or-false, or-true, or-cases, mem-append, held-count, lacks-count}
+use Rattle.model.proofs.Groups.{cnt, plc, In, SameEntities}
+use Rattle.model.proofs.Walk.{Chain, Every, But, Plus, Up, groupFamily-good, chain-weaken, either, bool-cases, in-left, in-right, or-false, mem-append, lacks-count}
 
 pub or-false-right : (a b : Bool) → (a || b) ≡ false → b ≡ false
 or-false-right true b h = absurd (true≢false h)
@@ -85,7 +84,7 @@ Which e l m = (m ≡ l) ⊎ ((cnt e l ≡ 0) × (m ≡ l ++ (e ∷ [])))
 put-of : (e : Entity) (ks : List ℕ) (key new : ℕ → List Entity) → ((k : ℕ) → Which e (key k) (new k)) → ((k : ℕ) → mem k ks ≡ false → new k ≡ key k) → Put e ks key new
 put-of e ks key new w o =
     record {
-      counts = λ x ne k. ⊎-elim (λ p. ap (cnt x) p) (λ p. ap (cnt x) (p .1) ∙ count-append sameEntity x (key k) (e ∷ []) ∙ rw ne (omega arith)) (w k);
+      counts = λ x ne k. ⊎-elim (λ p. ap (cnt x) p) (λ (p : (cnt e (key k) ≡ 0) × (new k ≡ key k ++ (e ∷ []))). ap (cnt x) (p .1) ∙ count-append sameEntity x (key k) (e ∷ []) ∙ rw ne (omega arith)) (w k);
       firsts = λ h k le. ⊎-elim (λ p. rw p) (λ p. rw (p .1) (take-append-le h (key k) (e ∷ []) le)) (w k);
       longer = λ k. ⊎-elim (λ p. rw p (omega arith)) (λ p. rw (p .1, length-append) (omega arith)) (w k);
       once = λ k le. ⊎-elim (λ p. rw p le) (λ p. rw (p .1, count-append, entity-same e) (omega (arith, p .0))) (w k);
@@ -161,7 +160,7 @@ chain-put e ks key new p acc (r ∷ rs) ch =
 abbrev pub famKinds : List Family → List (List ℕ)
 famKinds fs = map kindsOf fs
 
--- before the walk: right for the other entities where the staged components has a kind of the family, else right for all
+-- before the walk: right for the other entities where the staged components have a kind of the family, else right for all
 abbrev pub Pending : Entity → List ℕ → (ℕ → List Entity) → List Family → Type 0
 Pending e ks key [] = Unit {0}
 Pending e ks key (f ∷ fs) = (meets ks (kindsOf f) ≡ true → Chain key (But e) [] f) × (meets ks (kindsOf f) ≡ false → Chain key Every [] f) × Pending e ks key fs

@@ -1,11 +1,11 @@
 -- "Faults to exclude", each told apart from what is right by a computed answer: layout {1,2}, {1,2,3,4} and the entities of 01's examples. The theorems
 -- in the other files exclude the faults in general; here a fault shows as a wrong list. Assumes nothing.
 use mathlib.Core.Path.{_≡_, refl}
-use mathlib.Core.Bool.{Bool, true, false}
+use mathlib.Core.Bool.{false}
 use mathlib.Core.List.{List, [], _∷_, _++_, map}
-use Prim.Native.Nat.{ℕ, suc}
+use Prim.Native.Nat.{ℕ}
 use lib.ListN.{replicate}
-use Rattle.model.specs.Model.{Entity, Component, Storage, Group, Family, SparseSet, setOf, keys, held, newGroup, insert, remove, groupTouched, groupFamily, groupComponents, ungroup, ungroupFamily, ungroupComponents}
+use Rattle.model.specs.Model.{Entity, Component, Storage, Group, Family, setOf, keys, held, newGroup, insert, remove, groupTouched, groupFamily, groupComponents, ungroup, ungroupFamily, ungroupComponents}
 
 entity : ℕ → ℕ → Entity
 entity i v = record { index = i; version = v }

@@ -1,13 +1,13 @@
 -- One group's swap, over any family of sparse sets: `key k` are the entities of kind k's sparse set, in order. Assumes nothing.
-use mathlib.Core.Path.{_≡_, refl, ap, ap₂, sym, _∙_, subst}
-use mathlib.Core.Bool.{Bool, true, false, cond, _&&_, _||_}
-use mathlib.Core.List.{List, [], _∷_, _++_, map}
-use Prim.Native.Nat.{ℕ, zero, suc, _+_, _-_, _≤_, _<_}
+use mathlib.Core.Path.{_≡_, refl, ap, sym, _∙_}
+use mathlib.Core.Bool.{Bool, true, false}
+use mathlib.Core.List.{List, [], _∷_, _++_}
+use Prim.Native.Nat.{ℕ, suc, _+_, _≤_, _<_}
 use native.Mathlib.Omega.{arith}
-use lib.ListN.{length, take, drop, getD, set}
+use lib.ListN.{length, take, getD, set}
 use lib.Seq.{length-take-le, take-take, take-suc, getD-set-same, lt-length-set}
-use Rattle.model.specs.Lists.{swap, count, place, one, after, length-swap, take-swap-lt, take-swap-le, take-suc-swap}
-use Rattle.model.specs.Lists.{count-append, count-swap, place-take, count-place, place-count, place-count-take, count-take-place, count-take-le, getD-place}
+use Rattle.model.specs.Lists.{swap, place, one, length-swap, take-swap-lt, take-swap-le, take-suc-swap}
+use Rattle.model.specs.Lists.{count-append, count-swap, place-take, count-place, count-take-place, count-take-le, getD-place}
 use Rattle.model.specs.Model.{Entity, sameEntity, noEntity, mem}
 pub use Rattle.model.specs.Sound.{cnt, In}
 use Rattle.model.proofs.SparseSets.{entity-eq, entity-same}
@@ -48,7 +48,7 @@ module _ {key new : ℕ → List Entity} (ks : List ℕ) (h : ℕ) where
   pub full-kept : (x : Entity) → SameEntities key new → ((k : ℕ) → In ks k → cnt x (take h (new k)) ≡ cnt x (take h (key k))) → Full key ks h x → Full new ks h x
   full-kept x s t f all k i = rw (t k i) (f (λ k′ i′. rw (s .entities x k′) at (all k′ i′)) k i)
 
-bool-cases : {P : Type 0} (b : Bool) → (b ≡ true → P) → (b ≡ false → P) → P
+pub bool-cases : {P : Type 0} (b : Bool) → (b ≡ true → P) → (b ≡ false → P) → P
 bool-cases true f g = f refl
 bool-cases false f g = g refl
 

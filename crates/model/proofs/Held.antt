@@ -1,18 +1,18 @@
 -- What the operations keep, as entities, kinds and components together; it is equivalent to the soundness of those. Assumes nothing.
-use mathlib.Core.Path.{_≡_, refl, ap, ap₂, sym, _∙_, subst}
-use mathlib.Core.Bool.{Bool, true, false, cond, _&&_, _||_, true≢false, false≢true}
+use mathlib.Core.Path.{_≡_, refl, ap, sym, _∙_, subst}
+use mathlib.Core.Bool.{Bool, true, false, true≢false}
 use mathlib.Core.List.{List, [], _∷_, _++_, map}
-use Prim.Native.Nat.{ℕ, zero, suc, _+_, _-_, _≤_, _<_}
+use Prim.Native.Nat.{ℕ, _≤_, _<_}
 use native.Mathlib.Omega.{arith}
-use borrow.Author.Tests.{ltb-true, ltb-false, lt-ltb, eqb-true, eq-eqb}
-use lib.Dec.{ltb, eqb}
-use lib.ListN.{length, take, drop, getD, length-map}
-use Rattle.model.specs.Lists.{one, place-count, count-place, count-take-le}
-use Rattle.model.specs.Model.{Entity, Entities, SparseSet, Row, Group, Family, Component, Storage, Created, sameEntity, mem, all, setOf, keys, entityOf, held, allHeld, kindOf, kindsOf, headKind, isLive, insert, remove, clearAll, setLayout, create, destroy}
-use Rattle.model.specs.Sound.{Distinct, layoutKinds, Rising, BuildableFamily, BuildableFamilies, Buildable, Uncounted, AllUncounted, Right, RightFrom, AllRight}
-use Rattle.model.proofs.SparseSets.{entity-eq, entity-same, cond-case, key, and-left, and-right}
-use Rattle.model.proofs.Groups.{cnt, In, Even, Full}
-use Rattle.model.proofs.Walk.{bool-cases, in-cases, in-left, in-right, or-cases, or-true, or-false, mem-append, But, Chain, Every, Below, GroupRight, all-in}
+use borrow.Author.Tests.{lt-ltb, eq-eqb}
+use lib.Dec.{eqb}
+use lib.ListN.{length, take, length-map}
+use Rattle.model.specs.Lists.{one, count-place, count-take-le}
+use Rattle.model.specs.Model.{Entity, Entities, SparseSet, Group, Family, Component, Storage, sameEntity, mem, all, setOf, entityOf, held, allHeld, kindOf, kindsOf, headKind, insert, remove, clearAll, setLayout, destroy}
+use Rattle.model.specs.Sound.{Distinct, layoutKinds, Rising, BuildableFamilies, Uncounted, AllUncounted, Right, RightFrom, AllRight}
+use Rattle.model.proofs.SparseSets.{entity-eq, cond-case, key, and-left, and-right}
+use Rattle.model.proofs.Groups.{cnt, In}
+use Rattle.model.proofs.Walk.{bool-cases, in-right, or-true, Chain, Every, Below, GroupRight}
 use Rattle.model.proofs.Families.{Fams, Kinds, Apart, allKinds, famKinds}
 use Rattle.model.proofs.Invariant.{Fit, holders, holders-count, count-is, count-number, insert-fit, insert-others, insert-kinds}
 use Rattle.model.proofs.Removal.{remove-fit, remove-fewer, remove-lost}
@@ -48,13 +48,9 @@ module _ (entities : Entities) (kinds : List ℕ) (storage : Storage) (H : Held 
         alive = λ x k i. bool-cases (sameEntity x e)
             (λ t. subst (λ (y : Entity). 1 ≤ cnt y (entities′ .live)) (sym (entity-eq x e t)) live)
             (λ t. more′ x (H .alive x k (rw (insert-others e staged storage lt (H .fit) x t k) at i)));
-        bare = λ k n x. insert-kinds e staged storage lt (H .fit) x k (no-in (mem k (map kindOf staged)) (λ t. true≢false (sym (h k t) ∙ n))) ∙ H .bare k n x;
+        bare = λ k n x. insert-kinds e staged storage lt (H .fit) x k (not-true (mem k (map kindOf staged)) (λ t. true≢false (sym (h k t) ∙ n))) ∙ H .bare k n x;
         small = H .small;
       }
-    where
-      no-in : (b : Bool) → (b ≡ true → ⊥) → b ≡ false
-      no-in true f = absurd (f refl)
-      no-in false f = refl
 
   pub remove-held : (e : Entity) (gone : List ℕ) → Held entities kinds (remove e gone storage)
   remove-held e gone =

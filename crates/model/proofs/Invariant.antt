@@ -1,21 +1,21 @@
 -- The invariant of the components, and that insertion keeps it; a group's count is the number of live entities that hold all its kinds. Assumes nothing.
-use mathlib.Core.Path.{_≡_, refl, ap, ap₂, sym, _∙_, subst}
-use mathlib.Core.Bool.{Bool, true, false, cond, _&&_, _||_, true≢false, false≢true}
-use mathlib.Core.List.{List, [], _∷_, _++_, map, append-assoc}
-use Prim.Native.Nat.{ℕ, zero, suc, _+_, _-_, _≤_, _<_}
+use mathlib.Core.Path.{_≡_, refl, ap, sym, _∙_}
+use mathlib.Core.Bool.{Bool, true, false, cond, true≢false}
+use mathlib.Core.List.{List, [], _∷_, _++_, map}
+use Prim.Native.Nat.{ℕ, suc, _+_, _≤_}
 use native.Mathlib.Omega.{arith}
 use native.Mathlib.Nat.{zero-add}
-use borrow.Author.Tests.{eqb-true, eq-eqb}
-use lib.Dec.{ltb, eqb}
-use lib.ListN.{length, take, drop, getD, set, length-set}
+use borrow.Author.Tests.{eqb-true}
+use lib.Dec.{eqb}
+use lib.ListN.{length, take, set, length-set}
 use lib.Seq.{length-take-le}
 use Rattle.model.specs.Lists.{one, count-take-le, count-length}
-use Rattle.model.specs.Model.{Entity, SparseSet, Group, Family, Component, Storage, Walked, Stepped, sameEntity, mem, any, all, meets, setOf, held, allHeld, headKind, kindsOf, kindOf, insertRow, insertAll, mapOn, onKinds, swapTo, isGrouped, groupComponents, groupFamily, groupTouched, insert}
+use Rattle.model.specs.Model.{Entity, SparseSet, Group, Family, Component, Storage, Walked, Stepped, sameEntity, mem, any, meets, setOf, held, allHeld, kindsOf, kindOf, insertRow, insertAll, mapOn, swapTo, isGrouped, groupComponents, groupFamily, groupTouched, insert}
 pub use Rattle.model.specs.Sound.{holders}
 use Rattle.model.proofs.SparseSets.{entity-eq, entity-same, cond-case, key}
-use Rattle.model.proofs.Groups.{cnt, plc, In, Even, Full, Inside, SameEntities}
-use Rattle.model.proofs.Walk.{Chain, Every, But, GroupRight, bool-cases, or-cases, or-true, all-in, Missing, all-missing, held-count, lacks-count}
-use Rattle.model.proofs.Families.{Fams, Apart, allKinds, famKinds, chain-other, Put, Kinds, put-all, chain-put, Pending, UpAll, groupFamily-all-good}
+use Rattle.model.proofs.Groups.{cnt, In, SameEntities}
+use Rattle.model.proofs.Walk.{Every, But, GroupRight, bool-cases, or-cases, or-true, all-in, Missing, all-missing, held-count, lacks-count}
+use Rattle.model.proofs.Families.{Fams, Apart, famKinds, chain-other, Put, Kinds, put-all, chain-put, Pending, UpAll, groupFamily-all-good}
 
 pub record Fit (p : Storage) : Type 0 where
   pub once : (x : Entity) (k : ℕ) → cnt x (key (p .sets) k) ≤ 1
@@ -82,7 +82,7 @@ insert-fit e staged p lt f =
       wide = length-groupFamily-all e (map kindOf staged) (insertAll e staged (p .sets)) (p .layout) ∙ length-put e staged (p .sets) ∙ f .wide;
     }
 
--- what insertion does to the other entities, and to the kinds that the staged components lacks
+-- what insertion does to the other entities, and to the kinds that are not staged
 module _ (e : Entity) (staged : List Component) (p : Storage) (lt : Kinds (length (p .sets)) staged) (f : Fit p) where
   inserted : SameEntities (key (insertAll e staged (p .sets))) (key ((insert e staged p) .sets))
   unfolding insert

@@ -1,8 +1,8 @@
 -- Lists of kinds: membership and counts. Assumes nothing.
-use mathlib.Core.Path.{_≡_, refl, ap, sym, _∙_}
-use mathlib.Core.Bool.{Bool, true, false, cond, _&&_, _||_, true≢false, false≢true}
-use mathlib.Core.List.{List, [], _∷_, _++_, map}
-use Prim.Native.Nat.{ℕ, zero, suc, _+_, _-_, _≤_, _<_}
+use mathlib.Core.Path.{_≡_, refl, ap, _∙_}
+use mathlib.Core.Bool.{Bool, true, false, cond, not, true≢false, false≢true}
+use mathlib.Core.List.{List, [], _∷_, _++_}
+use Prim.Native.Nat.{ℕ, _+_, _≤_}
 use native.Mathlib.Omega.{arith}
 use native.Mathlib.Nat.{zero-add}
 use borrow.Author.Tests.{eqb-true, eq-eqb}
@@ -17,6 +17,10 @@ use Rattle.model.proofs.Families.{or-false-right}
 pub not-true : (b : Bool) → (b ≡ true → ⊥) → b ≡ false
 not-true true f = absurd (f refl)
 not-true false f = refl
+
+pub not-false : (b : Bool) → not b ≡ false → b ≡ true
+not-false true h = refl
+not-false false h = absurd (true≢false h)
 
 pub in-count : (l : List ℕ) (k : ℕ) → In l k → 1 ≤ count eqb k l
 in-count [] k i = absurd (false≢true i)

@@ -1,21 +1,21 @@
 -- Answers have their accepted lengths, refusals are one byte; a run writes no more than its room, and stops with 0 only at the tape's end. Assumes nothing.
 use mathlib.Core.Path.{_≡_, refl, ap, ap₂, sym, _∙_}
 use mathlib.Core.Logic.{_⊎_, inl, inr}
-use mathlib.Core.Bool.{Bool, true, false, cond}
+use mathlib.Core.Bool.{false}
 use mathlib.Core.Option.{Option, some, none}
-use mathlib.Core.List.{List, [], _∷_, _++_, map}
-use Prim.Native.Nat.{ℕ, zero, suc, _+_, _-_, _*_, _/_, _≤_, _<_}
+use mathlib.Core.List.{List, [], _∷_, _++_}
+use Prim.Native.Nat.{ℕ, zero, suc, _+_, _-_, _*_, _/_, _≤_}
 use native.Mathlib.Omega.{arith}
 use borrow.Author.Tests.{ltb-false}
-use lib.Dec.{ltb, eqb}
+use lib.Dec.{ltb}
 use lib.ListN.{length, take, drop, getD, length-append, length-map, length-drop}
-use Rattle.model.specs.Model.{Entity, SparseSet, Storage, Created, Range, none, found, noRow, setOf, at, held, kindOf, range, addsNothing, create}
+use Rattle.model.specs.Model.{Entity, SparseSet, Storage, Range, none, found, noRow, setOf, at, held, kindOf, range, addsNothing, create}
 use Rattle.model.specs.Store.{Store, le, stagedKinds, isKind}
 use Rattle.model.specs.Commands.{Command, REG, HOLD, NEW, PUT, TAKE, DROP, KILL, WIPE, GROUP, APPLY, BAR, RANGE, EMPTY, TALLY, Done, accepted, answerLength, componentBytes, heldBytes, rangeBytes, width, commandAt}
-use Rattle.model.specs.Refusals.{firstLine, NoneHolds, linesOf, Ready, beforeLines}
-use Rattle.model.specs.Run.{Outcome, refuses, accepts, outcome, does, Step, stops, goes, stepOf, stepIf, step, Ran, halt, more, runFor, run}
+use Rattle.model.specs.Refusals.{firstLine, NoneHolds, beforeLines}
+use Rattle.model.specs.Run.{Outcome, refuses, accepts, does, Step, stops, goes, stepOf, stepIf, step, Ran, halt, more, runFor, run}
 use Rattle.model.proofs.SparseSets.{cond-case}
-use Rattle.model.proofs.Lines.{none-to, outcome-case, accepted-exact, stop-number}
+use Rattle.model.proofs.Lines.{none-to, accepted-exact, stop-number}
 
 -- ---- answers
 
@@ -84,7 +84,8 @@ pub record Stepped (b : ℕ) (t : List ℕ) (room : ℕ) (s : Store) (w : ℕ) (
   pub refused : (n : ℕ) → does (commandAt b (take (width b) t)) s ≡ refuses n → length a ≡ 1
   pub accepted : (s′ : Store) (x : List ℕ) → does (commandAt b (take (width b) t)) s ≡ accepts s′ x → length a ≡ answerLength (commandAt b (take (width b) t)) s
 
-clash : (o : Outcome) (n : ℕ) (s : Store) (a : List ℕ) → o ≡ refuses n → o ≡ accepts s a → ⊥
+-- no outcome is both
+pub clash : (o : Outcome) (n : ℕ) (s : Store) (a : List ℕ) → o ≡ refuses n → o ≡ accepts s a → ⊥
 clash o n s a p q = let z : _≡_ {A = ℕ} 0 1 = cc in omega arith
 
 pub step-lengths : (b : ℕ) (t : List ℕ) (room : ℕ) (s : Store) → Going (λ w a s′. Stepped b t room s w a) (step b t room s)

@@ -15,6 +15,8 @@ pub mod Values
 pub mod Held
 pub mod Operations
 pub mod Lines
+pub mod Outcomes
+pub mod Entries
 pub mod Sound
 pub mod Demand
 pub mod Encoding
@@ -23,3 +25,4 @@ pub mod Snapshots
 pub mod Lengths
 pub mod Retired
 pub mod Ranges
+pub mod Bounds

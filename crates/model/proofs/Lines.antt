@@ -1,18 +1,17 @@
 -- The table of refusals: a refusal is the number of the first line that holds, and what a refused command changes. Assumes nothing.
-use mathlib.Core.Path.{_≡_, refl, ap, ap₂, sym, _∙_, subst}
+use mathlib.Core.Path.{_≡_, refl, ap, ap₂, sym, _∙_}
 use mathlib.Core.Logic.{_↔_}
-use mathlib.Core.Bool.{Bool, true, false, cond, not, _&&_, _||_, true≢false, false≢true}
+use mathlib.Core.Bool.{true}
 use mathlib.Core.Option.{Option, some, none}
-use mathlib.Core.List.{List, [], _∷_, _++_, map}
-use Prim.Native.Nat.{ℕ, zero, suc, _+_, _-_, _≤_, _<_}
+use mathlib.Core.List.{List, [], _∷_, _++_}
+use Prim.Native.Nat.{ℕ, suc, _≤_, _<_}
 use native.Mathlib.Omega.{arith}
-use borrow.Author.Tests.{ltb-true, ltb-false, lt-ltb, le-ltb, leb-true, leb-false}
-use lib.Dec.{ltb, leb, eqb}
-use lib.ListN.{length, take, drop, getD}
-use Rattle.model.specs.Store.{Store, Control, withControl, counted}
+use borrow.Author.Tests.{lt-ltb, le-ltb}
+use lib.ListN.{take}
+use Rattle.model.specs.Store.{Store, withControl, counted}
 pub use Rattle.model.specs.Refusals.{Unchanged}
 use Rattle.model.specs.Commands.{Command, REG, HOLD, NEW, PUT, TAKE, DROP, KILL, WIPE, GROUP, APPLY, BAR, RANGE, EMPTY, TALLY, Done, accepted, width, commandAt}
-use Rattle.model.specs.Refusals.{Line, firstLine, NoneHolds, First, linesOf, Ready, beforeLines}
+use Rattle.model.specs.Refusals.{Line, firstLine, NoneHolds, First, linesOf, beforeLines}
 use Rattle.model.specs.Run.{Outcome, refuses, accepts, outcome, does, Step, stops, goes, stepOf, stepIf, step}
 use Rattle.model.proofs.Walk.{bool-cases}
 

@@ -3,8 +3,8 @@ use mathlib.Core.Path.{_≡_, refl, ap, ap₂, sym, _∙_, subst}
 use mathlib.Core.Logic.{_↔_}
 use mathlib.Core.Bool.{Bool, true, false, cond, _&&_, and-false}
 use mathlib.Core.Option.{Option, some, none}
-use mathlib.Core.List.{List, [], _∷_, _++_, map, head-eq-of-cons-eq, nil≢cons, cons≢nil}
-use Prim.Native.Nat.{ℕ, zero, suc, _+_, _-_, _^_, _≤_, _<_}
+use mathlib.Core.List.{List, [], _∷_, _++_, head-eq-of-cons-eq, nil≢cons, cons≢nil}
+use Prim.Native.Nat.{ℕ, zero, suc, _+_, _^_, _≤_, _<_}
 use native.Mathlib.Omega.{arith}
 use native.Mathlib.Nat.{add-zero, add-suc, suc-add, zero-add, add-comm}
 use borrow.Author.Tests.{eqb-true, eq-eqb, ne-eqb, lt-ltb, ltb-true}
@@ -59,7 +59,7 @@ entries-more zero b i live sets z = rw zero-add (go b i (λ k h. z k (omega arit
 entries-more (suc a) b i live sets z =
     rw suc-add (ap (λ (r : List Entry). entryOf (versionAt i live) i sets ++ r) (entries-more a b (suc i) live sets (λ k h. z k (omega arith))))
 
--- ---- a entity's components, looked up by kind
+-- ---- an entity's components, looked up by kind
 
 abbrev valIn : ℕ → List Component → Option ℕ
 valIn k [] = none

@@ -1,20 +1,20 @@
 -- The numbers: each issued index is live or recycled at most once. Assumes nothing.
-use mathlib.Core.Path.{_≡_, refl, ap, ap₂, sym, _∙_, subst}
+use mathlib.Core.Path.{_≡_, refl, ap, _∙_}
 use mathlib.Core.Logic.{_⊎_, inl, inr, ⊎-elim}
-use mathlib.Core.Bool.{Bool, true, false, cond, _&&_, true≢false, false≢true}
-use mathlib.Core.List.{List, [], _∷_, _++_, map, append-assoc, append-nil}
-use Prim.Native.Nat.{ℕ, zero, suc, _+_, _-_, _≤_, _<_}
+use mathlib.Core.Bool.{Bool, true, false, _&&_}
+use mathlib.Core.List.{List, [], _∷_, _++_, map}
+use Prim.Native.Nat.{ℕ, zero, suc, _+_, _≤_, _<_}
 use native.Mathlib.Omega.{arith}
 use native.Mathlib.Decide.{ℕ-discrete}
-use borrow.Author.Tests.{ltb-true, ltb-false, eqb-true, eq-eqb, ne-eqb}
+use borrow.Author.Tests.{ltb-true, eqb-true, eq-eqb, ne-eqb}
 use lib.Dec.{ltb, eqb}
-use lib.ListN.{length, take, getD, set, List·getD-map, length-map}
-use Rattle.model.specs.Lists.{one, count, place, count-append, count-place, place-count, getD-place, cutAt, count-cutAt, map-cutAt, count-length-le}
-use Rattle.model.specs.Model.{Entity, Entities, Created, sameEntity, noEntity, create, createWith, destroy, isLive, lastVersion}
+use lib.ListN.{length, getD, List·getD-map, length-map}
+use Rattle.model.specs.Lists.{one, count, count-append, count-place, getD-place, count-cutAt, map-cutAt, count-length-le}
+use Rattle.model.specs.Model.{Entity, Entities, sameEntity, noEntity, create, createWith, destroy, lastVersion}
 pub use Rattle.model.specs.Sound.{idxOf, num}
-use Rattle.model.proofs.SparseSets.{entity-eq, entity-same, cond-case, and-left}
+use Rattle.model.proofs.SparseSets.{entity-eq, cond-case}
 use Rattle.model.proofs.Groups.{cnt, plc}
-use Rattle.model.proofs.Walk.{bool-cases, But}
+use Rattle.model.proofs.Walk.{bool-cases}
 
 pub record EntitiesOk (c : Entities) : Type 0 where
   pub single : (i : ℕ) → num i (c .live) + num i (c .recycled) ≤ 1
@@ -44,7 +44,7 @@ cnt-snoc x l e = omega (arith, count-append sameEntity x l (e ∷ []))
 same-version : (x y : Entity) → 1 ≤ one (sameEntity x y) → x ≡ y
 same-version x y h = bool-cases (sameEntity x y) (λ t. entity-eq x y t) (λ t. absurd (omega (arith, rw t at h)))
 
--- ---- a entity is created
+-- ---- an entity is created
 
 create-with : (w : List Entity) (c : Entities) → c .recycled ≡ w → EntitiesOk c → EntitiesOk ((createWith w c) .entities)
 create-with [] c e ok =
@@ -93,7 +93,7 @@ pub create-live : (c : Entities) (x : Entity) → cnt x ((create c) .entities .l
 unfolding create
 create-live c x = create-live-with (c .recycled) c x
 
--- ---- a entity is destroyed
+-- ---- an entity is destroyed
 
 module _ (e : Entity) (c : Entities) (alive : 1 ≤ cnt e (c .live)) where
   at-place : plc e (c .live) < length (c .live)
@@ -141,15 +141,16 @@ module _ (e : Entity) (c : Entities) (alive : 1 ≤ cnt e (c .live)) where
 
 -- ---- how many are live
 
-abbrev upTo : ℕ → List ℕ
+-- the numbers below n
+abbrev pub upTo : ℕ → List ℕ
 upTo zero = []
 upTo (suc n) = n ∷ upTo n
 
-length-upTo : (n : ℕ) → length (upTo n) ≡ n
+pub length-upTo : (n : ℕ) → length (upTo n) ≡ n
 length-upTo zero = refl
 length-upTo (suc n) = ap suc (length-upTo n)
 
-in-upTo : (n i : ℕ) → i < n → 1 ≤ count eqb i (upTo n)
+pub in-upTo : (n i : ℕ) → i < n → 1 ≤ count eqb i (upTo n)
 in-upTo zero i h = absurd (omega arith)
 in-upTo (suc n) i h = go (in-upTo n i) (ℕ-discrete i n)
   where

@@ -1,24 +1,23 @@
 -- Each operation keeps a store sound, one law an operation, for the commands here and for the functions of the crates above. Assumes nothing.
-use mathlib.Core.Path.{_≡_, refl, ap, ap₂, sym, _∙_, subst}
-use mathlib.Core.Bool.{Bool, true, false, cond, _&&_, _||_, true≢false, false≢true}
+use mathlib.Core.Path.{_≡_, refl, ap, sym, _∙_}
+use mathlib.Core.Bool.{true, false, _&&_, false≢true}
 use mathlib.Core.List.{List, [], _∷_, _++_, map}
-use Prim.Native.Nat.{ℕ, zero, suc, _+_, _-_, _≤_, _<_}
+use Prim.Native.Nat.{ℕ, zero, suc, _≤_, _<_}
 use native.Mathlib.Omega.{arith}
-use borrow.Author.Tests.{ltb-true, ltb-false, leb-false, lt-ltb, eqb-true, eq-eqb}
+use borrow.Author.Tests.{ltb-true, leb-false, lt-ltb, eqb-true}
 use lib.Dec.{ltb, leb, eqb, lit<}
-use lib.ListN.{length, getD, replicate, length-append, length-map, length-replicate}
+use lib.ListN.{length, getD, replicate, length-append, length-replicate}
 use Rattle.model.specs.Lists.{one, place-count, count-place}
-use Rattle.model.specs.Model.{Entity, Entities, SparseSet, Row, Family, Component, Storage, Created, sameEntity, noRow, mem, setOf, keys, entityOf, kindOf, groupsOf, isLive, insert, remove, clearAll, setLayout, create, createWith, destroy}
+use Rattle.model.specs.Model.{Entity, Entities, SparseSet, Family, Component, sameEntity, mem, setOf, keys, kindOf, isLive, insert, remove, clearAll, setLayout, create, createWith, destroy}
 use Rattle.model.specs.Store.{Control, Store, empty, withControl, withStorage, withAll, withKinds, emptyStaged, emptyBoth, withStaged, withExcluded, withDraft, counted}
-use Rattle.model.specs.Sound.{Eight, noComponent, Limits, KindsSound, EntitiesSound, SetsSound, StagedSound, ExcludedSound, layoutKinds, Buildable, AllUncounted, Right, AllRight, Sound, Distinct}
-use Rattle.model.proofs.SparseSets.{entity-eq, entity-same, cond-case, key}
+use Rattle.model.specs.Sound.{Eight, noComponent, Limits, KindsSound, StagedSound, ExcludedSound, Buildable, Sound}
+use Rattle.model.proofs.SparseSets.{entity-same, cond-case, key}
 use Rattle.model.proofs.Groups.{cnt, In}
-use Rattle.model.proofs.Walk.{bool-cases, in-cases, in-left, or-cases, or-false, mem-append}
-use Rattle.model.proofs.Invariant.{Fit}
-use Rattle.model.proofs.Numbers.{EntitiesOk, create-ok, create-live}
-use Rattle.model.proofs.Values.{AllOf, ColsOk, StagedOk, insert-ok, remove-ok, setLayout-ok, clearAll-ok}
-use Rattle.model.proofs.KindLists.{not-true, out-count, distinct-snoc}
-use Rattle.model.proofs.Shape.{plain, buildable-plain, insert-plain, remove-plain, setLayout-plain, clearAll-plain}
+use Rattle.model.proofs.Walk.{in-cases, in-left, or-cases, or-false, mem-append}
+use Rattle.model.proofs.Numbers.{create-ok, create-live}
+use Rattle.model.proofs.Values.{ColsOk, StagedOk, insert-ok, remove-ok, setLayout-ok, clearAll-ok}
+use Rattle.model.proofs.KindLists.{distinct-snoc}
+use Rattle.model.proofs.Shape.{buildable-plain, insert-plain, remove-plain, setLayout-plain, clearAll-plain}
 use Rattle.model.proofs.Draft.{DraftSound}
 use Rattle.model.proofs.Held.{Held, insert-held, remove-held, destroy-held, removed-none, clearAll-held, apply-held, held-right, right-fams, distinct-families, buildable-fresh}
 
@@ -162,7 +161,7 @@ module _ (kinds : List ℕ) (d : Control) (C : ControlSound kinds d) where
         staged = C .staged;
         excluded = C .excluded;
         draft = C .draft;
-        refusals = cond-case (λ (n : ℕ). n ≤ 4294967295) (ltb (d .refusals) 4294967295) _ _ (λ t. omega (arith, ltb-true (d .refusals) 4294967295 t)) (λ t. C .refusals);
+        refusals = cond-case (λ (n : ℕ). n ≤ 4294967295) (ltb (d .refusals) 4294967295) _ _ (λ t. omega (arith, ltb-true (d .refusals) 4294967295 t)) (λ t. omega (arith, C .refusals));
       }
 
 -- ---- more kinds are registered

@@ -1,25 +1,25 @@
 -- What RANGE shows: exactly the entities that its hand and bar describe; and none exactly where 01 says none. Assumes nothing.
 use mathlib.Core.Path.{_≡_, refl, ap, ap₂, sym, _∙_, subst}
 use mathlib.Core.Logic.{_↔_, _⊎_, inl, inr, ⊎-elim}
-use mathlib.Core.Bool.{Bool, true, false, cond, _&&_, _||_, true≢false, false≢true}
-use mathlib.Core.List.{List, [], _∷_, _++_, map, append-assoc, append-nil}
+use mathlib.Core.Bool.{Bool, true, false, cond, _&&_, true≢false, false≢true}
+use mathlib.Core.List.{List, [], _∷_, _++_, append-assoc, append-nil}
 use Prim.Native.Nat.{ℕ, zero, suc, _+_, _-_, _≤_, _<_}
 use native.Mathlib.Omega.{arith}
-use native.Mathlib.Nat.{zero-add, le-of-suc-le-suc}
-use borrow.Author.Tests.{eqb-true, eqb-false, eq-eqb}
+use native.Mathlib.Nat.{zero-add}
+use borrow.Author.Tests.{eqb-true, eq-eqb}
 use lib.Dec.{eqb}
 use lib.ListN.{length, take, drop, getD, length-drop, length-map, take-append-drop}
 use lib.Seq.{length-take-le, take-all, drop-cons}
-use Rattle.model.specs.Lists.{one, count, count-append, count-take-le, count-length}
-use Rattle.model.specs.Model.{Entity, SparseSet, Group, Family, Storage, Range, none, found, sameEntity, mem, all, within, sameSet, setOf, keys, entityOf, held, allHeld, headKind, kindsOf, newGroup, orElse, rangeAt, rangeIn, rangeAll, single, range}
+use Rattle.model.specs.Lists.{one, count, count-append, count-length}
+use Rattle.model.specs.Model.{Entity, SparseSet, Group, Family, Range, none, found, sameEntity, mem, all, within, sameSet, setOf, entityOf, held, allHeld, headKind, kindsOf, newGroup, orElse, rangeAt, rangeIn, rangeAll, single, range}
 use Rattle.model.specs.Store.{Store}
-use Rattle.model.specs.Sound.{cnt, In, key, holders, Distinct, layoutKinds, Rising, BuildableFamily, BuildableFamilies, Right, RightFrom, AllRight, Between, Sound}
+use Rattle.model.specs.Sound.{cnt, In, key, holders, Distinct, layoutKinds, Rising, BuildableFamilies, Right, RightFrom, AllRight, Between, Sound}
 use Rattle.model.specs.Shown.{lacking, described, Showing, EqualGroup, EqualRing, Shows, oneKind, aGroup, twoGroups}
 use Rattle.model.proofs.SparseSets.{entity-eq, entity-same, cond-case, and-left, and-right}
-use Rattle.model.proofs.Walk.{bool-cases, in-left, in-right, in-cases, or-cases, or-true, all-in, held-count, lacks-count}
+use Rattle.model.proofs.Walk.{bool-cases, in-left, in-right, or-cases, all-in, held-count, lacks-count}
 use Rattle.model.proofs.Invariant.{holders-count}
 use Rattle.model.proofs.Numbers.{cnt-num}
-use Rattle.model.proofs.KindLists.{not-true, all-true, head-in, in-count, distinct-left, distinct-right, distinct-apart}
+use Rattle.model.proofs.KindLists.{not-true, all-true, head-in, distinct-left, distinct-right, distinct-apart}
 use Rattle.model.proofs.Demand.{between}
 
 -- ---- equal sets

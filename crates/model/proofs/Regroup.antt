@@ -1,16 +1,15 @@
 -- Applying a layout, and wiping, establish the invariant. Assumes nothing.
-use mathlib.Core.Path.{_≡_, refl, ap, ap₂, sym, _∙_, subst}
+use mathlib.Core.Path.{_≡_, refl, ap, ap₂, sym, _∙_}
 use mathlib.Core.Logic.{_⊎_, inl, inr, ⊎-elim}
-use mathlib.Core.Bool.{Bool, true, false, cond, true≢false, false≢true}
-use mathlib.Core.List.{List, [], _∷_, _++_, map, append-assoc}
-use Prim.Native.Nat.{ℕ, zero, suc, _+_, _-_, _≤_, _<_}
+use mathlib.Core.Bool.{false, false≢true}
+use mathlib.Core.List.{List, [], _∷_, _++_, map}
+use Prim.Native.Nat.{ℕ, zero, suc, _≤_}
 use native.Mathlib.Omega.{arith}
-use lib.ListN.{length, take, drop, getD, length-map}
-use Rattle.model.specs.Lists.{one}
-use Rattle.model.specs.Model.{Entity, SparseSet, Group, Family, Storage, Walked, sameEntity, mem, headKind, kindsOf, setOf, groupFamily, groupAll, regroup, setLayout, clearAll, zeroCount}
-use Rattle.model.proofs.SparseSets.{entity-eq, key}
-use Rattle.model.proofs.Groups.{cnt, plc, In, Even, Full, SameEntities}
-use Rattle.model.proofs.Walk.{Below, Chain, Every, But, Plus, GroupRight, Up, groupFamily-good, bool-cases, in-left, in-right, or-false, mem-append, chain-weaken}
+use lib.ListN.{length, length-map}
+use Rattle.model.specs.Model.{Entity, SparseSet, Family, Storage, Walked, sameEntity, mem, headKind, kindsOf, groupFamily, groupAll, regroup, setLayout, clearAll, zeroCount}
+use Rattle.model.proofs.SparseSets.{key}
+use Rattle.model.proofs.Groups.{cnt, In, SameEntities}
+use Rattle.model.proofs.Walk.{Below, Chain, Every, Plus, Up, groupFamily-good, bool-cases, in-left, in-right, or-false, mem-append, chain-weaken}
 use Rattle.model.proofs.Families.{Fams, Apart, allKinds, famKinds, chain-other, or-false-right, not-both}
 use Rattle.model.proofs.Invariant.{Fit, length-groupFamily}
 
@@ -147,7 +146,7 @@ key-wiped [] k = refl
 key-wiped (c ∷ cs) zero = refl
 key-wiped (c ∷ cs) (suc k) = key-wiped cs k
 
-zero-kinds : (f : Family) → kindsOf (map zeroCount f) ≡ kindsOf f
+pub zero-kinds : (f : Family) → kindsOf (map zeroCount f) ≡ kindsOf f
 zero-kinds [] = refl
 zero-kinds (r ∷ rs) = ap (λ (l : List ℕ). r .newKinds ++ l) (zero-kinds rs)
 

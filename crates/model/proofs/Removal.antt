@@ -1,20 +1,20 @@
 -- Removal keeps the invariant: the entity leaves its groups, and then its rows go. Assumes nothing.
 use mathlib.Core.Path.{_≡_, refl, ap, ap₂, sym, _∙_, subst}
 use mathlib.Core.Logic.{_⊎_, inl, inr, ⊎-elim}
-use mathlib.Core.Bool.{Bool, true, false, cond, _&&_, _||_, true≢false, false≢true}
-use mathlib.Core.List.{List, [], _∷_, _++_, map, append-assoc}
-use Prim.Native.Nat.{ℕ, zero, suc, _+_, _-_, _≤_, _<_}
+use mathlib.Core.Bool.{Bool, true, false, cond, true≢false, false≢true}
+use mathlib.Core.List.{List, [], _∷_, _++_, append-assoc}
+use Prim.Native.Nat.{ℕ, _+_, _-_, _≤_, _<_}
 use native.Mathlib.Omega.{arith}
 use native.Mathlib.Nat.{zero-add}
-use borrow.Author.Tests.{ltb-true, ltb-false, eqb-true, eq-eqb}
-use lib.Dec.{ltb, eqb}
-use lib.ListN.{length, take, drop, getD, set, length-map, length-set, List·getD-map}
-use lib.Seq.{length-take-le, take-take, take-set-le, take-suc, take-all, getD-set-same, lt-length-set}
-use Rattle.model.specs.Lists.{swap, one, count, place, length-swap, count-append, count-swap, count-place, place-count, place-le, getD-place}
-use Rattle.model.specs.Model.{Entity, Row, SparseSet, Group, Family, Storage, Walked, Stepped, sameEntity, noEntity, noRow, mem, any, meets, setOf, keys, entityOf, at, held, headKind, kindsOf, mapOn, onKinds, swapTo, removeRow, isGrouped, ungroupComponents, ungroupFamily, ungroup, remove}
-use Rattle.model.proofs.SparseSets.{entity-eq, entity-same, cond-case, key, map-set, setOf-mapOn}
-use Rattle.model.proofs.Groups.{cnt, plc, In, Even, Full, Inside, SameEntities}
-use Rattle.model.proofs.Walk.{Below, Chain, Every, But, GroupRight, bool-cases, or-cases, or-true, or-false, in-left, in-right, mem-append, full-lacks, either, held-count, lacks-count}
+use borrow.Author.Tests.{eq-eqb}
+use lib.Dec.{eqb}
+use lib.ListN.{length, take, getD, set, length-set}
+use lib.Seq.{length-take-le, take-take, take-set-le}
+use Rattle.model.specs.Lists.{one, count, cutAt, count-cutAt, map-cutAt, count-place, place-le, getD-place}
+use Rattle.model.specs.Model.{Entity, SparseSet, Group, Family, Storage, Walked, Stepped, sameEntity, noEntity, noRow, mem, any, meets, setOf, keys, entityOf, at, held, kindsOf, onKinds, swapTo, removeRow, isGrouped, ungroupComponents, ungroupFamily, ungroup, remove}
+use Rattle.model.proofs.SparseSets.{entity-eq, entity-same, cond-case, key, setOf-mapOn}
+use Rattle.model.proofs.Groups.{cnt, plc, In, Full, SameEntities}
+use Rattle.model.proofs.Walk.{Chain, Every, But, GroupRight, bool-cases, or-cases, or-true, or-false, in-left, in-right, mem-append, full-lacks, either, held-count, lacks-count}
 use Rattle.model.proofs.WalkDown.{Left, LeftChain, Down, ungroupFamily-good, out-place}
 use Rattle.model.proofs.Families.{Fams, Apart, allKinds, famKinds, chain-other, or-false-right, not-both}
 use Rattle.model.proofs.Invariant.{Fit, any-in, length-mapOn}
@@ -22,35 +22,17 @@ use Rattle.model.proofs.Invariant.{Fit, any-in, length-mapOn}
 -- ---- a row goes, and the last takes its place
 
 abbrev cut : Entity → List Entity → List Entity
-cut e l = take (length l - 1) (set l (plc e l) (getD l (length l - 1) noEntity))
+cut e l = cutAt noEntity (plc e l) l
 
 module _ (e : Entity) (l : List Entity) (has : 1 ≤ cnt e l) where
   abbrev q : ℕ
   q = length l - 1
 
-  abbrev L : List Entity
-  L = swap noEntity (plc e l) q l
-
   at-place : plc e l < length l
   at-place = count-place sameEntity e l has
 
-  cut-swap : take q L ≡ cut e l
-  cut-swap = take-set-le q (set l (plc e l) (getD l q noEntity)) q (getD l (plc e l) noEntity) (omega arith)
-
-  cut-ends : L ≡ cut e l ++ (e ∷ [])
-  cut-ends =
-      let p = at-place in
-      let n : length L ≡ length l = length-swap noEntity (plc e l) q l in
-      let m : q < length (set l (plc e l) (getD l q noEntity)) = lt-length-set l (plc e l) (getD l q noEntity) (omega arith) in
-      let g : getD L q noEntity ≡ e = getD-set-same (set l (plc e l) (getD l q noEntity)) q (getD l (plc e l) noEntity) noEntity m ∙ getD-place sameEntity entity-eq e noEntity l p in
-      sym (take-all (suc q) L (omega arith)) ∙ take-suc L q noEntity (omega arith) ∙ ap₂ (λ (a : List Entity) (x : Entity). a ++ (x ∷ [])) cut-swap g
-
   cut-count : (x : Entity) → cnt x (cut e l) + one (sameEntity x e) ≡ cnt x l
-  cut-count x =
-      let p = at-place in
-      let a = count-append sameEntity x (cut e l) (e ∷ []) in
-      let b = count-swap sameEntity x noEntity (plc e l) q l p (omega arith) in
-      omega (arith, ap (cnt x) cut-ends)
+  cut-count x = rw (getD-place sameEntity entity-eq e noEntity l at-place) at (count-cutAt sameEntity noEntity (plc e l) l at-place x)
 
   cut-first : (h : ℕ) → h ≤ plc e l → take h (cut e l) ≡ take h l
   cut-first h le =
@@ -60,21 +42,11 @@ module _ (e : Entity) (l : List Entity) (has : 1 ≤ cnt e l) where
   cut-length : length (cut e l) ≡ q
   cut-length = let p = at-place in length-take-le q (set l (plc e l) (getD l q noEntity)) (rw (length-set l (plc e l) (getD l q noEntity)) (omega arith))
 
-map-take : (n : ℕ) (l : SparseSet) → keys (take n l) ≡ take n (keys l)
-map-take zero l = refl
-map-take (suc n) [] = refl
-map-take (suc n) (x ∷ l) = ap {B = List Entity} (λ r. entityOf x ∷ r) (map-take n l)
-
 keys-take : (e : Entity) (rows : SparseSet) → keys (removeRow e rows) ≡ cond (held e rows) (cut e (keys rows)) (keys rows)
 keys-take e rows = go (held e rows)
   where
-    n : ℕ
-    n = length rows - 1
-
-    go : (b : Bool) → keys (cond b (take n (set rows (at e rows) (getD rows n noRow))) rows) ≡ cond b (cut e (keys rows)) (keys rows)
-    go true =
-        let d : getD (keys rows) n noEntity ≡ entityOf (getD rows n noRow) = List·getD-map entityOf rows n noRow in
-        map-take n (set rows (at e rows) (getD rows n noRow)) ∙ rw (map-set entityOf rows (at e rows) (getD rows n noRow), length-map rows entityOf, d)
+    go : (b : Bool) → keys (cond b (cutAt noRow (at e rows) rows) rows) ≡ cond b (cut e (keys rows)) (keys rows)
+    go true = map-cutAt entityOf noRow (at e rows) rows
     go false = refl
 
 -- what the removal of entity e's rows at the kinds of gone does

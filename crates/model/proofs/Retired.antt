@@ -1,8 +1,8 @@
 -- "From an empty store, numbers issued = live + waiting + retired; retired counts past destructions at the last version." Assumes nothing.
 use mathlib.Core.Path.{_≡_, refl, ap, sym, _∙_}
-use mathlib.Core.Bool.{Bool, true, false, cond, not, _&&_, true≢false, false≢true}
-use mathlib.Core.List.{List, [], _∷_, _++_, map}
-use Prim.Native.Nat.{ℕ, zero, suc, _+_, _-_, _≤_, _<_}
+use mathlib.Core.Bool.{true, _&&_}
+use mathlib.Core.List.{List, [], _∷_}
+use Prim.Native.Nat.{ℕ, zero, suc, _+_, _-_, _<_}
 use native.Mathlib.Omega.{arith}
 use native.Mathlib.Nat.{add-zero, zero-add}
 use borrow.Author.Tests.{ltb-true, ltb-false, le-leb, lt-leb}
@@ -10,16 +10,17 @@ use lib.Dec.{ltb, leb}
 use lib.ListN.{length, take, drop, getD, set, length-append, length-set}
 use lib.Seq.{length-take-le}
 use Rattle.model.specs.Lists.{one, place}
-use Rattle.model.specs.Model.{Entity, Entities, Created, sameEntity, noEntity, isLive, addsNothing, lastVersion, create, createWith, destroy}
+use Rattle.model.specs.Model.{Entity, Entities, sameEntity, noEntity, isLive, addsNothing, lastVersion, create, createWith, destroy}
 use Rattle.model.specs.Store.{Store, empty, stagedKinds, isKind}
 use Rattle.model.specs.Commands.{Command, REG, HOLD, NEW, PUT, TAKE, DROP, KILL, WIPE, GROUP, APPLY, BAR, RANGE, EMPTY, TALLY, Done, accepted, width, commandAt}
-use Rattle.model.specs.Refusals.{NoneHolds, linesOf, beforeLines}
+use Rattle.model.specs.Refusals.{NoneHolds, linesOf}
 use Rattle.model.specs.Run.{Outcome, refuses, accepts, does, Step, stops, goes, stepOf, step, Ran, halt, more, runFor, run}
 use Rattle.model.specs.History.{retires, retiredFor, retired}
 use Rattle.model.proofs.SparseSets.{cond-case}
 use Rattle.model.proofs.Walk.{bool-cases}
-use Rattle.model.proofs.Lines.{outcome-case, none-to, refusal-exact, accepted-exact}
-use Rattle.model.proofs.Lengths.{Going, step-case}
+use Rattle.model.proofs.KindLists.{not-false}
+use Rattle.model.proofs.Lines.{accepted-exact}
+use Rattle.model.proofs.Lengths.{Going, step-case, clash}
 
 -- the numbers issued are live, waiting, or among the r retired
 abbrev pub Balanced : Entities → ℕ → Type 0
@@ -46,10 +47,6 @@ destroy-balanced e c r live b =
     (λ t. rw (t, le-leb lastVersion (e .version) (ltb-false (e .version) lastVersion t)) (omega (arith, b, n, at))))
 
 -- ---- commands
-
-not-false : (b : Bool) → not b ≡ false → b ≡ true
-not-false true h = refl
-not-false false h = absurd (true≢false h)
 
 kept : (c : Entities) (r : ℕ) → Balanced c r → Balanced c (r + 0)
 kept c r b = rw (add-zero r) b
@@ -95,10 +92,7 @@ step-balanced : (b : ℕ) (t : List ℕ) (room : ℕ) (s : Store) (r : ℕ) → 
 step-balanced b t room s r h = step-case (Going (λ w a s′. Balanced (s′ .entities) (r + retires (commandAt b (take (width b) t)) s))) b t room s (λ n. tt) (λ q. go (does (commandAt b (take (width b) t)) s) refl)
   where
     go : (o : Outcome) → does (commandAt b (take (width b) t)) s ≡ o → Going (λ w a s′. Balanced (s′ .entities) (r + retires (commandAt b (take (width b) t)) s)) (stepOf (suc (width b)) s o)
-    go (refuses n) e = rw (refused-retires (commandAt b (take (width b) t)) s (λ nh. clash n e (accepted-exact (commandAt b (take (width b) t)) s _ _ .1 (nh, refl, refl)))) (kept (s .entities) r h)
-      where
-        clash : (n : ℕ) {s′ : Store} {a : List ℕ} → does (commandAt b (take (width b) t)) s ≡ refuses n → does (commandAt b (take (width b) t)) s ≡ accepts s′ a → ⊥
-        clash n p q = let z : _≡_ {A = ℕ} 0 1 = cc in omega arith
+    go (refuses n) e = rw (refused-retires (commandAt b (take (width b) t)) s (λ nh. clash (does (commandAt b (take (width b) t)) s) n ((accepted (commandAt b (take (width b) t)) s) .store) ((accepted (commandAt b (take (width b) t)) s) .answer) e (accepted-exact (commandAt b (take (width b) t)) s _ _ .1 (nh, refl, refl)))) (kept (s .entities) r h)
     go (accepts s′ a) e =
         let x = accepted-exact (commandAt b (take (width b) t)) s s′ a .0 e in
         ap (λ (z : Store). z .entities .issued) (sym (x .1)) ∙ accepted-balanced (commandAt b (take (width b) t)) s r (x .0) h ∙ ap (λ (z : Store). length (z .entities .live) + length (z .entities .recycled) + (r + retires (commandAt b (take (width b) t)) s)) (x .1)

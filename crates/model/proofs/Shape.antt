@@ -1,13 +1,12 @@
 -- No operation on components changes a layout but for its counts; and a layout that commands can build stays one. Assumes nothing.
-use mathlib.Core.Path.{_≡_, refl, ap, ap₂, sym, _∙_, subst}
-use mathlib.Core.Bool.{Bool, true, false, cond}
+use mathlib.Core.Path.{_≡_, refl, ap, ap₂, _∙_}
 use mathlib.Core.List.{List, [], _∷_, _++_, map}
-use Prim.Native.Nat.{ℕ, zero, suc, _+_, _-_, _≤_, _<_}
-use native.Mathlib.Omega.{arith}
-use lib.ListN.{length, length-map}
+use Prim.Native.Nat.{ℕ, _+_}
+use lib.ListN.{length-map}
 use Rattle.model.specs.Model.{Entity, SparseSet, Group, Family, Component, Storage, Walked, Stepped, zeroCount, meets, allHeld, isGrouped, kindOf, kindsOf, groupsOf, insertAll, groupComponents, ungroupComponents, groupFamily, ungroupFamily, groupTouched, ungroup, groupAll, regroup, setLayout, insert, remove, clearAll}
-use Rattle.model.specs.Sound.{In, Distinct, layoutKinds, Rising, BuildableFamily, BuildableFamilies, Buildable, Uncounted, AllUncounted}
+use Rattle.model.specs.Sound.{layoutKinds, Rising, BuildableFamilies, Buildable}
 use Rattle.model.proofs.SparseSets.{cond-case}
+use Rattle.model.proofs.Regroup.{zero-kinds}
 
 -- the layout with every count 0
 abbrev pub plain : List Family → List Family
@@ -96,13 +95,9 @@ clearAll-plain p = plain-plain (p .layout)
 
 -- ---- what commands can build, up to counts
 
-kinds-plain : (f : Family) → kindsOf (map zeroCount f) ≡ kindsOf f
-kinds-plain [] = refl
-kinds-plain (r ∷ rs) = ap (λ (l : List ℕ). r .newKinds ++ l) (kinds-plain rs)
-
 layoutKinds-plain : (fs : List Family) → layoutKinds (plain fs) ≡ layoutKinds fs
 layoutKinds-plain [] = refl
-layoutKinds-plain (f ∷ fs) = ap₂ (λ (a b : List ℕ). a ++ b) (kinds-plain f) (layoutKinds-plain fs)
+layoutKinds-plain (f ∷ fs) = ap₂ (λ (a b : List ℕ). a ++ b) (zero-kinds f) (layoutKinds-plain fs)
 
 groupsOf-plain : (fs : List Family) → groupsOf (plain fs) ≡ groupsOf fs
 groupsOf-plain [] = refl
@@ -119,12 +114,12 @@ rising-from (r ∷ rs) h = (h .0, rising-from rs (h .1))
 families-to : (fs : List Family) → BuildableFamilies fs → BuildableFamilies (plain fs)
 families-to [] h = tt
 families-to ([] ∷ fs) h = absurd (h .0)
-families-to ((r ∷ rs) ∷ fs) h = ((h .0 .0, rising-to rs (h .0 .1), rw (kinds-plain rs) (h .0 .2)), families-to fs (h .1))
+families-to ((r ∷ rs) ∷ fs) h = ((h .0 .0, rising-to rs (h .0 .1), rw (zero-kinds rs) (h .0 .2)), families-to fs (h .1))
 
 families-from : (fs : List Family) → BuildableFamilies (plain fs) → BuildableFamilies fs
 families-from [] h = tt
 families-from ([] ∷ fs) h = absurd (h .0)
-families-from ((r ∷ rs) ∷ fs) h = ((h .0 .0, rising-from rs (h .0 .1), rw (kinds-plain rs) at (h .0 .2)), families-from fs (h .1))
+families-from ((r ∷ rs) ∷ fs) h = ((h .0 .0, rising-from rs (h .0 .1), rw (zero-kinds rs) at (h .0 .2)), families-from fs (h .1))
 
 plain-to : (kinds : List ℕ) (fs : List Family) → Buildable kinds fs → Buildable kinds (plain fs)
 plain-to kinds fs b =

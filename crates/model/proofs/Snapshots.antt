@@ -1,19 +1,19 @@
 -- Demand 3's statement of the snapshots: two sound stores write equal snapshots exactly if they hold the same, and so do any two runs. Assumes nothing.
-use mathlib.Core.Path.{_≡_, refl, ap, sym, _∙_, subst}
+use mathlib.Core.Path.{_≡_, refl, ap, sym}
 use mathlib.Core.Logic.{_↔_}
 use mathlib.Core.Bool.{Bool, true, false, cond}
-use mathlib.Core.Option.{Option, some, none}
-use mathlib.Core.List.{List, [], _∷_, _++_, map}
-use Prim.Native.Nat.{ℕ, zero, suc, _+_, _-_, _≤_, _<_}
+use mathlib.Core.Option.{some, none}
+use mathlib.Core.List.{List, [], _∷_, _++_}
+use Prim.Native.Nat.{ℕ, zero, suc, _+_, _≤_}
 use native.Mathlib.Omega.{arith}
-use borrow.Author.Tests.{eqb-true, eq-eqb}
+use borrow.Author.Tests.{eq-eqb}
 use lib.Dec.{eqb}
-use lib.ListN.{length, getD}
+use lib.ListN.{getD}
 use Rattle.model.specs.Lists.{one}
-use Rattle.model.specs.Model.{Entity, Entities, SparseSet, sameEntity, noRow, at, held, lastVersion}
+use Rattle.model.specs.Model.{Entity, SparseSet, sameEntity, noRow, at, held, lastVersion}
 use Rattle.model.specs.Store.{Store, empty}
-use Rattle.model.specs.Run.{Ran, run}
-use Rattle.model.specs.Snapshot.{Entry, addComponent, componentsOf, versionAt, entryOf, entries, snapshot}
+use Rattle.model.specs.Run.{run}
+use Rattle.model.specs.Snapshot.{addComponent, componentsOf, versionAt, entryOf, entries, snapshot}
 use Rattle.model.specs.Sound.{Eight, Limits, Sound}
 use Rattle.model.proofs.SparseSets.{entity-same}
 use Rattle.model.proofs.Groups.{cnt}

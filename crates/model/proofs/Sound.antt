@@ -1,26 +1,26 @@
 -- Every command keeps a sound store sound, so every run does, and so does every step of it. Assumes nothing.
-use mathlib.Core.Path.{_≡_, refl, ap, sym, _∙_}
-use mathlib.Core.Bool.{Bool, true, false, cond, not, _&&_, _||_, true≢false, false≢true}
+use mathlib.Core.Path.{_≡_}
+use mathlib.Core.Bool.{Bool, true, false, not, _&&_, _||_, true≢false}
 use mathlib.Core.Option.{Option, some, none}
-use mathlib.Core.List.{List, [], _∷_, _++_, map}
-use Prim.Native.Nat.{ℕ, zero, suc, _+_, _-_, _*_, _^_, _≤_, _<_}
+use mathlib.Core.List.{List, [], _∷_}
+use Prim.Native.Nat.{ℕ, zero, suc, _-_, _^_, _≤_, _<_}
 use native.Mathlib.Omega.{arith}
 use native.Mathlib.Nat.{pow-suc}
-use borrow.Author.Tests.{ltb-true, ltb-false, leb-false}
-use lib.Dec.{ltb, leb, eqb, lit<}
-use lib.ListN.{length, take, drop, getD, length-take, length-drop, length-map}
-use Rattle.model.specs.Model.{Entity, Created, kindOf, isLive, mem, addsNothing, joins, withGroup, groupsOf, create}
+use borrow.Author.Tests.{ltb-false, leb-false}
+use lib.Dec.{ltb, leb, lit<}
+use lib.ListN.{length, take, drop, getD, length-take, length-drop}
+use Rattle.model.specs.Model.{Created, isLive, addsNothing, joins, withGroup, groupsOf, create}
 pub use Rattle.model.specs.Store.{Bytes}
-use Rattle.model.specs.Store.{Store, empty, number, stagedKinds, isKind, withControl, withStorage, withAll, counted, emptyStaged, emptyBoth}
+use Rattle.model.specs.Store.{Store, empty, number, stagedKinds, isKind, withControl, withAll, counted, emptyStaged, emptyBoth}
 use Rattle.model.specs.Commands.{Command, REG, HOLD, NEW, PUT, TAKE, DROP, KILL, WIPE, GROUP, APPLY, BAR, RANGE, EMPTY, TALLY, Done, accepted, widths, width, entityOfBytes, commandAt}
-use Rattle.model.specs.Refusals.{Line, firstLine, linesOf, beforeLines}
-use Rattle.model.specs.Run.{Outcome, refuses, accepts, outcome, does, Step, stops, goes, stepOf, stepIf, step, Ran, halt, more, runFor, run}
+use Rattle.model.specs.Refusals.{firstLine, linesOf, beforeLines}
+use Rattle.model.specs.Run.{Outcome, refuses, accepts, does, Step, stops, goes, stepOf, stepIf, step, Ran, halt, more, runFor, run}
 use Rattle.model.specs.History.{trailFor, trail}
 pub use Rattle.model.specs.History.{Each}
 use Rattle.model.specs.Sound.{Eight, Limits, Sound}
 use Rattle.model.proofs.SparseSets.{cond-case}
-use Rattle.model.proofs.Walk.{bool-cases, or-false}
 use Rattle.model.proofs.Families.{or-false-right}
+use Rattle.model.proofs.KindLists.{not-false}
 use Rattle.model.proofs.Draft.{DraftSound, withGroup-sound}
 use Rattle.model.proofs.Operations.{control-of, control-sound, register-sound, create-sound, create-is-live, insert-sound, remove-sound, kill-sound, clearAll-sound, setLayout-sound, stage-sound, exclude-sound, draft-sound, emptyStaged-sound, emptyBoth-sound, counted-sound, no-draft, empty-sound}
 use Rattle.model.specs.Refusals.{NoneHolds}
@@ -45,10 +45,6 @@ Fits EMPTY = Unit {0}
 Fits TALLY = Unit {0}
 
 -- ---- accepted commands
-
-not-false : (b : Bool) → not b ≡ false → b ≡ true
-not-false true h = refl
-not-false false h = absurd (true≢false h)
 
 not-and : (a b : Bool) → (not a && b) ≡ false → a ≡ false → b ≡ false
 not-and true b h e = absurd (true≢false e)

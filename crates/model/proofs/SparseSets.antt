@@ -1,16 +1,16 @@
--- Columns read by kind: what a walk's swap does to the entities of each. Assumes nothing.
-use mathlib.Core.Path.{_≡_, refl, ap, ap₂, sym, _∙_, subst}
-use mathlib.Core.Bool.{Bool, true, false, cond, _&&_, _||_}
-use mathlib.Core.List.{List, [], _∷_, _++_, map}
-use Prim.Native.Nat.{ℕ, zero, suc, _+_, _-_, _≤_, _<_}
-use native.Mathlib.Omega.{arith}
+-- Sparse sets read by kind: what a walk's swap does to the entities of each. Assumes nothing.
+use mathlib.Core.Path.{_≡_, refl, ap, sym, _∙_}
+use mathlib.Core.Bool.{Bool, true, false, cond, _&&_}
+use mathlib.Core.List.{List, [], _∷_}
+use Prim.Native.Nat.{ℕ, zero, suc, _+_}
 use native.Mathlib.Nat.{zero-add, add-zero, suc-add, add-suc}
-use borrow.Author.Tests.{eqb-true, eqb-false, eq-eqb}
-use lib.Dec.{eqb, ltb}
-use lib.ListN.{length, take, drop, getD, set, length-map, List·getD-map}
-use Rattle.model.specs.Lists.{swap, count, place, one, after}
+use borrow.Author.Tests.{eqb-true, eq-eqb}
+use lib.Dec.{eqb}
+use lib.ListN.{getD, set, List·getD-map}
+use Rattle.model.specs.Lists.{swap, place}
+pub use Rattle.model.specs.Lists.{map-set}
 pub use Rattle.model.specs.Sound.{key}
-use Rattle.model.specs.Model.{Entity, Row, SparseSet, sameEntity, noEntity, noRow, mem, setOf, keys, entityOf, at, swapTo, mapOn, onKinds}
+use Rattle.model.specs.Model.{Entity, SparseSet, sameEntity, noEntity, noRow, mem, setOf, keys, entityOf, at, swapTo, mapOn, onKinds}
 
 -- a property of a choice, from its two cases
 pub cond-case : {A : Type 0} (P : A → Type 0) (b : Bool) (x y : A) → (b ≡ true → P x) → (b ≡ false → P y) → P (cond b x y)
@@ -37,11 +37,6 @@ entity-eq a b h =
 
 pub entity-same : (a : Entity) → sameEntity a a ≡ true
 entity-same a = rw (eq-eqb (a .index) (a .index) refl, eq-eqb (a .version) (a .version) refl)
-
-pub map-set : {A B : Type 0} (f : A → B) (l : List A) (i : ℕ) (a : A) → map f (set l i a) ≡ set (map f l) i (f a)
-map-set f [] i a = refl
-map-set f (x ∷ l) zero a = refl
-map-set f (x ∷ l) (suc i) a = ap {B = List _} (λ r. f x ∷ r) (map-set f l i a)
 
 pub keys-swap : (i j : ℕ) (l : SparseSet) → keys (swap noRow i j l) ≡ swap noEntity i j (keys l)
 keys-swap i j l =

@@ -1,13 +1,9 @@
--- What holds of every row's value, as that it fits eight bytes, holds after every operation, if it holds of the staged components's. Assumes nothing.
-use mathlib.Core.Path.{_≡_, refl, ap, sym, _∙_, subst}
-use mathlib.Core.Bool.{Bool, true, false, cond}
+-- What holds of every row's value, as that it fits eight bytes, holds after every operation, if it holds of the staged ones. Assumes nothing.
+use mathlib.Core.Path.{_≡_, refl}
 use mathlib.Core.List.{List, [], _∷_, _++_, map}
-use Prim.Native.Nat.{ℕ, zero, suc, _+_, _-_, _≤_, _<_}
-use native.Mathlib.Omega.{arith}
+use Prim.Native.Nat.{ℕ, zero, suc, _-_}
 use native.Mathlib.Nat.{zero-add}
-use native.Mathlib.Decide.{ℕ-discrete, decLt}
-use lib.ListN.{length, take, drop, getD, set}
-use lib.Seq.{getD-set-same, getD-set-other, set-out}
+use lib.ListN.{length, take, getD, set}
 use Rattle.model.specs.Model.{Entity, Row, SparseSet, Group, Family, Component, Storage, Walked, Stepped, noRow, mem, meets, setOf, at, held, allHeld, isGrouped, swapTo, insertRow, removeRow, onKinds, insertAll, kindOf, kindsOf, groupComponents, ungroupComponents, groupFamily, ungroupFamily, groupTouched, ungroup, groupAll, regroup, setLayout, insert, remove, clearAll}
 use Rattle.model.proofs.SparseSets.{cond-case, setOf-mapOn}
 

@@ -1,16 +1,17 @@
 -- The upward walk over a family: every group is right after it, if all but one entity were right before. Assumes nothing.
 use mathlib.Core.Path.{_≡_, refl, ap, ap₂, sym, _∙_, subst}
 use mathlib.Core.Logic.{_⊎_, inl, inr, ⊎-elim}
-use mathlib.Core.Bool.{Bool, true, false, cond, _&&_, _||_, or-assoc, true≢false}
-use mathlib.Core.List.{List, [], _∷_, _++_, map, append-assoc}
-use Prim.Native.Nat.{ℕ, zero, suc, _+_, _-_, _≤_, _<_}
+use mathlib.Core.Bool.{Bool, true, false, _&&_, _||_, or-assoc, true≢false}
+use mathlib.Core.List.{List, [], _∷_, _++_, append-assoc}
+use Prim.Native.Nat.{ℕ, suc, _≤_, _<_}
 use native.Mathlib.Omega.{arith}
 use borrow.Author.Tests.{ltb-true, ltb-false, eqb-true, eq-eqb}
-use lib.Dec.{ltb, eqb}
-use lib.ListN.{length, take, drop, getD, set, length-map}
-use Rattle.model.specs.Lists.{place-count, place-count-take, count-take-place, count-take-le, count-place}
-use Rattle.model.specs.Model.{Entity, Row, SparseSet, Group, Family, Walked, Stepped, sameEntity, noEntity, mem, all, setOf, keys, entityOf, at, held, headKind, isGrouped, allHeld, swapTo, onKinds, groupComponents, groupFamily, kindsOf}
-use Rattle.model.proofs.SparseSets.{entity-eq, entity-same, cond-case, key, key-swapped, key-kept, and-left, and-right}
+use lib.Dec.{eqb}
+use lib.ListN.{length, take, length-map}
+use Rattle.model.specs.Lists.{place-count, place-count-take, count-take-place, count-place}
+use Rattle.model.specs.Model.{Entity, SparseSet, Group, Family, Walked, Stepped, sameEntity, mem, all, setOf, entityOf, at, held, headKind, isGrouped, allHeld, swapTo, onKinds, groupComponents, groupFamily, kindsOf}
+use Rattle.model.proofs.SparseSets.{entity-eq, cond-case, key, key-swapped, key-kept, and-left, and-right}
+pub use Rattle.model.proofs.Groups.{bool-cases}
 use Rattle.model.proofs.Groups.{cnt, plc, In, Even, Full, Inside, Swapped, SameEntities, even-kept, full-kept, same-entities, low, inner-even, inner-full, inner-isGrouped, grown-even, grown-full, grown-isGrouped}
 
 -- ---- membership
@@ -39,10 +40,6 @@ or-false false b h = refl
 
 pub in-cases : {P : Type 0} (a b : List ℕ) (k : ℕ) → In (a ++ b) k → (In a k → P) → (In b k → P) → P
 in-cases a b k h = or-cases (mem k a) (mem k b) (sym (mem-append k a b) ∙ h)
-
-pub bool-cases : {P : Type 0} (b : Bool) → (b ≡ true → P) → (b ≡ false → P) → P
-bool-cases true f g = f refl
-bool-cases false f g = g refl
 
 -- ---- a family whose groups are right for each entity of W
 
@@ -234,7 +231,7 @@ module _ (W : Entity → Type 0) (e : Entity) (acc : List ℕ) (sets : List Spar
   abbrev s′ : Stepped
   s′ = groupComponents e g′ r sets
 
-  -- a new kinds's kind is missing: nothing moves, and no group from here on can hold the entity
+  -- one of the group's new kinds is missing: nothing moves, and no group from here on can hold the entity
   groupFamily-stop : allHeld e (r .newKinds) sets ≡ false → Up W e acc sets (r ∷ rs) (record { sets = sets; groups = r ∷ rs })
   groupFamily-stop t =
       let m = all-missing (λ k. held e (setOf sets k)) (r .newKinds) t in

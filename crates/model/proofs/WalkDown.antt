@@ -1,18 +1,16 @@
 -- The downward walk over a family: the entity is out of each group that has a kind of gone, and every group is right for the other entities. Assumes nothing.
-use mathlib.Core.Path.{_≡_, refl, ap, ap₂, sym, _∙_, subst}
-use mathlib.Core.Bool.{Bool, true, false, cond, _&&_, _||_, true≢false}
-use mathlib.Core.List.{List, [], _∷_, _++_, map, append-assoc}
-use Prim.Native.Nat.{ℕ, zero, suc, _+_, _-_, _≤_, _<_}
+use mathlib.Core.Path.{_≡_, refl, ap, ap₂, sym, _∙_}
+use mathlib.Core.Bool.{Bool, true, false, true≢false}
+use mathlib.Core.List.{List, [], _∷_, _++_, append-assoc}
+use Prim.Native.Nat.{ℕ, suc, _-_, _≤_, _<_}
 use native.Mathlib.Omega.{arith}
-use borrow.Author.Tests.{ltb-true, ltb-false, eqb-true, eq-eqb}
-use lib.Dec.{ltb, eqb}
-use lib.ListN.{length, take, drop, getD, set, length-map}
-use lib.Seq.{take-take}
-use Rattle.model.specs.Lists.{place-count, place-count-take, count-take-place, count-take-le, count-place, count-append}
-use Rattle.model.specs.Model.{Entity, SparseSet, Group, Family, Walked, Stepped, sameEntity, mem, any, meets, setOf, headKind, isGrouped, swapTo, onKinds, ungroupComponents, ungroupFamily, kindsOf}
-use Rattle.model.proofs.SparseSets.{entity-eq, entity-same, cond-case, key, key-swapped, key-kept}
+use borrow.Author.Tests.{ltb-true, ltb-false}
+use lib.ListN.{length, take}
+use Rattle.model.specs.Lists.{place-count-take, count-take-place, count-take-le}
+use Rattle.model.specs.Model.{Entity, SparseSet, Group, Family, Walked, Stepped, sameEntity, mem, any, meets, headKind, isGrouped, swapTo, onKinds, ungroupComponents, ungroupFamily, kindsOf}
+use Rattle.model.proofs.SparseSets.{cond-case, key, key-swapped, key-kept}
 use Rattle.model.proofs.Groups.{cnt, plc, In, Even, Full, Inside, Swapped, SameEntities, even-kept, full-kept, same-entities, low, inner-even, inner-count, shrunk-even, shrunk-full, shrunk-out}
-use Rattle.model.proofs.Walk.{Below, Chain, Every, But, GroupRight, below-le, bool-cases, in-left, in-right, or-false, or-true, or-cases, mem-append}
+use Rattle.model.proofs.Walk.{Below, Chain, Every, But, below-le, in-left, in-right, or-false, or-true, or-cases, mem-append}
 
 any-more : (p q : ℕ → Bool) → ((k : ℕ) → p k ≡ true → q k ≡ true) → (ks : List ℕ) → any p ks ≡ true → any q ks ≡ true
 any-more p q f [] h = h

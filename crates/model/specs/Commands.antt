@@ -1,10 +1,10 @@
 -- The fourteen commands: how they are read, what an accepted one does and answers, and how long its answer is. Assumes nothing.
-use mathlib.Core.Bool.{Bool, true, false, cond, _&&_}
-use mathlib.Core.List.{List, [], _∷_, _++_, map}
-use Prim.Native.Nat.{ℕ, zero, suc, _+_, _*_}
+use mathlib.Core.Bool.{Bool, cond, _&&_}
+use mathlib.Core.List.{List, [], _∷_, _++_}
+use Prim.Native.Nat.{ℕ, _+_, _*_}
 use lib.Dec.{leb}
 use lib.ListN.{length, take, drop, getD}
-use Rattle.model.specs.Model.{Entity, SparseSet, Storage, Created, Range, none, found, noRow, setOf, at, held, insert, remove, clearAll, setLayout, range, addsNothing, withGroup, create, destroy}
+use Rattle.model.specs.Model.{Entity, SparseSet, Storage, Range, none, found, noRow, setOf, at, held, insert, remove, clearAll, setLayout, range, addsNothing, withGroup, create, destroy}
 use Rattle.model.specs.Store.{Store, le, number, stagedKinds, isKind, withControl, withStorage, withAll, withKinds, emptyStaged, emptyBoth, withStaged, withExcluded, withDraft}
 
 -- a command with its operands

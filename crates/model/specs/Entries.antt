@@ -1,10 +1,10 @@
 -- The other entries: *start*, *column*, *roll*. Each gives its number, and zeros beside it where it is refused. Refusal 3 is of the words and is judged
 -- before these (otherLines). Assumes nothing.
-use mathlib.Core.Bool.{Bool, true, false, cond}
+use mathlib.Core.Bool.{Bool, true, false}
 use mathlib.Core.Option.{Option, some, none}
-use mathlib.Core.List.{List, [], _∷_, _++_, map}
-use Prim.Native.Nat.{ℕ, zero, suc, _/_, _%_}
-use lib.ListN.{length, take, drop}
+use mathlib.Core.List.{List, [], _∷_, map}
+use Prim.Native.Nat.{ℕ, _/_, _%_}
+use lib.ListN.{take, drop}
 use Rattle.model.specs.Model.{Entity, Row, SparseSet, setOf, keys}
 use Rattle.model.specs.Store.{Store, empty}
 use Rattle.model.specs.Snapshot.{snapshot}

@@ -1,16 +1,16 @@
--- The document's fourteen marked examples, computed. Assumes nothing.
+-- "Marked examples of the definitions": 01's fourteen, as a list under one theorem, and its byte-exact tape; all computed. Assumes nothing.
 use mathlib.Core.Path.{_≡_, refl}
-use mathlib.Core.Bool.{Bool, true, false}
 use mathlib.Core.List.{List, [], _∷_, _++_, map}
-use Prim.Native.Nat.{ℕ, suc}
-use lib.ListN.{length, replicate, getD}
-use Rattle.model.specs.Model.{Entity, Component, Storage, Group, Family, SparseSet, Entities, Created, Range, none, found, Added, nothing, added, refused}
+use Prim.Native.Nat.{ℕ}
+use lib.ListN.{length, replicate}
+use Rattle.model.specs.Model.{Entity, Component, Storage, Group, Family, Entities, Created, Range, none, found, Added, nothing, added, refused}
 use Rattle.model.specs.Store.{empty, le}
 use Rattle.model.specs.Commands.{accepted}
 use Rattle.model.specs.Refusals.{linesOf}
 use Rattle.model.specs.Run.{Ran, run, runFor, step, does}
 use Rattle.model.specs.Model.{groupAll, clearAll, groupComponents, ungroupComponents, groupFamily, ungroupFamily, groupTouched, ungroup, insert, remove, range, addGroup, setLayout, regroup, create, destroy}
 
+-- what the model gives, and what 01 says
 pub record Example : Type 0 where
   pub got : List ℕ
   pub want : List ℕ
@@ -46,6 +46,7 @@ bare = record { sets = replicate columns []; layout = [] }
 none-issued : Entities
 none-issued = record { live = []; recycled = []; issued = 0 }
 
+-- "Layout {1,2}, then {1,2,3,4}."
 draft : List Family
 unfolding addGroup
 draft = draftOr [] (addGroup (1 ∷ 2 ∷ 3 ∷ 4 ∷ []) (draftOr [] (addGroup (1 ∷ 2 ∷ []) [])))
@@ -56,7 +57,7 @@ staged ks = map (λ (k : ℕ). record { kind = k; value = 0 }) ks
 entity : ℕ → ℕ → Entity
 entity i v = record { index = i; version = v }
 
--- four entities, each with the kinds of its staged components
+-- "Cards 0 {1,2,3}, 1 {1,2,3,4}, 2 {1,2}, 3 {1}."
 four : Entities
 unfolding create none-issued
 four = (create ((create ((create ((create none-issued) .entities)) .entities)) .entities)) .entities
@@ -66,18 +67,22 @@ unfolding bare draft staged entity setLayout regroup groupAll insert groupTouche
 filled =
     insert (entity 3 1) (staged (1 ∷ [])) (insert (entity 2 1) (staged (1 ∷ 2 ∷ [])) (insert (entity 1 1) (staged (1 ∷ 2 ∷ 3 ∷ 4 ∷ [])) (insert (entity 0 1) (staged (1 ∷ 2 ∷ 3 ∷ [])) (setLayout [] draft bare))))
 
+-- "KILL card 1"
 killed : Storage
 unfolding remove ungroup ungroupFamily ungroupComponents filled entity
 killed = remove (entity 1 1) (1 ∷ 2 ∷ 3 ∷ 4 ∷ 5 ∷ 6 ∷ []) filled
 
+-- RANGE with a hand and a bar
 asks : List ℕ → List ℕ → List ℕ
 unfolding range filled
 asks h b = ofRange (range h b filled)
 
+-- GROUP "In a draft with these groups"
 adds : List ℕ → List ℕ
 unfolding addGroup draft
 adds h = ofAdded (addGroup h draft)
 
+-- "the next NEW is index 1, version 2"
 next : Created
 unfolding create destroy four entity
 next = create (destroy (entity 1 1) four)
@@ -111,7 +116,7 @@ pub examples : gots marked ≡ wants marked
 unfolding marked
 examples = refl
 
--- the document's command stream, and what the program writes of it
+-- "REG 1, REG 2, HOLD 1 and 2 (value 0), GROUP, APPLY, HOLD 1=5, NEW, HOLD 1=6, HOLD 2=7, NEW, HOLD 1 and 2 (value 0), RANGE"
 abbrev pub hold0 : ℕ → List ℕ
 hold0 k = 2 ∷ k ∷ 0 ∷ 0 ∷ 0 ∷ 0 ∷ 0 ∷ 0 ∷ 0 ∷ 0 ∷ []
 
@@ -121,6 +126,7 @@ holds k v = 2 ∷ k ∷ v ∷ 0 ∷ 0 ∷ 0 ∷ 0 ∷ 0 ∷ 0 ∷ 0 ∷ []
 pub sample : List ℕ
 sample = (1 ∷ 1 ∷ 1 ∷ 2 ∷ []) ++ hold0 1 ++ hold0 2 ++ (9 ∷ 10 ∷ []) ++ holds 1 5 ++ (3 ∷ []) ++ holds 1 6 ++ holds 2 7 ++ (3 ∷ []) ++ hold0 1 ++ hold0 2 ++ (12 ∷ [])
 
+-- "writes the answers, then stop 1, commands 4, read 4, written 4"
 abbrev pub written : Ran → List ℕ
 written r = r .bytes ++ (r .stop ∷ le 4 (r .commands) ++ le 4 (r .read) ++ le 4 (length (r .bytes)))
 

@@ -1,16 +1,15 @@
 -- What a run passes through: the store after each command, and the numbers it retires. Said beside the run, for the theorems on runs; no store holds it.
 -- Assumes nothing.
-use mathlib.Core.Bool.{Bool, true, false, cond, _&&_}
-use mathlib.Core.Option.{Option, some, none}
-use mathlib.Core.List.{List, [], _∷_, _++_}
+use mathlib.Core.Bool.{_&&_}
+use mathlib.Core.List.{List, [], _∷_}
 use Prim.Native.Nat.{ℕ, zero, suc, _+_, _-_}
 use lib.Dec.{leb}
 use lib.ListN.{length, take, drop}
-use Rattle.model.specs.Model.{Entity, isLive, lastVersion}
+use Rattle.model.specs.Model.{isLive, lastVersion}
 use Rattle.model.specs.Lists.{one}
 use Rattle.model.specs.Store.{Store}
 use Rattle.model.specs.Commands.{Command, REG, HOLD, NEW, PUT, TAKE, DROP, KILL, WIPE, GROUP, APPLY, BAR, RANGE, EMPTY, TALLY, width, commandAt}
-use Rattle.model.specs.Run.{Step, stops, goes, step}
+use Rattle.model.specs.Run.{stops, goes, step}
 
 -- the store after each command of a run, in order
 unfoldable pub trailFor : ℕ → List ℕ → ℕ → Store → List Store

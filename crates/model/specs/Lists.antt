@@ -1,22 +1,24 @@
 -- Lists over a type with a Boolean equality: counts, places and swaps. Assumes nothing.
-use mathlib.Core.Path.{_≡_, refl, ap, ap₂, sym, _∙_, subst}
-use mathlib.Core.Logic.{_⊎_, inl, inr, ⊎-elim}
+use mathlib.Core.Path.{_≡_, refl, ap, ap₂, sym, _∙_}
 use mathlib.Core.Bool.{Bool, true, false, cond}
 use mathlib.Core.List.{List, [], _∷_, _++_, map}
 use Prim.Native.Nat.{ℕ, zero, suc, _+_, _-_, _≤_, _<_, zero-le, suc-le-suc}
 use native.Mathlib.Omega.{arith}
-use native.Mathlib.Nat.{le-of-suc-le-suc, not-suc-le-zero, zero-add, suc-add}
+use native.Mathlib.Nat.{le-of-suc-le-suc, not-suc-le-zero}
 use native.Mathlib.Decide.{ℕ-discrete}
-use lib.ListN.{length, take, drop, getD, set, length-set, length-append, take-append-drop, length-map, List·getD-map}
+use lib.ListN.{length, take, drop, getD, set, length-set, take-append-drop, length-map, List·getD-map}
 use lib.Seq.{take-set-lt, take-set-le, getD-take, getD-set-same, getD-set-other, take-suc, take-suc-set, set-getD, lt-length-set, length-take-le, take-all}
 
+-- the items at i and j change places
 abbrev pub swap : {A : Type 0} → A → ℕ → ℕ → List A → List A
 swap d i j l = set (set l i (getD l j d)) j (getD l i d)
 
+-- 1 where the test holds
 abbrev pub one : Bool → ℕ
 one true = 1
 one false = 0
 
+-- a place one further on, unless it is here
 abbrev pub after : Bool → ℕ → ℕ
 after true n = 0
 after false n = suc n
@@ -40,6 +42,7 @@ module _ {A : Type 0} where
       rw (take-suc-set (set l i (getD l c d)) c, take-set-le c l i)
 
 module _ {A : Type 0} (same : A → A → Bool) where
+  -- how often x stands in the list
   abbrev pub count : A → List A → ℕ
   count x [] = 0
   count x (y ∷ l) = one (same x y) + count x l

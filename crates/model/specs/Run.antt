@@ -1,5 +1,4 @@
 -- A command's outcome, one step of a run, and a run. Assumes nothing.
-use mathlib.Core.Bool.{Bool, true, false, cond}
 use mathlib.Core.Option.{Option, some, none}
 use mathlib.Core.List.{List, [], _∷_, _++_}
 use Prim.Native.Nat.{ℕ, zero, suc, _+_, _-_}
@@ -8,7 +7,7 @@ pub use Rattle.model.specs.Store.{le, number, Control, Store, stagedKind
 unfoldable pub use Rattle.model.specs.Store.{empty}
 pub use Rattle.model.specs.Commands.{Command, REG, HOLD, NEW, PUT, TAKE, DROP, KILL, WIPE, GROUP, APPLY, BAR, RANGE, EMPTY, TALLY, componentBytes, heldBytes, rangeBytes, widths, isCommand, entityOfBytes, commandAt, answerLength}
 use Rattle.model.specs.Commands.{Done, accepted, width}
-use Rattle.model.specs.Refusals.{firstLine, linesOf, Ready, beforeLines}
+use Rattle.model.specs.Refusals.{firstLine, linesOf, beforeLines}
 
 -- what a command does: it is refused by a number, or accepted with the store after it and the answer after the 0 byte
 pub data Outcome : Type 0 where

@@ -1,10 +1,10 @@
 -- What RANGE shows, said of the entities and not of the search: which of them the hand and the bar describe, and where 01 says none. Assumes nothing.
 use mathlib.Core.Path.{_≡_}
-use mathlib.Core.Bool.{Bool, true, false, cond}
-use mathlib.Core.List.{List, [], _∷_, _++_}
-use Prim.Native.Nat.{ℕ, zero, suc, _+_, _≤_, _<_}
+use mathlib.Core.Bool.{true, cond}
+use mathlib.Core.List.{List, [], _∷_}
+use Prim.Native.Nat.{ℕ, suc, _+_, _≤_, _<_}
 use lib.ListN.{length, take, drop, getD}
-use Rattle.model.specs.Model.{Entity, SparseSet, Group, Family, sameSet, allHeld, kindsOf, newGroup}
+use Rattle.model.specs.Model.{Entity, SparseSet, Family, sameSet, allHeld, kindsOf, newGroup}
 use Rattle.model.specs.Sound.{cnt, In, key, holders}
 
 -- ---- the entities that a hand h and a bar b describe

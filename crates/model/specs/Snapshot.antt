@@ -1,14 +1,14 @@
 -- The snapshot, which *roll* writes: "live count 4, then each live card by rising index: index 4, version 4, part count 1, then each part by rising kind:
 -- kind 1, value 8". Assumes nothing.
 use mathlib.Core.Path.{_≡_}
-use mathlib.Core.Bool.{Bool, true, false, cond}
+use mathlib.Core.Bool.{cond}
 use mathlib.Core.Option.{Option, some, none}
-use mathlib.Core.List.{List, [], _∷_, _++_, map}
-use Prim.Native.Nat.{ℕ, zero, suc, _≤_, _<_}
+use mathlib.Core.List.{List, [], _∷_, _++_}
+use Prim.Native.Nat.{ℕ, zero, suc, _≤_}
 use lib.Dec.{eqb}
 use lib.ListN.{length, getD}
 use Rattle.model.specs.Lists.{count}
-use Rattle.model.specs.Model.{Entity, SparseSet, Component, Entities, Storage, sameEntity, noRow, at, held, setOf}
+use Rattle.model.specs.Model.{Entity, SparseSet, Component, sameEntity, noRow, at, held, setOf}
 use Rattle.model.specs.Store.{Store, le}
 
 -- a live entity with its components, by rising kind

@@ -1,14 +1,14 @@
 -- When a store of the model is sound: 01's paragraph "A sound store has ..", clause by clause. Assumes nothing.
 -- Three clauses are of words alone ("enough words for them", "each with a column of its own", "lookups that agree") and stand where the words are read.
 use mathlib.Core.Path.{_≡_}
-use mathlib.Core.Bool.{Bool, true, false, cond}
+use mathlib.Core.Bool.{true, false, cond}
 use mathlib.Core.List.{List, [], _∷_, _++_, map}
-use Prim.Native.Nat.{ℕ, zero, suc, _+_, _^_, _≤_, _<_}
+use Prim.Native.Nat.{ℕ, _+_, _^_, _≤_, _<_}
 use lib.Dec.{eqb}
 use lib.ListN.{length, take, drop, getD}
 use Rattle.model.specs.Lists.{count}
-use Rattle.model.specs.Model.{Entity, Entities, Row, SparseSet, Component, Group, Family, Storage, sameEntity, noRow, mem, setOf, keys, kindOf, kindsOf, groupsOf, allHeld, lastVersion}
-use Rattle.model.specs.Store.{Store, Control}
+use Rattle.model.specs.Model.{Entity, Entities, SparseSet, Component, Family, sameEntity, noRow, mem, setOf, keys, kindOf, kindsOf, groupsOf, allHeld, lastVersion}
+use Rattle.model.specs.Store.{Store}
 
 -- ---- words for what follows
 

@@ -1,10 +1,10 @@
 -- The whole store, and numbers in bytes. Assumes nothing.
-use mathlib.Core.Bool.{Bool, true, false, cond}
-use mathlib.Core.List.{List, [], _∷_, _++_, map}
+use mathlib.Core.Bool.{Bool, cond}
+use mathlib.Core.List.{List, [], _∷_, map}
 use Prim.Native.Nat.{ℕ, zero, suc, _+_, _*_, _/_, _%_, _<_}
 use lib.Dec.{ltb}
 use lib.ListN.{replicate}
-use Rattle.model.specs.Model.{Entity, SparseSet, Family, Component, Storage, Entities, mem, kindOf}
+use Rattle.model.specs.Model.{Family, Component, Storage, Entities, mem, kindOf}
 
 -- ---- bytes: "numbers in bytes are little-endian"
 

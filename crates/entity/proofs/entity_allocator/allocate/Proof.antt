@@ -1,15 +1,14 @@
-use mathlib.Core.Path.{_≡_, refl, sym, ap, _∙_}
-use Prim.Native.Nat.{ℕ, _≤_, _<_, _-_, _+_, _*_}
+use mathlib.Core.Path.{_≡_, _∙_}
+use Prim.Native.Nat.{_≤_, _-_}
 use native.Mathlib.Omega.{arith}
-use lib.ListN.{length, getD, length-set}
+use lib.ListN.{length}
 use borrow.Author.Needs.{needs}
 use Rattle.entity.proofs.Lookups.{length-recycled, issued-is}
 use Rattle.entity.proofs.ModelSteps.{allocated-none, entity-none, allocated-some, entity-some, not-full}
-use Rattle.entity.specs.Meaning.{entitiesOf, recycledLen}
+use Rattle.entity.specs.Meaning.{entitiesOf}
 use Rattle.entity.proofs.entity_allocator.allocate.Statement.{statement}
 use Rattle.entity.proofs.entity_allocator.allocate.Tie as tie
 
--- src/entity_allocator.rt:95:9
 issue-requires : tie.Need-issue-requires
 issue-requires c κs =
     let s = c .before .before .before .before in
@@ -18,7 +17,6 @@ issue-requires c κs =
     let e : length (t .recycled) ≡ 0 = omega (arith, length-recycled (a .n) (a .part .now), c .before .if1 .taken) in
     (s .pre .0, omega (arith, not-full t (a .n) (s .pre .1) e, issued-is (a .n) (a .part .now)))
 
--- src/entity_allocator.rt:95:9
 returns : tie.Need-returns
 returns c =
     let s = c .before .before .before .before .before .before .before in
@@ -33,7 +31,6 @@ returns c =
       positive = r .positive;
     }
 
--- src/entity_allocator.rt:89:1
 returns-2 : tie.Need-returns-2
 returns-2 c =
     let s = c .before .before .before .before .before .before .before in

@@ -1,7 +1,6 @@
-use mathlib.Core.Path.{_≡_, refl, sym, ap, _∙_}
-use Prim.Native.Nat.{ℕ, _≤_, _<_, _-_, _+_, _*_}
+use mathlib.Core.Path.{sym, _∙_}
+use Prim.Native.Nat.{_-_}
 use native.Mathlib.Omega.{arith}
-use lib.ListN.{length, getD, length-set}
 use borrow.Author.Needs.{needs}
 use Rattle.entity.proofs.Lookups.{length-recycled, issued-is}
 use Rattle.entity.proofs.ModelSteps.{full-waiting, full-left, full-none}
@@ -9,7 +8,6 @@ use Rattle.entity.specs.Meaning.{entitiesOf}
 use Rattle.entity.proofs.entity_allocator.is_full.Statement.{statement}
 use Rattle.entity.proofs.entity_allocator.is_full.Tie as tie
 
--- src/entity_allocator.rt:25:9
 returns : tie.Need-returns
 returns c =
     let a = c .before .before .args in
@@ -18,7 +16,6 @@ returns c =
     let i = issued-is (a .n) (a .part .now) in
     full-waiting s (a .n) (λ e. c .if1 .taken (sym l ∙ e))
 
--- src/entity_allocator.rt:29:9
 returns-2 : tie.Need-returns-2
 returns-2 c =
     let a = c .before .before .before .before .args in
@@ -27,7 +24,6 @@ returns-2 c =
     let i = issued-is (a .n) (a .part .now) in
     full-left s (a .n) (omega arith)
 
--- src/entity_allocator.rt:20:1
 returns-3 : tie.Need-returns-3
 returns-3 c =
     let a = c .before .before .before .before .args in

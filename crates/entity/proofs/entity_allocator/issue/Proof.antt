@@ -1,7 +1,6 @@
-use mathlib.Core.Path.{_≡_, refl, sym, ap, _∙_}
-use Prim.Native.Nat.{ℕ, _≤_, _<_, _-_, _+_, _*_}
+use mathlib.Core.Path.{sym, ap}
+use Prim.Native.Nat.{ℕ, _-_}
 use native.Mathlib.Omega.{arith}
-use lib.ListN.{length, getD, length-set}
 use borrow.Author.Needs.{needs}
 use Rattle.entity.proofs.RingSteps.{numbered-changed, numbered-idle}
 use Rattle.entity.proofs.Lookups.{issued-is}
@@ -9,7 +8,6 @@ use Rattle.entity.specs.Meaning.{entity}
 use Rattle.entity.proofs.entity_allocator.issue.Statement.{statement}
 use Rattle.entity.proofs.entity_allocator.issue.Tie as tie
 
--- src/entity_allocator.rt:78:1
 returns : tie.Need-returns
 returns c =
     let s = c .before in

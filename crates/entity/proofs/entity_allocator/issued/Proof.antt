@@ -1,13 +1,10 @@
-use mathlib.Core.Path.{_≡_, refl, sym, ap, _∙_}
-use Prim.Native.Nat.{ℕ, _≤_, _<_, _-_, _+_, _*_}
-use native.Mathlib.Omega.{arith}
-use lib.ListN.{length, getD, length-set}
+use mathlib.Core.Path.{sym}
+use Prim.Native.Nat.{_-_}
 use borrow.Author.Needs.{needs}
 use Rattle.entity.proofs.Lookups.{issued-is}
 use Rattle.entity.proofs.entity_allocator.issued.Statement.{statement}
 use Rattle.entity.proofs.entity_allocator.issued.Tie as tie
 
--- src/entity_allocator.rt:12:1
 returns : tie.Need-returns
 returns c = sym (issued-is (c .before .args .n) (c .before .args .part .now))
 

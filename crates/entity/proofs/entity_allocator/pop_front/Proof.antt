@@ -1,33 +1,26 @@
-use mathlib.Core.Path.{_≡_, refl, sym, ap, _∙_}
-use Prim.Native.Nat.{ℕ, _≤_, _<_, _-_, _+_, _*_}
+use Prim.Native.Nat.{_-_}
 use native.Mathlib.Omega.{arith}
-use lib.ListN.{length, getD, length-set}
+use lib.ListN.{length-set}
 use borrow.Author.Needs.{needs}
 use Rattle.entity.proofs.RingSteps.{front-first, front-below, front-positive, unqueued-idle, unqueued-changed}
 use Rattle.entity.proofs.entity_allocator.pop_front.Statement.{statement}
 use Rattle.entity.proofs.entity_allocator.pop_front.Tie as tie
 
--- src/entity_allocator.rt:58:5
 slice-write-part-2 : tie.Need-slice-write-part-2
 slice-write-part-2 c = simp length-set (omega (arith, c .before .before .before .before .before .before .pre .0 .sized))
 
--- src/entity_allocator.rt:59:23
 cast-part-3 : tie.Need-cast-part-3
 cast-part-3 c = omega (arith, front-below (c .before .before .before .before .before .before .args .n) (c .before .before .before .before .before .before .args .part .now) (c .before .before .before .before .before .before .pre .0) (c .before .before .before .before .before .before .pre .1), c .before .before .before .before .before .before .pre .0 .few, c .before .before .before .before .before .before .pre .0 .sized)
 
--- src/entity_allocator.rt:59:10
 add-part-2 : tie.Need-add-part-2
 add-part-2 c = omega (arith, front-below (c .before .before .before .before .before .before .args .n) (c .before .before .before .before .before .before .args .part .now) (c .before .before .before .before .before .before .pre .0) (c .before .before .before .before .before .before .pre .1), c .before .before .before .before .before .before .pre .0 .few, c .before .before .before .before .before .before .pre .0 .sized)
 
--- src/entity_allocator.rt:59:5
 mul-part-2 : tie.Need-mul-part-2
 mul-part-2 c = omega (arith, front-below (c .before .before .before .before .before .before .args .n) (c .before .before .before .before .before .before .args .part .now) (c .before .before .before .before .before .before .pre .0) (c .before .before .before .before .before .before .pre .1), c .before .before .before .before .before .before .pre .0 .few, c .before .before .before .before .before .before .pre .0 .sized)
 
--- src/entity_allocator.rt:59:5
 slice-write-part-3 : tie.Need-slice-write-part-3
 slice-write-part-3 c = simp length-set (omega (arith, front-below (c .before .before .before .before .before .before .args .n) (c .before .before .before .before .before .before .args .part .now) (c .before .before .before .before .before .before .pre .0) (c .before .before .before .before .before .before .pre .1), c .before .before .before .before .before .before .pre .0 .few, c .before .before .before .before .before .before .pre .0 .sized))
 
--- src/entity_allocator.rt:46:1
 returns : tie.Need-returns
 returns c =
     let s = c .before .before .before .before .before .before in

@@ -1,13 +1,11 @@
-use mathlib.Core.Path.{_≡_, refl, sym, ap, _∙_}
-use Prim.Native.Nat.{ℕ, _≤_, _<_, _-_, _+_, _*_}
+use Prim.Native.Nat.{_-_}
 use native.Mathlib.Omega.{arith}
-use lib.ListN.{length, getD, length-set}
+use lib.ListN.{length-set}
 use borrow.Author.Needs.{needs}
 use Rattle.entity.proofs.RingSteps.{queued-changed}
 use Rattle.entity.proofs.entity_allocator.push_back.Statement.{statement}
 use Rattle.entity.proofs.entity_allocator.push_back.Tie as tie
 
--- src/entity_allocator.rt:64:1
 returns : tie.Need-returns
 returns c =
     let s = c .before .before .before .before in

@@ -1,14 +1,11 @@
-use mathlib.Core.Path.{_≡_, refl, sym, ap, _∙_}
-use Prim.Native.Nat.{ℕ, _≤_, _<_, _-_, _+_, _*_}
-use native.Mathlib.Omega.{arith}
-use lib.ListN.{length, getD, length-set}
+use mathlib.Core.Path.{refl, _∙_}
+use Prim.Native.Nat.{_-_}
 use borrow.Author.Needs.{needs}
 use Rattle.entity.proofs.ModelSteps.{recycled-next, recycled-last}
 use Rattle.entity.specs.Meaning.{entity, entitiesOf}
 use Rattle.entity.proofs.entity_allocator.recycle.Statement.{statement}
 use Rattle.entity.proofs.entity_allocator.recycle.Tie as tie
 
--- src/entity_allocator.rt:101:1
 returns : tie.Need-returns
 returns c =
     let s = c .before .before .before .before .before .before in
@@ -20,7 +17,6 @@ returns c =
       becomes = r .becomes ∙ recycled-next (entitiesOf (a .n) (a .part .now)) (entity (a .index) (a .version)) (c .before .before .before .before .if1 .taken);
     }
 
--- src/entity_allocator.rt:101:1
 returns-2 : tie.Need-returns-2
 returns-2 c =
     let s = c .before .before in

@@ -1,13 +1,10 @@
-use mathlib.Core.Path.{_≡_, refl, sym, ap, _∙_}
-use Prim.Native.Nat.{ℕ, _≤_, _<_, _-_, _+_, _*_}
+use Prim.Native.Nat.{_-_}
 use native.Mathlib.Omega.{arith}
-use lib.ListN.{length, getD, length-set}
 use borrow.Author.Needs.{needs}
 use Rattle.entity.proofs.LiveSteps.{live-room, joined-changed}
 use Rattle.entity.proofs.entity_sparse_set.insert.Statement.{statement}
 use Rattle.entity.proofs.entity_sparse_set.insert.Tie as tie
 
--- src/entity_sparse_set.rt:55:5
 put-requires : tie.Need-put-requires
 put-requires c κs =
     let s = c .before .before .before in
@@ -15,7 +12,6 @@ put-requires c κs =
     let d = s .pre .1 .0 in
     (s .pre .0 .sized, (live-room (a .n) (a .part .now) (s .pre .0) (a .index) (a .version) d (s .pre .1 .1), omega (arith, d .below, s .pre .0 .few)))
 
--- src/entity_sparse_set.rt:49:1
 returns : tie.Need-returns
 returns c =
     let s = c .before .before .before .before .before .before in

@@ -1,41 +1,31 @@
-use mathlib.Core.Path.{_≡_, refl, sym, ap, _∙_}
-use Prim.Native.Nat.{ℕ, _≤_, _<_, _-_, _+_, _*_}
+use mathlib.Core.Path.{sym}
+use Prim.Native.Nat.{_-_}
 use native.Mathlib.Omega.{arith}
-use lib.ListN.{length, getD, length-set}
-use borrow.Author.Needs.{needs}
 use Rattle.entity.proofs.Lookups.{length-live, getD-live}
 use Rattle.entity.proofs.entity_sparse_set.live_at.Statement.{statement}
 use Rattle.entity.proofs.entity_sparse_set.live_at.Tie as tie
 
--- src/entity_sparse_set.rt:27:18
 mul-at : tie.Need-mul-at
 mul-at c = omega (arith, length-live (c .args .n) (c .args .part .now), c .pre .1, c .pre .0 .linked .room)
 
--- src/entity_sparse_set.rt:27:14
 add-at : tie.Need-add-at
 add-at c = omega (arith, length-live (c .args .n) (c .args .part .now), c .pre .1, c .pre .0 .linked .room)
 
--- src/entity_sparse_set.rt:29:16
 mul-t5 : tie.Need-mul-t5
 mul-t5 c = omega (arith, length-live (c .args .n) (c .args .part .now), c .pre .1, c .pre .0 .linked .room)
 
--- src/entity_sparse_set.rt:29:16
 shared-slice-read-t7 : tie.Need-shared-slice-read-t7
 shared-slice-read-t7 c = omega (arith, length-live (c .before .args .n) (c .before .args .part .now), c .before .pre .1, c .before .pre .0 .linked .room)
 
--- src/entity_sparse_set.rt:30:23
 add-t8 : tie.Need-add-t8
 add-t8 c = omega (arith, length-live (c .before .args .n) (c .before .args .part .now), c .before .pre .1, c .before .pre .0 .linked .room)
 
--- src/entity_sparse_set.rt:30:18
 mul-t9 : tie.Need-mul-t9
 mul-t9 c = omega (arith, length-live (c .before .args .n) (c .before .args .part .now), c .before .pre .1, c .before .pre .0 .linked .room)
 
--- src/entity_sparse_set.rt:30:18
 shared-slice-read-t11 : tie.Need-shared-slice-read-t11
 shared-slice-read-t11 c = omega (arith, length-live (c .before .before .args .n) (c .before .before .args .part .now), c .before .before .pre .1, c .before .before .pre .0 .linked .room)
 
--- src/entity_sparse_set.rt:22:1
 returns : tie.Need-returns
 returns c =
     let s = c .before .before in

@@ -1,49 +1,39 @@
-use mathlib.Core.Path.{_≡_, refl, sym, ap, _∙_}
-use Prim.Native.Nat.{ℕ, _≤_, _<_, _-_, _+_, _*_}
+use Prim.Native.Nat.{_-_, _+_, _*_}
 use native.Mathlib.Omega.{arith}
-use lib.ListN.{length, getD, length-set}
+use lib.ListN.{length-set}
 use borrow.Author.Needs.{needs}
 use Rattle.entity.proofs.LiveSteps.{left-changed, left-idle}
 use Rattle.entity.specs.Meaning.{lenOf}
 use Rattle.entity.proofs.entity_sparse_set.remove.Statement.{statement}
 use Rattle.entity.proofs.entity_sparse_set.remove.Tie as tie
 
--- src/entity_sparse_set.rt:67:16
 cast-gone : tie.Need-cast-gone
 cast-gone c = omega (arith, c .slice-known3 .given (8 + 2 * c .before .before .before .args .place))
 
--- src/entity_sparse_set.rt:70:5
 put-requires : tie.Need-put-requires
 put-requires c κs =
     let s = c .before .before .before .before .before .before in
     let L = s .pre .0 .linked in
     (s .pre .0 .sized, (omega (arith, L .room, s .pre .1), L .tied (lenOf (s .args .part .now) - 1) (omega (arith, s .pre .1)) .below))
 
--- src/entity_sparse_set.rt:71:22
 mul-part-2 : tie.Need-mul-part-2
 mul-part-2 c = omega (arith, c .before .before .before .before .before .before .before .before .before .pre .0 .linked .tied (c .before .before .before .before .before .before .before .before .before .args .place) (c .before .before .before .before .before .before .before .before .before .pre .1) .below, c .before .before .put .kept .0)
 
--- src/entity_sparse_set.rt:71:10
 add-part-2 : tie.Need-add-part-2
 add-part-2 c = omega (arith, c .before .before .before .before .before .before .before .before .before .pre .0 .linked .tied (c .before .before .before .before .before .before .before .before .before .args .place) (c .before .before .before .before .before .before .before .before .before .pre .1) .below, c .before .before .put .kept .0)
 
--- src/entity_sparse_set.rt:71:10
 add-part-3 : tie.Need-add-part-3
 add-part-3 c = omega (arith, c .before .before .before .before .before .before .before .before .before .pre .0 .linked .tied (c .before .before .before .before .before .before .before .before .before .args .place) (c .before .before .before .before .before .before .before .before .before .pre .1) .below, c .before .before .put .kept .0)
 
--- src/entity_sparse_set.rt:71:5
 mul-part-3 : tie.Need-mul-part-3
 mul-part-3 c = omega (arith, c .before .before .before .before .before .before .before .before .before .pre .0 .linked .tied (c .before .before .before .before .before .before .before .before .before .args .place) (c .before .before .before .before .before .before .before .before .before .pre .1) .below, c .before .before .put .kept .0)
 
--- src/entity_sparse_set.rt:71:5
 slice-write-part : tie.Need-slice-write-part
 slice-write-part c = omega (arith, c .before .before .before .before .before .before .before .before .before .pre .0 .linked .tied (c .before .before .before .before .before .before .before .before .before .args .place) (c .before .before .before .before .before .before .before .before .before .pre .1) .below, c .before .before .put .kept .0)
 
--- src/entity_sparse_set.rt:72:5
 slice-write-part-2 : tie.Need-slice-write-part-2
 slice-write-part-2 c = simp length-set (omega (arith, c .before .before .before .before .before .before .before .before .before .pre .0 .sized, c .before .before .put .kept .0))
 
--- src/entity_sparse_set.rt:60:1
 returns : tie.Need-returns
 returns c =
     let s = c .before .before .before .before .before .before .before .before .before in

@@ -1,14 +1,11 @@
-use mathlib.Core.Path.{_≡_, refl, sym, ap, _∙_}
-use Prim.Native.Nat.{ℕ, _≤_, _<_, _-_, _+_, _*_}
-use native.Mathlib.Omega.{arith}
-use lib.ListN.{length, getD, length-set}
+use mathlib.Core.Path.{sym, _∙_}
+use Prim.Native.Nat.{_-_}
 use borrow.Author.Needs.{needs}
 use Rattle.entity.proofs.Lookups.{found-live, found-dead}
 use Rattle.entity.specs.Meaning.{entity, entitiesOf}
 use Rattle.entity.proofs.entity_storage.contains.Statement.{statement}
 use Rattle.entity.proofs.entity_storage.contains.Tie as tie
 
--- src/entity_storage.rt:21:9
 returns : tie.Need-returns
 returns c =
     let a = c .before .before .before .before .args in
@@ -16,7 +13,6 @@ returns c =
     let s = entitiesOf (a .n) (a .part .now) in
     sym (found-dead e s (sym (c .before .before .get .ensures) ∙ c .enum-told2 .given .1))
 
--- src/entity_storage.rt:15:1
 returns-2 : tie.Need-returns-2
 returns-2 c =
     let a = c .before .before .before .before .args in

@@ -1,7 +1,5 @@
-use mathlib.Core.Path.{_≡_, refl, sym, ap, _∙_}
-use Prim.Native.Nat.{ℕ, _≤_, _<_, _-_, _+_, _*_}
-use native.Mathlib.Omega.{arith}
-use lib.ListN.{length, getD, length-set}
+use mathlib.Core.Path.{sym, ap, _∙_}
+use Prim.Native.Nat.{_-_}
 use borrow.Author.Needs.{needs}
 use Rattle.model.specs.Model.{Entity}
 use Rattle.entity.proofs.ModelSteps.{create-steps}
@@ -10,7 +8,6 @@ use Rattle.entity.specs.Change.{joined, allocated}
 use Rattle.entity.proofs.entity_storage.create.Statement.{statement}
 use Rattle.entity.proofs.entity_storage.create.Tie as tie
 
--- src/entity_storage.rt:27:1
 returns : tie.Need-returns
 returns c =
     let a = c .before .before .before .before .before .before .before .before .before .args in

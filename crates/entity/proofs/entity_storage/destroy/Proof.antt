@@ -1,16 +1,14 @@
-use mathlib.Core.Path.{_≡_, refl, sym, ap, _∙_}
-use Prim.Native.Nat.{ℕ, _≤_, _<_, _-_, _+_, _*_}
+use mathlib.Core.Path.{_≡_, sym, ap, _∙_}
+use Prim.Native.Nat.{ℕ, _-_}
 use native.Mathlib.Omega.{arith}
-use lib.ListN.{length, getD, length-set}
 use borrow.Author.Needs.{needs}
 use Rattle.entity.proofs.Lookups.{found-live, found-dead, found-place}
 use Rattle.entity.proofs.ModelSteps.{destroy-steps}
-use Rattle.entity.specs.Meaning.{Idle, entity, entitiesOf}
+use Rattle.entity.specs.Meaning.{entity, entitiesOf}
 use Rattle.entity.specs.Change.{left, recycledAs}
 use Rattle.entity.proofs.entity_storage.destroy.Statement.{statement}
 use Rattle.entity.proofs.entity_storage.destroy.Tie as tie
 
--- src/entity_storage.rt:45:9
 returns : tie.Need-returns
 returns c =
     let a = c .before .before .before .before .before .args in
@@ -21,7 +19,6 @@ returns c =
     let z : _≡_ {A = ℕ} 0 1 = cc in
     absurd (omega arith)
 
--- src/entity_storage.rt:47:5
 remove-requires : tie.Need-remove-requires
 remove-requires c κs =
     let s = c .before .before .before .before .before .before .before in
@@ -31,7 +28,6 @@ remove-requires c κs =
     let q = found-place (a .n) (a .part .now) (a .index) (a .version) p f in
     (s .pre .0, q .0)
 
--- src/entity_storage.rt:48:5
 recycle-requires : tie.Need-recycle-requires
 recycle-requires c κs =
     let s = c .before .before .before .before .before .before .before .before .before .before .before in
@@ -42,7 +38,6 @@ recycle-requires c κs =
     let r = c .before .before .before .remove .ensures in
     (r .0 .sound, rw (q .1) at (r .1))
 
--- src/entity_storage.rt:38:1
 returns-2 : tie.Need-returns-2
 returns-2 c =
     let s = c .before .before .before .before .before .before .before .before .before .before .before .before .before .before in

@@ -1,8 +1,7 @@
-use mathlib.Core.Path.{_≡_, refl, sym, ap, _∙_}
-use Prim.Native.Nat.{ℕ, _≤_, _<_, _-_, _+_, _*_}
+use mathlib.Core.Path.{_≡_, refl}
+use Prim.Native.Nat.{_≤_, _-_}
 use native.Mathlib.Omega.{arith}
-use lib.ListN.{length, getD, length-set}
-use borrow.Author.Needs.{needs}
+use lib.ListN.{length, length-set}
 use Rattle.entity.proofs.Zeros.{ZerosTo, zeros-more, zeros-changed}
 use native.Mathlib.Nat.{not-suc-le-zero}
 use Rattle.entity.proofs.entity_storage.reset.Statement.{statement}
@@ -14,21 +13,17 @@ Inv-loop part₀ n i₀ part i = (length part ≡ length part₀) × (i ≤ leng
 abbrev μ-loop : tie.MeasureT-loop
 μ-loop part₀ n i₀ part i = length part - i
 
--- src/entity_storage.rt:57:5
 loop-holds : tie.Need-loop-holds Inv-loop μ-loop
 loop-holds c = (refl, omega arith, λ k h. absurd (not-suc-le-zero h))
 
--- src/entity_storage.rt:57:5
 loop-again : tie.Need-loop-again Inv-loop μ-loop
 loop-again c =
     let l = c .before .loop in
     (simp length-set (l .inv .0), simp length-set (omega arith), zeros-more (l .part) (l .i) (c .loop-test .taken) (l .inv .2))
 
--- src/entity_storage.rt:52:1
 same-length : tie.Need-same-length Inv-loop μ-loop
 same-length c = c .before .loop .inv .0
 
--- src/entity_storage.rt:52:1
 returns : tie.Need-returns Inv-loop μ-loop
 returns c =
     let s = c .before .before in

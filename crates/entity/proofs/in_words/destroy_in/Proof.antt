@@ -1,7 +1,4 @@
-use mathlib.Core.Path.{_≡_, refl, sym, ap, _∙_}
-use Prim.Native.Nat.{ℕ, _≤_, _<_, _-_, _+_, _*_}
-use native.Mathlib.Omega.{arith}
-use lib.ListN.{length, getD, length-set}
+use Prim.Native.Nat.{_-_}
 use borrow.Author.Needs.{needs}
 use Rattle.entity.proofs.InWords.{changed-in}
 use Rattle.entity.specs.Meaning.{entity}
@@ -9,7 +6,6 @@ use Rattle.model.specs.Model.{destroy}
 use Rattle.entity.proofs.in_words.destroy_in.Statement.{statement}
 use Rattle.entity.proofs.in_words.destroy_in.Tie as tie
 
--- src/in_words.rt:105:1
 returns : tie.Need-returns
 returns c =
     let s = c .before .before .before .before .before in

@@ -1,17 +1,13 @@
-use mathlib.Core.Path.{_≡_, refl, sym, ap, _∙_}
-use Prim.Native.Nat.{ℕ, _≤_, _<_, _-_, _+_, _*_}
-use native.Mathlib.Omega.{arith}
-use lib.ListN.{length, getD, length-set}
+use mathlib.Core.Path.{sym}
+use Prim.Native.Nat.{_-_}
 use borrow.Author.Needs.{needs}
 use Rattle.entity.proofs.RingLaws.{since-low, since-high}
 use Rattle.entity.proofs.soundness.behind.Statement.{statement}
 use Rattle.entity.proofs.soundness.behind.Tie as tie
 
--- src/soundness.rt:152:9
 returns : tie.Need-returns
 returns c = sym (since-low (c .before .args .n) (c .before .args .head) (c .before .args .place) (c .if1 .taken))
 
--- src/soundness.rt:147:1
 returns-2 : tie.Need-returns-2
 returns-2 c = sym (since-high (c .before .args .n) (c .before .args .head) (c .before .args .place) (c .if1 .left))
 

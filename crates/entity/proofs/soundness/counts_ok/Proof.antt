@@ -1,24 +1,18 @@
-use mathlib.Core.Path.{_≡_, refl, sym, ap, _∙_}
-use Prim.Native.Nat.{ℕ, _≤_, _<_, _-_, _+_, _*_}
+use Prim.Native.Nat.{_-_}
 use native.Mathlib.Omega.{arith}
-use lib.ListN.{length, getD, length-set}
 use borrow.Author.Needs.{needs}
 use Rattle.entity.proofs.soundness.counts_ok.Statement.{statement}
 use Rattle.entity.proofs.soundness.counts_ok.Tie as tie
 
--- src/soundness.rt:15:18
 cast-issued : tie.Need-cast-issued
 cast-issued c = omega (arith, c .shared-slice-known .given (1))
 
--- src/soundness.rt:19:16
 cast-live : tie.Need-cast-live
 cast-live c = omega (arith, c .shared-slice-known2 .given (0))
 
--- src/soundness.rt:23:16
 cast-head : tie.Need-cast-head
 cast-head c = omega (arith, c .shared-slice-known3 .given (2))
 
--- src/soundness.rt:27:20
 cast-recycled : tie.Need-cast-recycled
 cast-recycled c = omega (arith, c .shared-slice-known4 .given (3))
 

@@ -1,14 +1,10 @@
-use mathlib.Core.Path.{_≡_, refl, sym, ap, _∙_}
-use Prim.Native.Nat.{ℕ, _≤_, _<_, _-_, _+_, _*_}
-use native.Mathlib.Omega.{arith}
-use lib.ListN.{length, getD, length-set}
+use Prim.Native.Nat.{_-_}
 use borrow.Author.Needs.{needs}
 use Rattle.entity.proofs.Checking.{granted, denied}
 use Rattle.entity.specs.Checks.{LookupOk, ListedOk}
 use Rattle.entity.proofs.soundness.index_ok.Statement.{statement}
 use Rattle.entity.proofs.soundness.index_ok.Tie as tie
 
--- src/soundness.rt:189:9
 returns : tie.Need-returns
 returns c =
     let n = c .before .before .before .args .n in
@@ -16,7 +12,6 @@ returns c =
     let x = c .before .before .before .args .x in
     λ o. denied (LookupOk n w x) (c .before .lookup-ok .result) (c .before .lookup-ok .ensures) (c .if1 .taken) (o .lookup)
 
--- src/soundness.rt:192:9
 returns-2 : tie.Need-returns-2
 returns-2 c =
     let n = c .before .before .before .before .before .args .n in
@@ -24,7 +19,6 @@ returns-2 c =
     let x = c .before .before .before .before .before .args .x in
     λ o. denied (ListedOk n w x) (c .before .listed-ok .result) (c .before .listed-ok .ensures) (c .if2 .taken) (o .listed)
 
--- src/soundness.rt:183:1
 returns-3 : tie.Need-returns-3
 returns-3 c =
     let n = c .before .before .before .before .before .args .n in

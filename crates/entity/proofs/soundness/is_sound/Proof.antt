@@ -1,7 +1,5 @@
-use mathlib.Core.Path.{_≡_, refl, sym, ap, _∙_}
-use Prim.Native.Nat.{ℕ, _≤_, _<_, _-_, _+_, _*_}
+use Prim.Native.Nat.{_-_}
 use native.Mathlib.Omega.{arith}
-use lib.ListN.{length, getD, length-set}
 use borrow.Author.Needs.{needs}
 use Rattle.entity.proofs.Checking.{granted, denied, counts-of, live-of, indexes-of, sound-of}
 use Rattle.entity.specs.Checks.{Each, Counts, LiveOk, WaitsOk, IndexOk}
@@ -9,56 +7,48 @@ use Rattle.entity.specs.Meaning.{lenOf, recycledLen}
 use Rattle.entity.proofs.soundness.is_sound.Statement.{statement}
 use Rattle.entity.proofs.soundness.is_sound.Tie as tie
 
--- src/soundness.rt:224:9
 returns-3 : tie.Need-returns-3
 returns-3 c =
     let n = c .before .before .before .before .before .args .n in
     let w = c .before .before .before .before .before .args .part .now in
     λ s. denied (Counts n w) (c .before .counts-ok .result) (c .before .counts-ok .ensures) (c .if3 .taken) (counts-of n w s)
 
--- src/soundness.rt:226:9
 live-list-ok-requires : tie.Need-live-list-ok-requires
 live-list-ok-requires c κs =
     let n = c .before .before .before .before .before .args .n in
     let w = c .before .before .before .before .before .args .part .now in
     (search needs, granted (Counts n w) (c .before .counts-ok .result) (c .before .counts-ok .ensures) (c .if3 .left))
 
--- src/soundness.rt:227:9
 returns-4 : tie.Need-returns-4
 returns-4 c =
     let n = c .before .before .before .before .before .before .before .args .n in
     let w = c .before .before .before .before .before .before .before .args .part .now in
     λ s. denied (Each (lenOf w) (LiveOk n w)) (c .before .live-list-ok .result) (c .before .live-list-ok .ensures) (c .if4 .taken) (live-of n w s)
 
--- src/soundness.rt:229:9
 ring-ok-requires : tie.Need-ring-ok-requires
 ring-ok-requires c κs =
     let n = c .before .before .before .before .before .before .before .args .n in
     let w = c .before .before .before .before .before .before .before .args .part .now in
     (search needs, granted (Counts n w) (c .before .before .before .counts-ok .result) (c .before .before .before .counts-ok .ensures) (c .before .before .if3 .left))
 
--- src/soundness.rt:230:9
 returns-5 : tie.Need-returns-5
 returns-5 c =
     let n = c .before .before .before .before .before .before .before .before .before .args .n in
     let w = c .before .before .before .before .before .before .before .before .before .args .part .now in
     λ s. denied (Each (recycledLen w) (WaitsOk n w)) (c .before .ring-ok .result) (c .before .ring-ok .ensures) (c .if5 .taken) (s .ring .waits)
 
--- src/soundness.rt:232:9
 indexes-ok-requires : tie.Need-indexes-ok-requires
 indexes-ok-requires c κs =
     let n = c .before .before .before .before .before .before .before .before .before .args .n in
     let w = c .before .before .before .before .before .before .before .before .before .args .part .now in
     (search needs, granted (Counts n w) (c .before .before .before .before .before .counts-ok .result) (c .before .before .before .before .before .counts-ok .ensures) (c .before .before .before .before .if3 .left))
 
--- src/soundness.rt:233:9
 returns-6 : tie.Need-returns-6
 returns-6 c =
     let n = c .before .before .before .before .before .before .before .before .before .before .before .args .n in
     let w = c .before .before .before .before .before .before .before .before .before .before .before .args .part .now in
     λ s. denied (Each n (IndexOk n w)) (c .before .indexes-ok .result) (c .before .indexes-ok .ensures) (c .if6 .taken) (indexes-of n w s)
 
--- src/soundness.rt:213:1
 returns-7 : tie.Need-returns-7
 returns-7 c =
     let n = c .before .before .before .before .before .before .before .before .before .before .before .args .n in

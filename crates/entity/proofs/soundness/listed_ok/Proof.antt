@@ -1,29 +1,22 @@
-use mathlib.Core.Path.{_≡_, refl, sym, ap, _∙_}
-use Prim.Native.Nat.{ℕ, _≤_, _<_, _-_, _+_, _*_}
+use Prim.Native.Nat.{_-_, _+_, _*_}
 use native.Mathlib.Omega.{arith}
-use lib.ListN.{length, getD, length-set}
 use borrow.Author.Needs.{needs}
 use Rattle.entity.specs.Meaning.{ringSlot}
 use Rattle.entity.proofs.soundness.listed_ok.Statement.{statement}
 use Rattle.entity.proofs.soundness.listed_ok.Tie as tie
 
--- src/soundness.rt:163:16
 cast-slot : tie.Need-cast-slot
 cast-slot c = omega (arith, c .shared-slice-known2 .given (8 + 6 * c .before .before .args .n + c .before .before .args .x))
 
--- src/soundness.rt:168:9
 returns-2 : tie.Need-returns-2
 returns-2 c = λ f. omega (arith, f (omega arith) .inside)
 
--- src/soundness.rt:174:9
 returns-3 : tie.Need-returns-3
 returns-3 c = λ f. omega (arith, f (omega arith) .used, c .before .before .behind .ensures)
 
--- src/soundness.rt:176:17
 cast-index : tie.Need-cast-index
 cast-index c = omega (arith, c .shared-slice-known5 .given (8 + 4 * c .before .before .before .before .before .before .before .before .before .args .n + 2 * (ringSlot (c .before .before .before .before .before .before .before .before .before .args .n) (c .before .before .before .before .before .before .before .before .before .args .part .now) (c .before .before .before .before .before .before .before .before .before .args .x) - 1)))
 
--- src/soundness.rt:178:9
 returns-4 : tie.Need-returns-4
 returns-4 c = λ f. c .if4 .taken (f (omega arith) .found)
 

@@ -1,21 +1,16 @@
-use mathlib.Core.Path.{_≡_, refl, sym, ap, _∙_}
-use Prim.Native.Nat.{ℕ, _≤_, _<_, _-_, _+_, _*_}
+use Prim.Native.Nat.{_-_, _+_, _*_}
 use native.Mathlib.Omega.{arith}
-use lib.ListN.{length, getD, length-set}
 use borrow.Author.Needs.{needs}
 use Rattle.entity.specs.Meaning.{indexAt}
 use Rattle.entity.proofs.soundness.live_ok.Statement.{statement}
 use Rattle.entity.proofs.soundness.live_ok.Tie as tie
 
--- src/soundness.rt:39:17
 cast-index : tie.Need-cast-index
 cast-index c = omega (arith, c .shared-slice-known .given (8 + 2 * c .before .args .i))
 
--- src/soundness.rt:40:18
 cast-issued : tie.Need-cast-issued
 cast-issued c = omega (arith, c .shared-slice-known2 .given (1))
 
--- src/soundness.rt:52:17
 cast-place : tie.Need-cast-place
 cast-place c = omega (arith, c .shared-slice-known4 .given (8 + 2 * c .before .before .before .before .before .before .before .args .n + 2 * indexAt (c .before .before .before .before .before .before .before .args .part .now) (c .before .before .before .before .before .before .before .args .i)))
 

@@ -1,25 +1,19 @@
-use mathlib.Core.Path.{_≡_, refl, sym, ap, _∙_}
-use Prim.Native.Nat.{ℕ, _≤_, _<_, _-_, _+_, _*_}
+use Prim.Native.Nat.{_-_, _+_, _*_}
 use native.Mathlib.Omega.{arith}
-use lib.ListN.{length, getD, length-set}
 use borrow.Author.Needs.{needs}
 use Rattle.entity.specs.Meaning.{placeOf}
 use Rattle.entity.proofs.soundness.lookup_ok.Statement.{statement}
 use Rattle.entity.proofs.soundness.lookup_ok.Tie as tie
 
--- src/soundness.rt:134:17
 cast-place : tie.Need-cast-place
 cast-place c = omega (arith, c .shared-slice-known2 .given (8 + 2 * c .before .before .before .args .n + 2 * c .before .before .before .args .x))
 
--- src/soundness.rt:137:9
 returns-2 : tie.Need-returns-2
 returns-2 c = λ f. omega (arith, f .inside (omega arith))
 
--- src/soundness.rt:139:17
 cast-index : tie.Need-cast-index
 cast-index c = omega (arith, c .shared-slice-known4 .given (8 + 2 * placeOf (c .before .before .before .before .before .before .args .n) (c .before .before .before .before .before .before .args .part .now) (c .before .before .before .before .before .before .args .x)))
 
--- src/soundness.rt:141:9
 returns-3 : tie.Need-returns-3
 returns-3 c = λ f. c .if3 .taken (f .back (omega arith))
 

@@ -1,37 +1,28 @@
-use mathlib.Core.Path.{_≡_, refl, sym, ap, _∙_}
-use Prim.Native.Nat.{ℕ, _≤_, _<_, _-_, _+_, _*_}
+use Prim.Native.Nat.{_-_, _+_, _*_}
 use native.Mathlib.Omega.{arith}
-use lib.ListN.{length, getD, length-set}
 use borrow.Author.Needs.{needs}
 use Rattle.entity.specs.Meaning.{ringIndex}
 use Rattle.entity.proofs.soundness.waits_ok.Statement.{statement}
 use Rattle.entity.proofs.soundness.waits_ok.Tie as tie
 
--- src/soundness.rt:87:17
 cast-index : tie.Need-cast-index
 cast-index c = omega (arith, c .shared-slice-known3 .given (8 + 4 * c .before .before .before .before .args .n + 2 * c .before .wrap .result))
 
--- src/soundness.rt:90:9
 returns : tie.Need-returns
 returns c = rw (← c .before .before .before .wrap .ensures .0) (λ o. omega (arith, o .below))
 
--- src/soundness.rt:94:9
 returns-2 : tie.Need-returns-2
 returns-2 c = rw (← c .before .before .before .before .before .wrap .ensures .0) (λ o. omega (arith, o .positive))
 
--- src/soundness.rt:96:16
 cast-slot : tie.Need-cast-slot
 cast-slot c = omega (arith, c .shared-slice-known6 .given (8 + 6 * c .before .before .before .before .before .before .before .before .before .args .n + ringIndex (c .before .before .before .before .before .before .before .before .before .args .n) (c .before .before .before .before .before .before .before .before .before .args .part .now) (c .before .before .before .before .before .before .wrap .result)))
 
--- src/soundness.rt:98:9
 returns-3 : tie.Need-returns-3
 returns-3 c = rw (← c .before .before .before .before .before .before .before .wrap .ensures .0) (λ o. c .if3 .taken (o .pointed))
 
--- src/soundness.rt:102:9
 returns-4 : tie.Need-returns-4
 returns-4 c = rw (← c .before .before .before .before .before .before .before .before .before .wrap .ensures .0) (λ o. c .if4 .taken (o .free))
 
--- src/soundness.rt:80:1
 returns-5 : tie.Need-returns-5
 returns-5 c = rw (← c .before .before .before .before .before .before .before .before .before .wrap .ensures .0) (record { below = omega arith; positive = omega arith; pointed = c .before .before .if3 .left; free = c .if4 .left })
 

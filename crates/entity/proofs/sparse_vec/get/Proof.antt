@@ -1,38 +1,31 @@
-use mathlib.Core.Path.{_≡_, refl, sym, ap, _∙_}
-use Prim.Native.Nat.{ℕ, _≤_, _<_, _-_, _+_, _*_}
+use Prim.Native.Nat.{_-_, _+_, _*_}
 use native.Mathlib.Omega.{arith}
-use lib.ListN.{length, getD, length-set}
 use borrow.Author.Needs.{needs}
 use Rattle.entity.proofs.Lookups.{found-at, found-nothing}
 use Rattle.entity.proofs.sparse_vec.get.Statement.{statement}
 use Rattle.entity.proofs.sparse_vec.get.Tie as tie
 
--- src/sparse_vec.rt:16:9
 returns : tie.Need-returns
 returns c =
     let s = c .before in
     let a = s .args in
     found-nothing (a .n) (a .part .now) (s .pre) (a .index) (a .version) (λ hx hv e. omega arith)
 
--- src/sparse_vec.rt:19:9
 returns-2 : tie.Need-returns-2
 returns-2 c =
     let s = c .before .before in
     let a = s .args in
     found-nothing (a .n) (a .part .now) (s .pre) (a .index) (a .version) (λ hx hv e. omega arith)
 
--- src/sparse_vec.rt:24:9
 returns-3 : tie.Need-returns-3
 returns-3 c =
     let s = c .before .before .before .before in
     let a = s .args in
     found-nothing (a .n) (a .part .now) (s .pre) (a .index) (a .version) (λ hx hv e. c .if3 .taken e)
 
--- src/sparse_vec.rt:26:15
 cast-t11 : tie.Need-cast-t11
 cast-t11 c = omega (arith, c .shared-slice-known2 .given (8 + 2 * c .before .before .before .before .before .args .n + 2 * c .before .before .before .before .before .args .index))
 
--- src/sparse_vec.rt:10:1
 returns-4 : tie.Need-returns-4
 returns-4 c =
     let s = c .before .before .before .before .before in

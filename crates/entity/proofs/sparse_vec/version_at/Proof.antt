@@ -1,13 +1,9 @@
-use mathlib.Core.Path.{_≡_, refl, sym, ap, _∙_}
-use Prim.Native.Nat.{ℕ, _≤_, _<_, _-_, _+_, _*_}
-use native.Mathlib.Omega.{arith}
-use lib.ListN.{length, getD, length-set}
+use Prim.Native.Nat.{_-_}
 use borrow.Author.Needs.{needs}
 use Rattle.entity.proofs.Lookups.{version-is}
 use Rattle.entity.proofs.sparse_vec.version_at.Statement.{statement}
 use Rattle.entity.proofs.sparse_vec.version_at.Tie as tie
 
--- src/sparse_vec.rt:30:1
 returns : tie.Need-returns
 returns c =
     let s = c .before in

@@ -1,0 +1,40 @@
+-- Numbers in bytes, one after another: written, and read back. Assumes nothing.
+use mathlib.Core.Path.{_≡_, refl, ap, ap₂, sym, _∙_}
+use mathlib.Core.List.{List, [], _∷_, _++_}
+use Prim.Native.Nat.{ℕ, zero, suc, _+_, _*_, _/_, _%_, _^_, _≤_, _<_}
+use native.Mathlib.Omega.{arith}
+use native.Mathlib.Nat.{div-lt-iff-lt-mul, pow-suc, mul-assoc, mul-comm, add-mul-mod-self-left, add-mul-div-left, suc-add, add-suc, zero-add, add-zero}
+use lib.Dec.{lit<}
+use lib.ListN.{length, set, take, drop}
+use lib.Seq.{sets}
+use Rattle.model.specs.Store.{le, number}
+
+-- the bytes of x, which has no more than n, and then those of y
+pub le-join : (n m x y : ℕ) → x < 256 ^ n → le (n + m) (x + 256 ^ n * y) ≡ le n x ++ le m y
+le-join zero m x y h =
+    let e : x + 256 ^ 0 * y ≡ y = omega arith in
+    ap₂ le (zero-add m) e
+le-join (suc n) m x y h =
+    let b : x / 256 < 256 ^ n = div-lt-iff-lt-mul (lit< tt) .1 (rw pow-suc at h) in
+    let e : x + 256 ^ suc n * y ≡ x + 256 * (256 ^ n * y) = ap (λ (k : ℕ). x + k) (rw (pow-suc 256 n, mul-comm (256 ^ n) 256) (mul-assoc 256 (256 ^ n) y)) in
+    rw (suc-add n m, e, add-mul-mod-self-left x 256 (256 ^ n * y), add-mul-div-left x (256 ^ n * y) (lit< tt))
+    (ap {B = List ℕ} (λ l. x % 256 ∷ l) (le-join n m (x / 256) y b))
+
+-- a value from its two words
+pub le-value : (l h : ℕ) → l < 4294967296 → le 8 (l + 4294967296 * h) ≡ le 4 l ++ le 4 h
+le-value l h b = le-join 4 4 l h b
+
+-- bytes written one run after another
+pub sets-join : (l : List ℕ) (i : ℕ) (a b : List ℕ) → sets (sets l i a) (i + length a) b ≡ sets l i (a ++ b)
+sets-join l i [] b = ap (λ (k : ℕ). sets l k b) (add-zero i)
+sets-join l i (x ∷ a) b =
+    ap (λ (k : ℕ). sets (sets (set l i x) (suc i) a) k b) (add-suc i (length a) ∙ sym (suc-add i (length a)))
+    ∙ sets-join (set l i x) (suc i) a b
+
+-- the number of a + 4 bytes and those after
+pub number-join : (n : ℕ) (t : List ℕ) → n ≤ length t → number t ≡ number (take n t) + 256 ^ n * number (drop n t)
+number-join zero t h = omega arith
+number-join (suc n) [] h = absurd (omega arith)
+number-join (suc n) (b ∷ t) h =
+    let r = number-join n t (omega arith) in
+    rw (pow-suc 256 n) (rw r (omega arith))

@@ -1,0 +1,4 @@
+// The commands of a run: one function each, which answers how many bytes it wrote. Refusals come in the order of 01's table.
+pub mod answers;
+pub mod lists;
+pub mod registering;

@@ -1,0 +1,282 @@
+-- The layout in force as the words have it: its groups by position. Assumes nothing.
+use mathlib.Core.Path.{_≡_, refl, ap, ap₂, sym, _∙_, subst}
+use mathlib.Core.Bool.{cond}
+use mathlib.Core.List.{List, _∷_}
+use Prim.Native.Nat.{ℕ, zero, suc, _+_, _-_, _≤_, _<_}
+use native.Mathlib.Omega.{arith}
+use borrow.Author.Tests.{lt-ltb, le-ltb, ltb-true}
+use lib.Dec.{ltb}
+use lib.ListN.{length, getD, set, take, drop}
+use lib.Seq.{getD-take, getD-drop, length-take-le}
+use Rattle.model.specs.Model.{Family, Storage, groupsOf}
+use Rattle.model.specs.Sound.{In, Distinct, layoutKinds}
+use Rattle.model.proofs.Walk.{bool-cases}
+use Rattle.words.specs.Part.{between, length-between, getD-between}
+use Rattle.layout.specs.Layout.{Arrays, Sized, startOf, widthOf, aritiesAt, familiesOf, KindSet, WellFormed}
+use Rattle.layout.proofs.KindSets.{set-between}
+use Rattle.layout.proofs.Arrays.{kinds-inside, groups-inside, groups-of}
+use Rattle.memory.specs.Header.{layoutGroups, groupFamilyAt, countAt}
+use Rattle.memory.specs.Word.{Word}
+use Rattle.memory.specs.Meaning.{layoutArrays, layoutIn, meaning}
+use Rattle.memory.specs.Change.{onStorage, withLayout}
+use Rattle.memory.specs.Arranged.{Arranged, GroupSound, Becomes, memberAt}
+use Rattle.memory.proofs.Frames.{long}
+use Rattle.memory.proofs.Becomes.{count-becomes, slot-real}
+use Rattle.kinds.proofs.Slot.{slot-known}
+use Rattle.group.specs.Flat.{Located, located, setCount}
+use Rattle.group.specs.Metadata.{orderOf, Describes}
+use Rattle.group.proofs.FlatArrays.{kinds-are, arity-rises, located-is, counts-are}
+use Rattle.group.proofs.Places.{in-place}
+
+-- ---- words of the block
+
+-- element i of the array from o to e, of the block at 576
+array-at : (w : List ℕ) (o e i : ℕ) → o + i < e → e ≤ 320 → getD (between o e (between 576 896 w)) i 0 ≡ getD w (576 + (o + i)) 0
+array-at w o e i h l = getD-between o e i (between 576 896 w) 0 h ∙ getD-between 576 896 (o + i) w 0 (omega arith)
+
+start-at : (w : List ℕ) (o e f : ℕ) → o + f ≤ e → e ≤ 320 → startOf (between o e (between 576 896 w)) f ≡ startOf (drop (576 + o) w) f
+start-at w o e zero h l = refl
+start-at w o e (suc f) h l =
+    let n : 576 + (o + f) ≡ 576 + o + f = omega arith in
+    array-at w o e f (omega arith) l ∙ ap (λ (i : ℕ). getD w i 0) n ∙ sym (getD-drop (576 + o) w f 0)
+
+-- the arity before group first + i, in a family whose groups are from first to e
+prior-at : (ars : List ℕ) (first e i : ℕ) → first + i < e → getD (0 ∷ between first e ars) i 0 ≡ cond (ltb first (first + i)) (getD ars (first + i - 1) 0) 0
+prior-at ars first e zero h = rw (le-ltb first (first + 0) (omega arith))
+prior-at ars first e (suc i) h =
+    let n : first + i ≡ first + suc i - 1 = omega arith in
+    rw (lt-ltb first (first + suc i) (omega arith)) (getD-between first e i ars 0 (omega arith) ∙ ap (λ (m : ℕ). getD ars m 0) n)
+
+-- ---- the layout
+
+module _ (w : List ℕ) (A : Arranged w) where
+  abbrev arrays : Arrays
+  arrays = layoutArrays w
+
+  abbrev counts : List ℕ
+  counts = between 960 1024 w
+
+  pub layout-means : meaning w .storage .layout ≡ familiesOf (between 960 1024 w) (layoutArrays w)
+  unfolding meaning layoutIn
+  layout-means = refl
+
+  block : length (between 576 896 w) ≡ 320
+  block = length-between 576 896 w (omega (arith, long w A))
+
+  pub sized : Sized (layoutArrays w)
+  sized =
+      record {
+        kinds = length-between 0 128 (between 576 896 w) (omega (arith, block));
+        arities = length-between 128 192 (between 576 896 w) (omega (arith, block));
+        kindEnds = length-between 192 256 (between 576 896 w) (omega (arith, block));
+        ends = length-between 256 320 (between 576 896 w) (omega (arith, block));
+      }
+
+  good : WellFormed (layoutArrays w)
+  good = A .layout .formed
+
+  -- how many groups there are
+  pub groups-are : groupsOf (meaning w .storage .layout) ≡ layoutGroups w
+  groups-are = ap groupsOf layout-means ∙ groups-of (between 960 1024 w) (layoutArrays w) good sized ∙ sym (A .layout .count)
+
+  pub groups-few : groupsOf (meaning w .storage .layout) ≤ 63
+  groups-few = omega (arith, groups-are, A .layout .count, good .many)
+
+  -- the kinds in order
+  pub order-is : orderOf (meaning w) ≡ take (widthOf (layoutArrays w)) (layoutArrays w .kinds)
+  order-is = ap layoutKinds layout-means ∙ kinds-are (between 960 1024 w) (layoutArrays w) good sized
+
+  pub order-length : length (orderOf (meaning w)) ≡ widthOf (layoutArrays w)
+  order-length =
+      ap length order-is ∙ length-take-le (widthOf (layoutArrays w)) (layoutArrays w .kinds) (omega (arith, good .wide, sized .kinds))
+
+  pub order-wide : length (orderOf (meaning w)) ≤ 128
+  order-wide = omega (arith, order-length, good .wide)
+
+  pub order-at : (p : ℕ) → p < length (orderOf (meaning w)) → getD (orderOf (meaning w)) p 0 ≡ getD w (576 + p) 0
+  order-at p h =
+      let n : 576 + (0 + p) ≡ 576 + p = omega arith in
+      ap (λ (l : List ℕ). getD l p 0) order-is
+      ∙ getD-take (widthOf (layoutArrays w)) (layoutArrays w .kinds) p 0 (omega (arith, order-length))
+      ∙ array-at w 0 128 p (omega (arith, order-wide)) (omega arith)
+      ∙ ap (λ (i : ℕ). getD w i 0) n
+
+  pub order-part-once : (x y : ℕ) → Distinct (between x y (orderOf (meaning w)))
+  order-part-once x y = set-between x y (orderOf (meaning w)) (subst KindSet (sym order-is) (good .kinds)) .once
+
+  pub header : (i : ℕ) → i < 1024 → i < length w
+  header i h = omega (arith, long w A)
+
+  -- ---- one group
+
+  module _ (g : ℕ) (hg : g < groupsOf (meaning w .storage .layout)) where
+    abbrev f : ℕ
+    f = groupFamilyAt w g
+
+    pub group-sound : GroupSound w (layoutArrays w) g f
+    group-sound = A .layout .groups g (omega (arith, groups-are))
+
+    pub family-few : f < 63
+    family-few = omega (arith, group-sound .family, good .few)
+
+    pub group-few : g < 63
+    group-few = omega (arith, groups-few)
+
+    abbrev i : ℕ
+    i = g - startOf (layoutArrays w .ends) f
+
+    at : startOf (layoutArrays w .ends) f + i ≡ g
+    at = omega (arith, group-sound .low)
+
+    inside : startOf (layoutArrays w .ends) f + i < getD (layoutArrays w .ends) f 0
+    inside = omega (arith, at, group-sound .high)
+
+    -- the words that a group's metadata is read from
+    abbrev pub start : ℕ
+    start = startOf (drop 768 w) f
+
+    abbrev pub first : ℕ
+    first = startOf (drop 832 w) f
+
+    abbrev pub top : ℕ
+    top = getD w (832 + f) 0
+
+    abbrev pub arity : ℕ
+    arity = getD w (704 + g) 0
+
+    abbrev pub prior : ℕ
+    prior = cond (ltb first g) (getD w (703 + g) 0) 0
+
+    start-is : startOf (layoutArrays w .kindEnds) f ≡ start
+    start-is = start-at w 192 256 f (omega (arith, family-few)) (omega arith)
+
+    first-is : startOf (layoutArrays w .ends) f ≡ first
+    first-is = start-at w 256 320 f (omega (arith, family-few)) (omega arith)
+
+    top-is : getD (layoutArrays w .ends) f 0 ≡ top
+    top-is =
+        let n : 576 + (256 + f) ≡ 832 + f = omega arith in
+        array-at w 256 320 f (omega (arith, family-few)) (omega arith) ∙ ap (λ (m : ℕ). getD w m 0) n
+
+    arity-at : getD (layoutArrays w .arities) g 0 ≡ arity
+    arity-at =
+        let n : 576 + (128 + g) ≡ 704 + g = omega arith in
+        array-at w 128 192 g (omega (arith, group-few)) (omega arith) ∙ ap (λ (m : ℕ). getD w m 0) n
+
+    arity-is : getD (layoutArrays w .arities) (startOf (layoutArrays w .ends) f + i) 0 ≡ arity
+    arity-is = ap (λ (m : ℕ). getD (layoutArrays w .arities) m 0) at ∙ arity-at
+
+    prior-is : getD (0 ∷ aritiesAt (layoutArrays w) f) i 0 ≡ prior
+    prior-is =
+        prior-at (layoutArrays w .arities) (startOf (layoutArrays w .ends) f) (getD (layoutArrays w .ends) f 0) i inside
+        ∙ ap₂ (λ (x y : ℕ). cond (ltb x y) (getD (layoutArrays w .arities) (y - 1) 0) 0) first-is at
+        ∙ bool-cases (ltb first g)
+        (λ t.
+        let lt : first < g = ltb-true first g t in
+        let n : 576 + (128 + (g - 1)) ≡ 703 + g = omega arith in
+        rw t (array-at w 128 192 (g - 1) (omega (arith, group-few)) (omega arith) ∙ ap (λ (m : ℕ). getD w m 0) n))
+        (λ t. rw t)
+
+    count-is : getD (between 960 1024 w) (startOf (layoutArrays w .ends) f + i) 0 ≡ countAt w g
+    count-is = ap (λ (m : ℕ). getD (between 960 1024 w) m 0) at ∙ getD-between 960 1024 g w 0 (omega (arith, group-few))
+
+    -- what stands at position g
+    pub located-words : located (meaning w .storage .layout) g ≡ record {
+      kinds = between start (start + arity) (orderOf (meaning w));
+      newKinds = between (start + prior) (start + arity) (orderOf (meaning w));
+      count = countAt w g;
+      first = first;
+      top = top;
+    }
+    located-words =
+        subst
+        (λ (fs : List Family). located fs g ≡ record { kinds = between start (start + arity) (layoutKinds fs); newKinds = between (start + prior) (start + arity) (layoutKinds fs); count = countAt w g; first = first; top = top })
+        (sym layout-means)
+        (ap (located (familiesOf (between 960 1024 w) (layoutArrays w))) (sym at)
+        ∙ located-is (between 960 1024 w) (layoutArrays w) good sized f i (group-sound .family) inside
+        ∙ (λ j.
+        record {
+          kinds = between (start-is j) (start-is j + arity-is j) (layoutKinds (familiesOf (between 960 1024 w) (layoutArrays w)));
+          newKinds = between (start-is j + prior-is j) (start-is j + arity-is j) (layoutKinds (familiesOf (between 960 1024 w) (layoutArrays w)));
+          count = count-is j;
+          first = first-is j;
+          top = top-is j;
+        }))
+
+    pub group-rises : (prior < arity) × (start + arity ≤ length (orderOf (meaning w))) × (top ≤ 63)
+    group-rises =
+        let r = arity-rises (between 960 1024 w) (layoutArrays w) good sized f i (group-sound .family) inside in (
+          omega (arith, r .0, prior-is, arity-is),
+          omega (arith, r .1, start-is, arity-is, order-length, kinds-inside (layoutArrays w) good f (group-sound .family)),
+          omega (arith, top-is, groups-inside (layoutArrays w) good f (group-sound .family), good .many),
+        )
+
+    -- a group's kinds are registered
+    kinds-registered : (k : ℕ) → In (between start (start + arity) (orderOf (meaning w))) k → In (meaning w .kinds) k
+    kinds-registered k n =
+        let r = in-place (between start (start + arity) (orderOf (meaning w))) k n in
+        let fits : start + arity ≤ length (orderOf (meaning w)) = group-rises .1 in
+        let lt : r .at < arity = omega (arith, r .below, length-between start (start + arity) (orderOf (meaning w)) fits) in
+        let width : widthOf (layoutArrays w) ≡ length (orderOf (meaning w)) = sym order-length in
+        let reg = group-sound .known (r .at) (omega (arith, arity-at)) in
+        let e : memberAt (layoutArrays w) f (r .at) ≡ k =
+        ap (λ (m : ℕ). getD (layoutArrays w .kinds) (m + r .at) 0) start-is
+        ∙ sym (getD-take (widthOf (layoutArrays w)) (layoutArrays w .kinds) (start + r .at) 0 (omega arith))
+        ∙ sym (ap (λ (l : List ℕ). getD l (start + r .at) 0) order-is)
+        ∙ sym (getD-between start (start + arity) (r .at) (orderOf (meaning w)) 0 (omega arith))
+        ∙ r .is in
+        subst (In (meaning w .kinds)) e (slot-known w A (memberAt (layoutArrays w) f (r .at)) (reg .small) (slot-real w A (memberAt (layoutArrays w) f (r .at)) (reg .slot)))
+
+    pub described : Describes (meaning w) g (record { «storage_start» = start; «new_storage_start» = start + prior; «storage_end» = start + arity; first = first; top = top })
+    described =
+        record {
+          kinds = sym (ap (λ (l : Located). l .kinds) located-words);
+          newKinds = sym (ap (λ (l : Located). l .newKinds) located-words);
+          first = sym (ap (λ (l : Located). l .first) located-words);
+          top = sym (ap (λ (l : Located). l .top) located-words);
+          low = omega arith;
+          some = omega (arith, group-rises .0);
+          listed = record { rising = omega arith; within = group-rises .1; known = kinds-registered };
+          few = group-rises .2;
+        }
+
+    -- the words that were read
+    module _ (fam s h t k p : ℕ) (f-read : Word w (896 + g) fam) (s-read : s ≡ startOf (drop 768 w) fam) (h-read : h ≡ startOf (drop 832 w) fam) (t-read : Word w (832 + fam) t) (k-read : Word w (704 + g) k)
+        (p-read : p ≡ cond (ltb h g) (getD w (703 + g) 0) 0) where
+      s-is : s ≡ start
+      s-is = s-read ∙ ap (startOf (drop 768 w)) (f-read .is)
+
+      h-is : h ≡ first
+      h-is = h-read ∙ ap (startOf (drop 832 w)) (f-read .is)
+
+      t-is : t ≡ top
+      t-is = t-read .is ∙ ap (λ (m : ℕ). getD w (832 + m) 0) (f-read .is)
+
+      p-is : p ≡ prior
+      p-is = p-read ∙ ap (λ (m : ℕ). cond (ltb m g) (getD w (703 + g) 0) 0) h-is
+
+      pub read-small : (s + k ≤ 128) × (p < k)
+      read-small = (
+        omega (arith, s-is, k-read .is, group-rises .1, order-wide),
+        omega (arith, p-is, k-read .is, group-rises .0),
+      )
+
+      pub read-describes : Describes (meaning w) g (record { «storage_start» = s; «new_storage_start» = s + p; «storage_end» = s + k; first = h; top = t })
+      read-describes =
+          let k-is = k-read .is in
+          subst (Describes (meaning w) g)
+          (λ j. record { «storage_start» = sym s-is j; «new_storage_start» = sym s-is j + sym p-is j; «storage_end» = sym s-is j + sym k-is j; first = sym h-is j; top = sym t-is j })
+          described
+
+    pub count-words : countAt w g ≡ located (meaning w .storage .layout) g .count
+    count-words = sym (ap (λ (l : Located). l .count) located-words)
+
+    pub count-set : (c : ℕ) → Becomes w (set w (960 + g) c) (onStorage (λ (s : Storage). withLayout s (setCount g c (s .layout))) (meaning w))
+    count-set c =
+        let few : g < 64 = omega (arith, group-few) in
+        let l : length (between 960 1024 w) ≡ 64 = length-between 960 1024 w (long w A) in
+        let e : familiesOf (set (between 960 1024 w) g c) (layoutArrays w) ≡ setCount g c (meaning w .storage .layout) =
+        subst (λ (m : ℕ). familiesOf (set (between 960 1024 w) m c) (layoutArrays w) ≡ setCount m c (familiesOf (between 960 1024 w) (layoutArrays w))) at
+        (counts-are (between 960 1024 w) (layoutArrays w) good sized f i (group-sound .family) inside c (omega (arith, at)))
+        ∙ ap (setCount g c) (sym layout-means) in
+        subst (λ (fs : List Family). Becomes w (set w (960 + g) c) (onStorage (λ (s : Storage). withLayout s fs) (meaning w))) e (count-becomes w A g c few)

@@ -1,0 +1,106 @@
+-- One group: an entity goes in, goes out, or stays; what a step of either walk leaves. Assumes nothing.
+use mathlib.Core.Path.{_≡_, ap, sym, _∙_, subst}
+use mathlib.Core.List.{List}
+use Prim.Native.Nat.{ℕ, _+_, _-_, _≤_, _<_}
+use native.Mathlib.Omega.{arith}
+use lib.ListN.{length, getD}
+use Rattle.model.specs.Run.{Store}
+use Rattle.model.specs.Model.{Entity, Storage, setOf, onKinds, swapTo, groupsOf}
+use Rattle.model.specs.Sound.{In}
+use Rattle.masks.specs.Masks.{bitsOf, Ordered}
+use Rattle.words.specs.Part.{between}
+use Rattle.component.specs.SparseSet.{rows}
+use Rattle.component.proofs.Meaning.{length-rows}
+use Rattle.columns.specs.Columns.{columnOf, rowsOf}
+use Rattle.memory.specs.Header.{capacityOf, slotOf}
+use Rattle.memory.specs.Meaning.{meaning}
+use Rattle.memory.specs.Change.{onStorage, withLayout}
+use Rattle.memory.specs.Arranged.{Arranged, Becomes}
+use Rattle.kinds.proofs.Slot.{known-slot}
+use Rattle.group.specs.declared.GroupMetadata.{GroupMetadata}
+use Rattle.group.specs.declared.GroupStatus.{GroupStatus}
+use Rattle.group.specs.Flat.{located, setCount, statusAt, groupAt, ungroupAt, stepUp, stepDown}
+use Rattle.group.specs.Ready.{Swappable, ReadyIn, ReadyOut}
+use Rattle.group.specs.Metadata.{orderOf, Stands}
+use Rattle.group.specs.Steps.{swapKinds, leftAfter, StepsUp}
+use Rattle.group.proofs.Counts.{placed}
+use Rattle.group.proofs.Places.{between-in}
+use Rattle.group.proofs.Storing.{becomes-then, storage-becomes}
+
+-- a sparse set has no more rows than the store has room for
+pub set-room : (w : List ℕ) → Arranged w → (k : ℕ) → In (meaning w .kinds) k → length (setOf (meaning w .storage .sets) k) ≤ 4096
+set-room w A k i =
+    let S = known-slot w A k i in
+    let n : length (setOf (meaning w .storage .sets) k) ≡ length (rowsOf (capacityOf w) (slotOf w k) w) = ap length (S .rows) in
+    omega (arith, length-rows (capacityOf w) (columnOf (capacityOf w) (slotOf w k) w), S .lent .sound .linked .room, S .lent .small)
+
+module _ (w₀ : List ℕ) (A : Arranged w₀) (e : Entity) (g len : ℕ) (d : GroupMetadata) (S : Stands (meaning w₀) g d len) where
+  abbrev order : List ℕ
+  order = orderOf (meaning w₀)
+
+  abbrev ks : List ℕ
+  ks = between (d .«storage_start») (d .«storage_end») (orderOf (meaning w₀))
+
+  -- what the swaps ask, of the kinds as they stand
+  pub swappable : (c n : ℕ) → n ≡ c → Swappable e (located (meaning w₀ .storage .layout) g .kinds) c (meaning w₀ .storage .sets) → Swappable e ks n (meaning w₀ .storage .sets)
+  swappable c n q R =
+      subst (λ (x : ℕ). Swappable e ks x (meaning w₀ .storage .sets)) (sym q)
+      (subst (λ (l : List ℕ). Swappable e l c (meaning w₀ .storage .sets)) (sym (S .metadata .kinds)) R)
+
+  -- a place to swap to is small
+  pub place-small : (c : ℕ) → Swappable e ks c (meaning w₀ .storage .sets) → c < 4096
+  place-small c R =
+      let D = S .metadata in
+      let i : In ks (getD order (d .«storage_start») 0) = between-in (d .«storage_start») (d .«storage_end») (d .«storage_start») order (omega arith) (omega (arith, D .low, D .some)) (D .listed .within) in
+      omega (arith, R .room (getD order (d .«storage_start») 0) i, set-room w₀ A (getD order (d .«storage_start») 0) (D .listed .known (getD order (d .«storage_start») 0) i))
+
+  module _ (w₁ : List ℕ) (c : ℕ) (B : Becomes w₀ w₁ (onStorage (swapKinds e c ks) (meaning w₀))) where
+    pub still-below : g < groupsOf (meaning w₁ .storage .layout)
+    still-below = subst (λ (m : Store). g < groupsOf (m .storage .layout)) (sym (B .means)) (S .below)
+
+    module _ (w₂ : List ℕ) (n : ℕ) (C : Becomes w₁ w₂ (onStorage (λ (s : Storage). withLayout s (setCount g n (s .layout))) (meaning w₁))) where
+      both : Becomes w₀ w₂ (onStorage (λ (s : Storage). record { sets = onKinds ks (swapTo e c) (s .sets); layout = setCount g n (s .layout) }) (meaning w₀))
+      both = becomes-then w₀ w₁ w₂ (swapKinds e c ks) (onStorage (λ (s : Storage). withLayout s (setCount g n (s .layout)))) B C
+
+      pub goes-in : c ≡ len → n ≡ len + 1 → Becomes w₀ w₂ (onStorage (groupAt e g) (meaning w₀))
+      unfolding groupAt
+      goes-in qc qn =
+          let kinds = S .metadata .kinds in
+          let place : c ≡ located (meaning w₀ .storage .layout) g .count = qc ∙ S .counted in
+          let next : n ≡ located (meaning w₀ .storage .layout) g .count + 1 = qn ∙ ap (λ (x : ℕ). x + 1) (S .counted) in
+          storage-becomes w₀ w₂ (meaning w₀) (λ (s : Storage). record { sets = onKinds ks (swapTo e c) (s .sets); layout = setCount g n (s .layout) }) (groupAt e g)
+          (λ i. record { sets = onKinds (kinds i) (swapTo e (place i)) (meaning w₀ .storage .sets); layout = setCount g (next i) (meaning w₀ .storage .layout) }) both
+
+      pub goes-out : c ≡ len - 1 → n ≡ len - 1 → Becomes w₀ w₂ (onStorage (ungroupAt e g) (meaning w₀))
+      unfolding ungroupAt
+      goes-out qc qn =
+          let kinds = S .metadata .kinds in
+          let place : c ≡ located (meaning w₀ .storage .layout) g .count - 1 = qc ∙ ap (λ (x : ℕ). x - 1) (S .counted) in
+          let next : n ≡ located (meaning w₀ .storage .layout) g .count - 1 = qn ∙ ap (λ (x : ℕ). x - 1) (S .counted) in
+          storage-becomes w₀ w₂ (meaning w₀) (λ (s : Storage). record { sets = onKinds ks (swapTo e c) (s .sets); layout = setCount g n (s .layout) }) (ungroupAt e g)
+          (λ i. record { sets = onKinds (kinds i) (swapTo e (place i)) (meaning w₀ .storage .sets); layout = setCount g (next i) (meaning w₀ .storage .layout) }) both
+
+-- the family's rest is past g
+pub skip-ordered : (m : Store) (g : ℕ) (d : GroupMetadata) (len : ℕ) → Stands m g d len → Ordered 64 g (d .top)
+skip-ordered m g d len S =
+    let P = placed (m .storage .layout) g (S .below) in
+    record { rising = omega (arith, P .1, S .metadata .top); inside = omega (arith, S .metadata .few) }
+
+-- ---- the steps, by status
+
+module _ (w w′ : List ℕ) (e : Entity) (g : ℕ) (t : GroupStatus) (q : t ≡ statusAt e g (meaning w .storage)) where
+  pub steps-up : (rest left : ℕ) → Becomes w w′ (onStorage (stepUp t e g) (meaning w)) → bitsOf 64 left ≡ leftAfter t g (located (meaning w .storage .layout) g .top) (bitsOf 64 rest) → StepsUp w w′ e g rest left
+  steps-up rest left B b =
+      record {
+        becomes = subst (λ (x : GroupStatus). Becomes w w′ (onStorage (stepUp x e g) (meaning w))) q B;
+        remains = subst (λ (x : GroupStatus). bitsOf 64 left ≡ leftAfter x g (located (meaning w .storage .layout) g .top) (bitsOf 64 rest)) q b;
+      }
+
+  pub steps-down : Becomes w w′ (onStorage (stepDown t e g) (meaning w)) → Becomes w w′ (onStorage (stepDown (statusAt e g (meaning w .storage)) e g) (meaning w))
+  steps-down B = subst (λ (x : GroupStatus). Becomes w w′ (onStorage (stepDown x e g) (meaning w))) q B
+
+  pub ready-in : ReadyIn (statusAt e g (meaning w .storage)) e (located (meaning w .storage .layout) g) (meaning w .storage .sets) → ReadyIn t e (located (meaning w .storage .layout) g) (meaning w .storage .sets)
+  ready-in r = subst (λ (x : GroupStatus). ReadyIn x e (located (meaning w .storage .layout) g) (meaning w .storage .sets)) (sym q) r
+
+  pub ready-out : ReadyOut (statusAt e g (meaning w .storage)) e (located (meaning w .storage .layout) g) (meaning w .storage .sets) → ReadyOut t e (located (meaning w .storage .layout) g) (meaning w .storage .sets)
+  ready-out r = subst (λ (x : GroupStatus). ReadyOut x e (located (meaning w .storage .layout) g) (meaning w .storage .sets)) (sym q) r

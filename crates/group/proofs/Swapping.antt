@@ -1,0 +1,118 @@
+-- The loop over a group's kinds: an entity swapped to one place in each of their sparse sets. Assumes nothing.
+use mathlib.Core.Path.{_≡_, refl, ap, sym, _∙_, subst}
+use mathlib.Core.Bool.{Bool, true, false, cond}
+use mathlib.Core.List.{List, [], _∷_, _++_}
+use Prim.Native.Nat.{ℕ, _+_, _-_, _≤_, _<_}
+use native.Mathlib.Omega.{arith}
+use borrow.Author.Tests.{eq-eqb}
+use lib.ListN.{length, getD, set}
+use Rattle.model.specs.Run.{Store}
+use Rattle.model.specs.Model.{Entity, SparseSet, Storage, mem, setOf, held, swapTo}
+use Rattle.model.specs.Sound.{In, Distinct}
+use Rattle.model.proofs.Walk.{in-left}
+use Rattle.words.specs.Part.{between}
+use Rattle.memory.specs.Meaning.{meaning}
+use Rattle.memory.specs.Change.{onSet, onStorage}
+use Rattle.memory.specs.Arranged.{Arranged, Becomes}
+use Rattle.kinds.proofs.Slot.{known-small}
+use Rattle.group.specs.Ready.{Swappable}
+use Rattle.group.specs.Metadata.{orderOf, Listed}
+use Rattle.group.specs.Steps.{swapKinds}
+use Rattle.group.proofs.KindPositions.{not-left}
+use Rattle.group.proofs.EachKind.{eachKind, each-append, setOf-each, each-kinds}
+use Rattle.group.proofs.FlatArrays.{between-split}
+use Rattle.group.proofs.Places.{between-none, between-more, between-in}
+use Rattle.group.proofs.Storing.{becomes-same, becomes-then, sets-wide}
+use Rattle.group.proofs.InWords.{order-part-once}
+
+abbrev pub eachSwap : Entity → ℕ → List ℕ → Storage → Storage
+eachSwap e c ks s = record { sets = eachKind (swapTo e c) ks (s .sets); layout = s .layout }
+
+-- the loop's invariant: the kinds before place p have had their swap
+pub record Swapping (w₀ : List ℕ) (e : Entity) (start end c : ℕ) (w : List ℕ) (p : ℕ) : Type 0 where
+  pub low : start ≤ p
+  pub high : p ≤ end
+  pub soFar : Becomes w₀ w (onStorage (eachSwap e c (between start p (orderOf (meaning w₀)))) (meaning w₀))
+
+-- what the swap at place p asks
+pub record SwapAsk (w : List ℕ) (e : Entity) (c p : ℕ) : Type 0 where
+  pub place : p < length (orderOf (meaning w))
+  pub known : In (meaning w .kinds) (getD (orderOf (meaning w)) p 0)
+  pub holds : held e (setOf (meaning w .storage .sets) (getD (orderOf (meaning w)) p 0)) ≡ true
+  pub room : c < length (setOf (meaning w .storage .sets) (getD (orderOf (meaning w)) p 0))
+
+module _ (w₀ : List ℕ) (A : Arranged w₀) (e : Entity) (start end c : ℕ) (L : Listed (meaning w₀) start end) (R : Swappable e (between start end (orderOf (meaning w₀))) c (meaning w₀ .storage .sets)) where
+  pub swap-start : Swapping w₀ e start end c w₀ start
+  swap-start =
+      record {
+        low = omega arith;
+        high = L .rising;
+        soFar =
+            subst (λ (ks : List ℕ). Becomes w₀ w₀ (onStorage (eachSwap e c ks) (meaning w₀))) (sym (between-none start (orderOf (meaning w₀))))
+            (becomes-same w₀ A);
+      }
+
+  small : (p : ℕ) → start ≤ p → p ≤ end → (k : ℕ) → In (between start p (orderOf (meaning w₀))) k → k < length (meaning w₀ .storage .sets)
+  small p lo hi k i =
+      let inside : In (between start end (orderOf (meaning w₀))) k =
+      subst (λ (l : List ℕ). In l k) (between-split start p end (orderOf (meaning w₀)) lo hi) (in-left (between start p (orderOf (meaning w₀))) (between p end (orderOf (meaning w₀))) k i) in
+      omega (arith, known-small w₀ A k (L .known k inside), sets-wide w₀)
+
+  module _ (w : List ℕ) (p : ℕ) (S : Swapping w₀ e start end c w p) where
+    module _ (lt : p < end) where
+      abbrev k : ℕ
+      k = getD (orderOf (meaning w₀)) p 0
+
+      abbrev before : List ℕ
+      before = between start p (orderOf (meaning w₀))
+
+      kind-is : getD (orderOf (meaning w)) p 0 ≡ k
+      kind-is = ap (λ (m : Store). getD (orderOf m) p 0) (S .soFar .means)
+
+      inside : In (between start end (orderOf (meaning w₀))) k
+      inside = between-in start end p (orderOf (meaning w₀)) (S .low) lt (L .within)
+
+      more : between start (p + 1) (orderOf (meaning w₀)) ≡ before ++ (k ∷ [])
+      more = between-more start p (orderOf (meaning w₀)) (S .low) (omega (arith, L .within))
+
+      fresh : mem k before ≡ false
+      fresh = not-left before (k ∷ []) k (subst Distinct more (order-part-once w₀ A start (p + 1))) (rw (eq-eqb k k refl))
+
+      same-set : setOf (meaning w .storage .sets) k ≡ setOf (meaning w₀ .storage .sets) k
+      same-set =
+          ap (λ (m : Store). setOf (m .storage .sets) k) (S .soFar .means)
+          ∙ setOf-each (swapTo e c) before (meaning w₀ .storage .sets) (order-part-once w₀ A start p) (small p (S .low) (S .high)) k
+          ∙ ap (λ (b : Bool). cond b (swapTo e c (setOf (meaning w₀ .storage .sets) k)) (setOf (meaning w₀ .storage .sets) k)) fresh
+
+      pub swap-ask : SwapAsk w e c p
+      swap-ask =
+          let n : length (orderOf (meaning w)) ≡ length (orderOf (meaning w₀)) = ap (λ (m : Store). length (orderOf m)) (S .soFar .means) in
+          record {
+            place = omega (arith, L .within);
+            known = subst (In (meaning w .kinds)) (sym kind-is) (subst (λ (m : Store). In (m .kinds) k) (sym (S .soFar .means)) (L .known k inside));
+            holds = subst (λ (j : ℕ). held e (setOf (meaning w .storage .sets) j) ≡ true) (sym kind-is) (subst (λ (rs : SparseSet). held e rs ≡ true) (sym same-set) (R .holds k inside));
+            room = subst (λ (j : ℕ). c < length (setOf (meaning w .storage .sets) j)) (sym kind-is) (subst (λ (rs : SparseSet). c < length rs) (sym same-set) (R .room k inside));
+          }
+
+      pub swap-turn : (w′ : List ℕ) (j : ℕ) → j ≡ getD (orderOf (meaning w)) p 0 → Becomes w w′ (onStorage (onSet j (swapTo e c)) (meaning w)) → Swapping w₀ e start end c w′ (p + 1)
+      swap-turn w′ j q C =
+          let was : List SparseSet = eachKind (swapTo e c) before (meaning w₀ .storage .sets) in
+          let sets : set was j (swapTo e c (setOf was j)) ≡ eachKind (swapTo e c) (between start (p + 1) (orderOf (meaning w₀))) (meaning w₀ .storage .sets) =
+          ap (λ (x : ℕ). set was x (swapTo e c (setOf was x))) (q ∙ kind-is)
+          ∙ sym (ap (λ (ks : List ℕ). eachKind (swapTo e c) ks (meaning w₀ .storage .sets)) more ∙ each-append (swapTo e c) before (k ∷ []) (meaning w₀ .storage .sets)) in
+          record {
+            low = omega (arith, S .low);
+            high = omega arith;
+            soFar =
+                subst (λ (ss : List SparseSet). Becomes w₀ w′ (onStorage (λ (s : Storage). record { sets = ss; layout = s .layout }) (meaning w₀))) sets
+                (becomes-then w₀ w w′ (eachSwap e c before) (onStorage (onSet j (swapTo e c))) (S .soFar) C);
+          }
+
+    pub swap-done : end ≤ p → Becomes w₀ w (onStorage (swapKinds e c (between start end (orderOf (meaning w₀)))) (meaning w₀))
+    swap-done h =
+        let q : p ≡ end = omega (arith, S .high) in
+        let B : Becomes w₀ w (onStorage (eachSwap e c (between start end (orderOf (meaning w₀)))) (meaning w₀)) =
+        subst (λ (n : ℕ). Becomes w₀ w (onStorage (eachSwap e c (between start n (orderOf (meaning w₀)))) (meaning w₀))) q (S .soFar) in
+        subst (λ (ss : List SparseSet). Becomes w₀ w (onStorage (λ (s : Storage). record { sets = ss; layout = s .layout }) (meaning w₀)))
+        (each-kinds (swapTo e c) refl (between start end (orderOf (meaning w₀))) (meaning w₀ .storage .sets) (order-part-once w₀ A start end) (small end (L .rising) (omega arith)))
+        B

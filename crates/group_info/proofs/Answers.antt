@@ -1,0 +1,124 @@
+-- The range of a query is the model's, by the cases of its two infos; and none where the kinds are scattered. Assumes nothing.
+use mathlib.Core.Path.{_≡_, refl, sym, ap, ap₂, _∙_, subst}
+use mathlib.Core.Bool.{Bool, true, false, cond, _&&_, _||_, true≢false, false≢true}
+use mathlib.Core.List.{List, [], _∷_, _++_}
+use Prim.Native.Nat.{ℕ, zero, suc, _+_, _-_, _≤_, _<_}
+use native.Mathlib.Omega.{arith}
+use borrow.Author.Tests.{eq-eqb, ne-eqb}
+use lib.Dec.{eqb}
+use lib.ListN.{length, length-append}
+use Rattle.model.specs.Model.{Family, Storage, Range, none, found, mem, all, within, setOf, headKind, rangeAll, single, range}
+use Rattle.model.proofs.Walk.{bool-cases, or-true}
+use Rattle.layout.specs.Layout.{Arrays, Sized, kindsAt, familiesOf, WellFormed}
+use Rattle.group_info.specs.Info.{infoOf, ExcludedSays, IncludedSays, RangeBy}
+use Rattle.group_info.specs.Describes.{InFamily, GroupedKinds, Ungrouped, InfoOfKind, ViewOf, OneKind, ManyKinds, Describes, Scattered, rangeOf, RangeQuery, RangeSays}
+use Rattle.group_info.specs.declared.GroupInfo.{GroupInfo}
+use Rattle.group_info.specs.declared.FoundInfo.{FoundInfo}
+use Rattle.group_info.specs.declared.FoundInfo.the-variants as info
+use Rattle.group_info.specs.declared.ViewGroupInfo.{ViewGroupInfo}
+use Rattle.group_info.specs.declared.QueryGroupInfo.{QueryGroupInfo}
+use Rattle.group_info.specs.declared.QueryGroupInfo.the-variants as query
+use Rattle.group_info.specs.declared.GroupRange.{GroupRange}
+use Rattle.group_info.specs.declared.GroupRange.the-variants as ranged
+use Rattle.group_info.proofs.Ranges.{none-staged, none-excluded, none-empty, include-range, exclude-range}
+
+-- ---- where RANGE goes by the groups
+
+and-none : (b : Bool) → (b && false) ≡ false
+and-none true = refl
+and-none false = refl
+
+by-groups : (hs bs : List ℕ) (s : Storage) → single hs bs ≡ false → range hs bs s ≡ rangeAll hs bs (s .layout)
+unfolding range
+by-groups hs bs s e = rw e
+
+barred : (hs : List ℕ) (b : ℕ) (bs : List ℕ) (s : Storage) → range hs (b ∷ bs) s ≡ rangeAll hs (b ∷ bs) (s .layout)
+barred hs b bs s = by-groups hs (b ∷ bs) s (rw (ne-eqb (length (b ∷ bs)) 0 (omega arith)) (and-none (eqb (length hs) 1)))
+
+several : (hs bs : List ℕ) (s : Storage) → 2 ≤ length hs → range hs bs s ≡ rangeAll hs bs (s .layout)
+several hs bs s h = by-groups hs bs s (rw (ne-eqb (length hs) 1 (omega arith)))
+
+one-kind : (k : ℕ) (s : Storage) → range (k ∷ []) [] s ≡ found 0 (length (setOf (s .sets) k))
+unfolding range
+one-kind k s = refl
+
+-- ---- the cases
+
+module _ (a : Arrays) (s : Storage) (counts : List ℕ) (good : WellFormed a) (sized : Sized a) (layout : s .layout ≡ familiesOf counts a) where
+  here : (k : ℕ) → mem k (k ∷ []) ≡ true
+  here k = rw (eq-eqb k k refl)
+
+  -- what the hand's info says of the search
+  abbrev Staged : List ℕ → FoundInfo → Type 0
+  Staged hs (info.Info i) = GroupedKinds a hs i
+  Staged hs info.Nothing = (bs : List ℕ) → rangeAll hs bs (familiesOf counts a) ≡ none
+
+  -- and the bar's
+  abbrev Barred : ℕ → List ℕ → FoundInfo → Type 0
+  Barred b bs (info.Info e) = GroupedKinds a (b ∷ bs) e
+  Barred b bs info.Nothing = (hs : List ℕ) → rangeAll hs (b ∷ bs) (familiesOf counts a) ≡ none
+
+  staged-one : (k : ℕ) (x : FoundInfo) → InfoOfKind a k x → Staged (k ∷ []) x
+  staged-one k (info.Info i) g = g
+  staged-one k info.Nothing u = λ bs. none-staged a good sized counts (k ∷ []) bs (λ f h. (k, here k, u f h))
+
+  barred-one : (k : ℕ) (x : FoundInfo) → InfoOfKind a k x → Barred k [] x
+  barred-one k (info.Info e) g = g
+  barred-one k info.Nothing u = λ hs. none-excluded a good sized counts hs k [] (λ f h. (k, here k, u f h))
+
+  staged : (hs : List ℕ) (q : QueryGroupInfo) → Describes a s hs q → Staged hs (infoOf q)
+  staged hs query.Empty d = λ bs. ap (λ (l : List ℕ). rangeAll l bs (familiesOf counts a)) d ∙ none-empty a good sized counts bs
+  staged hs (query.One v) d = subst (λ (l : List ℕ). Staged l (v .info)) (sym (d .alone)) (staged-one (d .kind) (v .info) (d .view .grouping))
+  staged hs (query.Many i) d = d .grouped
+
+  excluded : (hs : List ℕ) (b : ℕ) (bs : List ℕ) (x y : FoundInfo) (r : GroupRange) → Staged hs x → Barred b bs y → ExcludedSays (a .arities) counts x y r → rangeOf r ≡ range hs (b ∷ bs) s
+  excluded hs b bs (info.Info i) (info.Info e) r p q w =
+      exclude-range a good sized counts (p .family) (q .family) hs b bs i e (p .kinds) (q .kinds) r w ∙ ap (rangeAll hs (b ∷ bs)) (sym layout) ∙ sym (barred hs b bs s)
+  excluded hs b bs (info.Info i) info.Nothing r p q w = ap rangeOf w ∙ sym (barred hs b bs s ∙ ap (rangeAll hs (b ∷ bs)) layout ∙ q hs)
+  excluded hs b bs info.Nothing (info.Info e) r p q w = ap rangeOf w ∙ sym (barred hs b bs s ∙ ap (rangeAll hs (b ∷ bs)) layout ∙ p (b ∷ bs))
+  excluded hs b bs info.Nothing info.Nothing r p q w = ap rangeOf w ∙ sym (barred hs b bs s ∙ ap (rangeAll hs (b ∷ bs)) layout ∙ p (b ∷ bs))
+
+  included : (hs : List ℕ) (q : QueryGroupInfo) (r : GroupRange) → Describes a s hs q → IncludedSays (a .arities) counts q r → rangeOf r ≡ range hs [] s
+  included hs query.Empty r d w =
+      ap rangeOf w ∙ sym (ap (λ (l : List ℕ). range l [] s) d ∙ by-groups [] [] s refl ∙ ap (rangeAll [] []) layout ∙ none-empty a good sized counts [])
+  included hs (query.One v) r d w =
+      ap rangeOf w ∙ ap (found 0) (d .view .long) ∙ sym (ap (λ (l : List ℕ). range l [] s) (d .alone) ∙ one-kind (d .kind) s)
+  included hs (query.Many i) r d w =
+      include-range a good sized counts (d .grouped .family) hs i (d .grouped .kinds) r w ∙ ap (rangeAll hs []) (sym layout) ∙ sym (several hs [] s (d .many))
+
+  pub query-range : (hs bs : List ℕ) (p q : QueryGroupInfo) (r : GroupRange) → Describes a s hs p → Describes a s bs q → RangeBy (a .arities) counts p q r → rangeOf r ≡ range hs bs s
+  query-range hs bs p query.Empty r d e w = included hs p r d w ∙ ap (λ (l : List ℕ). range hs l s) (sym e)
+  query-range hs bs p (query.One v) r d e w =
+      excluded hs (e .kind) [] (infoOf p) (v .info) r (staged hs p d) (barred-one (e .kind) (v .info) (e .view .grouping)) w ∙ ap (λ (l : List ℕ). range hs l s) (sym (e .alone))
+  query-range hs [] p (query.Many i) r d e w = absurd (omega (arith, e .many))
+  query-range hs (b ∷ bs) p (query.Many i) r d e w = excluded hs b bs (infoOf p) (info.Info i) r (staged hs p d) (e .grouped) w
+
+  -- ---- kinds that no family holds
+
+  missing : (hs ks : List ℕ) → within hs ks ≡ false → (k : ℕ) × (mem k hs ≡ true) × (mem k ks ≡ false)
+  missing [] ks e = absurd (true≢false e)
+  missing (h ∷ hs) ks e =
+      bool-cases (mem h ks)
+      (λ t. let r = missing hs ks (rw t at e) in (r .0, rw (r .1) (or-true (eqb (r .0) h)), r .2))
+      (λ t. (h, rw (eq-eqb h h refl), t))
+
+  -- scattered kinds in the hand, or in the bar: none
+  pub scattered-staged : (hs bs : List ℕ) → Scattered a hs → range hs bs s ≡ none
+  scattered-staged hs bs x = several hs bs s (x .many) ∙ ap (rangeAll hs bs) layout ∙ none-staged a good sized counts hs bs (λ f h. missing hs (kindsAt a f) (x .nowhere f h))
+
+  pub scattered-excluded : (hs bs : List ℕ) → Scattered a bs → range hs bs s ≡ none
+  scattered-excluded hs [] x = absurd (omega (arith, x .many))
+  scattered-excluded hs (b ∷ bs) x = barred hs b bs s ∙ ap (rangeAll hs (b ∷ bs)) layout ∙ none-excluded a good sized counts hs b bs (λ f h. missing (b ∷ bs) (kindsAt a f) (x .nowhere f h))
+
+-- a part of a list that is scattered scatters the whole
+pub scattered-more : (a : Arrays) (xs ys : List ℕ) → Scattered a xs → Scattered a (xs ++ ys)
+scattered-more a xs ys x =
+    record { many = omega (arith, x .many, length-append xs ys); nowhere = λ f h. wider (kindsAt a f) xs (x .nowhere f h) }
+  where
+    wider : (js l : List ℕ) → within l js ≡ false → within (l ++ ys) js ≡ false
+    wider js [] e = absurd (true≢false e)
+    wider js (k ∷ l) e = bool-cases (mem k js) (λ t. rw t (wider js l (rw t at e))) (λ t. rw t)
+
+pub range-law : (ars counts : List ℕ) (p q : QueryGroupInfo) (r : GroupRange) → RangeBy ars counts p q r → RangeSays ars counts p q r
+range-law ars counts p q r w x =
+    query-range (x .arrays) (x .storage) counts (x .good) (x .sized) (x .layout) (x .staged) (x .excluded) p q r (x .included) (x .barred) (subst (λ (l : List ℕ). RangeBy l counts p q r) (sym (x .arities)) w)

@@ -1,0 +1,135 @@
+-- Places of kinds in a list that has each once: a mask of places is a run of positions exactly where the kinds are that part. Assumes nothing.
+use mathlib.Core.Path.{_≡_, refl, sym, ap, ap₂, _∙_, subst}
+use mathlib.Core.Bool.{Bool, true, false, _&&_, _||_, true≢false, false≢true}
+use mathlib.Core.List.{List, [], _∷_, _++_}
+use Prim.Native.Nat.{ℕ, zero, suc, _+_, _-_, _≤_, _<_}
+use native.Mathlib.Decide.{decLt, decLe}
+use native.Mathlib.Omega.{arith}
+use borrow.Author.Tests.{eq-eqb, ne-eqb, eqb-true, lt-ltb, le-ltb, ltb-true}
+use lib.Dec.{eqb, ltb}
+use lib.ListN.{length, getD, take}
+use Rattle.model.specs.Lists.{one, after, count, place, count-place, getD-place}
+use Rattle.model.specs.Model.{mem, within, sameSet}
+use Rattle.model.proofs.Walk.{bool-cases}
+use Rattle.words.specs.Part.{between, getD-between, length-between}
+use Rattle.masks.specs.Masks
+use Rattle.masks.proofs.Lists.{between-in, between-low, between-high, between-parts, has-up, keep-between, and-parts}
+use Rattle.masks.proofs.Bits.{bits-members}
+use Rattle.layout.specs.Layout.{KindSet}
+use Rattle.layout.proofs.KindSets.{mem-count, count-mem, mem-all, all-mem}
+
+-- ---- members by place
+
+pub at-count : (l : List ℕ) (i : ℕ) → i < length l → 1 ≤ count eqb (getD l i 0) l
+at-count [] i h = absurd (omega arith)
+at-count (x ∷ l) zero h = omega (arith, ap one (eq-eqb x x refl))
+at-count (x ∷ l) (suc i) h = omega (arith, at-count l i (omega arith))
+
+pub at-mem : (l : List ℕ) (i : ℕ) → i < length l → mem (getD l i 0) l ≡ true
+at-mem l i h = count-mem (getD l i 0) l (at-count l i h)
+
+pub placeOf : ℕ → List ℕ → ℕ
+placeOf k l = place eqb k l
+
+pub place-inside : (k : ℕ) (l : List ℕ) → mem k l ≡ true → placeOf k l < length l
+unfolding placeOf
+place-inside k l m = count-place eqb k l (mem-count k l m)
+
+pub at-place : (k : ℕ) (l : List ℕ) → mem k l ≡ true → getD l (placeOf k l) 0 ≡ k
+unfolding placeOf
+at-place k l m = getD-place eqb eqb-true k 0 l (count-place eqb k l (mem-count k l m))
+
+-- the list has each once
+once-place : (l : List ℕ) → ((k : ℕ) → count eqb k l ≤ 1) → (i : ℕ) → i < length l → place eqb (getD l i 0) l ≡ i
+once-place [] s i h = absurd (omega arith)
+once-place (x ∷ l) s zero h = rw (eq-eqb x x refl)
+once-place (x ∷ l) s (suc i) h =
+    let y = getD l i 0 in
+    let ne : eqb y x ≡ false = bool-cases (eqb y x) (λ t. absurd (omega (arith, s y, ap one t, at-count l i (omega arith)))) (λ t. t) in
+    rw ne (ap suc (once-place l (λ k. omega (arith, s k)) i (omega arith)))
+
+pub place-at : (l : List ℕ) → KindSet l → (i : ℕ) → i < length l → placeOf (getD l i 0) l ≡ i
+unfolding placeOf
+place-at l s i h = once-place l (s .once) i h
+
+module _ (ks : List ℕ) (s : KindSet ks) (lo hi : ℕ) (ord : lo ≤ hi) (top : hi ≤ length ks) where
+  pub part-mem : (p : ℕ) → lo ≤ p → p < hi → mem (getD ks p 0) (between lo hi ks) ≡ true
+  part-mem p l h =
+      let e : lo + (p - lo) ≡ p = omega arith in
+      let g : getD (between lo hi ks) (p - lo) 0 ≡ getD ks p 0 = getD-between lo hi (p - lo) ks 0 (omega arith) ∙ ap (λ (i : ℕ). getD ks i 0) e in
+      ap (λ (k : ℕ). mem k (between lo hi ks)) (sym g) ∙ at-mem (between lo hi ks) (p - lo) (omega (arith, length-between lo hi ks top))
+
+  -- a member of the part is at one of its places
+  pub record InPart (k : ℕ) : Type 0 where
+    pub low : lo ≤ placeOf k ks
+    pub high : placeOf k ks < hi
+    pub there : getD ks (placeOf k ks) 0 ≡ k
+
+  pub mem-part : (k : ℕ) → mem k (between lo hi ks) ≡ true → InPart k
+  mem-part k m =
+      let j = placeOf k (between lo hi ks) in
+      let b : j < hi - lo = omega (arith, place-inside k (between lo hi ks) m, length-between lo hi ks top) in
+      let g : getD ks (lo + j) 0 ≡ k = sym (getD-between lo hi j ks 0 (omega arith)) ∙ at-place k (between lo hi ks) m in
+      let p : placeOf k ks ≡ lo + j = ap (λ (x : ℕ). placeOf x ks) (sym g) ∙ place-at ks s (lo + j) (omega arith) in
+      record { low = omega arith; high = omega arith; there = ap (λ (i : ℕ). getD ks i 0) p ∙ g }
+
+  -- a mask of the places of hs, which are kinds of ks
+  module _ (hs : List ℕ) (m : ℕ) (few : length ks ≤ 15) (inside : (k : ℕ) → mem k hs ≡ true → mem k ks ≡ true)
+      (places : (p : ℕ) → p < 16 → Masks.has p (Masks.bitsOf 16 m) ≡ (ltb p (length ks) && mem (getD ks p 0) hs)) where
+    pub places-of-part : sameSet hs (between lo hi ks) ≡ true → Masks.bitsOf 16 m ≡ Masks.upFrom lo (hi - lo)
+    places-of-part e = bits-members 16 m (Masks.between lo hi) (λ p h. places p h ∙ claim p) ∙ keep-between 16 lo hi ord (omega arith)
+      where
+        left : within hs (between lo hi ks) ≡ true
+        left = and-parts (within hs (between lo hi ks)) (within (between lo hi ks) hs) e .0
+
+        right : within (between lo hi ks) hs ≡ true
+        right = and-parts (within hs (between lo hi ks)) (within (between lo hi ks) hs) e .1
+
+        outside : (p : ℕ) → p < length ks → (lo ≤ p → p < hi → ⊥) → mem (getD ks p 0) hs ≡ false
+        outside p h n =
+            bool-cases (mem (getD ks p 0) hs)
+            (λ t. let x = mem-part (getD ks p 0) (all-mem (λ k. mem k (between lo hi ks)) hs (getD ks p 0) left t) in let q = place-at ks s p h in absurd (n (omega (arith, x .low)) (omega (arith, x .high))))
+            (λ t. t)
+
+        rest : (p : ℕ) → (lo ≤ p → p < hi → ⊥) → (ltb p (length ks) && mem (getD ks p 0) hs) ≡ false
+        rest p n =
+            elim (decLt p (length ks)) [
+              | yes h ↦ rw (lt-ltb p (length ks) h) (outside p h n)
+              | no h ↦ rw (le-ltb p (length ks) (omega arith)) refl
+            ]
+
+        claim : (p : ℕ) → (ltb p (length ks) && mem (getD ks p 0) hs) ≡ Masks.between lo hi p
+        claim p =
+            elim (decLe lo p) [
+              | yes l ↦ elim (decLt p hi) [
+                | yes h ↦ rw (lt-ltb p (length ks) (omega arith)) (all-mem (λ k. mem k hs) (between lo hi ks) (getD ks p 0) right (part-mem p l h) ∙ sym (between-in lo hi p l h))
+                | no h ↦ rest p (λ a b. h b) ∙ sym (between-high lo hi p (omega arith))
+              ]
+              | no l ↦ rest p (λ a b. l a) ∙ sym (between-low lo hi p (omega arith))
+            ]
+
+    pub part-of-places : Masks.bitsOf 16 m ≡ Masks.upFrom lo (hi - lo) → sameSet hs (between lo hi ks) ≡ true
+    part-of-places e = rw (mem-all (λ k. mem k (between lo hi ks)) hs to, mem-all (λ k. mem k hs) (between lo hi ks) from)
+      where
+        run : (p : ℕ) → Masks.has p (Masks.bitsOf 16 m) ≡ Masks.between lo hi p
+        run p = ap (Masks.has p) e ∙ has-up p lo (hi - lo) ∙ ap (λ (x : ℕ). Masks.between lo x p) (ends ord)
+          where
+            ends : lo ≤ hi → lo + (hi - lo) ≡ hi
+            ends o = omega arith
+
+        to : (k : ℕ) → mem k hs ≡ true → mem k (between lo hi ks) ≡ true
+        to k h =
+            let m′ = inside k h in
+            let p = placeOf k ks in
+            let b : p < length ks = place-inside k ks m′ in
+            let g : getD ks p 0 ≡ k = at-place k ks m′ in
+            let bit : Masks.between lo hi p ≡ true = sym (run p) ∙ places p (omega arith) ∙ rw (lt-ltb p (length ks) b, g, h) in
+            let x = between-parts lo hi p bit in
+            ap (λ (y : ℕ). mem y (between lo hi ks)) (sym g) ∙ part-mem p (x .0) (x .1)
+
+        from : (k : ℕ) → mem k (between lo hi ks) ≡ true → mem k hs ≡ true
+        from k h =
+            let x = mem-part k h in
+            let p = placeOf k ks in
+            let bit : (ltb p (length ks) && mem (getD ks p 0) hs) ≡ true = sym (places p (omega (arith, x .high))) ∙ run p ∙ between-in lo hi p (x .low) (x .high) in
+            ap (λ (y : ℕ). mem y hs) (sym (x .there)) ∙ and-parts (ltb p (length ks)) (mem (getD ks p 0) hs) bit .1

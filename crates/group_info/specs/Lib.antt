@@ -1,0 +1,2 @@
+pub mod Info
+pub mod Describes

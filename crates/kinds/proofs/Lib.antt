@@ -1,0 +1,4 @@
+pub mod Slot
+pub mod Clear
+pub mod Registering
+pub mod Owned

@@ -1,0 +1,174 @@
+-- What the head of a kind's column says of the layout in force: the group whose new kinds have the kind, and its place in the family. Assumes nothing.
+use mathlib.Core.Path.{_≡_, sym, ap, _∙_, subst}
+use mathlib.Core.Bool.{false, cond}
+use mathlib.Core.List.{List, [], _∷_}
+use Prim.Native.Nat.{ℕ, zero, suc, _+_, _-_, _≤_, _<_}
+use native.Mathlib.Omega.{arith}
+use native.Mathlib.Decide.{decLt}
+use borrow.Author.Tests.{lt-ltb, le-ltb}
+use lib.Dec.{ltb}
+use lib.ListN.{length, getD, take}
+use lib.Seq.{getD-take, length-take-le}
+use Rattle.model.specs.Model.{mem}
+use Rattle.model.specs.Sound.{In}
+use Rattle.model.proofs.KindLists.{not-true}
+use Rattle.words.specs.Part.{between, length-between, getD-between}
+use Rattle.layout.specs.Layout.{Arrays, Sized, startOf, widthOf, kindsAt, aritiesAt, Rising, WellFormed}
+use Rattle.layout.proofs.Arrays.{end-inside, group-order, groups-inside, kinds-length, arities-length, family-rising}
+use Rattle.memory.specs.Header.{layoutGroups, slotOf, groupFamilyAt}
+use Rattle.memory.specs.Meaning.{ownAt, localAt, layoutArrays, meaning}
+use Rattle.memory.specs.Arranged.{priorArity, memberAt, Arranged}
+use Rattle.memory.proofs.Frames.{long}
+use Rattle.kinds.proofs.Slot.{in-list, known-slot}
+
+-- ---- the family and the group that have a place
+
+-- number `number` has place j, of n whose ends are es
+pub record Spot (es : List ℕ) (n j : ℕ) : Type 0 where
+  pub number : ℕ
+  pub below : number < n
+  pub low : startOf es number ≤ j
+  pub high : j < getD es number 0
+
+spot : (es : List ℕ) (n j : ℕ) → j < startOf es n → Spot es n j
+spot es zero j h = absurd (omega arith)
+spot es (suc n) j h =
+    elim (decLt j (startOf es n)) [
+      | yes l ↦ let r = spot es n j l in record { number = r .number; below = omega (arith, r .below); low = r .low; high = r .high }
+      | no l ↦ record { number = n; below = omega arith; low = omega arith; high = h }
+    ]
+
+spot-once : (es : List ℕ) (n : ℕ) → ((i : ℕ) → i < n → startOf es i ≤ getD es i 0) → (f f′ j : ℕ) → f < n → f′ < n
+    → startOf es f ≤ j → j < getD es f 0 → startOf es f′ ≤ j → j < getD es f′ 0 → f′ ≡ f
+spot-once es n o f f′ j hf hf′ l h l′ h′ =
+    elim (decLt f f′) [
+      | yes q ↦ absurd (omega (arith, end-inside es f′ (λ i b. o i (omega arith)) f q))
+      | no q ↦
+          elim (decLt f′ f) [
+            | yes p ↦ absurd (omega (arith, end-inside es f (λ i b. o i (omega arith)) f′ p))
+            | no p ↦ omega arith
+          ]
+    ]
+
+-- the first of the arities, which rise from b, that is above j
+pub record Level (b : ℕ) (ars : List ℕ) (j : ℕ) : Type 0 where
+  pub number : ℕ
+  pub below : number < length ars
+  pub low : getD (b ∷ ars) number 0 ≤ j
+  pub high : j < getD ars number 0
+
+level : (b n : ℕ) (ars : List ℕ) (j : ℕ) → Rising b n ars → b ≤ j → j < n → Level b ars j
+unfolding Rising
+level b n [] j r l h = absurd (omega arith)
+level b n (a ∷ rest) j r l h =
+    elim (decLt j a) [
+      | yes q ↦ record { number = 0; below = omega arith; low = l; high = q }
+      | no q ↦
+          let t = level a n rest j (r .1) (omega arith) h in
+          record { number = suc (t .number); below = omega (arith, t .below); low = t .low; high = t .high }
+    ]
+
+prior-is : (a : Arrays) (f g : ℕ) → priorArity a f g ≡ cond (ltb (startOf (a .ends) f) g) (getD (a .arities) (g - 1) 0) 0
+prior-is a f zero = rw (le-ltb (startOf (a .ends) f) 0 (omega arith))
+prior-is a f (suc g) = let e : suc g - 1 ≡ g = omega arith in rw e
+
+-- the arity before that of the family's group i
+prior-at : (a : Arrays) (f i : ℕ) → startOf (a .ends) f + i < getD (a .ends) f 0 → priorArity a f (startOf (a .ends) f + i) ≡ getD (0 ∷ aritiesAt a f) i 0
+prior-at a f zero h = prior-is a f (startOf (a .ends) f + 0) ∙ rw (le-ltb (startOf (a .ends) f) (startOf (a .ends) f + 0) (omega arith))
+prior-at a f (suc i) h =
+    let s = startOf (a .ends) f in
+    let e : s + suc i - 1 ≡ s + i = omega arith in
+    prior-is a f (s + suc i)
+    ∙ rw (lt-ltb s (s + suc i) (omega arith)) (ap (λ (g : ℕ). getD (a .arities) g 0) e ∙ sym (getD-between s (getD (a .ends) f 0) i (a .arities) 0 (omega arith)))
+
+-- ---- the layout in force
+
+-- kind k is a new kind of group g, and the head of its column has its place
+pub record Owned (w : List ℕ) (k g : ℕ) : Type 0 where
+  pub group : g < layoutGroups w
+  pub low : priorArity (layoutArrays w) (groupFamilyAt w g) g ≤ localAt w (slotOf w k)
+  pub high : localAt w (slotOf w k) < getD (layoutArrays w .arities) g 0
+  pub member : memberAt (layoutArrays w) (groupFamilyAt w g) (localAt w (slotOf w k)) ≡ k
+
+-- place j of the layout's kinds is place `local` of the family of group `group`, among the group's new kinds
+pub record Placed (w : List ℕ) (j : ℕ) : Type 0 where
+  pub group : ℕ
+  pub local : ℕ
+  pub real : group < layoutGroups w
+  pub place : startOf (layoutArrays w .kindEnds) (groupFamilyAt w group) + local ≡ j
+  pub low : priorArity (layoutArrays w) (groupFamilyAt w group) group ≤ local
+  pub high : local < getD (layoutArrays w .arities) group 0
+
+pub record Listed (w : List ℕ) (k : ℕ) : Type 0 where
+  pub group : ℕ
+  pub says : ownAt w (slotOf w k) ≡ suc group
+  pub owned : Owned w k group
+
+module _ (w : List ℕ) (A : Arranged w) where
+  abbrev a : Arrays
+  a = layoutArrays w
+
+  pub layout-sized : Sized (layoutArrays w)
+  layout-sized =
+      let b : length (between 576 896 w) ≡ 320 = length-between 576 896 w (omega (arith, long w A)) in
+      record {
+        kinds = length-between 0 128 (between 576 896 w) (omega arith);
+        arities = length-between 128 192 (between 576 896 w) (omega arith);
+        kindEnds = length-between 192 256 (between 576 896 w) (omega arith);
+        ends = length-between 256 320 (between 576 896 w) (omega arith);
+      }
+
+  good : WellFormed a
+  good = A .layout .formed
+
+  -- place j of family f, below the arity of its group i and not below that of the group before
+  placed-in : (j f i : ℕ) → f < a .families → startOf (a .kindEnds) f ≤ j → i < length (aritiesAt a f)
+      → getD (0 ∷ aritiesAt a f) i 0 ≤ j - startOf (a .kindEnds) f → j - startOf (a .kindEnds) f < getD (aritiesAt a f) i 0 → Placed w j
+  placed-in j f i hf le hi low high =
+      let inside : startOf (a .ends) f + i < getD (a .ends) f 0 = omega (arith, arities-length a good layout-sized f hf) in
+      let real : startOf (a .ends) f + i < layoutGroups w = omega (arith, groups-inside a good f hf, A .layout .count) in
+      let G = A .layout .groups (startOf (a .ends) f + i) real in
+      let same : groupFamilyAt w (startOf (a .ends) f + i) ≡ f =
+      spot-once (a .ends) (a .families) (group-order a good) f (groupFamilyAt w (startOf (a .ends) f + i)) (startOf (a .ends) f + i) hf (G .family) (omega arith) inside (G .low) (G .high) in
+      record {
+        group = startOf (a .ends) f + i;
+        local = j - startOf (a .kindEnds) f;
+        real = real;
+        place = ap (λ (x : ℕ). startOf (a .kindEnds) x + (j - startOf (a .kindEnds) f)) same ∙ omega arith;
+        low = rw (same, prior-at a f i inside) low;
+        high = rw (getD-between (startOf (a .ends) f) (getD (a .ends) f 0) i (a .arities) 0 inside) at high;
+      }
+
+  placed : (j : ℕ) → j < widthOf a → Placed w j
+  placed j h =
+      let F = spot (a .kindEnds) (a .families) j h in
+      let f = F .number in
+      let L = level 0 (length (kindsAt a f)) (aritiesAt a f) (j - startOf (a .kindEnds) f) (family-rising a good layout-sized f (F .below)) (omega arith)
+      (omega (arith, kinds-length a good layout-sized f (F .below), F .low, F .high)) in
+      placed-in j f (L .number) (F .below) (F .low) (L .below) (L .low) (L .high)
+
+  pub listed : (k : ℕ) → In (take (widthOf (layoutArrays w)) (layoutArrays w .kinds)) k → Listed w k
+  listed k i =
+      let P = in-list (take (widthOf a) (a .kinds)) k i in
+      let h : P .place < widthOf a = omega (arith, P .below, length-take-le (widthOf a) (a .kinds) (omega (arith, good .wide, layout-sized .kinds))) in
+      let T = placed (P .place) h in
+      let G = A .layout .groups (T .group) (T .real) in
+      let m : memberAt a (groupFamilyAt w (T .group)) (T .local) ≡ k =
+      ap (λ (x : ℕ). getD (a .kinds) x 0) (T .place) ∙ sym (getD-take (widthOf a) (a .kinds) (P .place) 0 h) ∙ P .is in
+      let local : localAt w (slotOf w k) ≡ T .local = ap (λ (x : ℕ). localAt w (slotOf w x)) (sym m) ∙ G .local (T .local) (T .low) (T .high) in
+      record {
+        group = T .group;
+        says = ap (λ (x : ℕ). ownAt w (slotOf w x)) (sym m) ∙ G .own (T .local) (T .low) (T .high);
+        owned = record { group = T .real; low = rw local (T .low); high = rw local (T .high); member = rw local m };
+      }
+
+  -- own_group's answers
+  pub own-group : (k g : ℕ) → In (meaning w .kinds) k → ownAt w (slotOf w k) ≡ suc g → Owned w k g
+  own-group k g i o =
+      let S = known-slot w A k i in
+      let L = listed k (subst (In (take (widthOf a) (a .kinds))) (S .kind) (A .layout .none (slotOf w k) (S .real) (omega arith))) in
+      let e : L .group ≡ g = omega (arith, L .says) in
+      subst (Owned w k) e (L .owned)
+
+  pub no-group : (k : ℕ) → ownAt w (slotOf w k) ≡ 0 → mem k (take (widthOf (layoutArrays w)) (layoutArrays w .kinds)) ≡ false
+  no-group k o = not-true (mem k (take (widthOf a) (a .kinds))) (λ i. omega (arith, listed k i .says))

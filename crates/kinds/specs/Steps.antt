@@ -1,0 +1,26 @@
+-- What the private steps find and store: a kind's slot, a column's head. Assumes nothing.
+use mathlib.Core.Path.{_≡_}
+use mathlib.Core.List.{List}
+use Prim.Native.Nat.{ℕ, _+_, _<_}
+use lib.ListN.{getD, set}
+use Rattle.words.specs.Offsets.{columnStart}
+use Rattle.columns.specs.Columns.{columnOf, Lent, rowsOf}
+use Rattle.memory.specs.Header.{capacityOf, registeredOf, slotOf}
+use Rattle.memory.specs.Meaning.{kindAt}
+use Rattle.kinds.specs.Kinds.{kindSet}
+
+-- 01: "each with a column of its own". Slot s is kind k's: its rows are the kind's sparse set
+pub record InSlot (w : List ℕ) (k s : ℕ) : Type 0 where
+  pub is : s ≡ slotOf w k
+  pub real : s < registeredOf w
+  pub kind : kindAt w s ≡ k
+  pub lent : Lent (capacityOf w) s w
+  pub rows : kindSet w k ≡ rowsOf (capacityOf w) s w
+
+-- word i of the head of kind k's column
+abbrev pub headOf : List ℕ → ℕ → ℕ → ℕ
+headOf w k i = getD (columnOf (capacityOf w) (slotOf w k) w) i 0
+
+-- the head of slot s's column: its kind k, in no group
+abbrev pub withHead : ℕ → ℕ → ℕ → List ℕ → List ℕ
+withHead n s k w = set (set (set w (columnStart n s + 1) k) (columnStart n s + 2) 0) (columnStart n s + 3) 0

@@ -1,0 +1,190 @@
+// The table of kinds (component_storage.rs): a kind's sparse set, reached by the slot that the table has for it.
+use component::Found;
+use component::Removed;
+use component::Value;
+ghost use mathlib.Core.Path.{_≡_};
+ghost use mathlib.Core.Bool.{true, false};
+ghost use mathlib.Core.List.{[], _∷_, _++_};
+ghost use Prim.Native.Nat.{_<_, _≤_};
+ghost use lib.ListN.{length, getD};
+ghost use Rattle.model.specs.Model.{noRow, mem, held, insertRow, swapTo};
+ghost use Rattle.model.specs.Run.{withKinds};
+ghost use Rattle.model.specs.Sound.{In};
+ghost use Rattle.component.specs.SparseSet.{entity, valueOf, Current};
+ghost use Rattle.component.specs.Answers.{Finds};
+ghost use Rattle.columns.specs.Columns.{Lent};
+ghost use Rattle.memory.specs.Header.{capacityOf, slotOf};
+ghost use Rattle.memory.specs.Meaning.{localAt, meaning};
+ghost use Rattle.memory.specs.Change.{onSet, onStorage};
+ghost use Rattle.memory.specs.Arranged.{Arranged, Becomes};
+ghost use Rattle.kinds.specs.Kinds.{kindSet, OwnGroup, RemovesKind, emptied};
+ghost use Rattle.kinds.specs.Steps.{InSlot, headOf, withHead};
+
+// The group whose new kinds have the kind.
+pub enum Own {
+    Group(usize),
+    None,
+}
+
+// 255 in the table says that the kind has no column.
+pub fn is_registered(words: &[u32], kind: usize) -> bool
+    requires { ⌜ Arranged (now words) ⌝ }
+    requires { ⌜ kind < 128 ⌝ }
+    ensures { λ r. ⌜ r ≡ mem kind (meaning (now (words .entry)) .kinds) ⌝ }
+{
+    let slot = memory::word(words, words::TABLE + kind);
+    if slot == 255 {
+        return false;
+    }
+    true
+}
+
+// The slot of a registered kind's column.
+fn slot_of(words: &[u32], kind: usize) -> usize
+    requires { ⌜ Arranged (now words) ⌝ }
+    requires { ⌜ In (meaning (now words) .kinds) kind ⌝ }
+    ensures { λ r. ⌜ InSlot (now (words .entry)) kind r ⌝ }
+{
+    memory::word(words, words::TABLE + kind)
+}
+
+pub fn set_len(words: &[u32], kind: usize) -> usize
+    requires { ⌜ Arranged (now words) ⌝ }
+    requires { ⌜ In (meaning (now words) .kinds) kind ⌝ }
+    ensures { λ r. ⌜ length (kindSet (now (words .entry)) kind) ≡ r ⌝ }
+{
+    let n = memory::word(words, words::CAPACITY);
+    let slot = slot_of(words, kind);
+    columns::len_in(words, n, slot)
+}
+
+// Any index and version may be asked for.
+pub fn find(words: &[u32], kind: usize, index: u32, version: u32) -> Found
+    requires { ⌜ Arranged (now words) ⌝ }
+    requires { ⌜ In (meaning (now words) .kinds) kind ⌝ }
+    ensures { λ r. ⌜ Finds (capacityOf (now (words .entry))) (entity index version) (kindSet (now (words .entry)) kind) r ⌝ }
+{
+    let n = memory::word(words, words::CAPACITY);
+    let slot = slot_of(words, kind);
+    columns::find_in(words, n, slot, index, version)
+}
+
+// Exchanges the entity's row with the one at place.
+pub fn swap_to(words: &mut [u32], kind: usize, index: u32, version: u32, place: usize)
+    requires { ⌜ Arranged (now words) ⌝ }
+    requires { ⌜ In (meaning (now words) .kinds) kind ⌝ }
+    requires { ⌜ held (entity index version) (kindSet (now words) kind) ≡ true ⌝ }
+    requires { ⌜ place < length (kindSet (now words) kind) ⌝ }
+    ensures { λ _. ⌜ Becomes (now (words .entry)) (now (words .exit)) (onStorage (onSet kind (swapTo (entity index version) place)) (meaning (now (words .entry)))) ⌝ }
+{
+    let n = memory::word(words, words::CAPACITY);
+    let slot = slot_of(words, kind);
+    columns::swap_to_in(words, n, slot, index, version, place);
+}
+
+// The value of the row at a place.
+pub fn value_of(words: &[u32], kind: usize, place: usize) -> Value
+    requires { ⌜ Arranged (now words) ⌝ }
+    requires { ⌜ In (meaning (now words) .kinds) kind ⌝ }
+    requires { ⌜ place < length (kindSet (now words) kind) ⌝ }
+    ensures { λ r. ⌜ valueOf (r .low) (r .high) ≡ getD (kindSet (now (words .entry)) kind) place noRow .value ⌝ }
+{
+    let n = memory::word(words, words::CAPACITY);
+    let slot = slot_of(words, kind);
+    columns::value_in(words, n, slot, place)
+}
+
+// Puts a value with an entity: in the entity's row, or in a new one at the end.
+pub fn insert(words: &mut [u32], kind: usize, index: u32, version: u32, low: u32, high: u32)
+    requires { ⌜ Arranged (now words) ⌝ }
+    requires { ⌜ In (meaning (now words) .kinds) kind ⌝ }
+    requires { ⌜ (index < capacityOf (now words)) × (1 ≤ version) ⌝ }
+    requires { ⌜ Current index version (kindSet (now words) kind) ⌝ }
+    ensures { λ _. ⌜ Becomes (now (words .entry)) (now (words .exit)) (onStorage (onSet kind (insertRow (entity index version) (valueOf low high))) (meaning (now (words .entry)))) ⌝ }
+{
+    let n = memory::word(words, words::CAPACITY);
+    let slot = slot_of(words, kind);
+    columns::insert_in(words, n, slot, index, version, low, high);
+}
+
+// The entity's row goes, if it has one, and its value is handed back.
+pub fn remove(words: &mut [u32], kind: usize, index: u32, version: u32) -> Removed
+    requires { ⌜ Arranged (now words) ⌝ }
+    requires { ⌜ In (meaning (now words) .kinds) kind ⌝ }
+    ensures { λ r. ⌜ RemovesKind (now (words .entry)) (now (words .exit)) kind (entity index version) r ⌝ }
+{
+    let n = memory::word(words, words::CAPACITY);
+    let slot = slot_of(words, kind);
+    columns::remove_in(words, n, slot, index, version)
+}
+
+// Every kind's rows go. A slot that no kind has is empty as it is.
+pub fn clear_sets(words: &mut [u32])
+    requires { ⌜ Arranged (now words) ⌝ }
+    ensures { λ _. ⌜ Becomes (now (words .entry)) (now (words .exit)) (onStorage emptied (meaning (now (words .entry)))) ⌝ }
+{
+    let n = memory::word(words, words::CAPACITY);
+    let m = memory::word(words, words::REGISTERED);
+    columns::clear_all(words, n, m);
+}
+
+// A word of the head of the kind's column.
+fn head(words: &[u32], kind: usize, i: usize) -> usize
+    requires { ⌜ Arranged (now words) ⌝ }
+    requires { ⌜ In (meaning (now words) .kinds) kind ⌝ }
+    requires { ⌜ i < 8 ⌝ }
+    ensures { λ r. ⌜ r ≡ headOf (now (words .entry)) kind i ⌝ }
+{
+    let n = memory::word(words, words::CAPACITY);
+    let slot = slot_of(words, kind);
+    let base = words::column_start(n, slot);
+    memory::word(words, base + i)
+}
+
+pub fn own_group(words: &[u32], kind: usize) -> Own
+    requires { ⌜ Arranged (now words) ⌝ }
+    requires { ⌜ In (meaning (now words) .kinds) kind ⌝ }
+    ensures { λ r. ⌜ OwnGroup (now (words .entry)) kind r ⌝ }
+{
+    let own = head(words, kind, 2);
+    if own == 0 {
+        return Own::None;
+    }
+    Own::Group(own - 1)
+}
+
+// The kind's place among its family's kinds, where it is in a group.
+pub fn place_in_family(words: &[u32], kind: usize) -> usize
+    requires { ⌜ Arranged (now words) ⌝ }
+    requires { ⌜ In (meaning (now words) .kinds) kind ⌝ }
+    ensures { λ r. ⌜ r ≡ localAt (now (words .entry)) (slotOf (now (words .entry)) kind) ⌝ }
+{
+    head(words, kind, 3)
+}
+
+// The head of a column that a kind gets: the kind, in no group.
+fn put_head(words: &mut [u32], n: usize, slot: usize, kind: usize)
+    requires { ⌜ Lent n slot (now words) ⌝ }
+    requires { ⌜ kind < 128 ⌝ }
+    ensures { λ _. ⌜ now (words .exit) ≡ withHead n slot kind (now (words .entry)) ⌝ }
+{
+    let base = words::column_start(n, slot);
+    words[base + 1] = kind as u32;
+    words[base + 2] = 0;
+    words[base + 3] = 0;
+}
+
+// The first slot that no kind has becomes the kind's. Its column has no rows.
+pub fn register(words: &mut [u32], kind: usize)
+    requires { ⌜ Arranged (now words) ⌝ }
+    requires { ⌜ kind < 128 ⌝ }
+    requires { ⌜ mem kind (meaning (now words) .kinds) ≡ false ⌝ }
+    requires { ⌜ length (meaning (now words) .kinds) < meaning (now words) .kindCapacity ⌝ }
+    ensures { λ _. ⌜ Becomes (now (words .entry)) (now (words .exit)) (withKinds (meaning (now (words .entry))) (meaning (now (words .entry)) .kinds ++ (kind ∷ []))) ⌝ }
+{
+    let n = memory::word(words, words::CAPACITY);
+    let slot = memory::word(words, words::REGISTERED);
+    put_head(words, n, slot, kind);
+    words[words::TABLE + kind] = slot as u32;
+    words[words::REGISTERED] = slot as u32 + 1;
+}

@@ -1,0 +1,151 @@
+-- The entries *start*, *column* and *roll*: refused exactly where the table gives it, and what an accepted one gives. Assumes nothing.
+use mathlib.Core.Path.{_≡_, refl, ap, sym, _∙_}
+use mathlib.Core.Logic.{_↔_}
+use mathlib.Core.Bool.{Bool, true, false, not, _||_}
+use mathlib.Core.Option.{Option, some, none}
+use mathlib.Core.List.{List, [], _∷_, map}
+use Prim.Native.Nat.{ℕ, zero, suc, _-_, _*_, _≤_}
+use native.Mathlib.Omega.{arith}
+use borrow.Author.Tests.{ltb-false, eqb-false}
+use lib.Dec.{eqb, ltb}
+use lib.ListN.{length, take, length-map, length-drop}
+use lib.Seq.{length-take-le}
+use Rattle.model.specs.Model.{Entity, SparseSet, setOf, keys, entityOf}
+use Rattle.model.specs.Store.{Store, empty, wordsNeeded, isKind}
+use Rattle.model.specs.Snapshot.{snapshot}
+use Rattle.model.specs.Refusals.{firstLine, NoneHolds, First, startLines, rollLines, columnLines}
+use Rattle.model.specs.Entries.{refusesStart, makes, startedBy, start, entityWords, valueWords, valueOf, part, partWords, columnRefusal, column, refusesRoll, writes, rolledBy, roll}
+use Rattle.model.specs.Sound.{Limits, Sound}
+use Rattle.model.proofs.Walk.{or-false}
+use Rattle.model.proofs.Families.{or-false-right}
+use Rattle.model.proofs.KindLists.{not-false}
+use Rattle.model.proofs.Operations.{empty-sound}
+use Rattle.model.proofs.Lines.{none-to, first-exact}
+
+-- ---- start
+
+started-refused : (r : Option ℕ) (s : Store) (n : ℕ) → startedBy r s ≡ refusesStart n → r ≡ some n
+started-refused (some m) s n e = let p : m ≡ n = cc in ap {B = Option ℕ} some p
+started-refused none s n e = let z : _≡_ {A = ℕ} 0 1 = cc in absurd (omega arith)
+
+started-made : (r : Option ℕ) (s t : Store) → startedBy r s ≡ makes t → (r ≡ none) × (s ≡ t)
+started-made (some m) s t e = let z : _≡_ {A = ℕ} 0 1 = cc in absurd (omega arith)
+started-made none s t e = (refl, cc)
+
+-- start is refused by a number exactly where the table gives it
+pub start-exact : (n k words m : ℕ) → (start n k words ≡ refusesStart m) ↔ First startLines (record { capacity = n; kindCapacity = k; words = words }) m
+unfolding start
+start-exact n k words m = (
+  (λ e. first-exact startLines (record { capacity = n; kindCapacity = k; words = words }) m .0 (started-refused (firstLine startLines (record { capacity = n; kindCapacity = k; words = words })) (empty n k) m e)),
+  (λ f. ap (λ (r : Option ℕ). startedBy r (empty n k)) (first-exact startLines (record { capacity = n; kindCapacity = k; words = words }) m .1 f)),
+)
+
+within-limits : (n k : ℕ) → ((eqb n 0 || ltb 4096 n) || (eqb k 0 || ltb 128 k)) ≡ false → Limits n k
+within-limits n k h =
+    let a = or-false (eqb n 0 || ltb 4096 n) (eqb k 0 || ltb 128 k) h in
+    let b = or-false-right (eqb n 0 || ltb 4096 n) (eqb k 0 || ltb 128 k) h in
+    let n0 : n ≡ 0 → ⊥ = eqb-false n 0 (or-false (eqb n 0) (ltb 4096 n) a) in
+    let k0 : k ≡ 0 → ⊥ = eqb-false k 0 (or-false (eqb k 0) (ltb 128 k) b) in
+    record {
+      some = positive n n0;
+      most = ltb-false 4096 n (or-false-right (eqb n 0) (ltb 4096 n) a);
+      someKinds = positive k k0;
+      mostKinds = ltb-false 128 k (or-false-right (eqb k 0) (ltb 128 k) b);
+    }
+  where
+    positive : (n : ℕ) → (n ≡ 0 → ⊥) → 1 ≤ n
+    positive zero f = absurd (f refl)
+    positive (suc n) f = omega arith
+
+-- what an accepted start makes: the empty store, which is sound and for which the words are enough
+pub record Makes (n k words : ℕ) (s : Store) : Type 0 where
+  pub store : s ≡ empty n k
+  pub limits : Limits n k
+  pub words-enough : wordsNeeded n k ≤ words
+  pub sound : Sound s
+
+pub start-makes : (n k words : ℕ) (s : Store) → start n k words ≡ makes s → Makes n k words s
+unfolding start
+start-makes n k words s e =
+    let p = started-made (firstLine startLines (record { capacity = n; kindCapacity = k; words = words })) (empty n k) s e in
+    let h : NoneHolds startLines (record { capacity = n; kindCapacity = k; words = words }) = none-to startLines (record { capacity = n; kindCapacity = k; words = words }) (p .0) in
+    let l : Limits n k = within-limits n k (h .0) in
+    let S : Sound (empty n k) = empty-sound n k l in
+    record { store = sym (p .1); limits = l; words-enough = ltb-false words (wordsNeeded n k) (h .1 .0); sound = rw (← (p .1)) S }
+
+-- ---- column
+
+-- column is refused by a number exactly where the table gives it
+pub column-exact : (k a e : ℕ) (s : Store) (n : ℕ) → (columnRefusal k a e s ≡ some n) ↔ First columnLines (record { kind = k; start = a; end = e; store = s }) n
+unfolding columnRefusal
+column-exact k a e s n = first-exact columnLines (record { kind = k; start = a; end = e; store = s }) n
+
+-- a refused one is empty
+pub column-refused : (which : Bool) (k a e : ℕ) (s : Store) (n : ℕ) → columnRefusal k a e s ≡ some n → column which k a e s ≡ []
+unfolding column
+column-refused which k a e s n p = rw p
+
+entity-words : (l : List Entity) → length (entityWords l) ≡ 2 * length l
+entity-words [] = refl
+entity-words (e ∷ l) = omega (arith, entity-words l)
+
+value-words : (l : List ℕ) → length (valueWords l) ≡ 2 * length l
+value-words [] = refl
+value-words (v ∷ l) = omega (arith, value-words l)
+
+part-length : {A : Type 0} (a e : ℕ) (l : List A) → e ≤ length l → length (part a e l) ≡ e - a
+part-length a e l h = length-drop a (take e l) ∙ ap (λ (n : ℕ). n - a) (length-take-le e l h)
+
+-- an accepted one is the rows from start to end, two words each
+pub record Columned (which : Bool) (k a e : ℕ) (s : Store) : Type 0 where
+  pub known : isKind k s ≡ true
+  pub small : k ≤ 127
+  pub order : a ≤ e
+  pub inside : e ≤ length (setOf (s .storage .sets) k)
+  pub words : column which k a e s ≡ partWords which a e (setOf (s .storage .sets) k)
+  pub size : length (column which k a e s) ≡ 2 * (e - a)
+
+pub column-accepted : (which : Bool) (k a e : ℕ) (s : Store) → columnRefusal k a e s ≡ none → Columned which k a e s
+unfolding columnRefusal column
+column-accepted which k a e s p =
+    let h : NoneHolds columnLines (record { kind = k; start = a; end = e; store = s }) = none-to columnLines (record { kind = k; start = a; end = e; store = s }) p in
+    let inside : e ≤ length (setOf (s .storage .sets) k) = ltb-false (length (setOf (s .storage .sets) k)) e (or-false-right (ltb e a) (ltb (length (setOf (s .storage .sets) k)) e) (h .1 .0)) in
+    let w : column which k a e s ≡ partWords which a e (setOf (s .storage .sets) k) = rw p in
+    record {
+      known = not-false (isKind k s) (or-false-right (ltb 127 k) (not (isKind k s)) (h .0));
+      small = ltb-false 127 k (or-false (ltb 127 k) (not (isKind k s)) (h .0));
+      order = ltb-false e a (or-false (ltb e a) (ltb (length (setOf (s .storage .sets) k)) e) (h .1 .0));
+      inside = inside;
+      words = w;
+      size = ap (λ (l : List ℕ). length l) w ∙ size which (setOf (s .storage .sets) k) inside;
+    }
+  where
+    size : (which : Bool) (rows : SparseSet) → e ≤ length rows → length (partWords which a e rows) ≡ 2 * (e - a)
+    size false rows q = entity-words (part a e (keys rows)) ∙ ap (λ (n : ℕ). 2 * n) (part-length a e (keys rows) (omega (arith, length-map rows entityOf)))
+    size true rows q = value-words (part a e (map valueOf rows)) ∙ ap (λ (n : ℕ). 2 * n) (part-length a e (map valueOf rows) (omega (arith, length-map rows valueOf)))
+
+-- ---- roll
+
+rolled-refused : (r : Option ℕ) (b : List ℕ) (n : ℕ) → rolledBy r b ≡ refusesRoll n → r ≡ some n
+rolled-refused (some m) b n e = let p : m ≡ n = cc in ap {B = Option ℕ} some p
+rolled-refused none b n e = let z : _≡_ {A = ℕ} 0 1 = cc in absurd (omega arith)
+
+rolled-written : (r : Option ℕ) (b c : List ℕ) → rolledBy r b ≡ writes c → (r ≡ none) × (c ≡ b)
+rolled-written (some m) b c e = let z : _≡_ {A = ℕ} 0 1 = cc in absurd (omega arith)
+rolled-written none b c e = (refl, cc)
+
+-- roll is refused by a number exactly where the table gives it
+pub roll-exact : (room : ℕ) (s : Store) (n : ℕ) → (roll room s ≡ refusesRoll n) ↔ First rollLines (record { room = room; store = s }) n
+unfolding roll
+roll-exact room s n = (
+  (λ e. first-exact rollLines (record { room = room; store = s }) n .0 (rolled-refused (firstLine rollLines (record { room = room; store = s })) (snapshot s) n e)),
+  (λ f. ap (λ (r : Option ℕ). rolledBy r (snapshot s)) (first-exact rollLines (record { room = room; store = s }) n .1 f)),
+)
+
+-- an accepted one is the snapshot, for which there is room
+pub roll-writes : (room : ℕ) (s : Store) (b : List ℕ) → roll room s ≡ writes b → (b ≡ snapshot s) × (length b ≤ room)
+unfolding roll
+roll-writes room s b e =
+    let p = rolled-written (firstLine rollLines (record { room = room; store = s })) (snapshot s) b e in
+    let h : NoneHolds rollLines (record { room = room; store = s }) = none-to rollLines (record { room = room; store = s }) (p .0) in
+    (p .1, rw (p .1) (ltb-false room (length (snapshot s)) (h .0)))

@@ -1,0 +1,156 @@
+-- What each command does, as laws to rewrite by: one for each line of its table, and one where no line holds. Assumes nothing.
+use mathlib.Core.Path.{_≡_, refl}
+use mathlib.Core.Bool.{true, false, _&&_}
+use mathlib.Core.List.{[], _∷_, _++_}
+use Prim.Native.Nat.{ℕ}
+use native.Mathlib.Omega.{arith}
+use borrow.Author.Tests.{ltb-true, lt-leb}
+use lib.Dec.{eqb, leb, ltb}
+use lib.ListN.{length}
+use Rattle.model.specs.Model.{Entity, Added, nothing, added, refused, mem, isLive, present, touched, groupsOf, addGroup, joins, destroy, insert, remove}
+use Rattle.model.specs.Store.{Store, le, stagedKinds, isKind, withControl, withStorage, withAll, withKinds, withStaged, withExcluded, withDraft, emptyStaged, emptyBoth}
+use Rattle.model.specs.Commands.{REG, HOLD, NEW, PUT, TAKE, DROP, KILL, WIPE, GROUP, APPLY, BAR, RANGE, EMPTY, TALLY, heldBytes, accepted}
+use Rattle.model.specs.Refusals.{linesOf, unknownKind}
+use Rattle.model.specs.Run.{Outcome, refuses, accepts, does}
+use Rattle.model.proofs.Walk.{bool-cases}
+
+module _ (s : Store) where
+  -- ---- REG
+
+  pub reg-above : (k : ℕ) → ltb 127 k ≡ true → does (REG k) s ≡ refuses 7
+  unfolding does linesOf
+  reg-above k h = rw h
+
+  pub reg-full : (k : ℕ) → ltb 127 k ≡ false → isKind k s ≡ false → leb (s .kindCapacity) (length (s .kinds)) ≡ true → does (REG k) s ≡ refuses 8
+  unfolding does linesOf
+  reg-full k h i j = rw (h, i, j)
+
+  pub reg-known : (k : ℕ) → ltb 127 k ≡ false → isKind k s ≡ true → does (REG k) s ≡ accepts s (0 ∷ [])
+  unfolding does linesOf accepted
+  reg-known k h i = rw (h, i)
+
+  pub reg-new : (k : ℕ) → ltb 127 k ≡ false → isKind k s ≡ false → leb (s .kindCapacity) (length (s .kinds)) ≡ false → does (REG k) s ≡ accepts (withKinds s (s .kinds ++ (k ∷ []))) (1 ∷ [])
+  unfolding does linesOf accepted
+  reg-new k h i j = rw (h, i, j)
+
+  -- ---- HOLD
+
+  pub hold-unknown : (k v : ℕ) → unknownKind k s ≡ true → does (HOLD k v) s ≡ refuses 7
+  unfolding does linesOf
+  hold-unknown k v h = rw h
+
+  pub hold-again : (k v : ℕ) → unknownKind k s ≡ false → mem k (stagedKinds s) ≡ true → does (HOLD k v) s ≡ refuses 9
+  unfolding does linesOf
+  hold-again k v h i = rw (h, i)
+
+  pub hold-full : (k v : ℕ) → unknownKind k s ≡ false → mem k (stagedKinds s) ≡ false → leb 16 (length (s .control .staged)) ≡ true → does (HOLD k v) s ≡ refuses 10
+  unfolding does linesOf
+  hold-full k v h i j = rw (h, i, j)
+
+  pub hold-staged : (k v : ℕ) → unknownKind k s ≡ false → mem k (stagedKinds s) ≡ false → leb 16 (length (s .control .staged)) ≡ false → does (HOLD k v) s ≡ accepts (withControl s (withStaged (s .control) (s .control .staged ++ (record { kind = k; value = v } ∷ [])))) []
+  unfolding does linesOf accepted
+  hold-staged k v h i j = rw (h, i, j)
+
+  -- ---- BAR
+
+  pub bar-unknown : (k : ℕ) → unknownKind k s ≡ true → does (BAR k) s ≡ refuses 7
+  unfolding does linesOf
+  bar-unknown k h = rw h
+
+  pub bar-again : (k : ℕ) → unknownKind k s ≡ false → mem k (s .control .excluded) ≡ true → does (BAR k) s ≡ refuses 9
+  unfolding does linesOf
+  bar-again k h i = rw (h, i)
+
+  pub bar-full : (k : ℕ) → unknownKind k s ≡ false → mem k (s .control .excluded) ≡ false → leb 16 (length (s .control .excluded)) ≡ true → does (BAR k) s ≡ refuses 10
+  unfolding does linesOf
+  bar-full k h i j = rw (h, i, j)
+
+  pub bar-excluded : (k : ℕ) → unknownKind k s ≡ false → mem k (s .control .excluded) ≡ false → leb 16 (length (s .control .excluded)) ≡ false → does (BAR k) s ≡ accepts (withControl s (withExcluded (s .control) (s .control .excluded ++ (k ∷ [])))) []
+  unfolding does linesOf accepted
+  bar-excluded k h i j = rw (h, i, j)
+
+  -- ---- NEW
+
+  pub new-full : (eqb (length (s .entities .recycled)) 0 && leb (s .capacity) (s .entities .issued)) ≡ true → does NEW s ≡ refuses 12
+  unfolding does linesOf
+  new-full h = rw h
+
+  pub new-created : (eqb (length (s .entities .recycled)) 0 && leb (s .capacity) (s .entities .issued)) ≡ false → does NEW s ≡ accepts ((accepted NEW s) .store) ((accepted NEW s) .answer)
+  unfolding does linesOf
+  new-created h = rw h
+
+  -- ---- PUT, TAKE, DROP, KILL
+
+  pub put-dead : (e : Entity) → isLive e (s .entities) ≡ false → does (PUT e) s ≡ refuses 11
+  unfolding does linesOf
+  put-dead e h = rw h
+
+  pub put-live : (e : Entity) → isLive e (s .entities) ≡ true → does (PUT e) s ≡ accepts (withStorage s (insert e (s .control .staged) (s .storage)) (emptyStaged (s .control))) []
+  unfolding does linesOf accepted
+  put-live e h = rw h
+
+  pub take-dead : (e : Entity) → isLive e (s .entities) ≡ false → does (TAKE e) s ≡ refuses 11
+  unfolding does linesOf
+  take-dead e h = rw h
+
+  pub take-live : (e : Entity) → isLive e (s .entities) ≡ true → does (TAKE e) s ≡ accepts (withStorage s (remove e (stagedKinds s) (s .storage)) (emptyStaged (s .control))) (heldBytes e (stagedKinds s) (s .storage))
+  unfolding does linesOf accepted
+  take-live e h = rw h
+
+  pub drop-dead : (e : Entity) → isLive e (s .entities) ≡ false → does (DROP e) s ≡ refuses 11
+  unfolding does linesOf
+  drop-dead e h = rw h
+
+  pub drop-live : (e : Entity) → isLive e (s .entities) ≡ true → does (DROP e) s ≡ accepts (withStorage s (remove e (stagedKinds s) (s .storage)) (emptyStaged (s .control))) []
+  unfolding does linesOf accepted
+  drop-live e h = rw h
+
+  pub kill-dead : (e : Entity) → isLive e (s .entities) ≡ false → does (KILL e) s ≡ refuses 11
+  unfolding does linesOf
+  kill-dead e h = rw h
+
+  pub kill-live : (e : Entity) → isLive e (s .entities) ≡ true → does (KILL e) s ≡ accepts (withAll s (destroy e (s .entities)) (remove e (s .kinds) (s .storage)) (s .control)) []
+  unfolding does linesOf accepted
+  kill-live e h = rw h
+
+  -- ---- commands that are never refused
+
+  pub wipe-does : does WIPE s ≡ accepts ((accepted WIPE s) .store) []
+  unfolding does linesOf accepted
+  wipe-does = refl
+
+  pub apply-does : does APPLY s ≡ accepts ((accepted APPLY s) .store) []
+  unfolding does linesOf accepted
+  apply-does = refl
+
+  pub range-does : does RANGE s ≡ accepts ((accepted RANGE s) .store) ((accepted RANGE s) .answer)
+  unfolding does linesOf
+  range-does = refl
+
+  pub empty-does : does EMPTY s ≡ accepts (withControl s (emptyBoth (s .control))) []
+  unfolding does linesOf accepted
+  empty-does = refl
+
+  pub tally-does : does TALLY s ≡ accepts s (le 4 (s .control .refusals))
+  unfolding does linesOf accepted
+  tally-does = refl
+
+-- ---- GROUP, by the layout's own addGroup
+
+-- the hand's kinds added to the draft, nothing added, or a refusal
+abbrev pub grouped : Store → Added → Outcome
+grouped s nothing = accepts (withControl s (emptyStaged (s .control))) (0 ∷ [])
+grouped s (added fs) = accepts (withControl s (withDraft (emptyStaged (s .control)) fs)) (1 ∷ [])
+grouped s (refused n) = refuses n
+
+pub group-does : (s : Store) → does GROUP s ≡ grouped s (addGroup (stagedKinds s) (s .control .draft))
+unfolding does linesOf accepted addGroup
+group-does s =
+    bool-cases (ltb (length (stagedKinds s)) 2)
+    (λ a. let n : leb 16 (length (stagedKinds s)) ≡ false = lt-leb 16 (length (stagedKinds s)) (omega (arith, ltb-true (length (stagedKinds s)) 2 a)) in rw (a, n))
+    (λ a. bool-cases (leb 16 (length (stagedKinds s))) (λ b. rw (a, b))
+    (λ b. bool-cases (present (stagedKinds s) (s .control .draft)) (λ c. rw (a, b, c))
+    (λ c. bool-cases (joins (stagedKinds s) (s .control .draft))
+    (λ d. bool-cases (leb 63 (groupsOf (s .control .draft))) (λ e. rw (a, b, c, d, e))
+    (λ e. bool-cases (eqb (touched (stagedKinds s) (s .control .draft)) 0) (λ f. rw (a, b, c, d, e, f)) (λ f. rw (a, b, c, d, e, f))))
+    (λ d. rw (a, b, c, d)))))

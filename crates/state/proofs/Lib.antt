@@ -1,0 +1,4 @@
+pub mod EntityPart
+pub mod Control
+pub mod KindWords
+pub mod DraftWords

@@ -1,0 +1,27 @@
+-- What the functions on entities answer, in the model's terms. Assumes nothing.
+use mathlib.Core.Path.{_≡_}
+use mathlib.Core.List.{List}
+use Prim.Native.Nat.{ℕ, _+_, _*_, _≤_, _<_}
+use lib.ListN.{length}
+use Rattle.model.specs.Model.{create}
+use Rattle.entity.specs.declared.Entity.{Entity}
+use Rattle.entity.specs.Answers.{entityOf}
+use Rattle.memory.specs.Header.{capacityOf}
+use Rattle.memory.specs.Meaning.{meaning}
+use Rattle.memory.specs.Change.{withEntities}
+use Rattle.memory.specs.Arranged.{Becomes}
+
+-- 01: "capacity N (cards)"; the words have the part of N entities
+pub record Capacity (w : List ℕ) (n : ℕ) : Type 0 where
+  pub is : n ≡ meaning w .capacity
+  pub some : 1 ≤ n
+  pub most : n ≤ 4096
+  pub word : n ≡ capacityOf w
+  pub fits : 1024 + 16 * n ≤ length w
+
+-- 01: "A new card takes the longest waiting number, else the next index at version 1, and joins the live list at its end"
+pub record Creates (w w′ : List ℕ) (r : Entity) : Type 0 where
+  pub becomes : Becomes w w′ (withEntities (meaning w) (create (meaning w .entities) .entities))
+  pub entity : entityOf r ≡ create (meaning w .entities) .entity
+  pub below : r .index < meaning w .capacity
+  pub positive : 1 ≤ r .version

@@ -1,0 +1,4 @@
+pub mod Entities
+pub mod Lists
+pub mod Refusals
+pub mod Draft

@@ -1,0 +1,40 @@
+// The draft layout: 01's draft, by value and in its block of words.
+use layout::group_layout::Layout;
+use words::DRAFT;
+use words::DRAFT_FAMILIES;
+use words::DRAFT_GROUPS;
+use words::LAYOUT;
+ghost use mathlib.Core.List.{[]};
+ghost use Rattle.model.specs.Store.{withControl, withDraft};
+ghost use Rattle.layout.specs.Layout.{Formed};
+ghost use Rattle.memory.specs.Meaning.{meaning};
+ghost use Rattle.memory.specs.Arranged.{Arranged, Becomes};
+ghost use Rattle.state.specs.Draft.{IsDraft, drafting};
+
+pub fn draft(words: &[u32]) -> Layout
+    requires { ⌜ Arranged (now words) ⌝ }
+    ensures { λ r. ⌜ IsDraft (now (words .entry)) r ⌝ }
+{
+    let families = memory::word(words, DRAFT_FAMILIES);
+    let groups = memory::word(words, DRAFT_GROUPS);
+    blocks::read_layout(&words[DRAFT..LAYOUT], families, groups)
+}
+
+pub fn set_draft(words: &mut [u32], l: Layout)
+    requires { ⌜ Arranged (now words) ⌝ }
+    requires { ⌜ Formed l ⌝ }
+    ensures { λ _. ⌜ Becomes (now (words .entry)) (now (words .exit)) (drafting l (meaning (now (words .entry)))) ⌝ }
+{
+    words[DRAFT_FAMILIES] = l.families as u32;
+    words[DRAFT_GROUPS] = l.groups as u32;
+    blocks::write_layout(&mut words[DRAFT..LAYOUT], l);
+}
+
+// No group is drafted.
+pub fn clear_draft(words: &mut [u32])
+    requires { ⌜ Arranged (now words) ⌝ }
+    ensures { λ _. ⌜ Becomes (now (words .entry)) (now (words .exit)) (withControl (meaning (now (words .entry))) (withDraft (meaning (now (words .entry)) .control) [])) ⌝ }
+{
+    words[DRAFT_FAMILIES] = 0;
+    words[DRAFT_GROUPS] = 0;
+}

@@ -1,0 +1,101 @@
+// The entities of a store.
+use entity::Entity;
+use entity::in_words;
+use words::CAPACITY;
+ghost use mathlib.Core.Path.{_≡_};
+ghost use mathlib.Core.Bool.{true, false};
+ghost use Prim.Native.Nat.{_<_};
+ghost use lib.ListN.{length, getD};
+ghost use Rattle.model.specs.Model.{noEntity, isLive, destroy};
+ghost use Rattle.model.specs.Snapshot.{versionAt};
+ghost use Rattle.entity.specs.Meaning.{entity};
+ghost use Rattle.entity.specs.Change.{isFull};
+ghost use Rattle.entity.specs.Answers.{entityOf};
+ghost use Rattle.memory.specs.Meaning.{meaning};
+ghost use Rattle.memory.specs.Change.{withEntities};
+ghost use Rattle.memory.specs.Arranged.{Arranged, Becomes};
+ghost use Rattle.state.specs.Entities.{Capacity, Creates};
+
+// How many entities there is room for.
+pub fn capacity(words: &[u32]) -> usize
+    requires { ⌜ Arranged (now words) ⌝ }
+    ensures { λ r. ⌜ Capacity (now (words .entry)) r ⌝ }
+{
+    memory::word(words, CAPACITY)
+}
+
+// Whether the entity is live.
+pub fn contains(words: &[u32], index: u32, version: u32) -> bool
+    requires { ⌜ Arranged (now words) ⌝ }
+    ensures { λ r. ⌜ r ≡ isLive (entity index version) (meaning (now (words .entry)) .entities) ⌝ }
+{
+    let n = capacity(words);
+    in_words::contains_in(words, n, index, version)
+}
+
+// Whether no number is left: 01's FULL.
+pub fn is_full(words: &[u32]) -> bool
+    requires { ⌜ Arranged (now words) ⌝ }
+    ensures { λ r. ⌜ r ≡ isFull (meaning (now (words .entry)) .capacity) (meaning (now (words .entry)) .entities) ⌝ }
+{
+    let n = capacity(words);
+    in_words::is_full_in(words, n)
+}
+
+// A new entity. The caller has seen that there is a number left.
+pub fn create(words: &mut [u32]) -> Entity
+    requires { ⌜ Arranged (now words) ⌝ }
+    requires { ⌜ isFull (meaning (now words) .capacity) (meaning (now words) .entities) ≡ false ⌝ }
+    ensures { λ r. ⌜ Creates (now (words .entry)) (now (words .exit)) r ⌝ }
+{
+    let n = capacity(words);
+    in_words::create_in(words, n)
+}
+
+// Destroys a live entity. That it holds no component any more is the caller's.
+pub fn destroy(words: &mut [u32], index: u32, version: u32)
+    requires { ⌜ Arranged (now words) ⌝ }
+    requires { ⌜ isLive (entity index version) (meaning (now words) .entities) ≡ true ⌝ }
+    ensures { λ _. ⌜ Becomes (now (words .entry)) (now (words .exit)) (withEntities (meaning (now (words .entry))) (destroy (entity index version) (meaning (now (words .entry)) .entities))) ⌝ }
+{
+    let n = capacity(words);
+    in_words::destroy_in(words, n, index, version);
+}
+
+// How many entities are live.
+pub fn live_len(words: &[u32]) -> usize
+    requires { ⌜ Arranged (now words) ⌝ }
+    ensures { λ r. ⌜ r ≡ length (meaning (now (words .entry)) .entities .live) ⌝ }
+{
+    let n = capacity(words);
+    in_words::len_in(words, n)
+}
+
+// The live list's entity at place.
+pub fn live_at(words: &[u32], place: usize) -> Entity
+    requires { ⌜ Arranged (now words) ⌝ }
+    requires { ⌜ place < length (meaning (now words) .entities .live) ⌝ }
+    ensures { λ r. ⌜ entityOf r ≡ getD (meaning (now (words .entry)) .entities .live) place noEntity ⌝ }
+{
+    let n = capacity(words);
+    in_words::live_at_in(words, n, place)
+}
+
+// How many numbers are issued.
+pub fn issued(words: &[u32]) -> usize
+    requires { ⌜ Arranged (now words) ⌝ }
+    ensures { λ r. ⌜ r ≡ meaning (now (words .entry)) .entities .issued ⌝ }
+{
+    let n = capacity(words);
+    in_words::issued_in(words, n)
+}
+
+// The version of the live entity with this index, 0 where there is none.
+pub fn version_at(words: &[u32], index: usize) -> u32
+    requires { ⌜ Arranged (now words) ⌝ }
+    requires { ⌜ index < meaning (now words) .capacity ⌝ }
+    ensures { λ r. ⌜ r ≡ versionAt index (meaning (now (words .entry)) .entities .live) ⌝ }
+{
+    let n = capacity(words);
+    in_words::version_at_in(words, n, index)
+}

@@ -1,0 +1,7 @@
+// What a store keeps besides its sparse sets: entities, staged components, excluded kinds, the refusal count and the draft layout.
+pub mod draft;
+pub mod entities;
+pub mod excluded;
+mod lists;
+pub mod refusals;
+pub mod staged;

@@ -1,0 +1,34 @@
+-- The loops that join the masks of the staged kinds. Assumes nothing.
+use mathlib.Core.Path.{_≡_, refl, ap, ap₂, sym, _∙_, subst}
+use mathlib.Core.List.{List, [], _∷_, _++_}
+use Prim.Native.Nat.{ℕ, _+_, _≤_, _<_}
+use native.Mathlib.Omega.{arith}
+use native.Mathlib.Numerals.{add-one}
+use lib.ListN.{length, getD, take}
+use lib.Seq.{take-all, take-suc}
+use Rattle.model.specs.Model.{Family, groupsOf}
+use Rattle.masks.specs.Masks.{bitsOf, unionOf}
+use Rattle.group.specs.Flat.{insertPositions, deletePositions}
+use Rattle.group.proofs.KindPositions.{insert-union, delete-union, insert-no-kinds, delete-no-kinds}
+
+-- positions P of the first i of the kinds ks, where those of more kinds are the union of the kinds'
+module _ (P : List ℕ → List ℕ) (none : P [] ≡ []) (union : (ks js : List ℕ) → P (ks ++ js) ≡ unionOf 64 (P ks) (P js)) (ks : List ℕ) where
+  pub mask-none : (m : ℕ) → bitsOf 64 m ≡ [] → bitsOf 64 m ≡ P (take 0 ks)
+  mask-none m b = b ∙ sym none
+
+  pub mask-turn : (m more m′ i : ℕ) → i < length ks → bitsOf 64 m ≡ P (take i ks) → bitsOf 64 more ≡ P (getD ks i 0 ∷ []) → bitsOf 64 m′ ≡ unionOf 64 (bitsOf 64 m) (bitsOf 64 more)
+      → bitsOf 64 m′ ≡ P (take (i + 1) ks)
+  mask-turn m more m′ i h b c u =
+      let s : take (i + 1) ks ≡ take i ks ++ (getD ks i 0 ∷ []) = ap (λ (n : ℕ). take n ks) (add-one i) ∙ take-suc ks i 0 h in
+      u ∙ ap₂ (unionOf 64) b c ∙ sym (ap P s ∙ union (take i ks) (getD ks i 0 ∷ []))
+
+  pub mask-all : (m i : ℕ) → length ks ≤ i → bitsOf 64 m ≡ P (take i ks) → bitsOf 64 m ≡ P ks
+  mask-all m i h b = b ∙ ap P (take-all i ks h)
+
+-- the two unions of a layout of at most 64 groups
+module _ (fs : List Family) (few : groupsOf fs ≤ 63) where
+  pub inserts : (ks js : List ℕ) → insertPositions (ks ++ js) fs ≡ unionOf 64 (insertPositions ks fs) (insertPositions js fs)
+  inserts ks js = insert-union 64 ks js fs (omega arith)
+
+  pub deletes : (ks js : List ℕ) → deletePositions (ks ++ js) fs ≡ unionOf 64 (deletePositions ks fs) (deletePositions js fs)
+  deletes ks js = delete-union 64 ks js fs (omega arith)

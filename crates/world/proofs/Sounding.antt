@@ -1,0 +1,77 @@
+-- Sound words stay sound: the model's theorems, of the words that mean its stores. Assumes nothing.
+use mathlib.Core.Path.{_≡_, refl, ap, ap₂, sym, _∙_, subst}
+use mathlib.Core.Bool.{true, false}
+use mathlib.Core.List.{List}
+use Prim.Native.Nat.{ℕ}
+use lib.ListN.{drop}
+use Rattle.model.specs.Model.{Entity, insert, remove, clearAll, create, destroy, isLive}
+use Rattle.model.specs.Store.{Store, stagedKinds}
+use Rattle.model.specs.Sound as model
+use Rattle.model.proofs.Operations.{create-sound, create-is-live, insert-sound, remove-sound, clearAll-sound, kill-sound}
+use Rattle.words.specs.Offsets.{columnStart}
+use Rattle.entity.specs.Change.{isFull}
+use Rattle.memory.specs.Header.{capacityOf, kindCapacityOf}
+use Rattle.memory.specs.Meaning.{meaning}
+use Rattle.memory.specs.Change.{onStorage, withEntities}
+use Rattle.memory.specs.Arranged.{Sound, Becomes}
+use Rattle.storage.proofs.Storing.{becomes-then, capacity-means}
+use Rattle.world.specs.World.{Leaves, created, killed}
+
+-- words that mean a sound store
+pub leaves : (w w′ : List ℕ) (s : Store) → model.Sound s → Becomes w w′ s → Leaves w w′ s
+leaves w w′ s M B = record { becomes = B; sound = record { arranged = B .arranged; means = subst model.Sound (sym (B .means)) M } }
+
+kinds-mean : (w : List ℕ) → meaning w .kindCapacity ≡ kindCapacityOf w
+unfolding meaning
+kinds-mean w = refl
+
+-- one change after another that keeps the capacities
+then : (w₀ w w′ : List ℕ) (s : Store) (h : Store → Store) → s .capacity ≡ meaning w₀ .capacity → s .kindCapacity ≡ meaning w₀ .kindCapacity → Becomes w₀ w s → Becomes w w′ (h (meaning w)) → Becomes w₀ w′ (h s)
+then w₀ w w′ s h p q B C =
+    let c : capacityOf w ≡ capacityOf w₀ = sym (capacity-means w) ∙ ap (λ (m : Store). m .capacity) (B .means) ∙ p ∙ capacity-means w₀ in
+    let k : kindCapacityOf w ≡ kindCapacityOf w₀ = sym (kinds-mean w) ∙ ap (λ (m : Store). m .kindCapacity) (B .means) ∙ q ∙ kinds-mean w₀ in
+    record {
+      arranged = C .arranged;
+      means = C .means ∙ ap h (B .means);
+      size = C .size ∙ B .size;
+      past = subst (λ (n : ℕ). drop n w′ ≡ drop n w) (ap₂ columnStart c k) (C .past) ∙ B .past;
+    }
+
+module _ (w : List ℕ) (S : Sound w) where
+  module _ (e : Entity) where
+    pub insert-leaves : (w′ : List ℕ) → isLive e (meaning w .entities) ≡ true → Becomes w w′ (onStorage (insert e (meaning w .control .staged)) (meaning w)) → Leaves w w′ (onStorage (insert e (meaning w .control .staged)) (meaning w))
+    insert-leaves w′ live B = leaves w w′ (onStorage (insert e (meaning w .control .staged)) (meaning w)) (insert-sound (meaning w) (S .means) e (meaning w .control .staged) live (S .means .staged)) B
+
+    pub remove-leaves : (w′ : List ℕ) → Becomes w w′ (onStorage (remove e (stagedKinds (meaning w))) (meaning w)) → Leaves w w′ (onStorage (remove e (stagedKinds (meaning w))) (meaning w))
+    remove-leaves w′ B = leaves w w′ (onStorage (remove e (stagedKinds (meaning w))) (meaning w)) (remove-sound (meaning w) (S .means) e (stagedKinds (meaning w))) B
+
+    module _ (live : isLive e (meaning w .entities) ≡ true) (w₁ : List ℕ) (B : Becomes w w₁ (onStorage (remove e (meaning w .kinds)) (meaning w))) where
+      pub still-live : isLive e (meaning w₁ .entities) ≡ true
+      still-live = subst (λ (s : Store). isLive e (s .entities) ≡ true) (sym (B .means)) live
+
+      pub destroy-leaves : (w₂ : List ℕ) → Becomes w₁ w₂ (withEntities (meaning w₁) (destroy e (meaning w₁ .entities))) → Leaves w w₂ (killed e (meaning w))
+      destroy-leaves w₂ C =
+          leaves w w₂ (killed e (meaning w)) (kill-sound (meaning w) (S .means) e live)
+          (becomes-then w w₁ w₂ (remove e (meaning w .kinds)) (λ (s : Store). withEntities s (destroy e (s .entities))) B C)
+
+  pub clear-leaves : (w′ : List ℕ) → Becomes w w′ (onStorage clearAll (meaning w)) → Leaves w w′ (onStorage clearAll (meaning w))
+  clear-leaves w′ B = leaves w w′ (onStorage clearAll (meaning w)) (clearAll-sound (meaning w) (S .means)) B
+
+  module _ (room : isFull (meaning w .capacity) (meaning w .entities) ≡ false) (w₁ : List ℕ) (e : Entity) (q : e ≡ create (meaning w .entities) .entity)
+      (B : Becomes w w₁ (withEntities (meaning w) (create (meaning w .entities) .entities))) where
+    pub create-leaves : Sound w₁
+    create-leaves = record { arranged = B .arranged; means = subst model.Sound (sym (B .means)) (create-sound (meaning w) (S .means) room) }
+
+    pub new-live : isLive e (meaning w₁ .entities) ≡ true
+    new-live =
+        subst (λ (s : Store). isLive e (s .entities) ≡ true) (sym (B .means))
+        (subst (λ (x : Entity). isLive x (create (meaning w .entities) .entities) ≡ true) (sym q) (create-is-live (meaning w .entities)))
+
+    pub created-leaves : (w₂ : List ℕ) → Becomes w₁ w₂ (onStorage (insert e (meaning w₁ .control .staged)) (meaning w₁)) → Leaves w w₂ (created (meaning w))
+    created-leaves w₂ C =
+        let D : Becomes w w₂ (onStorage (insert e (meaning w .control .staged)) (withEntities (meaning w) (create (meaning w .entities) .entities))) =
+        then w w₁ w₂ (withEntities (meaning w) (create (meaning w .entities) .entities)) (λ (s : Store). onStorage (insert e (s .control .staged)) s) refl refl B C in
+        record {
+          becomes = subst (λ (x : Entity). Becomes w w₂ (onStorage (insert x (meaning w .control .staged)) (withEntities (meaning w) (create (meaning w .entities) .entities)))) q D;
+          sound = record { arranged = C .arranged; means = subst model.Sound (sym (C .means)) (insert-sound (meaning w₁) (create-leaves .means) e (meaning w₁ .control .staged) new-live (create-leaves .means .staged)) };
+        }

@@ -1,0 +1,710 @@
+//! Cases that no chance is left to: every limit, and all tapes of a few steps over small alphabets.
+
+use crate::compare::{compare, Difference, Figures, Look, Make, Pair};
+use crate::drafts;
+use crate::rng::Rng;
+use crate::tape::{self, Case, Chunk, Run};
+use sparsey::harness::{words_needed, Preset, Sets};
+
+/// A name and the cases under it.
+pub struct Part {
+    pub name: &'static str,
+    pub cases: Box<dyn Iterator<Item = Case>>,
+}
+
+fn part(name: &'static str, cases: impl Iterator<Item = Case> + 'static) -> Part {
+    Part {
+        name,
+        cases: Box::new(cases),
+    }
+}
+
+/// Compares the cases of a part.
+pub fn compare_all(cases: impl Iterator<Item = Case>, sets: Sets, make: Make) -> Result<Figures, Difference> {
+    let mut figures = Figures::default();
+    for case in cases {
+        let look = if case.n > 400 { Look::AtEnd } else { Look::EachRun };
+        match compare(&case, sets, make, look) {
+            Ok(more) => figures.add(&more),
+            Err(what) => return Err(Difference { case, what }),
+        }
+    }
+    Ok(figures)
+}
+
+/// *start* at every limit, and every entry on words that hold no store.
+pub fn starts(sets: Sets, make: Make) -> Result<Figures, String> {
+    let mut pair = Pair::new(sets, make);
+    let none = pair.run(&Run::new(vec![tape::tally()]))?;
+    assert_eq!(none.stop, 3);
+    let name = pair.other.name();
+    let (rust, other) = (pair.rust.roll(&mut [0; 64]), pair.other.roll(&mut [0; 64]));
+    if rust != other {
+        return Err(format!("roll of no store: Rust {rust:?}, {name} {other:?}"));
+    }
+    let (rust, other) = (
+        pair.rust.column_number(0, 0, 0),
+        pair.other.column_number(0, false, 0, 0),
+    );
+    if rust != other {
+        return Err(format!("column of no store: Rust {rust}, {name} {other}"));
+    }
+
+    for n in [0, 1, 2, 64, 4095, 4096, 4097, usize::MAX] {
+        for k in [0, 1, 2, 127, 128, 129, 256, usize::MAX] {
+            let fits = (1..=4096).contains(&n) && (1..=128).contains(&k);
+            let needed = if fits { words_needed(n, k) } else { 1024 };
+            for words in [0, 1, 1023, needed - 1, needed, needed + 5] {
+                let number = pair.start_number(words, n, k)?;
+                assert_eq!(
+                    number,
+                    if !fits {
+                        1
+                    } else if words < needed {
+                        2
+                    } else {
+                        0
+                    }
+                );
+            }
+        }
+    }
+    // A refused start leaves the store, an accepted one makes it empty again.
+    for round in 0..4 {
+        let small = words_needed(4, 3);
+        pair.start_number(small, 4, 3)?;
+        pair.run(&Run::new(vec![tape::tally()]))?;
+        pair.state()?;
+        let chunks = [
+            vec![tape::reg(2), tape::reg(7), tape::bar(2)],
+            tape::with(&[2, 7], tape::group()),
+        ]
+        .concat();
+        pair.run(&Run::new(
+            [chunks, tape::with(&[7], tape::new()), vec![tape::hold(9, 9)]].concat(),
+        ))?;
+        pair.state()?;
+        if round % 2 == 0 {
+            pair.start_number(small - 1, 4, 3)?;
+            pair.start_number(small, 4, 0)?;
+            pair.state()?;
+            pair.run(&Run::new(vec![tape::apply(), tape::tally()]))?;
+        }
+        pair.ranges()?;
+    }
+    Ok(pair.finish())
+}
+
+/// Every limit of document 01, with stores for up to `most` entities.
+pub fn limits(most: usize) -> Vec<Part> {
+    vec![
+        part(
+            "N full and churned",
+            full_and_churned().filter(move |case| case.n <= most),
+        ),
+        part("K full", kinds_full()),
+        part("16 staged", sixteen_staged()),
+        part("63 groups", many_groups()),
+        part(
+            "drafts of up to 2 groups over 5 kinds with every further group",
+            drafts::cases(5, 2),
+        ),
+        part(
+            "every list staged and excluded of 4 kinds, 6 layouts",
+            staged_and_excluded(),
+        ),
+        part("rooms", rooms()),
+        part("versions run out", versions_run_out()),
+    ]
+}
+
+fn run_of(chunks: Vec<Chunk>) -> Run {
+    Run::new(chunks)
+}
+
+fn full_and_churned() -> impl Iterator<Item = Case> {
+    [1, 2, 3, 5, 16, 64, 500, 4096].into_iter().flat_map(|n| {
+        (0..4).map(move |order| {
+            let rng = &mut Rng::new(n as u64 * 4 + order);
+            let all: Vec<u32> = (0..n as u32).collect();
+            let mut runs = vec![run_of((0..6).map(tape::reg).collect())];
+            runs.push(run_of(layout(&[&[0, 1], &[0, 1, 2], &[4, 5]])));
+            // Full, and two more.
+            let lists: [&[u8]; 6] = [&[0, 1], &[1], &[0, 1, 2, 3], &[], &[4, 5, 0], &[2, 1, 0, 4]];
+            runs.push(run_of(
+                (0..n + 2).flat_map(|i| tape::with(lists[i % 6], tape::new())).collect(),
+            ));
+            for round in 1..=3 {
+                let mut killed = all.clone();
+                match order {
+                    0 => {}
+                    1 => killed.reverse(),
+                    _ => rng.shuffle(&mut killed),
+                }
+                if order == 3 {
+                    killed.truncate(n.div_ceil(2));
+                }
+                // The version of an index is known only where all are killed each round.
+                let kills = killed.iter().flat_map(|&index| {
+                    let versions = if order == 3 { 1..=round } else { round..=round };
+                    versions.map(move |version| tape::kill((index, version)))
+                });
+                runs.push(run_of(kills.collect()));
+                runs.push(run_of(
+                    (0..n + 1)
+                        .flat_map(|i| tape::with(lists[(i + round as usize) % 6], tape::new()))
+                        .collect(),
+                ));
+            }
+            Case {
+                n,
+                k: 6,
+                preset: None,
+                runs,
+            }
+        })
+    })
+}
+
+/// HOLD and GROUP for each group, then APPLY.
+pub fn layout(groups: &[&[u8]]) -> Vec<Chunk> {
+    let mut chunks: Vec<Chunk> = groups
+        .iter()
+        .flat_map(|group| tape::with(group, tape::group()))
+        .collect();
+    chunks.push(tape::apply());
+    chunks
+}
+
+fn kinds_full() -> impl Iterator<Item = Case> {
+    [1usize, 2, 5, 16, 127, 128].into_iter().map(|k| {
+        let mut first: Vec<Chunk> = (0..128).rev().map(tape::reg).collect();
+        first.extend((0..=255).map(tape::reg));
+        first.push(tape::tally());
+        let kept: Vec<u8> = (0..128).rev().take(k).collect();
+        let mut runs = vec![run_of(first)];
+        runs.push(run_of(
+            (0..=255)
+                .flat_map(|kind| [tape::hold(kind, 1), tape::bar(kind), tape::empty()])
+                .collect(),
+        ));
+        for kinds in kept.chunks(16) {
+            runs.push(run_of(tape::with(kinds, tape::new())));
+            runs.push(run_of(tape::with(kinds, tape::put((0, 1)))));
+        }
+        runs.push(run_of(
+            kept.chunks(2)
+                .flat_map(|pair| tape::with(pair, tape::group()))
+                .chain([tape::apply()])
+                .collect(),
+        ));
+        runs.push(run_of(tape::with(&kept[..k.min(16)], tape::take((0, 1)))));
+        runs.push(run_of(vec![tape::kill((0, 1))]));
+        Case {
+            n: 9,
+            k,
+            preset: None,
+            runs,
+        }
+    })
+}
+
+fn sixteen_staged() -> impl Iterator<Item = Case> {
+    (14..=18usize).flat_map(|width| {
+        (0..7).map(move |which| {
+            let mut runs = vec![run_of((0..20).map(tape::reg).collect())];
+            runs.push(run_of(layout(&[
+                &[0, 1],
+                &[0, 1, 2, 3, 4, 5, 6],
+                &(0..15).collect::<Vec<u8>>(),
+                &[15, 16],
+            ])));
+            runs.push(run_of(
+                (0..3)
+                    .flat_map(|_| tape::with(&(0..16).collect::<Vec<u8>>(), tape::new()))
+                    .collect(),
+            ));
+            let kinds: Vec<u8> = (0..width as u8).collect();
+            let mut chunks = tape::hold_all(&kinds);
+            chunks.extend(kinds.iter().map(|&kind| tape::bar(kind)));
+            // Again at sixteen, and one unknown.
+            chunks.extend([tape::hold(0, 1), tape::hold(19, 1), tape::hold(77, 1)]);
+            chunks.extend([tape::bar(0), tape::bar(19), tape::bar(77)]);
+            chunks.push(match which {
+                0 => tape::new(),
+                1 => tape::put((1, 1)),
+                2 => tape::take((1, 1)),
+                3 => tape::drop((1, 1)),
+                4 => tape::group(),
+                5 => tape::range(),
+                _ => tape::take((1, 2)),
+            });
+            chunks.extend([tape::tally(), tape::hold(0, 3), tape::new()]);
+            runs.push(run_of(chunks));
+            runs.push(run_of(vec![tape::apply(), tape::kill((1, 1))]));
+            Case {
+                n: 6,
+                k: 20,
+                preset: None,
+                runs,
+            }
+        })
+    })
+}
+
+/// Drafts that reach 63 groups by pairs, by chains and by both, and what comes then.
+fn many_groups() -> impl Iterator<Item = Case> {
+    let pairs: Vec<Vec<u8>> = (0..64u8).map(|i| vec![2 * i, 2 * i + 1]).collect();
+    let chains: Vec<Vec<u8>> = (0..8u8)
+        .flat_map(|family| (2..=15u8).map(move |arity| (family * 16..family * 16 + arity).collect()))
+        .collect();
+    let mixed: Vec<Vec<u8>> = chains[..28]
+        .iter()
+        .cloned()
+        .chain(pairs[32..].iter().cloned())
+        .chain([vec![14, 15]])
+        .collect();
+    [pairs, chains, mixed].into_iter().flat_map(|groups| {
+        [61usize, 62, 63, 64, 65].into_iter().map(move |count| {
+            let count = count.min(groups.len());
+            let mut runs = vec![run_of((0..128).map(tape::reg).collect())];
+            for groups in groups[..count].chunks(8) {
+                runs.push(run_of(
+                    groups
+                        .iter()
+                        .flat_map(|group| tape::with(group, tape::group()))
+                        .collect(),
+                ));
+            }
+            // Small, equal, clashing, wide and new lists at the limit.
+            let more: [&[u8]; 8] = [
+                &[],
+                &[3],
+                &groups[0],
+                &groups[count / 2],
+                &[0, 127],
+                &(100..116).collect::<Vec<u8>>(),
+                &[110, 111],
+                &[0, 1, 125],
+            ];
+            for list in more {
+                runs.push(run_of([tape::with(list, tape::group()), vec![tape::empty()]].concat()));
+            }
+            // Entities before and after the layout is applied.
+            let lists: Vec<&Vec<u8>> = groups[..count].iter().collect();
+            let news = |from: usize| -> Run {
+                let lists = lists.clone();
+                run_of(
+                    (0..10)
+                        .flat_map(|i| tape::with(lists[(from + 7 * i) % lists.len()], tape::new()))
+                        .collect(),
+                )
+            };
+            runs.push(news(0));
+            runs.push(run_of(vec![tape::apply()]));
+            runs.push(news(3));
+            runs.push(run_of((0..12).map(|index| tape::kill((index, 1))).collect()));
+            runs.push(news(5));
+            runs.push(run_of(vec![tape::apply(), tape::wipe()]));
+            Case {
+                n: 24,
+                k: 128,
+                preset: None,
+                runs,
+            }
+        })
+    })
+}
+
+/// Each command at every length of buffer up to two bytes more than it takes, accepted and refused.
+fn rooms() -> impl Iterator<Item = Case> {
+    let commands: Vec<(usize, Vec<Chunk>)> = vec![
+        (2, vec![tape::reg(3)]),
+        (2, vec![tape::reg(1)]),
+        (2, vec![tape::reg(9)]),
+        (2, vec![tape::reg(200)]),
+        (1, vec![tape::hold(2, 7)]),
+        (1, vec![tape::hold(1, 7), tape::hold(1, 7)]),
+        (9, vec![tape::new()]),
+        (1, vec![tape::put((0, 1))]),
+        (1, vec![tape::put((0, 2))]),
+        (28, vec![tape::take((0, 1))]),
+        (28, vec![tape::take((5, 1))]),
+        (1, vec![tape::drop((0, 1))]),
+        (1, vec![tape::kill((0, 1))]),
+        (1, vec![tape::kill((0, 3))]),
+        (1, vec![tape::wipe()]),
+        (2, vec![tape::group()]),
+        (1, vec![tape::apply()]),
+        (1, vec![tape::bar(1)]),
+        (10, vec![tape::range()]),
+        (1, vec![tape::empty()]),
+        (5, vec![tape::tally()]),
+        (0, vec![vec![0]]),
+        (0, vec![vec![15]]),
+        (0, vec![vec![2, 1, 0]]),
+        (0, vec![]),
+    ];
+    commands.into_iter().flat_map(|(needed, chunks)| {
+        // The list has none, two or three kinds at the time.
+        [vec![], vec![1, 2], vec![1, 2, 0]]
+            .into_iter()
+            .flat_map(move |list: Vec<u8>| {
+                let chunks = chunks.clone();
+                (0..needed + 3).map(move |room| {
+                    let mut runs = vec![run_of((0..3).map(tape::reg).collect())];
+                    runs.push(run_of(layout(&[&[0, 1], &[0, 1, 2]])));
+                    runs.push(run_of(tape::with(&[0, 1], tape::new())));
+                    runs.push(run_of(tape::hold_all(&list)));
+                    runs.push(Run {
+                        chunks: chunks.clone(),
+                        room,
+                    });
+                    runs.push(run_of(vec![tape::tally(), tape::new()]));
+                    Case {
+                        n: 2,
+                        k: 4,
+                        preset: None,
+                        runs,
+                    }
+                })
+            })
+    })
+}
+
+/// Numbers at their last versions, live and recycled, and refusal counts that are full.
+fn versions_run_out() -> impl Iterator<Item = Case> {
+    const LAST: u32 = u32::MAX;
+    let presets = vec![
+        Preset {
+            issued: 1,
+            live: vec![(0, LAST)],
+            ..Preset::default()
+        },
+        Preset {
+            issued: 1,
+            live: vec![(0, LAST - 1)],
+            ..Preset::default()
+        },
+        Preset {
+            issued: 1,
+            recycled: vec![(0, LAST)],
+            ..Preset::default()
+        },
+        Preset {
+            issued: 1,
+            ..Preset::default()
+        },
+        Preset {
+            issued: 3,
+            live: vec![(2, LAST), (0, 1), (1, LAST)],
+            ..Preset::default()
+        },
+        Preset {
+            issued: 3,
+            live: vec![(1, LAST)],
+            recycled: vec![(2, LAST), (0, LAST - 1)],
+            refusals: LAST - 1,
+        },
+        Preset {
+            issued: 3,
+            live: vec![(1, 4)],
+            recycled: vec![(0, LAST)],
+            refusals: LAST,
+        },
+        Preset {
+            issued: 3,
+            refusals: LAST - 3,
+            ..Preset::default()
+        },
+    ];
+    presets.into_iter().flat_map(|preset| {
+        [0usize, 1, 2].into_iter().map(move |spare| {
+            let n = preset.issued + spare;
+            let mut runs = vec![
+                run_of((0..3).map(tape::reg).collect()),
+                run_of(layout(&[&[0, 1], &[0, 1, 2]])),
+            ];
+            for &id in &preset.live {
+                runs.push(run_of(tape::with(&[1, 0], tape::put(id))));
+            }
+            for _ in 0..4 {
+                runs.push(run_of(
+                    (0..n + 1).flat_map(|_| tape::with(&[0, 1], tape::new())).collect(),
+                ));
+                for version in [1, 2, 4, LAST - 1, LAST] {
+                    runs.push(run_of(
+                        (0..n as u32).map(|index| tape::kill((index, version))).collect(),
+                    ));
+                }
+                runs.push(run_of(vec![tape::tally()]));
+            }
+            Case {
+                n,
+                k: 3,
+                preset: Some(preset.clone()),
+                runs,
+            }
+        })
+    })
+}
+
+/// All tapes of a few steps over small alphabets and several layouts.
+pub fn exhaustive() -> Vec<Part> {
+    vec![
+        part(
+            "drafts of up to 3 groups over 6 kinds with every further group",
+            drafts::cases(6, 3),
+        ),
+        part("all tapes of 0 to 2 bytes", short_tapes()),
+        part(
+            "all tapes of 4 commands over 15",
+            words_over(commands(), 4, vec![vec![tape::reg(0), tape::reg(1)]], 2, 2),
+        ),
+        part(
+            "all tapes of 5 commands over 11",
+            words_over(
+                group_commands(),
+                5,
+                vec![vec![tape::reg(0), tape::reg(1), tape::reg(2)]],
+                2,
+                3,
+            ),
+        ),
+        part(
+            "all lists of 4 steps over 17, two entities, 6 layouts",
+            words_over(steps(), 4, two_entities(), 4, 4),
+        ),
+        part(
+            "all lists of 5 steps over 10, no entity, 6 layouts",
+            words_over(few_steps(), 5, layouts(), 3, 4),
+        ),
+        part(
+            "all lists of 3 relayouts and steps over 28, three entities",
+            words_over(relayouts(), 3, three_entities(), 6, 4),
+        ),
+    ]
+}
+
+/// Every tape of up to two bytes, and every command byte with each number of operand bytes up to nine.
+fn short_tapes() -> impl Iterator<Item = Case> {
+    let bytes = (0..=255u8).map(|byte| vec![byte]);
+    let pairs = (0..=65535u32).map(|pair| vec![pair as u8, (pair >> 8) as u8]);
+    let cut = (0..=20u8).flat_map(|byte| (0..=10usize).map(move |width| [vec![byte], vec![1; width]].concat()));
+    [vec![]]
+        .into_iter()
+        .chain(bytes)
+        .chain(pairs)
+        .chain(cut)
+        .map(|tape| Case::new(2, 3, vec![tape]))
+}
+
+fn commands() -> Vec<Vec<Chunk>> {
+    [
+        tape::reg(1),
+        tape::reg(2),
+        tape::hold(0, 5),
+        tape::hold(1, 6),
+        tape::new(),
+        tape::put((0, 1)),
+        tape::take((0, 1)),
+        tape::drop((0, 1)),
+        tape::kill((0, 1)),
+        tape::wipe(),
+        tape::group(),
+        tape::apply(),
+        tape::bar(1),
+        tape::range(),
+        tape::empty(),
+    ]
+    .into_iter()
+    .map(|chunk| vec![chunk])
+    .collect()
+}
+
+fn group_commands() -> Vec<Vec<Chunk>> {
+    vec![
+        tape::hold_all(&[0, 1]),
+        vec![tape::hold(2, 9)],
+        vec![tape::hold(0, 8)],
+        vec![tape::group()],
+        vec![tape::apply()],
+        vec![tape::new()],
+        vec![tape::bar(2)],
+        vec![tape::range()],
+        vec![tape::take((0, 1))],
+        vec![tape::kill((0, 1))],
+        vec![tape::put((1, 1))],
+    ]
+}
+
+fn layouts() -> Vec<Vec<Chunk>> {
+    let kinds: Vec<Chunk> = (0..4).map(tape::reg).collect();
+    let groups: [&[&[u8]]; 6] = [
+        &[],
+        &[&[0, 1]],
+        &[&[0, 1], &[0, 1, 2]],
+        &[&[0, 1], &[0, 1, 2, 3]],
+        &[&[0, 1], &[0, 1, 2], &[0, 1, 2, 3]],
+        &[&[1, 2], &[0, 3]],
+    ];
+    groups
+        .iter()
+        .map(|groups| [kinds.clone(), layout(groups)].concat())
+        .collect()
+}
+
+/// The layouts, and then two entities.
+fn two_entities() -> Vec<Vec<Chunk>> {
+    let entities = [tape::with(&[0, 1], tape::new()), tape::with(&[0, 1, 2, 3], tape::new())].concat();
+    layouts()
+        .into_iter()
+        .map(|layout| [layout, entities.clone()].concat())
+        .collect()
+}
+
+/// Three entities, without a layout; the last one created stands first in the live list, and one index is recycled.
+fn three_entities() -> Vec<Vec<Chunk>> {
+    let kinds: Vec<Chunk> = (0..4).map(tape::reg).collect();
+    let entities = [
+        tape::with(&[2, 3], tape::new()),
+        tape::with(&[3, 1], tape::new()),
+        tape::with(&[0, 1, 2], tape::new()),
+        tape::with(&[2, 0, 1, 3], tape::new()),
+        vec![tape::kill((0, 1))],
+    ];
+    vec![[kinds, entities.concat()].concat()]
+}
+
+/// RANGE with every list and every bar of four kinds, under each layout.
+fn staged_and_excluded() -> impl Iterator<Item = Case> {
+    let subset = |mask: usize| -> Vec<u8> { (0..4).filter(|kind| mask >> kind & 1 == 1).collect() };
+    layouts().into_iter().map(move |layout| {
+        let mut runs = vec![run_of(layout)];
+        runs.push(run_of(
+            (0..16)
+                .flat_map(|list| tape::with(&subset(list * 7 % 16), tape::new()))
+                .collect(),
+        ));
+        for (list, bar) in (0..16).flat_map(|list| (0..16).map(move |bar| (list, bar))) {
+            let mut chunks: Vec<Chunk> = subset(bar).into_iter().map(tape::bar).collect();
+            chunks.extend(tape::with(&subset(list), tape::range()));
+            runs.push(run_of(chunks));
+        }
+        Case {
+            n: 16,
+            k: 4,
+            preset: None,
+            runs,
+        }
+    })
+}
+
+fn steps() -> Vec<Vec<Chunk>> {
+    vec![
+        tape::with(&[0, 1], tape::new()),
+        tape::with(&[2, 1, 0], tape::new()),
+        tape::with(&[0, 1, 2, 3], tape::new()),
+        tape::with(&[0, 3], tape::new()),
+        tape::with(&[2, 3], tape::new()),
+        tape::with(&[0, 1], tape::put((0, 1))),
+        tape::with(&[2], tape::put((0, 1))),
+        tape::with(&[3], tape::put((1, 1))),
+        tape::with(&[0, 1, 2], tape::put((1, 1))),
+        tape::with(&[1], tape::take((0, 1))),
+        tape::with(&[3, 2], tape::take((0, 1))),
+        tape::with(&[0], tape::drop((1, 1))),
+        tape::with(&[2], tape::drop((0, 1))),
+        vec![tape::kill((0, 1))],
+        vec![tape::kill((1, 1))],
+        vec![tape::wipe()],
+        [
+            tape::with(&[0, 1], tape::group()),
+            tape::with(&[0, 1, 2], tape::group()),
+            vec![tape::apply()],
+        ]
+        .concat(),
+    ]
+}
+
+fn few_steps() -> Vec<Vec<Chunk>> {
+    vec![
+        tape::with(&[0, 1, 2, 3], tape::new()),
+        tape::with(&[0, 1], tape::new()),
+        tape::with(&[0], tape::new()),
+        tape::with(&[1, 2], tape::put((0, 1))),
+        tape::with(&[0, 1, 2, 3], tape::put((1, 1))),
+        tape::with(&[2], tape::drop((0, 1))),
+        tape::with(&[1], tape::take((1, 1))),
+        tape::with(&[3, 0], tape::drop((1, 1))),
+        vec![tape::kill((0, 1))],
+        vec![tape::kill((0, 2))],
+    ]
+}
+
+fn relayouts() -> Vec<Vec<Chunk>> {
+    let mut steps: Vec<Vec<Chunk>> = layouts().into_iter().map(|chunks| chunks[4..].to_vec()).collect();
+    steps.extend([
+        layout(&[&[2, 3]]),
+        layout(&[&[0, 1], &[2, 3]]),
+        layout(&[&[2, 3], &[2, 3, 1]]),
+        layout(&[&[1, 3], &[1, 3, 0], &[1, 3, 0, 2]]),
+        layout(&[&[0, 1, 2, 3]]),
+        tape::with(&[0, 1, 2, 3], tape::new()),
+        tape::with(&[3, 2], tape::new()),
+        tape::with(&[1, 2, 3], tape::new()),
+        tape::with(&[0, 1], tape::put((1, 1))),
+        tape::with(&[0, 1, 2, 3], tape::put((1, 1))),
+        tape::with(&[2, 3], tape::put((2, 1))),
+        tape::with(&[1], tape::drop((1, 1))),
+        tape::with(&[2], tape::take((2, 1))),
+        tape::with(&[1, 0], tape::drop((2, 1))),
+        tape::with(&[3], tape::drop((3, 1))),
+        tape::with(&[0, 2], tape::take((3, 1))),
+        vec![tape::kill((1, 1))],
+        vec![tape::kill((2, 1))],
+        vec![tape::kill((3, 1))],
+        vec![tape::kill((0, 2))],
+        vec![tape::wipe()],
+        [tape::with(&[3, 1], tape::new()), tape::with(&[0, 1, 2], tape::new())].concat(),
+    ]);
+    steps
+}
+
+/// Every word of `length` letters behind each of the beginnings. Shorter words are beginnings of these; the state is
+/// looked at after each letter.
+fn words_over(
+    alphabet: Vec<Vec<Chunk>>,
+    length: u32,
+    beginnings: Vec<Vec<Chunk>>,
+    n: usize,
+    k: usize,
+) -> impl Iterator<Item = Case> {
+    beginnings.into_iter().flat_map(move |beginning| {
+        let alphabet = alphabet.clone();
+        (0..alphabet.len().pow(length)).map(move |mut word| {
+            let mut runs = vec![run_of(beginning.clone())];
+            for _ in 0..length {
+                let letter = &alphabet[word % alphabet.len()];
+                word /= alphabet.len();
+                // A value of its own for each part, so that rows can be told apart.
+                let mark = runs.len() as u8;
+                runs.push(run_of(letter.iter().map(|chunk| marked(chunk, mark)).collect()));
+            }
+            Case {
+                n,
+                k,
+                preset: None,
+                runs,
+            }
+        })
+    })
+}
+
+fn marked(chunk: &Chunk, mark: u8) -> Chunk {
+    let mut chunk = chunk.clone();
+    if chunk[0] == 2 {
+        chunk[2] = 16 * mark + chunk[1];
+    }
+    chunk
+}

@@ -1,0 +1,489 @@
+//! Random cases: they lean to commands that are accepted, and change layouts while entities exist, remove, destroy
+//! and reuse. Some are damaged, some get too little room, some start where versions run out.
+
+use crate::compare::{Difference, Figures, Make, Pair};
+use crate::rng::Rng;
+use crate::tape::{self, Case, Chunk, Run, ROOMY};
+use sparsey::harness::{Id, Oracle, Preset, Sets};
+
+/// What a case is like.
+struct Profile {
+    /// Kinds that the case registers, or tries to.
+    kinds: Vec<u8>,
+    /// How often each of `STEPS` comes.
+    weights: [usize; 12],
+    /// One command in so many is out of place; 0 for none.
+    noise: usize,
+    /// One run in so many is damaged; 0 for none.
+    damage: usize,
+    /// One run in so many gets little room; 0 for none.
+    tight: usize,
+    runs: usize,
+    steps: usize,
+    /// Values of this many bits.
+    bits: u32,
+}
+
+// The steps, in the order of the weights: create, put, take, drop, kill, wipe, relayout, range, register, empty,
+// tally, group without apply.
+const EVEN: [usize; 12] = [6, 8, 4, 4, 4, 1, 2, 4, 1, 1, 1, 1];
+const CHURN: [usize; 12] = [10, 4, 1, 1, 10, 0, 1, 1, 0, 0, 0, 0];
+const RELAYOUT: [usize; 12] = [6, 6, 2, 2, 2, 0, 8, 4, 1, 0, 0, 2];
+const REMOVE: [usize; 12] = [6, 10, 8, 8, 2, 1, 1, 2, 0, 0, 0, 0];
+const DRAFT: [usize; 12] = [2, 2, 0, 0, 1, 0, 3, 6, 3, 1, 1, 10];
+
+fn profile(rng: &mut Rng) -> (Profile, usize, usize) {
+    let (n, k, runs, steps) = match rng.below(20) {
+        0..=8 => (
+            rng.between(1, 6),
+            rng.between(2, 6),
+            rng.between(2, 12),
+            rng.between(1, 8),
+        ),
+        9..=16 => (
+            rng.between(3, 24),
+            rng.between(3, 10),
+            rng.between(4, 20),
+            rng.between(2, 16),
+        ),
+        17..=18 => (
+            rng.between(8, 64),
+            rng.between(8, 40),
+            rng.between(4, 12),
+            rng.between(8, 40),
+        ),
+        _ if rng.once_in(2) => (
+            rng.between(2, 12),
+            rng.between(32, 128),
+            rng.between(3, 8),
+            rng.between(8, 40),
+        ),
+        _ => (
+            rng.between(64, 400),
+            rng.between(2, 12),
+            rng.between(3, 6),
+            rng.between(60, 200),
+        ),
+    };
+    // Low kinds reach the tuples; scattered ones the rest.
+    let mut kinds: Vec<u8> = match rng.below(3) {
+        0 => (0..128).collect(),
+        _ => (0..(k as u8 + 2).min(128)).collect(),
+    };
+    if kinds.len() == 128 || rng.once_in(3) {
+        rng.shuffle(&mut kinds);
+    }
+    kinds.truncate(k + rng.below(3));
+
+    let profile = Profile {
+        kinds,
+        weights: *rng.pick(&[EVEN, EVEN, CHURN, RELAYOUT, REMOVE, DRAFT]),
+        noise: *rng.pick(&[0, 0, 40, 12, 5]),
+        damage: *rng.pick(&[0, 0, 12, 4]),
+        tight: *rng.pick(&[0, 0, 0, 6, 2]),
+        runs,
+        steps,
+        bits: *rng.pick(&[0, 4, 40, 64]),
+    };
+    (profile, n, k)
+}
+
+/// A store whose numbers are close to their last versions, or whose refusal count is full.
+fn preset(rng: &mut Rng, n: usize) -> Preset {
+    let issued = rng.between(0, n);
+    let mut preset = Preset {
+        issued,
+        refusals: *rng.pick(&[0, 7, u32::MAX - 2, u32::MAX - 1, u32::MAX]),
+        ..Preset::default()
+    };
+    for index in 0..issued as u32 {
+        let version = match rng.below(4) {
+            0 => rng.between(2, 9) as u32,
+            _ => u32::MAX - rng.below(3) as u32,
+        };
+        match rng.below(5) {
+            0 => {}
+            1 | 2 => preset.recycled.push((index, version)),
+            _ => preset.live.push((index, version)),
+        }
+    }
+    rng.shuffle(&mut preset.live);
+    rng.shuffle(&mut preset.recycled);
+    preset
+}
+
+/// Makes steps for a store that is in the state of the Rust's.
+struct Steps<'a> {
+    rng: &'a mut Rng,
+    profile: &'a Profile,
+    live: Vec<Id>,
+    registered: Vec<u8>,
+    groups: Vec<Vec<u8>>,
+    draft: Vec<Vec<Vec<u8>>>,
+    chunks: Vec<Chunk>,
+}
+
+impl<'a> Steps<'a> {
+    fn new(rng: &'a mut Rng, profile: &'a Profile, rust: &Oracle) -> Self {
+        Self {
+            rng,
+            profile,
+            live: rust.live(),
+            registered: rust.registered(),
+            groups: rust.groups().into_iter().map(|(kinds, _)| kinds).collect(),
+            draft: rust.draft(),
+            chunks: vec![],
+        }
+    }
+
+    fn value(&mut self) -> u64 {
+        match self.profile.bits {
+            0 => 0,
+            bits => self.rng.next() >> (64 - bits),
+        }
+    }
+
+    fn kind(&mut self) -> u8 {
+        match self.registered.is_empty() {
+            true => *self.rng.pick(&self.profile.kinds),
+            false => *self.rng.pick(&self.registered),
+        }
+    }
+
+    fn id(&mut self) -> Id {
+        if self.live.is_empty() || self.rng.once_in(24) {
+            let index = self.rng.below(9) as u32;
+            return (index, *self.rng.pick(&[0, 1, 1, 1, 2, 3, u32::MAX]));
+        }
+        let (index, version) = *self.rng.pick(&self.live);
+        match self.rng.below(30) {
+            0 => (index, version.wrapping_add(1)),
+            1 => (index, version.wrapping_sub(1)),
+            2 => (index ^ 1 << self.rng.below(32), version),
+            _ => (index, version),
+        }
+    }
+
+    /// Distinct kinds: a group, a group and a kind more or less, or any.
+    fn kinds(&mut self) -> Vec<u8> {
+        let mut kinds = match self.rng.below(10) {
+            0..=5 if !self.groups.is_empty() => self.rng.pick(&self.groups).clone(),
+            6 => vec![self.kind()],
+            7 => vec![],
+            _ => {
+                let mut all = self.registered.clone();
+                self.rng.shuffle(&mut all);
+                let most = all.len().min(if self.rng.once_in(6) { 17 } else { 6 });
+                all.truncate(self.rng.between(0, most));
+                all
+            }
+        };
+        self.vary(&mut kinds);
+        if self.rng.once_in(2) {
+            self.rng.shuffle(&mut kinds);
+        }
+        kinds
+    }
+
+    fn hold(&mut self, kinds: &[u8]) {
+        // A refused command leaves behind what was staged.
+        let last = self.chunks.last().map_or(0, |chunk| chunk[0]);
+        let refused = matches!(last, 4..=6) && self.rng.once_in(3);
+        if refused || self.rng.once_in(6) {
+            self.chunks.push(tape::empty());
+        }
+        for &kind in kinds {
+            let value = self.value();
+            self.chunks.push(tape::hold(kind, value));
+            self.noise();
+        }
+    }
+
+    fn hold_some(&mut self) {
+        let kinds = self.kinds();
+        self.hold(&kinds);
+    }
+
+    /// Now and then a command that is likely to be refused, or out of place.
+    fn noise(&mut self) {
+        if self.profile.noise == 0 || !self.rng.once_in(self.profile.noise) {
+            return;
+        }
+        let any = *self.rng.pick(&[0, 1, 2, 5, 127, 128, 200, 255]);
+        let (kind, id) = (self.kind(), self.id());
+        let chunk = match self.rng.below(14) {
+            0 => tape::reg(any),
+            1 => tape::hold(any, 1),
+            2 => tape::hold(kind, 2),
+            3 => tape::bar(any),
+            4 | 5 => tape::bar(kind),
+            6 => tape::put(id),
+            7 => tape::take(id),
+            8 => tape::kill(id),
+            9 => tape::group(),
+            10 => tape::range(),
+            11 => tape::tally(),
+            12 => tape::new(),
+            _ => tape::apply(),
+        };
+        self.chunks.push(chunk);
+    }
+
+    /// A draft of groups that are accepted, each after those inside it.
+    fn layout(&mut self) -> Vec<Vec<u8>> {
+        let mut kinds = self.registered.clone();
+        self.rng.shuffle(&mut kinds);
+        let mut groups = vec![];
+        let mut rest = &kinds[..];
+        while rest.len() >= 2 && !self.rng.once_in(4) {
+            let arity = self.rng.between(2, rest.len().min(15));
+            let (family, others) = rest.split_at(arity);
+            rest = others;
+            let mut at = self.rng.between(2, arity.min(4));
+            loop {
+                groups.push(family[..at].to_vec());
+                if at == arity {
+                    break;
+                }
+                at = self.rng.between(at + 1, arity);
+            }
+        }
+        groups
+    }
+
+    /// One kind more or less, now and then.
+    fn vary(&mut self, kinds: &mut Vec<u8>) {
+        match self.rng.below(7) {
+            0 if !kinds.is_empty() => {
+                kinds.swap_remove(self.rng.below(kinds.len()));
+            }
+            1 => {
+                let kind = self.kind();
+                if !kinds.contains(&kind) {
+                    kinds.push(kind);
+                }
+            }
+            _ => {}
+        }
+    }
+
+    /// GROUP for a chain of groups, or for a drafted group as it is, with foreign kinds, or joined with another.
+    fn group(&mut self) {
+        let drafted: Vec<Vec<u8>> = self.draft.iter().flatten().cloned().collect();
+        if drafted.is_empty() || self.rng.once_in(6) {
+            for group in self.layout() {
+                self.hold(&group);
+                self.chunks.push(tape::group());
+            }
+            return;
+        }
+        let mut kinds = self.rng.pick(&drafted).clone();
+        match self.rng.below(5) {
+            0 => {}
+            1 | 2 => {
+                let mut foreign = self.registered.clone();
+                foreign.retain(|kind| !drafted.iter().any(|group| group.contains(kind)));
+                self.rng.shuffle(&mut foreign);
+                foreign.truncate(self.rng.between(1, 3));
+                kinds.extend(foreign);
+            }
+            3 => {
+                let other = self.rng.pick(&drafted).clone();
+                let more: Vec<u8> = other.into_iter().filter(|kind| !kinds.contains(kind)).collect();
+                kinds.extend(more);
+            }
+            _ => kinds = self.kinds(),
+        }
+        self.vary(&mut kinds);
+        self.hold(&kinds);
+        self.chunks.push(tape::group());
+    }
+
+    /// RANGE, with a bar of what a larger group has more, of some kinds, or none.
+    fn range(&mut self) {
+        let mut kinds = self.kinds();
+        let mut bar = vec![];
+        match self.rng.below(4) {
+            0 | 1 if !self.groups.is_empty() => {
+                kinds = self.rng.pick(&self.groups).clone();
+                let larger: Vec<Vec<u8>> = self
+                    .groups
+                    .iter()
+                    .filter(|group| kinds.iter().all(|kind| group.contains(kind)))
+                    .cloned()
+                    .collect();
+                bar = self.rng.pick(&larger).clone();
+                bar.retain(|kind| !kinds.contains(kind));
+                self.vary(&mut bar);
+                self.vary(&mut kinds);
+                self.rng.shuffle(&mut bar);
+            }
+            2 if self.rng.once_in(3) => bar = self.kinds(),
+            _ => {}
+        }
+        self.hold(&kinds);
+        self.chunks.extend(bar.into_iter().map(tape::bar));
+        self.chunks.push(tape::range());
+    }
+
+    fn step(&mut self) {
+        let mut step = self.rng.weighted(&self.profile.weights);
+        if self.live.is_empty() && matches!(step, 1..=4) && !self.rng.once_in(8) {
+            step = 0;
+        }
+        let id = self.id();
+        match step {
+            0 => {
+                self.hold_some();
+                self.chunks.push(tape::new());
+            }
+            1 => {
+                self.hold_some();
+                self.chunks.push(tape::put(id));
+            }
+            2 => {
+                self.hold_some();
+                self.chunks.push(tape::take(id));
+            }
+            3 => {
+                self.hold_some();
+                self.chunks.push(tape::drop(id));
+            }
+            4 => {
+                self.live.retain(|&live| live != id);
+                self.chunks.push(tape::kill(id));
+            }
+            5 => self.chunks.push(tape::wipe()),
+            6 => {
+                for group in self.layout() {
+                    self.hold(&group);
+                    self.chunks.push(tape::group());
+                }
+                self.chunks.push(tape::apply());
+            }
+            7 => self.range(),
+            8 => {
+                let kind = *self.rng.pick(&self.profile.kinds);
+                self.chunks.push(tape::reg(kind));
+            }
+            9 => self.chunks.push(tape::empty()),
+            10 => self.chunks.push(tape::tally()),
+            _ => self.group(),
+        }
+        self.noise();
+    }
+
+    /// Spoils the run: a byte changed, put in or taken out, or the end cut off.
+    fn damage(&mut self) {
+        if self.profile.damage == 0 || !self.rng.once_in(self.profile.damage) || self.chunks.is_empty() {
+            return;
+        }
+        let at = self.rng.below(self.chunks.len());
+        let chunk = &mut self.chunks[at];
+        let place = self.rng.below(chunk.len());
+        let byte = self.rng.next() as u8;
+        match self.rng.below(5) {
+            0 => chunk[place] = byte,
+            1 => chunk[place] ^= 1 << self.rng.below(8),
+            2 => chunk.insert(place, byte),
+            3 => {
+                chunk.remove(place);
+            }
+            _ => {
+                chunk.truncate(place);
+                self.chunks.truncate(at + 1);
+            }
+        }
+    }
+
+    fn finish(mut self) -> Run {
+        self.damage();
+        let tight = self.profile.tight != 0 && self.rng.once_in(self.profile.tight);
+        let room = match tight {
+            true => self.rng.below(3 + 3 * self.chunks.len()),
+            false => ROOMY,
+        };
+        Run {
+            chunks: self.chunks,
+            room,
+        }
+    }
+}
+
+/// One random case, compared as it grows. `Err` has the case and where the sides part.
+pub fn random_case(seed: u64, sets: Sets, make: Make) -> Result<(Case, Figures), Difference> {
+    let rng = &mut Rng::new(seed);
+    let (profile, n, k) = profile(rng);
+    let preset = rng.once_in(6).then(|| preset(rng, n));
+    let mut case = Case {
+        n,
+        k,
+        preset,
+        runs: vec![],
+    };
+
+    let part = |case: &Case, what: String| Difference {
+        case: case.clone(),
+        what,
+    };
+    let mut pair = Pair::start(&case, sets, make).map_err(|what| part(&case, what))?;
+    for i in 0..=profile.runs {
+        let run = match i {
+            0 => Run::new(profile.kinds.iter().map(|&kind| tape::reg(kind)).collect()),
+            _ if rng.once_in(8) => pair.range_run(),
+            _ => {
+                let mut steps = Steps::new(rng, &profile, &pair.rust);
+                for _ in 0..profile.steps {
+                    steps.step();
+                }
+                steps.finish()
+            }
+        };
+        case.runs.push(run);
+        pair.step(&case.runs[i], true).map_err(|what| part(&case, what))?;
+    }
+    pair.ranges().map_err(|what| part(&case, what))?;
+    Ok((case, pair.finish()))
+}
+
+/// The case again with one run in a buffer that its answers fill exactly, and in one a byte short, and then the rest
+/// of that run's tape in another run.
+pub fn tight_case(seed: u64, case: &Case, sets: Sets, make: Make) -> Result<Figures, Difference> {
+    let rng = &mut Rng::new(seed);
+    let mut figures = Figures::default();
+    let at = rng.below(case.runs.len());
+
+    // The bytes that the run answers with, on the Rust alone.
+    let mut rust = Oracle::new(sets);
+    rust.start(usize::MAX, case.n, case.k);
+    if let Some(preset) = &case.preset {
+        rust.preset(preset);
+    }
+    let mut written = 0;
+    for run in &case.runs[..=at] {
+        let mut out = vec![0; run.room.min(1 << 20)];
+        written = rust.run(&run.tape(), &mut out).written;
+    }
+
+    for room in [written, written.saturating_sub(1), rng.below(written + 1)] {
+        let mut tight = case.clone();
+        tight.runs.truncate(at + 1);
+        tight.runs[at].room = room;
+        let part = |what: String, case: &Case| Difference {
+            case: case.clone(),
+            what,
+        };
+        let mut pair = Pair::start(&tight, sets, make).map_err(|what| part(what, &tight))?;
+        let mut read = 0;
+        for run in &tight.runs {
+            read = pair.step(run, true).map_err(|what| part(what, &tight))?.read;
+        }
+        let rest = tight.runs[at].tape()[read..].to_vec();
+        tight.runs.push(Run::new(vec![rest]));
+        pair.step(&tight.runs[at + 1], true)
+            .map_err(|what| part(what, &tight))?;
+        pair.ranges().map_err(|what| part(what, &tight))?;
+        figures.add(&pair.finish());
+    }
+    Ok(figures)
+}

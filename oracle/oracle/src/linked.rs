@@ -1,0 +1,228 @@
+//! The other side by the static library of the crate `store`: its declarations, and what can be seen of its words.
+//! Nothing checks these declarations against the Rattle source; an exported function takes a slice as a pointer and
+//! a length, returns a struct by value, and cannot return a reference, so *column* comes as a copy.
+
+use crate::rng::Rng;
+use crate::side::Side;
+use sparsey::harness::{words_needed, Id, Preset, Ran};
+
+#[repr(C)]
+struct LinkedRan {
+    stop: u32,
+    commands: usize,
+    read: usize,
+    written: usize,
+}
+
+#[repr(C)]
+struct LinkedRolled {
+    number: u32,
+    written: usize,
+}
+
+extern "C" {
+    fn yirbarn_words_needed(n: usize, k: usize) -> usize;
+    fn yirbarn_start(words: *mut u32, len: usize, n: usize, k: usize) -> u32;
+    fn yirbarn_run(
+        words: *mut u32,
+        len: usize,
+        tape: *const u8,
+        tape_len: usize,
+        out: *mut u8,
+        out_len: usize,
+    ) -> LinkedRan;
+    fn yirbarn_column_number(words: *const u32, len: usize, kind: u8, values: bool, start: usize, end: usize) -> u32;
+    /// Writes the part that *column* hands back to the front of `out`, and gives its length.
+    fn yirbarn_column(
+        words: *const u32,
+        len: usize,
+        kind: u8,
+        values: bool,
+        start: usize,
+        end: usize,
+        out: *mut u32,
+        out_len: usize,
+    ) -> usize;
+    fn yirbarn_roll(words: *const u32, len: usize, out: *mut u8, out_len: usize) -> LinkedRolled;
+}
+
+// The arrangement of the words, for what no entry shows and for presets (docs/WORDS.md).
+const N: usize = 0;
+const REFUSALS: usize = 16;
+const ENTITIES: usize = 1024;
+const LIVE: usize = ENTITIES;
+const ISSUED: usize = ENTITIES + 1;
+const RING_HEAD: usize = ENTITIES + 2;
+const RECYCLED: usize = ENTITIES + 3;
+const LISTS: usize = ENTITIES + 8;
+
+/// Words past those that a store is lent, which must stay as they are.
+const BEYOND: usize = 3;
+
+/// Stores of up to this many words are compared as a whole before and after each entry.
+const WATCHED: usize = 1 << 14;
+
+pub struct Linked {
+    words: Vec<u32>,
+    /// How many of the words are lent, and how many the store needs.
+    lent: usize,
+    needed: usize,
+    complaint: Option<String>,
+    rng: Rng,
+}
+
+impl Linked {
+    /// No store: the words hold anything but one.
+    pub fn new() -> Self {
+        let mut linked = Self {
+            words: vec![],
+            lent: 2000,
+            needed: 0,
+            complaint: None,
+            rng: Rng::new(7),
+        };
+        linked.reach(2000 + BEYOND);
+        linked
+    }
+
+    fn reach(&mut self, len: usize) {
+        while self.words.len() < len {
+            let word = self.rng.next() as u32;
+            self.words.push(word);
+        }
+    }
+
+    fn complain(&mut self, what: String) {
+        self.complaint.get_or_insert(what);
+    }
+
+    /// Holds the words from `from` on to what they were.
+    fn unchanged(&mut self, before: &[u32], from: usize, what: &str) {
+        if let Some(at) = (from..before.len()).find(|&at| before[at] != self.words[at]) {
+            let (old, new) = (before[at], self.words[at]);
+            self.complain(format!("{what}: word {at} of {} was {old}, is {new}", self.lent));
+        }
+    }
+
+    fn word(&self, at: usize) -> usize {
+        self.words[at] as usize
+    }
+}
+
+impl Side for Linked {
+    fn name(&self) -> &'static str {
+        "linked store"
+    }
+
+    fn start(&mut self, words: usize, n: usize, k: usize) -> u32 {
+        self.reach(words + BEYOND);
+        let before = self.words.clone();
+        let number = unsafe { yirbarn_start(self.words.as_mut_ptr(), words, n, k) };
+        if number != 0 {
+            self.unchanged(&before, 0, "a refused start");
+            return number;
+        }
+        self.lent = words;
+        self.needed = words_needed(n, k);
+        let needed = unsafe { yirbarn_words_needed(n, k) };
+        if needed != self.needed {
+            self.complain(format!("words needed for N {n}, K {k}: {needed}"));
+        }
+        self.unchanged(&before, self.needed, "start");
+        number
+    }
+
+    fn preset(&mut self, preset: &Preset) {
+        let n = self.word(N);
+        self.words[REFUSALS] = preset.refusals;
+        self.words[LIVE] = preset.live.len() as u32;
+        self.words[ISSUED] = preset.issued as u32;
+        self.words[RING_HEAD] = 0;
+        self.words[RECYCLED] = preset.recycled.len() as u32;
+        for (place, &(index, version)) in preset.live.iter().enumerate() {
+            let (row, lookup) = (LISTS + 2 * place, LISTS + 2 * n + 2 * index as usize);
+            self.words[row..row + 2].copy_from_slice(&[index, version]);
+            self.words[lookup..lookup + 2].copy_from_slice(&[place as u32, version]);
+        }
+        for (place, &(index, version)) in preset.recycled.iter().enumerate() {
+            let row = LISTS + 4 * n + 2 * place;
+            self.words[row..row + 2].copy_from_slice(&[index, version]);
+            self.words[LISTS + 6 * n + index as usize] = place as u32 + 1;
+        }
+    }
+
+    fn run(&mut self, tape: &[u8], out: &mut [u8]) -> Ran {
+        let watched = self.words.len() <= WATCHED;
+        let before = if watched { self.words.clone() } else { vec![] };
+        let beyond = self.words[self.lent..].to_vec();
+        let ran = unsafe {
+            yirbarn_run(
+                self.words.as_mut_ptr(),
+                self.lent,
+                tape.as_ptr(),
+                tape.len(),
+                out.as_mut_ptr(),
+                out.len(),
+            )
+        };
+        if beyond != self.words[self.lent..] {
+            self.complain("a run changed words that were not lent".to_string());
+        }
+        if watched {
+            self.unchanged(&before, self.needed, "a run, past the words needed");
+            if ran.commands == 0 {
+                self.unchanged(&before, 0, "a run of no command");
+            }
+            if ran.commands == 1 && ran.written == 1 && out[0] != 0 {
+                let mut before = before;
+                before[REFUSALS] = self.words[REFUSALS];
+                self.unchanged(&before, 0, "a refused command");
+            }
+        }
+        Ran {
+            stop: ran.stop,
+            commands: ran.commands,
+            read: ran.read,
+            written: ran.written,
+        }
+    }
+
+    fn column(&mut self, kind: u8, values: bool, start: usize, end: usize) -> Vec<u32> {
+        let mut out = vec![0; 2 * end.saturating_sub(start)];
+        let len = unsafe {
+            yirbarn_column(
+                self.words.as_ptr(),
+                self.lent,
+                kind,
+                values,
+                start,
+                end,
+                out.as_mut_ptr(),
+                out.len(),
+            )
+        };
+        if len > out.len() {
+            self.complain(format!("column of kind {kind}, {start}..{end}: {len} words"));
+        }
+        out.truncate(len);
+        out
+    }
+
+    fn column_number(&mut self, kind: u8, values: bool, start: usize, end: usize) -> u32 {
+        unsafe { yirbarn_column_number(self.words.as_ptr(), self.lent, kind, values, start, end) }
+    }
+
+    fn roll(&mut self, out: &mut [u8]) -> (u32, usize) {
+        let rolled = unsafe { yirbarn_roll(self.words.as_ptr(), self.lent, out.as_mut_ptr(), out.len()) };
+        (rolled.number, rolled.written)
+    }
+
+    fn live(&mut self) -> Vec<Id> {
+        let rows = &self.words[LISTS..LISTS + 2 * self.word(LIVE)];
+        rows.chunks(2).map(|row| (row[0], row[1])).collect()
+    }
+
+    fn complaint(&mut self) -> Option<String> {
+        self.complaint.take()
+    }
+}

@@ -1,0 +1,265 @@
+//! A sample of tapes with what the Rust answered, in one file, for a program that replays it. README.md has the
+//! format.
+
+use crate::fixed;
+use crate::generate;
+use crate::reference::Reference;
+use crate::side::Side;
+use crate::tape::{self, Case, Run};
+use sparsey::harness::{words_needed, Oracle, Sets};
+
+const MAGIC: &[u8; 8] = b"TAPES 1\n";
+
+/// The most that a recorded case needs, so that a program can replay it in fixed buffers.
+pub const MOST_WORDS: usize = 8192;
+pub const MOST_TAPE: usize = 4096;
+pub const MOST_ROOM: usize = 4096;
+pub const MOST_ROLL: usize = 4096;
+
+/// The case with what the Rust answered, or nothing if it is too large to be recorded.
+fn recorded(case: &Case) -> Option<Vec<u8>> {
+    if case.preset.is_some() || words_needed(case.n, case.k) > MOST_WORDS || case.runs.len() > 255 {
+        return None;
+    }
+    let mut rust = Oracle::new(Sets::Staged);
+    rust.start(MOST_WORDS, case.n, case.k);
+
+    let mut bytes = vec![];
+    bytes.extend((case.n as u16).to_le_bytes());
+    bytes.extend([case.k as u8, case.runs.len() as u8]);
+    for run in &case.runs {
+        let (tape, room) = (run.tape(), run.room.min(MOST_ROOM));
+        if tape.len() > MOST_TAPE {
+            return None;
+        }
+        let mut out = vec![0; room];
+        let ran = rust.run(&tape, &mut out);
+        for number in [tape.len(), room] {
+            bytes.extend((number as u16).to_le_bytes());
+        }
+        bytes.extend(tape);
+        bytes.push(ran.stop as u8);
+        for number in [ran.commands, ran.read, ran.written] {
+            bytes.extend((number as u16).to_le_bytes());
+        }
+        bytes.extend(&out[..ran.written]);
+    }
+
+    let mut roll = vec![0; MOST_ROLL];
+    let (number, length) = rust.roll(&mut roll);
+    if number != 0 {
+        return None;
+    }
+    bytes.extend((length as u16).to_le_bytes());
+    bytes.extend(&roll[..length]);
+
+    let registered = rust.registered();
+    bytes.push(registered.len() as u8);
+    for kind in registered {
+        let length = rust.length(kind).unwrap();
+        bytes.push(kind);
+        bytes.extend((length as u16).to_le_bytes());
+        for values in [false, true] {
+            for word in Side::column(&mut rust, kind, values, 0, length) {
+                bytes.extend(word.to_le_bytes());
+            }
+        }
+    }
+    Some(bytes)
+}
+
+/// The examples of document 01, each as a case.
+pub fn examples() -> Vec<Case> {
+    let kinds: Vec<tape::Chunk> = (1..=6).map(tape::reg).collect();
+    let layout = fixed::layout(&[&[1, 2], &[1, 2, 3, 4]]);
+    let entities: Vec<tape::Chunk> = [&[1u8, 2, 3][..], &[1, 2, 3, 4], &[1, 2], &[1]]
+        .iter()
+        .flat_map(|staged| tape::with(staged, tape::new()))
+        .collect();
+    let begin = [kinds.clone(), layout, entities].concat();
+
+    let mut runs = vec![Run::new(begin)];
+    for (staged, excluded) in [
+        (&[1u8, 2][..], &[][..]),
+        (&[1, 2, 3, 4], &[]),
+        (&[1], &[]),
+        (&[1, 3], &[]),
+        (&[1, 2], &[3u8, 4]),
+        (&[1, 2], &[3]),
+        (&[], &[]),
+    ] {
+        let barred: Vec<tape::Chunk> = excluded.iter().map(|&kind| tape::bar(kind)).collect();
+        runs.push(Run::new([barred, tape::with(staged, tape::range())].concat()));
+    }
+    runs.push(Run::new(
+        [
+            tape::with(&[1, 2], tape::group()),
+            tape::with(&[1, 2, 3, 4], tape::group()),
+        ]
+        .concat(),
+    ));
+    for staged in [
+        &[1u8, 2][..],
+        &[1, 2, 3],
+        &[1, 2, 5],
+        &[3, 4],
+        &[5, 6],
+        &[1, 2, 3, 4, 5],
+    ] {
+        // {1,2,3,4,5} is added to the draft without {5,6}.
+        let again = match staged.len() {
+            5 => vec![
+                vec![tape::apply()],
+                tape::with(&[1, 2], tape::group()),
+                tape::with(&[1, 2, 3, 4], tape::group()),
+            ]
+            .concat(),
+            _ => vec![],
+        };
+        runs.push(Run::new(
+            [vec![tape::empty()], again, tape::with(staged, tape::group())].concat(),
+        ));
+    }
+    let marked = Case {
+        n: 8,
+        k: 6,
+        preset: None,
+        runs,
+    };
+
+    let mut killed = marked.clone();
+    killed.runs.truncate(1);
+    killed.runs.push(Run::new(vec![tape::kill((1, 1))]));
+    killed.runs.push(Run::new(tape::with(&[1, 2], tape::range())));
+    killed.runs.push(Run::new(tape::with(&[1, 2, 3, 4], tape::range())));
+    killed.runs.push(Run::new(vec![tape::new()]));
+
+    let written = [
+        vec![tape::reg(1), tape::reg(2)],
+        tape::with(&[1, 2], tape::group()),
+        vec![
+            tape::apply(),
+            tape::hold(1, 5),
+            tape::new(),
+            tape::hold(1, 6),
+            tape::hold(2, 7),
+            tape::new(),
+        ],
+        tape::with(&[1, 2], tape::range()),
+    ]
+    .concat();
+    vec![marked, killed, Case::new(64, 8, written)]
+}
+
+/// The file: the examples, cases at the limits, and random cases until it has `budget` bytes.
+pub fn write(seed: u64, budget: usize) -> Vec<u8> {
+    let make = &|| Box::new(Reference::new()) as Box<dyn Side>;
+    let mut cases: Vec<Vec<u8>> = vec![];
+    cases.extend(examples().iter().filter_map(recorded));
+    for part in fixed::limits(16) {
+        // Of the many that differ little, a few.
+        let (first, every) = match part.name {
+            "N full and churned" => (0, 3),
+            "K full" => (0, 2),
+            "16 staged" => (1, 5),
+            "63 groups" => (2, 5),
+            "rooms" => (0, 17),
+            // Long, and a random case or two has the like.
+            _ => (0, usize::MAX),
+        };
+        cases.extend(part.cases.skip(first).step_by(every).filter_map(|case| recorded(&case)));
+    }
+    let mut random = 0;
+    while cases.iter().map(Vec::len).sum::<usize>() < budget {
+        let seed = seed.wrapping_mul(0x1_0000_0000).wrapping_add(random);
+        random += 1;
+        let (case, _) = generate::random_case(seed, Sets::Staged, make)
+            .unwrap_or_else(|difference| panic!("{}", difference.text()));
+        cases.extend(recorded(&case).filter(|bytes| bytes.len() < 1500));
+    }
+
+    let mut file = MAGIC.to_vec();
+    file.extend((cases.len() as u32).to_le_bytes());
+    file.extend(cases.concat());
+    file
+}
+
+/// Reads a file's bytes from the front.
+struct Bytes<'a>(&'a [u8]);
+
+impl<'a> Bytes<'a> {
+    fn take(&mut self, length: usize) -> &'a [u8] {
+        let (front, rest) = self.0.split_at(length);
+        self.0 = rest;
+        front
+    }
+
+    fn number(&mut self, width: usize) -> usize {
+        self.take(width)
+            .iter()
+            .rev()
+            .fold(0, |number, &byte| number << 8 | usize::from(byte))
+    }
+}
+
+/// What a replay found.
+#[derive(Clone, Copy, PartialEq, Eq, Default, Debug)]
+pub struct Replayed {
+    pub cases: usize,
+    pub runs: usize,
+    pub commands: usize,
+    pub rows: usize,
+    pub agree: usize,
+}
+
+/// Replays a file on a side.
+pub fn replay(file: &[u8], make: &dyn Fn() -> Box<dyn Side>) -> Replayed {
+    let mut bytes = Bytes(file);
+    assert_eq!(bytes.take(8), MAGIC, "no file of recorded answers");
+    let mut replayed = Replayed {
+        cases: bytes.number(4),
+        ..Replayed::default()
+    };
+    for _ in 0..replayed.cases {
+        let mut side = make();
+        replayed.agree += usize::from(replay_case(&mut bytes, &mut *side, &mut replayed));
+    }
+    assert!(bytes.0.is_empty(), "bytes are left over");
+    replayed
+}
+
+fn replay_case(bytes: &mut Bytes, side: &mut dyn Side, replayed: &mut Replayed) -> bool {
+    let (n, k, runs) = (bytes.number(2), bytes.number(1), bytes.number(1));
+    let mut agree = side.start(MOST_WORDS, n, k) == 0;
+    for _ in 0..runs {
+        let (length, room) = (bytes.number(2), bytes.number(2));
+        let tape = bytes.take(length);
+        let expected = [bytes.number(1), bytes.number(2), bytes.number(2), bytes.number(2)];
+        let answers = bytes.take(expected[3]);
+        let mut out = vec![0; room];
+        let ran = side.run(tape, &mut out);
+        agree &= [ran.stop as usize, ran.commands, ran.read, ran.written] == expected;
+        agree &= &out[..ran.written] == answers;
+        replayed.runs += 1;
+        replayed.commands += ran.commands;
+    }
+    let length = bytes.number(2);
+    let roll = bytes.take(length);
+    let mut out = vec![0; MOST_ROLL];
+    agree &= side.roll(&mut out) == (0, length) && &out[..length] == roll;
+    for _ in 0..bytes.number(1) {
+        let (kind, length) = (bytes.number(1) as u8, bytes.number(2));
+        for values in [false, true] {
+            let expected: Vec<u32> = bytes
+                .take(8 * length)
+                .chunks(4)
+                .map(|word| Bytes(word).number(4) as u32)
+                .collect();
+            agree &= side.column_number(kind, values, 0, length) == 0;
+            agree &= side.column_number(kind, values, 0, length + 1) == 16;
+            agree &= side.column(kind, values, 0, length) == expected;
+        }
+        replayed.rows += length;
+    }
+    agree
+}

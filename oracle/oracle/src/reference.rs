@@ -1,0 +1,951 @@
+//! Document 01 again, in plain lists: no sparse sets, no masks, every lookup a search. It is written after the
+//! document's definitions and shares no code with the harness. A fault can be switched on, to see whether the comparison finds it.
+
+use crate::side::Side;
+use sparsey::harness::{Id, Preset, Ran};
+use std::collections::{BTreeMap, BTreeSet, VecDeque};
+
+/// Departures from document 01.
+#[derive(Clone, Copy, PartialEq, Eq, Debug)]
+pub enum Fault {
+    // The five that document 01 names.
+    RemoveBeforeLeaving,
+    SmallestFirst,
+    SwapNewKindsOnly,
+    GoOnUpward,
+    IgnoreVersions,
+    // The hollow stores that it names.
+    AcknowledgeAfterFirst,
+    StopAtOnce,
+    AlterNothing,
+    FixedRange,
+    InventedCounts,
+    RefuseAll,
+    // Others.
+    LastInFirstOut,
+    NoVersionStep,
+    VersionWraps,
+    RetiredForgotten,
+    LiveListShifts,
+    RowsShift,
+    ReplaceAppends,
+    ReplaceKeepsValue,
+    LeaveOwnGroupOnly,
+    LeaveFromSmallest,
+    KillLeavesNoGroup,
+    ApplyByIndex,
+    ApplyBackwards,
+    ApplyKeepsDraft,
+    ApplyEmptiesStaged,
+    WipeKeepsCounts,
+    WipeKillsAll,
+    ExcludeAnyLarger,
+    ExcludePart,
+    RangeOfDraft,
+    RangeKeepsExcluded,
+    OneKindWithExcluded,
+    TakeByRisingKind,
+    TakeGarbage,
+    RefusalEmptiesStaged,
+    NothingAddedKeepsStaged,
+    AgainAcrossLists,
+    EmptyKeepsExcluded,
+    FifteenStaged,
+    RoomByAnswerGiven,
+    CutBeforeUnknown,
+    WideAfterClash,
+    ClashBeforeEqual,
+    TwoFamiliesJoined,
+    GroupBelowAccepted,
+    GroupBetweenAccepted,
+    SixtyFourGroups,
+    ManyBeforeEqual,
+    KindsBeforeKnown,
+    FullByLive,
+    RefusalCountWraps,
+    RefusalCountHasStops,
+    RollByLiveList,
+    RollByRegistration,
+    StartKeepsRefusalCount,
+}
+
+impl Fault {
+    pub const ALL: [Fault; 56] = {
+        use Fault::*;
+        [
+            RemoveBeforeLeaving,
+            SmallestFirst,
+            SwapNewKindsOnly,
+            GoOnUpward,
+            IgnoreVersions,
+            AcknowledgeAfterFirst,
+            StopAtOnce,
+            AlterNothing,
+            FixedRange,
+            InventedCounts,
+            RefuseAll,
+            LastInFirstOut,
+            NoVersionStep,
+            VersionWraps,
+            RetiredForgotten,
+            LiveListShifts,
+            RowsShift,
+            ReplaceAppends,
+            ReplaceKeepsValue,
+            LeaveOwnGroupOnly,
+            LeaveFromSmallest,
+            KillLeavesNoGroup,
+            ApplyByIndex,
+            ApplyBackwards,
+            ApplyKeepsDraft,
+            ApplyEmptiesStaged,
+            WipeKeepsCounts,
+            WipeKillsAll,
+            ExcludeAnyLarger,
+            ExcludePart,
+            RangeOfDraft,
+            RangeKeepsExcluded,
+            OneKindWithExcluded,
+            TakeByRisingKind,
+            TakeGarbage,
+            RefusalEmptiesStaged,
+            NothingAddedKeepsStaged,
+            AgainAcrossLists,
+            EmptyKeepsExcluded,
+            FifteenStaged,
+            RoomByAnswerGiven,
+            CutBeforeUnknown,
+            WideAfterClash,
+            ClashBeforeEqual,
+            TwoFamiliesJoined,
+            GroupBelowAccepted,
+            GroupBetweenAccepted,
+            SixtyFourGroups,
+            ManyBeforeEqual,
+            KindsBeforeKnown,
+            FullByLive,
+            RefusalCountWraps,
+            RefusalCountHasStops,
+            RollByLiveList,
+            RollByRegistration,
+            StartKeepsRefusalCount,
+        ]
+    };
+
+    /// What is wrong, in a line.
+    pub fn text(self) -> &'static str {
+        use Fault::*;
+        match self {
+            RemoveBeforeLeaving => "removing before leaving the groups",
+            SmallestFirst => "leaving the smallest group first",
+            SwapNewKindsOnly => "swapping in the group's new kinds only (the ring)",
+            GoOnUpward => "going on upward after a missing part",
+            IgnoreVersions => "ignoring versions",
+            AcknowledgeAfterFirst => "running the first command and only acknowledging the others",
+            StopAtOnce => "stopping a run before its first command",
+            AlterNothing => "altering nothing",
+            FixedRange => "a fixed range",
+            InventedCounts => "invented group counts",
+            RefuseAll => "refusing throughout",
+            LastInFirstOut => "the number recycled last is taken first",
+            NoVersionStep => "a destroyed number is recycled at its old version",
+            VersionWraps => "after the last version comes version 1",
+            RetiredForgotten => "a retired number may be issued again",
+            LiveListShifts => "a destroyed entity's place in the live list is closed by moving all behind it",
+            RowsShift => "a removed row's gap is closed by moving all behind it",
+            ReplaceAppends => "inserting a held kind moves its row to the end",
+            ReplaceKeepsValue => "inserting a held kind keeps the old value",
+            LeaveOwnGroupOnly => "removal leaves the kind's own group only",
+            LeaveFromSmallest => "removal leaves every group of the family",
+            KillLeavesNoGroup => "a destroyed entity leaves no group",
+            ApplyByIndex => "APPLY walks entities by index",
+            ApplyBackwards => "APPLY walks the live list from its end",
+            ApplyKeepsDraft => "APPLY keeps the draft",
+            ApplyEmptiesStaged => "APPLY empties the staged components",
+            WipeKeepsCounts => "WIPE keeps group counts",
+            WipeKillsAll => "WIPE destroys the entities too",
+            ExcludeAnyLarger => "RANGE takes excluded kinds equal to what any larger group has more",
+            ExcludePart => "RANGE takes excluded kinds that are some of the next larger group's new ones",
+            RangeOfDraft => "RANGE also sees groups of the draft, with count 0",
+            RangeKeepsExcluded => "RANGE keeps the excluded kinds",
+            OneKindWithExcluded => "RANGE of one kind ignores excluded kinds",
+            TakeByRisingKind => "TAKE answers by rising kind",
+            TakeGarbage => "TAKE answers the staged value for a kind that is not held",
+            RefusalEmptiesStaged => "a refused command empties the staged components",
+            NothingAddedKeepsStaged => "GROUP answering 0 keeps the staged components",
+            AgainAcrossLists => "BAR refuses a kind that is staged",
+            EmptyKeepsExcluded => "EMPTY keeps the excluded kinds",
+            FifteenStaged => "fifteen kinds can be staged",
+            RoomByAnswerGiven => "NOROOM goes by the answer given, not the accepted one",
+            CutBeforeUnknown => "an unknown byte at the tape's end is CUT",
+            WideAfterClash => "CLASH comes before WIDE",
+            ClashBeforeEqual => "a group equal to one present clashes",
+            TwoFamiliesJoined => "a group that holds two families is added to the first",
+            GroupBelowAccepted => "a group inside a family's smallest is added",
+            GroupBetweenAccepted => "a smaller group with a foreign kind is added, as the Rust does",
+            SixtyFourGroups => "a draft holds 64 groups",
+            ManyBeforeEqual => "MANY comes before nothing added",
+            KindsBeforeKnown => "KINDS is answered for a known kind too",
+            FullByLive => "FULL goes by the entities live",
+            RefusalCountWraps => "the refusal count starts over after 4,294,967,295",
+            RefusalCountHasStops => "the refusal count has stops too",
+            RollByLiveList => "the roll follows the live list",
+            RollByRegistration => "the roll's parts follow the order of registration",
+            StartKeepsRefusalCount => "a second start keeps the refusal count",
+        }
+    }
+}
+
+#[derive(Clone, Debug)]
+struct Row {
+    entity: Id,
+    value: u64,
+}
+
+/// A chain of groups: group g has the kinds of the rings up to its own.
+#[derive(Clone, Debug)]
+struct Family {
+    new_kinds: Vec<Vec<u8>>,
+    counts: Vec<usize>,
+}
+
+impl Family {
+    fn kinds(&self, group: usize) -> Vec<u8> {
+        self.new_kinds[..=group].concat()
+    }
+
+    fn all(&self) -> BTreeSet<u8> {
+        self.new_kinds.iter().flatten().copied().collect()
+    }
+
+    fn own_group(&self, kind: u8) -> Option<usize> {
+        self.new_kinds.iter().position(|kinds| kinds.contains(&kind))
+    }
+}
+
+fn set(kinds: &[u8]) -> BTreeSet<u8> {
+    kinds.iter().copied().collect()
+}
+
+#[derive(Clone, Debug)]
+struct Store {
+    fault: Option<Fault>,
+    n: usize,
+    k: usize,
+    live: Vec<Id>,
+    recycled: VecDeque<Id>,
+    issued: usize,
+    registered: Vec<u8>,
+    columns: BTreeMap<u8, Vec<Row>>,
+    layout: Vec<Family>,
+    draft: Vec<Family>,
+    staged: Vec<(u8, u64)>,
+    excluded: Vec<u8>,
+    refusals: u32,
+    commands: u64,
+}
+
+/// The plain side.
+#[derive(Clone, Debug)]
+pub struct Reference {
+    fault: Option<Fault>,
+    store: Option<Store>,
+}
+
+impl Reference {
+    pub fn new() -> Self {
+        Self {
+            fault: None,
+            store: None,
+        }
+    }
+
+    pub fn with(fault: Fault) -> Self {
+        Self {
+            fault: Some(fault),
+            store: None,
+        }
+    }
+}
+
+impl Side for Reference {
+    fn name(&self) -> &'static str {
+        "reference"
+    }
+
+    fn start(&mut self, words: usize, n: usize, k: usize) -> u32 {
+        if n < 1 || n > 4096 || k < 1 || k > 128 {
+            return 1;
+        }
+        if words < 1024 + 16 * n + k * (8 + 6 * n) {
+            return 2;
+        }
+        let old = self.store.take();
+        self.store = Some(Store {
+            fault: self.fault,
+            n,
+            k,
+            live: vec![],
+            recycled: VecDeque::new(),
+            issued: 0,
+            registered: vec![],
+            columns: BTreeMap::new(),
+            layout: vec![],
+            draft: vec![],
+            staged: vec![],
+            excluded: vec![],
+            refusals: old
+                .filter(|_| self.fault == Some(Fault::StartKeepsRefusalCount))
+                .map_or(0, |old| old.refusals),
+            commands: 0,
+        });
+        0
+    }
+
+    fn preset(&mut self, preset: &Preset) {
+        let store = self.store.as_mut().unwrap();
+        store.live = preset.live.clone();
+        store.recycled = preset.recycled.iter().copied().collect();
+        store.issued = preset.issued;
+        store.refusals = preset.refusals;
+    }
+
+    fn run(&mut self, tape: &[u8], out: &mut [u8]) -> Ran {
+        let Some(store) = &mut self.store else {
+            return Ran {
+                stop: 3,
+                ..Ran::default()
+            };
+        };
+        store.run(tape, out)
+    }
+
+    fn column(&mut self, kind: u8, values: bool, start: usize, end: usize) -> Vec<u32> {
+        if self.column_number(kind, values, start, end) != 0 {
+            return vec![];
+        }
+        let mut words = vec![];
+        for row in &self.store.as_ref().unwrap().columns[&kind][start..end] {
+            match values {
+                false => words.extend([row.entity.0, row.entity.1]),
+                true => words.extend([row.value as u32, (row.value >> 32) as u32]),
+            }
+        }
+        words
+    }
+
+    fn column_number(&mut self, kind: u8, _values: bool, start: usize, end: usize) -> u32 {
+        let Some(store) = &self.store else { return 3 };
+        match store.columns.get(&kind) {
+            None => 7,
+            Some(rows) if start > end || end > rows.len() => 16,
+            Some(_) => 0,
+        }
+    }
+
+    fn roll(&mut self, out: &mut [u8]) -> (u32, usize) {
+        let Some(store) = &self.store else { return (3, 0) };
+        let roll = store.roll();
+        if out.len() < roll.len() {
+            return (6, 0);
+        }
+        out[..roll.len()].copy_from_slice(&roll);
+        (0, roll.len())
+    }
+
+    fn live(&mut self) -> Vec<Id> {
+        self.store.as_ref().map_or(vec![], |store| store.live.clone())
+    }
+}
+
+/// Operand bytes by command byte.
+fn width(byte: u8) -> usize {
+    match byte {
+        0x01 | 0x0b => 1,
+        0x02 => 9,
+        0x04 | 0x05 | 0x06 | 0x07 => 8,
+        _ => 0,
+    }
+}
+
+fn number(bytes: &[u8]) -> u64 {
+    bytes
+        .iter()
+        .rev()
+        .fold(0, |number, &byte| number * 256 + u64::from(byte))
+}
+
+type Answer = Result<Vec<u8>, u8>;
+
+impl Store {
+    fn has(&self, fault: Fault) -> bool {
+        self.fault == Some(fault)
+    }
+
+    fn run(&mut self, tape: &[u8], out: &mut [u8]) -> Ran {
+        let mut ran = Ran::default();
+        loop {
+            let rest = &tape[ran.read..];
+            if rest.is_empty() {
+                return ran;
+            }
+            let stop = self.stop(rest, out.len() - ran.written);
+            if stop != 0 || self.has(Fault::StopAtOnce) {
+                if self.has(Fault::RefusalCountHasStops) {
+                    self.refusals = self.refusals.saturating_add(1);
+                }
+                ran.stop = stop.max(u32::from(self.has(Fault::StopAtOnce)) * 4);
+                return ran;
+            }
+            let (byte, width) = (rest[0], width(rest[0]));
+            let answer = self.answer(byte, &rest[1..1 + width]);
+            out[ran.written..ran.written + answer.len()].copy_from_slice(&answer);
+            ran.written += answer.len();
+            ran.read += 1 + width;
+            ran.commands += 1;
+        }
+    }
+
+    /// 4, 5 or 6 where the run stops before the next command, else 0.
+    fn stop(&self, rest: &[u8], free: usize) -> u32 {
+        if rest[0] < 0x01 || rest[0] > 0x0e {
+            return match self.has(Fault::CutBeforeUnknown) && rest.len() == 1 {
+                true => 5,
+                false => 4,
+            };
+        }
+        if rest.len() < 1 + width(rest[0]) {
+            return 5;
+        }
+        let needed = match self.has(Fault::RoomByAnswerGiven) {
+            true => self.clone().answer(rest[0], &rest[1..1 + width(rest[0])]).len(),
+            false => self.accepted_length(rest[0]),
+        };
+        match free < needed {
+            true => 6,
+            false => 0,
+        }
+    }
+
+    fn accepted_length(&self, byte: u8) -> usize {
+        1 + match byte {
+            0x01 => 1,
+            0x03 => 8,
+            0x05 => 9 * self.staged.len(),
+            0x09 => 1,
+            0x0c => 9,
+            0x0e => 4,
+            _ => 0,
+        }
+    }
+
+    fn answer(&mut self, byte: u8, operands: &[u8]) -> Vec<u8> {
+        self.commands += 1;
+        if self.has(Fault::RefuseAll) {
+            self.refusals = self.refusals.saturating_add(1);
+            return vec![7];
+        }
+        if self.has(Fault::AcknowledgeAfterFirst) && self.commands > 1 {
+            return vec![0; self.accepted_length(byte)];
+        }
+        let before = self.has(Fault::AlterNothing).then(|| self.clone());
+        let answer = match self.command(byte, operands) {
+            Ok(mut bytes) => {
+                bytes.insert(0, 0);
+                bytes
+            }
+            Err(refusal) => {
+                self.refusals = match self.has(Fault::RefusalCountWraps) {
+                    true => self.refusals.wrapping_add(1),
+                    false => self.refusals.saturating_add(1),
+                };
+                if self.has(Fault::RefusalEmptiesStaged) {
+                    self.staged.clear();
+                }
+                vec![refusal]
+            }
+        };
+        if let Some(before) = before {
+            *self = before;
+        }
+        answer
+    }
+
+    fn command(&mut self, byte: u8, operands: &[u8]) -> Answer {
+        let entity = || (number(&operands[..4]) as u32, number(&operands[4..]) as u32);
+        match byte {
+            0x01 => self.register(operands[0]),
+            0x02 => self.stage(operands[0], number(&operands[1..])),
+            0x03 => self.create(),
+            0x04 => self.put(entity()),
+            0x05 => self.take(entity()),
+            0x06 => self.drop(entity()),
+            0x07 => self.kill(entity()),
+            0x08 => self.wipe(),
+            0x09 => self.group(),
+            0x0a => self.apply(),
+            0x0b => self.exclude(operands[0]),
+            0x0c => self.range(),
+            0x0d => self.empty(),
+            _ => Ok(self.refusals.to_le_bytes().to_vec()),
+        }
+    }
+
+    fn register(&mut self, kind: u8) -> Answer {
+        if kind > 127 {
+            return Err(7);
+        }
+        let known = self.registered.contains(&kind);
+        if self.registered.len() == self.k && (!known || self.has(Fault::KindsBeforeKnown)) {
+            return Err(8);
+        }
+        if !known {
+            self.registered.push(kind);
+            self.columns.insert(kind, vec![]);
+        }
+        Ok(vec![u8::from(!known)])
+    }
+
+    fn stage(&mut self, kind: u8, value: u64) -> Answer {
+        if kind > 127 || !self.registered.contains(&kind) {
+            return Err(7);
+        }
+        if self.staged.iter().any(|held| held.0 == kind) {
+            return Err(9);
+        }
+        if self.staged.len() == if self.has(Fault::FifteenStaged) { 15 } else { 16 } {
+            return Err(10);
+        }
+        self.staged.push((kind, value));
+        Ok(vec![])
+    }
+
+    fn exclude(&mut self, kind: u8) -> Answer {
+        if kind > 127 || !self.registered.contains(&kind) {
+            return Err(7);
+        }
+        let is_staged = self.staged.iter().any(|held| held.0 == kind);
+        if self.excluded.contains(&kind) || self.has(Fault::AgainAcrossLists) && is_staged {
+            return Err(9);
+        }
+        if self.excluded.len() == 16 {
+            return Err(10);
+        }
+        self.excluded.push(kind);
+        Ok(vec![])
+    }
+
+    fn empty(&mut self) -> Answer {
+        self.staged.clear();
+        if !self.has(Fault::EmptyKeepsExcluded) {
+            self.excluded.clear();
+        }
+        Ok(vec![])
+    }
+
+    fn same(&self, a: Id, b: Id) -> bool {
+        a.0 == b.0 && (a.1 == b.1 || self.has(Fault::IgnoreVersions))
+    }
+
+    fn is_live(&self, entity: Id) -> bool {
+        self.live.iter().any(|&live| self.same(live, entity))
+    }
+
+    fn place(&self, kind: u8, entity: Id) -> Option<usize> {
+        self.columns[&kind].iter().position(|row| self.same(row.entity, entity))
+    }
+
+    fn swap(&mut self, kind: u8, a: usize, b: usize) {
+        let rows = self.columns.get_mut(&kind).unwrap();
+        if a < rows.len() && b < rows.len() {
+            rows.swap(a, b);
+        }
+    }
+
+    fn create(&mut self) -> Answer {
+        let full = match self.fault {
+            Some(Fault::FullByLive) => self.live.len() == self.n,
+            _ => self.issued == self.n,
+        };
+        if self.recycled.is_empty() && full {
+            return Err(12);
+        }
+        let longest = match self.has(Fault::LastInFirstOut) {
+            true => self.recycled.pop_back(),
+            false => self.recycled.pop_front(),
+        };
+        let entity = longest.unwrap_or_else(|| {
+            self.issued += 1;
+            (self.issued as u32 - 1, 1)
+        });
+        self.live.push(entity);
+        self.insert(entity);
+        Ok([entity.0.to_le_bytes(), entity.1.to_le_bytes()].concat())
+    }
+
+    fn put(&mut self, entity: Id) -> Answer {
+        if !self.is_live(entity) {
+            return Err(11);
+        }
+        self.insert(entity);
+        Ok(vec![])
+    }
+
+    /// All parts go in, then the touched families' groups are walked upward.
+    fn insert(&mut self, entity: Id) {
+        let staged = std::mem::take(&mut self.staged);
+        for &(kind, value) in &staged {
+            let held = self.place(kind, entity);
+            let (appends, keeps) = (self.has(Fault::ReplaceAppends), self.has(Fault::ReplaceKeepsValue));
+            let rows = self.columns.get_mut(&kind).unwrap();
+            match held {
+                Some(place) if appends => {
+                    rows.remove(place);
+                    rows.push(Row { entity, value });
+                }
+                Some(place) if !keeps => rows[place].value = value,
+                Some(_) => {}
+                None => rows.push(Row { entity, value }),
+            }
+        }
+        for family in 0..self.layout.len() {
+            if staged
+                .iter()
+                .any(|&(kind, _)| self.layout[family].own_group(kind).is_some())
+            {
+                self.enter(family, entity);
+            }
+        }
+    }
+
+    fn enter(&mut self, family: usize, entity: Id) {
+        for group in 0..self.layout[family].new_kinds.len() {
+            let new = self.layout[family].new_kinds[group].clone();
+            if new.iter().any(|&kind| self.place(kind, entity).is_none()) {
+                match self.has(Fault::GoOnUpward) {
+                    true => continue,
+                    false => return,
+                }
+            }
+            let count = self.layout[family].counts[group];
+            if self.place(new[0], entity).unwrap() < count {
+                continue;
+            }
+            let kinds = match self.has(Fault::SwapNewKindsOnly) {
+                true => new,
+                false => self.layout[family].kinds(group),
+            };
+            for kind in kinds {
+                if let Some(place) = self.place(kind, entity) {
+                    self.swap(kind, place, count);
+                }
+            }
+            self.layout[family].counts[group] += 1;
+        }
+    }
+
+    /// Leaves a group, if the entity is inside.
+    fn leave(&mut self, family: usize, group: usize, entity: Id) {
+        let new = self.layout[family].new_kinds[group].clone();
+        let count = self.layout[family].counts[group];
+        let inside = new
+            .iter()
+            .all(|&kind| self.place(kind, entity).is_some_and(|place| place < count));
+        if !inside {
+            return;
+        }
+        let kinds = match self.has(Fault::SwapNewKindsOnly) {
+            true => new,
+            false => self.layout[family].kinds(group),
+        };
+        for kind in kinds {
+            if let Some(place) = self.place(kind, entity) {
+                self.swap(kind, place, count - 1);
+            }
+        }
+        self.layout[family].counts[group] -= 1;
+    }
+
+    /// Leaves the groups from `lowest` to the family's largest, the largest first.
+    fn leave_from(&mut self, family: usize, lowest: usize, entity: Id) {
+        let mut groups: Vec<usize> = (lowest..self.layout[family].new_kinds.len()).rev().collect();
+        match self.fault {
+            Some(Fault::SmallestFirst) => groups.reverse(),
+            Some(Fault::LeaveOwnGroupOnly) => groups = vec![lowest],
+            _ => {}
+        }
+        for group in groups {
+            self.leave(family, group, entity);
+        }
+    }
+
+    fn remove_rows(&mut self, entity: Id, kinds: &[u8]) -> Vec<Option<u64>> {
+        let shifts = self.has(Fault::RowsShift);
+        kinds
+            .iter()
+            .map(|kind| {
+                let place = self.place(*kind, entity)?;
+                let rows = self.columns.get_mut(kind).unwrap();
+                Some(match shifts {
+                    true => rows.remove(place).value,
+                    false => rows.swap_remove(place).value,
+                })
+            })
+            .collect()
+    }
+
+    /// Before any part goes, the groups from each removed kind's own are left.
+    fn remove(&mut self, entity: Id, kinds: &[u8]) -> Vec<Option<u64>> {
+        let early = self
+            .has(Fault::RemoveBeforeLeaving)
+            .then(|| self.remove_rows(entity, kinds));
+        for family in 0..self.layout.len() {
+            let own = kinds.iter().filter_map(|&kind| self.layout[family].own_group(kind));
+            if let Some(lowest) = own.min() {
+                let lowest = if self.has(Fault::LeaveFromSmallest) { 0 } else { lowest };
+                self.leave_from(family, lowest, entity);
+            }
+        }
+        early.unwrap_or_else(|| self.remove_rows(entity, kinds))
+    }
+
+    fn take(&mut self, entity: Id) -> Answer {
+        if !self.is_live(entity) {
+            return Err(11);
+        }
+        let mut staged = std::mem::take(&mut self.staged);
+        if self.has(Fault::TakeByRisingKind) {
+            staged.sort();
+        }
+        let kinds: Vec<u8> = staged.iter().map(|held| held.0).collect();
+        let mut answer = vec![];
+        for (value, held) in self.remove(entity, &kinds).into_iter().zip(staged) {
+            let missing = if self.has(Fault::TakeGarbage) { held.1 } else { 0 };
+            answer.push(u8::from(value.is_some()));
+            answer.extend(value.unwrap_or(missing).to_le_bytes());
+        }
+        Ok(answer)
+    }
+
+    fn drop(&mut self, entity: Id) -> Answer {
+        if !self.is_live(entity) {
+            return Err(11);
+        }
+        let kinds: Vec<u8> = std::mem::take(&mut self.staged).iter().map(|held| held.0).collect();
+        self.remove(entity, &kinds);
+        Ok(vec![])
+    }
+
+    fn kill(&mut self, entity: Id) -> Answer {
+        let Some(place) = self.live.iter().position(|&live| self.same(live, entity)) else {
+            return Err(11);
+        };
+        if !self.has(Fault::KillLeavesNoGroup) {
+            for family in 0..self.layout.len() {
+                self.leave_from(family, 0, entity);
+            }
+        }
+        let kinds = self.registered.clone();
+        self.remove_rows(entity, &kinds);
+        match self.has(Fault::LiveListShifts) {
+            true => self.live.remove(place),
+            false => self.live.swap_remove(place),
+        };
+        let next = match self.fault {
+            Some(Fault::NoVersionStep) => Some(entity.1),
+            Some(Fault::VersionWraps) => Some(entity.1.checked_add(1).unwrap_or(1)),
+            _ => entity.1.checked_add(1),
+        };
+        match next {
+            Some(version) => self.recycled.push_back((entity.0, version)),
+            None if self.has(Fault::RetiredForgotten) => self.issued -= 1,
+            None => {}
+        }
+        Ok(vec![])
+    }
+
+    fn wipe(&mut self) -> Answer {
+        for rows in self.columns.values_mut() {
+            rows.clear();
+        }
+        if !self.has(Fault::WipeKeepsCounts) {
+            for family in &mut self.layout {
+                family.counts.fill(0);
+            }
+        }
+        if self.has(Fault::WipeKillsAll) {
+            self.live.clear();
+        }
+        Ok(vec![])
+    }
+
+    fn group(&mut self) -> Answer {
+        let kinds: Vec<u8> = self.staged.iter().map(|held| held.0).collect();
+        let added = self.add_group(&kinds)?;
+        if added || !self.has(Fault::NothingAddedKeepsStaged) {
+            self.staged.clear();
+        }
+        Ok(vec![u8::from(added)])
+    }
+
+    fn add_group(&mut self, kinds: &[u8]) -> Result<bool, u8> {
+        let new = set(kinds);
+        if new.len() < 2 {
+            return Ok(false);
+        }
+        if new.len() == 16 && !self.has(Fault::WideAfterClash) {
+            return Err(13);
+        }
+        let most = if self.has(Fault::SixtyFourGroups) { 64 } else { 63 };
+        let many = self.draft.iter().map(|family| family.new_kinds.len()).sum::<usize>() == most;
+        if many && self.has(Fault::ManyBeforeEqual) {
+            return Err(15);
+        }
+        let is_present = |family: &Family| (0..family.new_kinds.len()).any(|group| set(&family.kinds(group)) == new);
+        if self.draft.iter().any(is_present) {
+            return match self.has(Fault::ClashBeforeEqual) {
+                true => Err(14),
+                false => Ok(false),
+            };
+        }
+        let sharing: Vec<usize> = (0..self.draft.len())
+            .filter(|&family| !self.draft[family].all().is_disjoint(&new))
+            .collect();
+        let held = |family: usize| self.draft[family].all().is_subset(&new);
+        let place = match sharing[..] {
+            [] => None,
+            [family] if held(family) => Some(family),
+            [family]
+                if self.has(Fault::GroupBelowAccepted) && new.is_subset(&set(&self.draft[family].new_kinds[0])) =>
+            {
+                return Ok(true);
+            }
+            [family] if self.has(Fault::GroupBetweenAccepted) && self.is_between(family, &new) => return Ok(true),
+            [family, other] if self.has(Fault::TwoFamiliesJoined) && held(family) && held(other) => Some(family),
+            _ => return Err(14),
+        };
+        if new.len() == 16 {
+            return Err(13);
+        }
+        if many {
+            return Err(15);
+        }
+        match place {
+            None => self.draft.push(Family {
+                new_kinds: vec![kinds.to_vec()],
+                counts: vec![0],
+            }),
+            Some(family) => {
+                let old = self.draft[family].all();
+                let added = kinds.iter().copied().filter(|kind| !old.contains(kind)).collect();
+                self.draft[family].new_kinds.push(added);
+                self.draft[family].counts.push(0);
+            }
+        }
+        Ok(true)
+    }
+
+    /// Whether the new group is a group of the family with foreign kinds, and smaller than the next.
+    fn is_between(&self, family: usize, new: &BTreeSet<u8>) -> bool {
+        let family = &self.draft[family];
+        let shared: BTreeSet<u8> = family.all().intersection(new).copied().collect();
+        (1..family.new_kinds.len())
+            .any(|group| set(&family.kinds(group - 1)) == shared && new.len() < family.kinds(group).len())
+    }
+
+    fn apply(&mut self) -> Answer {
+        self.layout = self.draft.clone();
+        if !self.has(Fault::ApplyKeepsDraft) {
+            self.draft.clear();
+        }
+        if self.has(Fault::ApplyEmptiesStaged) {
+            self.staged.clear();
+        }
+        let mut live = self.live.clone();
+        match self.fault {
+            Some(Fault::ApplyByIndex) => live.sort(),
+            Some(Fault::ApplyBackwards) => live.reverse(),
+            _ => {}
+        }
+        for entity in live {
+            for family in 0..self.layout.len() {
+                self.enter(family, entity);
+            }
+        }
+        Ok(vec![])
+    }
+
+    fn range(&mut self) -> Answer {
+        let found = match self.fault {
+            Some(Fault::FixedRange) => Some((0, 1)),
+            _ => self.find_range(),
+        };
+        self.staged.clear();
+        if !self.has(Fault::RangeKeepsExcluded) {
+            self.excluded.clear();
+        }
+        let (start, end) = found.unwrap_or((0, 0));
+        let mut answer = vec![u8::from(found.is_some())];
+        answer.extend((start as u32).to_le_bytes());
+        answer.extend((end as u32).to_le_bytes());
+        Ok(answer)
+    }
+
+    fn find_range(&self) -> Option<(usize, usize)> {
+        let staged: BTreeSet<u8> = self.staged.iter().map(|held| held.0).collect();
+        let excluded = set(&self.excluded);
+        if staged.len() == 1 && (excluded.is_empty() || self.has(Fault::OneKindWithExcluded)) {
+            return Some((0, self.columns[&self.staged[0].0].len()));
+        }
+        let drafted = self.draft.iter().filter(|_| self.has(Fault::RangeOfDraft));
+        for family in self.layout.iter().chain(drafted) {
+            for group in 0..family.new_kinds.len() {
+                if set(&family.kinds(group)) != staged {
+                    continue;
+                }
+                let count = match self.has(Fault::InventedCounts) {
+                    true => group,
+                    false => family.counts[group],
+                };
+                if excluded.is_empty() {
+                    return Some((0, count));
+                }
+                for larger in group + 1..family.new_kinds.len() {
+                    let more = set(&family.new_kinds[group + 1..=larger].concat());
+                    let next = larger == group + 1;
+                    let part = next && self.has(Fault::ExcludePart) && excluded.is_subset(&more);
+                    if excluded == more && (next || self.has(Fault::ExcludeAnyLarger)) || part {
+                        return Some((family.counts[larger], count));
+                    }
+                }
+            }
+        }
+        None
+    }
+
+    fn roll(&self) -> Vec<u8> {
+        let mut live = self.live.clone();
+        if !self.has(Fault::RollByLiveList) {
+            live.sort();
+        }
+        let mut kinds = self.registered.clone();
+        if !self.has(Fault::RollByRegistration) {
+            kinds.sort();
+        }
+        let mut roll = (live.len() as u32).to_le_bytes().to_vec();
+        for entity in live {
+            let parts: Vec<(u8, u64)> = kinds
+                .iter()
+                .filter_map(|&kind| Some((kind, self.columns[&kind][self.place(kind, entity)?].value)))
+                .collect();
+            roll.extend(entity.0.to_le_bytes());
+            roll.extend(entity.1.to_le_bytes());
+            roll.push(parts.len() as u8);
+            for (kind, value) in parts {
+                roll.push(kind);
+                roll.extend(value.to_le_bytes());
+            }
+        }
+        roll
+    }
+}

@@ -1,0 +1,80 @@
+//! The entries of document 01, as either side of the comparison offers them.
+
+use sparsey::harness::{Id, Oracle, Preset, Ran};
+
+/// One side of the comparison: a store, lent or of its own, and the entries on it.
+pub trait Side {
+    fn name(&self) -> &'static str;
+
+    /// *start* on `words` words: the number.
+    fn start(&mut self, words: usize, n: usize, k: usize) -> u32;
+
+    /// Puts the started store into a state that an empty one reaches only by very many commands.
+    fn preset(&mut self, preset: &Preset);
+
+    fn run(&mut self, tape: &[u8], out: &mut [u8]) -> Ran;
+
+    /// *column*: the part's words, entities or values.
+    fn column(&mut self, kind: u8, values: bool, start: usize, end: usize) -> Vec<u32>;
+
+    /// The number of *column* with the same operands.
+    fn column_number(&mut self, kind: u8, values: bool, start: usize, end: usize) -> u32;
+
+    /// *roll*: the number and how many bytes were written.
+    fn roll(&mut self, out: &mut [u8]) -> (u32, usize);
+
+    /// The live list, in its order.
+    fn live(&mut self) -> Vec<Id>;
+
+    /// What the side found wrong with itself since the last call.
+    fn complaint(&mut self) -> Option<String> {
+        None
+    }
+}
+
+impl Side for Oracle {
+    fn name(&self) -> &'static str {
+        "Rust"
+    }
+
+    fn start(&mut self, words: usize, n: usize, k: usize) -> u32 {
+        Oracle::start(self, words, n, k)
+    }
+
+    fn preset(&mut self, preset: &Preset) {
+        Oracle::preset(self, preset);
+    }
+
+    fn run(&mut self, tape: &[u8], out: &mut [u8]) -> Ran {
+        Oracle::run(self, tape, out)
+    }
+
+    fn column(&mut self, kind: u8, values: bool, start: usize, end: usize) -> Vec<u32> {
+        if Oracle::column_number(self, kind, start, end) != 0 {
+            return vec![];
+        }
+        let (ids, numbers) = Oracle::column(self, kind).unwrap();
+        match values {
+            false => ids[start..end]
+                .iter()
+                .flat_map(|&(index, version)| [index, version])
+                .collect(),
+            true => numbers[start..end]
+                .iter()
+                .flat_map(|&v| [v as u32, (v >> 32) as u32])
+                .collect(),
+        }
+    }
+
+    fn column_number(&mut self, kind: u8, _values: bool, start: usize, end: usize) -> u32 {
+        Oracle::column_number(self, kind, start, end)
+    }
+
+    fn roll(&mut self, out: &mut [u8]) -> (u32, usize) {
+        Oracle::roll(self, out)
+    }
+
+    fn live(&mut self) -> Vec<Id> {
+        Oracle::live(self)
+    }
+}

@@ -1,0 +1,635 @@
+//! Drives the library by document 01's tape. The refusals are the harness's; what an accepted command does is done
+//! by the library's own functions.
+
+mod kinds;
+mod preset;
+mod staged;
+mod tuples;
+
+pub use self::kinds::{Comp, Value};
+pub use self::preset::Preset;
+
+use self::kinds::{kind, number};
+use self::staged::{with_kinds, Staged};
+use crate::component::{ComponentMetadata, ComponentSet, GroupLayout, QueryGroupInfo, ViewGroupInfo};
+use crate::entity::{Entity, Version};
+use crate::World;
+use core::num::NonZeroU32;
+
+/// What *run* answers.
+#[derive(Clone, Copy, PartialEq, Eq, Default, Debug)]
+pub struct Ran {
+    pub stop: u32,
+    pub commands: usize,
+    pub read: usize,
+    pub written: usize,
+}
+
+/// An entity as (index, version).
+pub type Id = (u32, u32);
+
+/// Which of the library's component sets a command goes through.
+#[derive(Clone, Copy, PartialEq, Eq, Debug)]
+pub enum Sets {
+    /// Tuples where there is one for the kinds in their order, `Staged` elsewhere.
+    Tuples,
+    /// `Staged` alone.
+    Staged,
+}
+
+const OPERANDS: [usize; 15] = [0, 1, 9, 0, 8, 8, 8, 8, 0, 0, 0, 1, 0, 0, 0];
+const MOST_STAGED: usize = 16;
+const MOST_GROUPS: usize = 63;
+
+/// How many words a store for `n` entities and `k` kinds takes.
+pub fn words_needed(n: usize, k: usize) -> usize {
+    1024 + 16 * n + k * (8 + 6 * n)
+}
+
+/// A world with what the tape keeps beside it.
+struct Store {
+    n: usize,
+    k: usize,
+    world: World,
+    registered: u128,
+    staged: Vec<(u8, Value)>,
+    excluded: Vec<u8>,
+    draft: Draft,
+    issued: usize,
+    retired: usize,
+    refusals: u32,
+}
+
+/// The draft layout, as the library has it and as sets of kinds, one list a family, rising.
+#[derive(Default)]
+struct Draft {
+    layout: GroupLayout,
+    families: Vec<Vec<u128>>,
+}
+
+/// Document 01 over the library.
+pub struct Oracle {
+    store: Option<Store>,
+    sets: Sets,
+    /// How often each command byte was answered by each number, for the figures.
+    pub seen: [[u64; 16]; 15],
+}
+
+impl Oracle {
+    /// No store yet: every entry but start answers 3.
+    pub fn new(sets: Sets) -> Self {
+        Self {
+            store: None,
+            sets,
+            seen: [[0; 16]; 15],
+        }
+    }
+
+    /// *start*: the number. A refused one leaves what was there.
+    pub fn start(&mut self, words: usize, n: usize, k: usize) -> u32 {
+        if !(1..=4096).contains(&n) || !(1..=128).contains(&k) {
+            return 1;
+        }
+        if words < words_needed(n, k) {
+            return 2;
+        }
+        self.store = Some(Store::new(n, k));
+        0
+    }
+
+    /// Puts a started store into a state that an empty one reaches only by very many commands.
+    pub fn preset(&mut self, preset: &Preset) {
+        let store = self.store.as_mut().expect("started");
+        preset::check(preset, store.n);
+        store.world.entities = preset::entities(preset);
+        store.issued = preset.issued;
+        store.retired = preset.issued - preset.live.len() - preset.recycled.len();
+        store.refusals = preset.refusals;
+    }
+
+    /// Creates and destroys an entity without components so many times, on an empty store.
+    pub fn wear(&mut self, times: u64) {
+        let store = self.store.as_mut().expect("started");
+        assert!(store.issued == 0 && times < u64::from(u32::MAX));
+        for _ in 0..times {
+            let entity = store.world.create(());
+            assert!(store.world.destroy(entity));
+        }
+        store.issued = 1;
+    }
+
+    /// *run*.
+    pub fn run(&mut self, tape: &[u8], out: &mut [u8]) -> Ran {
+        let sets = self.sets;
+        let Some(store) = &mut self.store else {
+            return Ran {
+                stop: 3,
+                ..Ran::default()
+            };
+        };
+
+        let mut ran = Ran::default();
+        while let Some(&byte) = tape.get(ran.read) {
+            if !(1..=14).contains(&byte) {
+                ran.stop = 4;
+                break;
+            }
+            let start = ran.read + 1;
+            let Some(operands) = tape.get(start..start + OPERANDS[usize::from(byte)]) else {
+                ran.stop = 5;
+                break;
+            };
+            if out.len() - ran.written < store.room(byte) {
+                ran.stop = 6;
+                break;
+            }
+
+            let answer = store.command(byte, operands, sets);
+            self.seen[usize::from(byte)][usize::from(answer[0])] += 1;
+            out[ran.written..ran.written + answer.len()].copy_from_slice(&answer);
+            ran.written += answer.len();
+            ran.read = start + operands.len();
+            ran.commands += 1;
+        }
+        ran
+    }
+
+    /// The number that *column* gives.
+    pub fn column_number(&self, number: u8, start: usize, end: usize) -> u32 {
+        let Some(store) = &self.store else { return 3 };
+        match store.length(number) {
+            None => 7,
+            Some(length) if start > end || end > length => 16,
+            Some(_) => 0,
+        }
+    }
+
+    /// The length of a registered kind's column.
+    pub fn length(&self, number: u8) -> Option<usize> {
+        self.store.as_ref()?.length(number)
+    }
+
+    /// *roll*: the number and how many bytes were written.
+    pub fn roll(&self, out: &mut [u8]) -> (u32, usize) {
+        let Some(store) = &self.store else { return (3, 0) };
+        let roll = store.roll();
+        if roll.len() > out.len() {
+            return (6, 0);
+        }
+        out[..roll.len()].copy_from_slice(&roll);
+        (0, roll.len())
+    }
+
+    /// The live entities in the order of the library's list.
+    pub fn live(&self) -> Vec<Id> {
+        let Some(store) = &self.store else { return vec![] };
+        store.world.entities().iter().map(id).collect()
+    }
+
+    /// The registered kinds, rising.
+    pub fn registered(&self) -> Vec<u8> {
+        self.store.as_ref().map_or(vec![], |store| kinds_of(store.registered))
+    }
+
+    /// A registered kind's entities and values in row order.
+    pub fn column(&self, number: u8) -> Option<(Vec<Id>, Vec<u64>)> {
+        self.store.as_ref()?.column(number)
+    }
+
+    /// The groups in force: the kinds, rising, and the count of each, in the library's order.
+    pub fn groups(&self) -> Vec<(Vec<u8>, usize)> {
+        self.store.as_ref().map_or(vec![], Store::groups)
+    }
+
+    /// The groups of the draft, as sets of kinds, one list a family.
+    pub fn draft(&self) -> Vec<Vec<Vec<u8>>> {
+        let families = self.store.as_ref().map_or(&[][..], |store| &store.draft.families);
+        families
+            .iter()
+            .map(|family| family.iter().map(|&group| kinds_of(group)).collect())
+            .collect()
+    }
+
+    /// How many component stores the library keeps, those left behind by relayouts included.
+    pub fn component_stores(&self) -> usize {
+        self.store
+            .as_ref()
+            .map_or(0, |store| store.world.components.components.len())
+    }
+
+    /// RANGE by the library's own query, for the few kinds for which one is compiled. `None` where none is.
+    pub fn slice(&self, include: &[u8], exclude: &[u8]) -> Option<Option<(usize, usize)>> {
+        tuples::slice(&self.store.as_ref()?.world, include, exclude)
+    }
+}
+
+impl Store {
+    fn new(n: usize, k: usize) -> Self {
+        Self {
+            n,
+            k,
+            world: World::default(),
+            registered: 0,
+            staged: vec![],
+            excluded: vec![],
+            draft: Draft::default(),
+            issued: 0,
+            retired: 0,
+            refusals: 0,
+        }
+    }
+
+    /// How many bytes the accepted answer takes.
+    fn room(&self, byte: u8) -> usize {
+        match byte {
+            1 | 9 => 2,
+            3 => 9,
+            5 => 1 + 9 * self.staged.len(),
+            12 => 10,
+            14 => 5,
+            _ => 1,
+        }
+    }
+
+    /// Does one command and gives its answer, the refusal's number included.
+    fn command(&mut self, byte: u8, operands: &[u8], sets: Sets) -> Vec<u8> {
+        match self.accepted(byte, operands, sets) {
+            Ok(bytes) => [vec![0], bytes].concat(),
+            Err(number) => {
+                self.refusals = self.refusals.saturating_add(1);
+                vec![number]
+            }
+        }
+    }
+
+    fn accepted(&mut self, byte: u8, operands: &[u8], sets: Sets) -> Result<Vec<u8>, u8> {
+        match byte {
+            1 => self.register(operands[0]),
+            2 => self.hold(operands[0], words(&operands[1..])),
+            3 => self.create(sets),
+            4 => self.put(operands, sets),
+            5 => self.take(operands, sets),
+            6 => self.drop(operands, sets),
+            7 => self.kill(operands),
+            8 => {
+                self.world.components.clear();
+                Ok(vec![])
+            }
+            9 => self.group(),
+            10 => self.apply(),
+            11 => self.bar(operands[0]),
+            12 => self.range(),
+            13 => {
+                self.staged.clear();
+                self.excluded.clear();
+                Ok(vec![])
+            }
+            14 => Ok(self.refusals.to_le_bytes().to_vec()),
+            _ => unreachable!("refused before"),
+        }
+    }
+
+    fn is_registered(&self, number: u8) -> bool {
+        number < 128 && self.registered >> number & 1 == 1
+    }
+
+    fn register(&mut self, number: u8) -> Result<Vec<u8>, u8> {
+        if number > 127 {
+            return Err(7);
+        }
+        if !self.is_registered(number) && self.registered.count_ones() as usize == self.k {
+            return Err(8);
+        }
+        let new = self.world.components.register_dyn(kind(number).data);
+        assert_eq!(new, !self.is_registered(number), "register_dyn knows other kinds");
+        self.registered |= 1 << number;
+        Ok(vec![u8::from(new)])
+    }
+
+    fn hold(&mut self, number: u8, value: Value) -> Result<Vec<u8>, u8> {
+        if !self.is_registered(number) {
+            return Err(7);
+        }
+        if self.staged.iter().any(|(staged, _)| *staged == number) {
+            return Err(9);
+        }
+        if self.staged.len() == MOST_STAGED {
+            return Err(10);
+        }
+        self.staged.push((number, value));
+        Ok(vec![])
+    }
+
+    fn bar(&mut self, number: u8) -> Result<Vec<u8>, u8> {
+        if !self.is_registered(number) {
+            return Err(7);
+        }
+        if self.excluded.contains(&number) {
+            return Err(9);
+        }
+        if self.excluded.len() == MOST_STAGED {
+            return Err(10);
+        }
+        self.excluded.push(number);
+        Ok(vec![])
+    }
+
+    /// The operands' entity, if it is live.
+    fn entity(&self, operands: &[u8]) -> Result<Entity, u8> {
+        let [index, version] = words(operands);
+        NonZeroU32::new(version)
+            .map(|version| Entity::new(index, Version(version)))
+            .filter(|&entity| self.world.contains_entity(entity))
+            .ok_or(11)
+    }
+
+    fn take_staged(&mut self) -> (Vec<u8>, Vec<Value>) {
+        core::mem::take(&mut self.staged).into_iter().unzip()
+    }
+
+    fn create(&mut self, sets: Sets) -> Result<Vec<u8>, u8> {
+        let recycled = self.issued - self.retired - self.world.entities().len();
+        if recycled == 0 && self.issued == self.n {
+            return Err(12);
+        }
+        let (kinds, values) = self.take_staged();
+        let by_tuple = match sets {
+            Sets::Tuples if kinds.is_empty() => Some(self.world.create(())),
+            Sets::Tuples => tuples::create(&mut self.world, &kinds, &values),
+            Sets::Staged => None,
+        };
+        let entity = by_tuple.unwrap_or_else(|| self.world.create(Staged(kinds.into_iter().zip(values).collect())));
+        if recycled == 0 {
+            assert_eq!(entity.sparse(), self.issued, "the next index was not taken");
+            self.issued += 1;
+        }
+        assert!(entity.sparse() < self.issued, "an index that was never issued");
+        Ok([entity.index.to_le_bytes(), entity.version.0.get().to_le_bytes()].concat())
+    }
+
+    fn put(&mut self, operands: &[u8], sets: Sets) -> Result<Vec<u8>, u8> {
+        let entity = self.entity(operands)?;
+        let (kinds, values) = self.take_staged();
+        let by_tuple = match sets {
+            Sets::Tuples if kinds.is_empty() => Some(self.world.insert(entity, ())),
+            Sets::Tuples => tuples::insert(&mut self.world, entity, &kinds, &values),
+            Sets::Staged => None,
+        };
+        if by_tuple.is_none() {
+            let staged = Staged(kinds.into_iter().zip(values).collect());
+            unsafe { Staged::insert(&mut self.world, entity, staged) };
+        }
+        Ok(vec![])
+    }
+
+    fn take(&mut self, operands: &[u8], sets: Sets) -> Result<Vec<u8>, u8> {
+        let entity = self.entity(operands)?;
+        let (kinds, _) = self.take_staged();
+        let by_tuple = match sets {
+            Sets::Tuples if kinds.is_empty() => {
+                let () = self.world.remove::<()>(entity);
+                Some(vec![])
+            }
+            Sets::Tuples => tuples::remove(&mut self.world, entity, &kinds),
+            Sets::Staged => None,
+        };
+        let removed =
+            by_tuple.unwrap_or_else(|| with_kinds(&kinds, || unsafe { Staged::remove(&mut self.world, entity) }));
+
+        let mut answer = vec![];
+        for value in removed {
+            answer.push(u8::from(value.is_some()));
+            for word in value.unwrap_or([0, 0]) {
+                answer.extend(word.to_le_bytes());
+            }
+        }
+        Ok(answer)
+    }
+
+    fn drop(&mut self, operands: &[u8], sets: Sets) -> Result<Vec<u8>, u8> {
+        let entity = self.entity(operands)?;
+        let (kinds, _) = self.take_staged();
+        let by_tuple = match sets {
+            Sets::Tuples if kinds.is_empty() => Some(self.world.delete::<()>(entity)),
+            Sets::Tuples => tuples::delete(&mut self.world, entity, &kinds),
+            Sets::Staged => None,
+        };
+        if by_tuple.is_none() {
+            with_kinds(&kinds, || self.world.delete::<Staged>(entity));
+        }
+        Ok(vec![])
+    }
+
+    fn kill(&mut self, operands: &[u8]) -> Result<Vec<u8>, u8> {
+        let entity = self.entity(operands)?;
+        assert!(self.world.destroy(entity), "a live entity was not destroyed");
+        if entity.version == Version::LAST {
+            self.retired += 1;
+        }
+        Ok(vec![])
+    }
+
+    fn group(&mut self) -> Result<Vec<u8>, u8> {
+        let kinds: Vec<u8> = self.staged.iter().map(|(number, _)| *number).collect();
+        let place = self.draft.judge(set_of(&kinds))?;
+        self.draft.add(place, &kinds);
+        self.staged.clear();
+        Ok(vec![u8::from(place != Place::Nowhere)])
+    }
+
+    fn apply(&mut self) -> Result<Vec<u8>, u8> {
+        let draft = core::mem::take(&mut self.draft);
+        unsafe {
+            self.world
+                .components
+                .set_layout(&draft.layout, self.world.entities.as_slice());
+        }
+        Ok(vec![])
+    }
+
+    fn range(&mut self) -> Result<Vec<u8>, u8> {
+        let staged: Vec<u8> = self.staged.drain(..).map(|(number, _)| number).collect();
+        let excluded = core::mem::take(&mut self.excluded);
+        let range = self.group_range(&staged, &excluded);
+        let (found, (start, end)) = (range.is_some(), range.unwrap_or((0, 0)));
+        Ok([
+            vec![u8::from(found)],
+            (start as u32).to_le_bytes().to_vec(),
+            (end as u32).to_le_bytes().to_vec(),
+        ]
+        .concat())
+    }
+
+    /// As `QueryAll::get_group_range`, with what is staged and excluded built up by `add_view`.
+    fn group_range(&self, staged: &[u8], excluded: &[u8]) -> Option<(usize, usize)> {
+        let include = self.query_group_info(staged)?;
+        let exclude = self.query_group_info(excluded)?;
+        let range = unsafe { self.world.components.group_range(&include, &exclude) }?;
+        Some((range.start, range.end))
+    }
+
+    fn query_group_info(&self, numbers: &[u8]) -> Option<QueryGroupInfo> {
+        let mut group_info = QueryGroupInfo::Empty;
+        for &number in numbers {
+            let metadata = self.metadata(number);
+            let info = ViewGroupInfo {
+                info: metadata.group_info,
+                len: self.length(number).unwrap(),
+            };
+            group_info = group_info.add_view(&info)?;
+        }
+        Some(group_info)
+    }
+
+    fn metadata(&self, number: u8) -> ComponentMetadata {
+        self.world.components.metadata[&kind(number).type_id()]
+    }
+
+    fn length(&self, number: u8) -> Option<usize> {
+        self.is_registered(number).then(|| {
+            self.world.components.components[self.metadata(number).storage_index]
+                .borrow()
+                .len()
+        })
+    }
+
+    fn column(&self, number: u8) -> Option<(Vec<Id>, Vec<u64>)> {
+        if !self.is_registered(number) {
+            return None;
+        }
+        let set = self.world.components.components[self.metadata(number).storage_index].borrow();
+        let values = unsafe { (kind(number).values)(&set) };
+        Some((
+            set.entities().iter().map(id).collect(),
+            values.into_iter().map(long).collect(),
+        ))
+    }
+
+    fn groups(&self) -> Vec<(Vec<u8>, usize)> {
+        let places: Vec<(usize, u8)> = kinds_of(self.registered)
+            .into_iter()
+            .map(|number| (self.metadata(number).storage_index, number))
+            .collect();
+        let groups = &self.world.components.groups;
+        groups
+            .iter()
+            .map(|group| {
+                let range = group.metadata.storage_range();
+                let kinds = places.iter().filter(|(place, _)| range.contains(place));
+                (kinds.map(|(_, number)| *number).collect(), group.len)
+            })
+            .collect()
+    }
+
+    fn roll(&self) -> Vec<u8> {
+        let mut entities = self.world.entities().to_vec();
+        entities.sort_by_key(|entity| entity.index);
+
+        let mut roll = (entities.len() as u32).to_le_bytes().to_vec();
+        for entity in entities {
+            roll.extend(entity.index.to_le_bytes());
+            roll.extend(entity.version.0.get().to_le_bytes());
+            let at = roll.len();
+            roll.push(0);
+            for number in kinds_of(self.registered) {
+                let set = self.world.components.components[self.metadata(number).storage_index].borrow();
+                if let Some(value) = unsafe { (kind(number).get)(&set, entity) } {
+                    roll[at] += 1;
+                    roll.push(number);
+                    roll.extend(long(value).to_le_bytes());
+                }
+            }
+        }
+        roll
+    }
+}
+
+/// Where an accepted group goes.
+#[derive(Clone, Copy, PartialEq, Eq, Debug)]
+enum Place {
+    Nowhere,
+    NewFamily,
+    Family(usize),
+}
+
+impl Draft {
+    /// 01's rule for GROUP.
+    fn judge(&self, group: u128) -> Result<Place, u8> {
+        if group.count_ones() < 2 {
+            return Ok(Place::Nowhere);
+        }
+        if group.count_ones() == 16 {
+            return Err(13);
+        }
+        if self.families.iter().flatten().any(|&old| old == group) {
+            return Ok(Place::Nowhere);
+        }
+        let largest = |family: &Vec<u128>| family[family.len() - 1];
+        let sharing: Vec<usize> = (0..self.families.len())
+            .filter(|&i| largest(&self.families[i]) & group != 0)
+            .collect();
+        let place = match sharing[..] {
+            [] => Place::NewFamily,
+            [i] if largest(&self.families[i]) & !group == 0 => Place::Family(i),
+            _ => return Err(14),
+        };
+        if self.families.iter().flatten().count() == MOST_GROUPS {
+            return Err(15);
+        }
+        Ok(place)
+    }
+
+    /// Gives an accepted group to the library, and holds its families to ours.
+    fn add(&mut self, place: Place, kinds: &[u8]) {
+        add_group(&mut self.layout, kinds);
+        match place {
+            Place::Nowhere => {}
+            Place::NewFamily => self.families.push(vec![set_of(kinds)]),
+            Place::Family(i) => self.families[i].push(set_of(kinds)),
+        }
+        let theirs: Vec<Vec<u128>> = families(&self.layout)
+            .iter()
+            .map(|family| family.iter().map(|kinds| set_of(kinds)).collect())
+            .collect();
+        assert_eq!(theirs, self.families, "add_group_dyn made other families");
+    }
+}
+
+/// The library's `add_group_dyn` on the component types of `kinds`.
+pub fn add_group(layout: &mut GroupLayout, kinds: &[u8]) {
+    let components: Vec<_> = kinds.iter().map(|&number| kind(number).data).collect();
+    layout.add_group_dyn(&components);
+}
+
+/// The groups of a layout of the library, one list a family, in its order, with their kinds in its order.
+pub fn families(layout: &GroupLayout) -> Vec<Vec<Vec<u8>>> {
+    layout
+        .families()
+        .iter()
+        .map(|family| {
+            let kinds: Vec<u8> = family.components().iter().map(|data| number(data.type_id())).collect();
+            family.arities().iter().map(|&arity| kinds[..arity].to_vec()).collect()
+        })
+        .collect()
+}
+
+fn set_of(kinds: &[u8]) -> u128 {
+    kinds.iter().fold(0, |set, number| set | 1 << number)
+}
+
+fn kinds_of(set: u128) -> Vec<u8> {
+    (0..128).filter(|number| set >> number & 1 == 1).collect()
+}
+
+fn id(entity: &Entity) -> Id {
+    (entity.index, entity.version.0.get())
+}
+
+fn words(bytes: &[u8]) -> [u32; 2] {
+    let word = |at: usize| u32::from_le_bytes(bytes[at..at + 4].try_into().unwrap());
+    [word(0), word(4)]
+}
+
+fn long(value: Value) -> u64 {
+    u64::from(value[0]) | u64::from(value[1]) << 32
+}
