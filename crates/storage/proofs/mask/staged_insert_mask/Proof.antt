@@ -39,9 +39,12 @@ insert-mask-at-requires c κs = (c .before .before .before .before .before .pre,
 loop-again : tie.Need-loop-again Inv-loop μ-loop
 loop-again c =
     let w = c .before .before .before .before .before .before .before .args .words .now in
-    let v = c .before .before .before .loop .inv in
-    (omega arith, v .1, mask-turn (at w) (insert-no-kinds 0 (meaning w .storage .layout)) (inserts (meaning w .storage .layout) (groups-few w (c .before .before .before .before .before .before .before .pre .arranged))) (stagedKinds (meaning w)) (c .before .before .before .loop .mask .0) (c .before .insert-mask-at .result .0) (c .union .result .0) (c .before .before .before .loop .i)
-      (omega (arith, v .1, c .before .before .loop-test, length-map (meaning w .control .staged) kindOf)) (v .2) (c .before .insert-mask-at .ensures) (c .union .ensures))
+    let v = c .before .before .before .loop .inv in (
+      omega arith,
+      v .1,
+      mask-turn (at w) (insert-no-kinds 0 (meaning w .storage .layout)) (inserts (meaning w .storage .layout) (groups-few w (c .before .before .before .before .before .before .before .pre .arranged))) (stagedKinds (meaning w)) (c .before .before .before .loop .mask .0) (c .before .insert-mask-at .result .0) (c .union .result .0) (c .before .before .before .loop .i)
+          (omega (arith, v .1, c .before .before .loop-test, length-map (meaning w .control .staged) kindOf)) (v .2) (c .before .insert-mask-at .ensures) (c .union .ensures),
+    )
 
 returns : tie.Need-returns Inv-loop μ-loop
 returns c =
