@@ -2,7 +2,6 @@
 use mathlib.Core.Path.{_≡_, refl, sym, ap, _∙_, subst}
 use mathlib.Core.Logic.{_≢_}
 use mathlib.Core.List.{List, [], _∷_}
-use mathlib.Core.Bool.{cond}
 use Prim.Native.Nat.{ℕ, zero, suc, _+_, _-_, _≤_, _<_}
 use native.Mathlib.Nat.{le-of-suc-le-suc, not-suc-le-zero}
 use native.Mathlib.Omega.{arith}
@@ -18,7 +17,7 @@ use Rattle.words.specs.Part.{getD-between}
 use Rattle.layout.specs.Layout.{Arrays, Sized, startOf, widthOf, aritiesAt, Rising, WellFormed}
 use Rattle.layout.proofs.KindSets.{count-mem}
 use Rattle.layout.proofs.Family.{rising-le}
-use Rattle.layout.proofs.Arrays.{ends-rise, kind-order, group-order, kinds-inside, arities-length}
+use Rattle.layout.proofs.Arrays.{ends-rise, kind-order, kinds-inside, arities-length}
 use Rattle.memory.specs.Arranged.{priorArity}
 use Rattle.layouts.specs.Heads.{InFamily, NewAt, placeNo}
 

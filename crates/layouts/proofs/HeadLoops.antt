@@ -1,11 +1,11 @@
 -- The loops that set the heads: over a group's new kinds, a family's groups, the families. Assumes nothing.
 use mathlib.Core.Path.{_≡_, refl, sym, ap, _∙_, subst}
 use mathlib.Core.List.{List}
-use Prim.Native.Nat.{ℕ, zero, suc, _+_, _-_, _≤_, _<_}
+use Prim.Native.Nat.{ℕ, _+_, _-_, _≤_, _<_}
 use native.Mathlib.Nat.{add-zero}
 use native.Mathlib.Numerals.{add-one}
 use native.Mathlib.Omega.{arith}
-use lib.ListN.{length, getD, drop}
+use lib.ListN.{getD, drop}
 use Rattle.columns.specs.Columns.{Lent}
 use Rattle.columns.proofs.Slots.{lent}
 use Rattle.layout.specs.Layout.{Arrays, startOf, widthOf}

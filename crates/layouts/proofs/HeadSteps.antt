@@ -1,16 +1,16 @@
 -- The columns' heads changed one after another. Assumes nothing.
 use mathlib.Core.Path.{_≡_, refl, sym, ap, _∙_, subst}
 use mathlib.Core.Logic.{_≢_}
-use mathlib.Core.List.{List, [], _∷_}
-use Prim.Native.Nat.{ℕ, zero, suc, _+_, _*_, _-_, _≤_, _<_}
+use mathlib.Core.List.{List}
+use Prim.Native.Nat.{ℕ, suc, _+_, _≤_, _<_}
 use native.Mathlib.Numerals.{add-one}
 use native.Mathlib.Omega.{arith}
-use lib.ListN.{length, getD, set, take, drop}
+use lib.ListN.{length, getD, set, take}
 use Rattle.model.specs.Sound.{In}
 use Rattle.words.specs.Offsets.{columnStart}
 use Rattle.words.specs.Part.{between, length-between}
 use Rattle.words.specs.Table.{by-eq}
-use Rattle.columns.specs.Columns.{columnOf, rowsOf, Columns}
+use Rattle.columns.specs.Columns.{columnOf, Columns}
 use Rattle.columns.proofs.Frames.{headed}
 use Rattle.layout.specs.Layout.{Arrays, Sized, WellFormed, widthOf}
 use Rattle.blocks.proofs.Agree.{block-sized}
@@ -18,7 +18,7 @@ use Rattle.memory.specs.Header.{capacityOf, kindCapacityOf, registeredOf, slotO
 use Rattle.memory.specs.Meaning.{kindAt, ownAt, localAt, layoutArrays}
 use Rattle.memory.proofs.Frames.{word-front, start-header, layout-arrays-same}
 use Rattle.layouts.specs.Heads.{withOwn, Reheaded, Heads, Groupless, Slotted, kindNo, slotNo, Ready, NewAt, placeNo, HeadIs, Upto, Headed}
-use Rattle.layouts.proofs.Arities.{kinds-apart, kind-among, Same, same-place, place-below}
+use Rattle.layouts.proofs.Arities.{kinds-apart, kind-among, same-place, place-below}
 
 -- ---- nothing but words 2 and 3 of the heads
 

@@ -1,18 +1,16 @@
 -- The words as the steps leave them are well arranged, and mean the store with the draft in force. Assumes nothing.
 use mathlib.Core.Path.{_≡_, refl, sym, ap, ap₂, _∙_, subst}
 use mathlib.Core.Logic.{_≢_}
-use mathlib.Core.Bool.{Bool, true, false, cond}
 use mathlib.Core.List.{List, [], _∷_}
-use Prim.Native.Nat.{ℕ, zero, suc, _+_, _*_, _-_, _≤_, _<_}
+use Prim.Native.Nat.{ℕ, zero, suc, _+_, _*_, _≤_, _<_}
 use native.Mathlib.Omega.{arith}
 use native.Mathlib.Decide.{decLt}
 use borrow.Author.Tests.{ltb-true}
 use lib.Dec.{ltb}
-use lib.ListN.{length, getD, take, drop, List·getD-eq-default}
+use lib.ListN.{length, getD, drop, List·getD-eq-default}
 use lib.Seq.{ext-getD}
-use Rattle.model.specs.Model.{SparseSet, Family, Component}
-use Rattle.model.specs.Store.{Store, withDraft}
-use Rattle.model.specs.Sound.{In, layoutKinds, Sound}
+use Rattle.model.specs.Model.{SparseSet, Family}
+use Rattle.model.specs.Sound.{In, Sound}
 use Rattle.model.proofs.Walk.{bool-cases}
 use Rattle.words.specs.Offsets.{columnStart, columnStart-mono}
 use Rattle.words.specs.Part.{between, between-front, between-rest, length-between, getD-between}
@@ -23,19 +21,18 @@ use Rattle.columns.proofs.Frames.{front-column, front-columns}
 use Rattle.entity.specs.Meaning as entity
 use Rattle.entity.specs.Change.{entityPart, entitiesIn}
 use Rattle.layout.specs.Layout.{Arrays, blockArrays, Sized, WellFormed, startOf, widthOf, groupCount, kindsAt, aritiesAt, groupsFrom, familyAt, familiesOf}
-use Rattle.layout.proofs.Arrays.{group-order}
 use Rattle.blocks.proofs.Agree.{block-sized}
-use Rattle.memory.specs.Header.{capacityOf, kindCapacityOf, registeredOf, draftGroups, layoutGroups, refusalsOf, slotOf, groupFamilyAt}
-use Rattle.memory.specs.Meaning.{kindAt, ownAt, localAt, kindsIn, setAt, setsIn, draftArrays, layoutArrays, draftIn, layoutIn, stagedIn, excludedIn, meaning}
-use Rattle.memory.specs.Arranged.{TableSound, Registered, memberAt, GroupSound, LayoutSound, Arranged, Becomes}
-use Rattle.memory.proofs.Frames.{word-front, start-header, drop-later, staged-same, excluded-same, long}
+use Rattle.blocks.proofs.Buildable.{all-kinds}
+use Rattle.memory.specs.Header.{capacityOf, kindCapacityOf, registeredOf, layoutGroups, refusalsOf, slotOf, groupFamilyAt}
+use Rattle.memory.specs.Meaning.{kindAt, kindsIn, setAt, setsIn, draftArrays, layoutArrays, draftIn, layoutIn, meaning}
+use Rattle.memory.specs.Arranged.{TableSound, GroupSound, LayoutSound, Arranged, Becomes}
+use Rattle.memory.proofs.Frames.{start-header, drop-later, staged-same, excluded-same, long}
 use Rattle.kinds.proofs.Slot.{known-slot, known-small}
 use Rattle.kinds.proofs.Clear.{fewer}
 use Rattle.layouts.specs.Steps.{installed, Prepared}
-use Rattle.layouts.specs.Heads.{Reheaded, Heads, ClearsHeads, Slotted, kindNo, Ready, InFamily, NewAt, placeNo, Upto, Headed}
+use Rattle.layouts.specs.Heads.{Reheaded, Heads, ClearsHeads, Slotted, Ready, InFamily, placeNo, Upto, Headed}
 use Rattle.layouts.proofs.Arities.{kind-among, place-in}
-use Rattle.layouts.proofs.AllKinds.{all-kinds}
-use Rattle.layouts.proofs.HeadSteps.{word-same, capacity-same, registered-same, arrays-same, head-same, ready-kept, heads-then, upto-none}
+use Rattle.layouts.proofs.HeadSteps.{word-same, registered-same, arrays-same, head-same, ready-kept, heads-then, upto-none}
 
 -- ---- layouts without counts, and without families
 

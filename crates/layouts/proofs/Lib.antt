@@ -1,6 +1,6 @@
 pub mod Words
-pub mod AllKinds
 pub mod Arities
 pub mod HeadSteps
 pub mod HeadLoops
 pub mod InForce
+pub mod Regrouping

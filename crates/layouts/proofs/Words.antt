@@ -3,14 +3,14 @@ use mathlib.Core.Path.{_≡_, refl, sym, ap, _∙_}
 use mathlib.Core.List.{List, [], _∷_}
 use Prim.Native.Nat.{ℕ, zero, suc, _+_, _-_, _≤_, _<_}
 use native.Mathlib.Omega.{arith}
-use lib.ListN.{length, getD, set, take, drop, length-set, length-drop}
+use lib.ListN.{length, getD, set, drop, length-set, length-drop}
 use lib.Seq.{getD-set-same, getD-set-other, getD-drop, ext-getD}
 use Rattle.words.specs.Table.{by-eq}
 use Rattle.words.specs.Part.{between, getD-between}
-use Rattle.words.specs.Stores.{stores, length-stores, miss, hit}
-use Rattle.layout.specs.Layout.{Arrays, WellFormed, startOf, groupCount}
+use Rattle.words.specs.Stores.{length-stores, miss, hit}
+use Rattle.layout.specs.Layout.{Arrays, startOf}
 use Rattle.layout.proofs.Arrays.{group-order, groups-inside}
-use Rattle.memory.specs.Header.{draftFamilies, groupFamilyAt}
+use Rattle.memory.specs.Header.{draftFamilies}
 use Rattle.memory.specs.Meaning.{draftArrays}
 use Rattle.memory.specs.Arranged.{Arranged}
 use Rattle.memory.proofs.Frames.{long}

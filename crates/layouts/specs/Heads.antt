@@ -1,6 +1,5 @@
 -- The heads of the columns while a layout is put in force: each kind's own group and its place in its family. Assumes nothing.
 use mathlib.Core.Path.{_≡_}
-use mathlib.Core.Logic.{_≢_}
 use mathlib.Core.List.{List}
 use Prim.Native.Nat.{ℕ, suc, _+_, _≤_, _<_}
 use lib.ListN.{length, getD, set, take, drop}

@@ -3,16 +3,20 @@ use mathlib.Core.Path.{_≡_}
 use mathlib.Core.List.{List, [], _∷_}
 use Prim.Native.Nat.{ℕ, _+_, _≤_, _<_}
 use lib.ListN.{length, getD, drop}
+use Rattle.model.specs.Model.{setLayout}
 use Rattle.model.specs.Store.{Store, withStorage, withDraft}
 use Rattle.words.specs.Stores.{stores}
 use Rattle.layout.specs.Layout.{startOf}
 use Rattle.memory.specs.Header.{draftFamilies, draftGroups, layoutFamilies, layoutGroups, groupFamilyAt, countAt}
 use Rattle.memory.specs.Meaning.{draftArrays}
 
--- APPLY, before the live entities are walked: "draft becomes layout, draft emptied". "Applying a layout keeps every column's order, starts counts at
--- 0": a draft's counts are 0.
+-- APPLY, before the live entities are walked: "draft becomes layout, draft emptied". A draft's counts are 0.
 abbrev pub installed : Store → Store
 installed m = withStorage m (record { sets = m .storage .sets; layout = m .control .draft }) (withDraft (m .control) [])
+
+-- APPLY: "Applying a layout keeps every column's order, starts counts at 0 and walks live cards in live-list order."
+abbrev pub applied : Store → Store
+applied m = withStorage m (setLayout (m .entities .live) (m .control .draft) (m .storage)) (withDraft (m .control) [])
 
 -- ---- the header
 

@@ -1,14 +1,18 @@
 // A layout put in force (component_storage.rs, set_layout).
+use masks::group_mask::GroupMask;
 ghost use mathlib.Core.Path.{_≡_};
 ghost use Prim.Native.Nat.{ℕ, _+_, _≤_, _<_};
 ghost use lib.ListN.{length, getD, drop};
+ghost use Rattle.model.specs.Model.{regroup};
 ghost use Rattle.model.specs.Sound.{Sound};
 ghost use Rattle.columns.specs.Columns.{Columns, Lent};
 ghost use Rattle.layout.specs.Layout.{startOf, widthOf};
 ghost use Rattle.memory.specs.Header.{capacityOf};
 ghost use Rattle.memory.specs.Meaning.{layoutArrays, meaning};
+ghost use Rattle.memory.specs.Change.{onStorage};
 ghost use Rattle.memory.specs.Arranged.{Arranged, Becomes, priorArity};
-ghost use Rattle.layouts.specs.Steps.{installed, Filled, Copied, EndsAsk, Numbered, switched, Prepared};
+ghost use Rattle.group.specs.Ready.{ReadyEach};
+ghost use Rattle.layouts.specs.Steps.{installed, applied, Filled, Copied, EndsAsk, Numbered, switched, Prepared};
 ghost use Rattle.layouts.specs.Heads.{withOwn, ClearsHeads, slotNo, Ready, InFamily, placeNo, Upto, Headed, HeadsGroup};
 
 // The parts of the layout's block: the groups' sizes, and where each family's kinds and groups end.
@@ -194,4 +198,31 @@ pub fn install(words: &mut [u32])
     let m = memory::word(words, words::REGISTERED);
     clear_heads(words, n, m);
     put_heads(words, n);
+}
+
+// Each live entity in turn is walked upward over all groups.
+fn regroup(words: &mut [u32])
+    requires { ⌜ Arranged (now words) ⌝ }
+    requires { ⌜ ReadyEach (meaning (now words) .entities .live) (meaning (now words) .storage) ⌝ }
+    ensures { λ _. ⌜ Becomes (now (words .entry)) (now (words .exit)) (onStorage (regroup (meaning (now (words .entry)) .entities .live)) (meaning (now (words .entry)))) ⌝ }
+{
+    let groups = group::group_count(words);
+    let mask = GroupMask::from_to(0, groups);
+    let len = state::entities::live_len(words);
+    let mut place = 0;
+    while place < len {
+        let entity = state::entities::live_at(words, place);
+        group::group(words, mask, entity.index, entity.version);
+        place += 1;
+    }
+}
+
+// 01's APPLY.
+pub fn set_layout(words: &mut [u32])
+    requires { ⌜ Arranged (now words) ⌝ }
+    requires { ⌜ Sound (meaning (now words)) ⌝ }
+    ensures { λ _. ⌜ Becomes (now (words .entry)) (now (words .exit)) (applied (meaning (now (words .entry)))) ⌝ }
+{
+    install(words);
+    regroup(words);
 }

@@ -1,7 +1,6 @@
-use Prim.Native.Nat.{ℕ, _≤_, _<_, _-_}
+use Prim.Native.Nat.{ℕ, _≤_, _-_}
 use mathlib.Core.Path.{_≡_, subst}
 use native.Mathlib.Omega.{arith}
-use lib.ListN.{length, length-set}
 use Rattle.layouts.specs.Steps.{Copied}
 use Rattle.layouts.proofs.Words.{copy-none, copy-more}
 use Rattle.layouts.proofs.copy_block.Statement.{statement}

@@ -1,7 +1,6 @@
-use Prim.Native.Nat.{_≤_, _<_, _-_}
+use Prim.Native.Nat.{_≤_, _-_}
 use mathlib.Core.Path.{_≡_, subst}
 use native.Mathlib.Omega.{arith}
-use lib.ListN.{length, length-set}
 use Prim.Native.Nat.{ℕ}
 use Rattle.layouts.specs.Steps.{Filled}
 use Rattle.layouts.proofs.Words.{fill-none, fill-more}

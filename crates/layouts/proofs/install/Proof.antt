@@ -1,9 +1,6 @@
-use mathlib.Core.Path.{_≡_, sym, _∙_, subst, ap}
+use mathlib.Core.Path.{sym, _∙_}
 use native.Mathlib.Omega.{arith}
 use borrow.Author.Needs.{needs}
-use Prim.Native.Nat.{ℕ}
-use Rattle.memory.specs.Header.{capacityOf, registeredOf}
-use Rattle.layouts.specs.Heads.{ClearsHeads}
 use Rattle.layouts.proofs.InForce.{ready₁, clear-asks, cleared, heads₂, ready₂, upto₂, heads-set}
 use Rattle.layouts.proofs.HeadSteps.{capacity-same}
 use Rattle.layouts.proofs.install.Statement.{statement}

@@ -1,8 +1,6 @@
-use mathlib.Core.Path.{_≡_, ap, _∙_, subst}
-use Prim.Native.Nat.{ℕ, _+_, _≤_, _-_}
+use mathlib.Core.Path.{_≡_, subst}
+use Prim.Native.Nat.{ℕ, _≤_, _-_}
 use native.Mathlib.Omega.{arith}
-use lib.ListN.{length, getD, drop}
-use Rattle.layout.specs.Layout.{startOf}
 use Rattle.layouts.specs.Steps.{Numbered}
 use Rattle.layouts.proofs.Words.{number-none, spans, number-more}
 use Rattle.layouts.proofs.number_groups.Statement.{statement}

@@ -1,4 +1,4 @@
-use Prim.Native.Nat.{_+_, _-_}
+use Prim.Native.Nat.{_-_}
 use native.Mathlib.Omega.{arith}
 use Rattle.layouts.proofs.HeadLoops.{group-few, family-few, Groupwise, group-none, next-kind, group-more, group-done}
 use Rattle.layouts.proofs.put_group.Statement.{statement}

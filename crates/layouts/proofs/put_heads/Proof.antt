@@ -1,5 +1,5 @@
 use mathlib.Core.Path.{_≡_, sym, _∙_, subst}
-use Prim.Native.Nat.{ℕ, _+_, _≤_, _-_}
+use Prim.Native.Nat.{ℕ, _≤_, _-_}
 use native.Mathlib.Omega.{arith}
 use Rattle.layout.specs.Layout.{startOf}
 use Rattle.memory.specs.Meaning.{layoutArrays}
