@@ -1,13 +1,14 @@
 -- Sound words stay sound: the model's theorems, of the words that mean its stores. Assumes nothing.
 use mathlib.Core.Path.{_≡_, refl, ap, ap₂, sym, _∙_, subst}
 use mathlib.Core.Bool.{true, false}
-use mathlib.Core.List.{List}
+use mathlib.Core.List.{List, []}
 use Prim.Native.Nat.{ℕ}
 use lib.ListN.{drop}
 use Rattle.model.specs.Model.{Entity, insert, remove, clearAll, create, destroy, isLive}
 use Rattle.model.specs.Store.{Store, stagedKinds}
 use Rattle.model.specs.Sound as model
-use Rattle.model.proofs.Operations.{create-sound, create-is-live, insert-sound, remove-sound, clearAll-sound, kill-sound}
+use Rattle.model.proofs.Operations.{create-sound, create-is-live, insert-sound, remove-sound, clearAll-sound, kill-sound, setLayout-sound, control-sound, control-of, draft-sound, no-draft}
+use Rattle.layouts.specs.Steps.{applied}
 use Rattle.words.specs.Offsets.{columnStart}
 use Rattle.entity.specs.Change.{isFull}
 use Rattle.memory.specs.Header.{capacityOf, kindCapacityOf}
@@ -20,6 +21,12 @@ use Rattle.world.specs.World.{Leaves, created, killed}
 -- words that mean a sound store
 pub leaves : (w w′ : List ℕ) (s : Store) → model.Sound s → Becomes w w′ s → Leaves w w′ s
 leaves w w′ s M B = record { becomes = B; sound = record { arranged = B .arranged; means = subst model.Sound (sym (B .means)) M } }
+
+-- the draft applied, and emptied
+applied-sound : (s : Store) → model.Sound s → model.Sound (applied s)
+applied-sound s S =
+    let A = setLayout-sound s S (s .control .draft) (control-of s S .draft) in
+    control-sound _ A _ (draft-sound (s .kinds) (s .control) (control-of s S) [] (no-draft (s .kinds)))
 
 kinds-mean : (w : List ℕ) → meaning w .kindCapacity ≡ kindCapacityOf w
 unfolding meaning
@@ -56,6 +63,9 @@ module _ (w : List ℕ) (S : Sound w) where
 
   pub clear-leaves : (w′ : List ℕ) → Becomes w w′ (onStorage clearAll (meaning w)) → Leaves w w′ (onStorage clearAll (meaning w))
   clear-leaves w′ B = leaves w w′ (onStorage clearAll (meaning w)) (clearAll-sound (meaning w) (S .means)) B
+
+  pub layout-leaves : (w′ : List ℕ) → Becomes w w′ (applied (meaning w)) → Leaves w w′ (applied (meaning w))
+  layout-leaves w′ B = leaves w w′ (applied (meaning w)) (applied-sound (meaning w) (S .means)) B
 
   module _ (room : isFull (meaning w .capacity) (meaning w .entities) ≡ false) (w₁ : List ℕ) (e : Entity) (q : e ≡ create (meaning w .entities) .entity)
       (B : Becomes w w₁ (withEntities (meaning w) (create (meaning w .entities) .entities))) where

@@ -12,6 +12,7 @@ ghost use Rattle.entity.specs.Change.{isFull};
 ghost use Rattle.memory.specs.Meaning.{meaning};
 ghost use Rattle.memory.specs.Change.{onStorage};
 ghost use Rattle.memory.specs.Arranged.{Sound};
+ghost use Rattle.layouts.specs.Steps.{applied};
 ghost use Rattle.world.specs.World.{Leaves, NewEntity, TakesOut, killed};
 
 // A new entity with the staged components. The caller has seen that there is a number left.
@@ -67,4 +68,12 @@ pub fn clear(words: &mut [u32])
     ensures { λ _. ⌜ Leaves (now (words .entry)) (now (words .exit)) (onStorage clearAll (meaning (now (words .entry)))) ⌝ }
 {
     storage::clear::clear(words);
+}
+
+// The draft becomes the layout in force, the live entities go into its groups, and the draft is emptied.
+pub fn set_layout(words: &mut [u32])
+    requires { ⌜ Sound (now words) ⌝ }
+    ensures { λ _. ⌜ Leaves (now (words .entry)) (now (words .exit)) (applied (meaning (now (words .entry)))) ⌝ }
+{
+    layouts::set_layout(words);
 }
