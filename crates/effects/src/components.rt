@@ -1,8 +1,8 @@
-// PUT, DROP and WIPE: components go into an entity, or go.
+// PUT, TAKE, DROP and WIPE: components go into an entity, or go.
 use commands::answers::DEAD;
 use commands::answers::ack;
 use commands::answers::refuse;
-ghost use Rattle.model.specs.Commands.{PUT, DROP, WIPE};
+ghost use Rattle.model.specs.Commands.{PUT, TAKE, DROP, WIPE};
 ghost use Rattle.model.specs.Run.{does};
 ghost use Rattle.component.specs.SparseSet.{entity};
 ghost use Rattle.memory.specs.Meaning.{meaning};
@@ -41,4 +41,19 @@ pub fn wipe(words: &mut [u32], out: &mut [u8], at: usize) -> usize
 {
     world::clear(words);
     ack(out, at)
+}
+
+// TAKE: a live entity's components of the staged kinds go, and are told.
+pub fn take(words: &mut [u32], index: u32, version: u32, out: &mut [u8], at: usize) -> usize
+    requires { ⌜ Ready (now words) (now out) at (TAKE (entity index version)) ⌝ }
+    ensures { λ r. ⌜ Acted (now (words .entry)) (now (words .exit)) (now (out .entry)) (now (out .exit)) at r (does (TAKE (entity index version)) (meaning (now (words .entry)))) ⌝ }
+{
+    if !state::entities::contains(words, index, version) {
+        return refuse(words, out, at, DEAD);
+    }
+    let n = state::staged::staged_len(words);
+    ack(out, at);
+    world::remove(words, index, version, out, at + 1);
+    state::staged::clear_staged(words);
+    1 + 9 * n
 }
