@@ -1,0 +1,14 @@
+use Rattle.commands.proofs.Acts.{accepted-by}
+use Rattle.memory.specs.Meaning.{meaning}
+use Rattle.model.proofs.Outcomes.{wipe-does}
+use Rattle.effects.proofs.Emptied.{wiped}
+use borrow.Author.Needs.{needs}
+use Rattle.effects.proofs.components.wipe.Statement.{statement}
+use Rattle.effects.proofs.components.wipe.Tie as tie
+
+returns : tie.Need-returns
+returns c = accepted-by (wiped (meaning (c .before .before .before .before .before .before .before .before .before .before .args .words .now))) (c .before .before .before .before .before .before .clear .ensures .becomes) (c .before .before .ack .ensures)
+
+pub wipe-spec : {M : Type 1} → statement M
+wipe-spec =
+    tie.close (tie.spec (λ c κs. search needs) (λ c κs. search needs) (λ c. search needs) (λ c. search needs) returns)

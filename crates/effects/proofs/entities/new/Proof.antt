@@ -1,0 +1,38 @@
+use Rattle.commands.proofs.Acts.{refused-by, accepted-by}
+use Rattle.effects.proofs.Emptied.{emptied, new-made, told}
+use Rattle.memory.specs.Meaning.{meaning}
+use Rattle.model.proofs.Outcomes.{new-full}
+use mathlib.Core.Path.{_≡_, refl, sym, _∙_}
+use borrow.Author.Needs.{needs}
+use Rattle.effects.proofs.entities.new.Statement.{statement}
+use Rattle.effects.proofs.entities.new.Tie as tie
+
+-- src/entities.rt:45:9
+returns : tie.Need-returns
+returns c = refused-by (new-full (meaning (c .before .before .before .before .before .before .before .before .before .before .before .before .args .words .now)) (sym (c .before .before .before .before .before .before .before .before .is-full .ensures) ∙ c .before .before .before .before .before .before .before .if1 .taken)) (c .before .before .before .before .refuse .ensures)
+
+-- src/entities.rt:47:9
+create-requires : tie.Need-create-requires
+create-requires c κs = (c .before .before .before .before .before .before .pre .sound, sym (c .before .before .is-full .ensures) ∙ c .before .if1 .left)
+
+-- src/entities.rt:40:1
+returns-2 : tie.Need-returns-2
+returns-2 c =
+    let made = c .before .before .before .before .before .before .before .before .before .before .create in
+    accepted-by (new-made (meaning (c .before .before .before .before .before .before .before .before .before .before .before .before .before .before .before .before .before .args .words .now)) (sym (c .before .before .before .before .before .before .before .before .before .before .before .before .before .is-full .ensures) ∙ c .before .before .before .before .before .before .before .before .before .before .before .before .if1 .left)) (emptied _ (made .ensures .leaves .becomes) (record { capacity = refl; kindCapacity = refl }) (c .before .before .before .before .before .before .clear-staged .ensures)) (told (made .result .index) (made .result .version) (made .ensures .entity) (c .before .before .ack-entity .ensures))
+
+pub new-spec : {M : Type 1} → statement M
+new-spec =
+    tie.close
+    (tie.spec
+    (λ c κs. search needs)
+    (λ c κs. search needs)
+    (λ c. search needs)
+    (λ c. search needs)
+    returns
+    create-requires
+    (λ c κs. search needs)
+    (λ c κs. search needs)
+    (λ c. search needs)
+    (λ c. search needs)
+    returns-2)
