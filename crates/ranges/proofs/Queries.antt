@@ -1,11 +1,10 @@
 -- A query with one kind more, and the range of two queries. Assumes nothing.
-use mathlib.Core.Path.{_≡_, refl, sym, ap, _∙_, subst}
+use mathlib.Core.Path.{_≡_, sym, ap, _∙_, subst}
 use mathlib.Core.List.{List, [], _∷_, _++_}
 use Prim.Native.Nat.{ℕ, _+_, _-_, _≤_, _<_}
 use native.Mathlib.Omega.{arith}
 use lib.ListN.{length, getD}
 use Rattle.model.specs.Model.{Range, none, range}
-use Rattle.model.specs.Store.{stagedKinds}
 use Rattle.model.specs.Sound.{In}
 use Rattle.words.specs.Part.{between, length-between}
 use Rattle.layout.specs.Layout.{Arrays}
@@ -18,7 +17,7 @@ use Rattle.group.proofs.FlatArrays.{between-part}
 use Rattle.group.proofs.InWords.{layout-means, sized}
 use Rattle.group.proofs.Places.{between-none, between-more, between-in}
 use Rattle.group_info.specs.Info.{ViewAdded, InsideFound, infoOf, Tables}
-use Rattle.group_info.specs.Describes.{ViewOf, Describes, Scattered, rangeOf, RangeQuery, RangeSays}
+use Rattle.group_info.specs.Describes.{ViewOf, Describes, Scattered, rangeOf, RangeSays}
 use Rattle.group_info.specs.declared.ViewGroupInfo.{ViewGroupInfo}
 use Rattle.group_info.specs.declared.QueryGroupInfo.{QueryGroupInfo}
 use Rattle.group_info.specs.declared.QueryGroupInfo.the-variants as query

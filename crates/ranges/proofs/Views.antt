@@ -1,6 +1,6 @@
 -- The group info of a kind, by the head of its column and the metadata of its own group. Assumes nothing.
 use mathlib.Core.Path.{_≡_, sym, ap, _∙_, subst}
-use mathlib.Core.Bool.{true, false, cond, true≢false}
+use mathlib.Core.Bool.{true, false, true≢false}
 use mathlib.Core.List.{List, [], _∷_}
 use Prim.Native.Nat.{ℕ, zero, suc, _+_, _-_, _≤_, _<_}
 use native.Mathlib.Omega.{arith}
@@ -12,7 +12,7 @@ use Rattle.model.specs.Model.{mem, groupsOf}
 use Rattle.model.specs.Sound.{In}
 use Rattle.model.proofs.KindLists.{not-true}
 use Rattle.words.specs.Part.{between, getD-between}
-use Rattle.layout.specs.Layout.{Arrays, Sized, startOf, widthOf, kindsAt, aritiesAt, familiesOf, WellFormed}
+use Rattle.layout.specs.Layout.{Arrays, startOf, widthOf, kindsAt, aritiesAt, familiesOf, WellFormed}
 use Rattle.layout.proofs.Arrays.{kinds-inside, kinds-length, arities-length, family-rising}
 use Rattle.layout.proofs.Family.{rising-at}
 use Rattle.memory.specs.Header.{slotOf, groupFamilyAt}

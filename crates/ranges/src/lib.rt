@@ -16,6 +16,13 @@ ghost use Rattle.memory.specs.Arranged.{Arranged, Sound};
 ghost use Rattle.group_info.specs.Describes.{InfoOfKind, ViewOf, rangeOf};
 ghost use Rattle.ranges.specs.Query.{QueryOf, KindAdded, Kinds};
 
+// The layout in force: the groups' sizes, and their counts.
+const ARITIES: usize = words::LAYOUT + 128;
+
+const ARITIES_END: usize = words::LAYOUT + 192;
+
+const COUNTS_END: usize = words::GROUP_COUNTS + 64;
+
 // The group info of a kind, by the head of its column.
 fn info_of(words: &[u32], kind: usize) -> FoundInfo
     requires { ⌜ Arranged (now words) ⌝ }
@@ -96,5 +103,10 @@ pub fn group_range(words: &[u32]) -> GroupRange
     let FoundQuery::Query(exclude) = excluded_query(words) else {
         return GroupRange::Nothing;
     };
-    group_info::group_range(include, exclude, &words[704..768], &words[960..1024])
+    group_info::group_range(
+        include,
+        exclude,
+        &words[ARITIES..ARITIES_END],
+        &words[words::GROUP_COUNTS..COUNTS_END],
+    )
 }

@@ -1,4 +1,4 @@
-use mathlib.Core.Path.{_≡_, sym, subst}
+use mathlib.Core.Path.{sym, subst}
 use borrow.Author.Needs.{needs}
 use Rattle.group_info.specs.declared.FoundQuery.{FoundQuery}
 use Rattle.group_info.specs.declared.FoundQuery.the-variants as added

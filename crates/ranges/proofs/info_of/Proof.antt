@@ -1,8 +1,6 @@
-use mathlib.Core.Path.{_≡_, subst}
-use Prim.Native.Nat.{ℕ, _<_}
+use mathlib.Core.Path.{subst}
+use Prim.Native.Nat.{ℕ}
 use borrow.Author.Needs.{needs}
-use Rattle.memory.specs.Header.{slotOf}
-use Rattle.memory.specs.Meaning.{localAt}
 use Rattle.kinds.specs.Kinds.{OwnGroup}
 use Rattle.kinds.specs.declared.Own.{Own}
 use Rattle.kinds.proofs.Owned.{Owned, own-group, no-group}
