@@ -2,25 +2,13 @@
 use mathlib.Core.Path.{_≡_}
 use mathlib.Core.Option.{Option, some, none}
 use mathlib.Core.List.{List, [], _∷_}
-use Prim.Native.Nat.{ℕ, _+_, _≤_}
+use Prim.Native.Nat.{ℕ, _+_}
 use lib.ListN.{length}
 use lib.Seq.{sets}
 use Rattle.model.specs.Store.{le}
 use Rattle.model.specs.Snapshot.{Entry, componentsOf, versionAt, entryOf, flat}
-use Rattle.component.specs.SparseSet.{entity, valueOf}
+use Rattle.component.specs.SparseSet.{entity}
 use Rattle.memory.specs.Meaning.{meaning}
-use Rattle.snapshot.specs.declared.Held.{Held}
-use Rattle.snapshot.specs.declared.Held.the-variants as held
-
--- an entity's value of one kind, as the model has it
-abbrev pub Shows : Option ℕ → Held → Type 0
-Shows v (held.Value l h) = v ≡ some (valueOf l h)
-Shows v held.Nothing = v ≡ none
-
--- how many components that is
-abbrev pub countOf : Option ℕ → ℕ
-countOf none = 0
-countOf (some v) = 1
 
 -- the bytes of one component: "kind 1, value 8"; none where it is not held
 abbrev pub oneBytes : Option ℕ → ℕ → List ℕ
@@ -34,11 +22,6 @@ entryFor w i v = record { entity = entity i v; components = componentsOf (entity
 -- the bytes of the live entity with index i, none where there is none
 abbrev pub indexBytes : List ℕ → ℕ → List ℕ
 indexBytes w i = flat (entryOf (versionAt i (meaning w .entities .live)) i (meaning w .storage .sets))
-
--- a number is right, and small enough to go on counting with
-pub record Counted (r n most : ℕ) : Type 0 where
-  pub is : r ≡ n
-  pub few : r ≤ most
 
 -- the bytes a were written at `at`, and no other; r is the place after them
 pub record Wrote (o o′ : List ℕ) (at r : ℕ) (a : List ℕ) : Type 0 where

@@ -1,0 +1,5 @@
+pub mod Writing
+pub mod Known
+pub mod Listed
+pub mod Parts
+pub mod Sizes
