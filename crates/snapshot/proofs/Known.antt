@@ -6,7 +6,7 @@ use Prim.Native.Nat.{ℕ, _≤_, _<_}
 use native.Mathlib.Omega.{arith}
 use borrow.Author.Tests.{le-ltb}
 use lib.ListN.{length}
-use Rattle.model.specs.Model.{SparseSet, mem}
+use Rattle.model.specs.Model.{mem}
 use Rattle.words.specs.Table.{length-table, by-eq}
 use Rattle.entity.specs.Change.{entityPart}
 use Rattle.entity.proofs.Known.{live-few, issued-few}

@@ -3,3 +3,4 @@ pub mod Known
 pub mod Listed
 pub mod Parts
 pub mod Sizes
+pub mod Rolled

@@ -3,7 +3,7 @@ use mathlib.Core.Path.{_≡_, refl, ap, sym, _∙_}
 use mathlib.Core.Bool.{Bool, true, false, cond}
 use mathlib.Core.Option.{Option, some, none}
 use mathlib.Core.List.{List, [], _∷_, _++_, append-nil}
-use Prim.Native.Nat.{ℕ, zero, suc, _+_, _*_, _-_, _≤_, _<_}
+use Prim.Native.Nat.{ℕ, zero, suc, _+_, _-_, _≤_, _<_}
 use native.Mathlib.Omega.{arith}
 use native.Mathlib.Numerals.{add-one, towards-suc}
 use lib.ListN.{length, getD, set, take, drop, drop-of-length-le}
@@ -12,7 +12,6 @@ use Rattle.model.specs.Model.{Entity, SparseSet, Component, noRow, mem, at, hel
 use Rattle.model.specs.Sound.{In}
 use Rattle.model.specs.Store.{le}
 use Rattle.model.specs.Snapshot.{valueAt, addComponent, componentsOf, componentBytes}
-use Rattle.model.proofs.SparseSets.{cond-case}
 use Rattle.model.proofs.Lengths.{le-length}
 use Rattle.component.specs.SparseSet.{valueOf}
 use Rattle.snapshot.specs.Rising.{risingFrom, risingKinds}

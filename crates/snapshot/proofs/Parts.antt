@@ -6,14 +6,14 @@ use native.Mathlib.Omega.{arith}
 use native.Mathlib.Numerals.{add-one}
 use lib.ListN.{length, set, length-append}
 use lib.Seq.{sets, set-comm}
-use Rattle.model.specs.Model.{Entity, SparseSet, Component}
+use Rattle.model.specs.Model.{SparseSet, Component}
 use Rattle.model.specs.Store.{Store, le}
 use Rattle.model.specs.Snapshot.{Entry, componentsOf, versionAt, entryOf, entries, componentBytes, entryBytes, flat, listing, snapshot}
 use Rattle.model.proofs.Lengths.{le-length}
 use Rattle.component.specs.SparseSet.{entity}
 use Rattle.memory.specs.Meaning.{meaning}
 use Rattle.snapshot.specs.Wrote.{entryFor, indexBytes, Wrote}
-use Rattle.snapshot.proofs.Writing.{Writing, writing-start, writing-turn, writing-last}
+use Rattle.snapshot.proofs.Writing.{writing-start, writing-turn, writing-last}
 
 -- ---- one entity
 

@@ -2,19 +2,18 @@
 use mathlib.Core.Path.{_≡_, refl, ap, sym, _∙_}
 use mathlib.Core.Logic.{_≢_}
 use mathlib.Core.Bool.{Bool, true, false, cond}
-use mathlib.Core.Option.{Option, some, none}
+use mathlib.Core.Option.{some, none}
 use mathlib.Core.List.{List, [], _∷_, _++_, append-nil}
 use Prim.Native.Nat.{ℕ, zero, suc, _+_, _*_, _≤_, _<_}
 use native.Mathlib.Omega.{arith}
 use native.Mathlib.Numerals.{add-one}
 use borrow.Author.Tests.{eq-eqb, ne-eqb}
-use lib.Dec.{eqb}
 use lib.ListN.{length, getD, drop, drop-of-length-le, length-append, length-map}
 use lib.Seq.{drop-cons}
 use Rattle.model.specs.Lists.{one, count-length}
-use Rattle.model.specs.Model.{Entity, SparseSet, Component, sameEntity, entityOf, noRow, at, held, allHeld, setOf}
+use Rattle.model.specs.Model.{Entity, SparseSet, sameEntity, entityOf, noRow, at, held, setOf}
 use Rattle.model.specs.Store.{Store}
-use Rattle.model.specs.Snapshot.{Entry, valueAt, addComponent, componentsOf, versionAt, entryOf, entries, entryBytes, flat, listing, snapshot}
+use Rattle.model.specs.Snapshot.{Entry, addComponent, componentsOf, versionAt, entryOf, entries, entryBytes, flat, snapshot}
 use Rattle.model.specs.Sound.{cnt, key, holders, Sound}
 use Rattle.model.proofs.SparseSets.{entity-eq, entity-same}
 use Rattle.model.proofs.Groups.{bool-cases}

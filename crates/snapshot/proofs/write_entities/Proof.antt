@@ -1,12 +1,11 @@
 -- `snapshot::write_entities` meets its contract: the indexes from the next on are what is left to write. Assumes nothing.
-use mathlib.Core.Path.{_≡_}
 use Prim.Native.Nat.{_+_, _-_, _≤_, _<_}
 use native.Mathlib.Omega.{arith}
 use lib.ListN.{length}
 use Rattle.memory.specs.Meaning.{meaning}
 use Rattle.snapshot.specs.Wrote.{indexBytes}
 use Rattle.snapshot.proofs.Writing.{Writing, writing-start, writing-turn, writing-end, writing-room}
-use Rattle.snapshot.proofs.Known.{capacity-most, issued-most}
+use Rattle.snapshot.proofs.Known.{issued-most}
 use Rattle.snapshot.proofs.Parts.{from, from-turn, from-none, from-start}
 use Rattle.snapshot.proofs.write_entities.Statement.{statement}
 use Rattle.snapshot.proofs.write_entities.Tie as tie
