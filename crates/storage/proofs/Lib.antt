@@ -1,4 +1,3 @@
-pub mod Storing
 pub mod Inserting
 pub mod Removing
 pub mod Zeroing

@@ -21,7 +21,7 @@ use Rattle.kinds.proofs.Slot.{known-small}
 use Rattle.group.proofs.EachKind.{eachKind, each-append, each-kinds}
 use Rattle.group.proofs.Places.{place-in}
 use Rattle.storage.specs.Remove.{Staged, removed}
-use Rattle.storage.proofs.Storing.{becomes-same, becomes-then, sets-wide}
+use Rattle.group.proofs.Storing.{becomes-same, becomes-then, sets-wide}
 
 abbrev pub eachGone : Entity → List ℕ → Storage → Storage
 eachGone e ks s = record { sets = eachKind (removeRow e) ks (s .sets); layout = s .layout }

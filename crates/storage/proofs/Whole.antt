@@ -2,7 +2,7 @@
 use mathlib.Core.Path.{_≡_, refl, ap, sym, _∙_, subst}
 use mathlib.Core.Bool.{true}
 use mathlib.Core.List.{List, [], _∷_, map, reverse}
-use Prim.Native.Nat.{ℕ, _+_, _≤_, _<_}
+use Prim.Native.Nat.{ℕ, _+_, _<_}
 use native.Mathlib.Omega.{arith}
 use borrow.Author.Tests.{eq-eqb}
 use lib.Dec.{eqb}
@@ -17,10 +17,9 @@ use Rattle.model.proofs.Numbers.{cnt-num}
 use Rattle.model.proofs.Operations.{sound-held, live-count}
 use Rattle.masks.specs.Masks.{bitsOf, has, upFrom}
 use Rattle.component.specs.SparseSet.{entity}
-use Rattle.memory.specs.Header.{capacityOf}
 use Rattle.memory.specs.Meaning.{meaning}
 use Rattle.memory.specs.Change.{onStorage}
-use Rattle.memory.specs.Arranged.{Arranged, Sound, Becomes}
+use Rattle.memory.specs.Arranged.{Sound, Becomes}
 use Rattle.group.specs.Flat.{insertPositions, deletePositions, walkUp, walkDown}
 use Rattle.group.specs.Ready.{ReadyUp, ReadyDown}
 use Rattle.group.specs.Steps.{Below}
@@ -31,7 +30,7 @@ use Rattle.group.proofs.Downward.{walk-ungroup, ready-remove}
 use Rattle.group.proofs.AllGroups.{walk-ungroup-all, ready-remove-all}
 use Rattle.storage.specs.Insert.{Insertable, inserted}
 use Rattle.storage.specs.Remove.{Staged, removed}
-use Rattle.storage.proofs.Storing.{becomes-then, storage-becomes, capacity-means}
+use Rattle.group.proofs.Storing.{becomes-then, storage-becomes, capacity-means}
 use Rattle.storage.proofs.Removing.{staged-kept}
 use Rattle.storage.proofs.Live.{current}
 

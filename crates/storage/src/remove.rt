@@ -1,5 +1,4 @@
 // Removal of the staged kinds: before any component goes, the entity leaves the groups that have one of the kinds.
-ghost use mathlib.Core.Path.{_≡_};
 ghost use Prim.Native.Nat.{_<_};
 ghost use lib.ListN.{length, getD};
 ghost use Rattle.model.specs.Model.{removeRow, remove};

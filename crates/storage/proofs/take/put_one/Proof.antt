@@ -1,6 +1,5 @@
 -- `storage::take::put_one` meets its contract. Assumes nothing.
-use mathlib.Core.Path.{_≡_, ap, _∙_, subst}
-use mathlib.Core.List.{List}
+use mathlib.Core.Path.{ap, _∙_, subst}
 use Prim.Native.Nat.{ℕ, _+_, _*_}
 use borrow.Author.Needs.{needs}
 use lib.ListN.{getD}
