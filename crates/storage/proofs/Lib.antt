@@ -6,3 +6,4 @@ pub mod Masking
 pub mod Live
 pub mod Whole
 pub mod Taking
+pub mod Kept

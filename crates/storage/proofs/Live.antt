@@ -38,7 +38,8 @@ two-live : (x y : Entity) (l : List Entity) → x .index ≡ y .index → sameEn
 two-live x y [] q ne = omega arith
 two-live x y (z ∷ l) q ne = omega (arith, two-live x y l q ne, once-index x y z q ne)
 
-row-count : (rows : SparseSet) (i : ℕ) → i < length rows → 1 ≤ cnt (getD rows i noRow .entity) (keys rows)
+-- an entity of a row stands among the entities
+pub row-count : (rows : SparseSet) (i : ℕ) → i < length rows → 1 ≤ cnt (getD rows i noRow .entity) (keys rows)
 row-count [] i h = absurd (not-suc-le-zero h)
 row-count (r ∷ rows) zero h = omega (arith, ap one (entity-same (r .entity)))
 row-count (r ∷ rows) (suc i) h = omega (arith, row-count rows i (le-of-suc-le-suc h))
