@@ -1,0 +1,3 @@
+pub mod Starting
+pub mod Pairs
+pub mod Columns
