@@ -1,3 +1,4 @@
 pub mod Starting
+pub mod Running
 pub mod Pairs
 pub mod Columns

@@ -2,19 +2,25 @@
 use mathlib.Core.Path.{_≡_}
 use mathlib.Core.Bool.{Bool, true, false}
 use mathlib.Core.Option.{Option, some, none}
-use mathlib.Core.List.{List, []}
+use mathlib.Core.List.{List, [], _++_}
 use Prim.Native.Nat.{ℕ, _+_, _*_, _≤_}
 use lib.ListN.{length, take, drop}
 use denote.Ref.{RefT}
-use Rattle.model.specs.Store.{Store, wordsNeeded}
-use Rattle.model.specs.Refusals.{numberOf, firstLine, otherLines}
-use Rattle.model.specs.Entries.{Started, refusesStart, makes, start, columnRefusal, column}
+use Rattle.model.specs.Store.{Store, Bytes, wordsNeeded}
+use Rattle.model.specs.Refusals.{numberOf, firstLine, otherLines, UNSOUND}
+use Rattle.model.specs.Run.{halt, run}
+use Rattle.model.specs.Run as model
+use Rattle.model.specs.Entries.{Started, refusesStart, makes, start, columnRefusal, column, refusesRoll, writes, roll}
+use Rattle.model.specs.Entries as entries
 use Rattle.model.specs.Sound.{Limits}
 use Rattle.words.specs.Offsets.{columnStart}
 use Rattle.component.specs.Decides.{Decides}
 use Rattle.memory.specs.Header.{capacityOf, slotOf}
 use Rattle.memory.specs.Meaning.{meaning}
 use Rattle.memory.specs.Arranged.{Sound}
+use Rattle.stream.specs.Stream.{Traced}
+use Rattle.stream.specs.declared.Ran.{Ran}
+use Rattle.store.specs.declared.Rolled.{Rolled}
 
 -- ---- how many words to lend
 
@@ -93,3 +99,62 @@ pub record ColumnPart (v r : RefT (List ℕ)) (values : Bool) (k a e : ℕ) : Ty
   pub decides : Decides sound (Sound (v .now))
   pub words : r .now ≡ columnWords sound values k a e (meaning (v .now))
   pub part : PartOf v r (partPlace (columnRefused sound k a e (meaning (v .now))) values (v .now) k a) (length (r .now))
+
+-- ---- run
+
+-- the model's run over sound words; over others "3 UNSOUND", "with zeros beside the number"
+abbrev pub ranOf : Bool → List ℕ → ℕ → Store → model.Ran
+ranOf true t room s = run t room s
+ranOf false t room s = halt UNSOUND s
+
+-- "stop number (0 at the tape's end), commands done (refused ones counted), tape bytes read, answer bytes written", and the bytes o′, of which "the bytes
+-- past those written, in a run too, stay"
+pub record Answered (o o′ : List ℕ) (r : Ran) (x : model.Ran) : Type 0 where
+  pub stop : r .stop ≡ x .stop
+  pub commands : r .commands ≡ x .commands
+  pub read : r .read ≡ x .read
+  pub written : r .written ≡ length (x .bytes)
+  pub bytes : o′ ≡ x .bytes ++ drop (length (x .bytes)) o
+
+-- "1 to 3 .. change no lent memory"; a run leaves sound words, and `Traced` says of each command in turn that an accepted one leaves words that mean the
+-- model's store after it, and that a refused one changes the refusal count's word and "no other word"
+abbrev pub RunLeaves : Bool → List ℕ → ℕ → List ℕ → List ℕ → Type 0
+RunLeaves false t room w w′ = w′ ≡ w
+RunLeaves true t room w w′ = Sound w′ × Traced (length t) t room w w′
+
+-- the tape t over the words w, which it leaves as w′, with answers in the bytes o, which it leaves as o′
+pub record Runs (w w′ t o o′ : List ℕ) (r : Ran) : Type 0 where
+  pub sound : Bool
+  pub decides : Decides sound (Sound w)
+  pub answered : Answered o o′ r (ranOf sound t (length o) (meaning w))
+  pub means : meaning w′ ≡ ranOf sound t (length o) (meaning w) .store
+  pub leaves : RunLeaves sound t (length o) w w′
+  pub size : length w′ ≡ length w
+  -- "Words past the needed ones never change."
+  pub past : drop (wordsNeeded (meaning w .capacity) (meaning w .kindCapacity)) w′ ≡ drop (wordsNeeded (meaning w .capacity) (meaning w .kindCapacity)) w
+  -- a tape is of bytes, as its type says
+  pub tape : Bytes t
+
+-- ---- roll
+
+-- the model's roll of sound words; of others "3 UNSOUND"
+abbrev pub rolledOf : Bool → ℕ → Store → entries.Rolled
+rolledOf true room s = roll room s
+rolledOf false room s = refusesRoll UNSOUND
+
+-- its number, and the bytes that it writes: "An accepted entry gives number 0"; "every refusal outside a run, change no lent memory, with zeros"
+abbrev pub rollNumber : entries.Rolled → ℕ
+rollNumber (refusesRoll n) = n
+rollNumber (writes b) = 0
+
+abbrev pub rollBytes : entries.Rolled → List ℕ
+rollBytes (refusesRoll n) = []
+rollBytes (writes b) = b
+
+-- the snapshot of the words w in the bytes o, which it leaves as o′
+pub record Rolls (w o o′ : List ℕ) (r : Rolled) : Type 0 where
+  pub sound : Bool
+  pub decides : Decides sound (Sound w)
+  pub number : r .number ≡ rollNumber (rolledOf sound (length o) (meaning w))
+  pub written : r .written ≡ length (rollBytes (rolledOf sound (length o) (meaning w)))
+  pub bytes : o′ ≡ rollBytes (rolledOf sound (length o) (meaning w)) ++ drop (length (rollBytes (rolledOf sound (length o) (meaning w)))) o

@@ -1,4 +1,5 @@
-// The public entries of document 01: *start*, *column*, its number. None asks anything of its caller.
+// The public entries of document 01: *start*, *run*, *column*, its number. None asks anything of its caller.
+use stream::Ran;
 ghost use mathlib.Core.Path.{_≡_};
 ghost use Prim.Native.Nat.{_≤_};
 ghost use lib.ListN.{length};
@@ -7,7 +8,7 @@ ghost use Rattle.component.specs.Decides.{Decides};
 ghost use Rattle.memory.specs.Meaning.{meaning};
 ghost use Rattle.memory.specs.Arranged.{Arranged};
 ghost use Rattle.kinds.specs.Kinds.{kindSet};
-ghost use Rattle.store.specs.Entries.{Needs, Starts, ColumnNumbered, RowStart, ColumnPart};
+ghost use Rattle.store.specs.Entries.{Needs, Starts, Runs, ColumnNumbered, RowStart, ColumnPart};
 
 // Numbers of 01's table.
 const SIZE: u8 = 1;
@@ -21,6 +22,12 @@ const KIND: u8 = 7;
 const BEYOND: u8 = 16;
 // Words of a column before its rows.
 const HEAD: usize = 8;
+
+// What roll answers: 0 and how many bytes, or the number of a refusal and 0.
+pub struct Rolled {
+    pub number: u8,
+    pub written: usize,
+}
 
 // N from 1 to 4,096 and K from 1 to 128.
 fn within_limits(n: usize, k: usize) -> bool
@@ -63,6 +70,21 @@ pub fn start(words: &mut [u32], n: usize, k: usize) -> u8
     }
     start::make(words, n, k);
     0
+}
+
+// The commands of the tape, up to its end or a stop. Answers are written from the front of the bytes.
+pub fn run(words: &mut [u32], tape: &[u8], out: &mut [u8]) -> Ran
+    ensures { λ r. ⌜ Runs (now (words .entry)) (now (words .exit)) (now (tape .entry)) (now (out .entry)) (now (out .exit)) r ⌝ }
+{
+    if !soundness::is_sound(words) {
+        return Ran {
+            stop: UNSOUND,
+            commands: 0,
+            read: 0,
+            written: 0,
+        };
+    }
+    stream::run_sound(words, tape, out)
 }
 
 // Why column refuses, 0 where it does not.
