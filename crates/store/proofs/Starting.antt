@@ -8,11 +8,13 @@ use borrow.Author.Tests.{lt-ltb, le-ltb, ne-eqb}
 use lib.Dec.{eqb, ltb}
 use lib.ListN.{length, drop}
 use Rattle.model.specs.Store.{empty, wordsNeeded}
+use Rattle.model.specs.Refusals.{startLines}
 use Rattle.model.specs.Entries.{refusesStart, makes, start}
 use Rattle.model.specs.Sound.{Limits}
 use Rattle.model.proofs.Walk.{bool-cases}
 use Rattle.model.proofs.Operations.{empty-sound}
-use Rattle.model.proofs.Entries.{start-makes}
+use Rattle.model.proofs.Lines.{first-exact, first-number}
+use Rattle.model.proofs.Entries.{start-exact, start-makes}
 use Rattle.words.specs.Offsets.{columnStart}
 use Rattle.memory.specs.Arranged.{Sound}
 use Rattle.start.specs.Fresh.{Made}
@@ -49,6 +51,12 @@ start-short n k words l h = rw (within-size n k l, lt-ltb words (wordsNeeded n k
 pub start-empty : (n k words : ℕ) → Limits n k → wordsNeeded n k ≤ words → start n k words ≡ makes (empty n k)
 unfolding start
 start-empty n k words l h = rw (within-size n k l, le-ltb words (wordsNeeded n k) h)
+
+-- its refusals are 1 and 2
+pub start-number : (n k words m : ℕ) → start n k words ≡ refusesStart m → (1 ≤ m) × (m ≤ 2)
+start-number n k words m e =
+    first-number startLines (record { capacity = n; kindCapacity = k; words = words }) 1 2 m (omega arith)
+    (first-exact startLines (record { capacity = n; kindCapacity = k; words = words }) m .1 (start-exact n k words m .0 e))
 
 -- ---- what the entry promises, from what its branches show
 

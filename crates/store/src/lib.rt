@@ -1,4 +1,4 @@
-// The public entries of document 01: *start*, *run*, *column*, its number. None asks anything of its caller.
+// The public entries of document 01: *start*, *run*, *column* and its number, *roll*. None asks anything of its caller.
 use stream::Ran;
 ghost use mathlib.Core.Path.{_≡_};
 ghost use Prim.Native.Nat.{_≤_};
@@ -8,7 +8,7 @@ ghost use Rattle.component.specs.Decides.{Decides};
 ghost use Rattle.memory.specs.Meaning.{meaning};
 ghost use Rattle.memory.specs.Arranged.{Arranged};
 ghost use Rattle.kinds.specs.Kinds.{kindSet};
-ghost use Rattle.store.specs.Entries.{Needs, Starts, Runs, ColumnNumbered, RowStart, ColumnPart};
+ghost use Rattle.store.specs.Entries.{Needs, Starts, Runs, ColumnNumbered, RowStart, ColumnPart, Rolls};
 
 // Numbers of 01's table.
 const SIZE: u8 = 1;
@@ -16,6 +16,8 @@ const SIZE: u8 = 1;
 const SHORT: u8 = 2;
 
 const UNSOUND: u8 = 3;
+
+const NOROOM: u8 = 6;
 
 const KIND: u8 = 7;
 
@@ -136,4 +138,27 @@ pub fn column(words: &[u32], kind: u8, values: bool, start: usize, end: usize) -
     let first = row_start(words, kind as usize, values, start);
     let last = first + 2 * (end - start);
     &words[first..last]
+}
+
+// The snapshot, from the front of the bytes.
+pub fn roll(words: &[u32], out: &mut [u8]) -> Rolled
+    ensures { λ r. ⌜ Rolls (now (words .entry)) (now (out .entry)) (now (out .exit)) r ⌝ }
+{
+    if !soundness::is_sound(words) {
+        return Rolled {
+            number: UNSOUND,
+            written: 0,
+        };
+    }
+    if out.len() < snapshot::snapshot_length(words) {
+        return Rolled {
+            number: NOROOM,
+            written: 0,
+        };
+    }
+    let written = snapshot::write_snapshot(words, out);
+    Rolled {
+        number: 0,
+        written: written,
+    }
 }
