@@ -1,4 +1,6 @@
 // The public entries of document 01: *start*, *run*, *column* and its number, *roll*. None asks anything of its caller.
+pub mod exports;
+
 use stream::Ran;
 ghost use mathlib.Core.Path.{_≡_};
 ghost use Prim.Native.Nat.{_≤_};
@@ -26,6 +28,7 @@ const BEYOND: u8 = 16;
 const HEAD: usize = 8;
 
 // What roll answers: 0 and how many bytes, or the number of a refusal and 0.
+#[repr(C)]
 pub struct Rolled {
     pub number: u8,
     pub written: usize,
