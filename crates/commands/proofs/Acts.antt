@@ -11,7 +11,7 @@ use Rattle.model.specs.Store.{Store, isKind}
 use Rattle.model.specs.Sound as modelSound
 use Rattle.model.specs.Commands.{Command}
 use Rattle.model.specs.Refusals.{unknownKind}
-use Rattle.model.specs.Run.{Outcome, refuses, accepts, does}
+use Rattle.model.specs.Run.{Outcome, refuses, accepts, does, storeAfter}
 use Rattle.model.proofs.Walk.{or-false}
 use Rattle.model.proofs.Sound.{Fits, OutSound, does-sound, refused-sound}
 use Rattle.words.specs.Offsets.{columnStart}
@@ -19,7 +19,7 @@ use Rattle.words.specs.Table.{length-table}
 use Rattle.memory.specs.Header.{capacityOf, kindCapacityOf, registeredOf}
 use Rattle.memory.specs.Meaning.{kindAt, kindsIn, meaning}
 use Rattle.memory.specs.Arranged.{Arranged, Sound, Becomes}
-use Rattle.commands.specs.Acted.{Written, Acted, storeAfter}
+use Rattle.commands.specs.Acted.{Written, Acted}
 
 -- words that no one changed
 pub stays : {w : List ℕ} → Arranged w → Becomes w w (meaning w)

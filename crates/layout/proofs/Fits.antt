@@ -158,11 +158,11 @@ fit-says ks fs s e = subst (Says ks fs) (sym (fit-fresh ks 0 fs) ∙ e) (go (pre
 module _ (ks : List ℕ) (fs : List Family) where
   pub add-small : length ks < 2 → addGroup ks fs ≡ nothing
   unfolding addGroup
-  add-small h = rw (lt-ltb (length ks) 2 h)
+  add-small h = rw (lt-leb 16 (length ks) (omega arith), lt-ltb (length ks) 2 h)
 
   pub add-wide : 16 ≤ length ks → addGroup ks fs ≡ refused 13
   unfolding addGroup
-  add-wide h = rw (le-ltb (length ks) 2 (omega arith), le-leb 16 (length ks) h)
+  add-wide h = rw (le-leb 16 (length ks) h)
 
   module _ (lo : 2 ≤ length ks) (hi : length ks < 16) where
     pub add-present : present ks fs ≡ true → addGroup ks fs ≡ nothing

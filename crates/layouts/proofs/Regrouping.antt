@@ -4,9 +4,10 @@ use mathlib.Core.List.{List, [], _∷_}
 use Prim.Native.Nat.{ℕ, _+_, _≤_, _<_}
 use native.Mathlib.Omega.{arith}
 use lib.ListN.{length, getD, drop, drop-of-length-le}
-use Rattle.model.specs.Model.{Entity, SparseSet, Family, Storage, noEntity, groupsOf, groupFamily, groupAll, regroup, setLayout}
-use Rattle.model.specs.Store.{Store}
+use Rattle.model.specs.Model.{Entity, SparseSet, Family, Storage, noEntity, groupsOf, groupFamily, groupAll, regroup}
+use Rattle.model.specs.Store.{Store, withStorage, withDraft}
 use Rattle.model.specs.Sound.{Sound}
+use Rattle.model.proofs.Regroup.{FreshAll, setLayout-is}
 use Rattle.model.proofs.Held.{distinct-families, buildable-fresh}
 use Rattle.masks.specs.Masks.{upFrom, has}
 use Rattle.masks.proofs.Lists.{has-up, between-parts}
@@ -125,13 +126,17 @@ module _ (w w₁ : List ℕ) (M : Sound (meaning w)) (B : Becomes w w₁ (instal
   kinds-mean u = refl
 
   pub applied-becomes : (w₂ : List ℕ) → Becomes w₁ w₂ (onStorage (regroup (meaning w₁ .entities .live)) (meaning w₁)) → Becomes w w₂ (applied (meaning w))
-  unfolding setLayout
   applied-becomes w₂ C =
+      let m = meaning w in
+      let fresh : FreshAll (m .control .draft) = buildable-fresh (m .control .draft) (M .draft .families) (M .uncounted) in
       let c : capacityOf w₁ ≡ capacityOf w = sym (capacity-means w₁) ∙ ap (λ (m : Store). m .capacity) (B .means) ∙ capacity-means w in
       let k : kindCapacityOf w₁ ≡ kindCapacityOf w = sym (kinds-mean w₁) ∙ ap (λ (m : Store). m .kindCapacity) (B .means) ∙ kinds-mean w in
       record {
         arranged = C .arranged;
-        means = C .means ∙ ap (λ (m : Store). onStorage (regroup (m .entities .live)) m) (B .means);
+        means =
+            C .means
+            ∙ ap (λ (x : Store). onStorage (regroup (x .entities .live)) x) (B .means)
+            ∙ ap (λ (q : Storage). withStorage m q (withDraft (m .control) [])) (sym (setLayout-is (m .entities .live) (m .control .draft) (m .storage) fresh));
         size = C .size ∙ B .size;
         past = subst (λ (n : ℕ). drop n w₂ ≡ drop n w₁) (ap₂ columnStart c k) (C .past) ∙ B .past;
       }
