@@ -49,7 +49,7 @@ untouched ks (f ∷ fs) z k i =
     (λ t. absurd (omega (arith, rw t at z)))
     (λ t. in-cases (kindsOf f) (layoutKinds fs) k i (λ j. unmet ks (kindsOf f) t k j) (λ j. untouched ks fs (rw t at z) k j))
 
-grown-same : (ks : List ℕ) (fs : List Family) → touched ks fs ≡ 0 → grown ks fs ≡ fs
+pub grown-same : (ks : List ℕ) (fs : List Family) → touched ks fs ≡ 0 → grown ks fs ≡ fs
 grown-same ks [] z = refl
 grown-same ks (f ∷ fs) z =
     bool-cases (meets ks (kindsOf f))

@@ -43,6 +43,9 @@ cnt-snoc x l e = omega (arith, count-append sameEntity x l (e ∷ []))
 same-version : (x y : Entity) → 1 ≤ one (sameEntity x y) → x ≡ y
 same-version x y h = bool-cases (sameEntity x y) (λ t. entity-eq x y t) (λ t. absurd (omega (arith, rw t at h)))
 
+pub zero-of : {n : ℕ} → (1 ≤ n → ⊥) → n ≡ 0
+zero-of {n} f = let no : ¬ (1 ≤ n) = f in omega arith
+
 -- ---- an entity is created
 
 create-with : (w : List Entity) (c : Entities) → c .recycled ≡ w → EntitiesOk c → EntitiesOk ((createWith w c) .entities)
@@ -64,9 +67,6 @@ create-with [] c e ok =
       small = λ x h. bool-cases (sameEntity x new) (λ t. omega (arith, ap (λ (y : Entity). y .version) (entity-eq x new t))) (λ t. ok .small x (omega (arith, cnt-snoc x (c .live) new, ap one t)));
     }
   where
-    zero-of : {n : ℕ} → (1 ≤ n → ⊥) → n ≡ 0
-    zero-of f = let no : ¬ (1 ≤ _) = f in omega arith
-
     split : (i j : ℕ) → (i ≡ j) ⊎ (i ≡ j → ⊥)
     split i j = go (ℕ-discrete i j)
       where

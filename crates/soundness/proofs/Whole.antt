@@ -14,7 +14,7 @@ use Rattle.model.specs.Model.{Entity, sameEntity, noRow, kindOf, entityOf, isLi
 use Rattle.model.specs.Sound.{cnt, In, Distinct, KindsSound, EntitiesSound, SetsSound, StagedSound, ExcludedSound, Buildable, AllRight}
 use Rattle.model.specs.Sound as modelSound
 use Rattle.model.proofs.Numbers.{cnt-num}
-use Rattle.model.proofs.KindLists.{in-count, count-in}
+use Rattle.model.proofs.KindLists.{in-count, count-in, at-in}
 use Rattle.words.specs.Offsets.{columnStart, columnStart-mono}
 use Rattle.words.specs.Part.{between, getD-between, length-between}
 use Rattle.words.specs.Table.{table}
@@ -28,8 +28,8 @@ use Rattle.entity.specs.Change.{entityPart, entitiesIn}
 use Rattle.entity.proofs.Lookups.{issued-is}
 use Rattle.entity.proofs.Numbering.{entities-ok}
 use Rattle.layout.specs.Layout.{Arrays, blockArrays, widthOf, groupCount, familiesOf, WellFormed}
+use Rattle.layout.proofs.Arrays.{layout-kinds, block-sized}
 use Rattle.blocks.specs.Checks.{BlockSound}
-use Rattle.blocks.proofs.Agree.{block-sized}
 use Rattle.blocks.proofs.Buildable.{block-buildable, uncounted}
 use Rattle.memory.specs.Header.{capacityOf, kindCapacityOf, registeredOf, stagedLen, excludedLen, draftFamilies, draftGroups, layoutFamilies, layoutGroups, slotOf, stagedLowAt, stagedHighAt, groupFamilyAt}
 use Rattle.memory.specs.Meaning.{kindAt, kindsIn, setsIn, draftArrays, layoutArrays, draftIn, layoutIn, stagedAt, stagedIn, excludedIn, meaning}
@@ -40,13 +40,11 @@ use Rattle.clauses.specs.Table.{TableOk}
 use Rattle.clauses.specs.Rows.{entityIn, RowLive, ColumnOk}
 use Rattle.clauses.specs.Listed.{Listed, ListOk}
 use Rattle.grouping.specs.Spans.{startIn, Force, HeadsOk, OwnOk}
-use Rattle.clauses.proofs.ListLaws.{at-in}
 use Rattle.clauses.proofs.SlotLaws.{room-long, room-less, key-word}
 use Rattle.soundness.specs.Parts.{SizeOk, PartsOk, ListsOk, LayoutOk, CountsOk}
 use Rattle.soundness.proofs.TableLaws.{Tabled, registered-slot, registered-small, slot-registered, kinds-sound, sets-sound, sets-alive}
 use Rattle.soundness.proofs.ColumnLaws.{rows-once, rows-values, value-eight, between-below}
 use Rattle.soundness.proofs.StagedLaws.{map-table, table-between, staged-sound}
-use Rattle.soundness.proofs.LayoutLaws.{layout-kinds}
 use Rattle.soundness.proofs.GroupLaws.{families-right, right-families}
 use Rattle.soundness.proofs.FlatLaws.{Within, families-each, each-families, prior-fits}
 use Rattle.soundness.proofs.WordLaws.{Reads, layout-reads, kind-start, layout-words}

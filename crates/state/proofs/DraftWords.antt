@@ -1,10 +1,9 @@
 -- The draft's block and its two numbers: read, written and emptied. Assumes nothing.
-use mathlib.Core.Path.{_≡_, refl, sym, ap, _∙_, subst}
+use mathlib.Core.Path.{_≡_, sym, ap, _∙_, subst}
 use mathlib.Core.List.{List, [], _∷_}
-use Prim.Native.Nat.{ℕ, _+_, _-_, _≤_, _<_}
+use Prim.Native.Nat.{ℕ, _-_, _≤_, _<_}
 use native.Mathlib.Omega.{arith}
 use lib.ListN.{length, getD, drop}
-use lib.Seq.{getD-drop}
 use Rattle.model.specs.Model.{Family}
 use Rattle.model.specs.Store.{withControl, withDraft}
 use Rattle.words.specs.Table.{table}
@@ -12,12 +11,13 @@ use Rattle.words.specs.Stores.{stores, length-stores, miss, hit}
 use Rattle.words.specs.Part.{between, patch, length-between, patch-front, patch-between, patch-rest, patch-length}
 use Rattle.layout.specs.declared.group_layout.Layout.{Layout}
 use Rattle.layout.specs.Layout.{arraysOf, blockArrays, WellFormed, groupCount, familiesOf}
+use Rattle.layout.proofs.Arrays.{none-formed}
 use Rattle.blocks.specs.Blocks.{BlockFormed, ReadFrom, WrittenTo}
 use Rattle.memory.specs.Header.{draftFamilies, draftGroups, refusalsOf}
 use Rattle.memory.specs.Word.{Word}
 use Rattle.memory.specs.Meaning.{draftArrays, draftIn, stagedIn, excludedIn, controlIn, meaning}
 use Rattle.memory.specs.Arranged.{Arranged, Becomes}
-use Rattle.memory.proofs.Frames.{word-front, drop-later, staged-same, excluded-same, long}
+use Rattle.memory.proofs.Frames.{word-front, drop-later, staged-same, excluded-same, long, word-rest}
 use Rattle.memory.proofs.Becomes.{Static, control-becomes}
 use Rattle.state.specs.Draft.{IsDraft, drafting}
 use Rattle.state.proofs.Control.{drop-stores}
@@ -70,12 +70,6 @@ module _ (w w′ : List ℕ) (A : Arranged w) (D : Drafted w w′) where
       record { arranged = B .arranged; means = B .means ∙ ap (withControl (meaning w)) k; size = B .size; past = B .past }
 
 -- ---- written
-
-word-rest : (m : ℕ) (w w′ : List ℕ) → drop m w′ ≡ drop m w → (i : ℕ) → m ≤ i → getD w′ i 0 ≡ getD w i 0
-word-rest m w w′ e i h = from w′ ∙ ap (λ (l : List ℕ). getD l (i - m) 0) e ∙ sym (from w)
-  where
-    from : (u : List ℕ) → getD u i 0 ≡ getD (drop m u) (i - m) 0
-    from u = let k : i ≡ m + (i - m) = omega arith in ap (λ (j : ℕ). getD u j 0) k ∙ sym (getD-drop m u (i - m) 0)
 
 module _ (w : List ℕ) (A : Arranged w) (l : Layout) (ys : List ℕ) (W : WrittenTo l ys) where
   abbrev ss : List (ℕ × ℕ)
@@ -135,9 +129,6 @@ module _ (w : List ℕ) (A : Arranged w) where
         rest = drop-stores 1024 w us (omega arith);
       }
 
-  none : (b : List ℕ) → WellFormed (blockArrays b 0)
-  none b = record { few = omega arith; wide = omega arith; many = omega arith; kinds = record { once = λ k. omega arith; known = λ k h. refl }; family = λ f h. absurd (omega arith) }
-
   families-none : draftFamilies (stores w us) ≡ 0
   families-none = hit w us 0 5 0 (omega arith) (omega (arith, long w A))
 
@@ -146,4 +137,4 @@ module _ (w : List ℕ) (A : Arranged w) where
   clear-draft-becomes =
       let b = between 256 576 (stores w us) in
       let e : draftArrays (stores w us) ≡ blockArrays b 0 = ap (blockArrays b) families-none in
-      drafted-becomes w (stores w us) A emptied [] (subst WellFormed (sym e) (none b)) (hit w us 1 6 0 (omega arith) (omega (arith, long w A)) ∙ sym (ap groupCount e)) (ap (familiesOf []) e)
+      drafted-becomes w (stores w us) A emptied [] (subst WellFormed (sym e) (none-formed b)) (hit w us 1 6 0 (omega arith) (omega (arith, long w A)) ∙ sym (ap groupCount e)) (ap (familiesOf []) e)

@@ -1,16 +1,17 @@
 -- The loop that takes an entity's components of the staged kinds out and writes their bytes, one kind after another. Assumes nothing.
-use mathlib.Core.Path.{_≡_, refl, ap, ap₂, sym, _∙_, subst}
+use mathlib.Core.Path.{_≡_, refl, ap, sym, _∙_, subst}
 use mathlib.Core.Bool.{true, false}
 use mathlib.Core.List.{List, [], _∷_, _++_, append-nil, append-assoc}
-use Prim.Native.Nat.{ℕ, suc, _+_, _*_, _≤_, _<_}
+use Prim.Native.Nat.{ℕ, _+_, _*_, _≤_, _<_}
 use native.Mathlib.Omega.{arith}
 use native.Mathlib.Numerals.{add-one}
-use lib.ListN.{length, getD, take, length-append, length-map}
+use lib.ListN.{length, getD, take, length-map}
 use lib.Seq.{sets, length-sets, take-all, take-suc, length-take-le}
 use Rattle.model.specs.Model.{Entity, SparseSet, Storage, noRow, setOf, at, held, kindOf, removeRow}
 use Rattle.model.specs.Store.{Store, stagedKinds, le}
 use Rattle.model.specs.Commands.{takenBytes, heldBytes}
 use Rattle.model.proofs.SparseSets.{cond-case}
+use Rattle.model.proofs.Lengths.{held-length}
 use Rattle.codec.proofs.Numbers.{sets-join}
 use Rattle.memory.specs.Meaning.{meaning}
 use Rattle.memory.specs.Change.{onSet, onStorage}
@@ -28,17 +29,6 @@ bytes-held e rows v h q = rw h (ap {B = List ℕ} (λ (x : ℕ). 1 ∷ le 8 x) q
 pub takes-kind : (w w′ out out′ : List ℕ) (e : Entity) (k j at : ℕ) (bs : List ℕ) → k ≡ j → Becomes w w′ (onStorage (onSet k (removeRow e)) (meaning w)) → out′ ≡ sets out at bs
     → bs ≡ takenBytes e (setOf (meaning w .storage .sets) k) → TakesKind w w′ out out′ e j at
 takes-kind w w′ out out′ e k j at bs q B b c = subst (λ (x : ℕ). TakesKind w w′ out out′ e x at) q (record { becomes = B; bytes = b ∙ ap (sets out at) c })
-
-bytes-nine : (e : Entity) (rows : SparseSet) → length (takenBytes e rows) ≡ 9
-bytes-nine e rows = cond-case (λ (l : List ℕ). length l ≡ 9) (held e rows) _ _ (λ t. refl) (λ t. refl)
-
-held-length : (e : Entity) (ks : List ℕ) (p : Storage) → length (heldBytes e ks p) ≡ 9 * length ks
-held-length e [] p = refl
-held-length e (k ∷ ks) p =
-    let z : 9 + 9 * length ks ≡ 9 * suc (length ks) = omega arith in
-    length-append (takenBytes e (setOf (p .sets) k)) (heldBytes e ks p)
-    ∙ ap₂ (λ (x y : ℕ). x + y) (bytes-nine e (setOf (p .sets) k)) (held-length e ks p)
-    ∙ z
 
 held-snoc : (e : Entity) (ks : List ℕ) (k : ℕ) (p : Storage) → heldBytes e (ks ++ (k ∷ [])) p ≡ heldBytes e ks p ++ takenBytes e (setOf (p .sets) k)
 held-snoc e [] k p = append-nil (takenBytes e (setOf (p .sets) k))
