@@ -32,9 +32,6 @@ none-count x l e = go (count eqb x l) (count-mem x l)
     go zero f = refl
     go (suc n) f = absurd (true≢false (sym (f (suc-le-suc zero-le)) ∙ e))
 
-pub count-none : (x : ℕ) (l : List ℕ) → count eqb x l ≡ 0 → mem x l ≡ false
-count-none x l z = bool-cases (mem x l) (λ t. absurd (omega (arith, mem-count x l t))) (λ t. t)
-
 -- ---- tests of all and of some
 
 pub all-mem : (p : ℕ → Bool) (l : List ℕ) (x : ℕ) → all p l ≡ true → mem x l ≡ true → p x ≡ true

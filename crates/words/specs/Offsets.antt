@@ -3,17 +3,11 @@
 use mathlib.Core.Path.{_≡_, refl}
 use Prim.Native.Nat.{ℕ, suc, _+_, _*_, _-_, _≤_, _<_}
 use native.Mathlib.Nat.{mul-le-mul-right, mul-le-mul, suc-mul}
-use native.Mathlib.Numerals.{add-one}
 use native.Mathlib.Omega.{arith}
 
 -- the column in slot k of a store of capacity n
 unfoldable pub columnStart : ℕ → ℕ → ℕ
 columnStart n k = 1024 + 16 * n + k * (8 + 6 * n)
-
--- the next column starts where this one ends
-pub columnStart-next : (n k : ℕ) → columnStart n (k + 1) ≡ columnStart n k + (8 + 6 * n)
-unfolding columnStart
-columnStart-next n k = rw (add-one, suc-mul) (omega arith)
 
 -- an earlier column ends before a later one starts
 pub columnStart-apart : (n i j : ℕ) → i < j → columnStart n i + (8 + 6 * n) ≤ columnStart n j
