@@ -1,6 +1,5 @@
 -- Lists of kinds told place by place: once each, by a table of what was seen; and where a kind of the list stands. Assumes nothing.
 use mathlib.Core.Path.{_≡_, ap, sym, _∙_, subst}
-use mathlib.Core.Logic.{_≢_}
 use mathlib.Core.Bool.{false, _||_, or-false}
 use mathlib.Core.List.{List, [], _∷_}
 use Prim.Native.Nat.{ℕ, zero, suc, _+_, _≤_, _<_}
@@ -16,8 +15,7 @@ use Rattle.model.specs.Sound.{In, Distinct}
 use Rattle.model.proofs.Walk.{or-true, mem-append}
 use Rattle.words.specs.Table.{by-eq}
 use Rattle.component.specs.Checks.{Each}
-use Rattle.clauses.specs.Listed.{Listed}
-use Rattle.model.proofs.KindLists.{in-count, distinct-snoc, at-in, distinct-new}
+use Rattle.model.proofs.KindLists.{in-count, distinct-snoc}
 
 -- ---- where a kind stands
 
@@ -52,24 +50,3 @@ marks-more seen l i e h s m k hk =
 
 pub marks-none : (l : List ℕ) → Marks (replicate 128 0) l 0
 marks-none l k h = rw (getD-replicate {A = ℕ} 128 k 0 0 h)
-
--- ---- registered kinds, once each
-
--- the kind at place i is registered, and not among those before
-pub record FreshAt (table kinds : List ℕ) (i : ℕ) : Type 0 where
-  pub small : getD kinds i 0 < 128
-  pub known : getD table (getD kinds i 0) 0 ≢ 255
-  pub new : mem (getD kinds i 0) (take i kinds) ≡ false
-
-pub fresh-listed : (table kinds : List ℕ) → Each (length kinds) (FreshAt table kinds) → Listed table kinds
-fresh-listed table kinds f =
-    record {
-      once = new-distinct kinds (λ i h. f i h .new);
-      small = λ k t. let q = in-at kinds k t in subst (λ (x : ℕ). x < 128) (q .2) (f (q .0) (q .1) .small);
-      known = λ k t. let q = in-at kinds k t in subst (λ (x : ℕ). getD table x 0 ≢ 255) (q .2) (f (q .0) (q .1) .known);
-    }
-
-pub listed-fresh : (table kinds : List ℕ) → Listed table kinds → Each (length kinds) (FreshAt table kinds)
-listed-fresh table kinds L i h =
-    let t = at-in kinds i h in
-    record { small = L .small (getD kinds i 0) t; known = L .known (getD kinds i 0) t; new = distinct-new kinds (L .once) i h }

@@ -14,11 +14,9 @@ use Rattle.model.specs.Refusals.{unknownKind}
 use Rattle.model.specs.Run.{Outcome, refuses, accepts, does, storeAfter}
 use Rattle.model.proofs.Walk.{or-false}
 use Rattle.model.proofs.Sound.{Fits, OutSound, does-sound, refused-sound}
-use Rattle.words.specs.Offsets.{columnStart}
-use Rattle.words.specs.Table.{length-table}
-use Rattle.memory.specs.Header.{capacityOf, kindCapacityOf, registeredOf}
-use Rattle.memory.specs.Meaning.{kindAt, kindsIn, meaning}
-use Rattle.memory.specs.Arranged.{Arranged, Sound, Becomes}
+use Rattle.memory.specs.Header.{kindCapacityOf, registeredOf}
+use Rattle.memory.specs.Meaning.{meaning}
+use Rattle.memory.specs.Arranged.{Sound, Becomes}
 use Rattle.commands.specs.Acted.{Written, Acted, storeAfter}
 pub use Rattle.memory.proofs.Becomes.{SameSize, stays, becomes-next}
 use Rattle.memory.proofs.Becomes.{kinds-count}

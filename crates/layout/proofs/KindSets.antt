@@ -16,9 +16,6 @@ use Rattle.words.specs.Part.{between}
 use Rattle.words.specs.Table.{by-eq}
 use Rattle.layout.specs.Layout.{KindSet}
 
-pub count-none : (x : ℕ) (l : List ℕ) → count eqb x l ≡ 0 → mem x l ≡ false
-count-none x l z = bool-cases (mem x l) (λ t. absurd (omega (arith, in-count l x t))) (λ t. t)
-
 -- ---- tests of all and of some
 
 pub any-none : (p : ℕ → Bool) (l : List ℕ) (x : ℕ) → any p l ≡ false → mem x l ≡ true → p x ≡ false

@@ -1,4 +1,4 @@
--- The draft's block and its two numbers: read, written and emptied. Assumes nothing.
+-- The draft's block and its two numbers: read and written. Assumes nothing.
 use mathlib.Core.Path.{_≡_, sym, ap, _∙_, subst}
 use mathlib.Core.List.{List, [], _∷_}
 use Prim.Native.Nat.{ℕ, _-_, _≤_, _<_}
@@ -11,7 +11,6 @@ use Rattle.words.specs.Stores.{stores, length-stores, miss, hit}
 use Rattle.words.specs.Part.{between, patch, length-between, patch-front, patch-between, patch-rest, patch-length}
 use Rattle.layout.specs.declared.group_layout.Layout.{Layout}
 use Rattle.layout.specs.Layout.{arraysOf, blockArrays, WellFormed, groupCount, familiesOf}
-use Rattle.layout.proofs.Arrays.{none-formed}
 use Rattle.blocks.specs.Blocks.{BlockFormed, ReadFrom, WrittenTo}
 use Rattle.memory.specs.Header.{draftFamilies, draftGroups, refusalsOf}
 use Rattle.memory.specs.Word.{Word}
@@ -112,29 +111,3 @@ module _ (w : List ℕ) (A : Arranged w) (l : Layout) (ys : List ℕ) (W : Writt
   draft-becomes =
       drafted-becomes w (patch 256 576 v ys) A written (familiesOf [] (arraysOf l)) (subst WellFormed (sym arrays) (W .formed .good))
       (groups ∙ W .formed .groups ∙ sym (ap groupCount arrays)) (ap (familiesOf []) arrays ∙ W .means [])
-
--- ---- emptied
-
-module _ (w : List ℕ) (A : Arranged w) where
-  abbrev us : List (ℕ × ℕ)
-  us = (5, 0) ∷ (6, 0) ∷ []
-
-  emptied : Drafted w (stores w us)
-  emptied =
-      record {
-        size = length-stores w us;
-        low = λ i h. miss w us i (omega arith);
-        middle = λ i a b. miss w us i (omega arith);
-        upper = λ i a b. miss w us i (omega arith);
-        rest = drop-stores 1024 w us (omega arith);
-      }
-
-  families-none : draftFamilies (stores w us) ≡ 0
-  families-none = hit w us 0 5 0 (omega arith) (omega (arith, long w A))
-
-  pub clear-draft-becomes : Becomes w (stores w us) (withControl (meaning w) (withDraft (meaning w .control) []))
-  unfolding table
-  clear-draft-becomes =
-      let b = between 256 576 (stores w us) in
-      let e : draftArrays (stores w us) ≡ blockArrays b 0 = ap (blockArrays b) families-none in
-      drafted-becomes w (stores w us) A emptied [] (subst WellFormed (sym e) (none-formed b)) (hit w us 1 6 0 (omega arith) (omega (arith, long w A)) ∙ sym (ap groupCount e)) (ap (familiesOf []) e)

@@ -10,7 +10,6 @@ use lib.Seq.{sets, length-sets, take-all, take-suc, length-take-le}
 use Rattle.model.specs.Model.{Entity, SparseSet, Storage, noRow, setOf, at, held, kindOf, removeRow}
 use Rattle.model.specs.Store.{Store, stagedKinds, le}
 use Rattle.model.specs.Commands.{takenBytes, heldBytes}
-use Rattle.model.proofs.SparseSets.{cond-case}
 use Rattle.model.proofs.Lengths.{held-length}
 use Rattle.codec.proofs.Numbers.{sets-join}
 use Rattle.memory.specs.Meaning.{meaning}

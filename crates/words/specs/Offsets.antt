@@ -3,18 +3,12 @@
 use mathlib.Core.Path.{_≡_, refl}
 use Prim.Native.Nat.{ℕ, suc, _+_, _*_, _-_, _≤_, _<_}
 use native.Mathlib.Nat.{mul-le-mul-right, mul-le-mul, suc-mul}
-use native.Mathlib.Numerals.{add-one}
 use native.Mathlib.Omega.{arith}
 use Rattle.model.specs.Store.{wordsNeeded}
 
 -- the column in slot k of a store of capacity n: it starts where the words of a store with k kinds end
 abbrev pub columnStart : ℕ → ℕ → ℕ
 columnStart n k = wordsNeeded n k
-
--- the next column starts where this one ends
-pub columnStart-next : (n k : ℕ) → columnStart n (k + 1) ≡ columnStart n k + (8 + 6 * n)
-unfolding wordsNeeded
-columnStart-next n k = rw (add-one, suc-mul) (omega arith)
 
 -- an earlier column ends before a later one starts
 pub columnStart-apart : (n i j : ℕ) → i < j → columnStart n i + (8 + 6 * n) ≤ columnStart n j

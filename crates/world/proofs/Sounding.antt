@@ -11,7 +11,6 @@ use Rattle.layouts.specs.Steps.{applied}
 use Rattle.entity.specs.Change.{isFull}
 use Rattle.entity.specs.Answers.{LiveAt}
 use Rattle.entity.proofs.Lookups.{found-live}
-use Rattle.memory.specs.Header.{capacityOf, kindCapacityOf}
 use Rattle.memory.specs.Meaning.{meaning}
 use Rattle.memory.specs.Change.{onStorage, withEntities}
 use Rattle.memory.specs.Arranged.{Sound, Becomes}

@@ -6,9 +6,6 @@ use native.Mathlib.Omega.{arith}
 use borrow.Author.Needs.{needs}
 use Rattle.input.proofs.read_up_to.Statement.{statement}
 use Rattle.input.proofs.read_up_to.Tie as tie
-use Rattle.input.proofs.read_up_to.Reads as reads
-use Rattle.input.proofs.read_up_to.Lts as lts
-use Rattle.input.proofs.read_at.Reads as read-at-reads
 
 abbrev Inv-loop : tie.InvT-loop
 Inv-loop fd buffer₀ n₀ buffer n = (n ≤ length buffer) × (length buffer ≡ length buffer₀)

@@ -1,4 +1,4 @@
-use mathlib.Core.Path.{_≡_, refl, ap, _∙_}
+use mathlib.Core.Path.{refl, ap, _∙_}
 use mathlib.Core.List.{List}
 use Prim.Native.Nat.{ℕ, _+_}
 use native.Mathlib.Omega.{arith}
@@ -9,9 +9,6 @@ use Rattle.model.specs.Store.{le}
 use Rattle.tape.proofs.Serving.{numbers-put}
 use Rattle.tape.proofs.put_numbers.Statement.{statement}
 use Rattle.tape.proofs.put_numbers.Tie as tie
-use Rattle.tape.proofs.put_numbers.Reads as reads
-use Rattle.tape.proofs.put_numbers.Lts as lts
-use Rattle.codec.proofs.put_u32.Reads as put-u32-reads
 
 put-u32-requires : tie.Need-put-u32-requires
 put-u32-requires c κs = simp length-set (omega arith)
