@@ -1,9 +1,9 @@
 -- What the entry *run* promises, from what its two branches show. Assumes nothing.
-use mathlib.Core.Path.{_≡_, refl, sym, ap, _∙_}
+use mathlib.Core.Path.{_≡_, refl}
 use mathlib.Core.Bool.{true, false}
 use mathlib.Core.List.{List}
 use Prim.Native.Nat.{ℕ}
-use lib.ListN.{length, drop}
+use lib.ListN.{length}
 use Rattle.model.specs.Store.{Bytes, wordsNeeded}
 use Rattle.model.specs.Run.{run}
 use Rattle.words.specs.Offsets.{columnStart}

@@ -1,12 +1,12 @@
 -- The model's start by its tests, as the code makes them. Assumes nothing.
-use mathlib.Core.Path.{_≡_, refl, sym, ap, _∙_}
-use mathlib.Core.Bool.{Bool, true, false, _||_}
+use mathlib.Core.Path.{_≡_, refl}
+use mathlib.Core.Bool.{Bool, false, _||_}
 use mathlib.Core.List.{List}
 use Prim.Native.Nat.{ℕ, _≤_, _<_}
 use native.Mathlib.Omega.{arith}
 use borrow.Author.Tests.{lt-ltb, le-ltb, ne-eqb}
 use lib.Dec.{eqb, ltb}
-use lib.ListN.{length, drop}
+use lib.ListN.{length}
 use Rattle.model.specs.Store.{empty, wordsNeeded}
 use Rattle.model.specs.Refusals.{startLines}
 use Rattle.model.specs.Entries.{refusesStart, makes, start}
@@ -18,7 +18,7 @@ use Rattle.model.proofs.Entries.{start-exact, start-makes}
 use Rattle.words.specs.Offsets.{columnStart}
 use Rattle.memory.specs.Arranged.{Sound}
 use Rattle.start.specs.Fresh.{Made}
-use Rattle.store.specs.Entries.{Needs, startNumber, StartLeaves, Starts}
+use Rattle.store.specs.Entries.{Starts}
 
 -- the two names of the number of words needed
 pub needed-words : (n k : ℕ) → wordsNeeded n k ≡ columnStart n k
