@@ -109,7 +109,12 @@ run-balanced-for (suc fuel) (b ∷ t) room s r h = go (step b t room s) (step-ba
     go (stops n) g rec = kept (s .entities) r h
     go (goes w a s′) g rec = omega (arith, rec w (room - length a) s′ (r + k) g)
 
+-- a run more
+pub run-balanced : (t : List ℕ) (room : ℕ) (s : Store) (r : ℕ) → Balanced (s .entities) r → Balanced ((run t room s) .store .entities) (r + retired t room s)
+unfolding run retired
+run-balanced t room s r h = run-balanced-for (length t) t room s r h
+
 -- after every tape from an empty store
 pub issued-balance : (t : List ℕ) (room n k : ℕ) → Balanced ((run t room (empty n k)) .store .entities) (retired t room (empty n k))
-unfolding run retired empty
-issued-balance t room n k = rw (zero-add (retiredFor (length t) t room (empty n k))) at (run-balanced-for (length t) t room (empty n k) 0 refl)
+unfolding empty
+issued-balance t room n k = rw (zero-add (retired t room (empty n k))) at (run-balanced t room (empty n k) 0 refl)
