@@ -17,7 +17,7 @@ use Rattle.model.proofs.Sound.{Fits, OutSound, does-sound, refused-sound}
 use Rattle.memory.specs.Header.{kindCapacityOf, registeredOf}
 use Rattle.memory.specs.Meaning.{meaning}
 use Rattle.memory.specs.Arranged.{Sound, Becomes}
-use Rattle.commands.specs.Acted.{Written, Acted, storeAfter}
+use Rattle.commands.specs.Acted.{Written, Acted}
 pub use Rattle.memory.proofs.Becomes.{SameSize, stays, becomes-next}
 use Rattle.memory.proofs.Becomes.{kinds-count}
 

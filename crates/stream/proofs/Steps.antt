@@ -17,7 +17,7 @@ use Rattle.model.proofs.Lengths.{answer-length, answer-positive, step-case}
 use Rattle.model.proofs.Sound.{After, bytes-drop, tape-fits}
 use Rattle.memory.specs.Meaning.{meaning}
 use Rattle.memory.specs.Arranged.{Sound}
-use Rattle.commands.specs.Acted.{Acted, storeAfter, answerOf}
+use Rattle.commands.specs.Acted.{Acted}
 use Rattle.commands.proofs.Acts.{SameSize, stays, acted-sound}
 use Rattle.stream.specs.Stream.{commandIn, Given, StepReady, stepAt, Stepped}
 use Rattle.stream.specs.declared.Went.the-variants.{Done as Goes, Stop}
