@@ -7,11 +7,6 @@ use lib.Seq.{length-take-le}
 use Rattle.tape.proofs.Serving.{within}
 use Rattle.tape.proofs.answer.Statement.{statement}
 use Rattle.tape.proofs.answer.Tie as tie
-use Rattle.tape.proofs.answer.Reads as reads
-use Rattle.tape.proofs.answer.Lts as lts
-use Rattle.io.proofs.write_all.Reads as write-all-reads
-use Rattle.os.proofs.fail.Reads as fail-reads
-use Rattle.tape.proofs.serve.Reads as serve-reads
 
 array-share-prefix-out : tie.Need-array-share-prefix-out
 array-share-prefix-out c = within (c .before .serve .ensures)

@@ -6,11 +6,6 @@ use lib.ListN.{length}
 use lib.Seq.{length-take-le}
 use Rattle.tape.proofs.main.Statement.{statement}
 use Rattle.tape.proofs.main.Tie as tie
-use Rattle.tape.proofs.main.Reads as reads
-use Rattle.tape.proofs.main.Lts as lts
-use Rattle.input.proofs.read_up_to.Reads as read-up-to-reads
-use Rattle.os.proofs.fail.Reads as fail-reads
-use Rattle.tape.proofs.answer.Reads as answer-reads
 
 array-share-prefix-tape : tie.Need-array-share-prefix-tape
 array-share-prefix-tape c = rw (c .before .n .given .1) at (c .before .before .before .before .read-up-to .ensures)

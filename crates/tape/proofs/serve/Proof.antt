@@ -7,11 +7,6 @@ use lib.Seq.{length-take-le}
 use Rattle.tape.proofs.Serving.{fresh, on-empty, few, served}
 use Rattle.tape.proofs.serve.Statement.{statement}
 use Rattle.tape.proofs.serve.Tie as tie
-use Rattle.tape.proofs.serve.Reads as reads
-use Rattle.tape.proofs.serve.Lts as lts
-use Rattle.store.proofs.run.Reads as run-reads
-use Rattle.store.proofs.start.Reads as start-reads
-use Rattle.tape.proofs.put_numbers.Reads as put-numbers-reads
 
 slice-aggregate-run-2 : tie.Need-slice-aggregate-run-2
 slice-aggregate-run-2 c = sym (length-take-le 16384 (c .before .before .before .before .before .before .before .args .out .now) (omega arith))
