@@ -47,7 +47,7 @@ fn options() -> (String, Options) {
         cases: 300,
         quick: false,
         show: false,
-        file: "recorded/answers.bin".to_string(),
+        file: "../crates/replay/data/answers.bin".to_string(),
         kilobytes: 160,
         reference: false,
     };

@@ -16,12 +16,6 @@ abbrev μ-loop : tie.MeasureT-loop
 loop-holds : tie.Need-loop-holds Inv-loop μ-loop
 loop-holds c = (search needs, refl)
 
-read-at-requires : tie.Need-read-at-requires Inv-loop μ-loop
-read-at-requires c κs = search needs
-
-enum-known-more : tie.Need-enum-known-more Inv-loop μ-loop
-enum-known-more c = search needs
-
 same-length : tie.Need-same-length Inv-loop μ-loop
 same-length c = c .before .before .before .before .before .before .read-at .kept .1 .0 ∙ c .before .before .before .before .before .before .before .before .before .loop .inv .1
 
@@ -36,9 +30,6 @@ loop-less c = omega (arith, rw (c .before .before .more .given .1) at (c .before
 
 loop-again : tie.Need-loop-again Inv-loop μ-loop
 loop-again c = (omega (arith, rw (c .before .before .more .given .1) at (c .before .before .before .before .before .before .read-at .ensures), c .before .before .before .before .before .before .read-at .kept .1 .0, c .before .before .before .before .before .before .before .before .before .loop .inv .0), c .before .before .before .before .before .before .read-at .kept .1 .0 ∙ c .before .before .before .before .before .before .before .before .before .loop .inv .1)
-
-enum-told : tie.Need-enum-told Inv-loop μ-loop
-enum-told c = search needs
 
 same-length-2 : tie.Need-same-length-2 Inv-loop μ-loop
 same-length-2 c = c .before .before .before .before .read-at .kept .1 .0 ∙ c .before .before .before .before .before .before .before .loop .inv .1
@@ -59,14 +50,14 @@ read-up-to-spec =
     Inv-loop
     μ-loop
     loop-holds
-    read-at-requires
-    enum-known-more
+    (λ c κs. search needs)
+    (λ c. search needs)
     same-length
     returns
     add-n
     loop-less
     loop-again
-    enum-told
+    (λ c. search needs)
     same-length-2
     returns-2
     same-length-3

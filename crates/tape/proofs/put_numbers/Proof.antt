@@ -1,4 +1,4 @@
-use mathlib.Core.Path.{refl, ap, _∙_}
+use mathlib.Core.Path.{_≡_, refl, ap, _∙_}
 use mathlib.Core.List.{List}
 use Prim.Native.Nat.{ℕ, _+_}
 use native.Mathlib.Omega.{arith}
@@ -9,9 +9,6 @@ use Rattle.model.specs.Store.{le}
 use Rattle.tape.proofs.Serving.{numbers-put}
 use Rattle.tape.proofs.put_numbers.Statement.{statement}
 use Rattle.tape.proofs.put_numbers.Tie as tie
-
-put-u32-requires : tie.Need-put-u32-requires
-put-u32-requires c κs = simp length-set (omega arith)
 
 put-u32-requires-2 : tie.Need-put-u32-requires-2
 put-u32-requires-2 c κs = omega (arith, c .before .before .before .put-u32 .kept .0, length-set (c .before .before .before .before .before .before .args .out .now) (c .before .before .before .before .before .before .args .written) (c .before .before .before .before .before .before .args .stop))
@@ -39,7 +36,7 @@ put-numbers-spec =
     (λ c. search needs)
     (λ c. search needs)
     (λ c. search needs)
-    put-u32-requires
+    (λ c κs. simp length-set (omega arith))
     (λ c. search needs)
     (λ c. search needs)
     put-u32-requires-2
