@@ -197,7 +197,7 @@ fn show_faults(options: &Options) -> ExitCode {
     let mut missed = 0;
     println!("| fault | random cases | limits | start | commands in the smallest tape |");
     println!("|---|---|---|---|---|");
-    for fault in reference::Fault::ALL {
+    for &fault in reference::Fault::ALL {
         let found = quietly(|| faults::find(fault, options.seed, options.cases));
         println!("{}", found.line());
         missed += usize::from(!found.is_found());
