@@ -255,8 +255,7 @@ impl<'a> Store<'a> {
     /// # Ok::<(), Refusal>(())
     /// ```
     pub fn roll(&self, out: &mut [u8]) -> Result<usize, Refusal> {
-        let rolled =
-            unsafe { sys::yirbarn_roll(self.words.as_ptr(), self.words.len(), out.as_mut_ptr(), out.len()) };
+        let rolled = unsafe { sys::yirbarn_roll(self.words.as_ptr(), self.words.len(), out.as_mut_ptr(), out.len()) };
         refused(rolled.number)?;
         Ok(rolled.written)
     }

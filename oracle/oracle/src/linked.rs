@@ -163,7 +163,9 @@ impl Side for Linked {
         };
         let at = unsafe { sys::yirbarn_column_at(self.words.as_ptr(), self.lent, kind, values, start, end) };
         if len > out.len() || at > self.lent || self.words[at..].get(..len) != Some(&out[..len]) {
-            self.complain(format!("column of kind {kind}, {start}..{end}: {len} words, those in place at {at}"));
+            self.complain(format!(
+                "column of kind {kind}, {start}..{end}: {len} words, those in place at {at}"
+            ));
             return out;
         }
         out.truncate(len);
