@@ -1,0 +1,42 @@
+-- What well-arranged words say of the store they mean: a kind that is not registered has no rows, and numbers are at most the capacity. Assumes nothing.
+use mathlib.Core.Path.{_≡_, sym, _∙_}
+use mathlib.Core.Bool.{false, false≢true}
+use mathlib.Core.List.{List, []}
+use Prim.Native.Nat.{ℕ, _≤_, _<_}
+use native.Mathlib.Omega.{arith}
+use borrow.Author.Tests.{le-ltb}
+use lib.ListN.{length}
+use Rattle.model.specs.Model.{mem}
+use Rattle.words.specs.Table.{length-table, by-eq}
+use Rattle.entity.specs.Change.{entityPart}
+use Rattle.entity.proofs.Known.{live-few, issued-few}
+use Rattle.memory.specs.Header.{capacityOf, registeredOf, slotOf}
+use Rattle.memory.specs.Meaning.{setAt, setsIn, meaning}
+use Rattle.memory.specs.Arranged.{Arranged}
+use Rattle.memory.proofs.Becomes.{set-in}
+use Rattle.kinds.specs.Kinds.{kindSet}
+use Rattle.kinds.proofs.Slot.{slot-known}
+
+pub sets-wide : (w : List ℕ) → length (meaning w .storage .sets) ≡ 128
+unfolding meaning setsIn
+sets-wide w = length-table 128 (setAt w)
+
+module _ (w : List ℕ) (A : Arranged w) where
+  no-slot : (k : ℕ) → slotOf w k ≡ 255 → setAt w k ≡ []
+  no-slot k e = rw (e, le-ltb 255 (registeredOf w) (omega (arith, A .table .few, A .limits .mostKinds)))
+
+  pub no-rows : (k : ℕ) → k < 128 → mem k (meaning w .kinds) ≡ false → kindSet w k ≡ []
+  unfolding meaning
+  no-rows k h f = set-in w A k h ∙ by-eq (slotOf w k) 255 (no-slot k) (λ ne. absurd (false≢true (sym f ∙ slot-known w A k h ne)))
+
+  pub capacity-most : meaning w .capacity ≤ 4096
+  unfolding meaning
+  capacity-most = A .limits .most
+
+  pub issued-most : meaning w .entities .issued ≤ meaning w .capacity
+  unfolding meaning
+  issued-most = issued-few (capacityOf w) (entityPart (capacityOf w) w) (A .entities)
+
+  pub live-most : length (meaning w .entities .live) ≤ meaning w .capacity
+  unfolding meaning
+  live-most = live-few (capacityOf w) (entityPart (capacityOf w) w) (A .entities)

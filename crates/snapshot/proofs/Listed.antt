@@ -1,0 +1,136 @@
+-- The registered kinds, rising, and the components of one entity, kind by kind. Assumes nothing.
+use mathlib.Core.Path.{_≡_, refl, ap, sym, _∙_}
+use mathlib.Core.Bool.{Bool, true, false, cond}
+use mathlib.Core.Option.{Option, some, none}
+use mathlib.Core.List.{List, [], _∷_, _++_, append-nil}
+use Prim.Native.Nat.{ℕ, zero, suc, _+_, _-_, _≤_, _<_}
+use native.Mathlib.Omega.{arith}
+use native.Mathlib.Numerals.{add-one, towards-suc}
+use lib.ListN.{length, getD, set, take, drop, drop-of-length-le}
+use lib.Seq.{sets, drop-cons, take-suc-set, append-snoc}
+use Rattle.model.specs.Model.{Entity, SparseSet, Component, noRow, mem, at, held, setOf}
+use Rattle.model.specs.Sound.{In}
+use Rattle.model.specs.Store.{le}
+use Rattle.model.specs.Snapshot.{valueAt, addComponent, componentsOf, componentBytes}
+use Rattle.model.proofs.Lengths.{le-length}
+use Rattle.component.specs.SparseSet.{valueOf}
+use Rattle.snapshot.specs.Rising.{risingFrom, risingKinds}
+use Rattle.snapshot.specs.Wrote.{oneBytes, Wrote}
+
+-- ---- the list of registered kinds
+
+module _ (ks : List ℕ) where
+  -- what is left to list from kind k on
+  abbrev pub later : ℕ → List ℕ
+  later k = risingFrom ks (128 - k) k
+
+  later-turn : (k : ℕ) → k < 128 → later k ≡ cond (mem k ks) (k ∷ later (k + 1)) (later (k + 1))
+  later-turn k h =
+      let e : 128 - k ≡ suc (128 - (k + 1)) = omega arith in
+      ap (λ (n : ℕ). risingFrom ks n k) e ∙ ap (λ (j : ℕ). cond (mem k ks) (k ∷ risingFrom ks (128 - (k + 1)) j) (risingFrom ks (128 - (k + 1)) j)) (sym (add-one k))
+
+  pub lists-none : (l : List ℕ) (n k : ℕ) → k < 128 → mem k ks ≡ false → take n l ++ later k ≡ take n l ++ later (k + 1)
+  lists-none l n k h f = ap (λ (r : List ℕ). take n l ++ r) (later-turn k h ∙ rw f)
+
+  pub lists-one : (l : List ℕ) (n k : ℕ) → n < length l → k < 128 → mem k ks ≡ true → take n l ++ later k ≡ take (n + 1) (set l n k) ++ later (k + 1)
+  lists-one l n k b h t =
+      ap (λ (r : List ℕ). take n l ++ r) (later-turn k h ∙ rw t)
+      ∙ sym (append-snoc (take n l) k (later (k + 1)))
+      ∙ ap (λ (r : List ℕ). r ++ later (k + 1)) (sym (ap (λ (j : ℕ). take j (set l n k)) (add-one n) ∙ take-suc-set l n k b))
+
+  pub lists-end : (l : List ℕ) (n k : ℕ) → 128 ≤ k → take n l ++ later k ≡ take n l
+  lists-end l n k h =
+      let e : 128 - k ≡ 0 = omega arith in
+      ap (λ (m : ℕ). take n l ++ risingFrom ks m k) e ∙ append-nil (take n l)
+
+  -- only registered kinds are listed
+  from-in : (n k i : ℕ) → i < length (risingFrom ks n k) → In ks (getD (risingFrom ks n k) i 0)
+  from-in zero k i h = absurd (omega arith)
+  from-in (suc n) k i h = go (mem k ks) refl (from-in n (suc k)) i h
+    where
+      r : List ℕ
+      r = risingFrom ks n (suc k)
+
+      go : (b : Bool) → mem k ks ≡ b → ((i : ℕ) → i < length r → In ks (getD r i 0)) → (i : ℕ) → i < length (cond b (k ∷ r) r) → In ks (getD (cond b (k ∷ r) r) i 0)
+      go true t f zero h = t
+      go true t f (suc i) h = f i (omega arith)
+      go false t f i h = f i h
+
+  pub rising-in : (l : List ℕ) → l ≡ risingKinds ks → (i : ℕ) → i < length l → In ks (getD l i 0)
+  unfolding risingKinds
+  rising-in l e i h = rw e (from-in 128 0 i (rw e at h))
+
+-- ---- one kind
+
+pub value-held : (e : Entity) (rows : SparseSet) (p l h : ℕ) → held e rows ≡ true → p ≡ at e rows → valueOf l h ≡ getD rows p noRow .value → valueAt e rows ≡ some (valueOf l h)
+value-held e rows p l h t q v =
+    let n : getD rows (at e rows) noRow .value ≡ valueOf l h = sym (v ∙ ap (λ (i : ℕ). getD rows i noRow .value) q) in
+    rw (t, n)
+
+pub value-none : (e : Entity) (rows : SparseSet) → held e rows ≡ false → valueAt e rows ≡ none
+value-none e rows h = rw h
+
+value-bare : (e : Entity) (rows : SparseSet) → rows ≡ [] → valueAt e rows ≡ none
+value-bare e rows h = rw h
+
+pub none-written : {o : List ℕ} {p : ℕ} {v : Option ℕ} (k : ℕ) → v ≡ none → Wrote o o p p (oneBytes v k)
+none-written k e = rw e (record { bytes = refl; next = omega arith })
+
+pub one-room : {x n : ℕ} {v : Option ℕ} (p k : ℕ) → v ≡ some x → p + length (oneBytes v k) ≤ n → p + 9 ≤ n
+one-room {x} {n} p k e h =
+    let z : p + length (oneBytes (some x) k) ≤ n = rw e at h in
+    omega (arith, le-length 8 x)
+
+pub one-written : {o′ : List ℕ} {x : ℕ} {v : Option ℕ} (o : List ℕ) (p k : ℕ) → v ≡ some x → o′ ≡ sets (set o p k) (p + 1) (le 8 x) → Wrote o o′ p (p + 9) (oneBytes v k)
+one-written {x = x} o p k e q = rw e (record { bytes = q ∙ simp towards-suc; next = omega (arith, le-length 8 x) })
+
+-- ---- the kinds of one entity
+
+bytes-add : (v : Option ℕ) (k : ℕ) (ps : List Component) → componentBytes (addComponent v k ps) ≡ oneBytes v k ++ componentBytes ps
+bytes-add none k ps = refl
+bytes-add (some x) k ps = refl
+
+components-few : (e : Entity) (k : ℕ) (ss : List SparseSet) → length (componentsOf e k ss) ≤ length ss
+components-few e k [] = omega arith
+components-few e k (c ∷ cs) = go (valueAt e c) (components-few e (suc k) cs)
+  where
+    go : (v : Option ℕ) → length (componentsOf e (suc k) cs) ≤ length cs → length (addComponent v k (componentsOf e (suc k) cs)) ≤ suc (length cs)
+    go none h = omega arith
+    go (some x) h = omega arith
+
+pub few-components : (e : Entity) (ss : List SparseSet) → length ss ≡ 128 → length (componentsOf e 0 ss) ≤ 128
+few-components e ss h = omega (arith, components-few e 0 ss)
+
+-- the bytes of the components of these kinds
+abbrev pub kindsBytes : Entity → List SparseSet → List ℕ → List ℕ
+kindsBytes e ss [] = []
+kindsBytes e ss (k ∷ ks) = oneBytes (valueAt e (setOf ss k)) k ++ kindsBytes e ss ks
+
+pub bytes-turn : (e : Entity) (ss : List SparseSet) (l : List ℕ) (i : ℕ) → i < length l
+    → kindsBytes e ss (drop i l) ≡ oneBytes (valueAt e (setOf ss (getD l i 0))) (getD l i 0) ++ kindsBytes e ss (drop (i + 1) l)
+bytes-turn e ss l i h = ap (kindsBytes e ss) (drop-cons l i 0 h ∙ ap (λ (j : ℕ). getD l i 0 ∷ drop j l) (sym (add-one i)))
+
+pub bytes-end : (e : Entity) (ss : List SparseSet) (l : List ℕ) (i : ℕ) → length l ≤ i → kindsBytes e ss (drop i l) ≡ []
+bytes-end e ss l i h = ap (kindsBytes e ss) (drop-of-length-le l h)
+
+module _ (e : Entity) (ks : List ℕ) (ss : List SparseSet) (wide : length ss ≡ 128) (bare : (k : ℕ) → k < 128 → mem k ks ≡ false → setOf ss k ≡ []) where
+  from-bytes : (n k : ℕ) → n + k ≡ 128 → componentBytes (componentsOf e k (drop k ss)) ≡ kindsBytes e ss (risingFrom ks n k)
+  from-bytes zero k q = let h : length ss ≤ k = omega (arith, wide) in ap (λ (l : List SparseSet). componentBytes (componentsOf e k l)) (drop-of-length-le ss h)
+  from-bytes (suc n) k q =
+      let h : k < length ss = omega (arith, wide) in
+      ap (λ (l : List SparseSet). componentBytes (componentsOf e k l)) (drop-cons ss k [] h)
+      ∙ bytes-add (valueAt e (setOf ss k)) k (componentsOf e (suc k) (drop (suc k) ss))
+      ∙ ap (λ (l : List ℕ). oneBytes (valueAt e (setOf ss k)) k ++ l) (from-bytes n (suc k) (omega arith))
+      ∙ go (mem k ks) refl
+    where
+      r : List ℕ
+      r = risingFrom ks n (suc k)
+
+      go : (b : Bool) → mem k ks ≡ b → oneBytes (valueAt e (setOf ss k)) k ++ kindsBytes e ss r ≡ kindsBytes e ss (cond b (k ∷ r) r)
+      go true t = refl
+      go false t = rw (value-bare e (setOf ss k) (bare k (omega arith) t))
+
+  -- an entity's components are those of the registered kinds
+  pub bytes-all : (l : List ℕ) → l ≡ risingKinds ks → componentBytes (componentsOf e 0 ss) ≡ kindsBytes e ss l
+  unfolding risingKinds
+  bytes-all l q = from-bytes 128 0 refl ∙ ap (kindsBytes e ss) (sym q)

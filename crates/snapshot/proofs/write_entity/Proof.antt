@@ -1,0 +1,40 @@
+use mathlib.Core.Path.{refl, _∙_}
+use native.Mathlib.Omega.{arith}
+use borrow.Author.Needs.{needs}
+use lib.ListN.{length, length-set}
+use Rattle.model.specs.Snapshot.{componentsOf}
+use Rattle.component.specs.SparseSet.{entity}
+use Rattle.memory.specs.Meaning.{meaning}
+use Rattle.snapshot.specs.Wrote.{entryFor}
+use Rattle.snapshot.proofs.Known.{sets-wide}
+use Rattle.snapshot.proofs.Listed.{few-components}
+use Rattle.snapshot.proofs.Parts.{entry-room, entry-count, entry-written}
+use Rattle.snapshot.proofs.write_entity.Statement.{statement}
+use Rattle.snapshot.proofs.write_entity.Tie as tie
+
+write-components-requires : tie.Need-write-components-requires
+write-components-requires c κs =
+    let s = c .before .before .before .before .before .before .before .before .before .before .before .before in
+    let a = s .args in
+    (s .pre .0, (s .pre .1 .0, omega (arith, entry-room (entryFor (a .words .now) (a .index) (a .version)) (a .at) (length (a .out .now)) (s .pre .1 .1) .1, c .before .before .before .before .before .before .before .put-u32 .kept .0, c .before .before .before .put-u322 .kept .0)))
+
+cast-out : tie.Need-cast-out
+cast-out c =
+    let a = c .before .before .before .before .before .before .before .before .before .before .before .before .before .before .before .args in
+    let ss = meaning (a .words .now) .storage .sets in
+    let e = entity (a .index) (a .version) in
+    omega (arith, entry-count (componentsOf e 0 ss) (c .before .before .write-components .ensures), few-components e ss (sets-wide (a .words .now)))
+
+same-length : tie.Need-same-length
+same-length c = simp length-set (c .before .before .write-components .kept .1 .1 .1 .1 .0 ∙ c .before .before .before .before .before .before .put-u322 .kept .0 ∙ c .before .before .before .before .before .before .before .before .before .before .put-u32 .kept .0)
+
+returns : tie.Need-returns
+returns c =
+    let a = c .before .before .before .before .before .before .before .before .before .before .before .before .before .before .before .args in
+    let t = entryFor (a .words .now) (a .index) (a .version) in
+    entry-written t (c .before .before .before .before .before .before .before .before .before .before .put-u32 .ensures) (c .before .before .before .before .before .before .put-u322 .ensures) (c .before .before .write-components .ensures) refl (entry-count (t .components) (c .before .before .write-components .ensures))
+
+pub write-entity-spec : {M : Type 1} → statement M
+write-entity-spec =
+    tie.close
+    (tie.spec (λ c κs. search needs) (λ c. search needs) (λ c κs. search needs) (λ c. search needs) write-components-requires (λ c. search needs) cast-out (λ c. search needs) (λ c. search needs) same-length returns)

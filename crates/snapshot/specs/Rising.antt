@@ -1,0 +1,31 @@
+-- The registered kinds in the order of a snapshot, and how many rows all sparse sets have. Assumes nothing.
+use mathlib.Core.Path.{_≡_}
+use mathlib.Core.Bool.{cond}
+use mathlib.Core.List.{List, [], _∷_}
+use Prim.Native.Nat.{ℕ, zero, suc, _+_, _≤_}
+use lib.ListN.{length, take}
+use Rattle.model.specs.Model.{SparseSet, mem}
+
+-- of the n kinds from k on, those in the list ks
+abbrev pub risingFrom : List ℕ → ℕ → ℕ → List ℕ
+risingFrom ks zero k = []
+risingFrom ks (suc n) k = let r = risingFrom ks n (suc k) in cond (mem k ks) (k ∷ r) r
+
+-- 01, roll: "each part by rising kind"
+unfoldable pub risingKinds : List ℕ → List ℕ
+risingKinds ks = risingFrom ks 128 0
+
+-- the first r numbers of l are the kinds ks, rising
+pub record Lists (l : List ℕ) (r : ℕ) (ks : List ℕ) : Type 0 where
+  pub is : take r l ≡ risingKinds ks
+  pub few : r ≤ 128
+
+-- the rows of all sparse sets together
+abbrev pub rowsIn : List SparseSet → ℕ
+rowsIn [] = 0
+rowsIn (c ∷ cs) = length c + rowsIn cs
+
+-- a number is right, and small enough to go on counting with
+pub record Counted (r n most : ℕ) : Type 0 where
+  pub is : r ≡ n
+  pub few : r ≤ most

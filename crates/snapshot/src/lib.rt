@@ -1,0 +1,174 @@
+// The snapshot of a store, which *roll* writes: how long it is, and its bytes. The live entities by rising index, the components of each by rising kind.
+// One lookup for each live entity and registered kind: the length comes from the columns' lengths, an entity's count from the bytes of its components.
+use component::Found;
+ghost use mathlib.Core.Path.{_≡_};
+ghost use Prim.Native.Nat.{_+_, _<_, _≤_};
+ghost use lib.ListN.{length};
+ghost use Rattle.model.specs.Sound.{In};
+ghost use Rattle.model.specs.Snapshot.{valueAt, componentsOf, componentBytes, entryBytes, flat, listing, snapshot};
+ghost use Rattle.component.specs.SparseSet.{entity};
+ghost use Rattle.memory.specs.Meaning.{meaning};
+ghost use Rattle.memory.specs.Arranged.{Arranged, Sound};
+ghost use Rattle.kinds.specs.Kinds.{kindSet};
+ghost use Rattle.snapshot.specs.Rising.{risingKinds, Lists, rowsIn, Counted};
+ghost use Rattle.snapshot.specs.Wrote.{oneBytes, entryFor, indexBytes, Wrote};
+
+// The rows of a kind's column, none where the kind has no column.
+fn set_length(words: &[u32], kind: usize) -> usize
+    requires { ⌜ Sound (now words) ⌝ }
+    requires { ⌜ kind < 128 ⌝ }
+    ensures { λ r. ⌜ Counted r (length (kindSet (now (words .entry)) kind)) 4096 ⌝ }
+{
+    if kinds::is_registered(words, kind) {
+        return kinds::set_len(words, kind);
+    }
+    0
+}
+
+// How many components there are.
+fn count_components(words: &[u32]) -> usize
+    requires { ⌜ Sound (now words) ⌝ }
+    ensures { λ r. ⌜ Counted r (rowsIn (meaning (now (words .entry)) .storage .sets)) 524288 ⌝ }
+{
+    let mut total = 0;
+    for kind in 0..128usize {
+        total += set_length(words, kind);
+    }
+    total
+}
+
+// How many bytes the snapshot takes.
+pub fn snapshot_length(words: &[u32]) -> usize
+    requires { ⌜ Sound (now words) ⌝ }
+    ensures { λ r. ⌜ r ≡ length (snapshot (meaning (now (words .entry)))) ⌝ }
+{
+    let live = state::entities::live_len(words);
+    4 + 9 * (live + count_components(words))
+}
+
+// The registered kinds, rising, at the front of list.
+fn rising_kinds(words: &[u32], list: &mut [u8]) -> usize
+    requires { ⌜ Arranged (now words) ⌝ }
+    requires { ⌜ 128 ≤ length (now list) ⌝ }
+    ensures { λ r. ⌜ Lists (now (list .exit)) r (meaning (now (words .entry)) .kinds) ⌝ }
+{
+    let mut count = 0;
+    for kind in 0..128usize {
+        if kinds::is_registered(words, kind) {
+            list[count] = kind as u8;
+            count += 1;
+        }
+    }
+    count
+}
+
+// One component, if the entity holds the kind.
+fn write_one(
+    words: &[u32],
+    kind: usize,
+    index: u32,
+    version: u32,
+    out: &mut [u8],
+    at: usize,
+) -> usize
+    requires { ⌜ Arranged (now words) ⌝ }
+    requires { ⌜ In (meaning (now words) .kinds) kind ⌝ }
+    requires { ⌜ at + length (oneBytes (valueAt (entity index version) (kindSet (now words) kind)) kind) ≤ length (now out) ⌝ }
+    ensures { λ r. ⌜ Wrote (now (out .entry)) (now (out .exit)) at r (oneBytes (valueAt (entity index version) (kindSet (now (words .entry)) kind)) kind) ⌝ }
+{
+    let found = kinds::find(words, kind, index, version);
+    let Found::At(place) = found else {
+        return at;
+    };
+    let value = kinds::value_of(words, kind, place);
+    out[at] = kind as u8;
+    codec::put_value(out, at + 1, value.low, value.high);
+    at + 9
+}
+
+// The entity's components.
+fn write_components(
+    words: &[u32],
+    list: &[u8],
+    index: u32,
+    version: u32,
+    out: &mut [u8],
+    at: usize,
+) -> usize
+    requires { ⌜ Arranged (now words) ⌝ }
+    requires { ⌜ now list ≡ risingKinds (meaning (now words) .kinds) ⌝ }
+    requires { ⌜ at + length (componentBytes (componentsOf (entity index version) 0 (meaning (now words) .storage .sets))) ≤ length (now out) ⌝ }
+    ensures { λ r. ⌜ Wrote (now (out .entry)) (now (out .exit)) at r (componentBytes (componentsOf (entity index version) 0 (meaning (now (words .entry)) .storage .sets))) ⌝ }
+{
+    let mut next = at;
+    for i in 0..list.len() {
+        let kind = list[i] as usize;
+        next = write_one(words, kind, index, version, out, next);
+    }
+    next
+}
+
+// One entity: its numbers, how many components it has, and these.
+fn write_entity(
+    words: &[u32],
+    list: &[u8],
+    index: u32,
+    version: u32,
+    out: &mut [u8],
+    at: usize,
+) -> usize
+    requires { ⌜ Arranged (now words) ⌝ }
+    requires { ⌜ now list ≡ risingKinds (meaning (now words) .kinds) ⌝ }
+    requires { ⌜ at + length (entryBytes (entryFor (now words) index version)) ≤ length (now out) ⌝ }
+    ensures { λ r. ⌜ Wrote (now (out .entry)) (now (out .exit)) at r (entryBytes (entryFor (now (words .entry)) index version)) ⌝ }
+{
+    codec::put_u32(out, at, index);
+    codec::put_u32(out, at + 4, version);
+    let start = at + 9;
+    let end = write_components(words, list, index, version, out, start);
+    out[at + 8] = ((end - start) / 9) as u8;
+    end
+}
+
+// The live entity with this index, if there is one.
+fn write_index(words: &[u32], list: &[u8], index: usize, out: &mut [u8], at: usize) -> usize
+    requires { ⌜ Arranged (now words) ⌝ }
+    requires { ⌜ now list ≡ risingKinds (meaning (now words) .kinds) ⌝ }
+    requires { ⌜ index < meaning (now words) .capacity ⌝ }
+    requires { ⌜ at + length (indexBytes (now words) index) ≤ length (now out) ⌝ }
+    ensures { λ r. ⌜ Wrote (now (out .entry)) (now (out .exit)) at r (indexBytes (now (words .entry)) index) ⌝ }
+{
+    let version = state::entities::version_at(words, index);
+    if version == 0 {
+        return at;
+    }
+    write_entity(words, list, index as u32, version, out, at)
+}
+
+// All live entities.
+fn write_entities(words: &[u32], list: &[u8], out: &mut [u8], at: usize) -> usize
+    requires { ⌜ Arranged (now words) ⌝ }
+    requires { ⌜ now list ≡ risingKinds (meaning (now words) .kinds) ⌝ }
+    requires { ⌜ at + length (flat (listing (meaning (now words)))) ≤ length (now out) ⌝ }
+    ensures { λ r. ⌜ Wrote (now (out .entry)) (now (out .exit)) at r (flat (listing (meaning (now (words .entry))))) ⌝ }
+{
+    let issued = state::entities::issued(words);
+    let mut next = at;
+    for index in 0..issued {
+        next = write_index(words, list, index, out, next);
+    }
+    next
+}
+
+// The snapshot, at the front of bytes that have room for it.
+pub fn write_snapshot(words: &[u32], out: &mut [u8]) -> usize
+    requires { ⌜ Arranged (now words) ⌝ }
+    requires { ⌜ length (snapshot (meaning (now words))) ≤ length (now out) ⌝ }
+    ensures { λ r. ⌜ Wrote (now (out .entry)) (now (out .exit)) 0 r (snapshot (meaning (now (words .entry)))) ⌝ }
+{
+    let mut list = [0u8; 128];
+    let count = rising_kinds(words, &mut list);
+    let live = state::entities::live_len(words);
+    codec::put_u32(out, 0, live as u32);
+    write_entities(words, &list[..count], out, 4)
+}

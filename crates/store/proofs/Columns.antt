@@ -1,0 +1,240 @@
+-- The model's column by its tests, and where its words stand in the lent ones. Assumes nothing.
+use mathlib.Core.Path.{_≡_, refl, sym, ap, _∙_, subst}
+use mathlib.Core.Bool.{Bool, true, false}
+use mathlib.Core.Option.{Option, some, none}
+use mathlib.Core.List.{List, [], map}
+use Prim.Native.Nat.{ℕ, _+_, _*_, _-_, _≤_, _<_}
+use native.Mathlib.Nat.{zero-add, add-mul-mod-self-left, add-mul-div-left, mod-eq-of-lt, div-eq-of-lt}
+use native.Mathlib.Omega.{arith}
+use borrow.Author.Tests.{lt-ltb, le-ltb}
+use lib.ListN.{length, getD, take, drop, length-map, length-drop, List·getD-map}
+use lib.Seq.{length-take-le}
+use denote.Ref.{RefT}
+use Rattle.model.specs.Model.{Row, SparseSet, setOf, keys, entityOf, noRow}
+use Rattle.model.specs.Store.{Store, isKind}
+use Rattle.model.specs.Refusals.{numberOf, columnLines}
+use Rattle.model.specs.Entries.{columnRefusal, column, partWords}
+use Rattle.model.specs.Entries as model
+use Rattle.model.specs.Sound.{In}
+use Rattle.model.proofs.Lines.{first-number}
+use Rattle.model.proofs.Entries.{Columned, column-accepted, column-refused}
+use Rattle.words.specs.Offsets.{columnStart, columnStart-fits}
+use Rattle.component.specs.SparseSet.{lengthOf, rowAt, valueOf, rows}
+use Rattle.component.proofs.Meaning.{length-rows, getD-rows}
+use Rattle.component.specs.Decides.{Decides}
+use Rattle.columns.specs.Columns.{columnOf}
+use Rattle.columns.proofs.Slots.{getD-column}
+use Rattle.memory.specs.Header.{capacityOf, slotOf}
+use Rattle.memory.specs.Meaning.{meaning}
+use Rattle.memory.specs.Arranged.{Arranged, Sound}
+use Rattle.kinds.specs.Kinds.{kindSet}
+use Rattle.kinds.specs.Steps.{InSlot}
+use Rattle.kinds.proofs.Slot.{known-slot}
+use Rattle.store.specs.Entries.{columnRefused, ColumnNumbered, columnWords, rowPlace, RowStart, partPlace, PartOf, ColumnPart}
+use Rattle.store.proofs.Pairs.{pairs-part, indexOf, versionOf, lowOf, highOf, entity-pairs, value-pairs}
+
+-- ---- the lines of column
+
+module _ (k a e : ℕ) (s : Store) where
+  pub column-large : 127 < k → columnRefusal k a e s ≡ some 7
+  unfolding columnRefusal
+  column-large h = rw (lt-ltb 127 k h)
+
+  module _ (h : k ≤ 127) where
+    pub column-unknown : isKind k s ≡ false → columnRefusal k a e s ≡ some 7
+    unfolding columnRefusal
+    column-unknown u = rw (le-ltb 127 k h, u)
+
+    module _ (u : isKind k s ≡ true) where
+      pub column-turned : e < a → columnRefusal k a e s ≡ some 16
+      unfolding columnRefusal
+      column-turned t = rw (le-ltb 127 k h, u, lt-ltb e a t)
+
+      pub column-beyond : a ≤ e → length (setOf (s .storage .sets) k) < e → columnRefusal k a e s ≡ some 16
+      unfolding columnRefusal
+      column-beyond o t = rw (le-ltb 127 k h, u, le-ltb e a o, lt-ltb (length (setOf (s .storage .sets) k)) e t)
+
+      pub column-within : a ≤ e → e ≤ length (setOf (s .storage .sets) k) → columnRefusal k a e s ≡ none
+      unfolding columnRefusal
+      column-within o t = rw (le-ltb 127 k h, u, le-ltb e a o, le-ltb (length (setOf (s .storage .sets) k)) e t)
+
+-- ---- the number
+
+pub unsound-number : (w : List ℕ) (k a e : ℕ) → (Sound w → ⊥) → ColumnNumbered w k a e 3
+unsound-number w k a e d = record { sound = false; decides = d; number = refl }
+
+pub sound-number : (w : List ℕ) (k a e : ℕ) (o : Option ℕ) → Sound w → columnRefusal k a e (meaning w) ≡ o → ColumnNumbered w k a e (numberOf o)
+sound-number w k a e o S q = record { sound = true; decides = S; number = sym (ap numberOf q) }
+
+-- column is accepted
+pub record Given (w : List ℕ) (k a e : ℕ) : Type 0 where
+  pub sound : Sound w
+  pub taken : columnRefusal k a e (meaning w) ≡ none
+
+none-of : (k a e : ℕ) (s : Store) (o : Option ℕ) → columnRefusal k a e s ≡ o → numberOf o ≡ 0 → columnRefusal k a e s ≡ none
+unfolding columnRefusal
+none-of k a e s none p z = p
+none-of k a e s (some n) p z = absurd (omega (arith, z, first-number columnLines (record { kind = k; start = a; end = e; store = s }) 7 16 n (omega arith) p .0))
+
+pub given-of : (w : List ℕ) (k a e r : ℕ) → ColumnNumbered w k a e r → r ≡ 0 → Given w k a e
+given-of w k a e r C z = go (C .sound) (C .decides) (C .number)
+  where
+    go : (b : Bool) → Decides b (Sound w) → r ≡ numberOf (columnRefused b k a e (meaning w)) → Given w k a e
+    go false d q = absurd (omega (arith, q, z))
+    go true d q = record { sound = d; taken = none-of k a e (meaning w) (columnRefusal k a e (meaning w)) refl (sym q ∙ z) }
+
+-- ---- the empty part at the front
+
+pub refused-part : (v r : RefT (List ℕ)) (values : Bool) (k a e n : ℕ) → ColumnNumbered (v .now) k a e n → (n ≡ 0 → ⊥) → r .ptr .0 ≡ v .ptr .0 → r .ptr .1 ≡ 0 * 4 + v .ptr .1 → r .now ≡ [] → ColumnPart v r values k a e
+refused-part v r values k a e n C f block offset words = go (C .sound) (C .decides) (C .number)
+  where
+    front : (at : ℕ) → at ≡ 0 → PartOf v r at (length (r .now))
+    front at z =
+        let empty : length (r .now) ≡ 0 = ap length words in
+        record {
+          block = block;
+          offset = omega arith;
+          inside = omega arith;
+          words = words ∙ ap (λ (m : ℕ). take m (drop at (v .now))) (sym empty);
+        }
+
+    by-line : (o : Option ℕ) → n ≡ numberOf o → partPlace o values (v .now) k a ≡ 0
+    by-line none q = absurd (f q)
+    by-line (some m) q = refl
+
+    none-given : (o : Option ℕ) → n ≡ numberOf o → columnRefusal k a e (meaning (v .now)) ≡ o → column values k a e (meaning (v .now)) ≡ []
+    none-given none q p = absurd (f q)
+    none-given (some m) q p = column-refused values k a e (meaning (v .now)) m p
+
+    go : (b : Bool) → Decides b (Sound (v .now)) → n ≡ numberOf (columnRefused b k a e (meaning (v .now))) → ColumnPart v r values k a e
+    go false d q = record { sound = false; decides = d; words = words; part = front 0 refl }
+    go true d q =
+        record {
+          sound = true;
+          decides = d;
+          words = words ∙ sym (none-given (columnRefusal k a e (meaning (v .now))) q refl);
+          part = front (partPlace (columnRefusal k a e (meaning (v .now))) values (v .now) k a) (by-line (columnRefusal k a e (meaning (v .now))) q);
+        }
+
+-- ---- the rows of a registered kind
+
+value-low : (l h : ℕ) → l < 4294967296 → lowOf (valueOf l h) ≡ l
+value-low l h b = add-mul-mod-self-left l 4294967296 h ∙ mod-eq-of-lt b
+
+value-high : (l h : ℕ) → l < 4294967296 → highOf (valueOf l h) ≡ h
+value-high l h b = add-mul-div-left l h {y = 4294967296} (omega arith) ∙ ap (λ (n : ℕ). n + h) (div-eq-of-lt b) ∙ zero-add h
+
+module _ (w : List ℕ) (A : Arranged w) (k : ℕ) (i : In (meaning w .kinds) k) where
+  slot-at : InSlot w k (slotOf w k)
+  slot-at = known-slot w A k i
+
+  rows-len : length (kindSet w k) ≡ lengthOf (columnOf (capacityOf w) (slotOf w k) w)
+  rows-len = ap length (slot-at .rows) ∙ length-rows (capacityOf w) (columnOf (capacityOf w) (slotOf w k) w)
+
+  pub rows-few : length (kindSet w k) ≤ capacityOf w
+  rows-few = omega (arith, rows-len, slot-at .lent .sound .linked .room)
+
+  pub row-start-small : (values : Bool) (a : ℕ) → a ≤ length (kindSet w k) → rowPlace values w k a ≤ 4000000
+  row-start-small false a h = omega (arith, rows-few, A .limits .most, columnStart-fits (capacityOf w) (slotOf w k) (A .limits .most) (omega (arith, slot-at .lent .few)))
+  row-start-small true a h = omega (arith, rows-few, A .limits .most, columnStart-fits (capacityOf w) (slotOf w k) (A .limits .most) (omega (arith, slot-at .lent .few)))
+
+  -- the words of a row
+  row-word : (j : ℕ) → j < 8 + 6 * capacityOf w → getD w (columnStart (capacityOf w) (slotOf w k) + j) 0 ≡ getD (columnOf (capacityOf w) (slotOf w k) w) j 0
+  row-word j h = sym (getD-column (capacityOf w) (slotOf w k) j w h)
+
+  row-is : (j : ℕ) → j < length (kindSet w k) → getD (kindSet w k) j noRow ≡ rowAt (capacityOf w) (columnOf (capacityOf w) (slotOf w k) w) j
+  row-is j h = ap (λ (rs : SparseSet). getD rs j noRow) (slot-at .rows) ∙ getD-rows (capacityOf w) (columnOf (capacityOf w) (slotOf w k) w) j (omega (arith, rows-len))
+
+  module _ (small : (j : ℕ) → getD w j 0 < 4294967296) where
+    word-of : (p q j : ℕ) → p ≡ q + j → q ≡ columnStart (capacityOf w) (slotOf w k) → j < 8 + 6 * capacityOf w → getD w p 0 ≡ getD (columnOf (capacityOf w) (slotOf w k) w) j 0
+    word-of p q j e b h = ap (λ (n : ℕ). getD w n 0) e ∙ ap (λ (n : ℕ). getD w (n + j) 0) b ∙ row-word j h
+
+    -- the part from row a to row a + m
+    pub part-there : (values : Bool) (a m : ℕ) → a + m ≤ length (kindSet w k) → partWords values a (a + m) (kindSet w k) ≡ take (2 * m) (drop (rowPlace values w k a) w)
+    part-there false a m h =
+        let n : ℕ = capacityOf w in
+        let b : ℕ = columnStart (capacityOf w) (slotOf w k) in
+        let rs = kindSet w k in
+        let l : length (keys rs) ≡ length rs = length-map rs entityOf in
+        let key : (j : ℕ) → getD (keys rs) j (entityOf noRow) ≡ entityOf (getD rs j noRow) = λ j. List·getD-map entityOf rs j noRow in
+        entity-pairs (model.part a (a + m) (keys rs))
+        ∙ pairs-part indexOf versionOf (entityOf noRow) (keys rs) w (b + 8)
+        (λ j q. word-of (b + 8 + 2 * j) b (8 + 2 * j) (omega arith) refl (omega (arith, rows-few)) ∙ sym (ap indexOf (key j) ∙ ap (λ (r : Row). r .entity .index) (row-is j (omega arith))))
+        (λ j q. word-of (b + 8 + 2 * j + 1) b (8 + 2 * j + 1) (omega arith) refl (omega (arith, rows-few)) ∙ sym (ap versionOf (key j) ∙ ap (λ (r : Row). r .entity .version) (row-is j (omega arith))))
+        m a (omega arith) (omega (arith, rows-few, slot-at .lent .size))
+    part-there true a m h =
+        let n : ℕ = capacityOf w in
+        let b : ℕ = columnStart (capacityOf w) (slotOf w k) in
+        let rs = kindSet w k in
+        let col = columnOf (capacityOf w) (slotOf w k) w in
+        let l : length (map model.valueOf rs) ≡ length rs = length-map rs model.valueOf in
+        let val : (j : ℕ) → getD (map model.valueOf rs) j (model.valueOf noRow) ≡ model.valueOf (getD rs j noRow) = λ j. List·getD-map model.valueOf rs j noRow in
+        let lo : (j : ℕ) → j < length rs → getD w (b + 8 + 2 * n + 2 * j) 0 ≡ getD col (8 + 2 * n + 2 * j) 0 =
+        λ j q. word-of (b + 8 + 2 * n + 2 * j) b (8 + 2 * n + 2 * j) (omega arith) refl (omega (arith, rows-few)) in
+        let hi : (j : ℕ) → j < length rs → getD w (b + 8 + 2 * n + 2 * j + 1) 0 ≡ getD col (8 + 2 * n + 2 * j + 1) 0 =
+        λ j q. word-of (b + 8 + 2 * n + 2 * j + 1) b (8 + 2 * n + 2 * j + 1) (omega arith) refl (omega (arith, rows-few)) in
+        let below : (j : ℕ) → j < length rs → getD col (8 + 2 * n + 2 * j) 0 < 4294967296 = λ j q. omega (arith, lo j q, small (b + 8 + 2 * n + 2 * j)) in
+        let is : (j : ℕ) → j < length rs → getD (map model.valueOf rs) j (model.valueOf noRow) ≡ valueOf (getD col (8 + 2 * n + 2 * j) 0) (getD col (8 + 2 * n + 2 * j + 1) 0) =
+        λ j q. val j ∙ ap (λ (r : Row). r .value) (row-is j q) in
+        value-pairs (model.part a (a + m) (map model.valueOf rs))
+        ∙ pairs-part lowOf highOf (model.valueOf noRow) (map model.valueOf rs) w (b + 8 + 2 * n)
+        (λ j q. let t : j < length rs = omega arith in lo j t ∙ sym (ap lowOf (is j t) ∙ value-low (getD col (8 + 2 * n + 2 * j) 0) (getD col (8 + 2 * n + 2 * j + 1) 0) (below j t)))
+        (λ j q. let t : j < length rs = omega arith in hi j t ∙ sym (ap highOf (is j t) ∙ value-high (getD col (8 + 2 * n + 2 * j) 0) (getD col (8 + 2 * n + 2 * j + 1) 0) (below j t)))
+        m a (omega arith) (omega (arith, rows-few, slot-at .lent .size))
+
+  part-inside : (values : Bool) (a m : ℕ) → a + m ≤ length (kindSet w k) → rowPlace values w k a + 2 * m ≤ length w
+  part-inside false a m h = omega (arith, rows-few, slot-at .lent .size)
+  part-inside true a m h = omega (arith, rows-few, slot-at .lent .size)
+
+-- the code's place of a row, of the capacity n, the slot t and where the slot's column starts
+module _ (w : List ℕ) (k a n t b : ℕ) (en : n ≡ capacityOf w) (et : t ≡ slotOf w k) (eb : b ≡ columnStart n t) where
+  pub value-place : (values : Bool) → values ≡ true → b + 8 + 2 * n + 2 * a ≡ rowPlace values w k a
+  value-place values q = rw q (rw (eb, en, et))
+
+  pub entity-place : (values : Bool) → values ≡ false → b + 8 + 2 * a ≡ rowPlace values w k a
+  entity-place values q = rw q (rw (eb, en, et))
+
+-- ---- an accepted column
+
+pub known-of : (w : List ℕ) (values : Bool) (k a e : ℕ) → Given w k a e → Columned values k a e (meaning w)
+known-of w values k a e G = column-accepted values k a e (meaning w) (G .taken)
+
+-- it is a part of the words, of at most 4,096 rows
+pub record Inside (w : List ℕ) (values : Bool) (k a e : ℕ) : Type 0 where
+  pub order : a ≤ e
+  pub few : e ≤ 4096
+  pub within : rowPlace values w k a + 2 * (e - a) ≤ length w
+
+pub given-inside : (w : List ℕ) (values : Bool) (k a e : ℕ) → Given w k a e → Inside w values k a e
+given-inside w values k a e G =
+    let C : Columned values k a e (meaning w) = known-of w values k a e G in
+    record {
+      order = C .order;
+      few = omega (arith, C .inside, rows-few w (G .sound .arranged) k (C .known), G .sound .arranged .limits .most);
+      within = part-inside w (G .sound .arranged) k (C .known) values a (e - a) (omega (arith, C .order, C .inside));
+    }
+
+-- its words, where they stand
+pub given-words : (w : List ℕ) (values : Bool) (k a e : ℕ) → Given w k a e → ((j : ℕ) → getD w j 0 < 4294967296) → column values k a e (meaning w) ≡ take (2 * (e - a)) (drop (rowPlace values w k a) w)
+given-words w values k a e G small =
+    let C : Columned values k a e (meaning w) = known-of w values k a e G in
+    let up : a + (e - a) ≡ e = omega (arith, C .order) in
+    let fits : a + (e - a) ≤ length (kindSet w k) = omega (arith, C .inside, up) in
+    C .words
+    ∙ subst (λ (x : ℕ). partWords values a x (kindSet w k) ≡ take (2 * (e - a)) (drop (rowPlace values w k a) w)) up (part-there w (G .sound .arranged) k (C .known) small values a (e - a) fits)
+
+pub given-part : (v r : RefT (List ℕ)) (values : Bool) (k a e first last : ℕ) → Given (v .now) k a e → ((j : ℕ) → getD (v .now) j 0 < 4294967296)
+    → first ≡ rowPlace values (v .now) k a → last ≡ first + 2 * (e - a) → r .ptr .0 ≡ v .ptr .0 → r .ptr .1 ≡ first * 4 + v .ptr .1 → r .now ≡ take (last - first) (drop first (v .now)) → ColumnPart v r values k a e
+given-part v r values k a e first last G small at end block offset words =
+    let w = v .now in
+    let place : ℕ = rowPlace values w k a in
+    let inside : place + 2 * (e - a) ≤ length w = given-inside w values k a e G .within in
+    let cut : last - first ≡ 2 * (e - a) = omega arith in
+    let is : r .now ≡ take (2 * (e - a)) (drop place w) = words ∙ ap (λ (n : ℕ). take n (drop first w)) cut ∙ ap (λ (n : ℕ). take (2 * (e - a)) (drop n w)) at in
+    let long : length (r .now) ≡ 2 * (e - a) = ap length is ∙ length-take-le (2 * (e - a)) (drop place w) (omega (arith, inside, length-drop place w)) in
+    record {
+      sound = true;
+      decides = G .sound;
+      words = is ∙ sym (given-words w values k a e G small);
+      part = rw (G .taken, long) (record { block = block; offset = offset ∙ ap (λ (n : ℕ). n * 4 + v .ptr .1) at; inside = inside; words = is });
+    }

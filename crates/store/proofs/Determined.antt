@@ -1,0 +1,156 @@
+-- Each entry's contract determines what it gives: equal operands, and words of equal meaning that are sound or unsound alike, give equal numbers, bytes and
+-- meanings. Only the arrangement of the words is left free (docs/WORDS.md). Assumes nothing.
+use mathlib.Core.Path.{_≡_, refl, sym, ap, _∙_, subst}
+use mathlib.Core.Logic.{_↔_}
+use mathlib.Core.Bool.{Bool, true, false, true≢false, false≢true}
+use mathlib.Core.List.{List, _++_}
+use Prim.Native.Nat.{ℕ, _+_, _*_, _≤_}
+use native.Mathlib.Omega.{arith}
+use lib.ListN.{length, take, drop}
+use lib.Seq.{take-at}
+use denote.Ref.{RefT}
+use Rattle.model.specs.Refusals.{numberOf}
+use Rattle.model.specs.Run as model
+use Rattle.model.specs.Entries.{Started, refusesStart, makes, start}
+use Rattle.model.specs.Entries as entries
+use Rattle.model.specs.Sound.{Limits}
+use Rattle.component.specs.Decides.{Decides}
+use Rattle.memory.specs.Meaning.{meaning}
+use Rattle.memory.specs.Arranged.{Sound}
+use Rattle.stream.specs.declared.Ran.{Ran}
+use Rattle.store.specs.declared.Rolled.{Rolled}
+use Rattle.store.specs.Entries.{Needs, startNumber, StartLeaves, Starts, columnRefused, ColumnNumbered, columnWords, partPlace, ColumnPart, ranOf, Answered, RunLeaves, Runs, rolledOf, rollNumber, rollBytes, Rolls}
+use Rattle.store.proofs.Starting.{start-number}
+
+-- ---- words that no entry tells apart
+
+pub record Alike (w v : List ℕ) : Type 0 where
+  pub means : meaning w ≡ meaning v
+  pub sound : Sound w ↔ Sound v
+
+pub alike-same : (w v : List ℕ) → w ≡ v → Alike w v
+alike-same w v e = record { means = ap meaning e; sound = ((λ S. subst Sound e S), (λ S. subst Sound (sym e) S)) }
+
+pub decided : {P Q : Type 0} (b c : Bool) → Decides b P → Decides c Q → P ↔ Q → b ≡ c
+decided true true p q e = refl
+decided true false p q e = absurd (q (e .0 p))
+decided false true p q e = absurd (p (e .1 q))
+decided false false p q e = refl
+
+-- ---- words needed
+
+pub needs-determined : (n k r q : ℕ) (b : Bool) → Decides b (Limits n k) → Needs n k r → Needs n k q → r ≡ q
+needs-determined n k r q true d R Q = R .within d ∙ sym (Q .within d)
+needs-determined n k r q false d R Q = R .outside d ∙ sym (Q .outside d)
+
+-- ---- start: over as many words the same number, whatever they held; and where it is 0, the same store
+
+pub record SameStart (w v w′ v′ : List ℕ) (r q : ℕ) : Type 0 where
+  pub number : r ≡ q
+  pub made : r ≡ 0 → meaning w′ ≡ meaning v′
+  pub refused : 1 ≤ r → (w′ ≡ w) × (v′ ≡ v)
+
+pub start-determined : (n k : ℕ) (w v w′ v′ : List ℕ) (r q : ℕ) → length w ≡ length v → Starts n k w w′ r → Starts n k v v′ q → SameStart w v w′ v′ r q
+start-determined n k w v w′ v′ r q e R Q =
+    let f : start n k (length v) ≡ start n k (length w) = ap (start n k) (sym e) in
+    go (start n k (length w)) refl (R .number) (rw f at (Q .number)) (R .leaves) (rw f at (Q .leaves))
+  where
+    go : (x : Started) → start n k (length w) ≡ x → r ≡ startNumber x → q ≡ startNumber x → StartLeaves w w′ x → StartLeaves v v′ x → SameStart w v w′ v′ r q
+    go (refusesStart m) p a b l o =
+        record { number = a ∙ sym b; made = λ z. absurd (omega (arith, a, z, start-number n k (length w) m p .0)); refused = λ h. (l, o) }
+    go (makes s) p a b l o = record { number = a ∙ sym b; made = λ z. l .1 ∙ sym (o .1); refused = λ h. absurd (omega (arith, a, h)) }
+
+-- ---- column
+
+pub column-number-determined : (w v : List ℕ) (k a e r q : ℕ) → Alike w v → ColumnNumbered w k a e r → ColumnNumbered v k a e q → r ≡ q
+column-number-determined w v k a e r q A R Q =
+    let b : R .sound ≡ Q .sound = decided (R .sound) (Q .sound) (R .decides) (Q .decides) (A .sound) in
+    R .number ∙ (λ i. numberOf (columnRefused (b i) k a e (A .means i))) ∙ sym (Q .number)
+
+-- the same words, and of one store the same part of it
+pub column-determined : (u v r q : RefT (List ℕ)) (values : Bool) (k a e : ℕ) → Alike (u .now) (v .now) → ColumnPart u r values k a e → ColumnPart v q values k a e → r .now ≡ q .now
+column-determined u v r q values k a e A R Q =
+    let b : R .sound ≡ Q .sound = decided (R .sound) (Q .sound) (R .decides) (Q .decides) (A .sound) in
+    R .words ∙ (λ i. columnWords (b i) values k a e (A .means i)) ∙ sym (Q .words)
+
+pub column-place-determined : (v r q : RefT (List ℕ)) (values : Bool) (k a e : ℕ) → ColumnPart v r values k a e → ColumnPart v q values k a e → r .ptr ≡ q .ptr
+column-place-determined v r q values k a e R Q =
+    let b : R .sound ≡ Q .sound = decided (R .sound) (Q .sound) (R .decides) (Q .decides) (alike-same (v .now) (v .now) refl .sound) in
+    let block : r .ptr .0 ≡ q .ptr .0 = R .part .block ∙ sym (Q .part .block) in
+    let offset : r .ptr .1 ≡ q .ptr .1 =
+    R .part .offset ∙ (λ i. partPlace (columnRefused (b i) k a e (meaning (v .now))) values (v .now) k a * 4 + v .ptr .1) ∙ sym (Q .part .offset) in
+    λ i. (block i, offset i)
+
+-- ---- run: equal tapes and lengths of the buffers
+
+-- the answers are what stands before the bytes that stay
+pub answer-bytes : (o o′ : List ℕ) (r : Ran) (x : model.Ran) → Answered o o′ r x → take (r .written) o′ ≡ x .bytes
+answer-bytes o o′ r x A =
+    ap (λ (n : ℕ). take n o′) (A .written) ∙ ap (take (length (x .bytes))) (A .bytes) ∙ take-at (x .bytes) (drop (length (x .bytes)) o) (length (x .bytes)) refl
+
+pub record SameRun (o p w′ v′ o′ p′ : List ℕ) (r q : Ran) : Type 0 where
+  pub result : r ≡ q
+  pub alike : Alike w′ v′
+  pub answers : take (r .written) o′ ≡ take (q .written) p′
+  -- bytes that were equal stay equal
+  pub bytes : o ≡ p → o′ ≡ p′
+
+pub run-determined : (w v w′ v′ t o p o′ p′ : List ℕ) (r q : Ran) → Alike w v → length o ≡ length p → Runs w w′ t o o′ r → Runs v v′ t p p′ q → SameRun o p w′ v′ o′ p′ r q
+run-determined w v w′ v′ t o p o′ p′ r q A e R Q =
+    record {
+      result =
+          λ i.
+          record {
+            stop = (R .answered .stop ∙ (λ j. same j .stop) ∙ sym (Q .answered .stop)) i;
+            commands = (R .answered .commands ∙ (λ j. same j .commands) ∙ sym (Q .answered .commands)) i;
+            read = (R .answered .read ∙ (λ j. same j .read) ∙ sym (Q .answered .read)) i;
+            written = (R .answered .written ∙ (λ j. length (same j .bytes)) ∙ sym (Q .answered .written)) i;
+          };
+      alike = record { means = R .means ∙ (λ j. same j .store) ∙ sym (Q .means); sound = left (R .sound) (Q .sound) both (R .leaves) (Q .leaves) };
+      answers = answer-bytes o o′ r (ranOf (R .sound) t (length o) (meaning w)) (R .answered) ∙ (λ j. same j .bytes) ∙ sym (answer-bytes p p′ q (ranOf (Q .sound) t (length p) (meaning v)) (Q .answered));
+      bytes = λ z. R .answered .bytes ∙ (λ j. same j .bytes ++ drop (length (same j .bytes)) (z j)) ∙ sym (Q .answered .bytes);
+    }
+  where
+    both : R .sound ≡ Q .sound
+    both = decided (R .sound) (Q .sound) (R .decides) (Q .decides) (A .sound)
+
+    same : ranOf (R .sound) t (length o) (meaning w) ≡ ranOf (Q .sound) t (length p) (meaning v)
+    same j = ranOf (both j) t (e j) (A .means j)
+
+    left : (b c : Bool) → b ≡ c → RunLeaves b t (length o) w w′ → RunLeaves c t (length p) v v′ → Sound w′ ↔ Sound v′
+    left true true z l k = ((λ S. k .0), (λ S. l .0))
+    left false false z l k = ((λ S. subst Sound (sym k) (A .sound .0 (subst Sound l S))), (λ S. subst Sound (sym l) (A .sound .1 (subst Sound k S))))
+    left true false z l k = absurd (true≢false z)
+    left false true z l k = absurd (false≢true z)
+
+-- ---- roll
+
+pub snapshot-bytes : (o o′ : List ℕ) (n : ℕ) (x : entries.Rolled) → n ≡ length (rollBytes x) → o′ ≡ rollBytes x ++ drop (length (rollBytes x)) o → take n o′ ≡ rollBytes x
+snapshot-bytes o o′ n x a b = ap (λ (m : ℕ). take m o′) a ∙ ap (take (length (rollBytes x))) b ∙ take-at (rollBytes x) (drop (length (rollBytes x)) o) (length (rollBytes x)) refl
+
+pub record SameRoll (o p o′ p′ : List ℕ) (r q : Rolled) : Type 0 where
+  pub result : r ≡ q
+  pub answers : take (r .written) o′ ≡ take (q .written) p′
+  pub bytes : o ≡ p → o′ ≡ p′
+
+pub roll-determined : (w v o p o′ p′ : List ℕ) (r q : Rolled) → Alike w v → length o ≡ length p → Rolls w o o′ r → Rolls v p p′ q → SameRoll o p o′ p′ r q
+roll-determined w v o p o′ p′ r q A e R Q =
+    record {
+      result =
+          λ i.
+          record {
+            number = (R .number ∙ (λ j. rollNumber (same j)) ∙ sym (Q .number)) i;
+            written = (R .written ∙ (λ j. length (rollBytes (same j))) ∙ sym (Q .written)) i;
+          };
+      answers =
+          snapshot-bytes o o′ (r .written) (rolledOf (R .sound) (length o) (meaning w)) (R .written) (R .bytes)
+          ∙ (λ j. rollBytes (same j))
+          ∙ sym (snapshot-bytes p p′ (q .written) (rolledOf (Q .sound) (length p) (meaning v)) (Q .written) (Q .bytes));
+      bytes = λ z. R .bytes ∙ (λ j. rollBytes (same j) ++ drop (length (rollBytes (same j))) (z j)) ∙ sym (Q .bytes);
+    }
+  where
+    both : R .sound ≡ Q .sound
+    both = decided (R .sound) (Q .sound) (R .decides) (Q .decides) (A .sound)
+
+    same : rolledOf (R .sound) (length o) (meaning w) ≡ rolledOf (Q .sound) (length p) (meaning v)
+    same j = rolledOf (both j) (e j) (A .means j)

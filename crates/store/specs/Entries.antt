@@ -1,0 +1,160 @@
+-- What each public entry promises, for all words, operands and bytes: one record an entry. `sound` is 01's "store not sound" decided. Assumes nothing.
+use mathlib.Core.Path.{_≡_}
+use mathlib.Core.Bool.{Bool, true, false}
+use mathlib.Core.Option.{Option, some, none}
+use mathlib.Core.List.{List, [], _++_}
+use Prim.Native.Nat.{ℕ, _+_, _*_, _≤_}
+use lib.ListN.{length, take, drop}
+use denote.Ref.{RefT}
+use Rattle.model.specs.Store.{Store, Bytes, wordsNeeded}
+use Rattle.model.specs.Refusals.{numberOf, firstLine, otherLines, UNSOUND}
+use Rattle.model.specs.Run.{halt, run}
+use Rattle.model.specs.Run as model
+use Rattle.model.specs.Entries.{Started, refusesStart, makes, start, columnRefusal, column, refusesRoll, writes, roll}
+use Rattle.model.specs.Entries as entries
+use Rattle.model.specs.Sound.{Limits}
+use Rattle.words.specs.Offsets.{columnStart}
+use Rattle.component.specs.Decides.{Decides}
+use Rattle.memory.specs.Header.{capacityOf, slotOf}
+use Rattle.memory.specs.Meaning.{meaning}
+use Rattle.memory.specs.Arranged.{Sound}
+use Rattle.stream.specs.Stream.{Traced}
+use Rattle.stream.specs.declared.Ran.{Ran}
+use Rattle.store.specs.declared.Rolled.{Rolled}
+
+-- ---- how many words to lend
+
+-- a store "needs 1,024 + 16 × N + K × (8 + 6 × N) words"; 0 where start would refuse N or K
+pub record Needs (n k r : ℕ) : Type 0 where
+  pub within : Limits n k → r ≡ wordsNeeded n k
+  pub outside : (Limits n k → ⊥) → r ≡ 0
+
+-- ---- start
+
+-- its number: "An accepted entry gives number 0"
+abbrev pub startNumber : Started → ℕ
+startNumber (refusesStart m) = m
+startNumber (makes s) = 0
+
+-- "1 to 3 .. change no lent memory"; else "whatever the words held, makes an empty store", which is sound
+abbrev pub StartLeaves : List ℕ → List ℕ → Started → Type 0
+StartLeaves w w′ (refusesStart m) = w′ ≡ w
+StartLeaves w w′ (makes s) = Sound w′ × (meaning w′ ≡ s)
+
+-- told n and k over the words w, which it leaves as w′, with number r
+pub record Starts (n k : ℕ) (w w′ : List ℕ) (r : ℕ) : Type 0 where
+  pub number : r ≡ startNumber (start n k (length w))
+  pub leaves : StartLeaves w w′ (start n k (length w))
+  pub size : length w′ ≡ length w
+  -- "Words past the needed ones never change."
+  pub past : drop (wordsNeeded n k) w′ ≡ drop (wordsNeeded n k) w
+
+-- ---- column
+
+-- the first refusal, if there is one, else the second
+abbrev pub orElse : Option ℕ → Option ℕ → Option ℕ
+orElse (some n) r = some n
+orElse none r = r
+
+-- "other entries, first | 3 UNSOUND", then the lines of column
+abbrev pub columnRefused : Bool → ℕ → ℕ → ℕ → Store → Option ℕ
+columnRefused sound k a e s = orElse (firstLine otherLines sound) (columnRefusal k a e s)
+
+-- kind k from a to e, with number r
+pub record ColumnNumbered (w : List ℕ) (k a e r : ℕ) : Type 0 where
+  pub sound : Bool
+  pub decides : Decides sound (Sound w)
+  pub number : r ≡ numberOf (columnRefused sound k a e (meaning w))
+
+-- the words handed back: the model's, none of unsound words
+abbrev pub columnWords : Bool → Bool → ℕ → ℕ → ℕ → Store → List ℕ
+columnWords true values k a e s = column values k a e s
+columnWords false values k a e s = []
+
+-- where row a's words stand among all words (docs/WORDS.md): "cards (index word, version word) or values (low word, high word)"
+abbrev pub rowPlace : Bool → List ℕ → ℕ → ℕ → ℕ
+rowPlace false w k a = columnStart (capacityOf w) (slotOf w k) + 8 + 2 * a
+rowPlace true w k a = columnStart (capacityOf w) (slotOf w k) + 8 + 2 * capacityOf w + 2 * a
+
+-- the code's place of that row; two words more for each row stay a small number
+pub record RowStart (values : Bool) (w : List ℕ) (k a r : ℕ) : Type 0 where
+  pub is : r ≡ rowPlace values w k a
+  pub small : r ≤ 4000000
+
+-- "A refused column is the empty part at the front"
+abbrev pub partPlace : Option ℕ → Bool → List ℕ → ℕ → ℕ → ℕ
+partPlace (some n) values w k a = 0
+partPlace none values w k a = rowPlace values w k a
+
+-- r is a part of the words v, `size` words from place `at` on: it lies in v's memory, at four bytes a word from v's start, and is the words there
+pub record PartOf (v r : RefT (List ℕ)) (at size : ℕ) : Type 0 where
+  pub block : r .ptr .0 ≡ v .ptr .0
+  pub offset : r .ptr .1 ≡ at * 4 + v .ptr .1
+  pub inside : at + size ≤ length (v .now)
+  pub words : r .now ≡ take size (drop at (v .now))
+
+-- "hands back the part of the lent store holding a kind's cards .. or values .. from start to end"
+pub record ColumnPart (v r : RefT (List ℕ)) (values : Bool) (k a e : ℕ) : Type 0 where
+  pub sound : Bool
+  pub decides : Decides sound (Sound (v .now))
+  pub words : r .now ≡ columnWords sound values k a e (meaning (v .now))
+  pub part : PartOf v r (partPlace (columnRefused sound k a e (meaning (v .now))) values (v .now) k a) (length (r .now))
+
+-- ---- run
+
+-- the model's run over sound words; over others "3 UNSOUND", "with zeros beside the number"
+abbrev pub ranOf : Bool → List ℕ → ℕ → Store → model.Ran
+ranOf true t room s = run t room s
+ranOf false t room s = halt UNSOUND s
+
+-- "stop number (0 at the tape's end), commands done (refused ones counted), tape bytes read, answer bytes written", and the bytes o′, of which "the bytes
+-- past those written, in a run too, stay"
+pub record Answered (o o′ : List ℕ) (r : Ran) (x : model.Ran) : Type 0 where
+  pub stop : r .stop ≡ x .stop
+  pub commands : r .commands ≡ x .commands
+  pub read : r .read ≡ x .read
+  pub written : r .written ≡ length (x .bytes)
+  pub bytes : o′ ≡ x .bytes ++ drop (length (x .bytes)) o
+
+-- "1 to 3 .. change no lent memory"; a run leaves sound words, and `Traced` says of each command in turn that an accepted one leaves words that mean the
+-- model's store after it, and that a refused one changes the refusal count's word and "no other word"
+abbrev pub RunLeaves : Bool → List ℕ → ℕ → List ℕ → List ℕ → Type 0
+RunLeaves false t room w w′ = w′ ≡ w
+RunLeaves true t room w w′ = Sound w′ × Traced (length t) t room w w′
+
+-- the tape t over the words w, which it leaves as w′, with answers in the bytes o, which it leaves as o′
+pub record Runs (w w′ t o o′ : List ℕ) (r : Ran) : Type 0 where
+  pub sound : Bool
+  pub decides : Decides sound (Sound w)
+  pub answered : Answered o o′ r (ranOf sound t (length o) (meaning w))
+  pub means : meaning w′ ≡ ranOf sound t (length o) (meaning w) .store
+  pub leaves : RunLeaves sound t (length o) w w′
+  pub size : length w′ ≡ length w
+  -- "Words past the needed ones never change."
+  pub past : drop (wordsNeeded (meaning w .capacity) (meaning w .kindCapacity)) w′ ≡ drop (wordsNeeded (meaning w .capacity) (meaning w .kindCapacity)) w
+  -- a tape is of bytes, as its type says
+  pub tape : Bytes t
+
+-- ---- roll
+
+-- the model's roll of sound words; of others "3 UNSOUND"
+abbrev pub rolledOf : Bool → ℕ → Store → entries.Rolled
+rolledOf true room s = roll room s
+rolledOf false room s = refusesRoll UNSOUND
+
+-- its number, and the bytes that it writes: "An accepted entry gives number 0"; "every refusal outside a run, change no lent memory, with zeros"
+abbrev pub rollNumber : entries.Rolled → ℕ
+rollNumber (refusesRoll n) = n
+rollNumber (writes b) = 0
+
+abbrev pub rollBytes : entries.Rolled → List ℕ
+rollBytes (refusesRoll n) = []
+rollBytes (writes b) = b
+
+-- the snapshot of the words w in the bytes o, which it leaves as o′
+pub record Rolls (w o o′ : List ℕ) (r : Rolled) : Type 0 where
+  pub sound : Bool
+  pub decides : Decides sound (Sound w)
+  pub number : r .number ≡ rollNumber (rolledOf sound (length o) (meaning w))
+  pub written : r .written ≡ length (rollBytes (rolledOf sound (length o) (meaning w)))
+  pub bytes : o′ ≡ rollBytes (rolledOf sound (length o) (meaning w)) ++ drop (length (rollBytes (rolledOf sound (length o) (meaning w)))) o

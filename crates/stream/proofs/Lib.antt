@@ -1,0 +1,4 @@
+pub mod Reading
+pub mod Steps
+pub mod Traces
+pub mod Runs

@@ -1,0 +1,25 @@
+-- What RANGE tells and leaves, by the range that was found. Assumes nothing.
+use mathlib.Core.Path.{_≡_, ap, sym, _∙_}
+use Prim.Native.Nat.{ℕ, _<_}
+use native.Mathlib.Omega.{arith}
+use Rattle.model.specs.Model.{Range, found, range}
+use Rattle.model.specs.Sound.{Sound}
+use Rattle.model.specs.Store.{Store, stagedKinds, withControl, emptyBoth}
+use Rattle.model.specs.Commands.{RANGE, rangeBytes, accepted}
+use Rattle.model.specs.Run.{accepts, does}
+use Rattle.model.proofs.Bounds.{range-bounded}
+use Rattle.model.proofs.Outcomes.{range-does}
+
+-- the model's range of the hand without the bar
+abbrev pub rangeTold : Store → Range
+rangeTold s = range (stagedKinds s) (s .control .excluded) (s .storage)
+
+pub range-told : (s : Store) {q : Range} → q ≡ rangeTold s → does RANGE s ≡ accepts (withControl s (emptyBoth (s .control))) (rangeBytes q)
+unfolding accepted
+range-told s e = range-does s ∙ ap (λ (r : Range). accepts (withControl s (emptyBoth (s .control))) (rangeBytes r)) (sym e)
+
+-- start and end fit a word
+pub range-fits : (s : Store) → Sound s → (a b : ℕ) → found a b ≡ rangeTold s → (a < 4294967296) × (b < 4294967296)
+range-fits s S a b e =
+    let h = range-bounded s S (stagedKinds s) (s .control .excluded) a b (sym e) in
+    (omega (arith, h .0, h .1, S .limits), omega (arith, h .1, S .limits))
