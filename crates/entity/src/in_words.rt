@@ -12,7 +12,7 @@ ghost use Prim.Native.Nat.{_≤_, _<_, _+_, _*_};
 ghost use lib.ListN.{length, getD};
 ghost use Rattle.model.specs.Model.{noEntity, isLive, destroy};
 ghost use Rattle.model.specs.Snapshot.{versionAt};
-ghost use Rattle.entity.specs.Decides.{Decides};
+ghost use Rattle.words.specs.Decides.{Decides};
 ghost use Rattle.entity.specs.Meaning.{Sound, entity};
 ghost use Rattle.entity.specs.Change.{SoundIn, EntityChange, entityPart, entitiesIn, isFull, noEntities};
 ghost use Rattle.entity.specs.Answers.{entityOf, foundOf, CreatedIn};

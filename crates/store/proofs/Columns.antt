@@ -21,7 +21,7 @@ use Rattle.model.proofs.Entries.{Columned, column-accepted, column-refused}
 use Rattle.words.specs.Offsets.{columnStart, columnStart-fits}
 use Rattle.component.specs.SparseSet.{lengthOf, rowAt, valueOf, rows}
 use Rattle.component.proofs.Meaning.{length-rows, getD-rows}
-use Rattle.component.specs.Decides.{Decides}
+use Rattle.words.specs.Decides.{Decides}
 use Rattle.columns.specs.Columns.{columnOf}
 use Rattle.columns.proofs.Slots.{getD-column}
 use Rattle.memory.specs.Header.{capacityOf, slotOf}

@@ -25,7 +25,7 @@ use Rattle.model.proofs.Lengths.{run-fits}
 use Rattle.model.proofs.Ranges.{range-shows}
 use Rattle.model.proofs.Retired.{Balanced, issued-balance}
 use Rattle.model.proofs.Snapshots.{snapshots-of-sound}
-use Rattle.component.specs.Decides.{Decides}
+use Rattle.words.specs.Decides.{Decides}
 use Rattle.memory.specs.Meaning.{meaning}
 use Rattle.memory.specs.Arranged.{Sound}
 use Rattle.stream.specs.declared.Ran.{Ran}

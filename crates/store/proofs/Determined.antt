@@ -14,7 +14,7 @@ use Rattle.model.specs.Run as model
 use Rattle.model.specs.Entries.{Started, refusesStart, makes, start}
 use Rattle.model.specs.Entries as entries
 use Rattle.model.specs.Sound.{Limits}
-use Rattle.component.specs.Decides.{Decides}
+use Rattle.words.specs.Decides.{Decides}
 use Rattle.memory.specs.Meaning.{meaning}
 use Rattle.memory.specs.Arranged.{Sound}
 use Rattle.stream.specs.declared.Ran.{Ran}

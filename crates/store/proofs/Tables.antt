@@ -11,7 +11,7 @@ use Rattle.model.specs.Snapshot.{snapshot}
 use Rattle.model.specs.Refusals.{Line, firstLine, NoneHolds, First, numberOf, startLines, otherLines, rollLines}
 use Rattle.model.specs.Entries.{startedBy, start, rolledBy, roll}
 use Rattle.model.proofs.Lines.{first-exact, none-exact, NumbersIn, first-number}
-use Rattle.component.specs.Decides.{Decides}
+use Rattle.words.specs.Decides.{Decides}
 use Rattle.memory.specs.Arranged.{Sound}
 use Rattle.store.specs.Entries.{startNumber, orElse, rolledOf, rollNumber}
 

@@ -15,7 +15,7 @@ use Rattle.memory.specs.Header.{capacityOf, kindCapacityOf}
 use Rattle.memory.specs.Meaning.{meaning}
 use Rattle.memory.specs.Change.{onStorage, withEntities}
 use Rattle.memory.specs.Arranged.{Sound, Becomes}
-use Rattle.storage.proofs.Storing.{becomes-then, capacity-means}
+use Rattle.group.proofs.Storing.{becomes-then, capacity-means}
 use Rattle.world.specs.World.{Leaves, created, killed}
 
 -- words that mean a sound store
