@@ -13,7 +13,7 @@ use denote.Ref.{RefT}
 use Rattle.model.specs.Refusals.{numberOf}
 use Rattle.model.specs.Entries.{columnRefusal, column}
 use Rattle.model.proofs.Entries.{column-refused}
-use Rattle.component.specs.Decides.{Decides}
+use Rattle.words.specs.Decides.{Decides}
 use Rattle.memory.specs.Meaning.{meaning}
 use Rattle.memory.specs.Arranged.{Sound}
 use Rattle.store.specs.Entries.{columnRefused, ColumnNumbered, rowPlace, ColumnPart}
