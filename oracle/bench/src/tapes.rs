@@ -10,11 +10,21 @@ pub struct Work {
     pub n: usize,
     pub k: usize,
     pub setup: Vec<u8>,
-    /// Empty where the roll is timed.
-    pub tape: Vec<u8>,
+    /// One for each run; none where rolls are timed.
+    pub runs: Vec<Vec<u8>>,
     /// By which the time is divided.
     pub commands: usize,
     pub bound: &'static str,
+}
+
+impl Work {
+    /// How many rolls are timed.
+    pub fn rolls(&self) -> usize {
+        match self.runs.is_empty() {
+            true => self.commands,
+            false => 0,
+        }
+    }
 }
 
 const REG: u8 = 1;
@@ -95,6 +105,8 @@ const LISTS: [&[u8]; 8] = [
 /// Writes a tape whose commands are accepted: the entities in it are those that the Rust answers.
 struct Writer {
     tape: Vec<u8>,
+    /// Where each command ends, with what is staged for it.
+    ends: Vec<usize>,
     rust: Oracle,
     rng: Rng,
     live: Vec<Id>,
@@ -108,6 +120,7 @@ impl Writer {
         let live = rust.live();
         Self {
             tape: vec![],
+            ends: vec![],
             rust,
             rng: Rng(0x9e37_79b9_7f4a_7c15),
             live,
@@ -122,6 +135,7 @@ impl Writer {
         let mut out = [0; 256];
         let ran = self.rust.run(&self.tape[from..], &mut out);
         assert_eq!(out[kinds.len()], 0, "a command of the works is refused");
+        self.ends.push(self.tape.len());
         match command {
             NEW => {
                 let word = |at: usize| u32::from_le_bytes(out[at..at + 4].try_into().unwrap());
@@ -137,7 +151,21 @@ impl Writer {
     fn some(&mut self) -> Option<usize> {
         Some(self.rng.below(self.live.len()))
     }
+
+    /// The tape in runs of so many commands.
+    fn runs(self, commands: usize) -> Vec<Vec<u8>> {
+        let mut from = 0;
+        let mut run = |ends: &[usize]| {
+            let tape = self.tape[from..ends[ends.len() - 1]].to_vec();
+            from += tape.len();
+            tape
+        };
+        self.ends.chunks(commands).map(&mut run).collect()
+    }
 }
+
+/// What comes before, and the runs.
+type Tapes = (Vec<u8>, Vec<Vec<u8>>);
 
 /// Entities with the lists in turn, so many of N.
 fn filled(tape: &mut Vec<u8>, count: usize) {
@@ -147,7 +175,7 @@ fn filled(tape: &mut Vec<u8>, count: usize) {
 }
 
 /// NEW, PUT, TAKE, DROP and KILL, on a store that is three quarters full all along.
-fn mix(n: usize, commands: usize) -> (Vec<u8>, Vec<u8>) {
+fn mix(n: usize, commands: usize, in_run: usize) -> Tapes {
     let mut setup = vec![];
     registered(&mut setup, 16);
     layout(&mut setup, &LINE);
@@ -166,11 +194,11 @@ fn mix(n: usize, commands: usize) -> (Vec<u8>, Vec<u8>) {
             _ => writer.command(list, PUT, at),
         }
     }
-    (setup, writer.tape)
+    (setup, writer.runs(in_run))
 }
 
 /// An entity goes and one comes, on a full store.
-fn churn(n: usize, commands: usize) -> (Vec<u8>, Vec<u8>) {
+fn churn(n: usize, commands: usize) -> Tapes {
     let mut setup = vec![];
     registered(&mut setup, 16);
     layout(&mut setup, &LINE);
@@ -181,11 +209,11 @@ fn churn(n: usize, commands: usize) -> (Vec<u8>, Vec<u8>) {
         writer.command(&[], KILL, at);
         writer.command(LISTS[i % LISTS.len()], NEW, None);
     }
-    (setup, writer.tape)
+    (setup, vec![writer.tape])
 }
 
 /// A component of the smallest group comes and goes, of entities with all others of the chain: six groups each time.
-fn crossing(n: usize, commands: usize) -> (Vec<u8>, Vec<u8>) {
+fn crossing(n: usize, commands: usize) -> Tapes {
     let mut setup = vec![];
     registered(&mut setup, 16);
     layout(&mut setup, &CHAIN);
@@ -200,10 +228,10 @@ fn crossing(n: usize, commands: usize) -> (Vec<u8>, Vec<u8>) {
         let at = if i % 2 == 0 { at } else { writer.some() };
         writer.command(&[0], TAKE, at);
     }
-    (setup, writer.tape)
+    (setup, vec![writer.tape])
 }
 
-fn relayouts(n: usize, times: usize) -> (Vec<u8>, Vec<u8>) {
+fn relayouts(n: usize, times: usize) -> Tapes {
     let mut setup = vec![];
     registered(&mut setup, 16);
     filled(&mut setup, n);
@@ -211,38 +239,40 @@ fn relayouts(n: usize, times: usize) -> (Vec<u8>, Vec<u8>) {
     for i in 0..times {
         layout(&mut tape, if i % 2 == 0 { &LINE } else { &CHAIN[..3] });
     }
-    (setup, tape)
+    (setup, vec![tape])
 }
 
 pub fn works() -> Vec<Work> {
-    let work = |letter, name: &str, n, (setup, tape): (Vec<u8>, Vec<u8>), commands, bound| Work {
+    let work = |letter, name: &str, n, (setup, runs): Tapes, commands, bound| Work {
         letter,
         name: name.to_string(),
         n,
         k: 16,
         setup,
-        tape,
+        runs,
         commands,
         bound,
     };
+    let line = |in_run| mix(4096, 300_000, in_run);
     let mut works = vec![
-        work("a", "line mix, N 4,096", 4096, mix(4096, 300_000), 300_000, "0.7"),
+        work("a", "line mix", 4096, line(300_000), 300_000, "0.7"),
         work("b", "NEW and KILL", 4096, churn(4096, 100_000), 100_000, "1.0"),
         work(
             "c",
-            "PUT and TAKE across six groups",
+            "PUT and TAKE, six groups",
             4096,
             crossing(4096, 100_000),
             100_000,
             "1.0",
         ),
-        work("d", "APPLY, 4,096 live", 4096, relayouts(4096, 40), 40, "1.0"),
+        work("d", "APPLY, all live", 4096, relayouts(4096, 200), 200, "1.0"),
     ];
     let (setup, _) = relayouts(4096, 0);
-    works.push(work("e", "roll of 4,096", 4096, (setup, vec![]), 1, "1.0"));
+    works.push(work("e", "roll, all live", 4096, (setup, vec![]), 20, "1.0"));
     for n in [64, 512, 4096] {
-        let name = format!("line mix, N {n}");
-        works.push(work("g", &name, n, mix(n, 100_000), 100_000, "flat"));
+        works.push(work("g", "line mix", n, mix(n, 100_000, 100_000), 100_000, "flat"));
     }
+    works.push(work("h", "line mix, 10,000 in a run", 4096, line(10_000), 300_000, ""));
+    works.push(work("h", "line mix, 1,000 in a run", 4096, line(1_000), 300_000, ""));
     works
 }
