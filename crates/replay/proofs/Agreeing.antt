@@ -3,7 +3,7 @@ use mathlib.Core.Path.{_≡_, refl, ap, sym, subst, _∙_}
 use mathlib.Core.Bool.{Bool, true, false, false≢true, cond, _&&_}
 use mathlib.Core.Option.{some, none}
 use mathlib.Core.List.{List, _++_, append-assoc}
-use Prim.Native.Nat.{ℕ, _+_, _-_, _*_, _≤_, _<_}
+use Prim.Native.Nat.{ℕ, _+_, _-_, _*_, _≤_}
 use native.Mathlib.Omega.{arith}
 use lib.Dec.{eqb, ltb}
 use mir.Val.{boolByte}
@@ -17,13 +17,12 @@ use Rattle.model.specs.Snapshot.{snapshot}
 use Rattle.model.specs.Entries.{Started, refusesStart, makes, start, writes, rolledBy, roll}
 use Rattle.model.proofs.Entries.{start-makes}
 use Rattle.model.proofs.SparseSets.{and-left, and-right}
-use Rattle.component.specs.Decides.{Decides}
-use Rattle.component.proofs.Checking.{granted}
+use Rattle.words.specs.Decides.{Decides, granted}
 use Rattle.memory.specs.Meaning.{meaning}
 use Rattle.memory.specs.Arranged.{Sound}
 use Rattle.stream.specs.declared.Ran.{Ran}
 use Rattle.store.specs.declared.Rolled.{Rolled}
-use Rattle.store.specs.Entries.{startNumber, Starts, StartLeaves, columnRefused, ColumnNumbered, columnWords, ColumnPart, ranOf, Answered, RunLeaves, Runs, rolledOf, rollNumber, rollBytes, Rolls}
+use Rattle.store.specs.Entries.{startNumber, Starts, StartLeaves, ColumnNumbered, ColumnPart, ranOf, Answered, RunLeaves, Runs, rolledOf, rollNumber, rollBytes, Rolls}
 use Rattle.store.proofs.Starting.{start-number}
 use Rattle.replay.specs.declared.recorded.Step.{Step}
 use Rattle.replay.specs.declared.Tally.{Tally}
