@@ -31,7 +31,6 @@ use Rattle.entity.proofs.Numbering.{entities-ok}
 use Rattle.layout.specs.Layout.{Arrays, blockArrays, widthOf, groupCount, familiesOf, WellFormed}
 use Rattle.layout.proofs.Arrays.{layout-kinds, block-sized}
 use Rattle.blocks.specs.Checks.{BlockSound, KindsOk}
-use Rattle.blocks.proofs.Agree.{block-sized}
 use Rattle.blocks.proofs.Buildable.{block-buildable, uncounted}
 use Rattle.memory.specs.Header.{capacityOf, kindCapacityOf, registeredOf, stagedLen, excludedLen, draftFamilies, draftGroups, layoutFamilies, layoutGroups, slotOf, stagedLowAt, stagedHighAt, groupFamilyAt}
 use Rattle.memory.specs.Meaning.{kindAt, kindsIn, setsIn, draftArrays, layoutArrays, draftIn, layoutIn, stagedAt, stagedIn, excludedIn, meaning}
