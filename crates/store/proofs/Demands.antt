@@ -230,10 +230,10 @@ retiredIn (ran {w} {w′} {t} {o} c R) = retiredIn c + retired t (length o) (mea
 pub issued-reached : {w : List ℕ} (c : Reached w) → Balanced (meaning w .entities) (retiredIn c)
 unfolding empty
 issued-reached (started {n} {k} {w} {w′} S) = subst (λ (s : Store). Balanced (s .entities) 0) (sym (started-empty n k w w′ S .1)) refl
-issued-reached (ran {w} {w′} {t} {o} {o′} {r} c R) = go (R .sound) (R .decides) (R .means)
+issued-reached (ran {w} {w′} {t} {o} {o′} {r} c R) = go (R .sound) (R .decides) (R .means) (issued-reached c)
   where
-    go : (b : Bool) → Decides b (Sound w) → meaning w′ ≡ ranOf b t (length o) (meaning w) .store → Balanced (meaning w′ .entities) (retiredIn c + retired t (length o) (meaning w))
-    go false d m = absurd (d (reached-sound c))
-    go true d m =
-        subst (λ (s : Store). Balanced (s .entities) (retiredIn c + retired t (length o) (meaning w))) (sym m)
-        (run-balanced t (length o) (meaning w) (retiredIn c) (issued-reached c))
+    go : (b : Bool) → Decides b (Sound w) → meaning w′ ≡ ranOf b t (length o) (meaning w) .store → Balanced (meaning w .entities) (retiredIn c)
+        → Balanced (meaning w′ .entities) (retiredIn c + retired t (length o) (meaning w))
+    go false d m h = absurd (d (reached-sound c))
+    go true d m h =
+        subst (λ (s : Store). Balanced (s .entities) (retiredIn c + retired t (length o) (meaning w))) (sym m) (run-balanced t (length o) (meaning w) (retiredIn c) h)
