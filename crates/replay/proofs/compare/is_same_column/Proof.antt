@@ -5,15 +5,12 @@ use borrow.Author.Needs.{needs}
 use Rattle.replay.proofs.compare.is_same_column.Statement.{statement}
 use Rattle.replay.proofs.compare.is_same_column.Tie as tie
 
--- src/compare.rt:79:9
 returns : tie.Need-returns
 returns c = λ e. absurd (false≢true e)
 
--- src/compare.rt:82:9
 returns-2 : tie.Need-returns-2
 returns-2 c = λ e. absurd (false≢true e)
 
--- src/compare.rt:74:1
 returns-3 : tie.Need-returns-3
 returns-3 c =
     let a = c .before .before .before .before .before .before .before .before .args in
