@@ -1,15 +1,13 @@
 -- Arrays that agree on their used parts mean the same, and one is well formed where the other is. Assumes nothing.
-use mathlib.Core.Path.{_≡_, refl, sym, ap, ap₂, _∙_, subst}
-use mathlib.Core.List.{List, [], _∷_}
+use mathlib.Core.Path.{_≡_, refl, sym, ap, ap₂, _∙_}
+use mathlib.Core.List.{List, []}
 use Prim.Native.Nat.{ℕ, zero, suc, _+_, _-_, _≤_, _<_}
-use native.Mathlib.Nat.{sub-zero}
 use native.Mathlib.Omega.{arith}
 use lib.ListN.{length, getD, take}
 use lib.Seq.{ext-getD, length-take-le, getD-take}
-use Rattle.model.specs.Model.{Family}
 use Rattle.words.specs.Part.{between, length-between, getD-between}
 use Rattle.words.specs.Table.{table-same}
-use Rattle.layout.specs.Layout.{Arrays, arraysIn, blockArrays, Sized, startOf, widthOf, groupCount, kindsAt, aritiesAt, groupsFrom, familyAt, familiesOf, KindSet, Rising, FamilyFormed, WellFormed}
+use Rattle.layout.specs.Layout.{Arrays, arraysIn, blockArrays, Sized, startOf, kindsAt, aritiesAt, groupsFrom, familyAt, familiesOf, FamilyFormed, WellFormed}
 use Rattle.layout.proofs.Arrays.{kinds-inside, groups-inside}
 
 pub block-sized : (w : List ℕ) (n : ℕ) → length w ≡ 320 → Sized (blockArrays w n)

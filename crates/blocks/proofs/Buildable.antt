@@ -1,5 +1,5 @@
 -- A well-formed block of registered kinds means families that the model calls buildable (01, "such as commands can build"). Assumes nothing.
-use mathlib.Core.Path.{_≡_, refl, sym, ap, ap₂, _∙_, subst}
+use mathlib.Core.Path.{_≡_, refl, sym, ap, ap₂, _∙_}
 use mathlib.Core.List.{List, [], _∷_, _++_, append-nil, append-assoc}
 use Prim.Native.Nat.{ℕ, zero, suc, _+_, _-_, _≤_, _<_}
 use native.Mathlib.Numerals.{add-one}
@@ -9,15 +9,14 @@ use lib.Dec.{eqb}
 use lib.ListN.{length, getD, take}
 use Rattle.model.specs.Lists.{count}
 use Rattle.model.specs.Model.{Family, kindsOf}
-use Rattle.model.specs.Sound.{In, Distinct, layoutKinds, BuildableFamily, BuildableFamilies, Buildable, Uncounted, AllUncounted}
+use Rattle.model.specs.Sound.{In, layoutKinds, BuildableFamily, BuildableFamilies, Buildable, Uncounted, AllUncounted}
 use Rattle.model.specs.Sound as sound
 use Rattle.words.specs.Part.{between, length-between}
 use Rattle.words.specs.Table.{table, table-snoc}
-use Rattle.layout.specs.Layout.{Arrays, blockArrays, Sized, startOf, widthOf, groupCount, kindsAt, aritiesAt, groupsFrom, familyAt, familiesOf, Rising, WellFormed}
+use Rattle.layout.specs.Layout.{Arrays, blockArrays, Sized, startOf, widthOf, kindsAt, aritiesAt, groupsFrom, familyAt, familiesOf, Rising, WellFormed}
 use Rattle.layout.proofs.KindSets.{mem-count}
 use Rattle.layout.proofs.Family.{between-join, rising-le, kinds-from}
 use Rattle.layout.proofs.Arrays.{kind-order, kinds-length, family-kindsOf, groups-of}
-use Rattle.blocks.specs.Blocks.{BlockFormed}
 use Rattle.blocks.specs.Checks.{BlockSound}
 use Rattle.blocks.proofs.Agree.{block-sized}
 

@@ -1,7 +1,5 @@
 -- What the loops of the check know, and why a refused block is not sound. Assumes nothing.
 use mathlib.Core.Path.{_≡_, refl, sym, ap, _∙_, subst}
-use mathlib.Core.Logic.{_≢_}
-use mathlib.Core.Bool.{Bool, true, false}
 use mathlib.Core.List.{List, [], _∷_, _++_}
 use Prim.Native.Nat.{ℕ, zero, suc, _+_, _-_, _≤_, _<_}
 use native.Mathlib.Numerals.{add-one}
@@ -13,12 +11,11 @@ use lib.Seq.{take-suc, take-take, drop-length, getD-set-same, getD-set-other}
 use Rattle.model.specs.Lists.{one, count, count-append}
 use Rattle.words.specs.Part.{between}
 use Rattle.words.specs.Table.{by-eq}
-use Rattle.layout.specs.Layout.{Arrays, arraysIn, blockArrays, startOf, widthOf, groupCount, KindSet, Rising, FamilyFormed, WellFormed}
+use Rattle.layout.specs.Layout.{Arrays, arraysIn, blockArrays, startOf, Rising, FamilyFormed, WellFormed}
 use Rattle.layout.proofs.Scan.{drop-step}
 use Rattle.layout.proofs.Family.{start-next}
-use Rattle.layout.proofs.Arrays.{end-inside, ends-rise}
-use Rattle.blocks.specs.Blocks.{BlockFormed}
-use Rattle.blocks.specs.Checks.{Registered, BlockSound, KindsSound, FamilyInside, FamiliesFormed}
+use Rattle.layout.proofs.Arrays.{end-inside}
+use Rattle.blocks.specs.Checks.{BlockSound, KindsSound, FamilyInside, FamiliesFormed}
 
 -- ---- arities
 

@@ -1,16 +1,16 @@
 -- A block read into the struct, and the struct written to a block: the used parts agree, so both mean the same. Assumes nothing.
-use mathlib.Core.Path.{_≡_, refl, sym, ap, ap₂, _∙_, subst}
-use mathlib.Core.List.{List, [], _∷_}
+use mathlib.Core.Path.{_≡_, refl, sym, ap, _∙_}
+use mathlib.Core.List.{List, []}
 use Prim.Native.Nat.{ℕ, zero, suc, _+_, _-_, _≤_, _<_}
 use native.Mathlib.Decide.{decLt}
 use native.Mathlib.Omega.{arith}
 use lib.ListN.{length, getD, take}
 use lib.Seq.{getD-take, length-take-le}
 use Rattle.words.specs.Part.{between, length-between, getD-between}
-use Rattle.layout.specs.Layout.{Arrays, arraysIn, arraysOf, blockArrays, Sized, startOf, widthOf, groupCount, aritiesAt, familiesOf, meaning, blockMeaning, KindSet, Rising, WellFormed, Formed}
+use Rattle.layout.specs.Layout.{Arrays, arraysIn, arraysOf, blockArrays, Sized, startOf, widthOf, groupCount, aritiesAt, meaning, blockMeaning, KindSet, WellFormed, Formed}
 use Rattle.layout.specs.declared.group_layout.Layout.{Layout}
 use Rattle.layout.proofs.Family.{rising-at}
-use Rattle.layout.proofs.Arrays.{kinds-inside, groups-inside, group-order, arities-length}
+use Rattle.layout.proofs.Arrays.{kinds-inside, groups-inside, arities-length}
 use Rattle.blocks.specs.Blocks.{BlockFormed, ReadFrom, WrittenTo, FetchAsk, Fetched, PutAt}
 use Rattle.blocks.proofs.Agree.{block-sized, agree-means, agree-formed, agree-width, agree-groups}
 use Rattle.blocks.proofs.Checking.{kind-counts}

@@ -1,10 +1,9 @@
 // A layout's block of 320 words: read into the struct, written from it, and checked. The draft and the layout in force are such blocks.
 ghost use mathlib.Core.Path.{_≡_};
-ghost use mathlib.Core.List.{[], _∷_, _++_};
-ghost use Prim.Native.Nat.{ℕ, _+_, _-_, _≤_, _<_};
-ghost use lib.ListN.{length, getD, take, drop};
+ghost use mathlib.Core.List.{[]};
+ghost use Prim.Native.Nat.{_+_, _-_, _≤_, _<_};
+ghost use lib.ListN.{length};
 ghost use Rattle.words.specs.Decides.{Decides};
-ghost use Rattle.words.specs.Part.{between};
 ghost use Rattle.layout.specs.Layout.{Formed, Rising, startOf, arraysIn};
 ghost use Rattle.blocks.specs.Blocks.{BlockFormed, ReadFrom, WrittenTo, FetchAsk, Fetched, PutAt};
 ghost use Rattle.blocks.specs.Checks.{BlockSound, KindsSound, FamilyInside, FamiliesFormed, EndsAsk};

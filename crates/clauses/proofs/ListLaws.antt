@@ -1,8 +1,8 @@
 -- Lists of kinds told place by place: once each, by a table of what was seen; and where a kind of the list stands. Assumes nothing.
 use mathlib.Core.Path.{_≡_, refl, ap, sym, _∙_, subst}
 use mathlib.Core.Logic.{_≢_}
-use mathlib.Core.Bool.{Bool, true, false, _||_, false≢true, true≢false}
-use mathlib.Core.List.{List, [], _∷_, _++_}
+use mathlib.Core.Bool.{Bool, true, false, _||_}
+use mathlib.Core.List.{List, [], _∷_}
 use Prim.Native.Nat.{ℕ, zero, suc, _+_, _≤_, _<_}
 use native.Mathlib.Nat.{le-of-suc-le-suc, not-suc-le-zero}
 use native.Mathlib.Numerals.{add-one}
@@ -16,9 +16,9 @@ use Rattle.model.specs.Model.{mem}
 use Rattle.model.specs.Sound.{In, Distinct}
 use Rattle.model.proofs.Walk.{or-true, mem-append}
 use Rattle.words.specs.Table.{by-eq}
-use Rattle.component.specs.Decides.{Each}
+use Rattle.component.specs.Checks.{Each}
 use Rattle.clauses.specs.Listed.{Listed}
-use Rattle.model.proofs.KindLists.{not-true, in-count, count-in, self-count, distinct-snoc}
+use Rattle.model.proofs.KindLists.{not-true, in-count, self-count, distinct-snoc}
 
 -- ---- where a kind stands
 

@@ -1,31 +1,19 @@
--- Where a slot's column stands among the words, and the entities of its rows; answers of checks put to use. Assumes nothing.
-use mathlib.Core.Path.{_≡_, refl, sym, ap, _∙_}
-use mathlib.Core.Bool.{Bool, true, false, not, true≢false, false≢true}
+-- Where a slot's column stands among the words, and the entities of its rows. Assumes nothing.
+use mathlib.Core.Path.{_≡_, sym, ap, _∙_}
 use mathlib.Core.List.{List}
-use Prim.Native.Nat.{ℕ, zero, suc, _+_, _*_, _≤_, _<_}
+use Prim.Native.Nat.{ℕ, _+_, _*_, _≤_, _<_}
 use native.Mathlib.Omega.{arith}
 use lib.ListN.{length, getD, List·getD-map}
-use Rattle.model.specs.Model.{Entity, Row, noEntity, noRow, keys, entityOf}
+use Rattle.model.specs.Model.{Row, noRow, entityOf}
 use Rattle.words.specs.Offsets.{columnStart, columnStart-apart, columnStart-mono}
 use Rattle.words.specs.Table.{by-eq}
-use Rattle.component.specs.SparseSet.{Sound, lengthOf, indexAt, versionAt, rowAt}
-use Rattle.component.specs.Decides.{Decides}
+use Rattle.component.specs.SparseSet.{lengthOf, indexAt, versionAt}
 use Rattle.component.proofs.Meaning.{length-rows, getD-rows}
 use Rattle.columns.specs.Columns.{columnOf, rowsOf, Lent}
 use Rattle.columns.proofs.Slots.{getD-column}
 use Rattle.memory.proofs.Frames.{start-header}
 use Rattle.clauses.specs.Slots.{Slot, Room, headAt, Over}
 use Rattle.clauses.specs.Rows.{entityIn, keyAt}
-
--- ---- after `if !check(..) { return false; }`, and in the branch
-
-pub granted : (P : Type 0) (b : Bool) → Decides b P → not b ≡ false → P
-granted P true d e = d
-granted P false d e = absurd (true≢false e)
-
-pub denied : (P : Type 0) (b : Bool) → Decides b P → not b ≡ true → P → ⊥
-denied P true d e = absurd (false≢true e)
-denied P false d e = d
 
 pub over-more : (P : ℕ → Type 0) (a j : ℕ) → Over a j P → P j → Over a (j + 1) P
 over-more P a j o p i l h = by-eq i j (λ q. rw q p) (λ ne. o i l (omega arith))

@@ -1,5 +1,4 @@
 -- A list of registered kinds, as the staged, the excluded and the layouts' kinds are. Assumes nothing.
-use mathlib.Core.Path.{_≡_}
 use mathlib.Core.Logic.{_≢_}
 use mathlib.Core.List.{List}
 use Prim.Native.Nat.{ℕ, _+_, _≤_, _<_}

@@ -7,7 +7,7 @@ use lib.ListN.{getD}
 use Rattle.model.specs.Model.{Entity, noEntity, keys, isLive}
 use Rattle.words.specs.Offsets.{columnStart}
 use Rattle.component.specs.SparseSet.{Sound, lengthOf, entity}
-use Rattle.component.specs.Decides.{Each}
+use Rattle.component.specs.Checks.{Each}
 use Rattle.columns.specs.Columns.{columnOf, rowsOf}
 use Rattle.entity.specs.Change.{entitiesIn}
 

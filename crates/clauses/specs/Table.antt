@@ -3,7 +3,7 @@ use mathlib.Core.Path.{_≡_}
 use mathlib.Core.Logic.{_≢_}
 use mathlib.Core.List.{List}
 use Prim.Native.Nat.{ℕ, _≤_, _<_}
-use Rattle.component.specs.Decides.{Each}
+use Rattle.component.specs.Checks.{Each}
 use Rattle.memory.specs.Header.{registeredOf, slotOf}
 use Rattle.clauses.specs.Slots.{headAt}
 

@@ -1,8 +1,8 @@
 // Lists of registered kinds: the staged and the excluded ones, and the layouts'.
 ghost use mathlib.Core.Path.{_≡_};
-ghost use Prim.Native.Nat.{ℕ, _+_, _<_, _≤_};
-ghost use lib.ListN.{length, getD};
-ghost use Rattle.component.specs.Decides.{Decides};
+ghost use Prim.Native.Nat.{_+_, _<_, _≤_};
+ghost use lib.ListN.{length};
+ghost use Rattle.words.specs.Decides.{Decides};
 ghost use Rattle.clauses.specs.Listed.{Listed, ListOk};
 
 // Are the kinds registered, and none there twice? A table of what was seen saves the scan.

@@ -1,8 +1,8 @@
 // The table of kinds and the columns' heads point to each other.
 ghost use mathlib.Core.Path.{_≡_};
-ghost use Prim.Native.Nat.{_<_, _≤_};
-ghost use Rattle.component.specs.Decides.{Decides, Each};
-ghost use Rattle.memory.specs.Header.{registeredOf};
+ghost use Prim.Native.Nat.{_<_};
+ghost use Rattle.words.specs.Decides.{Decides};
+ghost use Rattle.component.specs.Checks.{Each};
 ghost use Rattle.clauses.specs.Slots.{Slot, Room, headAt};
 ghost use Rattle.clauses.specs.Table.{KindOk, SlotOk, TableOk};
 

@@ -12,7 +12,7 @@ use Rattle.words.specs.Table.{by-eq}
 use Rattle.words.specs.Part.{between, patch, getD-between, between-front, between-rest, patch-front, patch-between, patch-rest, patch-length}
 use Rattle.words.specs.Offsets.{columnStart, columnStart-apart, columnStart-mono}
 use Rattle.component.specs.SparseSet.{rows, Sound, Changed}
-use Rattle.columns.specs.Columns.{columnOf, Columns, Lent, One, Only}
+use Rattle.columns.specs.Columns.{columnOf, Columns, Lent, Only}
 
 pub lent : (n m s : ℕ) (w : List ℕ) → Columns n m w → s < m → Lent n s w
 lent n m s w c h =

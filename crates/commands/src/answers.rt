@@ -1,5 +1,5 @@
 // Answers: a refusal's number, or a 0 byte and what an accepted command tells.
-ghost use mathlib.Core.List.{List, [], _∷_};
+ghost use mathlib.Core.List.{[], _∷_};
 ghost use Prim.Native.Nat.{_+_, _<_, _≤_};
 ghost use lib.ListN.{length};
 ghost use Rattle.model.specs.Store.{le};

@@ -1,12 +1,10 @@
--- A sparse set's soundness from its parts, and what a check's answer says. Assumes nothing.
-use mathlib.Core.Path.{_≡_, subst}
-use mathlib.Core.Bool.{Bool, true, false}
+-- A sparse set's soundness from its parts. Assumes nothing.
 use mathlib.Core.List.{List}
 use Prim.Native.Nat.{ℕ, _+_, _≤_}
 use native.Mathlib.Omega.{arith}
 use Rattle.words.specs.Table.{by-eq}
 use Rattle.component.specs.SparseSet.{lengthOf, Sized, Sound}
-use Rattle.component.specs.Decides.{Decides, RowOk, LookupOk, Each}
+use Rattle.component.specs.Checks.{RowOk, LookupOk, Each}
 
 pub each-more : (P : ℕ → Type 0) (k : ℕ) → Each k P → P k → Each (k + 1) P
 each-more P k e p i h = by-eq i k (λ q. rw q p) (λ ne. e i (omega arith))
@@ -21,10 +19,3 @@ sound-of n w z r t s =
 
 pub lookups-of : (n : ℕ) (w : List ℕ) → Sound n w → Each n (LookupOk n w)
 lookups-of n w s x hx hh = (s .linked .inside x hx hh, s .linked .back x hx hh)
-
--- what a caller learns from an answer
-pub granted : (P : Type 0) (b : Bool) → Decides b P → b ≡ true → P
-granted P b d e = subst (λ (t : Bool). Decides t P) e d
-
-pub denied : (P : Type 0) (b : Bool) → Decides b P → b ≡ false → P → ⊥
-denied P b d e = subst (λ (t : Bool). Decides t P) e d

@@ -6,7 +6,7 @@ use Prim.Native.Nat.{ℕ, _+_, _*_, _-_, _≤_, _<_}
 use native.Mathlib.Omega.{arith}
 use lib.ListN.{length, getD, set, take}
 use lib.Seq.{take-all, take-take, length-take-le, take-set-le}
-use Rattle.model.specs.Lists.{swap, cutAt}
+use Rattle.model.specs.Lists.{cutAt}
 use Rattle.model.specs.Model.{Row, SparseSet, noRow}
 use Rattle.words.specs.Table.{by-eq, table-swap, table-set, table-snoc, table-removed}
 use Rattle.words.specs.Stores.{stores, miss, hit, length-stores}

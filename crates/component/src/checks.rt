@@ -1,9 +1,8 @@
 // Whether a part is a sound sparse set, in time linear in its words.
-ghost use mathlib.Core.Path.{_≡_};
-ghost use Prim.Native.Nat.{ℕ, _+_, _*_, _<_, _≤_};
-ghost use lib.ListN.{length};
+ghost use Prim.Native.Nat.{_+_, _*_, _<_, _≤_};
 ghost use Rattle.component.specs.SparseSet.{Sound, Sized, lengthOf};
-ghost use Rattle.component.specs.Decides.{Decides, RowOk, LookupOk, Each};
+ghost use Rattle.words.specs.Decides.{Decides};
+ghost use Rattle.component.specs.Checks.{RowOk, LookupOk, Each};
 
 fn row_ok(part: &[u32], n: usize, i: usize) -> bool
     requires { ⌜ Sized n (now part) × (i < n) ⌝ }

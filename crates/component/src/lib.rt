@@ -6,7 +6,7 @@ ghost use mathlib.Core.Path.{_≡_};
 ghost use mathlib.Core.Bool.{true};
 ghost use mathlib.Core.List.{[], _∷_, _++_};
 ghost use Prim.Native.Nat.{ℕ, _+_, _*_, _-_, _<_, _≤_};
-ghost use lib.ListN.{length, getD, set, take};
+ghost use lib.ListN.{length, getD};
 ghost use Rattle.model.specs.Lists.{cutAt};
 ghost use Rattle.model.specs.Model.{SparseSet, noRow, held, insertRow, swapTo};
 ghost use Rattle.words.specs.Stores.{stores};

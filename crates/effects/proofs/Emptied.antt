@@ -1,6 +1,6 @@
 -- What the commands over the world leave, beside what the world's functions do. Assumes nothing.
 use mathlib.Core.Path.{_≡_, ap, sym, _∙_, subst}
-use mathlib.Core.Bool.{Bool, true, false, not}
+use mathlib.Core.Bool.{true, false}
 use mathlib.Core.List.{List, [], _∷_, _++_}
 use Prim.Native.Nat.{ℕ, suc, _+_, _*_}
 use lib.ListN.{length}
@@ -29,15 +29,6 @@ emptied s B z C = becomes-next s (λ (t : Store). withControl t (emptyStaged (t 
 pub wiped : (s : Store) → does WIPE s ≡ accepts (onStorage clearAll s) []
 unfolding accepted
 wiped s = wipe-does s
-
--- a check that answers b, denied in the code
-pub denied : (b : Bool) {c : Bool} → b ≡ c → not b ≡ true → c ≡ false
-denied true e h = sym e ∙ sym h
-denied false e h = sym e
-
-pub granted : (b : Bool) {c : Bool} → b ≡ c → not b ≡ false → c ≡ true
-granted true e h = sym e
-granted false e h = sym e ∙ sym h
 
 pub applies : (s : Store) → does APPLY s ≡ accepts (applied s) []
 unfolding accepted

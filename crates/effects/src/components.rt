@@ -2,6 +2,7 @@
 use commands::answers::DEAD;
 use commands::answers::ack;
 use commands::answers::refuse;
+use entity::Found;
 ghost use Rattle.model.specs.Commands.{PUT, TAKE, DROP, WIPE};
 ghost use Rattle.model.specs.Run.{does};
 ghost use Rattle.component.specs.SparseSet.{entity};
@@ -13,9 +14,10 @@ pub fn put(words: &mut [u32], index: u32, version: u32, out: &mut [u8], at: usiz
     requires { ⌜ Ready (now words) (now out) at (PUT (entity index version)) ⌝ }
     ensures { λ r. ⌜ Acted (now (words .entry)) (now (words .exit)) (now (out .entry)) (now (out .exit)) at r (does (PUT (entity index version)) (meaning (now (words .entry)))) ⌝ }
 {
-    if !state::entities::contains(words, index, version) {
+    let found = state::entities::get(words, index, version);
+    let Found::At(_) = found else {
         return refuse(words, out, at, DEAD);
-    }
+    };
     world::insert(words, index, version);
     state::staged::clear_staged(words);
     ack(out, at)
@@ -26,9 +28,10 @@ pub fn drop(words: &mut [u32], index: u32, version: u32, out: &mut [u8], at: usi
     requires { ⌜ Ready (now words) (now out) at (DROP (entity index version)) ⌝ }
     ensures { λ r. ⌜ Acted (now (words .entry)) (now (words .exit)) (now (out .entry)) (now (out .exit)) at r (does (DROP (entity index version)) (meaning (now (words .entry)))) ⌝ }
 {
-    if !state::entities::contains(words, index, version) {
+    let found = state::entities::get(words, index, version);
+    let Found::At(_) = found else {
         return refuse(words, out, at, DEAD);
-    }
+    };
     world::delete(words, index, version);
     state::staged::clear_staged(words);
     ack(out, at)
@@ -48,9 +51,10 @@ pub fn take(words: &mut [u32], index: u32, version: u32, out: &mut [u8], at: usi
     requires { ⌜ Ready (now words) (now out) at (TAKE (entity index version)) ⌝ }
     ensures { λ r. ⌜ Acted (now (words .entry)) (now (words .exit)) (now (out .entry)) (now (out .exit)) at r (does (TAKE (entity index version)) (meaning (now (words .entry)))) ⌝ }
 {
-    if !state::entities::contains(words, index, version) {
+    let found = state::entities::get(words, index, version);
+    let Found::At(_) = found else {
         return refuse(words, out, at, DEAD);
-    }
+    };
     let n = state::staged::staged_len(words);
     ack(out, at);
     world::remove(words, index, version, out, at + 1);

@@ -4,6 +4,7 @@ use commands::answers::FULL;
 use commands::answers::ack;
 use commands::answers::ack_number;
 use commands::answers::refuse;
+use entity::Found;
 ghost use mathlib.Core.List.{_∷_, _++_};
 ghost use Prim.Native.Nat.{_+_, _≤_};
 ghost use lib.ListN.{length};
@@ -19,10 +20,11 @@ pub fn kill(words: &mut [u32], index: u32, version: u32, out: &mut [u8], at: usi
     requires { ⌜ Ready (now words) (now out) at (KILL (entity index version)) ⌝ }
     ensures { λ r. ⌜ Acted (now (words .entry)) (now (words .exit)) (now (out .entry)) (now (out .exit)) at r (does (KILL (entity index version)) (meaning (now (words .entry)))) ⌝ }
 {
-    if !state::entities::contains(words, index, version) {
+    let found = state::entities::get(words, index, version);
+    let Found::At(place) = found else {
         return refuse(words, out, at, DEAD);
-    }
-    world::destroy(words, index, version);
+    };
+    world::destroy(words, place, index, version);
     ack(out, at)
 }
 

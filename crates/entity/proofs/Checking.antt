@@ -1,20 +1,8 @@
--- A check's answer put to use, and soundness put together from its parts. Assumes nothing.
-use mathlib.Core.Path.{_≡_}
-use mathlib.Core.Bool.{Bool, true, false, not, true≢false, false≢true}
+-- Soundness put together from its parts. Assumes nothing.
 use mathlib.Core.List.{List}
 use Prim.Native.Nat.{ℕ}
-use Rattle.entity.specs.Decides.{Decides}
 use Rattle.entity.specs.Meaning.{Sized, Sound, lenOf, recycledLen}
 use Rattle.entity.specs.Checks.{Each, Counts, LiveOk, WaitsOk, IndexOk}
-
--- after `if !check(..) { return ..; }`, and in the branch
-pub granted : (P : Type 0) (b : Bool) → Decides b P → not b ≡ false → P
-granted P true d e = d
-granted P false d e = absurd (true≢false e)
-
-pub denied : (P : Type 0) (b : Bool) → Decides b P → not b ≡ true → P → ⊥
-denied P true d e = absurd (false≢true e)
-denied P false d e = d
 
 module _ (n : ℕ) (w : List ℕ) where
   pub counts-of : Sound n w → Counts n w

@@ -24,6 +24,10 @@ pickFound false p = Nothing
 abbrev pub foundOf : Entity → Entities → Found
 foundOf e s = pickFound (isLive e s) (place sameEntity e (s .live))
 
+-- e is live, and its lookup says the place p
+abbrev pub LiveAt : Entity → ℕ → Entities → Type 0
+LiveAt e p s = foundOf e s ≡ At p
+
 -- a number taken for a new entity
 pub record Allocated (n : ℕ) (w w′ : List ℕ) (r : Answer) : Type 0 where
   pub changed : Changed n allocated w w′

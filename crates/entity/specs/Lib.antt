@@ -1,4 +1,3 @@
-pub mod Decides
 pub mod Ring
 pub mod Meaning
 pub mod Change

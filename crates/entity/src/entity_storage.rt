@@ -5,11 +5,11 @@ use crate::entity_allocator;
 use crate::entity_sparse_set;
 use crate::sparse_vec;
 ghost use mathlib.Core.Path.{_≡_};
-ghost use mathlib.Core.Bool.{true, false};
+ghost use mathlib.Core.Bool.{false};
 ghost use Rattle.model.specs.Model.{isLive, destroy};
 ghost use Rattle.entity.specs.Meaning.{Sized, Sound, entity, entitiesOf};
 ghost use Rattle.entity.specs.Change.{Changed, isFull, noEntities};
-ghost use Rattle.entity.specs.Answers.{Created};
+ghost use Rattle.entity.specs.Answers.{LiveAt, Created};
 
 // Whether the entity is live.
 pub fn contains(part: &[u32], n: usize, index: u32, version: u32) -> bool
@@ -34,16 +34,12 @@ pub fn create(part: &mut [u32], n: usize) -> Entity
     entity
 }
 
-// Destroys a live entity.
-pub fn destroy(part: &mut [u32], n: usize, index: u32, version: u32)
+// Destroys a live entity, whose place in the live list the caller has looked up.
+pub fn destroy(part: &mut [u32], n: usize, place: usize, index: u32, version: u32)
     requires { ⌜ Sound n (now part) ⌝ }
-    requires { ⌜ isLive (entity index version) (entitiesOf n (now part)) ≡ true ⌝ }
+    requires { ⌜ LiveAt (entity index version) place (entitiesOf n (now part)) ⌝ }
     ensures { λ _. ⌜ Changed n (destroy (entity index version)) (now (part .entry)) (now (part .exit)) ⌝ }
 {
-    let found = sparse_vec::get(part, n, index, version);
-    let Found::At(place) = found else {
-        return;
-    };
     entity_sparse_set::remove(part, n, place);
     entity_allocator::recycle(part, n, index, version);
 }

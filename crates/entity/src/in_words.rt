@@ -7,15 +7,15 @@ use crate::entity_storage;
 use crate::soundness;
 use crate::sparse_vec;
 ghost use mathlib.Core.Path.{_≡_};
-ghost use mathlib.Core.Bool.{true, false};
+ghost use mathlib.Core.Bool.{false};
 ghost use Prim.Native.Nat.{_≤_, _<_, _+_, _*_};
 ghost use lib.ListN.{length, getD};
 ghost use Rattle.model.specs.Model.{noEntity, isLive, destroy};
 ghost use Rattle.model.specs.Snapshot.{versionAt};
-ghost use Rattle.entity.specs.Decides.{Decides};
+ghost use Rattle.words.specs.Decides.{Decides};
 ghost use Rattle.entity.specs.Meaning.{Sound, entity};
 ghost use Rattle.entity.specs.Change.{SoundIn, EntityChange, entityPart, entitiesIn, isFull, noEntities};
-ghost use Rattle.entity.specs.Answers.{entityOf, foundOf, CreatedIn};
+ghost use Rattle.entity.specs.Answers.{entityOf, foundOf, LiveAt, CreatedIn};
 
 // Whether the words have a sound entity part.
 pub fn is_sound_in(words: &[u32], n: usize) -> bool
@@ -101,14 +101,14 @@ pub fn create_in(words: &mut [u32], n: usize) -> Entity
     entity_storage::create(&mut words[1024..end], n)
 }
 
-// Destroys a live entity.
-pub fn destroy_in(words: &mut [u32], n: usize, index: u32, version: u32)
+// Destroys a live entity, whose place in the live list the caller has looked up.
+pub fn destroy_in(words: &mut [u32], n: usize, place: usize, index: u32, version: u32)
     requires { ⌜ SoundIn n (now words) ⌝ }
-    requires { ⌜ isLive (entity index version) (entitiesIn n (now words)) ≡ true ⌝ }
+    requires { ⌜ LiveAt (entity index version) place (entitiesIn n (now words)) ⌝ }
     ensures { λ _. ⌜ EntityChange n (destroy (entity index version)) (now (words .entry)) (now (words .exit)) ⌝ }
 {
     let end = 1024 + 16 * n;
-    entity_storage::destroy(&mut words[1024..end], n, index, version);
+    entity_storage::destroy(&mut words[1024..end], n, place, index, version);
 }
 
 // No entity, and no number issued, whatever the words held.

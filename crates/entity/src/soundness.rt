@@ -2,7 +2,7 @@
 use crate::entity_allocator::wrap;
 ghost use mathlib.Core.Path.{_≡_};
 ghost use Prim.Native.Nat.{_≤_, _<_};
-ghost use Rattle.entity.specs.Decides.{Decides};
+ghost use Rattle.words.specs.Decides.{Decides};
 ghost use Rattle.entity.specs.Ring.{since};
 ghost use Rattle.entity.specs.Meaning.{Sized, Sound, lenOf, recycledLen};
 ghost use Rattle.entity.specs.Checks.{Each, Counts, LiveOk, LookupOk, WaitsOk, ListedOk, IndexOk};

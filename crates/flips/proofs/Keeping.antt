@@ -2,7 +2,7 @@
 use mathlib.Core.Bool.{Bool, true, false}
 use mathlib.Core.List.{List}
 use Prim.Native.Nat.{ℕ}
-use Rattle.component.specs.Decides.{Decides}
+use Rattle.words.specs.Decides.{Decides}
 use Rattle.memory.specs.Arranged.{Sound}
 use Rattle.stream.specs.declared.Ran.{Ran}
 use Rattle.store.specs.Entries.{RunLeaves, Runs}

@@ -1,9 +1,7 @@
 -- The walks over all groups: each live entity when a layout is applied, and the destroyed one. Assumes nothing.
 use mathlib.Core.Path.{_≡_, refl, ap, sym, _∙_, subst}
-use mathlib.Core.List.{List, [], _∷_, _++_, reverse, reverse-append}
-use Prim.Native.Nat.{ℕ, zero, suc, _+_}
-use native.Mathlib.Omega.{arith}
-use native.Mathlib.Numerals.{add-one}
+use mathlib.Core.List.{List, [], _∷_, reverse, reverse-append}
+use Prim.Native.Nat.{ℕ, _+_}
 use native.Mathlib.Nat.{zero-add}
 use Rattle.model.specs.Model.{Entity, Storage, groupsOf, groupAll, ungroup}
 use Rattle.model.specs.Sound.{In, key, layoutKinds}

@@ -2,15 +2,15 @@
 use mathlib.Core.Path.{_≡_, refl, ap, ap₂, sym, _∙_}
 use mathlib.Core.Bool.{Bool, true, false, cond}
 use mathlib.Core.List.{List, [], _∷_, _++_, append-assoc}
-use Prim.Native.Nat.{ℕ, zero, suc, _+_, _-_, _≤_, _<_}
+use Prim.Native.Nat.{ℕ, _+_, _-_}
 use native.Mathlib.Nat.{zero-add}
 use lib.Dec.{ltb}
-use lib.ListN.{length, getD}
+use lib.ListN.{length}
 use lib.Seq.{ext-getD}
-use Rattle.model.specs.Model.{Entity, SparseSet, Group, Family, Storage, Walked, Stepped, mem, meets, setOf, at, onKinds, swapTo, isGrouped, headKind, kindsOf, ungroupComponents, ungroupFamily, ungroup}
+use Rattle.model.specs.Model.{Entity, SparseSet, Group, Family, Storage, Walked, mem, meets, setOf, at, swapTo, isGrouped, headKind, kindsOf, ungroupComponents, ungroupFamily, ungroup}
 use Rattle.model.proofs.SparseSets.{cond-case, cond-same, setOf-mapOn}
 use Rattle.model.proofs.Groups.{In}
-use Rattle.model.proofs.Walk.{bool-cases, mem-append, in-left, in-right, or-false, Chain, Every, GroupRight}
+use Rattle.model.proofs.Walk.{bool-cases, mem-append, in-left, in-right, or-false, Chain, Every}
 use Rattle.model.proofs.Families.{Fams, Apart, allKinds, famKinds, or-false-right, not-both}
 use Rattle.model.proofs.Removal.{length-ungroupFamily, length-ungroupFamily-all}
 use Rattle.group.specs.Flat.{withCount}

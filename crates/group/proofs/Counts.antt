@@ -1,18 +1,17 @@
 -- A count is set: the other groups, and all but the count of this one, are as before. Where a group's family begins and ends. Assumes nothing.
 use mathlib.Core.Path.{_≡_, refl, ap, ap₂, sym, _∙_}
 use mathlib.Core.Bool.{Bool, true, false, cond}
-use mathlib.Core.List.{List, [], _∷_, _++_, map}
+use mathlib.Core.List.{List, [], _∷_, _++_}
 use Prim.Native.Nat.{ℕ, zero, suc, _+_, _-_, _≤_, _<_}
 use native.Mathlib.Omega.{arith}
-use native.Mathlib.Nat.{add-assoc, suc-add, le-of-suc-le-suc, not-suc-le-zero}
+use native.Mathlib.Nat.{suc-add, le-of-suc-le-suc, not-suc-le-zero}
 use native.Mathlib.Decide.{decLt, ℕ-discrete}
-use borrow.Author.Tests.{lt-ltb, le-ltb}
 use lib.Dec.{ltb}
-use lib.ListN.{length, getD, set, length-set, length-append, List·getD-append}
+use lib.ListN.{length, getD, set, length-set, List·getD-append}
 use lib.Seq.{getD-append-add, getD-set-same, getD-set-other, set-append-left}
-use Rattle.model.specs.Model.{Group, Family, kindsOf, groupsOf}
+use Rattle.model.specs.Model.{Family, kindsOf, groupsOf}
 use Rattle.model.proofs.Families.{famKinds}
-use Rattle.group.specs.Flat.{Located, nowhere, flattenFamily, flatten, located, withCount, setIn, setCount}
+use Rattle.group.specs.Flat.{Located, nowhere, flattenFamily, flatten, located, setIn, setCount}
 use Rattle.group.proofs.Fronts.{length-flattenFamily, length-flatten, set-here, set-later}
 
 -- ---- a list of two parts

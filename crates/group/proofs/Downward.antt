@@ -1,28 +1,27 @@
 -- The walk downward over positions, highest first, is the model's walk, and what its steps need holds. Assumes nothing.
-use mathlib.Core.Path.{_≡_, refl, ap, ap₂, sym, _∙_, subst}
+use mathlib.Core.Path.{_≡_, refl, ap, sym, _∙_, subst}
 use mathlib.Core.Bool.{Bool, true, false, cond, true≢false}
 use mathlib.Core.List.{List, [], _∷_, _++_, reverse, reverse-cons, reverse-append}
-use Prim.Native.Nat.{ℕ, zero, suc, _+_, _-_, _≤_, _<_}
+use Prim.Native.Nat.{ℕ, suc, _+_, _-_, _≤_, _<_}
 use native.Mathlib.Omega.{arith}
 use borrow.Author.Tests.{ltb-true}
-use lib.Dec.{ltb}
-use lib.ListN.{length, getD, length-map}
+use lib.ListN.{length, length-map}
 use Rattle.model.specs.Lists.{place-count-take, count-take-le}
-use Rattle.model.specs.Model.{Entity, SparseSet, Group, Family, Storage, Walked, Stepped, sameEntity, mem, any, meets, all, setOf, keys, entityOf, at, held, onKinds, swapTo, allHeld, isGrouped, headKind, kindsOf, ungroupComponents, ungroupFamily, ungroup}
+use Rattle.model.specs.Model.{Entity, SparseSet, Group, Family, Storage, Walked, Stepped, sameEntity, meets, setOf, keys, entityOf, at, held, onKinds, swapTo, allHeld, isGrouped, headKind, kindsOf, ungroupComponents, ungroupFamily, ungroup}
 use Rattle.model.proofs.SparseSets.{cond-case, key}
 use Rattle.model.proofs.Groups.{cnt, plc, In, Even, SameEntities}
-use Rattle.model.proofs.Walk.{bool-cases, in-right, in-left, Chain, Every, GroupRight, Missing, all-missing}
+use Rattle.model.proofs.Walk.{bool-cases, in-right, Chain, Every, Missing, all-missing}
 use Rattle.model.proofs.WalkDown.{Held, Down, ungroupFamily-good}
-use Rattle.model.proofs.Families.{Fams, Apart, allKinds, famKinds, chain-other}
+use Rattle.model.proofs.Families.{Fams, Apart, famKinds, chain-other}
 use Rattle.model.proofs.Invariant.{Fit}
 use Rattle.group.specs.declared.GroupStatus.{GroupStatus}
 use Rattle.group.specs.declared.GroupStatus.the-variants.{Incomplete, Ungrouped, Grouped}
-use Rattle.group.specs.Flat.{Located, nowhere, located, withCount, setCount, statusOf, statusAt, ungroupAt, stepDown, walkDown, deleteFamily, deleteFrom, deletePositions}
-use Rattle.group.specs.Ready.{Swappable, ReadyOut, ReadyDown}
-use Rattle.group.proofs.Fronts.{Front, whole, past, Hole, opened, next, Here, here, put-here}
-use Rattle.group.proofs.Upward.{At, status-here, grouped-here, ungrouped-here, incomplete-here, atHole, atFront}
+use Rattle.group.specs.Flat.{Located, located, withCount, setCount, statusAt, ungroupAt, stepDown, walkDown, deleteFamily, deleteFrom, deletePositions}
+use Rattle.group.specs.Ready.{ReadyOut, ReadyDown}
+use Rattle.group.proofs.Fronts.{Front, whole, past, Hole, opened, next, here, put-here}
+use Rattle.group.proofs.Upward.{grouped-here, ungrouped-here, incomplete-here, atHole, atFront}
 use Rattle.group.proofs.UpReady.{count-held}
-use Rattle.group.proofs.Commute.{HeadedAll, headed-all, ungroupBack, commutes, ungroup-other}
+use Rattle.group.proofs.Commute.{headed-all, ungroupBack, commutes, ungroup-other}
 
 -- ---- one step, and one list after another
 

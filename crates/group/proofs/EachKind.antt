@@ -1,17 +1,16 @@
 -- A change of the sparse sets of some kinds, made one kind after another. Assumes nothing.
-use mathlib.Core.Path.{_≡_, refl, ap, ap₂, sym, _∙_, subst}
-use mathlib.Core.Bool.{Bool, true, false, cond, _||_, true≢false}
+use mathlib.Core.Path.{_≡_, refl, ap, sym, _∙_}
+use mathlib.Core.Bool.{false, cond, _||_}
 use mathlib.Core.List.{List, [], _∷_, _++_}
-use Prim.Native.Nat.{ℕ, zero, suc, _+_, _≤_, _<_}
+use Prim.Native.Nat.{ℕ, _+_, _<_}
 use native.Mathlib.Omega.{arith}
 use native.Mathlib.Nat.{zero-add}
 use native.Mathlib.Decide.{ℕ-discrete}
 use borrow.Author.Tests.{eq-eqb, ne-eqb}
 use lib.Dec.{eqb}
-use lib.ListN.{length, getD, set, length-set}
+use lib.ListN.{length, set, length-set}
 use lib.Seq.{ext-getD, getD-set-same, getD-set-other}
-use Rattle.model.specs.Lists.{one, count}
-use Rattle.model.specs.Model.{SparseSet, mem, setOf, mapOn, onKinds}
+use Rattle.model.specs.Model.{SparseSet, mem, setOf, onKinds}
 use Rattle.model.specs.Sound.{In, Distinct}
 use Rattle.model.proofs.SparseSets.{setOf-mapOn}
 use Rattle.model.proofs.Walk.{or-true}

@@ -1,29 +1,28 @@
 -- The positions of several kinds are the union of each kind's, and each kind's are a run from its own group or its family's first. Assumes nothing.
 use mathlib.Core.Path.{_≡_, refl, ap, ap₂, sym, _∙_, subst}
-use mathlib.Core.Bool.{Bool, true, false, cond, _&&_, _||_, or-assoc, true≢false, false≢true}
+use mathlib.Core.Bool.{Bool, true, false, cond, _&&_, _||_, or-assoc, false≢true}
 use mathlib.Core.List.{List, [], _∷_, _++_, append-nil, append-assoc}
 use Prim.Native.Nat.{ℕ, zero, suc, _+_, _-_, _≤_, _<_}
 use native.Mathlib.Omega.{arith}
-use native.Mathlib.Nat.{le-of-suc-le-suc, not-suc-le-zero, add-zero, add-suc, suc-add}
+use native.Mathlib.Nat.{le-of-suc-le-suc, not-suc-le-zero}
 use native.Mathlib.Decide.{decLt}
-use borrow.Author.Tests.{eq-eqb, eqb-true}
 use lib.Dec.{eqb}
 use lib.ListN.{length, getD, List·getD-append}
 use lib.Seq.{getD-append-add}
-use Rattle.model.specs.Lists.{one, count, count-append}
-use Rattle.model.specs.Model.{Group, Family, mem, any, meets, headKind, kindsOf, groupsOf}
+use Rattle.model.specs.Lists.{count, count-append}
+use Rattle.model.specs.Model.{Family, mem, any, meets, headKind, kindsOf, groupsOf}
 use Rattle.model.specs.Sound.{In, Distinct, layoutKinds}
 use Rattle.model.proofs.Walk.{bool-cases, or-cases, or-true, or-false, mem-append, in-left, in-right}
 use Rattle.model.proofs.Families.{or-false-right}
 use Rattle.model.proofs.Invariant.{any-in}
 use Rattle.masks.specs.Masks.{upFrom, has, keep, unionOf}
 use Rattle.masks.proofs.Lists.{has-append, has-union, has-keep, has-up, up-split, between-high}
-use Rattle.group.specs.Flat.{Located, nowhere, flattenFamily, flatten, located, familyPositions, insertPositions, allPositions, deleteFamily, deleteFrom, deletePositions}
-use Rattle.group.proofs.Fronts.{length-flattenFamily, length-flatten}
+use Rattle.group.specs.Flat.{Located, nowhere, flattenFamily, flatten, located, familyPositions, insertPositions, deleteFamily, deleteFrom, deletePositions}
+use Rattle.group.proofs.Fronts.{length-flattenFamily}
 use Rattle.group.proofs.Counts.{Past, past-of, family-at}
-use Rattle.group.proofs.Upward.{From, from-le}
+use Rattle.group.proofs.Upward.{From}
 use Rattle.group.proofs.Commute.{Headed, HeadedAll}
-use Rattle.group.proofs.MaskWalk.{Ascending, has-from}
+use Rattle.group.proofs.MaskWalk.{Ascending}
 use Rattle.group.proofs.Positions.{none-has, ascending-eq, ascending-up, ascending-families, ascending-delete, families-below, delete-below}
 
 -- ---- the union of two masks' positions rises, and has the members of both

@@ -1,22 +1,21 @@
 -- A walk over the set bits of a group mask, lowest or highest first, is a walk over their positions. Assumes nothing.
-use mathlib.Core.Path.{_≡_, refl, ap, ap₂, sym, _∙_, subst}
-use mathlib.Core.Bool.{Bool, true, false, cond, not, _&&_, _||_}
-use mathlib.Core.List.{List, [], _∷_, _++_, reverse, reverse-append}
-use Prim.Native.Nat.{ℕ, zero, suc, _+_, _-_, _/_, _%_, _≤_, _<_}
+use mathlib.Core.Path.{_≡_, refl, ap, sym, _∙_, subst}
+use mathlib.Core.Bool.{true, not}
+use mathlib.Core.List.{List, [], _∷_, reverse, reverse-append}
+use Prim.Native.Nat.{ℕ, zero, suc, _-_, _/_, _%_, _≤_, _<_}
 use native.Mathlib.Omega.{arith}
 use native.Mathlib.Decide.{decLt}
-use borrow.Author.Tests.{lt-ltb, le-ltb, le-leb, lt-leb, leb-true, leb-false, eqb-true}
-use lib.Dec.{ltb, leb, eqb}
-use lib.ListN.{length}
-use Rattle.model.specs.Model.{Entity, SparseSet, Storage}
+use borrow.Author.Tests.{le-leb, lt-leb, leb-true, leb-false, eqb-true}
+use lib.Dec.{leb, eqb}
+use Rattle.model.specs.Model.{Entity, Storage}
 use Rattle.model.proofs.Walk.{bool-cases, or-cases}
-use Rattle.masks.specs.Masks.{putIf, positions, bitsOf, upFrom, has, keepIf, keep, between, commonOf, skipping}
+use Rattle.masks.specs.Masks.{putIf, positions, bitsOf, has, keep, between, commonOf, skipping}
 use Rattle.masks.specs.Walk.{LowStep, HighStep}
-use Rattle.masks.proofs.Lists.{has-here, has-later, keep-same, keep-all, skip-common, between-in, between-high}
+use Rattle.masks.proofs.Lists.{keep-same, keep-all, skip-common, between-in, between-high}
 use Rattle.masks.proofs.Bits.{bits-below}
 use Rattle.group.specs.declared.GroupStatus.{GroupStatus}
 use Rattle.group.specs.declared.GroupStatus.the-variants.{Incomplete, Ungrouped, Grouped}
-use Rattle.group.specs.Flat.{Located, located, statusAt, groupAt, ungroupAt, stepUp, skipAfter, walkUp, stepDown, walkDown}
+use Rattle.group.specs.Flat.{located, statusAt, groupAt, stepUp, skipAfter, walkUp, stepDown, walkDown}
 use Rattle.group.specs.Ready.{Swappable, ReadyIn, ReadyUp, ReadyOut, ReadyDown}
 use Rattle.group.proofs.Upward.{From, from-le, walk-pass, walk-on, walk-from}
 use Rattle.group.proofs.UpReady.{ready-pass, ready-on, ready-from}

@@ -1,28 +1,20 @@
 -- The positions of a walk: of one kind they are a run, of several kinds the union of theirs. Assumes nothing.
-use mathlib.Core.Path.{_≡_, refl, ap, ap₂, sym, _∙_, subst}
-use mathlib.Core.Bool.{Bool, true, false, cond, _&&_, _||_, true≢false, false≢true}
-use mathlib.Core.List.{List, [], _∷_, _++_, append-nil}
+use mathlib.Core.Path.{_≡_, refl, ap₂, sym, _∙_}
+use mathlib.Core.Bool.{Bool, true, false, true≢false, false≢true}
+use mathlib.Core.List.{List, [], _∷_, _++_}
 use Prim.Native.Nat.{ℕ, zero, suc, _+_, _-_, _≤_, _<_}
 use native.Mathlib.Omega.{arith}
-use native.Mathlib.Nat.{le-of-suc-le-suc, not-suc-le-zero, add-zero, add-suc, suc-add}
-use native.Mathlib.Decide.{decLt, ℕ-discrete}
-use borrow.Author.Tests.{eq-eqb, ne-eqb, eqb-true}
-use lib.Dec.{eqb, leb, ltb}
-use lib.ListN.{length, getD, List·getD-append}
-use lib.Seq.{getD-append-add}
-use Rattle.model.specs.Lists.{one, count, count-append}
-use Rattle.model.specs.Model.{Group, Family, mem, any, meets, headKind, kindsOf, groupsOf}
-use Rattle.model.specs.Sound.{In, Distinct, layoutKinds}
+use native.Mathlib.Decide.{ℕ-discrete}
+use borrow.Author.Tests.{ne-eqb, eqb-true}
+use lib.Dec.{eqb}
+use lib.ListN.{length}
+use Rattle.model.specs.Model.{Family, meets, groupsOf}
 use Rattle.model.proofs.SparseSets.{cond-case}
-use Rattle.model.proofs.Walk.{bool-cases, or-cases, or-true, or-false, mem-append, in-left, in-right}
-use Rattle.model.proofs.Invariant.{any-in}
-use Rattle.masks.specs.Masks.{upFrom, has, keep, keepIf, between, unionOf}
-use Rattle.masks.proofs.Lists.{has-append, has-here, has-keep, has-up, up-split, between-in, between-high, between-parts}
-use Rattle.group.specs.Flat.{Located, nowhere, flattenFamily, flatten, located, familyPositions, insertPositions, allPositions, deleteFamily, deleteFrom, deletePositions}
-use Rattle.group.proofs.Fronts.{length-flattenFamily, length-flatten}
-use Rattle.group.proofs.Counts.{Past, past-of, family-at}
+use Rattle.model.proofs.Walk.{bool-cases, or-cases, or-true}
+use Rattle.masks.specs.Masks.{upFrom, has}
+use Rattle.masks.proofs.Lists.{has-append, has-here, has-up, between-parts}
+use Rattle.group.specs.Flat.{familyPositions, deleteFamily, deleteFrom}
 use Rattle.group.proofs.Upward.{From, from-le, from-families}
-use Rattle.group.proofs.Commute.{Headed, HeadedAll}
 use Rattle.group.proofs.MaskWalk.{Ascending, has-from}
 
 -- ---- rising lists with the same members are the same

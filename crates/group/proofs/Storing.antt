@@ -15,7 +15,7 @@ use Rattle.memory.specs.Arranged.{Arranged, Becomes}
 pub becomes-same : (w : List ℕ) → Arranged w → Becomes w w (meaning w)
 becomes-same w A = record { arranged = A; means = refl; size = refl; past = refl }
 
-capacity-means : (w : List ℕ) → meaning w .capacity ≡ capacityOf w
+pub capacity-means : (w : List ℕ) → meaning w .capacity ≡ capacityOf w
 unfolding meaning
 capacity-means w = refl
 
@@ -42,3 +42,6 @@ storage-becomes w w′ m f h e B = subst (λ (s : Storage). Becomes w w′ (onSt
 pub sets-wide : (w : List ℕ) → length (meaning w .storage .sets) ≡ 128
 unfolding meaning setsIn
 sets-wide w = length-table 128 (setAt w)
+
+pub capacity-kept : (w₀ w : List ℕ) (f : Storage → Storage) → Becomes w₀ w (onStorage f (meaning w₀)) → capacityOf w ≡ capacityOf w₀
+capacity-kept w₀ w f B = sym (capacity-means w) ∙ ap (λ (m : Store). m .capacity) (B .means) ∙ capacity-means w₀

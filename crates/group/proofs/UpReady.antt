@@ -1,28 +1,26 @@
 -- What the steps of the walk upward need holds, for insertion and for each entity when a layout is applied. Assumes nothing.
-use mathlib.Core.Path.{_≡_, refl, ap, ap₂, sym, _∙_, subst}
-use mathlib.Core.Logic.{_⊎_, inl, inr}
-use mathlib.Core.Bool.{Bool, true, false, cond, false≢true}
+use mathlib.Core.Path.{_≡_, refl, ap, sym, _∙_, subst}
+use mathlib.Core.Bool.{Bool, true, false, false≢true}
 use mathlib.Core.List.{List, [], _∷_, _++_, map}
 use Prim.Native.Nat.{ℕ, zero, suc, _+_, _-_, _≤_, _<_}
 use native.Mathlib.Omega.{arith}
 use borrow.Author.Tests.{lt-ltb, le-ltb}
-use lib.Dec.{ltb}
-use lib.ListN.{length, getD, length-map}
+use lib.ListN.{length, length-map}
 use Rattle.model.specs.Lists.{count-place}
-use Rattle.model.specs.Model.{Entity, SparseSet, Group, Family, Component, Storage, Walked, Stepped, sameEntity, mem, meets, setOf, entityOf, at, held, onKinds, swapTo, all, allHeld, isGrouped, headKind, kindsOf, kindOf, groupsOf, insertAll, groupComponents, groupFamily, groupAll}
-use Rattle.model.proofs.SparseSets.{cond-case, key}
-use Rattle.model.proofs.Groups.{cnt, In, Even, SameEntities}
-use Rattle.model.proofs.Walk.{bool-cases, in-left, in-right, in-cases, all-in, held-count, GroupRight, Below, Chain, Every, But, Plus, Entered, groupComponents-good, chain-low, chain-weaken, Up, groupFamily-good}
+use Rattle.model.specs.Model.{Entity, SparseSet, Group, Family, Component, Storage, Walked, sameEntity, meets, setOf, entityOf, at, held, onKinds, swapTo, allHeld, isGrouped, headKind, kindsOf, kindOf, insertAll, groupFamily, groupAll}
+use Rattle.model.proofs.SparseSets.{key}
+use Rattle.model.proofs.Groups.{cnt, In}
+use Rattle.model.proofs.Walk.{bool-cases, in-left, in-right, in-cases, all-in, held-count, GroupRight, Chain, But, Plus, Entered, groupComponents-good, chain-low, Up, groupFamily-good}
 use Rattle.model.proofs.Families.{Fams, Apart, allKinds, famKinds, chain-other, Put, put-all, chain-put, Kinds, not-both}
 use Rattle.model.proofs.Regroup.{FreshAll, FamsFor, None, UpEvery, groupFamily-every-good, fams-fresh}
 use Rattle.model.proofs.Invariant.{Fit}
 use Rattle.masks.specs.Masks.{upFrom}
 use Rattle.group.specs.declared.GroupStatus.{GroupStatus}
 use Rattle.group.specs.declared.GroupStatus.the-variants.{Incomplete, Ungrouped, Grouped}
-use Rattle.group.specs.Flat.{Located, nowhere, located, withCount, setCount, statusOf, statusAt, groupAt, stepUp, skipAfter, walkUp, familyPositions, insertPositions, allPositions}
-use Rattle.group.specs.Ready.{Swappable, Either, ReadyIn, ReadyUp, ReadyEach}
-use Rattle.group.proofs.Fronts.{Front, whole, past, Hole, opened, next, Here, here, put-here}
-use Rattle.group.proofs.Upward.{From, from-le, from-families, At, Moved, top-here, incomplete-here, grouped-here, ungrouped-here, group-here, goes-on, stays, moves, stop, atHole, atFront, length-up}
+use Rattle.group.specs.Flat.{located, withCount, statusAt, groupAt, stepUp, skipAfter, familyPositions, insertPositions}
+use Rattle.group.specs.Ready.{Swappable, ReadyIn, ReadyUp, ReadyEach}
+use Rattle.group.proofs.Fronts.{Front, whole, past, Hole, opened, next, here}
+use Rattle.group.proofs.Upward.{From, from-le, from-families, top-here, incomplete-here, grouped-here, ungrouped-here, group-here, goes-on, stays, moves, stop, atHole, atFront, length-up}
 
 -- ---- one step
 

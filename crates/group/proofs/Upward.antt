@@ -1,20 +1,19 @@
 -- The walk upward over positions is the model's walk family by family. Assumes nothing.
-use mathlib.Core.Path.{_≡_, refl, ap, ap₂, sym, _∙_}
+use mathlib.Core.Path.{_≡_, refl, ap, sym, _∙_}
 use mathlib.Core.Bool.{Bool, true, false, cond}
 use mathlib.Core.List.{List, [], _∷_, _++_}
 use Prim.Native.Nat.{ℕ, zero, suc, _+_, _-_, _≤_, _<_}
 use native.Mathlib.Omega.{arith}
 use native.Mathlib.Numerals.{add-one}
 use borrow.Author.Tests.{lt-ltb, le-ltb}
-use lib.Dec.{ltb}
-use lib.ListN.{length, getD}
-use Rattle.model.specs.Model.{Entity, SparseSet, Group, Family, Storage, Walked, Stepped, meets, setOf, at, onKinds, swapTo, allHeld, isGrouped, headKind, kindsOf, groupsOf, groupComponents, groupFamily, groupTouched, groupAll}
+use lib.ListN.{length}
+use Rattle.model.specs.Model.{Entity, SparseSet, Group, Family, Storage, Walked, Stepped, meets, onKinds, swapTo, allHeld, isGrouped, kindsOf, groupComponents, groupFamily, groupTouched, groupAll}
 use Rattle.model.proofs.SparseSets.{cond-case}
 use Rattle.model.proofs.Walk.{bool-cases}
 use Rattle.masks.specs.Masks.{upFrom}
 use Rattle.group.specs.declared.GroupStatus.{GroupStatus}
 use Rattle.group.specs.declared.GroupStatus.the-variants.{Incomplete, Ungrouped, Grouped}
-use Rattle.group.specs.Flat.{Located, nowhere, located, withCount, setCount, statusOf, statusAt, groupAt, stepUp, skipAfter, walkUp, familyPositions, insertPositions, allPositions}
+use Rattle.group.specs.Flat.{Located, located, withCount, setCount, statusOf, statusAt, groupAt, stepUp, skipAfter, walkUp, familyPositions, insertPositions, allPositions}
 use Rattle.group.proofs.Fronts.{Front, whole, past, Hole, opened, next, Here, here, put-here}
 
 -- ---- one step of the walk

@@ -48,7 +48,7 @@ pub struct GroupMetadata {
 }
 
 // Where number f starts, of the ends that stand from `ends` on: where the one before ends.
-fn start_of(words: &[u32], ends: usize, f: usize) -> usize
+pub fn start_of(words: &[u32], ends: usize, f: usize) -> usize
     requires { ⌜ ends + f ≤ length (now words) ⌝ }
     ensures { λ r. ⌜ r ≡ startOf (drop ends (now (words .entry))) f ⌝ }
 {

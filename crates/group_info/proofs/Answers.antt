@@ -1,25 +1,22 @@
 -- The range of a query is the model's, by the cases of its two infos; and none where the kinds are scattered. Assumes nothing.
-use mathlib.Core.Path.{_≡_, refl, sym, ap, ap₂, _∙_, subst}
-use mathlib.Core.Bool.{Bool, true, false, cond, _&&_, _||_, true≢false, false≢true}
+use mathlib.Core.Path.{_≡_, refl, sym, ap, _∙_, subst}
+use mathlib.Core.Bool.{Bool, true, false, _&&_, true≢false}
 use mathlib.Core.List.{List, [], _∷_, _++_}
-use Prim.Native.Nat.{ℕ, zero, suc, _+_, _-_, _≤_, _<_}
+use Prim.Native.Nat.{ℕ, _+_, _-_, _≤_}
 use native.Mathlib.Omega.{arith}
 use borrow.Author.Tests.{eq-eqb, ne-eqb}
 use lib.Dec.{eqb}
 use lib.ListN.{length, length-append}
-use Rattle.model.specs.Model.{Family, Storage, Range, none, found, mem, all, within, setOf, headKind, rangeAll, single, range}
+use Rattle.model.specs.Model.{Storage, none, found, mem, within, setOf, rangeAll, single, range}
 use Rattle.model.proofs.Walk.{bool-cases, or-true}
 use Rattle.layout.specs.Layout.{Arrays, Sized, kindsAt, familiesOf, WellFormed}
 use Rattle.group_info.specs.Info.{infoOf, ExcludedSays, IncludedSays, RangeBy}
-use Rattle.group_info.specs.Describes.{InFamily, GroupedKinds, Ungrouped, InfoOfKind, ViewOf, OneKind, ManyKinds, Describes, Scattered, rangeOf, RangeQuery, RangeSays}
-use Rattle.group_info.specs.declared.GroupInfo.{GroupInfo}
+use Rattle.group_info.specs.Describes.{GroupedKinds, InfoOfKind, Describes, Scattered, rangeOf, RangeSays}
 use Rattle.group_info.specs.declared.FoundInfo.{FoundInfo}
 use Rattle.group_info.specs.declared.FoundInfo.the-variants as info
-use Rattle.group_info.specs.declared.ViewGroupInfo.{ViewGroupInfo}
 use Rattle.group_info.specs.declared.QueryGroupInfo.{QueryGroupInfo}
 use Rattle.group_info.specs.declared.QueryGroupInfo.the-variants as query
 use Rattle.group_info.specs.declared.GroupRange.{GroupRange}
-use Rattle.group_info.specs.declared.GroupRange.the-variants as ranged
 use Rattle.group_info.proofs.Ranges.{none-staged, none-excluded, none-empty, include-range, exclude-range}
 
 -- ---- where RANGE goes by the groups

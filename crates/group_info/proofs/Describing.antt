@@ -1,9 +1,9 @@
 -- What the infos describe: of one kind, of two together, of a query with one kind more; and that their groups stand in the arrays. Assumes nothing.
 use mathlib.Core.Path.{_≡_, refl, sym, ap, ap₂, _∙_, subst}
 use mathlib.Core.Logic.{_≢_}
-use mathlib.Core.Bool.{Bool, true, false, cond, _&&_, _||_, true≢false, false≢true}
+use mathlib.Core.Bool.{Bool, true, false, _&&_, _||_, true≢false}
 use mathlib.Core.List.{List, [], _∷_, _++_}
-use Prim.Native.Nat.{ℕ, zero, suc, _+_, _-_, _≤_, _<_, max}
+use Prim.Native.Nat.{ℕ, _+_, _-_, _≤_, _<_}
 use native.Mathlib.Nat.{sub-zero}
 use native.Mathlib.Decide.{decLt, decLe}
 use native.Mathlib.Omega.{arith}
@@ -12,16 +12,15 @@ use lib.Dec.{eqb, ltb}
 use lib.ListN.{length, getD, take, length-append}
 use Rattle.model.specs.Model.{Storage, mem, within}
 use Rattle.model.proofs.Walk.{bool-cases, mem-append, or-cases, or-true}
-use Rattle.words.specs.Part.{between}
 use Rattle.words.specs.Table.{by-eq}
-use Rattle.masks.specs.Masks.{has, bitsOf, unionOf}
+use Rattle.masks.specs.Masks.{has, bitsOf}
 use Rattle.masks.proofs.Lists.{has-union}
-use Rattle.layout.specs.Layout.{Arrays, Sized, startOf, groupCount, kindsAt, aritiesAt, KindSet, Rising, WellFormed}
-use Rattle.layout.proofs.KindSets.{mem-all, all-mem}
-use Rattle.layout.proofs.Family.{rising-at, rising-above, rising-less}
+use Rattle.layout.specs.Layout.{Arrays, Sized, startOf, kindsAt, aritiesAt, KindSet, WellFormed}
+use Rattle.layout.proofs.KindSets.{all-mem}
+use Rattle.layout.proofs.Family.{rising-at, rising-less}
 use Rattle.layout.proofs.Arrays.{groups-inside, family-kinds, family-rising, kinds-length, arities-length}
 use Rattle.group_info.specs.Info.{placesOf, infoOf, KindInfo, Joined, Both, BothAdded, ViewAdded, Inside, InsideFound}
-use Rattle.group_info.specs.Describes.{Placed, InFamily, GroupedKinds, Ungrouped, InfoOfKind, ViewOf, OneKind, ManyKinds, Describes, Scattered}
+use Rattle.group_info.specs.Describes.{Placed, InFamily, GroupedKinds, Ungrouped, InfoOfKind, ViewOf, Describes, Scattered}
 use Rattle.group_info.specs.declared.GroupInfo.{GroupInfo}
 use Rattle.group_info.specs.declared.FoundInfo.{FoundInfo}
 use Rattle.group_info.specs.declared.FoundInfo.the-variants as info

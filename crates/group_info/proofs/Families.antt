@@ -1,26 +1,25 @@
 -- RANGE over the families that the arrays list. Assumes nothing.
-use mathlib.Core.Path.{_≡_, refl, sym, ap, ap₂, _∙_, subst}
+use mathlib.Core.Path.{_≡_, refl, sym, ap, ap₂, _∙_}
 use mathlib.Core.Logic.{_≢_}
-use mathlib.Core.Bool.{Bool, true, false, cond, _&&_, _||_, true≢false, false≢true}
+use mathlib.Core.Bool.{Bool, true, false, cond, _||_, true≢false}
 use mathlib.Core.List.{List, [], _∷_, _++_, append-assoc}
 use Prim.Native.Nat.{ℕ, zero, suc, _+_, _-_, _≤_, _<_}
 use native.Mathlib.Nat.{add-zero, add-suc, suc-add, sub-zero}
-use native.Mathlib.Decide.{decLt, decLe}
+use native.Mathlib.Decide.{decLt}
 use native.Mathlib.Omega.{arith}
 use lib.Dec.{eqb}
 use lib.ListN.{length, getD, take, drop, drop-of-length-le}
-use lib.Seq.{drop-cons, drop-length, take-take}
+use lib.Seq.{drop-cons}
 use Rattle.model.specs.Lists.{count, count-append}
-use Rattle.model.specs.Model.{Group, Family, Range, none, found, mem, all, within, sameSet, kindsOf, orElse, rangeAt, rangeIn, rangeAll}
-use Rattle.model.proofs.Walk.{bool-cases, mem-append, in-left, in-right}
-use Rattle.words.specs.Part.{between, length-between}
-use Rattle.words.specs.Table.{by-eq}
-use Rattle.layout.specs.Layout.{Arrays, Sized, startOf, widthOf, kindsAt, aritiesAt, groupsFrom, familyAt, familiesOf, KindSet, Rising, WellFormed}
-use Rattle.layout.proofs.KindSets.{mem-count, none-count, count-mem, all-mem, mem-all}
-use Rattle.layout.proofs.Family.{between-join, between-drop, rising-le, kinds-from}
-use Rattle.layout.proofs.Arrays.{kind-order, kinds-inside, end-inside, ends-rise, families-length, families-at, family-kindsOf, family-kinds, kinds-length}
+use Rattle.model.specs.Model.{Family, Range, none, found, mem, within, sameSet, kindsOf, orElse, rangeAt, rangeIn, rangeAll}
+use Rattle.model.proofs.Walk.{bool-cases, mem-append, in-left}
+use Rattle.words.specs.Part.{between}
+use Rattle.layout.specs.Layout.{Arrays, startOf, widthOf, kindsAt, groupsFrom, KindSet, Rising, WellFormed}
+use Rattle.layout.proofs.KindSets.{mem-count, all-mem}
+use Rattle.layout.proofs.Family.{between-join, rising-le}
+use Rattle.layout.proofs.Arrays.{kind-order, kinds-inside, ends-rise}
 use Rattle.masks.proofs.Lists.{and-parts}
-use Rattle.group_info.proofs.Places.{at-mem, part-mem, placeOf, place-at, mem-part}
+use Rattle.group_info.proofs.Places.{part-mem, place-at, mem-part}
 
 -- ---- sets
 

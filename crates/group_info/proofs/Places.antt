@@ -1,14 +1,14 @@
 -- Places of kinds in a list that has each once: a mask of places is a run of positions exactly where the kinds are that part. Assumes nothing.
-use mathlib.Core.Path.{_≡_, refl, sym, ap, ap₂, _∙_, subst}
-use mathlib.Core.Bool.{Bool, true, false, _&&_, _||_, true≢false, false≢true}
-use mathlib.Core.List.{List, [], _∷_, _++_}
+use mathlib.Core.Path.{_≡_, refl, sym, ap, _∙_}
+use mathlib.Core.Bool.{true, false, _&&_}
+use mathlib.Core.List.{List, [], _∷_}
 use Prim.Native.Nat.{ℕ, zero, suc, _+_, _-_, _≤_, _<_}
 use native.Mathlib.Decide.{decLt, decLe}
 use native.Mathlib.Omega.{arith}
-use borrow.Author.Tests.{eq-eqb, ne-eqb, eqb-true, lt-ltb, le-ltb, ltb-true}
+use borrow.Author.Tests.{eq-eqb, eqb-true, lt-ltb, le-ltb}
 use lib.Dec.{eqb, ltb}
-use lib.ListN.{length, getD, take}
-use Rattle.model.specs.Lists.{one, after, count, place, count-place, getD-place}
+use lib.ListN.{length, getD}
+use Rattle.model.specs.Lists.{one, count, place, count-place, getD-place}
 use Rattle.model.specs.Model.{mem, within, sameSet}
 use Rattle.model.proofs.Walk.{bool-cases}
 use Rattle.words.specs.Part.{between, getD-between, length-between}

@@ -1,37 +1,30 @@
 -- What a query's infos say of a range is what the model's RANGE says of the kinds. Assumes nothing.
 use mathlib.Core.Path.{_≡_, refl, sym, ap, ap₂, _∙_, subst}
 use mathlib.Core.Logic.{_≢_}
-use mathlib.Core.Bool.{Bool, true, false, cond, _&&_, _||_, true≢false, false≢true}
-use mathlib.Core.List.{List, [], _∷_, _++_}
+use mathlib.Core.Bool.{Bool, true, false, cond, true≢false}
+use mathlib.Core.List.{List, [], _∷_}
 use Prim.Native.Nat.{ℕ, zero, suc, _+_, _-_, _≤_, _<_, max}
 use native.Mathlib.Nat.{sub-zero}
-use native.Mathlib.Decide.{decLt, decLe}
+use native.Mathlib.Decide.{decLt}
 use native.Mathlib.Omega.{arith}
-use borrow.Author.Tests.{ne-eqb}
-use lib.Dec.{eqb, ltb}
 use lib.ListN.{length, getD, take, drop, take-append-drop}
-use Rattle.model.specs.Model.{Family, Storage, Range, none, found, mem, within, sameSet, kindsOf, setOf, headKind, rangeAt, rangeIn, rangeAll, single, range}
+use Rattle.model.specs.Model.{Family, none, found, mem, within, sameSet, kindsOf, rangeAt, rangeIn, rangeAll}
 use Rattle.model.proofs.Walk.{bool-cases, in-left}
 use Rattle.words.specs.Part.{between, getD-between}
 use Rattle.words.specs.Table.{by-eq}
-use Rattle.masks.specs.Masks.{upFrom, bitsOf}
+use Rattle.masks.specs.Masks.{upFrom}
 use Rattle.masks.proofs.Lists.{and-parts}
-use Rattle.layout.specs.Layout.{Arrays, Sized, startOf, groupCount, kindsAt, aritiesAt, groupsFrom, familyAt, familiesOf, KindSet, Rising, WellFormed}
-use Rattle.layout.proofs.KindSets.{all-mem, mem-all}
+use Rattle.layout.specs.Layout.{Arrays, Sized, startOf, kindsAt, aritiesAt, groupsFrom, familiesOf, KindSet, Rising, WellFormed}
+use Rattle.layout.proofs.KindSets.{all-mem}
 use Rattle.layout.proofs.Family.{rising-at, rising-above, rising-less}
-use Rattle.layout.proofs.Arrays.{group-order, groups-inside, ends-rise, families-length, families-at, family-kindsOf, family-kinds, family-rising, kinds-length, arities-length}
-use Rattle.group_info.specs.Info.{placesOf, infoOf, IncludeSays, WholeGroup, topOf, Ring, RingRange, ExcludeSays, ExcludedSays, IncludedSays, RangeBy}
-use Rattle.group_info.specs.Describes.{InFamily, GroupedKinds, Ungrouped, InfoOfKind, ViewOf, OneKind, ManyKinds, Describes, Scattered, rangeOf, RangeQuery, RangeSays}
+use Rattle.layout.proofs.Arrays.{group-order, ends-rise, families-length, families-at, family-kindsOf, family-kinds, family-rising, kinds-length, arities-length}
+use Rattle.group_info.specs.Info.{placesOf, IncludeSays, topOf, Ring, RingRange, ExcludeSays}
+use Rattle.group_info.specs.Describes.{InFamily, rangeOf}
 use Rattle.group_info.specs.declared.GroupInfo.{GroupInfo}
-use Rattle.group_info.specs.declared.FoundInfo.{FoundInfo}
-use Rattle.group_info.specs.declared.FoundInfo.the-variants as info
-use Rattle.group_info.specs.declared.ViewGroupInfo.{ViewGroupInfo}
-use Rattle.group_info.specs.declared.QueryGroupInfo.{QueryGroupInfo}
-use Rattle.group_info.specs.declared.QueryGroupInfo.the-variants as query
 use Rattle.group_info.specs.declared.GroupRange.{GroupRange}
 use Rattle.group_info.specs.declared.GroupRange.the-variants as ranged
-use Rattle.group_info.proofs.Places.{placeOf, place-at, part-mem, mem-part, places-of-part, part-of-places}
-use Rattle.group_info.proofs.Families.{differ-left, lacks-staged, lacks-excluded, all-none, only-one, elsewhere, start-zero, next-kind, mem-take-le, not-in-take, at-group, empty-none, next-ring, no-next}
+use Rattle.group_info.proofs.Places.{placeOf, part-mem, mem-part, places-of-part, part-of-places}
+use Rattle.group_info.proofs.Families.{lacks-staged, lacks-excluded, all-none, only-one, elsewhere, start-zero, next-kind, mem-take-le, not-in-take, at-group, empty-none, next-ring, no-next}
 
 not-true : (b : Bool) → (b ≡ true → ⊥) → b ≡ false
 not-true b f = bool-cases b (λ t. absurd (f t)) (λ t. t)

@@ -1,6 +1,6 @@
 -- What a query info says of a list of kinds, over a well-formed layout, and that the range found is the model's RANGE. Assumes nothing.
 use mathlib.Core.Path.{_≡_}
-use mathlib.Core.Bool.{Bool, true, false, _&&_}
+use mathlib.Core.Bool.{true, false, _&&_}
 use mathlib.Core.List.{List, [], _∷_}
 use Prim.Native.Nat.{ℕ, _+_, _≤_, _<_}
 use lib.Dec.{ltb}
@@ -16,7 +16,7 @@ use Rattle.group_info.specs.declared.QueryGroupInfo.{QueryGroupInfo}
 use Rattle.group_info.specs.declared.QueryGroupInfo.the-variants as query
 use Rattle.group_info.specs.declared.GroupRange.{GroupRange}
 use Rattle.group_info.specs.declared.GroupRange.the-variants as ranged
-use Rattle.group_info.specs.Info.{placesOf, RangeBy}
+use Rattle.group_info.specs.Info.{placesOf}
 
 -- kind k is at a place of family f, among the new kinds of the family's group number own
 pub record Placed (a : Arrays) (k f own place : ℕ) : Type 0 where

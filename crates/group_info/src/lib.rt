@@ -1,6 +1,6 @@
 // Grouping information of the kinds of a query (group_info.rs), and the range that a query gets (ComponentStorage::group_range).
 ghost use mathlib.Core.Path.{_≡_};
-ghost use Prim.Native.Nat.{_+_, _≤_, _<_, max};
+ghost use Prim.Native.Nat.{_+_, _<_, max};
 ghost use Rattle.group_info.specs.Info.{KindInfo, JoinedBy, infoOf, BothAdded, ViewAdded, Inside, InsideFound, Tables, IncludeSays, ExcludeSays, ExcludedSays, IncludedSays};
 ghost use Rattle.group_info.specs.Describes.{RangeSays};
 use masks::group_mask::QueryMask;

@@ -1,19 +1,17 @@
 -- The first rows of two columns, word by word and entity by entity; numbers before a number. Assumes nothing.
 use mathlib.Core.Path.{_≡_, refl, sym, ap, ap₂, _∙_}
 use mathlib.Core.Logic.{_≢_}
-use mathlib.Core.Bool.{Bool, true, false, cond}
+use mathlib.Core.Bool.{Bool, true, false}
 use mathlib.Core.List.{List}
 use Prim.Native.Nat.{ℕ, zero, suc, _+_, _*_, _-_, _/_, _%_, _≤_, _<_}
-use native.Mathlib.Nat.{div-add-mod'}
-use native.Mathlib.Decide.{ℕ-discrete}
 use native.Mathlib.Omega.{arith}
 use borrow.Author.Tests.{lt-ltb, le-ltb, eqb-true, eq-eqb}
-use lib.Dec.{ltb}
 use lib.ListN.{length, getD}
 use Rattle.model.specs.Model.{Entity}
 use Rattle.words.specs.Offsets.{columnStart}
 use Rattle.words.specs.Table.{by-eq}
-use Rattle.component.specs.Decides.{Decides, Each}
+use Rattle.words.specs.Decides.{Decides}
+use Rattle.component.specs.Checks.{Each}
 use Rattle.columns.specs.Columns.{rowsOf, Lent}
 use Rattle.clauses.specs.Rows.{entityIn}
 use Rattle.memory.specs.Header.{slotOf, countAt}

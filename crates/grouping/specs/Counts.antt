@@ -3,10 +3,10 @@
 use mathlib.Core.Path.{_≡_}
 use mathlib.Core.Bool.{true}
 use mathlib.Core.List.{List}
-use Prim.Native.Nat.{ℕ, _+_, _*_, _≤_, _<_}
+use Prim.Native.Nat.{ℕ, _+_, _≤_}
 use lib.ListN.{length, getD}
-use Rattle.model.specs.Model.{Entity, SparseSet, noEntity, keys, held}
-use Rattle.component.specs.Decides.{Each}
+use Rattle.model.specs.Model.{Entity, SparseSet, held}
+use Rattle.component.specs.Checks.{Each}
 use Rattle.columns.specs.Columns.{rowsOf}
 use Rattle.memory.specs.Header.{slotOf, groupFamilyAt, countAt}
 use Rattle.clauses.specs.Slots.{Over}

@@ -7,8 +7,6 @@ use lib.Dec.{ltb, eqb}
 use lib.ListN.{length, getD}
 use Rattle.model.specs.Model.{mem}
 use Rattle.model.specs.Sound.{In}
-use Rattle.words.specs.Part.{between}
-use Rattle.component.specs.Decides.{Each}
 use Rattle.columns.specs.Columns.{Lent}
 use Rattle.memory.specs.Header.{slotOf, groupFamilyAt}
 use Rattle.clauses.specs.Slots.{headAt, Over}

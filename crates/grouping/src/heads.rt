@@ -1,10 +1,10 @@
 // The layout in force and the columns' heads: which group is a kind's own, and the kind's place in its family.
 use clauses::table::head;
-ghost use mathlib.Core.Path.{_≡_};
 ghost use Prim.Native.Nat.{ℕ, _+_, _<_, _≤_};
 ghost use lib.ListN.{length, getD};
 ghost use Rattle.words.specs.Part.{between};
-ghost use Rattle.component.specs.Decides.{Decides, Each};
+ghost use Rattle.words.specs.Decides.{Decides};
+ghost use Rattle.component.specs.Checks.{Each};
 ghost use Rattle.clauses.specs.Slots.{Slot, Room, headAt, Over};
 ghost use Rattle.grouping.specs.Spans.{ReadStart, ReadPrior, ReadSpan, KindAt, KindsAt, Force, HeadOk, NewOk, GroupOf, HeadsOk, OwnOk, Marked, SeenOk};
 

@@ -73,7 +73,7 @@ prior-is a f zero = rw (le-ltb (startOf (a .ends) f) 0 (omega arith))
 prior-is a f (suc g) = let e : suc g - 1 ≡ g = omega arith in rw e
 
 -- the arity before that of the family's group i
-prior-at : (a : Arrays) (f i : ℕ) → startOf (a .ends) f + i < getD (a .ends) f 0 → priorArity a f (startOf (a .ends) f + i) ≡ getD (0 ∷ aritiesAt a f) i 0
+pub prior-at : (a : Arrays) (f i : ℕ) → startOf (a .ends) f + i < getD (a .ends) f 0 → priorArity a f (startOf (a .ends) f + i) ≡ getD (0 ∷ aritiesAt a f) i 0
 prior-at a f zero h = prior-is a f (startOf (a .ends) f + 0) ∙ rw (le-ltb (startOf (a .ends) f) (startOf (a .ends) f + 0) (omega arith))
 prior-at a f (suc i) h =
     let s = startOf (a .ends) f in

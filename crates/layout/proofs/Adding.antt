@@ -1,28 +1,37 @@
 -- A group added to a well-formed layout: as a family of its own, or onto the one family that it holds. Assumes nothing.
 use mathlib.Core.Path.{_≡_, refl, sym, ap, ap₂, _∙_, subst}
 use mathlib.Core.Logic.{_≢_}
-use mathlib.Core.Bool.{Bool, true, false, _&&_, true≢false}
+use mathlib.Core.Bool.{true, false, true≢false}
 use mathlib.Core.List.{List, [], _∷_, _++_}
 use Prim.Native.Nat.{ℕ, zero, suc, _+_, _-_, _≤_, _<_}
 use native.Mathlib.Nat.{sub-self}
-use native.Mathlib.Numerals.{add-one}
 use native.Mathlib.Omega.{arith}
 use borrow.Author.Tests.{eq-eqb}
 use lib.Dec.{eqb}
 use lib.ListN.{length, getD, take, drop, set}
 use lib.Seq.{getD-set-same, getD-set-other}
 use Rattle.model.specs.Lists.{count, count-append}
-use Rattle.model.specs.Model.{Family, newGroup, grown, mem, meets, within, without, sameSet, kindsOf}
+use Rattle.model.specs.Model.{Family, newGroup, grown, mem, meets, within, without, sameSet, kindsOf, groupsOf}
 use Rattle.model.proofs.Walk.{bool-cases}
 use Rattle.words.specs.Part.{between}
 use Rattle.words.specs.Table.{table, table-snoc, table-set, by-eq}
-use Rattle.layout.specs.Layout.{Arrays, arraysOf, Sized, startOf, widthOf, groupCount, kindsAt, aritiesAt, groupsFrom, familyAt, familiesOf, meaning, KindSet, Rising, FamilyFormed, WellFormed, Formed}
-use Rattle.layout.specs.Grow.{LooseAt, widened, Extends, Extended, openedOf, GroupKinds, Unknown, FreshAsk, FreshDone, OntoAsk, OntoDone}
+use Rattle.layout.specs.Layout.{Arrays, arraysOf, Sized, startOf, widthOf, groupCount, kindsAt, aritiesAt, groupsFrom, familyAt, meaning, KindSet, FamilyFormed, WellFormed, Formed}
+use Rattle.layout.specs.Grow.{LooseAt, widened, Extends, Extended, openedOf, GroupKinds, FreshAsk, FreshDone, OntoAsk, OntoDone}
+use Rattle.layout.specs.Add.{Fitting}
+use Rattle.layout.specs.declared.group_layout.Fit.{Fit}
 use Rattle.layout.specs.declared.group_layout.Layout.{Layout}
-use Rattle.layout.proofs.KindSets.{sum-once, mem-count, count-mem, none-count, unmet, shorter, within-counts, same-set, without-held, without-le, without-length}
+use Rattle.layout.proofs.KindSets.{sum-once, none-count, unmet, shorter, within-counts, same-set, without-held, without-le, without-length}
 use Rattle.layout.proofs.Family.{between-join, rising-snoc, rising-alone, from-snoc, from-alone, no-counts, start-next}
-use Rattle.layout.proofs.Fits.{IsFresh, IsOnto, Target, target, extend, not-all, untouched-at}
+use Rattle.layout.proofs.Fits.{IsFresh, IsOnto, Target, target, not-all, untouched-at}
 use Rattle.layout.proofs.Arrays
+
+-- staged kinds that fit, and room for a group
+pub group-kinds : (l : Layout) (hs : List ℕ) (x : Fit) → Fitting l hs x → l .groups < 63 → GroupKinds l hs
+group-kinds l hs x p g = record { formed = p .formed; room = omega (arith, g); staged = p .kinds; least = p .least; most = omega (arith, p .most) }
+
+-- as many groups as the model counts
+pub counted-groups : (l : Layout) → Formed l → Sized (arraysOf l) → groupsOf (meaning l) ≡ l .groups
+counted-groups l F z = Arrays.groups-of [] (arraysOf l) (F .good) z ∙ sym (F .groups)
 
 -- ---- a family of its own
 

@@ -1,6 +1,5 @@
 -- The arrays of a well-formed layout: where families stand, and that their meaning is theirs. Assumes nothing.
-use mathlib.Core.Path.{_≡_, refl, sym, ap, ap₂, _∙_, subst}
-use mathlib.Core.Logic.{_≢_}
+use mathlib.Core.Path.{_≡_, refl, sym, ap, _∙_, subst}
 use mathlib.Core.List.{List, [], _∷_, _++_}
 use Prim.Native.Nat.{ℕ, zero, suc, _+_, _-_, _≤_, _<_}
 use native.Mathlib.Numerals.{add-one}
@@ -12,12 +11,12 @@ use Rattle.model.specs.Lists.{count, count-append}
 use Rattle.model.specs.Model.{Family, kindsOf, groupsOf}
 use Rattle.words.specs.Part.{between, length-between, between-front}
 use Rattle.words.specs.Table.{table, length-table, getD-table, table-snoc, by-eq}
-use Rattle.layout.specs.Layout.{Arrays, Sized, startOf, widthOf, groupCount, kindsAt, aritiesAt, groupsFrom, familyAt, familiesOf, KindSet, Rising, FamilyFormed, WellFormed}
+use Rattle.layout.specs.Layout.{Arrays, Sized, startOf, widthOf, groupCount, kindsAt, aritiesAt, groupsFrom, familyAt, familiesOf, KindSet, Rising, WellFormed}
 use Rattle.layout.specs.Fit.{partOf, joinFit, fitFrom, FamilyAsk}
 use Rattle.layout.specs.declared.group_layout.Fit.{Fit}
 use Rattle.layout.proofs.Scan.{drop-step}
 use Rattle.layout.proofs.KindSets.{set-between}
-use Rattle.layout.proofs.Family.{between-join, rising-zero, kinds-from, start-next, no-counts}
+use Rattle.layout.proofs.Family.{between-join, rising-zero, kinds-from, no-counts}
 
 -- ---- ends that rise
 

@@ -1,14 +1,13 @@
 -- A family that gets more kinds and a group: every other family keeps its meaning, and the layout stays well formed. Assumes nothing.
-use mathlib.Core.Path.{_≡_, refl, sym, ap, ap₂, _∙_, subst}
+use mathlib.Core.Path.{_≡_, refl, sym, ap, ap₂, _∙_}
 use mathlib.Core.Logic.{_≢_}
 use mathlib.Core.List.{List, [], _∷_, _++_, append-assoc}
 use Prim.Native.Nat.{ℕ, zero, suc, _+_, _-_, _≤_, _<_}
 use native.Mathlib.Nat.{sub-zero, suc-sub-suc}
 use native.Mathlib.Decide.{decLt}
 use native.Mathlib.Omega.{arith}
-use lib.ListN.{length, getD, take, drop, length-append, length-drop}
+use lib.ListN.{length, getD, take, drop, length-append}
 use lib.Seq.{take-nil, take-take, take-at, drop-drop, drop-append-le, drop-append-add, length-take-le}
-use Rattle.model.specs.Model.{Family}
 use Rattle.words.specs.Part.{between, between-front, length-between}
 use Rattle.words.specs.Table.{by-eq}
 use Rattle.layout.specs.Layout.{Arrays, Sized, arraysIn, startOf, widthOf, groupCount, kindsAt, aritiesAt, groupsFrom, familyAt, KindSet, Rising, FamilyFormed, WellFormed}

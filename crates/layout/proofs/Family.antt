@@ -1,14 +1,14 @@
 -- One family as the arrays have it: its groups from its kinds and arities. Assumes nothing.
-use mathlib.Core.Path.{_≡_, refl, sym, ap, ap₂, _∙_, subst}
-use mathlib.Core.Bool.{Bool, true, false, _||_}
+use mathlib.Core.Path.{_≡_, refl, sym, ap, ap₂, _∙_}
+use mathlib.Core.Bool.{false, _||_}
 use mathlib.Core.List.{List, [], _∷_, _++_}
 use Prim.Native.Nat.{ℕ, zero, suc, _+_, _-_, _≤_, _<_}
 use native.Mathlib.Nat.{sub-zero}
 use native.Mathlib.Numerals.{add-one}
 use native.Mathlib.Omega.{arith}
-use lib.ListN.{length, getD, take, drop, take-append-drop, length-append}
-use lib.Seq.{take-add, take-all, drop-drop, drop-length, take-append-le, drop-append-seam, take-length}
-use Rattle.model.specs.Model.{Group, Family, kindsOf, isGroup, sameSet, newGroup}
+use lib.ListN.{length, getD, take, drop, take-append-drop}
+use lib.Seq.{take-add, drop-drop, drop-length, take-append-le, drop-append-seam, take-length}
+use Rattle.model.specs.Model.{Family, kindsOf, isGroup, sameSet, newGroup}
 use Rattle.words.specs.Part.{between, between-front}
 use Rattle.layout.specs.Layout.{startOf, groupsFrom, Rising}
 use Rattle.layout.proofs.Scan.{drop-step}

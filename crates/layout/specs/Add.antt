@@ -1,9 +1,13 @@
 -- What adding a group answers, in document 01's numbers and in the model's terms. Assumes nothing.
 use mathlib.Core.Path.{_≡_}
-use mathlib.Core.List.{List, [], _∷_}
-use Prim.Native.Nat.{ℕ}
+use mathlib.Core.List.{List}
+use Prim.Native.Nat.{ℕ, _≤_, _<_}
+use lib.ListN.{length}
 use Rattle.model.specs.Model.{Family, Added, nothing, added, refused, addGroup}
-use Rattle.layout.specs.Layout.{Formed, meaning}
+use Rattle.layout.specs.Layout.{Formed, KindSet, meaning}
+use Rattle.layout.specs.Fit.{fitFrom}
+use Rattle.layout.specs.declared.group_layout.Fit.{Fit}
+use Rattle.layout.specs.declared.group_layout.Fit.the-variants.{Fresh}
 use Rattle.layout.specs.declared.group_layout.Layout.{Layout}
 use Rattle.layout.specs.declared.group_layout.Answer.{Answer}
 use Rattle.layout.specs.declared.group_layout.Outcome.{Outcome}
@@ -32,6 +36,14 @@ modelOf outcome.Added fs = added fs
 modelOf outcome.Wide fs = refused (refusalOf outcome.Wide)
 modelOf outcome.Clash fs = refused (refusalOf outcome.Clash)
 modelOf outcome.Many fs = refused (refusalOf outcome.Many)
+
+-- the staged kinds, two to fifteen of them, stand so to the layout's families
+pub record Fitting (l : Layout) (staged : List ℕ) (x : Fit) : Type 0 where
+  pub formed : Formed l
+  pub kinds : KindSet staged
+  pub least : 2 ≤ length staged
+  pub most : length staged < 16
+  pub fits : fitFrom staged 0 Fresh (meaning l) ≡ x
 
 -- GROUP, as the model says; unless the group is added, the layout is the one that came
 pub record AddsGroup (l : Layout) (staged : List ℕ) (r : Answer) : Type 0 where

@@ -1,5 +1,4 @@
 -- How staged kinds stand to the families of a layout: the cases of 01's rule for a new group. Assumes nothing.
-use mathlib.Core.Path.{_≡_}
 use mathlib.Core.Bool.{Bool, true, false}
 use mathlib.Core.List.{List, [], _∷_}
 use Prim.Native.Nat.{ℕ, _+_, _≤_}

@@ -7,7 +7,7 @@ use Prim.Native.Nat.{ℕ, _+_, _-_, _≤_, _<_}
 use lib.Dec.{eqb}
 use lib.ListN.{length, getD, take, drop, set}
 use Rattle.model.specs.Lists.{count}
-use Rattle.model.specs.Model.{Family, newGroup, within, without}
+use Rattle.model.specs.Model.{newGroup, within, without}
 use Rattle.words.specs.Part.{between}
 use Rattle.layout.specs.Layout.{Arrays, arraysOf, startOf, widthOf, groupCount, kindsAt, aritiesAt, groupsFrom, familyAt, meaning, KindSet, Rising, FamilyFormed, Formed}
 use Rattle.layout.specs.declared.group_layout.Layout.{Layout}

@@ -5,7 +5,7 @@ use Prim.Native.Nat.{ℕ, zero, suc, _+_, _-_, _≤_, _<_}
 use lib.Dec.{eqb}
 use lib.ListN.{length, getD, take}
 use Rattle.model.specs.Lists.{count}
-use Rattle.model.specs.Model.{Group, Family}
+use Rattle.model.specs.Model.{Family}
 use Rattle.words.specs.Part.{between}
 use Rattle.words.specs.Table.{table}
 use Rattle.layout.specs.declared.group_layout.Layout.{Layout}

@@ -1,13 +1,13 @@
 // The layout of groups by value, and a group added to it.
 ghost use mathlib.Core.Path.{_≡_};
-ghost use mathlib.Core.List.{[], _∷_, _++_};
-ghost use Prim.Native.Nat.{ℕ, _+_, _-_, _≤_, _<_};
-ghost use lib.ListN.{length, getD, take, drop};
+ghost use mathlib.Core.List.{[]};
+ghost use Prim.Native.Nat.{_+_, _-_, _≤_, _<_};
+ghost use lib.ListN.{length, take};
 ghost use Rattle.model.specs.Model.{mem, within, meets, sameSet, isGroup, without};
 ghost use Rattle.layout.specs.Layout.{Formed, KindSet, groupsFrom, arraysIn, familiesOf, startOf, meaning};
 ghost use Rattle.layout.specs.Fit.{partOf, joinFit, fitFrom, GroupAsk, FamilyAsk, FitAsk};
 ghost use Rattle.layout.specs.Grow.{Appended, Spread, Raised, RaiseAsk, Extends, Extended, openedOf, FreshAsk, FreshDone, OntoAsk, OntoDone};
-ghost use Rattle.layout.specs.Add.{AddsGroup};
+ghost use Rattle.layout.specs.Add.{Fitting, AddsGroup};
 
 // The families one after another: their kinds in order, their groups' arities, and where each family's kinds and groups end.
 // The group of arity a is the first a kinds of its family.
@@ -339,6 +339,42 @@ fn grown(l: Layout, f: usize, staged: &[u8]) -> Layout
     extended(l, f, &more[..n], staged.len() as u8)
 }
 
+// Adds them as a family of their own, if a group more may be.
+fn add_fresh(l: Layout, staged: &[u8]) -> Answer
+    requires { ⌜ Fitting l (now staged) Fit.Fresh ⌝ }
+    ensures { λ r. ⌜ AddsGroup l (now (staged .entry)) r ⌝ }
+{
+    if 63 <= l.groups {
+        return Answer {
+            outcome: Outcome::Many,
+            layout: l,
+        };
+    }
+    let layout = fresh(l, staged);
+    Answer {
+        outcome: Outcome::Added,
+        layout,
+    }
+}
+
+// Adds them to family f, if a group more may be.
+fn add_onto(l: Layout, f: usize, staged: &[u8]) -> Answer
+    requires { ⌜ Fitting l (now staged) (Fit.Onto f) ⌝ }
+    ensures { λ r. ⌜ AddsGroup l (now (staged .entry)) r ⌝ }
+{
+    if 63 <= l.groups {
+        return Answer {
+            outcome: Outcome::Many,
+            layout: l,
+        };
+    }
+    let layout = grown(l, f, staged);
+    Answer {
+        outcome: Outcome::Added,
+        layout,
+    }
+}
+
 // Adds a group of the staged kinds.
 pub fn add_group(l: Layout, staged: &[u8]) -> Answer
     requires { ⌜ Formed l × KindSet (now staged) × (length (now staged) ≤ 16) ⌝ }
@@ -356,7 +392,6 @@ pub fn add_group(l: Layout, staged: &[u8]) -> Answer
             layout: l,
         };
     }
-    let groups = l.groups;
     let stand = fit_of(
         &l.kinds,
         &l.arities,
@@ -374,31 +409,7 @@ pub fn add_group(l: Layout, staged: &[u8]) -> Answer
             outcome: Outcome::Clash,
             layout: l,
         },
-        Fit::Fresh => {
-            if 63 <= groups {
-                return Answer {
-                    outcome: Outcome::Many,
-                    layout: l,
-                };
-            }
-            let layout = fresh(l, staged);
-            Answer {
-                outcome: Outcome::Added,
-                layout,
-            }
-        }
-        Fit::Onto(f) => {
-            if 63 <= groups {
-                return Answer {
-                    outcome: Outcome::Many,
-                    layout: l,
-                };
-            }
-            let layout = grown(l, f, staged);
-            Answer {
-                outcome: Outcome::Added,
-                layout,
-            }
-        }
+        Fit::Fresh => add_fresh(l, staged),
+        Fit::Onto(f) => add_onto(l, f, staged),
     }
 }

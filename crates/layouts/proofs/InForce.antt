@@ -9,7 +9,7 @@ use borrow.Author.Tests.{ltb-true}
 use lib.Dec.{ltb}
 use lib.ListN.{length, getD, drop, List·getD-eq-default}
 use lib.Seq.{ext-getD}
-use Rattle.model.specs.Model.{SparseSet, Family}
+use Rattle.model.specs.Model.{Family}
 use Rattle.model.specs.Sound.{In, Sound}
 use Rattle.model.proofs.Walk.{bool-cases}
 use Rattle.words.specs.Offsets.{columnStart, columnStart-mono}

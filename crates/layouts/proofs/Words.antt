@@ -8,7 +8,7 @@ use lib.Seq.{getD-set-same, getD-set-other, getD-drop, ext-getD}
 use Rattle.words.specs.Table.{by-eq}
 use Rattle.words.specs.Part.{between, getD-between}
 use Rattle.words.specs.Stores.{length-stores, miss, hit}
-use Rattle.layout.specs.Layout.{Arrays, startOf}
+use Rattle.layout.specs.Layout.{startOf}
 use Rattle.layout.proofs.Arrays.{group-order, groups-inside}
 use Rattle.memory.specs.Header.{draftFamilies}
 use Rattle.memory.specs.Meaning.{draftArrays}

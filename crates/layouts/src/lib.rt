@@ -1,8 +1,8 @@
 // A layout put in force (component_storage.rs, set_layout).
 use masks::group_mask::GroupMask;
 ghost use mathlib.Core.Path.{_≡_};
-ghost use Prim.Native.Nat.{ℕ, _+_, _≤_, _<_};
-ghost use lib.ListN.{length, getD, drop};
+ghost use Prim.Native.Nat.{_+_, _≤_, _<_};
+ghost use lib.ListN.{length, getD};
 ghost use Rattle.model.specs.Model.{regroup};
 ghost use Rattle.model.specs.Sound.{Sound};
 ghost use Rattle.columns.specs.Columns.{Columns, Lent};
@@ -47,17 +47,6 @@ fn copy_block(words: &mut [u32])
     }
 }
 
-// Where number f starts, of the ends that stand from `ends` on: where the one before ends.
-fn start_of(words: &[u32], ends: usize, f: usize) -> usize
-    requires { ⌜ ends + f ≤ length (now words) ⌝ }
-    ensures { λ r. ⌜ r ≡ startOf (drop ends (now (words .entry))) f ⌝ }
-{
-    if f == 0 {
-        return 0;
-    }
-    memory::word(words, ends + (f - 1))
-}
-
 // Each group gets the number of its family.
 fn number_groups(words: &mut [u32], families: usize)
     requires { ⌜ EndsAsk (now words) families ⌝ }
@@ -65,7 +54,7 @@ fn number_groups(words: &mut [u32], families: usize)
 {
     let mut f = 0;
     while f < families {
-        let start = start_of(words, ENDS, f);
+        let start = group::start_of(words, ENDS, f);
         let end = memory::word(words, ENDS + f);
         fill(
             words,
@@ -145,7 +134,7 @@ fn put_group(words: &mut [u32], n: usize, f: usize, g: usize, prior: usize) -> u
     requires { ⌜ Upto (now words) (placeNo (layoutArrays (now words)) f prior) ⌝ }
     ensures { λ r. ⌜ HeadsGroup (now (words .entry)) (now (words .exit)) f g r ⌝ }
 {
-    let start = start_of(words, KIND_ENDS, f);
+    let start = group::start_of(words, KIND_ENDS, f);
     let arity = memory::word(words, ARITIES + g);
     let mut j = prior;
     while j < arity {
@@ -164,7 +153,7 @@ fn put_family(words: &mut [u32], n: usize, f: usize)
     ensures { λ _. ⌜ Headed (now (words .entry)) (now (words .exit)) (getD (layoutArrays (now (words .entry)) .kindEnds) f 0) ⌝ }
 {
     let mut prior = 0;
-    let mut g = start_of(words, ENDS, f);
+    let mut g = group::start_of(words, ENDS, f);
     let end = memory::word(words, ENDS + f);
     while g < end {
         prior = put_group(words, n, f, g, prior);

@@ -2,7 +2,7 @@
 use mathlib.Core.Path.{_≡_, refl, sym, ap, ap₂, _∙_}
 use mathlib.Core.Logic.{_⊎_, inl, inr, ⊎-elim}
 use mathlib.Core.Bool.{Bool, true, false, not, _&&_, _||_}
-use Prim.Native.Nat.{ℕ, zero, suc, _+_, _-_, _*_, _/_, _%_, _^_, _≤_, _<_, min, max}
+use Prim.Native.Nat.{ℕ, zero, suc, _-_, _*_, _/_, _%_, _^_, _≤_, _<_, min, max}
 use native.Mathlib.Nat.{one-mul, pow-suc, mod-lt, mul-comm, mul-one, suc-sub-suc, zero-sub, mul-left-comm, zero-mul, sub-zero}
 use native.Mathlib.Omega.{arith}
 use lib.Dec.{leb, ltb, leb·zero, leb·suc-zero, leb·suc-suc, lit<}

@@ -1,26 +1,26 @@
 -- A change of one column, of the entity part, of the control words or of a group's count, as a change of the model's store. Assumes nothing.
 use mathlib.Core.Path.{_≡_, refl, sym, ap, _∙_, subst}
 use mathlib.Core.Logic.{_≢_}
-use mathlib.Core.Bool.{Bool, true, false, cond}
+use mathlib.Core.Bool.{Bool, true, false}
 use mathlib.Core.List.{List, []}
-use Prim.Native.Nat.{ℕ, zero, suc, _+_, _*_, _-_, _≤_, _<_}
+use Prim.Native.Nat.{ℕ, _+_, _*_, _-_, _≤_, _<_}
 use native.Mathlib.Omega.{arith}
 use borrow.Author.Tests.{lt-ltb, ltb-true}
 use lib.Dec.{ltb}
-use lib.ListN.{length, getD, set, take, drop, length-set}
-use lib.Seq.{getD-set-same, getD-set-other, drop-set-lt, ext-getD, lt-length-set}
-use Rattle.model.specs.Model.{Entities, SparseSet, Family, Storage, setOf}
-use Rattle.model.specs.Run.{Store, Control, withControl}
-use Rattle.words.specs.Offsets.{columnStart, columnStart-mono, columnStart-apart}
+use lib.ListN.{length, getD, set, drop, length-set}
+use lib.Seq.{getD-set-same, getD-set-other, drop-set-lt, ext-getD}
+use Rattle.model.specs.Model.{Entities, SparseSet, Storage, setOf}
+use Rattle.model.specs.Run.{withControl}
+use Rattle.words.specs.Offsets.{columnStart, columnStart-mono}
 use Rattle.words.specs.Part.{between, between-rest, length-between, getD-between}
 use Rattle.words.specs.Table.{table, table-same, table-set, getD-table, by-eq}
 use Rattle.component.specs.SparseSet.{rows, Sound}
 use Rattle.columns.specs.Columns.{columnOf, rowsOf, Columns, One}
 use Rattle.entity.specs.Meaning as entity
 use Rattle.entity.specs.Change.{entityPart, entitiesIn, EntityChange}
-use Rattle.layout.specs.Layout.{Arrays, WellFormed, groupCount, familiesOf}
+use Rattle.layout.specs.Layout.{WellFormed, groupCount, familiesOf}
 use Rattle.memory.specs.Header.{capacityOf, kindCapacityOf, registeredOf, stagedLen, excludedLen, draftGroups, slotOf}
-use Rattle.memory.specs.Meaning.{kindAt, kindsIn, setAt, setsIn, draftArrays, layoutArrays, layoutIn, storageIn, controlIn, meaning}
+use Rattle.memory.specs.Meaning.{kindAt, setAt, setsIn, draftArrays, layoutArrays, layoutIn, controlIn, meaning}
 use Rattle.memory.specs.Change.{onSet, withEntities, onStorage, withLayout}
 use Rattle.memory.specs.Arranged.{Arranged, Becomes}
 use Rattle.memory.proofs.Kept.{Kept, kinds-kept, arranged-kept}

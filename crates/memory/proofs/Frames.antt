@@ -1,29 +1,19 @@
 -- What a change of one column, of the entity part, or of the header does to the meaning. Assumes nothing.
-use mathlib.Core.Path.{_≡_, refl, sym, ap, _∙_, subst}
-use mathlib.Core.Logic.{_≢_}
-use mathlib.Core.Bool.{Bool, true, false, cond}
+use mathlib.Core.Path.{_≡_, sym, ap, _∙_, subst}
 use mathlib.Core.List.{List, []}
-use Prim.Native.Nat.{ℕ, zero, suc, _+_, _*_, _-_, _≤_, _<_}
+use Prim.Native.Nat.{ℕ, _+_, _*_, _-_, _≤_, _<_}
 use native.Mathlib.Omega.{arith}
-use borrow.Author.Tests.{lt-ltb, ltb-true}
-use lib.Dec.{ltb}
-use lib.ListN.{length, getD, set, take, drop}
-use lib.Seq.{getD-take, getD-drop, drop-drop, ext-getD}
-use Rattle.model.specs.Model.{Component, Entities, SparseSet, Family, Storage, setOf}
-use Rattle.model.specs.Run.{Store, Control, withControl}
-use Rattle.words.specs.Offsets.{columnStart, columnStart-needed, columnStart-mono, columnStart-apart}
-use Rattle.words.specs.Part.{between, length-between, getD-between, between-front, between-rest}
-use Rattle.words.specs.Table.{table, table-same, table-set, getD-table, by-eq}
-use Rattle.component.specs.SparseSet.{rows}
-use Rattle.columns.specs.Columns.{columnOf, rowsOf, Columns, One}
-use Rattle.entity.specs.Meaning as entity
-use Rattle.entity.specs.Change.{entityPart, entitiesIn, EntityChange}
-use Rattle.layout.specs.Layout.{Arrays, blockArrays, WellFormed, groupCount, familiesOf}
-use Rattle.memory.specs.Header.{capacityOf, kindCapacityOf, registeredOf, stagedLen, excludedLen, draftFamilies, draftGroups, layoutFamilies, layoutGroups, refusalsOf, slotOf, excludedAt, groupFamilyAt}
-use Rattle.memory.specs.Meaning.{kindAt, kindsIn, setAt, setsIn, draftArrays, layoutArrays, draftIn, layoutIn, storageIn, stagedAt, stagedIn, excludedIn, controlIn, meaning}
-use Rattle.memory.specs.Change.{onSet, withEntities, onStorage, withLayout}
-use Rattle.memory.specs.Arranged.{Arranged, Becomes}
-use Rattle.memory.proofs.Kept.{Kept, kind-kept, kinds-kept, arranged-kept}
+use lib.ListN.{length, getD, take, drop}
+use lib.Seq.{getD-take, drop-drop, ext-getD}
+use Rattle.words.specs.Offsets.{columnStart, columnStart-needed, columnStart-mono}
+use Rattle.words.specs.Part.{between, length-between, getD-between}
+use Rattle.words.specs.Table.{table, table-same}
+use Rattle.columns.specs.Columns.{columnOf}
+use Rattle.layout.specs.Layout.{blockArrays, WellFormed, groupCount, familiesOf}
+use Rattle.memory.specs.Header.{capacityOf, kindCapacityOf, stagedLen, excludedLen, draftGroups, refusalsOf, excludedAt}
+use Rattle.memory.specs.Meaning.{draftArrays, layoutArrays, draftIn, layoutIn, stagedAt, stagedIn, excludedIn, controlIn}
+use Rattle.memory.specs.Arranged.{Arranged}
+use Rattle.memory.proofs.Kept.{Kept}
 
 -- ---- words that agree up to a place, or from one on
 

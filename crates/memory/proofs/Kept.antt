@@ -1,12 +1,10 @@
 -- What stays well arranged when the tables, the heads of the columns and the layout in force stay. Assumes nothing.
-use mathlib.Core.Path.{_≡_, refl, sym, ap, _∙_, subst}
+use mathlib.Core.Path.{_≡_, sym, ap, _∙_, subst}
 use mathlib.Core.Logic.{_≢_}
-use mathlib.Core.Bool.{cond}
 use mathlib.Core.List.{List, []}
-use Prim.Native.Nat.{ℕ, zero, suc, _+_, _*_, _-_, _≤_, _<_}
+use Prim.Native.Nat.{ℕ, _-_, _≤_, _<_}
 use native.Mathlib.Omega.{arith}
-use lib.ListN.{length, getD, take, drop}
-use Rattle.words.specs.Offsets.{columnStart}
+use lib.ListN.{length, getD, take}
 use Rattle.words.specs.Table.{table, table-same}
 use Rattle.columns.specs.Columns.{columnOf, rowsOf, Columns}
 use Rattle.entity.specs.Meaning as entity

@@ -3,7 +3,7 @@ use mathlib.Core.List.{List}
 use Prim.Native.Nat.{ℕ}
 use lib.ListN.{set}
 use Rattle.model.specs.Model.{Entities, SparseSet, Family, Storage, setOf}
-use Rattle.model.specs.Run.{Store, Control}
+use Rattle.model.specs.Run.{Store}
 
 -- kind k's sparse set has become f of what it was
 abbrev pub onSet : ℕ → (SparseSet → SparseSet) → Storage → Storage

@@ -1,10 +1,10 @@
 -- The model's store, read off the lent words (docs/WORDS.md). Assumes nothing.
 use mathlib.Core.Bool.{cond}
 use mathlib.Core.List.{List, []}
-use Prim.Native.Nat.{ℕ, _+_, _*_}
+use Prim.Native.Nat.{ℕ}
 use lib.Dec.{ltb}
 use lib.ListN.{getD}
-use Rattle.model.specs.Model.{Entity, Component, Entities, SparseSet, Family, Storage}
+use Rattle.model.specs.Model.{Component, SparseSet, Family, Storage}
 use Rattle.model.specs.Run.{Store, Control}
 use Rattle.words.specs.Table.{table}
 use Rattle.words.specs.Part.{between}

@@ -1,9 +1,6 @@
 // The lent words as the model's store: specs/ says what they mean and when they are sound, proofs/ what a change of a part does to the meaning.
-ghost use mathlib.Core.Path.{_≡_};
 ghost use Prim.Native.Nat.{_<_};
-ghost use lib.ListN.{length, getD};
-ghost use Rattle.memory.specs.Arranged.{Arranged};
-ghost use Rattle.memory.specs.Header.{capacityOf, kindCapacityOf, registeredOf};
+ghost use lib.ListN.{length};
 ghost use Rattle.memory.specs.Word.{Word};
 
 // The word at i, as a number for counting.

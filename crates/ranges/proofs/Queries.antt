@@ -4,7 +4,7 @@ use mathlib.Core.List.{List, [], _∷_, _++_}
 use Prim.Native.Nat.{ℕ, _+_, _-_, _≤_, _<_}
 use native.Mathlib.Omega.{arith}
 use lib.ListN.{length, getD}
-use Rattle.model.specs.Model.{Range, none, range}
+use Rattle.model.specs.Model.{none, range}
 use Rattle.model.specs.Sound.{In}
 use Rattle.words.specs.Part.{between, length-between}
 use Rattle.layout.specs.Layout.{Arrays}

@@ -1,16 +1,14 @@
 -- The rows of a sound column: an entity once, and values of eight bytes. Assumes nothing.
-use mathlib.Core.Path.{_≡_, refl, ap, sym, _∙_, subst}
+use mathlib.Core.Path.{_≡_, ap, sym, _∙_, subst}
 use mathlib.Core.Logic.{_≢_}
-use mathlib.Core.Bool.{Bool, true, false}
-use mathlib.Core.List.{List, [], _∷_, map}
+use mathlib.Core.List.{List, [], _∷_}
 use Prim.Native.Nat.{ℕ, zero, suc, _+_, _*_, _-_, _≤_, _<_}
-use native.Mathlib.Nat.{le-of-suc-le-suc, not-suc-le-zero}
 use native.Mathlib.Decide.{decLe}
 use native.Mathlib.Omega.{arith}
 use lib.ListN.{length, take, drop, getD, length-map, List·getD-map}
 use lib.Seq.{getD-drop}
 use Rattle.model.specs.Lists.{one, place, count-place, getD-place}
-use Rattle.model.specs.Model.{Entity, Row, SparseSet, sameEntity, noEntity, noRow, entityOf, keys}
+use Rattle.model.specs.Model.{Entity, sameEntity, noEntity, noRow, entityOf, keys}
 use Rattle.model.specs.Sound.{cnt, Eight}
 use Rattle.model.proofs.SparseSets.{entity-eq}
 use Rattle.model.proofs.Walk.{bool-cases}

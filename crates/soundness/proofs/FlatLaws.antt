@@ -1,20 +1,18 @@
 -- The groups' clause by the number of the group: all families are right where each group is. Assumes nothing.
 use mathlib.Core.Path.{_≡_, refl, ap, ap₂, sym, _∙_, subst}
-use mathlib.Core.Bool.{cond}
-use mathlib.Core.List.{List, [], _∷_, _++_}
+use mathlib.Core.List.{List, [], _∷_}
 use Prim.Native.Nat.{ℕ, zero, suc, _+_, _-_, _≤_, _<_}
 use native.Mathlib.Nat.{le-of-suc-le-suc, not-suc-le-zero}
 use native.Mathlib.Decide.{decLe}
 use native.Mathlib.Omega.{arith}
 use borrow.Author.Tests.{lt-ltb, le-ltb}
-use lib.Dec.{ltb}
-use lib.ListN.{length, getD, take, drop}
+use lib.ListN.{length, getD}
 use Rattle.model.specs.Model.{SparseSet, Family, headKind, kindsOf}
 use Rattle.model.specs.Sound.{key}
 use Rattle.words.specs.Part.{between, getD-between}
 use Rattle.words.specs.Table.{table, by-eq}
 use Rattle.layout.specs.Layout.{Arrays, Sized, startOf, groupCount, kindsAt, aritiesAt, groupsFrom, familyAt, familiesOf, WellFormed}
-use Rattle.layout.proofs.Arrays.{ends-rise, kind-order, group-order, kinds-inside, groups-inside, kinds-length, arities-length, family-kindsOf}
+use Rattle.layout.proofs.Arrays.{ends-rise, group-order, groups-inside, arities-length, family-kindsOf}
 use Rattle.memory.specs.Arranged.{priorArity, memberAt}
 use Rattle.soundness.specs.Groups.{GroupOk, GroupsOk, FamilyOk, FamiliesOk}
 use Rattle.soundness.specs.ByNumber.{newAt, priorCount, GroupAt}

@@ -1,32 +1,30 @@
 -- The layout in force: what its block gives to the checks of heads and counts, and what those say of it. Assumes nothing.
-use mathlib.Core.Path.{_≡_, refl, ap, ap₂, sym, _∙_, subst}
-use mathlib.Core.Bool.{Bool, true, false, true≢false}
-use mathlib.Core.List.{List, map}
-use Prim.Native.Nat.{ℕ, zero, suc, _+_, _-_, _≤_, _<_}
+use mathlib.Core.Path.{_≡_, ap, ap₂, sym, _∙_, subst}
+use mathlib.Core.Bool.{true, true≢false}
+use mathlib.Core.List.{List}
+use Prim.Native.Nat.{ℕ, suc, _+_, _-_, _≤_, _<_}
 use native.Mathlib.Omega.{arith}
 use borrow.Author.Tests.{lt-ltb}
-use lib.Dec.{ltb}
-use lib.ListN.{length, getD, take, length-map}
+use lib.ListN.{length, getD, length-map}
 use Rattle.model.specs.Model.{Entity, SparseSet, noEntity, setOf, keys, entityOf, held, allHeld}
-use Rattle.model.specs.Sound.{In, key}
+use Rattle.model.specs.Sound.{key}
 use Rattle.model.proofs.Walk.{all-in}
 use Rattle.model.proofs.KindLists.{not-true, all-true}
 use Rattle.words.specs.Part.{between, getD-between}
-use Rattle.columns.specs.Columns.{rowsOf, Columns, Lent}
+use Rattle.columns.specs.Columns.{rowsOf, Columns}
 use Rattle.columns.proofs.Slots.{lent}
-use Rattle.layout.specs.Layout.{Arrays, startOf, widthOf, groupCount, WellFormed}
+use Rattle.layout.specs.Layout.{Arrays, startOf, widthOf, WellFormed}
 use Rattle.layout.proofs.Arrays.{kinds-inside}
-use Rattle.memory.specs.Header.{capacityOf, kindCapacityOf, registeredOf, slotOf, countAt}
+use Rattle.memory.specs.Header.{capacityOf, registeredOf, slotOf, countAt}
 use Rattle.memory.specs.Meaning.{ownAt, localAt, setsIn}
 use Rattle.memory.specs.Arranged.{Arranged, Registered, GroupSound, priorArity, memberAt}
 use Rattle.memory.proofs.Becomes.{set-in}
-use Rattle.clauses.specs.Slots.{Over}
-use Rattle.grouping.specs.Spans.{startIn, priorIn, firstAt, fromAt, toAt, KindAt, KindsAt, SpanOk, Force, HeadOk, GroupOf, NewOk}
+use Rattle.grouping.specs.Spans.{startIn, priorIn, firstAt, fromAt, toAt, KindAt, SpanOk, Force, GroupOf, NewOk}
 use Rattle.clauses.specs.Rows.{keyAt}
-use Rattle.grouping.specs.Counts.{rowsAt, EvenOk, Holds, CountOk, GroupCounted}
+use Rattle.grouping.specs.Counts.{rowsAt, CountOk, GroupCounted}
 use Rattle.soundness.specs.Groups.{GroupOk}
 use Rattle.soundness.specs.ByNumber.{newAt, priorCount, GroupAt}
-use Rattle.soundness.proofs.WordLaws.{Reads, kind-start, group-start, prior-count, start-width, member-word, group-few, arity-most, arity-fits, first-is, from-is, to-is, new-at, at-new}
+use Rattle.soundness.proofs.WordLaws.{Reads, group-start, prior-count, start-width, member-word, group-few, arity-most, arity-fits, first-is, from-is, to-is, new-at, at-new}
 
 module _ (w : List ℕ) (a : Arrays) (R : Reads w a) (good : WellFormed a) (known : (i : ℕ) → i < widthOf a → Registered w (getD w (576 + i) 0)) where
   -- ---- what the checks ask

@@ -1,21 +1,20 @@
 -- The groups' clause as the check tells it is the model's. Assumes nothing.
 use mathlib.Core.Path.{_≡_, refl, ap, sym, _∙_, subst}
-use mathlib.Core.Bool.{Bool, true, false, cond, _&&_, true≢false, false≢true}
-use mathlib.Core.List.{List, [], _∷_, _++_, map}
+use mathlib.Core.Bool.{Bool, true, false, _&&_, true≢false, false≢true}
+use mathlib.Core.List.{List, [], _∷_, _++_}
 use Prim.Native.Nat.{ℕ, zero, suc, _+_, _-_, _≤_, _<_}
 use native.Mathlib.Nat.{le-of-suc-le-suc, not-suc-le-zero}
 use native.Mathlib.Decide.{decLe}
 use native.Mathlib.Omega.{arith}
-use borrow.Author.Tests.{lt-ltb, eqb-true, eq-eqb}
-use lib.Dec.{eqb}
+use borrow.Author.Tests.{lt-ltb, eq-eqb}
 use lib.ListN.{length, take, drop, getD, length-map, take-append-drop, length-drop}
 use lib.Seq.{length-take-le, getD-take, getD-drop, ext-getD}
 use Rattle.model.specs.Lists.{one, place, count-append, count-place, count-take-le, place-count-take, getD-place, count-length}
-use Rattle.model.specs.Model.{Entity, SparseSet, Group, Family, sameEntity, noEntity, mem, all, setOf, keys, entityOf, held, headKind, kindsOf, allHeld}
+use Rattle.model.specs.Model.{Entity, SparseSet, Family, sameEntity, noEntity, all, setOf, held, headKind, kindsOf, allHeld}
 use Rattle.model.specs.Sound.{cnt, In, key, SetsSound, BuildableFamily, BuildableFamilies, holders, Right, RightFrom, AllRight}
 use Rattle.model.proofs.SparseSets.{entity-eq, entity-same, and-left}
 use Rattle.model.proofs.Invariant.{holders-count}
-use Rattle.model.proofs.Walk.{bool-cases, or-true, in-left, in-right, in-cases, all-in, Missing, all-missing, held-count, lacks-count}
+use Rattle.model.proofs.Walk.{bool-cases, in-left, in-right, in-cases, all-in, Missing, all-missing, held-count, lacks-count}
 use Rattle.model.proofs.KindLists.{all-true}
 use Rattle.soundness.specs.Groups.{GroupOk, GroupsOk, FamilyOk, FamiliesOk}
 

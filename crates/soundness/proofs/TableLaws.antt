@@ -2,9 +2,9 @@
 -- are those of the slots in use, and a kind's sparse set is its slot's. Assumes nothing.
 use mathlib.Core.Path.{_≡_, refl, ap, sym, _∙_, subst}
 use mathlib.Core.Logic.{_≢_}
-use mathlib.Core.Bool.{Bool, true, false, cond, false≢true, true≢false}
-use mathlib.Core.List.{List, [], _∷_, map}
-use Prim.Native.Nat.{ℕ, zero, suc, _+_, _≤_, _<_}
+use mathlib.Core.Bool.{Bool, true, false, cond, true≢false}
+use mathlib.Core.List.{List, [], _∷_}
+use Prim.Native.Nat.{ℕ, zero, suc, _≤_, _<_}
 use native.Mathlib.Nat.{le-of-suc-le-suc, not-suc-le-zero}
 use native.Mathlib.Decide.{decLe}
 use native.Mathlib.Omega.{arith}
@@ -13,8 +13,8 @@ use lib.Dec.{ltb}
 use lib.ListN.{length, take, getD, length-map, List·getD-map}
 use lib.Seq.{getD-take, length-take-le}
 use Rattle.model.specs.Lists.{place, count-place, getD-place}
-use Rattle.model.specs.Model.{Entity, Row, SparseSet, sameEntity, noEntity, noRow, mem, setOf, entityOf, keys}
-use Rattle.model.specs.Sound.{cnt, In, Distinct, Eight, KindsSound, SetsSound, key}
+use Rattle.model.specs.Model.{Entity, SparseSet, sameEntity, noEntity, noRow, mem, setOf, entityOf, keys}
+use Rattle.model.specs.Sound.{cnt, In, Distinct, Eight, KindsSound, SetsSound}
 use Rattle.model.proofs.SparseSets.{entity-eq}
 use Rattle.words.specs.Table.{by-eq, table, length-table, getD-table}
 use Rattle.model.proofs.KindLists.{not-true}

@@ -1,5 +1,5 @@
 -- The clauses together are soundness: of the words, and of the store that they mean. Assumes nothing.
-use mathlib.Core.Path.{_≡_, refl, ap, sym, _∙_, subst}
+use mathlib.Core.Path.{_≡_, ap, sym, _∙_, subst}
 use mathlib.Core.Logic.{_≢_}
 use mathlib.Core.Bool.{true}
 use mathlib.Core.List.{List, [], map}
@@ -7,20 +7,19 @@ use Prim.Native.Nat.{ℕ, _+_, _*_, _-_, _≤_, _<_}
 use native.Mathlib.Decide.{decLe, decLt}
 use native.Mathlib.Omega.{arith}
 use borrow.Author.Tests.{ltb-true, lt-ltb}
-use lib.Dec.{eqb, ltb}
 use lib.ListN.{length, getD, take, List·getD-map}
 use lib.Seq.{getD-take, length-take-le}
 use Rattle.model.specs.Lists.{count, count-place, place-count}
-use Rattle.model.specs.Model.{Entity, SparseSet, Component, Family, sameEntity, noRow, kindOf, entityOf, isLive}
-use Rattle.model.specs.Sound.{cnt, In, Distinct, KindsSound, EntitiesSound, SetsSound, StagedSound, ExcludedSound, layoutKinds, Buildable, AllRight}
+use Rattle.model.specs.Model.{Entity, sameEntity, noRow, kindOf, entityOf, isLive}
+use Rattle.model.specs.Sound.{cnt, In, Distinct, KindsSound, EntitiesSound, SetsSound, StagedSound, ExcludedSound, Buildable, AllRight}
 use Rattle.model.specs.Sound as modelSound
 use Rattle.model.proofs.Numbers.{cnt-num}
 use Rattle.model.proofs.KindLists.{in-count, count-in}
 use Rattle.words.specs.Offsets.{columnStart, columnStart-mono}
 use Rattle.words.specs.Part.{between, getD-between, length-between}
-use Rattle.words.specs.Table.{table, length-table}
+use Rattle.words.specs.Table.{table}
 use Rattle.component.specs.SparseSet.{Sound, lengthOf}
-use Rattle.component.specs.Decides.{Each}
+use Rattle.component.specs.Checks.{Each}
 use Rattle.component.proofs.Meaning.{length-rows, empty-rows}
 use Rattle.columns.specs.Columns.{columnOf, rowsOf, Columns, Lent}
 use Rattle.columns.proofs.Slots.{lent}
@@ -28,26 +27,23 @@ use Rattle.entity.specs.Meaning as entity
 use Rattle.entity.specs.Change.{entityPart, entitiesIn}
 use Rattle.entity.proofs.Lookups.{issued-is}
 use Rattle.entity.proofs.Numbering.{entities-ok}
-use Rattle.layout.specs.Layout.{Arrays, Sized, blockArrays, startOf, widthOf, groupCount, familiesOf, KindSet, WellFormed}
-use Rattle.blocks.specs.Blocks.{BlockFormed}
+use Rattle.layout.specs.Layout.{Arrays, blockArrays, widthOf, groupCount, familiesOf, WellFormed}
 use Rattle.blocks.specs.Checks.{BlockSound}
 use Rattle.blocks.proofs.Agree.{block-sized}
 use Rattle.blocks.proofs.Buildable.{block-buildable, uncounted}
-use Rattle.memory.specs.Header.{capacityOf, kindCapacityOf, registeredOf, stagedLen, excludedLen, draftFamilies, draftGroups, layoutFamilies, layoutGroups, refusalsOf, slotOf, stagedLowAt, stagedHighAt, excludedAt, groupFamilyAt}
-use Rattle.memory.specs.Meaning.{kindAt, ownAt, kindsIn, setAt, setsIn, draftArrays, layoutArrays, draftIn, layoutIn, stagedAt, stagedIn, excludedIn, meaning}
-use Rattle.memory.specs.Arranged.{TableSound, Registered, GroupSound, LayoutSound, Arranged, Sound as StoreSound}
+use Rattle.memory.specs.Header.{capacityOf, kindCapacityOf, registeredOf, stagedLen, excludedLen, draftFamilies, draftGroups, layoutFamilies, layoutGroups, slotOf, stagedLowAt, stagedHighAt, groupFamilyAt}
+use Rattle.memory.specs.Meaning.{kindAt, kindsIn, setsIn, draftArrays, layoutArrays, draftIn, layoutIn, stagedAt, stagedIn, excludedIn, meaning}
+use Rattle.memory.specs.Arranged.{TableSound, Registered, LayoutSound, Arranged, Sound as StoreSound}
 use Rattle.memory.proofs.Frames.{start-header}
 use Rattle.clauses.specs.Slots.{Room, headAt}
 use Rattle.clauses.specs.Table.{TableOk}
 use Rattle.clauses.specs.Rows.{entityIn, RowLive, ColumnOk}
 use Rattle.clauses.specs.Listed.{Listed, ListOk}
-use Rattle.grouping.specs.Spans.{startIn, Force, GroupOf, HeadsOk, OwnOk}
-use Rattle.grouping.specs.Counts.{CountedOk}
+use Rattle.grouping.specs.Spans.{startIn, Force, HeadsOk, OwnOk}
 use Rattle.clauses.proofs.ListLaws.{at-in}
 use Rattle.clauses.proofs.SlotLaws.{room-long, room-less, key-word}
-use Rattle.soundness.specs.ByNumber.{GroupAt}
 use Rattle.soundness.specs.Parts.{SizeOk, PartsOk, ListsOk, LayoutOk, CountsOk}
-use Rattle.soundness.proofs.TableLaws.{Tabled, RowsOk, registered-slot, registered-small, slot-registered, kinds-sound, sets-sound, sets-alive}
+use Rattle.soundness.proofs.TableLaws.{Tabled, registered-slot, registered-small, slot-registered, kinds-sound, sets-sound, sets-alive}
 use Rattle.soundness.proofs.ColumnLaws.{rows-once, rows-values, value-eight, between-below}
 use Rattle.soundness.proofs.StagedLaws.{map-table, table-between, staged-sound}
 use Rattle.soundness.proofs.LayoutLaws.{layout-kinds}

@@ -7,13 +7,13 @@ use native.Mathlib.Nat.{le-of-suc-le-suc, not-suc-le-zero}
 use native.Mathlib.Omega.{arith}
 use borrow.Author.Tests.{le-ltb}
 use lib.Dec.{ltb}
-use lib.ListN.{length, getD, take, drop}
+use lib.ListN.{length, getD, take}
 use lib.Seq.{ext-getD, getD-take, length-take-le}
 use Rattle.model.specs.Sound.{In}
 use Rattle.words.specs.Part.{between, getD-between, length-between}
 use Rattle.layout.specs.Layout.{Arrays, Sized, startOf, widthOf, kindsAt, aritiesAt, Rising, WellFormed}
 use Rattle.layout.proofs.Family.{rising-le}
-use Rattle.layout.proofs.Arrays.{Bounds, bounds, kinds-inside, kinds-length, arities-length}
+use Rattle.layout.proofs.Arrays.{bounds, kinds-inside, kinds-length, arities-length}
 use Rattle.blocks.proofs.Agree.{block-sized}
 use Rattle.memory.specs.Meaning.{layoutArrays}
 use Rattle.memory.specs.Arranged.{priorArity, memberAt}

@@ -4,7 +4,7 @@ use mathlib.Core.Bool.{false}
 use mathlib.Core.List.{List, [], _∷_}
 use Prim.Native.Nat.{ℕ, _≤_, _<_}
 use lib.ListN.{length, getD}
-use Rattle.model.specs.Model.{SparseSet, Group, Family, noEntity, headKind, kindsOf, allHeld}
+use Rattle.model.specs.Model.{SparseSet, Family, noEntity, headKind, kindsOf, allHeld}
 use Rattle.model.specs.Sound.{In, key}
 
 -- a group of count c whose next smaller group has count b (the smallest group's: h's whole length); new are its new kinds, h the family's first kind.

@@ -6,7 +6,7 @@ use lib.ListN.{length}
 use Rattle.model.specs.Sound.{Limits}
 use Rattle.words.specs.Offsets.{columnStart}
 use Rattle.words.specs.Part.{between}
-use Rattle.component.specs.Decides.{Each}
+use Rattle.component.specs.Checks.{Each}
 use Rattle.entity.specs.Meaning as entity
 use Rattle.entity.specs.Change.{entityPart}
 use Rattle.blocks.specs.Checks.{BlockSound}

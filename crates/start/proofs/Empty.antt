@@ -1,27 +1,24 @@
 -- Cleared words with a free table, N and K are the empty store. Assumes nothing.
 use mathlib.Core.Path.{_≡_, refl, sym, ap, _∙_, subst}
-use mathlib.Core.Logic.{_≢_}
-use mathlib.Core.Bool.{cond}
 use mathlib.Core.List.{List, []}
-use Prim.Native.Nat.{ℕ, zero, suc, _+_, _*_, _-_, _≤_, _<_}
+use Prim.Native.Nat.{ℕ, zero, _+_, _*_, _-_, _≤_, _<_}
 use native.Mathlib.Omega.{arith}
-use lib.Dec.{ltb}
-use lib.ListN.{length, getD, set, take, drop, replicate, length-set, length-replicate, getD-replicate}
-use lib.Seq.{getD-drop, getD-set-same, getD-set-other, drop-set-lt, lt-length-set}
-use Rattle.model.specs.Model.{Entities, SparseSet, Family, Component}
-use Rattle.model.specs.Store.{Store, empty}
+use lib.ListN.{length, getD, set, drop, replicate, length-set, length-replicate, getD-replicate}
+use lib.Seq.{getD-drop, getD-set-same, getD-set-other, drop-set-lt}
+use Rattle.model.specs.Model.{Entities, SparseSet}
+use Rattle.model.specs.Store.{empty}
 use Rattle.model.specs.Sound.{Limits}
-use Rattle.words.specs.Offsets.{columnStart, columnStart-needed, columnStart-mono, columnStart-apart}
+use Rattle.words.specs.Offsets.{columnStart, columnStart-mono, columnStart-apart}
 use Rattle.words.specs.Part.{between, length-between, getD-between}
 use Rattle.words.specs.Table.{table, is-table}
-use Rattle.columns.specs.Columns.{Columns, rowsOf}
+use Rattle.columns.specs.Columns.{Columns}
 use Rattle.columns.proofs.Fresh.{fresh-columns, fresh-rows}
 use Rattle.entity.specs.Meaning as entity
 use Rattle.entity.specs.Change.{Changed, entityPart, noEntities}
 use Rattle.entity.proofs.Zeros.{zeros-changed}
-use Rattle.layout.specs.Layout.{Arrays, blockArrays, WellFormed, groupCount, familiesOf}
+use Rattle.layout.specs.Layout.{blockArrays, WellFormed, groupCount, familiesOf}
 use Rattle.memory.specs.Header.{capacityOf, kindCapacityOf, registeredOf, slotOf}
-use Rattle.memory.specs.Meaning.{kindAt, kindsIn, setAt, setsIn, draftArrays, layoutArrays, draftIn, layoutIn, stagedAt, stagedIn, excludedIn, controlIn, meaning}
+use Rattle.memory.specs.Meaning.{kindAt, kindsIn, setAt, setsIn, draftIn, layoutIn, stagedAt, stagedIn, excludedIn, meaning}
 use Rattle.memory.specs.Arranged.{TableSound, LayoutSound, Arranged}
 use Rattle.memory.proofs.Frames.{start-header, drop-later}
 use Rattle.start.specs.Fresh.{Cleared, Tabled, Made}

@@ -1,8 +1,7 @@
 -- What the steps of a start leave. Assumes nothing.
 use mathlib.Core.Path.{_≡_}
-use mathlib.Core.Logic.{_≢_}
 use mathlib.Core.List.{List}
-use Prim.Native.Nat.{ℕ, _+_, _≤_, _<_}
+use Prim.Native.Nat.{ℕ, _+_, _<_}
 use lib.ListN.{length, getD, drop}
 use Rattle.model.specs.Store.{empty}
 use Rattle.words.specs.Offsets.{columnStart}

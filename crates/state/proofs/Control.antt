@@ -1,17 +1,15 @@
 -- The staged components, the excluded kinds and the refusal count: what is read of them, and what a few stores there make of the store. Assumes nothing.
 use mathlib.Core.Path.{_≡_, refl, sym, ap, _∙_, subst}
-use mathlib.Core.Bool.{true, false, cond}
-use mathlib.Core.List.{List, [], _∷_, _++_, map}
-use Prim.Native.Nat.{ℕ, zero, suc, _+_, _*_, _-_, _≤_, _<_}
+use mathlib.Core.List.{List, [], _∷_, _++_}
+use Prim.Native.Nat.{ℕ, _+_, _*_, _-_, _≤_, _<_}
 use native.Mathlib.Numerals.{add-one}
 use native.Mathlib.Omega.{arith}
 use borrow.Author.Tests.{lt-ltb, le-ltb}
-use lib.Dec.{ltb}
 use lib.ListN.{length, getD, set, drop}
 use lib.Seq.{drop-set-lt, set-getD}
 use Rattle.model.specs.Model.{Component, Family, kindOf}
 use Rattle.model.specs.Sound.{noComponent}
-use Rattle.model.specs.Store.{Control, Store, stagedKinds, withControl, emptyStaged, emptyBoth, counted}
+use Rattle.model.specs.Store.{Control, stagedKinds, withControl, emptyStaged, emptyBoth, counted}
 use Rattle.words.specs.Table.{table, length-table, getD-table, table-snoc}
 use Rattle.words.specs.Stores.{stores, Misses, length-stores, miss, hit}
 use Rattle.words.specs.Part.{between}

@@ -1,19 +1,19 @@
 -- The draft's block and its two numbers: read, written and emptied. Assumes nothing.
 use mathlib.Core.Path.{_≡_, refl, sym, ap, _∙_, subst}
 use mathlib.Core.List.{List, [], _∷_}
-use Prim.Native.Nat.{ℕ, zero, _+_, _-_, _≤_, _<_}
+use Prim.Native.Nat.{ℕ, _+_, _-_, _≤_, _<_}
 use native.Mathlib.Omega.{arith}
 use lib.ListN.{length, getD, drop}
 use lib.Seq.{getD-drop}
 use Rattle.model.specs.Model.{Family}
-use Rattle.model.specs.Store.{Control, withControl, withDraft}
+use Rattle.model.specs.Store.{withControl, withDraft}
 use Rattle.words.specs.Table.{table}
 use Rattle.words.specs.Stores.{stores, length-stores, miss, hit}
 use Rattle.words.specs.Part.{between, patch, length-between, patch-front, patch-between, patch-rest, patch-length}
 use Rattle.layout.specs.declared.group_layout.Layout.{Layout}
 use Rattle.layout.specs.Layout.{arraysOf, blockArrays, WellFormed, groupCount, familiesOf}
 use Rattle.blocks.specs.Blocks.{BlockFormed, ReadFrom, WrittenTo}
-use Rattle.memory.specs.Header.{stagedLen, excludedLen, draftFamilies, draftGroups, refusalsOf}
+use Rattle.memory.specs.Header.{draftFamilies, draftGroups, refusalsOf}
 use Rattle.memory.specs.Word.{Word}
 use Rattle.memory.specs.Meaning.{draftArrays, draftIn, stagedIn, excludedIn, controlIn, meaning}
 use Rattle.memory.specs.Arranged.{Arranged, Becomes}

@@ -1,16 +1,17 @@
 // The entities of a store.
 use entity::Entity;
+use entity::Found;
 use entity::in_words;
 use words::CAPACITY;
 ghost use mathlib.Core.Path.{_≡_};
-ghost use mathlib.Core.Bool.{true, false};
+ghost use mathlib.Core.Bool.{false};
 ghost use Prim.Native.Nat.{_<_};
 ghost use lib.ListN.{length, getD};
-ghost use Rattle.model.specs.Model.{noEntity, isLive, destroy};
+ghost use Rattle.model.specs.Model.{noEntity, destroy};
 ghost use Rattle.model.specs.Snapshot.{versionAt};
 ghost use Rattle.entity.specs.Meaning.{entity};
 ghost use Rattle.entity.specs.Change.{isFull};
-ghost use Rattle.entity.specs.Answers.{entityOf};
+ghost use Rattle.entity.specs.Answers.{entityOf, foundOf, LiveAt};
 ghost use Rattle.memory.specs.Meaning.{meaning};
 ghost use Rattle.memory.specs.Change.{withEntities};
 ghost use Rattle.memory.specs.Arranged.{Arranged, Becomes};
@@ -24,13 +25,13 @@ pub fn capacity(words: &[u32]) -> usize
     memory::word(words, CAPACITY)
 }
 
-// Whether the entity is live.
-pub fn contains(words: &[u32], index: u32, version: u32) -> bool
+// Where the entity is in the live list.
+pub fn get(words: &[u32], index: u32, version: u32) -> Found
     requires { ⌜ Arranged (now words) ⌝ }
-    ensures { λ r. ⌜ r ≡ isLive (entity index version) (meaning (now (words .entry)) .entities) ⌝ }
+    ensures { λ r. ⌜ r ≡ foundOf (entity index version) (meaning (now (words .entry)) .entities) ⌝ }
 {
     let n = capacity(words);
-    in_words::contains_in(words, n, index, version)
+    in_words::get_in(words, n, index, version)
 }
 
 // Whether no number is left: 01's FULL.
@@ -52,14 +53,14 @@ pub fn create(words: &mut [u32]) -> Entity
     in_words::create_in(words, n)
 }
 
-// Destroys a live entity. That it holds no component any more is the caller's.
-pub fn destroy(words: &mut [u32], index: u32, version: u32)
+// Destroys a live entity, whose place in the live list the caller has looked up. That it holds no component any more is the caller's.
+pub fn destroy(words: &mut [u32], place: usize, index: u32, version: u32)
     requires { ⌜ Arranged (now words) ⌝ }
-    requires { ⌜ isLive (entity index version) (meaning (now words) .entities) ≡ true ⌝ }
+    requires { ⌜ LiveAt (entity index version) place (meaning (now words) .entities) ⌝ }
     ensures { λ _. ⌜ Becomes (now (words .entry)) (now (words .exit)) (withEntities (meaning (now (words .entry))) (destroy (entity index version) (meaning (now (words .entry)) .entities))) ⌝ }
 {
     let n = capacity(words);
-    in_words::destroy_in(words, n, index, version);
+    in_words::destroy_in(words, n, place, index, version);
 }
 
 // How many entities are live.

@@ -1,7 +1,5 @@
 -- The loop that puts the staged components in, one kind after another. Assumes nothing.
 use mathlib.Core.Path.{_≡_, refl, ap, sym, _∙_, subst}
-use mathlib.Core.Logic.{_≢_}
-use mathlib.Core.Bool.{Bool, true, false, cond}
 use mathlib.Core.List.{List, [], _∷_, _++_, map}
 use Prim.Native.Nat.{ℕ, zero, suc, _+_, _≤_, _<_}
 use native.Mathlib.Omega.{arith}
@@ -18,13 +16,11 @@ use Rattle.model.proofs.SparseSets.{cond-case}
 use Rattle.model.proofs.Walk.{or-true}
 use Rattle.words.specs.Table.{by-eq}
 use Rattle.component.specs.SparseSet.{Current, entity}
-use Rattle.kinds.specs.Kinds.{kindSet}
-use Rattle.memory.specs.Header.{capacityOf}
 use Rattle.memory.specs.Meaning.{meaning}
-use Rattle.memory.specs.Change.{onSet, onStorage}
-use Rattle.memory.specs.Arranged.{Arranged, Becomes}
+use Rattle.memory.specs.Change.{onStorage}
+use Rattle.memory.specs.Arranged.{Becomes}
 use Rattle.storage.specs.Insert.{Insertable, insertOne, inserted}
-use Rattle.storage.proofs.Storing.{becomes-same, becomes-then, capacity-kept}
+use Rattle.group.proofs.Storing.{becomes-same, becomes-then, capacity-kept}
 
 -- ---- no other version of the index comes in
 

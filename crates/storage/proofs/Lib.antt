@@ -1,4 +1,3 @@
-pub mod Storing
 pub mod Inserting
 pub mod Removing
 pub mod Zeroing
@@ -7,3 +6,4 @@ pub mod Masking
 pub mod Live
 pub mod Whole
 pub mod Taking
+pub mod Kept

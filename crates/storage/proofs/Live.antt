@@ -1,18 +1,18 @@
 -- A live entity is the only version of its index in every sparse set. Assumes nothing.
 use mathlib.Core.Path.{_≡_, ap, sym, _∙_, subst}
 use mathlib.Core.Bool.{true, false, false≢true}
-use mathlib.Core.List.{List, [], _∷_, map}
+use mathlib.Core.List.{List, [], _∷_}
 use Prim.Native.Nat.{ℕ, zero, suc, _+_, _≤_, _<_}
 use native.Mathlib.Omega.{arith}
 use native.Mathlib.Nat.{le-of-suc-le-suc, not-suc-le-zero}
-use borrow.Author.Tests.{eq-eqb, eqb-true}
+use borrow.Author.Tests.{eq-eqb}
 use lib.Dec.{eqb}
 use lib.ListN.{length, getD}
-use Rattle.model.specs.Lists.{one, count}
+use Rattle.model.specs.Lists.{one}
 use Rattle.model.specs.Model.{Entity, SparseSet, sameEntity, noRow, setOf, keys, isLive}
 use Rattle.model.specs.Store.{Store}
 use Rattle.model.specs.Sound.{cnt, num, Sound}
-use Rattle.model.proofs.SparseSets.{entity-eq, entity-same, and-left}
+use Rattle.model.proofs.SparseSets.{entity-eq, entity-same}
 use Rattle.model.proofs.Walk.{bool-cases}
 use Rattle.model.proofs.Operations.{live-count}
 use Rattle.component.specs.SparseSet.{Current}
@@ -38,7 +38,8 @@ two-live : (x y : Entity) (l : List Entity) → x .index ≡ y .index → sameEn
 two-live x y [] q ne = omega arith
 two-live x y (z ∷ l) q ne = omega (arith, two-live x y l q ne, once-index x y z q ne)
 
-row-count : (rows : SparseSet) (i : ℕ) → i < length rows → 1 ≤ cnt (getD rows i noRow .entity) (keys rows)
+-- an entity of a row stands among the entities
+pub row-count : (rows : SparseSet) (i : ℕ) → i < length rows → 1 ≤ cnt (getD rows i noRow .entity) (keys rows)
 row-count [] i h = absurd (not-suc-le-zero h)
 row-count (r ∷ rows) zero h = omega (arith, ap one (entity-same (r .entity)))
 row-count (r ∷ rows) (suc i) h = omega (arith, row-count rows i (le-of-suc-le-suc h))

@@ -1,5 +1,5 @@
 -- The loops that join the masks of the staged kinds. Assumes nothing.
-use mathlib.Core.Path.{_≡_, refl, ap, ap₂, sym, _∙_, subst}
+use mathlib.Core.Path.{_≡_, ap, ap₂, sym, _∙_}
 use mathlib.Core.List.{List, [], _∷_, _++_}
 use Prim.Native.Nat.{ℕ, _+_, _≤_, _<_}
 use native.Mathlib.Omega.{arith}
@@ -9,7 +9,7 @@ use lib.Seq.{take-all, take-suc}
 use Rattle.model.specs.Model.{Family, groupsOf}
 use Rattle.masks.specs.Masks.{bitsOf, unionOf}
 use Rattle.group.specs.Flat.{insertPositions, deletePositions}
-use Rattle.group.proofs.KindPositions.{insert-union, delete-union, insert-no-kinds, delete-no-kinds}
+use Rattle.group.proofs.KindPositions.{insert-union, delete-union}
 
 -- positions P of the first i of the kinds ks, where those of more kinds are the union of the kinds'
 module _ (P : List ℕ → List ℕ) (none : P [] ≡ []) (union : (ks js : List ℕ) → P (ks ++ js) ≡ unionOf 64 (P ks) (P js)) (ks : List ℕ) where

@@ -1,23 +1,21 @@
 -- The group whose new kinds have a kind, as the head of the kind's column says it. Assumes nothing.
-use mathlib.Core.Path.{_≡_, refl, ap, sym, _∙_, subst}
-use mathlib.Core.Bool.{false, cond}
+use mathlib.Core.Path.{_≡_, ap, sym, _∙_, subst}
+use mathlib.Core.Bool.{false}
 use mathlib.Core.List.{List, [], _∷_}
-use Prim.Native.Nat.{ℕ, zero, suc, _+_, _-_, _≤_, _<_}
+use Prim.Native.Nat.{ℕ, suc, _+_, _-_, _≤_, _<_}
 use native.Mathlib.Omega.{arith}
-use borrow.Author.Tests.{lt-ltb, le-ltb}
-use lib.Dec.{ltb}
-use lib.ListN.{length, getD, take}
+use lib.ListN.{length, getD}
 use lib.Seq.{getD-take, take-all}
 use Rattle.model.specs.Model.{mem, groupsOf}
 use Rattle.model.specs.Sound.{In, Distinct, layoutKinds}
 use Rattle.masks.specs.Masks.{bitsOf, upFrom, Ordered}
-use Rattle.words.specs.Part.{between, getD-between}
+use Rattle.words.specs.Part.{between}
 use Rattle.layout.specs.Layout.{Arrays, startOf, widthOf, aritiesAt, familiesOf}
 use Rattle.layout.proofs.Arrays.{kinds-inside}
 use Rattle.memory.specs.Header.{slotOf, groupFamilyAt}
 use Rattle.memory.specs.Meaning.{ownAt, localAt, layoutArrays, meaning}
 use Rattle.memory.specs.Arranged.{Arranged, priorArity}
-use Rattle.kinds.proofs.Owned.{Owned, own-group, no-group}
+use Rattle.kinds.proofs.Owned.{Owned, own-group, no-group, prior-at}
 use Rattle.group.specs.declared.GroupMetadata.{GroupMetadata}
 use Rattle.group.specs.Flat.{Located, located, insertPositions, deletePositions}
 use Rattle.group.specs.Metadata.{orderOf, Describes}
@@ -26,19 +24,6 @@ use Rattle.group.proofs.InWords.{layout-means, sized, groups-are, order-is, ord
 use Rattle.group.proofs.Places.{between-in}
 use Rattle.group.proofs.Counts.{placed}
 use Rattle.group.proofs.KindPositions.{insert-none, delete-none, insert-run, delete-run}
-
--- the arity before that of the family's group i
-prior-at : (a : Arrays) (f i : ℕ) → startOf (a .ends) f + i < getD (a .ends) f 0 → priorArity a f (startOf (a .ends) f + i) ≡ getD (0 ∷ aritiesAt a f) i 0
-prior-at a f i h = go (startOf (a .ends) f + i) i refl h
-  where
-    go : (g i : ℕ) → startOf (a .ends) f + i ≡ g → startOf (a .ends) f + i < getD (a .ends) f 0 → priorArity a f g ≡ getD (0 ∷ aritiesAt a f) i 0
-    go zero zero e h = refl
-    go zero (suc i) e h = absurd (omega arith)
-    go (suc g) zero e h = rw (le-ltb (startOf (a .ends) f) (suc g) (omega arith))
-    go (suc g) (suc i) e h =
-        let n : startOf (a .ends) f + i ≡ g = omega arith in
-        rw (lt-ltb (startOf (a .ends) f) (suc g) (omega arith))
-        (sym (getD-between (startOf (a .ends) f) (getD (a .ends) f 0) i (a .arities) 0 (omega arith) ∙ ap (λ (j : ℕ). getD (a .arities) j 0) n))
 
 module _ (w : List ℕ) (A : Arranged w) where
   abbrev a : Arrays

@@ -1,14 +1,19 @@
 -- The loops that take an entity's components out, one kind after another. Assumes nothing.
 use mathlib.Core.Path.{_≡_, refl, ap, sym, _∙_, subst}
+use mathlib.Core.Bool.{false}
 use mathlib.Core.List.{List, [], _∷_, _++_, map}
-use Prim.Native.Nat.{ℕ, _+_, _≤_, _<_}
+use Prim.Native.Nat.{ℕ, suc, _+_, _≤_, _<_}
 use native.Mathlib.Omega.{arith}
 use native.Mathlib.Numerals.{add-one}
-use lib.ListN.{length, getD, set, take, length-map, List·getD-map}
-use lib.Seq.{take-all, take-suc}
-use Rattle.model.specs.Model.{Entity, Component, SparseSet, Storage, kindOf, setOf, onKinds, removeRow}
+use borrow.Author.Tests.{eq-eqb, eqb-false}
+use lib.Dec.{eqb}
+use lib.ListN.{length, getD, set, take, drop, length-map, List·getD-map}
+use lib.Seq.{take-all, take-suc, split-at, getD-set-other}
+use Rattle.model.specs.Model.{Entity, Component, SparseSet, Storage, mem, kindOf, setOf, onKinds, removeRow}
 use Rattle.model.specs.Store.{Store, stagedKinds}
 use Rattle.model.specs.Sound.{In, Distinct, noComponent}
+use Rattle.model.proofs.Walk.{or-false}
+use Rattle.model.proofs.Families.{or-false-right}
 use Rattle.words.specs.Table.{length-table, getD-table}
 use Rattle.columns.specs.Columns.{Only, Lent}
 use Rattle.columns.proofs.Slots.{lent}
@@ -19,12 +24,25 @@ use Rattle.memory.specs.Arranged.{Arranged, Becomes}
 use Rattle.memory.proofs.Becomes.{one-becomes}
 use Rattle.kinds.proofs.Slot.{known-small}
 use Rattle.group.proofs.EachKind.{eachKind, each-append, each-kinds}
+use Rattle.group.proofs.KindPositions.{not-left}
 use Rattle.group.proofs.Places.{place-in}
 use Rattle.storage.specs.Remove.{Staged, removed}
-use Rattle.storage.proofs.Storing.{becomes-same, becomes-then, sets-wide}
+use Rattle.group.proofs.Storing.{becomes-same, becomes-then, sets-wide}
 
 abbrev pub eachGone : Entity → List ℕ → Storage → Storage
 eachGone e ks s = record { sets = eachKind (removeRow e) ks (s .sets); layout = s .layout }
+
+-- a kind that is not among ks
+each-other : (f : SparseSet → SparseSet) (ks : List ℕ) (sets : List SparseSet) (j : ℕ) → mem j ks ≡ false → setOf (eachKind f ks sets) j ≡ setOf sets j
+each-other f [] sets j n = refl
+each-other f (k ∷ ks) sets j n =
+    each-other f ks (set sets k (f (setOf sets k))) j (or-false-right (eqb j k) (mem j ks) n)
+    ∙ getD-set-other sets k j (f (setOf sets k)) [] (eqb-false j k (or-false (eqb j k) (mem j ks) n))
+
+-- of distinct kinds, the one at i is not among those before it
+not-before : (ks : List ℕ) (i : ℕ) → Distinct ks → i < length ks → mem (getD ks i 0) (take i ks) ≡ false
+not-before ks i d h =
+    not-left (take i ks) (getD ks i 0 ∷ drop (suc i) ks) (getD ks i 0) (subst Distinct (split-at ks i 0 h) d) (rw (eq-eqb (getD ks i 0) (getD ks i 0) refl))
 
 -- of the kinds of ks the first i are done
 module _ (w₀ : List ℕ) (e : Entity) (ks : List ℕ) where
@@ -43,6 +61,12 @@ module _ (w₀ : List ℕ) (e : Entity) (ks : List ℕ) where
       ∙ sym (ap (λ (l : List ℕ). eachKind (removeRow e) l (meaning w₀ .storage .sets)) more ∙ each-append (removeRow e) (take i ks) (getD ks i 0 ∷ []) (meaning w₀ .storage .sets)) in
       subst (λ (l : List SparseSet). Becomes w₀ w′ (onStorage (λ (s : Storage). record { sets = l; layout = s .layout }) (meaning w₀))) ss
       (becomes-then w₀ w w′ (eachGone e (take i ks)) (onStorage (onSet k (removeRow e))) B C)
+
+  -- the next kind's rows are still as they were
+  pub gone-next : (w : List ℕ) (i : ℕ) → i < length ks → Distinct ks → Gone w i → setOf (meaning w .storage .sets) (getD ks i 0) ≡ setOf (meaning w₀ .storage .sets) (getD ks i 0)
+  gone-next w i h d B =
+      ap (λ (m : Store). setOf (m .storage .sets) (getD ks i 0)) (B .means)
+      ∙ each-other (removeRow e) (take i ks) (meaning w₀ .storage .sets) (getD ks i 0) (not-before ks i d h)
 
   pub gone-all : (w : List ℕ) (i : ℕ) → length ks ≤ i → Distinct ks → ((k : ℕ) → In ks k → k < 128) → Gone w i → Becomes w₀ w (onStorage (removed e ks) (meaning w₀))
   gone-all w i h d lt B =

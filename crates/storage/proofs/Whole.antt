@@ -2,13 +2,15 @@
 use mathlib.Core.Path.{_≡_, refl, ap, sym, _∙_, subst}
 use mathlib.Core.Bool.{true}
 use mathlib.Core.List.{List, [], _∷_, map, reverse}
-use Prim.Native.Nat.{ℕ, _+_, _≤_, _<_}
+use Prim.Native.Nat.{ℕ, _+_, _<_}
 use native.Mathlib.Omega.{arith}
 use borrow.Author.Tests.{eq-eqb}
 use lib.Dec.{eqb}
 use lib.ListN.{length}
+use lib.Seq.{sets}
 use Rattle.model.specs.Model.{Entity, Component, Family, Storage, kindOf, kindsOf, meets, groupsOf, isLive, insert, remove}
 use Rattle.model.specs.Store.{Store, stagedKinds}
+use Rattle.model.specs.Commands.{heldBytes}
 use Rattle.model.specs.Sound.{In, Distinct}
 use Rattle.model.proofs.Walk.{or-true}
 use Rattle.model.proofs.Families.{Kinds}
@@ -17,10 +19,9 @@ use Rattle.model.proofs.Numbers.{cnt-num}
 use Rattle.model.proofs.Operations.{sound-held, live-count}
 use Rattle.masks.specs.Masks.{bitsOf, has, upFrom}
 use Rattle.component.specs.SparseSet.{entity}
-use Rattle.memory.specs.Header.{capacityOf}
 use Rattle.memory.specs.Meaning.{meaning}
 use Rattle.memory.specs.Change.{onStorage}
-use Rattle.memory.specs.Arranged.{Arranged, Sound, Becomes}
+use Rattle.memory.specs.Arranged.{Sound, Becomes}
 use Rattle.group.specs.Flat.{insertPositions, deletePositions, walkUp, walkDown}
 use Rattle.group.specs.Ready.{ReadyUp, ReadyDown}
 use Rattle.group.specs.Steps.{Below}
@@ -30,10 +31,11 @@ use Rattle.group.proofs.UpReady.{ready-insert}
 use Rattle.group.proofs.Downward.{walk-ungroup, ready-remove}
 use Rattle.group.proofs.AllGroups.{walk-ungroup-all, ready-remove-all}
 use Rattle.storage.specs.Insert.{Insertable, inserted}
-use Rattle.storage.specs.Remove.{Staged, removed}
-use Rattle.storage.proofs.Storing.{becomes-then, storage-becomes, capacity-means}
+use Rattle.storage.specs.Remove.{Staged, TakesStaged, Takes, ungrouped, removed}
+use Rattle.group.proofs.Storing.{becomes-then, storage-becomes, capacity-means}
 use Rattle.storage.proofs.Removing.{staged-kept}
 use Rattle.storage.proofs.Live.{current}
+use Rattle.storage.proofs.Kept.{ungroup-held}
 
 kinds-of : (staged : List Component) (n : ℕ) → ((k : ℕ) → In (map kindOf staged) k → k < n) → Kinds n staged
 kinds-of [] n h = tt
@@ -100,20 +102,32 @@ module _ (w : List ℕ) (S : Sound w) where
     pub delete-ready : ReadyDown e (reverse (bitsOf 64 mask)) (meaning w .storage)
     delete-ready = subst (λ (ps : List ℕ). ReadyDown e (reverse ps) (meaning w .storage)) (sym b) (ready-remove e (stagedKinds (meaning w)) (meaning w .storage) fit)
 
-    left : removed e (stagedKinds (meaning w)) (walkDown e (reverse (bitsOf 64 mask)) (meaning w .storage)) ≡ remove e (stagedKinds (meaning w)) (meaning w .storage)
+    left : walkDown e (reverse (bitsOf 64 mask)) (meaning w .storage) ≡ ungrouped e (stagedKinds (meaning w)) (meaning w .storage)
+    left = ap (λ (ps : List ℕ). walkDown e (reverse ps) (meaning w .storage)) b ∙ walk-ungroup e (stagedKinds (meaning w)) (meaning w .storage) fit
+
+    pub ungroup-whole : (w₁ : List ℕ) → Becomes w w₁ (onStorage (walkDown e (reverse (bitsOf 64 mask))) (meaning w)) → Becomes w w₁ (onStorage (ungrouped e (stagedKinds (meaning w))) (meaning w))
+    ungroup-whole w₁ B = storage-becomes w w₁ (meaning w) (walkDown e (reverse (bitsOf 64 mask))) (ungrouped e (stagedKinds (meaning w))) left B
+
+  -- the words w₁, where the entity has left its groups
+  module _ (e : Entity) (w₁ : List ℕ) (B : Becomes w w₁ (onStorage (ungrouped e (stagedKinds (meaning w))) (meaning w))) where
+    pub staged-after : Staged w₁
+    staged-after = staged-kept w w₁ (ungrouped e (stagedKinds (meaning w))) staged-sound B
+
+    pub count-after : length (meaning w₁ .control .staged) ≡ length (meaning w .control .staged)
+    count-after = ap (λ (s : Store). length (s .control .staged)) (B .means)
+
+    held-after : heldBytes e (stagedKinds (meaning w₁)) (meaning w₁ .storage) ≡ heldBytes e (stagedKinds (meaning w)) (meaning w .storage)
+    held-after =
+        ap (λ (s : Store). heldBytes e (stagedKinds s) (s .storage)) (B .means)
+        ∙ ungroup-held e (stagedKinds (meaning w)) (stagedKinds (meaning w)) (meaning w .storage) fit
+
+    pub delete-whole : (w₂ : List ℕ) → Becomes w₁ w₂ (onStorage (removed e (stagedKinds (meaning w₁))) (meaning w₁)) → Becomes w w₂ (onStorage (remove e (stagedKinds (meaning w))) (meaning w))
     unfolding remove
-    left =
-        ap (removed e (stagedKinds (meaning w)))
-        (ap (λ (ps : List ℕ). walkDown e (reverse ps) (meaning w .storage)) b ∙ walk-ungroup e (stagedKinds (meaning w)) (meaning w .storage) fit)
+    delete-whole w₂ C = becomes-then w w₁ w₂ (ungrouped e (stagedKinds (meaning w))) (λ (s : Store). onStorage (removed e (stagedKinds s)) s) B C
 
-    module _ (w₁ : List ℕ) (B : Becomes w w₁ (onStorage (walkDown e (reverse (bitsOf 64 mask))) (meaning w))) where
-      pub delete-staged-after : Staged w₁
-      delete-staged-after = staged-kept w w₁ (walkDown e (reverse (bitsOf 64 mask))) staged-sound B
-
-      pub delete-whole : (w₂ : List ℕ) → Becomes w₁ w₂ (onStorage (removed e (stagedKinds (meaning w₁))) (meaning w₁)) → Becomes w w₂ (onStorage (remove e (stagedKinds (meaning w))) (meaning w))
-      delete-whole w₂ C =
-          storage-becomes w w₂ (meaning w) (λ (s : Storage). removed e (stagedKinds (meaning w)) (walkDown e (reverse (bitsOf 64 mask)) s)) (remove e (stagedKinds (meaning w))) left
-          (becomes-then w w₁ w₂ (walkDown e (reverse (bitsOf 64 mask))) (λ (s : Store). onStorage (removed e (stagedKinds s)) s) B C)
+    -- the bytes are those of the words before the walk
+    pub take-whole : (w₂ out out₂ : List ℕ) (at : ℕ) → TakesStaged w₁ w₂ out out₂ e at → Takes w w₂ out out₂ e at
+    take-whole w₂ out out₂ at T = record { becomes = delete-whole w₂ (T .becomes); bytes = T .bytes ∙ ap (sets out at) held-after }
 
   -- ---- all components: out of all groups, then they go
 

@@ -8,14 +8,14 @@ use native.Mathlib.Numerals.{add-one}
 use native.Mathlib.Decide.{decLt}
 use borrow.Author.Tests.{lt-ltb, le-ltb}
 use lib.ListN.{length}
-use Rattle.model.specs.Model.{Group, Family, Storage, groupsOf, zeroCount, clearAll}
+use Rattle.model.specs.Model.{Family, Storage, groupsOf, zeroCount, clearAll}
 use Rattle.model.specs.Store.{Store}
 use Rattle.memory.specs.Meaning.{meaning}
 use Rattle.memory.specs.Change.{onStorage, withLayout}
 use Rattle.memory.specs.Arranged.{Arranged, Becomes}
 use Rattle.kinds.specs.Kinds.{emptied}
 use Rattle.group.specs.Flat.{setIn, setCount}
-use Rattle.storage.proofs.Storing.{becomes-same, becomes-then}
+use Rattle.group.proofs.Storing.{becomes-same, becomes-then}
 
 -- the first i groups of a family, and of the layout, count nothing
 pub zeroIn : ℕ → Family → Family

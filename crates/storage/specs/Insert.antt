@@ -1,5 +1,4 @@
 -- Insertion (component_set.rs): what it asks, and the staged components gone in. Assumes nothing.
-use mathlib.Core.Path.{_≡_}
 use mathlib.Core.List.{List}
 use Prim.Native.Nat.{ℕ, _≤_, _<_}
 use Rattle.model.specs.Model.{Entity, Component, Storage, insertRow, insertAll}

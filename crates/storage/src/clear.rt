@@ -1,5 +1,4 @@
 // All components go (component_storage.rs, clear): no group has an entity left.
-ghost use mathlib.Core.Path.{_≡_};
 ghost use mathlib.Core.List.{map};
 ghost use Rattle.model.specs.Model.{Storage, zeroCount, clearAll};
 ghost use Rattle.memory.specs.Meaning.{meaning};

@@ -1,7 +1,7 @@
 // Insertion: all staged components go in, then the touched families' groups are walked upward.
 ghost use mathlib.Core.Path.{_≡_};
 ghost use mathlib.Core.Bool.{true};
-ghost use Prim.Native.Nat.{_≤_, _<_};
+ghost use Prim.Native.Nat.{_<_};
 ghost use lib.ListN.{length, getD};
 ghost use Rattle.model.specs.Model.{insert, isLive};
 ghost use Rattle.model.specs.Sound.{noComponent};

@@ -1,5 +1,4 @@
 // Removal of the staged kinds: before any component goes, the entity leaves the groups that have one of the kinds.
-ghost use mathlib.Core.Path.{_≡_};
 ghost use Prim.Native.Nat.{_<_};
 ghost use lib.ListN.{length, getD};
 ghost use Rattle.model.specs.Model.{removeRow, remove};
@@ -8,7 +7,16 @@ ghost use Rattle.component.specs.SparseSet.{entity};
 ghost use Rattle.memory.specs.Meaning.{meaning};
 ghost use Rattle.memory.specs.Change.{onSet, onStorage};
 ghost use Rattle.memory.specs.Arranged.{Becomes, Sound};
-ghost use Rattle.storage.specs.Remove.{Staged, removed};
+ghost use Rattle.storage.specs.Remove.{Staged, ungrouped, removed};
+
+// The entity leaves the groups that have a staged kind, highest first.
+pub fn ungroup_staged(words: &mut [u32], index: u32, version: u32)
+    requires { ⌜ Sound (now words) ⌝ }
+    ensures { λ _. ⌜ Becomes (now (words .entry)) (now (words .exit)) (onStorage (ungrouped (entity index version) (stagedKinds (meaning (now (words .entry))))) (meaning (now (words .entry)))) ⌝ }
+{
+    let mask = crate::mask::staged_delete_mask(words);
+    group::ungroup(words, mask, index, version);
+}
 
 // The entity's component of the staged kind at i goes.
 fn delete_one(words: &mut [u32], i: usize, index: u32, version: u32)
@@ -38,7 +46,6 @@ pub fn delete(words: &mut [u32], index: u32, version: u32)
     requires { ⌜ Sound (now words) ⌝ }
     ensures { λ _. ⌜ Becomes (now (words .entry)) (now (words .exit)) (onStorage (remove (entity index version) (stagedKinds (meaning (now (words .entry))))) (meaning (now (words .entry)))) ⌝ }
 {
-    let mask = crate::mask::staged_delete_mask(words);
-    group::ungroup(words, mask, index, version);
+    ungroup_staged(words, index, version);
     delete_staged(words, index, version);
 }

@@ -1,5 +1,4 @@
 // All components of an entity go (component_storage.rs, strip), after it has left all groups.
-ghost use mathlib.Core.Path.{_≡_};
 ghost use Prim.Native.Nat.{_<_};
 ghost use lib.ListN.{length, getD};
 ghost use Rattle.model.specs.Model.{removeRow, remove};

@@ -21,7 +21,7 @@ use Rattle.model.proofs.Entries.{Columned, column-accepted, column-refused}
 use Rattle.words.specs.Offsets.{columnStart, columnStart-fits}
 use Rattle.component.specs.SparseSet.{lengthOf, rowAt, valueOf, rows}
 use Rattle.component.proofs.Meaning.{length-rows, getD-rows}
-use Rattle.component.specs.Decides.{Decides}
+use Rattle.words.specs.Decides.{Decides}
 use Rattle.columns.specs.Columns.{columnOf}
 use Rattle.columns.proofs.Slots.{getD-column}
 use Rattle.memory.specs.Header.{capacityOf, slotOf}
@@ -214,24 +214,27 @@ given-inside w values k a e G =
       within = part-inside w (G .sound .arranged) k (C .known) values a (e - a) (omega (arith, C .order, C .inside));
     }
 
+-- its words, where they stand
+pub given-words : (w : List ℕ) (values : Bool) (k a e : ℕ) → Given w k a e → ((j : ℕ) → getD w j 0 < 4294967296) → column values k a e (meaning w) ≡ take (2 * (e - a)) (drop (rowPlace values w k a) w)
+given-words w values k a e G small =
+    let C : Columned values k a e (meaning w) = known-of w values k a e G in
+    let up : a + (e - a) ≡ e = omega (arith, C .order) in
+    let fits : a + (e - a) ≤ length (kindSet w k) = omega (arith, C .inside, up) in
+    C .words
+    ∙ subst (λ (x : ℕ). partWords values a x (kindSet w k) ≡ take (2 * (e - a)) (drop (rowPlace values w k a) w)) up (part-there w (G .sound .arranged) k (C .known) small values a (e - a) fits)
+
 pub given-part : (v r : RefT (List ℕ)) (values : Bool) (k a e first last : ℕ) → Given (v .now) k a e → ((j : ℕ) → getD (v .now) j 0 < 4294967296)
     → first ≡ rowPlace values (v .now) k a → last ≡ first + 2 * (e - a) → r .ptr .0 ≡ v .ptr .0 → r .ptr .1 ≡ first * 4 + v .ptr .1 → r .now ≡ take (last - first) (drop first (v .now)) → ColumnPart v r values k a e
 given-part v r values k a e first last G small at end block offset words =
     let w = v .now in
-    let C : Columned values k a e (meaning w) = known-of w values k a e G in
-    let m : ℕ = e - a in
-    let up : a + (e - a) ≡ e = omega (arith, C .order) in
-    let fits : a + (e - a) ≤ length (kindSet w k) = omega (arith, C .inside, up) in
     let place : ℕ = rowPlace values w k a in
     let inside : place + 2 * (e - a) ≤ length w = given-inside w values k a e G .within in
     let cut : last - first ≡ 2 * (e - a) = omega arith in
     let is : r .now ≡ take (2 * (e - a)) (drop place w) = words ∙ ap (λ (n : ℕ). take n (drop first w)) cut ∙ ap (λ (n : ℕ). take (2 * (e - a)) (drop n w)) at in
     let long : length (r .now) ≡ 2 * (e - a) = ap length is ∙ length-take-le (2 * (e - a)) (drop place w) (omega (arith, inside, length-drop place w)) in
-    let there : partWords values a e (kindSet w k) ≡ take (2 * (e - a)) (drop place w) =
-    subst (λ (x : ℕ). partWords values a x (kindSet w k) ≡ take (2 * (e - a)) (drop place w)) up (part-there w (G .sound .arranged) k (C .known) small values a (e - a) fits) in
     record {
       sound = true;
       decides = G .sound;
-      words = is ∙ sym (C .words ∙ there);
+      words = is ∙ sym (given-words w values k a e G small);
       part = rw (G .taken, long) (record { block = block; offset = offset ∙ ap (λ (n : ℕ). n * 4 + v .ptr .1) at; inside = inside; words = is });
     }

@@ -14,7 +14,7 @@ use Rattle.model.specs.Run as model
 use Rattle.model.specs.Entries.{Started, refusesStart, makes, start}
 use Rattle.model.specs.Entries as entries
 use Rattle.model.specs.Sound.{Limits}
-use Rattle.component.specs.Decides.{Decides}
+use Rattle.words.specs.Decides.{Decides}
 use Rattle.memory.specs.Meaning.{meaning}
 use Rattle.memory.specs.Arranged.{Sound}
 use Rattle.stream.specs.declared.Ran.{Ran}
@@ -31,7 +31,7 @@ pub record Alike (w v : List ℕ) : Type 0 where
 pub alike-same : (w v : List ℕ) → w ≡ v → Alike w v
 alike-same w v e = record { means = ap meaning e; sound = ((λ S. subst Sound e S), (λ S. subst Sound (sym e) S)) }
 
-decided : {P Q : Type 0} (b c : Bool) → Decides b P → Decides c Q → P ↔ Q → b ≡ c
+pub decided : {P Q : Type 0} (b c : Bool) → Decides b P → Decides c Q → P ↔ Q → b ≡ c
 decided true true p q e = refl
 decided true false p q e = absurd (q (e .0 p))
 decided false true p q e = absurd (p (e .1 q))

@@ -3,5 +3,8 @@ pub mod Running
 pub mod Pairs
 pub mod Columns
 pub mod Rolling
+pub mod Linking
+pub mod Tables
 pub mod Courses
 pub mod Determined
+pub mod Demands

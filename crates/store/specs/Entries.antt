@@ -14,7 +14,7 @@ use Rattle.model.specs.Entries.{Started, refusesStart, makes, start, columnRefu
 use Rattle.model.specs.Entries as entries
 use Rattle.model.specs.Sound.{Limits}
 use Rattle.words.specs.Offsets.{columnStart}
-use Rattle.component.specs.Decides.{Decides}
+use Rattle.words.specs.Decides.{Decides}
 use Rattle.memory.specs.Header.{capacityOf, slotOf}
 use Rattle.memory.specs.Meaning.{meaning}
 use Rattle.memory.specs.Arranged.{Sound}

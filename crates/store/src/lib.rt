@@ -1,10 +1,12 @@
 // The public entries of document 01: *start*, *run*, *column* and its number, *roll*. None asks anything of its caller.
+pub mod exports;
+
 use stream::Ran;
 ghost use mathlib.Core.Path.{_≡_};
 ghost use Prim.Native.Nat.{_≤_};
 ghost use lib.ListN.{length};
 ghost use Rattle.model.specs.Sound.{Limits, In};
-ghost use Rattle.component.specs.Decides.{Decides};
+ghost use Rattle.words.specs.Decides.{Decides};
 ghost use Rattle.memory.specs.Meaning.{meaning};
 ghost use Rattle.memory.specs.Arranged.{Arranged};
 ghost use Rattle.kinds.specs.Kinds.{kindSet};
@@ -26,6 +28,7 @@ const BEYOND: u8 = 16;
 const HEAD: usize = 8;
 
 // What roll answers: 0 and how many bytes, or the number of a refusal and 0.
+#[repr(C)]
 pub struct Rolled {
     pub number: u8,
     pub written: usize,

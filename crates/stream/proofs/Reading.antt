@@ -1,12 +1,12 @@
 -- Operands off the tape, and how many bytes a command's operands and its accepted answer take. Assumes nothing.
 use mathlib.Core.Path.{_≡_, refl, ap, ap₂, sym, _∙_, subst}
 use mathlib.Core.Logic.{_≢_}
-use mathlib.Core.List.{List, [], _∷_, _++_, map}
+use mathlib.Core.List.{List, [], _∷_}
 use Prim.Native.Nat.{ℕ, zero, suc, _+_, _*_, _≤_, _<_}
 use native.Mathlib.Omega.{arith}
 use native.Mathlib.Nat.{add-zero}
 use lib.ListN.{length, getD, set, take, drop, length-drop, List·getD-map}
-use lib.Seq.{getD-take, getD-drop, length-take-le, take-take, take-add, drop-drop, drop-at, getD-set-same, getD-set-other}
+use lib.Seq.{getD-take, getD-drop, length-take-le, take-take, take-add, drop-drop, drop-at, getD-set-other}
 use Rattle.model.specs.Model.{Entity}
 use Rattle.model.specs.Store.{Store, number}
 use Rattle.model.specs.Commands.{Command, REG, HOLD, NEW, PUT, TAKE, DROP, KILL, WIPE, GROUP, APPLY, BAR, RANGE, EMPTY, TALLY, entityOfBytes, commandAt, answerLength}

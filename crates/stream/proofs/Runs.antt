@@ -8,16 +8,15 @@ use lib.ListN.{length, getD, take, drop, length-drop, length-append, drop-of-len
 use lib.Seq.{sets, sets-eq, length-sets, drop-drop, take-at, drop-at, length-take-le}
 use Rattle.model.specs.Store.{Store}
 use Rattle.model.specs.Run.{Step, stops, goes, step, Ran, halt, more, runFor, run}
-use Rattle.model.proofs.Lengths.{Stepped as Lengths, Going as Fitting, step-lengths}
-use Rattle.model.proofs.Sound.{After}
+use Rattle.model.proofs.Lengths.{Stepped as Lengths, step-lengths}
+use Rattle.layout.proofs.Scan.{drop-step}
 use Rattle.memory.specs.Meaning.{meaning}
 use Rattle.memory.specs.Arranged.{Sound, Becomes}
 use Rattle.commands.proofs.Acts.{SameSize, stays, becomes-next}
-use Rattle.stream.specs.Stream.{commandIn, stepAt, storeOf, bytesOf, resultOf, Refused, Stepped, Traced, Completed}
-use Rattle.stream.specs.declared.Went.{Went}
+use Rattle.stream.specs.Stream.{commandIn, stepAt, resultOf, Refused, Stepped, Traced, Completed}
 use Rattle.stream.specs.declared.Went.the-variants.{Done, Stop}
 use Rattle.stream.proofs.Steps.{step-same}
-use Rattle.stream.proofs.Traces.{tape-at, traced-end, traced-stop, traced-more}
+use Rattle.stream.proofs.Traces.{traced-end, traced-stop, traced-more}
 
 -- ---- the model's run, unrolled once
 
@@ -28,7 +27,7 @@ next (goes k a s′) s t room m = more k a (runFor m (drop k t) (room - length a
 run-more : (m : ℕ) (s : Store) (t : List ℕ) (at room : ℕ) → at < length t → runFor (suc m) (drop at t) room s ≡ next (stepAt s t at room) s (drop at t) room m
 unfolding runFor
 run-more m s t at room h =
-    rw (tape-at t at h) (go (getD t at 0) (drop (at + 1) t) (step (getD t at 0) (drop (at + 1) t) room s))
+    rw (drop-step t at 0 h) (go (getD t at 0) (drop (at + 1) t) (step (getD t at 0) (drop (at + 1) t) room s))
   where
     go : (b : ℕ) (l : List ℕ) (x : Step) → elim x as (λ p. Ran) [ stops n ↦ halt n s | goes w a s′ ↦ more w a (runFor m (drop w (b ∷ l)) (room - length a) s′) ] ≡ next x s (b ∷ l) room m
     go b l (stops n) = refl

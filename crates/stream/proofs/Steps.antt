@@ -1,26 +1,25 @@
 -- The cases of a step, at a place of the tape. Assumes nothing.
-use mathlib.Core.Path.{_≡_, refl, ap, sym, _∙_}
-use mathlib.Core.Bool.{Bool, true, false}
-use mathlib.Core.List.{List, [], _∷_, _++_}
-use Prim.Native.Nat.{ℕ, zero, suc, _+_, _-_, _≤_, _<_}
+use mathlib.Core.Path.{_≡_, refl, _∙_}
+use mathlib.Core.Bool.{true, false}
+use mathlib.Core.List.{List, [], _∷_}
+use Prim.Native.Nat.{ℕ, suc, _+_, _-_, _≤_, _<_}
 use native.Mathlib.Omega.{arith}
 use borrow.Author.Tests.{lt-ltb, le-ltb, le-leb, lt-leb}
-use lib.Dec.{leb, ltb}
+use lib.Dec.{ltb}
 use lib.ListN.{length, getD, take, drop, length-drop}
 use Rattle.model.specs.Model.{addsNothing}
 use Rattle.model.specs.Store.{Store, Bytes, isKind, stagedKinds}
 use Rattle.model.specs.Commands.{Command, REG, HOLD, NEW, PUT, TAKE, DROP, KILL, WIPE, GROUP, APPLY, BAR, RANGE, EMPTY, TALLY, Done, accepted, width, commandAt, answerLength}
-use Rattle.model.specs.Run.{Outcome, refuses, accepts, outcome, does, Step, stops, goes, stepOf, step}
+use Rattle.model.specs.Run.{Outcome, refuses, accepts, does, Step, stops, goes, stepOf, step}
 use Rattle.model.proofs.SparseSets.{cond-case}
 use Rattle.model.proofs.Lines.{accepted-exact}
 use Rattle.model.proofs.Lengths.{answer-length, answer-positive, step-case}
 use Rattle.model.proofs.Sound.{After, bytes-drop, tape-fits}
 use Rattle.memory.specs.Meaning.{meaning}
-use Rattle.memory.specs.Arranged.{Arranged, Sound, Becomes}
-use Rattle.commands.specs.Acted.{Ready, Written, Acted, storeAfter, answerOf}
+use Rattle.memory.specs.Arranged.{Sound}
+use Rattle.commands.specs.Acted.{Acted, storeAfter, answerOf}
 use Rattle.commands.proofs.Acts.{SameSize, stays, acted-sound}
 use Rattle.stream.specs.Stream.{commandIn, Given, StepReady, stepAt, Stepped}
-use Rattle.stream.specs.declared.Went.{Went}
 use Rattle.stream.specs.declared.Went.the-variants.{Done as Goes, Stop}
 
 -- ---- the model's step

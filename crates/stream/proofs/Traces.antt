@@ -1,20 +1,15 @@
 -- A run command by command, on the words: how it ends, and how a command goes before the rest. Assumes nothing.
-use mathlib.Core.Path.{_≡_, refl, ap, sym, _∙_}
+use mathlib.Core.Path.{_≡_, refl}
 use mathlib.Core.List.{List, [], _∷_}
 use Prim.Native.Nat.{ℕ, zero, suc, _+_, _-_, _≤_, _<_}
 use lib.ListN.{length, getD, take, drop, drop-of-length-le}
-use lib.Seq.{drop-cons}
-use native.Mathlib.Numerals.{add-one}
 use Rattle.model.specs.Store.{Store}
 use Rattle.model.specs.Commands.{Command, width, commandAt}
 use Rattle.model.specs.Run.{Step, stops, goes, step}
+use Rattle.layout.proofs.Scan.{drop-step}
 use Rattle.memory.specs.Meaning.{meaning}
 use Rattle.memory.specs.Arranged.{Becomes}
 use Rattle.stream.specs.Stream.{commandIn, stepAt, Refused, GoesOn, Traced}
-
--- the tape from `at` on is its byte and the rest
-pub tape-at : (t : List ℕ) (at : ℕ) → at < length t → drop at t ≡ getD t at 0 ∷ drop (at + 1) t
-tape-at t at h = drop-cons t at 0 h ∙ ap (λ (k : ℕ). getD t at 0 ∷ drop k t) (sym (add-one at))
 
 traced-none : (m room : ℕ) (w : List ℕ) → Traced m [] room w w
 unfolding Traced
@@ -43,11 +38,11 @@ module _ (m room : ℕ) (w w′ : List ℕ) (b : ℕ) (l : List ℕ) where
 
 module _ (m room : ℕ) (w w′ t : List ℕ) (at : ℕ) (h : at < length t) where
   pub traced-stop : (n : ℕ) → stepAt (meaning w) t at room ≡ stops n → w′ ≡ w → Traced (suc m) (drop at t) room w w′
-  traced-stop n e q = rw (tape-at t at h) (stop-first m room w w′ (getD t at 0) (drop (at + 1) t) n e q)
+  traced-stop n e q = rw (drop-step t at 0 h) (stop-first m room w w′ (getD t at 0) (drop (at + 1) t) n e q)
 
   pub traced-more : (w₁ : List ℕ) (k : ℕ) (a : List ℕ) (s : Store) → stepAt (meaning w) t at room ≡ goes k a s → Becomes w w₁ s → Refused w w₁ (commandIn (getD t at 0) t (at + 1))
       → Traced m (drop k (drop at t)) (room - length a) w₁ w′ → Traced (suc m) (drop at t) room w w′
   traced-more w₁ k a s e B R T =
-      let d = tape-at t at h in
+      let d = drop-step t at 0 h in
       let T′ : Traced m (drop k (getD t at 0 ∷ drop (at + 1) t)) (room - length a) w₁ w′ = rw d at T in
       rw d (go-first m room w w′ (getD t at 0) (drop (at + 1) t) w₁ k a s e B R T′)

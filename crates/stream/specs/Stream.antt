@@ -68,13 +68,14 @@ pub record Stepped (w w′ t o o′ : List ℕ) (at p : ℕ) (r : Went) (x : Ste
 
 -- ---- a run, command by command
 
--- the command c leaves words that mean s, with which the run goes on as P says
+-- the command c leaves words that mean s, and P says what the rest of the run makes of them
 pub record Leaves (w : List ℕ) (c : Command) (s : Store) (P : List ℕ → Type 0) : Type 0 where
   pub words : List ℕ
   pub becomes : Becomes w words s
   pub refused : Refused w words c
   pub rest : P words
 
+-- a stop ends the run, and a command goes before the rest of it
 abbrev pub GoesOn : Step → List ℕ → List ℕ → Command → (ℕ → List ℕ → List ℕ → Type 0) → Type 0
 GoesOn (stops n) w w′ c P = w′ ≡ w
 GoesOn (goes k a s) w w′ c P = Leaves w c s (P k a)

@@ -1,14 +1,17 @@
 -- What RANGE tells and leaves, by the range that was found. Assumes nothing.
 use mathlib.Core.Path.{_≡_, ap, sym, _∙_}
-use Prim.Native.Nat.{ℕ, _<_}
+use mathlib.Core.List.{List, [], _∷_, _++_}
+use Prim.Native.Nat.{ℕ, _+_, _<_}
 use native.Mathlib.Omega.{arith}
+use lib.Seq.{sets}
 use Rattle.model.specs.Model.{Range, found, range}
 use Rattle.model.specs.Sound.{Sound}
-use Rattle.model.specs.Store.{Store, stagedKinds, withControl, emptyBoth}
+use Rattle.model.specs.Store.{Store, le, stagedKinds, withControl, emptyBoth}
 use Rattle.model.specs.Commands.{RANGE, rangeBytes, accepted}
 use Rattle.model.specs.Run.{accepts, does}
 use Rattle.model.proofs.Bounds.{range-bounded}
 use Rattle.model.proofs.Outcomes.{range-does}
+use Rattle.codec.proofs.Numbers.{sets-join}
 
 -- the model's range of the hand without the bar
 abbrev pub rangeTold : Store → Range
@@ -23,3 +26,10 @@ pub range-fits : (s : Store) → Sound s → (a b : ℕ) → found a b ≡ range
 range-fits s S a b e =
     let h = range-bounded s S (stagedKinds s) (s .control .excluded) a b (sym e) in
     (omega (arith, h .0, h .1, S .limits), omega (arith, h .1, S .limits))
+
+-- the two bytes, then start, then end
+pub range-bytes : (o : List ℕ) {o₁ o₂ o′ : List ℕ} (at f a b : ℕ) → o₁ ≡ sets o at (0 ∷ f ∷ []) → o₂ ≡ sets o₁ (at + 2) (le 4 a) → o′ ≡ sets o₂ (at + 6) (le 4 b) → o′ ≡ sets o at (0 ∷ f ∷ le 4 a ++ le 4 b)
+range-bytes o at f a b p q r =
+    r
+    ∙ ap (λ (l : List ℕ). sets l (at + 6) (le 4 b)) (q ∙ ap (λ (l : List ℕ). sets l (at + 2) (le 4 a)) p ∙ sets-join o at (0 ∷ f ∷ []) (le 4 a))
+    ∙ sets-join o at (0 ∷ f ∷ le 4 a) (le 4 b)

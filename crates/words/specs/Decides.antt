@@ -1,7 +1,7 @@
 -- A check that answers a bool decides a proposition. At a constant answer `Decides` computes to the proposition or to its denial, so a function that
 -- ends in `return false;` .. `true` has most of its answers found by search. Assumes nothing.
 use mathlib.Core.Bool.{Bool, true, false, not}
-use mathlib.Core.Path.{_≡_, refl, subst}
+use mathlib.Core.Path.{_≡_, subst}
 use borrow.Author.Tests.{not-true, not-false}
 
 -- true: P holds; false: it does not

@@ -1,9 +1,9 @@
 -- The links of a sparse set (Briggs and Torczon): each row's entity and its index's slot point to each other; how they stay sound when
 -- rows are exchanged, appended, removed. No words here: rows and slots are functions.
 -- Assumes nothing.
-use mathlib.Core.Path.{_≡_, refl, sym, ap, _∙_}
+use mathlib.Core.Path.{_≡_, sym, ap, _∙_}
 use mathlib.Core.Logic.{_≢_}
-use Prim.Native.Nat.{ℕ, zero, suc, _+_, _*_, _-_, _≤_, _<_}
+use Prim.Native.Nat.{ℕ, _+_, _-_, _≤_, _<_}
 use native.Mathlib.Omega.{arith}
 use Rattle.words.specs.Table.{by-eq}
 

@@ -11,11 +11,13 @@ use Rattle.model.proofs.Operations.{create-sound, create-is-live, insert-sound,
 use Rattle.layouts.specs.Steps.{applied}
 use Rattle.words.specs.Offsets.{columnStart}
 use Rattle.entity.specs.Change.{isFull}
+use Rattle.entity.specs.Answers.{LiveAt}
+use Rattle.entity.proofs.Lookups.{found-live}
 use Rattle.memory.specs.Header.{capacityOf, kindCapacityOf}
 use Rattle.memory.specs.Meaning.{meaning}
 use Rattle.memory.specs.Change.{onStorage, withEntities}
 use Rattle.memory.specs.Arranged.{Sound, Becomes}
-use Rattle.storage.proofs.Storing.{becomes-then, capacity-means}
+use Rattle.group.proofs.Storing.{becomes-then, capacity-means}
 use Rattle.world.specs.World.{Leaves, created, killed}
 
 -- words that mean a sound store
@@ -52,13 +54,14 @@ module _ (w : List ℕ) (S : Sound w) where
     pub remove-leaves : (w′ : List ℕ) → Becomes w w′ (onStorage (remove e (stagedKinds (meaning w))) (meaning w)) → Leaves w w′ (onStorage (remove e (stagedKinds (meaning w))) (meaning w))
     remove-leaves w′ B = leaves w w′ (onStorage (remove e (stagedKinds (meaning w))) (meaning w)) (remove-sound (meaning w) (S .means) e (stagedKinds (meaning w))) B
 
-    module _ (live : isLive e (meaning w .entities) ≡ true) (w₁ : List ℕ) (B : Becomes w w₁ (onStorage (remove e (meaning w .kinds)) (meaning w))) where
-      pub still-live : isLive e (meaning w₁ .entities) ≡ true
-      still-live = subst (λ (s : Store). isLive e (s .entities) ≡ true) (sym (B .means)) live
+    module _ (p : ℕ) (found : LiveAt e p (meaning w .entities)) (w₁ : List ℕ) (B : Becomes w w₁ (onStorage (remove e (meaning w .kinds)) (meaning w))) where
+      -- the components go, and the live list stays
+      pub still-at : LiveAt e p (meaning w₁ .entities)
+      still-at = subst (λ (s : Store). LiveAt e p (s .entities)) (sym (B .means)) found
 
       pub destroy-leaves : (w₂ : List ℕ) → Becomes w₁ w₂ (withEntities (meaning w₁) (destroy e (meaning w₁ .entities))) → Leaves w w₂ (killed e (meaning w))
       destroy-leaves w₂ C =
-          leaves w w₂ (killed e (meaning w)) (kill-sound (meaning w) (S .means) e live)
+          leaves w w₂ (killed e (meaning w)) (kill-sound (meaning w) (S .means) e (found-live e (meaning w .entities) p found .0))
           (becomes-then w w₁ w₂ (remove e (meaning w .kinds)) (λ (s : Store). withEntities s (destroy e (s .entities))) B C)
 
   pub clear-leaves : (w′ : List ℕ) → Becomes w w′ (onStorage clearAll (meaning w)) → Leaves w w′ (onStorage clearAll (meaning w))

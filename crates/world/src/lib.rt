@@ -9,6 +9,7 @@ ghost use Rattle.model.specs.Model.{isLive, insert, remove, clearAll};
 ghost use Rattle.model.specs.Store.{stagedKinds};
 ghost use Rattle.component.specs.SparseSet.{entity};
 ghost use Rattle.entity.specs.Change.{isFull};
+ghost use Rattle.entity.specs.Answers.{LiveAt};
 ghost use Rattle.memory.specs.Meaning.{meaning};
 ghost use Rattle.memory.specs.Change.{onStorage};
 ghost use Rattle.memory.specs.Arranged.{Sound};
@@ -52,14 +53,14 @@ pub fn delete(words: &mut [u32], index: u32, version: u32)
     storage::remove::delete(words, index, version);
 }
 
-// A live entity goes, with all its components.
-pub fn destroy(words: &mut [u32], index: u32, version: u32)
+// A live entity goes, with all its components. The caller has looked up its place in the live list, which stays while the components go.
+pub fn destroy(words: &mut [u32], place: usize, index: u32, version: u32)
     requires { ⌜ Sound (now words) ⌝ }
-    requires { ⌜ isLive (entity index version) (meaning (now words) .entities) ≡ true ⌝ }
+    requires { ⌜ LiveAt (entity index version) place (meaning (now words) .entities) ⌝ }
     ensures { λ _. ⌜ Leaves (now (words .entry)) (now (words .exit)) (killed (entity index version) (meaning (now (words .entry)))) ⌝ }
 {
     storage::strip::strip(words, index, version);
-    state::entities::destroy(words, index, version);
+    state::entities::destroy(words, place, index, version);
 }
 
 // All components go, entities live on.

@@ -1,7 +1,6 @@
-use mathlib.Core.Path.{_≡_, refl, _∙_, sym, ap, ap₂, subst}
-use Prim.Native.Nat.{ℕ, _+_, _≤_, _<_, _-_}
+use mathlib.Core.Path.{_∙_, sym}
+use Prim.Native.Nat.{_-_}
 use Rattle.words.specs.Decides.{granted, denied}
-use lib.ListN.{length, take}
 use lib.Seq.{length-take-le}
 use Rattle.blocks.proofs.Checking.{families-of, block-sound, block-kinds}
 use native.Mathlib.Omega.{arith}

@@ -1,11 +1,9 @@
-use Prim.Native.Nat.{ℕ, _+_, _≤_, _<_, _-_}
-use mathlib.Core.List.{List, [], _∷_, _++_}
+use Prim.Native.Nat.{_-_}
+use mathlib.Core.List.{[]}
 use Rattle.words.specs.Decides.{granted, denied}
-use lib.ListN.{length, getD}
-use Rattle.layout.specs.Layout.{arraysOf, arraysIn, Sized, startOf}
+use Rattle.layout.specs.Layout.{arraysIn}
 use Rattle.blocks.proofs.Checking.{FormedSoFar, formed-none, formed-more, formed-stop, formed-done}
 use native.Mathlib.Omega.{arith}
-use borrow.Author.Needs.{needs}
 use Rattle.blocks.proofs.families_ok.Statement.{statement}
 use Rattle.blocks.proofs.families_ok.Tie as tie
 

@@ -1,8 +1,7 @@
-use Prim.Native.Nat.{ℕ, _+_, _≤_, _<_, _-_}
-use lib.ListN.{length, getD}
+use Prim.Native.Nat.{_-_}
+use lib.ListN.{length}
 use Rattle.blocks.proofs.Copying.{Fetching, fetch-none, fetch-more, fetch-done}
 use native.Mathlib.Omega.{arith}
-use borrow.Author.Needs.{needs}
 use Rattle.blocks.proofs.fetch.Statement.{statement}
 use Rattle.blocks.proofs.fetch.Tie as tie
 

@@ -1,13 +1,10 @@
-use Prim.Native.Nat.{ℕ, _+_, _≤_, _<_, _-_}
-use mathlib.Core.Path.{_≡_, refl, _∙_, sym, ap, ap₂, subst}
-use lib.Dec.{eqb}
+use Prim.Native.Nat.{ℕ, _-_}
+use mathlib.Core.Path.{_≡_, _∙_, ap, subst}
 use lib.ListN.{length, getD, take}
 use lib.Seq.{take-length}
 use Rattle.blocks.specs.Checks.{KindsSound}
-use Rattle.model.specs.Lists.{count}
 use Rattle.blocks.proofs.Checking.{SeenSoFar, seen-none, seen-more, kind-counts}
 use native.Mathlib.Omega.{arith}
-use borrow.Author.Needs.{needs}
 use Rattle.blocks.proofs.kinds_ok.Statement.{statement}
 use Rattle.blocks.proofs.kinds_ok.Tie as tie
 

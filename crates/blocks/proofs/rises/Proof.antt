@@ -1,9 +1,7 @@
-use Prim.Native.Nat.{ℕ, _+_, _≤_, _<_, _-_}
-use mathlib.Core.Path.{_≡_, refl, _∙_, sym, ap, ap₂, subst}
-use lib.ListN.{length, getD}
+use Prim.Native.Nat.{_-_}
+use lib.ListN.{length}
 use Rattle.blocks.proofs.Checking.{RisesSoFar, rises-none, rises-more, rises-stop, rises-short, rises-done}
 use native.Mathlib.Omega.{arith}
-use borrow.Author.Needs.{needs}
 use Rattle.blocks.proofs.rises.Statement.{statement}
 use Rattle.blocks.proofs.rises.Tie as tie
 

@@ -1,7 +1,7 @@
-use Prim.Native.Nat.{ℕ, _+_, _≤_, _<_, _-_}
-use mathlib.Core.Path.{_≡_, refl, _∙_, sym, ap, ap₂, subst}
+use Prim.Native.Nat.{_-_}
+use mathlib.Core.Path.{_≡_, sym}
 use Rattle.blocks.proofs.Transfer
-use Rattle.layout.specs.Layout.{arraysOf, arraysIn, Sized, startOf}
+use Rattle.layout.specs.Layout.{arraysOf, Sized}
 use lib.ListN.{length, take}
 use lib.Seq.{length-take-le}
 use native.Mathlib.Omega.{arith}

@@ -2,9 +2,6 @@ use borrow.Author.Needs.{needs}
 use Rattle.codec.proofs.Front.{number-4}
 use Rattle.codec.proofs.get_u32.Statement.{statement}
 use Rattle.codec.proofs.get_u32.Tie as tie
-use Rattle.codec.proofs.get_u32.Reads as reads
-use Rattle.codec.proofs.get_u32.Lts as lts
-use Rattle.codec.proofs.wide.Reads as wide-reads
 
 shared-slice-read-wide : tie.Need-shared-slice-read-wide
 shared-slice-read-wide c = search needs

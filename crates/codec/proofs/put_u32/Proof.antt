@@ -1,11 +1,9 @@
 use borrow.Author.Needs.{needs}
 use native.Mathlib.Omega.{arith}
-use native.Mathlib.Numerals.{add-one, add-two, add-three, towards-suc}
+use native.Mathlib.Numerals.{towards-suc}
 use lib.ListN.{length-set}
 use Rattle.codec.proofs.put_u32.Statement.{statement}
 use Rattle.codec.proofs.put_u32.Tie as tie
-use Rattle.codec.proofs.put_u32.Reads as reads
-use Rattle.codec.proofs.put_u32.Lts as lts
 
 cast-out : tie.Need-cast-out
 cast-out c = search needs

@@ -5,7 +5,7 @@ use native.Mathlib.Omega.{arith}
 use borrow.Author.Needs.{needs}
 use borrow.Author.Tests.{not-true, not-false}
 use lib.ListN.{getD}
-use Rattle.model.specs.Model.{at, held}
+use Rattle.model.specs.Model.{held}
 use Rattle.model.specs.Sound.{In}
 use Rattle.component.specs.SparseSet.{entity}
 use Rattle.component.specs.Answers.{Finds, HeldAt}

@@ -1,5 +1,5 @@
-use mathlib.Core.Path.{_≡_, refl, _∙_, sym, ap, ap₂, subst}
-use Prim.Native.Nat.{ℕ, _+_, _≤_, _<_, _-_}
+use mathlib.Core.Path.{_≡_, _∙_, sym, ap, subst}
+use Prim.Native.Nat.{ℕ, _-_}
 use Rattle.group_info.specs.declared.FoundInfo.{FoundInfo}
 use Rattle.group_info.specs.declared.GroupInfo.{GroupInfo}
 use Rattle.group_info.specs.Info.{JoinedBy}

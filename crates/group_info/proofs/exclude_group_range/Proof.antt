@@ -1,9 +1,7 @@
-use mathlib.Core.Path.{_≡_, refl, _∙_, sym, ap, ap₂, subst}
-use Prim.Native.Nat.{ℕ, _+_, _≤_, _<_, _-_}
+use mathlib.Core.Path.{ap}
+use Prim.Native.Nat.{ℕ, _-_}
 use Rattle.group_info.proofs.Masking.{differ, agree, top-below, top-ordered}
 use lib.ListN.{getD}
-use Rattle.masks.specs.Masks.{upFrom, Ordered}
-use Rattle.group_info.specs.Info.{Ring, topOf}
 use native.Mathlib.Omega.{arith}
 use borrow.Author.Needs.{needs}
 use Rattle.group_info.proofs.exclude_group_range.Statement.{statement}

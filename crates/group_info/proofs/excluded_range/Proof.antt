@@ -1,9 +1,8 @@
-use mathlib.Core.Path.{_≡_, refl, _∙_, sym, ap, ap₂, subst}
+use mathlib.Core.Path.{refl, sym, subst}
 use Rattle.group_info.specs.declared.FoundInfo.{FoundInfo}
 use Rattle.group_info.specs.declared.GroupRange.the-variants as ranged
 use Rattle.group_info.specs.declared.FoundInfo.the-variants as info
 use Rattle.group_info.specs.Info.{InsideFound, ExcludedSays}
-use native.Mathlib.Omega.{arith}
 use borrow.Author.Needs.{needs}
 use Rattle.group_info.proofs.excluded_range.Statement.{statement}
 use Rattle.group_info.proofs.excluded_range.Tie as tie

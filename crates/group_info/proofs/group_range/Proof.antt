@@ -1,10 +1,9 @@
-use mathlib.Core.Path.{_≡_, refl, _∙_, sym, ap, ap₂, subst}
+use mathlib.Core.Path.{sym, subst}
 use Rattle.group_info.specs.declared.FoundInfo.{FoundInfo}
 use Rattle.group_info.specs.declared.QueryGroupInfo.{QueryGroupInfo}
 use Rattle.group_info.specs.declared.FoundInfo.the-variants as info
 use Rattle.group_info.specs.Info.{infoOf, InsideFound, ExcludedSays, RangeBy}
 use Rattle.group_info.proofs.Answers.{range-law}
-use native.Mathlib.Omega.{arith}
 use borrow.Author.Needs.{needs}
 use Rattle.group_info.proofs.group_range.Statement.{statement}
 use Rattle.group_info.proofs.group_range.Tie as tie

@@ -1,8 +1,7 @@
-use mathlib.Core.Path.{_≡_, refl, _∙_, sym, ap, ap₂, subst}
-use Prim.Native.Nat.{ℕ, _+_, _≤_, _<_, _-_}
-use Rattle.group_info.proofs.Masking.{differ, agree, top-below, top-ordered}
+use mathlib.Core.Path.{refl}
+use Prim.Native.Nat.{_-_}
+use Rattle.group_info.proofs.Masking.{differ, agree}
 use native.Mathlib.Omega.{arith}
-use borrow.Author.Needs.{needs}
 use Rattle.group_info.proofs.include_group_range.Statement.{statement}
 use Rattle.group_info.proofs.include_group_range.Tie as tie
 

@@ -1,8 +1,7 @@
 use Rattle.group_info.specs.declared.GroupRange.the-variants as ranged
-use mathlib.Core.Path.{_≡_, refl, _∙_, sym, ap, ap₂, subst}
+use mathlib.Core.Path.{refl, sym, subst}
 use Rattle.group_info.specs.declared.QueryGroupInfo.{QueryGroupInfo}
 use Rattle.group_info.specs.Info.{infoOf, InsideFound, IncludedSays}
-use native.Mathlib.Omega.{arith}
 use borrow.Author.Needs.{needs}
 use Rattle.group_info.proofs.included_range.Statement.{statement}
 use Rattle.group_info.proofs.included_range.Tie as tie

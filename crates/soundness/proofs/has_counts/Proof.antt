@@ -1,9 +1,7 @@
-use mathlib.Core.Path.{_≡_, refl, sym, ap, ap₂, _∙_, subst}
-use Prim.Native.Nat.{ℕ, _+_, _*_, _-_, _≤_, _<_}
+use Prim.Native.Nat.{_-_}
 use native.Mathlib.Omega.{arith}
-use lib.ListN.{length, getD}
 use borrow.Author.Needs.{needs}
-use Rattle.memory.specs.Header.{capacityOf, kindCapacityOf, layoutFamilies, layoutGroups}
+use Rattle.memory.specs.Header.{capacityOf, kindCapacityOf}
 use Rattle.soundness.proofs.Whole.{size-long, forced, groups-few}
 use Rattle.soundness.proofs.has_counts.Statement.{statement}
 use Rattle.soundness.proofs.has_counts.Tie as tie

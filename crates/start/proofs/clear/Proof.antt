@@ -8,8 +8,6 @@ use Rattle.start.specs.Fresh.{Cleared}
 use Rattle.start.proofs.Steps.{cleared-none, cleared-more}
 use Rattle.start.proofs.clear.Statement.{statement}
 use Rattle.start.proofs.clear.Tie as tie
-use Rattle.start.proofs.clear.Reads as reads
-use Rattle.start.proofs.clear.Lts as lts
 
 abbrev Inv-loop : tie.InvT-loop
 Inv-loop words₀ end i₀ words i = (i ≤ end) × (end ≤ length words) × Cleared words₀ i words

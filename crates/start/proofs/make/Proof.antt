@@ -1,18 +1,15 @@
 -- `start::make` meets its contract. Assumes nothing.
-use mathlib.Core.Path.{_≡_, refl, sym, ap, _∙_, subst}
-use mathlib.Core.List.{List}
-use Prim.Native.Nat.{ℕ, _+_, _*_, _≤_, _<_}
+use mathlib.Core.Path.{_∙_, subst}
+use Prim.Native.Nat.{ℕ}
 use native.Mathlib.Omega.{arith}
 use borrow.Author.Needs.{needs}
-use lib.ListN.{length, length-set}
-use Rattle.words.specs.Offsets.{columnStart, columnStart-mono}
+use lib.ListN.{length-set}
+use Rattle.words.specs.Offsets.{columnStart-mono}
 use Rattle.memory.proofs.Frames.{start-header}
-use Rattle.start.specs.Fresh.{Cleared, Tabled, Made}
+use Rattle.start.specs.Fresh.{Cleared}
 use Rattle.start.proofs.Empty.{made}
 use Rattle.start.proofs.make.Statement.{statement}
 use Rattle.start.proofs.make.Tie as tie
-use Rattle.start.proofs.make.Reads as reads
-use Rattle.start.proofs.make.Lts as lts
 
 put-table-requires : tie.Need-put-table-requires
 put-table-requires c κs =

@@ -8,8 +8,6 @@ use Rattle.start.specs.Fresh.{Tabled}
 use Rattle.start.proofs.Steps.{tabled-none, tabled-step}
 use Rattle.start.proofs.put_table.Statement.{statement}
 use Rattle.start.proofs.put_table.Tie as tie
-use Rattle.start.proofs.put_table.Reads as reads
-use Rattle.start.proofs.put_table.Lts as lts
 
 abbrev Inv-loop : tie.InvT-loop
 Inv-loop words₀ table k₀ words k = (k ≤ 128) × (160 ≤ length words) × Tabled words₀ k words

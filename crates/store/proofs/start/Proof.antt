@@ -3,7 +3,7 @@ use native.Mathlib.Omega.{arith}
 use borrow.Author.Needs.{needs}
 use lib.ListN.{length}
 use Rattle.model.specs.Sound.{Limits}
-use Rattle.clauses.proofs.SlotLaws.{granted, denied}
+use Rattle.words.specs.Decides.{granted, denied}
 use Rattle.store.proofs.Starting.{needed-words, start-size, start-short, refused-start, made-start}
 use Rattle.store.proofs.start.Statement.{statement}
 use Rattle.store.proofs.start.Tie as tie
@@ -11,30 +11,30 @@ use Rattle.store.proofs.start.Tie as tie
 returns : tie.Need-returns
 returns c =
     let a = c .before .before .before .args in
-    refused-start (a .n) (a .k) 1 (a .words .now) (start-size (a .n) (a .k) (length (a .words .now)) (denied (Limits (a .n) (a .k)) (c .before .within-limits .result) (c .before .within-limits .ensures) (c .if1 .taken)))
+    refused-start (a .n) (a .k) 1 (a .words .now) (start-size (a .n) (a .k) (length (a .words .now)) (denied {P = Limits (a .n) (a .k)} (c .before .within-limits .result) (c .before .within-limits .ensures) (c .if1 .taken)))
 
 words-needed-requires : tie.Need-words-needed-requires
 words-needed-requires c κs =
     let a = c .before .before .before .args in
-    let l : Limits (a .n) (a .k) = granted (Limits (a .n) (a .k)) (c .before .within-limits .result) (c .before .within-limits .ensures) (c .if1 .left) in
+    let l : Limits (a .n) (a .k) = granted {P = Limits (a .n) (a .k)} (c .before .within-limits .result) (c .before .within-limits .ensures) (c .if1 .left) in
     (l .most, l .mostKinds)
 
 returns-2 : tie.Need-returns-2
 returns-2 c =
     let a = c .before .before .before .before .before .args in
-    let l : Limits (a .n) (a .k) = granted (Limits (a .n) (a .k)) (c .before .before .before .within-limits .result) (c .before .before .before .within-limits .ensures) (c .before .before .if1 .left) in
+    let l : Limits (a .n) (a .k) = granted {P = Limits (a .n) (a .k)} (c .before .before .before .within-limits .result) (c .before .before .before .within-limits .ensures) (c .before .before .if1 .left) in
     refused-start (a .n) (a .k) 2 (a .words .now) (start-short (a .n) (a .k) (length (a .words .now)) l (omega (arith, c .before .words-needed .ensures, c .if2 .taken)))
 
 make-requires : tie.Need-make-requires
 make-requires c κs =
     let a = c .before .before .before .before .before .before .args in
-    let l : Limits (a .n) (a .k) = granted (Limits (a .n) (a .k)) (c .before .before .before .before .within-limits .result) (c .before .before .before .before .within-limits .ensures) (c .before .before .before .if1 .left) in
+    let l : Limits (a .n) (a .k) = granted {P = Limits (a .n) (a .k)} (c .before .before .before .before .within-limits .result) (c .before .before .before .before .within-limits .ensures) (c .before .before .before .if1 .left) in
     (l, omega (arith, needed-words (a .n) (a .k), c .before .before .words-needed .ensures, c .before .if2 .left))
 
 returns-3 : tie.Need-returns-3
 returns-3 c =
     let a = c .before .before .before .before .before .before .before .before .before .args in
-    let l : Limits (a .n) (a .k) = granted (Limits (a .n) (a .k)) (c .before .before .before .before .before .before .before .within-limits .result) (c .before .before .before .before .before .before .before .within-limits .ensures) (c .before .before .before .before .before .before .if1 .left) in
+    let l : Limits (a .n) (a .k) = granted {P = Limits (a .n) (a .k)} (c .before .before .before .before .before .before .before .within-limits .result) (c .before .before .before .before .before .before .before .within-limits .ensures) (c .before .before .before .before .before .before .if1 .left) in
     made-start (a .n) (a .k) (a .words .now) (c .before .before .make .last .0) l (omega (arith, needed-words (a .n) (a .k), c .before .before .before .before .before .words-needed .ensures, c .before .before .before .before .if2 .left)) (c .before .before .make .ensures)
 
 pub start-spec : {M : Type 1} → statement M

@@ -2,7 +2,7 @@
 use mathlib.Core.Path.{refl}
 use borrow.Author.Needs.{needs}
 use Rattle.model.specs.Sound.{Limits}
-use Rattle.clauses.proofs.SlotLaws.{granted, denied}
+use Rattle.words.specs.Decides.{granted, denied}
 use Rattle.store.proofs.words_needed.Statement.{statement}
 use Rattle.store.proofs.words_needed.Tie as tie
 
@@ -10,14 +10,14 @@ returns : tie.Need-returns
 returns c =
     let a = c .before .before .args in
     record {
-      within = λ l. absurd (denied (Limits (a .n) (a .k)) (c .before .within-limits .result) (c .before .within-limits .ensures) (c .if1 .taken) l);
+      within = λ l. absurd (denied {P = Limits (a .n) (a .k)} (c .before .within-limits .result) (c .before .within-limits .ensures) (c .if1 .taken) l);
       outside = λ f. refl;
     }
 
 words-needed-requires : tie.Need-words-needed-requires
 words-needed-requires c κs =
     let a = c .before .before .args in
-    let l : Limits (a .n) (a .k) = granted (Limits (a .n) (a .k)) (c .before .within-limits .result) (c .before .within-limits .ensures) (c .if1 .left) in
+    let l : Limits (a .n) (a .k) = granted {P = Limits (a .n) (a .k)} (c .before .within-limits .result) (c .before .within-limits .ensures) (c .if1 .left) in
     (l .most, l .mostKinds)
 
 returns-2 : tie.Need-returns-2
@@ -25,7 +25,7 @@ returns-2 c =
     let a = c .before .before .before .args in
     record {
       within = λ l. c .words-needed .ensures;
-      outside = λ f. absurd (f (granted (Limits (a .n) (a .k)) (c .before .before .within-limits .result) (c .before .before .within-limits .ensures) (c .before .if1 .left)));
+      outside = λ f. absurd (f (granted {P = Limits (a .n) (a .k)} (c .before .before .within-limits .result) (c .before .before .within-limits .ensures) (c .before .if1 .left)));
     }
 
 pub words-needed-spec : {M : Type 1} → statement M

@@ -1,9 +1,5 @@
-use mathlib.Core.Path.{_≡_, refl, ap, _∙_}
-use mathlib.Core.List.{List, [], _∷_, _++_}
-use Prim.Native.Nat.{ℕ, _+_}
-use lib.Seq.{sets}
-use Rattle.model.specs.Store.{le}
-use Rattle.codec.proofs.Numbers.{sets-join}
+use mathlib.Core.Path.{refl}
+use Rattle.views.proofs.Told.{range-bytes}
 use borrow.Author.Needs.{needs}
 use Rattle.views.proofs.ack_range.Statement.{statement}
 use Rattle.views.proofs.ack_range.Tie as tie
@@ -12,12 +8,7 @@ returns : tie.Need-returns
 returns c =
     let a = c .before .before .before .before .before .before .before .before .before .before .before .before .before .args in
     record {
-      bytes =
-          c .before .before .put-u322 .ensures
-          ∙ ap (λ (l : List ℕ). sets l (a .at + 6) (le 4 (a .end))) (c .before .before .before .before .before .before .put-u32 .ensures)
-          ∙ ap (λ (l : List ℕ). sets (sets l (a .at + 2) (le 4 (a .start))) (a .at + 6) (le 4 (a .end))) (c .before .before .before .before .before .before .before .before .before .before .ack-byte .ensures .bytes)
-          ∙ ap (λ (l : List ℕ). sets l (a .at + 6) (le 4 (a .end))) (sets-join (a .out .now) (a .at) (0 ∷ a .found ∷ []) (le 4 (a .start)))
-          ∙ sets-join (a .out .now) (a .at) (0 ∷ a .found ∷ le 4 (a .start)) (le 4 (a .end));
+      bytes = range-bytes (a .out .now) (a .at) (a .found) (a .start) (a .end) (c .before .before .before .before .before .before .before .before .before .before .ack-byte .ensures .bytes) (c .before .before .before .before .before .before .put-u32 .ensures) (c .before .before .put-u322 .ensures);
       count = refl;
     }
 

@@ -1,12 +1,10 @@
-use mathlib.Core.Path.{_≡_, refl, sym, ap, _∙_}
-use Prim.Native.Nat.{ℕ, _+_, _-_, _≤_, _<_}
+use mathlib.Core.Path.{_≡_, refl, sym, _∙_}
+use Prim.Native.Nat.{ℕ, _-_, _≤_, _<_}
 use native.Mathlib.Omega.{arith}
-use borrow.Author.Needs.{needs}
 use borrow.Author.Count.{below-more}
 use borrow.Author.Tests.{eq-eqb, ne-eqb}
 use lib.ListN.{length, getD, length-set}
-use Rattle.component.specs.Decides.{Each}
-use Rattle.clauses.specs.Listed.{Listed}
+use Rattle.component.specs.Checks.{Each}
 use Rattle.clauses.proofs.ListLaws.{Marks, marks-more, marks-none, FreshAt, fresh-listed, listed-fresh}
 use Rattle.clauses.proofs.lists.is_listed.Statement.{statement}
 use Rattle.clauses.proofs.lists.is_listed.Tie as tie

@@ -1,10 +1,8 @@
-use Prim.Native.Nat.{ℕ, _+_, _*_, _-_, _≤_, _<_}
+use Prim.Native.Nat.{_-_, _≤_}
 use native.Mathlib.Omega.{arith}
-use borrow.Author.Needs.{needs}
-use Rattle.component.specs.Decides.{Each}
-use Rattle.clauses.specs.Slots.{Over}
+use Rattle.component.specs.Checks.{Each}
 use Rattle.component.proofs.Checking.{each-more}
-use Rattle.clauses.proofs.SlotLaws.{granted, denied}
+use Rattle.words.specs.Decides.{granted, denied}
 use Rattle.clauses.specs.Rows.{ColumnOk}
 use Rattle.clauses.proofs.SlotLaws.{slot-of}
 use Rattle.clauses.proofs.slots.are_columns.Statement.{statement}
@@ -29,13 +27,13 @@ returns : tie.Need-returns Inv-loop μ-loop
 returns c =
     let a = c .before .before .before .before .before .args in
     let l = c .before .before .before .loop in
-    λ e. denied (ColumnOk (a .n) (a .registered) (a .words .now) (l .s)) (c .before .column-ok .result) (c .before .column-ok .ensures) (c .if1 .taken) (e (l .s) (omega arith))
+    λ e. denied {P = ColumnOk (a .n) (a .registered) (a .words .now) (l .s)} (c .before .column-ok .result) (c .before .column-ok .ensures) (c .if1 .taken) (e (l .s) (omega arith))
 
 loop-again : tie.Need-loop-again Inv-loop μ-loop
 loop-again c =
     let a = c .before .before .before .before .before .args in
     let l = c .before .before .before .loop in
-    let o = granted (ColumnOk (a .n) (a .registered) (a .words .now) (l .s)) (c .before .column-ok .result) (c .before .column-ok .ensures) (c .if1 .left) in
+    let o = granted {P = ColumnOk (a .n) (a .registered) (a .words .now) (l .s)} (c .before .column-ok .result) (c .before .column-ok .ensures) (c .if1 .left) in
     (omega arith, each-more (ColumnOk (a .n) (a .registered) (a .words .now)) (l .s) (l .inv .1) o)
 
 returns-2 : tie.Need-returns-2 Inv-loop μ-loop

@@ -1,8 +1,6 @@
-use Prim.Native.Nat.{ℕ, _+_, _*_, _-_, _≤_, _<_}
+use Prim.Native.Nat.{_-_, _≤_}
 use native.Mathlib.Omega.{arith}
-use borrow.Author.Needs.{needs}
-use Rattle.component.specs.Decides.{Each}
-use Rattle.clauses.specs.Slots.{Over}
+use Rattle.component.specs.Checks.{Each}
 use Rattle.component.proofs.Checking.{each-more}
 use mathlib.Core.Path.{_≡_, sym, _∙_}
 use mathlib.Core.Bool.{Bool, true, false, true≢false}

@@ -1,9 +1,8 @@
-use mathlib.Core.Path.{_≡_, refl, sym, ap, _∙_, subst}
-use Prim.Native.Nat.{ℕ, _+_, _*_, _-_, _≤_, _<_}
+use Prim.Native.Nat.{_-_}
 use native.Mathlib.Omega.{arith}
-use lib.ListN.{length, getD}
-use Rattle.clauses.proofs.SlotLaws.{granted, denied, room-long, room-less}
-use Rattle.component.specs.Decides.{Each}
+use Rattle.words.specs.Decides.{granted, denied}
+use Rattle.clauses.proofs.SlotLaws.{room-long, room-less}
+use Rattle.component.specs.Checks.{Each}
 use Rattle.memory.specs.Header.{registeredOf}
 use Rattle.clauses.specs.Table.{KindOk, SlotOk}
 use borrow.Author.Needs.{needs}
@@ -24,7 +23,7 @@ kinds-ok-requires c κs = let a = c .before .before .before .args in room-less (
 
 -- src/table.rt:92:9
 returns-2 : tie.Need-returns-2
-returns-2 c = let a = c .before .before .before .before .before .args in λ T. denied (Each 128 (KindOk (a .n) (registeredOf (a .words .now)) (a .words .now))) (c .before .kinds-ok .result) (c .before .kinds-ok .ensures) (c .if2 .taken) (T .kinds)
+returns-2 c = let a = c .before .before .before .before .before .args in λ T. denied {P = Each 128 (KindOk (a .n) (registeredOf (a .words .now)) (a .words .now))} (c .before .kinds-ok .result) (c .before .kinds-ok .ensures) (c .if2 .taken) (T .kinds)
 
 -- src/table.rt:94:9
 slots-ok-requires : tie.Need-slots-ok-requires
@@ -32,11 +31,11 @@ slots-ok-requires c κs = let a = c .before .before .before .before .before .arg
 
 -- src/table.rt:95:9
 returns-3 : tie.Need-returns-3
-returns-3 c = let a = c .before .before .before .before .before .before .before .args in λ T. denied (Each (registeredOf (a .words .now)) (SlotOk (a .n) (a .words .now))) (c .before .slots-ok .result) (c .before .slots-ok .ensures) (c .if3 .taken) (T .slots)
+returns-3 c = let a = c .before .before .before .before .before .before .before .args in λ T. denied {P = Each (registeredOf (a .words .now)) (SlotOk (a .n) (a .words .now))} (c .before .slots-ok .result) (c .before .slots-ok .ensures) (c .if3 .taken) (T .slots)
 
 -- src/table.rt:83:1
 returns-4 : tie.Need-returns-4
-returns-4 c = let a = c .before .before .before .before .before .before .before .args in record { few = omega (arith, c .before .before .before .before .if1 .left); kinds = granted (Each 128 (KindOk (a .n) (registeredOf (a .words .now)) (a .words .now))) (c .before .before .before .kinds-ok .result) (c .before .before .before .kinds-ok .ensures) (c .before .before .if2 .left); slots = granted (Each (registeredOf (a .words .now)) (SlotOk (a .n) (a .words .now))) (c .before .slots-ok .result) (c .before .slots-ok .ensures) (c .if3 .left) }
+returns-4 c = let a = c .before .before .before .before .before .before .before .args in record { few = omega (arith, c .before .before .before .before .if1 .left); kinds = granted {P = Each 128 (KindOk (a .n) (registeredOf (a .words .now)) (a .words .now))} (c .before .before .before .kinds-ok .result) (c .before .before .before .kinds-ok .ensures) (c .before .before .if2 .left); slots = granted {P = Each (registeredOf (a .words .now)) (SlotOk (a .n) (a .words .now))} (c .before .slots-ok .result) (c .before .slots-ok .ensures) (c .if3 .left) }
 
 pub is-table-spec : {M : Type 1} → statement M
 is-table-spec =

@@ -1,10 +1,8 @@
-use Prim.Native.Nat.{ℕ, _+_, _*_, _-_, _≤_, _<_}
+use Prim.Native.Nat.{_-_, _≤_}
 use native.Mathlib.Omega.{arith}
-use borrow.Author.Needs.{needs}
-use Rattle.component.specs.Decides.{Each}
-use Rattle.clauses.specs.Slots.{Over}
+use Rattle.component.specs.Checks.{Each}
 use Rattle.component.proofs.Checking.{each-more}
-use Rattle.clauses.proofs.SlotLaws.{granted, denied}
+use Rattle.words.specs.Decides.{granted, denied}
 use Rattle.clauses.specs.Table.{KindOk}
 use Rattle.clauses.proofs.table.kinds_ok.Statement.{statement}
 use Rattle.clauses.proofs.table.kinds_ok.Tie as tie
@@ -28,13 +26,13 @@ returns : tie.Need-returns Inv-loop μ-loop
 returns c =
     let a = c .before .before .before .before .before .args in
     let l = c .before .before .before .loop in
-    λ e. denied (KindOk (a .n) (a .registered) (a .words .now) (l .kind)) (c .before .kind-ok .result) (c .before .kind-ok .ensures) (c .if1 .taken) (e (l .kind) (omega arith))
+    λ e. denied {P = KindOk (a .n) (a .registered) (a .words .now) (l .kind)} (c .before .kind-ok .result) (c .before .kind-ok .ensures) (c .if1 .taken) (e (l .kind) (omega arith))
 
 loop-again : tie.Need-loop-again Inv-loop μ-loop
 loop-again c =
     let a = c .before .before .before .before .before .args in
     let l = c .before .before .before .loop in
-    let o = granted (KindOk (a .n) (a .registered) (a .words .now) (l .kind)) (c .before .kind-ok .result) (c .before .kind-ok .ensures) (c .if1 .left) in
+    let o = granted {P = KindOk (a .n) (a .registered) (a .words .now) (l .kind)} (c .before .kind-ok .result) (c .before .kind-ok .ensures) (c .if1 .left) in
     (omega arith, each-more (KindOk (a .n) (a .registered) (a .words .now)) (l .kind) (l .inv .1) o)
 
 returns-2 : tie.Need-returns-2 Inv-loop μ-loop

@@ -1,9 +1,6 @@
 use Rattle.commands.proofs.Acts.{slots-taken, slots-left}
 use Rattle.memory.proofs.Frames.{long}
-use Rattle.memory.specs.Meaning.{meaning}
-use borrow.Author.Tests.{le-leb, lt-leb}
 use native.Mathlib.Omega.{arith}
-use mathlib.Core.Path.{_≡_, sym, _∙_}
 use Rattle.commands.proofs.registering.no_slot.Statement.{statement}
 use Rattle.commands.proofs.registering.no_slot.Tie as tie
 

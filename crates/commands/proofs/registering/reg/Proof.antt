@@ -3,7 +3,7 @@ use Rattle.memory.specs.Meaning.{meaning}
 use Rattle.model.proofs.Outcomes.{reg-above, reg-full, reg-known, reg-new}
 use borrow.Author.Tests.{lt-ltb, le-ltb, leb-false}
 use native.Mathlib.Omega.{arith}
-use mathlib.Core.Path.{_≡_, sym, _∙_}
+use mathlib.Core.Path.{sym, _∙_}
 use borrow.Author.Needs.{needs}
 use Rattle.commands.proofs.registering.reg.Statement.{statement}
 use Rattle.commands.proofs.registering.reg.Tie as tie

@@ -1,10 +1,10 @@
 use borrow.Author.Needs.{needs}
 use Prim.Native.Nat.{_-_}
 use native.Mathlib.Omega.{arith}
-use borrow.Author.Tests.{not-true, not-false}
 use Rattle.component.specs.SparseSet.{lengthOf}
-use Rattle.component.specs.Decides.{RowOk, LookupOk, Each}
-use Rattle.component.proofs.Checking.{granted, denied, sound-of, lookups-of}
+use Rattle.component.specs.Checks.{RowOk, LookupOk, Each}
+use Rattle.words.specs.Decides.{granted, denied}
+use Rattle.component.proofs.Checking.{sound-of, lookups-of}
 use Rattle.component.proofs.checks.is_sound.Statement.{statement}
 use Rattle.component.proofs.checks.is_sound.Tie as tie
 
@@ -15,13 +15,13 @@ returns-4 : tie.Need-returns-4
 returns-4 c =
     let a = c .before .before .before .before .before .before .before .args in
     let r = c .before .rows-ok in
-    λ s. denied (Each (lengthOf (a .part .now)) (RowOk (a .n) (a .part .now))) (r .result) (r .ensures) (not-true _ (c .if4 .taken)) (s .linked .tied)
+    λ s. denied {P = Each (lengthOf (a .part .now)) (RowOk (a .n) (a .part .now))} (r .result) (r .ensures) (c .if4 .taken) (s .linked .tied)
 
 returns-5 : tie.Need-returns-5
 returns-5 c =
     let a = c .before .before .before .before .before .before .before .before .before .args in
     let r = c .before .lookups-ok in
-    λ s. denied (Each (a .n) (LookupOk (a .n) (a .part .now))) (r .result) (r .ensures) (not-true _ (c .if5 .taken)) (lookups-of (a .n) (a .part .now) s)
+    λ s. denied {P = Each (a .n) (LookupOk (a .n) (a .part .now))} (r .result) (r .ensures) (c .if5 .taken) (lookups-of (a .n) (a .part .now) s)
 
 returns-6 : tie.Need-returns-6
 returns-6 c =
@@ -29,8 +29,8 @@ returns-6 c =
     let q = c .before .before .before .rows-ok in
     let r = c .before .lookups-ok in
     sound-of (a .n) (a .part .now) (record { size = omega arith; small = omega arith }) (omega arith)
-    (granted (Each (lengthOf (a .part .now)) (RowOk (a .n) (a .part .now))) (q .result) (q .ensures) (not-false _ (c .before .before .if4 .left)))
-    (granted (Each (a .n) (LookupOk (a .n) (a .part .now))) (r .result) (r .ensures) (not-false _ (c .if5 .left)))
+    (granted {P = Each (lengthOf (a .part .now)) (RowOk (a .n) (a .part .now))} (q .result) (q .ensures) (c .before .before .if4 .left))
+    (granted {P = Each (a .n) (LookupOk (a .n) (a .part .now))} (r .result) (r .ensures) (c .if5 .left))
 
 pub is-sound-spec : {M : Type 1} → statement M
 is-sound-spec =

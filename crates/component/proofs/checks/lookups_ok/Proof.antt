@@ -1,9 +1,9 @@
 use Prim.Native.Nat.{_-_, _≤_}
 use native.Mathlib.Omega.{arith}
 use native.Mathlib.Nat.{not-suc-le-zero}
-use Rattle.component.specs.Decides.{LookupOk, Each}
-use borrow.Author.Tests.{not-true, not-false}
-use Rattle.component.proofs.Checking.{each-more, granted, denied}
+use Rattle.component.specs.Checks.{LookupOk, Each}
+use Rattle.words.specs.Decides.{granted, denied}
+use Rattle.component.proofs.Checking.{each-more}
 use borrow.Author.Needs.{needs}
 use Rattle.component.proofs.checks.lookups_ok.Statement.{statement}
 use Rattle.component.proofs.checks.lookups_ok.Tie as tie
@@ -21,13 +21,13 @@ returns : tie.Need-returns Inv-loop μ-loop
 returns c =
     let a = c .before .before .before .before .before .args in
     let l = c .before .before .before .loop in
-    λ e. denied (LookupOk (a .n) (a .part .now) (l .x)) (c .before .lookup-ok .result) (c .before .lookup-ok .ensures) (not-true _ (c .if1 .taken)) (e (l .x) (omega arith))
+    λ e. denied {P = LookupOk (a .n) (a .part .now) (l .x)} (c .before .lookup-ok .result) (c .before .lookup-ok .ensures) (c .if1 .taken) (e (l .x) (omega arith))
 
 loop-again : tie.Need-loop-again Inv-loop μ-loop
 loop-again c =
     let a = c .before .before .before .before .before .args in
     let l = c .before .before .before .loop in
-    let o = granted (LookupOk (a .n) (a .part .now) (l .x)) (c .before .lookup-ok .result) (c .before .lookup-ok .ensures) (not-false _ (c .if1 .left)) in
+    let o = granted {P = LookupOk (a .n) (a .part .now) (l .x)} (c .before .lookup-ok .result) (c .before .lookup-ok .ensures) (c .if1 .left) in
     (omega arith, each-more (LookupOk (a .n) (a .part .now)) (l .x) (l .inv .1) o)
 
 returns-2 : tie.Need-returns-2 Inv-loop μ-loop

@@ -1,32 +1,39 @@
 use Rattle.commands.proofs.Acts.{refused-by, accepted-by}
-use Rattle.effects.proofs.Emptied.{emptied, denied, granted}
+use Rattle.effects.proofs.Emptied.{emptied}
+use Rattle.entity.proofs.Lookups.{found-live, found-dead}
 use Rattle.memory.specs.Meaning.{meaning}
 use Rattle.component.specs.SparseSet.{entity}
 use Rattle.model.proofs.Outcomes.{drop-dead, drop-live}
 use native.Mathlib.Omega.{arith}
-use mathlib.Core.Path.{refl}
+use mathlib.Core.Path.{refl, sym, _∙_}
 use borrow.Author.Needs.{needs}
 use Rattle.effects.proofs.components.drop.Statement.{statement}
 use Rattle.effects.proofs.components.drop.Tie as tie
 
 refuse-requires : tie.Need-refuse-requires
-refuse-requires c κs = (c .before .before .before .before .before .before .before .pre .sound .arranged, omega (arith, c .before .before .before .before .before .before .before .pre .room))
+refuse-requires c κs = (c .before .before .before .before .before .before .before .before .pre .sound .arranged, omega (arith, c .before .before .before .before .before .before .before .before .pre .room))
 
 returns : tie.Need-returns
 returns c =
-    let a = c .before .before .before .before .before .before .before .before .before .before .before .before .args in
-    refused-by (drop-dead (meaning (a .words .now)) (entity (a .index) (a .version)) (denied _ (c .before .before .before .before .before .before .before .before .contains .ensures) (c .before .before .before .before .before .before .before .if1 .taken))) (c .before .before .before .before .refuse .ensures)
+    let a = c .before .before .before .before .before .before .before .before .before .before .before .before .before .args in
+    let e = entity (a .index) (a .version) in
+    let s = meaning (a .words .now) in
+    refused-by (drop-dead s e (found-dead e (s .entities) (sym (c .before .before .before .before .before .before .before .before .before .get .ensures) ∙ c .before .before .before .before .before .before .before .enum-told2 .given .1))) (c .before .before .before .before .refuse .ensures)
 
 returns-2 : tie.Need-returns-2
 returns-2 c =
-    let a = c .before .before .before .before .before .before .before .before .before .before .before .before .before .before .before .before .before .args in
-    accepted-by (drop-live (meaning (a .words .now)) (entity (a .index) (a .version)) (granted _ (c .before .before .before .before .before .before .before .before .before .before .before .before .before .contains .ensures) (c .before .before .before .before .before .before .before .before .before .before .before .before .if1 .left))) (emptied _ (c .before .before .before .before .before .before .before .before .before .before .delete .ensures .becomes) (record { capacity = refl; kindCapacity = refl }) (c .before .before .before .before .before .before .clear-staged .ensures)) (c .before .before .ack .ensures)
+    let a = c .before .before .before .before .before .before .before .before .before .before .before .before .before .before .before .before .before .before .args in
+    let e = entity (a .index) (a .version) in
+    let s = meaning (a .words .now) in
+    accepted-by (drop-live s e (found-live e (s .entities) _ (sym (c .before .before .before .before .before .before .before .before .before .before .before .before .before .before .get .ensures) ∙ c .before .before .before .before .before .before .before .before .before .before .before .before .enum-told .given .1) .0)) (emptied _ (c .before .before .before .before .before .before .before .before .before .before .delete .ensures .becomes) (record { capacity = refl; kindCapacity = refl }) (c .before .before .before .before .before .before .clear-staged .ensures)) (c .before .before .ack .ensures)
 
 pub drop-spec : {M : Type 1} → statement M
 drop-spec =
     tie.close
     (tie.spec
     (λ c κs. search needs)
+    (λ c. search needs)
+    (λ c. search needs)
     refuse-requires
     (λ c. search needs)
     (λ c. search needs)

@@ -1,6 +1,5 @@
 use Rattle.commands.proofs.Acts.{accepted-by}
 use Rattle.memory.specs.Meaning.{meaning}
-use Rattle.model.proofs.Outcomes.{wipe-does}
 use Rattle.effects.proofs.Emptied.{wiped}
 use borrow.Author.Needs.{needs}
 use Rattle.effects.proofs.components.wipe.Statement.{statement}

@@ -1,34 +1,41 @@
-use Rattle.effects.proofs.Emptied.{denied, granted}
 use Rattle.commands.proofs.Acts.{refused-by, accepted-by}
+use Rattle.entity.proofs.Lookups.{found-live, found-dead}
 use Rattle.memory.specs.Meaning.{meaning}
 use Rattle.component.specs.SparseSet.{entity}
 use Rattle.model.proofs.Outcomes.{kill-dead, kill-live}
 use native.Mathlib.Omega.{arith}
+use mathlib.Core.Path.{sym, _∙_}
 use borrow.Author.Needs.{needs}
 use Rattle.effects.proofs.entities.kill.Statement.{statement}
 use Rattle.effects.proofs.entities.kill.Tie as tie
 
 refuse-requires : tie.Need-refuse-requires
-refuse-requires c κs = (c .before .before .before .before .before .before .before .pre .sound .arranged, omega (arith, c .before .before .before .before .before .before .before .pre .room))
+refuse-requires c κs = (c .before .before .before .before .before .before .before .before .pre .sound .arranged, omega (arith, c .before .before .before .before .before .before .before .before .pre .room))
 
 returns : tie.Need-returns
 returns c =
-    let a = c .before .before .before .before .before .before .before .before .before .before .before .before .args in
-    refused-by (kill-dead (meaning (a .words .now)) (entity (a .index) (a .version)) (denied _ (c .before .before .before .before .before .before .before .before .contains .ensures) (c .before .before .before .before .before .before .before .if1 .taken))) (c .before .before .before .before .refuse .ensures)
+    let a = c .before .before .before .before .before .before .before .before .before .before .before .before .before .args in
+    let e = entity (a .index) (a .version) in
+    let s = meaning (a .words .now) in
+    refused-by (kill-dead s e (found-dead e (s .entities) (sym (c .before .before .before .before .before .before .before .before .before .get .ensures) ∙ c .before .before .before .before .before .before .before .enum-told .given .1))) (c .before .before .before .before .refuse .ensures)
 
 destroy-requires : tie.Need-destroy-requires
-destroy-requires c κs = (c .before .before .before .before .before .before .pre .sound, granted _ (c .before .before .contains .ensures) (c .before .if1 .left))
+destroy-requires c κs = (c .before .before .before .before .before .before .before .before .pre .sound, sym (c .before .before .before .before .get .ensures) ∙ c .before .before .found .given .1)
 
 returns-2 : tie.Need-returns-2
 returns-2 c =
-    let a = c .before .before .before .before .before .before .before .before .before .before .before .before .before .args in
-    accepted-by (kill-live (meaning (a .words .now)) (entity (a .index) (a .version)) (granted _ (c .before .before .before .before .before .before .before .before .before .contains .ensures) (c .before .before .before .before .before .before .before .before .if1 .left))) (c .before .before .before .before .before .before .destroy .ensures .becomes) (c .before .before .ack .ensures)
+    let a = c .before .before .before .before .before .before .before .before .before .before .before .before .before .before .before .args in
+    let e = entity (a .index) (a .version) in
+    let s = meaning (a .words .now) in
+    accepted-by (kill-live s e (found-live e (s .entities) _ (sym (c .before .before .before .before .before .before .before .before .before .before .before .get .ensures) ∙ c .before .before .before .before .before .before .before .before .before .found .given .1) .0)) (c .before .before .before .before .before .before .destroy .ensures .becomes) (c .before .before .ack .ensures)
 
 pub kill-spec : {M : Type 1} → statement M
 kill-spec =
     tie.close
     (tie.spec
     (λ c κs. search needs)
+    (λ c. search needs)
+    (λ c. search needs)
     refuse-requires
     (λ c. search needs)
     (λ c. search needs)

@@ -2,7 +2,7 @@ use Rattle.commands.proofs.Acts.{refused-by, accepted-by}
 use Rattle.effects.proofs.Emptied.{emptied, new-made, told}
 use Rattle.memory.specs.Meaning.{meaning}
 use Rattle.model.proofs.Outcomes.{new-full}
-use mathlib.Core.Path.{_≡_, refl, sym, _∙_}
+use mathlib.Core.Path.{refl, sym, _∙_}
 use borrow.Author.Needs.{needs}
 use Rattle.effects.proofs.entities.new.Statement.{statement}
 use Rattle.effects.proofs.entities.new.Tie as tie

@@ -1,9 +1,8 @@
 use Rattle.group_info.specs.declared.QueryGroupInfo.the-variants as query
 use Rattle.group_info.specs.declared.FoundQuery.the-variants as added
-use mathlib.Core.Path.{_≡_, refl, _∙_, sym, ap, ap₂, subst}
+use mathlib.Core.Path.{refl, sym, subst}
 use Rattle.group_info.specs.declared.QueryGroupInfo.{QueryGroupInfo}
 use Rattle.group_info.specs.Info.{ViewAdded}
-use native.Mathlib.Omega.{arith}
 use borrow.Author.Needs.{needs}
 use Rattle.group_info.proofs.QueryGroupInfo.add_view.Statement.{statement}
 use Rattle.group_info.proofs.QueryGroupInfo.add_view.Tie as tie

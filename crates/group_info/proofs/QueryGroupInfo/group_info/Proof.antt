@@ -1,6 +1,5 @@
-use mathlib.Core.Path.{_≡_, refl, _∙_, sym, ap, ap₂, subst}
+use mathlib.Core.Path.{sym, ap}
 use Rattle.group_info.specs.Info.{infoOf}
-use native.Mathlib.Omega.{arith}
 use borrow.Author.Needs.{needs}
 use Rattle.group_info.proofs.QueryGroupInfo.group_info.Statement.{statement}
 use Rattle.group_info.proofs.QueryGroupInfo.group_info.Tie as tie

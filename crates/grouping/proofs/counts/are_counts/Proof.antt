@@ -1,10 +1,7 @@
-use mathlib.Core.Path.{_≡_, refl, sym, ap, _∙_, subst}
-use Prim.Native.Nat.{ℕ, _+_, _*_, _-_, _≤_, _<_}
+use Prim.Native.Nat.{_+_, _-_, _≤_}
 use native.Mathlib.Omega.{arith}
-use lib.ListN.{length, getD}
-use borrow.Author.Needs.{needs}
-use Rattle.clauses.proofs.SlotLaws.{granted, denied}
-use Rattle.component.specs.Decides.{Each}
+use Rattle.words.specs.Decides.{granted, denied}
+use Rattle.component.specs.Checks.{Each}
 use Rattle.component.proofs.Checking.{each-more}
 use Rattle.grouping.specs.Counts.{CountedOk}
 use Rattle.grouping.proofs.counts.are_counts.Statement.{statement}
@@ -42,11 +39,11 @@ group-counted-requires c κs = let l = c .before .before .loop in (c .before .be
 
 -- src/counts.rt:174:13
 returns : tie.Need-returns Inv-loop μ-loop
-returns c = let a = c .before .before .before .before .before .before .args in let l = c .before .before .before .before .loop in λ e. denied (CountedOk (a .n) (a .words .now) (l .g)) (c .before .group-counted .result) (c .before .group-counted .ensures) (c .if1 .taken) (e (l .g) (omega arith))
+returns c = let a = c .before .before .before .before .before .before .args in let l = c .before .before .before .before .loop in λ e. denied {P = CountedOk (a .n) (a .words .now) (l .g)} (c .before .group-counted .result) (c .before .group-counted .ensures) (c .if1 .taken) (e (l .g) (omega arith))
 
 -- src/counts.rt:172:5
 loop-again : tie.Need-loop-again Inv-loop μ-loop
-loop-again c = let a = c .before .before .before .before .before .before .args in let l = c .before .before .before .before .loop in (omega arith, each-more (CountedOk (a .n) (a .words .now)) (l .g) (l .inv .1) (granted (CountedOk (a .n) (a .words .now) (l .g)) (c .before .group-counted .result) (c .before .group-counted .ensures) (c .if1 .left)))
+loop-again c = let a = c .before .before .before .before .before .before .args in let l = c .before .before .before .before .loop in (omega arith, each-more (CountedOk (a .n) (a .words .now)) (l .g) (l .inv .1) (granted {P = CountedOk (a .n) (a .words .now) (l .g)} (c .before .group-counted .result) (c .before .group-counted .ensures) (c .if1 .left)))
 
 -- src/counts.rt:166:1
 returns-2 : tie.Need-returns-2 Inv-loop μ-loop

@@ -1,9 +1,7 @@
-use mathlib.Core.Path.{_≡_, refl, sym, ap, _∙_, subst}
-use Prim.Native.Nat.{ℕ, _+_, _*_, _-_, _≤_, _<_}
+use Prim.Native.Nat.{ℕ, _-_}
 use native.Mathlib.Omega.{arith}
-use lib.ListN.{length, getD}
 use borrow.Author.Needs.{needs}
-use Rattle.clauses.proofs.SlotLaws.{granted, denied}
+use Rattle.words.specs.Decides.{granted, denied}
 use Rattle.clauses.specs.Slots.{Over}
 use Rattle.clauses.specs.Rows.{keyAt}
 use Rattle.grouping.specs.Counts.{EvenOk, Holds}
@@ -24,7 +22,7 @@ span-even-requires c κs = ((c .before .before .before .before .pre .0 .0, c .be
 
 -- src/counts.rt:141:9
 returns-3 : tie.Need-returns-3
-returns-3 c = let a = c .before .before .before .before .before .before .args in λ K. denied (Over (a .from) (a .to) (EvenOk (a .n) (a .words .now) (a .h) (a .c))) (c .before .span-even .result) (c .before .span-even .ensures) (c .if3 .taken) (K .even)
+returns-3 c = let a = c .before .before .before .before .before .before .args in λ K. denied {P = Over (a .from) (a .to) (EvenOk (a .n) (a .words .now) (a .h) (a .c))} (c .before .span-even .result) (c .before .span-even .ensures) (c .if3 .taken) (K .even)
 
 -- src/counts.rt:143:9
 rows-lack-requires : tie.Need-rows-lack-requires
@@ -32,11 +30,11 @@ rows-lack-requires c κs = ((c .before .before .before .before .before .before .
 
 -- src/counts.rt:144:9
 returns-4 : tie.Need-returns-4
-returns-4 c = let a = c .before .before .before .before .before .before .before .before .args in λ K. denied (Over (a .c) (a .b) (λ (i : ℕ). Holds (a .n) (a .words .now) (a .from) (a .to) (keyAt (a .n) (a .words .now) (a .h) i) → ⊥)) (c .before .rows-lack .result) (c .before .rows-lack .ensures) (c .if4 .taken) (K .past)
+returns-4 c = let a = c .before .before .before .before .before .before .before .before .args in λ K. denied {P = Over (a .c) (a .b) (λ (i : ℕ). Holds (a .n) (a .words .now) (a .from) (a .to) (keyAt (a .n) (a .words .now) (a .h) i) → ⊥)} (c .before .rows-lack .result) (c .before .rows-lack .ensures) (c .if4 .taken) (K .past)
 
 -- src/counts.rt:129:1
 returns-5 : tie.Need-returns-5
-returns-5 c = let a = c .before .before .before .before .before .before .before .before .args in record { less = omega arith; inside = omega (arith, c .before .before .before .before .before .len-in .ensures, c .before .before .before .before .if2 .left); even = granted (Over (a .from) (a .to) (EvenOk (a .n) (a .words .now) (a .h) (a .c))) (c .before .before .before .span-even .result) (c .before .before .before .span-even .ensures) (c .before .before .if3 .left); past = granted (Over (a .c) (a .b) (λ (i : ℕ). Holds (a .n) (a .words .now) (a .from) (a .to) (keyAt (a .n) (a .words .now) (a .h) i) → ⊥)) (c .before .rows-lack .result) (c .before .rows-lack .ensures) (c .if4 .left) }
+returns-5 c = let a = c .before .before .before .before .before .before .before .before .args in record { less = omega arith; inside = omega (arith, c .before .before .before .before .before .len-in .ensures, c .before .before .before .before .if2 .left); even = granted {P = Over (a .from) (a .to) (EvenOk (a .n) (a .words .now) (a .h) (a .c))} (c .before .before .before .span-even .result) (c .before .before .before .span-even .ensures) (c .before .before .if3 .left); past = granted {P = Over (a .c) (a .b) (λ (i : ℕ). Holds (a .n) (a .words .now) (a .from) (a .to) (keyAt (a .n) (a .words .now) (a .h) i) → ⊥)} (c .before .rows-lack .result) (c .before .rows-lack .ensures) (c .if4 .left) }
 
 pub count-ok-spec : {M : Type 1} → statement M
 count-ok-spec =

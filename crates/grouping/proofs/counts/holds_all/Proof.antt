@@ -1,7 +1,5 @@
-use Prim.Native.Nat.{ℕ, _+_, _*_, _-_, _≤_, _<_}
+use Prim.Native.Nat.{ℕ, _-_, _≤_}
 use native.Mathlib.Omega.{arith}
-use borrow.Author.Needs.{needs}
-use Rattle.component.specs.Decides.{Each}
 use Rattle.clauses.specs.Slots.{Over}
 use Rattle.clauses.proofs.SlotLaws.{over-more}
 use mathlib.Core.Path.{_≡_, sym, _∙_}

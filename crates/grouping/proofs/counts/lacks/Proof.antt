@@ -1,9 +1,8 @@
-use mathlib.Core.Path.{_≡_, refl, sym, ap, _∙_, subst}
-use Prim.Native.Nat.{ℕ, _+_, _*_, _-_, _≤_, _<_}
+use mathlib.Core.Path.{_≡_, sym, ap, _∙_, subst}
+use Prim.Native.Nat.{ℕ, _+_, _*_, _-_}
 use native.Mathlib.Omega.{arith}
-use lib.ListN.{length, getD}
 use Rattle.clauses.proofs.SlotLaws.{rows-most, key-word}
-use Rattle.component.proofs.Checking.{granted, denied}
+use Rattle.words.specs.Decides.{yes-of, no-of}
 use Rattle.clauses.specs.Rows.{entityIn}
 use Rattle.clauses.specs.Rows.{keyAt}
 use Rattle.grouping.specs.Counts.{Holds}
@@ -41,11 +40,11 @@ shared-slice-read-version c = let a = c .before .before .before .before .args in
 
 -- src/counts.rt:108:9
 returns : tie.Need-returns
-returns c = let a = c .before .before .before .before .before .before .args in let w = a .words .now in let k : keyAt (a .n) w (a .h) (a .i) ≡ entityIn w (c .before .before .before .before .column-start .result + 8 + 2 * a .i) = key-word (a .n) (a .h) w (c .before .before .before .before .before .before .pre .0 .1) (a .i) (c .before .before .before .before .before .before .pre .0 .2) ∙ ap (λ (b : ℕ). entityIn w (b + 8 + 2 * a .i)) (sym (c .before .before .before .before .column-start .ensures)) in λ no. no (subst (Holds (a .n) w (a .from) (a .to)) (sym k) (granted (Holds (a .n) w (a .from) (a .to) (entityIn w (c .before .before .before .before .column-start .result + 8 + 2 * a .i))) (c .before .holds-all .result) (c .before .holds-all .ensures) (c .if1 .taken)))
+returns c = let a = c .before .before .before .before .before .before .args in let w = a .words .now in let k : keyAt (a .n) w (a .h) (a .i) ≡ entityIn w (c .before .before .before .before .column-start .result + 8 + 2 * a .i) = key-word (a .n) (a .h) w (c .before .before .before .before .before .before .pre .0 .1) (a .i) (c .before .before .before .before .before .before .pre .0 .2) ∙ ap (λ (b : ℕ). entityIn w (b + 8 + 2 * a .i)) (sym (c .before .before .before .before .column-start .ensures)) in λ no. no (subst (Holds (a .n) w (a .from) (a .to)) (sym k) (yes-of {P = Holds (a .n) w (a .from) (a .to) (entityIn w (c .before .before .before .before .column-start .result + 8 + 2 * a .i))} (c .before .holds-all .result) (c .before .holds-all .ensures) (c .if1 .taken)))
 
 -- src/counts.rt:99:1
 returns-2 : tie.Need-returns-2
-returns-2 c = let a = c .before .before .before .before .before .before .args in let w = a .words .now in let k : keyAt (a .n) w (a .h) (a .i) ≡ entityIn w (c .before .before .before .before .column-start .result + 8 + 2 * a .i) = key-word (a .n) (a .h) w (c .before .before .before .before .before .before .pre .0 .1) (a .i) (c .before .before .before .before .before .before .pre .0 .2) ∙ ap (λ (b : ℕ). entityIn w (b + 8 + 2 * a .i)) (sym (c .before .before .before .before .column-start .ensures)) in λ H. denied (Holds (a .n) w (a .from) (a .to) (entityIn w (c .before .before .before .before .column-start .result + 8 + 2 * a .i))) (c .before .holds-all .result) (c .before .holds-all .ensures) (c .if1 .left) (subst (Holds (a .n) w (a .from) (a .to)) k H)
+returns-2 c = let a = c .before .before .before .before .before .before .args in let w = a .words .now in let k : keyAt (a .n) w (a .h) (a .i) ≡ entityIn w (c .before .before .before .before .column-start .result + 8 + 2 * a .i) = key-word (a .n) (a .h) w (c .before .before .before .before .before .before .pre .0 .1) (a .i) (c .before .before .before .before .before .before .pre .0 .2) ∙ ap (λ (b : ℕ). entityIn w (b + 8 + 2 * a .i)) (sym (c .before .before .before .before .column-start .ensures)) in λ H. no-of {P = Holds (a .n) w (a .from) (a .to) (entityIn w (c .before .before .before .before .column-start .result + 8 + 2 * a .i))} (c .before .holds-all .result) (c .before .holds-all .ensures) (c .if1 .left) (subst (Holds (a .n) w (a .from) (a .to)) k H)
 
 pub lacks-spec : {M : Type 1} → statement M
 lacks-spec =

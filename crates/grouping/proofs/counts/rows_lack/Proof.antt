@@ -1,9 +1,8 @@
-use Prim.Native.Nat.{ℕ, _+_, _*_, _-_, _≤_, _<_}
+use Prim.Native.Nat.{ℕ, _-_, _≤_}
 use native.Mathlib.Omega.{arith}
-use borrow.Author.Needs.{needs}
-use Rattle.component.specs.Decides.{Each}
 use Rattle.clauses.specs.Slots.{Over}
-use Rattle.clauses.proofs.SlotLaws.{granted, denied, over-more}
+use Rattle.words.specs.Decides.{granted, denied}
+use Rattle.clauses.proofs.SlotLaws.{over-more}
 use Rattle.clauses.specs.Rows.{keyAt}
 use Rattle.grouping.specs.Counts.{Holds}
 use Rattle.grouping.proofs.counts.rows_lack.Statement.{statement}
@@ -28,13 +27,13 @@ returns : tie.Need-returns Inv-loop μ-loop
 returns c =
     let a = c .before .before .before .before .before .args in
     let l = c .before .before .before .loop in
-    λ e. denied (Holds (a .n) (a .words .now) (a .from) (a .to) (keyAt (a .n) (a .words .now) (a .h) (l .i)) → ⊥) (c .before .lacks .result) (c .before .lacks .ensures) (c .if1 .taken) (e (l .i) (l .inv .0) (omega arith))
+    λ e. denied {P = Holds (a .n) (a .words .now) (a .from) (a .to) (keyAt (a .n) (a .words .now) (a .h) (l .i)) → ⊥} (c .before .lacks .result) (c .before .lacks .ensures) (c .if1 .taken) (e (l .i) (l .inv .0) (omega arith))
 
 loop-again : tie.Need-loop-again Inv-loop μ-loop
 loop-again c =
     let a = c .before .before .before .before .before .args in
     let l = c .before .before .before .loop in
-    let o = granted (Holds (a .n) (a .words .now) (a .from) (a .to) (keyAt (a .n) (a .words .now) (a .h) (l .i)) → ⊥) (c .before .lacks .result) (c .before .lacks .ensures) (c .if1 .left) in
+    let o = granted {P = Holds (a .n) (a .words .now) (a .from) (a .to) (keyAt (a .n) (a .words .now) (a .h) (l .i)) → ⊥} (c .before .lacks .result) (c .before .lacks .ensures) (c .if1 .left) in
     (omega arith, over-more (λ (i : ℕ). Holds (a .n) (a .words .now) (a .from) (a .to) (keyAt (a .n) (a .words .now) (a .h) i) → ⊥) (a .c) (l .i) (l .inv .1) o)
 
 returns-2 : tie.Need-returns-2 Inv-loop μ-loop

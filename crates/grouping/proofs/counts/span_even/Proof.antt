@@ -1,9 +1,8 @@
-use Prim.Native.Nat.{ℕ, _+_, _*_, _-_, _≤_, _<_}
+use Prim.Native.Nat.{_-_, _≤_}
 use native.Mathlib.Omega.{arith}
-use borrow.Author.Needs.{needs}
-use Rattle.component.specs.Decides.{Each}
 use Rattle.clauses.specs.Slots.{Over}
-use Rattle.clauses.proofs.SlotLaws.{granted, denied, over-more}
+use Rattle.words.specs.Decides.{granted, denied}
+use Rattle.clauses.proofs.SlotLaws.{over-more}
 use Rattle.grouping.specs.Counts.{EvenOk}
 use Rattle.grouping.proofs.counts.span_even.Statement.{statement}
 use Rattle.grouping.proofs.counts.span_even.Tie as tie
@@ -27,13 +26,13 @@ returns : tie.Need-returns Inv-loop μ-loop
 returns c =
     let a = c .before .before .before .before .before .args in
     let l = c .before .before .before .loop in
-    λ e. denied (EvenOk (a .n) (a .words .now) (a .h) (a .c) (l .j)) (c .before .even-ok .result) (c .before .even-ok .ensures) (c .if1 .taken) (e (l .j) (l .inv .0) (omega arith))
+    λ e. denied {P = EvenOk (a .n) (a .words .now) (a .h) (a .c) (l .j)} (c .before .even-ok .result) (c .before .even-ok .ensures) (c .if1 .taken) (e (l .j) (l .inv .0) (omega arith))
 
 loop-again : tie.Need-loop-again Inv-loop μ-loop
 loop-again c =
     let a = c .before .before .before .before .before .args in
     let l = c .before .before .before .loop in
-    let o = granted (EvenOk (a .n) (a .words .now) (a .h) (a .c) (l .j)) (c .before .even-ok .result) (c .before .even-ok .ensures) (c .if1 .left) in
+    let o = granted {P = EvenOk (a .n) (a .words .now) (a .h) (a .c) (l .j)} (c .before .even-ok .result) (c .before .even-ok .ensures) (c .if1 .left) in
     (omega arith, over-more (EvenOk (a .n) (a .words .now) (a .h) (a .c)) (a .from) (l .j) (l .inv .1) o)
 
 returns-2 : tie.Need-returns-2 Inv-loop μ-loop

@@ -1,10 +1,8 @@
-use Prim.Native.Nat.{ℕ, _+_, _*_, _-_, _≤_, _<_}
+use Prim.Native.Nat.{_-_, _≤_}
 use native.Mathlib.Omega.{arith}
-use borrow.Author.Needs.{needs}
-use Rattle.component.specs.Decides.{Each}
-use Rattle.clauses.specs.Slots.{Over}
+use Rattle.component.specs.Checks.{Each}
 use Rattle.component.proofs.Checking.{each-more}
-use Rattle.clauses.proofs.SlotLaws.{granted, denied}
+use Rattle.words.specs.Decides.{granted, denied}
 use Rattle.grouping.specs.Spans.{HeadsOk}
 use Rattle.grouping.proofs.heads.are_heads.Statement.{statement}
 use Rattle.grouping.proofs.heads.are_heads.Tie as tie
@@ -28,13 +26,13 @@ returns : tie.Need-returns Inv-loop μ-loop
 returns c =
     let a = c .before .before .before .before .before .args in
     let l = c .before .before .before .loop in
-    λ e. denied (HeadsOk (a .n) (a .families) (a .words .now) (l .g)) (c .before .group-ok .result) (c .before .group-ok .ensures) (c .if1 .taken) (e (l .g) (omega arith))
+    λ e. denied {P = HeadsOk (a .n) (a .families) (a .words .now) (l .g)} (c .before .group-ok .result) (c .before .group-ok .ensures) (c .if1 .taken) (e (l .g) (omega arith))
 
 loop-again : tie.Need-loop-again Inv-loop μ-loop
 loop-again c =
     let a = c .before .before .before .before .before .args in
     let l = c .before .before .before .loop in
-    let o = granted (HeadsOk (a .n) (a .families) (a .words .now) (l .g)) (c .before .group-ok .result) (c .before .group-ok .ensures) (c .if1 .left) in
+    let o = granted {P = HeadsOk (a .n) (a .families) (a .words .now) (l .g)} (c .before .group-ok .result) (c .before .group-ok .ensures) (c .if1 .left) in
     (omega arith, each-more (HeadsOk (a .n) (a .families) (a .words .now)) (l .g) (l .inv .1) o)
 
 returns-2 : tie.Need-returns-2 Inv-loop μ-loop

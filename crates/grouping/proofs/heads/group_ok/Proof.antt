@@ -1,8 +1,6 @@
-use mathlib.Core.Path.{_≡_, refl, sym, ap, _∙_, subst}
-use Prim.Native.Nat.{ℕ, _+_, _*_, _-_, _≤_, _<_}
+use Prim.Native.Nat.{_+_, _-_}
 use native.Mathlib.Omega.{arith}
-use lib.ListN.{length, getD}
-use Rattle.clauses.proofs.SlotLaws.{granted, denied}
+use Rattle.words.specs.Decides.{granted, denied}
 use Rattle.memory.specs.Header.{groupFamilyAt}
 use Rattle.grouping.specs.Spans.{GroupOf, NewOk}
 use borrow.Author.Needs.{needs}
@@ -15,19 +13,19 @@ cast-f c = let a = c .before .before .args in omega (arith, c .before .shared-sl
 
 -- src/heads.rt:107:9
 returns : tie.Need-returns
-returns c = let a = c .before .before .before .before .args in λ H. denied (GroupOf (a .words .now) (a .families) (a .g) (groupFamilyAt (a .words .now) (a .g))) (c .before .family-ok .result) (c .before .family-ok .ensures) (c .if1 .taken) (H .of)
+returns c = let a = c .before .before .before .before .args in λ H. denied {P = GroupOf (a .words .now) (a .families) (a .g) (groupFamilyAt (a .words .now) (a .g))} (c .before .family-ok .result) (c .before .family-ok .ensures) (c .if1 .taken) (H .of)
 
 -- src/heads.rt:109:9
 new-ok-requires : tie.Need-new-ok-requires
-new-ok-requires c κs = let a = c .before .before .before .before .args in (c .before .before .before .before .pre .0, (c .before .before .before .before .pre .1, granted (GroupOf (a .words .now) (a .families) (a .g) (groupFamilyAt (a .words .now) (a .g))) (c .before .family-ok .result) (c .before .family-ok .ensures) (c .if1 .left)))
+new-ok-requires c κs = let a = c .before .before .before .before .args in (c .before .before .before .before .pre .0, (c .before .before .before .before .pre .1, granted {P = GroupOf (a .words .now) (a .families) (a .g) (groupFamilyAt (a .words .now) (a .g))} (c .before .family-ok .result) (c .before .family-ok .ensures) (c .if1 .left)))
 
 -- src/heads.rt:110:9
 returns-2 : tie.Need-returns-2
-returns-2 c = let a = c .before .before .before .before .before .before .args in λ H. denied (NewOk (a .n) (a .words .now) (groupFamilyAt (a .words .now) (a .g)) (a .g)) (c .before .new-ok .result) (c .before .new-ok .ensures) (c .if2 .taken) (H .heads)
+returns-2 c = let a = c .before .before .before .before .before .before .args in λ H. denied {P = NewOk (a .n) (a .words .now) (groupFamilyAt (a .words .now) (a .g)) (a .g)} (c .before .new-ok .result) (c .before .new-ok .ensures) (c .if2 .taken) (H .heads)
 
 -- src/heads.rt:100:1
 returns-3 : tie.Need-returns-3
-returns-3 c = let a = c .before .before .before .before .before .before .args in record { of = granted (GroupOf (a .words .now) (a .families) (a .g) (groupFamilyAt (a .words .now) (a .g))) (c .before .before .before .family-ok .result) (c .before .before .before .family-ok .ensures) (c .before .before .if1 .left); heads = granted (NewOk (a .n) (a .words .now) (groupFamilyAt (a .words .now) (a .g)) (a .g)) (c .before .new-ok .result) (c .before .new-ok .ensures) (c .if2 .left) }
+returns-3 c = let a = c .before .before .before .before .before .before .args in record { of = granted {P = GroupOf (a .words .now) (a .families) (a .g) (groupFamilyAt (a .words .now) (a .g))} (c .before .before .before .family-ok .result) (c .before .before .before .family-ok .ensures) (c .before .before .if1 .left); heads = granted {P = NewOk (a .n) (a .words .now) (groupFamilyAt (a .words .now) (a .g)) (a .g)} (c .before .new-ok .result) (c .before .new-ok .ensures) (c .if2 .left) }
 
 pub group-ok-spec : {M : Type 1} → statement M
 group-ok-spec =

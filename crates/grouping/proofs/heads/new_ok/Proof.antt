@@ -1,8 +1,5 @@
-use mathlib.Core.Path.{_≡_, refl, sym, ap, ap₂, _∙_, subst}
-use Prim.Native.Nat.{ℕ, _+_, _*_, _-_, _≤_, _<_}
+use Prim.Native.Nat.{_-_}
 use native.Mathlib.Omega.{arith}
-use lib.ListN.{length, getD}
-use borrow.Author.Needs.{needs}
 use Rattle.grouping.proofs.CountLaws.{new-moved}
 use Rattle.grouping.proofs.heads.new_ok.Statement.{statement}
 use Rattle.grouping.proofs.heads.new_ok.Tie as tie

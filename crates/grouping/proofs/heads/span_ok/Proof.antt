@@ -1,9 +1,8 @@
-use Prim.Native.Nat.{ℕ, _+_, _*_, _-_, _≤_, _<_}
+use Prim.Native.Nat.{_-_, _≤_}
 use native.Mathlib.Omega.{arith}
-use borrow.Author.Needs.{needs}
-use Rattle.component.specs.Decides.{Each}
 use Rattle.clauses.specs.Slots.{Over}
-use Rattle.clauses.proofs.SlotLaws.{granted, denied, over-more}
+use Rattle.words.specs.Decides.{granted, denied}
+use Rattle.clauses.proofs.SlotLaws.{over-more}
 use Rattle.grouping.specs.Spans.{HeadOk}
 use Rattle.grouping.proofs.heads.span_ok.Statement.{statement}
 use Rattle.grouping.proofs.heads.span_ok.Tie as tie
@@ -27,13 +26,13 @@ returns : tie.Need-returns Inv-loop μ-loop
 returns c =
     let a = c .before .before .before .before .before .args in
     let l = c .before .before .before .loop in
-    λ e. denied (HeadOk (a .n) (a .words .now) (a .g) (a .first) (l .j)) (c .before .head-ok .result) (c .before .head-ok .ensures) (c .if1 .taken) (e (l .j) (l .inv .0) (omega arith))
+    λ e. denied {P = HeadOk (a .n) (a .words .now) (a .g) (a .first) (l .j)} (c .before .head-ok .result) (c .before .head-ok .ensures) (c .if1 .taken) (e (l .j) (l .inv .0) (omega arith))
 
 loop-again : tie.Need-loop-again Inv-loop μ-loop
 loop-again c =
     let a = c .before .before .before .before .before .args in
     let l = c .before .before .before .loop in
-    let o = granted (HeadOk (a .n) (a .words .now) (a .g) (a .first) (l .j)) (c .before .head-ok .result) (c .before .head-ok .ensures) (c .if1 .left) in
+    let o = granted {P = HeadOk (a .n) (a .words .now) (a .g) (a .first) (l .j)} (c .before .head-ok .result) (c .before .head-ok .ensures) (c .if1 .left) in
     (omega arith, over-more (HeadOk (a .n) (a .words .now) (a .g) (a .first)) (a .from) (l .j) (l .inv .1) o)
 
 returns-2 : tie.Need-returns-2 Inv-loop μ-loop

@@ -1,7 +1,6 @@
 use mathlib.Core.Path.{_≡_, refl, _∙_, sym, ap}
 use Prim.Native.Nat.{ℕ, _≤_, _-_}
 use native.Mathlib.Omega.{arith}
-use borrow.Author.Needs.{needs}
 use lib.ListN.{length, drop}
 use lib.Seq.{drop-length}
 use Rattle.model.specs.Model.{mem}

@@ -1,10 +1,7 @@
-use mathlib.Core.Path.{_≡_, refl, _∙_, sym, ap}
-use lib.ListN.{length}
+use mathlib.Core.Path.{refl}
 use Rattle.words.specs.Table.{table}
 use native.Mathlib.Omega.{arith}
-use borrow.Author.Needs.{needs}
-use Prim.Native.Nat.{ℕ, _+_, _≤_, _<_, _-_}
-use lib.ListN.{replicate}
+use Prim.Native.Nat.{_-_}
 use Rattle.layout.proofs.group_layout.empty.Statement.{statement}
 use Rattle.layout.proofs.group_layout.empty.Tie as tie
 

@@ -1,9 +1,9 @@
-use mathlib.Core.Path.{_≡_, refl, _∙_, sym, ap, ap₂, subst}
-use Prim.Native.Nat.{ℕ, _+_, _≤_, _<_, _-_}
-use mathlib.Core.List.{List, [], _∷_, _++_}
+use mathlib.Core.Path.{_≡_, refl, _∙_, sym, ap}
+use Prim.Native.Nat.{ℕ, _+_, _-_}
+use mathlib.Core.List.{[], _∷_}
 use lib.ListN.{length, getD, take}
 use lib.Seq.{length-take-le}
-use Rattle.layout.specs.Layout.{arraysOf, Sized, startOf, widthOf, kindsAt, meaning}
+use Rattle.layout.specs.Layout.{arraysOf, Sized, widthOf}
 use Rattle.layout.proofs.Arrays.{end-inside}
 use Rattle.layout.proofs.Extend.{kind-inside, group-inside, kind-room, spread-front, family-other, family-here, width-after, groups-after, well-formed-after}
 use native.Mathlib.Omega.{arith}

@@ -1,7 +1,7 @@
 use mathlib.Core.Path.{_≡_, refl, _∙_, sym, ap, ap₂}
-use Prim.Native.Nat.{ℕ, _+_, _≤_, _<_, _-_}
-use mathlib.Core.List.{List, [], _∷_, _++_}
-use lib.ListN.{length, getD, drop}
+use Prim.Native.Nat.{ℕ, _+_, _≤_, _-_}
+use mathlib.Core.List.{[]}
+use lib.ListN.{getD, drop}
 use Rattle.words.specs.Part.{between}
 use Rattle.layout.specs.Layout.{startOf, arraysIn, groupsFrom, familiesOf}
 use Rattle.layout.specs.Fit.{partOf, joinFit, fitFrom}

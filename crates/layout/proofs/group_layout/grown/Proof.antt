@@ -1,10 +1,10 @@
 use mathlib.Core.List.{List}
-use mathlib.Core.Path.{_≡_, refl, _∙_, sym, ap, ap₂, subst}
-use Prim.Native.Nat.{ℕ, _+_, _≤_, _<_, _-_}
-use lib.ListN.{length, getD, take}
+use mathlib.Core.Path.{_≡_, _∙_, sym, ap, subst}
+use Prim.Native.Nat.{ℕ, _-_}
+use lib.ListN.{length, getD}
 use lib.Seq.{length-take-le}
 use Rattle.words.specs.Part.{between}
-use Rattle.layout.specs.Layout.{arraysOf, Sized, startOf, widthOf, kindsAt, meaning}
+use Rattle.layout.specs.Layout.{arraysOf, Sized}
 use Rattle.model.specs.Model.{without}
 use Rattle.layout.specs.Grow.{Extends, Extended}
 use Rattle.layout.proofs.Arrays.{bounds}

@@ -1,7 +1,4 @@
-use native.Mathlib.Omega.{arith}
 use borrow.Author.Needs.{needs}
-use mathlib.Core.Path.{_≡_, refl, _∙_, sym, ap}
-use Rattle.layout.specs.Fit.{joinFit}
 use Rattle.layout.proofs.group_layout.joined.Statement.{statement}
 use Rattle.layout.proofs.group_layout.joined.Tie as tie
 

@@ -1,9 +1,9 @@
-use mathlib.Core.Path.{_≡_, refl, _∙_, sym, ap}
-use mathlib.Core.List.{List, [], _∷_, _++_}
-use Prim.Native.Nat.{ℕ, _+_, _≤_, _<_, _-_}
+use mathlib.Core.Path.{_≡_, refl, _∙_, sym}
+use mathlib.Core.List.{_++_}
+use Prim.Native.Nat.{_+_, _≤_, _-_}
 use mathlib.Core.Logic.{⊎-elim}
 use borrow.Author.Tests.{not-true, not-false}
-use lib.ListN.{length, getD, take, drop, set, length-set}
+use lib.ListN.{length, take, drop, length-set}
 use Rattle.model.specs.Model.{without}
 use Rattle.layout.proofs.Append.{without-held, without-new, without-end}
 use native.Mathlib.Omega.{arith}

@@ -1,11 +1,7 @@
-use mathlib.Core.Path.{_≡_, refl, _∙_, sym, ap, ap₂}
-use mathlib.Core.List.{List, [], _∷_, _++_}
-use mathlib.Core.Bool.{Bool, true, false}
+use mathlib.Core.Path.{_∙_, sym}
+use mathlib.Core.List.{[]}
 use borrow.Author.Tests.{not-true, not-false}
-use Rattle.model.specs.Model.{kindsOf}
-use Rattle.layout.specs.Layout.{groupsFrom}
 use Rattle.layout.proofs.Family.{kinds-from}
-use native.Mathlib.Omega.{arith}
 use borrow.Author.Needs.{needs}
 use Rattle.layout.proofs.group_layout.part_of.Statement.{statement}
 use Rattle.layout.proofs.group_layout.part_of.Tie as tie

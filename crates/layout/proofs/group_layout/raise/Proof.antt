@@ -1,12 +1,6 @@
-use mathlib.Core.Path.{_≡_, refl, _∙_, sym, ap}
-use Prim.Native.Nat.{ℕ, _+_, _≤_, _<_, _-_}
-use mathlib.Core.Logic.{_≢_}
-use lib.ListN.{length, getD, set, length-set}
-use lib.Seq.{getD-set-same, getD-set-other}
-use Rattle.words.specs.Table.{by-eq}
+use Prim.Native.Nat.{_-_}
 use Rattle.layout.proofs.Append.{Raising, raise-none, raise-more, raise-done}
 use native.Mathlib.Omega.{arith}
-use borrow.Author.Needs.{needs}
 use Rattle.layout.proofs.group_layout.raise.Statement.{statement}
 use Rattle.layout.proofs.group_layout.raise.Tie as tie
 

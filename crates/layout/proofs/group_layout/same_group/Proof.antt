@@ -1,13 +1,11 @@
 use mathlib.Core.Path.{_≡_, refl, _∙_, sym, ap}
-use Prim.Native.Nat.{ℕ, _+_, _≤_, _<_, _-_}
-use mathlib.Core.List.{List, [], _∷_, _++_}
-use mathlib.Core.Bool.{Bool, true, false, _||_}
-use lib.ListN.{length, getD, take, drop}
-use Rattle.model.specs.Model.{isGroup, sameSet}
+use Prim.Native.Nat.{ℕ, _≤_, _-_}
+use mathlib.Core.List.{List, []}
+use lib.ListN.{length, take, drop}
+use Rattle.model.specs.Model.{isGroup}
 use Rattle.layout.specs.Layout.{startOf, groupsFrom, Rising}
-use Rattle.layout.proofs.Family.{Turn, turn, no-groups, start-next}
+use Rattle.layout.proofs.Family.{turn, no-groups}
 use native.Mathlib.Omega.{arith}
-use borrow.Author.Needs.{needs}
 use Rattle.layout.proofs.group_layout.same_group.Statement.{statement}
 use Rattle.layout.proofs.group_layout.same_group.Tie as tie
 

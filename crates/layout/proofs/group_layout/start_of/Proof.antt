@@ -1,5 +1,5 @@
-use mathlib.Core.Path.{_≡_, refl, _∙_, sym, ap}
-use Prim.Native.Nat.{ℕ, _+_, _≤_, _<_, _-_}
+use mathlib.Core.Path.{_≡_, _∙_, sym, ap}
+use Prim.Native.Nat.{_+_, _-_}
 use native.Mathlib.Numerals.{add-one}
 use Rattle.layout.specs.Layout.{startOf}
 use native.Mathlib.Omega.{arith}

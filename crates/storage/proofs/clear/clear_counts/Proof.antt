@@ -1,9 +1,7 @@
 -- `storage::clear::clear_counts` meets its contract: the groups before g count nothing. Assumes nothing.
 use mathlib.Core.Path.{_≡_}
-use mathlib.Core.List.{List}
-use Prim.Native.Nat.{ℕ, _≤_, _<_, _-_}
+use Prim.Native.Nat.{_≤_, _-_}
 use native.Mathlib.Omega.{arith}
-use borrow.Author.Needs.{needs}
 use Rattle.model.specs.Model.{groupsOf}
 use Rattle.memory.specs.Meaning.{meaning}
 use Rattle.group.proofs.InWords.{groups-few}

@@ -1,22 +1,15 @@
 -- `storage::insert::insert_one` meets its contract. Assumes nothing.
-use mathlib.Core.Path.{_≡_, refl, ap, sym, _∙_, subst}
-use mathlib.Core.List.{List}
-use Prim.Native.Nat.{ℕ, _<_}
-use native.Mathlib.Omega.{arith}
+use mathlib.Core.Path.{ap, subst}
 use borrow.Author.Needs.{needs}
-use lib.ListN.{length, getD}
 use Rattle.model.specs.Model.{Component}
-use Rattle.model.specs.Sound.{In, noComponent}
 use Rattle.component.specs.SparseSet.{entity}
 use Rattle.memory.specs.Meaning.{meaning}
 use Rattle.memory.specs.Change.{onStorage}
 use Rattle.memory.specs.Arranged.{Becomes}
-use Rattle.storage.specs.Insert.{Insertable, insertOne}
+use Rattle.storage.specs.Insert.{insertOne}
 use Rattle.storage.proofs.Inserting.{staged-known}
 use Rattle.storage.proofs.insert.insert_one.Statement.{statement}
 use Rattle.storage.proofs.insert.insert_one.Tie as tie
-use Rattle.storage.proofs.insert.insert_one.Reads as reads
-use Rattle.storage.proofs.insert.insert_one.Lts as lts
 
 insert-requires : tie.Need-insert-requires
 insert-requires c κs =

@@ -1,7 +1,6 @@
 -- `storage::insert::insert_staged` meets its contract: the first i staged components are in. Assumes nothing.
-use mathlib.Core.Path.{_≡_, refl, ap, sym, _∙_, subst}
-use mathlib.Core.List.{List}
-use Prim.Native.Nat.{ℕ, _≤_, _<_, _-_}
+use mathlib.Core.Path.{_≡_}
+use Prim.Native.Nat.{_≤_, _-_}
 use native.Mathlib.Omega.{arith}
 use borrow.Author.Needs.{needs}
 use lib.ListN.{length, take}
@@ -9,12 +8,10 @@ use Rattle.component.specs.SparseSet.{entity}
 use Rattle.memory.specs.Meaning.{meaning}
 use Rattle.memory.specs.Change.{onStorage}
 use Rattle.memory.specs.Arranged.{Becomes}
-use Rattle.storage.specs.Insert.{Insertable, inserted}
+use Rattle.storage.specs.Insert.{inserted}
 use Rattle.storage.proofs.Inserting.{insert-none, insert-all, insert-ask, insert-count, insert-turn}
 use Rattle.storage.proofs.insert.insert_staged.Statement.{statement}
 use Rattle.storage.proofs.insert.insert_staged.Tie as tie
-use Rattle.storage.proofs.insert.insert_staged.Reads as reads
-use Rattle.storage.proofs.insert.insert_staged.Lts as lts
 
 abbrev Inv-loop : tie.InvT-loop
 Inv-loop words₀ index version n i₀ words i =

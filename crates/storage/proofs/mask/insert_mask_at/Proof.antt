@@ -1,8 +1,7 @@
 -- `storage::mask::insert_mask_at` meets its contract. Assumes nothing.
-use mathlib.Core.Path.{_≡_, ap, _∙_}
-use mathlib.Core.List.{List, [], _∷_}
+use mathlib.Core.Path.{ap, _∙_}
+use mathlib.Core.List.{[], _∷_}
 use Prim.Native.Nat.{ℕ}
-use borrow.Author.Needs.{needs}
 use Rattle.memory.specs.Meaning.{meaning}
 use Rattle.group.specs.Flat.{insertPositions}
 use Rattle.storage.proofs.Removing.{kind-at, staged-in}

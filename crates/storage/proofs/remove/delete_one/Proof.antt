@@ -1,5 +1,5 @@
 -- `storage::remove::delete_one` meets its contract. Assumes nothing.
-use mathlib.Core.Path.{_≡_, _∙_, subst}
+use mathlib.Core.Path.{_∙_, subst}
 use Prim.Native.Nat.{ℕ}
 use borrow.Author.Needs.{needs}
 use Rattle.model.specs.Model.{removeRow}
@@ -7,7 +7,6 @@ use Rattle.component.specs.SparseSet.{entity}
 use Rattle.memory.specs.Meaning.{meaning}
 use Rattle.memory.specs.Change.{onSet, onStorage}
 use Rattle.memory.specs.Arranged.{Becomes}
-use Rattle.storage.specs.Remove.{Staged}
 use Rattle.storage.proofs.Removing.{kind-at, staged-in}
 use Rattle.storage.proofs.remove.delete_one.Statement.{statement}
 use Rattle.storage.proofs.remove.delete_one.Tie as tie

@@ -1,9 +1,7 @@
 -- `storage::remove::delete_staged` meets its contract: the first i staged kinds are done. Assumes nothing.
-use mathlib.Core.Path.{_≡_, refl, ap, sym, _∙_}
-use mathlib.Core.List.{List}
-use Prim.Native.Nat.{ℕ, _≤_, _<_, _-_}
+use mathlib.Core.Path.{_≡_, ap, sym, _∙_}
+use Prim.Native.Nat.{_≤_, _-_}
 use native.Mathlib.Omega.{arith}
-use borrow.Author.Needs.{needs}
 use lib.ListN.{length, getD, take, length-map}
 use Rattle.model.specs.Model.{kindOf}
 use Rattle.model.specs.Store.{Store, stagedKinds}

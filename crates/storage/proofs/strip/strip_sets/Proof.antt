@@ -1,15 +1,13 @@
 -- `storage::strip::strip_sets` meets its contract: the kinds of the slots before slot are done. Assumes nothing.
-use mathlib.Core.Path.{_≡_, refl, ap, sym, _∙_}
-use mathlib.Core.List.{List}
-use Prim.Native.Nat.{ℕ, _≤_, _<_, _-_}
+use mathlib.Core.Path.{_≡_, ap, sym, _∙_}
+use Prim.Native.Nat.{_≤_, _-_}
 use native.Mathlib.Omega.{arith}
-use borrow.Author.Needs.{needs}
 use lib.ListN.{length, getD}
 use Rattle.model.specs.Store.{Store}
 use Rattle.component.specs.SparseSet.{entity}
 use Rattle.memory.specs.Meaning.{meaning}
 use Rattle.kinds.proofs.Slot.{header-long, known-small}
-use Rattle.storage.proofs.Removing.{Gone, eachGone, gone-none, gone-turn, gone-all, kinds-count}
+use Rattle.storage.proofs.Removing.{Gone, gone-none, gone-turn, gone-all, kinds-count}
 use Rattle.storage.proofs.strip.strip_sets.Statement.{statement}
 use Rattle.storage.proofs.strip.strip_sets.Tie as tie
 

@@ -4,7 +4,7 @@ use native.Mathlib.Omega.{arith}
 use Rattle.masks.specs.Masks.{bitsOf}
 use Rattle.masks.proofs.Bits.{no-bits}
 use Rattle.masks.proofs.Digits.{shl-one}
-use Rattle.masks.proofs.Steps.{Low, low-bit, low-step}
+use Rattle.masks.proofs.Steps.{low-bit, low-step}
 use Rattle.masks.proofs.group_mask.GroupMask.next.Statement.{statement}
 use Rattle.masks.proofs.group_mask.GroupMask.next.Tie as tie
 

@@ -1,13 +1,13 @@
 use mathlib.Core.Path.{ap, _∙_}
-use Rattle.model.specs.Model.{isLive}
+use Rattle.entity.specs.Answers.{foundOf}
 use Rattle.entity.specs.Meaning.{entity}
 use borrow.Author.Needs.{needs}
 use Rattle.state.proofs.EntityPart.{entities-read, sound-in}
-use Rattle.state.proofs.entities.contains.Statement.{statement}
-use Rattle.state.proofs.entities.contains.Tie as tie
+use Rattle.state.proofs.entities.get.Statement.{statement}
+use Rattle.state.proofs.entities.get.Tie as tie
 
-contains-in-requires : tie.Need-contains-in-requires
-contains-in-requires c κs =
+get-in-requires : tie.Need-get-in-requires
+get-in-requires c κs =
     let s = c .before .before in
     let w = s .args .words .now in
     let n = c .capacity .result in
@@ -18,7 +18,7 @@ returns : tie.Need-returns
 returns c =
     let s = c .before .before .before in
     let e = entities-read (s .args .words .now) (c .before .capacity .result) (c .before .capacity .ensures) in
-    c .contains-in .ensures ∙ ap (isLive (entity (s .args .index) (s .args .version))) e
+    c .get-in .ensures ∙ ap (foundOf (entity (s .args .index) (s .args .version))) e
 
-pub contains-spec : {M : Type 1} → statement M
-contains-spec = tie.close (tie.spec (λ c κs. search needs) contains-in-requires returns)
+pub get-spec : {M : Type 1} → statement M
+get-spec = tie.close (tie.spec (λ c κs. search needs) get-in-requires returns)

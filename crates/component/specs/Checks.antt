@@ -1,15 +1,9 @@
--- An answer that says whether something holds, and the parts of a sparse set's soundness. Assumes nothing.
+-- The parts of a sparse set's soundness. Assumes nothing.
 use mathlib.Core.Path.{_≡_}
-use mathlib.Core.Bool.{Bool, true, false}
 use mathlib.Core.List.{List}
 use Prim.Native.Nat.{ℕ, _≤_, _<_}
 use Rattle.words.specs.Links.{Tied}
 use Rattle.component.specs.SparseSet.{lengthOf, indexAt, versionAt, placeOf, heldOf}
-
--- true: P holds; false: it does not
-abbrev pub Decides : Bool → Type 0 → Type 0
-Decides true P = P
-Decides false P = P → ⊥
 
 -- row i and its index's lookup agree
 abbrev pub RowOk : ℕ → List ℕ → ℕ → Type 0

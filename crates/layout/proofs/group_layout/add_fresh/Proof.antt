@@ -1,0 +1,42 @@
+use mathlib.Core.Path.{_≡_, refl, _∙_, sym, ap}
+use native.Mathlib.Omega.{arith}
+use borrow.Author.Needs.{needs}
+use Rattle.model.specs.Model.{added}
+use Rattle.layout.specs.Layout.{arraysOf, Sized, meaning}
+use Rattle.layout.proofs.Fits.{fit-says, fresh-many, fresh-added}
+use Rattle.layout.proofs.Adding.{group-kinds, counted-groups, fresh-ask}
+use Rattle.layout.proofs.group_layout.add_fresh.Statement.{statement}
+use Rattle.layout.proofs.group_layout.add_fresh.Tie as tie
+
+-- the arrays have their lengths
+sizes : (c : tie.Start) → Sized (arraysOf (c .args .l))
+sizes c = record { kinds = search needs; arities = search needs; kindEnds = search needs; ends = search needs }
+
+returns : tie.Need-returns
+returns c =
+    let s = c .before .before .before in
+    let p = s .pre in
+    record {
+      formed = p .formed;
+      says = sym (fresh-many (s .args .staged .now) (meaning (s .args .l)) (p .least) (p .most) (fit-says _ _ _ (p .fits)) (omega (arith, counted-groups (s .args .l) (p .formed) (sizes s), c .if1 .taken)));
+      kept = λ n. refl;
+    }
+
+fresh-requires : tie.Need-fresh-requires
+fresh-requires c κs =
+    let s = c .before .before .before in
+    fresh-ask (s .args .l) (s .args .staged .now) (group-kinds _ _ _ (s .pre) (c .if1 .left)) (sizes s) (fit-says _ _ _ (s .pre .fits))
+
+returns-2 : tie.Need-returns-2
+returns-2 c =
+    let s = c .before .before .before .before in
+    let p = s .pre in
+    let r = c .fresh .ensures in
+    record {
+      formed = r .formed;
+      says = ap added (r .means) ∙ sym (fresh-added (s .args .staged .now) (meaning (s .args .l)) (p .least) (p .most) (fit-says _ _ _ (p .fits)) (omega (arith, counted-groups (s .args .l) (p .formed) (sizes s), c .before .if1 .left)));
+      kept = λ n. absurd (n refl);
+    }
+
+pub add-fresh-spec : {M : Type 1} → statement M
+add-fresh-spec = tie.close (tie.spec returns fresh-requires returns-2)

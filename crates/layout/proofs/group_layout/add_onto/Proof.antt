@@ -1,0 +1,43 @@
+use mathlib.Core.Path.{_≡_, refl, _∙_, sym, ap}
+use native.Mathlib.Omega.{arith}
+use borrow.Author.Needs.{needs}
+use Rattle.model.specs.Model.{added}
+use Rattle.layout.specs.Layout.{arraysOf, Sized, meaning}
+use Rattle.layout.proofs.Fits.{fit-says, onto-many, onto-added}
+use Rattle.layout.proofs.Adding.{group-kinds, counted-groups, onto-ask, onto-means, onto-target}
+use Rattle.layout.proofs.group_layout.add_onto.Statement.{statement}
+use Rattle.layout.proofs.group_layout.add_onto.Tie as tie
+
+-- the arrays have their lengths
+sizes : (c : tie.Start) → Sized (arraysOf (c .args .l))
+sizes c = record { kinds = search needs; arities = search needs; kindEnds = search needs; ends = search needs }
+
+returns : tie.Need-returns
+returns c =
+    let s = c .before .before .before in
+    let p = s .pre in
+    record {
+      formed = p .formed;
+      says = sym (onto-many (s .args .staged .now) (meaning (s .args .l)) (p .least) (p .most) _ (fit-says _ _ _ (p .fits)) (omega (arith, counted-groups (s .args .l) (p .formed) (sizes s), c .if1 .taken)));
+      kept = λ n. refl;
+    }
+
+grown-requires : tie.Need-grown-requires
+grown-requires c κs =
+    let s = c .before .before .before in
+    onto-ask (s .args .l) (s .args .staged .now) (group-kinds _ _ _ (s .pre) (c .if1 .left)) (sizes s) _ (onto-target _ _ _ (fit-says _ _ _ (s .pre .fits)))
+
+returns-2 : tie.Need-returns-2
+returns-2 c =
+    let s = c .before .before .before .before in
+    let p = s .pre in
+    let r = c .grown .ensures in
+    let on = fit-says _ _ _ (p .fits) in
+    record {
+      formed = r .formed;
+      says = ap added (r .means ∙ onto-means (s .args .l) (s .args .staged .now) (group-kinds _ _ _ p (c .before .if1 .left)) (sizes s) _ (onto-target _ _ _ on)) ∙ sym (onto-added (s .args .staged .now) (meaning (s .args .l)) (p .least) (p .most) _ on (omega (arith, counted-groups (s .args .l) (p .formed) (sizes s), c .before .if1 .left)));
+      kept = λ n. absurd (n refl);
+    }
+
+pub add-onto-spec : {M : Type 1} → statement M
+add-onto-spec = tie.close (tie.spec returns grown-requires returns-2)

@@ -1,0 +1,235 @@
+-- The demands, for the words: theorems over the contracts of the public entries alone (specs/Entries.antt). Assumes nothing.
+use mathlib.Core.Path.{_≡_, refl, sym, ap, _∙_, subst}
+use mathlib.Core.Logic.{_↔_, ⊎-elim}
+use mathlib.Core.Bool.{Bool, true, false}
+use mathlib.Core.Option.{Option, some, none}
+use mathlib.Core.List.{List, [], _++_}
+use Prim.Native.Nat.{ℕ, _+_, _*_, _≤_}
+use native.Mathlib.Omega.{arith}
+use lib.ListN.{length, take, drop, length-map}
+use denote.Ref.{RefT}
+use Rattle.model.specs.Model.{found, range, setOf, entityOf}
+use Rattle.model.specs.Store.{Store, empty}
+use Rattle.model.specs.Refusals.{numberOf, startLines, rollLines, columnLines}
+use Rattle.model.specs.Run.{halt, run}
+use Rattle.model.specs.Snapshot.{snapshot, Same}
+use Rattle.model.specs.History.{retired}
+use Rattle.model.specs.Entries.{Started, refusesStart, makes, start, entityWords, part, columnRefusal, column, refusesRoll, writes, roll}
+use Rattle.model.specs.Entries as entries
+use Rattle.model.specs.Sound.{In, key, GroupsRight, GroupsBetween}
+use Rattle.model.specs.Shown.{Showing}
+use Rattle.model.proofs.Demand.{all-between}
+use Rattle.model.proofs.Lines.{first-exact, first-number}
+use Rattle.model.proofs.Entries.{start-makes, column-refused, column-accepted, roll-exact, roll-writes}
+use Rattle.model.proofs.Lengths.{run-fits}
+use Rattle.model.proofs.Ranges.{range-shows}
+use Rattle.model.proofs.Retired.{Balanced, issued-balance}
+use Rattle.model.proofs.Snapshots.{snapshots-of-sound}
+use Rattle.words.specs.Decides.{Decides}
+use Rattle.memory.specs.Meaning.{meaning}
+use Rattle.memory.specs.Arranged.{Sound}
+use Rattle.stream.specs.declared.Ran.{Ran}
+use Rattle.snapshot.proofs.Rolled.{roll-fits}
+use Rattle.store.specs.declared.Rolled.{Rolled}
+use Rattle.store.specs.Entries.{startNumber, StartLeaves, Starts, columnRefused, ColumnNumbered, columnWords, partPlace, ColumnPart, ranOf, RunLeaves, Runs, rolledOf, rollNumber, rollBytes, Rolls}
+use Rattle.store.specs.Course.{tallied, Course, ended, stopped, refused, done, AfterEach, Reached, started, ran}
+use Rattle.store.proofs.Starting.{start-number}
+use Rattle.store.proofs.Tables.{Tabled, tabled, Judged, judged, start-tabled, roll-tabled}
+use Rattle.store.proofs.Columns.{column-within}
+use Rattle.store.proofs.Courses.{course-of}
+use Rattle.store.proofs.Determined.{decided, answer-bytes, snapshot-bytes}
+
+-- ---- Demand 1: "A refusal comes when its line holds and no line above does, else never". Each entry's number is that of the first line of its table
+-- that holds, and 0 where none does; run, column and roll give 3 exactly where the store is not sound.
+
+pub start-refusals : (n k : ℕ) (w w′ : List ℕ) (r : ℕ) → Starts n k w w′ r → Tabled startLines (record { capacity = n; kindCapacity = k; words = length w }) r
+start-refusals n k w w′ r S = tabled startLines (record { capacity = n; kindCapacity = k; words = length w }) (omega arith) r (S .number ∙ start-tabled n k (length w))
+
+pub column-refusals : (w : List ℕ) (k a e r : ℕ) → ColumnNumbered w k a e r → Judged w columnLines (record { kind = k; start = a; end = e; store = meaning w }) r
+unfolding columnRefusal
+column-refusals w k a e r C = judged w columnLines (record { kind = k; start = a; end = e; store = meaning w }) r (C .sound) (omega arith) (omega arith) (C .decides) (C .number)
+
+pub roll-refusals : (w o o′ : List ℕ) (r : Rolled) → Rolls w o o′ r → Judged w rollLines (record { room = length o; store = meaning w }) (r .number)
+roll-refusals w o o′ r R =
+    judged w rollLines (record { room = length o; store = meaning w }) (r .number) (R .sound) (omega arith) (omega arith) (R .decides) (R .number ∙ roll-tabled (R .sound) (length o) (meaning w))
+
+pub run-unsound : (w w′ t o o′ : List ℕ) (r : Ran) → Runs w w′ t o o′ r → (r .stop ≡ 3) ↔ (Sound w → ⊥)
+run-unsound w w′ t o o′ r R = go (R .sound) (R .decides) (R .answered .stop)
+  where
+    go : (b : Bool) → Decides b (Sound w) → r .stop ≡ ranOf b t (length o) (meaning w) .stop → (r .stop ≡ 3) ↔ (Sound w → ⊥)
+    go false d e = ((λ q. d), (λ n. e))
+    go true d e =
+        ((λ q. absurd (⊎-elim (λ z. omega (arith, q, e, z)) (λ z. omega (arith, q, e, z .0)) (run-fits t (length o) (meaning w) .stop))), (λ n. absurd (n d)))
+
+-- Inside a run the same holds of each command (specs/Course.antt): every run over sound words stops where a line before a command holds and none above
+-- does, or at the tape's end with 0; refuses a command where a line of it holds and none above does, which changes the refusal count's word alone and
+-- writes the number as one byte; and does every other command as the model has it. `Course` has no other case.
+pub run-course : (w w′ t o o′ : List ℕ) (r : Ran) → Runs w w′ t o o′ r → Sound w → Course w t (length o) w′ (r .stop) (r .commands) (r .read) (take (r .written) o′)
+run-course w w′ t o o′ r R S = go (R .sound) (R .decides) (R .leaves) refl
+  where
+    go : (b : Bool) → Decides b (Sound w) → RunLeaves b t (length o) w w′ → R .sound ≡ b → Course w t (length o) w′ (r .stop) (r .commands) (r .read) (take (r .written) o′)
+    go false d l e = absurd (d S)
+    go true d l e =
+        let x = run t (length o) (meaning w) in
+        let is : ranOf (R .sound) t (length o) (meaning w) ≡ x = ap (λ (b : Bool). ranOf b t (length o) (meaning w)) e in
+        let bytes : take (r .written) o′ ≡ x .bytes = answer-bytes o o′ r (ranOf (R .sound) t (length o) (meaning w)) (R .answered) ∙ (λ i. is i .bytes) in
+        rw (R .answered .stop ∙ (λ i. is i .stop), R .answered .commands ∙ (λ i. is i .commands), R .answered .read ∙ (λ i. is i .read), bytes)
+        (course-of t (length o) w w′ (R .tape) S (l .1))
+
+-- "1 to 3, and every refusal outside a run, change no lent memory, with zeros beside the number."
+
+pub refused-start-changes-nothing : (n k : ℕ) (w w′ : List ℕ) (r : ℕ) → Starts n k w w′ r → 1 ≤ r → w′ ≡ w
+refused-start-changes-nothing n k w w′ r S h = go (start n k (length w)) (S .number) (S .leaves)
+  where
+    go : (x : Started) → r ≡ startNumber x → StartLeaves w w′ x → w′ ≡ w
+    go (refusesStart m) e l = l
+    go (makes s) e l = absurd (omega (arith, e, h))
+
+pub unsound-run-changes-nothing : (w w′ t o o′ : List ℕ) (r : Ran) → Runs w w′ t o o′ r → r .stop ≡ 3 → (w′ ≡ w) × (o′ ≡ o) × (r ≡ record { stop = 3; commands = 0; read = 0; written = 0 })
+unsound-run-changes-nothing w w′ t o o′ r R h = go (R .sound) (R .decides) (R .leaves) refl
+  where
+    go : (b : Bool) → Decides b (Sound w) → RunLeaves b t (length o) w w′ → R .sound ≡ b → (w′ ≡ w) × (o′ ≡ o) × (r ≡ record { stop = 3; commands = 0; read = 0; written = 0 })
+    go true d l e = absurd (run-unsound w w′ t o o′ r R .0 h d)
+    go false d l e =
+        let is : ranOf (R .sound) t (length o) (meaning w) ≡ halt 3 (meaning w) = ap (λ (b : Bool). ranOf b t (length o) (meaning w)) e in (
+          l,
+          R .answered .bytes ∙ (λ j. is j .bytes ++ drop (length (is j .bytes)) o),
+          λ i. record {
+            stop = h i;
+            commands = (R .answered .commands ∙ (λ j. is j .commands)) i;
+            read = (R .answered .read ∙ (λ j. is j .read)) i;
+            written = (R .answered .written ∙ (λ j. length (is j .bytes))) i;
+          },
+        )
+
+pub refused-roll-changes-nothing : (w o o′ : List ℕ) (r : Rolled) → Rolls w o o′ r → 1 ≤ r .number → (o′ ≡ o) × (r .written ≡ 0)
+refused-roll-changes-nothing w o o′ r R h = go (rolledOf (R .sound) (length o) (meaning w)) (R .number) (R .written) (R .bytes)
+  where
+    go : (x : entries.Rolled) → r .number ≡ rollNumber x → r .written ≡ length (rollBytes x) → o′ ≡ rollBytes x ++ drop (length (rollBytes x)) o → (o′ ≡ o) × (r .written ≡ 0)
+    go (refusesRoll n) e a b = (b, a)
+    go (writes l) e a b = absurd (omega (arith, e, h))
+
+-- "A refused column is the empty part at the front"
+pub refused-column-is-empty : (v r : RefT (List ℕ)) (values : Bool) (k a e n : ℕ) → ColumnPart v r values k a e → ColumnNumbered (v .now) k a e n → 1 ≤ n → (r .now ≡ []) × (r .ptr ≡ v .ptr)
+refused-column-is-empty v r values k a e n P C h =
+    let both : C .sound ≡ P .sound = decided (C .sound) (P .sound) (C .decides) (P .decides) ((λ S. S), (λ S. S)) in
+    let at = go (P .sound) (P .words) (P .part .offset) (C .number ∙ (λ i. numberOf (columnRefused (both i) k a e s))) in
+    (at .0, λ i. (P .part .block i, at .1 i))
+  where
+    s : Store
+    s = meaning (v .now)
+
+    line : (o : Option ℕ) → columnRefusal k a e s ≡ o → r .now ≡ column values k a e s → r .ptr .1 ≡ partPlace o values (v .now) k a * 4 + v .ptr .1 → n ≡ numberOf o → (r .now ≡ []) × (r .ptr .1 ≡ v .ptr .1)
+    line none c p q z = absurd (omega (arith, z, h))
+    line (some m) c p q z = (p ∙ column-refused values k a e s m c, omega (arith, q))
+
+    go : (b : Bool) → r .now ≡ columnWords b values k a e s → r .ptr .1 ≡ partPlace (columnRefused b k a e s) values (v .now) k a * 4 + v .ptr .1 → n ≡ numberOf (columnRefused b k a e s) → (r .now ≡ []) × (r .ptr .1 ≡ v .ptr .1)
+    go false p q z = (p, omega (arith, q))
+    go true p q z = line (columnRefusal k a e s) refl p q z
+
+-- ---- "A sound store": a start makes one, and every run leaves one
+
+pub run-keeps-sound : (w w′ t o o′ : List ℕ) (r : Ran) → Runs w w′ t o o′ r → Sound w → Sound w′
+run-keeps-sound w w′ t o o′ r R S = go (R .sound) (R .decides) (R .leaves)
+  where
+    go : (b : Bool) → Decides b (Sound w) → RunLeaves b t (length o) w w′ → Sound w′
+    go false d l = absurd (d S)
+    go true d l = l .0
+
+-- the empty store
+pub started-empty : (n k : ℕ) (w w′ : List ℕ) → Starts n k w w′ 0 → Sound w′ × (meaning w′ ≡ empty n k)
+started-empty n k w w′ S = go (start n k (length w)) refl (S .number) (S .leaves)
+  where
+    go : (x : Started) → start n k (length w) ≡ x → 0 ≡ startNumber x → StartLeaves w w′ x → Sound w′ × (meaning w′ ≡ empty n k)
+    go (refusesStart m) p e l = absurd (omega (arith, e, start-number n k (length w) m p .0))
+    go (makes s) p e l = (l .0, l .1 ∙ start-makes n k (length w) s p .store)
+
+pub reached-sound : {w : List ℕ} → Reached w → Sound w
+reached-sound (started {n} {k} {w} {w′} S) = started-empty n k w w′ S .0
+reached-sound (ran {w} {w′} {t} {o} {o′} {r} c R) = run-keeps-sound w w′ t o o′ r R (reached-sound c)
+
+-- ---- Demand 3: after each command each group's count is the number of live entities holding all its kinds, and the first that many places of each of
+-- its columns hold exactly those, once each, the same at the same place; between a group and the next larger stand exactly those with all kinds of the
+-- smaller that lack one or more of the larger
+
+pub record GroupsHold (s : Store) : Type 0 where
+  pub right : GroupsRight s
+  pub between : GroupsBetween s
+
+pub sound-groups : (w : List ℕ) → Sound w → GroupsHold (meaning w)
+sound-groups w S =
+    let s = meaning w in
+    record { right = S .means .groups; between = all-between (s .storage .sets) (s .entities .live) (s .storage .layout) (S .means .groups) }
+
+after-each : (P : List ℕ → Type 0) → ((w : List ℕ) → Sound w → P w) → {w t w′ bytes : List ℕ} {room stop commands read : ℕ} (c : Course w t room w′ stop commands read bytes) → AfterEach P c
+after-each P f ended = tt
+after-each P f (stopped g) = tt
+after-each P f (refused w h g s c) = (f (tallied w) s, after-each P f c)
+after-each P f (done w w₁ h n b s c) = (f w₁ s, after-each P f c)
+
+pub groups-after-each-command : (w w′ t o o′ : List ℕ) (r : Ran) (R : Runs w w′ t o o′ r) (S : Sound w) → AfterEach (λ v. GroupsHold (meaning v)) (run-course w w′ t o o′ r R S)
+groups-after-each-command w w′ t o o′ r R S = after-each (λ v. GroupsHold (meaning v)) sound-groups (run-course w w′ t o o′ r R S)
+
+-- from a start, after any runs
+pub groups-reached : {w : List ℕ} → Reached w → GroupsHold (meaning w)
+groups-reached {w} c = sound-groups w (reached-sound c)
+
+-- ---- Demand 3: two rolls are equal exactly if the same entities are live with the same components and values
+
+-- what an accepted roll wrote
+pub rolled-snapshot : (w o o′ : List ℕ) (r : Rolled) → Rolls w o o′ r → r .number ≡ 0 → Sound w × (take (r .written) o′ ≡ snapshot (meaning w))
+rolled-snapshot w o o′ r R z = go (R .sound) (R .decides) (R .number) (R .written) (R .bytes)
+  where
+    snapped : (x : entries.Rolled) → roll (length o) (meaning w) ≡ x → r .number ≡ rollNumber x → rollBytes x ≡ snapshot (meaning w)
+    snapped (refusesRoll n) p e =
+        absurd (omega (arith, e, z, first-number rollLines (record { room = length o; store = meaning w }) 6 6 n (omega arith) (first-exact rollLines (record { room = length o; store = meaning w }) n .1 (roll-exact (length o) (meaning w) n .0 p)) .0))
+    snapped (writes b) p e = roll-writes (length o) (meaning w) b p .0
+
+    go : (b : Bool) → Decides b (Sound w) → r .number ≡ rollNumber (rolledOf b (length o) (meaning w)) → r .written ≡ length (rollBytes (rolledOf b (length o) (meaning w)))
+        → o′ ≡ rollBytes (rolledOf b (length o) (meaning w)) ++ drop (length (rollBytes (rolledOf b (length o) (meaning w)))) o → Sound w × (take (r .written) o′ ≡ snapshot (meaning w))
+    go false d e a b = absurd (omega (arith, e, z))
+    go true d e a b = (d, snapshot-bytes o o′ (r .written) (roll (length o) (meaning w)) a b ∙ snapped (roll (length o) (meaning w)) refl e)
+
+pub rolls-equal : (w v o p o′ p′ : List ℕ) (r q : Rolled) → Rolls w o o′ r → Rolls v p p′ q → r .number ≡ 0 → q .number ≡ 0 → (take (r .written) o′ ≡ take (q .written) p′) ↔ Same (meaning w) (meaning v)
+rolls-equal w v o p o′ p′ r q R Q zr zq =
+    let a = rolled-snapshot w o o′ r R zr in
+    let b = rolled-snapshot v p p′ q Q zq in
+    let e = snapshots-of-sound (meaning w) (meaning v) (a .0 .means) (b .0 .means) in
+    ((λ x. e .0 (sym (a .1) ∙ x ∙ b .1)), (λ x. a .1 ∙ e .1 x ∙ sym (b .1)))
+
+-- from a start, after any runs, a roll that has room for the snapshot is accepted
+pub reached-rolls : {w : List ℕ} (o o′ : List ℕ) (r : Rolled) → Reached w → length (snapshot (meaning w)) ≤ length o → Rolls w o o′ r → r .number ≡ 0
+reached-rolls {w} o o′ r c h R = go (R .sound) (R .decides) (R .number)
+  where
+    go : (b : Bool) → Decides b (Sound w) → r .number ≡ rollNumber (rolledOf b (length o) (meaning w)) → r .number ≡ 0
+    go false d e = absurd (d (reached-sound c))
+    go true d e = e ∙ ap rollNumber (roll-fits (length o) (meaning w) h)
+
+-- ---- RANGE and column: the entities that hand h and bar b describe stand in the column of each kind of the hand, from start to end of the range
+
+pub range-shown : (v r : RefT (List ℕ)) (h b : List ℕ) (k a e : ℕ) → Sound (v .now) → In h k → In (meaning (v .now) .kinds) k → range h b (meaning (v .now) .storage) ≡ found a e → ColumnPart v r false k a e
+    → Showing (meaning (v .now) .storage .sets) (meaning (v .now) .entities .live) h b a e × (r .now ≡ entityWords (part a e (key (meaning (v .now) .storage .sets) k)))
+range-shown v r h b k a e S i known f P =
+    let s = meaning (v .now) in
+    let shows : Showing (s .storage .sets) (s .entities .live) h b a e = range-shows s (S .means) h b a e f in
+    let small : k ≤ 127 = omega (arith, S .means .kinds .small k known) in
+    let inside : e ≤ length (setOf (s .storage .sets) k) = omega (arith, shows .places k i, length-map (setOf (s .storage .sets) k) entityOf) in
+    let taken : columnRefusal k a e s ≡ none = column-within k a e s small known (omega (arith, shows .start)) inside in
+    (shows, go (P .sound) (P .decides) (P .words) taken)
+  where
+    go : (c : Bool) → Decides c (Sound (v .now)) → r .now ≡ columnWords c false k a e (meaning (v .now)) → columnRefusal k a e (meaning (v .now)) ≡ none → r .now ≡ entityWords (part a e (key (meaning (v .now) .storage .sets) k))
+    go false d p t = absurd (d S)
+    go true d p t = p ∙ column-accepted false k a e (meaning (v .now)) t .words
+
+-- ---- "From an empty store, numbers issued = live + waiting + retired": after a run over a started store
+
+pub issued-after-a-run : (n k : ℕ) (u w w′ t o o′ : List ℕ) (r : Ran) → Starts n k u w 0 → Runs w w′ t o o′ r → Balanced (meaning w′ .entities) (retired t (length o) (empty n k))
+issued-after-a-run n k u w w′ t o o′ r S R =
+    let e = started-empty n k u w S in
+    go (R .sound) (R .decides) (R .means) (e .0) (e .1)
+  where
+    go : (b : Bool) → Decides b (Sound w) → meaning w′ ≡ ranOf b t (length o) (meaning w) .store → Sound w → meaning w ≡ empty n k → Balanced (meaning w′ .entities) (retired t (length o) (empty n k))
+    go false d m S e = absurd (d S)
+    go true d m S e =
+        subst (λ (s : Store). Balanced (s .entities) (retired t (length o) (empty n k))) (sym (m ∙ ap (λ (s : Store). run t (length o) s .store) e))
+        (issued-balance t (length o) n k)

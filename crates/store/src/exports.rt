@@ -1,0 +1,115 @@
+// The entries for C and Rust, under plain names. An exported function returns no part of a slice, so that *column* comes as the part's place in the
+// words, and as a copy.
+use crate::Rolled;
+ghost use mathlib.Core.Path.{_≡_};
+ghost use mathlib.Core.List.{_++_};
+ghost use Prim.Native.Nat.{_≤_};
+ghost use lib.ListN.{length, drop};
+ghost use Rattle.store.specs.Entries.{Needs, Starts, Runs, ColumnNumbered, Rolls};
+ghost use Rattle.store.specs.Linked.{asRan, ColumnPlaced, ColumnCopied};
+
+// What run answers, with C's layout.
+#[repr(C)]
+pub struct ExportedRan {
+    pub stop: u8,
+    pub commands: usize,
+    pub read: usize,
+    pub written: usize,
+}
+
+#[no_mangle]
+pub extern "C" fn yirbarn_words_needed(n: usize, k: usize) -> usize
+    ensures { λ r. ⌜ Needs n k r ⌝ }
+{
+    crate::words_needed(n, k)
+}
+
+#[no_mangle]
+pub extern "C" fn yirbarn_start(words: &mut [u32], n: usize, k: usize) -> u8
+    ensures { λ r. ⌜ Starts n k (now (words .entry)) (now (words .exit)) r ⌝ }
+{
+    crate::start(words, n, k)
+}
+
+#[no_mangle]
+pub extern "C" fn yirbarn_run(words: &mut [u32], tape: &[u8], out: &mut [u8]) -> ExportedRan
+    ensures { λ r. ⌜ Runs (now (words .entry)) (now (words .exit)) (now (tape .entry)) (now (out .entry)) (now (out .exit)) (asRan r) ⌝ }
+{
+    let ran = crate::run(words, tape, out);
+    ExportedRan {
+        stop: ran.stop,
+        commands: ran.commands,
+        read: ran.read,
+        written: ran.written,
+    }
+}
+
+#[no_mangle]
+pub extern "C" fn yirbarn_column_number(
+    words: &[u32],
+    kind: u8,
+    values: bool,
+    start: usize,
+    end: usize,
+) -> u8
+    ensures { λ r. ⌜ ColumnNumbered (now (words .entry)) kind start end r ⌝ }
+{
+    crate::column_number(words, kind, values, start, end)
+}
+
+// Where the part that column hands back stands in the words.
+#[no_mangle]
+pub extern "C" fn yirbarn_column_at(
+    words: &[u32],
+    kind: u8,
+    values: bool,
+    start: usize,
+    end: usize,
+) -> usize
+    ensures { λ r. ⌜ ColumnPlaced (now (words .entry)) values kind start end r ⌝ }
+{
+    if crate::column_number(words, kind, values, start, end) != 0 {
+        return 0;
+    }
+    crate::row_start(words, kind as usize, values, start)
+}
+
+// All of `from`, to the front of `to`.
+fn copy(from: &[u32], to: &mut [u32])
+    requires { ⌜ length (now from) ≤ length (now to) ⌝ }
+    ensures { λ _. ⌜ now (to .exit) ≡ now (from .entry) ++ drop (length (now (from .entry))) (now (to .entry)) ⌝ }
+{
+    let mut i = 0;
+    while i < from.len() {
+        to[i] = from[i];
+        i += 1;
+    }
+}
+
+// The words that column hands back, copied if they have room, and how many they are.
+#[no_mangle]
+pub extern "C" fn yirbarn_column(
+    words: &[u32],
+    kind: u8,
+    values: bool,
+    start: usize,
+    end: usize,
+    out: &mut [u32],
+) -> usize
+    ensures { λ r. ⌜ ColumnCopied (now (words .entry)) (now (out .entry)) (now (out .exit)) values kind start end r ⌝ }
+{
+    let part = crate::column(words, kind, values, start, end);
+    let count = part.len();
+    if out.len() < count {
+        return 0;
+    }
+    copy(part, out);
+    count
+}
+
+#[no_mangle]
+pub extern "C" fn yirbarn_roll(words: &[u32], out: &mut [u8]) -> Rolled
+    ensures { λ r. ⌜ Rolls (now (words .entry)) (now (out .entry)) (now (out .exit)) r ⌝ }
+{
+    crate::roll(words, out)
+}
