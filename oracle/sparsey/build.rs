@@ -105,9 +105,9 @@ fn tuples() -> String {
             .map(|i| format!("Comp::<{}>(values[{i}]),", list[i]))
             .collect()
     };
-    let removed = |list: &[u8]| -> String {
+    let told = |list: &[u8]| -> String {
         (0..list.len())
-            .map(|i| format!("removed.{i}.map(|comp| comp.0),"))
+            .map(|i| format!("told(removed.{i}.map(|comp| comp.0)); "))
             .collect()
     };
 
@@ -123,12 +123,12 @@ fn tuples() -> String {
     );
     arms(
         &mut code,
-        "pub fn remove(world: &mut World, entity: Entity, kinds: &[u8]) -> Option<Vec<Option<Value>>> {\n",
+        "pub fn remove(world: &mut World, entity: Entity, kinds: &[u8], told: &mut dyn FnMut(Option<Value>)) -> Option<()> {\n",
         &|list| {
             format!(
-                "{{ let removed = world.remove::<({})>(entity); Some(vec![{}]) }}",
+                "{{ let removed = world.remove::<({})>(entity); {}Some(()) }}",
                 types(list),
-                removed(list)
+                told(list)
             )
         },
     );

@@ -7,17 +7,8 @@ use lib.ListN.{length, getD, take}
 use lib.Seq.{ext-getD, length-take-le, getD-take}
 use Rattle.words.specs.Part.{between, length-between, getD-between}
 use Rattle.words.specs.Table.{table-same}
-use Rattle.layout.specs.Layout.{Arrays, arraysIn, blockArrays, Sized, startOf, kindsAt, aritiesAt, groupsFrom, familyAt, familiesOf, FamilyFormed, WellFormed}
+use Rattle.layout.specs.Layout.{Arrays, arraysIn, Sized, startOf, kindsAt, aritiesAt, groupsFrom, familyAt, familiesOf, FamilyFormed, WellFormed}
 use Rattle.layout.proofs.Arrays.{kinds-inside, groups-inside}
-
-pub block-sized : (w : List ℕ) (n : ℕ) → length w ≡ 320 → Sized (blockArrays w n)
-block-sized w n e =
-    record {
-      kinds = length-between 0 128 w (omega arith);
-      arities = length-between 128 192 w (omega arith);
-      kindEnds = length-between 192 256 w (omega arith);
-      ends = length-between 256 320 w (omega arith);
-    }
 
 part-agree : (xs ys : List ℕ) (s e : ℕ) → e ≤ length xs → e ≤ length ys → ((i : ℕ) → i < e → getD xs i 0 ≡ getD ys i 0) → between s e ys ≡ between s e xs
 part-agree xs ys s e hx hy h =

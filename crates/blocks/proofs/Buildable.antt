@@ -1,24 +1,22 @@
 -- A well-formed block of registered kinds means families that the model calls buildable (01, "such as commands can build"). Assumes nothing.
-use mathlib.Core.Path.{_≡_, refl, sym, ap, ap₂, _∙_}
-use mathlib.Core.List.{List, [], _∷_, _++_, append-nil, append-assoc}
-use Prim.Native.Nat.{ℕ, zero, suc, _+_, _-_, _≤_, _<_}
-use native.Mathlib.Numerals.{add-one}
+use mathlib.Core.Path.{_≡_, refl, ap}
+use mathlib.Core.List.{List, [], _∷_}
+use Prim.Native.Nat.{ℕ, zero, suc, _-_, _≤_, _<_}
 use native.Mathlib.Decide.{decLt}
 use native.Mathlib.Omega.{arith}
 use lib.Dec.{eqb}
 use lib.ListN.{length, getD, take}
 use Rattle.model.specs.Lists.{count}
 use Rattle.model.specs.Model.{Family, kindsOf}
-use Rattle.model.specs.Sound.{In, layoutKinds, BuildableFamily, BuildableFamilies, Buildable, Uncounted, AllUncounted}
+use Rattle.model.specs.Sound.{In, BuildableFamily, BuildableFamilies, Buildable, Uncounted, AllUncounted}
 use Rattle.model.specs.Sound as sound
+use Rattle.model.proofs.KindLists.{in-count}
 use Rattle.words.specs.Part.{between, length-between}
-use Rattle.words.specs.Table.{table, table-snoc}
+use Rattle.words.specs.Table.{table}
 use Rattle.layout.specs.Layout.{Arrays, blockArrays, Sized, startOf, widthOf, kindsAt, aritiesAt, groupsFrom, familyAt, familiesOf, Rising, WellFormed}
-use Rattle.layout.proofs.KindSets.{mem-count}
-use Rattle.layout.proofs.Family.{between-join, rising-le, kinds-from}
-use Rattle.layout.proofs.Arrays.{kind-order, kinds-length, family-kindsOf, groups-of}
+use Rattle.layout.proofs.Family.{rising-le, kinds-from}
+use Rattle.layout.proofs.Arrays.{kinds-length, groups-of, layout-kinds, block-sized}
 use Rattle.blocks.specs.Checks.{BlockSound}
-use Rattle.blocks.proofs.Agree.{block-sized}
 
 -- ---- one family
 
@@ -54,36 +52,15 @@ unfolding table
 all-uncounted zero F h = tt
 all-uncounted (suc n) F h = (h 0, all-uncounted n (λ i. F (suc i)) (λ i. h (suc i)))
 
-kinds-append : (xs ys : List Family) → layoutKinds (xs ++ ys) ≡ layoutKinds xs ++ layoutKinds ys
-kinds-append [] ys = refl
-kinds-append (x ∷ xs) ys = ap (λ (l : List ℕ). kindsOf x ++ l) (kinds-append xs ys) ∙ sym (append-assoc (kindsOf x) (layoutKinds xs) (layoutKinds ys))
-
-no-families : (F : ℕ → Family) → table 0 F ≡ []
-unfolding table
-no-families F = refl
-
-kinds-table : (n : ℕ) (F : ℕ → Family) (es ks : List ℕ) → ((i : ℕ) → i < n → startOf es i ≤ getD es i 0) → ((i : ℕ) → i < n → kindsOf (F i) ≡ between (startOf es i) (getD es i 0) ks)
-    → layoutKinds (table n F) ≡ take (startOf es n) ks
-kinds-table zero F es ks o h = ap layoutKinds (no-families F)
-kinds-table (suc n) F es ks o h =
-    ap (λ (m : ℕ). layoutKinds (table m F)) (sym (add-one n)) ∙ ap layoutKinds (table-snoc [] (F n) n F F refl (λ i l. refl))
-    ∙ kinds-append (table n F) (F n ∷ [])
-    ∙ ap₂ _++_ (kinds-table n F es ks (λ i l. o i (omega arith)) (λ i l. h i (omega arith))) (append-nil (kindsOf (F n)) ∙ h n (omega arith))
-    ∙ between-join ks (startOf es n) (getD es n 0) (o n (omega arith))
-
 module _ (a : Arrays) (good : WellFormed a) (sized : Sized a) (counts : List ℕ) where
-  -- the kinds of all families are the used kinds, in order
-  pub all-kinds : layoutKinds (familiesOf counts a) ≡ take (widthOf a) (a .kinds)
-  all-kinds = kinds-table (a .families) (familyAt counts a) (a .kindEnds) (a .kinds) (kind-order a good) (λ i h. family-kindsOf a good sized counts i h)
-
   pub buildable : (registered : List ℕ) → ((k : ℕ) → 1 ≤ count eqb k (take (widthOf a) (a .kinds)) → In registered k) → Buildable registered (familiesOf counts a)
   buildable registered known =
       record {
         families = all-buildable (a .families) (familyAt counts a)
             (λ i h. let f = good .family i h in let l = kinds-length a good sized i h in
             buildable-family counts (startOf (a .ends) i) (kindsAt a i) (aritiesAt a i) (omega (arith, f .least)) (omega (arith, f .most)) (rw l (f .rising)));
-        once = λ k. rw all-kinds (good .kinds .once k);
-        known = λ k i. known k (mem-count k (take (widthOf a) (a .kinds)) (rw all-kinds at i));
+        once = λ k. rw (layout-kinds counts a good sized) (good .kinds .once k);
+        known = λ k i. known k (in-count (take (widthOf a) (a .kinds)) k (rw (layout-kinds counts a good sized) at i));
         few = rw (groups-of counts a good sized) (good .many);
       }
 

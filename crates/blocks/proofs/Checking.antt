@@ -1,27 +1,23 @@
 -- What the loops of the check know, and why a refused block is not sound. Assumes nothing.
 use mathlib.Core.Path.{_≡_, refl, sym, ap, _∙_, subst}
 use mathlib.Core.List.{List, [], _∷_, _++_}
-use Prim.Native.Nat.{ℕ, zero, suc, _+_, _-_, _≤_, _<_}
+use Prim.Native.Nat.{ℕ, _+_, _-_, _≤_, _<_}
 use native.Mathlib.Numerals.{add-one}
 use native.Mathlib.Omega.{arith}
 use borrow.Author.Tests.{eq-eqb, ne-eqb}
 use lib.Dec.{eqb}
-use lib.ListN.{length, getD, take, drop, set, length-set, replicate, take-append-drop}
+use lib.ListN.{length, getD, take, drop, set, length-set, replicate, take-append-drop, getD-replicate}
 use lib.Seq.{take-suc, take-take, drop-length, getD-set-same, getD-set-other}
 use Rattle.model.specs.Lists.{one, count, count-append}
 use Rattle.words.specs.Part.{between}
 use Rattle.words.specs.Table.{by-eq}
 use Rattle.layout.specs.Layout.{Arrays, arraysIn, blockArrays, startOf, Rising, FamilyFormed, WellFormed}
 use Rattle.layout.proofs.Scan.{drop-step}
-use Rattle.layout.proofs.Family.{start-next}
+use Rattle.layout.proofs.Family.{start-next, rising-head}
 use Rattle.layout.proofs.Arrays.{end-inside}
-use Rattle.blocks.specs.Checks.{BlockSound, KindsSound, FamilyInside, FamiliesFormed}
+use Rattle.blocks.specs.Checks.{BlockSound, KindsOk, FamilyInside, FamiliesFormed}
 
 -- ---- arities
-
-rising-head : (b n a : ℕ) (ars : List ℕ) → Rising b n (a ∷ ars) → (b < a) × Rising a n ars
-unfolding Rising
-rising-head b n a ars r = r
 
 rising-cons : (b n a : ℕ) (ars : List ℕ) → b < a → Rising a n ars → Rising b n (a ∷ ars)
 unfolding Rising
@@ -140,19 +136,14 @@ pub record SeenSoFar (table l seen : List ℕ) (i : ℕ) : Type 0 where
   pub below : i ≤ length l
   pub size : length seen ≡ 128
   pub marks : (k : ℕ) → k < 128 → getD seen k 0 ≡ count eqb k (take i l)
-  pub sound : KindsSound table (take i l)
-
-zeros : (n k : ℕ) → _≡_ {A = ℕ} (getD (replicate n 0) k 0) 0
-zeros zero k = refl
-zeros (suc n) zero = refl
-zeros (suc n) (suc k) = zeros n k
+  pub sound : KindsOk table (take i l)
 
 pub seen-none : (table l : List ℕ) → SeenSoFar table l (replicate 128 0) 0
 seen-none table l =
     record {
       below = omega arith;
       size = refl;
-      marks = λ k h. zeros 128 k;
+      marks = λ k h. getD-replicate 128 k 0 0 h;
       sound = record { once = record { once = λ k. omega arith; known = λ k h. refl }; registered = λ k h. absurd (omega arith) };
     }
 
@@ -192,7 +183,7 @@ kinds-front : (w : List ℕ) (n m : ℕ) → n ≤ 128 → n ≡ m → take m (b
 kinds-front w n m h e = ap (λ (k : ℕ). take k (between 0 128 w)) (sym e) ∙ take-take n 128 w h
 
 pub block-sound : (w table : List ℕ) (n g width : ℕ) → length w ≡ 320 → n ≤ 63 → FamiliesFormed (arraysIn [] (between 128 192 w) (between 192 256 w) (between 256 320 w) n)
-    → startOf (between 256 320 w) n ≡ g → width ≡ startOf (between 192 256 w) n → KindsSound table (take width w) → BlockSound w table n g
+    → startOf (between 256 320 w) n ≡ g → width ≡ startOf (between 192 256 w) n → KindsOk table (take width w) → BlockSound w table n g
 block-sound w table n g width size few f eg ew k =
     let front = kinds-front w width (startOf (between 192 256 w) n) (omega (arith, f .wide)) ew in
     record {
@@ -210,7 +201,7 @@ block-sound w table n g width size few f eg ew k =
       registered = rw front (k .registered);
     }
 
-pub block-kinds : (w table : List ℕ) (n g width : ℕ) → width ≡ startOf (between 192 256 w) n → BlockSound w table n g → KindsSound table (take width w)
+pub block-kinds : (w table : List ℕ) (n g width : ℕ) → width ≡ startOf (between 192 256 w) n → BlockSound w table n g → KindsOk table (take width w)
 block-kinds w table n g width ew s =
     let front = kinds-front w width (startOf (between 192 256 w) n) (omega (arith, s .formed .good .wide)) ew in
     record { once = rw front at (s .formed .good .kinds); registered = rw front at (s .registered) }

@@ -10,9 +10,9 @@ use Rattle.words.specs.Part.{between, length-between, getD-between}
 use Rattle.layout.specs.Layout.{Arrays, arraysIn, arraysOf, blockArrays, Sized, startOf, widthOf, groupCount, aritiesAt, meaning, blockMeaning, KindSet, WellFormed, Formed}
 use Rattle.layout.specs.declared.group_layout.Layout.{Layout}
 use Rattle.layout.proofs.Family.{rising-at}
-use Rattle.layout.proofs.Arrays.{kinds-inside, groups-inside, arities-length}
+use Rattle.layout.proofs.Arrays.{kinds-inside, groups-inside, arities-length, block-sized}
 use Rattle.blocks.specs.Blocks.{BlockFormed, ReadFrom, WrittenTo, FetchAsk, Fetched, PutAt}
-use Rattle.blocks.proofs.Agree.{block-sized, agree-means, agree-formed, agree-width, agree-groups}
+use Rattle.blocks.proofs.Agree.{agree-means, agree-formed, agree-width, agree-groups}
 use Rattle.blocks.proofs.Checking.{kind-counts}
 
 -- ---- what stands in the used parts is small

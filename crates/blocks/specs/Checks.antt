@@ -21,7 +21,8 @@ pub record BlockSound (w table : List ℕ) (n g : ℕ) : Type 0 where
 
 -- ---- its parts
 
-pub record KindsSound (table ks : List ℕ) : Type 0 where
+-- 01, "sound": "hand, bar, draft and layout of registered kinds"; no kind stands there twice
+pub record KindsOk (table ks : List ℕ) : Type 0 where
   pub once : KindSet ks
   pub registered : Registered table ks
 

@@ -6,17 +6,12 @@ ghost use lib.ListN.{length};
 ghost use Rattle.words.specs.Decides.{Decides};
 ghost use Rattle.layout.specs.Layout.{Formed, Rising, startOf, arraysIn};
 ghost use Rattle.blocks.specs.Blocks.{BlockFormed, ReadFrom, WrittenTo, FetchAsk, Fetched, PutAt};
-ghost use Rattle.blocks.specs.Checks.{BlockSound, KindsSound, FamilyInside, FamiliesFormed, EndsAsk};
+ghost use Rattle.blocks.specs.Checks.{BlockSound, KindsOk, FamilyInside, FamiliesFormed, EndsAsk};
 use layout::group_layout::Layout;
-
-// Where the parts of a block start, and where the last ends.
-const ARITIES: usize = 128;
-
-const KIND_ENDS: usize = 192;
-
-const ENDS: usize = 256;
-
-const SIZE: usize = 320;
+use words::ARITIES;
+use words::BLOCK_LEN;
+use words::ENDS;
+use words::KIND_ENDS;
 
 // Where number f starts: where the one before ends.
 fn start_of(ends: &[u32], f: usize) -> usize
@@ -164,10 +159,10 @@ fn families_ok<'a>(
     true
 }
 
-// Are the kinds different, and all registered?
-fn kinds_ok(kinds: &[u32], table: &[u32]) -> bool
+// Are the kinds registered, and none there twice? A table of what was seen saves the scan.
+pub fn kinds_ok(kinds: &[u32], table: &[u32]) -> bool
     requires { ⌜ length (now table) ≡ 128 ⌝ }
-    ensures { λ r. ⌜ Decides r (KindsSound (now (table .entry)) (now (kinds .entry))) ⌝ }
+    ensures { λ r. ⌜ Decides r (KindsOk (now (table .entry)) (now (kinds .entry))) ⌝ }
 {
     let mut seen = [0u8; 128];
     for i in 0..kinds.len() {
@@ -197,12 +192,12 @@ pub fn block_ok(block: &[u32], families: usize, groups: usize, table: &[u32]) ->
     if !families_ok(
         &block[ARITIES..KIND_ENDS],
         &block[KIND_ENDS..ENDS],
-        &block[ENDS..SIZE],
+        &block[ENDS..BLOCK_LEN],
         families,
     ) {
         return false;
     }
-    let count = start_of(&block[ENDS..SIZE], families);
+    let count = start_of(&block[ENDS..BLOCK_LEN], families);
     if count != groups {
         return false;
     }

@@ -33,9 +33,6 @@ module _ (n k : ℕ) (w : List ℕ) (R : Room n k w) where
 pub slot-long : (n s : ℕ) (w : List ℕ) → Slot n s w → 1024 ≤ length w
 slot-long n s w S = omega (arith, S .size, start-header n, columnStart-mono n 0 s (omega arith))
 
-pub lent-slot : (n s : ℕ) (w : List ℕ) → Lent n s w → Slot n s w
-lent-slot n s w L = record { small = L .small; few = L .few; size = L .size }
-
 -- ---- words of a column
 
 pub head-read : (n s i b : ℕ) (w : List ℕ) → i < 8 → b ≡ columnStart n s → getD w (b + i) 0 ≡ headAt n w s i

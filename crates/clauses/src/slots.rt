@@ -53,7 +53,7 @@ fn column_ok(words: &[u32], n: usize, registered: usize, s: usize) -> bool
         }
         return true;
     }
-    if !rows_live(words, n, base + 8, len) {
+    if !rows_live(words, n, base + words::ROWS, len) {
         return false;
     }
     true

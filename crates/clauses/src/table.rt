@@ -22,14 +22,14 @@ fn kind_ok(words: &[u32], n: usize, registered: usize, kind: usize) -> bool
     requires { ⌜ kind < 128 ⌝ }
     ensures { λ r. ⌜ Decides r (KindOk n registered (now (words .entry)) kind) ⌝ }
 {
-    let s = words[32 + kind] as usize;
+    let s = words[words::TABLE + kind] as usize;
     if s == 255 {
         return true;
     }
     if registered <= s {
         return false;
     }
-    if head(words, n, s, 1) != kind {
+    if head(words, n, s, words::KIND) != kind {
         return false;
     }
     true
@@ -40,11 +40,11 @@ fn slot_ok(words: &[u32], n: usize, s: usize) -> bool
     requires { ⌜ Slot n s (now words) ⌝ }
     ensures { λ r. ⌜ Decides r (SlotOk n (now (words .entry)) s) ⌝ }
 {
-    let kind = head(words, n, s, 1);
+    let kind = head(words, n, s, words::KIND);
     if 128 <= kind {
         return false;
     }
-    let back = words[32 + kind] as usize;
+    let back = words[words::TABLE + kind] as usize;
     if back != s {
         return false;
     }
@@ -84,7 +84,7 @@ pub fn is_table(words: &[u32], n: usize, k: usize) -> bool
     requires { ⌜ Room n k (now words) ⌝ }
     ensures { λ r. ⌜ Decides r (TableOk n k (now (words .entry))) ⌝ }
 {
-    let registered = words[2] as usize;
+    let registered = words[words::REGISTERED] as usize;
     if k < registered {
         return false;
     }

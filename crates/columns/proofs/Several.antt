@@ -15,13 +15,6 @@ use Rattle.component.specs.SparseSet.{rows}
 use Rattle.columns.specs.Columns.{rowsOf, Columns, One, Changes}
 
 -- nothing changed, where the change is none; and a change under another name
-pub one-same : (n m s : ℕ) (f : SparseSet → SparseSet) (w : List ℕ) → Columns n m w → rowsOf n s w ≡ f (rowsOf n s w) → One n m s f w w
-one-same n m s f w c e = record { columns = c; size = refl; becomes = e; head = λ i l h. refl; others = λ j hj ne. refl; front = refl; past = refl }
-
-pub one-as : (n m s : ℕ) (f g : SparseSet → SparseSet) (w w′ : List ℕ) → One n m s f w w′ → f (rowsOf n s w) ≡ g (rowsOf n s w) → One n m s g w w′
-one-as n m s f g w w′ o e =
-    record { columns = o .columns; size = o .size; becomes = o .becomes ∙ e; head = o .head; others = o .others; front = o .front; past = o .past }
-
 pub changes-none : (n m : ℕ) (w : List ℕ) → Columns n m w → Changes n m (λ (s : ℕ) (rs : SparseSet). rs) w w
 changes-none n m w c =
     record { columns = c; size = refl; becomes = λ s h. refl; heads = λ s h i l k. refl; front = refl; past = refl }
@@ -52,18 +45,6 @@ changes-one n m s f g h w₀ w w′ c o here there hs =
           (λ ne. ap (λ (u : List ℕ). getD u i 0) (o .others j hj ne) ∙ c .heads j hj i l k);
       front = o .front ∙ c .front;
       past = o .past ∙ c .past;
-    }
-
-pub changes-then : (n m : ℕ) (g h : ℕ → SparseSet → SparseSet) (w₀ w w′ : List ℕ) → Changes n m g w₀ w → Changes n m h w w′
-    → Changes n m (λ (s : ℕ) (rs : SparseSet). h s (g s rs)) w₀ w′
-changes-then n m g h w₀ w w′ c d =
-    record {
-      columns = d .columns;
-      size = d .size ∙ c .size;
-      becomes = λ s k. d .becomes s k ∙ ap (h s) (c .becomes s k);
-      heads = λ s k i l u. d .heads s k i l u ∙ c .heads s k i l u;
-      front = d .front ∙ c .front;
-      past = d .past ∙ c .past;
     }
 
 -- ---- a loop over all slots: f of those below k so far

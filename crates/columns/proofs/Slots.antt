@@ -33,8 +33,8 @@ getD-column n s i w h = getD-between (columnStart n s) (columnStart n s + (8 + 6
 take-less : (a b : ℕ) (w v : List ℕ) → a ≤ b → take b v ≡ take b w → take a v ≡ take a w
 take-less a b w v h e = sym (take-take a b v h) ∙ ap (take a) e ∙ take-take a b w h
 
-drop-more : (e c : ℕ) (w v : List ℕ) → e ≤ c → drop e v ≡ drop e w → drop c v ≡ drop c w
-drop-more e c w v h q = from v ∙ ap (drop (c - e)) q ∙ sym (from w)
+pub drop-later : (e c : ℕ) (w v : List ℕ) → e ≤ c → drop e v ≡ drop e w → drop c v ≡ drop c w
+drop-later e c w v h q = from v ∙ ap (drop (c - e)) q ∙ sym (from w)
   where
     from : (u : List ℕ) → drop c u ≡ drop (c - e) (drop e u)
     from u = let k : c ≡ e + (c - e) = omega arith in ap (λ (i : ℕ). drop i u) k ∙ sym (drop-drop (c - e) e u)
@@ -55,7 +55,7 @@ front-kept n s w w′ front = take-less (columnStart n 0) (columnStart n s) w w�
 
 pub past-kept : (n m s : ℕ) (w w′ : List ℕ) → s < m → drop (columnStart n s + (8 + 6 * n)) w′ ≡ drop (columnStart n s + (8 + 6 * n)) w
     → drop (columnStart n m) w′ ≡ drop (columnStart n m) w
-past-kept n m s w w′ h rest = drop-more (columnStart n s + (8 + 6 * n)) (columnStart n m) w w′ (columnStart-apart n s m h) rest
+past-kept n m s w w′ h rest = drop-later (columnStart n s + (8 + 6 * n)) (columnStart n m) w w′ (columnStart-apart n s m h) rest
 
 -- the slots are sound where slot s is and the others are as they were
 pub columns-kept : (n m s : ℕ) (w w′ : List ℕ) → Columns n m w → length w′ ≡ length w → Sound n (columnOf n s w′)

@@ -1,12 +1,12 @@
 -- What every command's function asks and leaves. Assumes nothing.
 use mathlib.Core.Path.{_≡_}
-use mathlib.Core.List.{List, [], _∷_}
+use mathlib.Core.List.{List}
 use Prim.Native.Nat.{ℕ, _+_, _≤_}
 use lib.ListN.{length, set}
 use lib.Seq.{sets}
-use Rattle.model.specs.Store.{Store, withControl, counted}
+use Rattle.model.specs.Store.{counted}
 use Rattle.model.specs.Commands.{Command, answerLength}
-use Rattle.model.specs.Run.{Outcome, refuses, accepts}
+use Rattle.model.specs.Run.{Outcome, refuses, storeAfter, answerOf}
 use Rattle.memory.specs.Meaning.{meaning}
 use Rattle.memory.specs.Arranged.{Sound, Becomes}
 
@@ -19,16 +19,6 @@ pub record Ready (w o : List ℕ) (at : ℕ) (c : Command) : Type 0 where
 pub record Written (o o′ : List ℕ) (at r : ℕ) (a : List ℕ) : Type 0 where
   pub bytes : o′ ≡ sets o at a
   pub count : r ≡ length a
-
--- the store after a command: a refused one only adds to the count of refusals
-abbrev pub storeAfter : Store → Outcome → Store
-storeAfter s (refuses n) = withControl s (counted (s .control))
-storeAfter s (accepts s′ a) = s′
-
--- its answer: "7 to 15 in a run write their number as one byte", an accepted one "after a 0 byte"
-abbrev pub answerOf : Outcome → List ℕ
-answerOf (refuses n) = n ∷ []
-answerOf (accepts s a) = 0 ∷ a
 
 -- a command with outcome x, from the words w and bytes o to w′ and o′, with r bytes written at `at`
 pub record Acted (w w′ o o′ : List ℕ) (at r : ℕ) (x : Outcome) : Type 0 where

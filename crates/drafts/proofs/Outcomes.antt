@@ -13,8 +13,8 @@ use Rattle.layout.specs.Layout as layout
 use Rattle.layout.specs.Add.{modelOf}
 use Rattle.memory.specs.Meaning.{meaning}
 use Rattle.memory.specs.Arranged.{Becomes}
+use Rattle.memory.proofs.Becomes.{becomes-next}
 use Rattle.state.specs.Draft.{drafting}
-use Rattle.commands.proofs.Acts.{becomes-next}
 use Rattle.drafts.specs.Drafts.{Drafts}
 
 -- the command's outcome is the answer's

@@ -1,7 +1,7 @@
 -- The staged kinds: bytes in the front of an array, kinds once each. Assumes nothing.
-use mathlib.Core.Path.{_≡_, sym, ap, _∙_}
-use mathlib.Core.List.{List, [], _∷_, _++_}
-use Prim.Native.Nat.{ℕ, _+_, _≤_, _<_}
+use mathlib.Core.Path.{_≡_, sym, _∙_}
+use mathlib.Core.List.{List}
+use Prim.Native.Nat.{ℕ, _+_, _<_}
 use native.Mathlib.Numerals.{add-one}
 use native.Mathlib.Omega.{arith}
 use lib.ListN.{length, getD, take, set, length-map, List·getD-map}
@@ -10,8 +10,8 @@ use Rattle.model.specs.Model.{kindOf, mem}
 use Rattle.model.specs.Sound.{noComponent, Sound}
 use Rattle.model.specs.Store.{Store, stagedKinds}
 use Rattle.model.proofs.Walk.{bool-cases}
+use Rattle.model.proofs.KindLists.{out-count}
 use Rattle.layout.specs.Layout.{KindSet}
-use Rattle.layout.proofs.KindSets.{none-count}
 use Rattle.blocks.proofs.Transfer.{kind-small}
 
 module _ (s : Store) where
@@ -20,7 +20,7 @@ module _ (s : Store) where
   staged-set S =
       record {
         once = S .staged .once;
-        known = λ k h. none-count k (stagedKinds s) (bool-cases (mem k (stagedKinds s)) (λ t. absurd (omega (arith, S .kinds .small k (S .staged .known k t)))) (λ t. t));
+        known = λ k h. out-count (stagedKinds s) k (bool-cases (mem k (stagedKinds s)) (λ t. absurd (omega (arith, S .kinds .small k (S .staged .known k t)))) (λ t. t));
       }
 
   pub staged-width : length (stagedKinds s) ≡ length (s .control .staged)

@@ -10,6 +10,6 @@ pub fn apply(words: &mut [u32], out: &mut [u8], at: usize) -> usize
     requires { ⌜ Ready (now words) (now out) at APPLY ⌝ }
     ensures { λ r. ⌜ Acted (now (words .entry)) (now (words .exit)) (now (out .entry)) (now (out .exit)) at r (does APPLY (meaning (now (words .entry)))) ⌝ }
 {
-    layouts::set_layout(words);
+    world::set_layout(words);
     ack(out, at)
 }

@@ -108,6 +108,7 @@ module _ (n : ℕ) (w : List ℕ) (s : Sound n w) where
   pub entities-ok : ((i : ℕ) → getD w i 0 < 4294967296) → EntitiesOk (entitiesOf n w)
   entities-ok bits =
       record {
+        few = omega arith;
         single =
             λ x.
             elim (decLe 1 (num x (entitiesOf n w .live))) [

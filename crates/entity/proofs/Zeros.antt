@@ -4,9 +4,8 @@ use mathlib.Core.List.{List, []}
 use Prim.Native.Nat.{ℕ, _+_, _*_, _<_}
 use native.Mathlib.Omega.{arith}
 use native.Mathlib.Nat.{not-suc-le-zero}
-use lib.ListN.{length, getD, set}
-use lib.Seq.{getD-set-same, getD-set-other}
-use Rattle.words.specs.Table.{by-eq, table, is-table}
+use lib.ListN.{length, getD}
+use Rattle.words.specs.Table.{table, is-table}
 use Rattle.model.specs.Model.{Entity, noEntity}
 use Rattle.entity.specs.Meaning.{Sized, entitiesOf, lenOf, issuedOf, headOf, recycledLen, heldOf, ringSlot}
 use Rattle.entity.specs.Change.{Changed, noEntities}
@@ -15,12 +14,6 @@ use Rattle.entity.proofs.Kept.{entities-path}
 -- the first i words are zeros
 abbrev pub ZerosTo : List ℕ → ℕ → Type 0
 ZerosTo w i = (k : ℕ) → k < i → getD w k 0 ≡ 0
-
-pub zeros-more : (w : List ℕ) (i : ℕ) → i < length w → ZerosTo w i → ZerosTo (set w i 0) (i + 1)
-zeros-more w i h z k hk =
-    by-eq k i
-    (λ e. rw e (getD-set-same w i 0 0 h))
-    (λ ne. getD-set-other w i k 0 0 ne ∙ z k (omega arith))
 
 table-none : (k : ℕ) (f : ℕ → Entity) → k ≡ 0 → table k f ≡ []
 table-none k f e = rw e (is-table noEntity 0 f [] refl (λ i h. absurd (not-suc-le-zero h)))

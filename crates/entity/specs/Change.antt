@@ -1,12 +1,13 @@
 -- Changes of the entities: of the model, of the part, and of the whole words that hold the part. Assumes nothing.
 use mathlib.Core.Path.{_≡_}
-use mathlib.Core.Bool.{Bool, cond, _&&_}
+use mathlib.Core.Bool.{cond}
 use mathlib.Core.List.{List, [], _∷_, _++_}
 use Prim.Native.Nat.{ℕ, suc, _+_, _*_, _≤_}
-use lib.Dec.{eqb, leb, ltb}
+use lib.Dec.{ltb}
 use lib.ListN.{length, take, drop}
 use Rattle.model.specs.Lists.{cutAt}
 use Rattle.model.specs.Model.{Entity, Entities, noEntity, lastVersion}
+pub use Rattle.model.specs.Model.{isFull, noEntities}
 use Rattle.words.specs.Part.{between}
 use Rattle.entity.specs.Meaning.{Sound, entitiesOf, entity}
 
@@ -45,14 +46,6 @@ abbrev pub recycledAs : Entity → Entities → Entities
 recycledAs e s =
     let again = queued (entity (e .index) (suc (e .version))) s in
     cond (ltb (e .version) lastVersion) again s
-
--- 12 FULL: none waiting, N issued
-abbrev pub isFull : ℕ → Entities → Bool
-isFull n s = eqb (length (s .recycled)) 0 && leb n (s .issued)
-
--- no number issued
-abbrev pub noEntities : Entities
-noEntities = record { live = []; recycled = []; issued = 0 }
 
 -- ---- the part
 

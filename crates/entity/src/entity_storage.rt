@@ -7,8 +7,8 @@ use crate::sparse_vec;
 ghost use mathlib.Core.Path.{_≡_};
 ghost use mathlib.Core.Bool.{false};
 ghost use Rattle.model.specs.Model.{isLive, destroy};
-ghost use Rattle.entity.specs.Meaning.{Sized, Sound, entity, entitiesOf};
-ghost use Rattle.entity.specs.Change.{Changed, isFull, noEntities};
+ghost use Rattle.entity.specs.Meaning.{Sound, entity, entitiesOf};
+ghost use Rattle.entity.specs.Change.{Changed, isFull};
 ghost use Rattle.entity.specs.Answers.{LiveAt, Created};
 
 // Whether the entity is live.
@@ -42,16 +42,4 @@ pub fn destroy(part: &mut [u32], n: usize, place: usize, index: u32, version: u3
 {
     entity_sparse_set::remove(part, n, place);
     entity_allocator::recycle(part, n, index, version);
-}
-
-// No entity, and no number issued, whatever the words held.
-pub fn reset(part: &mut [u32], n: usize)
-    requires { ⌜ Sized n (now part) ⌝ }
-    ensures { λ _. ⌜ Changed n (λ s. noEntities) (now (part .entry)) (now (part .exit)) ⌝ }
-{
-    let mut i = 0;
-    while i < part.len() {
-        part[i] = 0;
-        i += 1;
-    }
 }

@@ -14,7 +14,7 @@ ghost use Rattle.model.specs.Model.{noEntity, isLive, destroy};
 ghost use Rattle.model.specs.Snapshot.{versionAt};
 ghost use Rattle.words.specs.Decides.{Decides};
 ghost use Rattle.entity.specs.Meaning.{Sound, entity};
-ghost use Rattle.entity.specs.Change.{SoundIn, EntityChange, entityPart, entitiesIn, isFull, noEntities};
+ghost use Rattle.entity.specs.Change.{SoundIn, EntityChange, entityPart, entitiesIn, isFull};
 ghost use Rattle.entity.specs.Answers.{entityOf, foundOf, LiveAt, CreatedIn};
 
 // Whether the words have a sound entity part.
@@ -109,13 +109,4 @@ pub fn destroy_in(words: &mut [u32], n: usize, place: usize, index: u32, version
 {
     let end = 1024 + 16 * n;
     entity_storage::destroy(&mut words[1024..end], n, place, index, version);
-}
-
-// No entity, and no number issued, whatever the words held.
-pub fn reset_in(words: &mut [u32], n: usize)
-    requires { ⌜ (1 ≤ n) × (n ≤ 4096) × (1024 + 16 * n ≤ length (now words)) ⌝ }
-    ensures { λ _. ⌜ EntityChange n (λ s. noEntities) (now (words .entry)) (now (words .exit)) ⌝ }
-{
-    let end = 1024 + 16 * n;
-    entity_storage::reset(&mut words[1024..end], n);
 }

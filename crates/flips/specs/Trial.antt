@@ -2,7 +2,6 @@
 use mathlib.Core.Path.{_≡_}
 use mathlib.Core.List.{List}
 use Prim.Native.Nat.{ℕ, _+_, _≤_}
-use lib.ListN.{length}
 use Rattle.memory.specs.Arranged.{Sound}
 use Rattle.flips.specs.declared.trial.Counts.{Counts}
 

@@ -1,5 +1,4 @@
 // Commands of the tape, one run each.
-ghost use Rattle.memory.specs.Arranged.{Sound};
 ghost use Rattle.flips.specs.Trial.{Keeps};
 
 pub const NEW: u8 = 3;

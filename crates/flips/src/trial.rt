@@ -1,6 +1,5 @@
 // One word changed at a time, and what comes of it.
 ghost use Prim.Native.Nat.{_*_, _-_, _≤_, _<_};
-ghost use lib.ListN.{length};
 ghost use Rattle.memory.specs.Arranged.{Sound};
 ghost use Rattle.flips.specs.Trial.{Keeps, Most, Tried, Added};
 use crate::feed::APPLY;

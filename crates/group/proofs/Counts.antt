@@ -5,10 +5,10 @@ use mathlib.Core.List.{List, [], _∷_, _++_}
 use Prim.Native.Nat.{ℕ, zero, suc, _+_, _-_, _≤_, _<_}
 use native.Mathlib.Omega.{arith}
 use native.Mathlib.Nat.{suc-add, le-of-suc-le-suc, not-suc-le-zero}
-use native.Mathlib.Decide.{decLt, ℕ-discrete}
+use native.Mathlib.Decide.{decLt}
 use lib.Dec.{ltb}
 use lib.ListN.{length, getD, set, length-set, List·getD-append}
-use lib.Seq.{getD-append-add, getD-set-same, getD-set-other, set-append-left}
+use lib.Seq.{getD-append-add, set-append-left}
 use Rattle.model.specs.Model.{Family, kindsOf, groupsOf}
 use Rattle.model.proofs.Families.{famKinds}
 use Rattle.group.specs.Flat.{Located, nowhere, flattenFamily, flatten, located, setIn, setCount}
@@ -79,15 +79,6 @@ flatten-set p g c (f ∷ fs) = go (decLt g (length f)) (λ i. flatten-set (p + l
         ∙ sym (ap (λ (l : Located). set (A ++ B) g (recount c l)) (List·getD-append A B nowhere g h′) ∙ set-append-left A B g (recount c (getD A g nowhere)) h′)
     go (no h) r = let t : Past (length f) g = past-of (length f) g (omega arith) in later (t .rest) (t .is) (r (t .rest))
 
-pub located-at : (g c : ℕ) (fs : List Family) → g < groupsOf fs → located (setCount g c fs) g ≡ recount c (located fs g)
-located-at g c fs h =
-    ap (λ (l : List Located). getD l g nowhere) (flatten-set 0 g c fs)
-    ∙ getD-set-same (flatten 0 fs) g (recount c (located fs g)) nowhere (omega (arith, length-flatten 0 fs))
-
-pub located-other : (g c h : ℕ) (fs : List Family) → (h ≡ g → ⊥) → located (setCount g c fs) h ≡ located fs h
-located-other g c h fs ne =
-    ap (λ (l : List Located). getD l h nowhere) (flatten-set 0 g c fs) ∙ getD-set-other (flatten 0 fs) g h (recount c (located fs g)) nowhere ne
-
 pub groups-set : (g c : ℕ) (fs : List Family) → groupsOf (setCount g c fs) ≡ groupsOf fs
 groups-set g c fs =
     sym (length-flatten 0 (setCount g c fs)) ∙ ap length (flatten-set 0 g c fs) ∙ length-set (flatten 0 fs) g (recount c (located fs g)) ∙ length-flatten 0 fs
@@ -99,14 +90,6 @@ kinds-set g c (f ∷ fs) = go (ltb g (length f)) (kinds-set (g - length f) c fs)
     go : (b : Bool) → famKinds (setCount (g - length f) c fs) ≡ famKinds fs → famKinds (cond b (setIn g c f ∷ fs) (f ∷ setCount (g - length f) c fs)) ≡ famKinds (f ∷ fs)
     go true r = ap {B = List (List ℕ)} (λ ks. ks ∷ famKinds fs) (kinds-setIn g c f)
     go false r = ap {B = List (List ℕ)} (λ kss. kindsOf f ∷ kss) r
-
--- all but the count, at every position
-pub located-shape : (g c h : ℕ) (fs : List Family) → g < groupsOf fs → recount 0 (located (setCount g c fs) h) ≡ recount 0 (located fs h)
-located-shape g c h fs lt = go (ℕ-discrete h g)
-  where
-    go : Dec (h ≡ g) → recount 0 (located (setCount g c fs) h) ≡ recount 0 (located fs h)
-    go (yes e) = ap (λ (n : ℕ). recount 0 (located (setCount g c fs) n)) e ∙ ap (recount 0) (located-at g c fs lt) ∙ ap (λ (n : ℕ). recount 0 (located fs n)) (sym e)
-    go (no e) = ap (recount 0) (located-other g c h fs e)
 
 -- ---- where a group's family begins and ends
 

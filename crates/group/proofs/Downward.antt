@@ -10,7 +10,7 @@ use Rattle.model.specs.Lists.{place-count-take, count-take-le}
 use Rattle.model.specs.Model.{Entity, SparseSet, Group, Family, Storage, Walked, Stepped, sameEntity, meets, setOf, keys, entityOf, at, held, onKinds, swapTo, allHeld, isGrouped, headKind, kindsOf, ungroupComponents, ungroupFamily, ungroup}
 use Rattle.model.proofs.SparseSets.{cond-case, key}
 use Rattle.model.proofs.Groups.{cnt, plc, In, Even, SameEntities}
-use Rattle.model.proofs.Walk.{bool-cases, in-right, Chain, Every, Missing, all-missing}
+use Rattle.model.proofs.Walk.{bool-cases, in-right, Chain, Every, Missing, all-missing, count-held}
 use Rattle.model.proofs.WalkDown.{Held, Down, ungroupFamily-good}
 use Rattle.model.proofs.Families.{Fams, Apart, famKinds, chain-other}
 use Rattle.model.proofs.Invariant.{Fit}
@@ -20,7 +20,6 @@ use Rattle.group.specs.Flat.{Located, located, withCount, setCount, stat
 use Rattle.group.specs.Ready.{ReadyOut, ReadyDown}
 use Rattle.group.proofs.Fronts.{Front, whole, past, Hole, opened, next, here, put-here}
 use Rattle.group.proofs.Upward.{grouped-here, ungrouped-here, incomplete-here, atHole, atFront}
-use Rattle.group.proofs.UpReady.{count-held}
 use Rattle.group.proofs.Commute.{headed-all, ungroupBack, commutes, ungroup-other}
 
 -- ---- one step, and one list after another

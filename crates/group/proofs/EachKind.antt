@@ -15,7 +15,7 @@ use Rattle.model.specs.Sound.{In, Distinct}
 use Rattle.model.proofs.SparseSets.{setOf-mapOn}
 use Rattle.model.proofs.Walk.{or-true}
 use Rattle.model.proofs.Invariant.{length-mapOn}
-use Rattle.group.proofs.KindPositions.{not-right}
+use Rattle.model.proofs.KindLists.{distinct-apart}
 
 abbrev pub eachKind : (SparseSet → SparseSet) → List ℕ → List SparseSet → List SparseSet
 eachKind f [] sets = sets
@@ -44,7 +44,7 @@ setOf-each f (k ∷ ks) sets d lt j = go (ℕ-discrete j k) (setOf-each f ks nex
     go : Dec (j ≡ k) → setOf (eachKind f ks next) j ≡ cond (mem j ks) (f (setOf next j)) (setOf next j) → setOf (eachKind f ks next) j ≡ cond (eqb j k || mem j ks) (f (setOf sets j)) (setOf sets j)
     go (yes q) r =
         let inside : In (k ∷ ks) k = rw (eq-eqb k k refl) in
-        let gone : mem k ks ≡ false = not-right (k ∷ []) ks k d (rw (eq-eqb k k refl)) in
+        let gone : mem k ks ≡ false = distinct-apart (k ∷ []) ks d k (rw (eq-eqb k k refl)) in
         r ∙ rw (q, gone, eq-eqb k k refl) (getD-set-same sets k (f (setOf sets k)) [] (lt k inside))
     go (no q) r = r ∙ rw (ne-eqb j k q, getD-set-other sets k j (f (setOf sets k)) [] q)
 

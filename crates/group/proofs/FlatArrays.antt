@@ -8,13 +8,13 @@ use native.Mathlib.Decide.{decLt}
 use native.Mathlib.Nat.{le-of-suc-le-suc, not-suc-le-zero, sub-zero}
 use lib.ListN.{length, getD, set, take, drop, List·getD-append}
 use lib.Seq.{getD-append-add, getD-set-same, getD-set-other, take-add, take-take, drop-drop}
-use Rattle.model.specs.Model.{Family, kindsOf}
+use Rattle.model.specs.Model.{Family}
 use Rattle.model.specs.Sound.{layoutKinds}
 use Rattle.words.specs.Part.{between, between-front, getD-between}
 use Rattle.words.specs.Table.{table, table-set}
 use Rattle.layout.specs.Layout.{Arrays, Sized, startOf, widthOf, kindsAt, aritiesAt, groupsFrom, familyAt, familiesOf, Rising, WellFormed}
 use Rattle.layout.proofs.Family.{between-join, rising-le}
-use Rattle.layout.proofs.Arrays.{ends-rise, kind-order, group-order, kinds-inside, arities-length, kinds-length, family-rising, family-kindsOf, groups-length}
+use Rattle.layout.proofs.Arrays.{ends-rise, kind-order, group-order, kinds-inside, arities-length, kinds-length, family-rising, groups-length, layout-kinds}
 use Rattle.group.specs.Flat.{nowhere, flattenFamily, flatten, located, setIn, setCount}
 use Rattle.group.proofs.Fronts.{length-flattenFamily, set-here, set-later}
 
@@ -53,7 +53,7 @@ family-group counts first top g ks b n (a ∷ ars) r (suc i) h =
     ∙ ap (λ (m : ℕ). record { kinds = take (getD ars i 0) ks; newKinds = between (getD (a ∷ ars) i 0) (getD ars i 0) ks; count = getD counts m 0; first = first; top = top }) e
 
 -- arities rise, up to n
-rising-at : (b n : ℕ) (ars : List ℕ) → Rising b n ars → (i : ℕ) → i < length ars → (getD (b ∷ ars) i 0 < getD ars i 0) × (getD ars i 0 ≤ n)
+pub rising-at : (b n : ℕ) (ars : List ℕ) → Rising b n ars → (i : ℕ) → i < length ars → (getD (b ∷ ars) i 0 < getD ars i 0) × (getD ars i 0 ≤ n)
 unfolding Rising
 rising-at b n [] r i h = absurd (not-suc-le-zero h)
 rising-at b n (a ∷ ars) r zero h = (r .0, rising-le a n ars (r .1))
@@ -131,18 +131,6 @@ set-at (suc n) F s e c (suc f) h i j l q =
     ∙ set-later (L .rest) c (F 0) (table n (λ m. F (suc m)))
     ∙ ap (λ (fs : List Family). F 0 ∷ fs) (set-at n (λ m. F (suc m)) (λ m. s (suc m)) (λ m l. e (suc m) (omega arith)) c f (omega arith) i (L .rest) l (L .at))
 
--- family f's kinds are those from s f to s (f + 1)
-kinds-table : (n : ℕ) (F : ℕ → Family) (s : ℕ → ℕ) (ks : List ℕ) → ((f : ℕ) → f < n → s f ≤ s (suc f)) → ((f : ℕ) → f < n → kindsOf (F f) ≡ between (s f) (s (suc f)) ks)
-    → (s 0 ≤ s n) × (layoutKinds (table n F) ≡ between (s 0) (s n) ks)
-unfolding table
-kinds-table zero F s ks o e = (omega arith, let z : s 0 - s 0 ≡ 0 = omega arith in rw z)
-kinds-table (suc n) F s ks o e =
-    let r = kinds-table n (λ m. F (suc m)) (λ m. s (suc m)) ks (λ f h. o (suc f) (omega arith)) (λ f h. e (suc f) (omega arith)) in
-    let le : s 0 ≤ s 1 = o 0 (omega arith) in (
-      omega (arith, r .0),
-      ap₂ {C = List ℕ} _++_ (e 0 (omega arith)) (r .1) ∙ between-split (s 0) (s 1) (s (suc n)) ks le (r .0),
-    )
-
 -- ---- well-formed arrays
 
 module _ (counts : List ℕ) (a : Arrays) (good : WellFormed a) (sized : Sized a) where
@@ -152,12 +140,6 @@ module _ (counts : List ℕ) (a : Arrays) (good : WellFormed a) (sized : Sized a
   steps : (f : ℕ) → f < a .families → startOf (a .ends) (suc f) ≡ startOf (a .ends) f + length (familyAt counts a f)
   steps f h = omega (arith, group-order a good f h, family-size f h)
 
-  -- the layout's kinds in order
-  pub kinds-are : layoutKinds (familiesOf counts a) ≡ take (widthOf a) (a .kinds)
-  kinds-are =
-      kinds-table (a .families) (familyAt counts a) (startOf (a .kindEnds)) (a .kinds) (kind-order a good) (family-kindsOf a good sized counts) .1
-      ∙ ap (λ (n : ℕ). take n (a .kinds)) (sub-zero (widthOf a))
-
   -- family f's kinds are those from its start on
   kinds-in : (f x y : ℕ) → f < a .families → startOf (a .kindEnds) f + y ≤ getD (a .kindEnds) f 0
       → between x y (kindsAt a f) ≡ between (startOf (a .kindEnds) f + x) (startOf (a .kindEnds) f + y) (layoutKinds (familiesOf counts a))
@@ -166,7 +148,7 @@ module _ (counts : List ℕ) (a : Arrays) (good : WellFormed a) (sized : Sized a
       let w = widthOf a in
       between-part x y s (getD (a .kindEnds) f 0) (a .kinds) l
       ∙ between-front w (s + x) (s + y) (take w (a .kinds)) (a .kinds) (omega (arith, kinds-inside a good f h)) (sym (take-take w w (a .kinds) (omega arith)))
-      ∙ ap (between (s + x) (s + y)) (sym kinds-are)
+      ∙ ap (between (s + x) (s + y)) (sym (layout-kinds counts a good sized))
 
   module _ (f i : ℕ) (hf : f < a .families) (hi : startOf (a .ends) f + i < getD (a .ends) f 0) where
     abbrev g : ℕ

@@ -12,21 +12,20 @@ use Rattle.model.specs.Model.{Family, Storage, groupsOf}
 use Rattle.model.specs.Sound.{In, Distinct, layoutKinds}
 use Rattle.model.proofs.Walk.{bool-cases}
 use Rattle.words.specs.Part.{between, length-between, getD-between}
-use Rattle.layout.specs.Layout.{Arrays, Sized, startOf, widthOf, aritiesAt, familiesOf, KindSet, WellFormed}
+use Rattle.layout.specs.Layout.{Arrays, startOf, widthOf, aritiesAt, familiesOf, KindSet, WellFormed}
 use Rattle.layout.proofs.KindSets.{set-between}
-use Rattle.layout.proofs.Arrays.{kinds-inside, groups-inside, groups-of}
+use Rattle.layout.proofs.Arrays.{kinds-inside, groups-inside, groups-of, layout-kinds}
 use Rattle.memory.specs.Header.{layoutGroups, groupFamilyAt, countAt}
 use Rattle.memory.specs.Word.{Word}
 use Rattle.memory.specs.Meaning.{layoutArrays, layoutIn, meaning}
 use Rattle.memory.specs.Change.{onStorage, withLayout}
 use Rattle.memory.specs.Arranged.{Arranged, GroupSound, Becomes, memberAt}
-use Rattle.memory.proofs.Frames.{long}
+use Rattle.memory.proofs.Frames.{long, layout-sized}
 use Rattle.memory.proofs.Becomes.{count-becomes, slot-real}
-use Rattle.kinds.proofs.Slot.{slot-known}
+use Rattle.kinds.proofs.Slot.{slot-known, in-list}
 use Rattle.group.specs.Flat.{Located, located, setCount}
 use Rattle.group.specs.Metadata.{orderOf, Describes}
-use Rattle.group.proofs.FlatArrays.{kinds-are, arity-rises, located-is, counts-are}
-use Rattle.group.proofs.Places.{in-place}
+use Rattle.group.proofs.FlatArrays.{arity-rises, located-is, counts-are}
 
 -- ---- words of the block
 
@@ -60,35 +59,23 @@ module _ (w : List ℕ) (A : Arranged w) where
   unfolding meaning layoutIn
   layout-means = refl
 
-  block : length (between 576 896 w) ≡ 320
-  block = length-between 576 896 w (omega (arith, long w A))
-
-  pub sized : Sized (layoutArrays w)
-  sized =
-      record {
-        kinds = length-between 0 128 (between 576 896 w) (omega (arith, block));
-        arities = length-between 128 192 (between 576 896 w) (omega (arith, block));
-        kindEnds = length-between 192 256 (between 576 896 w) (omega (arith, block));
-        ends = length-between 256 320 (between 576 896 w) (omega (arith, block));
-      }
-
   good : WellFormed (layoutArrays w)
   good = A .layout .formed
 
   -- how many groups there are
   pub groups-are : groupsOf (meaning w .storage .layout) ≡ layoutGroups w
-  groups-are = ap groupsOf layout-means ∙ groups-of (between 960 1024 w) (layoutArrays w) good sized ∙ sym (A .layout .count)
+  groups-are = ap groupsOf layout-means ∙ groups-of (between 960 1024 w) (layoutArrays w) good (layout-sized w A) ∙ sym (A .layout .count)
 
   pub groups-few : groupsOf (meaning w .storage .layout) ≤ 63
   groups-few = omega (arith, groups-are, A .layout .count, good .many)
 
   -- the kinds in order
   pub order-is : orderOf (meaning w) ≡ take (widthOf (layoutArrays w)) (layoutArrays w .kinds)
-  order-is = ap layoutKinds layout-means ∙ kinds-are (between 960 1024 w) (layoutArrays w) good sized
+  order-is = ap layoutKinds layout-means ∙ layout-kinds (between 960 1024 w) (layoutArrays w) good (layout-sized w A)
 
   pub order-length : length (orderOf (meaning w)) ≡ widthOf (layoutArrays w)
   order-length =
-      ap length order-is ∙ length-take-le (widthOf (layoutArrays w)) (layoutArrays w .kinds) (omega (arith, good .wide, sized .kinds))
+      ap length order-is ∙ length-take-le (widthOf (layoutArrays w)) (layoutArrays w .kinds) (omega (arith, good .wide, layout-sized w A .kinds))
 
   pub order-wide : length (orderOf (meaning w)) ≤ 128
   order-wide = omega (arith, order-length, good .wide)
@@ -103,9 +90,6 @@ module _ (w : List ℕ) (A : Arranged w) where
 
   pub order-part-once : (x y : ℕ) → Distinct (between x y (orderOf (meaning w)))
   order-part-once x y = set-between x y (orderOf (meaning w)) (subst KindSet (sym order-is) (good .kinds)) .once
-
-  pub header : (i : ℕ) → i < 1024 → i < length w
-  header i h = omega (arith, long w A)
 
   -- ---- one group
 
@@ -193,7 +177,7 @@ module _ (w : List ℕ) (A : Arranged w) where
         (λ (fs : List Family). located fs g ≡ record { kinds = between start (start + arity) (layoutKinds fs); newKinds = between (start + prior) (start + arity) (layoutKinds fs); count = countAt w g; first = first; top = top })
         (sym layout-means)
         (ap (located (familiesOf (between 960 1024 w) (layoutArrays w))) (sym at)
-        ∙ located-is (between 960 1024 w) (layoutArrays w) good sized f i (group-sound .family) inside
+        ∙ located-is (between 960 1024 w) (layoutArrays w) good (layout-sized w A) f i (group-sound .family) inside
         ∙ (λ j.
         record {
           kinds = between (start-is j) (start-is j + arity-is j) (layoutKinds (familiesOf (between 960 1024 w) (layoutArrays w)));
@@ -205,7 +189,7 @@ module _ (w : List ℕ) (A : Arranged w) where
 
     pub group-rises : (prior < arity) × (start + arity ≤ length (orderOf (meaning w))) × (top ≤ 63)
     group-rises =
-        let r = arity-rises (between 960 1024 w) (layoutArrays w) good sized f i (group-sound .family) inside in (
+        let r = arity-rises (between 960 1024 w) (layoutArrays w) good (layout-sized w A) f i (group-sound .family) inside in (
           omega (arith, r .0, prior-is, arity-is),
           omega (arith, r .1, start-is, arity-is, order-length, kinds-inside (layoutArrays w) good f (group-sound .family)),
           omega (arith, top-is, groups-inside (layoutArrays w) good f (group-sound .family), good .many),
@@ -214,18 +198,18 @@ module _ (w : List ℕ) (A : Arranged w) where
     -- a group's kinds are registered
     kinds-registered : (k : ℕ) → In (between start (start + arity) (orderOf (meaning w))) k → In (meaning w .kinds) k
     kinds-registered k n =
-        let r = in-place (between start (start + arity) (orderOf (meaning w))) k n in
+        let r = in-list (between start (start + arity) (orderOf (meaning w))) k n in
         let fits : start + arity ≤ length (orderOf (meaning w)) = group-rises .1 in
-        let lt : r .at < arity = omega (arith, r .below, length-between start (start + arity) (orderOf (meaning w)) fits) in
+        let lt : r .place < arity = omega (arith, r .below, length-between start (start + arity) (orderOf (meaning w)) fits) in
         let width : widthOf (layoutArrays w) ≡ length (orderOf (meaning w)) = sym order-length in
-        let reg = group-sound .known (r .at) (omega (arith, arity-at)) in
-        let e : memberAt (layoutArrays w) f (r .at) ≡ k =
-        ap (λ (m : ℕ). getD (layoutArrays w .kinds) (m + r .at) 0) start-is
-        ∙ sym (getD-take (widthOf (layoutArrays w)) (layoutArrays w .kinds) (start + r .at) 0 (omega arith))
-        ∙ sym (ap (λ (l : List ℕ). getD l (start + r .at) 0) order-is)
-        ∙ sym (getD-between start (start + arity) (r .at) (orderOf (meaning w)) 0 (omega arith))
+        let reg = group-sound .known (r .place) (omega (arith, arity-at)) in
+        let e : memberAt (layoutArrays w) f (r .place) ≡ k =
+        ap (λ (m : ℕ). getD (layoutArrays w .kinds) (m + r .place) 0) start-is
+        ∙ sym (getD-take (widthOf (layoutArrays w)) (layoutArrays w .kinds) (start + r .place) 0 (omega arith))
+        ∙ sym (ap (λ (l : List ℕ). getD l (start + r .place) 0) order-is)
+        ∙ sym (getD-between start (start + arity) (r .place) (orderOf (meaning w)) 0 (omega arith))
         ∙ r .is in
-        subst (In (meaning w .kinds)) e (slot-known w A (memberAt (layoutArrays w) f (r .at)) (reg .small) (slot-real w A (memberAt (layoutArrays w) f (r .at)) (reg .slot)))
+        subst (In (meaning w .kinds)) e (slot-known w A (memberAt (layoutArrays w) f (r .place)) (reg .small) (slot-real w A (memberAt (layoutArrays w) f (r .place)) (reg .slot)))
 
     pub described : Describes (meaning w) g (record { «storage_start» = start; «new_storage_start» = start + prior; «storage_end» = start + arity; first = first; top = top })
     described =
@@ -277,6 +261,6 @@ module _ (w : List ℕ) (A : Arranged w) where
         let l : length (between 960 1024 w) ≡ 64 = length-between 960 1024 w (long w A) in
         let e : familiesOf (set (between 960 1024 w) g c) (layoutArrays w) ≡ setCount g c (meaning w .storage .layout) =
         subst (λ (m : ℕ). familiesOf (set (between 960 1024 w) m c) (layoutArrays w) ≡ setCount m c (familiesOf (between 960 1024 w) (layoutArrays w))) at
-        (counts-are (between 960 1024 w) (layoutArrays w) good sized f i (group-sound .family) inside c (omega (arith, at)))
+        (counts-are (between 960 1024 w) (layoutArrays w) good (layout-sized w A) f i (group-sound .family) inside c (omega (arith, at)))
         ∙ ap (setCount g c) (sym layout-means) in
         subst (λ (fs : List Family). Becomes w (set w (960 + g) c) (onStorage (λ (s : Storage). withLayout s fs) (meaning w))) e (count-becomes w A g c few)

@@ -1,6 +1,6 @@
 -- The positions of several kinds are the union of each kind's, and each kind's are a run from its own group or its family's first. Assumes nothing.
 use mathlib.Core.Path.{_≡_, refl, ap, ap₂, sym, _∙_, subst}
-use mathlib.Core.Bool.{Bool, true, false, cond, _&&_, _||_, or-assoc, false≢true}
+use mathlib.Core.Bool.{Bool, true, false, cond, _&&_, _||_, or-assoc, or-false as or-none}
 use mathlib.Core.List.{List, [], _∷_, _++_, append-nil, append-assoc}
 use Prim.Native.Nat.{ℕ, zero, suc, _+_, _-_, _≤_, _<_}
 use native.Mathlib.Omega.{arith}
@@ -9,12 +9,13 @@ use native.Mathlib.Decide.{decLt}
 use lib.Dec.{eqb}
 use lib.ListN.{length, getD, List·getD-append}
 use lib.Seq.{getD-append-add}
-use Rattle.model.specs.Lists.{count, count-append}
+use Rattle.model.specs.Lists.{count-append}
 use Rattle.model.specs.Model.{Family, mem, any, meets, headKind, kindsOf, groupsOf}
 use Rattle.model.specs.Sound.{In, Distinct, layoutKinds}
-use Rattle.model.proofs.Walk.{bool-cases, or-cases, or-true, or-false, mem-append, in-left, in-right}
+use Rattle.model.proofs.Walk.{bool-cases, or-true, or-false, mem-append, in-left, in-right}
 use Rattle.model.proofs.Families.{or-false-right}
 use Rattle.model.proofs.Invariant.{any-in}
+use Rattle.model.proofs.KindLists.{not-true, in-count, distinct-left, distinct-right, distinct-apart}
 use Rattle.masks.specs.Masks.{upFrom, has, keep, unionOf}
 use Rattle.masks.proofs.Lists.{has-append, has-union, has-keep, has-up, up-split, between-high}
 use Rattle.group.specs.Flat.{Located, nowhere, flattenFamily, flatten, located, familyPositions, insertPositions, deleteFamily, deleteFrom, deletePositions}
@@ -23,7 +24,7 @@ use Rattle.group.proofs.Counts.{Past, past-of, family-at}
 use Rattle.group.proofs.Upward.{From}
 use Rattle.group.proofs.Commute.{Headed, HeadedAll}
 use Rattle.group.proofs.MaskWalk.{Ascending}
-use Rattle.group.proofs.Positions.{none-has, ascending-eq, ascending-up, ascending-families, ascending-delete, families-below, delete-below}
+use Rattle.group.proofs.Positions.{ascending-eq, ascending-up, ascending-families, ascending-delete, families-below, delete-below}
 
 -- ---- the union of two masks' positions rises, and has the members of both
 
@@ -45,7 +46,7 @@ union-of w l xs ys a h low =
     go : (i : ℕ) → Dec (i < w) → has i l ≡ has i (unionOf w xs ys)
     go i (yes q) = h i ∙ sym (has-union w i xs ys q)
     go i (no q) =
-        none-has (has i l) (λ t. q (low i t))
+        not-true (has i l) (λ t. q (low i t))
         ∙ sym (has-keep i (λ j. has j xs || has j ys) (upFrom 0 w) ∙ rw (has-up i 0 w, between-high 0 (0 + w) i (omega arith)))
 
 -- ---- several kinds
@@ -141,28 +142,11 @@ delete-no-kinds p (f ∷ fs) = rw (delete-no-kinds-in p [] f) (delete-no-kinds (
 -- ---- one kind
 
 meets-one : (k : ℕ) (ks : List ℕ) → meets (k ∷ []) ks ≡ mem k ks
-meets-one k ks = go (mem k ks)
-  where
-    go : (b : Bool) → (b || false) ≡ b
-    go true = refl
-    go false = refl
+meets-one k ks = or-none (mem k ks)
 
 -- a kind that stands once among two lists' kinds
-once-left : (a b : List ℕ) → Distinct (a ++ b) → Distinct a
-once-left a b d k = omega (arith, d k, count-append eqb k a b)
-
-once-right : (a b : List ℕ) → Distinct (a ++ b) → Distinct b
-once-right a b d k = omega (arith, d k, count-append eqb k a b)
-
-mem-count : (k : ℕ) (ks : List ℕ) → mem k ks ≡ true → 1 ≤ count eqb k ks
-mem-count k [] h = absurd (false≢true h)
-mem-count k (j ∷ ks) h = or-cases (eqb k j) (mem k ks) h (λ q. rw q (omega arith)) (λ q. omega (arith, mem-count k ks q))
-
 pub not-left : (a b : List ℕ) (k : ℕ) → Distinct (a ++ b) → In b k → mem k a ≡ false
-not-left a b k d i = none-has (mem k a) (λ h. omega (arith, d k, count-append eqb k a b, mem-count k a h, mem-count k b i))
-
-pub not-right : (a b : List ℕ) (k : ℕ) → Distinct (a ++ b) → In a k → mem k b ≡ false
-not-right a b k d i = none-has (mem k b) (λ h. omega (arith, d k, count-append eqb k a b, mem-count k a i, mem-count k b h))
+not-left a b k d i = not-true (mem k a) (λ h. omega (arith, d k, count-append eqb k a b, in-count a k h, in-count b k i))
 
 -- a group's new kinds are its family's, and the layout's
 family-has : (first top : ℕ) (acc : List ℕ) (rs : Family) (i k : ℕ) → i < length rs → In (getD (flattenFamily first top acc rs) i nowhere .newKinds) k → In (kindsOf rs) k
@@ -220,11 +204,11 @@ insert-own k p (f ∷ fs) i d h =
     let at = family-at p (p + length f) [] f i q in
     let len : p + length f - p ≡ length f = omega arith in
     let m : mem k (kindsOf f) ≡ true = family-has p (p + length f) [] f i k q n in
-    rw (meets-one k (kindsOf f), m, insert-none k (p + length f) fs (not-right (kindsOf f) (layoutKinds fs) k d m), at .0, at .1, len) (append-nil (upFrom p (length f))))
+    rw (meets-one k (kindsOf f), m, insert-none k (p + length f) fs (distinct-apart (kindsOf f) (layoutKinds fs) d k m), at .0, at .1, len) (append-nil (upFrom p (length f))))
     (λ j e n.
     let m : mem k (kindsOf f) ≡ false = not-left (kindsOf f) (layoutKinds fs) k d (layout-has (p + length f) fs j k (omega arith) n) in
     rw (meets-one k (kindsOf f), m)
-    (insert-own k (p + length f) fs j (once-right (kindsOf f) (layoutKinds fs) d) (omega arith) n))
+    (insert-own k (p + length f) fs j (distinct-right (kindsOf f) (layoutKinds fs) d) (omega arith) n))
   where
     t : Family → Bool
     t f = meets (k ∷ []) (kindsOf f)
@@ -268,7 +252,7 @@ delete-own-in k first top p acc (r ∷ rs) (suc i) a d h n =
     let m : mem k (acc ++ r .newKinds) ≡ false = mem-append k acc (r .newKinds) ∙ rw (a, not-left (r .newKinds) (kindsOf rs) k d kin) in
     let z : p + suc i ≡ suc p + i = omega arith in
     let l : suc (length rs) - suc i ≡ length rs - i = omega arith in
-    rw (meets-one k (acc ++ r .newKinds), m, z, l) (delete-own-in k first top (suc p) (acc ++ r .newKinds) rs i m (once-right (r .newKinds) (kindsOf rs) d) (le-of-suc-le-suc h) n)
+    rw (meets-one k (acc ++ r .newKinds), m, z, l) (delete-own-in k first top (suc p) (acc ++ r .newKinds) rs i m (distinct-right (r .newKinds) (kindsOf rs) d) (le-of-suc-le-suc h) n)
 
 delete-own : (k p : ℕ) (fs : List Family) (i : ℕ) → Distinct (layoutKinds fs) → i < groupsOf fs → In (getD (flatten p fs) i nowhere .newKinds) k
     → deleteFrom (k ∷ []) p fs ≡ upFrom (p + i) (getD (flatten p fs) i nowhere .top - (p + i))
@@ -280,13 +264,13 @@ delete-own k p (f ∷ fs) i d h =
     let at = family-at p (p + length f) [] f i q in
     let len : p + length f - (p + i) ≡ length f - i = omega arith in
     let m : mem k (kindsOf f) ≡ true = family-has p (p + length f) [] f i k q n in
-    rw (delete-own-in k p (p + length f) p [] f i refl (once-left (kindsOf f) (layoutKinds fs) d) q n, delete-none k (p + length f) fs (not-right (kindsOf f) (layoutKinds fs) k d m), at .1, len)
+    rw (delete-own-in k p (p + length f) p [] f i refl (distinct-left (kindsOf f) (layoutKinds fs) d) q n, delete-none k (p + length f) fs (distinct-apart (kindsOf f) (layoutKinds fs) d k m), at .1, len)
     (append-nil (upFrom (p + i) (length f - i))))
     (λ j e n.
     let m : mem k (kindsOf f) ≡ false = not-left (kindsOf f) (layoutKinds fs) k d (layout-has (p + length f) fs j k (omega arith) n) in
     let z : p + i ≡ p + length f + j = omega arith in
     rw (delete-none-in k p [] f refl m, z)
-    (delete-own k (p + length f) fs j (once-right (kindsOf f) (layoutKinds fs) d) (omega arith) n))
+    (delete-own k (p + length f) fs j (distinct-right (kindsOf f) (layoutKinds fs) d) (omega arith) n))
 
 -- ---- the same at the layout's positions: g is the kind's own group
 
@@ -332,7 +316,7 @@ family-kinds first top acc (r ∷ rs) (suc i) k h n = subst (λ (l : List ℕ). 
 
 family-once : (first top : ℕ) (acc : List ℕ) (rs : Family) (i : ℕ) → i < length rs → Distinct (acc ++ kindsOf rs) → Distinct (getD (flattenFamily first top acc rs) i nowhere .kinds)
 family-once first top acc [] i h d = absurd (not-suc-le-zero h)
-family-once first top acc (r ∷ rs) zero h d = once-left (acc ++ r .newKinds) (kindsOf rs) (subst Distinct (sym (append-assoc acc (r .newKinds) (kindsOf rs))) d)
+family-once first top acc (r ∷ rs) zero h d = distinct-left (acc ++ r .newKinds) (kindsOf rs) (subst Distinct (sym (append-assoc acc (r .newKinds) (kindsOf rs))) d)
 family-once first top acc (r ∷ rs) (suc i) h d = family-once first top (acc ++ r .newKinds) rs i (le-of-suc-le-suc h) (subst Distinct (sym (append-assoc acc (r .newKinds) (kindsOf rs))) d)
 
 pub kinds-known : (p : ℕ) (fs : List Family) (i k : ℕ) → i < groupsOf fs → In (getD (flatten p fs) i nowhere .kinds) k → In (layoutKinds fs) k
@@ -346,8 +330,8 @@ pub kinds-once : (p : ℕ) (fs : List Family) (i : ℕ) → i < groupsOf fs → 
 kinds-once p [] i h = absurd (not-suc-le-zero h)
 kinds-once p (f ∷ fs) i h =
     by-family (λ l i. Distinct (layoutKinds (f ∷ fs)) → Distinct (l .kinds)) p f fs i
-    (λ q d. family-once p (p + length f) [] f i q (once-left (kindsOf f) (layoutKinds fs) d))
-    (λ j e d. kinds-once (p + length f) fs j (omega arith) (once-right (kindsOf f) (layoutKinds fs) d))
+    (λ q d. family-once p (p + length f) [] f i q (distinct-left (kindsOf f) (layoutKinds fs) d))
+    (λ j e d. kinds-once (p + length f) fs j (omega arith) (distinct-right (kindsOf f) (layoutKinds fs) d))
 
 family-headed : (first top : ℕ) (acc : List ℕ) (rs : Family) (i : ℕ) → i < length rs → Headed rs → In (getD (flattenFamily first top acc rs) i nowhere .newKinds) (headKind (getD (flattenFamily first top acc rs) i nowhere .newKinds))
 family-headed first top acc [] i h hd = absurd (not-suc-le-zero h)

@@ -1,22 +1,14 @@
 -- The places of a list, and of a part of it. Assumes nothing.
-use mathlib.Core.Path.{_≡_, refl, ap, ap₂, sym, _∙_, subst}
-use mathlib.Core.Bool.{false≢true}
+use mathlib.Core.Path.{_≡_, ap, ap₂, sym, _∙_, subst}
 use mathlib.Core.List.{List, [], _∷_, _++_}
-use Prim.Native.Nat.{ℕ, zero, suc, _+_, _-_, _≤_, _<_}
+use Prim.Native.Nat.{ℕ, suc, _+_, _-_, _≤_, _<_}
 use native.Mathlib.Omega.{arith}
 use native.Mathlib.Numerals.{add-one}
-use native.Mathlib.Nat.{le-of-suc-le-suc, not-suc-le-zero}
-use borrow.Author.Tests.{eq-eqb, eqb-true}
-use lib.Dec.{eqb}
 use lib.ListN.{length, getD, take, drop, length-drop}
 use lib.Seq.{take-suc, drop-cons, getD-drop}
-use Rattle.model.specs.Model.{mem}
 use Rattle.model.specs.Sound.{In}
-use Rattle.model.proofs.Walk.{or-cases, or-true}
+use Rattle.model.proofs.KindLists.{at-in}
 use Rattle.words.specs.Part.{between, length-between, getD-between}
-
-pub between-none : (a : ℕ) (l : List ℕ) → between a a l ≡ []
-between-none a l = let z : a - a ≡ 0 = omega arith in rw z
 
 -- a part with one place more, and one with one place less in front
 pub between-more : (a p : ℕ) (l : List ℕ) → a ≤ p → p < length l → between a (p + 1) l ≡ between a p l ++ (getD l p 0 ∷ [])
@@ -34,25 +26,8 @@ between-step p e l h k =
 
 -- ---- where a kind stands
 
-pub record Place (l : List ℕ) (k : ℕ) : Type 0 where
-  pub at : ℕ
-  pub below : at < length l
-  pub is : getD l at 0 ≡ k
-
-pub in-place : (l : List ℕ) (k : ℕ) → In l k → Place l k
-in-place [] k i = absurd (false≢true i)
-in-place (x ∷ l) k i =
-    or-cases (eqb k x) (mem k l) i
-    (λ t. record { at = 0; below = omega arith; is = sym (eqb-true k x t) })
-    (λ t. let r = in-place l k t in record { at = suc (r .at); below = omega (arith, r .below); is = r .is })
-
-pub place-in : (l : List ℕ) (i : ℕ) → i < length l → In l (getD l i 0)
-place-in [] i h = absurd (not-suc-le-zero h)
-place-in (x ∷ l) zero h = rw (eq-eqb x x refl)
-place-in (x ∷ l) (suc i) h = rw (place-in l i (le-of-suc-le-suc h)) (or-true (eqb (getD l i 0) x))
-
 pub between-in : (a e p : ℕ) (l : List ℕ) → a ≤ p → p < e → e ≤ length l → In (between a e l) (getD l p 0)
 between-in a e p l h k n =
     let q : a + (p - a) ≡ p = omega arith in
     subst (In (between a e l)) (getD-between a e (p - a) l 0 (omega arith) ∙ ap (λ (m : ℕ). getD l m 0) q)
-    (place-in (between a e l) (p - a) (omega (arith, length-between a e l n)))
+    (at-in (between a e l) (p - a) (omega (arith, length-between a e l n)))

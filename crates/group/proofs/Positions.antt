@@ -11,6 +11,7 @@ use lib.ListN.{length}
 use Rattle.model.specs.Model.{Family, meets, groupsOf}
 use Rattle.model.proofs.SparseSets.{cond-case}
 use Rattle.model.proofs.Walk.{bool-cases, or-cases, or-true}
+use Rattle.model.proofs.KindLists.{not-true}
 use Rattle.masks.specs.Masks.{upFrom, has}
 use Rattle.masks.proofs.Lists.{has-append, has-here, has-up, between-parts}
 use Rattle.group.specs.Flat.{familyPositions, deleteFamily, deleteFrom}
@@ -19,12 +20,8 @@ use Rattle.group.proofs.MaskWalk.{Ascending, has-from}
 
 -- ---- rising lists with the same members are the same
 
-pub none-has : (b : Bool) → (b ≡ true → ⊥) → b ≡ false
-none-has true f = absurd (f refl)
-none-has false f = refl
-
 past-it : (g : ℕ) (ps : List ℕ) → From (suc g) ps → has g ps ≡ false
-past-it g ps f = none-has (has g ps) (λ h. omega (arith, has-from (suc g) ps g f h))
+past-it g ps f = not-true (has g ps) (λ h. omega (arith, has-from (suc g) ps g f h))
 
 first-le : (g i : ℕ) (ps : List ℕ) → Ascending (g ∷ ps) → has i (g ∷ ps) ≡ true → g ≤ i
 first-le g i ps a h = has-from g (g ∷ ps) i (omega arith, from-le g (suc g) (omega arith) ps (a .0)) h

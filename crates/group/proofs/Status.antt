@@ -10,13 +10,14 @@ use Rattle.model.specs.Model.{Entity, SparseSet, setOf, at, held, allHeld}
 use Rattle.model.specs.Sound.{In}
 use Rattle.model.proofs.Walk.{bool-cases, in-right}
 use Rattle.words.specs.Part.{between}
+use Rattle.layout.proofs.Family.{between-none}
 use Rattle.group.specs.declared.GroupMetadata.{GroupMetadata}
 use Rattle.group.specs.declared.GroupStatus.the-variants.{Incomplete, Ungrouped, Grouped}
 use Rattle.group.specs.Flat.{statusAt}
 use Rattle.group.specs.Metadata.{orderOf, Listed, Stands}
 use Rattle.group.specs.Steps.{statusIn}
 use Rattle.group.proofs.FlatArrays.{between-split}
-use Rattle.group.proofs.Places.{between-none, between-step}
+use Rattle.group.proofs.Places.{between-step}
 
 -- ---- all of the kinds from p to end
 

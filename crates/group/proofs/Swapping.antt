@@ -11,9 +11,11 @@ use Rattle.model.specs.Model.{Entity, SparseSet, Storage, mem, setOf, held, swa
 use Rattle.model.specs.Sound.{In, Distinct}
 use Rattle.model.proofs.Walk.{in-left}
 use Rattle.words.specs.Part.{between}
+use Rattle.layout.proofs.Family.{between-none}
 use Rattle.memory.specs.Meaning.{meaning}
 use Rattle.memory.specs.Change.{onSet, onStorage}
 use Rattle.memory.specs.Arranged.{Arranged, Becomes}
+use Rattle.memory.proofs.Becomes.{stays, sets-wide}
 use Rattle.kinds.proofs.Slot.{known-small}
 use Rattle.group.specs.Ready.{Swappable}
 use Rattle.group.specs.Metadata.{orderOf, Listed}
@@ -21,8 +23,8 @@ use Rattle.group.specs.Steps.{swapKinds}
 use Rattle.group.proofs.KindPositions.{not-left}
 use Rattle.group.proofs.EachKind.{eachKind, each-append, setOf-each, each-kinds}
 use Rattle.group.proofs.FlatArrays.{between-split}
-use Rattle.group.proofs.Places.{between-none, between-more, between-in}
-use Rattle.group.proofs.Storing.{becomes-same, becomes-then, sets-wide}
+use Rattle.group.proofs.Places.{between-more, between-in}
+use Rattle.group.proofs.Storing.{becomes-then}
 use Rattle.group.proofs.InWords.{order-part-once}
 
 abbrev pub eachSwap : Entity → ℕ → List ℕ → Storage → Storage
@@ -49,7 +51,7 @@ module _ (w₀ : List ℕ) (A : Arranged w₀) (e : Entity) (start end c : ℕ) 
         high = L .rising;
         soFar =
             subst (λ (ks : List ℕ). Becomes w₀ w₀ (onStorage (eachSwap e c ks) (meaning w₀))) (sym (between-none start (orderOf (meaning w₀))))
-            (becomes-same w₀ A);
+            (stays A);
       }
 
   small : (p : ℕ) → start ≤ p → p ≤ end → (k : ℕ) → In (between start p (orderOf (meaning w₀))) k → k < length (meaning w₀ .storage .sets)

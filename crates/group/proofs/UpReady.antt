@@ -6,11 +6,10 @@ use Prim.Native.Nat.{ℕ, zero, suc, _+_, _-_, _≤_, _<_}
 use native.Mathlib.Omega.{arith}
 use borrow.Author.Tests.{lt-ltb, le-ltb}
 use lib.ListN.{length, length-map}
-use Rattle.model.specs.Lists.{count-place}
-use Rattle.model.specs.Model.{Entity, SparseSet, Group, Family, Component, Storage, Walked, sameEntity, meets, setOf, entityOf, at, held, onKinds, swapTo, allHeld, isGrouped, headKind, kindsOf, kindOf, insertAll, groupFamily, groupAll}
+use Rattle.model.specs.Model.{Entity, SparseSet, Group, Family, Component, Storage, Walked, meets, setOf, entityOf, held, onKinds, swapTo, allHeld, isGrouped, headKind, kindsOf, kindOf, insertAll, groupFamily, groupAll}
 use Rattle.model.proofs.SparseSets.{key}
 use Rattle.model.proofs.Groups.{cnt, In}
-use Rattle.model.proofs.Walk.{bool-cases, in-left, in-right, in-cases, all-in, held-count, GroupRight, Chain, But, Plus, Entered, groupComponents-good, chain-low, Up, groupFamily-good}
+use Rattle.model.proofs.Walk.{bool-cases, in-left, in-right, in-cases, all-in, held-count, GroupRight, Chain, But, Plus, Entered, groupComponents-good, chain-low, Up, groupFamily-good, count-held}
 use Rattle.model.proofs.Families.{Fams, Apart, allKinds, famKinds, chain-other, Put, put-all, chain-put, Kinds, not-both}
 use Rattle.model.proofs.Regroup.{FreshAll, FamsFor, None, UpEvery, groupFamily-every-good, fams-fresh}
 use Rattle.model.proofs.Invariant.{Fit}
@@ -56,10 +55,6 @@ ready-past e skip p zero ps s h = refl
 ready-past e skip p (suc n) ps s h = ready-pass e skip p (upFrom (suc p) n ++ ps) s (omega arith) ∙ ready-past e skip (suc p) n ps s (omega arith)
 
 -- ---- a family whose groups hold the same entities in their first places
-
-pub count-held : (e : Entity) (sets : List SparseSet) (k : ℕ) → 1 ≤ cnt e (key sets k) → held e (setOf sets k) ≡ true
-count-held e sets k h =
-    lt-ltb (at e (setOf sets k)) (length (setOf sets k)) (omega (arith, count-place sameEntity e (key sets k) h, length-map (setOf sets k) entityOf))
 
 module _ (W : Entity → Type 0) (e : Entity) where
   -- a group that the entity is brought into

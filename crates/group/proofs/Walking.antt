@@ -13,6 +13,7 @@ use Rattle.masks.proofs.Lists.{has-here, has-later, has-append, has-common, and
 use Rattle.memory.specs.Meaning.{meaning}
 use Rattle.memory.specs.Change.{onStorage}
 use Rattle.memory.specs.Arranged.{Arranged, Becomes}
+use Rattle.memory.proofs.Becomes.{stays}
 use Rattle.group.specs.declared.GroupStatus.{GroupStatus}
 use Rattle.group.specs.declared.GroupStatus.the-variants.{Incomplete, Ungrouped, Grouped}
 use Rattle.group.specs.Flat.{located, statusAt, groupAt, ungroupAt, stepUp, stepDown, walkUp, walkDown}
@@ -22,7 +23,7 @@ use Rattle.group.proofs.Counts.{groups-set}
 use Rattle.group.proofs.Downward.{down-on, down-ready-on}
 use Rattle.group.proofs.AllGroups.{highest-first}
 use Rattle.group.proofs.MaskWalk.{readies, walk-incomplete, ready-incomplete, walk-ungrouped, ready-ungrouped, walk-grouped, ready-grouped, walk-none, down-step, down-ready, down-none}
-use Rattle.group.proofs.Storing.{becomes-same, becomes-then}
+use Rattle.group.proofs.Storing.{becomes-then}
 
 -- ---- the invariant of the three loops: of the positions ps₀, those of ps are left
 
@@ -33,7 +34,7 @@ pub record Walking (walk : List ℕ → Storage → Storage) (Ready : List ℕ �
 
 module _ (walk : List ℕ → Storage → Storage) (Ready : List ℕ → Storage → Type 0) (w₀ ps₀ : List ℕ) where
   pub walking-start : Arranged w₀ → Ready ps₀ (meaning w₀ .storage) → Walking walk Ready w₀ ps₀ w₀ ps₀
-  walking-start A r = record { soFar = becomes-same w₀ A; still = refl; ready = r }
+  walking-start A r = record { soFar = stays A; still = refl; ready = r }
 
   module _ (w ps : List ℕ) (W : Walking walk Ready w₀ ps₀ w ps) where
     -- a turn changes the storage by f, and leaves ps′

@@ -16,15 +16,19 @@ pub record Swappable (e : Entity) (ks : List ℕ) (c : ℕ) (sets : List SparseS
   pub holds : (k : ℕ) → In ks k → held e (setOf sets k) ≡ true
   pub room : (k : ℕ) → In ks k → c < length (setOf sets k)
 
+-- A where the test holds, else B
 abbrev pub Either : Bool → Type 0 → Type 0 → Type 0
 Either true A B = A
 Either false A B = B
 
+-- what entering a group needs: an entity that is to enter can be swapped to the place equal to the count
 abbrev pub ReadyIn : GroupStatus → Entity → Located → List SparseSet → Type 0
 ReadyIn Incomplete e l sets = Unit {0}
 ReadyIn Ungrouped e l sets = Swappable e (l .kinds) (l .count) sets
 ReadyIn Grouped e l sets = Unit {0}
 
+-- what a walk upward over the groups at ps needs: each step that is not skipped, in the storage that the steps before it leave. Groups below skip
+-- are those of a family that was left at a missing kind.
 unfoldable pub ReadyUp : Entity → ℕ → List ℕ → Storage → Type 0
 ReadyUp e skip [] s = Unit {0}
 ReadyUp e skip (g ∷ ps) s =
@@ -32,11 +36,13 @@ ReadyUp e skip (g ∷ ps) s =
     (ReadyUp e skip ps s)
     (ReadyIn (statusAt e g s) e (located (s .layout) g) (s .sets) × ReadyUp e (skipAfter (statusAt e g s) (located (s .layout) g .top) skip) ps (stepUp (statusAt e g s) e g s))
 
+-- what leaving a group needs: an entity inside can be swapped to the last counted place
 abbrev pub ReadyOut : GroupStatus → Entity → Located → List SparseSet → Type 0
 ReadyOut Incomplete e l sets = Unit {0}
 ReadyOut Ungrouped e l sets = Unit {0}
 ReadyOut Grouped e l sets = (1 ≤ l .count) × Swappable e (l .kinds) (l .count - 1) sets
 
+-- what a walk downward over the groups at ps needs: each step, in the storage that the steps before it leave
 unfoldable pub ReadyDown : Entity → List ℕ → Storage → Type 0
 ReadyDown e [] s = Unit {0}
 ReadyDown e (g ∷ ps) s =

@@ -2,6 +2,9 @@
 use component::Found;
 use masks::group_mask::GroupMask;
 use masks::group_mask::NextBit;
+use words::LAYOUT_ARITIES;
+use words::LAYOUT_ENDS;
+use words::LAYOUT_KIND_ENDS;
 ghost use mathlib.Core.Path.{_≡_};
 ghost use mathlib.Core.Bool.{cond};
 ghost use mathlib.Core.List.{reverse};
@@ -22,13 +25,6 @@ ghost use Rattle.group.specs.Flat.{located, setCount, statusAt, groupAt,
 ghost use Rattle.group.specs.Ready.{Swappable, ReadyIn, ReadyOut, ReadyUp, ReadyDown};
 ghost use Rattle.group.specs.Metadata.{orderOf, Listed, Describes, Stands};
 ghost use Rattle.group.specs.Steps.{statusIn, swapKinds, Below, StepsUp};
-
-// The layout in force: the groups' sizes, and where each family's kinds and groups end.
-const ARITIES: usize = words::LAYOUT + 128;
-
-const KIND_ENDS: usize = words::LAYOUT + 192;
-
-const ENDS: usize = words::LAYOUT + 256;
 
 pub enum GroupStatus {
     Incomplete,
@@ -58,13 +54,13 @@ pub fn start_of(words: &[u32], ends: usize, f: usize) -> usize
     memory::word(words, ends + (f - 1))
 }
 
-// The size of the group before g in its family, 0 where g is the first.
+// The size of the group before g in its family, 0 where g is the first. Group g's stands at 576 + 128 + g (docs/WORDS.md).
 fn prior_arity(words: &[u32], first: usize, g: usize) -> usize
     requires { ⌜ ((g < 64) × (1024 ≤ length (now words))) ⌝ }
     ensures { λ r. ⌜ r ≡ cond (ltb first g) (getD (now (words .entry)) (703 + g) 0) 0 ⌝ }
 {
     if first < g {
-        return memory::word(words, ARITIES + (g - 1));
+        return memory::word(words, LAYOUT_ARITIES + (g - 1));
     }
     0
 }
@@ -75,10 +71,10 @@ pub fn metadata(words: &[u32], g: usize) -> GroupMetadata
     ensures { λ r. ⌜ Describes (meaning (now (words .entry))) g r ⌝ }
 {
     let f = memory::word(words, words::GROUP_FAMILIES + g);
-    let start = start_of(words, KIND_ENDS, f);
-    let first = start_of(words, ENDS, f);
-    let top = memory::word(words, ENDS + f);
-    let arity = memory::word(words, ARITIES + g);
+    let start = start_of(words, LAYOUT_KIND_ENDS, f);
+    let first = start_of(words, LAYOUT_ENDS, f);
+    let top = memory::word(words, LAYOUT_ENDS + f);
+    let arity = memory::word(words, LAYOUT_ARITIES + g);
     let prior = prior_arity(words, first, g);
     GroupMetadata {
         storage_start: start,

@@ -1,6 +1,6 @@
 -- The range of a query is the model's, by the cases of its two infos; and none where the kinds are scattered. Assumes nothing.
 use mathlib.Core.Path.{_≡_, refl, sym, ap, _∙_, subst}
-use mathlib.Core.Bool.{Bool, true, false, _&&_, true≢false}
+use mathlib.Core.Bool.{true, false, true≢false, and-false}
 use mathlib.Core.List.{List, [], _∷_, _++_}
 use Prim.Native.Nat.{ℕ, _+_, _-_, _≤_}
 use native.Mathlib.Omega.{arith}
@@ -21,16 +21,12 @@ use Rattle.group_info.proofs.Ranges.{none-staged, none-excluded, none-e
 
 -- ---- where RANGE goes by the groups
 
-and-none : (b : Bool) → (b && false) ≡ false
-and-none true = refl
-and-none false = refl
-
 by-groups : (hs bs : List ℕ) (s : Storage) → single hs bs ≡ false → range hs bs s ≡ rangeAll hs bs (s .layout)
 unfolding range
 by-groups hs bs s e = rw e
 
 barred : (hs : List ℕ) (b : ℕ) (bs : List ℕ) (s : Storage) → range hs (b ∷ bs) s ≡ rangeAll hs (b ∷ bs) (s .layout)
-barred hs b bs s = by-groups hs (b ∷ bs) s (rw (ne-eqb (length (b ∷ bs)) 0 (omega arith)) (and-none (eqb (length hs) 1)))
+barred hs b bs s = by-groups hs (b ∷ bs) s (rw (ne-eqb (length (b ∷ bs)) 0 (omega arith)) (and-false (eqb (length hs) 1)))
 
 several : (hs bs : List ℕ) (s : Storage) → 2 ≤ length hs → range hs bs s ≡ rangeAll hs bs (s .layout)
 several hs bs s h = by-groups hs bs s (rw (ne-eqb (length hs) 1 (omega arith)))

@@ -1,7 +1,7 @@
 -- What the infos describe: of one kind, of two together, of a query with one kind more; and that their groups stand in the arrays. Assumes nothing.
 use mathlib.Core.Path.{_≡_, refl, sym, ap, ap₂, _∙_, subst}
 use mathlib.Core.Logic.{_≢_}
-use mathlib.Core.Bool.{Bool, true, false, _&&_, _||_, true≢false}
+use mathlib.Core.Bool.{Bool, true, false, _&&_, _||_, true≢false, or-false}
 use mathlib.Core.List.{List, [], _∷_, _++_}
 use Prim.Native.Nat.{ℕ, _+_, _-_, _≤_, _<_}
 use native.Mathlib.Nat.{sub-zero}
@@ -11,14 +11,14 @@ use borrow.Author.Tests.{eq-eqb, ne-eqb, eqb-true, lt-ltb, le-ltb}
 use lib.Dec.{eqb, ltb}
 use lib.ListN.{length, getD, take, length-append}
 use Rattle.model.specs.Model.{Storage, mem, within}
-use Rattle.model.proofs.Walk.{bool-cases, mem-append, or-cases, or-true}
+use Rattle.model.proofs.Walk.{mem-append, or-cases, or-true, all-in}
+use Rattle.model.proofs.KindLists.{not-true}
 use Rattle.words.specs.Table.{by-eq}
 use Rattle.masks.specs.Masks.{has, bitsOf}
 use Rattle.masks.proofs.Lists.{has-union}
 use Rattle.layout.specs.Layout.{Arrays, Sized, startOf, kindsAt, aritiesAt, KindSet, WellFormed}
-use Rattle.layout.proofs.KindSets.{all-mem}
 use Rattle.layout.proofs.Family.{rising-at, rising-less}
-use Rattle.layout.proofs.Arrays.{groups-inside, family-kinds, family-rising, kinds-length, arities-length}
+use Rattle.layout.proofs.Arrays.{groups-inside, family-kinds, family-rising, arities-length}
 use Rattle.group_info.specs.Info.{placesOf, infoOf, KindInfo, Joined, Both, BothAdded, ViewAdded, Inside, InsideFound}
 use Rattle.group_info.specs.Describes.{Placed, InFamily, GroupedKinds, Ungrouped, InfoOfKind, ViewOf, Describes, Scattered}
 use Rattle.group_info.specs.declared.GroupInfo.{GroupInfo}
@@ -31,26 +31,16 @@ use Rattle.group_info.specs.declared.FoundQuery.{FoundQuery}
 use Rattle.group_info.specs.declared.FoundQuery.the-variants as added
 use Rattle.group_info.proofs.Places.{placeOf, place-at, part-mem, mem-part}
 use Rattle.group_info.proofs.Families.{elsewhere, mem-take-le}
-use Rattle.group_info.proofs.Ranges.{same-family, arity-at, in-kinds}
-
-not-true : (b : Bool) → (b ≡ true → ⊥) → b ≡ false
-not-true b f = bool-cases b (λ t. absurd (f t)) (λ t. t)
-
-or-none : (b : Bool) → (b || false) ≡ b
-or-none true = refl
-or-none false = refl
+use Rattle.group_info.proofs.Ranges.{same-family, arity-at, in-kinds, few-kinds}
 
 single-mem : (x k : ℕ) → mem x (k ∷ []) ≡ true → x ≡ k
-single-mem x k m = eqb-true x k (sym (or-none (eqb x k)) ∙ m)
+single-mem x k m = eqb-true x k (sym (or-false (eqb x k)) ∙ m)
 
 one-bit : (q p : ℕ) → has q (p ∷ []) ≡ eqb q p
 unfolding has
-one-bit q p = or-none (eqb q p)
+one-bit q p = or-false (eqb q p)
 
 module _ (a : Arrays) (good : WellFormed a) (sized : Sized a) where
-  few : (f : ℕ) → f < a .families → length (kindsAt a f) ≤ 15
-  few f h = omega (arith, kinds-length a good sized f h, good .family f h .most)
-
   -- ---- one kind
 
   pub of-kind : (k f own place : ℕ) (r : GroupInfo) → Placed a k f own place → KindInfo (startOf (a .ends) f) (startOf (a .ends) f + own) place r → InFamily a f (k ∷ []) r
@@ -163,7 +153,7 @@ module _ (a : Arrays) (good : WellFormed a) (sized : Sized a) where
   -- ---- a query with one kind more
 
   outside : (hs js : List ℕ) (f k : ℕ) → mem k (hs ++ js) ≡ true → mem k (kindsAt a f) ≡ false → within (hs ++ js) (kindsAt a f) ≡ false
-  outside hs js f k m n = not-true (within (hs ++ js) (kindsAt a f)) (λ t. true≢false (sym (all-mem (λ z. mem z (kindsAt a f)) (hs ++ js) k t m) ∙ n))
+  outside hs js f k m n = not-true (within (hs ++ js) (kindsAt a f)) (λ t. true≢false (sym (all-in (λ z. mem z (kindsAt a f)) (hs ++ js) t k m) ∙ n))
 
   -- what a query's info says of its kinds, where it has one kind or more
   abbrev Holds : List ℕ → FoundInfo → Type 0
@@ -232,7 +222,7 @@ module _ (a : Arrays) (good : WellFormed a) (sized : Sized a) where
         record {
           low = omega (arith, x .first, x .last);
           high = omega (arith, x .last, x .group, good .many, good .family f (x .inside) .some);
-          small = λ g l h. omega (arith, at g l h, rising-at 0 (length (kindsAt a f)) (aritiesAt a f) (g - startOf (a .ends) f) (family-rising a good sized f (x .inside)) (local g l h), few f (x .inside));
+          small = λ g l h. omega (arith, at g l h, rising-at 0 (length (kindsAt a f)) (aritiesAt a f) (g - startOf (a .ends) f) (family-rising a good sized f (x .inside)) (local g l h), few-kinds a good sized f (x .inside));
           rising = λ g l h. omega (
             arith,
             at g (omega arith) h,

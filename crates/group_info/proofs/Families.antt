@@ -12,26 +12,23 @@ use lib.ListN.{length, getD, take, drop, drop-of-length-le}
 use lib.Seq.{drop-cons}
 use Rattle.model.specs.Lists.{count, count-append}
 use Rattle.model.specs.Model.{Family, Range, none, found, mem, within, sameSet, kindsOf, orElse, rangeAt, rangeIn, rangeAll}
-use Rattle.model.proofs.Walk.{bool-cases, mem-append, in-left}
+use Rattle.model.proofs.Walk.{mem-append, in-left, all-in}
+use Rattle.model.proofs.KindLists.{not-true, in-count}
 use Rattle.words.specs.Part.{between}
 use Rattle.layout.specs.Layout.{Arrays, startOf, widthOf, kindsAt, groupsFrom, KindSet, Rising, WellFormed}
-use Rattle.layout.proofs.KindSets.{mem-count, all-mem}
-use Rattle.layout.proofs.Family.{between-join, rising-le}
+use Rattle.layout.proofs.Family.{between-join, rising-le, rising-head}
 use Rattle.layout.proofs.Arrays.{kind-order, kinds-inside, ends-rise}
 use Rattle.masks.proofs.Lists.{and-parts}
 use Rattle.group_info.proofs.Places.{part-mem, place-at, mem-part}
 
 -- ---- sets
 
-not-true : (b : Bool) → (b ≡ true → ⊥) → b ≡ false
-not-true b f = bool-cases b (λ t. absurd (f t)) (λ t. t)
-
 -- a kind in one and not in the other
 pub differ-left : (hs js : List ℕ) (k : ℕ) → mem k hs ≡ true → mem k js ≡ false → sameSet hs js ≡ false
-differ-left hs js k h j = not-true (sameSet hs js) (λ t. true≢false (sym (all-mem (λ x. mem x js) hs k (and-parts (within hs js) (within js hs) t .0) h) ∙ j))
+differ-left hs js k h j = not-true (sameSet hs js) (λ t. true≢false (sym (all-in (λ x. mem x js) hs (and-parts (within hs js) (within js hs) t .0) k h) ∙ j))
 
 pub differ-right : (hs js : List ℕ) (k : ℕ) → mem k js ≡ true → mem k hs ≡ false → sameSet hs js ≡ false
-differ-right hs js k j h = not-true (sameSet hs js) (λ t. true≢false (sym (all-mem (λ x. mem x hs) js k (and-parts (within hs js) (within js hs) t .1) j) ∙ h))
+differ-right hs js k j h = not-true (sameSet hs js) (λ t. true≢false (sym (all-in (λ x. mem x hs) js (and-parts (within hs js) (within js hs) t .1) k j) ∙ h))
 
 or-parts : (a b : Bool) → (a || b) ≡ false → (a ≡ false) × (b ≡ false)
 or-parts true b e = absurd (true≢false e)
@@ -107,8 +104,8 @@ pub elsewhere : (a : Arrays) → WellFormed a → (k f i : ℕ) → f < a .famil
 elsewhere a good k f i hf hi ne m =
     not-true (mem k (kindsAt a i))
     (λ t. elim (decLt i f) [
-      | yes l ↦ omega (arith, apart a good k i f l hf, mem-count k (kindsAt a f) m, mem-count k (kindsAt a i) t)
-      | no l ↦ omega (arith, apart a good k f i (omega arith) hi, mem-count k (kindsAt a f) m, mem-count k (kindsAt a i) t)
+      | yes l ↦ omega (arith, apart a good k i f l hf, in-count (kindsAt a f) k m, in-count (kindsAt a i) k t)
+      | no l ↦ omega (arith, apart a good k f i (omega arith) hi, in-count (kindsAt a f) k m, in-count (kindsAt a i) k t)
     ])
 
 -- ---- one family's groups
@@ -121,10 +118,6 @@ startFrom b ars (suc j) = getD ars j 0
 pub start-zero : (ars : List ℕ) (j : ℕ) → startFrom 0 ars j ≡ startOf ars j
 start-zero ars zero = refl
 start-zero ars (suc j) = refl
-
-rising-parts : (b n a : ℕ) (ars : List ℕ) → Rising b n (a ∷ ars) → (b < a) × Rising a n ars
-unfolding Rising
-rising-parts b n a ars r = r
 
 -- the first place past those before b is none of theirs
 pub next-kind : (ks : List ℕ) → KindSet ks → (b a : ℕ) → b < a → a ≤ length ks → (mem (getD ks b 0) (take a ks) ≡ true) × (mem (getD ks b 0) (take b ks) ≡ false)
@@ -156,7 +149,7 @@ module _ (hs bs counts ks : List ℕ) (s : KindSet ks) where
   past : (g b : ℕ) (ars : List ℕ) → Rising b (length ks) ars → ((k : ℕ) → mem k hs ≡ true → mem k (take b ks) ≡ true) → rangeIn hs bs (take b ks) (groupsFrom counts g ks b ars) ≡ none
   past g b [] r h = no-groups g b
   past g b (a ∷ ars) r h =
-      let p = rising-parts b (length ks) a ars r in
+      let p = rising-head b (length ks) a ars r in
       let x = next-kind ks s b a (p .0) (rising-le a (length ks) ars (p .1)) in
       let out : mem (getD ks b 0) hs ≡ false = not-true (mem (getD ks b 0) hs) (λ t. true≢false (sym (h (getD ks b 0) t) ∙ x .1)) in
       in-step g b a ars (omega (arith, p .0))
@@ -169,11 +162,11 @@ module _ (hs bs counts ks : List ℕ) (s : KindSet ks) where
       ≡ cond (sameSet hs (take (getD ars j 0) ks)) (rangeAt bs (getD counts (g + j) 0) (groupsFrom counts (suc (g + j)) ks (getD ars j 0) (drop (suc j) ars))) none
   at-group g b [] j top r h below m n = absurd (omega arith)
   at-group g b (a ∷ ars) zero top r h below m n =
-      let p = rising-parts b (length ks) a ars r in
+      let p = rising-head b (length ks) a ars r in
       in-step g b a ars (omega (arith, p .0))
       ∙ ap₂ (λ (x : Range) (i : ℕ). cond (sameSet hs (take a ks)) (rangeAt bs (getD counts i 0) (groupsFrom counts (suc i) ks a ars)) x) (past (suc g) a ars (p .1) below) (sym (add-zero g))
   at-group g b (a ∷ ars) (suc j) top r h below m n =
-      let p = rising-parts b (length ks) a ars r in
+      let p = rising-head b (length ks) a ars r in
       let out : mem top (take a ks) ≡ false = not-in-take top ks a (getD (a ∷ ars) j 0) (first a ars j (p .1) (omega arith)) n in
       in-step g b a ars (omega (arith, p .0))
       ∙ rw (differ-left hs (take a ks) top m out)
@@ -182,7 +175,7 @@ module _ (hs bs counts ks : List ℕ) (s : KindSet ks) where
       first : (a : ℕ) (ars : List ℕ) (j : ℕ) → Rising a (length ks) ars → j < suc (length ars) → a ≤ getD (a ∷ ars) j 0
       first a ars zero r h = omega arith
       first a [] (suc j) r h = absurd (omega arith)
-      first a (c ∷ ars) (suc j) r h = let q = rising-parts a (length ks) c ars r in omega (arith, q .0, first c ars j (q .1) (omega arith))
+      first a (c ∷ ars) (suc j) r h = let q = rising-head a (length ks) c ars r in omega (arith, q .0, first c ars j (q .1) (omega arith))
 
       shift : (j : ℕ) → mem top (take (getD (a ∷ ars) j 0) ks) ≡ false → mem top (take (startFrom a ars j) ks) ≡ false
       shift zero n = n

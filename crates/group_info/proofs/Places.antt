@@ -10,34 +10,26 @@ use lib.Dec.{eqb, ltb}
 use lib.ListN.{length, getD}
 use Rattle.model.specs.Lists.{one, count, place, count-place, getD-place}
 use Rattle.model.specs.Model.{mem, within, sameSet}
-use Rattle.model.proofs.Walk.{bool-cases}
+use Rattle.model.proofs.Walk.{bool-cases, all-in}
+use Rattle.model.proofs.KindLists.{in-count, all-true, at-count, at-in}
 use Rattle.words.specs.Part.{between, getD-between, length-between}
 use Rattle.masks.specs.Masks
 use Rattle.masks.proofs.Lists.{between-in, between-low, between-high, between-parts, has-up, keep-between, and-parts}
 use Rattle.masks.proofs.Bits.{bits-members}
 use Rattle.layout.specs.Layout.{KindSet}
-use Rattle.layout.proofs.KindSets.{mem-count, count-mem, mem-all, all-mem}
 
 -- ---- members by place
-
-pub at-count : (l : List ℕ) (i : ℕ) → i < length l → 1 ≤ count eqb (getD l i 0) l
-at-count [] i h = absurd (omega arith)
-at-count (x ∷ l) zero h = omega (arith, ap one (eq-eqb x x refl))
-at-count (x ∷ l) (suc i) h = omega (arith, at-count l i (omega arith))
-
-pub at-mem : (l : List ℕ) (i : ℕ) → i < length l → mem (getD l i 0) l ≡ true
-at-mem l i h = count-mem (getD l i 0) l (at-count l i h)
 
 pub placeOf : ℕ → List ℕ → ℕ
 placeOf k l = place eqb k l
 
 pub place-inside : (k : ℕ) (l : List ℕ) → mem k l ≡ true → placeOf k l < length l
 unfolding placeOf
-place-inside k l m = count-place eqb k l (mem-count k l m)
+place-inside k l m = count-place eqb k l (in-count l k m)
 
 pub at-place : (k : ℕ) (l : List ℕ) → mem k l ≡ true → getD l (placeOf k l) 0 ≡ k
 unfolding placeOf
-at-place k l m = getD-place eqb eqb-true k 0 l (count-place eqb k l (mem-count k l m))
+at-place k l m = getD-place eqb eqb-true k 0 l (count-place eqb k l (in-count l k m))
 
 -- the list has each once
 once-place : (l : List ℕ) → ((k : ℕ) → count eqb k l ≤ 1) → (i : ℕ) → i < length l → place eqb (getD l i 0) l ≡ i
@@ -57,7 +49,7 @@ module _ (ks : List ℕ) (s : KindSet ks) (lo hi : ℕ) (ord : lo ≤ hi) (top :
   part-mem p l h =
       let e : lo + (p - lo) ≡ p = omega arith in
       let g : getD (between lo hi ks) (p - lo) 0 ≡ getD ks p 0 = getD-between lo hi (p - lo) ks 0 (omega arith) ∙ ap (λ (i : ℕ). getD ks i 0) e in
-      ap (λ (k : ℕ). mem k (between lo hi ks)) (sym g) ∙ at-mem (between lo hi ks) (p - lo) (omega (arith, length-between lo hi ks top))
+      ap (λ (k : ℕ). mem k (between lo hi ks)) (sym g) ∙ at-in (between lo hi ks) (p - lo) (omega (arith, length-between lo hi ks top))
 
   -- a member of the part is at one of its places
   pub record InPart (k : ℕ) : Type 0 where
@@ -88,7 +80,7 @@ module _ (ks : List ℕ) (s : KindSet ks) (lo hi : ℕ) (ord : lo ≤ hi) (top :
         outside : (p : ℕ) → p < length ks → (lo ≤ p → p < hi → ⊥) → mem (getD ks p 0) hs ≡ false
         outside p h n =
             bool-cases (mem (getD ks p 0) hs)
-            (λ t. let x = mem-part (getD ks p 0) (all-mem (λ k. mem k (between lo hi ks)) hs (getD ks p 0) left t) in let q = place-at ks s p h in absurd (n (omega (arith, x .low)) (omega (arith, x .high))))
+            (λ t. let x = mem-part (getD ks p 0) (all-in (λ k. mem k (between lo hi ks)) hs left (getD ks p 0) t) in let q = place-at ks s p h in absurd (n (omega (arith, x .low)) (omega (arith, x .high))))
             (λ t. t)
 
         rest : (p : ℕ) → (lo ≤ p → p < hi → ⊥) → (ltb p (length ks) && mem (getD ks p 0) hs) ≡ false
@@ -102,14 +94,14 @@ module _ (ks : List ℕ) (s : KindSet ks) (lo hi : ℕ) (ord : lo ≤ hi) (top :
         claim p =
             elim (decLe lo p) [
               | yes l ↦ elim (decLt p hi) [
-                | yes h ↦ rw (lt-ltb p (length ks) (omega arith)) (all-mem (λ k. mem k hs) (between lo hi ks) (getD ks p 0) right (part-mem p l h) ∙ sym (between-in lo hi p l h))
+                | yes h ↦ rw (lt-ltb p (length ks) (omega arith)) (all-in (λ k. mem k hs) (between lo hi ks) right (getD ks p 0) (part-mem p l h) ∙ sym (between-in lo hi p l h))
                 | no h ↦ rest p (λ a b. h b) ∙ sym (between-high lo hi p (omega arith))
               ]
               | no l ↦ rest p (λ a b. l a) ∙ sym (between-low lo hi p (omega arith))
             ]
 
     pub part-of-places : Masks.bitsOf 16 m ≡ Masks.upFrom lo (hi - lo) → sameSet hs (between lo hi ks) ≡ true
-    part-of-places e = rw (mem-all (λ k. mem k (between lo hi ks)) hs to, mem-all (λ k. mem k hs) (between lo hi ks) from)
+    part-of-places e = rw (all-true (λ k. mem k (between lo hi ks)) hs to, all-true (λ k. mem k hs) (between lo hi ks) from)
       where
         run : (p : ℕ) → Masks.has p (Masks.bitsOf 16 m) ≡ Masks.between lo hi p
         run p = ap (Masks.has p) e ∙ has-up p lo (hi - lo) ∙ ap (λ (x : ℕ). Masks.between lo x p) (ends ord)

@@ -1,7 +1,7 @@
 -- What a query's infos say of a range is what the model's RANGE says of the kinds. Assumes nothing.
 use mathlib.Core.Path.{_≡_, refl, sym, ap, ap₂, _∙_, subst}
 use mathlib.Core.Logic.{_≢_}
-use mathlib.Core.Bool.{Bool, true, false, cond, true≢false}
+use mathlib.Core.Bool.{true, false, cond, true≢false}
 use mathlib.Core.List.{List, [], _∷_}
 use Prim.Native.Nat.{ℕ, zero, suc, _+_, _-_, _≤_, _<_, max}
 use native.Mathlib.Nat.{sub-zero}
@@ -9,13 +9,13 @@ use native.Mathlib.Decide.{decLt}
 use native.Mathlib.Omega.{arith}
 use lib.ListN.{length, getD, take, drop, take-append-drop}
 use Rattle.model.specs.Model.{Family, none, found, mem, within, sameSet, kindsOf, rangeAt, rangeIn, rangeAll}
-use Rattle.model.proofs.Walk.{bool-cases, in-left}
+use Rattle.model.proofs.Walk.{bool-cases, in-left, all-in}
+use Rattle.model.proofs.KindLists.{not-true}
 use Rattle.words.specs.Part.{between, getD-between}
 use Rattle.words.specs.Table.{by-eq}
 use Rattle.masks.specs.Masks.{upFrom}
 use Rattle.masks.proofs.Lists.{and-parts}
 use Rattle.layout.specs.Layout.{Arrays, Sized, startOf, kindsAt, aritiesAt, groupsFrom, familiesOf, KindSet, Rising, WellFormed}
-use Rattle.layout.proofs.KindSets.{all-mem}
 use Rattle.layout.proofs.Family.{rising-at, rising-above, rising-less}
 use Rattle.layout.proofs.Arrays.{group-order, ends-rise, families-length, families-at, family-kindsOf, family-kinds, family-rising, kinds-length, arities-length}
 use Rattle.group_info.specs.Info.{placesOf, IncludeSays, topOf, Ring, RingRange, ExcludeSays}
@@ -25,9 +25,6 @@ use Rattle.group_info.specs.declared.GroupRange.{GroupRange}
 use Rattle.group_info.specs.declared.GroupRange.the-variants as ranged
 use Rattle.group_info.proofs.Places.{placeOf, part-mem, mem-part, places-of-part, part-of-places}
 use Rattle.group_info.proofs.Families.{lacks-staged, lacks-excluded, all-none, only-one, elsewhere, start-zero, next-kind, mem-take-le, not-in-take, at-group, empty-none, next-ring, no-next}
-
-not-true : (b : Bool) → (b ≡ true → ⊥) → b ≡ false
-not-true b f = bool-cases b (λ t. absurd (f t)) (λ t. t)
 
 pub mem-take : (k n : ℕ) (l : List ℕ) → mem k (take n l) ≡ true → mem k l ≡ true
 mem-take k n l m = ap (mem k) (sym (take-append-drop n l)) ∙ in-left (take n l) (drop n l) k m
@@ -59,9 +56,9 @@ module _ (ks ars : List ℕ) (s : KindSet ks) (r : Rising 0 (length ks) ars) whe
         elim (decLt own j) [
           | yes l ↦
               let x = next-kind ks s (startOf ars j) (getD ars j 0) (start-below j h) (rising-at 0 (length ks) ars j r h) in
-              absurd (true≢false (sym (not-before j l h (getD ks (startOf ars j) 0) (all-mem (λ k. mem k hs) (take (getD ars j 0) ks) (getD ks (startOf ars j) 0) (parts .1) (x .0))) ∙ x .1))
+              absurd (true≢false (sym (not-before j l h (getD ks (startOf ars j) 0) (all-in (λ k. mem k hs) (take (getD ars j 0) ks) (parts .1) (getD ks (startOf ars j) 0) (x .0))) ∙ x .1))
           | no l ↦ elim (decLt j own) [
-            | yes q ↦ absurd (true≢false (sym (all-mem (λ k. mem k (take (getD ars j 0) ks)) hs top (parts .0) topIn) ∙ not-after j q))
+            | yes q ↦ absurd (true≢false (sym (all-in (λ k. mem k (take (getD ars j 0) ks)) hs (parts .0) top topIn) ∙ not-after j q))
             | no q ↦ omega arith
           ]
         ]
@@ -78,10 +75,10 @@ module _ (ks ars : List ℕ) (s : KindSet ks) (r : Rising 0 (length ks) ars) whe
           | yes l ↦
               let x = next-kind ks s lo hi (start-below j h) in-ks in
               let m = part-mem ks s lo hi ord in-ks lo (omega arith) (start-below j h) in
-              absurd (true≢false (sym (not-before j l h (getD ks lo 0) (all-mem (λ k. mem k hs) (between lo hi ks) (getD ks lo 0) (parts .1) m)) ∙ x .1))
+              absurd (true≢false (sym (not-before j l h (getD ks lo 0) (all-in (λ k. mem k hs) (between lo hi ks) (parts .1) (getD ks lo 0) m)) ∙ x .1))
           | no l ↦ elim (decLt j own) [
             | yes q ↦
-                let y = mem-part ks s lo hi ord in-ks top (all-mem (λ k. mem k (between lo hi ks)) hs top (parts .0) topIn) in
+                let y = mem-part ks s lo hi ord in-ks top (all-in (λ k. mem k (between lo hi ks)) hs (parts .0) top topIn) in
                 let whole : mem top (between 0 hi ks) ≡ true = ap (λ (k : ℕ). mem k (between 0 hi ks)) (sym (y .there)) ∙ part-mem ks s 0 hi (omega arith) in-ks (placeOf top ks) (omega arith) (y .high) in
                 absurd (true≢false (sym (ap (λ (n : ℕ). mem top (take n ks)) (sym (sub-zero hi)) ∙ whole) ∙ not-after j q))
             | no q ↦ omega arith
@@ -91,7 +88,7 @@ module _ (ks ars : List ℕ) (s : KindSet ks) (r : Rising 0 (length ks) ars) whe
 -- ---- over the arrays
 
 module _ (a : Arrays) (good : WellFormed a) (sized : Sized a) where
-  few-kinds : (f : ℕ) → f < a .families → length (kindsAt a f) ≤ 15
+  pub few-kinds : (f : ℕ) → f < a .families → length (kindsAt a f) ≤ 15
   few-kinds f h = omega (arith, kinds-length a good sized f h, good .family f h .most)
 
   -- two families that start at one group are one
@@ -253,7 +250,7 @@ module _ (a : Arrays) (good : WellFormed a) (sized : Sized a) where
               let m = suc (x .own) in
               let sets = family-kinds a good f (x .inside) in
               let topAt = mem-part ks sets (startOf ars m) (getD ars m 0) (start-inside f hs i x m inM) (arity-inside f hs i x m inM) (y .top)
-              (all-mem (λ k. mem k (between (startOf ars m) (getD ars m 0) ks)) (b ∷ bs) (y .top) (and-parts (within (b ∷ bs) (between (startOf ars m) (getD ars m 0) ks)) (within (between (startOf ars m) (getD ars m 0) ks) (b ∷ bs)) t .0) (y .topIn)) in
+              (all-in (λ k. mem k (between (startOf ars m) (getD ars m 0) ks)) (b ∷ bs) (and-parts (within (b ∷ bs) (between (startOf ars m) (getD ars m 0) ks)) (within (between (startOf ars m) (getD ars m 0) ks) (b ∷ bs)) t .0) (y .top) (y .topIn)) in
               let topHere : mem (y .top) ks ≡ true =
               ap (λ (k : ℕ). mem k ks) (sym (topAt .there)) ∙ mem-take (getD ks (placeOf (y .top) ks) 0) (getD ars m 0) ks (ap (λ (u : ℕ). mem (getD ks (placeOf (y .top) ks) 0) (take u ks)) (sym (sub-zero (getD ars m 0))) ∙ part-mem ks sets 0 (getD ars m 0) (omega arith) (arity-inside f hs i x m inM) (placeOf (y .top) ks) (omega arith) (topAt .high)) in
               let same : h ≡ f = family topHere in

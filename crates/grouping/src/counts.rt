@@ -39,13 +39,13 @@ fn even_ok(words: &[u32], n: usize, h: usize, c: usize, j: usize) -> bool
     ensures { λ r. ⌜ Decides r (EvenOk n (now (words .entry)) h c j) ⌝ }
 {
     let kind = words[j] as usize;
-    let s = words[32 + kind] as usize;
+    let s = words[words::TABLE + kind] as usize;
     let len = columns::len_in(words, n, s);
     if len < c {
         return false;
     }
-    let a = words::column_start(n, s) + 8;
-    let b = words::column_start(n, h) + 8;
+    let a = words::column_start(n, s) + words::ROWS;
+    let b = words::column_start(n, h) + words::ROWS;
     if !same_rows(words, a, b, c) {
         return false;
     }
@@ -74,7 +74,7 @@ fn holds(words: &[u32], n: usize, index: u32, version: u32, j: usize) -> bool
     ensures { λ r. ⌜ r ≡ held (entity index version) (rowsAt n (now (words .entry)) j) ⌝ }
 {
     let kind = words[j] as usize;
-    let s = words[32 + kind] as usize;
+    let s = words[words::TABLE + kind] as usize;
     let found = columns::find_in(words, n, s, index, version);
     let Found::At(_) = found else {
         return false;
@@ -103,7 +103,7 @@ fn lacks(words: &[u32], n: usize, h: usize, from: usize, to: usize, i: usize) ->
     requires { ⌜ KindsAt n (now words) from to ⌝ }
     ensures { λ r. ⌜ Decides r (Holds n (now (words .entry)) from to (keyAt n (now (words .entry)) h i) → ⊥) ⌝ }
 {
-    let at = words::column_start(n, h) + 8 + 2 * i;
+    let at = words::column_start(n, h) + words::ROWS + 2 * i;
     let index = words[at];
     let version = words[at + 1];
     if holds_all(words, n, index, version, from, to) {
@@ -156,10 +156,18 @@ fn group_counted(words: &[u32], n: usize, families: usize, g: usize, f: usize) -
     let p = span_of(words, g, f);
     let first = p.first;
     let kind = words[first] as usize;
-    let h = words[32 + kind] as usize;
+    let h = words[words::TABLE + kind] as usize;
     let whole = columns::len_in(words, n, h);
-    let b = prior_in(words, 960, p.start, g, whole);
-    count_ok(words, n, h, p.from, p.to, b, words[960 + g] as usize)
+    let b = prior_in(words, words::GROUP_COUNTS, p.start, g, whole);
+    count_ok(
+        words,
+        n,
+        h,
+        p.from,
+        p.to,
+        b,
+        words[words::GROUP_COUNTS + g] as usize,
+    )
 }
 
 // Are all groups' counts right?
@@ -170,7 +178,13 @@ pub fn are_counts(words: &[u32], n: usize, families: usize, groups: usize) -> bo
 {
     let mut g = 0;
     while g < groups {
-        if !group_counted(words, n, families, g, words[896 + g] as usize) {
+        if !group_counted(
+            words,
+            n,
+            families,
+            g,
+            words[words::GROUP_FAMILIES + g] as usize,
+        ) {
             return false;
         }
         g += 1;

@@ -20,7 +20,7 @@ pub fn start_in(words: &[u32], at: usize, f: usize) -> usize
     words[at + before] as usize
 }
 
-// The number of the group before g in its family, which starts at group `start`.
+// What an array has for the group before g in its family, which starts at group `start`: an arity, or a count.
 pub fn prior_in(words: &[u32], at: usize, start: usize, g: usize, whole: usize) -> usize
     requires { ⌜ (at + g ≤ length (now words)) × (whole < 4294967296) ⌝ }
     ensures { λ r. ⌜ ReadPrior (now (words .entry)) at start g whole r ⌝ }
@@ -39,11 +39,11 @@ fn head_ok(words: &[u32], n: usize, g: usize, first: usize, j: usize) -> bool
     ensures { λ r. ⌜ Decides r (HeadOk n (now (words .entry)) g first j) ⌝ }
 {
     let kind = words[j] as usize;
-    let s = words[32 + kind] as usize;
-    if head(words, n, s, 2) != g + 1 {
+    let s = words[words::TABLE + kind] as usize;
+    if head(words, n, s, words::OWN_GROUP) != g + 1 {
         return false;
     }
-    if head(words, n, s, 3) != j - first {
+    if head(words, n, s, words::PLACE_IN_FAMILY) != j - first {
         return false;
     }
     true
@@ -77,10 +77,10 @@ pub fn span_of(words: &[u32], g: usize, f: usize) -> Span
     requires { ⌜ (1024 ≤ length (now words)) × (g < 64) × (f < 64) ⌝ }
     ensures { λ r. ⌜ ReadSpan (now (words .entry)) f g r ⌝ }
 {
-    let start = start_in(words, 832, f);
-    let first = 576 + start_in(words, 768, f);
-    let from = first + prior_in(words, 704, start, g, 0);
-    let to = first + words[704 + g] as usize;
+    let start = start_in(words, words::LAYOUT_ENDS, f);
+    let first = words::LAYOUT + start_in(words, words::LAYOUT_KIND_ENDS, f);
+    let from = first + prior_in(words, words::LAYOUT_ARITIES, start, g, 0);
+    let to = first + words[words::LAYOUT_ARITIES + g] as usize;
     Span {
         start,
         first,
@@ -107,11 +107,11 @@ fn family_ok(words: &[u32], families: usize, g: usize, f: usize) -> bool
     if families <= f {
         return false;
     }
-    let start = start_in(words, 832, f);
+    let start = start_in(words, words::LAYOUT_ENDS, f);
     if g < start {
         return false;
     }
-    let end = words[832 + f] as usize;
+    let end = words[words::LAYOUT_ENDS + f] as usize;
     if end <= g {
         return false;
     }
@@ -123,7 +123,7 @@ fn group_ok(words: &[u32], n: usize, families: usize, g: usize) -> bool
     requires { ⌜ g < 64 ⌝ }
     ensures { λ r. ⌜ Decides r (HeadsOk n families (now (words .entry)) g) ⌝ }
 {
-    let f = words[896 + g] as usize;
+    let f = words[words::GROUP_FAMILIES + g] as usize;
     if !family_ok(words, families, g, f) {
         return false;
     }
@@ -168,10 +168,10 @@ fn own_ok(words: &[u32], n: usize, seen: &[u8; 128], s: usize) -> bool
     requires { ⌜ headAt n (now words) s 1 < 128 ⌝ }
     ensures { λ r. ⌜ Decides r (SeenOk n (now (words .entry)) (now (seen .entry)) s) ⌝ }
 {
-    if head(words, n, s, 2) < 1 {
+    if head(words, n, s, words::OWN_GROUP) < 1 {
         return true;
     }
-    let kind = head(words, n, s, 1);
+    let kind = head(words, n, s, words::KIND);
     if seen[kind] != 1 {
         return false;
     }
@@ -201,7 +201,7 @@ pub fn are_own(words: &[u32], n: usize, registered: usize, width: usize) -> bool
     requires { ⌜ ((i : ℕ) → i < width → getD (now words) (576 + i) 0 < 128) ⌝ }
     ensures { λ r. ⌜ Decides r (Each registered (OwnOk n (now (words .entry)) (between 576 (576 + width) (now (words .entry))))) ⌝ }
 {
-    let end = 576 + width;
-    let seen = mark(&words[576..end]);
+    let end = words::LAYOUT + width;
+    let seen = mark(&words[words::LAYOUT..end]);
     own_all_ok(words, n, &seen, registered)
 }

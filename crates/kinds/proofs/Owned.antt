@@ -12,13 +12,13 @@ use lib.Seq.{getD-take, length-take-le}
 use Rattle.model.specs.Model.{mem}
 use Rattle.model.specs.Sound.{In}
 use Rattle.model.proofs.KindLists.{not-true}
-use Rattle.words.specs.Part.{between, length-between, getD-between}
-use Rattle.layout.specs.Layout.{Arrays, Sized, startOf, widthOf, kindsAt, aritiesAt, Rising, WellFormed}
+use Rattle.words.specs.Part.{getD-between}
+use Rattle.layout.specs.Layout.{Arrays, startOf, widthOf, kindsAt, aritiesAt, Rising, WellFormed}
 use Rattle.layout.proofs.Arrays.{end-inside, group-order, groups-inside, kinds-length, arities-length, family-rising}
 use Rattle.memory.specs.Header.{layoutGroups, slotOf, groupFamilyAt}
 use Rattle.memory.specs.Meaning.{ownAt, localAt, layoutArrays, meaning}
 use Rattle.memory.specs.Arranged.{priorArity, memberAt, Arranged}
-use Rattle.memory.proofs.Frames.{long}
+use Rattle.memory.proofs.Frames.{layout-sized}
 use Rattle.kinds.proofs.Slot.{in-list, known-slot}
 
 -- ---- the family and the group that have a place
@@ -108,16 +108,6 @@ module _ (w : List ℕ) (A : Arranged w) where
   abbrev a : Arrays
   a = layoutArrays w
 
-  pub layout-sized : Sized (layoutArrays w)
-  layout-sized =
-      let b : length (between 576 896 w) ≡ 320 = length-between 576 896 w (omega (arith, long w A)) in
-      record {
-        kinds = length-between 0 128 (between 576 896 w) (omega arith);
-        arities = length-between 128 192 (between 576 896 w) (omega arith);
-        kindEnds = length-between 192 256 (between 576 896 w) (omega arith);
-        ends = length-between 256 320 (between 576 896 w) (omega arith);
-      }
-
   good : WellFormed a
   good = A .layout .formed
 
@@ -125,7 +115,7 @@ module _ (w : List ℕ) (A : Arranged w) where
   placed-in : (j f i : ℕ) → f < a .families → startOf (a .kindEnds) f ≤ j → i < length (aritiesAt a f)
       → getD (0 ∷ aritiesAt a f) i 0 ≤ j - startOf (a .kindEnds) f → j - startOf (a .kindEnds) f < getD (aritiesAt a f) i 0 → Placed w j
   placed-in j f i hf le hi low high =
-      let inside : startOf (a .ends) f + i < getD (a .ends) f 0 = omega (arith, arities-length a good layout-sized f hf) in
+      let inside : startOf (a .ends) f + i < getD (a .ends) f 0 = omega (arith, arities-length a good (layout-sized w A) f hf) in
       let real : startOf (a .ends) f + i < layoutGroups w = omega (arith, groups-inside a good f hf, A .layout .count) in
       let G = A .layout .groups (startOf (a .ends) f + i) real in
       let same : groupFamilyAt w (startOf (a .ends) f + i) ≡ f =
@@ -143,14 +133,14 @@ module _ (w : List ℕ) (A : Arranged w) where
   placed j h =
       let F = spot (a .kindEnds) (a .families) j h in
       let f = F .number in
-      let L = level 0 (length (kindsAt a f)) (aritiesAt a f) (j - startOf (a .kindEnds) f) (family-rising a good layout-sized f (F .below)) (omega arith)
-      (omega (arith, kinds-length a good layout-sized f (F .below), F .low, F .high)) in
+      let L = level 0 (length (kindsAt a f)) (aritiesAt a f) (j - startOf (a .kindEnds) f) (family-rising a good (layout-sized w A) f (F .below)) (omega arith)
+      (omega (arith, kinds-length a good (layout-sized w A) f (F .below), F .low, F .high)) in
       placed-in j f (L .number) (F .below) (F .low) (L .below) (L .low) (L .high)
 
   pub listed : (k : ℕ) → In (take (widthOf (layoutArrays w)) (layoutArrays w .kinds)) k → Listed w k
   listed k i =
       let P = in-list (take (widthOf a) (a .kinds)) k i in
-      let h : P .place < widthOf a = omega (arith, P .below, length-take-le (widthOf a) (a .kinds) (omega (arith, good .wide, layout-sized .kinds))) in
+      let h : P .place < widthOf a = omega (arith, P .below, length-take-le (widthOf a) (a .kinds) (omega (arith, good .wide, (layout-sized w A) .kinds))) in
       let T = placed (P .place) h in
       let G = A .layout .groups (T .group) (T .real) in
       let m : memberAt a (groupFamilyAt w (T .group)) (T .local) ≡ k =

@@ -3,16 +3,15 @@ use mathlib.Core.Path.{_≡_, refl, sym, ap, _∙_, subst}
 use mathlib.Core.Logic.{_≢_}
 use mathlib.Core.Bool.{false, false≢true}
 use mathlib.Core.List.{List, [], _∷_}
-use Prim.Native.Nat.{ℕ, zero, suc, _+_, _<_}
-use native.Mathlib.Nat.{le-of-suc-le-suc, not-suc-le-zero}
+use Prim.Native.Nat.{ℕ, suc, _+_, _<_}
 use native.Mathlib.Omega.{arith}
-use borrow.Author.Tests.{eqb-true, eq-eqb}
+use borrow.Author.Tests.{eqb-true}
 use lib.Dec.{eqb}
 use lib.ListN.{length, getD}
 use Rattle.model.specs.Model.{SparseSet, mem}
 use Rattle.model.specs.Sound.{In}
-use Rattle.model.proofs.Walk.{or-cases, or-true}
-use Rattle.model.proofs.KindLists.{not-true}
+use Rattle.model.proofs.Walk.{or-cases}
+use Rattle.model.proofs.KindLists.{not-true, at-in}
 use Rattle.words.specs.Offsets.{columnStart}
 use Rattle.words.specs.Table.{table, length-table, getD-table}
 use Rattle.columns.specs.Columns.{Lent, Only, rowsOf}
@@ -40,11 +39,6 @@ in-list (j ∷ l) k i =
     (λ t. record { place = 0; below = omega arith; is = sym (eqb-true k j t) })
     (λ t. let r = in-list l k t in record { place = suc (r .place); below = omega (arith, r .below); is = r .is })
 
-pub list-in : (l : List ℕ) (k i : ℕ) → i < length l → getD l i 0 ≡ k → In l k
-list-in [] k i h e = absurd (not-suc-le-zero h)
-list-in (j ∷ l) k zero h e = rw (eq-eqb k j (sym e))
-list-in (j ∷ l) k (suc i) h e = rw (list-in l k i (le-of-suc-le-suc h) e) (or-true (eqb k j))
-
 in-table : (m : ℕ) (f : ℕ → ℕ) (k : ℕ) → In (table m f) k → Somewhere m f k
 in-table m f k i =
     let r = in-list (table m f) k i in
@@ -52,7 +46,7 @@ in-table m f k i =
     record { place = r .place; below = h; is = sym (getD-table m f (r .place) 0 h) ∙ r .is }
 
 table-in : (m : ℕ) (f : ℕ → ℕ) (k i : ℕ) → i < m → f i ≡ k → In (table m f) k
-table-in m f k i h e = list-in (table m f) k i (omega (arith, length-table m f)) (getD-table m f i 0 h ∙ e)
+table-in m f k i h e = subst (In (table m f)) (getD-table m f i 0 h ∙ e) (at-in (table m f) i (omega (arith, length-table m f)))
 
 -- ---- the table of kinds
 

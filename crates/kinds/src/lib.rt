@@ -146,7 +146,7 @@ pub fn own_group(words: &[u32], kind: usize) -> Own
     requires { ⌜ In (meaning (now words) .kinds) kind ⌝ }
     ensures { λ r. ⌜ OwnGroup (now (words .entry)) kind r ⌝ }
 {
-    let own = head(words, kind, 2);
+    let own = head(words, kind, words::OWN_GROUP);
     if own == 0 {
         return Own::None;
     }
@@ -159,7 +159,7 @@ pub fn place_in_family(words: &[u32], kind: usize) -> usize
     requires { ⌜ In (meaning (now words) .kinds) kind ⌝ }
     ensures { λ r. ⌜ r ≡ localAt (now (words .entry)) (slotOf (now (words .entry)) kind) ⌝ }
 {
-    head(words, kind, 3)
+    head(words, kind, words::PLACE_IN_FAMILY)
 }
 
 // The head of a column that a kind gets: the kind, in no group.
@@ -169,9 +169,9 @@ fn put_head(words: &mut [u32], n: usize, slot: usize, kind: usize)
     ensures { λ _. ⌜ now (words .exit) ≡ withHead n slot kind (now (words .entry)) ⌝ }
 {
     let base = words::column_start(n, slot);
-    words[base + 1] = kind as u32;
-    words[base + 2] = 0;
-    words[base + 3] = 0;
+    words[base + words::KIND] = kind as u32;
+    words[base + words::OWN_GROUP] = 0;
+    words[base + words::PLACE_IN_FAMILY] = 0;
 }
 
 // The first slot that no kind has becomes the kind's. Its column has no rows.

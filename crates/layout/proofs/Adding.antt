@@ -4,15 +4,15 @@ use mathlib.Core.Logic.{_≢_}
 use mathlib.Core.Bool.{true, false, true≢false}
 use mathlib.Core.List.{List, [], _∷_, _++_}
 use Prim.Native.Nat.{ℕ, zero, suc, _+_, _-_, _≤_, _<_}
-use native.Mathlib.Nat.{sub-self}
 use native.Mathlib.Omega.{arith}
 use borrow.Author.Tests.{eq-eqb}
 use lib.Dec.{eqb}
-use lib.ListN.{length, getD, take, drop, set}
+use lib.ListN.{length, getD, take, set}
 use lib.Seq.{getD-set-same, getD-set-other}
 use Rattle.model.specs.Lists.{count, count-append}
 use Rattle.model.specs.Model.{Family, newGroup, grown, mem, meets, within, without, sameSet, kindsOf, groupsOf}
 use Rattle.model.proofs.Walk.{bool-cases}
+use Rattle.model.proofs.KindLists.{out-count}
 use Rattle.words.specs.Part.{between}
 use Rattle.words.specs.Table.{table, table-snoc, table-set, by-eq}
 use Rattle.layout.specs.Layout.{Arrays, arraysOf, Sized, startOf, widthOf, groupCount, kindsAt, aritiesAt, groupsFrom, familyAt, meaning, KindSet, FamilyFormed, WellFormed, Formed}
@@ -20,8 +20,8 @@ use Rattle.layout.specs.Grow.{LooseAt, widened, Extends, Extended, opene
 use Rattle.layout.specs.Add.{Fitting}
 use Rattle.layout.specs.declared.group_layout.Fit.{Fit}
 use Rattle.layout.specs.declared.group_layout.Layout.{Layout}
-use Rattle.layout.proofs.KindSets.{sum-once, none-count, unmet, shorter, within-counts, same-set, without-held, without-le, without-length}
-use Rattle.layout.proofs.Family.{between-join, rising-snoc, rising-alone, from-snoc, from-alone, no-counts, start-next}
+use Rattle.layout.proofs.KindSets.{sum-once, unmet, shorter, within-counts, same-set, without-held, without-le, without-length}
+use Rattle.layout.proofs.Family.{between-join, rising-snoc, rising-alone, from-snoc, from-alone, no-counts, start-next, between-none}
 use Rattle.layout.proofs.Fits.{IsFresh, IsOnto, Target, target, not-all, untouched-at}
 use Rattle.layout.proofs.Arrays
 
@@ -82,14 +82,11 @@ module _ (l : Layout) (hs : List ℕ) (ask : FreshAsk l hs) (sized : Sized (arra
   pub opn-groups : groupCount opn ≡ l .groups
   opn-groups = start-next (opn .ends) (l .families) ∙ groups-end
 
-  nothing-between : (k : ℕ) (xs : List ℕ) → between k k xs ≡ []
-  nothing-between k xs = ap (λ (m : ℕ). take m (drop k xs)) (sub-self k)
-
   no-kinds : kindsAt opn (l .families) ≡ []
-  no-kinds = ap₂ (λ (a b : ℕ). between a b (l .kinds)) kinds-start kinds-end ∙ nothing-between (l .width) (l .kinds)
+  no-kinds = ap₂ (λ (a b : ℕ). between a b (l .kinds)) kinds-start kinds-end ∙ between-none (l .width) (l .kinds)
 
   no-arities : aritiesAt opn (l .families) ≡ []
-  no-arities = ap₂ (λ (a b : ℕ). between a b (l .arities)) groups-start groups-end ∙ nothing-between (l .groups) (l .arities)
+  no-arities = ap₂ (λ (a b : ℕ). between a b (l .arities)) groups-start groups-end ∙ between-none (l .groups) (l .arities)
 
   order-opn : (es : List ℕ) (v : ℕ) → startOf es (l .families) ≡ v → l .families < length es → ((i : ℕ) → i < l .families → startOf es i ≤ getD es i 0)
       → (i : ℕ) → i < l .families + 1 → startOf (set es (l .families) v) i ≤ getD (set es (l .families) v) i 0
@@ -140,7 +137,7 @@ module _ (l : Layout) (hs : List ℕ) (ask : FreshAsk l hs) (sized : Sized (arra
       counted : (k : ℕ) → count eqb k (widened (l .kinds) (l .width) hs (l .width)) ≡ count eqb k (take (l .width) (l .kinds)) + count eqb k hs
       counted k =
           count-append eqb k (take (l .width) (l .kinds)) (hs ++ between (l .width) (l .width) (l .kinds))
-          ∙ omega (arith, count-append eqb k hs (between (l .width) (l .width) (l .kinds)), ap (count eqb k) (nothing-between (l .width) (l .kinds)))
+          ∙ omega (arith, count-append eqb k hs (between (l .width) (l .width) (l .kinds)), ap (count eqb k) (between-none (l .width) (l .kinds)))
 
       apart : (k : ℕ) → 1 ≤ count eqb k hs → count eqb k (take (l .width) (l .kinds)) ≡ 0
       apart k h = rw (ask .group .formed .width) (ask .unknown k h)
@@ -310,7 +307,7 @@ module _ (l : Layout) (hs : List ℕ) (group : GroupKinds l hs) (sized : Sized (
       where
         own-none : (k : ℕ) → 1 ≤ count eqb k (without hs (kindsAt (arraysOf l) f)) → count eqb k (kindsAt (arraysOf l) f) ≡ 0
         own-none k c =
-            none-count k (kindsAt (arraysOf l) f)
+            out-count (kindsAt (arraysOf l) f) k
             (bool-cases (mem k (kindsAt (arraysOf l) f)) (λ m. absurd (omega (arith, without-held k hs (kindsAt (arraysOf l) f) m))) (λ m. m))
 
     pub onto-means : set (meaning l) f (familyAt [] (arraysOf l) f ++ (newGroup (without hs (kindsAt (arraysOf l) f)) ∷ [])) ≡ grown hs (meaning l)

@@ -1,6 +1,6 @@
 -- The arrays of a well-formed layout: where families stand, and that their meaning is theirs. Assumes nothing.
-use mathlib.Core.Path.{_≡_, refl, sym, ap, _∙_, subst}
-use mathlib.Core.List.{List, [], _∷_, _++_}
+use mathlib.Core.Path.{_≡_, refl, sym, ap, _∙_, subst, ap₂}
+use mathlib.Core.List.{List, [], _∷_, _++_, append-nil, append-assoc}
 use Prim.Native.Nat.{ℕ, zero, suc, _+_, _-_, _≤_, _<_}
 use native.Mathlib.Numerals.{add-one}
 use native.Mathlib.Omega.{arith}
@@ -9,14 +9,24 @@ use lib.ListN.{length, getD, take, drop, drop-of-length-le}
 use lib.Seq.{take-take}
 use Rattle.model.specs.Lists.{count, count-append}
 use Rattle.model.specs.Model.{Family, kindsOf, groupsOf}
+use Rattle.model.specs.Sound.{layoutKinds}
 use Rattle.words.specs.Part.{between, length-between, between-front}
 use Rattle.words.specs.Table.{table, length-table, getD-table, table-snoc, by-eq}
-use Rattle.layout.specs.Layout.{Arrays, Sized, startOf, widthOf, groupCount, kindsAt, aritiesAt, groupsFrom, familyAt, familiesOf, KindSet, Rising, WellFormed}
+use Rattle.layout.specs.Layout.{Arrays, Sized, startOf, widthOf, groupCount, kindsAt, aritiesAt, groupsFrom, familyAt, familiesOf, KindSet, Rising, WellFormed, blockArrays}
 use Rattle.layout.specs.Fit.{partOf, joinFit, fitFrom, FamilyAsk}
 use Rattle.layout.specs.declared.group_layout.Fit.{Fit}
 use Rattle.layout.proofs.Scan.{drop-step}
 use Rattle.layout.proofs.KindSets.{set-between}
 use Rattle.layout.proofs.Family.{between-join, rising-zero, kinds-from, no-counts}
+
+pub block-sized : (w : List ℕ) (n : ℕ) → length w ≡ 320 → Sized (blockArrays w n)
+block-sized w n e =
+    record {
+      kinds = length-between 0 128 w (omega arith);
+      arities = length-between 128 192 w (omega arith);
+      kindEnds = length-between 192 256 w (omega arith);
+      ends = length-between 256 320 w (omega arith);
+    }
 
 -- ---- ends that rise
 
@@ -125,6 +135,22 @@ families-step counts a f h =
     drop-step (familiesOf counts a) f [] (omega (arith, families-length counts a))
     ∙ ap (λ (x : Family). x ∷ drop (f + 1) (familiesOf counts a)) (families-at counts a f h)
 
+-- ---- no families
+
+pub table-none : {A : Type 0} (f : ℕ → A) → table 0 f ≡ []
+unfolding table
+table-none f = refl
+
+pub none-formed : (b : List ℕ) → WellFormed (blockArrays b 0)
+none-formed b =
+    record {
+      few = omega arith;
+      wide = omega arith;
+      many = omega arith;
+      kinds = record { once = λ k. omega arith; known = λ k h. refl };
+      family = λ f h. absurd (omega arith);
+    }
+
 -- ---- how many groups there are
 
 pub groups-length : (counts : List ℕ) (g : ℕ) (ks : List ℕ) (b : ℕ) (ars : List ℕ) → length (groupsFrom counts g ks b ars) ≡ length ars
@@ -136,13 +162,9 @@ groups-append : (xs ys : List Family) → groupsOf (xs ++ ys) ≡ groupsOf xs + 
 groups-append [] ys = omega arith
 groups-append (x ∷ xs) ys = omega (arith, groups-append xs ys)
 
-no-families : (F : ℕ → Family) → table 0 F ≡ []
-unfolding table
-no-families F = refl
-
 groups-table : (n : ℕ) (F : ℕ → Family) (es : List ℕ) → ((i : ℕ) → i < n → startOf es i ≤ getD es i 0)
     → ((i : ℕ) → i < n → length (F i) ≡ getD es i 0 - startOf es i) → groupsOf (table n F) ≡ startOf es n
-groups-table zero F es o h = ap groupsOf (no-families F)
+groups-table zero F es o h = ap groupsOf (table-none F)
 groups-table (suc n) F es o h =
     ap (λ (m : ℕ). groupsOf (table m F)) (sym (add-one n)) ∙ ap groupsOf (table-snoc [] (F n) n F F refl (λ i l. refl))
     ∙ groups-append (table n F) (F n ∷ [])
@@ -152,6 +174,25 @@ pub groups-of : (counts : List ℕ) (a : Arrays) → WellFormed a → Sized a �
 groups-of counts a good sized =
     groups-table (a .families) (familyAt counts a) (a .ends) (group-order a good)
     (λ i h. groups-length counts (startOf (a .ends) i) (kindsAt a i) 0 (aritiesAt a i) ∙ arities-length a good sized i h)
+
+-- ---- the kinds of all families
+
+kinds-append : (xs ys : List Family) → layoutKinds (xs ++ ys) ≡ layoutKinds xs ++ layoutKinds ys
+kinds-append [] ys = refl
+kinds-append (x ∷ xs) ys = ap (λ (l : List ℕ). kindsOf x ++ l) (kinds-append xs ys) ∙ sym (append-assoc (kindsOf x) (layoutKinds xs) (layoutKinds ys))
+
+kinds-table : (n : ℕ) (F : ℕ → Family) (es ks : List ℕ) → ((i : ℕ) → i < n → startOf es i ≤ getD es i 0) → ((i : ℕ) → i < n → kindsOf (F i) ≡ between (startOf es i) (getD es i 0) ks)
+    → layoutKinds (table n F) ≡ take (startOf es n) ks
+kinds-table zero F es ks o h = ap layoutKinds (table-none F)
+kinds-table (suc n) F es ks o h =
+    ap (λ (m : ℕ). layoutKinds (table m F)) (sym (add-one n)) ∙ ap layoutKinds (table-snoc [] (F n) n F F refl (λ i l. refl))
+    ∙ kinds-append (table n F) (F n ∷ [])
+    ∙ ap₂ _++_ (kinds-table n F es ks (λ i l. o i (omega arith)) (λ i l. h i (omega arith))) (append-nil (kindsOf (F n)) ∙ h n (omega arith))
+    ∙ between-join ks (startOf es n) (getD es n 0) (o n (omega arith))
+
+-- they are the used kinds, in order
+pub layout-kinds : (counts : List ℕ) (a : Arrays) → WellFormed a → Sized a → layoutKinds (familiesOf counts a) ≡ take (widthOf a) (a .kinds)
+layout-kinds counts a good sized = kinds-table (a .families) (familyAt counts a) (a .kindEnds) (a .kinds) (kind-order a good) (family-kindsOf a good sized counts)
 
 -- ---- a turn of the loop over the families
 

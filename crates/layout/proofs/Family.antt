@@ -18,6 +18,9 @@ start-next es f = ap (startOf es) (add-one f)
 
 -- ---- parts
 
+pub between-none : (a : ℕ) (l : List ℕ) → between a a l ≡ []
+between-none a l = let z : a - a ≡ 0 = omega arith in rw z
+
 pub between-join : (ks : List ℕ) (b a : ℕ) → b ≤ a → take b ks ++ between b a ks ≡ take a ks
 between-join ks b a h = let e : b + (a - b) ≡ a = omega arith in sym (take-add b (a - b) ks) ∙ ap (λ (n : ℕ). take n ks) e
 
@@ -99,7 +102,7 @@ group-split hs ks b a ars h =
     ap (λ (l : List ℕ). sameSet hs l || isGroup hs l (groupsFrom [] 1 ks a ars)) (between-join ks b a h)
     ∙ ap (λ (r : Family). sameSet hs (take a ks) || isGroup hs (take a ks) r) (no-counts 1 0 ks a ars)
 
-rising-head : (b n a : ℕ) (ars : List ℕ) → Rising b n (a ∷ ars) → (b < a) × Rising a n ars
+pub rising-head : (b n a : ℕ) (ars : List ℕ) → Rising b n (a ∷ ars) → (b < a) × Rising a n ars
 unfolding Rising
 rising-head b n a ars r = r
 

@@ -1,7 +1,7 @@
 -- How staged kinds stand to the families is what the model's rule for a new group asks. Assumes nothing.
 use mathlib.Core.Path.{_≡_, refl, sym, ap, _∙_, subst}
 use mathlib.Core.Logic.{_≢_}
-use mathlib.Core.Bool.{Bool, true, false, cond, not, _&&_, _||_, true≢false, false≢true}
+use mathlib.Core.Bool.{Bool, true, false, cond, not, _&&_, _||_, true≢false, false≢true, and-false}
 use mathlib.Core.List.{List, [], _∷_, _++_, append-assoc, append-nil}
 use Prim.Native.Nat.{ℕ, zero, suc, _+_, _-_, _≤_, _<_}
 use native.Mathlib.Nat.{add-zero, add-suc, suc-add}
@@ -12,6 +12,9 @@ use lib.Dec.{eqb, eqb·suc-zero, eqb·suc-suc}
 use lib.ListN.{length, getD, set}
 use Rattle.model.specs.Model.{Family, nothing, added, refused, meets, within, sameSet, without, kindsOf, groupsOf, isGroup, present, touched, covers, newGroup, grown, addGroup}
 use Rattle.model.proofs.Walk.{bool-cases, or-false}
+use Rattle.model.proofs.SparseSets.{and-right}
+use Rattle.model.proofs.Families.{or-false-right}
+use Rattle.model.proofs.Draft.{grown-same}
 use Rattle.layout.specs.Fit.{pickPart, partOf, joinFit, fitFrom}
 use Rattle.layout.specs.declared.group_layout.Part.{Part}
 use Rattle.layout.specs.declared.group_layout.Part.the-variants.{Apart, Same, Whole, Cross}
@@ -26,14 +29,6 @@ pickFit false a b = b
 abbrev pub firstTouched : List ℕ → List Family → ℕ
 firstTouched ks [] = 0
 firstTouched ks (x ∷ xs) = cond (meets ks (kindsOf x)) 0 (suc (firstTouched ks xs))
-
-or-false-right : (a b : Bool) → (a || b) ≡ false → b ≡ false
-or-false-right true b e = absurd (true≢false e)
-or-false-right false b e = e
-
-and-none : (b : Bool) → (b && false) ≡ false
-and-none true = refl
-and-none false = refl
 
 -- ---- the fold, after each accumulator
 
@@ -112,7 +107,7 @@ fit-fresh ks f (x ∷ xs) = go (isGroup ks [] x) (meets ks (kindsOf x)) (within 
     go false true true r =
         fit-onto ks (f + 1) f xs
         ∙ rw (eqb·suc-zero t, eqb·suc-suc t 0) (ap (pickFit (present ks xs) Present) (one-more (eqb t 0) refl (covers ks xs) refl))
-    go false true false r = fit-clash ks (f + 1) xs ∙ rw (eqb·suc-zero t, and-none (eqb (suc t) 1))
+    go false true false r = fit-clash ks (f + 1) xs ∙ rw (eqb·suc-zero t, and-false (eqb (suc t) 1))
     go false false w r =
         r ∙ ap (λ (n : ℕ). pickFit (present ks xs) Present (pickFit (eqb t 0) Fresh (pickFit (eqb t 1 && covers ks xs) (Onto n) Clash)))
         (ap (λ (n : ℕ). n + firstTouched ks xs) (add-one f) ∙ suc-add f (firstTouched ks xs) ∙ sym (add-suc f (firstTouched ks xs)))
@@ -158,11 +153,11 @@ fit-says ks fs s e = subst (Says ks fs) (sym (fit-fresh ks 0 fs) ∙ e) (go (pre
 module _ (ks : List ℕ) (fs : List Family) where
   pub add-small : length ks < 2 → addGroup ks fs ≡ nothing
   unfolding addGroup
-  add-small h = rw (lt-ltb (length ks) 2 h)
+  add-small h = rw (lt-leb 16 (length ks) (omega arith), lt-ltb (length ks) 2 h)
 
   pub add-wide : 16 ≤ length ks → addGroup ks fs ≡ refused 13
   unfolding addGroup
-  add-wide h = rw (le-ltb (length ks) 2 (omega arith), le-leb 16 (length ks) h)
+  add-wide h = rw (le-leb 16 (length ks) h)
 
   module _ (lo : 2 ≤ length ks) (hi : length ks < 16) where
     pub add-present : present ks fs ≡ true → addGroup ks fs ≡ nothing
@@ -197,13 +192,6 @@ untouched-at ks (x ∷ xs) z zero h = bool-cases (meets ks (kindsOf x)) (λ t. a
 untouched-at ks (x ∷ xs) z (suc i) h =
     bool-cases (meets ks (kindsOf x)) (λ t. absurd (omega (arith, rw t at z))) (λ t. untouched-at ks xs (rw t at z) i (omega arith))
 
-pub grown-same : (ks : List ℕ) (fs : List Family) → touched ks fs ≡ 0 → grown ks fs ≡ fs
-grown-same ks [] z = refl
-grown-same ks (x ∷ xs) z =
-    bool-cases (meets ks (kindsOf x))
-    (λ t. absurd (omega (arith, rw t at z)))
-    (λ t. rw t (ap {B = List Family} (λ r. x ∷ r) (grown-same ks xs (rw t at z))))
-
 abbrev pub extend : List ℕ → Family → Family
 extend ks x = x ++ (newGroup (without ks (kindsOf x)) ∷ [])
 
@@ -224,15 +212,11 @@ held-here true w c e t = go w e
     go false e = absurd (false≢true e)
 held-here false w c e t = absurd (false≢true t)
 
-held-later : (a c : Bool) → (a && c) ≡ true → c ≡ true
-held-later true c e = e
-held-later false c e = absurd (false≢true e)
-
 pub target : (ks : List ℕ) (fs : List Family) → touched ks fs ≡ 1 → covers ks fs ≡ true → present ks fs ≡ false → Target ks fs (firstTouched ks fs)
 target ks [] o c p = absurd (omega arith)
 target ks (x ∷ xs) o c p =
     bool-cases (meets ks (kindsOf x)) here
-    (later (λ z. target ks xs z (held-later (not (meets ks (kindsOf x)) || within (kindsOf x) ks) (covers ks xs) c) (or-false-right (isGroup ks [] x) (present ks xs) p)))
+    (later (λ z. target ks xs z (and-right (not (meets ks (kindsOf x)) || within (kindsOf x) ks) (covers ks xs) c) (or-false-right (isGroup ks [] x) (present ks xs) p)))
   where
     here : meets ks (kindsOf x) ≡ true → Target ks (x ∷ xs) (firstTouched ks (x ∷ xs))
     here m =

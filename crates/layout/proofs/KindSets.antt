@@ -1,54 +1,22 @@
 -- Sets of kinds as lists that have each kind once: what the tests on them decide, and how long they are. Assumes nothing.
 use mathlib.Core.Path.{_≡_, refl, sym, ap, _∙_}
-use mathlib.Core.Bool.{Bool, true, false, _&&_, _||_, true≢false, false≢true}
+use mathlib.Core.Bool.{Bool, true, false, _&&_, _||_, true≢false, false≢true, and-false}
 use mathlib.Core.List.{List, [], _∷_, _++_}
-use Prim.Native.Nat.{ℕ, zero, suc, _+_, _-_, _≤_, _<_, zero-le, suc-le-suc}
+use Prim.Native.Nat.{ℕ, zero, suc, _+_, _-_, _≤_, _<_}
 use native.Mathlib.Omega.{arith}
 use native.Mathlib.Decide.{decLt}
 use borrow.Author.Tests.{eq-eqb, ne-eqb, eqb-true}
 use lib.Dec.{eqb}
 use lib.ListN.{length, take, drop, take-append-drop, length-append}
 use Rattle.model.specs.Lists.{one, count, count-append, count-length-le, count-length}
-use Rattle.model.specs.Model.{mem, all, any, within, meets, sameSet, without}
-use Rattle.model.proofs.Walk.{bool-cases, or-cases, or-true}
+use Rattle.model.specs.Model.{mem, any, within, meets, sameSet, without}
+use Rattle.model.proofs.Walk.{bool-cases, or-cases, all-in}
+use Rattle.model.proofs.KindLists.{in-count, out-count, count-in, all-true}
 use Rattle.words.specs.Part.{between}
 use Rattle.words.specs.Table.{by-eq}
 use Rattle.layout.specs.Layout.{KindSet}
 
--- ---- members by count
-
-pub mem-count : (x : ℕ) (l : List ℕ) → mem x l ≡ true → 1 ≤ count eqb x l
-mem-count x [] e = absurd (false≢true e)
-mem-count x (y ∷ l) e = or-cases (eqb x y) (mem x l) e (λ t. omega (arith, ap one t)) (λ t. omega (arith, mem-count x l t))
-
-pub count-mem : (x : ℕ) (l : List ℕ) → 1 ≤ count eqb x l → mem x l ≡ true
-count-mem x [] h = absurd (omega arith)
-count-mem x (y ∷ l) h = bool-cases (eqb x y) (λ t. rw t) (λ t. rw t (count-mem x l (omega (arith, ap one t))))
-
-pub none-count : (x : ℕ) (l : List ℕ) → mem x l ≡ false → count eqb x l ≡ 0
-none-count x l e = go (count eqb x l) (count-mem x l)
-  where
-    go : (n : ℕ) → (1 ≤ n → mem x l ≡ true) → n ≡ 0
-    go zero f = refl
-    go (suc n) f = absurd (true≢false (sym (f (suc-le-suc zero-le)) ∙ e))
-
-pub count-none : (x : ℕ) (l : List ℕ) → count eqb x l ≡ 0 → mem x l ≡ false
-count-none x l z = bool-cases (mem x l) (λ t. absurd (omega (arith, mem-count x l t))) (λ t. t)
-
 -- ---- tests of all and of some
-
-pub all-mem : (p : ℕ → Bool) (l : List ℕ) (x : ℕ) → all p l ≡ true → mem x l ≡ true → p x ≡ true
-all-mem p [] x h m = absurd (false≢true m)
-all-mem p (y ∷ l) x h m = go (p y) refl h (all-mem p l x)
-  where
-    go : (b : Bool) → p y ≡ b → (b && all p l) ≡ true → (all p l ≡ true → mem x l ≡ true → p x ≡ true) → p x ≡ true
-    go true e h r = or-cases (eqb x y) (mem x l) m (λ t. ap p (eqb-true x y t) ∙ e) (λ t. r h t)
-    go false e h r = absurd (false≢true h)
-
-pub mem-all : (p : ℕ → Bool) (l : List ℕ) → ((x : ℕ) → mem x l ≡ true → p x ≡ true) → all p l ≡ true
-mem-all p [] h = refl
-mem-all p (y ∷ l) h =
-    rw (h y (rw (eq-eqb y y refl) refl)) (mem-all p l (λ x m. h x (rw m (or-true (eqb x y)))))
 
 pub any-none : (p : ℕ → Bool) (l : List ℕ) (x : ℕ) → any p l ≡ false → mem x l ≡ true → p x ≡ false
 any-none p [] x h m = absurd (false≢true m)
@@ -60,7 +28,7 @@ any-none p (y ∷ l) x h m = go (p y) refl h (any-none p l x)
 
 -- no kind in common
 pub unmet : (ks js : List ℕ) (x : ℕ) → meets ks js ≡ false → 1 ≤ count eqb x ks → count eqb x js ≡ 0
-unmet ks js x m h = none-count x js (any-none (λ k. mem k js) ks x m (count-mem x ks h))
+unmet ks js x m h = out-count js x (any-none (λ k. mem k js) ks x m (count-in ks x h))
 
 -- ---- once each
 
@@ -90,7 +58,7 @@ within-counts js ks s w x = go (count eqb x js) refl
   where
     go : (n : ℕ) → count eqb x js ≡ n → count eqb x js ≤ count eqb x ks
     go zero e = omega arith
-    go (suc n) e = omega (arith, s .once x, mem-count x ks (all-mem (λ k. mem k ks) js x w (count-mem x js (omega arith))))
+    go (suc n) e = omega (arith, s .once x, in-count ks x (all-in (λ k. mem k ks) js w x (count-in js x (omega arith))))
 
 -- two that are never both
 pub sum-once : (x y : ℕ) → x ≤ 1 → y ≤ 1 → (1 ≤ y → x ≡ 0) → x + y ≤ 1
@@ -136,26 +104,22 @@ pigeon l s = omega (arith, down-length 128, shorter l (downFrom 128) fits)
 
 -- ---- two sets are the same where they are as long and one holds the other
 
-and-none : (b : Bool) → (b && false) ≡ false
-and-none true = refl
-and-none false = refl
-
 pub same-set : (ks js : List ℕ) → KindSet ks → KindSet js → sameSet ks js ≡ (eqb (length js) (length ks) && within js ks)
 same-set ks js sk sj = bool-cases (within js ks) inside outside
   where
     outside : within js ks ≡ false → sameSet ks js ≡ (eqb (length js) (length ks) && within js ks)
-    outside e = rw e (and-none (within ks js) ∙ sym (and-none (eqb (length js) (length ks))))
+    outside e = rw e (and-false (within ks js) ∙ sym (and-false (eqb (length js) (length ks))))
 
     missing : within js ks ≡ true → length js ≡ length ks → (x : ℕ) → mem x ks ≡ true → mem x js ≡ false → ⊥
     missing w e x m n =
         let more : length (x ∷ js) ≤ length ks =
-        shorter (x ∷ js) ks (λ z. by-eq z x (λ q. rw q (omega (arith, mem-count x ks m, none-count x js n, ap one (eq-eqb x x refl)))) (λ q. omega (arith, ap one (ne-eqb z x q), within-counts js ks sj w z))) in
+        shorter (x ∷ js) ks (λ z. by-eq z x (λ q. rw q (omega (arith, in-count ks x m, out-count js x n, ap one (eq-eqb x x refl)))) (λ q. omega (arith, ap one (ne-eqb z x q), within-counts js ks sj w z))) in
         omega arith
 
     inside : within js ks ≡ true → sameSet ks js ≡ (eqb (length js) (length ks) && within js ks)
     inside w =
         by-eq (length js) (length ks)
-        (λ e. rw (w, eq-eqb (length js) (length ks) e, mem-all (λ k. mem k js) ks (λ x m. bool-cases (mem x js) (λ t. t) (λ t. absurd (missing w e x m t)))))
+        (λ e. rw (w, eq-eqb (length js) (length ks) e, all-true (λ k. mem k js) ks (λ x m. bool-cases (mem x js) (λ t. t) (λ t. absurd (missing w e x m t)))))
         (λ ne. bool-cases (within ks js)
         (λ v. absurd (ne (as-long js ks (λ x. omega (arith, within-counts js ks sj w x, within-counts ks js sk v x)))))
         (λ v. rw (w, v, ne-eqb (length js) (length ks) ne)))
@@ -186,5 +150,5 @@ without-length ks js sk sj w =
     ∙ as-long (js ++ without ks js) ks
     (λ x. count-append eqb x js (without ks js)
     ∙ bool-cases (mem x js)
-    (λ t. omega (arith, without-held x ks js t, mem-count x js t, sj .once x, sk .once x, within-counts js ks sj w x))
-    (λ t. omega (arith, count-without x ks js t, none-count x js t)))
+    (λ t. omega (arith, without-held x ks js t, in-count js x t, sj .once x, sk .once x, within-counts js ks sj w x))
+    (λ t. omega (arith, count-without x ks js t, out-count js x t)))

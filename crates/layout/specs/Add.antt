@@ -21,15 +21,8 @@ refusalOf outcome.Wide = 13
 refusalOf outcome.Clash = 14
 refusalOf outcome.Many = 15
 
--- the byte that GROUP answers after its 0 byte (01: 1 added or 0 nothing added)
-abbrev pub answerOf : Outcome → ℕ
-answerOf outcome.Nothing = 0
-answerOf outcome.Added = 1
-answerOf outcome.Wide = 0
-answerOf outcome.Clash = 0
-answerOf outcome.Many = 0
-
--- the outcome with the families after it, as the model answers
+-- 01: "a definition gives this paper's number and values for each of the enum's cases". The outcome with the families after it, as the model answers: GROUP's
+-- byte is 0 for `nothing` and 1 for `added`, and a refusal has its number
 abbrev pub modelOf : Outcome → List Family → Added
 modelOf outcome.Nothing fs = nothing
 modelOf outcome.Added fs = added fs

@@ -10,6 +10,7 @@ use Rattle.layout.specs.declared.group_layout.Part.the-variants.{Apart, 
 use Rattle.layout.specs.declared.group_layout.Fit.{Fit}
 use Rattle.layout.specs.declared.group_layout.Fit.the-variants.{Fresh, Present, Onto, Clash}
 
+-- p where the test holds, else q
 abbrev pub pickPart : Bool → Part → Part → Part
 pickPart true p q = p
 pickPart false p q = q
@@ -20,12 +21,14 @@ partOf ks f =
     pickPart (isGroup ks [] f) Same
     (pickPart (meets ks (kindsOf f)) (pickPart (within (kindsOf f) ks) Whole Cross) Apart)
 
+-- family f is held whole, after acc: it is the one family, unless there was another
 abbrev pub joinWhole : ℕ → Fit → Fit
 joinWhole f Fresh = Onto f
 joinWhole f Present = Present
 joinWhole f (Onto g) = Clash
 joinWhole f Clash = Clash
 
+-- a family is crossed, after acc: "Everything else clashes", but for an equal group
 abbrev pub joinCross : Fit → Fit
 joinCross Fresh = Clash
 joinCross Present = Present
@@ -46,16 +49,19 @@ fitFrom ks f acc (x ∷ xs) = fitFrom ks (f + 1) (joinFit acc f (partOf ks x)) x
 
 -- ---- what the functions on one family and on all ask
 
+-- a group, which is the first a of a family's kinds ks, and the staged kinds hs
 pub record GroupAsk (ks : List ℕ) (a : ℕ) (hs : List ℕ) : Type 0 where
   pub inside : a ≤ length ks
   pub kinds : KindSet ks
   pub staged : KindSet hs
 
+-- a family of kinds ks whose groups have the arities ars, and the staged kinds hs
 pub record FamilyAsk (ks ars hs : List ℕ) : Type 0 where
   pub rising : Rising 0 (length ks) ars
   pub kinds : KindSet ks
   pub staged : KindSet hs
 
+-- a well-formed layout, and the staged kinds hs
 pub record FitAsk (a : Arrays) (hs : List ℕ) : Type 0 where
   pub sized : Sized a
   pub good : WellFormed a

@@ -31,6 +31,7 @@ pub record Raised (d₀ : List ℕ) (a e by : ℕ) (d : List ℕ) : Type 0 where
   pub before : (i : ℕ) → i < a → getD d i 0 ≡ getD d₀ i 0
   pub inside : (i : ℕ) → a ≤ i → i < e → getD d i 0 ≡ getD d₀ i 0 + by
 
+-- the array has the numbers from a to e - 1, and each stays a byte when it is by more
 pub record RaiseAsk (d : List ℕ) (a e by : ℕ) : Type 0 where
   pub within : e ≤ length d
   pub fits : (i : ℕ) → a ≤ i → i < e → getD d i 0 + by < 256
@@ -62,6 +63,7 @@ pub record Extends (l : Layout) (f : ℕ) (more : List ℕ) (s : ℕ) : Type 0 w
   pub most : s ≤ 15
   pub rising : Rising 1 s (aritiesAt (arraysOf l) f ++ (s ∷ []))
 
+-- r is l with more at the end of family f's kinds and a group of arity s after its groups; the other families are as they were
 pub record Extended (l : Layout) (f : ℕ) (more : List ℕ) (s : ℕ) (r : Layout) : Type 0 where
   pub formed : Formed r
   pub families : r .families ≡ l .families
@@ -95,6 +97,7 @@ pub record GroupKinds (l : Layout) (hs : List ℕ) : Type 0 where
 abbrev pub Unknown : Layout → List ℕ → Type 0
 Unknown l ks = (k : ℕ) → 1 ≤ count eqb k ks → count eqb k (take (widthOf (arraysOf l)) (l .kinds)) ≡ 0
 
+-- "It is added if it shares no kind with any group"
 pub record FreshAsk (l : Layout) (staged : List ℕ) : Type 0 where
   pub group : GroupKinds l staged
   pub unknown : Unknown l staged
@@ -104,6 +107,7 @@ pub record FreshDone (l : Layout) (staged : List ℕ) (r : Layout) : Type 0 wher
   pub formed : Formed r
   pub means : meaning r ≡ meaning l ++ ((newGroup staged ∷ []) ∷ [])
 
+-- "or if it holds every kind of exactly one family, has more, and shares none with the others": f is that family
 pub record OntoAsk (l : Layout) (f : ℕ) (staged : List ℕ) : Type 0 where
   pub group : GroupKinds l staged
   pub inside : f < l .families

@@ -4,7 +4,7 @@ ghost use mathlib.Core.List.{[]};
 ghost use Prim.Native.Nat.{_+_, _-_, _≤_, _<_};
 ghost use lib.ListN.{length, take};
 ghost use Rattle.model.specs.Model.{mem, within, meets, sameSet, isGroup, without};
-ghost use Rattle.layout.specs.Layout.{Formed, KindSet, groupsFrom, arraysIn, familiesOf, startOf, meaning};
+ghost use Rattle.layout.specs.Layout.{Formed, KindSet, groupsFrom, arraysIn, familiesOf, startOf};
 ghost use Rattle.layout.specs.Fit.{partOf, joinFit, fitFrom, GroupAsk, FamilyAsk, FitAsk};
 ghost use Rattle.layout.specs.Grow.{Appended, Spread, Raised, RaiseAsk, Extends, Extended, openedOf, FreshAsk, FreshDone, OntoAsk, OntoDone};
 ghost use Rattle.layout.specs.Add.{Fitting, AddsGroup};
@@ -243,20 +243,6 @@ fn start_of(ends: &[u8], f: usize) -> usize
     }
     let before = f - 1;
     ends[before] as usize
-}
-
-pub fn empty() -> Layout
-    ensures { λ r. ⌜ Formed r × (meaning r ≡ []) ⌝ }
-{
-    Layout {
-        kinds: [0; 128],
-        arities: [0; 64],
-        kind_ends: [0; 64],
-        ends: [0; 64],
-        families: 0,
-        width: 0,
-        groups: 0,
-    }
 }
 
 // The layout with an empty family at its end, for `extended` to fill.

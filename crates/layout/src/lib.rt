@@ -1,2 +1,2 @@
-// The layout of groups: families of nested groups, by value, and what a query over kinds asks of it.
+// The layout of groups: families of nested groups, by value.
 pub mod group_layout;

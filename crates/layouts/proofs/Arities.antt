@@ -1,37 +1,33 @@
 -- The kinds and arities of a well-formed layout: no two new kinds of groups have the same place. Assumes nothing.
-use mathlib.Core.Path.{_≡_, refl, sym, ap, _∙_, subst}
+use mathlib.Core.Path.{_≡_, sym, ap, _∙_, subst}
 use mathlib.Core.Logic.{_≢_}
 use mathlib.Core.List.{List, [], _∷_}
 use Prim.Native.Nat.{ℕ, zero, suc, _+_, _-_, _≤_, _<_}
 use native.Mathlib.Nat.{le-of-suc-le-suc, not-suc-le-zero}
 use native.Mathlib.Omega.{arith}
 use native.Mathlib.Decide.{decLt}
-use borrow.Author.Tests.{eq-eqb, lt-ltb, le-ltb}
+use borrow.Author.Tests.{eq-eqb}
 use lib.Dec.{eqb}
 use lib.ListN.{length, getD, take}
 use lib.Seq.{getD-take, length-take-le}
 use Rattle.model.specs.Lists.{one, count}
 use Rattle.model.specs.Sound.{In}
+use Rattle.model.proofs.KindLists.{at-count, at-in}
 use Rattle.words.specs.Table.{by-eq}
 use Rattle.words.specs.Part.{getD-between}
 use Rattle.layout.specs.Layout.{Arrays, Sized, startOf, widthOf, aritiesAt, Rising, WellFormed}
-use Rattle.layout.proofs.KindSets.{count-mem}
-use Rattle.layout.proofs.Family.{rising-le}
 use Rattle.layout.proofs.Arrays.{ends-rise, kind-order, kinds-inside, arities-length}
 use Rattle.memory.specs.Arranged.{priorArity}
+use Rattle.memory.proofs.Prior.{prior-low, prior-next}
+use Rattle.group.proofs.FlatArrays.{rising-at}
 use Rattle.layouts.specs.Heads.{InFamily, NewAt, placeNo}
 
 -- ---- kinds once each
 
-count-at : (l : List ℕ) (i : ℕ) → i < length l → 1 ≤ count eqb (getD l i 0) l
-count-at [] i h = absurd (not-suc-le-zero h)
-count-at (y ∷ l) zero h = omega (arith, ap one (eq-eqb y y refl))
-count-at (y ∷ l) (suc i) h = omega (arith, count-at l i (le-of-suc-le-suc h))
-
 count-twice : (l : List ℕ) (i j : ℕ) → i < j → j < length l → getD l i 0 ≡ getD l j 0 → 2 ≤ count eqb (getD l j 0) l
 count-twice [] i j h l e = absurd (not-suc-le-zero l)
 count-twice (y ∷ l) i zero h k e = absurd (omega arith)
-count-twice (y ∷ l) zero (suc j) h k e = omega (arith, ap one (eq-eqb (getD l j 0) y (sym e)), count-at l j (le-of-suc-le-suc k))
+count-twice (y ∷ l) zero (suc j) h k e = omega (arith, ap one (eq-eqb (getD l j 0) y (sym e)), at-count l j (le-of-suc-le-suc k))
 count-twice (y ∷ l) (suc i) (suc j) h k e = omega (arith, count-twice l i j (le-of-suc-le-suc h) (le-of-suc-le-suc k) e)
 
 distinct-at : (l : List ℕ) → ((k : ℕ) → count eqb k l ≤ 1) → (i j : ℕ) → i < length l → j < length l → i ≢ j → getD l i 0 ≢ getD l j 0
@@ -53,7 +49,7 @@ module _ (a : Arrays) (good : WellFormed a) (sized : Sized a) where
 
   -- the p-th kind is one of the layout's
   pub kind-among : (p : ℕ) → p < widthOf a → In used (getD (a .kinds) p 0)
-  kind-among p h = subst (In used) (used-at p h) (count-mem (getD used p 0) used (count-at used p (omega (arith, used-length))))
+  kind-among p h = subst (In used) (used-at p h) (at-in used p (omega (arith, used-length)))
 
   -- and no other
   pub kinds-apart : (p q : ℕ) → p < widthOf a → q < widthOf a → p ≢ q → getD (a .kinds) p 0 ≢ getD (a .kinds) q 0
@@ -61,12 +57,6 @@ module _ (a : Arrays) (good : WellFormed a) (sized : Sized a) where
       distinct-at used (good .kinds .once) p q (omega (arith, used-length)) (omega (arith, used-length)) ne (used-at p hp ∙ e ∙ sym (used-at q hq))
 
 -- ---- a list of arities that rise
-
-rising-at : (b n : ℕ) (ars : List ℕ) → Rising b n ars → (i : ℕ) → i < length ars → (getD (b ∷ ars) i 0 < getD ars i 0) × (getD ars i 0 ≤ n)
-unfolding Rising
-rising-at b n [] r i h = absurd (not-suc-le-zero h)
-rising-at b n (a ∷ ars) r zero h = (r .0, rising-le a n ars (r .1))
-rising-at b n (a ∷ ars) r (suc i) h = rising-at a n ars (r .1) i (le-of-suc-le-suc h)
 
 -- the last is all
 rising-last : (b n : ℕ) (ars : List ℕ) → Rising b n ars → getD (b ∷ ars) (length ars) 0 ≡ n
@@ -80,13 +70,6 @@ rising-order b n ars r i (suc j) h l =
     by-eq i j (λ e. rw e (omega arith)) (λ ne. omega (arith, rising-order b n ars r i j (omega arith) (omega arith), rising-at b n ars r j (omega arith) .0))
 
 -- ---- a family's groups
-
-pub prior-low : (a : Arrays) (f g : ℕ) → g ≤ startOf (a .ends) f → priorArity a f g ≡ 0
-prior-low a f zero h = refl
-prior-low a f (suc g) h = rw (le-ltb (startOf (a .ends) f) (suc g) h)
-
-pub prior-next : (a : Arrays) (f g : ℕ) → startOf (a .ends) f ≤ g → priorArity a f (suc g) ≡ getD (a .arities) g 0
-prior-next a f g h = rw (lt-ltb (startOf (a .ends) f) (suc g) (omega arith))
 
 module _ (a : Arrays) (good : WellFormed a) (sized : Sized a) (f : ℕ) (hf : f < a .families) where
   abbrev first : ℕ

@@ -14,9 +14,10 @@ use Rattle.layout.proofs.Family.{start-next}
 use Rattle.memory.specs.Header.{capacityOf, kindCapacityOf, slotOf}
 use Rattle.memory.specs.Meaning.{layoutArrays}
 use Rattle.memory.specs.Arranged.{priorArity}
+use Rattle.memory.proofs.Prior.{prior-low, prior-next}
 use Rattle.layouts.specs.Heads.{withOwn, Heads, kindNo, slotNo, Ready, InFamily, NewAt, placeNo, Upto, Headed, HeadsGroup}
 use Rattle.layouts.proofs.Words.{block-at, block-start}
-use Rattle.layouts.proofs.Arities.{prior-low, prior-next, prior-end, prior-less, arity-inside, place-below}
+use Rattle.layouts.proofs.Arities.{prior-end, prior-less, arity-inside, place-below}
 use Rattle.layouts.proofs.HeadSteps.{sized, heads-none, heads-then, ready-kept, capacity-same, arrays-same, slot-small, upto-more}
 
 -- ---- what the code reads of the layout's block

@@ -13,7 +13,7 @@ use Rattle.words.specs.Table.{by-eq}
 use Rattle.columns.specs.Columns.{columnOf, Columns}
 use Rattle.columns.proofs.Frames.{headed}
 use Rattle.layout.specs.Layout.{Arrays, Sized, WellFormed, widthOf}
-use Rattle.blocks.proofs.Agree.{block-sized}
+use Rattle.layout.proofs.Arrays.{block-sized}
 use Rattle.memory.specs.Header.{capacityOf, kindCapacityOf, registeredOf, slotOf}
 use Rattle.memory.specs.Meaning.{kindAt, ownAt, localAt, layoutArrays}
 use Rattle.memory.proofs.Frames.{word-front, start-header, layout-arrays-same}

@@ -21,8 +21,7 @@ use Rattle.columns.proofs.Frames.{front-column, front-columns}
 use Rattle.entity.specs.Meaning as entity
 use Rattle.entity.specs.Change.{entityPart, entitiesIn}
 use Rattle.layout.specs.Layout.{Arrays, blockArrays, Sized, WellFormed, startOf, widthOf, groupCount, kindsAt, aritiesAt, groupsFrom, familyAt, familiesOf}
-use Rattle.blocks.proofs.Agree.{block-sized}
-use Rattle.blocks.proofs.Buildable.{all-kinds}
+use Rattle.layout.proofs.Arrays.{none-formed, table-none, layout-kinds, block-sized}
 use Rattle.memory.specs.Header.{capacityOf, kindCapacityOf, registeredOf, layoutGroups, refusalsOf, slotOf, groupFamilyAt}
 use Rattle.memory.specs.Meaning.{kindAt, kindsIn, setAt, setsIn, draftArrays, layoutArrays, draftIn, layoutIn, meaning}
 use Rattle.memory.specs.Arranged.{TableSound, GroupSound, LayoutSound, Arranged, Becomes}
@@ -45,20 +44,6 @@ groups-uncounted counts z g ks b (a ∷ ars) =
 uncounted : (counts : List ℕ) (a : Arrays) → ((g : ℕ) → getD counts g 0 ≡ 0) → familiesOf counts a ≡ familiesOf [] a
 uncounted counts a z =
     table-same [] (a .families) (familyAt [] a) (familyAt counts a) (λ f h. groups-uncounted counts z (startOf (a .ends) f) (kindsAt a f) 0 (aritiesAt a f))
-
-none-formed : (b : List ℕ) → WellFormed (blockArrays b 0)
-none-formed b =
-    record {
-      few = omega arith;
-      wide = omega arith;
-      many = omega arith;
-      kinds = record { once = λ k. omega arith; known = λ k h. refl };
-      family = λ f h. absurd (omega arith);
-    }
-
-table-none : {A : Type 0} (f : ℕ → A) → table 0 f ≡ []
-unfolding table
-table-none f = refl
 
 -- ---- the family of a group
 
@@ -127,7 +112,7 @@ module _ (w₀ w₁ : List ℕ) (A : Arranged w₀) (M : Sound (meaning w₀)) (
   unfolding meaning draftIn
   registered₀ p h =
       M .draft .known (getD (d .kinds) p 0)
-      (subst (λ (l : List ℕ). In l (getD (d .kinds) p 0)) (sym (all-kinds d (A .draft) sized₀ [])) (kind-among d (A .draft) sized₀ p h))
+      (subst (λ (l : List ℕ). In l (getD (d .kinds) p 0)) (sym (layout-kinds [] d (A .draft) sized₀)) (kind-among d (A .draft) sized₀ p h))
 
   slotted₁ : (p : ℕ) → p < widthOf d → Slotted w₁ (getD (d .kinds) p 0)
   slotted₁ p h =

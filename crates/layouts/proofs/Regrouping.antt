@@ -4,25 +4,25 @@ use mathlib.Core.List.{List, [], _∷_}
 use Prim.Native.Nat.{ℕ, _+_, _≤_, _<_}
 use native.Mathlib.Omega.{arith}
 use lib.ListN.{length, getD, drop, drop-of-length-le}
-use Rattle.model.specs.Model.{Entity, SparseSet, Family, Storage, noEntity, groupsOf, groupFamily, groupAll, regroup, setLayout}
-use Rattle.model.specs.Store.{Store}
+use Rattle.model.specs.Model.{Entity, SparseSet, Family, Storage, noEntity, groupsOf, groupFamily, groupAll, regroup}
+use Rattle.model.specs.Store.{Store, withStorage, withDraft}
 use Rattle.model.specs.Sound.{Sound}
+use Rattle.model.proofs.Regroup.{FreshAll, setLayout-is}
 use Rattle.model.proofs.Held.{distinct-families, buildable-fresh}
 use Rattle.masks.specs.Masks.{upFrom, has}
 use Rattle.masks.proofs.Lists.{has-up, between-parts}
-use Rattle.words.specs.Offsets.{columnStart}
 use Rattle.layout.proofs.Scan.{drop-step}
-use Rattle.memory.specs.Header.{capacityOf, kindCapacityOf}
 use Rattle.memory.specs.Meaning.{meaning}
 use Rattle.memory.specs.Change.{onStorage}
 use Rattle.memory.specs.Arranged.{Arranged, Becomes}
+use Rattle.memory.proofs.Becomes.{stays, becomes-next}
 use Rattle.group.specs.Flat.{walkUp}
 use Rattle.group.specs.Ready.{ReadyUp, ReadyEach}
 use Rattle.group.specs.Steps.{Below}
 use Rattle.group.proofs.Upward.{length-up}
 use Rattle.group.proofs.UpReady.{ready-regroup}
 use Rattle.group.proofs.AllGroups.{walk-each, ready-next}
-use Rattle.group.proofs.Storing.{becomes-same, becomes-then}
+use Rattle.group.proofs.Storing.{becomes-then}
 use Rattle.layouts.specs.Steps.{installed, applied}
 
 -- how many groups there are stays
@@ -49,7 +49,7 @@ pub record Regrouping (w₀ w : List ℕ) (i : ℕ) : Type 0 where
   pub groups : groupsOf (meaning w .storage .layout) ≡ groupsOf (meaning w₀ .storage .layout)
 
 pub regroup-start : (w : List ℕ) → Arranged w → ReadyEach (meaning w .entities .live) (meaning w .storage) → Regrouping w w 0
-regroup-start w A r = record { below = omega arith; soFar = becomes-same w A; still = refl; ready = r; groups = refl }
+regroup-start w A r = record { below = omega arith; soFar = stays A; still = refl; ready = r; groups = refl }
 
 -- what a walk asks
 pub record WalkAsk (w : List ℕ) (e : Entity) (ps : List ℕ) : Type 0 where
@@ -116,22 +116,9 @@ module _ (w w₁ : List ℕ) (M : Sound (meaning w)) (B : Becomes w w₁ (instal
       subst (λ (x : Store). ReadyEach (x .entities .live) (x .storage)) (sym (B .means))
       (ready-regroup (m .entities .live) (m .control .draft) (m .storage .sets) (buildable-fresh (m .control .draft) (M .draft .families) (M .uncounted)) (distinct-families (m .control .draft) (M .draft .once)))
 
-  capacity-means : (u : List ℕ) → meaning u .capacity ≡ capacityOf u
-  unfolding meaning
-  capacity-means u = refl
-
-  kinds-mean : (u : List ℕ) → meaning u .kindCapacity ≡ kindCapacityOf u
-  unfolding meaning
-  kinds-mean u = refl
-
   pub applied-becomes : (w₂ : List ℕ) → Becomes w₁ w₂ (onStorage (regroup (meaning w₁ .entities .live)) (meaning w₁)) → Becomes w w₂ (applied (meaning w))
-  unfolding setLayout
   applied-becomes w₂ C =
-      let c : capacityOf w₁ ≡ capacityOf w = sym (capacity-means w₁) ∙ ap (λ (m : Store). m .capacity) (B .means) ∙ capacity-means w in
-      let k : kindCapacityOf w₁ ≡ kindCapacityOf w = sym (kinds-mean w₁) ∙ ap (λ (m : Store). m .kindCapacity) (B .means) ∙ kinds-mean w in
-      record {
-        arranged = C .arranged;
-        means = C .means ∙ ap (λ (m : Store). onStorage (regroup (m .entities .live)) m) (B .means);
-        size = C .size ∙ B .size;
-        past = subst (λ (n : ℕ). drop n w₂ ≡ drop n w₁) (ap₂ columnStart c k) (C .past) ∙ B .past;
-      }
+      let m = meaning w in
+      let fresh : FreshAll (m .control .draft) = buildable-fresh (m .control .draft) (M .draft .families) (M .uncounted) in
+      subst (λ (q : Storage). Becomes w w₂ (withStorage m q (withDraft (m .control) []))) (sym (setLayout-is (m .entities .live) (m .control .draft) (m .storage) fresh))
+      (becomes-next (installed m) (λ (x : Store). onStorage (regroup (x .entities .live)) x) B (record { capacity = refl; kindCapacity = refl }) C)

@@ -1,5 +1,8 @@
 // A layout put in force (component_storage.rs, set_layout).
 use masks::group_mask::GroupMask;
+use words::LAYOUT_ARITIES;
+use words::LAYOUT_ENDS;
+use words::LAYOUT_KIND_ENDS;
 ghost use mathlib.Core.Path.{_≡_};
 ghost use Prim.Native.Nat.{_+_, _≤_, _<_};
 ghost use lib.ListN.{length, getD};
@@ -14,13 +17,6 @@ ghost use Rattle.memory.specs.Arranged.{Arranged, Becomes, priorArity};
 ghost use Rattle.group.specs.Ready.{ReadyEach};
 ghost use Rattle.layouts.specs.Steps.{installed, applied, Filled, Copied, EndsAsk, Numbered, switched, Prepared};
 ghost use Rattle.layouts.specs.Heads.{withOwn, ClearsHeads, slotNo, Ready, InFamily, placeNo, Upto, Headed, HeadsGroup};
-
-// The parts of the layout's block: the groups' sizes, and where each family's kinds and groups end.
-const ARITIES: usize = words::LAYOUT + 128;
-
-const KIND_ENDS: usize = words::LAYOUT + 192;
-
-const ENDS: usize = words::LAYOUT + 256;
 
 // One value from start to end.
 fn fill(words: &mut [u32], start: usize, end: usize, value: usize)
@@ -41,7 +37,7 @@ fn copy_block(words: &mut [u32])
     ensures { λ _. ⌜ Copied (now (words .entry)) 320 (now (words .exit)) ⌝ }
 {
     let mut i = 0;
-    while i < 320 {
+    while i < words::BLOCK_LEN {
         words[words::LAYOUT + i] = words[words::DRAFT + i];
         i += 1;
     }
@@ -54,8 +50,8 @@ fn number_groups(words: &mut [u32], families: usize)
 {
     let mut f = 0;
     while f < families {
-        let start = group::start_of(words, ENDS, f);
-        let end = memory::word(words, ENDS + f);
+        let start = group::start_of(words, LAYOUT_ENDS, f);
+        let end = memory::word(words, LAYOUT_ENDS + f);
         fill(
             words,
             words::GROUP_FAMILIES + start,
@@ -96,8 +92,8 @@ fn put_own(words: &mut [u32], n: usize, slot: usize, own: usize, place: usize)
     ensures { λ _. ⌜ now (words .exit) ≡ withOwn n slot own place (now (words .entry)) ⌝ }
 {
     let base = words::column_start(n, slot);
-    words[base + 2] = own as u32;
-    words[base + 3] = place as u32;
+    words[base + words::OWN_GROUP] = own as u32;
+    words[base + words::PLACE_IN_FAMILY] = place as u32;
 }
 
 // No column of the first m is in a group.
@@ -134,8 +130,8 @@ fn put_group(words: &mut [u32], n: usize, f: usize, g: usize, prior: usize) -> u
     requires { ⌜ Upto (now words) (placeNo (layoutArrays (now words)) f prior) ⌝ }
     ensures { λ r. ⌜ HeadsGroup (now (words .entry)) (now (words .exit)) f g r ⌝ }
 {
-    let start = group::start_of(words, KIND_ENDS, f);
-    let arity = memory::word(words, ARITIES + g);
+    let start = group::start_of(words, LAYOUT_KIND_ENDS, f);
+    let arity = memory::word(words, LAYOUT_ARITIES + g);
     let mut j = prior;
     while j < arity {
         put_member(words, n, start + j, g, j);
@@ -153,8 +149,8 @@ fn put_family(words: &mut [u32], n: usize, f: usize)
     ensures { λ _. ⌜ Headed (now (words .entry)) (now (words .exit)) (getD (layoutArrays (now (words .entry)) .kindEnds) f 0) ⌝ }
 {
     let mut prior = 0;
-    let mut g = group::start_of(words, ENDS, f);
-    let end = memory::word(words, ENDS + f);
+    let mut g = group::start_of(words, LAYOUT_ENDS, f);
+    let end = memory::word(words, LAYOUT_ENDS + f);
     while g < end {
         prior = put_group(words, n, f, g, prior);
         g += 1;

@@ -177,13 +177,6 @@ skip-common w a b l h =
     keep-same (λ i. has i (skipping w a b)) (λ i. not (between a b i)) l
     (λ i m. has-keep i (λ j. not (between a b j)) (upFrom 0 w) ∙ ap (λ (t : Bool). t && not (between a b i)) (has-up i 0 w ∙ between-in 0 (0 + w) i (omega arith) (omega (arith, h i m))))
 
--- the first of a walk's positions lie from a to b - 1, and the others do not: skipping leaves the others
-pub skip-front : (a b : ℕ) (l r : List ℕ) → ((i : ℕ) → has i l ≡ true → between a b i ≡ true) → ((i : ℕ) → has i r ≡ true → between a b i ≡ false)
-    → keep (λ i. not (between a b i)) (l ++ r) ≡ r
-skip-front a b l r inside outside =
-    keep-append (λ i. not (between a b i)) l r
-    ∙ ap₂ _++_ (keep-none (λ i. not (between a b i)) l (λ i m. ap not (inside i m))) (keep-all (λ i. not (between a b i)) r (λ i m. ap not (outside i m)))
-
 -- a member of a union
 pub has-union : (w i : ℕ) (xs ys : List ℕ) → i < w → has i (unionOf w xs ys) ≡ (has i xs || has i ys)
 has-union w i xs ys h =

@@ -1,6 +1,6 @@
 // One bit a group of the layout, and the walk over the set bits from either end.
 ghost use mathlib.Core.Path.{_≡_};
-ghost use mathlib.Core.List.{[], _∷_};
+ghost use mathlib.Core.List.{[]};
 ghost use Prim.Native.Nat.{_-_, _<_};
 ghost use Rattle.masks.specs.Masks.{bitsOf, upFrom, unionOf, commonOf, skipping, Ordered};
 ghost use Rattle.masks.specs.Walk.{Lowest, Highest, Asks};
@@ -36,13 +36,6 @@ impl GroupMask {
     {
         let m = GroupMask::from_to(from, to);
         GroupMask(!m.0)
-    }
-
-    pub fn single(index: usize) -> GroupMask
-        requires { ⌜ index < 64 ⌝ }
-        ensures { λ r. ⌜ bitsOf 64 (r .0) ≡ index ∷ [] ⌝ }
-    {
-        GroupMask(1 << index)
     }
 
     pub fn union(self, other: GroupMask) -> GroupMask

@@ -2,7 +2,7 @@
 ghost use mathlib.Core.Path.{_≡_};
 ghost use mathlib.Core.List.{[], _∷_};
 ghost use Prim.Native.Nat.{_-_, _<_};
-ghost use Rattle.masks.specs.Masks.{bitsOf, upFrom, unionOf, commonOf, skipping, Ordered};
+ghost use Rattle.masks.specs.Masks.{bitsOf, upFrom, unionOf, Ordered};
 
 pub struct StorageMask(pub u16);
 
@@ -21,15 +21,6 @@ impl StorageMask {
         StorageMask(((1 << (to - from)) - 1) << from)
     }
 
-    // All but the bits from to to - 1.
-    pub fn skip_from_to(from: usize, to: usize) -> StorageMask
-        requires { ⌜ Ordered 16 from to ⌝ }
-        ensures { λ r. ⌜ bitsOf 16 (r .0) ≡ skipping 16 from to ⌝ }
-    {
-        let m = StorageMask::from_to(from, to);
-        StorageMask(!m.0)
-    }
-
     pub fn single(index: usize) -> StorageMask
         requires { ⌜ index < 16 ⌝ }
         ensures { λ r. ⌜ bitsOf 16 (r .0) ≡ index ∷ [] ⌝ }
@@ -41,11 +32,5 @@ impl StorageMask {
         ensures { λ r. ⌜ bitsOf 16 (r .0) ≡ unionOf 16 (bitsOf 16 (self .0)) (bitsOf 16 (other .0)) ⌝ }
     {
         StorageMask(self.0 | other.0)
-    }
-
-    pub fn intersection(self, other: StorageMask) -> StorageMask
-        ensures { λ r. ⌜ bitsOf 16 (r .0) ≡ commonOf (bitsOf 16 (self .0)) (bitsOf 16 (other .0)) ⌝ }
-    {
-        StorageMask(self.0 & other.0)
     }
 }

@@ -1,7 +1,6 @@
 -- A change of one column, of the entity part, of the control words or of a group's count, as a change of the model's store. Assumes nothing.
-use mathlib.Core.Path.{_≡_, refl, sym, ap, _∙_, subst}
+use mathlib.Core.Path.{_≡_, refl, sym, ap, _∙_, subst, ap₂}
 use mathlib.Core.Logic.{_≢_}
-use mathlib.Core.Bool.{Bool, true, false}
 use mathlib.Core.List.{List, []}
 use Prim.Native.Nat.{ℕ, _+_, _*_, _-_, _≤_, _<_}
 use native.Mathlib.Omega.{arith}
@@ -10,17 +9,18 @@ use lib.Dec.{ltb}
 use lib.ListN.{length, getD, set, drop, length-set}
 use lib.Seq.{getD-set-same, getD-set-other, drop-set-lt, ext-getD}
 use Rattle.model.specs.Model.{Entities, SparseSet, Storage, setOf}
-use Rattle.model.specs.Run.{withControl}
+use Rattle.model.specs.Run.{withControl, Store}
+use Rattle.model.proofs.Walk.{bool-cases}
 use Rattle.words.specs.Offsets.{columnStart, columnStart-mono}
 use Rattle.words.specs.Part.{between, between-rest, length-between, getD-between}
-use Rattle.words.specs.Table.{table, table-same, table-set, getD-table, by-eq}
+use Rattle.words.specs.Table.{table, table-same, table-set, getD-table, by-eq, length-table}
 use Rattle.component.specs.SparseSet.{rows, Sound}
 use Rattle.columns.specs.Columns.{columnOf, rowsOf, Columns, One}
 use Rattle.entity.specs.Meaning as entity
 use Rattle.entity.specs.Change.{entityPart, entitiesIn, EntityChange}
 use Rattle.layout.specs.Layout.{WellFormed, groupCount, familiesOf}
 use Rattle.memory.specs.Header.{capacityOf, kindCapacityOf, registeredOf, stagedLen, excludedLen, draftGroups, slotOf}
-use Rattle.memory.specs.Meaning.{kindAt, setAt, setsIn, draftArrays, layoutArrays, layoutIn, controlIn, meaning}
+use Rattle.memory.specs.Meaning.{kindAt, setAt, setsIn, draftArrays, layoutArrays, layoutIn, controlIn, meaning, kindsIn}
 use Rattle.memory.specs.Change.{onSet, withEntities, onStorage, withLayout}
 use Rattle.memory.specs.Arranged.{Arranged, Becomes}
 use Rattle.memory.proofs.Kept.{Kept, kinds-kept, arranged-kept}
@@ -44,16 +44,12 @@ module _ (w : List ℕ) (A : Arranged w) where
   pub slot-real : (k : ℕ) → slotOf w k < registeredOf w → slotOf w k ≢ 255
   slot-real k h = omega (arith, A .table .few, kinds-few)
 
-choose : {P : Type 0} (b : Bool) → (b ≡ true → P) → (b ≡ false → P) → P
-choose true f g = f refl
-choose false f g = g refl
-
 -- the sparse sets, from the registered columns
 module _ (w w′ : List ℕ) (K : Kept w w′) where
   set-same : (k : ℕ) → k < 128 → (slotOf w k < registeredOf w → rowsOf (capacityOf w) (slotOf w k) w′ ≡ rowsOf (capacityOf w) (slotOf w k) w) → setAt w′ k ≡ setAt w k
   set-same k h r =
       rw (K .slots k h, K .registered, K .capacity)
-      (choose (ltb (slotOf w k) (registeredOf w)) (λ t. rw (t, r (ltb-true (slotOf w k) (registeredOf w) t))) (λ t. rw t))
+      (bool-cases (ltb (slotOf w k) (registeredOf w)) (λ t. rw (t, r (ltb-true (slotOf w k) (registeredOf w) t))) (λ t. rw t))
 
   pub sets-same : ((s : ℕ) → s < registeredOf w → rowsOf (capacityOf w) s w′ ≡ rowsOf (capacityOf w) s w) → setsIn w′ ≡ setsIn w
   unfolding setsIn
@@ -285,3 +281,43 @@ module _ (w : List ℕ) (A : Arranged w) (g c : ℕ) (hg : g < 64) where
     where
       count-control : controlIn w′ ≡ controlIn w
       count-control = control-parts w w′ A (length-set w (960 + g) c) set-other
+
+-- ---- one change after another
+
+-- words that no one changed
+pub stays : {w : List ℕ} → Arranged w → Becomes w w (meaning w)
+stays A = record { arranged = A; means = refl; size = refl; past = refl }
+
+pub capacity-means : (w : List ℕ) → meaning w .capacity ≡ capacityOf w
+unfolding meaning
+capacity-means w = refl
+
+pub kinds-mean : (w : List ℕ) → meaning w .kindCapacity ≡ kindCapacityOf w
+unfolding meaning
+kinds-mean w = refl
+
+-- a store with N and K as before
+pub record SameSize (s t : Store) : Type 0 where
+  pub capacity : t .capacity ≡ s .capacity
+  pub kindCapacity : t .kindCapacity ≡ s .kindCapacity
+
+pub becomes-next : {w₀ w w′ : List ℕ} (s : Store) (h : Store → Store) → Becomes w₀ w s → SameSize (meaning w₀) s → Becomes w w′ (h (meaning w)) → Becomes w₀ w′ (h s)
+becomes-next {w₀} {w} {w′} s h B z C =
+    let c : capacityOf w ≡ capacityOf w₀ = sym (capacity-means w) ∙ ap (λ (m : Store). m .capacity) (B .means) ∙ z .capacity ∙ capacity-means w₀ in
+    let k : kindCapacityOf w ≡ kindCapacityOf w₀ = sym (kinds-mean w) ∙ ap (λ (m : Store). m .kindCapacity) (B .means) ∙ z .kindCapacity ∙ kinds-mean w₀ in
+    record {
+      arranged = C .arranged;
+      means = C .means ∙ ap h (B .means);
+      size = C .size ∙ B .size;
+      past = subst (λ (n : ℕ). drop n w′ ≡ drop n w) (ap₂ columnStart c k) (C .past) ∙ B .past;
+    }
+
+-- ---- how many kinds and sparse sets there are
+
+pub kinds-count : (w : List ℕ) → length (meaning w .kinds) ≡ registeredOf w
+unfolding meaning kindsIn
+kinds-count w = length-table (registeredOf w) (kindAt w)
+
+pub sets-wide : (w : List ℕ) → length (meaning w .storage .sets) ≡ 128
+unfolding meaning setsIn
+sets-wide w = length-table 128 (setAt w)

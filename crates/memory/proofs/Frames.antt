@@ -4,12 +4,14 @@ use mathlib.Core.List.{List, []}
 use Prim.Native.Nat.{ℕ, _+_, _*_, _-_, _≤_, _<_}
 use native.Mathlib.Omega.{arith}
 use lib.ListN.{length, getD, take, drop}
-use lib.Seq.{getD-take, drop-drop, ext-getD}
+use lib.Seq.{getD-take, ext-getD, getD-drop}
 use Rattle.words.specs.Offsets.{columnStart, columnStart-needed, columnStart-mono}
 use Rattle.words.specs.Part.{between, length-between, getD-between}
 use Rattle.words.specs.Table.{table, table-same}
 use Rattle.columns.specs.Columns.{columnOf}
-use Rattle.layout.specs.Layout.{blockArrays, WellFormed, groupCount, familiesOf}
+pub use Rattle.columns.proofs.Slots.{drop-later}
+use Rattle.layout.specs.Layout.{blockArrays, WellFormed, groupCount, familiesOf, Sized}
+use Rattle.layout.proofs.Arrays.{block-sized}
 use Rattle.memory.specs.Header.{capacityOf, kindCapacityOf, stagedLen, excludedLen, draftGroups, refusalsOf, excludedAt}
 use Rattle.memory.specs.Meaning.{draftArrays, layoutArrays, draftIn, layoutIn, stagedAt, stagedIn, excludedIn, controlIn}
 use Rattle.memory.specs.Arranged.{Arranged}
@@ -23,11 +25,11 @@ word-front m w w′ e i h = sym (getD-take m w′ i 0 h) ∙ ap (λ (l : List �
 pub start-header : (n : ℕ) → columnStart n 0 ≡ 1024 + 16 * n
 start-header n = columnStart-needed n 0 ∙ omega arith
 
-pub drop-later : (e c : ℕ) (w v : List ℕ) → e ≤ c → drop e v ≡ drop e w → drop c v ≡ drop c w
-drop-later e c w v h q = from v ∙ ap (drop (c - e)) q ∙ sym (from w)
+pub word-rest : (m : ℕ) (w w′ : List ℕ) → drop m w′ ≡ drop m w → (i : ℕ) → m ≤ i → getD w′ i 0 ≡ getD w i 0
+word-rest m w w′ e i h = from w′ ∙ ap (λ (l : List ℕ). getD l (i - m) 0) e ∙ sym (from w)
   where
-    from : (u : List ℕ) → drop c u ≡ drop (c - e) (drop e u)
-    from u = let k : c ≡ e + (c - e) = omega arith in ap (λ (i : ℕ). drop i u) k ∙ sym (drop-drop (c - e) e u)
+    from : (u : List ℕ) → getD u i 0 ≡ getD (drop m u) (i - m) 0
+    from u = let k : i ≡ m + (i - m) = omega arith in ap (λ (j : ℕ). getD u j 0) k ∙ sym (getD-drop m u (i - m) 0)
 
 -- ---- parts of the meaning, from the words that they are read from
 
@@ -75,6 +77,9 @@ long w A =
       start-header (capacityOf w),
       columnStart-mono (capacityOf w) 0 (kindCapacityOf w) (omega arith),
     )
+
+pub layout-sized : (w : List ℕ) → Arranged w → Sized (layoutArrays w)
+layout-sized w A = block-sized (between 576 896 w) (getD w 7 0) (length-between 576 896 w (omega (arith, long w A)))
 
 -- ---- the header below the counts as it was
 

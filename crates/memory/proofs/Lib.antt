@@ -1,3 +1,4 @@
 pub mod Kept
 pub mod Frames
 pub mod Becomes
+pub mod Prior

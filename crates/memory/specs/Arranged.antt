@@ -6,10 +6,9 @@ use Prim.Native.Nat.{ℕ, zero, suc, _+_, _≤_, _<_}
 use mathlib.Core.Bool.{cond}
 use lib.Dec.{ltb}
 use lib.ListN.{length, getD, take, drop}
-use Rattle.model.specs.Run.{Store}
+use Rattle.model.specs.Store.{Store, wordsNeeded}
 use Rattle.model.specs.Sound.{In, Limits}
 use Rattle.model.specs.Sound as modelSound
-use Rattle.words.specs.Offsets.{columnStart}
 use Rattle.columns.specs.Columns.{Columns, rowsOf}
 use Rattle.entity.specs.Meaning as entity
 use Rattle.entity.specs.Change.{entityPart}
@@ -58,7 +57,7 @@ pub record LayoutSound (w : List ℕ) : Type 0 where
 -- all that the words must be besides meaning a sound store: enough of them, and tables, lookups and blocks that agree
 pub record Arranged (w : List ℕ) : Type 0 where
   pub limits : Limits (capacityOf w) (kindCapacityOf w)
-  pub enough : columnStart (capacityOf w) (kindCapacityOf w) ≤ length w
+  pub enough : wordsNeeded (capacityOf w) (kindCapacityOf w) ≤ length w
   pub table : TableSound w
   pub entities : entity.Sound (capacityOf w) (entityPart (capacityOf w) w)
   pub columns : Columns (capacityOf w) (kindCapacityOf w) w
@@ -79,4 +78,4 @@ pub record Becomes (w w′ : List ℕ) (s : Store) : Type 0 where
   pub arranged : Arranged w′
   pub means : meaning w′ ≡ s
   pub size : length w′ ≡ length w
-  pub past : drop (columnStart (capacityOf w) (kindCapacityOf w)) w′ ≡ drop (columnStart (capacityOf w) (kindCapacityOf w)) w
+  pub past : drop (wordsNeeded (capacityOf w) (kindCapacityOf w)) w′ ≡ drop (wordsNeeded (capacityOf w) (kindCapacityOf w)) w

@@ -49,7 +49,7 @@ untouched ks (f ∷ fs) z k i =
     (λ t. absurd (omega (arith, rw t at z)))
     (λ t. in-cases (kindsOf f) (layoutKinds fs) k i (λ j. unmet ks (kindsOf f) t k j) (λ j. untouched ks fs (rw t at z) k j))
 
-grown-same : (ks : List ℕ) (fs : List Family) → touched ks fs ≡ 0 → grown ks fs ≡ fs
+pub grown-same : (ks : List ℕ) (fs : List Family) → touched ks fs ≡ 0 → grown ks fs ≡ fs
 grown-same ks [] z = refl
 grown-same ks (f ∷ fs) z =
     bool-cases (meets ks (kindsOf f))
@@ -252,12 +252,9 @@ AddedSound kinds (refused n) = Unit {0}
 pub addGroup-sound : (kinds ks : List ℕ) (fs : List Family) → Distinct ks → ((k : ℕ) → In ks k → In kinds k) → DraftSound kinds fs → AddedSound kinds (addGroup ks fs)
 unfolding addGroup
 addGroup-sound kinds ks fs d known D =
-    cond-case (AddedSound kinds) (ltb (length ks) 2) _ _ (λ t. tt)
-    (λ small. cond-case (AddedSound kinds) (leb 16 (length ks)) _ _ (λ t. tt)
-    (λ wide. cond-case (AddedSound kinds) (present ks fs) _ _ (λ t. tt)
+    cond-case (AddedSound kinds) (leb 16 (length ks)) _ _ (λ t. tt)
+    (λ wide. cond-case (AddedSound kinds) (addsNothing ks fs) _ _ (λ t. tt)
     (λ new. cond-case (AddedSound kinds) (joins ks fs) _ _
     (λ fits. cond-case (AddedSound kinds) (leb 63 (groupsOf fs)) _ _ (λ t. tt)
-    (λ few.
-    let S : DraftSound kinds (withGroup ks fs) = withGroup-sound kinds ks fs d known (omega (arith, leb-false 16 (length ks) wide)) (omega (arith, leb-false 63 (groupsOf fs) few)) D (rw (small, new)) fits in
-    bool-cases (eqb (touched ks fs) 0) (λ z. rw z (rw z at S)) (λ z. rw z (rw z at S))))
-    (λ clash. tt))))
+    (λ few. withGroup-sound kinds ks fs d known (omega (arith, leb-false 16 (length ks) wide)) (omega (arith, leb-false 63 (groupsOf fs) few)) D new fits))
+    (λ clash. tt)))

@@ -6,7 +6,7 @@ use mathlib.Core.Option.{Option, some, none}
 use mathlib.Core.List.{List, [], _∷_, map}
 use Prim.Native.Nat.{ℕ, zero, suc, _-_, _*_, _≤_}
 use native.Mathlib.Omega.{arith}
-use borrow.Author.Tests.{ltb-false, eqb-false}
+use borrow.Author.Tests.{ltb-false, eqb-false, not-false}
 use lib.Dec.{eqb, ltb}
 use lib.ListN.{length, take, length-map, length-drop}
 use lib.Seq.{length-take-le}
@@ -18,7 +18,6 @@ use Rattle.model.specs.Entries.{refusesStart, makes, startedBy, start, e
 use Rattle.model.specs.Sound.{Limits, Sound}
 use Rattle.model.proofs.Walk.{or-false}
 use Rattle.model.proofs.Families.{or-false-right}
-use Rattle.model.proofs.KindLists.{not-false}
 use Rattle.model.proofs.Operations.{empty-sound}
 use Rattle.model.proofs.Lines.{none-to, first-exact}
 

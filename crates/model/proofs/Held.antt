@@ -1,24 +1,24 @@
 -- What the operations keep, as entities, kinds and components together; it is equivalent to the soundness of those. Assumes nothing.
 use mathlib.Core.Path.{_≡_, refl, ap, sym, _∙_, subst}
-use mathlib.Core.Bool.{Bool, true, false, true≢false}
+use mathlib.Core.Bool.{true, false, true≢false}
 use mathlib.Core.List.{List, [], _∷_, _++_, map}
 use Prim.Native.Nat.{ℕ, _≤_, _<_}
 use native.Mathlib.Omega.{arith}
-use borrow.Author.Tests.{lt-ltb, eq-eqb}
+use borrow.Author.Tests.{eq-eqb}
 use lib.Dec.{eqb}
-use lib.ListN.{length, take, length-map}
-use Rattle.model.specs.Lists.{one, count-place, count-take-le}
-use Rattle.model.specs.Model.{Entity, Entities, SparseSet, Group, Family, Component, Storage, sameEntity, mem, all, setOf, entityOf, held, allHeld, kindOf, kindsOf, headKind, insert, remove, clearAll, setLayout, destroy}
+use lib.ListN.{length, take}
+use Rattle.model.specs.Lists.{one, count-take-le}
+use Rattle.model.specs.Model.{Entity, Entities, SparseSet, Group, Family, Component, Storage, sameEntity, mem, all, setOf, held, allHeld, kindOf, kindsOf, headKind, insert, remove, clearAll, setLayout, destroy}
 use Rattle.model.specs.Sound.{Distinct, layoutKinds, Rising, BuildableFamilies, Uncounted, AllUncounted, Right, RightFrom, AllRight}
-use Rattle.model.proofs.SparseSets.{entity-eq, cond-case, key, and-left, and-right}
+use Rattle.model.proofs.SparseSets.{entity-eq, cond-case, key, and-left}
 use Rattle.model.proofs.Groups.{cnt, In}
-use Rattle.model.proofs.Walk.{bool-cases, in-right, or-true, Chain, Every, Below, GroupRight}
+use Rattle.model.proofs.Walk.{bool-cases, in-right, or-true, Chain, Every, Below, GroupRight, count-held}
 use Rattle.model.proofs.Families.{Fams, Kinds, Apart, allKinds, famKinds}
 use Rattle.model.proofs.Invariant.{Fit, holders, holders-count, count-is, count-number, insert-fit, insert-others, insert-kinds}
 use Rattle.model.proofs.Removal.{remove-fit, remove-fewer, remove-lost}
 use Rattle.model.proofs.Regroup.{Fresh, FreshAll, setLayout-fit, setLayout-entities, clearAll-fit, clearAll-entities}
 use Rattle.model.proofs.Numbers.{EntitiesOk, destroy-ok, cnt-cut, cnt-num}
-use Rattle.model.proofs.KindLists.{not-true, all-true, head-in, distinct-right, distinct-apart}
+use Rattle.model.proofs.KindLists.{not-true, all-true, head-in, distinct-right, distinct-apart, all-joined}
 
 -- entities, kinds and components together
 pub record Held (entities : Entities) (kinds : List ℕ) (storage : Storage) : Type 0 where
@@ -30,7 +30,7 @@ pub record Held (entities : Entities) (kinds : List ℕ) (storage : Storage) : T
 
 -- ---- the operations
 
-kinds-of : (staged : List Component) (n : ℕ) → ((k : ℕ) → In (map kindOf staged) k → k < n) → Kinds n staged
+pub kinds-of : (staged : List Component) (n : ℕ) → ((k : ℕ) → In (map kindOf staged) k → k < n) → Kinds n staged
 kinds-of [] n h = tt
 kinds-of (p ∷ ps) n h = (h (p .kind) (rw (eq-eqb (p .kind) (p .kind) refl)), kinds-of ps n (λ k i. h k (rw i (or-true (eqb k (p .kind))))))
 
@@ -135,20 +135,13 @@ module _ (entities : Entities) (kinds : List ℕ) (storage : Storage) (H : Held 
 
 -- ---- and groups as demand 3 says are held so
 
-held-of-count : (e : Entity) (sets : List SparseSet) (k : ℕ) → 1 ≤ cnt e (key sets k) → held e (setOf sets k) ≡ true
-held-of-count e sets k h = lt-ltb _ _ (rw (length-map (setOf sets k) entityOf) at (count-place sameEntity e (key sets k) h))
-
-all-append : (p : ℕ → Bool) (a b : List ℕ) → all p (a ++ b) ≡ true → all p a ≡ true
-all-append p [] b h = refl
-all-append p (k ∷ a) b h = rw (and-left (p k) (all p (a ++ b)) h, all-append p a b (and-right (p k) (all p (a ++ b)) h))
-
 -- a larger group has no more entities
 pub holders-fewer : (g h : List ℕ) (sets : List SparseSet) (l : List Entity) → length (holders (g ++ h) sets l) ≤ length (holders g sets l)
 holders-fewer g h sets [] = omega arith
 holders-fewer g h sets (e ∷ l) =
     let r = holders-fewer g h sets l in
     bool-cases (allHeld e (g ++ h) sets)
-    (λ t. rw (t, all-append (λ k. held e (setOf sets k)) g h t) (omega arith))
+    (λ t. rw (t, and-left (allHeld e g sets) (allHeld e h sets) (sym (all-joined (λ k. held e (setOf sets k)) g h) ∙ t)) (omega arith))
     (λ t. rw t (cond-case (λ (m : List Entity). length (holders (g ++ h) sets l) ≤ length m) (allHeld e g sets) _ _ (λ u. omega arith) (λ u. r)))
 
 module _ (sets : List SparseSet) (live : List Entity) (alive : (x : Entity) (k : ℕ) → 1 ≤ cnt x (key sets k) → 1 ≤ cnt x live) where
@@ -158,7 +151,7 @@ module _ (sets : List SparseSet) (live : List Entity) (alive : (x : Entity) (k :
         head = h;
         even = record { fit = R .places; align = R .aligned };
         full = λ x w all k j.
-            let a : allHeld x g sets ≡ true = all-true (λ y. held x (setOf sets y)) g (λ y u. held-of-count x sets y (all y u)) in
+            let a : allHeld x g sets ≡ true = all-true (λ y. held x (setOf sets y)) g (λ y u. count-held x sets y (all y u)) in
             omega (arith, R .exact k j x, rw a at (holders-count g sets live x), alive x hd (all hd i));
       }
 

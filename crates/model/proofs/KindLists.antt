@@ -1,13 +1,14 @@
 -- Lists of kinds: membership and counts. Assumes nothing.
 use mathlib.Core.Path.{_≡_, refl, ap, _∙_}
-use mathlib.Core.Bool.{Bool, true, false, cond, not, true≢false, false≢true}
+use mathlib.Core.Bool.{Bool, true, false, cond, false≢true, _&&_}
 use mathlib.Core.List.{List, [], _∷_, _++_}
-use Prim.Native.Nat.{ℕ, _+_, _≤_}
+use Prim.Native.Nat.{ℕ, zero, suc, _+_, _≤_, _<_}
 use native.Mathlib.Omega.{arith}
-use native.Mathlib.Nat.{zero-add}
+use native.Mathlib.Nat.{zero-add, le-of-suc-le-suc, not-suc-le-zero}
 use borrow.Author.Tests.{eqb-true, eq-eqb}
 use lib.Dec.{eqb}
-use lib.ListN.{length}
+use lib.ListN.{length, getD, take, drop, take-append-drop}
+use lib.Seq.{drop-cons}
 use Rattle.model.specs.Lists.{one, count, count-append}
 use Rattle.model.specs.Model.{mem, all, without, headKind}
 use Rattle.model.specs.Sound.{In, Distinct}
@@ -17,10 +18,6 @@ use Rattle.model.proofs.Families.{or-false-right}
 pub not-true : (b : Bool) → (b ≡ true → ⊥) → b ≡ false
 not-true true f = absurd (f refl)
 not-true false f = refl
-
-pub not-false : (b : Bool) → not b ≡ false → b ≡ true
-not-false true h = refl
-not-false false h = absurd (true≢false h)
 
 pub in-count : (l : List ℕ) (k : ℕ) → In l k → 1 ≤ count eqb k l
 in-count [] k i = absurd (false≢true i)
@@ -83,3 +80,25 @@ in-length (j ∷ l) k i = omega arith
 pub all-true : (p : ℕ → Bool) (l : List ℕ) → ((k : ℕ) → In l k → p k ≡ true) → all p l ≡ true
 all-true p [] f = refl
 all-true p (j ∷ l) f = rw (f j (rw (eq-eqb j j refl)), all-true p l (λ k i. f k (rw i (or-true (eqb k j)))))
+
+pub all-joined : (p : ℕ → Bool) (a b : List ℕ) → all p (a ++ b) ≡ (all p a && all p b)
+all-joined p [] b = refl
+all-joined p (k ∷ a) b = bool-cases (p k) (λ t. rw t (all-joined p a b)) (λ t. rw t)
+
+-- ---- the kind at a place
+
+pub at-count : (l : List ℕ) (i : ℕ) → i < length l → 1 ≤ count eqb (getD l i 0) l
+at-count [] i h = absurd (not-suc-le-zero h)
+at-count (k ∷ l) zero h = omega (arith, self-count k)
+at-count (k ∷ l) (suc i) h = omega (arith, at-count l i (le-of-suc-le-suc h))
+
+pub at-in : (l : List ℕ) (i : ℕ) → i < length l → In l (getD l i 0)
+at-in l i h = count-in l (getD l i 0) (at-count l i h)
+
+-- of distinct kinds, the one at a place is not among those before it
+pub distinct-new : (l : List ℕ) → Distinct l → (i : ℕ) → i < length l → mem (getD l i 0) (take i l) ≡ false
+distinct-new l d i h =
+    let k = getD l i 0 in
+    let e = ap (count eqb k) (take-append-drop i l) in
+    let c = ap (count eqb k) (drop-cons l i 0 h) in
+    not-true (mem k (take i l)) (λ t. omega (arith, d k, in-count (take i l) k t, count-append eqb k (take i l) (drop i l), self-count k))

@@ -11,7 +11,7 @@ use lib.Dec.{ltb}
 use lib.ListN.{length, take, drop, getD, length-append, length-map, length-drop}
 use Rattle.model.specs.Model.{Entity, SparseSet, Storage, Range, none, found, noRow, setOf, at, held, kindOf, range, addsNothing, create}
 use Rattle.model.specs.Store.{Store, le, stagedKinds, isKind}
-use Rattle.model.specs.Commands.{Command, REG, HOLD, NEW, PUT, TAKE, DROP, KILL, WIPE, GROUP, APPLY, BAR, RANGE, EMPTY, TALLY, Done, accepted, answerLength, componentBytes, heldBytes, rangeBytes, width, commandAt}
+use Rattle.model.specs.Commands.{Command, REG, HOLD, NEW, PUT, TAKE, DROP, KILL, WIPE, GROUP, APPLY, BAR, RANGE, EMPTY, TALLY, Done, accepted, answerLength, takenBytes, heldBytes, rangeBytes, width, commandAt}
 use Rattle.model.specs.Refusals.{firstLine, NoneHolds, beforeLines}
 use Rattle.model.specs.Run.{Outcome, refuses, accepts, does, Step, stops, goes, stepOf, stepIf, step, Ran, halt, more, runFor, run}
 use Rattle.model.proofs.SparseSets.{cond-case}
@@ -26,12 +26,12 @@ le-length (suc n) x = ap suc (le-length n (x / 256))
 pair-length : (x y : ℕ) → length (le 4 x ++ le 4 y) ≡ 8
 pair-length x y = length-append (le 4 x) (le 4 y) ∙ ap₂ (λ (a b : ℕ). a + b) (le-length 4 x) (le-length 4 y)
 
-component-length : (e : Entity) (rows : SparseSet) → length (componentBytes e rows) ≡ 9
+pub component-length : (e : Entity) (rows : SparseSet) → length (takenBytes e rows) ≡ 9
 component-length e rows = cond-case (λ (b : List ℕ). length b ≡ 9) (held e rows) _ _ (λ t. ap suc (le-length 8 (getD rows (at e rows) noRow .value))) (λ t. refl)
 
-held-length : (e : Entity) (ks : List ℕ) (p : Storage) → length (heldBytes e ks p) ≡ 9 * length ks
+pub held-length : (e : Entity) (ks : List ℕ) (p : Storage) → length (heldBytes e ks p) ≡ 9 * length ks
 held-length e [] p = refl
-held-length e (k ∷ ks) p = omega (arith, held-length e ks p, component-length e (setOf (p .sets) k), length-append (componentBytes e (setOf (p .sets) k)) (heldBytes e ks p))
+held-length e (k ∷ ks) p = omega (arith, held-length e ks p, component-length e (setOf (p .sets) k), length-append (takenBytes e (setOf (p .sets) k)) (heldBytes e ks p))
 
 range-length : (r : Range) → length (rangeBytes r) ≡ 9
 range-length none = refl

@@ -8,11 +8,11 @@ use Prim.Native.Nat.{ℕ, suc, _≤_, _<_}
 use native.Mathlib.Omega.{arith}
 use borrow.Author.Tests.{lt-ltb, le-ltb}
 use lib.ListN.{take}
-use Rattle.model.specs.Store.{Store, withControl, counted}
+use Rattle.model.specs.Store.{Store}
 pub use Rattle.model.specs.Refusals.{Unchanged}
 use Rattle.model.specs.Commands.{Command, REG, HOLD, NEW, PUT, TAKE, DROP, KILL, WIPE, GROUP, APPLY, BAR, RANGE, EMPTY, TALLY, Done, accepted, width, commandAt}
 use Rattle.model.specs.Refusals.{Line, firstLine, NoneHolds, First, linesOf, beforeLines}
-use Rattle.model.specs.Run.{Outcome, refuses, accepts, outcome, does, Step, stops, goes, stepOf, stepIf, step}
+use Rattle.model.specs.Run.{Outcome, refuses, accepts, outcome, does, Step, stops, goes, storeAfter, stepOf, stepIf, step}
 use Rattle.model.proofs.Walk.{bool-cases}
 
 -- ---- the first line that holds
@@ -142,7 +142,7 @@ pub record Refused (n w : ℕ) (s : Store) (p : Step) : Type 0 where
 pub refused-step : (w : ℕ) (c : Command) (s : Store) (n : ℕ) → does c s ≡ refuses n → Refused n w s (stepOf w s (does c s))
 refused-step w c s n e =
     record {
-      after = withControl s (counted (s .control));
+      after = storeAfter s (refuses n);
       step = rw e;
       same = record { capacity = refl; kindCapacity = refl; kinds = refl; entities = refl; storage = refl; staged = refl; excluded = refl; draft = refl };
       more = λ h. rw (lt-ltb (s .control .refusals) 4294967295 h);
@@ -159,8 +159,7 @@ stepIf-stops (some m) p n f e = ap {B = Option ℕ} some (stops-eq e)
 stepIf-stops none p n f e = absurd (f n e)
 
 stepOf-goes : (w : ℕ) (s : Store) (o : Outcome) (m : ℕ) → stepOf w s o ≡ stops m → ⊥
-stepOf-goes w s (refuses n) m e = let z : _≡_ {A = ℕ} 0 1 = cc in omega arith
-stepOf-goes w s (accepts t a) m e = let z : _≡_ {A = ℕ} 0 1 = cc in omega arith
+stepOf-goes w s o m e = let z : _≡_ {A = ℕ} 0 1 = cc in omega arith
 
 -- a run stops before a command exactly where the table gives the number, one of 4 to 6
 pub stop-exact : (b : ℕ) (t : List ℕ) (room : ℕ) (s : Store) (n : ℕ) → (step b t room s ≡ stops n) ↔ First beforeLines (record { byte = b; rest = t; room = room; store = s }) n

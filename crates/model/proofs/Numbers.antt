@@ -12,15 +12,14 @@ use lib.ListN.{length, getD, List·getD-map, length-map}
 use Rattle.model.specs.Lists.{one, count, count-append, count-place, getD-place, count-cutAt, map-cutAt, count-length-le}
 use Rattle.model.specs.Model.{Entity, Entities, sameEntity, noEntity, create, createWith, destroy, lastVersion}
 pub use Rattle.model.specs.Sound.{idxOf, num}
+use Rattle.model.specs.Sound.{EntitiesSound}
 use Rattle.model.proofs.SparseSets.{entity-eq, cond-case}
 use Rattle.model.proofs.Groups.{cnt, plc}
 use Rattle.model.proofs.Walk.{bool-cases}
 
-pub record EntitiesOk (c : Entities) : Type 0 where
-  pub single : (i : ℕ) → num i (c .live) + num i (c .recycled) ≤ 1
-  pub below : (i : ℕ) → 1 ≤ num i (c .live) + num i (c .recycled) → i < c .issued
-  pub positive : (x : Entity) → 1 ≤ cnt x (c .live) + cnt x (c .recycled) → 1 ≤ x .version
-  pub small : (x : Entity) → 1 ≤ cnt x (c .live) + cnt x (c .recycled) → x .version ≤ lastVersion
+-- sound, whatever the capacity
+abbrev pub EntitiesOk : Entities → Type 0
+EntitiesOk c = EntitiesSound (c .issued) c
 
 one-le : (x y : Entity) → one (sameEntity x y) ≤ one (eqb (x .index) (y .index))
 one-le x y = go (eqb (x .index) (y .index)) (eqb (x .version) (y .version))
@@ -44,6 +43,9 @@ cnt-snoc x l e = omega (arith, count-append sameEntity x l (e ∷ []))
 same-version : (x y : Entity) → 1 ≤ one (sameEntity x y) → x ≡ y
 same-version x y h = bool-cases (sameEntity x y) (λ t. entity-eq x y t) (λ t. absurd (omega (arith, rw t at h)))
 
+pub zero-of : {n : ℕ} → (1 ≤ n → ⊥) → n ≡ 0
+zero-of {n} f = let no : ¬ (1 ≤ n) = f in omega arith
+
 -- ---- an entity is created
 
 create-with : (w : List Entity) (c : Entities) → c .recycled ≡ w → EntitiesOk c → EntitiesOk ((createWith w c) .entities)
@@ -52,6 +54,7 @@ create-with [] c e ok =
     let w₀ : (i : ℕ) → num i (c .recycled) ≡ 0 = λ i. ap (num i) e in
     let none : num (c .issued) (c .live) + num (c .issued) (c .recycled) ≡ 0 = zero-of (λ h. omega (arith, ok .below (c .issued) h)) in
     record {
+      few = omega arith;
       single = λ i. ⊎-elim
           (λ p. omega (arith, num-snoc i (c .live) new, ok .single i, none, ap (λ (j : ℕ). num j (c .live)) p, ap one (eq-eqb i (c .issued) p)))
           (λ p. omega (arith, num-snoc i (c .live) new, ok .single i, ap one (ne-eqb i (c .issued) p)))
@@ -64,9 +67,6 @@ create-with [] c e ok =
       small = λ x h. bool-cases (sameEntity x new) (λ t. omega (arith, ap (λ (y : Entity). y .version) (entity-eq x new t))) (λ t. ok .small x (omega (arith, cnt-snoc x (c .live) new, ap one t)));
     }
   where
-    zero-of : {n : ℕ} → (1 ≤ n → ⊥) → n ≡ 0
-    zero-of f = let no : ¬ (1 ≤ _) = f in omega arith
-
     split : (i j : ℕ) → (i ≡ j) ⊎ (i ≡ j → ⊥)
     split i j = go (ℕ-discrete i j)
       where
@@ -75,6 +75,7 @@ create-with [] c e ok =
         go (no p) = inr p
 create-with (e ∷ es) c p ok =
     record {
+      few = omega arith;
       single = λ i. omega (arith, num-snoc i (c .live) e, ok .single i, ap (num i) p);
       below = λ i h. ok .below i (omega (arith, num-snoc i (c .live) e, ap (num i) p));
       positive = λ x h. ok .positive x (omega (arith, cnt-snoc x (c .live) e, ap (cnt x) p));
@@ -129,6 +130,7 @@ module _ (e : Entity) (c : Entities) (alive : 1 ≤ cnt e (c .live)) where
   pub destroy-ok : EntitiesOk c → EntitiesOk (destroy e c)
   destroy-ok ok =
       record {
+        few = omega arith;
         single = λ i. waits (λ (w : List Entity). num i ((destroy e c) .live) + num i w ≤ 1) (omega (arith, num-snoc i (c .recycled) next, num-cut i, ok .single i)) (omega (arith, num-cut i, ok .single i));
         below = λ i. waits (λ (w : List Entity). 1 ≤ num i ((destroy e c) .live) + num i w → i < (destroy e c) .issued) (λ h. issued-same i (ok .below i (omega (arith, num-snoc i (c .recycled) next, num-cut i)))) (λ h. issued-same i (ok .below i (omega (arith, num-cut i))));
         positive = λ x. waits (λ (w : List Entity). 1 ≤ cnt x ((destroy e c) .live) + cnt x w → 1 ≤ x .version)

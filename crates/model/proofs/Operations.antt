@@ -34,7 +34,7 @@ no-rows (r ∷ rows) h = absurd (omega (arith, h (r .entity), ap one (entity-sam
 pub sound-held : (s : Store) → Sound s → Held (s .entities) (s .kinds) (s .storage)
 sound-held s S =
     record {
-      numbers = record { single = S .entities .single; below = S .entities .below; positive = S .entities .positive; small = S .entities .small };
+      numbers = record { few = omega arith; single = S .entities .single; below = S .entities .below; positive = S .entities .positive; small = S .entities .small };
       fit = record {
         once = S .sets .once;
         fams = right-fams (s .storage .sets) (s .entities .live) (S .sets .alive) (s .storage .layout) (S .layout .families) (S .groups);

@@ -1,13 +1,11 @@
 -- What each command does, as laws to rewrite by: one for each line of its table, and one where no line holds. Assumes nothing.
 use mathlib.Core.Path.{_≡_, refl}
-use mathlib.Core.Bool.{true, false, _&&_}
+use mathlib.Core.Bool.{true, false}
 use mathlib.Core.List.{[], _∷_, _++_}
 use Prim.Native.Nat.{ℕ}
-use native.Mathlib.Omega.{arith}
-use borrow.Author.Tests.{ltb-true, lt-leb}
-use lib.Dec.{eqb, leb, ltb}
+use lib.Dec.{leb, ltb}
 use lib.ListN.{length}
-use Rattle.model.specs.Model.{Entity, Added, nothing, added, refused, mem, isLive, present, touched, groupsOf, addGroup, joins, destroy, insert, remove}
+use Rattle.model.specs.Model.{Entity, Added, nothing, added, refused, mem, isFull, isLive, groupsOf, addGroup, addsNothing, joins, destroy, insert, remove}
 use Rattle.model.specs.Store.{Store, le, stagedKinds, isKind, withControl, withStorage, withAll, withKinds, withStaged, withExcluded, withDraft, emptyStaged, emptyBoth}
 use Rattle.model.specs.Commands.{REG, HOLD, NEW, PUT, TAKE, DROP, KILL, WIPE, GROUP, APPLY, BAR, RANGE, EMPTY, TALLY, heldBytes, accepted}
 use Rattle.model.specs.Refusals.{linesOf, unknownKind}
@@ -71,11 +69,11 @@ module _ (s : Store) where
 
   -- ---- NEW
 
-  pub new-full : (eqb (length (s .entities .recycled)) 0 && leb (s .capacity) (s .entities .issued)) ≡ true → does NEW s ≡ refuses 12
+  pub new-full : isFull (s .capacity) (s .entities) ≡ true → does NEW s ≡ refuses 12
   unfolding does linesOf
   new-full h = rw h
 
-  pub new-created : (eqb (length (s .entities .recycled)) 0 && leb (s .capacity) (s .entities .issued)) ≡ false → does NEW s ≡ accepts ((accepted NEW s) .store) ((accepted NEW s) .answer)
+  pub new-created : isFull (s .capacity) (s .entities) ≡ false → does NEW s ≡ accepts ((accepted NEW s) .store) ((accepted NEW s) .answer)
   unfolding does linesOf
   new-created h = rw h
 
@@ -146,11 +144,8 @@ grouped s (refused n) = refuses n
 pub group-does : (s : Store) → does GROUP s ≡ grouped s (addGroup (stagedKinds s) (s .control .draft))
 unfolding does linesOf accepted addGroup
 group-does s =
-    bool-cases (ltb (length (stagedKinds s)) 2)
-    (λ a. let n : leb 16 (length (stagedKinds s)) ≡ false = lt-leb 16 (length (stagedKinds s)) (omega (arith, ltb-true (length (stagedKinds s)) 2 a)) in rw (a, n))
-    (λ a. bool-cases (leb 16 (length (stagedKinds s))) (λ b. rw (a, b))
-    (λ b. bool-cases (present (stagedKinds s) (s .control .draft)) (λ c. rw (a, b, c))
-    (λ c. bool-cases (joins (stagedKinds s) (s .control .draft))
-    (λ d. bool-cases (leb 63 (groupsOf (s .control .draft))) (λ e. rw (a, b, c, d, e))
-    (λ e. bool-cases (eqb (touched (stagedKinds s) (s .control .draft)) 0) (λ f. rw (a, b, c, d, e, f)) (λ f. rw (a, b, c, d, e, f))))
-    (λ d. rw (a, b, c, d)))))
+    bool-cases (leb 16 (length (stagedKinds s))) (λ a. rw a)
+    (λ a. bool-cases (addsNothing (stagedKinds s) (s .control .draft)) (λ b. rw (a, b))
+    (λ b. bool-cases (joins (stagedKinds s) (s .control .draft))
+    (λ c. bool-cases (leb 63 (groupsOf (s .control .draft))) (λ d. rw (a, b, c, d)) (λ d. rw (a, b, c, d)))
+    (λ c. rw (a, b, c))))

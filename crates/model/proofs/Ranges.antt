@@ -19,7 +19,7 @@ use Rattle.model.proofs.SparseSets.{entity-eq, entity-same, cond-case, 
 use Rattle.model.proofs.Walk.{bool-cases, in-left, in-right, or-cases, all-in, held-count, lacks-count}
 use Rattle.model.proofs.Invariant.{holders-count}
 use Rattle.model.proofs.Numbers.{cnt-num}
-use Rattle.model.proofs.KindLists.{not-true, all-true, head-in, distinct-left, distinct-right, distinct-apart}
+use Rattle.model.proofs.KindLists.{not-true, all-true, head-in, distinct-left, distinct-right, distinct-apart, all-joined}
 use Rattle.model.proofs.Demand.{between}
 
 -- ---- equal sets
@@ -32,10 +32,6 @@ same-in h g s k i = all-in (λ j. mem j h) g (and-right (within h g) (within g h
 
 all-same : (p : ℕ → Bool) (h g : List ℕ) → sameSet h g ≡ true → all p h ≡ all p g
 all-same p h g s = bool-cases (all p h) (λ t. t ∙ sym (all-true p g (λ k i. all-in p h t k (same-in h g s k i)))) (λ t. t ∙ sym (not-true (all p g) (λ u. true≢false (sym (all-true p h (λ k i. all-in p g u k (in-same h g s k i))) ∙ t))))
-
-all-joined : (p : ℕ → Bool) (a b : List ℕ) → all p (a ++ b) ≡ (all p a && all p b)
-all-joined p [] b = refl
-all-joined p (k ∷ a) b = bool-cases (p k) (λ t. rw t (all-joined p a b)) (λ t. rw t)
 
 module _ (sets : List SparseSet) where
   held-same : (x : Entity) (h g : List ℕ) → sameSet h g ≡ true → allHeld x h sets ≡ allHeld x g sets

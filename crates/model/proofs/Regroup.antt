@@ -123,11 +123,24 @@ fams-all : (key : ℕ → List Entity) (W : Entity → Type 0) → ((x : Entity)
 fams-all key W f [] fm = tt
 fams-all key W f (r ∷ rs) fm = (chain-all key W f [] r (fm .0), fams-all key W f rs (fm .1))
 
-pub setLayout-fit : (live : List Entity) (draft : List Family) (p : Storage) → ((x : Entity) (k : ℕ) → 1 ≤ cnt x (key (p .sets) k) → 1 ≤ cnt x live) → FreshAll draft → Apart (famKinds draft) → Fit p → Fit (setLayout live draft p)
+zero-counted : (f : Family) → Fresh f → map zeroCount f ≡ f
+zero-counted [] fr = refl
+zero-counted (r ∷ rs) fr = ap₂ {C = Family} (λ x xs. x ∷ xs) (λ i. record { newKinds = r .newKinds; count = sym (fr .1) i }) (zero-counted rs (fr .2))
+
+all-zero-counted : (fs : List Family) → FreshAll fs → map (map zeroCount) fs ≡ fs
+all-zero-counted [] fr = refl
+all-zero-counted (f ∷ fs) fr = ap₂ {C = List Family} (λ x xs. x ∷ xs) (zero-counted f (fr .0)) (all-zero-counted fs (fr .1))
+
+-- a draft's counts are 0 as they stand
+pub setLayout-is : (live : List Entity) (draft : List Family) (p : Storage) → FreshAll draft → setLayout live draft p ≡ regroup live (record { sets = p .sets; layout = draft })
 unfolding setLayout
+setLayout-is live draft p fr = ap (λ (l : List Family). regroup live (record { sets = p .sets; layout = l })) (all-zero-counted draft fr)
+
+pub setLayout-fit : (live : List Entity) (draft : List Family) (p : Storage) → ((x : Entity) (k : ℕ) → 1 ≤ cnt x (key (p .sets) k) → 1 ≤ cnt x live) → FreshAll draft → Apart (famKinds draft) → Fit p → Fit (setLayout live draft p)
 setLayout-fit live draft p alive fr a f =
     let s : Storage = record { sets = p .sets; layout = draft } in
     let R : Regrouped None live s (regroup live s) = regroup-good None live s a (fams-fresh (key (p .sets)) draft fr) in
+    rw (setLayout-is live draft p fr)
     record {
       once = λ x k. rw (R .same .entities x k) (f .once x k);
       fams = fams-all (key ((regroup live s) .sets)) (Or None live) (λ x k h. inr (alive x k (rw (R .same .entities x k) at h))) ((regroup live s) .layout) (R .fams);
@@ -136,8 +149,7 @@ setLayout-fit live draft p alive fr a f =
     }
 
 pub setLayout-entities : (live : List Entity) (draft : List Family) (p : Storage) → FreshAll draft → Apart (famKinds draft) → (x : Entity) (k : ℕ) → cnt x (key ((setLayout live draft p) .sets) k) ≡ cnt x (key (p .sets) k)
-unfolding setLayout
-setLayout-entities live draft p fr a x k = regroup-good None live (record { sets = p .sets; layout = draft }) a (fams-fresh (key (p .sets)) draft fr) .same .entities x k
+setLayout-entities live draft p fr a x k = rw (setLayout-is live draft p fr) (regroup-good None live (record { sets = p .sets; layout = draft }) a (fams-fresh (key (p .sets)) draft fr) .same .entities x k)
 
 -- ---- a wiped store
 

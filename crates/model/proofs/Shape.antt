@@ -77,10 +77,6 @@ unfolding regroup
 regroup-plain [] p = refl
 regroup-plain (e ∷ es) p = regroup-plain es (groupAll e (p .sets) (p .layout)) ∙ groupAll-plain e (p .sets) (p .layout)
 
-pub setLayout-plain : (live : List Entity) (draft : List Family) (p : Storage) → plain ((setLayout live draft p) .layout) ≡ plain draft
-unfolding setLayout
-setLayout-plain live draft p = regroup-plain live (record { sets = p .sets; layout = draft })
-
 plain-family : (f : Family) → map zeroCount (map zeroCount f) ≡ map zeroCount f
 plain-family [] = refl
 plain-family (r ∷ rs) = ap {B = Family} (λ xs. zeroCount r ∷ xs) (plain-family rs)
@@ -88,6 +84,10 @@ plain-family (r ∷ rs) = ap {B = Family} (λ xs. zeroCount r ∷ xs) (plain-fam
 plain-plain : (fs : List Family) → plain (plain fs) ≡ plain fs
 plain-plain [] = refl
 plain-plain (f ∷ fs) = ap₂ {C = List Family} (λ x xs. x ∷ xs) (plain-family f) (plain-plain fs)
+
+pub setLayout-plain : (live : List Entity) (draft : List Family) (p : Storage) → plain ((setLayout live draft p) .layout) ≡ plain draft
+unfolding setLayout
+setLayout-plain live draft p = regroup-plain live (record { sets = p .sets; layout = plain draft }) ∙ plain-plain draft
 
 pub clearAll-plain : (p : Storage) → plain ((clearAll p) .layout) ≡ plain (p .layout)
 unfolding clearAll

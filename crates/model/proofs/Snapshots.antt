@@ -18,7 +18,7 @@ use Rattle.model.specs.Sound.{Eight, Limits, Sound}
 use Rattle.model.proofs.SparseSets.{entity-same}
 use Rattle.model.proofs.Groups.{cnt}
 use Rattle.model.proofs.Walk.{bool-cases}
-use Rattle.model.proofs.Numbers.{EntitiesOk, num, live-few}
+use Rattle.model.proofs.Numbers.{EntitiesOk, num, live-few, zero-of}
 use Rattle.model.proofs.Values.{ColsOk}
 use Rattle.model.proofs.Operations.{eight0, sound-held}
 use Rattle.model.proofs.Sound.{Bytes, run-sound}
@@ -86,9 +86,6 @@ listed s S =
   where
     N : EntitiesOk (s .entities)
     N = sound-held s S .numbers
-
-    zero-of : {n : ℕ} → (1 ≤ n → ⊥) → n ≡ 0
-    zero-of {n} f = let no : ¬ (1 ≤ n) = f in omega arith
 
 -- any two sound stores write equal snapshots exactly if the same entities are live with the same components and values
 pub snapshots-of-sound : (s t : Store) → Sound s → Sound t → (snapshot s ≡ snapshot t) ↔ Same s t

@@ -6,7 +6,7 @@ use mathlib.Core.List.{List, [], _∷_}
 use Prim.Native.Nat.{ℕ, zero, suc, _-_, _^_, _≤_, _<_}
 use native.Mathlib.Omega.{arith}
 use native.Mathlib.Nat.{pow-suc}
-use borrow.Author.Tests.{ltb-false, leb-false}
+use borrow.Author.Tests.{ltb-false, leb-false, not-false}
 use lib.Dec.{ltb, leb, lit<}
 use lib.ListN.{length, take, drop, getD, length-take, length-drop}
 use Rattle.model.specs.Model.{Created, isLive, addsNothing, joins, withGroup, groupsOf, create}
@@ -20,7 +20,6 @@ pub use Rattle.model.specs.History.{Each}
 use Rattle.model.specs.Sound.{Eight, Limits, Sound}
 use Rattle.model.proofs.SparseSets.{cond-case}
 use Rattle.model.proofs.Families.{or-false-right}
-use Rattle.model.proofs.KindLists.{not-false}
 use Rattle.model.proofs.Draft.{DraftSound, withGroup-sound}
 use Rattle.model.proofs.Operations.{control-of, control-sound, register-sound, create-sound, create-is-live, insert-sound, remove-sound, kill-sound, clearAll-sound, setLayout-sound, stage-sound, exclude-sound, draft-sound, emptyStaged-sound, emptyBoth-sound, counted-sound, no-draft, empty-sound}
 use Rattle.model.specs.Refusals.{NoneHolds}

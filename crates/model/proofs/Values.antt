@@ -120,7 +120,7 @@ module _ (q : ℕ → Type 0) (q0 : q 0) where
 
   pub setLayout-ok : (live : List Entity) (draft : List Family) (p : Storage) → ColsOk (p .sets) → ColsOk ((setLayout live draft p) .sets)
   unfolding setLayout
-  setLayout-ok live draft p h = regroup-ok live (record { sets = p .sets; layout = draft }) h
+  setLayout-ok live draft p h = regroup-ok live (record { sets = p .sets; layout = _ }) h
 
   setOf-wiped : (sets : List SparseSet) (k : ℕ) → setOf (map (λ (c : SparseSet). []) sets) k ≡ []
   setOf-wiped [] k = refl

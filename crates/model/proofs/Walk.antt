@@ -5,12 +5,13 @@ use mathlib.Core.Bool.{Bool, true, false, _&&_, _||_, or-assoc, true≢false}
 use mathlib.Core.List.{List, [], _∷_, _++_, append-assoc}
 use Prim.Native.Nat.{ℕ, suc, _≤_, _<_}
 use native.Mathlib.Omega.{arith}
-use borrow.Author.Tests.{ltb-true, ltb-false, eqb-true, eq-eqb}
+use borrow.Author.Tests.{ltb-true, ltb-false, eqb-true, eq-eqb, lt-ltb}
 use lib.Dec.{eqb}
 use lib.ListN.{length, take, length-map}
 use Rattle.model.specs.Lists.{place-count, place-count-take, count-take-place, count-place}
 use Rattle.model.specs.Model.{Entity, SparseSet, Group, Family, Walked, Stepped, sameEntity, mem, all, setOf, entityOf, at, held, headKind, isGrouped, allHeld, swapTo, onKinds, groupComponents, groupFamily, kindsOf}
 use Rattle.model.proofs.SparseSets.{entity-eq, cond-case, key, key-swapped, key-kept, and-left, and-right}
+pub use mathlib.Core.Bool.{or-true}
 pub use Rattle.model.proofs.Groups.{bool-cases}
 use Rattle.model.proofs.Groups.{cnt, plc, In, Even, Full, Inside, Swapped, SameEntities, even-kept, full-kept, same-entities, low, inner-even, inner-full, inner-isGrouped, grown-even, grown-full, grown-isGrouped}
 
@@ -22,10 +23,6 @@ mem-append k (j ∷ a) b = rw (mem-append k a b) (sym (or-assoc (eqb k j) (mem k
 
 pub in-left : (a b : List ℕ) (k : ℕ) → In a k → In (a ++ b) k
 in-left a b k h = rw (mem-append k a b, h)
-
-pub or-true : (a : Bool) → (a || true) ≡ true
-or-true true = refl
-or-true false = refl
 
 pub in-right : (a b : List ℕ) (k : ℕ) → In b k → In (a ++ b) k
 in-right a b k h = rw (mem-append k a b, h) (or-true (mem k a))
@@ -144,6 +141,9 @@ all-missing p (j ∷ ks) t = go (p j) refl t (all-missing p ks)
 
 pub held-count : (e : Entity) (sets : List SparseSet) (k : ℕ) → held e (setOf sets k) ≡ true → 1 ≤ cnt e (key sets k)
 held-count e sets k t = place-count sameEntity e (key sets k) (rw (length-map (setOf sets k) entityOf) (ltb-true _ _ t))
+
+pub count-held : (e : Entity) (sets : List SparseSet) (k : ℕ) → 1 ≤ cnt e (key sets k) → held e (setOf sets k) ≡ true
+count-held e sets k h = lt-ltb _ _ (rw (length-map (setOf sets k) entityOf) at (count-place sameEntity e (key sets k) h))
 
 pub lacks-count : (e : Entity) (sets : List SparseSet) (k : ℕ) → held e (setOf sets k) ≡ false → cnt e (key sets k) ≡ 0
 lacks-count e sets k t =

@@ -42,15 +42,15 @@ commandAt b ops =
 -- ---- answers
 
 -- TAKE: "for each in hand order 1 byte held, value 8 (zeros if not held)"
-abbrev pub componentBytes : Entity → SparseSet → List ℕ
-componentBytes e rows =
+abbrev pub takenBytes : Entity → SparseSet → List ℕ
+takenBytes e rows =
     let yes′ : List ℕ = 1 ∷ le 8 (getD rows (at e rows) noRow .value) in
     let no″ : List ℕ = 0 ∷ le 8 0 in
     cond (held e rows) yes′ no″
 
 abbrev pub heldBytes : Entity → List ℕ → Storage → List ℕ
 heldBytes e [] p = []
-heldBytes e (k ∷ ks) p = componentBytes e (setOf (p .sets) k) ++ heldBytes e ks p
+heldBytes e (k ∷ ks) p = takenBytes e (setOf (p .sets) k) ++ heldBytes e ks p
 
 -- RANGE: "1 byte found, start 4, end 4 (zeros if none)"
 abbrev pub rangeBytes : Range → List ℕ
@@ -103,7 +103,8 @@ accepted (PUT e) s = done (withStorage s (insert e (s .control .staged) (s .stor
 accepted (TAKE e) s = done (withStorage s (remove e (stagedKinds s) (s .storage)) (emptyStaged (s .control))) (heldBytes e (stagedKinds s) (s .storage))
 -- "remove, no values"
 accepted (DROP e) s = done (withStorage s (remove e (stagedKinds s) (s .storage)) (emptyStaged (s .control))) []
--- "destroy"; "A destroyed card leaves all groups this way, highest first."
+-- "destroy"; "A destroyed card leaves all groups this way, highest first." Here the families come first to last, and in each its largest group first:
+-- families have no kind in common, so that their order changes nothing.
 accepted (KILL e) s = done (withAll s (destroy e (s .entities)) (remove e (s .kinds) (s .storage)) (s .control)) []
 -- "all parts go, cards live on"
 accepted WIPE s = done (withStorage s (clearAll (s .storage)) (s .control)) []

@@ -12,10 +12,12 @@ use Rattle.model.specs.Refusals.{firstLine, startLines, rollLines, colum
 
 -- ---- start: "whatever the words held, makes an empty store"
 
+-- what start gives: a refusal's number, or the store made
 pub data Started : Type 0 where
   refusesStart : ℕ → Started
   makes : Store → Started
 
+-- by the first line of its table that holds
 abbrev pub startedBy : Option ℕ → Store → Started
 startedBy (some n) s = refusesStart n
 startedBy none s = makes s
@@ -26,14 +28,17 @@ start n k words = startedBy (firstLine startLines (record { capacity = n; kindCa
 
 -- ---- column: "a kind's cards (index word, version word) or values (low word, high word) from start to end"
 
+-- "cards (index word, version word)"
 abbrev pub entityWords : List Entity → List ℕ
 entityWords [] = []
 entityWords (e ∷ es) = e .index ∷ e .version ∷ entityWords es
 
+-- "values (low word, high word)"
 abbrev pub valueWords : List ℕ → List ℕ
 valueWords [] = []
 valueWords (v ∷ vs) = v % 4294967296 ∷ v / 4294967296 ∷ valueWords vs
 
+-- a row's value
 abbrev pub valueOf : Row → ℕ
 valueOf r = r .value
 
@@ -50,6 +55,7 @@ partWords true a e rows = valueWords (part a e (map valueOf rows))
 unfoldable pub columnRefusal : ℕ → ℕ → ℕ → Store → Option ℕ
 columnRefusal k a e s = firstLine columnLines (record { kind = k; start = a; end = e; store = s })
 
+-- the words, or none where column is refused
 abbrev pub columnBy : Option ℕ → List ℕ → List ℕ
 columnBy (some n) w = []
 columnBy none w = w
@@ -60,13 +66,16 @@ column which k a e s = columnBy (columnRefusal k a e s) (partWords which a e (se
 
 -- ---- roll: the snapshot, if it has room
 
+-- what roll gives: a refusal's number, or the bytes written
 pub data Rolled : Type 0 where
   refusesRoll : ℕ → Rolled
   writes : List ℕ → Rolled
 
+-- by the first line of its table that holds
 abbrev pub rolledBy : Option ℕ → List ℕ → Rolled
 rolledBy (some n) b = refusesRoll n
 rolledBy none b = writes b
 
+-- refused where there are "fewer free bytes than .. the roll, takes"
 unfoldable pub roll : ℕ → Store → Rolled
 roll room s = rolledBy (firstLine rollLines (record { room = room; store = s })) (snapshot s)

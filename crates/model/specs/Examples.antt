@@ -32,7 +32,7 @@ ofRange (found a b) = 1 ∷ a ∷ b ∷ []
 abbrev ofEntity : Entity → List ℕ
 ofEntity e = e .index ∷ e .version ∷ []
 
-countsOf : List Family → List ℕ
+unfoldable pub countsOf : List Family → List ℕ
 countsOf [] = []
 countsOf (f ∷ fs) = map (λ (r : Group). r .count) f ++ countsOf fs
 
@@ -54,7 +54,7 @@ draft = draftOr [] (addGroup (1 ∷ 2 ∷ 3 ∷ 4 ∷ []) (draftOr [] (addGroup 
 staged : List ℕ → List Component
 staged ks = map (λ (k : ℕ). record { kind = k; value = 0 }) ks
 
-entity : ℕ → ℕ → Entity
+unfoldable pub entity : ℕ → ℕ → Entity
 entity i v = record { index = i; version = v }
 
 -- "Cards 0 {1,2,3}, 1 {1,2,3,4}, 2 {1,2}, 3 {1}."
@@ -62,13 +62,13 @@ four : Entities
 unfolding create none-issued
 four = (create ((create ((create ((create none-issued) .entities)) .entities)) .entities)) .entities
 
-filled : Storage
+unfoldable pub filled : Storage
 unfolding bare draft staged entity setLayout regroup groupAll insert groupTouched groupFamily groupComponents
 filled =
     insert (entity 3 1) (staged (1 ∷ [])) (insert (entity 2 1) (staged (1 ∷ 2 ∷ [])) (insert (entity 1 1) (staged (1 ∷ 2 ∷ 3 ∷ 4 ∷ [])) (insert (entity 0 1) (staged (1 ∷ 2 ∷ 3 ∷ [])) (setLayout [] draft bare))))
 
 -- "KILL card 1"
-killed : Storage
+unfoldable pub killed : Storage
 unfolding remove ungroup ungroupFamily ungroupComponents filled entity
 killed = remove (entity 1 1) (1 ∷ 2 ∷ 3 ∷ 4 ∷ 5 ∷ 6 ∷ []) filled
 

@@ -4,8 +4,8 @@ use mathlib.Core.Bool.{Bool, true, false, cond, not, _&&_, _||_}
 use mathlib.Core.List.{List, [], _∷_, _++_, map}
 use Prim.Native.Nat.{ℕ, suc, _+_, _-_}
 use lib.Dec.{eqb, leb, ltb}
-use lib.ListN.{length, take, getD, set}
-use Rattle.model.specs.Lists.{swap, count, place}
+use lib.ListN.{length, getD, set}
+use Rattle.model.specs.Lists.{swap, place, cutAt}
 
 -- ---- entities, rows, components, groups
 
@@ -114,8 +114,7 @@ insertRow e v rows =
 -- "Removal puts the last row in the gap."
 abbrev pub removeRow : Entity → SparseSet → SparseSet
 removeRow e rows =
-    let n = length rows - 1 in
-    let gone = take n (set rows (at e rows) (getD rows n noRow)) in
+    let gone = cutAt noRow (at e rows) rows in
     cond (held e rows) gone rows
 
 -- "swapped to the place": the entity's row and that at place c change places
@@ -263,9 +262,9 @@ unfoldable pub regroup : List Entity → Storage → Storage
 regroup [] s = s
 regroup (e ∷ es) s = regroup es (groupAll e (s .sets) (s .layout))
 
--- "Applying a layout keeps every column's order, starts counts at 0 and walks live cards in live-list order." The draft's counts are 0.
+-- "Applying a layout keeps every column's order, starts counts at 0 and walks live cards in live-list order."
 unfoldable pub setLayout : List Entity → List Family → Storage → Storage
-setLayout live draft s = regroup live (record { sets = s .sets; layout = draft })
+setLayout live draft s = regroup live (record { sets = s .sets; layout = map (map zeroCount) draft })
 
 -- ---- RANGE
 
@@ -352,25 +351,12 @@ abbrev pub grown : List ℕ → List Family → List Family
 grown ks [] = []
 grown ks (f ∷ fs) = cond (meets ks (kindsOf f)) (f ++ (newGroup (without ks (kindsOf f)) ∷ [])) f ∷ grown ks fs
 
--- "A new group of fewer than two kinds, or equal to one present, adds nothing. It is added if it shares no kind with any group, or if it holds every
--- kind of exactly one family, has more, and shares none with the others. Everything else clashes." In the table's order: 13 WIDE, 14 CLASH, 15 MANY.
-unfoldable pub addGroup : List ℕ → List Family → Added
-addGroup ks fs =
-    let fresh = added (fs ++ ((newGroup ks ∷ []) ∷ [])) in
-    let wider = added (grown ks fs) in
-    let fits = eqb (touched ks fs) 0 || (eqb (touched ks fs) 1 && covers ks fs) in
-    let place = cond (leb 63 (groupsOf fs)) (refused 15) (cond (eqb (touched ks fs) 0) fresh wider) in
-    let clash = cond fits place (refused 14) in
-    let known = cond (present ks fs) nothing clash in
-    let wide = cond (leb 16 (length ks)) (refused 13) known in
-    cond (ltb (length ks) 2) nothing wide
-
--- the same, taken apart for the table of refusals: "A new group of fewer than two kinds, or equal to one present, adds nothing."
+-- "A new group of fewer than two kinds, or equal to one present, adds nothing."
 abbrev pub addsNothing : List ℕ → List Family → Bool
 addsNothing ks fs = ltb (length ks) 2 || present ks fs
 
--- "it shares no kind with any group, or .. holds every kind of exactly one family .. and shares none with the others". That it has more kinds than
--- that family is that it is not equal to a group present.
+-- "It is added if it shares no kind with any group, or if it holds every kind of exactly one family, has more, and shares none with the others.
+-- Everything else clashes." That it has more kinds than that family is that it is not equal to a group present.
 abbrev pub joins : List ℕ → List Family → Bool
 joins ks fs = eqb (touched ks fs) 0 || (eqb (touched ks fs) 1 && covers ks fs)
 
@@ -381,6 +367,14 @@ withGroup ks fs =
     let wider = grown ks fs in
     cond (eqb (touched ks fs) 0) fresh wider
 
+-- the rule whole, in the table's order: 13 WIDE, 14 CLASH, 15 MANY
+unfoldable pub addGroup : List ℕ → List Family → Added
+addGroup ks fs =
+    let room = cond (leb 63 (groupsOf fs)) (refused 15) (added (withGroup ks fs)) in
+    let fits = cond (joins ks fs) room (refused 14) in
+    let new = cond (addsNothing ks fs) nothing fits in
+    cond (leb 16 (length ks)) (refused 13) new
+
 -- ---- entities
 
 -- the live list, the waiting numbers (longest waiting first), and how many numbers are issued ("from index 0 without gaps")
@@ -388,6 +382,10 @@ pub record Entities : Type 0 where
   pub live : List Entity
   pub recycled : List Entity
   pub issued : ℕ
+
+-- "no number issued"
+abbrev pub noEntities : Entities
+noEntities = record { live = []; recycled = []; issued = 0 }
 
 -- a new entity, and the entities with it
 pub record Created : Type 0 where
@@ -401,12 +399,17 @@ lastVersion = 4294967295
 -- "A new card takes the longest waiting number, else the next index at version 1, and joins the live list at its end"
 abbrev pub createWith : List Entity → Entities → Created
 createWith [] s =
-    record { entity = record { index = s .issued; version = 1 }; entities = record { live = s .live ++ (record { index = s .issued; version = 1 } ∷ []); recycled = []; issued = suc (s .issued) } }
+    let e : Entity = record { index = s .issued; version = 1 } in
+    record { entity = e; entities = record { live = s .live ++ (e ∷ []); recycled = []; issued = suc (s .issued) } }
 createWith (e ∷ es) s = record { entity = e; entities = record { live = s .live ++ (e ∷ []); recycled = es; issued = s .issued } }
 
 -- the same, by the store's own waiting numbers
 unfoldable pub create : Entities → Created
 create s = createWith (s .recycled) s
+
+-- where there is no number for a new entity, FULL: "none waiting, N issued"
+abbrev pub isFull : ℕ → Entities → Bool
+isFull n s = eqb (length (s .recycled)) 0 && leb n (s .issued)
 
 -- the entity is in the live list; where it is not, DEAD
 abbrev pub isLive : Entity → Entities → Bool
@@ -415,6 +418,5 @@ isLive e s = ltb (place sameEntity e (s .live)) (length (s .live))
 -- "when a card is destroyed, the list's last takes its place there. A destroyed one waits with its version plus one, or is retired if there is none."
 unfoldable pub destroy : Entity → Entities → Entities
 destroy e s =
-    let n = length (s .live) - 1 in
     let next = s .recycled ++ (record { index = e .index; version = suc (e .version) } ∷ []) in
-    record { live = take n (set (s .live) (place sameEntity e (s .live)) (getD (s .live) n noEntity)); recycled = cond (ltb (e .version) lastVersion) next (s .recycled); issued = s .issued }
+    record { live = cutAt noEntity (place sameEntity e (s .live)) (s .live); recycled = cond (ltb (e .version) lastVersion) next (s .recycled); issued = s .issued }

@@ -6,7 +6,7 @@ use mathlib.Core.List.{List, [], _∷_, _++_}
 use Prim.Native.Nat.{ℕ}
 use lib.Dec.{eqb, leb, ltb}
 use lib.ListN.{length, take}
-use Rattle.model.specs.Model.{Entity, mem, setOf, groupsOf, addsNothing, joins, isLive}
+use Rattle.model.specs.Model.{Entity, mem, setOf, groupsOf, addsNothing, joins, isFull, isLive}
 use Rattle.model.specs.Store.{Store, stagedKinds, isKind, wordsNeeded}
 use Rattle.model.specs.Commands.{Command, REG, HOLD, NEW, PUT, TAKE, DROP, KILL, WIPE, GROUP, APPLY, BAR, RANGE, EMPTY, TALLY, width, isCommand, commandAt, answerLength}
 use Rattle.model.specs.Snapshot.{snapshot}
@@ -191,7 +191,7 @@ linesOf (DROP e) = deadLine e ∷ []
 linesOf (KILL e) = deadLine e ∷ []
 linesOf NEW =
     -- "none waiting, N issued"
-    line FULL (λ s. eqb (length (s .entities .recycled)) 0 && leb (s .capacity) (s .entities .issued))
+    line FULL (λ s. isFull (s .capacity) (s .entities))
     ∷ []
 -- "GROUP answers "nothing added" for a small hand before 13 and for an equal group before 14."
 linesOf GROUP =

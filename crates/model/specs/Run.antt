@@ -2,12 +2,12 @@
 use mathlib.Core.Option.{Option, some, none}
 use mathlib.Core.List.{List, [], _∷_, _++_}
 use Prim.Native.Nat.{ℕ, zero, suc, _+_, _-_}
-use lib.ListN.{length, take, drop}
+use lib.ListN.{length, drop}
 pub use Rattle.model.specs.Store.{le, number, Control, Store, stagedKinds, isKind, withControl, withStorage, withAll, withKinds, emptyStaged, emptyBoth, withStaged, withExcluded, withDraft, counted}
 unfoldable pub use Rattle.model.specs.Store.{empty}
-pub use Rattle.model.specs.Commands.{Command, REG, HOLD, NEW, PUT, TAKE, DROP, KILL, WIPE, GROUP, APPLY, BAR, RANGE, EMPTY, TALLY, componentBytes, heldBytes, rangeBytes, widths, isCommand, entityOfBytes, commandAt, answerLength}
+pub use Rattle.model.specs.Commands.{Command, REG, HOLD, NEW, PUT, TAKE, DROP, KILL, WIPE, GROUP, APPLY, BAR, RANGE, EMPTY, TALLY, takenBytes, heldBytes, rangeBytes, widths, isCommand, entityOfBytes, commandAt, answerLength}
 use Rattle.model.specs.Commands.{Done, accepted, width}
-use Rattle.model.specs.Refusals.{firstLine, linesOf, beforeLines}
+use Rattle.model.specs.Refusals.{firstLine, linesOf, Ready, commandOf, beforeLines}
 
 -- what a command does: it is refused by a number, or accepted with the store after it and the answer after the 0 byte
 pub data Outcome : Type 0 where
@@ -29,10 +29,19 @@ pub data Step : Type 0 where
   stops : ℕ → Step
   goes : ℕ → List ℕ → Store → Step
 
--- "7 to 15 in a run write their number as one byte, add to the tally, change no other word, and the run goes on."
+-- the store after a command: "7 to 15 in a run .. add to the tally, change no other word"
+abbrev pub storeAfter : Store → Outcome → Store
+storeAfter s (refuses n) = withControl s (counted (s .control))
+storeAfter s (accepts s′ a) = s′
+
+-- its answer: "7 to 15 in a run write their number as one byte", an accepted one "after a 0 byte"
+abbrev pub answerOf : Outcome → List ℕ
+answerOf (refuses n) = n ∷ []
+answerOf (accepts s a) = 0 ∷ a
+
+-- "and the run goes on": refused or accepted, with the w bytes of the command read
 abbrev pub stepOf : ℕ → Store → Outcome → Step
-stepOf w s (refuses n) = goes w (n ∷ []) (withControl s (counted (s .control)))
-stepOf w s (accepts s′ a) = goes w (0 ∷ a) s′
+stepOf w s x = goes w (answerOf x) (storeAfter s x)
 
 -- "4 to 6 stop a run before the command and aren't tallied."
 abbrev pub stepIf : Option ℕ → Step → Step
@@ -41,7 +50,9 @@ stepIf none p = p
 
 -- the command of byte b, with the tape t after it
 unfoldable pub step : ℕ → List ℕ → ℕ → Store → Step
-step b t room s = stepIf (firstLine beforeLines (record { byte = b; rest = t; room = room; store = s })) (stepOf (suc (width b)) s (does (commandAt b (take (width b) t)) s))
+step b t room s =
+    let r : Ready = record { byte = b; rest = t; room = room; store = s } in
+    stepIf (firstLine beforeLines r) (stepOf (suc (width b)) s (does (commandOf r) s))
 
 -- ---- a run
 

@@ -16,6 +16,7 @@ use Rattle.model.specs.Store.{Store}
 abbrev pub cnt : Entity → List Entity → ℕ
 cnt x l = count sameEntity x l
 
+-- an entity's index
 abbrev pub idxOf : Entity → ℕ
 idxOf e = e .index
 
@@ -39,6 +40,7 @@ key sets k = keys (setOf sets k)
 abbrev pub Eight : ℕ → Type 0
 Eight v = v < 256 ^ 8
 
+-- what a lookup past the staged components gives
 abbrev pub noComponent : Component
 noComponent = record { kind = 0; value = 0 }
 
@@ -78,12 +80,14 @@ pub record SetsSound (kinds : List ℕ) (live : List Entity) (sets : List Sparse
 
 -- ---- "hand, bar .. of registered kinds, such as commands can build": "up to 16 distinct kinds with values", "up to 16 distinct kinds"
 
+-- the staged components
 pub record StagedSound (kinds : List ℕ) (staged : List Component) : Type 0 where
   pub few : length staged ≤ 16
   pub once : Distinct (map kindOf staged)
   pub known : (k : ℕ) → In (map kindOf staged) k → In kinds k
   pub values : (j : ℕ) → Eight (getD staged j noComponent .value)
 
+-- the excluded kinds
 pub record ExcludedSound (kinds excluded : List ℕ) : Type 0 where
   pub few : length excluded ≤ 16
   pub once : Distinct excluded
@@ -106,10 +110,12 @@ abbrev pub BuildableFamily : Family → Type 0
 BuildableFamily [] = ⊥
 BuildableFamily (r ∷ rs) = (2 ≤ length (r .newKinds)) × Rising rs × (length (kindsOf (r ∷ rs)) ≤ 15)
 
+-- and each family is such
 abbrev pub BuildableFamilies : List Family → Type 0
 BuildableFamilies [] = Unit {0}
 BuildableFamilies (f ∷ fs) = BuildableFamily f × BuildableFamilies fs
 
+-- such families, "with no kind in common", "of registered kinds", and no more groups than refusal 15 lets in
 pub record Buildable (kinds : List ℕ) (fs : List Family) : Type 0 where
   pub families : BuildableFamilies fs
   pub once : Distinct (layoutKinds fs)
@@ -121,6 +127,7 @@ abbrev pub Uncounted : Family → Type 0
 Uncounted [] = Unit {0}
 Uncounted (r ∷ rs) = (r .count ≡ 0) × Uncounted rs
 
+-- and so in each family
 abbrev pub AllUncounted : List Family → Type 0
 AllUncounted [] = Unit {0}
 AllUncounted (f ∷ fs) = Uncounted f × AllUncounted fs
@@ -146,12 +153,14 @@ abbrev pub RightFrom : List SparseSet → List Entity → List ℕ → Family �
 RightFrom sets live acc [] = Unit {0}
 RightFrom sets live acc (r ∷ rs) = Right sets live (acc ++ r .newKinds) (r .count) × RightFrom sets live (acc ++ r .newKinds) rs
 
+-- of each group of each family
 abbrev pub AllRight : List SparseSet → List Entity → List Family → Type 0
 AllRight sets live [] = Unit {0}
 AllRight sets live (f ∷ fs) = RightFrom sets live [] f × AllRight sets live fs
 
 -- ---- the store
 
+-- "A sound store", but for the three clauses of words
 pub record Sound (s : Store) : Type 0 where
   pub limits : Limits (s .capacity) (s .kindCapacity)
   pub kinds : KindsSound (s .kindCapacity) (s .kinds)
@@ -168,23 +177,27 @@ pub record Sound (s : Store) : Type 0 where
 
 -- ---- demand 3 of a store, for the theorems on runs
 
+-- each group of the layout in force has the right count, and the right entities at the front of its sparse sets
 abbrev pub GroupsRight : Store → Type 0
 GroupsRight s = AllRight (s .storage .sets) (s .entities .live) (s .storage .layout)
 
--- at every group that has a larger one: its count is no smaller, and between the two counts, in each of the smaller's sparse sets, stand exactly the
--- entities with all kinds of the smaller that lack one or more of the larger
+-- a group of kinds g and count c, and the next larger of its family, with more besides and count d: its count is no smaller, and between the two
+-- counts, in each of the smaller's sparse sets, stand exactly the entities with all kinds of the smaller that lack one or more of the larger
 pub record Between (sets : List SparseSet) (live : List Entity) (g more : List ℕ) (c d : ℕ) : Type 0 where
   pub falls : d ≤ c
   pub exact : (k : ℕ) → In g k → (x : Entity) → cnt x (drop d (take c (key sets k))) + cnt x (holders (g ++ more) sets live) ≡ cnt x (holders g sets live)
 
+-- of each two neighbours in a family; acc are the kinds of the group before
 abbrev pub BetweenFrom : List SparseSet → List Entity → List ℕ → Family → Type 0
 BetweenFrom sets live acc [] = Unit {0}
 BetweenFrom sets live acc (r ∷ []) = Unit {0}
 BetweenFrom sets live acc (r ∷ q ∷ rs) = Between sets live (acc ++ r .newKinds) (q .newKinds) (r .count) (q .count) × BetweenFrom sets live (acc ++ r .newKinds) (q ∷ rs)
 
+-- in each family
 abbrev pub AllBetween : List SparseSet → List Entity → List Family → Type 0
 AllBetween sets live [] = Unit {0}
 AllBetween sets live (f ∷ fs) = BetweenFrom sets live [] f × AllBetween sets live fs
 
+-- and in the layout in force
 abbrev pub GroupsBetween : Store → Type 0
 GroupsBetween s = AllBetween (s .storage .sets) (s .entities .live) (s .storage .layout)

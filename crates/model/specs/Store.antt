@@ -4,7 +4,7 @@ use mathlib.Core.List.{List, [], _∷_, map}
 use Prim.Native.Nat.{ℕ, zero, suc, _+_, _*_, _/_, _%_, _<_}
 use lib.Dec.{ltb}
 use lib.ListN.{replicate}
-use Rattle.model.specs.Model.{Family, Component, Storage, Entities, mem, kindOf}
+use Rattle.model.specs.Model.{Family, Component, Storage, Entities, noEntities, mem, kindOf}
 
 -- ---- bytes: "numbers in bytes are little-endian"
 
@@ -48,7 +48,7 @@ empty n k =
       capacity = n;
       kindCapacity = k;
       kinds = [];
-      entities = record { live = []; recycled = []; issued = 0 };
+      entities = noEntities;
       storage = record { sets = replicate 128 []; layout = [] };
       control = record { staged = []; excluded = []; draft = []; refusals = 0 };
     }

@@ -8,14 +8,15 @@ use Rattle.model.specs.Model.{none, range}
 use Rattle.model.specs.Sound.{In}
 use Rattle.words.specs.Part.{between, length-between}
 use Rattle.layout.specs.Layout.{Arrays}
+use Rattle.layout.proofs.Family.{between-none}
 use Rattle.memory.specs.Header.{stagedLen, excludedLen}
 use Rattle.memory.specs.Meaning.{layoutArrays, meaning}
 use Rattle.memory.specs.Arranged.{Arranged, Sound}
-use Rattle.memory.proofs.Frames.{long}
+use Rattle.memory.proofs.Frames.{long, layout-sized}
 use Rattle.state.proofs.Control.{staged-kinds, excluded-kinds}
 use Rattle.group.proofs.FlatArrays.{between-part}
-use Rattle.group.proofs.InWords.{layout-means, sized}
-use Rattle.group.proofs.Places.{between-none, between-more, between-in}
+use Rattle.group.proofs.InWords.{layout-means}
+use Rattle.group.proofs.Places.{between-more, between-in}
 use Rattle.group_info.specs.Info.{ViewAdded, InsideFound, infoOf, Tables}
 use Rattle.group_info.specs.Describes.{ViewOf, Describes, Scattered, rangeOf, RangeSays}
 use Rattle.group_info.specs.declared.ViewGroupInfo.{ViewGroupInfo}
@@ -35,8 +36,8 @@ module _ (w : List ℕ) (A : Arranged w) where
   -- ---- one kind more
 
   pub added-more : (k : ℕ) (q : QueryGroupInfo) (v : ViewGroupInfo) (r : FoundQuery) → ViewOf (layoutArrays w) (meaning w .storage) k v → ViewAdded q v r → KindAdded w (added.Query q) k r
-  added-more k q v (added.Query p) x y hs d = describes-more a (A .layout .formed) (sized w A) (meaning w .storage) hs k q v (added.Query p) d x y
-  added-more k q v added.Nothing x y hs d = describes-more a (A .layout .formed) (sized w A) (meaning w .storage) hs k q v added.Nothing d x y
+  added-more k q v (added.Query p) x y hs d = describes-more a (A .layout .formed) (layout-sized w A) (meaning w .storage) hs k q v (added.Query p) d x y
+  added-more k q v added.Nothing x y hs d = describes-more a (A .layout .formed) (layout-sized w A) (meaning w .storage) hs k q v added.Nothing d x y
 
   pub added-none : (k : ℕ) → KindAdded w added.Nothing k added.Nothing
   added-none k hs d = scattered-more a hs (k ∷ []) d
@@ -62,7 +63,7 @@ module _ (w : List ℕ) (A : Arranged w) where
   arities-are = between-part 128 192 576 896 w (omega arith)
 
   pub query-inside : (hs : List ℕ) (q : QueryGroupInfo) → Describes (layoutArrays w) (meaning w .storage) hs q → InsideFound (between 704 768 w) (infoOf q)
-  query-inside hs q d = subst (λ (l : List ℕ). InsideFound l (infoOf q)) arities-are (describes-inside a (A .layout .formed) (sized w A) (meaning w .storage) hs q d)
+  query-inside hs q d = subst (λ (l : List ℕ). InsideFound l (infoOf q)) arities-are (describes-inside a (A .layout .formed) (layout-sized w A) (meaning w .storage) hs q d)
 
   pub both-queries : (hs bs : List ℕ) (p q : QueryGroupInfo) (r : GroupRange) → Describes (layoutArrays w) (meaning w .storage) hs p → Describes (layoutArrays w) (meaning w .storage) bs q
       → RangeSays (between 704 768 w) (between 960 1024 w) p q r → rangeOf r ≡ range hs bs (meaning w .storage)
@@ -74,7 +75,7 @@ module _ (w : List ℕ) (A : Arranged w) where
         staged = hs;
         excluded = bs;
         good = A .layout .formed;
-        sized = sized w A;
+        sized = layout-sized w A;
         arities = arities-are;
         layout = layout-means w A;
         included = d;
@@ -82,10 +83,10 @@ module _ (w : List ℕ) (A : Arranged w) where
       })
 
   pub no-staged : (hs bs : List ℕ) → Scattered (layoutArrays w) hs → none ≡ range hs bs (meaning w .storage)
-  no-staged hs bs x = sym (scattered-staged a (meaning w .storage) (between 960 1024 w) (A .layout .formed) (sized w A) (layout-means w A) hs bs x)
+  no-staged hs bs x = sym (scattered-staged a (meaning w .storage) (between 960 1024 w) (A .layout .formed) (layout-sized w A) (layout-means w A) hs bs x)
 
   pub no-excluded : (hs bs : List ℕ) → Scattered (layoutArrays w) bs → none ≡ range hs bs (meaning w .storage)
-  no-excluded hs bs x = sym (scattered-excluded a (meaning w .storage) (between 960 1024 w) (A .layout .formed) (sized w A) (layout-means w A) hs bs x)
+  no-excluded hs bs x = sym (scattered-excluded a (meaning w .storage) (between 960 1024 w) (A .layout .formed) (layout-sized w A) (layout-means w A) hs bs x)
 
 -- ---- the lists in the words
 

@@ -9,7 +9,7 @@ use lib.ListN.{length, getD, take}
 use lib.Seq.{getD-take, length-take-le}
 use Rattle.model.specs.Model.{mem, groupsOf}
 use Rattle.model.specs.Sound.{In}
-use Rattle.model.proofs.KindLists.{not-true}
+use Rattle.model.proofs.KindLists.{not-true, at-in}
 use Rattle.words.specs.Part.{between, getD-between}
 use Rattle.layout.specs.Layout.{Arrays, startOf, widthOf, kindsAt, aritiesAt, familiesOf, WellFormed}
 use Rattle.layout.proofs.Arrays.{kinds-inside, kinds-length, arities-length, family-rising}
@@ -17,11 +17,12 @@ use Rattle.layout.proofs.Family.{rising-at}
 use Rattle.memory.specs.Header.{slotOf, groupFamilyAt}
 use Rattle.memory.specs.Meaning.{localAt, layoutArrays, meaning}
 use Rattle.memory.specs.Arranged.{priorArity, Arranged}
+use Rattle.memory.proofs.Frames.{layout-sized}
 use Rattle.kinds.proofs.Owned.{Owned}
+use Rattle.kinds.proofs.Slot.{in-list}
 use Rattle.group.specs.Flat.{Located, located}
 use Rattle.group.proofs.FlatArrays.{located-is}
-use Rattle.group.proofs.InWords.{layout-means, sized, groups-are, group-sound}
-use Rattle.group.proofs.Places.{in-place, place-in}
+use Rattle.group.proofs.InWords.{layout-means, groups-are, group-sound}
 use Rattle.group_info.specs.Info.{KindInfo}
 use Rattle.group_info.specs.Describes.{Placed, GroupedKinds, Ungrouped}
 use Rattle.group_info.specs.declared.GroupInfo.{GroupInfo}
@@ -49,14 +50,14 @@ module _ (w : List ℕ) (A : Arranged w) where
     where
       there : mem k (kindsAt (layoutArrays w) f) ≡ true → ⊥
       there t =
-          let P = in-place (kindsAt a f) k t in
+          let P = in-list (kindsAt a f) k t in
           let s = startOf (a .kindEnds) f in
-          let low : s + P .at < getD (a .kindEnds) f 0 = omega (arith, P .below, kinds-length a good (sized w A) f h) in
-          let lt : s + P .at < widthOf a = omega (arith, kinds-inside a good f h) in
-          let l : length (take (widthOf a) (a .kinds)) ≡ widthOf a = length-take-le (widthOf a) (a .kinds) (omega (arith, good .wide, sized w A .kinds)) in
-          let e : getD (take (widthOf a) (a .kinds)) (s + P .at) 0 ≡ k =
-          getD-take (widthOf a) (a .kinds) (s + P .at) 0 lt ∙ sym (getD-between s (getD (a .kindEnds) f 0) (P .at) (a .kinds) 0 low) ∙ P .is in
-          true≢false (sym (subst (In (take (widthOf a) (a .kinds))) e (place-in (take (widthOf a) (a .kinds)) (s + P .at) (omega arith))) ∙ n)
+          let low : s + P .place < getD (a .kindEnds) f 0 = omega (arith, P .below, kinds-length a good (layout-sized w A) f h) in
+          let lt : s + P .place < widthOf a = omega (arith, kinds-inside a good f h) in
+          let l : length (take (widthOf a) (a .kinds)) ≡ widthOf a = length-take-le (widthOf a) (a .kinds) (omega (arith, good .wide, layout-sized w A .kinds)) in
+          let e : getD (take (widthOf a) (a .kinds)) (s + P .place) 0 ≡ k =
+          getD-take (widthOf a) (a .kinds) (s + P .place) 0 lt ∙ sym (getD-between s (getD (a .kindEnds) f 0) (P .place) (a .kinds) 0 low) ∙ P .is in
+          true≢false (sym (subst (In (take (widthOf a) (a .kinds))) e (at-in (take (widthOf a) (a .kinds)) (s + P .place) (omega arith))) ∙ n)
 
   pub real : (k g : ℕ) → Owned w k g → g < groupsOf (meaning w .storage .layout)
   real k g o = omega (arith, o .group, groups-are w A)
@@ -81,7 +82,7 @@ module _ (w : List ℕ) (A : Arranged w) where
     under = omega (arith, at, group-sound w A g (real k g o) .high)
 
     in-family : own < length (aritiesAt (layoutArrays w) f)
-    in-family = omega (arith, under, arities-length a good (sized w A) f inside)
+    in-family = omega (arith, under, arities-length a good (layout-sized w A) f inside)
 
     arity-is : getD (aritiesAt (layoutArrays w) f) own 0 ≡ getD (layoutArrays w .arities) g 0
     arity-is = getD-between (startOf (a .ends) f) (getD (a .ends) f 0) own (a .arities) 0 under ∙ ap (λ (n : ℕ). getD (a .arities) n 0) at
@@ -90,11 +91,11 @@ module _ (w : List ℕ) (A : Arranged w) where
     below = omega (arith, arity-is, o .high)
 
     among : place < length (kindsAt (layoutArrays w) f)
-    among = omega (arith, below, rising-at 0 (length (kindsAt a f)) (aritiesAt a f) own (family-rising a good (sized w A) f inside) in-family)
+    among = omega (arith, below, rising-at 0 (length (kindsAt a f)) (aritiesAt a f) own (family-rising a good (layout-sized w A) f inside) in-family)
 
     pub small : (g < 64) × (place < 16)
     small =
-        (omega (arith, o .group, A .layout .count, good .many), omega (arith, among, kinds-length a good (sized w A) f inside, good .family f inside .most))
+        (omega (arith, o .group, A .layout .count, good .many), omega (arith, among, kinds-length a good (layout-sized w A) f inside, good .family f inside .most))
 
     placed : Placed (layoutArrays w) k f own place
     placed =
@@ -103,18 +104,18 @@ module _ (w : List ℕ) (A : Arranged w) where
           group = in-family;
           before = before-at a f own place under (subst (λ (n : ℕ). priorArity a f n ≤ place) (sym at) (o .low));
           below = below;
-          kind = getD-between (startOf (a .kindEnds) f) (getD (a .kindEnds) f 0) place (a .kinds) 0 (omega (arith, among, kinds-length a good (sized w A) f inside)) ∙ o .member;
+          kind = getD-between (startOf (a .kindEnds) f) (getD (a .kindEnds) f 0) place (a .kinds) 0 (omega (arith, among, kinds-length a good (layout-sized w A) f inside)) ∙ o .member;
         }
 
     first-is : located (meaning w .storage .layout) g .first ≡ startOf (layoutArrays w .ends) f
     first-is =
         ap (λ l. located l g .first) (layout-means w A)
         ∙ ap (λ (n : ℕ). located (familiesOf (between 960 1024 w) a) n .first) (sym at)
-        ∙ ap (λ (l : Located). l .first) (located-is (between 960 1024 w) a good (sized w A) f own inside under)
+        ∙ ap (λ (l : Located). l .first) (located-is (between 960 1024 w) a good (layout-sized w A) f own inside under)
 
     pub grouped : (first : ℕ) (r : GroupInfo) → first ≡ located (meaning w .storage .layout) g .first → KindInfo first g (localAt w (slotOf w k)) r → GroupedKinds (layoutArrays w) (k ∷ []) r
     grouped first r e i =
         record {
           family = f;
-          kinds = of-kind a good (sized w A) k f own place r placed (record { first = i .first ∙ e ∙ first-is; last = omega (arith, i .last, at); places = i .places });
+          kinds = of-kind a good (layout-sized w A) k f own place r placed (record { first = i .first ∙ e ∙ first-is; last = omega (arith, i .last, at); places = i .places });
         }

@@ -16,13 +16,6 @@ ghost use Rattle.memory.specs.Arranged.{Arranged, Sound};
 ghost use Rattle.group_info.specs.Describes.{InfoOfKind, ViewOf, rangeOf};
 ghost use Rattle.ranges.specs.Query.{QueryOf, KindAdded, Kinds};
 
-// The layout in force: the groups' sizes, and their counts.
-const ARITIES: usize = words::LAYOUT + 128;
-
-const ARITIES_END: usize = words::LAYOUT + 192;
-
-const COUNTS_END: usize = words::GROUP_COUNTS + 64;
-
 // The group info of a kind, by the head of its column.
 fn info_of(words: &[u32], kind: usize) -> FoundInfo
     requires { ⌜ Arranged (now words) ⌝ }
@@ -106,7 +99,7 @@ pub fn group_range(words: &[u32]) -> GroupRange
     group_info::group_range(
         include,
         exclude,
-        &words[ARITIES..ARITIES_END],
-        &words[words::GROUP_COUNTS..COUNTS_END],
+        &words[words::LAYOUT_ARITIES..words::LAYOUT_KIND_ENDS],
+        &words[words::GROUP_COUNTS..words::ENTITIES],
     )
 }

@@ -3,7 +3,7 @@ use mathlib.Core.Path.{_≡_, refl, ap, sym, subst, _∙_}
 use mathlib.Core.Bool.{Bool, true, false, false≢true, cond, _&&_}
 use mathlib.Core.Option.{some, none}
 use mathlib.Core.List.{List, _++_, append-assoc}
-use Prim.Native.Nat.{ℕ, _+_, _-_, _*_, _≤_, _<_}
+use Prim.Native.Nat.{ℕ, _+_, _-_, _*_, _≤_}
 use native.Mathlib.Omega.{arith}
 use lib.Dec.{eqb, ltb}
 use mir.Val.{boolByte}
@@ -17,13 +17,12 @@ use Rattle.model.specs.Snapshot.{snapshot}
 use Rattle.model.specs.Entries.{Started, refusesStart, makes, start, writes, rolledBy, roll}
 use Rattle.model.proofs.Entries.{start-makes}
 use Rattle.model.proofs.SparseSets.{and-left, and-right}
-use Rattle.component.specs.Decides.{Decides}
-use Rattle.component.proofs.Checking.{granted}
+use Rattle.words.specs.Decides.{Decides, yes-of}
 use Rattle.memory.specs.Meaning.{meaning}
 use Rattle.memory.specs.Arranged.{Sound}
 use Rattle.stream.specs.declared.Ran.{Ran}
 use Rattle.store.specs.declared.Rolled.{Rolled}
-use Rattle.store.specs.Entries.{startNumber, Starts, StartLeaves, columnRefused, ColumnNumbered, columnWords, ColumnPart, ranOf, Answered, RunLeaves, Runs, rolledOf, rollNumber, rollBytes, Rolls}
+use Rattle.store.specs.Entries.{startNumber, Starts, StartLeaves, ColumnNumbered, ColumnPart, ranOf, Answered, RunLeaves, Runs, rolledOf, rollNumber, rollBytes, Rolls}
 use Rattle.store.proofs.Starting.{start-number}
 use Rattle.replay.specs.declared.recorded.Step.{Step}
 use Rattle.replay.specs.declared.Tally.{Tally}
@@ -57,7 +56,7 @@ cut-stepped f w w′ r P e =
 
 pub compared : (f : List ℕ) (at n : ℕ) (q : Ran) (o : List ℕ) (b : Bool) → Decides b (GaveSame f at q o) → n ≡ short f (at + 5) → at + 7 + n ≤ length f
     → Compared f at q o (record { at = at + 7 + n; agrees = b })
-compared f at n q o b d e h = record { within = h; same = λ a. granted _ b d a; end = λ a. ap (λ (k : ℕ). at + 7 + k) e }
+compared f at n q o b d e h = record { within = h; same = λ a. yes-of b d a; end = λ a. ap (λ (k : ℕ). at + 7 + k) e }
 
 -- no more bytes than there are
 pub gave-few : (w w′ t o o₁ p : List ℕ) (q : Ran) → Runs w w′ t o o₁ q → q .written ≤ length (o₁ ++ p)
@@ -146,7 +145,7 @@ pub roll-agrees : (f w o o₁ : List ℕ) (at n : ℕ) (q : Rolled) (b : Bool) �
 roll-agrees f w o o₁ at n q b size fits h d =
     record {
       within = fits;
-      agreed = λ a S. let g = granted _ b d a in (
+      agreed = λ a S. let g = yes-of b d a in (
         S,
         record {
           bytes = sym (rolled-bytes w o o₁ q S h (g .number)) ∙ sym (g .bytes) ∙ part-size f (at + 2) n ∙ ap (λ (k : ℕ). take k (drop (at + 2) f)) size;

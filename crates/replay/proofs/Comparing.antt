@@ -1,14 +1,13 @@
 -- What the comparisons of bytes and words decide. Assumes nothing.
-use mathlib.Core.Path.{_≡_, refl, ap, sym, _∙_}
+use mathlib.Core.Path.{_≡_, refl, ap}
 use mathlib.Core.Bool.{Bool, true, false, false≢true}
 use mathlib.Core.List.{List}
-use Prim.Native.Nat.{ℕ, _+_, _-_, _*_, _/_, _%_, _≤_, _<_}
+use Prim.Native.Nat.{ℕ, _+_, _-_, _*_, _/_, _%_}
 use native.Mathlib.Omega.{arith}
 use native.Mathlib.Nat.{div-add-mod'}
-use lib.ListN.{length, getD, take, drop}
-use Rattle.component.specs.Decides.{Decides, Each}
+use lib.ListN.{getD, take, drop}
+use Rattle.words.specs.Decides.{Decides}
 use Rattle.model.specs.Store.{number}
-use Rattle.replay.specs.Recorded.{SameWords}
 
 -- a test that is true exactly if two lists are the same decides what comes to the same
 pub decided : (P : Type 0) (x y : List ℕ) (b : Bool) → (b ≡ true → x ≡ y) × (x ≡ y → b ≡ true) → (x ≡ y → P) → (P → x ≡ y) → Decides b P

@@ -6,13 +6,12 @@ use Prim.Native.Nat.{ℕ, _+_, _≤_}
 use lib.Dec.{eqb}
 use mir.Val.{boolByte}
 use lib.ListN.{length, getD, take, drop}
-use Rattle.memory.specs.Meaning.{meaning}
 use Rattle.memory.specs.Arranged.{Sound}
 use Rattle.stream.specs.declared.Ran.{Ran}
 use Rattle.store.specs.declared.Rolled.{Rolled}
 use Rattle.replay.specs.declared.recorded.Step.{Step}
 use Rattle.replay.specs.declared.Tally.{Tally}
-use Rattle.replay.specs.Recorded.{short, RunAgrees, RunsAgree, RollAgrees, SameColumn, ColumnAgrees, ColumnsAgree, CaseAgrees, CasesAgree}
+use Rattle.replay.specs.Recorded.{short, CaseAgrees, CasesAgree}
 
 -- what a run gave, with its answers at the front of the bytes o, is what is recorded at `at`
 pub record GaveSame (f : List ℕ) (at : ℕ) (r : Ran) (o : List ℕ) : Type 0 where

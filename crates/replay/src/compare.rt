@@ -5,7 +5,7 @@ ghost use mathlib.Core.Path.{_≡_};
 ghost use mathlib.Core.Bool.{true};
 ghost use Prim.Native.Nat.{_+_, _≤_};
 ghost use lib.ListN.{length};
-ghost use Rattle.component.specs.Decides.{Decides};
+ghost use Rattle.words.specs.Decides.{Decides};
 ghost use Rattle.memory.specs.Meaning.{meaning};
 ghost use Rattle.memory.specs.Arranged.{Sound};
 ghost use Rattle.replay.specs.Recorded.{short, SameWords, SameColumn};

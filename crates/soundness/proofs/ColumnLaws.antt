@@ -5,7 +5,7 @@ use mathlib.Core.List.{List, [], _∷_}
 use Prim.Native.Nat.{ℕ, zero, suc, _+_, _*_, _-_, _≤_, _<_}
 use native.Mathlib.Decide.{decLe}
 use native.Mathlib.Omega.{arith}
-use lib.ListN.{length, take, drop, getD, length-map, List·getD-map}
+use lib.ListN.{length, take, drop, getD, length-map, List·getD-map, List·getD-eq-default}
 use lib.Seq.{getD-drop}
 use Rattle.model.specs.Lists.{one, place, count-place, getD-place}
 use Rattle.model.specs.Model.{Entity, sameEntity, noEntity, noRow, entityOf, keys}
@@ -15,7 +15,6 @@ use Rattle.model.proofs.Walk.{bool-cases}
 use Rattle.words.specs.Part.{between}
 use Rattle.component.specs.SparseSet.{lengthOf, indexAt, lowAt, highAt, valueOf, rows, Sound}
 use Rattle.component.proofs.Meaning.{length-rows, getD-rows, index-rows, rows-apart}
-use Rattle.soundness.proofs.TableLaws.{getD-past}
 
 -- where no two places have one index, no entity stands twice
 pub apart-once : (x : Entity) (l : List Entity) → ((i j : ℕ) → i < length l → j < length l → i ≢ j → getD l i noEntity .index ≢ getD l j noEntity .index) → cnt x l ≤ 1
@@ -48,7 +47,7 @@ module _ (n : ℕ) (w : List ℕ) where
   pub rows-values : ((i : ℕ) → getD w i 0 < 4294967296) → (i : ℕ) → Eight (getD (rows n w) i noRow .value)
   rows-values bits i =
       elim (decLe (lengthOf w) i) [
-        | yes h ↦ rw (getD-past (rows n w) i noRow (omega (arith, length-rows n w))) (omega arith)
+        | yes h ↦ rw (List·getD-eq-default (rows n w) noRow {n = i} (omega (arith, length-rows n w))) (omega arith)
         | no h ↦ rw (getD-rows n w i (omega arith)) (value-eight (lowAt n w i) (highAt n w i) (bits (8 + 2 * n + 2 * i)) (bits (8 + 2 * n + 2 * i + 1)))
       ]
 

@@ -14,6 +14,7 @@ use Rattle.words.specs.Table.{table, by-eq}
 use Rattle.layout.specs.Layout.{Arrays, Sized, startOf, groupCount, kindsAt, aritiesAt, groupsFrom, familyAt, familiesOf, WellFormed}
 use Rattle.layout.proofs.Arrays.{ends-rise, group-order, groups-inside, arities-length, family-kindsOf}
 use Rattle.memory.specs.Arranged.{priorArity, memberAt}
+use Rattle.memory.proofs.Prior.{prior-low, prior-next}
 use Rattle.soundness.specs.Groups.{GroupOk, GroupsOk, FamilyOk, FamiliesOk}
 use Rattle.soundness.specs.ByNumber.{newAt, priorCount, GroupAt}
 
@@ -62,13 +63,6 @@ module _ (sets : List SparseSet) (h : ℕ) (counts ks : List ℕ) where
 
 -- ---- one family, by the number of the group
 
-prior-first : (a : Arrays) (f g : ℕ) → g ≡ startOf (a .ends) f → priorArity a f g ≡ 0
-prior-first a f zero e = refl
-prior-first a f (suc g) e = rw (le-ltb (startOf (a .ends) f) (suc g) (omega arith))
-
-prior-next : (a : Arrays) (f g : ℕ) → startOf (a .ends) f ≤ g → priorArity a f (suc g) ≡ getD (a .arities) g 0
-prior-next a f g h = rw (lt-ltb (startOf (a .ends) f) (suc g) (omega arith))
-
 count-first : (a : Arrays) (counts : List ℕ) (b f g : ℕ) → g ≡ startOf (a .ends) f → priorCount a counts b f g ≡ b
 count-first a counts b f zero e = refl
 count-first a counts b f (suc g) e = rw (le-ltb (startOf (a .ends) f) (suc g) (omega arith))
@@ -91,7 +85,7 @@ module _ (sets : List SparseSet) (counts : List ℕ) (a : Arrays) (good : WellFo
   arity-at j h = getD-between start (getD (a .ends) f 0) j (a .arities) 0 (omega (arith, arities-length a good sized f hf))
 
   before-at : (j : ℕ) → j < length ars → before 0 ars j ≡ priorArity a f (start + j)
-  before-at zero h = sym (prior-first a f (start + 0) (omega arith))
+  before-at zero h = sym (prior-low a f (start + 0) (omega arith))
   before-at (suc j) h =
       let e : suc (start + j) ≡ start + suc j = omega arith in
       arity-at j (omega arith) ∙ sym (prior-next a f (start + j) (omega arith)) ∙ ap (priorArity a f) e

@@ -6,16 +6,16 @@ use Prim.Native.Nat.{ℕ, zero, suc, _+_, _-_, _≤_, _<_}
 use native.Mathlib.Nat.{le-of-suc-le-suc, not-suc-le-zero}
 use native.Mathlib.Decide.{decLe}
 use native.Mathlib.Omega.{arith}
-use borrow.Author.Tests.{lt-ltb, eq-eqb}
-use lib.ListN.{length, take, drop, getD, length-map, take-append-drop, length-drop}
+use borrow.Author.Tests.{eq-eqb}
+use lib.ListN.{length, take, drop, getD, take-append-drop, length-drop}
 use lib.Seq.{length-take-le, getD-take, getD-drop, ext-getD}
 use Rattle.model.specs.Lists.{one, place, count-append, count-place, count-take-le, place-count-take, getD-place, count-length}
-use Rattle.model.specs.Model.{Entity, SparseSet, Family, sameEntity, noEntity, all, setOf, held, headKind, kindsOf, allHeld}
+use Rattle.model.specs.Model.{Entity, SparseSet, Family, sameEntity, noEntity, setOf, held, headKind, kindsOf, allHeld}
 use Rattle.model.specs.Sound.{cnt, In, key, SetsSound, BuildableFamily, BuildableFamilies, holders, Right, RightFrom, AllRight}
 use Rattle.model.proofs.SparseSets.{entity-eq, entity-same, and-left}
 use Rattle.model.proofs.Invariant.{holders-count}
-use Rattle.model.proofs.Walk.{bool-cases, in-left, in-right, in-cases, all-in, Missing, all-missing, held-count, lacks-count}
-use Rattle.model.proofs.KindLists.{all-true}
+use Rattle.model.proofs.Walk.{bool-cases, in-left, in-right, in-cases, all-in, Missing, all-missing, held-count, lacks-count, count-held}
+use Rattle.model.proofs.KindLists.{all-true, all-joined}
 use Rattle.soundness.specs.Groups.{GroupOk, GroupsOk, FamilyOk, FamiliesOk}
 
 -- ---- what stands at a place is held
@@ -25,19 +25,8 @@ count-at [] i h = absurd (not-suc-le-zero h)
 count-at (y ∷ l) zero h = omega (arith, ap one (entity-same y))
 count-at (y ∷ l) (suc i) h = omega (arith, count-at l i (le-of-suc-le-suc h))
 
-count-held : (sets : List SparseSet) (k : ℕ) (x : Entity) → 1 ≤ cnt x (key sets k) → held x (setOf sets k) ≡ true
-count-held sets k x h = lt-ltb _ _ (rw length-map at (count-place sameEntity x (key sets k) h))
-
 held-at : (sets : List SparseSet) (k i : ℕ) → i < length (key sets k) → held (getD (key sets k) i noEntity) (setOf sets k) ≡ true
-held-at sets k i h = count-held sets k (getD (key sets k) i noEntity) (count-at (key sets k) i h)
-
-all-append : (p : ℕ → Bool) (a b : List ℕ) → all p (a ++ b) ≡ (all p a && all p b)
-all-append p [] b = refl
-all-append p (j ∷ a) b = go (p j) (all-append p a b)
-  where
-    go : (x : Bool) → all p (a ++ b) ≡ (all p a && all p b) → (x && all p (a ++ b)) ≡ ((x && all p a) && all p b)
-    go true e = e
-    go false e = refl
+held-at sets k i h = count-held (getD (key sets k) i noEntity) sets k (count-at (key sets k) i h)
 
 and-false : (a b : Bool) → a ≡ false → (a && b) ≡ false
 and-false a b e = rw e
@@ -68,7 +57,7 @@ module _ (sets : List SparseSet) (h : ℕ) where
 
   module _ (acc new : List ℕ) (b c : ℕ) (B : Beside sets h acc b) where
     held-both : (x : Entity) → allHeld x (acc ++ new) sets ≡ (allHeld x acc sets && allHeld x new sets)
-    held-both x = all-append (λ k. held x (setOf sets k)) acc new
+    held-both x = all-joined (λ k. held x (setOf sets k)) acc new
 
     beside-more : GroupOk sets h new b c → Beside sets h (acc ++ new) c
     beside-more G =

@@ -2,7 +2,6 @@ pub mod GroupLaws
 pub mod TableLaws
 pub mod ColumnLaws
 pub mod StagedLaws
-pub mod LayoutLaws
 pub mod FlatLaws
 pub mod WordLaws
 pub mod ForceLaws

@@ -4,12 +4,11 @@ use mathlib.Core.List.{List, _∷_, map}
 use Prim.Native.Nat.{ℕ, zero, suc, _+_, _≤_}
 use native.Mathlib.Decide.{decLe}
 use native.Mathlib.Omega.{arith}
-use lib.ListN.{length, getD}
+use lib.ListN.{length, getD, List·getD-eq-default}
 use Rattle.model.specs.Model.{Component, kindOf}
 use Rattle.model.specs.Sound.{In, Distinct, Eight, noComponent, StagedSound}
 use Rattle.words.specs.Part.{between, getD-between, length-between}
 use Rattle.words.specs.Table.{table, length-table, getD-table, is-table}
-use Rattle.soundness.proofs.TableLaws.{getD-past}
 
 pub map-table : {A B : Type 0} (f : A → B) (n : ℕ) (g : ℕ → A) → map f (table n g) ≡ table n (λ i. f (g i))
 unfolding table
@@ -30,7 +29,7 @@ staged-sound kinds n f l e few once known values =
       known = rw m known;
       values = λ j.
           elim (decLe n j) [
-            | yes h ↦ rw (getD-past (table n f) j noComponent (omega (arith, length-table n f))) (omega arith)
+            | yes h ↦ rw (List·getD-eq-default (table n f) noComponent {n = j} (omega (arith, length-table n f))) (omega arith)
             | no h ↦ rw (getD-table n f j noComponent (omega arith)) (values j)
           ];
     }

@@ -3,28 +3,22 @@
 use mathlib.Core.Path.{_≡_, refl, ap, sym, _∙_, subst}
 use mathlib.Core.Logic.{_≢_}
 use mathlib.Core.Bool.{Bool, true, false, cond, true≢false}
-use mathlib.Core.List.{List, [], _∷_}
-use Prim.Native.Nat.{ℕ, zero, suc, _≤_, _<_}
-use native.Mathlib.Nat.{le-of-suc-le-suc, not-suc-le-zero}
+use mathlib.Core.List.{List, []}
+use Prim.Native.Nat.{ℕ, _≤_, _<_}
 use native.Mathlib.Decide.{decLe}
 use native.Mathlib.Omega.{arith}
 use borrow.Author.Tests.{lt-ltb, le-ltb}
 use lib.Dec.{ltb}
-use lib.ListN.{length, take, getD, length-map, List·getD-map}
+use lib.ListN.{length, take, getD, length-map, List·getD-map, List·getD-eq-default}
 use lib.Seq.{getD-take, length-take-le}
 use Rattle.model.specs.Lists.{place, count-place, getD-place}
 use Rattle.model.specs.Model.{Entity, SparseSet, sameEntity, noEntity, noRow, mem, setOf, entityOf, keys}
 use Rattle.model.specs.Sound.{cnt, In, Distinct, Eight, KindsSound, SetsSound}
 use Rattle.model.proofs.SparseSets.{entity-eq}
 use Rattle.words.specs.Table.{by-eq, table, length-table, getD-table}
-use Rattle.model.proofs.KindLists.{not-true}
+use Rattle.model.proofs.KindLists.{not-true, at-in}
 use Rattle.soundness.proofs.GroupLaws.{count-at}
-use Rattle.clauses.proofs.ListLaws.{at-in, in-at, new-distinct}
-
-pub getD-past : {A : Type 0} (l : List A) (i : ℕ) (d : A) → length l ≤ i → getD l i d ≡ d
-getD-past [] i d h = refl
-getD-past (x ∷ l) zero d h = absurd (not-suc-le-zero h)
-getD-past (x ∷ l) (suc i) d h = getD-past l i d (le-of-suc-le-suc h)
+use Rattle.clauses.proofs.ListLaws.{in-at, new-distinct}
 
 -- the table and the columns' heads point to each other; there are fewer columns than 255
 pub record Tabled (reg : ℕ) (kindAt slotOf : ℕ → ℕ) : Type 0 where
@@ -100,7 +94,7 @@ module _ (reg : ℕ) (kindAt slotOf : ℕ → ℕ) (T : Tabled reg kindAt slotOf
     pub set-none : (k : ℕ) → mem k (table reg kindAt) ≡ false → setOf sets k ≡ []
     set-none k n =
         elim (decLe 128 k) [
-          | yes h ↦ getD-past sets k [] (omega (arith, length-table 128 (setAt reg slotOf rowsAt)))
+          | yes h ↦ List·getD-eq-default sets [] {n = k} (omega (arith, length-table 128 (setAt reg slotOf rowsAt)))
           | no h ↦ getD-table 128 (setAt reg slotOf rowsAt) k [] (omega arith)
               ∙ by-eq (slotOf k) 255
               (λ e. rw (le-ltb (slotOf k) reg (omega (arith, T .few))))

@@ -7,6 +7,7 @@ use Prim.Native.Nat.{ℕ, _+_, _*_, _-_, _≤_, _<_}
 use native.Mathlib.Decide.{decLe, decLt}
 use native.Mathlib.Omega.{arith}
 use borrow.Author.Tests.{ltb-true, lt-ltb}
+use lib.Dec.{eqb}
 use lib.ListN.{length, getD, take, List·getD-map}
 use lib.Seq.{getD-take, length-take-le}
 use Rattle.model.specs.Lists.{count, count-place, place-count}
@@ -14,7 +15,7 @@ use Rattle.model.specs.Model.{Entity, sameEntity, noRow, kindOf, entityOf, isLi
 use Rattle.model.specs.Sound.{cnt, In, Distinct, KindsSound, EntitiesSound, SetsSound, StagedSound, ExcludedSound, Buildable, AllRight}
 use Rattle.model.specs.Sound as modelSound
 use Rattle.model.proofs.Numbers.{cnt-num}
-use Rattle.model.proofs.KindLists.{in-count, count-in}
+use Rattle.model.proofs.KindLists.{in-count, count-in, at-in}
 use Rattle.words.specs.Offsets.{columnStart, columnStart-mono}
 use Rattle.words.specs.Part.{between, getD-between, length-between}
 use Rattle.words.specs.Table.{table}
@@ -28,8 +29,8 @@ use Rattle.entity.specs.Change.{entityPart, entitiesIn}
 use Rattle.entity.proofs.Lookups.{issued-is}
 use Rattle.entity.proofs.Numbering.{entities-ok}
 use Rattle.layout.specs.Layout.{Arrays, blockArrays, widthOf, groupCount, familiesOf, WellFormed}
-use Rattle.blocks.specs.Checks.{BlockSound}
-use Rattle.blocks.proofs.Agree.{block-sized}
+use Rattle.layout.proofs.Arrays.{layout-kinds, block-sized}
+use Rattle.blocks.specs.Checks.{BlockSound, KindsOk}
 use Rattle.blocks.proofs.Buildable.{block-buildable, uncounted}
 use Rattle.memory.specs.Header.{capacityOf, kindCapacityOf, registeredOf, stagedLen, excludedLen, draftFamilies, draftGroups, layoutFamilies, layoutGroups, slotOf, stagedLowAt, stagedHighAt, groupFamilyAt}
 use Rattle.memory.specs.Meaning.{kindAt, kindsIn, setsIn, draftArrays, layoutArrays, draftIn, layoutIn, stagedAt, stagedIn, excludedIn, meaning}
@@ -38,15 +39,13 @@ use Rattle.memory.proofs.Frames.{start-header}
 use Rattle.clauses.specs.Slots.{Room, headAt}
 use Rattle.clauses.specs.Table.{TableOk}
 use Rattle.clauses.specs.Rows.{entityIn, RowLive, ColumnOk}
-use Rattle.clauses.specs.Listed.{Listed, ListOk}
+use Rattle.clauses.specs.Listed.{ListOk}
 use Rattle.grouping.specs.Spans.{startIn, Force, HeadsOk, OwnOk}
-use Rattle.clauses.proofs.ListLaws.{at-in}
 use Rattle.clauses.proofs.SlotLaws.{room-long, room-less, key-word}
 use Rattle.soundness.specs.Parts.{SizeOk, PartsOk, ListsOk, LayoutOk, CountsOk}
 use Rattle.soundness.proofs.TableLaws.{Tabled, registered-slot, registered-small, slot-registered, kinds-sound, sets-sound, sets-alive}
 use Rattle.soundness.proofs.ColumnLaws.{rows-once, rows-values, value-eight, between-below}
 use Rattle.soundness.proofs.StagedLaws.{map-table, table-between, staged-sound}
-use Rattle.soundness.proofs.LayoutLaws.{layout-kinds}
 use Rattle.soundness.proofs.GroupLaws.{families-right, right-families}
 use Rattle.soundness.proofs.FlatLaws.{Within, families-each, each-families, prior-fits}
 use Rattle.soundness.proofs.WordLaws.{Reads, layout-reads, kind-start, layout-words}
@@ -128,11 +127,17 @@ module _ (w : List ℕ) where
 
     -- ---- lists of kinds
 
-    listed-of : (l : List ℕ) → Distinct l → ((j : ℕ) → In l j → In (kindsIn w) j) → Listed slots l
-    listed-of l once known = record { once = once; small = λ j t. in-known j (known j t) .small; known = λ j t. in-slots j (known j t) }
+    listed-of : (l : List ℕ) → Distinct l → ((j : ℕ) → In l j → In (kindsIn w) j) → KindsOk slots l
+    listed-of l once known =
+        let small : (j : ℕ) → 128 ≤ j → count eqb j l ≡ 0 =
+        λ j h. elim (decLe 1 (count eqb j l)) [ yes c ↦ absurd (omega (arith, in-known j (known j (count-in l j c)) .small)) | no c ↦ omega arith ] in
+        record { once = record { once = once; known = small }; registered = λ j c. in-slots j (known j (count-in l j c)) }
 
-    of-listed : (l : List ℕ) → Listed slots l → (j : ℕ) → In l j → In (kindsIn w) j
-    of-listed l L j t = slots-in j (L .small j t) (L .known j t)
+    of-listed : (l : List ℕ) → KindsOk slots l → (j : ℕ) → In l j → In (kindsIn w) j
+    of-listed l L j t =
+        let c = in-count l j t in
+        let h : j < 128 = elim (decLt j 128) [ yes q ↦ q | no q ↦ absurd (omega (arith, L .once .known j (omega arith))) ] in
+        slots-in j h (L .registered j c)
 
     staged-words : stagedLen w ≤ 16 → 1024 ≤ length w → table (stagedLen w) (λ i. kindOf (stagedAt w i)) ≡ between 160 (160 + stagedLen w) w
     staged-words few long = table-between 160 (stagedLen w) w (omega arith)
@@ -140,7 +145,7 @@ module _ (w : List ℕ) where
     staged-are : Bits w → 1024 ≤ length w → ListOk w 160 (stagedLen w) → StagedSound (kindsIn w) (stagedIn w)
     unfolding stagedIn
     staged-are bits long L =
-        staged-sound (kindsIn w) (stagedLen w) (stagedAt w) (between 160 (160 + stagedLen w) w) (staged-words (L .few) long) (L .few) (L .listed .once)
+        staged-sound (kindsIn w) (stagedLen w) (stagedAt w) (between 160 (160 + stagedLen w) w) (staged-words (L .few) long) (L .few) (L .listed .once .once)
         (of-listed (between 160 (160 + stagedLen w) w) (L .listed))
         (λ i. value-eight n w (stagedLowAt w i) (stagedHighAt w i) (bits (176 + 4 * i)) (bits (176 + 4 * i + 1)))
 
@@ -164,7 +169,7 @@ module _ (w : List ℕ) where
         let e = excluded-words (L .few) long in
         record {
           few = omega (arith, ap length e, length-between 240 (240 + excludedLen w) w (omega (arith, L .few)), L .few);
-          once = subst Distinct (sym e) (L .listed .once);
+          once = subst Distinct (sym e) (L .listed .once .once);
           known = λ j t. of-listed (between 240 (240 + excludedLen w) w) (L .listed) j (subst (λ (l : List ℕ). In l j) e t);
         }
 

@@ -1,24 +1,23 @@
 -- The layout in force, array by array and word by word: where a family's kinds and a group's new kinds stand. Assumes nothing.
 use mathlib.Core.Path.{_≡_, refl, ap, ap₂, sym, _∙_, subst}
 use mathlib.Core.Bool.{cond}
-use mathlib.Core.List.{List, [], _∷_}
+use mathlib.Core.List.{List}
 use Prim.Native.Nat.{ℕ, zero, suc, _+_, _-_, _≤_, _<_}
-use native.Mathlib.Nat.{le-of-suc-le-suc, not-suc-le-zero}
 use native.Mathlib.Omega.{arith}
 use borrow.Author.Tests.{le-ltb}
 use lib.Dec.{ltb}
 use lib.ListN.{length, getD, take}
 use lib.Seq.{ext-getD, getD-take, length-take-le}
 use Rattle.model.specs.Sound.{In}
+use Rattle.model.proofs.KindLists.{at-in}
 use Rattle.words.specs.Part.{between, getD-between, length-between}
-use Rattle.layout.specs.Layout.{Arrays, Sized, startOf, widthOf, kindsAt, aritiesAt, Rising, WellFormed}
-use Rattle.layout.proofs.Family.{rising-le}
-use Rattle.layout.proofs.Arrays.{bounds, kinds-inside, kinds-length, arities-length}
-use Rattle.blocks.proofs.Agree.{block-sized}
+use Rattle.layout.specs.Layout.{Arrays, Sized, startOf, widthOf, kindsAt, aritiesAt, WellFormed}
+use Rattle.layout.proofs.Family.{rising-at}
+use Rattle.layout.proofs.Arrays.{bounds, kinds-inside, kinds-length, arities-length, block-sized}
 use Rattle.memory.specs.Meaning.{layoutArrays}
 use Rattle.memory.specs.Arranged.{priorArity, memberAt}
 use Rattle.grouping.specs.Spans.{startIn, priorIn, firstAt, fromAt, toAt}
-use Rattle.clauses.proofs.ListLaws.{at-in, in-at}
+use Rattle.clauses.proofs.ListLaws.{in-at}
 use Rattle.soundness.specs.ByNumber.{newAt, priorCount}
 
 -- ---- a block's arrays
@@ -48,12 +47,6 @@ layout-reads w long =
     }
 
 -- ---- arities that rise
-
-rising-at : (b n : ℕ) (ars : List ℕ) → Rising b n ars → (j : ℕ) → j < length ars → getD ars j 0 ≤ n
-unfolding Rising
-rising-at b n [] r j h = absurd (not-suc-le-zero h)
-rising-at b n (a ∷ ars) r zero h = rising-le a n ars (r .1)
-rising-at b n (a ∷ ars) r (suc j) h = rising-at a n ars (r .1) j (le-of-suc-le-suc h)
 
 -- ---- starts and what stands before
 
@@ -118,7 +111,7 @@ module _ (w : List ℕ) (a : Arrays) (R : Reads w a) where
             let b = bounds a good (R .sized) f hf in
             let e : getD (aritiesAt a f) (g - s) 0 ≡ getD (a .arities) g 0 =
             getD-between s (getD (a .ends) f 0) (g - s) (a .arities) 0 (omega arith) ∙ ap (λ (i : ℕ). getD (a .arities) i 0) (omega arith) in
-            let r = rising-at 1 (getD (a .kindEnds) f 0 - startOf (a .kindEnds) f) (aritiesAt a f) (good .family f hf .rising) (g - s) (omega (arith, arities-length a good (R .sized) f hf)) in
+            let r = rising-at 1 (getD (a .kindEnds) f 0 - startOf (a .kindEnds) f) (aritiesAt a f) (g - s) (good .family f hf .rising) (omega (arith, arities-length a good (R .sized) f hf)) in
             omega (arith, b .low)
 
         pub arity-fits : startOf (a .kindEnds) f + getD (a .arities) g 0 ≤ 128

@@ -7,6 +7,23 @@ use grouping::counts::are_counts;
 use grouping::heads::are_heads;
 use grouping::heads::are_own;
 use grouping::heads::start_in;
+use words::CAPACITY;
+use words::DRAFT;
+use words::DRAFT_FAMILIES;
+use words::DRAFT_GROUPS;
+use words::ENTITIES;
+use words::EXCLUDED_KINDS;
+use words::EXCLUDED_LEN;
+use words::GROUP_FAMILIES;
+use words::KIND_CAPACITY;
+use words::LAYOUT;
+use words::LAYOUT_FAMILIES;
+use words::LAYOUT_GROUPS;
+use words::LAYOUT_KIND_ENDS;
+use words::REGISTERED;
+use words::STAGED_KINDS;
+use words::STAGED_LEN;
+use words::TABLE;
 ghost use Prim.Native.Nat.{_≤_};
 ghost use lib.ListN.{length};
 ghost use Rattle.words.specs.Decides.{Decides};
@@ -47,7 +64,7 @@ fn has_parts(words: &[u32], n: usize, k: usize) -> bool
     if !entity::in_words::is_sound_in(words, n) {
         return false;
     }
-    if !are_columns(words, n, k, words[2] as usize) {
+    if !are_columns(words, n, k, words[REGISTERED] as usize) {
         return false;
     }
     true
@@ -58,15 +75,20 @@ fn has_lists(words: &[u32]) -> bool
     requires { ⌜ 1024 ≤ length (now words) ⌝ }
     ensures { λ r. ⌜ Decides r (ListsOk (now (words .entry))) ⌝ }
 {
-    if !is_list(words, 160, words[3] as usize) {
+    if !is_list(words, STAGED_KINDS, words[STAGED_LEN] as usize) {
         return false;
     }
-    if !is_list(words, 240, words[4] as usize) {
+    if !is_list(words, EXCLUDED_KINDS, words[EXCLUDED_LEN] as usize) {
         return false;
     }
-    let families = words[5] as usize;
-    let groups = words[6] as usize;
-    if !block_ok(&words[256..576], families, groups, &words[32..160]) {
+    let families = words[DRAFT_FAMILIES] as usize;
+    let groups = words[DRAFT_GROUPS] as usize;
+    if !block_ok(
+        &words[DRAFT..LAYOUT],
+        families,
+        groups,
+        &words[TABLE..STAGED_KINDS],
+    ) {
         return false;
     }
     true
@@ -77,17 +99,22 @@ fn has_layout(words: &[u32]) -> bool
     requires { ⌜ Ground (now words) ⌝ }
     ensures { λ r. ⌜ Decides r (LayoutOk (capacityOf (now (words .entry))) (now (words .entry))) ⌝ }
 {
-    let n = words[0] as usize;
-    let families = words[7] as usize;
-    let groups = words[8] as usize;
-    if !block_ok(&words[576..896], families, groups, &words[32..160]) {
+    let n = words[CAPACITY] as usize;
+    let families = words[LAYOUT_FAMILIES] as usize;
+    let groups = words[LAYOUT_GROUPS] as usize;
+    if !block_ok(
+        &words[LAYOUT..GROUP_FAMILIES],
+        families,
+        groups,
+        &words[TABLE..STAGED_KINDS],
+    ) {
         return false;
     }
     if !are_heads(words, n, families, groups) {
         return false;
     }
-    let width = start_in(words, 768, families);
-    if !are_own(words, n, words[2] as usize, width) {
+    let width = start_in(words, LAYOUT_KIND_ENDS, families);
+    if !are_own(words, n, words[REGISTERED] as usize, width) {
         return false;
     }
     true
@@ -99,19 +126,24 @@ fn has_counts(words: &[u32]) -> bool
     requires { ⌜ LayoutOk (capacityOf (now words)) (now words) ⌝ }
     ensures { λ r. ⌜ Decides r (CountsOk (capacityOf (now (words .entry))) (now (words .entry))) ⌝ }
 {
-    let n = words[0] as usize;
-    are_counts(words, n, words[7] as usize, words[8] as usize)
+    let n = words[CAPACITY] as usize;
+    are_counts(
+        words,
+        n,
+        words[LAYOUT_FAMILIES] as usize,
+        words[LAYOUT_GROUPS] as usize,
+    )
 }
 
 // Whether the words, however many and whatever they hold, are a sound store.
 pub fn is_sound(words: &[u32]) -> bool
     ensures { λ r. ⌜ Decides r (Sound (now (words .entry))) ⌝ }
 {
-    if words.len() < 1024 {
+    if words.len() < ENTITIES {
         return false;
     }
-    let n = words[0] as usize;
-    let k = words[1] as usize;
+    let n = words[CAPACITY] as usize;
+    let k = words[KIND_CAPACITY] as usize;
     if !has_room(words, n, k) {
         return false;
     }

@@ -3,8 +3,8 @@ use mathlib.Core.Path.{_≡_, refl, sym, ap, _∙_, subst}
 use mathlib.Core.List.{List, []}
 use Prim.Native.Nat.{ℕ, zero, _+_, _*_, _-_, _≤_, _<_}
 use native.Mathlib.Omega.{arith}
-use lib.ListN.{length, getD, set, drop, replicate, length-set, length-replicate, getD-replicate}
-use lib.Seq.{getD-drop, getD-set-same, getD-set-other, drop-set-lt}
+use lib.ListN.{length, getD, set, replicate, length-set, length-replicate, getD-replicate}
+use lib.Seq.{getD-set-same, getD-set-other, drop-set-lt}
 use Rattle.model.specs.Model.{Entities, SparseSet}
 use Rattle.model.specs.Store.{empty}
 use Rattle.model.specs.Sound.{Limits}
@@ -17,31 +17,16 @@ use Rattle.entity.specs.Meaning as entity
 use Rattle.entity.specs.Change.{Changed, entityPart, noEntities}
 use Rattle.entity.proofs.Zeros.{zeros-changed}
 use Rattle.layout.specs.Layout.{blockArrays, WellFormed, groupCount, familiesOf}
+use Rattle.layout.proofs.Arrays.{none-formed}
 use Rattle.memory.specs.Header.{capacityOf, kindCapacityOf, registeredOf, slotOf}
 use Rattle.memory.specs.Meaning.{kindAt, kindsIn, setAt, setsIn, draftIn, layoutIn, stagedAt, stagedIn, excludedIn, meaning}
 use Rattle.memory.specs.Arranged.{TableSound, LayoutSound, Arranged}
-use Rattle.memory.proofs.Frames.{start-header, drop-later}
+use Rattle.memory.proofs.Frames.{start-header, drop-later, word-rest}
 use Rattle.start.specs.Fresh.{Cleared, Tabled, Made}
-
-word-rest : (m : ℕ) (w v : List ℕ) → drop m v ≡ drop m w → (i : ℕ) → m ≤ i → getD v i 0 ≡ getD w i 0
-word-rest m w v e i h =
-    let k : i ≡ m + (i - m) = omega arith in
-    ap (λ (j : ℕ). getD v j 0) k ∙ sym (getD-drop m v (i - m) 0) ∙ ap (λ (l : List ℕ). getD l (i - m) 0) e ∙ getD-drop m w (i - m) 0 ∙ sym (ap (λ (j : ℕ). getD w j 0) k)
 
 table-none : {A : Type 0} (k : ℕ) (f : ℕ → A) → k ≡ 0 → table k f ≡ []
 unfolding table
 table-none k f e = rw e
-
--- arrays of no families
-none-formed : (b : List ℕ) → WellFormed (blockArrays b 0)
-none-formed b =
-    record {
-      few = omega arith;
-      wide = omega arith;
-      many = omega arith;
-      kinds = record { once = λ k. omega arith; known = λ k h. refl };
-      family = λ f h. absurd (omega arith);
-    }
 
 formed : (b : List ℕ) (n : ℕ) → n ≡ 0 → WellFormed (blockArrays b n)
 formed b n e = subst (λ (k : ℕ). WellFormed (blockArrays b k)) (sym e) (none-formed b)

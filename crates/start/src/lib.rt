@@ -25,7 +25,7 @@ fn put_table(words: &mut [u32])
     let table = [255u32; 128];
     let mut k = 0;
     while k < 128 {
-        words[32 + k] = table[k];
+        words[words::TABLE + k] = table[k];
         k += 1;
     }
 }
@@ -39,6 +39,6 @@ pub fn make(words: &mut [u32], n: usize, k: usize)
     let end = words::column_start(n, k);
     clear(words, end);
     put_table(words);
-    words[0] = n as u32;
-    words[1] = k as u32;
+    words[words::CAPACITY] = n as u32;
+    words[words::KIND_CAPACITY] = k as u32;
 }

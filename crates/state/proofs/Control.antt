@@ -39,10 +39,6 @@ module _ (w : List ℕ) where
   unfolding meaning excludedIn
   excluded-length = length-table (excludedLen w) (excludedAt w)
 
-  pub excluded-read : (i : ℕ) → i < length (meaning w .control .excluded) → getD (meaning w .control .excluded) i 0 ≡ excludedAt w i
-  unfolding meaning excludedIn
-  excluded-read i h = getD-table (excludedLen w) (excludedAt w) i 0 (omega (arith, length-table (excludedLen w) (excludedAt w)))
-
   module _ (A : Arranged w) where
     pub staged-few : length (meaning w .control .staged) ≤ 16
     staged-few = omega (arith, staged-length, A .staged)

@@ -1,10 +1,9 @@
--- The draft's block and its two numbers: read, written and emptied. Assumes nothing.
-use mathlib.Core.Path.{_≡_, refl, sym, ap, _∙_, subst}
+-- The draft's block and its two numbers: read and written. Assumes nothing.
+use mathlib.Core.Path.{_≡_, sym, ap, _∙_, subst}
 use mathlib.Core.List.{List, [], _∷_}
-use Prim.Native.Nat.{ℕ, _+_, _-_, _≤_, _<_}
+use Prim.Native.Nat.{ℕ, _-_, _≤_, _<_}
 use native.Mathlib.Omega.{arith}
 use lib.ListN.{length, getD, drop}
-use lib.Seq.{getD-drop}
 use Rattle.model.specs.Model.{Family}
 use Rattle.model.specs.Store.{withControl, withDraft}
 use Rattle.words.specs.Table.{table}
@@ -17,7 +16,7 @@ use Rattle.memory.specs.Header.{draftFamilies, draftGroups, refusalsOf}
 use Rattle.memory.specs.Word.{Word}
 use Rattle.memory.specs.Meaning.{draftArrays, draftIn, stagedIn, excludedIn, controlIn, meaning}
 use Rattle.memory.specs.Arranged.{Arranged, Becomes}
-use Rattle.memory.proofs.Frames.{word-front, drop-later, staged-same, excluded-same, long}
+use Rattle.memory.proofs.Frames.{word-front, drop-later, staged-same, excluded-same, long, word-rest}
 use Rattle.memory.proofs.Becomes.{Static, control-becomes}
 use Rattle.state.specs.Draft.{IsDraft, drafting}
 use Rattle.state.proofs.Control.{drop-stores}
@@ -71,12 +70,6 @@ module _ (w w′ : List ℕ) (A : Arranged w) (D : Drafted w w′) where
 
 -- ---- written
 
-word-rest : (m : ℕ) (w w′ : List ℕ) → drop m w′ ≡ drop m w → (i : ℕ) → m ≤ i → getD w′ i 0 ≡ getD w i 0
-word-rest m w w′ e i h = from w′ ∙ ap (λ (l : List ℕ). getD l (i - m) 0) e ∙ sym (from w)
-  where
-    from : (u : List ℕ) → getD u i 0 ≡ getD (drop m u) (i - m) 0
-    from u = let k : i ≡ m + (i - m) = omega arith in ap (λ (j : ℕ). getD u j 0) k ∙ sym (getD-drop m u (i - m) 0)
-
 module _ (w : List ℕ) (A : Arranged w) (l : Layout) (ys : List ℕ) (W : WrittenTo l ys) where
   abbrev ss : List (ℕ × ℕ)
   ss = (5, l .families) ∷ (6, l .groups) ∷ []
@@ -118,32 +111,3 @@ module _ (w : List ℕ) (A : Arranged w) (l : Layout) (ys : List ℕ) (W : Writt
   draft-becomes =
       drafted-becomes w (patch 256 576 v ys) A written (familiesOf [] (arraysOf l)) (subst WellFormed (sym arrays) (W .formed .good))
       (groups ∙ W .formed .groups ∙ sym (ap groupCount arrays)) (ap (familiesOf []) arrays ∙ W .means [])
-
--- ---- emptied
-
-module _ (w : List ℕ) (A : Arranged w) where
-  abbrev us : List (ℕ × ℕ)
-  us = (5, 0) ∷ (6, 0) ∷ []
-
-  emptied : Drafted w (stores w us)
-  emptied =
-      record {
-        size = length-stores w us;
-        low = λ i h. miss w us i (omega arith);
-        middle = λ i a b. miss w us i (omega arith);
-        upper = λ i a b. miss w us i (omega arith);
-        rest = drop-stores 1024 w us (omega arith);
-      }
-
-  none : (b : List ℕ) → WellFormed (blockArrays b 0)
-  none b = record { few = omega arith; wide = omega arith; many = omega arith; kinds = record { once = λ k. omega arith; known = λ k h. refl }; family = λ f h. absurd (omega arith) }
-
-  families-none : draftFamilies (stores w us) ≡ 0
-  families-none = hit w us 0 5 0 (omega arith) (omega (arith, long w A))
-
-  pub clear-draft-becomes : Becomes w (stores w us) (withControl (meaning w) (withDraft (meaning w .control) []))
-  unfolding table
-  clear-draft-becomes =
-      let b = between 256 576 (stores w us) in
-      let e : draftArrays (stores w us) ≡ blockArrays b 0 = ap (blockArrays b) families-none in
-      drafted-becomes w (stores w us) A emptied [] (subst WellFormed (sym e) (none b)) (hit w us 1 6 0 (omega arith) (omega (arith, long w A)) ∙ sym (ap groupCount e)) (ap (familiesOf []) e)

@@ -4,8 +4,6 @@ use words::DRAFT;
 use words::DRAFT_FAMILIES;
 use words::DRAFT_GROUPS;
 use words::LAYOUT;
-ghost use mathlib.Core.List.{[]};
-ghost use Rattle.model.specs.Store.{withControl, withDraft};
 ghost use Rattle.layout.specs.Layout.{Formed};
 ghost use Rattle.memory.specs.Meaning.{meaning};
 ghost use Rattle.memory.specs.Arranged.{Arranged, Becomes};
@@ -28,13 +26,4 @@ pub fn set_draft(words: &mut [u32], l: Layout)
     words[DRAFT_FAMILIES] = l.families as u32;
     words[DRAFT_GROUPS] = l.groups as u32;
     blocks::write_layout(&mut words[DRAFT..LAYOUT], l);
-}
-
-// No group is drafted.
-pub fn clear_draft(words: &mut [u32])
-    requires { ⌜ Arranged (now words) ⌝ }
-    ensures { λ _. ⌜ Becomes (now (words .entry)) (now (words .exit)) (withControl (meaning (now (words .entry))) (withDraft (meaning (now (words .entry)) .control) [])) ⌝ }
-{
-    words[DRAFT_FAMILIES] = 0;
-    words[DRAFT_GROUPS] = 0;
 }

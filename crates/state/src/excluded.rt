@@ -4,7 +4,7 @@ use words::EXCLUDED_KINDS;
 use words::EXCLUDED_LEN;
 ghost use mathlib.Core.Path.{_≡_};
 ghost use Prim.Native.Nat.{_<_};
-ghost use lib.ListN.{length, getD};
+ghost use lib.ListN.{length};
 ghost use Rattle.model.specs.Model.{mem};
 ghost use Rattle.memory.specs.Meaning.{meaning};
 ghost use Rattle.memory.specs.Arranged.{Arranged, Becomes};
@@ -15,14 +15,6 @@ pub fn excluded_len(words: &[u32]) -> usize
     ensures { λ r. ⌜ Few (meaning (now (words .entry)) .control .excluded) r ⌝ }
 {
     memory::word(words, EXCLUDED_LEN)
-}
-
-pub fn excluded_kind(words: &[u32], i: usize) -> usize
-    requires { ⌜ Arranged (now words) ⌝ }
-    requires { ⌜ i < length (meaning (now words) .control .excluded) ⌝ }
-    ensures { λ r. ⌜ r ≡ getD (meaning (now (words .entry)) .control .excluded) i 0 ⌝ }
-{
-    memory::word(words, EXCLUDED_KINDS + i)
 }
 
 pub fn is_excluded(words: &[u32], kind: usize) -> bool

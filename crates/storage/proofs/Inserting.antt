@@ -19,8 +19,9 @@ use Rattle.component.specs.SparseSet.{Current, entity}
 use Rattle.memory.specs.Meaning.{meaning}
 use Rattle.memory.specs.Change.{onStorage}
 use Rattle.memory.specs.Arranged.{Becomes}
+use Rattle.memory.proofs.Becomes.{stays}
 use Rattle.storage.specs.Insert.{Insertable, insertOne, inserted}
-use Rattle.group.proofs.Storing.{becomes-same, becomes-then, capacity-kept}
+use Rattle.group.proofs.Storing.{becomes-then, capacity-kept}
 
 -- ---- no other version of the index comes in
 
@@ -73,7 +74,7 @@ module _ (w₀ : List ℕ) (x v : ℕ) (I : Insertable w₀ x v) where
   Done w ps = Becomes w₀ w (onStorage (inserted (entity x v) ps) (meaning w₀))
 
   pub insert-none : Done w₀ []
-  insert-none = becomes-same w₀ (I .arranged)
+  insert-none = stays (I .arranged)
 
   pub insert-all : (w : List ℕ) (i : ℕ) → length staged ≤ i → Done w (take i staged) → Done w staged
   insert-all w i h B = subst (Done w) (take-all i staged h) B

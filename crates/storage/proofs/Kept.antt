@@ -10,7 +10,7 @@ use lib.ListN.{length, getD, set, length-map}
 use lib.Seq.{getD-set-same, lt-length-set}
 use Rattle.model.specs.Lists.{one, length-swap, count-swap}
 use Rattle.model.specs.Model.{Entity, Row, SparseSet, Storage, sameEntity, noEntity, noRow, mem, setOf, keys, entityOf, at, held, swapTo, ungroup}
-use Rattle.model.specs.Commands.{componentBytes, heldBytes}
+use Rattle.model.specs.Commands.{takenBytes, heldBytes}
 use Rattle.model.specs.Sound.{cnt, key}
 use Rattle.model.proofs.SparseSets.{cond-case, keys-swap, setOf-mapOn, entity-same}
 use Rattle.model.proofs.Walk.{bool-cases}
@@ -38,7 +38,7 @@ module _ (e : Entity) where
   -- the rows of a kind after a step: the entity is there once at most, with the value that it had
   record Keeps (rs rs′ : SparseSet) : Type 0 where
     pub once : cnt e (keys rs′) ≤ 1
-    pub bytes : componentBytes e rs′ ≡ componentBytes e rs
+    pub bytes : takenBytes e rs′ ≡ takenBytes e rs
 
   keeps-swap : (c : ℕ) (rs : SparseSet) → held e rs ≡ true → c < length rs → cnt e (keys rs) ≤ 1 → Keeps rs (swapTo e c rs)
   keeps-swap c rs h l n =
@@ -78,7 +78,7 @@ module _ (e : Entity) where
       let rest = keeps-walk ps (stepDown (statusAt e g s) e g s) (r .1) (λ j. step j .once) k in
       record { once = rest .once; bytes = rest .bytes ∙ step k .bytes }
 
-  held-same : (ks : List ℕ) (p q : Storage) → ((k : ℕ) → componentBytes e (setOf (q .sets) k) ≡ componentBytes e (setOf (p .sets) k)) → heldBytes e ks q ≡ heldBytes e ks p
+  held-same : (ks : List ℕ) (p q : Storage) → ((k : ℕ) → takenBytes e (setOf (q .sets) k) ≡ takenBytes e (setOf (p .sets) k)) → heldBytes e ks q ≡ heldBytes e ks p
   held-same [] p q h = refl
   held-same (k ∷ ks) p q h = ap₂ {C = List ℕ} (λ (a b : List ℕ). a ++ b) (h k) (held-same ks p q h)
 

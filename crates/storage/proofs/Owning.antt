@@ -2,7 +2,7 @@
 use mathlib.Core.Path.{_≡_, ap, sym, _∙_, subst}
 use mathlib.Core.Bool.{false}
 use mathlib.Core.List.{List, [], _∷_}
-use Prim.Native.Nat.{ℕ, suc, _+_, _-_, _≤_, _<_}
+use Prim.Native.Nat.{ℕ, _+_, _-_, _≤_, _<_}
 use native.Mathlib.Omega.{arith}
 use lib.ListN.{length, getD}
 use lib.Seq.{getD-take, take-all}
@@ -15,12 +15,13 @@ use Rattle.layout.proofs.Arrays.{kinds-inside}
 use Rattle.memory.specs.Header.{slotOf, groupFamilyAt}
 use Rattle.memory.specs.Meaning.{ownAt, localAt, layoutArrays, meaning}
 use Rattle.memory.specs.Arranged.{Arranged, priorArity}
-use Rattle.kinds.proofs.Owned.{Owned, own-group, no-group, prior-at}
+use Rattle.memory.proofs.Frames.{layout-sized}
+use Rattle.kinds.proofs.Owned.{Owned, no-group, prior-at}
 use Rattle.group.specs.declared.GroupMetadata.{GroupMetadata}
 use Rattle.group.specs.Flat.{Located, located, insertPositions, deletePositions}
 use Rattle.group.specs.Metadata.{orderOf, Describes}
 use Rattle.group.proofs.FlatArrays.{arity-rises, located-is}
-use Rattle.group.proofs.InWords.{layout-means, sized, groups-are, order-is, order-length, order-part-once}
+use Rattle.group.proofs.InWords.{layout-means, groups-are, order-is, order-length, order-part-once}
 use Rattle.group.proofs.Places.{between-in}
 use Rattle.group.proofs.Counts.{placed}
 use Rattle.group.proofs.KindPositions.{insert-none, delete-none, insert-run, delete-run}
@@ -45,7 +46,7 @@ module _ (w : List ℕ) (A : Arranged w) where
         let i : ℕ = g - startOf (layoutArrays w .ends) (groupFamilyAt w g) in
         let at : startOf (layoutArrays w .ends) (groupFamilyAt w g) + (g - startOf (layoutArrays w .ends) (groupFamilyAt w g)) ≡ g = omega (arith, G .low) in
         let inside : startOf (layoutArrays w .ends) (groupFamilyAt w g) + (g - startOf (layoutArrays w .ends) (groupFamilyAt w g)) < getD (layoutArrays w .ends) (groupFamilyAt w g) 0 = omega (arith, G .low, G .high) in
-        let r = arity-rises (between 960 1024 w) (layoutArrays w) (A .layout .formed) (sized w A) f i (G .family) inside in
+        let r = arity-rises (between 960 1024 w) (layoutArrays w) (A .layout .formed) (layout-sized w A) f i (G .family) inside in
         let arity : getD (layoutArrays w .arities) (startOf (layoutArrays w .ends) f + i) 0 ≡ getD (layoutArrays w .arities) g 0 = ap (λ (m : ℕ). getD (layoutArrays w .arities) m 0) at in
         let prior : getD (0 ∷ aritiesAt (layoutArrays w) f) i 0 ≡ priorArity (layoutArrays w) f g = sym (prior-at (layoutArrays w) f i inside) ∙ ap (priorArity (layoutArrays w) f) at in
         let order : layoutKinds (familiesOf (between 960 1024 w) (layoutArrays w)) ≡ orderOf (meaning w) = sym (ap layoutKinds (layout-means w A)) in
@@ -55,7 +56,7 @@ module _ (w : List ℕ) (A : Arranged w) where
         let news : located (meaning w .storage .layout) g .newKinds ≡ between (s + priorArity (layoutArrays w) f g) (s + getD (layoutArrays w .arities) g 0) (orderOf (meaning w)) =
         ap (λ (fs : _). located fs g .newKinds) (layout-means w A)
         ∙ ap (λ (m : ℕ). located (familiesOf (between 960 1024 w) (layoutArrays w)) m .newKinds) (sym at)
-        ∙ ap (λ (l : Located). l .newKinds) (located-is (between 960 1024 w) (layoutArrays w) (A .layout .formed) (sized w A) f i (G .family) inside)
+        ∙ ap (λ (l : Located). l .newKinds) (located-is (between 960 1024 w) (layoutArrays w) (A .layout .formed) (layout-sized w A) f i (G .family) inside)
         ∙ (λ t. between (s + prior t) (s + arity t) (order t)) in
         subst (λ (l : List ℕ). In l k) (sym news)
         (subst (In (between (s + priorArity (layoutArrays w) f g) (s + getD (layoutArrays w .arities) g 0) (orderOf (meaning w)))) here
@@ -93,6 +94,3 @@ module _ (w : List ℕ) (A : Arranged w) where
 
     pub delete-mask-none : deletePositions (k ∷ []) (meaning w .storage .layout) ≡ []
     delete-mask-none = delete-none k 0 (meaning w .storage .layout) in-none
-
-  pub owned : (k g : ℕ) → In (meaning w .kinds) k → ownAt w (slotOf w k) ≡ suc g → Owned w k g
-  owned k g i o = own-group w A k g i o

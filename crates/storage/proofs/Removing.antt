@@ -2,32 +2,31 @@
 use mathlib.Core.Path.{_≡_, refl, ap, sym, _∙_, subst}
 use mathlib.Core.Bool.{false}
 use mathlib.Core.List.{List, [], _∷_, _++_, map}
-use Prim.Native.Nat.{ℕ, suc, _+_, _≤_, _<_}
+use Prim.Native.Nat.{ℕ, _+_, _≤_, _<_}
 use native.Mathlib.Omega.{arith}
 use native.Mathlib.Numerals.{add-one}
-use borrow.Author.Tests.{eq-eqb, eqb-false}
+use borrow.Author.Tests.{eqb-false}
 use lib.Dec.{eqb}
-use lib.ListN.{length, getD, set, take, drop, length-map, List·getD-map}
-use lib.Seq.{take-all, take-suc, split-at, getD-set-other}
+use lib.ListN.{length, getD, set, take, length-map, List·getD-map}
+use lib.Seq.{take-all, take-suc, getD-set-other}
 use Rattle.model.specs.Model.{Entity, Component, SparseSet, Storage, mem, kindOf, setOf, onKinds, removeRow}
 use Rattle.model.specs.Store.{Store, stagedKinds}
 use Rattle.model.specs.Sound.{In, Distinct, noComponent}
 use Rattle.model.proofs.Walk.{or-false}
 use Rattle.model.proofs.Families.{or-false-right}
-use Rattle.words.specs.Table.{length-table, getD-table}
+use Rattle.model.proofs.KindLists.{at-in, distinct-new}
+use Rattle.words.specs.Table.{getD-table}
 use Rattle.columns.specs.Columns.{Only, Lent}
 use Rattle.columns.proofs.Slots.{lent}
 use Rattle.memory.specs.Header.{capacityOf, kindCapacityOf, registeredOf}
 use Rattle.memory.specs.Meaning.{kindAt, kindsIn, meaning}
 use Rattle.memory.specs.Change.{onSet, onStorage}
 use Rattle.memory.specs.Arranged.{Arranged, Becomes}
-use Rattle.memory.proofs.Becomes.{one-becomes}
+use Rattle.memory.proofs.Becomes.{one-becomes, stays, sets-wide, kinds-count}
 use Rattle.kinds.proofs.Slot.{known-small}
 use Rattle.group.proofs.EachKind.{eachKind, each-append, each-kinds}
-use Rattle.group.proofs.KindPositions.{not-left}
-use Rattle.group.proofs.Places.{place-in}
 use Rattle.storage.specs.Remove.{Staged, removed}
-use Rattle.group.proofs.Storing.{becomes-same, becomes-then, sets-wide}
+use Rattle.group.proofs.Storing.{becomes-then}
 
 abbrev pub eachGone : Entity → List ℕ → Storage → Storage
 eachGone e ks s = record { sets = eachKind (removeRow e) ks (s .sets); layout = s .layout }
@@ -39,18 +38,13 @@ each-other f (k ∷ ks) sets j n =
     each-other f ks (set sets k (f (setOf sets k))) j (or-false-right (eqb j k) (mem j ks) n)
     ∙ getD-set-other sets k j (f (setOf sets k)) [] (eqb-false j k (or-false (eqb j k) (mem j ks) n))
 
--- of distinct kinds, the one at i is not among those before it
-not-before : (ks : List ℕ) (i : ℕ) → Distinct ks → i < length ks → mem (getD ks i 0) (take i ks) ≡ false
-not-before ks i d h =
-    not-left (take i ks) (getD ks i 0 ∷ drop (suc i) ks) (getD ks i 0) (subst Distinct (split-at ks i 0 h) d) (rw (eq-eqb (getD ks i 0) (getD ks i 0) refl))
-
 -- of the kinds of ks the first i are done
 module _ (w₀ : List ℕ) (e : Entity) (ks : List ℕ) where
   abbrev pub Gone : List ℕ → ℕ → Type 0
   Gone w i = Becomes w₀ w (onStorage (eachGone e (take i ks)) (meaning w₀))
 
   pub gone-none : Arranged w₀ → Gone w₀ 0
-  gone-none A = becomes-same w₀ A
+  gone-none A = stays A
 
   pub gone-turn : (w w′ : List ℕ) (i k : ℕ) → i < length ks → k ≡ getD ks i 0 → Gone w i → Becomes w w′ (onStorage (onSet k (removeRow e)) (meaning w)) → Gone w′ (i + 1)
   gone-turn w w′ i k h q B C =
@@ -66,7 +60,7 @@ module _ (w₀ : List ℕ) (e : Entity) (ks : List ℕ) where
   pub gone-next : (w : List ℕ) (i : ℕ) → i < length ks → Distinct ks → Gone w i → setOf (meaning w .storage .sets) (getD ks i 0) ≡ setOf (meaning w₀ .storage .sets) (getD ks i 0)
   gone-next w i h d B =
       ap (λ (m : Store). setOf (m .storage .sets) (getD ks i 0)) (B .means)
-      ∙ each-other (removeRow e) (take i ks) (meaning w₀ .storage .sets) (getD ks i 0) (not-before ks i d h)
+      ∙ each-other (removeRow e) (take i ks) (meaning w₀ .storage .sets) (getD ks i 0) (distinct-new ks d i h)
 
   pub gone-all : (w : List ℕ) (i : ℕ) → length ks ≤ i → Distinct ks → ((k : ℕ) → In ks k → k < 128) → Gone w i → Becomes w₀ w (onStorage (removed e ks) (meaning w₀))
   gone-all w i h d lt B =
@@ -87,7 +81,7 @@ module _ (w : List ℕ) (S : Staged w) where
 
   pub staged-in : (i k : ℕ) → i < length (meaning w .control .staged) → k ≡ getD (meaning w .control .staged) i noComponent .kind → In (meaning w .kinds) k
   staged-in i k h q =
-      S .known k (subst (In kinds) (sym (q ∙ kind-at (meaning w .control .staged) i)) (place-in kinds i (omega (arith, length-map (meaning w .control .staged) kindOf))))
+      S .known k (subst (In kinds) (sym (q ∙ kind-at (meaning w .control .staged) i)) (at-in kinds i (omega (arith, length-map (meaning w .control .staged) kindOf))))
 
   pub staged-small : (k : ℕ) → In (stagedKinds (meaning w)) k → k < 128
   staged-small k i = known-small w (S .arranged) k (S .known k i)
@@ -104,17 +98,13 @@ staged-kept w₀ w f S B =
 -- ---- every slot's kind
 
 module _ (w : List ℕ) (A : Arranged w) where
-  pub kinds-count : length (meaning w .kinds) ≡ registeredOf w
-  unfolding meaning kindsIn
-  kinds-count = length-table (registeredOf w) (kindAt w)
-
   kind-of-slot : (s : ℕ) → s < registeredOf w → getD (meaning w .kinds) s 0 ≡ kindAt w s
   unfolding meaning kindsIn
   kind-of-slot s h = getD-table (registeredOf w) (kindAt w) s 0 h
 
   module _ (n s : ℕ) (e : n ≡ capacityOf w) (h : s < length (meaning w .kinds)) where
     below : s < registeredOf w
-    below = omega (arith, kinds-count)
+    below = omega (arith, kinds-count w)
 
     pub slot-lent : Lent n s w
     slot-lent = rw e (lent (capacityOf w) (kindCapacityOf w) s w (A .columns) (omega (arith, below, A .table .few)))

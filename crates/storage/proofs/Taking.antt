@@ -1,16 +1,16 @@
 -- The loop that takes an entity's components of the staged kinds out and writes their bytes, one kind after another. Assumes nothing.
-use mathlib.Core.Path.{_≡_, refl, ap, ap₂, sym, _∙_, subst}
+use mathlib.Core.Path.{_≡_, refl, ap, sym, _∙_, subst}
 use mathlib.Core.Bool.{true, false}
 use mathlib.Core.List.{List, [], _∷_, _++_, append-nil, append-assoc}
-use Prim.Native.Nat.{ℕ, suc, _+_, _*_, _≤_, _<_}
+use Prim.Native.Nat.{ℕ, _+_, _*_, _≤_, _<_}
 use native.Mathlib.Omega.{arith}
 use native.Mathlib.Numerals.{add-one}
-use lib.ListN.{length, getD, take, length-append, length-map}
+use lib.ListN.{length, getD, take, length-map}
 use lib.Seq.{sets, length-sets, take-all, take-suc, length-take-le}
 use Rattle.model.specs.Model.{Entity, SparseSet, Storage, noRow, setOf, at, held, kindOf, removeRow}
 use Rattle.model.specs.Store.{Store, stagedKinds, le}
-use Rattle.model.specs.Commands.{componentBytes, heldBytes}
-use Rattle.model.proofs.SparseSets.{cond-case}
+use Rattle.model.specs.Commands.{takenBytes, heldBytes}
+use Rattle.model.proofs.Lengths.{held-length}
 use Rattle.codec.proofs.Numbers.{sets-join}
 use Rattle.memory.specs.Meaning.{meaning}
 use Rattle.memory.specs.Change.{onSet, onStorage}
@@ -18,39 +18,28 @@ use Rattle.memory.specs.Arranged.{Becomes}
 use Rattle.storage.specs.Remove.{Staged, TakesKind, TakesStaged}
 use Rattle.storage.proofs.Removing.{Gone, eachGone, gone-none, gone-next, gone-turn, gone-all, staged-kept, staged-small}
 
-pub bytes-none : (e : Entity) (rows : SparseSet) → held e rows ≡ false → 0 ∷ le 8 0 ≡ componentBytes e rows
+pub bytes-none : (e : Entity) (rows : SparseSet) → held e rows ≡ false → 0 ∷ le 8 0 ≡ takenBytes e rows
 bytes-none e rows h = rw h
 
-pub bytes-held : (e : Entity) (rows : SparseSet) (v : ℕ) → held e rows ≡ true → v ≡ getD rows (at e rows) noRow .value → 1 ∷ le 8 v ≡ componentBytes e rows
+pub bytes-held : (e : Entity) (rows : SparseSet) (v : ℕ) → held e rows ≡ true → v ≡ getD rows (at e rows) noRow .value → 1 ∷ le 8 v ≡ takenBytes e rows
 bytes-held e rows v h q = rw h (ap {B = List ℕ} (λ (x : ℕ). 1 ∷ le 8 x) q)
 
 -- one kind gone, and its bytes written; the kind is known by another name too
 pub takes-kind : (w w′ out out′ : List ℕ) (e : Entity) (k j at : ℕ) (bs : List ℕ) → k ≡ j → Becomes w w′ (onStorage (onSet k (removeRow e)) (meaning w)) → out′ ≡ sets out at bs
-    → bs ≡ componentBytes e (setOf (meaning w .storage .sets) k) → TakesKind w w′ out out′ e j at
+    → bs ≡ takenBytes e (setOf (meaning w .storage .sets) k) → TakesKind w w′ out out′ e j at
 takes-kind w w′ out out′ e k j at bs q B b c = subst (λ (x : ℕ). TakesKind w w′ out out′ e x at) q (record { becomes = B; bytes = b ∙ ap (sets out at) c })
 
-bytes-nine : (e : Entity) (rows : SparseSet) → length (componentBytes e rows) ≡ 9
-bytes-nine e rows = cond-case (λ (l : List ℕ). length l ≡ 9) (held e rows) _ _ (λ t. refl) (λ t. refl)
-
-held-length : (e : Entity) (ks : List ℕ) (p : Storage) → length (heldBytes e ks p) ≡ 9 * length ks
-held-length e [] p = refl
-held-length e (k ∷ ks) p =
-    let z : 9 + 9 * length ks ≡ 9 * suc (length ks) = omega arith in
-    length-append (componentBytes e (setOf (p .sets) k)) (heldBytes e ks p)
-    ∙ ap₂ (λ (x y : ℕ). x + y) (bytes-nine e (setOf (p .sets) k)) (held-length e ks p)
-    ∙ z
-
-held-snoc : (e : Entity) (ks : List ℕ) (k : ℕ) (p : Storage) → heldBytes e (ks ++ (k ∷ [])) p ≡ heldBytes e ks p ++ componentBytes e (setOf (p .sets) k)
-held-snoc e [] k p = append-nil (componentBytes e (setOf (p .sets) k))
+held-snoc : (e : Entity) (ks : List ℕ) (k : ℕ) (p : Storage) → heldBytes e (ks ++ (k ∷ [])) p ≡ heldBytes e ks p ++ takenBytes e (setOf (p .sets) k)
+held-snoc e [] k p = append-nil (takenBytes e (setOf (p .sets) k))
 held-snoc e (j ∷ ks) k p =
-    ap (λ (l : List ℕ). componentBytes e (setOf (p .sets) j) ++ l) (held-snoc e ks k p)
-    ∙ sym (append-assoc (componentBytes e (setOf (p .sets) j)) (heldBytes e ks p) (componentBytes e (setOf (p .sets) k)))
+    ap (λ (l : List ℕ). takenBytes e (setOf (p .sets) j) ++ l) (held-snoc e ks k p)
+    ∙ sym (append-assoc (takenBytes e (setOf (p .sets) j)) (heldBytes e ks p) (takenBytes e (setOf (p .sets) k)))
 
 -- one kind more
 held-turn : (e : Entity) (p : Storage) (ks out₀ : List ℕ) (a : ℕ) (out out′ : List ℕ) (i : ℕ) → i < length ks → out ≡ sets out₀ a (heldBytes e (take i ks) p)
-    → out′ ≡ sets out (a + 9 * i) (componentBytes e (setOf (p .sets) (getD ks i 0))) → out′ ≡ sets out₀ a (heldBytes e (take (i + 1) ks) p)
+    → out′ ≡ sets out (a + 9 * i) (takenBytes e (setOf (p .sets) (getD ks i 0))) → out′ ≡ sets out₀ a (heldBytes e (take (i + 1) ks) p)
 held-turn e p ks out₀ a out out′ i h b q =
-    let one : List ℕ = componentBytes e (setOf (p .sets) (getD ks i 0)) in
+    let one : List ℕ = takenBytes e (setOf (p .sets) (getD ks i 0)) in
     let had : List ℕ = heldBytes e (take i ks) p in
     let len : 9 * i ≡ length had = sym (held-length e (take i ks) p ∙ ap (λ (n : ℕ). 9 * n) (length-take-le i ks (omega arith))) in
     let more : take (i + 1) ks ≡ take i ks ++ (getD ks i 0 ∷ []) = ap (λ (n : ℕ). take n ks) (add-one i) ∙ take-suc ks i 0 h in
@@ -91,7 +80,7 @@ module _ (w₀ out₀ : List ℕ) (e : Entity) (a : ℕ) where
         ap (setOf (meaning w .storage .sets)) same ∙ gone-next w₀ e kinds w i l (S .once) (T .gone) in
         record {
           gone = gone-turn w₀ e kinds w w′ i (getD (stagedKinds (meaning w)) i 0) l same (T .gone) (K .becomes);
-          bytes = held-turn e (meaning w₀ .storage) kinds out₀ a out out′ i l (T .bytes) (K .bytes ∙ ap (λ (rs : SparseSet). sets out (a + 9 * i) (componentBytes e rs)) rows);
+          bytes = held-turn e (meaning w₀ .storage) kinds out₀ a out out′ i l (T .bytes) (K .bytes ∙ ap (λ (rs : SparseSet). sets out (a + 9 * i) (takenBytes e rs)) rows);
         }
 
     pub taken-all : Staged w₀ → length (meaning w₀ .control .staged) ≤ i → Taken w out i → TakesStaged w₀ w out₀ out e a

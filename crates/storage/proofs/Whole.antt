@@ -1,27 +1,26 @@
 -- Insertion and removal as the model has them: the components and the walk over the groups together. Assumes nothing.
-use mathlib.Core.Path.{_≡_, refl, ap, sym, _∙_, subst}
+use mathlib.Core.Path.{_≡_, ap, sym, _∙_, subst}
 use mathlib.Core.Bool.{true}
-use mathlib.Core.List.{List, [], _∷_, map, reverse}
+use mathlib.Core.List.{List, reverse}
 use Prim.Native.Nat.{ℕ, _+_, _<_}
 use native.Mathlib.Omega.{arith}
-use borrow.Author.Tests.{eq-eqb}
-use lib.Dec.{eqb}
 use lib.ListN.{length}
 use lib.Seq.{sets}
-use Rattle.model.specs.Model.{Entity, Component, Family, Storage, kindOf, kindsOf, meets, groupsOf, isLive, insert, remove}
+use Rattle.model.specs.Model.{Entity, Family, Storage, kindsOf, meets, groupsOf, isLive, insert, remove}
 use Rattle.model.specs.Store.{Store, stagedKinds}
 use Rattle.model.specs.Commands.{heldBytes}
-use Rattle.model.specs.Sound.{In, Distinct}
-use Rattle.model.proofs.Walk.{or-true}
+use Rattle.model.specs.Sound.{Distinct}
 use Rattle.model.proofs.Families.{Kinds}
 use Rattle.model.proofs.Invariant.{Fit}
 use Rattle.model.proofs.Numbers.{cnt-num}
 use Rattle.model.proofs.Operations.{sound-held, live-count}
+use Rattle.model.proofs.Held.{kinds-of}
 use Rattle.masks.specs.Masks.{bitsOf, has, upFrom}
 use Rattle.component.specs.SparseSet.{entity}
 use Rattle.memory.specs.Meaning.{meaning}
 use Rattle.memory.specs.Change.{onStorage}
 use Rattle.memory.specs.Arranged.{Sound, Becomes}
+use Rattle.memory.proofs.Becomes.{capacity-means}
 use Rattle.group.specs.Flat.{insertPositions, deletePositions, walkUp, walkDown}
 use Rattle.group.specs.Ready.{ReadyUp, ReadyDown}
 use Rattle.group.specs.Steps.{Below}
@@ -32,14 +31,10 @@ use Rattle.group.proofs.Downward.{walk-ungroup, ready-remove}
 use Rattle.group.proofs.AllGroups.{walk-ungroup-all, ready-remove-all}
 use Rattle.storage.specs.Insert.{Insertable, inserted}
 use Rattle.storage.specs.Remove.{Staged, TakesStaged, Takes, ungrouped, removed}
-use Rattle.group.proofs.Storing.{becomes-then, storage-becomes, capacity-means}
+use Rattle.group.proofs.Storing.{becomes-then, storage-becomes}
 use Rattle.storage.proofs.Removing.{staged-kept}
 use Rattle.storage.proofs.Live.{current}
 use Rattle.storage.proofs.Kept.{ungroup-held}
-
-kinds-of : (staged : List Component) (n : ℕ) → ((k : ℕ) → In (map kindOf staged) k → k < n) → Kinds n staged
-kinds-of [] n h = tt
-kinds-of (p ∷ ps) n h = (h (p .kind) (rw (eq-eqb (p .kind) (p .kind) refl)), kinds-of ps n (λ k i. h k (rw i (or-true (eqb k (p .kind))))))
 
 module _ (w : List ℕ) (S : Sound w) where
   abbrev m : Store

@@ -13,9 +13,10 @@ use Rattle.model.specs.Store.{Store}
 use Rattle.memory.specs.Meaning.{meaning}
 use Rattle.memory.specs.Change.{onStorage, withLayout}
 use Rattle.memory.specs.Arranged.{Arranged, Becomes}
+use Rattle.memory.proofs.Becomes.{stays}
 use Rattle.kinds.specs.Kinds.{emptied}
 use Rattle.group.specs.Flat.{setIn, setCount}
-use Rattle.group.proofs.Storing.{becomes-same, becomes-then}
+use Rattle.group.proofs.Storing.{becomes-then}
 
 -- the first i groups of a family, and of the layout, count nothing
 pub zeroIn : ℕ → Family → Family
@@ -96,7 +97,7 @@ module _ (w₀ : List ℕ) where
   by-layout w fs gs e B = subst (λ (l : List Family). Becomes w₀ w (onStorage (λ (s : Storage). withLayout s l) (meaning w₀))) e B
 
   pub zeroed-none : Arranged w₀ → Zeroed w₀ 0
-  zeroed-none A = by-layout w₀ (meaning w₀ .storage .layout) (zeroTo 0 (meaning w₀ .storage .layout)) (sym (zero-start (meaning w₀ .storage .layout))) (becomes-same w₀ A)
+  zeroed-none A = by-layout w₀ (meaning w₀ .storage .layout) (zeroTo 0 (meaning w₀ .storage .layout)) (sym (zero-start (meaning w₀ .storage .layout))) (stays A)
 
   pub zeroed-below : (w : List ℕ) (g : ℕ) → Zeroed w g → g < groupsOf (meaning w₀ .storage .layout) → g < groupsOf (meaning w .storage .layout)
   zeroed-below w g B h = rw (ap (λ (m : Store). groupsOf (m .storage .layout)) (B .means) ∙ zero-groups g (meaning w₀ .storage .layout)) h

@@ -5,7 +5,7 @@ use Prim.Native.Nat.{ℕ}
 use lib.Seq.{sets}
 use Rattle.model.specs.Model.{Entity, Storage, setOf, onKinds, removeRow, ungroup, remove}
 use Rattle.model.specs.Store.{stagedKinds}
-use Rattle.model.specs.Commands.{componentBytes, heldBytes}
+use Rattle.model.specs.Commands.{takenBytes, heldBytes}
 use Rattle.model.specs.Sound.{In, Distinct}
 use Rattle.memory.specs.Meaning.{meaning}
 use Rattle.memory.specs.Change.{onSet, onStorage}
@@ -28,7 +28,7 @@ removed e ks s = record { sets = onKinds ks (removeRow e) (s .sets); layout = s 
 -- TAKE of one kind k: "remove .. ; 1 byte held, value 8 (zeros if not held)", at `at` of the bytes
 pub record TakesKind (w w′ out out′ : List ℕ) (e : Entity) (k at : ℕ) : Type 0 where
   pub becomes : Becomes w w′ (onStorage (onSet k (removeRow e)) (meaning w))
-  pub bytes : out′ ≡ sets out at (componentBytes e (setOf (meaning w .storage .sets) k))
+  pub bytes : out′ ≡ sets out at (takenBytes e (setOf (meaning w .storage .sets) k))
 
 -- the same of all staged kinds, "in hand order", where no group is walked
 pub record TakesStaged (w w′ out out′ : List ℕ) (e : Entity) (at : ℕ) : Type 0 where

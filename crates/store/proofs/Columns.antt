@@ -30,7 +30,7 @@ use Rattle.memory.specs.Arranged.{Arranged, Sound}
 use Rattle.kinds.specs.Kinds.{kindSet}
 use Rattle.kinds.specs.Steps.{InSlot}
 use Rattle.kinds.proofs.Slot.{known-slot}
-use Rattle.store.specs.Entries.{columnRefused, ColumnNumbered, columnWords, rowPlace, RowStart, partPlace, PartOf, ColumnPart}
+use Rattle.store.specs.Entries.{columnRefused, ColumnNumbered, rowPlace, partPlace, PartOf, ColumnPart}
 use Rattle.store.proofs.Pairs.{pairs-part, indexOf, versionOf, lowOf, highOf, entity-pairs, value-pairs}
 
 -- ---- the lines of column

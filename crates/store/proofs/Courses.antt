@@ -1,21 +1,21 @@
 -- Every run over sound words has a course: the model's run and the words' trace, read as 01 tells them. Assumes nothing.
 use mathlib.Core.Path.{_≡_, refl, sym, ap, _∙_, subst}
 use mathlib.Core.Option.{Option, some, none}
-use mathlib.Core.List.{List, [], _∷_, _++_}
-use Prim.Native.Nat.{ℕ, zero, suc, _+_, _-_, _≤_}
+use mathlib.Core.List.{List, [], _∷_}
+use Prim.Native.Nat.{ℕ, zero, suc, _-_, _≤_}
 use native.Mathlib.Omega.{arith}
-use lib.ListN.{length, take, drop, length-drop}
-use Rattle.model.specs.Store.{Store, Bytes, withControl, counted}
+use lib.ListN.{length, drop, length-drop}
+use Rattle.model.specs.Store.{Store, Bytes}
 use Rattle.model.specs.Commands.{width, accepted}
 use Rattle.model.specs.Refusals.{firstLine, NoneHolds, First, beforeLines, linesOf}
 use Rattle.model.specs.Run.{Outcome, refuses, accepts, does, Step, stops, goes, stepOf, stepIf, step, Ran, halt, more, runFor, run}
 use Rattle.model.specs.Sound as model
 use Rattle.model.proofs.Lines.{none-to, refusal-exact, accepted-exact, stop-exact}
-use Rattle.model.proofs.Sound.{After, bytes-drop, step-sound}
+use Rattle.model.proofs.Sound.{bytes-drop, step-sound}
 use Rattle.memory.specs.Meaning.{meaning}
-use Rattle.memory.specs.Arranged.{Sound, Becomes}
+use Rattle.memory.specs.Arranged.{Sound}
 use Rattle.stream.specs.Stream.{Leaves, GoesOn, Traced}
-use Rattle.store.specs.Course.{before, commandOn, tallied, Course, ended, stopped, refused, done}
+use Rattle.store.specs.Course.{commandOn, tallied, Course, ended, stopped, refused, done}
 
 -- ---- a step that goes on: which line refused its command, or that none did
 

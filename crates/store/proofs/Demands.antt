@@ -23,7 +23,7 @@ use Rattle.model.proofs.Lines.{first-exact, first-number}
 use Rattle.model.proofs.Entries.{start-makes, column-refused, column-accepted, roll-exact, roll-writes}
 use Rattle.model.proofs.Lengths.{run-fits}
 use Rattle.model.proofs.Ranges.{range-shows}
-use Rattle.model.proofs.Retired.{Balanced, issued-balance}
+use Rattle.model.proofs.Retired.{Balanced, run-balanced}
 use Rattle.model.proofs.Snapshots.{snapshots-of-sound}
 use Rattle.words.specs.Decides.{Decides}
 use Rattle.memory.specs.Meaning.{meaning}
@@ -221,15 +221,19 @@ range-shown v r h b k a e S i known f P =
     go false d p t = absurd (d S)
     go true d p t = p ∙ column-accepted false k a e (meaning (v .now)) t .words
 
--- ---- "From an empty store, numbers issued = live + waiting + retired": after a run over a started store
+-- ---- "From an empty store, numbers issued = live + waiting + retired; retired counts past destructions at the last version": after any runs
 
-pub issued-after-a-run : (n k : ℕ) (u w w′ t o o′ : List ℕ) (r : Ran) → Starts n k u w 0 → Runs w w′ t o o′ r → Balanced (meaning w′ .entities) (retired t (length o) (empty n k))
-issued-after-a-run n k u w w′ t o o′ r S R =
-    let e = started-empty n k u w S in
-    go (R .sound) (R .decides) (R .means) (e .0) (e .1)
+abbrev pub retiredIn : {w : List ℕ} → Reached w → ℕ
+retiredIn (started S) = 0
+retiredIn (ran {w} {w′} {t} {o} c R) = retiredIn c + retired t (length o) (meaning w)
+
+pub issued-reached : {w : List ℕ} (c : Reached w) → Balanced (meaning w .entities) (retiredIn c)
+unfolding empty
+issued-reached (started {n} {k} {w} {w′} S) = subst (λ (s : Store). Balanced (s .entities) 0) (sym (started-empty n k w w′ S .1)) refl
+issued-reached (ran {w} {w′} {t} {o} {o′} {r} c R) = go (R .sound) (R .decides) (R .means) (issued-reached c)
   where
-    go : (b : Bool) → Decides b (Sound w) → meaning w′ ≡ ranOf b t (length o) (meaning w) .store → Sound w → meaning w ≡ empty n k → Balanced (meaning w′ .entities) (retired t (length o) (empty n k))
-    go false d m S e = absurd (d S)
-    go true d m S e =
-        subst (λ (s : Store). Balanced (s .entities) (retired t (length o) (empty n k))) (sym (m ∙ ap (λ (s : Store). run t (length o) s .store) e))
-        (issued-balance t (length o) n k)
+    go : (b : Bool) → Decides b (Sound w) → meaning w′ ≡ ranOf b t (length o) (meaning w) .store → Balanced (meaning w .entities) (retiredIn c)
+        → Balanced (meaning w′ .entities) (retiredIn c + retired t (length o) (meaning w))
+    go false d m h = absurd (d (reached-sound c))
+    go true d m h =
+        subst (λ (s : Store). Balanced (s .entities) (retiredIn c + retired t (length o) (meaning w))) (sym m) (run-balanced t (length o) (meaning w) (retiredIn c) h)

@@ -1,5 +1,5 @@
 -- What the entry *roll* promises, from what its branches show. Assumes nothing.
-use mathlib.Core.Path.{_≡_, refl, sym, ap, _∙_}
+use mathlib.Core.Path.{_≡_, refl, ap, _∙_}
 use mathlib.Core.Bool.{true, false}
 use mathlib.Core.List.{List, _++_}
 use Prim.Native.Nat.{ℕ, _+_, _≤_, _<_}
@@ -12,7 +12,7 @@ use Rattle.memory.specs.Meaning.{meaning}
 use Rattle.memory.specs.Arranged.{Sound}
 use Rattle.snapshot.specs.Wrote.{Wrote}
 use Rattle.snapshot.proofs.Rolled.{roll-short, roll-fits}
-use Rattle.store.specs.Entries.{rollNumber, rollBytes, Rolls}
+use Rattle.store.specs.Entries.{Rolls}
 
 pub refused-roll : (w o : List ℕ) → (Sound w → ⊥) → Rolls w o o (record { number = 3; written = 0 })
 refused-roll w o d = record { sound = false; decides = d; number = refl; written = refl; bytes = refl }

@@ -1,24 +1,22 @@
 -- What the entry *run* promises, from what its two branches show. Assumes nothing.
-use mathlib.Core.Path.{_≡_, refl, sym, ap, _∙_}
+use mathlib.Core.Path.{_≡_, refl}
 use mathlib.Core.Bool.{true, false}
 use mathlib.Core.List.{List}
 use Prim.Native.Nat.{ℕ}
-use lib.ListN.{length, drop}
+use lib.ListN.{length}
 use Rattle.model.specs.Store.{Bytes, wordsNeeded}
 use Rattle.model.specs.Run.{run}
-use Rattle.words.specs.Offsets.{columnStart}
 use Rattle.memory.specs.Header.{capacityOf, kindCapacityOf}
 use Rattle.memory.specs.Meaning.{meaning}
 use Rattle.memory.specs.Arranged.{Sound}
 use Rattle.stream.specs.Stream.{Completed}
 use Rattle.stream.specs.declared.Ran.{Ran}
 use Rattle.store.specs.Entries.{Runs}
-use Rattle.store.proofs.Starting.{needed-words}
 
 -- the words needed, of the store and of the header
-pub needed-of : (w : List ℕ) → wordsNeeded (meaning w .capacity) (meaning w .kindCapacity) ≡ columnStart (capacityOf w) (kindCapacityOf w)
+pub needed-of : (w : List ℕ) → wordsNeeded (meaning w .capacity) (meaning w .kindCapacity) ≡ wordsNeeded (capacityOf w) (kindCapacityOf w)
 unfolding meaning
-needed-of w = needed-words (capacityOf w) (kindCapacityOf w)
+needed-of w = refl
 
 pub refused-run : (w t o : List ℕ) → (Sound w → ⊥) → Bytes t → Runs w w t o o (record { stop = 3; commands = 0; read = 0; written = 0 })
 refused-run w t o d b =

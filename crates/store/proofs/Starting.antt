@@ -1,12 +1,12 @@
 -- The model's start by its tests, as the code makes them. Assumes nothing.
-use mathlib.Core.Path.{_≡_, refl, sym, ap, _∙_}
-use mathlib.Core.Bool.{Bool, true, false, _||_}
+use mathlib.Core.Path.{_≡_, refl}
+use mathlib.Core.Bool.{Bool, false, _||_}
 use mathlib.Core.List.{List}
 use Prim.Native.Nat.{ℕ, _≤_, _<_}
 use native.Mathlib.Omega.{arith}
 use borrow.Author.Tests.{lt-ltb, le-ltb, ne-eqb}
 use lib.Dec.{eqb, ltb}
-use lib.ListN.{length, drop}
+use lib.ListN.{length}
 use Rattle.model.specs.Store.{empty, wordsNeeded}
 use Rattle.model.specs.Refusals.{startLines}
 use Rattle.model.specs.Entries.{refusesStart, makes, start}
@@ -15,15 +15,9 @@ use Rattle.model.proofs.Walk.{bool-cases}
 use Rattle.model.proofs.Operations.{empty-sound}
 use Rattle.model.proofs.Lines.{first-exact, first-number}
 use Rattle.model.proofs.Entries.{start-exact, start-makes}
-use Rattle.words.specs.Offsets.{columnStart}
 use Rattle.memory.specs.Arranged.{Sound}
 use Rattle.start.specs.Fresh.{Made}
-use Rattle.store.specs.Entries.{Needs, startNumber, StartLeaves, Starts}
-
--- the two names of the number of words needed
-pub needed-words : (n k : ℕ) → wordsNeeded n k ≡ columnStart n k
-unfolding wordsNeeded columnStart
-needed-words n k = refl
+use Rattle.store.specs.Entries.{Starts}
 
 -- the test of refusal 1
 abbrev oversize : ℕ → ℕ → Bool
@@ -69,13 +63,13 @@ refused-start n k m w e =
       past = refl;
     }
 
-pub made-start : (n k : ℕ) (w w′ : List ℕ) → Limits n k → columnStart n k ≤ length w → Made n k w w′ → Starts n k w w′ 0
+pub made-start : (n k : ℕ) (w w′ : List ℕ) → Limits n k → wordsNeeded n k ≤ length w → Made n k w w′ → Starts n k w w′ 0
 made-start n k w w′ l h m =
-    let e : start n k (length w) ≡ makes (empty n k) = start-empty n k (length w) l (rw (needed-words n k) h) in
+    let e : start n k (length w) ≡ makes (empty n k) = start-empty n k (length w) l h in
     let sound : Sound w′ = record { arranged = m .arranged; means = rw (m .means) (empty-sound n k l) } in
     record {
       number = rw e;
       leaves = rw e (sound, m .means);
       size = m .size;
-      past = rw (needed-words n k) (m .past);
+      past = m .past;
     }

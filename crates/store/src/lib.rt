@@ -2,7 +2,6 @@
 pub mod exports;
 
 use stream::Ran;
-ghost use mathlib.Core.Path.{_≡_};
 ghost use Prim.Native.Nat.{_≤_};
 ghost use lib.ListN.{length};
 ghost use Rattle.model.specs.Sound.{Limits, In};

@@ -1,5 +1,5 @@
 -- The cases of a step, at a place of the tape. Assumes nothing.
-use mathlib.Core.Path.{_≡_, refl, _∙_}
+use mathlib.Core.Path.{_≡_, refl}
 use mathlib.Core.Bool.{true, false}
 use mathlib.Core.List.{List, [], _∷_}
 use Prim.Native.Nat.{ℕ, suc, _+_, _-_, _≤_, _<_}
@@ -10,14 +10,14 @@ use lib.ListN.{length, getD, take, drop, length-drop}
 use Rattle.model.specs.Model.{addsNothing}
 use Rattle.model.specs.Store.{Store, Bytes, isKind, stagedKinds}
 use Rattle.model.specs.Commands.{Command, REG, HOLD, NEW, PUT, TAKE, DROP, KILL, WIPE, GROUP, APPLY, BAR, RANGE, EMPTY, TALLY, Done, accepted, width, commandAt, answerLength}
-use Rattle.model.specs.Run.{Outcome, refuses, accepts, does, Step, stops, goes, stepOf, step}
+use Rattle.model.specs.Run.{Outcome, refuses, accepts, does, Step, stops, goes, stepOf, step, storeAfter, answerOf}
 use Rattle.model.proofs.SparseSets.{cond-case}
 use Rattle.model.proofs.Lines.{accepted-exact}
 use Rattle.model.proofs.Lengths.{answer-length, answer-positive, step-case}
 use Rattle.model.proofs.Sound.{After, bytes-drop, tape-fits}
 use Rattle.memory.specs.Meaning.{meaning}
 use Rattle.memory.specs.Arranged.{Sound}
-use Rattle.commands.specs.Acted.{Acted, storeAfter, answerOf}
+use Rattle.commands.specs.Acted.{Acted}
 use Rattle.commands.proofs.Acts.{SameSize, stays, acted-sound}
 use Rattle.stream.specs.Stream.{commandIn, Given, StepReady, stepAt, Stepped}
 use Rattle.stream.specs.declared.Went.the-variants.{Done as Goes, Stop}
@@ -52,11 +52,6 @@ module _ (s : Store) (t : List ℕ) (at room : ℕ) where
         pub step-did : answerLength (commandIn (getD t at 0) t (at + 1)) s ≤ room → stepAt s t at room ≡ stepOf (suc (width (getD t at 0))) s (does (commandIn (getD t at 0) t (at + 1)) s)
         unfolding step
         step-did h = rw (le-leb 1 (getD t at 0) low, le-leb (getD t at 0) 14 high, fits, le-ltb room (answerLength (commandIn (getD t at 0) t (at + 1)) s) h)
-
--- a step that does its command
-step-goes : (k : ℕ) (s : Store) (x : Outcome) → stepOf k s x ≡ goes k (answerOf x) (storeAfter s x)
-step-goes k s (refuses n) = refl
-step-goes k s (accepts s′ a) = refl
 
 -- the answer takes no more than the accepted one
 answer-fits : (c : Command) (s : Store) (x : Outcome) → does c s ≡ x → length (answerOf x) ≤ answerLength c s
@@ -128,7 +123,7 @@ module _ {w w′ o o′ t : List ℕ} {at p r a : ℕ} {x : Step} where
   stepped b v e q B G A =
       let c = commandIn b t (at + 1) in
       let s = meaning w in
-      let d : x ≡ goes (suc (width b)) (answerOf (does c s)) (storeAfter s (does c s)) = e ∙ step-goes (suc (width b)) s (does c s) in
+      let d : x ≡ goes (suc (width b)) (answerOf (does c s)) (storeAfter s (does c s)) = e in
       let f : 1 + a ≡ suc (width b) = omega arith in
       rw (d, f, A .written .count)
       (record {

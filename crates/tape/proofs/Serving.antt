@@ -9,8 +9,8 @@ use lib.Seq.{sets, sets-eq, drop-append-le, drop-append-add, drop-drop, take-app
 use Rattle.model.specs.Store.{Store, le, empty, wordsNeeded}
 use Rattle.model.specs.Run.{run}
 use Rattle.model.specs.Examples.{sample, answer, stream-example}
-use Rattle.model.specs.Entries.{Started, makes, start}
-use Rattle.model.proofs.Lengths.{le-length, RunFits, run-fits}
+use Rattle.model.specs.Entries.{makes, start}
+use Rattle.model.proofs.Lengths.{run-fits}
 use Rattle.codec.proofs.Numbers.{sets-join}
 use Rattle.memory.specs.Meaning.{meaning}
 use Rattle.memory.specs.Arranged.{Sound}

@@ -22,8 +22,3 @@ granted b d e = yes-of b d (not-false b e)
 
 pub denied : {P : Type 0} (b : Bool) → Decides b P → not b ≡ true → P → ⊥
 denied b d e = no-of b d (not-true b e)
-
--- a check of one proposition decides another that holds exactly where it does
-pub decides-both : {P Q : Type 0} (b : Bool) → (P → Q) → (Q → P) → Decides b P → Decides b Q
-decides-both true f g d = f d
-decides-both false f g d = λ q. d (g q)

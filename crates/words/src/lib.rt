@@ -1,4 +1,5 @@
-// The arrangement of the lent words (docs/WORDS.md). Every offset of the header, of the entity part and of a column is here.
+// The arrangement of the lent words (docs/WORDS.md): the offsets of the header, of a layout's block and of a column's head, and where the columns start.
+// The offsets inside the entity part and past a column's head are with the crates `entity` and `component`.
 ghost use mathlib.Core.Path.{_≡_};
 ghost use Prim.Native.Nat.{_≤_};
 ghost use Rattle.words.specs.Offsets.{columnStart};
@@ -35,12 +36,34 @@ pub const EXCLUDED_KINDS: usize = 240;
 pub const DRAFT: usize = 256;
 
 pub const LAYOUT: usize = 576;
+// Where the last three start in a block, and how long it is.
+pub const ARITIES: usize = 128;
+
+pub const KIND_ENDS: usize = 192;
+
+pub const ENDS: usize = 256;
+
+pub const BLOCK_LEN: usize = 320;
+// The same three of the layout in force.
+pub const LAYOUT_ARITIES: usize = LAYOUT + ARITIES;
+
+pub const LAYOUT_KIND_ENDS: usize = LAYOUT + KIND_ENDS;
+
+pub const LAYOUT_ENDS: usize = LAYOUT + ENDS;
 // The family and the count of each group of the layout in force.
 pub const GROUP_FAMILIES: usize = 896;
 
 pub const GROUP_COUNTS: usize = 960;
 // The entity part follows the header.
 pub const ENTITIES: usize = 1024;
+// A column's head: its kind, the kind's own group plus one, the kind's place in its family. The rows follow the head.
+pub const KIND: usize = 1;
+
+pub const OWN_GROUP: usize = 2;
+
+pub const PLACE_IN_FAMILY: usize = 3;
+
+pub const ROWS: usize = 8;
 
 // Where the column in slot k starts.
 pub fn column_start(n: usize, k: usize) -> usize

@@ -1,23 +1,21 @@
 -- Sound words stay sound: the model's theorems, of the words that mean its stores. Assumes nothing.
-use mathlib.Core.Path.{_≡_, refl, ap, ap₂, sym, _∙_, subst}
+use mathlib.Core.Path.{_≡_, refl, sym, subst}
 use mathlib.Core.Bool.{true, false}
 use mathlib.Core.List.{List, []}
 use Prim.Native.Nat.{ℕ}
-use lib.ListN.{drop}
 use Rattle.model.specs.Model.{Entity, insert, remove, clearAll, create, destroy, isLive}
 use Rattle.model.specs.Store.{Store, stagedKinds}
 use Rattle.model.specs.Sound as model
 use Rattle.model.proofs.Operations.{create-sound, create-is-live, insert-sound, remove-sound, clearAll-sound, kill-sound, setLayout-sound, control-sound, control-of, draft-sound, no-draft}
 use Rattle.layouts.specs.Steps.{applied}
-use Rattle.words.specs.Offsets.{columnStart}
 use Rattle.entity.specs.Change.{isFull}
 use Rattle.entity.specs.Answers.{LiveAt}
 use Rattle.entity.proofs.Lookups.{found-live}
-use Rattle.memory.specs.Header.{capacityOf, kindCapacityOf}
 use Rattle.memory.specs.Meaning.{meaning}
 use Rattle.memory.specs.Change.{onStorage, withEntities}
 use Rattle.memory.specs.Arranged.{Sound, Becomes}
-use Rattle.group.proofs.Storing.{becomes-then, capacity-means}
+use Rattle.memory.proofs.Becomes.{becomes-next}
+use Rattle.group.proofs.Storing.{becomes-then}
 use Rattle.world.specs.World.{Leaves, created, killed}
 
 -- words that mean a sound store
@@ -29,22 +27,6 @@ applied-sound : (s : Store) → model.Sound s → model.Sound (applied s)
 applied-sound s S =
     let A = setLayout-sound s S (s .control .draft) (control-of s S .draft) in
     control-sound _ A _ (draft-sound (s .kinds) (s .control) (control-of s S) [] (no-draft (s .kinds)))
-
-kinds-mean : (w : List ℕ) → meaning w .kindCapacity ≡ kindCapacityOf w
-unfolding meaning
-kinds-mean w = refl
-
--- one change after another that keeps the capacities
-then : (w₀ w w′ : List ℕ) (s : Store) (h : Store → Store) → s .capacity ≡ meaning w₀ .capacity → s .kindCapacity ≡ meaning w₀ .kindCapacity → Becomes w₀ w s → Becomes w w′ (h (meaning w)) → Becomes w₀ w′ (h s)
-then w₀ w w′ s h p q B C =
-    let c : capacityOf w ≡ capacityOf w₀ = sym (capacity-means w) ∙ ap (λ (m : Store). m .capacity) (B .means) ∙ p ∙ capacity-means w₀ in
-    let k : kindCapacityOf w ≡ kindCapacityOf w₀ = sym (kinds-mean w) ∙ ap (λ (m : Store). m .kindCapacity) (B .means) ∙ q ∙ kinds-mean w₀ in
-    record {
-      arranged = C .arranged;
-      means = C .means ∙ ap h (B .means);
-      size = C .size ∙ B .size;
-      past = subst (λ (n : ℕ). drop n w′ ≡ drop n w) (ap₂ columnStart c k) (C .past) ∙ B .past;
-    }
 
 module _ (w : List ℕ) (S : Sound w) where
   module _ (e : Entity) where
@@ -83,7 +65,7 @@ module _ (w : List ℕ) (S : Sound w) where
     pub created-leaves : (w₂ : List ℕ) → Becomes w₁ w₂ (onStorage (insert e (meaning w₁ .control .staged)) (meaning w₁)) → Leaves w w₂ (created (meaning w))
     created-leaves w₂ C =
         let D : Becomes w w₂ (onStorage (insert e (meaning w .control .staged)) (withEntities (meaning w) (create (meaning w .entities) .entities))) =
-        then w w₁ w₂ (withEntities (meaning w) (create (meaning w .entities) .entities)) (λ (s : Store). onStorage (insert e (s .control .staged)) s) refl refl B C in
+        becomes-next (withEntities (meaning w) (create (meaning w .entities) .entities)) (λ (s : Store). onStorage (insert e (s .control .staged)) s) B (record { capacity = refl; kindCapacity = refl }) C in
         record {
           becomes = subst (λ (x : Entity). Becomes w w₂ (onStorage (insert x (meaning w .control .staged)) (withEntities (meaning w) (create (meaning w .entities) .entities)))) q D;
           sound = record { arranged = C .arranged; means = subst model.Sound (sym (C .means)) (insert-sound (meaning w₁) (create-leaves .means) e (meaning w₁ .control .staged) new-live (create-leaves .means .staged)) };

@@ -1,50 +1,10 @@
-//! The other side by the static library of the crate `store`: its declarations, and what can be seen of its words.
-//! Nothing checks these declarations against the Rattle source; an exported function takes a slice as a pointer and
-//! a length, returns a struct by value, and cannot return a reference, so *column* comes as a copy.
+//! The other side by the static library of the crate `store`, through the declarations of `bindings/rust`, and what can
+//! be seen of its words.
 
 use crate::rng::Rng;
 use crate::side::Side;
 use sparsey::harness::{words_needed, Id, Preset, Ran};
-
-#[repr(C)]
-struct LinkedRan {
-    stop: u32,
-    commands: usize,
-    read: usize,
-    written: usize,
-}
-
-#[repr(C)]
-struct LinkedRolled {
-    number: u32,
-    written: usize,
-}
-
-extern "C" {
-    fn yirbarn_words_needed(n: usize, k: usize) -> usize;
-    fn yirbarn_start(words: *mut u32, len: usize, n: usize, k: usize) -> u32;
-    fn yirbarn_run(
-        words: *mut u32,
-        len: usize,
-        tape: *const u8,
-        tape_len: usize,
-        out: *mut u8,
-        out_len: usize,
-    ) -> LinkedRan;
-    fn yirbarn_column_number(words: *const u32, len: usize, kind: u8, values: bool, start: usize, end: usize) -> u32;
-    /// Writes the part that *column* hands back to the front of `out`, and gives its length.
-    fn yirbarn_column(
-        words: *const u32,
-        len: usize,
-        kind: u8,
-        values: bool,
-        start: usize,
-        end: usize,
-        out: *mut u32,
-        out_len: usize,
-    ) -> usize;
-    fn yirbarn_roll(words: *const u32, len: usize, out: *mut u8, out_len: usize) -> LinkedRolled;
-}
+use yirbarn::sys;
 
 // The arrangement of the words, for what no entry shows and for presets (docs/WORDS.md).
 const N: usize = 0;
@@ -117,19 +77,19 @@ impl Side for Linked {
     fn start(&mut self, words: usize, n: usize, k: usize) -> u32 {
         self.reach(words + BEYOND);
         let before = self.words.clone();
-        let number = unsafe { yirbarn_start(self.words.as_mut_ptr(), words, n, k) };
+        let number = unsafe { sys::yirbarn_start(self.words.as_mut_ptr(), words, n, k) };
         if number != 0 {
             self.unchanged(&before, 0, "a refused start");
-            return number;
+            return u32::from(number);
         }
         self.lent = words;
         self.needed = words_needed(n, k);
-        let needed = unsafe { yirbarn_words_needed(n, k) };
+        let needed = unsafe { sys::yirbarn_words_needed(n, k) };
         if needed != self.needed {
             self.complain(format!("words needed for N {n}, K {k}: {needed}"));
         }
         self.unchanged(&before, self.needed, "start");
-        number
+        0
     }
 
     fn preset(&mut self, preset: &Preset) {
@@ -156,7 +116,7 @@ impl Side for Linked {
         let before = if watched { self.words.clone() } else { vec![] };
         let beyond = self.words[self.lent..].to_vec();
         let ran = unsafe {
-            yirbarn_run(
+            sys::yirbarn_run(
                 self.words.as_mut_ptr(),
                 self.lent,
                 tape.as_ptr(),
@@ -180,7 +140,7 @@ impl Side for Linked {
             }
         }
         Ran {
-            stop: ran.stop,
+            stop: u32::from(ran.stop),
             commands: ran.commands,
             read: ran.read,
             written: ran.written,
@@ -190,7 +150,7 @@ impl Side for Linked {
     fn column(&mut self, kind: u8, values: bool, start: usize, end: usize) -> Vec<u32> {
         let mut out = vec![0; 2 * end.saturating_sub(start)];
         let len = unsafe {
-            yirbarn_column(
+            sys::yirbarn_column(
                 self.words.as_ptr(),
                 self.lent,
                 kind,
@@ -201,20 +161,24 @@ impl Side for Linked {
                 out.len(),
             )
         };
-        if len > out.len() {
-            self.complain(format!("column of kind {kind}, {start}..{end}: {len} words"));
+        let at = unsafe { sys::yirbarn_column_at(self.words.as_ptr(), self.lent, kind, values, start, end) };
+        if len > out.len() || at > self.lent || self.words[at..].get(..len) != Some(&out[..len]) {
+            self.complain(format!(
+                "column of kind {kind}, {start}..{end}: {len} words, those in place at {at}"
+            ));
+            return out;
         }
         out.truncate(len);
         out
     }
 
     fn column_number(&mut self, kind: u8, values: bool, start: usize, end: usize) -> u32 {
-        unsafe { yirbarn_column_number(self.words.as_ptr(), self.lent, kind, values, start, end) }
+        u32::from(unsafe { sys::yirbarn_column_number(self.words.as_ptr(), self.lent, kind, values, start, end) })
     }
 
     fn roll(&mut self, out: &mut [u8]) -> (u32, usize) {
-        let rolled = unsafe { yirbarn_roll(self.words.as_ptr(), self.lent, out.as_mut_ptr(), out.len()) };
-        (rolled.number, rolled.written)
+        let rolled = unsafe { sys::yirbarn_roll(self.words.as_ptr(), self.lent, out.as_mut_ptr(), out.len()) };
+        (u32::from(rolled.number), rolled.written)
     }
 
     fn live(&mut self) -> Vec<Id> {

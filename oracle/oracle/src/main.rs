@@ -2,11 +2,13 @@
 
 mod compare;
 mod drafts;
+mod examples;
 mod faults;
 mod fixed;
 mod generate;
 #[cfg(feature = "linked")]
 mod linked;
+mod listing;
 mod record;
 mod reference;
 mod rng;
@@ -19,6 +21,7 @@ use compare::{shrink, Difference, Figures, Make, Pair};
 use reference::Reference;
 use side::Side;
 use sparsey::harness::{words_needed, Oracle, Preset, Sets};
+use std::path::Path;
 use std::process::ExitCode;
 use std::time::Instant;
 use tape::{Case, Run};
@@ -36,6 +39,8 @@ struct Options {
     kilobytes: usize,
     /// Compare with the reference even where the library is linked.
     reference: bool,
+    /// Write the files of the examples anew.
+    write: bool,
 }
 
 fn options() -> (String, Options) {
@@ -50,6 +55,7 @@ fn options() -> (String, Options) {
         file: "../crates/replay/data/answers.bin".to_string(),
         kilobytes: 160,
         reference: false,
+        write: false,
     };
     while let Some(arg) = args.next() {
         if arg == "--file" {
@@ -69,6 +75,7 @@ fn options() -> (String, Options) {
             "--quick" => options.quick = true,
             "--show" => options.show = true,
             "--reference" => options.reference = true,
+            "--write" => options.write = true,
             _ => panic!("unknown option {arg}"),
         }
     }
@@ -82,12 +89,13 @@ fn main() -> ExitCode {
         "all" => all(&options, make),
         "compare" => compare_everything(&options, make),
         "drafts" => show_drafts(),
+        "examples" => check_examples(&options, make),
         "faults" => show_faults(&options),
         "record" => record_answers(&options),
         "replay" => replay_answers(&options, make),
         "wear" => wear(make),
         _ => {
-            eprintln!("oracle all | compare | drafts | faults | record | replay: see README.md");
+            eprintln!("oracle all | compare | drafts | examples | faults | record | replay | wear: see README.md");
             ExitCode::from(2)
         }
     }
@@ -197,7 +205,7 @@ fn show_faults(options: &Options) -> ExitCode {
     let mut missed = 0;
     println!("| fault | random cases | limits | start | commands in the smallest tape |");
     println!("|---|---|---|---|---|");
-    for fault in reference::Fault::ALL {
+    for &fault in reference::Fault::ALL {
         let found = quietly(|| faults::find(fault, options.seed, options.cases));
         println!("{}", found.line());
         missed += usize::from(!found.is_found());
@@ -239,13 +247,31 @@ fn replay_answers(options: &Options, make: Make) -> ExitCode {
     }
 }
 
-/// The comparison, the drafts and the faults, one after the other.
+fn check_examples(options: &Options, make: Make) -> ExitCode {
+    match examples::examples(Path::new("../examples"), options.write, make) {
+        Ok(names) => {
+            println!(
+                "{} examples, the Rust and the {} agree on each",
+                names.len(),
+                make().name()
+            );
+            ExitCode::SUCCESS
+        }
+        Err(what) => {
+            println!("{what}");
+            ExitCode::FAILURE
+        }
+    }
+}
+
+/// The comparison, the drafts, the faults, the recorded answers and the examples, one after the other.
 fn all(options: &Options, make: Make) -> ExitCode {
     let codes = [
         compare_everything(options, make),
         show_drafts(),
         show_faults(options),
         replay_answers(options, make),
+        check_examples(options, make),
     ];
     match codes.iter().all(|&code| code == ExitCode::SUCCESS) {
         true => ExitCode::SUCCESS,

@@ -25,7 +25,7 @@ pub fn new() -> Chunk {
     vec![3]
 }
 
-fn with_id(byte: u8, (index, version): Id) -> Chunk {
+pub fn with_id(byte: u8, (index, version): Id) -> Chunk {
     [vec![byte], index.to_le_bytes().to_vec(), version.to_le_bytes().to_vec()].concat()
 }
 

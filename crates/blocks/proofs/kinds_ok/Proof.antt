@@ -2,7 +2,7 @@ use Prim.Native.Nat.{ℕ, _-_}
 use mathlib.Core.Path.{_≡_, _∙_, ap, subst}
 use lib.ListN.{length, getD, take}
 use lib.Seq.{take-length}
-use Rattle.blocks.specs.Checks.{KindsSound}
+use Rattle.blocks.specs.Checks.{KindsOk}
 use Rattle.blocks.proofs.Checking.{SeenSoFar, seen-none, seen-more, kind-counts}
 use native.Mathlib.Omega.{arith}
 use Rattle.blocks.proofs.kinds_ok.Statement.{statement}
@@ -45,7 +45,7 @@ loop-again : tie.Need-loop-again Inv-loop μ-loop
 loop-again c = let a = c .before .before .before .before .before .before .before .args in let l = c .before .before .before .before .before .before .loop in seen-more (a .table .now) (a .kinds .now) (l .seen) (l .i) (omega arith) (c .before .before .before .if1 .left) (c .before .before .if2 .left) (c .if3 .left) (l .inv)
 
 returns-4 : tie.Need-returns-4 Inv-loop μ-loop
-returns-4 c = let a = c .before .before .args in let l = c .before .loop in let e : l .i ≡ length (a .kinds .now) = omega (arith, l .inv .below) in subst (KindsSound (a .table .now)) (ap (λ (i : ℕ). take i (a .kinds .now)) e ∙ take-length (a .kinds .now)) (l .inv .sound)
+returns-4 c = let a = c .before .before .args in let l = c .before .loop in let e : l .i ≡ length (a .kinds .now) = omega (arith, l .inv .below) in subst (KindsOk (a .table .now)) (ap (λ (i : ℕ). take i (a .kinds .now)) e ∙ take-length (a .kinds .now)) (l .inv .sound)
 
 pub kinds-ok-spec : {M : Type 1} → statement M
 kinds-ok-spec =

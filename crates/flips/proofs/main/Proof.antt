@@ -4,7 +4,6 @@ use Rattle.flips.proofs.Counting.{most-more, most-added}
 use Rattle.flips.proofs.main.Statement.{statement}
 use Rattle.flips.proofs.main.Tie as tie
 
--- src/main.rt:58:22
 add-requires-3 : tie.Need-add-requires-3
 add-requires-3 c κs = (
   most-more 8960 1000000 _ (most-added 8192 768 _ _ _ (c .before .before .before .before .before .before .before .before .before .before .before .before .before .before .flip-part .ensures) (c .before .before .before .before .before .before .before .before .before .before .before .before .before .flip-part2 .ensures) (c .before .add .ensures)) (omega arith),

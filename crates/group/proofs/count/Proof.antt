@@ -1,7 +1,8 @@
 use Prim.Native.Nat.{_+_, _<_}
 use native.Mathlib.Omega.{arith}
 use mathlib.Core.Path.{_∙_}
-use Rattle.group.proofs.InWords.{header, group-few, count-words}
+use Rattle.kinds.proofs.Slot.{header-long}
+use Rattle.group.proofs.InWords.{group-few, count-words}
 use Rattle.group.proofs.count.Statement.{statement}
 use Rattle.group.proofs.count.Tie as tie
 
@@ -12,7 +13,7 @@ add-word : tie.Need-add-word
 add-word c = omega (arith, few c)
 
 word-requires : tie.Need-word-requires
-word-requires c κs = let s = c .before in header (s .args .words .now) (s .pre .0) (960 + s .args .g) (omega (arith, few c))
+word-requires c κs = let s = c .before in header-long (s .args .words .now) (s .pre .0) (960 + s .args .g) (omega (arith, few c))
 
 returns : tie.Need-returns
 returns c = let s = c .before .before in c .word .ensures .is ∙ count-words (s .args .words .now) (s .pre .0) (s .args .g) (s .pre .1)

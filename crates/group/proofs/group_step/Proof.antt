@@ -3,11 +3,11 @@ use native.Mathlib.Omega.{arith}
 use borrow.Author.Needs.{needs}
 use Rattle.component.specs.SparseSet.{entity}
 use Rattle.memory.specs.Meaning.{meaning}
+use Rattle.memory.proofs.Becomes.{stays}
 use Rattle.group.specs.declared.GroupStatus.the-variants.{Incomplete, Ungrouped, Grouped}
 use Rattle.group.specs.Flat.{statusAt}
 use Rattle.group.specs.Metadata.{Stands}
 use Rattle.group.proofs.Status.{status-is, listed-later}
-use Rattle.group.proofs.Storing.{becomes-same}
 use Rattle.masks.specs.Masks.{bitsOf, commonOf, skipping}
 use Rattle.group.proofs.Stepping.{skip-ordered, steps-up, ready-in}
 use Rattle.group.proofs.group_step.Statement.{statement}
@@ -38,7 +38,7 @@ returns c =
     let s = c .before .before .before .before .before .before .before .before .before .before .before in
     let a = s .args in
     steps-up (a .words .now) (a .words .now) (entity (a .index) (a .version)) (a .g) Incomplete (sym (c .before .before .enum-told .given .1) ∙ status (c .before .before .before .before)) (a .rest .0) (c .intersection .result .0)
-    (becomes-same (a .words .now) (s .pre .0))
+    (stays (s .pre .0))
     (c .intersection .ensures ∙ ap (commonOf (bitsOf 64 (a .rest .0))) (c .before .skip-from-to .ensures ∙ ap (skipping 64 (a .g)) (c .before .before .before .before .before .before .before .before .metadata .ensures .top)))
 
 group-components-requires : tie.Need-group-components-requires
@@ -63,7 +63,7 @@ returns-3 c =
     let s = c .before .before .before .before .before .before .before .before .before in
     let a = s .args in
     steps-up (a .words .now) (a .words .now) (entity (a .index) (a .version)) (a .g) Grouped (sym (c .enum-told3 .given .1) ∙ status (c .before .before)) (a .rest .0) (a .rest .0)
-    (becomes-same (a .words .now) (s .pre .0)) refl
+    (stays (s .pre .0)) refl
 
 pub group-step-spec : {M : Type 1} → statement M
 group-step-spec =

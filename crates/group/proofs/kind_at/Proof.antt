@@ -1,7 +1,8 @@
 use Prim.Native.Nat.{_+_}
 use mathlib.Core.Path.{sym, _∙_}
 use native.Mathlib.Omega.{arith}
-use Rattle.group.proofs.InWords.{header, order-wide, order-at}
+use Rattle.kinds.proofs.Slot.{header-long}
+use Rattle.group.proofs.InWords.{order-wide, order-at}
 use Rattle.group.proofs.kind_at.Statement.{statement}
 use Rattle.group.proofs.kind_at.Tie as tie
 
@@ -11,7 +12,7 @@ add-word c = let s = c .before in omega (arith, order-wide (s .args .words .now)
 word-requires : tie.Need-word-requires
 word-requires c κs =
     let s = c .before in
-    header (s .args .words .now) (s .pre .0) (576 + s .args .place) (omega (arith, order-wide (s .args .words .now) (s .pre .0), s .pre .1))
+    header-long (s .args .words .now) (s .pre .0) (576 + s .args .place) (omega (arith, order-wide (s .args .words .now) (s .pre .0), s .pre .1))
 
 returns : tie.Need-returns
 returns c = let s = c .before .before in c .word .ensures .is ∙ sym (order-at (s .args .words .now) (s .pre .0) (s .args .place) (s .pre .1))

@@ -1,7 +1,8 @@
 use Prim.Native.Nat.{_+_, _<_}
 use native.Mathlib.Omega.{arith}
 use borrow.Author.Needs.{needs}
-use Rattle.group.proofs.InWords.{header, group-few, count-set}
+use Rattle.kinds.proofs.Slot.{header-long}
+use Rattle.group.proofs.InWords.{group-few, count-set}
 use Rattle.group.proofs.set_count.Statement.{statement}
 use Rattle.group.proofs.set_count.Tie as tie
 
@@ -15,7 +16,7 @@ mul-words : tie.Need-mul-words
 mul-words c = omega (arith, few c)
 
 slice-write-words : tie.Need-slice-write-words
-slice-write-words c = header (c .args .words .now) (c .pre .0) (960 + c .args .g) (omega (arith, few c))
+slice-write-words c = header-long (c .args .words .now) (c .pre .0) (960 + c .args .g) (omega (arith, few c))
 
 returns : tie.Need-returns
 returns c = count-set (c .args .words .now) (c .pre .0) (c .args .g) (c .pre .1 .0) (c .args .count)

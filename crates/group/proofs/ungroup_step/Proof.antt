@@ -3,11 +3,11 @@ use native.Mathlib.Omega.{arith}
 use borrow.Author.Needs.{needs}
 use Rattle.component.specs.SparseSet.{entity}
 use Rattle.memory.specs.Meaning.{meaning}
+use Rattle.memory.proofs.Becomes.{stays}
 use Rattle.group.specs.declared.GroupStatus.the-variants.{Incomplete, Ungrouped, Grouped}
 use Rattle.group.specs.Flat.{statusAt}
 use Rattle.group.specs.Metadata.{Stands}
 use Rattle.group.proofs.Status.{status-is, listed-later}
-use Rattle.group.proofs.Storing.{becomes-same}
 use Rattle.group.proofs.Stepping.{steps-down, ready-out}
 use Rattle.group.proofs.ungroup_step.Statement.{statement}
 use Rattle.group.proofs.ungroup_step.Tie as tie
@@ -33,13 +33,13 @@ returns : tie.Need-returns
 returns c =
     let s = c .before .before .before .before .before .before .before .before .before in
     let a = s .args in
-    steps-down (a .words .now) (a .words .now) (entity (a .index) (a .version)) (a .g) Incomplete (sym (c .enum-told .given .1) ∙ status (c .before .before)) (becomes-same (a .words .now) (s .pre .0))
+    steps-down (a .words .now) (a .words .now) (entity (a .index) (a .version)) (a .g) Incomplete (sym (c .enum-told .given .1) ∙ status (c .before .before)) (stays (s .pre .0))
 
 returns-2 : tie.Need-returns-2
 returns-2 c =
     let s = c .before .before .before .before .before .before .before .before .before in
     let a = s .args in
-    steps-down (a .words .now) (a .words .now) (entity (a .index) (a .version)) (a .g) Ungrouped (sym (c .enum-told2 .given .1) ∙ status (c .before .before)) (becomes-same (a .words .now) (s .pre .0))
+    steps-down (a .words .now) (a .words .now) (entity (a .index) (a .version)) (a .g) Ungrouped (sym (c .enum-told2 .given .1) ∙ status (c .before .before)) (stays (s .pre .0))
 
 ungroup-components-requires : tie.Need-ungroup-components-requires
 ungroup-components-requires c κs =

@@ -4,11 +4,9 @@ use borrow.Author.Needs.{needs}
 use Rattle.replay.proofs.main.Statement.{statement}
 use Rattle.replay.proofs.main.Tie as tie
 
--- src/main.rt:126:40
 array-share-prefix-file : tie.Need-array-share-prefix-file
 array-share-prefix-file c = rw (c .before .read .given .1) at (c .before .before .before .before .before .read-up-to .ensures)
 
--- src/main.rt:126:40
 slice-aggregate-replay-file : tie.Need-slice-aggregate-replay-file
 slice-aggregate-replay-file c = sym (length-take-le (c .before .before .read .given .0 .0) (c .before .before .before .before .before .before .read-up-to .last .1 .0) (rw (c .before .before .read .given .1) at (c .before .before .before .before .before .before .read-up-to .ensures)))
 

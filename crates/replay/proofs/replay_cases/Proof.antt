@@ -3,7 +3,6 @@ use mathlib.Core.Path.{_≡_, refl, _∙_}
 use Prim.Native.Nat.{_≤_, _-_}
 use lib.ListN.{length}
 use native.Mathlib.Omega.{arith}
-use borrow.Author.Needs.{needs}
 use Rattle.replay.proofs.Agreeing.{Going, no-cases, more-cases, all-cases}
 use Rattle.replay.proofs.replay_cases.Statement.{statement}
 use Rattle.replay.proofs.replay_cases.Tie as tie

@@ -5,7 +5,6 @@ use borrow.Author.Needs.{needs}
 use Rattle.replay.proofs.replay_file.Statement.{statement}
 use Rattle.replay.proofs.replay_file.Tie as tie
 
--- src/main.rt:108:21
 slice-aggregate-same : tie.Need-slice-aggregate-same
 slice-aggregate-same c = sym (length-take-le 8 (c .before .before .before .args .file .now) (omega (arith, c .before .if1 .left)))
 

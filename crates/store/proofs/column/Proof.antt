@@ -1,5 +1,5 @@
 -- `store::column` meets its contract. Assumes nothing.
-use mathlib.Core.Path.{_≡_, refl, sym, _∙_}
+use mathlib.Core.Path.{refl}
 use native.Mathlib.Omega.{arith}
 use borrow.Author.Needs.{needs}
 use Rattle.store.proofs.Columns.{Given, given-of, known-of, given-inside, refused-part, given-part}

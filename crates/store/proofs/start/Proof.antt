@@ -4,7 +4,7 @@ use borrow.Author.Needs.{needs}
 use lib.ListN.{length}
 use Rattle.model.specs.Sound.{Limits}
 use Rattle.words.specs.Decides.{granted, denied}
-use Rattle.store.proofs.Starting.{needed-words, start-size, start-short, refused-start, made-start}
+use Rattle.store.proofs.Starting.{start-size, start-short, refused-start, made-start}
 use Rattle.store.proofs.start.Statement.{statement}
 use Rattle.store.proofs.start.Tie as tie
 
@@ -29,13 +29,13 @@ make-requires : tie.Need-make-requires
 make-requires c κs =
     let a = c .before .before .before .before .before .before .args in
     let l : Limits (a .n) (a .k) = granted {P = Limits (a .n) (a .k)} (c .before .before .before .before .within-limits .result) (c .before .before .before .before .within-limits .ensures) (c .before .before .before .if1 .left) in
-    (l, omega (arith, needed-words (a .n) (a .k), c .before .before .words-needed .ensures, c .before .if2 .left))
+    (l, omega (arith, c .before .before .words-needed .ensures, c .before .if2 .left))
 
 returns-3 : tie.Need-returns-3
 returns-3 c =
     let a = c .before .before .before .before .before .before .before .before .before .args in
     let l : Limits (a .n) (a .k) = granted {P = Limits (a .n) (a .k)} (c .before .before .before .before .before .before .before .within-limits .result) (c .before .before .before .before .before .before .before .within-limits .ensures) (c .before .before .before .before .before .before .if1 .left) in
-    made-start (a .n) (a .k) (a .words .now) (c .before .before .make .last .0) l (omega (arith, needed-words (a .n) (a .k), c .before .before .before .before .before .words-needed .ensures, c .before .before .before .before .if2 .left)) (c .before .before .make .ensures)
+    made-start (a .n) (a .k) (a .words .now) (c .before .before .make .last .0) l (omega (arith, c .before .before .before .before .before .words-needed .ensures, c .before .before .before .before .if2 .left)) (c .before .before .make .ensures)
 
 pub start-spec : {M : Type 1} → statement M
 start-spec = tie.close (tie.spec (λ c κs. search needs) returns words-needed-requires returns-2 make-requires (λ c. search needs) returns-3)

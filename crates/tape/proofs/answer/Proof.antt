@@ -1,8 +1,5 @@
-use mathlib.Core.Path.{_≡_, sym}
-use Prim.Native.Nat.{_≤_}
-use native.Mathlib.Omega.{arith}
+use mathlib.Core.Path.{sym}
 use borrow.Author.Needs.{needs}
-use lib.ListN.{length, length-append}
 use lib.Seq.{length-take-le}
 use Rattle.tape.proofs.Serving.{within}
 use Rattle.tape.proofs.answer.Statement.{statement}

@@ -52,12 +52,16 @@ struct Store {
     k: usize,
     world: World,
     registered: u128,
-    staged: Vec<(u8, Value)>,
+    /// The staged kinds, and the value of each.
+    staged: Vec<u8>,
+    values: Vec<Value>,
     excluded: Vec<u8>,
     draft: Draft,
     issued: usize,
     retired: usize,
     refusals: u32,
+    /// The answer to the command under way: one buffer for all, so that times are not those of an allocator.
+    answer: Vec<u8>,
 }
 
 /// The draft layout, as the library has it and as sets of kinds, one list a family, rising.
@@ -146,7 +150,7 @@ impl Oracle {
 
             let answer = store.command(byte, operands, sets);
             self.seen[usize::from(byte)][usize::from(answer[0])] += 1;
-            out[ran.written..ran.written + answer.len()].copy_from_slice(&answer);
+            out[ran.written..ran.written + answer.len()].copy_from_slice(answer);
             ran.written += answer.len();
             ran.read = start + operands.len();
             ran.commands += 1;
@@ -172,12 +176,10 @@ impl Oracle {
     /// *roll*: the number and how many bytes were written.
     pub fn roll(&self, out: &mut [u8]) -> (u32, usize) {
         let Some(store) = &self.store else { return (3, 0) };
-        let roll = store.roll();
-        if roll.len() > out.len() {
-            return (6, 0);
+        match store.roll(out) {
+            None => (6, 0),
+            Some(length) => (0, length),
         }
-        out[..roll.len()].copy_from_slice(&roll);
-        (0, roll.len())
     }
 
     /// The live entities in the order of the library's list.
@@ -231,11 +233,13 @@ impl Store {
             world: World::default(),
             registered: 0,
             staged: vec![],
+            values: vec![],
             excluded: vec![],
             draft: Draft::default(),
             issued: 0,
             retired: 0,
             refusals: 0,
+            answer: vec![],
         }
     }
 
@@ -252,48 +256,55 @@ impl Store {
     }
 
     /// Does one command and gives its answer, the refusal's number included.
-    fn command(&mut self, byte: u8, operands: &[u8], sets: Sets) -> Vec<u8> {
-        match self.accepted(byte, operands, sets) {
-            Ok(bytes) => [vec![0], bytes].concat(),
-            Err(number) => {
-                self.refusals = self.refusals.saturating_add(1);
-                vec![number]
-            }
+    fn command(&mut self, byte: u8, operands: &[u8], sets: Sets) -> &[u8] {
+        self.answer.clear();
+        self.answer.push(0);
+        if let Err(number) = self.accepted(byte, operands, sets) {
+            self.refusals = self.refusals.saturating_add(1);
+            self.answer[0] = number;
         }
+        &self.answer
     }
 
-    fn accepted(&mut self, byte: u8, operands: &[u8], sets: Sets) -> Result<Vec<u8>, u8> {
+    /// Does it, and tells what is told after a 0; or refuses it, and tells nothing.
+    fn accepted(&mut self, byte: u8, operands: &[u8], sets: Sets) -> Result<(), u8> {
         match byte {
-            1 => self.register(operands[0]),
-            2 => self.hold(operands[0], words(&operands[1..])),
-            3 => self.create(sets),
-            4 => self.put(operands, sets),
-            5 => self.take(operands, sets),
-            6 => self.drop(operands, sets),
-            7 => self.kill(operands),
-            8 => {
-                self.world.components.clear();
-                Ok(vec![])
-            }
-            9 => self.group(),
+            1 => self.register(operands[0])?,
+            2 => self.hold(operands[0], words(&operands[1..]))?,
+            3 => self.create(sets)?,
+            4 => self.put(operands, sets)?,
+            5 => self.take(operands, sets)?,
+            6 => self.drop(operands, sets)?,
+            7 => self.kill(operands)?,
+            8 => self.world.components.clear(),
+            9 => self.group()?,
             10 => self.apply(),
-            11 => self.bar(operands[0]),
+            11 => self.bar(operands[0])?,
             12 => self.range(),
             13 => {
-                self.staged.clear();
+                self.clear_staged();
                 self.excluded.clear();
-                Ok(vec![])
             }
-            14 => Ok(self.refusals.to_le_bytes().to_vec()),
+            14 => self.tell(self.refusals),
             _ => unreachable!("refused before"),
         }
+        Ok(())
+    }
+
+    fn tell(&mut self, number: u32) {
+        self.answer.extend(number.to_le_bytes());
+    }
+
+    fn clear_staged(&mut self) {
+        self.staged.clear();
+        self.values.clear();
     }
 
     fn is_registered(&self, number: u8) -> bool {
         number < 128 && self.registered >> number & 1 == 1
     }
 
-    fn register(&mut self, number: u8) -> Result<Vec<u8>, u8> {
+    fn register(&mut self, number: u8) -> Result<(), u8> {
         if number > 127 {
             return Err(7);
         }
@@ -303,24 +314,26 @@ impl Store {
         let new = self.world.components.register_dyn(kind(number).data);
         assert_eq!(new, !self.is_registered(number), "register_dyn knows other kinds");
         self.registered |= 1 << number;
-        Ok(vec![u8::from(new)])
+        self.answer.push(u8::from(new));
+        Ok(())
     }
 
-    fn hold(&mut self, number: u8, value: Value) -> Result<Vec<u8>, u8> {
+    fn hold(&mut self, number: u8, value: Value) -> Result<(), u8> {
         if !self.is_registered(number) {
             return Err(7);
         }
-        if self.staged.iter().any(|(staged, _)| *staged == number) {
+        if self.staged.contains(&number) {
             return Err(9);
         }
         if self.staged.len() == MOST_STAGED {
             return Err(10);
         }
-        self.staged.push((number, value));
-        Ok(vec![])
+        self.staged.push(number);
+        self.values.push(value);
+        Ok(())
     }
 
-    fn bar(&mut self, number: u8) -> Result<Vec<u8>, u8> {
+    fn bar(&mut self, number: u8) -> Result<(), u8> {
         if !self.is_registered(number) {
             return Err(7);
         }
@@ -331,7 +344,7 @@ impl Store {
             return Err(10);
         }
         self.excluded.push(number);
-        Ok(vec![])
+        Ok(())
     }
 
     /// The operands' entity, if it is live.
@@ -343,121 +356,124 @@ impl Store {
             .ok_or(11)
     }
 
-    fn take_staged(&mut self) -> (Vec<u8>, Vec<Value>) {
-        core::mem::take(&mut self.staged).into_iter().unzip()
+    /// What is staged, for the lists of kinds that no tuple covers.
+    fn as_staged(&self) -> Staged {
+        Staged(self.staged.iter().copied().zip(self.values.iter().copied()).collect())
     }
 
-    fn create(&mut self, sets: Sets) -> Result<Vec<u8>, u8> {
+    fn create(&mut self, sets: Sets) -> Result<(), u8> {
         let recycled = self.issued - self.retired - self.world.entities().len();
         if recycled == 0 && self.issued == self.n {
             return Err(12);
         }
-        let (kinds, values) = self.take_staged();
         let by_tuple = match sets {
-            Sets::Tuples if kinds.is_empty() => Some(self.world.create(())),
-            Sets::Tuples => tuples::create(&mut self.world, &kinds, &values),
+            Sets::Tuples if self.staged.is_empty() => Some(self.world.create(())),
+            Sets::Tuples => tuples::create(&mut self.world, &self.staged, &self.values),
             Sets::Staged => None,
         };
-        let entity = by_tuple.unwrap_or_else(|| self.world.create(Staged(kinds.into_iter().zip(values).collect())));
+        let entity = match by_tuple {
+            Some(entity) => entity,
+            None => {
+                let staged = self.as_staged();
+                self.world.create(staged)
+            }
+        };
+        self.clear_staged();
         if recycled == 0 {
             assert_eq!(entity.sparse(), self.issued, "the next index was not taken");
             self.issued += 1;
         }
         assert!(entity.sparse() < self.issued, "an index that was never issued");
-        Ok([entity.index.to_le_bytes(), entity.version.0.get().to_le_bytes()].concat())
+        self.tell(entity.index);
+        self.tell(entity.version.0.get());
+        Ok(())
     }
 
-    fn put(&mut self, operands: &[u8], sets: Sets) -> Result<Vec<u8>, u8> {
+    fn put(&mut self, operands: &[u8], sets: Sets) -> Result<(), u8> {
         let entity = self.entity(operands)?;
-        let (kinds, values) = self.take_staged();
         let by_tuple = match sets {
-            Sets::Tuples if kinds.is_empty() => Some(self.world.insert(entity, ())),
-            Sets::Tuples => tuples::insert(&mut self.world, entity, &kinds, &values),
+            Sets::Tuples if self.staged.is_empty() => Some(self.world.insert(entity, ())),
+            Sets::Tuples => tuples::insert(&mut self.world, entity, &self.staged, &self.values),
             Sets::Staged => None,
         };
         if by_tuple.is_none() {
-            let staged = Staged(kinds.into_iter().zip(values).collect());
+            let staged = self.as_staged();
             unsafe { Staged::insert(&mut self.world, entity, staged) };
         }
-        Ok(vec![])
+        self.clear_staged();
+        Ok(())
     }
 
-    fn take(&mut self, operands: &[u8], sets: Sets) -> Result<Vec<u8>, u8> {
+    fn take(&mut self, operands: &[u8], sets: Sets) -> Result<(), u8> {
         let entity = self.entity(operands)?;
-        let (kinds, _) = self.take_staged();
-        let by_tuple = match sets {
-            Sets::Tuples if kinds.is_empty() => {
-                let () = self.world.remove::<()>(entity);
-                Some(vec![])
-            }
-            Sets::Tuples => tuples::remove(&mut self.world, entity, &kinds),
-            Sets::Staged => None,
-        };
-        let removed =
-            by_tuple.unwrap_or_else(|| with_kinds(&kinds, || unsafe { Staged::remove(&mut self.world, entity) }));
-
-        let mut answer = vec![];
-        for value in removed {
+        let answer = &mut self.answer;
+        let mut told = |value: Option<Value>| {
             answer.push(u8::from(value.is_some()));
             for word in value.unwrap_or([0, 0]) {
                 answer.extend(word.to_le_bytes());
             }
-        }
-        Ok(answer)
-    }
-
-    fn drop(&mut self, operands: &[u8], sets: Sets) -> Result<Vec<u8>, u8> {
-        let entity = self.entity(operands)?;
-        let (kinds, _) = self.take_staged();
+        };
         let by_tuple = match sets {
-            Sets::Tuples if kinds.is_empty() => Some(self.world.delete::<()>(entity)),
-            Sets::Tuples => tuples::delete(&mut self.world, entity, &kinds),
+            Sets::Tuples if self.staged.is_empty() => Some(self.world.remove::<()>(entity)),
+            Sets::Tuples => tuples::remove(&mut self.world, entity, &self.staged, &mut told),
             Sets::Staged => None,
         };
         if by_tuple.is_none() {
-            with_kinds(&kinds, || self.world.delete::<Staged>(entity));
+            let removed = with_kinds(&self.staged, || unsafe { Staged::remove(&mut self.world, entity) });
+            removed.into_iter().for_each(told);
         }
-        Ok(vec![])
+        self.clear_staged();
+        Ok(())
     }
 
-    fn kill(&mut self, operands: &[u8]) -> Result<Vec<u8>, u8> {
+    fn drop(&mut self, operands: &[u8], sets: Sets) -> Result<(), u8> {
+        let entity = self.entity(operands)?;
+        let by_tuple = match sets {
+            Sets::Tuples if self.staged.is_empty() => Some(self.world.delete::<()>(entity)),
+            Sets::Tuples => tuples::delete(&mut self.world, entity, &self.staged),
+            Sets::Staged => None,
+        };
+        if by_tuple.is_none() {
+            with_kinds(&self.staged, || self.world.delete::<Staged>(entity));
+        }
+        self.clear_staged();
+        Ok(())
+    }
+
+    fn kill(&mut self, operands: &[u8]) -> Result<(), u8> {
         let entity = self.entity(operands)?;
         assert!(self.world.destroy(entity), "a live entity was not destroyed");
         if entity.version == Version::LAST {
             self.retired += 1;
         }
-        Ok(vec![])
+        Ok(())
     }
 
-    fn group(&mut self) -> Result<Vec<u8>, u8> {
-        let kinds: Vec<u8> = self.staged.iter().map(|(number, _)| *number).collect();
-        let place = self.draft.judge(set_of(&kinds))?;
-        self.draft.add(place, &kinds);
-        self.staged.clear();
-        Ok(vec![u8::from(place != Place::Nowhere)])
+    fn group(&mut self) -> Result<(), u8> {
+        let place = self.draft.judge(set_of(&self.staged))?;
+        self.draft.add(place, &self.staged);
+        self.clear_staged();
+        self.answer.push(u8::from(place != Place::Nowhere));
+        Ok(())
     }
 
-    fn apply(&mut self) -> Result<Vec<u8>, u8> {
+    fn apply(&mut self) {
         let draft = core::mem::take(&mut self.draft);
         unsafe {
             self.world
                 .components
                 .set_layout(&draft.layout, self.world.entities.as_slice());
         }
-        Ok(vec![])
     }
 
-    fn range(&mut self) -> Result<Vec<u8>, u8> {
-        let staged: Vec<u8> = self.staged.drain(..).map(|(number, _)| number).collect();
-        let excluded = core::mem::take(&mut self.excluded);
-        let range = self.group_range(&staged, &excluded);
-        let (found, (start, end)) = (range.is_some(), range.unwrap_or((0, 0)));
-        Ok([
-            vec![u8::from(found)],
-            (start as u32).to_le_bytes().to_vec(),
-            (end as u32).to_le_bytes().to_vec(),
-        ]
-        .concat())
+    fn range(&mut self) {
+        let range = self.group_range(&self.staged, &self.excluded);
+        let (start, end) = range.unwrap_or((0, 0));
+        self.clear_staged();
+        self.excluded.clear();
+        self.answer.push(u8::from(range.is_some()));
+        self.tell(start as u32);
+        self.tell(end as u32);
     }
 
     /// As `QueryAll::get_group_range`, with what is staged and excluded built up by `add_view`.
@@ -521,26 +537,43 @@ impl Store {
             .collect()
     }
 
-    fn roll(&self) -> Vec<u8> {
+    /// The roll at the front of `out`, if it fits; its length.
+    fn roll(&self, out: &mut [u8]) -> Option<usize> {
         let mut entities = self.world.entities().to_vec();
-        entities.sort_by_key(|entity| entity.index);
+        entities.sort_unstable_by_key(|entity| entity.index);
+        let sets: Vec<_> = kinds_of(self.registered)
+            .into_iter()
+            .map(|number| {
+                let set = &self.world.components.components[self.metadata(number).storage_index];
+                (number, kind(number).get, set.borrow())
+            })
+            .collect();
+        let length = 4 + 9 * entities.len() + 9 * sets.iter().map(|(_, _, set)| set.len()).sum::<usize>();
+        if out.len() < length {
+            return None;
+        }
 
-        let mut roll = (entities.len() as u32).to_le_bytes().to_vec();
+        let mut written = 0;
+        let mut put = |at: usize, bytes: &[u8]| {
+            out[at..at + bytes.len()].copy_from_slice(bytes);
+            at + bytes.len()
+        };
+        written = put(written, &(entities.len() as u32).to_le_bytes());
         for entity in entities {
-            roll.extend(entity.index.to_le_bytes());
-            roll.extend(entity.version.0.get().to_le_bytes());
-            let at = roll.len();
-            roll.push(0);
-            for number in kinds_of(self.registered) {
-                let set = self.world.components.components[self.metadata(number).storage_index].borrow();
-                if let Some(value) = unsafe { (kind(number).get)(&set, entity) } {
-                    roll[at] += 1;
-                    roll.push(number);
-                    roll.extend(long(value).to_le_bytes());
+            written = put(written, &entity.index.to_le_bytes());
+            written = put(written, &entity.version.0.get().to_le_bytes());
+            let count = written;
+            written += 1;
+            for (number, get, set) in &sets {
+                if let Some(value) = unsafe { get(set, entity) } {
+                    written = put(written, &[*number]);
+                    written = put(written, &long(value).to_le_bytes());
                 }
             }
+            put(count, &[((written - count) / 9) as u8]);
         }
-        roll
+        assert_eq!(written, length, "columns with entities that are not live");
+        Some(length)
     }
 }
 
@@ -587,11 +620,11 @@ impl Draft {
             Place::NewFamily => self.families.push(vec![set_of(kinds)]),
             Place::Family(i) => self.families[i].push(set_of(kinds)),
         }
-        let theirs: Vec<Vec<u128>> = families(&self.layout)
-            .iter()
-            .map(|family| family.iter().map(|kinds| set_of(kinds)).collect())
-            .collect();
-        assert_eq!(theirs, self.families, "add_group_dyn made other families");
+        debug_assert_eq!(
+            families_of(&self.layout),
+            self.families,
+            "add_group_dyn made other families"
+        );
     }
 }
 
@@ -610,6 +643,14 @@ pub fn families(layout: &GroupLayout) -> Vec<Vec<Vec<u8>>> {
             let kinds: Vec<u8> = family.components().iter().map(|data| number(data.type_id())).collect();
             family.arities().iter().map(|&arity| kinds[..arity].to_vec()).collect()
         })
+        .collect()
+}
+
+/// The same as sets of kinds.
+fn families_of(layout: &GroupLayout) -> Vec<Vec<u128>> {
+    families(layout)
+        .iter()
+        .map(|family| family.iter().map(|kinds| set_of(kinds)).collect())
         .collect()
 }
 

@@ -2,18 +2,16 @@ use Prim.Native.Nat.{_+_, _-_}
 use native.Mathlib.Omega.{arith}
 use Rattle.words.specs.Decides.{granted, denied}
 use Rattle.words.specs.Part.{between}
-use Rattle.clauses.specs.Listed.{Listed}
+use Rattle.blocks.specs.Checks.{KindsOk}
 use borrow.Author.Needs.{needs}
 use Rattle.clauses.proofs.lists.is_list.Statement.{statement}
 use Rattle.clauses.proofs.lists.is_list.Tie as tie
 
--- src/lists.rt:40:9
 returns-2 : tie.Need-returns-2
-returns-2 c = let a = c .before .before .before .before .before .before .args in λ L. denied {P = Listed (between 32 160 (a .words .now)) (between (a .at) (a .at + a .len) (a .words .now))} (c .before .is-listed .result) (c .before .is-listed .ensures) (c .if2 .taken) (L .listed)
+returns-2 c = let a = c .before .before .before .before .before .before .args in λ L. denied {P = KindsOk (between 32 160 (a .words .now)) (between (a .at) (a .at + a .len) (a .words .now))} (c .before .kinds-ok .result) (c .before .kinds-ok .ensures) (c .if2 .taken) (L .listed)
 
--- src/lists.rt:31:1
 returns-3 : tie.Need-returns-3
-returns-3 c = let a = c .before .before .before .before .before .before .args in record { few = omega arith; listed = granted {P = Listed (between 32 160 (a .words .now)) (between (a .at) (a .at + a .len) (a .words .now))} (c .before .is-listed .result) (c .before .is-listed .ensures) (c .if2 .left) }
+returns-3 c = let a = c .before .before .before .before .before .before .args in record { few = omega arith; listed = granted {P = KindsOk (between 32 160 (a .words .now)) (between (a .at) (a .at + a .len) (a .words .now))} (c .before .kinds-ok .result) (c .before .kinds-ok .ensures) (c .if2 .left) }
 
 pub is-list-spec : {M : Type 1} → statement M
 is-list-spec =

@@ -5,11 +5,9 @@ use borrow.Author.Needs.{needs}
 use Rattle.clauses.proofs.table.head.Statement.{statement}
 use Rattle.clauses.proofs.table.head.Tie as tie
 
--- src/table.rt:16:5
 cast-result : tie.Need-cast-result
 cast-result c = let a = c .before .before .before .args in omega (arith, c .before .before .shared-slice-known .given (c .before .column-start .result + a .i))
 
--- src/table.rt:10:1
 returns : tie.Need-returns
 returns c = let a = c .before .before .before .args in head-read (a .n) (a .s) (a .i) (c .before .column-start .result) (a .words .now) (c .before .before .before .pre .1) (c .before .column-start .ensures)
 

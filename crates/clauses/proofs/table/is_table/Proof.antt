@@ -9,31 +9,24 @@ use borrow.Author.Needs.{needs}
 use Rattle.clauses.proofs.table.is_table.Statement.{statement}
 use Rattle.clauses.proofs.table.is_table.Tie as tie
 
--- src/table.rt:87:22
 shared-slice-read-registered : tie.Need-shared-slice-read-registered
 shared-slice-read-registered c = let a = c .before .before .args in omega (arith, room-long (a .n) (a .k) (a .words .now) (c .before .before .pre))
 
--- src/table.rt:87:22
 cast-registered : tie.Need-cast-registered
 cast-registered c = omega (arith, c .before .shared-slice-known .given 2)
 
--- src/table.rt:91:9
 kinds-ok-requires : tie.Need-kinds-ok-requires
 kinds-ok-requires c κs = let a = c .before .before .before .args in room-less (a .n) (a .k) (a .words .now) (c .before .before .before .pre) (registeredOf (a .words .now)) (omega arith)
 
--- src/table.rt:92:9
 returns-2 : tie.Need-returns-2
 returns-2 c = let a = c .before .before .before .before .before .args in λ T. denied {P = Each 128 (KindOk (a .n) (registeredOf (a .words .now)) (a .words .now))} (c .before .kinds-ok .result) (c .before .kinds-ok .ensures) (c .if2 .taken) (T .kinds)
 
--- src/table.rt:94:9
 slots-ok-requires : tie.Need-slots-ok-requires
 slots-ok-requires c κs = let a = c .before .before .before .before .before .args in room-less (a .n) (a .k) (a .words .now) (c .before .before .before .before .before .pre) (registeredOf (a .words .now)) (omega arith)
 
--- src/table.rt:95:9
 returns-3 : tie.Need-returns-3
 returns-3 c = let a = c .before .before .before .before .before .before .before .args in λ T. denied {P = Each (registeredOf (a .words .now)) (SlotOk (a .n) (a .words .now))} (c .before .slots-ok .result) (c .before .slots-ok .ensures) (c .if3 .taken) (T .slots)
 
--- src/table.rt:83:1
 returns-4 : tie.Need-returns-4
 returns-4 c = let a = c .before .before .before .before .before .before .before .args in record { few = omega (arith, c .before .before .before .before .if1 .left); kinds = granted {P = Each 128 (KindOk (a .n) (registeredOf (a .words .now)) (a .words .now))} (c .before .before .before .kinds-ok .result) (c .before .before .before .kinds-ok .ensures) (c .before .before .if2 .left); slots = granted {P = Each (registeredOf (a .words .now)) (SlotOk (a .n) (a .words .now))} (c .before .slots-ok .result) (c .before .slots-ok .ensures) (c .if3 .left) }
 

@@ -7,23 +7,18 @@ use borrow.Author.Needs.{needs}
 use Rattle.clauses.proofs.table.kind_ok.Statement.{statement}
 use Rattle.clauses.proofs.table.kind_ok.Tie as tie
 
--- src/table.rt:25:13
 shared-slice-read-s : tie.Need-shared-slice-read-s
 shared-slice-read-s c = let a = c .before .before .args in omega (arith, room-long (a .n) (a .registered) (a .words .now) (c .before .before .pre .0))
 
--- src/table.rt:25:13
 cast-s : tie.Need-cast-s
 cast-s c = let a = c .before .before .args in omega (arith, c .before .shared-slice-known .given (32 + a .kind))
 
--- src/table.rt:30:9
 returns-2 : tie.Need-returns-2
 returns-2 c = λ K. let x = K .slot (c .before .if1 .left) in omega arith
 
--- src/table.rt:32:8
 head-requires : tie.Need-head-requires
 head-requires c κs = let a = c .before .before .before .before .args in (slot-of (a .n) (a .registered) (a .words .now) (c .before .before .before .before .pre .0) (slotOf (a .words .now) (a .kind)) (omega arith), omega arith)
 
--- src/table.rt:33:9
 returns-3 : tie.Need-returns-3
 returns-3 c = λ K. c .if3 .taken (c .before .head .ensures ∙ K .back (c .before .before .before .if1 .left))
 

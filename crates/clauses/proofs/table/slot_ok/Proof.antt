@@ -7,19 +7,15 @@ use borrow.Author.Needs.{needs}
 use Rattle.clauses.proofs.table.slot_ok.Statement.{statement}
 use Rattle.clauses.proofs.table.slot_ok.Tie as tie
 
--- src/table.rt:47:16
 shared-slice-read-back : tie.Need-shared-slice-read-back
 shared-slice-read-back c = let a = c .before .before .before .before .args in omega (arith, slot-long (a .n) (a .s) (a .words .now) (c .before .before .before .before .pre))
 
--- src/table.rt:47:16
 cast-back : tie.Need-cast-back
 cast-back c = let a = c .before .before .before .before .args in omega (arith, c .before .before .before .shared-slice-known .given (32 + c .before .before .head .result))
 
--- src/table.rt:49:9
 returns-2 : tie.Need-returns-2
 returns-2 c = let a = c .before .before .before .before .before .args in λ K. c .if2 .taken (ap (slotOf (a .words .now)) (c .before .before .before .head .ensures) ∙ K .own)
 
--- src/table.rt:39:1
 returns-3 : tie.Need-returns-3
 returns-3 c = let a = c .before .before .before .before .before .args in record { small = omega (arith, c .before .before .before .head .ensures, c .before .before .if1 .left); own = ap (slotOf (a .words .now)) (sym (c .before .before .before .head .ensures)) ∙ c .if2 .left }
 

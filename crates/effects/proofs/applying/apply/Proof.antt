@@ -5,9 +5,8 @@ use borrow.Author.Needs.{needs}
 use Rattle.effects.proofs.applying.apply.Statement.{statement}
 use Rattle.effects.proofs.applying.apply.Tie as tie
 
--- src/applying.rt:9:1
 returns : tie.Need-returns
-returns c = accepted-by (applies (meaning (c .before .before .before .before .before .before .before .before .before .before .args .words .now))) (c .before .before .before .before .before .before .set-layout .ensures) (c .before .before .ack .ensures)
+returns c = accepted-by (applies (meaning (c .before .before .before .before .before .before .before .before .before .before .args .words .now))) (c .before .before .before .before .before .before .set-layout .ensures .becomes) (c .before .before .ack .ensures)
 
 pub apply-spec : {M : Type 1} → statement M
 apply-spec =

@@ -8,7 +8,6 @@ use borrow.Author.Needs.{needs}
 use Rattle.effects.proofs.entities.ack_entity.Statement.{statement}
 use Rattle.effects.proofs.entities.ack_entity.Tie as tie
 
--- src/entities.rt:30:1
 returns : tie.Need-returns
 returns c =
     let a = c .before .before .before .before .before .before .before .before .before .args in

@@ -7,15 +7,12 @@ use borrow.Author.Needs.{needs}
 use Rattle.effects.proofs.entities.new.Statement.{statement}
 use Rattle.effects.proofs.entities.new.Tie as tie
 
--- src/entities.rt:45:9
 returns : tie.Need-returns
 returns c = refused-by (new-full (meaning (c .before .before .before .before .before .before .before .before .before .before .before .before .args .words .now)) (sym (c .before .before .before .before .before .before .before .before .is-full .ensures) ∙ c .before .before .before .before .before .before .before .if1 .taken)) (c .before .before .before .before .refuse .ensures)
 
--- src/entities.rt:47:9
 create-requires : tie.Need-create-requires
 create-requires c κs = (c .before .before .before .before .before .before .pre .sound, sym (c .before .before .is-full .ensures) ∙ c .before .if1 .left)
 
--- src/entities.rt:40:1
 returns-2 : tie.Need-returns-2
 returns-2 c =
     let made = c .before .before .before .before .before .before .before .before .before .before .create in

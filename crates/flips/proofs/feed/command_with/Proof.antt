@@ -2,7 +2,6 @@ use borrow.Author.Needs.{needs}
 use Rattle.flips.proofs.feed.command_with.Statement.{statement}
 use Rattle.flips.proofs.feed.command_with.Tie as tie
 
--- src/feed.rt:60:1
 returns : tie.Need-returns
 returns c = λ S. c .before .before .command .ensures (c .before .before .before .before .before .before .hold .ensures S)
 

@@ -2,7 +2,6 @@ use borrow.Author.Needs.{needs}
 use Rattle.flips.proofs.setup.recycle.Statement.{statement}
 use Rattle.flips.proofs.setup.recycle.Tie as tie
 
--- src/setup.rt:37:1
 returns : tie.Need-returns
 returns c = λ S. c .before .before .command-with .ensures (c .before .before .before .before .before .before .before .command-on3 .ensures (c .before .before .before .before .before .before .before .before .before .before .before .command-on2 .ensures (c .before .before .before .before .before .before .before .before .before .before .before .before .before .before .before .command-on .ensures S)))
 

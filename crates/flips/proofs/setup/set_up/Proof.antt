@@ -2,7 +2,6 @@ use borrow.Author.Needs.{needs}
 use Rattle.flips.proofs.setup.set_up.Statement.{statement}
 use Rattle.flips.proofs.setup.set_up.Tie as tie
 
--- src/setup.rt:56:1
 returns : tie.Need-returns
 returns c = λ S. c .before .before .feed .ensures (c .before .before .before .before .before .before .before .hold .ensures (c .before .before .before .before .before .before .before .before .before .before .before .before .draft .ensures (c .before .before .before .before .before .before .before .before .before .before .before .before .before .before .before .before .recycle .ensures (c .before .before .before .before .before .before .before .before .before .before .before .before .before .before .before .before .before .before .before .before .create .ensures (c .before .before .before .before .before .before .before .before .before .before .before .before .before .before .before .before .before .before .before .before .before .before .before .before .lay-out .ensures S)))))
 

@@ -2,7 +2,6 @@ use borrow.Author.Needs.{needs}
 use Rattle.flips.proofs.trial.serves.Statement.{statement}
 use Rattle.flips.proofs.trial.serves.Tie as tie
 
--- src/trial.rt:67:1
 returns : tie.Need-returns
 returns c = λ S. c .before .before .command2 .ensures (c .before .before .before .before .before .before .command .ensures (c .before .before .before .before .before .before .before .before .before .before .serves-entities .ensures (c .before .before .before .before .before .before .before .before .before .before .before .before .before .before .serves-queries .ensures S)))
 

@@ -2,7 +2,6 @@ use borrow.Author.Needs.{needs}
 use Rattle.flips.proofs.trial.serves_entities.Statement.{statement}
 use Rattle.flips.proofs.trial.serves_entities.Tie as tie
 
--- src/trial.rt:55:1
 returns : tie.Need-returns
 returns c = λ S. c .before .before .command-on3 .ensures (c .before .before .before .before .before .before .command-on2 .ensures (c .before .before .before .before .before .before .before .before .before .before .hold2 .ensures (c .before .before .before .before .before .before .before .before .before .before .before .before .before .before .before .command-on .ensures (c .before .before .before .before .before .before .before .before .before .before .before .before .before .before .before .before .before .before .before .hold .ensures S))))
 

@@ -2,7 +2,6 @@ use borrow.Author.Needs.{needs}
 use Rattle.flips.proofs.trial.serves_queries.Statement.{statement}
 use Rattle.flips.proofs.trial.serves_queries.Tie as tie
 
--- src/trial.rt:45:1
 returns : tie.Need-returns
 returns c = λ S. c .before .before .command-with2 .ensures (c .before .before .before .before .before .before .before .command-with .ensures (c .before .before .before .before .before .before .before .before .before .before .before .before .command .ensures S))
 

@@ -3,7 +3,6 @@ use Rattle.flips.proofs.Counting.{tried-sound}
 use Rattle.flips.proofs.trial.try_commands.Statement.{statement}
 use Rattle.flips.proofs.trial.try_commands.Tie as tie
 
--- src/trial.rt:79:1
 returns : tie.Need-returns
 returns c = tried-sound _ _ (c .before .before .before .serves .result) (c .is-sound .result) (c .before .before .before .before .before .pre) (c .before .before .before .serves .ensures) (c .is-sound .ensures)
 

@@ -1,16 +1,14 @@
 use borrow.Author.Needs.{needs}
-use Rattle.words.specs.Decides.{granted, denied}
+use Rattle.words.specs.Decides.{yes-of, no-of}
 use Rattle.flips.proofs.Counting.{tried-refused}
 use Rattle.flips.proofs.trial.try_store.Statement.{statement}
 use Rattle.flips.proofs.trial.try_store.Tie as tie
 
--- src/trial.rt:99:9
 try-commands-requires : tie.Need-try-commands-requires
-try-commands-requires c κs = granted _ (c .before .is-sound .result) (c .before .is-sound .ensures) (c .if1 .taken)
+try-commands-requires c κs = yes-of (c .before .is-sound .result) (c .before .is-sound .ensures) (c .if1 .taken)
 
--- src/trial.rt:95:1
 returns-2 : tie.Need-returns-2
-returns-2 c = tried-refused _ (denied _ (c .before .is-sound .result) (c .before .is-sound .ensures) (c .if1 .left))
+returns-2 c = tried-refused _ (no-of (c .before .is-sound .result) (c .before .is-sound .ensures) (c .if1 .left))
 
 pub try-store-spec : {M : Type 1} → statement M
 try-store-spec =

@@ -13,39 +13,30 @@ Inv-loop words n families groups g₀ g = (g ≤ groups) × Each g (CountedOk n 
 abbrev μ-loop : tie.MeasureT-loop
 μ-loop words n families groups g₀ g = groups - g
 
--- src/counts.rt:172:5
 loop-holds : tie.Need-loop-holds Inv-loop μ-loop
 loop-holds c = (omega arith, λ j h. absurd (omega arith))
 
--- src/counts.rt:173:56
 add-group-counted : tie.Need-add-group-counted Inv-loop μ-loop
 add-group-counted c = omega (arith, c .before .before .before .pre .0 .long, c .before .before .before .pre .1 .0)
 
--- src/counts.rt:173:50
 mul-group-counted : tie.Need-mul-group-counted Inv-loop μ-loop
 mul-group-counted c = omega (arith, c .before .before .before .pre .0 .long, c .before .before .before .pre .1 .0)
 
--- src/counts.rt:173:50
 shared-slice-read-group-counted : tie.Need-shared-slice-read-group-counted Inv-loop μ-loop
 shared-slice-read-group-counted c = omega (arith, c .before .before .before .before .pre .0 .long, c .before .before .before .before .pre .1 .0)
 
--- src/counts.rt:173:50
 cast-group-counted : tie.Need-cast-group-counted Inv-loop μ-loop
 cast-group-counted c = omega (arith, c .before .before .before .shared-slice-known .given (896 + c .before .before .loop .g))
 
--- src/counts.rt:173:13
 group-counted-requires : tie.Need-group-counted-requires Inv-loop μ-loop
 group-counted-requires c κs = let l = c .before .before .loop in (c .before .before .before .before .pre .0, (omega (arith, c .before .before .before .before .pre .1 .0), c .before .before .before .before .pre .1 .1 (l .g) (omega arith)))
 
--- src/counts.rt:174:13
 returns : tie.Need-returns Inv-loop μ-loop
 returns c = let a = c .before .before .before .before .before .before .args in let l = c .before .before .before .before .loop in λ e. denied {P = CountedOk (a .n) (a .words .now) (l .g)} (c .before .group-counted .result) (c .before .group-counted .ensures) (c .if1 .taken) (e (l .g) (omega arith))
 
--- src/counts.rt:172:5
 loop-again : tie.Need-loop-again Inv-loop μ-loop
 loop-again c = let a = c .before .before .before .before .before .before .args in let l = c .before .before .before .before .loop in (omega arith, each-more (CountedOk (a .n) (a .words .now)) (l .g) (l .inv .1) (granted {P = CountedOk (a .n) (a .words .now) (l .g)} (c .before .group-counted .result) (c .before .group-counted .ensures) (c .if1 .left)))
 
--- src/counts.rt:166:1
 returns-2 : tie.Need-returns-2 Inv-loop μ-loop
 returns-2 c = λ j h. c .before .loop .inv .1 j (omega arith)
 

@@ -8,31 +8,24 @@ use Rattle.grouping.specs.Counts.{EvenOk, Holds}
 use Rattle.grouping.proofs.counts.count_ok.Statement.{statement}
 use Rattle.grouping.proofs.counts.count_ok.Tie as tie
 
--- src/counts.rt:137:8
 len-in-requires : tie.Need-len-in-requires
 len-in-requires c κs = c .before .before .pre .0 .1
 
--- src/counts.rt:138:9
 returns-2 : tie.Need-returns-2
 returns-2 c = λ K. omega (arith, K .inside, c .before .len-in .ensures, c .if2 .taken)
 
--- src/counts.rt:140:9
 span-even-requires : tie.Need-span-even-requires
 span-even-requires c κs = ((c .before .before .before .before .pre .0 .0, c .before .before .before .before .pre .0 .1, omega (arith, c .before .len-in .ensures)), c .before .before .before .before .pre .1)
 
--- src/counts.rt:141:9
 returns-3 : tie.Need-returns-3
 returns-3 c = let a = c .before .before .before .before .before .before .args in λ K. denied {P = Over (a .from) (a .to) (EvenOk (a .n) (a .words .now) (a .h) (a .c))} (c .before .span-even .result) (c .before .span-even .ensures) (c .if3 .taken) (K .even)
 
--- src/counts.rt:143:9
 rows-lack-requires : tie.Need-rows-lack-requires
 rows-lack-requires c κs = ((c .before .before .before .before .before .before .pre .0 .0, c .before .before .before .before .before .before .pre .0 .1, omega (arith, c .before .before .before .len-in .ensures)), c .before .before .before .before .before .before .pre .1)
 
--- src/counts.rt:144:9
 returns-4 : tie.Need-returns-4
 returns-4 c = let a = c .before .before .before .before .before .before .before .before .args in λ K. denied {P = Over (a .c) (a .b) (λ (i : ℕ). Holds (a .n) (a .words .now) (a .from) (a .to) (keyAt (a .n) (a .words .now) (a .h) i) → ⊥)} (c .before .rows-lack .result) (c .before .rows-lack .ensures) (c .if4 .taken) (K .past)
 
--- src/counts.rt:129:1
 returns-5 : tie.Need-returns-5
 returns-5 c = let a = c .before .before .before .before .before .before .before .before .args in record { less = omega arith; inside = omega (arith, c .before .before .before .before .before .len-in .ensures, c .before .before .before .before .if2 .left); even = granted {P = Over (a .from) (a .to) (EvenOk (a .n) (a .words .now) (a .h) (a .c))} (c .before .before .before .span-even .result) (c .before .before .before .span-even .ensures) (c .before .before .if3 .left); past = granted {P = Over (a .c) (a .b) (λ (i : ℕ). Holds (a .n) (a .words .now) (a .from) (a .to) (keyAt (a .n) (a .words .now) (a .h) i) → ⊥)} (c .before .rows-lack .result) (c .before .rows-lack .ensures) (c .if4 .left) }
 

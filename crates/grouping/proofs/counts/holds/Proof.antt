@@ -8,11 +8,9 @@ use borrow.Author.Needs.{needs}
 use Rattle.grouping.proofs.counts.holds.Statement.{statement}
 use Rattle.grouping.proofs.counts.holds.Tie as tie
 
--- src/counts.rt:78:9
 returns : tie.Need-returns
 returns c = let a = c .before .before .before .before .before .before .args in sym (subst (λ (r : Found). Finds (a .n) (entity (a .index) (a .version)) (rowsAt (a .n) (a .words .now) (a .j)) r) (c .enum-told2 .given .1) (c .before .before .find-in .ensures))
 
--- src/counts.rt:69:1
 returns-2 : tie.Need-returns-2
 returns-2 c = let a = c .before .before .before .before .before .before .args in let q = subst (λ (r : Found). Finds (a .n) (entity (a .index) (a .version)) (rowsAt (a .n) (a .words .now) (a .j)) r) (c .enum-told .given .1) (c .before .before .find-in .ensures) in sym (q .holds)
 

@@ -12,19 +12,15 @@ Inv-loop words a b c end i₀ i = (i ≤ end) × Each i (SameWord words a b)
 abbrev μ-loop : tie.MeasureT-loop
 μ-loop words a b c end i₀ i = end - i
 
--- src/counts.rt:24:5
 loop-holds : tie.Need-loop-holds Inv-loop μ-loop
 loop-holds c = (omega arith, λ j h. absurd (omega arith))
 
--- src/counts.rt:26:13
 returns : tie.Need-returns Inv-loop μ-loop
 returns c = let l = c .before .before .before .before .loop in λ e. c .if1 .taken (e (l .i) (omega arith))
 
--- src/counts.rt:24:5
 loop-again : tie.Need-loop-again Inv-loop μ-loop
 loop-again c = let a = c .before .before .before .before .before .args in let l = c .before .before .before .before .loop in (omega arith, each-more (SameWord (a .words .now) (a .a) (a .b)) (l .i) (l .inv .1) (c .if1 .left))
 
--- src/counts.rt:18:1
 returns-2 : tie.Need-returns-2 Inv-loop μ-loop
 returns-2 c = λ j h. c .before .loop .inv .1 j (omega arith)
 

@@ -4,7 +4,6 @@ use borrow.Author.Needs.{needs}
 use Rattle.grouping.proofs.heads.family_ok.Statement.{statement}
 use Rattle.grouping.proofs.heads.family_ok.Tie as tie
 
--- src/heads.rt:93:15
 cast-end : tie.Need-cast-end
 cast-end c = let a = c .before .before .before .before .before .args in omega (arith, c .before .before .before .before .shared-slice-known .given (832 + a .f))
 

@@ -15,23 +15,18 @@ Inv-loop kinds seen₀ i₀ i-end seen i = (i ≤ length kinds) × (length seen 
 abbrev μ-loop : tie.MeasureT-loop
 μ-loop kinds seen₀ i₀ i-end seen i = length kinds - i
 
--- src/heads.rt:137:5
 loop-holds : tie.Need-loop-holds Inv-loop μ-loop
 loop-holds c = (omega arith, refl, marks-none (c .args .kinds .now))
 
--- src/heads.rt:138:17
 cast-k : tie.Need-cast-k Inv-loop μ-loop
 cast-k c = omega (arith, c .shared-slice-known .given (c .before .before .loop .i))
 
--- src/heads.rt:139:9
 array-write-seen : tie.Need-array-write-seen Inv-loop μ-loop
 array-write-seen c = let l = c .before .before .loop in omega (arith, c .before .before .before .pre (l .i) (omega arith), l .inv .1)
 
--- src/heads.rt:137:5
 loop-again : tie.Need-loop-again Inv-loop μ-loop
 loop-again c = let a = c .before .before .before .args in let l = c .before .before .loop in (omega arith, simp length-set (l .inv .1), marks-more (l .seen) (a .kinds .now) (l .i) (l .inv .1) (omega arith) (c .before .before .before .pre (l .i) (omega arith)) (l .inv .2))
 
--- src/heads.rt:132:1
 returns : tie.Need-returns Inv-loop μ-loop
 returns c = let a = c .before .before .args in let l = c .before .loop in let e : l .i ≡ length (a .kinds .now) = omega arith in λ k h. l .inv .2 k h ∙ ap (λ (j : ℕ). mem k (take j (a .kinds .now))) e ∙ ap (mem k) (take-length (a .kinds .now))
 

@@ -6,11 +6,9 @@ use borrow.Author.Needs.{needs}
 use Rattle.grouping.proofs.heads.own_ok.Statement.{statement}
 use Rattle.grouping.proofs.heads.own_ok.Tie as tie
 
--- src/heads.rt:155:9
 returns-2 : tie.Need-returns-2
 returns-2 c = let a = c .before .before .before .before .before .before .args in let t = a .seen .now in λ O. c .if2 .taken (ap (λ (k : ℕ). getD t k 0) (c .before .before .head2 .ensures) ∙ O (omega (arith, c .before .before .before .before .head .ensures, c .before .before .before .if1 .left)))
 
--- src/heads.rt:145:1
 returns-3 : tie.Need-returns-3
 returns-3 c = let a = c .before .before .before .before .before .before .args in let t = a .seen .now in λ h. ap (λ (k : ℕ). getD t k 0) (sym (c .before .before .head2 .ensures)) ∙ c .if2 .left
 

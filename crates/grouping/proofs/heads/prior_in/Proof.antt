@@ -5,15 +5,12 @@ use borrow.Author.Needs.{needs}
 use Rattle.grouping.proofs.heads.prior_in.Statement.{statement}
 use Rattle.grouping.proofs.heads.prior_in.Tie as tie
 
--- src/heads.rt:31:16
 cast-result : tie.Need-cast-result
 cast-result c = let a = c .before .before .args in omega (arith, c .shared-slice-known .given (a .at + (a .g - 1)))
 
--- src/heads.rt:31:9
 returns : tie.Need-returns
 returns c = let a = c .before .before .args in record { is = prior-some (a .words .now) (a .at) (a .start) (a .g) (a .whole) (c .before .if1 .taken); small = omega (arith, c .shared-slice-known .given (a .at + (a .g - 1))) }
 
--- src/heads.rt:25:1
 returns-2 : tie.Need-returns-2
 returns-2 c = let a = c .before .args in record { is = prior-whole (a .words .now) (a .at) (a .start) (a .g) (a .whole) (c .if1 .left); small = c .before .pre .1 }
 

@@ -5,11 +5,9 @@ use borrow.Author.Needs.{needs}
 use Rattle.grouping.proofs.heads.start_in.Statement.{statement}
 use Rattle.grouping.proofs.heads.start_in.Tie as tie
 
--- src/heads.rt:21:5
 cast-result : tie.Need-cast-result
 cast-result c = let a = c .before .before .args in omega (arith, c .shared-slice-known .given (a .at + (a .f - 1)))
 
--- src/heads.rt:13:1
 returns-2 : tie.Need-returns-2
 returns-2 c = let a = c .before .before .args in record { is = start-in (a .words .now) (a .at) (a .f) (c .before .if1 .left); small = omega (arith, c .shared-slice-known .given (a .at + (a .f - 1))) }
 

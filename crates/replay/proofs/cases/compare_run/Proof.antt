@@ -4,15 +4,12 @@ use borrow.Author.Needs.{needs}
 use Rattle.replay.proofs.cases.compare_run.Statement.{statement}
 use Rattle.replay.proofs.cases.compare_run.Tie as tie
 
--- src/cases.rt:23:9
 returns : tie.Need-returns
 returns c = cut-compared _ _ _ _ _ (c .cut .ensures)
 
--- src/cases.rt:27:9
 returns-2 : tie.Need-returns-2
 returns-2 c = cut-compared _ _ _ _ _ (c .cut2 .ensures)
 
--- src/cases.rt:17:1
 returns-3 : tie.Need-returns-3
 returns-3 c = compared _ _ _ _ _ (c .is-same-run .result) (c .is-same-run .ensures) (c .before .before .short-at .ensures .0) (omega (arith, c .before .if2 .left, c .before .before .before .if1 .left))
 

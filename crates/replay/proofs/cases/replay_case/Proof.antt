@@ -5,15 +5,12 @@ use borrow.Author.Needs.{needs}
 use Rattle.replay.proofs.cases.replay_case.Statement.{statement}
 use Rattle.replay.proofs.cases.replay_case.Tie as tie
 
--- src/cases.rt:144:9
 returns : tie.Need-returns
 returns c = cut-case _ _ _ (c .cut .ensures)
 
--- src/cases.rt:146:58
 cast-start : tie.Need-cast-start
 cast-start c = omega (arith, c .shared-slice-known2 .given (c .before .before .before .before .before .before .before .args .at + 2))
 
--- src/cases.rt:138:1
 returns-2 : tie.Need-returns-2
 returns-2 c =
     let s = c .before .before .before .before .before .before .before .before .before .before .before .before .before .before .before .before .before .before .before .before .before .before .before .before .before .before .before .before in

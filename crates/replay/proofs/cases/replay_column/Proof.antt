@@ -4,15 +4,12 @@ use borrow.Author.Needs.{needs}
 use Rattle.replay.proofs.cases.replay_column.Statement.{statement}
 use Rattle.replay.proofs.cases.replay_column.Tie as tie
 
--- src/cases.rt:99:9
 returns : tie.Need-returns
 returns c = cut-stepped _ _ _ _ _ (c .cut .ensures)
 
--- src/cases.rt:105:9
 returns-2 : tie.Need-returns-2
 returns-2 c = cut-stepped _ _ _ _ _ (c .cut2 .ensures)
 
--- src/cases.rt:94:1
 returns-3 : tie.Need-returns-3
 returns-3 c =
     let a = c .before .before .before .before .before .before .before .before .before .before .args in

@@ -4,19 +4,15 @@ use borrow.Author.Needs.{needs}
 use Rattle.replay.proofs.cases.replay_roll.Statement.{statement}
 use Rattle.replay.proofs.cases.replay_roll.Tie as tie
 
--- src/cases.rt:78:9
 returns : tie.Need-returns
 returns c = cut-stepped _ _ _ _ _ (c .cut .ensures)
 
--- src/cases.rt:83:9
 returns-2 : tie.Need-returns-2
 returns-2 c = cut-stepped _ _ _ _ _ (c .cut2 .ensures)
 
--- src/cases.rt:89:17
 is-same-roll-requires : tie.Need-is-same-roll-requires
 is-same-roll-requires c κs = rolled-few _ _ _ (c .before .before .before .before .roll .result) (c .before .before .before .before .roll .ensures)
 
--- src/cases.rt:73:1
 returns-3 : tie.Need-returns-3
 returns-3 c =
     let a = c .before .before .before .before .before .before .before .before .before .before .before .before .before .args in

@@ -6,27 +6,21 @@ use borrow.Author.Needs.{needs}
 use Rattle.replay.proofs.cases.replay_run.Statement.{statement}
 use Rattle.replay.proofs.cases.replay_run.Tie as tie
 
--- src/cases.rt:41:9
 returns : tie.Need-returns
 returns c = cut-stepped _ _ _ _ _ (c .cut .ensures)
 
--- src/cases.rt:47:9
 returns-2 : tie.Need-returns-2
 returns-2 c = cut-stepped _ _ _ _ _ (c .cut2 .ensures)
 
--- src/cases.rt:50:9
 returns-3 : tie.Need-returns-3
 returns-3 c = cut-stepped _ _ _ _ _ (c .cut3 .ensures)
 
--- src/cases.rt:53:51
 slice-aggregate-run : tie.Need-slice-aggregate-run
 slice-aggregate-run c = sym (length-take-le (c .before .before .before .before .before .short-at2 .result) (c .before .before .before .before .before .before .before .before .before .before .before .args .out .now) (omega (arith, c .before .before .before .if3 .left)))
 
--- src/cases.rt:54:5
 compare-run-requires : tie.Need-compare-run-requires
 compare-run-requires c κs = (omega (arith, c .before .before .before .before .before .before .before .before .before .before .if2 .left, c .before .before .before .before .before .before .before .before .before .before .before .before .before .if1 .left), gave-few _ _ _ _ _ _ (c .before .before .before .before .before .run .result) (c .before .before .before .before .before .run .ensures))
 
--- src/cases.rt:36:1
 returns-4 : tie.Need-returns-4
 returns-4 c =
     let a = c .before .before .before .before .before .before .before .before .before .before .before .before .before .before .before .before .before .before .args in

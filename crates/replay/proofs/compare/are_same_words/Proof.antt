@@ -1,9 +1,9 @@
 use Prim.Native.Nat.{_≤_, _-_, _*_}
-use mathlib.Core.Path.{_≡_, refl, ap, sym, _∙_}
+use mathlib.Core.Path.{_≡_, sym, _∙_}
 use native.Mathlib.Omega.{arith}
 use borrow.Author.Needs.{needs}
 use lib.ListN.{length}
-use Rattle.component.specs.Decides.{Each}
+use Rattle.component.specs.Checks.{Each}
 use Rattle.component.proofs.Checking.{each-more}
 use Rattle.replay.proofs.Comparing.{WordOk, four-each, four-apart, fourth-apart}
 use Rattle.replay.proofs.compare.are_same_words.Statement.{statement}

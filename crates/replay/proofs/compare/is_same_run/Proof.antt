@@ -1,8 +1,6 @@
-use mathlib.Core.Path.{_≡_, sym, _∙_}
+use mathlib.Core.Path.{sym, _∙_}
 use Prim.Native.Nat.{_+_}
-use native.Mathlib.Omega.{arith}
 use borrow.Author.Needs.{needs}
-use lib.ListN.{take, drop}
 use lib.Seq.{length-take-le}
 use Rattle.replay.proofs.Comparing.{decided, part-size}
 use Rattle.replay.proofs.compare.is_same_run.Statement.{statement}

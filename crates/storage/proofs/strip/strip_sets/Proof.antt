@@ -6,8 +6,9 @@ use lib.ListN.{length, getD}
 use Rattle.model.specs.Store.{Store}
 use Rattle.component.specs.SparseSet.{entity}
 use Rattle.memory.specs.Meaning.{meaning}
+use Rattle.memory.proofs.Becomes.{kinds-count}
 use Rattle.kinds.proofs.Slot.{header-long, known-small}
-use Rattle.storage.proofs.Removing.{Gone, gone-none, gone-turn, gone-all, kinds-count}
+use Rattle.storage.proofs.Removing.{Gone, gone-none, gone-turn, gone-all}
 use Rattle.storage.proofs.strip.strip_sets.Statement.{statement}
 use Rattle.storage.proofs.strip.strip_sets.Tie as tie
 
@@ -24,7 +25,7 @@ word-requires c κs = let s = c .before .before in header-long (s .args .words .
 loop-holds : tie.Need-loop-holds Inv-loop μ-loop
 loop-holds c =
     let a = c .before .before .before .args in
-    (omega arith, c .word .ensures .is ∙ sym (kinds-count (a .words .now) (c .before .before .before .pre .0)), gone-none (a .words .now) (entity (a .index) (a .version)) (meaning (a .words .now) .kinds) (c .before .before .before .pre .0))
+    (omega arith, c .word .ensures .is ∙ sym (kinds-count (a .words .now)), gone-none (a .words .now) (entity (a .index) (a .version)) (meaning (a .words .now) .kinds) (c .before .before .before .pre .0))
 
 strip-slot-requires : tie.Need-strip-slot-requires Inv-loop μ-loop
 strip-slot-requires c κs =

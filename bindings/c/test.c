@@ -1,0 +1,236 @@
+/* Calls every exported function with good, damaged and short buffers: nothing else holds yirbarn.h to the library. */
+#include "yirbarn.h"
+
+#include <stdio.h>
+#include <stdlib.h>
+#include <string.h>
+
+static int checks, failures;
+
+#define CHECK(fact) check((fact), #fact, __LINE__)
+
+static void check(bool holds, const char *fact, int line)
+{
+    checks++;
+    if (!holds) {
+        failures++;
+        printf("test.c:%d: %s\n", line, fact);
+    }
+}
+
+/* The tape of document 01, for N 64 and K 8, and its answers. */
+static const uint8_t TAPE[] = {
+    0x01, 1, 0x01, 2,                                              /* REG 1, REG 2 */
+    0x02, 1, 0, 0, 0, 0, 0, 0, 0, 0, 0x02, 2, 0, 0, 0, 0, 0, 0, 0, 0, /* HOLD 1 and 2 */
+    0x09, 0x0a,                                                    /* GROUP, APPLY */
+    0x02, 1, 5, 0, 0, 0, 0, 0, 0, 0, 0x03,                         /* HOLD 1 = 5, NEW */
+    0x02, 1, 6, 0, 0, 0, 0, 0, 0, 0, 0x02, 2, 7, 0, 0, 0, 0, 0, 0, 0, 0x03, /* HOLD 1 = 6, HOLD 2 = 7, NEW */
+    0x02, 1, 0, 0, 0, 0, 0, 0, 0, 0, 0x02, 2, 0, 0, 0, 0, 0, 0, 0, 0, 0x0c, /* HOLD 1 and 2, RANGE */
+};
+static const uint8_t ANSWERS[] = {
+    0, 1, 0, 1, 0, 0, 0, 1, 0, 0, 0, 0, 0, 0, 0, 1, 0, 0, 0, 0, 0, 0,
+    1, 0, 0, 0, 1, 0, 0, 0, 0, 0, 0, 1, 0, 0, 0, 0, 1, 0, 0, 0,
+};
+enum { N = 64, K = 8, NEEDED = 5184, GUARD = 8, OUT = 256 };
+
+static uint32_t words[NEEDED + GUARD];
+static uint8_t out[OUT];
+
+/* All bytes of a buffer, from a place on, are this one. */
+static bool all(const void *buffer, size_t from, size_t to, uint8_t byte)
+{
+    const uint8_t *bytes = buffer;
+    for (; from < to; from++)
+        if (bytes[from] != byte)
+            return false;
+    return true;
+}
+
+static void fresh(void)
+{
+    memset(words, 0xa5, sizeof words);
+    memset(out, 0x5a, sizeof out);
+    CHECK(yirbarn_start(words, NEEDED, N, K) == YIRBARN_OK);
+}
+
+static void used(void)
+{
+    fresh();
+    struct yirbarn_ran ran = yirbarn_run(words, NEEDED, TAPE, sizeof TAPE, out, OUT);
+    CHECK(ran.stop == YIRBARN_OK);
+    memset(out, 0x5a, sizeof out);
+}
+
+static void test_words_needed(void)
+{
+    CHECK(yirbarn_words_needed(N, K) == NEEDED);
+    CHECK(yirbarn_words_needed(1, 1) == 1054);
+    CHECK(yirbarn_words_needed(4096, 128) == 3213312);
+    CHECK(yirbarn_words_needed(0, 1) == 0);
+    CHECK(yirbarn_words_needed(4097, 1) == 0);
+    CHECK(yirbarn_words_needed(1, 0) == 0);
+    CHECK(yirbarn_words_needed(1, 129) == 0);
+    CHECK(yirbarn_words_needed(SIZE_MAX, SIZE_MAX) == 0);
+}
+
+static void test_start(void)
+{
+    memset(words, 0xa5, sizeof words);
+    CHECK(yirbarn_start(words, NEEDED, 0, K) == YIRBARN_SIZE);
+    CHECK(yirbarn_start(words, NEEDED, 4097, K) == YIRBARN_SIZE);
+    CHECK(yirbarn_start(words, NEEDED, N, 0) == YIRBARN_SIZE);
+    CHECK(yirbarn_start(words, NEEDED, N, 129) == YIRBARN_SIZE);
+    CHECK(yirbarn_start(words, 0, SIZE_MAX, SIZE_MAX) == YIRBARN_SIZE);
+    CHECK(yirbarn_start(words, NEEDED - 1, N, K) == YIRBARN_SHORT);
+    CHECK(yirbarn_start(words, 0, N, K) == YIRBARN_SHORT);
+    CHECK(all(words, 0, sizeof words, 0xa5));
+    CHECK(yirbarn_start(words, NEEDED + GUARD, N, K) == YIRBARN_OK);
+    CHECK(all(words, 4 * NEEDED, sizeof words, 0xa5));
+}
+
+static void test_run(void)
+{
+    fresh();
+    struct yirbarn_ran ran = yirbarn_run(words, NEEDED, TAPE, sizeof TAPE, out, OUT);
+    CHECK(ran.stop == YIRBARN_OK && ran.commands == 14 && ran.read == 0x4f && ran.written == 0x2a);
+    CHECK(sizeof TAPE == 0x4f && sizeof ANSWERS == 0x2a);
+    CHECK(!memcmp(out, ANSWERS, sizeof ANSWERS));
+    CHECK(all(out, sizeof ANSWERS, OUT, 0x5a));
+    CHECK(all(words, 4 * NEEDED, sizeof words, 0xa5));
+
+    /* A refused command, a byte that is none. */
+    const uint8_t more[] = {0x07, 9, 0, 0, 0, 1, 0, 0, 0, 0x0e, 0x0f};
+    ran = yirbarn_run(words, NEEDED, more, sizeof more, out, OUT);
+    CHECK(ran.stop == YIRBARN_UNKNOWN && ran.commands == 2 && ran.read == 10 && ran.written == 6);
+    CHECK(out[0] == YIRBARN_DEAD && out[1] == 0 && out[2] == 1 && all(out, 3, 6, 0));
+
+    /* Every length of tape, and every room: what is done is done as in the whole run. */
+    for (size_t length = 0; length <= sizeof TAPE; length++) {
+        fresh();
+        ran = yirbarn_run(words, NEEDED, TAPE, length, out, OUT);
+        CHECK(ran.stop == (ran.read < length ? YIRBARN_CUT : YIRBARN_OK));
+        CHECK(!memcmp(out, ANSWERS, ran.written) && all(out, ran.written, OUT, 0x5a));
+    }
+    for (size_t room = 0; room < sizeof ANSWERS; room++) {
+        fresh();
+        ran = yirbarn_run(words, NEEDED, TAPE, sizeof TAPE, out, room);
+        CHECK(ran.stop == YIRBARN_NOROOM && ran.written <= room);
+        CHECK(!memcmp(out, ANSWERS, ran.written) && all(out, ran.written, OUT, 0x5a));
+        /* The rest of the tape goes on from there. */
+        struct yirbarn_ran rest = yirbarn_run(words, NEEDED, TAPE + ran.read, sizeof TAPE - ran.read, out, OUT);
+        CHECK(rest.stop == YIRBARN_OK && ran.commands + rest.commands == 14);
+        CHECK(!memcmp(out, ANSWERS + ran.written, rest.written) && ran.written + rest.written == sizeof ANSWERS);
+    }
+}
+
+static void test_column(void)
+{
+    const uint32_t entities[] = {1, 1, 0, 1}, values[] = {6, 0, 5, 0};
+    uint32_t copy[8];
+    used();
+    CHECK(yirbarn_column_number(words, NEEDED, 1, false, 0, 2) == YIRBARN_OK);
+    CHECK(yirbarn_column_number(words, NEEDED, 1, true, 2, 2) == YIRBARN_OK);
+    CHECK(yirbarn_column_number(words, NEEDED, 1, true, 0, 3) == YIRBARN_BEYOND);
+    CHECK(yirbarn_column_number(words, NEEDED, 1, true, 2, 1) == YIRBARN_BEYOND);
+    CHECK(yirbarn_column_number(words, NEEDED, 1, true, 0, SIZE_MAX) == YIRBARN_BEYOND);
+    CHECK(yirbarn_column_number(words, NEEDED, 3, true, 0, 0) == YIRBARN_KIND);
+    CHECK(yirbarn_column_number(words, NEEDED, 255, true, 9, 0) == YIRBARN_KIND);
+    CHECK(yirbarn_column_number(words, NEEDED - 1, 1, false, 0, 2) == YIRBARN_UNSOUND);
+
+    size_t at = yirbarn_column_at(words, NEEDED, 1, false, 0, 2);
+    CHECK(at > 0 && at <= NEEDED - 4 && !memcmp(words + at, entities, sizeof entities));
+    at = yirbarn_column_at(words, NEEDED, 1, true, 0, 2);
+    CHECK(at > 0 && at <= NEEDED - 4 && !memcmp(words + at, values, sizeof values));
+    CHECK(yirbarn_column_at(words, NEEDED, 1, true, 1, 2) == at + 2);
+    CHECK(yirbarn_column_at(words, NEEDED, 1, true, 0, 3) == 0);
+    CHECK(yirbarn_column_at(words, NEEDED, 3, true, 0, 0) == 0);
+    CHECK(yirbarn_column_at(words, NEEDED - 1, 1, true, 0, 2) == 0);
+
+    memset(copy, 0x5a, sizeof copy);
+    CHECK(yirbarn_column(words, NEEDED, 1, true, 0, 2, copy, 3) == 0 && all(copy, 0, sizeof copy, 0x5a));
+    CHECK(yirbarn_column(words, NEEDED, 1, true, 0, 3, copy, 8) == 0 && all(copy, 0, sizeof copy, 0x5a));
+    CHECK(yirbarn_column(words, NEEDED - 1, 1, true, 0, 2, copy, 8) == 0 && all(copy, 0, sizeof copy, 0x5a));
+    CHECK(yirbarn_column(words, NEEDED, 1, true, 1, 1, copy, 0) == 0 && all(copy, 0, sizeof copy, 0x5a));
+    CHECK(yirbarn_column(words, NEEDED, 1, true, 0, 2, copy, 4) == 4 && !memcmp(copy, values, sizeof values));
+    CHECK(yirbarn_column(words, NEEDED, 1, false, 0, 2, copy, 8) == 4 && !memcmp(copy, entities, sizeof entities));
+    CHECK(all(copy, sizeof values, sizeof copy, 0x5a));
+}
+
+static void test_roll(void)
+{
+    const uint8_t roll[] = {
+        2, 0, 0, 0,                                                                  /* two live */
+        0, 0, 0, 0, 1, 0, 0, 0, 1, 1, 5, 0, 0, 0, 0, 0, 0, 0,                         /* 0: 1 = 5 */
+        1, 0, 0, 0, 1, 0, 0, 0, 2, 1, 6, 0, 0, 0, 0, 0, 0, 0, 2, 7, 0, 0, 0, 0, 0, 0, 0, /* 1: 1 = 6, 2 = 7 */
+    };
+    used();
+    for (size_t room = 0; room < sizeof roll; room++) {
+        struct yirbarn_rolled rolled = yirbarn_roll(words, NEEDED, out, room);
+        CHECK(rolled.number == YIRBARN_NOROOM && rolled.written == 0 && all(out, 0, OUT, 0x5a));
+    }
+    struct yirbarn_rolled rolled = yirbarn_roll(words, NEEDED, out, sizeof roll);
+    CHECK(rolled.number == YIRBARN_OK && rolled.written == sizeof roll);
+    CHECK(!memcmp(out, roll, sizeof roll) && all(out, sizeof roll, OUT, 0x5a));
+    rolled = yirbarn_roll(words, NEEDED - 1, out, OUT);
+    CHECK(rolled.number == YIRBARN_UNSOUND && rolled.written == 0);
+}
+
+/* On words that hold no sound store every function says so, and nothing changes. */
+static void test_unsound(const uint32_t *before)
+{
+    uint32_t copy[4];
+    memset(out, 0x5a, sizeof out);
+    memset(copy, 0x5a, sizeof copy);
+    struct yirbarn_ran ran = yirbarn_run(words, NEEDED, TAPE, sizeof TAPE, out, OUT);
+    struct yirbarn_rolled rolled = yirbarn_roll(words, NEEDED, out, OUT);
+    CHECK(ran.stop == YIRBARN_UNSOUND && ran.commands == 0 && ran.read == 0 && ran.written == 0);
+    CHECK(rolled.number == YIRBARN_UNSOUND && rolled.written == 0);
+    CHECK(yirbarn_column_at(words, NEEDED, 1, false, 0, 1) == 0);
+    CHECK(yirbarn_column(words, NEEDED, 1, false, 0, 1, copy, 4) == 0);
+    CHECK(all(out, 0, OUT, 0x5a) && all(copy, 0, sizeof copy, 0x5a));
+    CHECK(!memcmp(words, before, sizeof words));
+}
+
+/* Each word of a store in use, damaged in several ways. */
+static void test_damaged(void)
+{
+    static uint32_t sound[NEEDED + GUARD], damaged[NEEDED + GUARD];
+    int refused = 0, still = 0;
+    used();
+    memcpy(sound, words, sizeof words);
+    for (size_t at = 0; at < NEEDED; at++) {
+        const uint32_t damages[] = {sound[at] + 1, sound[at] - 1, sound[at] ^ 0x80000000u, 0xffffffffu};
+        for (size_t i = 0; i < sizeof damages / sizeof *damages; i++) {
+            memcpy(words, sound, sizeof words);
+            words[at] = damages[i];
+            memcpy(damaged, words, sizeof words);
+            if (yirbarn_column_number(words, NEEDED, 1, false, 0, 1) == YIRBARN_UNSOUND) {
+                refused++;
+                test_unsound(damaged);
+                continue;
+            }
+            /* Sound, so a run answers and leaves it sound. */
+            still++;
+            struct yirbarn_ran ran = yirbarn_run(words, NEEDED, TAPE, sizeof TAPE, out, OUT);
+            CHECK(ran.stop == YIRBARN_OK && ran.commands == 14);
+            CHECK(yirbarn_roll(words, NEEDED, out, OUT).number != YIRBARN_UNSOUND);
+        }
+    }
+    CHECK(refused > 100 && still > 100);
+    printf("damaged words: %d refused, %d still sound\n", refused, still);
+    memset(words, 0, sizeof words);
+    memcpy(damaged, words, sizeof words);
+    test_unsound(damaged);
+}
+
+int main(void)
+{
+    test_words_needed();
+    test_start();
+    test_run();
+    test_column();
+    test_roll();
+    test_damaged();
+    printf("C: %d checks, %d failed\n", checks, failures);
+    return failures != 0;
+}

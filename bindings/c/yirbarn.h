@@ -1,0 +1,102 @@
+/* Card stores with nested groups, over 32-bit words that the caller lends.
+ *
+ * A store keeps up to 4,096 entities (an index and a version, 32 bits each) and their components: a value of eight
+ * bytes for each of up to 128 kinds. It lives in the words alone: no allocation, no hidden state. A tape of commands
+ * changes it (README.md has the table of commands), and it is read by column and as a whole.
+ *
+ * What a caller owes, and nothing else: no pointer is null, also where its length is 0; each points to as many items as
+ * the length after it says; what one call may write (`words` where not const, `out`) overlaps nothing else that the
+ * call is given; and no other thread touches any of it meanwhile. What the words hold is free: every function first
+ * tells whether they hold a sound store.
+ *
+ * Numbers are those of the refusals below, 0 where nothing is refused. Link with libstore.a (`rt staticlib store`).
+ */
+#ifndef YIRBARN_H
+#define YIRBARN_H
+
+#include <stdbool.h>
+#include <stddef.h>
+#include <stdint.h>
+
+#ifdef __cplusplus
+extern "C" {
+#endif
+
+enum yirbarn_number {
+    YIRBARN_OK = 0,
+    YIRBARN_SIZE = 1,     /* entities not 1 to 4,096, or kinds not 1 to 128 */
+    YIRBARN_SHORT = 2,    /* too few words */
+    YIRBARN_UNSOUND = 3,  /* the words hold no sound store */
+    YIRBARN_UNKNOWN = 4,  /* a byte that is no command */
+    YIRBARN_CUT = 5,      /* the tape ends within a command */
+    YIRBARN_NOROOM = 6,   /* no room for the accepted answer, or the roll */
+    YIRBARN_KIND = 7,     /* a kind above 127, or not registered */
+    YIRBARN_KINDS = 8,    /* as many kinds are registered as the store takes */
+    YIRBARN_AGAIN = 9,    /* the kind is in that list already */
+    YIRBARN_HANDFUL = 10, /* the list has 16 kinds */
+    YIRBARN_DEAD = 11,    /* the entity is not live */
+    YIRBARN_FULL = 12,    /* no index is left */
+    YIRBARN_WIDE = 13,    /* a group of 16 kinds */
+    YIRBARN_CLASH = 14,   /* the group fits into no family and shares kinds with one */
+    YIRBARN_MANY = 15,    /* the draft has 63 groups */
+    YIRBARN_BEYOND = 16   /* rows that are not there */
+};
+
+/* How many words a store for n entities and k kinds takes: 1,024 + 16 n + k (8 + 6 n); 0 where yirbarn_start would
+ * refuse n or k (YIRBARN_SIZE). */
+size_t yirbarn_words_needed(size_t n, size_t k);
+
+/* Makes an empty store for n entities and k kinds, whatever the words held.
+ * Number: YIRBARN_SIZE, YIRBARN_SHORT, in this order, or 0. Where it is not 0, no word changes. Words past the needed
+ * ones never change, here and in every run. */
+uint8_t yirbarn_start(uint32_t *words, size_t words_len, size_t n, size_t k);
+
+/* What a run answers. */
+struct yirbarn_ran {
+    uint8_t stop;    /* 0 at the tape's end */
+    size_t commands; /* done, the refused ones among them */
+    size_t read;     /* bytes of the tape that these took */
+    size_t written;  /* bytes of answers */
+};
+
+/* Does the tape's commands one after the other, and writes their answers to the front of out: a 0 byte and what the
+ * command tells, or a refusal's number (7 to 15) alone, which then counts, and changes no other word.
+ * stop: YIRBARN_UNSOUND, with zeros beside it and nothing changed; or what stops the run before a command:
+ * YIRBARN_UNKNOWN, YIRBARN_CUT, YIRBARN_NOROOM (judged by the accepted answer's length); or 0. The store stays sound.
+ * A run of the tape from `read` on goes on where this one stopped. Bytes of out past `written` stay. */
+struct yirbarn_ran yirbarn_run(uint32_t *words, size_t words_len, const uint8_t *tape, size_t tape_len, uint8_t *out,
+                               size_t out_len);
+
+/* The number of the column with these operands: YIRBARN_UNSOUND, YIRBARN_KIND, YIRBARN_BEYOND (start above end, or end
+ * above the column's length), in this order, or 0. */
+uint8_t yirbarn_column_number(const uint32_t *words, size_t words_len, uint8_t kind, bool values, size_t start,
+                              size_t end);
+
+/* Where in the words the rows of a kind stand, from start to before end: with at = the answer, words[at] to
+ * words[at + 2 (end - start) - 1] are their entities (index word, version word), or where `values` is true their values
+ * (low word, high word), in row order. 0 where yirbarn_column_number is not 0; no column stands there. They stay there
+ * until the next run or start. Entities and values of one row have the same number, counted from start. */
+size_t yirbarn_column_at(const uint32_t *words, size_t words_len, uint8_t kind, bool values, size_t start, size_t end);
+
+/* The same rows, copied to the front of out, and how many words that are: 2 (end - start). Where it is refused, or out
+ * has fewer words, nothing is copied, and the answer is 0. Words of out past those copied stay. */
+size_t yirbarn_column(const uint32_t *words, size_t words_len, uint8_t kind, bool values, size_t start, size_t end,
+                      uint32_t *out, size_t out_len);
+
+/* What a roll answers. */
+struct yirbarn_rolled {
+    uint8_t number;
+    size_t written; /* bytes; 0 where the number is not */
+};
+
+/* Writes the roll to the front of out: live count 4; then each live entity by rising index: index 4, version 4, number
+ * of components 1; then each component by rising kind: kind 1, value 8. Numbers are little-endian.
+ * Number: YIRBARN_UNSOUND, YIRBARN_NOROOM, in this order, or 0. Where it is not 0, nothing is written. Bytes of out past
+ * `written` stay. */
+struct yirbarn_rolled yirbarn_roll(const uint32_t *words, size_t words_len, uint8_t *out, size_t out_len);
+
+#ifdef __cplusplus
+}
+#endif
+
+#endif

@@ -1,0 +1,281 @@
+//! Calls every exported function with good, damaged and short buffers: nothing else holds the declarations to the
+//! library.
+
+use yirbarn::sys;
+use yirbarn::{Entity, Part, Ran, Refusal, Row, Store};
+
+const N: usize = 64;
+const K: usize = 8;
+const NEEDED: usize = 5184;
+
+/// The tape of document 01, for N 64 and K 8.
+fn tape() -> Vec<u8> {
+    let hold = |kind: u8, value: u64| [vec![0x02, kind], value.to_le_bytes().to_vec()].concat();
+    [
+        vec![0x01, 1, 0x01, 2],
+        hold(1, 0),
+        hold(2, 0),
+        vec![0x09, 0x0a],
+        hold(1, 5),
+        vec![0x03],
+        hold(1, 6),
+        hold(2, 7),
+        vec![0x03],
+        hold(1, 0),
+        hold(2, 0),
+        vec![0x0c],
+    ]
+    .concat()
+}
+
+const ANSWERS: [u8; 42] = [
+    0, 1, 0, 1, 0, 0, 0, 1, 0, 0, 0, 0, 0, 0, 0, 1, 0, 0, 0, 0, 0, 0, 1, 0, 0, 0, 1, 0, 0, 0, 0, 0, 0, 1, 0, 0, 0, 0,
+    1, 0, 0, 0,
+];
+
+fn roll() -> Vec<u8> {
+    [
+        vec![2, 0, 0, 0],
+        vec![0, 0, 0, 0, 1, 0, 0, 0, 1],
+        vec![1, 5, 0, 0, 0, 0, 0, 0, 0],
+        vec![1, 0, 0, 0, 1, 0, 0, 0, 2],
+        vec![1, 6, 0, 0, 0, 0, 0, 0, 0],
+        vec![2, 7, 0, 0, 0, 0, 0, 0, 0],
+    ]
+    .concat()
+}
+
+const FIRST: Row = Row {
+    entity: Entity { index: 1, version: 1 },
+    value: 6,
+};
+const SECOND: Row = Row {
+    entity: Entity { index: 0, version: 1 },
+    value: 5,
+};
+
+/// Words of a store that the tape has run on.
+fn used() -> Vec<u32> {
+    let mut words = vec![7; NEEDED];
+    let mut store = Store::start(&mut words, N, K).unwrap();
+    assert_eq!(store.run(&tape(), &mut [0; 64]).stop, None);
+    words
+}
+
+#[test]
+fn words_needed() {
+    assert_eq!(Store::words_needed(N, K), Some(NEEDED));
+    assert_eq!(Store::words_needed(1, 1), Some(1054));
+    assert_eq!(Store::words_needed(4096, 128), Some(3_213_312));
+    for (entities, kinds) in [(0, 1), (4097, 1), (1, 0), (1, 129), (usize::MAX, usize::MAX)] {
+        assert_eq!(Store::words_needed(entities, kinds), None);
+        assert_eq!(unsafe { sys::yirbarn_words_needed(entities, kinds) }, 0);
+    }
+}
+
+#[test]
+fn start() {
+    let mut words = vec![7; NEEDED + 3];
+    for (entities, kinds) in [(0, K), (4097, K), (N, 0), (N, 129), (usize::MAX, usize::MAX)] {
+        assert_eq!(Store::start(&mut words, entities, kinds).unwrap_err(), Refusal::Size);
+    }
+    for length in [0, 1, 1024, NEEDED - 1] {
+        assert_eq!(Store::start(&mut words[..length], N, K).unwrap_err(), Refusal::Short);
+    }
+    assert!(words.iter().all(|&word| word == 7));
+    Store::start(&mut words, N, K).unwrap();
+    assert_eq!(words[NEEDED..], [7; 3]);
+    assert!(Store::open(&mut words[..NEEDED]).is_ok());
+    assert_eq!(Store::open(&mut words[..NEEDED - 1]).unwrap_err(), Refusal::Unsound);
+}
+
+#[test]
+fn run() {
+    let mut words = vec![0; NEEDED];
+    let mut store = Store::start(&mut words, N, K).unwrap();
+    let mut answers = [0x5a; 64];
+    let ran = store.run(&tape(), &mut answers);
+    let whole = Ran {
+        stop: None,
+        commands: 14,
+        read: 79,
+        written: 42,
+    };
+    assert_eq!(ran, whole);
+    assert_eq!(answers[..42], ANSWERS);
+    assert_eq!(answers[42..], [0x5a; 22]);
+
+    // A dead entity, the count of refusals, a byte that is no command.
+    let ran = store.run(&[0x07, 9, 0, 0, 0, 1, 0, 0, 0, 0x0e, 0x0f], &mut answers);
+    assert_eq!(ran.stop, Some(Refusal::Unknown));
+    assert_eq!((ran.commands, ran.read, ran.written), (2, 10, 6));
+    assert_eq!(answers[..6], [Refusal::Dead as u8, 0, 1, 0, 0, 0]);
+}
+
+#[test]
+fn short_tapes_and_rooms() {
+    let tape = tape();
+    for length in 0..=tape.len() {
+        let mut words = vec![0; NEEDED];
+        let mut store = Store::start(&mut words, N, K).unwrap();
+        let mut answers = [0x5a; 64];
+        let ran = store.run(&tape[..length], &mut answers);
+        assert_eq!(ran.stop, (ran.read < length).then_some(Refusal::Cut));
+        assert_eq!(answers[..ran.written], ANSWERS[..ran.written]);
+        assert!(answers[ran.written..].iter().all(|&byte| byte == 0x5a));
+    }
+    for room in 0..ANSWERS.len() {
+        let mut words = vec![0; NEEDED];
+        let mut store = Store::start(&mut words, N, K).unwrap();
+        let mut answers = [0x5a; 64];
+        let ran = store.run(&tape, &mut answers[..room]);
+        assert_eq!(ran.stop, Some(Refusal::NoRoom));
+        assert_eq!(answers[..ran.written], ANSWERS[..ran.written]);
+        assert!(answers[ran.written..].iter().all(|&byte| byte == 0x5a));
+        let rest = store.run(&tape[ran.read..], &mut answers);
+        assert_eq!((rest.stop, ran.commands + rest.commands), (None, 14));
+        assert_eq!(answers[..rest.written], ANSWERS[ran.written..]);
+    }
+}
+
+#[test]
+fn columns() {
+    let mut words = used();
+    let store = Store::open(&mut words).unwrap();
+    assert_eq!(store.column(1, Part::Entities, 0, 2), Ok(&[1, 1, 0, 1][..]));
+    assert_eq!(store.column(1, Part::Values, 0, 2), Ok(&[6, 0, 5, 0][..]));
+    assert_eq!(store.column(1, Part::Values, 1, 2), Ok(&[5, 0][..]));
+    assert_eq!(store.column(1, Part::Values, 2, 2), Ok(&[][..]));
+    for (start, end) in [(0, 3), (2, 1), (3, 3), (0, usize::MAX), (usize::MAX, usize::MAX)] {
+        assert_eq!(store.column(1, Part::Entities, start, end), Err(Refusal::Beyond));
+    }
+    for kind in [0, 3, 127, 128, 255] {
+        assert_eq!(store.column(kind, Part::Entities, 0, 0), Err(Refusal::Kind));
+        assert_eq!(store.rows(kind, 9, 0).err(), Some(Refusal::Kind));
+    }
+    assert!(store.rows(1, 0, 2).unwrap().eq([FIRST, SECOND]));
+    assert!(store.rows(1, 0, 2).unwrap().rev().eq([SECOND, FIRST]));
+    assert_eq!(store.rows(1, 0, 2).unwrap().len(), 2);
+    assert!(store.entities(2, 0, 1).unwrap().eq([FIRST.entity]));
+    assert!(store.values(2, 0, 1).unwrap().eq([7]));
+}
+
+#[test]
+fn copied_columns() {
+    let words = used();
+    let copy = |length: usize, kind: u8, start: usize, end: usize, out: &mut [u32]| unsafe {
+        sys::yirbarn_column(
+            words.as_ptr(),
+            length,
+            kind,
+            true,
+            start,
+            end,
+            out.as_mut_ptr(),
+            out.len(),
+        )
+    };
+    let mut out = [9; 6];
+    for (length, kind, start, end, room) in [
+        (NEEDED, 1, 0, 2, 3),
+        (NEEDED, 1, 0, 3, 6),
+        (NEEDED, 3, 0, 0, 6),
+        (NEEDED - 1, 1, 0, 2, 6),
+        (NEEDED, 1, 1, 1, 0),
+    ] {
+        assert_eq!(copy(length, kind, start, end, &mut out[..room]), 0);
+        assert_eq!(out, [9; 6]);
+    }
+    assert_eq!(copy(NEEDED, 1, 0, 2, &mut out), 4);
+    assert_eq!(out, [6, 0, 5, 0, 9, 9]);
+    assert_eq!(copy(NEEDED, 1, 1, 2, &mut out[..2]), 2);
+    assert_eq!(out, [5, 0, 5, 0, 9, 9]);
+}
+
+#[test]
+fn rolls() {
+    let mut words = used();
+    let store = Store::open(&mut words).unwrap();
+    let roll = roll();
+    for room in 0..roll.len() {
+        let mut out = [0x5a; 64];
+        assert_eq!(store.roll(&mut out[..room]), Err(Refusal::NoRoom));
+        assert_eq!(out, [0x5a; 64]);
+    }
+    let mut out = [0x5a; 64];
+    assert_eq!(store.roll(&mut out), Ok(roll.len()));
+    assert_eq!(out[..roll.len()], roll);
+    assert!(out[roll.len()..].iter().all(|&byte| byte == 0x5a));
+}
+
+/// On words that hold no sound store every function says so, and nothing changes.
+fn unsound(words: &mut [u32]) {
+    let before = words.to_vec();
+    let (mut out, mut copy) = ([0x5a; 64], [9; 4]);
+    let tape = tape();
+    let (pointer, length) = (words.as_mut_ptr(), words.len());
+    unsafe {
+        let ran = sys::yirbarn_run(pointer, length, tape.as_ptr(), tape.len(), out.as_mut_ptr(), 64);
+        assert_eq!((ran.stop, ran.commands, ran.read, ran.written), (3, 0, 0, 0));
+        let rolled = sys::yirbarn_roll(pointer, length, out.as_mut_ptr(), 64);
+        assert_eq!((rolled.number, rolled.written), (3, 0));
+        assert_eq!(sys::yirbarn_column_number(pointer, length, 1, false, 0, 1), 3);
+        assert_eq!(sys::yirbarn_column_at(pointer, length, 1, false, 0, 1), 0);
+        assert_eq!(
+            sys::yirbarn_column(pointer, length, 1, false, 0, 1, copy.as_mut_ptr(), 4),
+            0
+        );
+    }
+    assert_eq!((out, copy), ([0x5a; 64], [9; 4]));
+    assert_eq!(words, before);
+}
+
+#[test]
+fn damaged_words() {
+    let sound = used();
+    let (mut refused, mut still) = (0, 0);
+    for at in 0..NEEDED {
+        for damage in [
+            sound[at].wrapping_add(1),
+            sound[at].wrapping_sub(1),
+            sound[at] ^ 1 << 31,
+            u32::MAX,
+        ] {
+            let mut words = sound.clone();
+            words[at] = damage;
+            if Store::open(&mut words).is_err() {
+                refused += 1;
+                unsound(&mut words);
+                continue;
+            }
+            // Sound, so a run answers and leaves it sound.
+            still += 1;
+            let mut store = Store::open(&mut words).unwrap();
+            let ran = store.run(&tape(), &mut [0; 64]);
+            assert_eq!((ran.stop, ran.commands), (None, 14));
+            assert!(Store::open(&mut words).is_ok());
+        }
+    }
+    assert!(refused > 100 && still > 100);
+    println!("damaged words: {refused} refused, {still} still sound");
+}
+
+#[test]
+fn no_store() {
+    for length in [0, 1, 1023, 1024, NEEDED] {
+        for word in [0, 1, u32::MAX] {
+            unsound(&mut vec![word; length]);
+        }
+    }
+}
+
+#[test]
+fn refusals() {
+    for (number, refusal) in (1..).zip(Refusal::ALL) {
+        assert_eq!(refusal as u8, number);
+        assert_eq!(Refusal::of(number), Some(refusal));
+        assert!(refusal.to_string().ends_with(&format!("({number})")));
+    }
+    assert_eq!(Refusal::of(0), None);
+    assert_eq!(Refusal::of(17), None);
+}

@@ -1,0 +1,116 @@
+//! The tapes of `examples/`: text in, and beside it the tape's bytes, the answers as the program `tape` writes them, a
+//! listing, and what the example programs of `bindings/` print.
+
+use crate::compare::{compare, Look, Make};
+use crate::listing::{assemble, listing};
+use crate::tape::{Case, Chunk};
+use sparsey::harness::{words_needed, Oracle, Ran, Sets};
+use std::fmt::Write;
+use std::fs;
+use std::path::Path;
+
+/// The store of the program `tape`.
+const N: usize = 64;
+const K: usize = 8;
+
+/// What stands beside a text, by its ending.
+type Files = [(&'static str, Vec<u8>); 4];
+
+/// Makes the files of every text of the folder, after both sides agreed on it; writes them, or holds them to those
+/// that are there. The names of the texts.
+pub fn examples(folder: &Path, write: bool, make: Make) -> Result<Vec<String>, String> {
+    let mut names = vec![];
+    let entries = fs::read_dir(folder).map_err(|e| format!("{}: {e}", folder.display()))?;
+    let mut paths: Vec<_> = entries.map(|entry| entry.unwrap().path()).collect();
+    paths.sort();
+    for path in paths {
+        if path.extension().is_none_or(|ending| ending != "txt") {
+            continue;
+        }
+        let name = path.display().to_string();
+        let text = fs::read_to_string(&path).map_err(|e| format!("{name}: {e}"))?;
+        let chunks = assemble(&text).map_err(|what| format!("{name}, {what}"))?;
+        compare(&Case::new(N, K, chunks.clone()), Sets::Tuples, make, Look::EachRun)
+            .map_err(|what| format!("{name}: {what}"))?;
+        for (ending, bytes) in files(&chunks) {
+            let file = path.with_extension(ending);
+            if write {
+                fs::write(&file, bytes).map_err(|e| format!("{}: {e}", file.display()))?;
+            } else if fs::read(&file).ok() != Some(bytes) {
+                return Err(format!("{} is not what the Rust answers", file.display()));
+            }
+        }
+        names.push(name);
+    }
+    Ok(names)
+}
+
+fn files(chunks: &[Chunk]) -> Files {
+    let tape = chunks.concat();
+    let mut rust = Oracle::new(Sets::Tuples);
+    rust.start(words_needed(N, K), N, K);
+    // Command by command, for the listing.
+    let mut answered = vec![];
+    let mut ran = Ran::default();
+    for chunk in chunks {
+        let mut out = vec![0; 256];
+        let step = rust.run(chunk, &mut out);
+        ran.stop = step.stop;
+        ran.commands += step.commands;
+        ran.read += step.read;
+        ran.written += step.written;
+        if step.stop != 0 {
+            break;
+        }
+        answered.push((chunk.clone(), out[..step.written].to_vec()));
+    }
+    let mut answers: Vec<u8> = answered.iter().flat_map(|(_, answer)| answer.clone()).collect();
+    answers.push(ran.stop as u8);
+    for number in [ran.commands, ran.read, ran.written] {
+        answers.extend((number as u32).to_le_bytes());
+    }
+    let stop = format!(
+        "stop {}, {} commands, {} bytes read, {} written\n",
+        ran.stop, ran.commands, ran.read, ran.written
+    );
+    let listed = [listing(&answered), stop.clone(), columns(&rust)].concat();
+    let rolled = [stop, roll(&rust)].concat();
+    [
+        ("tape", tape),
+        ("answers", answers),
+        ("listing", listed.into_bytes()),
+        ("roll", rolled.into_bytes()),
+    ]
+}
+
+/// Every column in row order.
+fn columns(rust: &Oracle) -> String {
+    let mut text = String::new();
+    for kind in rust.registered() {
+        let (entities, values) = rust.column(kind).unwrap();
+        write!(text, "column {kind}:").unwrap();
+        for ((index, version), value) in entities.into_iter().zip(values) {
+            write!(text, "  {index} version {version} = {value}").unwrap();
+        }
+        text.push('\n');
+    }
+    text
+}
+
+/// The roll as the example programs print it.
+fn roll(rust: &Oracle) -> String {
+    let mut live = rust.live();
+    live.sort();
+    let mut text = format!("{} live\n", live.len());
+    for (index, version) in live {
+        write!(text, "entity {index} version {version}:").unwrap();
+        for kind in rust.registered() {
+            let (entities, values) = rust.column(kind).unwrap();
+            if let Some(place) = entities.iter().position(|&entity| entity == (index, version)) {
+                write!(text, " {kind}={}", values[place]).unwrap();
+            }
+        }
+        text.push('\n');
+    }
+    text
+}
