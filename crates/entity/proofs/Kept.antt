@@ -3,6 +3,7 @@ use mathlib.Core.Path.{_≡_}
 use mathlib.Core.List.{List}
 use Prim.Native.Nat.{ℕ, _≤_, _<_}
 use native.Mathlib.Omega.{arith}
+use Rattle.model.proofs.Numbers.{zero-of}
 use Rattle.model.specs.Model.{Entity, Entities, noEntity}
 use Rattle.words.specs.Table.{table, table-same}
 use Rattle.words.specs.Links.{Linked, linked-same}
@@ -15,9 +16,6 @@ entity-path x v = λ i. record { index = x i; version = v i }
 
 pub entities-path : {s t : Entities} → s .live ≡ t .live → s .recycled ≡ t .recycled → s .issued ≡ t .issued → s ≡ t
 entities-path l r n = λ i. record { live = l i; recycled = r i; issued = n i }
-
-pub none : {k : ℕ} → (1 ≤ k → ⊥) → k ≡ 0
-none {k} f = let no : ¬ (1 ≤ k) = f in omega arith
 
 module _ (n : ℕ) (w w′ : List ℕ) (s : Sound n w) where
   pub record KeptLive : Type 0 where
@@ -72,4 +70,4 @@ live-unlisted n w s x hx hh =
     let free : 1 ≤ ringSlot n w x → heldOf n w x ≡ 0 =
     listed-free n (issuedOf w) (headOf w) (recycledLen w) (ringIndex n w) (ringVersion n w) (ringSlot n w) (heldOf n w) (s .ring) x hx in
     let no : 1 ≤ ringSlot n w x → ⊥ = λ b. omega (arith, free b) in
-    none no
+    zero-of no

@@ -8,6 +8,7 @@ use native.Mathlib.Omega.{arith}
 use native.Mathlib.Numerals.{add-one}
 use lib.ListN.{getD, drop, length-drop}
 use lib.Seq.{getD-drop}
+use Rattle.model.proofs.Numbers.{zero-of}
 use Rattle.model.specs.Model.{noEntity}
 use Rattle.words.specs.Table.{table, is-table, length-table, getD-table, table-snoc}
 use Rattle.words.specs.Stores.{stores, miss, hit, length-stores}
@@ -15,7 +16,7 @@ use Rattle.entity.specs.Ring.{wrapped, Waits}
 use Rattle.entity.specs.Meaning.{Sound, Idle, entity, entitiesOf, waitingAt, issuedOf, headOf, recycledLen, placeOf, heldOf, ringIndex, ringVersion, ringSlot}
 use Rattle.entity.specs.Change.{Changed, queued, unqueued, numbered}
 use Rattle.entity.proofs.RingLaws.{wrapped-below, wrapped-start, wrapped-next, wrapped-apart, listed-below, ring-room, ring-pushed, ring-popped}
-use Rattle.entity.proofs.Kept.{entity-path, entities-path, none, kept-live, kept-ring}
+use Rattle.entity.proofs.Kept.{entity-path, entities-path, kept-live, kept-ring}
 
 -- ---- a number joins the ring
 
@@ -210,10 +211,10 @@ module _ (n : ℕ) (w : List ℕ) (s : Sound n w) (hn : issuedOf w < n) where
         below = rw (hit w ss 0 1 (x + 1) (omega arith) (omega arith)) (omega arith);
         free =
             miss w ss _ (omega arith)
-            ∙ none (λ hh. let b = L .back x hn hh in omega (arith, s .known (placeOf n w x) (L .inside x hn hh)));
+            ∙ zero-of (λ hh. let b = L .back x hn hh in omega (arith, s .known (placeOf n w x) (L .inside x hn hh)));
         unlisted =
             miss w ss _ (omega arith)
-            ∙ none (λ hb. omega (arith, listed-below n x (headOf w) (recycledLen w) (ringIndex n w) (ringVersion n w) (ringSlot n w) (heldOf n w) (s .ring) x hn hb));
+            ∙ zero-of (λ hb. omega (arith, listed-below n x (headOf w) (recycledLen w) (ringIndex n w) (ringVersion n w) (ringSlot n w) (heldOf n w) (s .ring) x hn hb));
       }
 
   pub numbered-changed : Changed n numbered w (stores w (numberStores w))

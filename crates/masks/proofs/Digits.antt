@@ -1,7 +1,7 @@
 -- Binary digits: a bit as a truth value, of a union, an intersection, a run of ones and a complement. Assumes nothing.
 use mathlib.Core.Path.{_≡_, refl, sym, ap, ap₂, _∙_}
 use mathlib.Core.Logic.{_⊎_, inl, inr, ⊎-elim}
-use mathlib.Core.Bool.{Bool, true, false, not, _&&_, _||_}
+use mathlib.Core.Bool.{Bool, true, false, not, _&&_, _||_, and-false}
 use Prim.Native.Nat.{ℕ, zero, suc, _-_, _*_, _/_, _%_, _^_, _≤_, _<_, min, max}
 use native.Mathlib.Nat.{one-mul, pow-suc, mod-lt, mul-comm, mul-one, suc-sub-suc, zero-sub, mul-left-comm, zero-mul, sub-zero}
 use native.Mathlib.Omega.{arith}
@@ -91,11 +91,7 @@ span-none : (a : ℕ) → span (suc a) 0 ≡ 0
 span-none a = ap (λ (x : ℕ). (2 ^ x - 1) * 2 ^ suc a) (zero-sub (suc a)) ∙ zero-mul (2 ^ suc a)
 
 between-none : (a i : ℕ) → between a 0 i ≡ false
-between-none a i = ap (λ (t : Bool). leb a i && t) (leb·suc-zero i) ∙ last (leb a i)
-  where
-    last : (x : Bool) → (x && false) ≡ false
-    last true = refl
-    last false = refl
+between-none a i = ap (λ (t : Bool). leb a i && t) (leb·suc-zero i) ∙ and-false (leb a i)
 
 pub has-span : (a b i : ℕ) → hasBit (span a b) i ≡ between a b i
 unfolding hasBit

@@ -7,19 +7,15 @@ use native.Mathlib.Omega.{arith}
 use borrow.Author.Tests.{le-ltb}
 use lib.ListN.{length}
 use Rattle.model.specs.Model.{mem}
-use Rattle.words.specs.Table.{length-table, by-eq}
+use Rattle.words.specs.Table.{by-eq}
 use Rattle.entity.specs.Change.{entityPart}
 use Rattle.entity.proofs.Known.{live-few, issued-few}
 use Rattle.memory.specs.Header.{capacityOf, registeredOf, slotOf}
-use Rattle.memory.specs.Meaning.{setAt, setsIn, meaning}
+use Rattle.memory.specs.Meaning.{setAt, meaning}
 use Rattle.memory.specs.Arranged.{Arranged}
 use Rattle.memory.proofs.Becomes.{set-in}
 use Rattle.kinds.specs.Kinds.{kindSet}
 use Rattle.kinds.proofs.Slot.{slot-known}
-
-pub sets-wide : (w : List ℕ) → length (meaning w .storage .sets) ≡ 128
-unfolding meaning setsIn
-sets-wide w = length-table 128 (setAt w)
 
 module _ (w : List ℕ) (A : Arranged w) where
   no-slot : (k : ℕ) → slotOf w k ≡ 255 → setAt w k ≡ []

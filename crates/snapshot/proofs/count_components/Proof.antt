@@ -5,7 +5,7 @@ use native.Mathlib.Omega.{arith}
 use lib.ListN.{drop}
 use Rattle.memory.specs.Meaning.{meaning}
 use Rattle.snapshot.specs.Rising.{rowsIn}
-use Rattle.snapshot.proofs.Known.{sets-wide}
+use Rattle.memory.proofs.Becomes.{sets-wide}
 use Rattle.snapshot.proofs.Sizes.{rows-turn, rows-end}
 use Rattle.snapshot.proofs.count_components.Statement.{statement}
 use Rattle.snapshot.proofs.count_components.Tie as tie

@@ -9,7 +9,8 @@ use Rattle.component.specs.SparseSet.{entity}
 use Rattle.memory.specs.Meaning.{meaning}
 use Rattle.snapshot.specs.Wrote.{oneBytes}
 use Rattle.snapshot.proofs.Writing.{Writing, writing-start, writing-turn, writing-end, writing-room}
-use Rattle.snapshot.proofs.Known.{sets-wide, no-rows}
+use Rattle.memory.proofs.Becomes.{sets-wide}
+use Rattle.snapshot.proofs.Known.{no-rows}
 use Rattle.snapshot.proofs.Listed.{rising-in, kindsBytes, bytes-turn, bytes-end, bytes-all}
 use Rattle.snapshot.proofs.write_components.Statement.{statement}
 use Rattle.snapshot.proofs.write_components.Tie as tie

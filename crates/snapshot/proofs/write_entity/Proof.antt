@@ -6,7 +6,7 @@ use Rattle.model.specs.Snapshot.{componentsOf}
 use Rattle.component.specs.SparseSet.{entity}
 use Rattle.memory.specs.Meaning.{meaning}
 use Rattle.snapshot.specs.Wrote.{entryFor}
-use Rattle.snapshot.proofs.Known.{sets-wide}
+use Rattle.memory.proofs.Becomes.{sets-wide}
 use Rattle.snapshot.proofs.Listed.{few-components}
 use Rattle.snapshot.proofs.Parts.{entry-room, entry-count, entry-written}
 use Rattle.snapshot.proofs.write_entity.Statement.{statement}
