@@ -1,4 +1,7 @@
 pub mod Meaning
 pub mod Places
 pub mod Moves
-pub mod Checking
+pub mod Parts
+pub mod Several
+pub mod Frames
+pub mod Fresh

@@ -11,7 +11,7 @@ use Rattle.model.specs.Model.{Row, SparseSet, noRow}
 use Rattle.words.specs.Table.{by-eq, table-swap, table-set, table-snoc, table-removed}
 use Rattle.words.specs.Stores.{stores, miss, hit, length-stores}
 use Rattle.words.specs.Links.{linked-exchanged, linked-appended, linked-removed, linked-same}
-use Rattle.component.specs.declared.RowWords.{RowWords}
+use Rattle.component.specs.declared.component_sparse_set.RowWords.{RowWords}
 use Rattle.component.specs.SparseSet.{lengthOf, indexAt, versionAt, placeOf, heldOf, valueOf, row, rowAt, rows, Sound, Changed, swapRows}
 use Rattle.component.specs.Stored.{wordsAt, rowStores, lookupStores, Absent, valued, popped}
 use Rattle.component.proofs.Meaning.{length-rows, getD-rows, row-is, rows-apart, absent-free, absent-room}

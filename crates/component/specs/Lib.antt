@@ -1,4 +1,4 @@
 pub mod SparseSet
 pub mod Answers
 pub mod Stored
-pub mod Checks
+pub mod Columns

@@ -4,7 +4,7 @@ use mathlib.Core.List.{List, [], _∷_}
 use Prim.Native.Nat.{ℕ, _+_, _*_, _-_, _<_}
 use lib.ListN.{length, getD, set, take}
 use Rattle.model.specs.Model.{SparseSet, noRow}
-use Rattle.component.specs.declared.RowWords.{RowWords}
+use Rattle.component.specs.declared.component_sparse_set.RowWords.{RowWords}
 use Rattle.component.specs.SparseSet.{indexAt, versionAt, lowAt, highAt}
 
 -- the four words of row i

@@ -6,6 +6,5 @@ pub mod ModelSteps
 pub mod Lookups
 pub mod Numbering
 pub mod Zeros
-pub mod Checking
 pub mod InWords
 pub mod Known

@@ -3,4 +3,3 @@ pub mod Meaning
 pub mod Change
 pub mod Answers
 pub mod Stored
-pub mod Checks

@@ -4,7 +4,6 @@ pub mod entity_allocator;
 pub mod entity_sparse_set;
 pub mod entity_storage;
 pub mod in_words;
-pub mod soundness;
 pub mod sparse_vec;
 
 // An entity (01: card): an index and a version. Versions start at 1.

@@ -4,7 +4,7 @@ use mathlib.Core.List.{List}
 use Prim.Native.Nat.{ℕ}
 use Rattle.words.specs.Decides.{Decides}
 use Rattle.memory.specs.Arranged.{Sound}
-use Rattle.stream.specs.declared.Ran.{Ran}
+use Rattle.run.specs.declared.Ran.{Ran}
 use Rattle.store.specs.Entries.{RunLeaves, Runs}
 use Rattle.flips.specs.Trial.{Keeps}
 

@@ -14,8 +14,8 @@ use Rattle.model.proofs.Walk.{bool-cases, in-right, Chain, Every, Missing, all-
 use Rattle.model.proofs.WalkDown.{Held, Down, ungroupFamily-good}
 use Rattle.model.proofs.Families.{Fams, Apart, famKinds, chain-other}
 use Rattle.model.proofs.Invariant.{Fit}
-use Rattle.group.specs.declared.GroupStatus.{GroupStatus}
-use Rattle.group.specs.declared.GroupStatus.the-variants.{Incomplete, Ungrouped, Grouped}
+use Rattle.group.specs.declared.group_status.GroupStatus.{GroupStatus}
+use Rattle.group.specs.declared.group_status.GroupStatus.the-variants.{Incomplete, Ungrouped, Grouped}
 use Rattle.group.specs.Flat.{Located, located, withCount, setCount, statusAt, ungroupAt, stepDown, walkDown, deleteFamily, deleteFrom, deletePositions}
 use Rattle.group.specs.Ready.{ReadyOut, ReadyDown}
 use Rattle.group.proofs.Fronts.{Front, whole, past, Hole, opened, next, here, put-here}

@@ -16,7 +16,7 @@ use Rattle.layout.specs.Layout.{Arrays, startOf, widthOf, aritiesAt, familiesOf
 use Rattle.layout.proofs.KindSets.{set-between}
 use Rattle.layout.proofs.Arrays.{kinds-inside, groups-inside, groups-of, layout-kinds}
 use Rattle.memory.specs.Header.{layoutGroups, groupFamilyAt, countAt}
-use Rattle.memory.specs.Word.{Word}
+use Rattle.words.specs.Word.{Word}
 use Rattle.memory.specs.Meaning.{layoutArrays, layoutIn, meaning}
 use Rattle.memory.specs.Change.{onStorage, withLayout}
 use Rattle.memory.specs.Arranged.{Arranged, GroupSound, Becomes, memberAt}

@@ -13,8 +13,8 @@ use Rattle.masks.specs.Masks.{putIf, positions, bitsOf, has, keep, between, com
 use Rattle.masks.specs.Walk.{LowStep, HighStep}
 use Rattle.masks.proofs.Lists.{keep-same, keep-all, skip-common, between-in, between-high}
 use Rattle.masks.proofs.Bits.{bits-below}
-use Rattle.group.specs.declared.GroupStatus.{GroupStatus}
-use Rattle.group.specs.declared.GroupStatus.the-variants.{Incomplete, Ungrouped, Grouped}
+use Rattle.group.specs.declared.group_status.GroupStatus.{GroupStatus}
+use Rattle.group.specs.declared.group_status.GroupStatus.the-variants.{Incomplete, Ungrouped, Grouped}
 use Rattle.group.specs.Flat.{located, statusAt, groupAt, stepUp, skipAfter, walkUp, stepDown, walkDown}
 use Rattle.group.specs.Ready.{Swappable, ReadyIn, ReadyUp, ReadyOut, ReadyDown}
 use Rattle.group.proofs.Upward.{From, from-le, walk-pass, walk-on, walk-from}

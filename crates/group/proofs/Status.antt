@@ -11,8 +11,8 @@ use Rattle.model.specs.Sound.{In}
 use Rattle.model.proofs.Walk.{bool-cases, in-right}
 use Rattle.words.specs.Part.{between}
 use Rattle.layout.proofs.Family.{between-none}
-use Rattle.group.specs.declared.GroupMetadata.{GroupMetadata}
-use Rattle.group.specs.declared.GroupStatus.the-variants.{Incomplete, Ungrouped, Grouped}
+use Rattle.group.specs.declared.group_metadata.GroupMetadata.{GroupMetadata}
+use Rattle.group.specs.declared.group_status.GroupStatus.the-variants.{Incomplete, Ungrouped, Grouped}
 use Rattle.group.specs.Flat.{statusAt}
 use Rattle.group.specs.Metadata.{orderOf, Listed, Stands}
 use Rattle.group.specs.Steps.{statusIn}

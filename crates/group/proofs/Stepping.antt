@@ -11,14 +11,14 @@ use Rattle.masks.specs.Masks.{bitsOf, Ordered}
 use Rattle.words.specs.Part.{between}
 use Rattle.component.specs.SparseSet.{rows}
 use Rattle.component.proofs.Meaning.{length-rows}
-use Rattle.columns.specs.Columns.{columnOf, rowsOf}
+use Rattle.component.specs.Columns.{columnOf, rowsOf}
 use Rattle.memory.specs.Header.{capacityOf, slotOf}
 use Rattle.memory.specs.Meaning.{meaning}
 use Rattle.memory.specs.Change.{onStorage, withLayout}
 use Rattle.memory.specs.Arranged.{Arranged, Becomes}
 use Rattle.kinds.proofs.Slot.{known-slot}
-use Rattle.group.specs.declared.GroupMetadata.{GroupMetadata}
-use Rattle.group.specs.declared.GroupStatus.{GroupStatus}
+use Rattle.group.specs.declared.group_metadata.GroupMetadata.{GroupMetadata}
+use Rattle.group.specs.declared.group_status.GroupStatus.{GroupStatus}
 use Rattle.group.specs.Flat.{located, setCount, statusAt, groupAt, ungroupAt, stepUp, stepDown}
 use Rattle.group.specs.Ready.{Swappable, ReadyIn, ReadyOut}
 use Rattle.group.specs.Metadata.{orderOf, Stands}

@@ -14,8 +14,8 @@ use Rattle.model.proofs.Families.{Fams, Apart, allKinds, famKinds, chain-other,
 use Rattle.model.proofs.Regroup.{FreshAll, FamsFor, None, UpEvery, groupFamily-every-good, fams-fresh}
 use Rattle.model.proofs.Invariant.{Fit}
 use Rattle.masks.specs.Masks.{upFrom}
-use Rattle.group.specs.declared.GroupStatus.{GroupStatus}
-use Rattle.group.specs.declared.GroupStatus.the-variants.{Incomplete, Ungrouped, Grouped}
+use Rattle.group.specs.declared.group_status.GroupStatus.{GroupStatus}
+use Rattle.group.specs.declared.group_status.GroupStatus.the-variants.{Incomplete, Ungrouped, Grouped}
 use Rattle.group.specs.Flat.{located, withCount, statusAt, groupAt, stepUp, skipAfter, familyPositions, insertPositions}
 use Rattle.group.specs.Ready.{Swappable, ReadyIn, ReadyUp, ReadyEach}
 use Rattle.group.proofs.Fronts.{Front, whole, past, Hole, opened, next, here}

@@ -11,8 +11,8 @@ use Rattle.model.specs.Model.{Entity, SparseSet, Group, Family, Storage, Walked
 use Rattle.model.proofs.SparseSets.{cond-case}
 use Rattle.model.proofs.Walk.{bool-cases}
 use Rattle.masks.specs.Masks.{upFrom}
-use Rattle.group.specs.declared.GroupStatus.{GroupStatus}
-use Rattle.group.specs.declared.GroupStatus.the-variants.{Incomplete, Ungrouped, Grouped}
+use Rattle.group.specs.declared.group_status.GroupStatus.{GroupStatus}
+use Rattle.group.specs.declared.group_status.GroupStatus.the-variants.{Incomplete, Ungrouped, Grouped}
 use Rattle.group.specs.Flat.{Located, located, withCount, setCount, statusOf, statusAt, groupAt, stepUp, skipAfter, walkUp, familyPositions, insertPositions, allPositions}
 use Rattle.group.proofs.Fronts.{Front, whole, past, Hole, opened, next, Here, here, put-here}
 

@@ -14,8 +14,8 @@ use Rattle.memory.specs.Meaning.{meaning}
 use Rattle.memory.specs.Change.{onStorage}
 use Rattle.memory.specs.Arranged.{Arranged, Becomes}
 use Rattle.memory.proofs.Becomes.{stays}
-use Rattle.group.specs.declared.GroupStatus.{GroupStatus}
-use Rattle.group.specs.declared.GroupStatus.the-variants.{Incomplete, Ungrouped, Grouped}
+use Rattle.group.specs.declared.group_status.GroupStatus.{GroupStatus}
+use Rattle.group.specs.declared.group_status.GroupStatus.the-variants.{Incomplete, Ungrouped, Grouped}
 use Rattle.group.specs.Flat.{located, statusAt, groupAt, ungroupAt, stepUp, stepDown, walkUp, walkDown}
 use Rattle.group.specs.Ready.{ReadyIn, ReadyOut, ReadyUp, ReadyDown}
 use Rattle.group.specs.Steps.{Below, leftAfter, StepsUp}

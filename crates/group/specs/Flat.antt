@@ -6,8 +6,8 @@ use lib.Dec.{ltb}
 use lib.ListN.{length, getD}
 use Rattle.model.specs.Model.{Entity, SparseSet, Group, Family, Storage, meets, setOf, at, onKinds, swapTo, allHeld, headKind, kindsOf}
 use Rattle.masks.specs.Masks.{upFrom}
-use Rattle.group.specs.declared.GroupStatus.{GroupStatus}
-use Rattle.group.specs.declared.GroupStatus.the-variants.{Incomplete, Ungrouped, Grouped}
+use Rattle.group.specs.declared.group_status.GroupStatus.{GroupStatus}
+use Rattle.group.specs.declared.group_status.GroupStatus.the-variants.{Incomplete, Ungrouped, Grouped}
 
 -- ---- the groups in order
 

@@ -7,8 +7,8 @@ use lib.Dec.{ltb}
 use lib.ListN.{length}
 use Rattle.model.specs.Model.{Entity, SparseSet, Storage, setOf, held, groupAll}
 use Rattle.model.specs.Sound.{In}
-use Rattle.group.specs.declared.GroupStatus.{GroupStatus}
-use Rattle.group.specs.declared.GroupStatus.the-variants.{Incomplete, Ungrouped, Grouped}
+use Rattle.group.specs.declared.group_status.GroupStatus.{GroupStatus}
+use Rattle.group.specs.declared.group_status.GroupStatus.the-variants.{Incomplete, Ungrouped, Grouped}
 use Rattle.group.specs.Flat.{Located, located, statusAt, stepUp, skipAfter, stepDown, allPositions}
 
 -- the entity can be swapped to place c in every sparse set of ks

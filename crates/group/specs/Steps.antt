@@ -9,8 +9,8 @@ use Rattle.masks.specs.Masks.{bitsOf, has, commonOf, skipping}
 use Rattle.memory.specs.Meaning.{meaning}
 use Rattle.memory.specs.Change.{onStorage}
 use Rattle.memory.specs.Arranged.{Becomes}
-use Rattle.group.specs.declared.GroupStatus.{GroupStatus}
-use Rattle.group.specs.declared.GroupStatus.the-variants.{Incomplete, Ungrouped, Grouped}
+use Rattle.group.specs.declared.group_status.GroupStatus.{GroupStatus}
+use Rattle.group.specs.declared.group_status.GroupStatus.the-variants.{Incomplete, Ungrouped, Grouped}
 use Rattle.group.specs.Flat.{located, statusAt, stepUp}
 
 -- statusOf, of a group with these new kinds and this count

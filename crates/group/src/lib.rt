@@ -1,183 +1,31 @@
-// Groups: whether an entity is inside one, and the walks that bring it in and out (group.rs).
-use component::Found;
+// Groups: the walks that bring an entity into its groups and out of them (group.rs).
+pub mod group_metadata;
+pub mod group_status;
+
+use crate::group_metadata::GroupMetadata;
+use crate::group_metadata::count;
+use crate::group_metadata::group_count;
+use crate::group_metadata::kind_at;
+use crate::group_metadata::metadata;
+use crate::group_metadata::set_count;
+use crate::group_status::GroupStatus;
+use crate::group_status::get_group_status;
 use masks::group_mask::GroupMask;
 use masks::group_mask::NextBit;
-use words::LAYOUT_ARITIES;
-use words::LAYOUT_ENDS;
-use words::LAYOUT_KIND_ENDS;
-ghost use mathlib.Core.Path.{_≡_};
-ghost use mathlib.Core.Bool.{cond};
 ghost use mathlib.Core.List.{reverse};
-ghost use Prim.Native.Nat.{_+_, _-_, _<_, _≤_};
-ghost use lib.Dec.{ltb};
-ghost use lib.ListN.{length, getD, drop};
-ghost use Rattle.model.specs.Model.{Storage, groupsOf, setOf, held, allHeld};
-ghost use Rattle.model.specs.Sound.{In};
+ghost use Prim.Native.Nat.{_-_, _<_, _≤_};
+ghost use Rattle.model.specs.Model.{groupsOf};
 ghost use Rattle.words.specs.Part.{between};
 ghost use Rattle.masks.specs.Masks.{bitsOf, upFrom};
 ghost use Rattle.masks.specs.Walk.{Highest};
 ghost use Rattle.component.specs.SparseSet.{entity};
-ghost use Rattle.layout.specs.Layout.{startOf};
 ghost use Rattle.memory.specs.Meaning.{meaning};
-ghost use Rattle.memory.specs.Change.{onStorage, withLayout};
+ghost use Rattle.memory.specs.Change.{onStorage};
 ghost use Rattle.memory.specs.Arranged.{Arranged, Becomes};
-ghost use Rattle.group.specs.Flat.{located, setCount, statusAt, groupAt, ungroupAt, stepDown, walkUp, walkDown};
+ghost use Rattle.group.specs.Flat.{located, statusAt, groupAt, ungroupAt, stepDown, walkUp, walkDown};
 ghost use Rattle.group.specs.Ready.{Swappable, ReadyIn, ReadyOut, ReadyUp, ReadyDown};
-ghost use Rattle.group.specs.Metadata.{orderOf, Listed, Describes, Stands};
-ghost use Rattle.group.specs.Steps.{statusIn, swapKinds, Below, StepsUp};
-
-pub enum GroupStatus {
-    Incomplete,
-    Ungrouped,
-    Grouped,
-}
-
-// Say a family is made of two groups, (A, B) and (A, B, C, D). The larger has the kinds A B C D, which are new from C on:
-// storage_start is A's place among the layout's kinds, new_storage_start C's, storage_end the one past D's. The family's groups are
-// numbered from first to top - 1.
-pub struct GroupMetadata {
-    pub storage_start: usize,
-    pub new_storage_start: usize,
-    pub storage_end: usize,
-    pub first: usize,
-    pub top: usize,
-}
-
-// Where number f starts, of the ends that stand from `ends` on: where the one before ends.
-pub fn start_of(words: &[u32], ends: usize, f: usize) -> usize
-    requires { ⌜ ends + f ≤ length (now words) ⌝ }
-    ensures { λ r. ⌜ r ≡ startOf (drop ends (now (words .entry))) f ⌝ }
-{
-    if f == 0 {
-        return 0;
-    }
-    memory::word(words, ends + (f - 1))
-}
-
-// The size of the group before g in its family, 0 where g is the first. Group g's stands at 576 + 128 + g (docs/WORDS.md).
-fn prior_arity(words: &[u32], first: usize, g: usize) -> usize
-    requires { ⌜ ((g < 64) × (1024 ≤ length (now words))) ⌝ }
-    ensures { λ r. ⌜ r ≡ cond (ltb first g) (getD (now (words .entry)) (703 + g) 0) 0 ⌝ }
-{
-    if first < g {
-        return memory::word(words, LAYOUT_ARITIES + (g - 1));
-    }
-    0
-}
-
-pub fn metadata(words: &[u32], g: usize) -> GroupMetadata
-    requires { ⌜ Arranged (now words) ⌝ }
-    requires { ⌜ g < groupsOf (meaning (now words) .storage .layout) ⌝ }
-    ensures { λ r. ⌜ Describes (meaning (now (words .entry))) g r ⌝ }
-{
-    let f = memory::word(words, words::GROUP_FAMILIES + g);
-    let start = start_of(words, LAYOUT_KIND_ENDS, f);
-    let first = start_of(words, LAYOUT_ENDS, f);
-    let top = memory::word(words, LAYOUT_ENDS + f);
-    let arity = memory::word(words, LAYOUT_ARITIES + g);
-    let prior = prior_arity(words, first, g);
-    GroupMetadata {
-        storage_start: start,
-        new_storage_start: start + prior,
-        storage_end: start + arity,
-        first,
-        top,
-    }
-}
-
-// The kind at a place among the layout's.
-pub fn kind_at(words: &[u32], place: usize) -> usize
-    requires { ⌜ Arranged (now words) ⌝ }
-    requires { ⌜ place < length (orderOf (meaning (now words))) ⌝ }
-    ensures { λ r. ⌜ r ≡ getD (orderOf (meaning (now (words .entry)))) place 0 ⌝ }
-{
-    memory::word(words, words::LAYOUT + place)
-}
-
-pub fn group_count(words: &[u32]) -> usize
-    requires { ⌜ Arranged (now words) ⌝ }
-    ensures { λ r. ⌜ r ≡ groupsOf (meaning (now (words .entry)) .storage .layout) ⌝ }
-{
-    memory::word(words, words::LAYOUT_GROUPS)
-}
-
-// How many entities are inside group g.
-pub fn count(words: &[u32], g: usize) -> usize
-    requires { ⌜ Arranged (now words) ⌝ }
-    requires { ⌜ g < groupsOf (meaning (now words) .storage .layout) ⌝ }
-    ensures { λ r. ⌜ r ≡ located (meaning (now (words .entry)) .storage .layout) g .count ⌝ }
-{
-    memory::word(words, words::GROUP_COUNTS + g)
-}
-
-pub fn set_count(words: &mut [u32], g: usize, count: usize)
-    requires { ⌜ Arranged (now words) ⌝ }
-    requires { ⌜ g < groupsOf (meaning (now words) .storage .layout) ⌝ }
-    requires { ⌜ count < 4294967296 ⌝ }
-    ensures { λ _. ⌜ Becomes (now (words .entry)) (now (words .exit)) (onStorage (λ (s : Storage). withLayout s (setCount g count (s .layout))) (meaning (now (words .entry)))) ⌝ }
-{
-    let at = words::GROUP_COUNTS + g;
-    words[at] = count as u32;
-}
-
-// Does the entity hold the kind at a place among the layout's?
-fn holds(words: &[u32], place: usize, index: u32, version: u32) -> bool
-    requires { ⌜ Arranged (now words) ⌝ }
-    requires { ⌜ place < length (orderOf (meaning (now words))) ⌝ }
-    requires { ⌜ In (meaning (now words) .kinds) (getD (orderOf (meaning (now words))) place 0) ⌝ }
-    ensures { λ r. ⌜ r ≡ held (entity index version) (setOf (meaning (now (words .entry)) .storage .sets) (getD (orderOf (meaning (now (words .entry)))) place 0)) ⌝ }
-{
-    let kind = kind_at(words, place);
-    let found = kinds::find(words, kind, index, version);
-    let Found::At(_) = found else {
-        return false;
-    };
-    true
-}
-
-// Does it hold each of them, from start to end?
-fn holds_all(words: &[u32], start: usize, end: usize, index: u32, version: u32) -> bool
-    requires { ⌜ Arranged (now words) ⌝ }
-    requires { ⌜ Listed (meaning (now words)) start end ⌝ }
-    ensures { λ r. ⌜ r ≡ allHeld (entity index version) (between start end (orderOf (meaning (now (words .entry))))) (meaning (now (words .entry)) .storage .sets) ⌝ }
-{
-    let mut place = start;
-    while place < end {
-        if !holds(words, place, index, version) {
-            return false;
-        }
-        place += 1;
-    }
-    true
-}
-
-// The status of an entity in the group whose new kinds stand from start to end and whose count is group_len.
-fn get_group_status(
-    words: &[u32],
-    start: usize,
-    end: usize,
-    group_len: usize,
-    index: u32,
-    version: u32,
-) -> GroupStatus
-    requires { ⌜ Arranged (now words) ⌝ }
-    requires { ⌜ Listed (meaning (now words)) start end ⌝ }
-    requires { ⌜ start < end ⌝ }
-    ensures { λ r. ⌜ r ≡ statusIn (entity index version) (between start end (orderOf (meaning (now (words .entry))))) «group_len» (meaning (now (words .entry)) .storage .sets) ⌝ }
-{
-    let first = kind_at(words, start);
-    let found = kinds::find(words, first, index, version);
-    let Found::At(place) = found else {
-        return GroupStatus::Incomplete;
-    };
-    if !holds_all(words, start + 1, end, index, version) {
-        return GroupStatus::Incomplete;
-    }
-    if place < group_len {
-        return GroupStatus::Grouped;
-    }
-    GroupStatus::Ungrouped
-}
+ghost use Rattle.group.specs.Metadata.{orderOf, Listed, Stands};
+ghost use Rattle.group.specs.Steps.{swapKinds, Below, StepsUp};
 
 // Swaps the entity to a place in every sparse set of a group.
 fn swap_kinds(

@@ -13,7 +13,7 @@ use Rattle.words.specs.Offsets.{columnStart, columnStart-mono}
 use Rattle.words.specs.Part.{between-rest}
 use Rattle.words.specs.Table.{table, is-table, length-table, getD-table}
 use Rattle.component.specs.SparseSet.{rows, Sound}
-use Rattle.columns.specs.Columns.{columnOf, rowsOf, Columns, HeadKept, Changes}
+use Rattle.component.specs.Columns.{columnOf, rowsOf, Columns, HeadKept, Changes}
 use Rattle.entity.specs.Meaning as entity
 use Rattle.entity.specs.Change.{entityPart, entitiesIn}
 use Rattle.memory.specs.Header.{capacityOf, kindCapacityOf, registeredOf, slotOf}

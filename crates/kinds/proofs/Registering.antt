@@ -16,9 +16,9 @@ use Rattle.words.specs.Offsets.{columnStart, columnStart-mono}
 use Rattle.words.specs.Part.{between}
 use Rattle.words.specs.Table.{table, table-same, table-snoc, length-table, by-eq}
 use Rattle.component.specs.SparseSet.{rows}
-use Rattle.columns.specs.Columns.{columnOf, rowsOf, Columns, Lent}
-use Rattle.columns.proofs.Slots.{lent}
-use Rattle.columns.proofs.Frames.{headed, front-column, front-columns}
+use Rattle.component.specs.Columns.{columnOf, rowsOf, Columns, Lent}
+use Rattle.component.proofs.Parts.{lent}
+use Rattle.component.proofs.Frames.{headed, front-column, front-columns}
 use Rattle.entity.specs.Meaning as entity
 use Rattle.entity.specs.Change.{entityPart, entitiesIn}
 use Rattle.layout.specs.Layout.{Arrays, WellFormed, widthOf, groupCount, familiesOf}

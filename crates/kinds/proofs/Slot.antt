@@ -14,8 +14,8 @@ use Rattle.model.proofs.Walk.{or-cases}
 use Rattle.model.proofs.KindLists.{not-true, at-in}
 use Rattle.words.specs.Offsets.{columnStart}
 use Rattle.words.specs.Table.{table, length-table, getD-table}
-use Rattle.columns.specs.Columns.{Lent, Only, rowsOf}
-use Rattle.columns.proofs.Slots.{lent, getD-column}
+use Rattle.component.specs.Columns.{Lent, Only, rowsOf}
+use Rattle.component.proofs.Parts.{lent, getD-column}
 use Rattle.memory.specs.Header.{capacityOf, kindCapacityOf, registeredOf, slotOf}
 use Rattle.memory.specs.Meaning.{kindAt, kindsIn, setAt, meaning}
 use Rattle.memory.specs.Change.{onSet, onStorage}

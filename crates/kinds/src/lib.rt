@@ -12,7 +12,7 @@ ghost use Rattle.model.specs.Run.{withKinds};
 ghost use Rattle.model.specs.Sound.{In};
 ghost use Rattle.component.specs.SparseSet.{entity, valueOf, Current};
 ghost use Rattle.component.specs.Answers.{Finds};
-ghost use Rattle.columns.specs.Columns.{Lent};
+ghost use Rattle.component.specs.Columns.{Lent};
 ghost use Rattle.memory.specs.Header.{capacityOf, slotOf};
 ghost use Rattle.memory.specs.Meaning.{localAt, meaning};
 ghost use Rattle.memory.specs.Change.{onSet, onStorage};
@@ -32,7 +32,7 @@ pub fn is_registered(words: &[u32], kind: usize) -> bool
     requires { ⌜ kind < 128 ⌝ }
     ensures { λ r. ⌜ r ≡ mem kind (meaning (now (words .entry)) .kinds) ⌝ }
 {
-    let slot = memory::word(words, words::TABLE + kind);
+    let slot = words::word(words, words::TABLE + kind);
     if slot == 255 {
         return false;
     }
@@ -45,7 +45,7 @@ fn slot_of(words: &[u32], kind: usize) -> usize
     requires { ⌜ In (meaning (now words) .kinds) kind ⌝ }
     ensures { λ r. ⌜ InSlot (now (words .entry)) kind r ⌝ }
 {
-    memory::word(words, words::TABLE + kind)
+    words::word(words, words::TABLE + kind)
 }
 
 pub fn set_len(words: &[u32], kind: usize) -> usize
@@ -53,9 +53,9 @@ pub fn set_len(words: &[u32], kind: usize) -> usize
     requires { ⌜ In (meaning (now words) .kinds) kind ⌝ }
     ensures { λ r. ⌜ length (kindSet (now (words .entry)) kind) ≡ r ⌝ }
 {
-    let n = memory::word(words, words::CAPACITY);
+    let n = words::word(words, words::CAPACITY);
     let slot = slot_of(words, kind);
-    columns::len_in(words, n, slot)
+    component::slots::len_in(words, n, slot)
 }
 
 // Any index and version may be asked for.
@@ -64,9 +64,9 @@ pub fn find(words: &[u32], kind: usize, index: u32, version: u32) -> Found
     requires { ⌜ In (meaning (now words) .kinds) kind ⌝ }
     ensures { λ r. ⌜ Finds (capacityOf (now (words .entry))) (entity index version) (kindSet (now (words .entry)) kind) r ⌝ }
 {
-    let n = memory::word(words, words::CAPACITY);
+    let n = words::word(words, words::CAPACITY);
     let slot = slot_of(words, kind);
-    columns::find_in(words, n, slot, index, version)
+    component::slots::find_in(words, n, slot, index, version)
 }
 
 // Exchanges the entity's row with the one at place.
@@ -77,9 +77,9 @@ pub fn swap_to(words: &mut [u32], kind: usize, index: u32, version: u32, place: 
     requires { ⌜ place < length (kindSet (now words) kind) ⌝ }
     ensures { λ _. ⌜ Becomes (now (words .entry)) (now (words .exit)) (onStorage (onSet kind (swapTo (entity index version) place)) (meaning (now (words .entry)))) ⌝ }
 {
-    let n = memory::word(words, words::CAPACITY);
+    let n = words::word(words, words::CAPACITY);
     let slot = slot_of(words, kind);
-    columns::swap_to_in(words, n, slot, index, version, place);
+    component::slots::swap_to_in(words, n, slot, index, version, place);
 }
 
 // The value of the row at a place.
@@ -89,9 +89,9 @@ pub fn value_of(words: &[u32], kind: usize, place: usize) -> Value
     requires { ⌜ place < length (kindSet (now words) kind) ⌝ }
     ensures { λ r. ⌜ valueOf (r .low) (r .high) ≡ getD (kindSet (now (words .entry)) kind) place noRow .value ⌝ }
 {
-    let n = memory::word(words, words::CAPACITY);
+    let n = words::word(words, words::CAPACITY);
     let slot = slot_of(words, kind);
-    columns::value_in(words, n, slot, place)
+    component::slots::value_in(words, n, slot, place)
 }
 
 // Puts a value with an entity: in the entity's row, or in a new one at the end.
@@ -102,9 +102,9 @@ pub fn insert(words: &mut [u32], kind: usize, index: u32, version: u32, low: u32
     requires { ⌜ Current index version (kindSet (now words) kind) ⌝ }
     ensures { λ _. ⌜ Becomes (now (words .entry)) (now (words .exit)) (onStorage (onSet kind (insertRow (entity index version) (valueOf low high))) (meaning (now (words .entry)))) ⌝ }
 {
-    let n = memory::word(words, words::CAPACITY);
+    let n = words::word(words, words::CAPACITY);
     let slot = slot_of(words, kind);
-    columns::insert_in(words, n, slot, index, version, low, high);
+    component::slots::insert_in(words, n, slot, index, version, low, high);
 }
 
 // The entity's row goes, if it has one, and its value is handed back.
@@ -113,9 +113,9 @@ pub fn remove(words: &mut [u32], kind: usize, index: u32, version: u32) -> Remov
     requires { ⌜ In (meaning (now words) .kinds) kind ⌝ }
     ensures { λ r. ⌜ RemovesKind (now (words .entry)) (now (words .exit)) kind (entity index version) r ⌝ }
 {
-    let n = memory::word(words, words::CAPACITY);
+    let n = words::word(words, words::CAPACITY);
     let slot = slot_of(words, kind);
-    columns::remove_in(words, n, slot, index, version)
+    component::slots::remove_in(words, n, slot, index, version)
 }
 
 // Every kind's rows go. A slot that no kind has is empty as it is.
@@ -123,9 +123,9 @@ pub fn clear_sets(words: &mut [u32])
     requires { ⌜ Arranged (now words) ⌝ }
     ensures { λ _. ⌜ Becomes (now (words .entry)) (now (words .exit)) (onStorage emptied (meaning (now (words .entry)))) ⌝ }
 {
-    let n = memory::word(words, words::CAPACITY);
-    let m = memory::word(words, words::REGISTERED);
-    columns::clear_all(words, n, m);
+    let n = words::word(words, words::CAPACITY);
+    let m = words::word(words, words::REGISTERED);
+    component::slots::clear_all(words, n, m);
 }
 
 // A word of the head of the kind's column.
@@ -135,10 +135,10 @@ fn head(words: &[u32], kind: usize, i: usize) -> usize
     requires { ⌜ i < 8 ⌝ }
     ensures { λ r. ⌜ r ≡ headOf (now (words .entry)) kind i ⌝ }
 {
-    let n = memory::word(words, words::CAPACITY);
+    let n = words::word(words, words::CAPACITY);
     let slot = slot_of(words, kind);
     let base = words::column_start(n, slot);
-    memory::word(words, base + i)
+    words::word(words, base + i)
 }
 
 pub fn own_group(words: &[u32], kind: usize) -> Own
@@ -182,8 +182,8 @@ pub fn register(words: &mut [u32], kind: usize)
     requires { ⌜ length (meaning (now words) .kinds) < meaning (now words) .kindCapacity ⌝ }
     ensures { λ _. ⌜ Becomes (now (words .entry)) (now (words .exit)) (withKinds (meaning (now (words .entry))) (meaning (now (words .entry)) .kinds ++ (kind ∷ []))) ⌝ }
 {
-    let n = memory::word(words, words::CAPACITY);
-    let slot = memory::word(words, words::REGISTERED);
+    let n = words::word(words, words::CAPACITY);
+    let slot = words::word(words, words::REGISTERED);
     put_head(words, n, slot, kind);
     words[words::TABLE + kind] = slot as u32;
     words[words::REGISTERED] = slot as u32 + 1;

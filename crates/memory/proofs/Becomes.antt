@@ -15,7 +15,7 @@ use Rattle.words.specs.Offsets.{columnStart, columnStart-mono}
 use Rattle.words.specs.Part.{between, between-rest, length-between, getD-between}
 use Rattle.words.specs.Table.{table, table-same, table-set, getD-table, by-eq, length-table}
 use Rattle.component.specs.SparseSet.{rows, Sound}
-use Rattle.columns.specs.Columns.{columnOf, rowsOf, Columns, One}
+use Rattle.component.specs.Columns.{columnOf, rowsOf, Columns, One}
 use Rattle.entity.specs.Meaning as entity
 use Rattle.entity.specs.Change.{entityPart, entitiesIn, EntityChange}
 use Rattle.layout.specs.Layout.{WellFormed, groupCount, familiesOf}

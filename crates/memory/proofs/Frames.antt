@@ -8,8 +8,8 @@ use lib.Seq.{getD-take, ext-getD, getD-drop}
 use Rattle.words.specs.Offsets.{columnStart, columnStart-needed, columnStart-mono}
 use Rattle.words.specs.Part.{between, length-between, getD-between}
 use Rattle.words.specs.Table.{table, table-same}
-use Rattle.columns.specs.Columns.{columnOf}
-pub use Rattle.columns.proofs.Slots.{drop-later}
+use Rattle.component.specs.Columns.{columnOf}
+pub use Rattle.component.proofs.Parts.{drop-later}
 use Rattle.layout.specs.Layout.{blockArrays, WellFormed, groupCount, familiesOf, Sized}
 use Rattle.layout.proofs.Arrays.{block-sized}
 use Rattle.memory.specs.Header.{capacityOf, kindCapacityOf, stagedLen, excludedLen, draftGroups, refusalsOf, excludedAt}

@@ -6,7 +6,7 @@ use Prim.Native.Nat.{ℕ, _-_, _≤_, _<_}
 use native.Mathlib.Omega.{arith}
 use lib.ListN.{length, getD, take}
 use Rattle.words.specs.Table.{table, table-same}
-use Rattle.columns.specs.Columns.{columnOf, rowsOf, Columns}
+use Rattle.component.specs.Columns.{columnOf, rowsOf, Columns}
 use Rattle.entity.specs.Meaning as entity
 use Rattle.entity.specs.Change.{entityPart}
 use Rattle.layout.specs.Layout.{Arrays, WellFormed, widthOf, groupCount}

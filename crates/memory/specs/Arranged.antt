@@ -9,7 +9,7 @@ use lib.ListN.{length, getD, take, drop}
 use Rattle.model.specs.Store.{Store, wordsNeeded}
 use Rattle.model.specs.Sound.{In, Limits}
 use Rattle.model.specs.Sound as modelSound
-use Rattle.columns.specs.Columns.{Columns, rowsOf}
+use Rattle.component.specs.Columns.{Columns, rowsOf}
 use Rattle.entity.specs.Meaning as entity
 use Rattle.entity.specs.Change.{entityPart}
 use Rattle.layout.specs.Layout.{Arrays, WellFormed, startOf, widthOf, groupCount}

@@ -1,5 +1,5 @@
 pub mod Header
-pub mod Word
 pub mod Meaning
 pub mod Change
 pub mod Arranged
+pub mod Fresh

@@ -9,7 +9,7 @@ use Rattle.model.specs.Run.{Store, Control}
 use Rattle.words.specs.Table.{table}
 use Rattle.words.specs.Part.{between}
 use Rattle.component.specs.SparseSet.{valueOf}
-use Rattle.columns.specs.Columns.{columnOf, rowsOf}
+use Rattle.component.specs.Columns.{columnOf, rowsOf}
 use Rattle.entity.specs.Change.{entitiesIn}
 use Rattle.layout.specs.Layout.{Arrays, blockArrays, familiesOf}
 use Rattle.memory.specs.Header.{capacityOf, kindCapacityOf, registeredOf, stagedLen, excludedLen, draftFamilies, layoutFamilies, refusalsOf, slotOf, stagedKindAt, stagedLowAt, stagedHighAt, excludedAt}

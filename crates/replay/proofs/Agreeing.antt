@@ -20,7 +20,7 @@ use Rattle.model.proofs.SparseSets.{and-left, and-right}
 use Rattle.words.specs.Decides.{Decides, yes-of}
 use Rattle.memory.specs.Meaning.{meaning}
 use Rattle.memory.specs.Arranged.{Sound}
-use Rattle.stream.specs.declared.Ran.{Ran}
+use Rattle.run.specs.declared.Ran.{Ran}
 use Rattle.store.specs.declared.Rolled.{Rolled}
 use Rattle.store.specs.Entries.{startNumber, Starts, StartLeaves, ColumnNumbered, ColumnPart, ranOf, Answered, RunLeaves, Runs, rolledOf, rollNumber, rollBytes, Rolls}
 use Rattle.store.proofs.Starting.{start-number}

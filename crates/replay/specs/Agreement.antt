@@ -7,7 +7,7 @@ use lib.Dec.{eqb}
 use mir.Val.{boolByte}
 use lib.ListN.{length, getD, take, drop}
 use Rattle.memory.specs.Arranged.{Sound}
-use Rattle.stream.specs.declared.Ran.{Ran}
+use Rattle.run.specs.declared.Ran.{Ran}
 use Rattle.store.specs.declared.Rolled.{Rolled}
 use Rattle.replay.specs.declared.recorded.Step.{Step}
 use Rattle.replay.specs.declared.Tally.{Tally}

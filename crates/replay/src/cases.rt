@@ -11,7 +11,7 @@ use crate::compare::is_same_run;
 use crate::recorded::Step;
 use crate::recorded::cut;
 use crate::recorded::short_at;
-use stream::Ran;
+use run::Ran;
 
 // What a run gave, beside the numbers and answers at `at`.
 fn compare_run(file: &[u8], at: usize, ran: Ran, out: &[u8]) -> Step

@@ -1,6 +1,6 @@
 // What the store gives, beside what is recorded.
+use run::Ran;
 use store::Rolled;
-use stream::Ran;
 ghost use mathlib.Core.Path.{_≡_};
 ghost use mathlib.Core.Bool.{true};
 ghost use Prim.Native.Nat.{_+_, _≤_};

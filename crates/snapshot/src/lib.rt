@@ -42,7 +42,7 @@ pub fn snapshot_length(words: &[u32]) -> usize
     requires { ⌜ Sound (now words) ⌝ }
     ensures { λ r. ⌜ r ≡ length (snapshot (meaning (now (words .entry)))) ⌝ }
 {
-    let live = state::entities::live_len(words);
+    let live = control::entities::live_len(words);
     4 + 9 * (live + count_components(words))
 }
 
@@ -138,7 +138,7 @@ fn write_index(words: &[u32], list: &[u8], index: usize, out: &mut [u8], at: usi
     requires { ⌜ at + length (indexBytes (now words) index) ≤ length (now out) ⌝ }
     ensures { λ r. ⌜ Wrote (now (out .entry)) (now (out .exit)) at r (indexBytes (now (words .entry)) index) ⌝ }
 {
-    let version = state::entities::version_at(words, index);
+    let version = control::entities::version_at(words, index);
     if version == 0 {
         return at;
     }
@@ -152,7 +152,7 @@ fn write_entities(words: &[u32], list: &[u8], out: &mut [u8], at: usize) -> usiz
     requires { ⌜ at + length (flat (listing (meaning (now words)))) ≤ length (now out) ⌝ }
     ensures { λ r. ⌜ Wrote (now (out .entry)) (now (out .exit)) at r (flat (listing (meaning (now (words .entry))))) ⌝ }
 {
-    let issued = state::entities::issued(words);
+    let issued = control::entities::issued(words);
     let mut next = at;
     for index in 0..issued {
         next = write_index(words, list, index, out, next);
@@ -168,7 +168,7 @@ pub fn write_snapshot(words: &[u32], out: &mut [u8]) -> usize
 {
     let mut list = [0u8; 128];
     let count = rising_kinds(words, &mut list);
-    let live = state::entities::live_len(words);
+    let live = control::entities::live_len(words);
     codec::put_u32(out, 0, live as u32);
     write_entities(words, &list[..count], out, 4)
 }

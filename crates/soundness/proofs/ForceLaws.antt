@@ -11,17 +11,17 @@ use Rattle.model.specs.Sound.{key}
 use Rattle.model.proofs.Walk.{all-in}
 use Rattle.model.proofs.KindLists.{not-true, all-true}
 use Rattle.words.specs.Part.{between, getD-between}
-use Rattle.columns.specs.Columns.{rowsOf, Columns}
-use Rattle.columns.proofs.Slots.{lent}
+use Rattle.component.specs.Columns.{rowsOf, Columns}
+use Rattle.component.proofs.Parts.{lent}
 use Rattle.layout.specs.Layout.{Arrays, startOf, widthOf, WellFormed}
 use Rattle.layout.proofs.Arrays.{kinds-inside}
 use Rattle.memory.specs.Header.{capacityOf, registeredOf, slotOf, countAt}
 use Rattle.memory.specs.Meaning.{ownAt, localAt, setsIn}
 use Rattle.memory.specs.Arranged.{Arranged, Registered, GroupSound, priorArity, memberAt}
 use Rattle.memory.proofs.Becomes.{set-in}
-use Rattle.grouping.specs.Spans.{startIn, priorIn, firstAt, fromAt, toAt, KindAt, SpanOk, Force, GroupOf, NewOk}
-use Rattle.clauses.specs.Rows.{keyAt}
-use Rattle.grouping.specs.Counts.{rowsAt, CountOk, GroupCounted}
+use Rattle.sound_groups.specs.Spans.{startIn, priorIn, firstAt, fromAt, toAt, KindAt, SpanOk, Force, GroupOf, NewOk}
+use Rattle.sound_columns.specs.Rows.{keyAt}
+use Rattle.sound_groups.specs.Counts.{rowsAt, CountOk, GroupCounted}
 use Rattle.soundness.specs.Groups.{GroupOk}
 use Rattle.soundness.specs.ByNumber.{newAt, priorCount, GroupAt}
 use Rattle.soundness.proofs.WordLaws.{Reads, group-start, prior-count, start-width, member-word, group-few, arity-most, arity-fits, first-is, from-is, to-is, new-at, at-new}

@@ -18,7 +18,7 @@ use Rattle.model.proofs.SparseSets.{entity-eq}
 use Rattle.words.specs.Table.{by-eq, table, length-table, getD-table}
 use Rattle.model.proofs.KindLists.{not-true, at-in}
 use Rattle.soundness.proofs.GroupLaws.{count-at}
-use Rattle.clauses.proofs.ListLaws.{in-at, new-distinct}
+use Rattle.sound_columns.proofs.ListLaws.{in-at, new-distinct}
 
 -- the table and the columns' heads point to each other; there are fewer columns than 255
 pub record Tabled (reg : ℕ) (kindAt slotOf : ℕ → ℕ) : Type 0 where

@@ -20,28 +20,28 @@ use Rattle.words.specs.Offsets.{columnStart, columnStart-mono}
 use Rattle.words.specs.Part.{between, getD-between, length-between}
 use Rattle.words.specs.Table.{table}
 use Rattle.component.specs.SparseSet.{Sound, lengthOf}
-use Rattle.component.specs.Checks.{Each}
+use Rattle.words.specs.Decides.{Each}
 use Rattle.component.proofs.Meaning.{length-rows, empty-rows}
-use Rattle.columns.specs.Columns.{columnOf, rowsOf, Columns, Lent}
-use Rattle.columns.proofs.Slots.{lent}
+use Rattle.component.specs.Columns.{columnOf, rowsOf, Columns, Lent}
+use Rattle.component.proofs.Parts.{lent}
 use Rattle.entity.specs.Meaning as entity
 use Rattle.entity.specs.Change.{entityPart, entitiesIn}
 use Rattle.entity.proofs.Lookups.{issued-is}
 use Rattle.entity.proofs.Numbering.{entities-ok}
 use Rattle.layout.specs.Layout.{Arrays, blockArrays, widthOf, groupCount, familiesOf, WellFormed}
 use Rattle.layout.proofs.Arrays.{layout-kinds, block-sized}
-use Rattle.blocks.specs.Checks.{BlockSound, KindsOk}
-use Rattle.blocks.proofs.Buildable.{block-buildable, uncounted}
+use Rattle.layout_block.specs.Checks.{BlockSound, KindsOk}
+use Rattle.layout_block.proofs.Buildable.{block-buildable, uncounted}
 use Rattle.memory.specs.Header.{capacityOf, kindCapacityOf, registeredOf, stagedLen, excludedLen, draftFamilies, draftGroups, layoutFamilies, layoutGroups, slotOf, stagedLowAt, stagedHighAt, groupFamilyAt}
 use Rattle.memory.specs.Meaning.{kindAt, kindsIn, setsIn, draftArrays, layoutArrays, draftIn, layoutIn, stagedAt, stagedIn, excludedIn, meaning}
 use Rattle.memory.specs.Arranged.{TableSound, Registered, LayoutSound, Arranged, Sound as StoreSound}
 use Rattle.memory.proofs.Frames.{start-header}
-use Rattle.clauses.specs.Slots.{Room, headAt}
-use Rattle.clauses.specs.Table.{TableOk}
-use Rattle.clauses.specs.Rows.{entityIn, RowLive, ColumnOk}
-use Rattle.clauses.specs.Listed.{ListOk}
-use Rattle.grouping.specs.Spans.{startIn, Force, HeadsOk, OwnOk}
-use Rattle.clauses.proofs.SlotLaws.{room-long, room-less, key-word}
+use Rattle.sound_columns.specs.Slots.{Room, headAt}
+use Rattle.sound_columns.specs.Table.{TableOk}
+use Rattle.sound_columns.specs.Rows.{entityIn, RowLive, ColumnOk}
+use Rattle.sound_columns.specs.Listed.{ListOk}
+use Rattle.sound_groups.specs.Spans.{startIn, Force, HeadsOk, OwnOk}
+use Rattle.sound_columns.proofs.SlotLaws.{room-long, room-less, key-word}
 use Rattle.soundness.specs.Parts.{SizeOk, PartsOk, ListsOk, LayoutOk, CountsOk}
 use Rattle.soundness.proofs.TableLaws.{Tabled, registered-slot, registered-small, slot-registered, kinds-sound, sets-sound, sets-alive}
 use Rattle.soundness.proofs.ColumnLaws.{rows-once, rows-values, value-eight, between-below}

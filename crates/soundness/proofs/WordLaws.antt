@@ -16,8 +16,8 @@ use Rattle.layout.proofs.Family.{rising-at}
 use Rattle.layout.proofs.Arrays.{bounds, kinds-inside, kinds-length, arities-length, block-sized}
 use Rattle.memory.specs.Meaning.{layoutArrays}
 use Rattle.memory.specs.Arranged.{priorArity, memberAt}
-use Rattle.grouping.specs.Spans.{startIn, priorIn, firstAt, fromAt, toAt}
-use Rattle.clauses.proofs.ListLaws.{in-at}
+use Rattle.sound_groups.specs.Spans.{startIn, priorIn, firstAt, fromAt, toAt}
+use Rattle.sound_columns.proofs.ListLaws.{in-at}
 use Rattle.soundness.specs.ByNumber.{newAt, priorCount}
 
 -- ---- a block's arrays

@@ -6,16 +6,16 @@ use lib.ListN.{length}
 use Rattle.model.specs.Sound.{Limits}
 use Rattle.words.specs.Offsets.{columnStart}
 use Rattle.words.specs.Part.{between}
-use Rattle.component.specs.Checks.{Each}
+use Rattle.words.specs.Decides.{Each}
 use Rattle.entity.specs.Meaning as entity
 use Rattle.entity.specs.Change.{entityPart}
-use Rattle.blocks.specs.Checks.{BlockSound}
+use Rattle.layout_block.specs.Checks.{BlockSound}
 use Rattle.memory.specs.Header.{capacityOf, kindCapacityOf, registeredOf, stagedLen, excludedLen, draftFamilies, draftGroups, layoutFamilies, layoutGroups}
-use Rattle.clauses.specs.Table.{TableOk}
-use Rattle.clauses.specs.Rows.{ColumnOk}
-use Rattle.clauses.specs.Listed.{ListOk}
-use Rattle.grouping.specs.Spans.{startIn, HeadsOk, OwnOk}
-use Rattle.grouping.specs.Counts.{CountedOk}
+use Rattle.sound_columns.specs.Table.{TableOk}
+use Rattle.sound_columns.specs.Rows.{ColumnOk}
+use Rattle.sound_columns.specs.Listed.{ListOk}
+use Rattle.sound_groups.specs.Spans.{startIn, HeadsOk, OwnOk}
+use Rattle.sound_groups.specs.Counts.{CountedOk}
 
 -- "N and K within the limits of refusal 1, enough words for them"
 pub record SizeOk (n k : ℕ) (w : List ℕ) : Type 0 where

@@ -1,12 +1,12 @@
 // Whether lent words are a sound store (01), in time linear in the words.
-use blocks::block_ok;
-use clauses::lists::is_list;
-use clauses::slots::are_columns;
-use clauses::table::is_table;
-use grouping::counts::are_counts;
-use grouping::heads::are_heads;
-use grouping::heads::are_own;
-use grouping::heads::start_in;
+use layout_block::block_ok;
+use sound_columns::lists::is_list;
+use sound_columns::slots::are_columns;
+use sound_columns::table::is_table;
+use sound_groups::counts::are_counts;
+use sound_groups::heads::are_heads;
+use sound_groups::heads::are_own;
+use sound_groups::heads::start_in;
 use words::CAPACITY;
 use words::DRAFT;
 use words::DRAFT_FAMILIES;
@@ -61,7 +61,7 @@ fn has_parts(words: &[u32], n: usize, k: usize) -> bool
     if !is_table(words, n, k) {
         return false;
     }
-    if !entity::in_words::is_sound_in(words, n) {
+    if !sound_entities::is_sound_in(words, n) {
         return false;
     }
     if !are_columns(words, n, k, words[REGISTERED] as usize) {

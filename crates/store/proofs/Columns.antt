@@ -22,8 +22,8 @@ use Rattle.words.specs.Offsets.{columnStart, columnStart-fits}
 use Rattle.component.specs.SparseSet.{lengthOf, rowAt, valueOf, rows}
 use Rattle.component.proofs.Meaning.{length-rows, getD-rows}
 use Rattle.words.specs.Decides.{Decides}
-use Rattle.columns.specs.Columns.{columnOf}
-use Rattle.columns.proofs.Slots.{getD-column}
+use Rattle.component.specs.Columns.{columnOf}
+use Rattle.component.proofs.Parts.{getD-column}
 use Rattle.memory.specs.Header.{capacityOf, slotOf}
 use Rattle.memory.specs.Meaning.{meaning}
 use Rattle.memory.specs.Arranged.{Arranged, Sound}

@@ -28,7 +28,7 @@ use Rattle.model.proofs.Snapshots.{snapshots-of-sound}
 use Rattle.words.specs.Decides.{Decides}
 use Rattle.memory.specs.Meaning.{meaning}
 use Rattle.memory.specs.Arranged.{Sound}
-use Rattle.stream.specs.declared.Ran.{Ran}
+use Rattle.run.specs.declared.Ran.{Ran}
 use Rattle.snapshot.proofs.Rolled.{roll-fits}
 use Rattle.store.specs.declared.Rolled.{Rolled}
 use Rattle.store.specs.Entries.{startNumber, StartLeaves, Starts, columnRefused, ColumnNumbered, columnWords, partPlace, ColumnPart, ranOf, RunLeaves, Runs, rolledOf, rollNumber, rollBytes, Rolls}

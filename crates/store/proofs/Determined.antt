@@ -17,7 +17,7 @@ use Rattle.model.specs.Sound.{Limits}
 use Rattle.words.specs.Decides.{Decides}
 use Rattle.memory.specs.Meaning.{meaning}
 use Rattle.memory.specs.Arranged.{Sound}
-use Rattle.stream.specs.declared.Ran.{Ran}
+use Rattle.run.specs.declared.Ran.{Ran}
 use Rattle.store.specs.declared.Rolled.{Rolled}
 use Rattle.store.specs.Entries.{Needs, startNumber, StartLeaves, Starts, columnRefused, ColumnNumbered, columnWords, partPlace, ColumnPart, ranOf, Answered, RunLeaves, Runs, rolledOf, rollNumber, rollBytes, Rolls}
 use Rattle.store.proofs.Starting.{start-number}

@@ -9,8 +9,8 @@ use Rattle.model.specs.Run.{run}
 use Rattle.memory.specs.Header.{capacityOf, kindCapacityOf}
 use Rattle.memory.specs.Meaning.{meaning}
 use Rattle.memory.specs.Arranged.{Sound}
-use Rattle.stream.specs.Stream.{Completed}
-use Rattle.stream.specs.declared.Ran.{Ran}
+use Rattle.run.specs.Stream.{Completed}
+use Rattle.run.specs.declared.Ran.{Ran}
 use Rattle.store.specs.Entries.{Runs}
 
 -- the words needed, of the store and of the header

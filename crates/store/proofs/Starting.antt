@@ -16,7 +16,7 @@ use Rattle.model.proofs.Operations.{empty-sound}
 use Rattle.model.proofs.Lines.{first-exact, first-number}
 use Rattle.model.proofs.Entries.{start-exact, start-makes}
 use Rattle.memory.specs.Arranged.{Sound}
-use Rattle.start.specs.Fresh.{Made}
+use Rattle.memory.specs.Fresh.{Made}
 use Rattle.store.specs.Entries.{Starts}
 
 -- the test of refusal 1

@@ -8,7 +8,7 @@ use Rattle.model.specs.Commands.{Command, width, commandAt, accepted}
 use Rattle.model.specs.Refusals.{NoneHolds, First, Ready, beforeLines, linesOf}
 use Rattle.memory.specs.Meaning.{meaning}
 use Rattle.memory.specs.Arranged.{Sound, Becomes}
-use Rattle.stream.specs.declared.Ran.{Ran}
+use Rattle.run.specs.declared.Ran.{Ran}
 use Rattle.store.specs.Entries.{Starts, Runs}
 
 -- what the lines before a command are told: its byte, the tape after it, the free answer bytes, and the store that the words mean

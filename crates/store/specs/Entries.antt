@@ -18,8 +18,8 @@ use Rattle.words.specs.Decides.{Decides}
 use Rattle.memory.specs.Header.{capacityOf, slotOf}
 use Rattle.memory.specs.Meaning.{meaning}
 use Rattle.memory.specs.Arranged.{Sound}
-use Rattle.stream.specs.Stream.{Traced}
-use Rattle.stream.specs.declared.Ran.{Ran}
+use Rattle.run.specs.Stream.{Traced}
+use Rattle.run.specs.declared.Ran.{Ran}
 use Rattle.store.specs.declared.Rolled.{Rolled}
 
 -- ---- how many words to lend

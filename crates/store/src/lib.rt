@@ -1,7 +1,7 @@
 // The public entries of document 01: *start*, *run*, *column* and its number, *roll*. None asks anything of its caller.
 pub mod exports;
 
-use stream::Ran;
+use run::Ran;
 ghost use Prim.Native.Nat.{_≤_};
 ghost use lib.ListN.{length};
 ghost use Rattle.model.specs.Sound.{Limits, In};
@@ -72,7 +72,7 @@ pub fn start(words: &mut [u32], n: usize, k: usize) -> u8
     if words.len() < model::words_needed(n, k) {
         return SHORT;
     }
-    start::make(words, n, k);
+    memory::empty::make(words, n, k);
     0
 }
 
@@ -88,7 +88,7 @@ pub fn run(words: &mut [u32], tape: &[u8], out: &mut [u8]) -> Ran
             written: 0,
         };
     }
-    stream::run_sound(words, tape, out)
+    run::run_sound(words, tape, out)
 }
 
 // Why column refuses, 0 where it does not.
@@ -121,8 +121,8 @@ fn row_start(words: &[u32], kind: usize, values: bool, place: usize) -> usize
     requires { ⌜ place ≤ length (kindSet (now words) kind) ⌝ }
     ensures { λ r. ⌜ RowStart values (now (words .entry)) kind place r ⌝ }
 {
-    let n = memory::word(words, words::CAPACITY);
-    let slot = memory::word(words, words::TABLE + kind);
+    let n = words::word(words, words::CAPACITY);
+    let slot = words::word(words, words::TABLE + kind);
     let entities = words::column_start(n, slot) + HEAD;
     if values {
         return entities + 2 * n + 2 * place;

@@ -15,7 +15,7 @@ use Rattle.codec.proofs.Numbers.{sets-join}
 use Rattle.memory.specs.Meaning.{meaning}
 use Rattle.memory.specs.Arranged.{Sound}
 use Rattle.words.specs.Decides.{Decides}
-use Rattle.stream.specs.declared.Ran as stream
+use Rattle.run.specs.declared.Ran as stream
 use Rattle.store.specs.Entries.{StartLeaves, Starts, ranOf, Answered, Runs}
 use Rattle.tape.specs.Output.{numbers, ranOn, output, Served}
 

@@ -2,12 +2,17 @@
 -- ends in `return false;` .. `true` has most of its answers found by search. Assumes nothing.
 use mathlib.Core.Bool.{Bool, true, false, not}
 use mathlib.Core.Path.{_≡_, subst}
+use Prim.Native.Nat.{ℕ, _<_}
 use borrow.Author.Tests.{not-true, not-false}
 
 -- true: P holds; false: it does not
 abbrev pub Decides : Bool → Type 0 → Type 0
 Decides true P = P
 Decides false P = P → ⊥
+
+-- P of each number below k
+abbrev pub Each : ℕ → (ℕ → Type 0) → Type 0
+Each k P = (i : ℕ) → i < k → P i
 
 -- a caller's `if check(..) {`: b is the call's result, to be written out
 pub yes-of : {P : Type 0} (b : Bool) → Decides b P → b ≡ true → P

@@ -1,8 +1,10 @@
 // The arrangement of the lent words (docs/WORDS.md): the offsets of the header, of a layout's block and of a column's head, and where the columns start.
 // The offsets inside the entity part and past a column's head are with the crates `entity` and `component`.
 ghost use mathlib.Core.Path.{_≡_};
-ghost use Prim.Native.Nat.{_≤_};
+ghost use Prim.Native.Nat.{_<_, _≤_};
+ghost use lib.ListN.{length};
 ghost use Rattle.words.specs.Offsets.{columnStart};
+ghost use Rattle.words.specs.Word.{Word};
 
 // The header: capacity, most kinds, kinds registered, lengths of the lists.
 pub const CAPACITY: usize = 0;
@@ -71,4 +73,12 @@ pub fn column_start(n: usize, k: usize) -> usize
     ensures { λ r. ⌜ r ≡ columnStart n k ⌝ }
 {
     1024 + 16 * n + k * (8 + 6 * n)
+}
+
+// The word at i, as a number for counting.
+pub fn word(words: &[u32], i: usize) -> usize
+    requires { ⌜ i < length (now words) ⌝ }
+    ensures { λ r. ⌜ Word (now (words .entry)) i r ⌝ }
+{
+    words[i] as usize
 }

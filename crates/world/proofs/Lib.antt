@@ -1,1 +1,10 @@
-pub mod Sounding
+pub mod Inserting
+pub mod Removing
+pub mod Zeroing
+pub mod Owning
+pub mod Masking
+pub mod Live
+pub mod Whole
+pub mod Taking
+pub mod Kept
+pub mod Lifetimes

@@ -2,12 +2,11 @@ use mathlib.Core.Path.{sym, subst}
 use Prim.Native.Nat.{ℕ, _+_, _-_}
 use native.Mathlib.Omega.{arith}
 use borrow.Author.Needs.{needs}
-use Rattle.words.specs.Decides.{granted, denied}
+use Rattle.words.specs.Decides.{granted, denied, Each}
 use Rattle.words.specs.Part.{between}
-use Rattle.blocks.specs.Checks.{BlockSound}
+use Rattle.layout_block.specs.Checks.{BlockSound}
 use Rattle.memory.specs.Header.{capacityOf, kindCapacityOf, registeredOf, layoutFamilies, layoutGroups}
-use Rattle.component.specs.Checks.{Each}
-use Rattle.grouping.specs.Spans.{HeadsOk, OwnOk}
+use Rattle.sound_groups.specs.Spans.{HeadsOk, OwnOk}
 use Rattle.soundness.proofs.Whole.{size-long, forced, groups-few, own-room, own-heads, own-width, own-kinds}
 use Rattle.soundness.proofs.has_layout.Statement.{statement}
 use Rattle.soundness.proofs.has_layout.Tie as tie

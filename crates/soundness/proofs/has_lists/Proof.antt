@@ -3,9 +3,9 @@ use native.Mathlib.Omega.{arith}
 use borrow.Author.Needs.{needs}
 use Rattle.words.specs.Decides.{granted, denied}
 use Rattle.words.specs.Part.{between}
-use Rattle.blocks.specs.Checks.{BlockSound}
+use Rattle.layout_block.specs.Checks.{BlockSound}
 use Rattle.memory.specs.Header.{stagedLen, excludedLen, draftFamilies, draftGroups}
-use Rattle.clauses.specs.Listed.{ListOk}
+use Rattle.sound_columns.specs.Listed.{ListOk}
 use Rattle.soundness.proofs.has_lists.Statement.{statement}
 use Rattle.soundness.proofs.has_lists.Tie as tie
 

@@ -1,12 +1,11 @@
 use Prim.Native.Nat.{_-_}
 use native.Mathlib.Omega.{arith}
-use Rattle.words.specs.Decides.{granted, denied}
+use Rattle.words.specs.Decides.{granted, denied, Each}
 use Rattle.entity.specs.Meaning as entity
 use Rattle.entity.specs.Change.{entityPart}
-use Rattle.component.specs.Checks.{Each}
 use Rattle.memory.specs.Header.{registeredOf}
-use Rattle.clauses.specs.Table.{TableOk}
-use Rattle.clauses.specs.Rows.{ColumnOk}
+use Rattle.sound_columns.specs.Table.{TableOk}
+use Rattle.sound_columns.specs.Rows.{ColumnOk}
 use Rattle.soundness.proofs.Whole.{size-room, size-long, size-entities}
 use Rattle.soundness.proofs.has_parts.Statement.{statement}
 use Rattle.soundness.proofs.has_parts.Tie as tie

@@ -3,7 +3,7 @@ use native.Mathlib.Omega.{arith}
 use borrow.Author.Needs.{needs}
 use Rattle.memory.specs.Arranged.{Sound}
 use Rattle.words.specs.Decides.{granted, denied}
-use Rattle.stream.proofs.Steps.{bytes-all}
+use Rattle.run.proofs.Steps.{bytes-all}
 use Rattle.store.proofs.Running.{refused-run, completed-run}
 use Rattle.store.proofs.run.Statement.{statement}
 use Rattle.store.proofs.run.Tie as tie

@@ -1,7 +1,7 @@
 -- `world::create` meets its contract. Assumes nothing.
 use borrow.Author.Needs.{needs}
 use Rattle.entity.specs.Answers.{entityOf}
-use Rattle.world.proofs.Sounding.{create-leaves, new-live, created-leaves}
+use Rattle.world.proofs.Lifetimes.{create-sounds, new-live, created-whole}
 use Rattle.world.proofs.create.Statement.{statement}
 use Rattle.world.proofs.create.Tie as tie
 
@@ -13,7 +13,7 @@ insert-requires c κs =
     let s = c .before .before .before .before .before .before in
     let w = s .args .words .now in
     let m = c .before .before .before .create in
-    (create-leaves w (s .pre .0) (s .pre .1) (m .last .0) (entityOf (m .result)) (m .ensures .entity) (m .ensures .becomes), new-live w (s .pre .0) (s .pre .1) (m .last .0) (entityOf (m .result)) (m .ensures .entity) (m .ensures .becomes))
+    (create-sounds w (s .pre .0) (s .pre .1) (m .last .0) (entityOf (m .result)) (m .ensures .entity) (m .ensures .becomes), new-live w (s .pre .0) (s .pre .1) (m .last .0) (entityOf (m .result)) (m .ensures .entity) (m .ensures .becomes))
 
 returns : tie.Need-returns
 returns c =
@@ -21,7 +21,7 @@ returns c =
     let w = s .args .words .now in
     let m = c .before .before .before .before .before .before .create in
     record {
-      leaves = created-leaves w (s .pre .0) (s .pre .1) (m .last .0) (entityOf (m .result)) (m .ensures .entity) (m .ensures .becomes) (c .before .before .insert .last .0) (c .before .before .insert .ensures);
+      becomes = created-whole w (s .pre .0) (s .pre .1) (m .last .0) (entityOf (m .result)) (m .ensures .entity) (m .ensures .becomes) (c .before .before .insert .last .0) (c .before .before .insert .ensures);
       entity = m .ensures .entity;
     }
 

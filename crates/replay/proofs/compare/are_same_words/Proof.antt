@@ -3,8 +3,8 @@ use mathlib.Core.Path.{_≡_, sym, _∙_}
 use native.Mathlib.Omega.{arith}
 use borrow.Author.Needs.{needs}
 use lib.ListN.{length}
-use Rattle.component.specs.Checks.{Each}
-use Rattle.component.proofs.Checking.{each-more}
+use Rattle.words.specs.Decides.{Each}
+use borrow.Author.Count.{below-more}
 use Rattle.replay.proofs.Comparing.{WordOk, four-each, four-apart, fourth-apart}
 use Rattle.replay.proofs.compare.are_same_words.Statement.{statement}
 use Rattle.replay.proofs.compare.are_same_words.Tie as tie
@@ -31,7 +31,7 @@ returns-3 : tie.Need-returns-3 Inv-loop μ-loop
 returns-3 c = λ g. c .if3 .taken (g .each (c .before .before .before .before .loop .i) (c .before .before .before .loop-test .taken) ∙ sym (c .before .get-u32 .ensures))
 
 loop-again : tie.Need-loop-again Inv-loop μ-loop
-loop-again c = (omega arith, (c .before .before .before .before .loop .inv .1 .0, each-more _ (c .before .before .before .before .loop .i) (c .before .before .before .before .loop .inv .1 .1) (c .if3 .left ∙ c .before .get-u32 .ensures)))
+loop-again c = (omega arith, (c .before .before .before .before .loop .inv .1 .0, below-more _ (c .before .before .before .before .loop .i) (c .before .before .before .before .loop .inv .1 .1) (c .if3 .left ∙ c .before .get-u32 .ensures)))
 
 returns-4 : tie.Need-returns-4 Inv-loop μ-loop
 returns-4 c = record { size = c .before .loop .inv .1 .0; each = λ i h. c .before .loop .inv .1 .1 i (omega (arith, c .loop-test .left)) }

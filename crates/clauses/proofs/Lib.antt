@@ -1,2 +1,0 @@
-pub mod ListLaws
-pub mod SlotLaws

@@ -1,4 +1,0 @@
-pub mod Slots
-pub mod Table
-pub mod Rows
-pub mod Listed

@@ -1,4 +1,0 @@
-pub mod Slots
-pub mod Several
-pub mod Frames
-pub mod Fresh

@@ -1,0 +1,52 @@
+// NEW and KILL: an entity comes, or goes.
+use command::answers::DEAD;
+use command::answers::FULL;
+use command::answers::ack;
+use command::answers::ack_number;
+use command::answers::refuse;
+use entity::Found;
+ghost use mathlib.Core.List.{_∷_, _++_};
+ghost use Prim.Native.Nat.{_+_, _≤_};
+ghost use lib.ListN.{length};
+ghost use Rattle.model.specs.Store.{le};
+ghost use Rattle.model.specs.Commands.{NEW, KILL};
+ghost use Rattle.model.specs.Run.{does};
+ghost use Rattle.component.specs.SparseSet.{entity};
+ghost use Rattle.memory.specs.Meaning.{meaning};
+ghost use Rattle.command.specs.Acted.{Ready, Written, Acted};
+
+// KILL: a live entity goes, with all its components. The staged ones stay.
+pub fn kill(words: &mut [u32], index: u32, version: u32, out: &mut [u8], at: usize) -> usize
+    requires { ⌜ Ready (now words) (now out) at (KILL (entity index version)) ⌝ }
+    ensures { λ r. ⌜ Acted (now (words .entry)) (now (words .exit)) (now (out .entry)) (now (out .exit)) at r (does (KILL (entity index version)) (meaning (now (words .entry)))) ⌝ }
+{
+    let found = control::entities::get(words, index, version);
+    let Found::At(place) = found else {
+        return refuse(words, out, at, DEAD);
+    };
+    world::destroy(words, place, index, version);
+    ack(out, at)
+}
+
+// Accepted, with an entity to tell.
+fn ack_entity(out: &mut [u8], at: usize, index: u32, version: u32) -> usize
+    requires { ⌜ at + 9 ≤ length (now out) ⌝ }
+    ensures { λ r. ⌜ Written (now (out .entry)) (now (out .exit)) at r (0 ∷ le 4 index ++ le 4 version) ⌝ }
+{
+    ack_number(out, at, index);
+    codec::put_u32(out, at + 5, version);
+    9
+}
+
+// NEW: an entity with the staged components.
+pub fn new(words: &mut [u32], out: &mut [u8], at: usize) -> usize
+    requires { ⌜ Ready (now words) (now out) at NEW ⌝ }
+    ensures { λ r. ⌜ Acted (now (words .entry)) (now (words .exit)) (now (out .entry)) (now (out .exit)) at r (does NEW (meaning (now (words .entry)))) ⌝ }
+{
+    if control::entities::is_full(words) {
+        return refuse(words, out, at, FULL);
+    }
+    let e = world::create(words);
+    control::staged::clear_staged(words);
+    ack_entity(out, at, e.index, e.version)
+}

@@ -1,0 +1,77 @@
+-- `command_group::group` meets its contract: one arm for each outcome of the draft by value. Assumes nothing.
+use native.Mathlib.Omega.{arith}
+use borrow.Author.Needs.{needs}
+use Rattle.layout.specs.declared.group_layout.Outcome.the-variants as outcome
+use Rattle.memory.specs.Meaning.{meaning}
+use Rattle.command.proofs.Acts.{refused-by, accepted-by}
+use Rattle.command_group.proofs.Outcomes.{group-as, drafted-emptied}
+use Rattle.command_group.proofs.group.Statement.{statement}
+use Rattle.command_group.proofs.group.Tie as tie
+
+refuse-requires : tie.Need-refuse-requires
+refuse-requires c κs = let s = c .before .before .before .before .before .before .before .before in (s .pre .sound .arranged, omega (arith, s .pre .room))
+
+refuse-requires-2 : tie.Need-refuse-requires-2
+refuse-requires-2 c κs = let s = c .before .before .before .before .before .before .before .before in (s .pre .sound .arranged, omega (arith, s .pre .room))
+
+refuse-requires-3 : tie.Need-refuse-requires-3
+refuse-requires-3 c κs = let s = c .before .before .before .before .before .before .before .before in (s .pre .sound .arranged, omega (arith, s .pre .room))
+
+returns : tie.Need-returns
+returns c =
+    let r = c .before .before .before .before .before .before .before .before .before .before .add-staged in
+    accepted-by (group-as (meaning (c .before .before .before .before .before .before .before .before .before .before .before .before .before .before .args .words .now)) (r .result) outcome.Nothing (r .ensures) (c .before .before .before .before .before .before .before .before .enum-told .given .1)) (c .before .before .before .before .before .before .clear-staged .ensures) (c .before .before .ack-byte .ensures)
+
+returns-2 : tie.Need-returns-2
+returns-2 c =
+    let r = c .before .before .before .before .before .before .before .before .before .before .before .before .before .before .before .add-staged in
+    accepted-by (group-as (meaning (c .before .before .before .before .before .before .before .before .before .before .before .before .before .before .before .before .before .before .before .args .words .now)) (r .result) outcome.Added (r .ensures) (c .before .before .before .before .before .before .before .before .before .before .before .before .before .enum-told2 .given .1)) (drafted-emptied (r .result .layout) (c .before .before .before .before .before .before .before .before .before .before .set-draft .ensures) (c .before .before .before .before .before .before .clear-staged2 .ensures)) (c .before .before .ack-byte2 .ensures)
+
+returns-3 : tie.Need-returns-3
+returns-3 c =
+    let r = c .before .before .before .before .before .before .before .before .before .add-staged in
+    refused-by (group-as (meaning (c .before .before .before .before .before .before .before .before .before .before .before .before .before .args .words .now)) (r .result) outcome.Wide (r .ensures) (c .before .before .before .before .before .before .before .enum-told3 .given .1)) (c .before .before .before .before .refuse .ensures)
+
+returns-4 : tie.Need-returns-4
+returns-4 c =
+    let r = c .before .before .before .before .before .before .before .before .before .add-staged in
+    refused-by (group-as (meaning (c .before .before .before .before .before .before .before .before .before .before .before .before .before .args .words .now)) (r .result) outcome.Clash (r .ensures) (c .before .before .before .before .before .before .before .enum-told4 .given .1)) (c .before .before .before .before .refuse2 .ensures)
+
+returns-5 : tie.Need-returns-5
+returns-5 c =
+    let r = c .before .before .before .before .before .before .before .before .before .add-staged in
+    refused-by (group-as (meaning (c .before .before .before .before .before .before .before .before .before .before .before .before .before .args .words .now)) (r .result) outcome.Many (r .ensures) (c .before .before .before .before .before .before .before .enum-told5 .given .1)) (c .before .before .before .before .refuse3 .ensures)
+
+pub group-spec : {M : Type 1} → statement M
+group-spec =
+    tie.close
+    (tie.spec
+    (λ c κs. search needs)
+    (λ c. search needs)
+    (λ c κs. search needs)
+    (λ c κs. search needs)
+    (λ c. search needs)
+    (λ c κs. search needs)
+    (λ c κs. search needs)
+    (λ c κs. search needs)
+    (λ c. search needs)
+    refuse-requires
+    (λ c. search needs)
+    refuse-requires-2
+    (λ c. search needs)
+    refuse-requires-3
+    (λ c. search needs)
+    (λ c. search needs)
+    returns
+    (λ c. search needs)
+    (λ c. search needs)
+    returns-2
+    (λ c. search needs)
+    (λ c. search needs)
+    returns-3
+    (λ c. search needs)
+    (λ c. search needs)
+    returns-4
+    (λ c. search needs)
+    (λ c. search needs)
+    returns-5)

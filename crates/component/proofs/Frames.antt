@@ -1,0 +1,70 @@
+-- Changes of other words than the rows': of those before the columns, and of a slot's words 1 to 7. Assumes nothing.
+use mathlib.Core.Path.{_≡_, ap, _∙_}
+use mathlib.Core.Logic.{_≢_}
+use mathlib.Core.List.{List}
+use Prim.Native.Nat.{ℕ, _+_, _*_, _-_, _≤_, _<_}
+use native.Mathlib.Omega.{arith}
+use lib.ListN.{length, getD, set, take, drop, length-set}
+use lib.Seq.{take-set-le, take-set-lt, drop-set-lt, drop-set-add, getD-set-same, getD-set-other}
+use Rattle.words.specs.Table.{by-eq}
+use Rattle.words.specs.Part.{between-rest}
+use Rattle.words.specs.Offsets.{columnStart, columnStart-mono}
+use Rattle.component.specs.SparseSet.{rows}
+use Rattle.component.proofs.Meaning.{head-sound, head-rows}
+use Rattle.component.specs.Columns.{columnOf, rowsOf, Columns}
+use Rattle.component.proofs.Parts.{others-kept, front-kept, past-kept, columns-kept}
+
+-- ---- words that agree from the first column on
+
+module _ (n : ℕ) (w w′ : List ℕ) (same : drop (columnStart n 0) w′ ≡ drop (columnStart n 0) w) where
+  pub front-column : (s : ℕ) → columnOf n s w′ ≡ columnOf n s w
+  unfolding columnOf
+  front-column s =
+      between-rest (columnStart n 0) (columnStart n s) (columnStart n s + (8 + 6 * n)) w w′ (columnStart-mono n 0 s (omega arith)) same
+
+  pub front-columns : (m : ℕ) → length w′ ≡ length w → Columns n m w → Columns n m w′
+  front-columns m size c =
+      record { small = c .small; few = c .few; size = omega (arith, size, c .size); columns = λ s h. rw (front-column s) (c .columns s h) }
+
+-- ---- one of slot s's words 1 to 7 set
+
+pub record Headed (n m s i v : ℕ) (w w′ : List ℕ) : Type 0 where
+  pub columns : Columns n m w′
+  pub size : length w′ ≡ length w
+  pub same : (j : ℕ) → j < m → rowsOf n j w′ ≡ rowsOf n j w
+  pub word : getD (columnOf n s w′) i 0 ≡ v
+  pub words : (k : ℕ) → k ≢ i → getD (columnOf n s w′) k 0 ≡ getD (columnOf n s w) k 0
+  pub others : (j : ℕ) → j < m → j ≢ s → columnOf n j w′ ≡ columnOf n j w
+  pub front : take (columnStart n 0) w′ ≡ take (columnStart n 0) w
+  pub past : drop (columnStart n m) w′ ≡ drop (columnStart n m) w
+
+set-column : (n s i v : ℕ) (w : List ℕ) → i < 8 → columnOf n s (set w (columnStart n s + i) v) ≡ set (columnOf n s w) i v
+unfolding columnOf
+set-column n s i v w h =
+    let b = columnStart n s in
+    ap (take (b + (8 + 6 * n) - b)) (drop-set-add b w i v) ∙ take-set-lt (b + (8 + 6 * n) - b) (drop b w) i v (omega arith)
+
+pub headed : (n m s i v : ℕ) (w : List ℕ) → Columns n m w → s < m → 1 ≤ i → i < 8 → Headed n m s i v w (set w (columnStart n s + i) v)
+headed n m s i v w c h lo hi =
+    let b = columnStart n s in
+    let w′ = set w (b + i) v in
+    let q = columnOf n s w in
+    let mid : columnOf n s w′ ≡ set q i v = set-column n s i v w hi in
+    let at : getD (set q i v) 0 0 ≡ getD q 0 0 = getD-set-other q i 0 v 0 (omega arith) in
+    let later : (k : ℕ) → 8 ≤ k → getD (set q i v) k 0 ≡ getD q k 0 = λ k hk. getD-set-other q i k v 0 (omega arith) in
+    let size : length w′ ≡ length w = length-set w (b + i) v in
+    let front : take b w′ ≡ take b w = take-set-le b w (b + i) v (omega arith) in
+    let rest : drop (b + (8 + 6 * n)) w′ ≡ drop (b + (8 + 6 * n)) w = drop-set-lt (b + (8 + 6 * n)) w (b + i) v (omega arith) in
+    let others : (j : ℕ) → j < m → j ≢ s → columnOf n j w′ ≡ columnOf n j w = λ j hj ne. others-kept n s w w′ front rest j ne in
+    let sound = head-sound n q (set q i v) (c .columns s h) (length-set q i v) at later in
+    let same = head-rows n q (set q i v) (c .columns s h) (length-set q i v) at later in
+    record {
+      columns = columns-kept n m s w w′ c size (rw mid sound) others;
+      size = size;
+      same = λ j hj. by-eq j s (λ e. rw e (ap (rows n) mid ∙ same)) (λ ne. ap (rows n) (others j hj ne));
+      word = ap (λ (u : List ℕ). getD u i 0) mid ∙ getD-set-same q i v 0 (omega (arith, c .columns s h .size));
+      words = λ k ne. ap (λ (u : List ℕ). getD u k 0) mid ∙ getD-set-other q i k v 0 ne;
+      others = others;
+      front = front-kept n s w w′ front;
+      past = past-kept n m s w w′ h rest;
+    }

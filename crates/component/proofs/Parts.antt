@@ -1,0 +1,104 @@
+-- One slot's part lent on and back: what that leaves of the words. Assumes nothing.
+use mathlib.Core.Path.{_≡_, sym, ap, _∙_}
+use mathlib.Core.Logic.{_≢_}
+use mathlib.Core.List.{List}
+use Prim.Native.Nat.{ℕ, _+_, _*_, _-_, _≤_, _<_}
+use native.Mathlib.Omega.{arith}
+use native.Mathlib.Decide.{decLt}
+use lib.ListN.{length, getD, take, drop}
+use lib.Seq.{take-take, drop-drop}
+use Rattle.model.specs.Model.{SparseSet}
+use Rattle.words.specs.Table.{by-eq}
+use Rattle.words.specs.Part.{between, patch, getD-between, between-front, between-rest, patch-front, patch-between, patch-rest, patch-length}
+use Rattle.words.specs.Offsets.{columnStart, columnStart-apart, columnStart-mono}
+use Rattle.component.specs.SparseSet.{rows, Sound, Changed}
+use Rattle.component.specs.Columns.{columnOf, Columns, Lent, Only}
+
+pub lent : (n m s : ℕ) (w : List ℕ) → Columns n m w → s < m → Lent n s w
+lent n m s w c h =
+    record {
+      small = c .small;
+      few = omega (arith, c .few);
+      size = omega (arith, columnStart-apart n s m h, c .size);
+      sound = c .columns s h;
+    }
+
+-- a word of slot s, among all words
+pub getD-column : (n s i : ℕ) (w : List ℕ) → i < 8 + 6 * n → getD (columnOf n s w) i 0 ≡ getD w (columnStart n s + i) 0
+unfolding columnOf
+getD-column n s i w h = getD-between (columnStart n s) (columnStart n s + (8 + 6 * n)) i w 0 (omega arith)
+
+-- ---- words that agree up to b agree up to a ≤ b, and those that agree from e on agree from c ≥ e on
+
+take-less : (a b : ℕ) (w v : List ℕ) → a ≤ b → take b v ≡ take b w → take a v ≡ take a w
+take-less a b w v h e = sym (take-take a b v h) ∙ ap (take a) e ∙ take-take a b w h
+
+pub drop-later : (e c : ℕ) (w v : List ℕ) → e ≤ c → drop e v ≡ drop e w → drop c v ≡ drop c w
+drop-later e c w v h q = from v ∙ ap (drop (c - e)) q ∙ sym (from w)
+  where
+    from : (u : List ℕ) → drop c u ≡ drop (c - e) (drop e u)
+    from u = let k : c ≡ e + (c - e) = omega arith in ap (λ (i : ℕ). drop i u) k ∙ sym (drop-drop (c - e) e u)
+
+-- words that agree before slot s and after it have the same other slots
+pub others-kept : (n s : ℕ) (w w′ : List ℕ) → take (columnStart n s) w′ ≡ take (columnStart n s) w
+    → drop (columnStart n s + (8 + 6 * n)) w′ ≡ drop (columnStart n s + (8 + 6 * n)) w → (j : ℕ) → j ≢ s → columnOf n j w′ ≡ columnOf n j w
+unfolding columnOf
+others-kept n s w w′ front rest j ne =
+    elim (decLt j s) [
+      | yes q ↦ between-front (columnStart n s) (columnStart n j) (columnStart n j + (8 + 6 * n)) w w′ (columnStart-apart n j s q) front
+      | no q ↦ between-rest (columnStart n s + (8 + 6 * n)) (columnStart n j) (columnStart n j + (8 + 6 * n)) w w′ (columnStart-apart n s j (omega arith)) rest
+    ]
+
+-- so they agree before all slots and past m of them
+pub front-kept : (n s : ℕ) (w w′ : List ℕ) → take (columnStart n s) w′ ≡ take (columnStart n s) w → take (columnStart n 0) w′ ≡ take (columnStart n 0) w
+front-kept n s w w′ front = take-less (columnStart n 0) (columnStart n s) w w′ (columnStart-mono n 0 s (omega arith)) front
+
+pub past-kept : (n m s : ℕ) (w w′ : List ℕ) → s < m → drop (columnStart n s + (8 + 6 * n)) w′ ≡ drop (columnStart n s + (8 + 6 * n)) w
+    → drop (columnStart n m) w′ ≡ drop (columnStart n m) w
+past-kept n m s w w′ h rest = drop-later (columnStart n s + (8 + 6 * n)) (columnStart n m) w w′ (columnStart-apart n s m h) rest
+
+-- the slots are sound where slot s is and the others are as they were
+pub columns-kept : (n m s : ℕ) (w w′ : List ℕ) → Columns n m w → length w′ ≡ length w → Sound n (columnOf n s w′)
+    → ((j : ℕ) → j < m → j ≢ s → columnOf n j w′ ≡ columnOf n j w) → Columns n m w′
+columns-kept n m s w w′ c size sound others =
+    record {
+      small = c .small;
+      few = c .few;
+      size = omega (arith, size, c .size);
+      columns = λ j hj. by-eq j s (λ q. rw q sound) (λ ne. rw (others j hj ne) (c .columns j hj));
+    }
+
+-- ---- a part changed where it lies
+
+module _ (n s : ℕ) (f : SparseSet → SparseSet) (w ys : List ℕ) (l : Lent n s w) (c : Changed n f (columnOf n s w) ys) where
+  pub only : Only n s f w (patch (columnStart n s) (columnStart n s + (8 + 6 * n)) w ys)
+  unfolding columnOf
+  only m hs k =
+      let b = columnStart n s in
+      let e = columnStart n s + (8 + 6 * n) in
+      let w′ = patch b e w ys in
+      let h : b ≤ e = omega arith in
+      let z : length ys ≡ e - b = omega (arith, c .sound .size) in
+      let mid : columnOf n s w′ ≡ ys = patch-between b e w ys h (l .size) z in
+      let front : take b w′ ≡ take b w = patch-front b e w ys h (l .size) z in
+      let rest : drop e w′ ≡ drop e w = patch-rest b e w ys h (l .size) z in
+      let size : length w′ ≡ length w = patch-length b e w ys h (l .size) z in
+      let others : (j : ℕ) → j < m → j ≢ s → columnOf n j w′ ≡ columnOf n j w = λ j hj ne. others-kept n s w w′ front rest j ne in
+      record {
+        columns = columns-kept n m s w w′ k size (rw mid (c .sound)) others;
+        size = size;
+        becomes = ap (rows n) mid ∙ c .becomes;
+        head = λ i lo hi. ap (λ (u : List ℕ). getD u i 0) mid ∙ c .kept i lo hi;
+        others = others;
+        front = front-kept n s w w′ front;
+        past = past-kept n m s w w′ hs rest;
+      }
+
+-- the same, from where the code says that the slot starts
+pub part-is : (n s b : ℕ) (w : List ℕ) → b ≡ columnStart n s → between b (b + (8 + 6 * n)) w ≡ columnOf n s w
+unfolding columnOf
+part-is n s b w q = rw q
+
+pub only-at : (n s b : ℕ) (f : SparseSet → SparseSet) (w ys : List ℕ) → b ≡ columnStart n s → Lent n s w
+    → Changed n f (between b (b + (8 + 6 * n)) w) ys → Only n s f w (patch b (b + (8 + 6 * n)) w ys)
+only-at n s b f w ys q l c = rw q (only n s f w ys l (rw (part-is n s b w q) at c))

@@ -1,0 +1,15 @@
+use borrow.Author.Needs.{needs}
+use Prim.Native.Nat.{_-_}
+use native.Mathlib.Omega.{arith}
+use Rattle.component.proofs.Meaning.{length-rows}
+use Rattle.component.proofs.component_sparse_set.len.Statement.{statement}
+use Rattle.component.proofs.component_sparse_set.len.Tie as tie
+
+cast-result : tie.Need-cast-result
+cast-result c = omega (arith, c .shared-slice-known .given 0)
+
+returns : tie.Need-returns
+returns c = λ n. length-rows n (c .before .args .part .now)
+
+pub len-spec : {M : Type 1} → statement M
+len-spec = tie.close (tie.spec (λ c. search needs) cast-result returns)

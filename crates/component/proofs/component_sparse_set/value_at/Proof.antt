@@ -1,0 +1,24 @@
+use mathlib.Core.Path.{sym, ap}
+use Prim.Native.Nat.{_-_, _<_}
+use native.Mathlib.Omega.{arith}
+use Rattle.model.specs.Model.{Row}
+use Rattle.component.specs.SparseSet.{lengthOf}
+use Rattle.component.proofs.Meaning.{length-rows, getD-rows, sized}
+use Rattle.component.proofs.component_sparse_set.value_at.Statement.{statement}
+use Rattle.component.proofs.component_sparse_set.value_at.Tie as tie
+
+read-row-requires : tie.Need-read-row-requires
+read-row-requires c κs =
+    let s = c .before in
+    let a = s .args in
+    (sized (a .n) (a .part .now) (s .pre .0), omega (arith, s .pre, length-rows (a .n) (a .part .now)))
+
+returns : tie.Need-returns
+returns c =
+    let s = c .before .before in
+    let a = s .args in
+    let h : a .place < lengthOf (a .part .now) = omega (arith, s .pre .1, length-rows (a .n) (a .part .now)) in
+    rw (c .read-row .ensures) (sym (ap (λ (r : Row). r .value) (getD-rows (a .n) (a .part .now) (a .place) h)))
+
+pub value-at-spec : {M : Type 1} → statement M
+value-at-spec = tie.close (tie.spec read-row-requires returns)

@@ -1,0 +1,272 @@
+-- The staged components, the excluded kinds and the refusal count: what is read of them, and what a few stores there make of the store. Assumes nothing.
+use mathlib.Core.Path.{_≡_, refl, sym, ap, _∙_, subst}
+use mathlib.Core.List.{List, [], _∷_, _++_}
+use Prim.Native.Nat.{ℕ, _+_, _*_, _-_, _≤_, _<_}
+use native.Mathlib.Numerals.{add-one}
+use native.Mathlib.Omega.{arith}
+use borrow.Author.Tests.{lt-ltb, le-ltb}
+use lib.ListN.{length, getD, set, drop}
+use lib.Seq.{drop-set-lt, set-getD}
+use Rattle.model.specs.Model.{Component, Family, kindOf}
+use Rattle.model.specs.Sound.{noComponent}
+use Rattle.model.specs.Store.{Control, stagedKinds, withControl, emptyStaged, emptyBoth, counted}
+use Rattle.words.specs.Table.{table, length-table, getD-table, table-snoc}
+use Rattle.words.specs.Stores.{stores, Misses, length-stores, miss, hit}
+use Rattle.words.specs.Part.{between}
+use Rattle.component.specs.SparseSet.{valueOf}
+use Rattle.layout.specs.Layout.{WellFormed, groupCount, familiesOf}
+use Rattle.memory.specs.Header.{stagedLen, excludedLen, refusalsOf, stagedKindAt, excludedAt}
+use Rattle.memory.specs.Meaning.{draftArrays, draftIn, stagedAt, stagedIn, excludedIn, controlIn, meaning}
+use Rattle.memory.specs.Arranged.{Arranged, Becomes}
+use Rattle.memory.proofs.Frames.{draft-arrays-same, staged-same, excluded-same, long}
+use Rattle.memory.proofs.Becomes.{Static, control-becomes}
+use Rattle.control.specs.Lists.{staging, excluding}
+use Rattle.control.specs.Refusals.{CountsRefusal}
+use Rattle.control.proofs.KindWords.{words-table, map-table}
+
+-- ---- what is read
+
+module _ (w : List ℕ) where
+  pub staged-length : length (meaning w .control .staged) ≡ stagedLen w
+  unfolding meaning stagedIn
+  staged-length = length-table (stagedLen w) (stagedAt w)
+
+  pub staged-read : (i : ℕ) → i < length (meaning w .control .staged) → getD (meaning w .control .staged) i noComponent ≡ stagedAt w i
+  unfolding meaning stagedIn
+  staged-read i h = getD-table (stagedLen w) (stagedAt w) i noComponent (omega (arith, length-table (stagedLen w) (stagedAt w)))
+
+  pub excluded-length : length (meaning w .control .excluded) ≡ excludedLen w
+  unfolding meaning excludedIn
+  excluded-length = length-table (excludedLen w) (excludedAt w)
+
+  module _ (A : Arranged w) where
+    pub staged-few : length (meaning w .control .staged) ≤ 16
+    staged-few = omega (arith, staged-length, A .staged)
+
+    pub excluded-few : length (meaning w .control .excluded) ≤ 16
+    excluded-few = omega (arith, excluded-length, A .excluded)
+
+    pub staged-kinds : stagedKinds (meaning w) ≡ between 160 (160 + stagedLen w) w
+    unfolding meaning stagedIn
+    staged-kinds = map-table kindOf (stagedLen w) (stagedAt w) ∙ words-table w 160 (stagedLen w) (omega (arith, A .staged, long w A))
+
+    pub excluded-kinds : meaning w .control .excluded ≡ between 240 (240 + excludedLen w) w
+    unfolding meaning excludedIn
+    excluded-kinds = words-table w 240 (excludedLen w) (omega (arith, A .excluded, long w A))
+
+-- ---- words that differ in the two lists and the refusal count alone
+
+pub record Listed (w w′ : List ℕ) : Type 0 where
+  pub size : length w′ ≡ length w
+  pub limits : (i : ℕ) → i < 3 → getD w′ i 0 ≡ getD w i 0
+  pub layouts : (i : ℕ) → 5 ≤ i → i < 9 → getD w′ i 0 ≡ getD w i 0
+  pub table : (i : ℕ) → 32 ≤ i → i < 160 → getD w′ i 0 ≡ getD w i 0
+  pub blocks : (i : ℕ) → 256 ≤ i → i < 1024 → getD w′ i 0 ≡ getD w i 0
+  pub rest : drop 1024 w′ ≡ drop 1024 w
+
+-- each store of the run is below k
+abbrev pub Below : ℕ → List (ℕ × ℕ) → Type 0
+Below k [] = Unit {0}
+Below k (s ∷ ss) = (s .0 < k) × Below k ss
+
+pub drop-stores : (k : ℕ) (w : List ℕ) (ss : List (ℕ × ℕ)) → Below k ss → drop k (stores w ss) ≡ drop k w
+drop-stores k w [] b = refl
+drop-stores k w (s ∷ ss) b = drop-stores k (set w (s .0) (s .1)) ss (b .1) ∙ drop-set-lt k w (s .0) (s .1) (b .0)
+
+stores-listed : (w : List ℕ) (ss : List (ℕ × ℕ)) → ((i : ℕ) → i < 3 → Misses ss i) → ((i : ℕ) → 5 ≤ i → i < 9 → Misses ss i) → ((i : ℕ) → 32 ≤ i → i < 160 → Misses ss i)
+    → ((i : ℕ) → 256 ≤ i → i < 1024 → Misses ss i) → Below 1024 ss → Listed w (stores w ss)
+stores-listed w ss a b c d below =
+    record {
+      size = length-stores w ss;
+      limits = λ i h. miss w ss i (a i h);
+      layouts = λ i h k. miss w ss i (b i h k);
+      table = λ i h k. miss w ss i (c i h k);
+      blocks = λ i h k. miss w ss i (d i h k);
+      rest = drop-stores 1024 w ss below;
+    }
+
+abbrev control : List Component → List ℕ → List Family → ℕ → Control
+control s e d r = record { staged = s; excluded = e; draft = d; refusals = r }
+
+module _ (w w′ : List ℕ) (A : Arranged w) (L : Listed w w′) where
+  static : Static w w′
+  static =
+      record {
+        size = L .size;
+        limits = L .limits;
+        force = λ i a b. L .layouts i (omega arith) b;
+        table = L .table;
+        layout = λ i a b. L .blocks i (omega arith) (omega arith);
+        rest = L .rest;
+      }
+
+  arrays : draftArrays w′ ≡ draftArrays w
+  arrays = draft-arrays-same w w′ (L .size) (long w A) (L .layouts 5 (omega arith) (omega arith)) (λ i a b. L .blocks i a (omega arith))
+
+  listed-becomes : (s : List Component) (e : List ℕ) (r : ℕ) → stagedLen w′ ≤ 16 → excludedLen w′ ≤ 16 → stagedIn w′ ≡ s → excludedIn w′ ≡ e → refusalsOf w′ ≡ r
+      → Becomes w w′ (withControl (meaning w) (control s e (meaning w .control .draft) r))
+  unfolding meaning draftIn
+  listed-becomes s e r st ex es ee er =
+      let B =
+      control-becomes w w′ A static (λ i a b. L .blocks i (omega arith) b) st ex (subst WellFormed (sym arrays) (A .draft))
+      (L .layouts 6 (omega arith) (omega arith) ∙ A .draftCount ∙ sym (ap groupCount arrays)) in
+      let d : draftIn w′ ≡ draftIn w = ap (familiesOf []) arrays in
+      let k : controlIn w′ ≡ control s e (draftIn w) r = λ i. record { staged = es i; excluded = ee i; draft = d i; refusals = er i } in
+      record { arranged = B .arranged; means = B .means ∙ ap (withControl (meaning w)) k; size = B .size; past = B .past }
+
+-- ---- one component more
+
+module _ (w : List ℕ) (A : Arranged w) (k l h : ℕ) (few : stagedLen w < 16) where
+  abbrev n : ℕ
+  n = stagedLen w
+
+  abbrev ss : List (ℕ × ℕ)
+  ss = (3, n + 1) ∷ (160 + n, k) ∷ (176 + 4 * n, l) ∷ (176 + 4 * n + 1, h) ∷ []
+
+  stage-listed : Listed w (stores w ss)
+  stage-listed = stores-listed w ss (λ i a. omega arith) (λ i a b. omega arith) (λ i a b. omega arith) (λ i a b. omega arith) (omega arith)
+
+  stage-length : stagedLen (stores w ss) ≡ n + 1
+  stage-length = hit w ss 0 3 (n + 1) (omega arith) (omega (arith, long w A))
+
+  stage-last : stagedAt (stores w ss) n ≡ record { kind = k; value = valueOf l h }
+  stage-last =
+      let a : stagedKindAt (stores w ss) n ≡ k = hit w ss 1 (160 + n) k (omega arith) (omega (arith, long w A)) in
+      let b : getD (stores w ss) (176 + 4 * n) 0 ≡ l = hit w ss 2 (176 + 4 * n) l (omega arith) (omega (arith, long w A)) in
+      let c : getD (stores w ss) (176 + 4 * n + 1) 0 ≡ h = hit w ss 3 (176 + 4 * n + 1) h (omega arith) (omega (arith, long w A)) in
+      λ i. record { kind = a i; value = valueOf (b i) (c i) }
+
+  stage-other : (i : ℕ) → i < n → stagedAt (stores w ss) i ≡ stagedAt w i
+  stage-other i hi =
+      let a : stagedKindAt (stores w ss) i ≡ stagedKindAt w i = miss w ss (160 + i) (omega arith) in
+      let b : getD (stores w ss) (176 + 4 * i) 0 ≡ getD w (176 + 4 * i) 0 = miss w ss (176 + 4 * i) (omega arith) in
+      let c : getD (stores w ss) (176 + 4 * i + 1) 0 ≡ getD w (176 + 4 * i + 1) 0 = miss w ss (176 + 4 * i + 1) (omega arith) in
+      λ j. record { kind = a j; value = valueOf (b j) (c j) }
+
+  stage-staged : stagedIn (stores w ss) ≡ stagedIn w ++ (record { kind = k; value = valueOf l h } ∷ [])
+  unfolding stagedIn
+  stage-staged =
+      ap (λ (m : ℕ). table m (stagedAt (stores w ss))) stage-length
+      ∙ table-snoc noComponent (record { kind = k; value = valueOf l h }) n (stagedAt w) (stagedAt (stores w ss)) stage-last stage-other
+
+  pub stage-becomes : Becomes w (stores w ss) (staging k (valueOf l h) (meaning w))
+  unfolding meaning
+  stage-becomes =
+      listed-becomes w (stores w ss) A stage-listed (stagedIn w ++ (record { kind = k; value = valueOf l h } ∷ [])) (excludedIn w) (refusalsOf w)
+      (omega (arith, stage-length))
+      (omega (arith, miss w ss 4 (omega arith), A .excluded))
+      stage-staged
+      (excluded-same w (stores w ss) (length-stores w ss) (A .excluded) (miss w ss 4 (omega arith)) (λ i a b. miss w ss i (omega arith)))
+      (miss w ss 16 (omega arith))
+
+-- ---- one excluded kind more
+
+module _ (w : List ℕ) (A : Arranged w) (k : ℕ) (few : excludedLen w < 16) where
+  abbrev m : ℕ
+  m = excludedLen w
+
+  abbrev ts : List (ℕ × ℕ)
+  ts = (4, m + 1) ∷ (240 + m, k) ∷ []
+
+  exclude-listed : Listed w (stores w ts)
+  exclude-listed = stores-listed w ts (λ i a. omega arith) (λ i a b. omega arith) (λ i a b. omega arith) (λ i a b. omega arith) (omega arith)
+
+  exclude-length : excludedLen (stores w ts) ≡ m + 1
+  exclude-length = hit w ts 0 4 (m + 1) (omega arith) (omega (arith, long w A))
+
+  exclude-excluded : excludedIn (stores w ts) ≡ excludedIn w ++ (k ∷ [])
+  unfolding excludedIn
+  exclude-excluded =
+      ap (λ (j : ℕ). table j (excludedAt (stores w ts))) exclude-length
+      ∙ table-snoc 0 k m (excludedAt w) (excludedAt (stores w ts))
+      (hit w ts 1 (240 + m) k (omega arith) (omega (arith, long w A)))
+      (λ i h. miss w ts (240 + i) (omega arith))
+
+  pub exclude-becomes : Becomes w (stores w ts) (excluding k (meaning w))
+  unfolding meaning
+  exclude-becomes =
+      listed-becomes w (stores w ts) A exclude-listed (stagedIn w) (excludedIn w ++ (k ∷ [])) (refusalsOf w)
+      (omega (arith, miss w ts 3 (omega arith), A .staged))
+      (omega (arith, exclude-length))
+      (staged-same w (stores w ts) (length-stores w ts) (A .staged) (miss w ts 3 (omega arith)) (λ i a b. miss w ts i (omega arith)))
+      exclude-excluded
+      (miss w ts 16 (omega arith))
+
+-- ---- the lists emptied
+
+module _ (w : List ℕ) (A : Arranged w) where
+  staged-none : (ss : List (ℕ × ℕ)) → stagedLen (stores w ss) ≡ 0 → stagedIn (stores w ss) ≡ []
+  unfolding stagedIn table
+  staged-none ss e = ap (λ (m : ℕ). table m (stagedAt (stores w ss))) e
+
+  excluded-none : (ss : List (ℕ × ℕ)) → excludedLen (stores w ss) ≡ 0 → excludedIn (stores w ss) ≡ []
+  unfolding excludedIn table
+  excluded-none ss e = ap (λ (m : ℕ). table m (excludedAt (stores w ss))) e
+
+  abbrev us : List (ℕ × ℕ)
+  us = (3, 0) ∷ []
+
+  abbrev vs : List (ℕ × ℕ)
+  vs = (3, 0) ∷ (4, 0) ∷ []
+
+  pub clear-staged-becomes : Becomes w (stores w us) (withControl (meaning w) (emptyStaged (meaning w .control)))
+  unfolding meaning
+  clear-staged-becomes =
+      let z : stagedLen (stores w us) ≡ 0 = hit w us 0 3 0 (omega arith) (omega (arith, long w A)) in
+      listed-becomes w (stores w us) A
+      (stores-listed w us (λ i a. omega arith) (λ i a b. omega arith) (λ i a b. omega arith) (λ i a b. omega arith) (omega arith))
+      [] (excludedIn w) (refusalsOf w)
+      (omega arith)
+      (omega (arith, miss w us 4 (omega arith), A .excluded))
+      (staged-none us z)
+      (excluded-same w (stores w us) (length-stores w us) (A .excluded) (miss w us 4 (omega arith)) (λ i a b. miss w us i (omega arith)))
+      (miss w us 16 (omega arith))
+
+  pub clear-lists-becomes : Becomes w (stores w vs) (withControl (meaning w) (emptyBoth (meaning w .control)))
+  unfolding meaning
+  clear-lists-becomes =
+      let z : stagedLen (stores w vs) ≡ 0 = hit w vs 0 3 0 (omega arith) (omega (arith, long w A)) in
+      let y : excludedLen (stores w vs) ≡ 0 = hit w vs 1 4 0 (omega arith) (omega (arith, long w A)) in
+      listed-becomes w (stores w vs) A
+      (stores-listed w vs (λ i a. omega arith) (λ i a b. omega arith) (λ i a b. omega arith) (λ i a b. omega arith) (omega arith))
+      [] [] (refusalsOf w)
+      (omega arith)
+      (omega arith)
+      (staged-none vs z)
+      (excluded-none vs y)
+      (miss w vs 16 (omega arith))
+
+-- ---- one refusal more
+
+module _ (w : List ℕ) (A : Arranged w) where
+  refusal-becomes : (r : ℕ) → Becomes w (set w 16 r) (withControl (meaning w) (control (meaning w .control .staged) (meaning w .control .excluded) (meaning w .control .draft) r))
+  unfolding meaning
+  refusal-becomes r =
+      let rs : List (ℕ × ℕ) = (16, r) ∷ [] in
+      listed-becomes w (set w 16 r) A
+      (stores-listed w rs (λ i a. omega arith) (λ i a b. omega arith) (λ i a b. omega arith) (λ i a b. omega arith) (omega arith))
+      (stagedIn w) (excludedIn w) r
+      (omega (arith, miss w rs 3 (omega arith), A .staged))
+      (omega (arith, miss w rs 4 (omega arith), A .excluded))
+      (staged-same w (set w 16 r) (length-stores w rs) (A .staged) (miss w rs 3 (omega arith)) (λ i a b. miss w rs i (omega arith)))
+      (excluded-same w (set w 16 r) (length-stores w rs) (A .excluded) (miss w rs 4 (omega arith)) (λ i a b. miss w rs i (omega arith)))
+      (hit w rs 0 16 r (omega arith) (omega (arith, long w A)))
+
+  counts : (w′ : List ℕ) → w′ ≡ set w 16 (counted (meaning w .control) .refusals) → CountsRefusal w w′
+  counts w′ e =
+      record {
+        becomes = subst (λ (u : List ℕ). Becomes w u (withControl (meaning w) (counted (meaning w .control)))) (sym e) (refusal-becomes (counted (meaning w .control) .refusals));
+        word = e;
+      }
+
+  pub refusals-read : refusalsOf w ≡ meaning w .control .refusals
+  unfolding meaning
+  refusals-read = refl
+
+  pub counts-more : refusalsOf w < 4294967295 → CountsRefusal w (set w 16 (refusalsOf w + 1))
+  unfolding meaning
+  counts-more h = counts (set w 16 (refusalsOf w + 1)) (rw (lt-ltb (refusalsOf w) 4294967295 h, add-one (refusalsOf w)))
+
+  pub counts-most : 4294967295 ≤ refusalsOf w → CountsRefusal w w
+  unfolding meaning
+  counts-most h = counts w (rw (le-ltb (refusalsOf w) 4294967295 h) (sym (set-getD w 16 0)))

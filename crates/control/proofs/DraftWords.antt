@@ -1,0 +1,113 @@
+-- The draft's block and its two numbers: read and written. Assumes nothing.
+use mathlib.Core.Path.{_≡_, sym, ap, _∙_, subst}
+use mathlib.Core.List.{List, [], _∷_}
+use Prim.Native.Nat.{ℕ, _-_, _≤_, _<_}
+use native.Mathlib.Omega.{arith}
+use lib.ListN.{length, getD, drop}
+use Rattle.model.specs.Model.{Family}
+use Rattle.model.specs.Store.{withControl, withDraft}
+use Rattle.words.specs.Table.{table}
+use Rattle.words.specs.Stores.{stores, length-stores, miss, hit}
+use Rattle.words.specs.Part.{between, patch, length-between, patch-front, patch-between, patch-rest, patch-length}
+use Rattle.layout.specs.declared.group_layout.Layout.{Layout}
+use Rattle.layout.specs.Layout.{arraysOf, blockArrays, WellFormed, groupCount, familiesOf}
+use Rattle.layout_block.specs.Blocks.{BlockFormed, ReadFrom, WrittenTo}
+use Rattle.memory.specs.Header.{draftFamilies, draftGroups, refusalsOf}
+use Rattle.words.specs.Word.{Word}
+use Rattle.memory.specs.Meaning.{draftArrays, draftIn, stagedIn, excludedIn, controlIn, meaning}
+use Rattle.memory.specs.Arranged.{Arranged, Becomes}
+use Rattle.memory.proofs.Frames.{word-front, drop-later, staged-same, excluded-same, long, word-rest}
+use Rattle.memory.proofs.Becomes.{Static, control-becomes}
+use Rattle.control.specs.Draft.{IsDraft, drafting}
+use Rattle.control.proofs.Control.{drop-stores}
+
+-- ---- read
+
+pub draft-block : (w : List ℕ) → Arranged w → (f g : ℕ) → Word w 5 f → Word w 6 g → BlockFormed (between 256 576 w) f g
+draft-block w A f g hf hg =
+    record {
+      size = length-between 256 576 w (omega (arith, long w A));
+      good = rw (hf .is) (A .draft);
+      groups = rw (hf .is, hg .is) (A .draftCount);
+    }
+
+pub is-draft : (w : List ℕ) → (f g : ℕ) → Word w 5 f → (r : Layout) → ReadFrom (between 256 576 w) f g r → IsDraft w r
+unfolding meaning draftIn
+is-draft w f g hf r R = record { formed = R .formed; means = R .means [] ∙ ap (λ (n : ℕ). familiesOf [] (blockArrays (between 256 576 w) n)) (hf .is) }
+
+-- ---- words that differ in the draft alone
+
+record Drafted (w w′ : List ℕ) : Type 0 where
+  pub size : length w′ ≡ length w
+  pub low : (i : ℕ) → i < 5 → getD w′ i 0 ≡ getD w i 0
+  pub middle : (i : ℕ) → 7 ≤ i → i < 256 → getD w′ i 0 ≡ getD w i 0
+  pub upper : (i : ℕ) → 576 ≤ i → i < 1024 → getD w′ i 0 ≡ getD w i 0
+  pub rest : drop 1024 w′ ≡ drop 1024 w
+
+module _ (w w′ : List ℕ) (A : Arranged w) (D : Drafted w w′) where
+  static : Static w w′
+  static =
+      record {
+        size = D .size;
+        limits = λ i h. D .low i (omega arith);
+        force = λ i a b. D .middle i a (omega arith);
+        table = λ i a b. D .middle i (omega arith) (omega arith);
+        layout = λ i a b. D .upper i a (omega arith);
+        rest = D .rest;
+      }
+
+  drafted-becomes : (fs : List Family) → WellFormed (draftArrays w′) → draftGroups w′ ≡ groupCount (draftArrays w′) → familiesOf [] (draftArrays w′) ≡ fs
+      → Becomes w w′ (withControl (meaning w) (withDraft (meaning w .control) fs))
+  unfolding meaning draftIn
+  drafted-becomes fs good groups e =
+      let B =
+      control-becomes w w′ A static (λ i a b. D .upper i (omega arith) b) (omega (arith, D .low 3 (omega arith), A .staged)) (omega (arith, D .low 4 (omega arith), A .excluded)) good groups in
+      let s : stagedIn w′ ≡ stagedIn w = staged-same w w′ (D .size) (A .staged) (D .low 3 (omega arith)) (λ i a b. D .middle i (omega arith) (omega arith)) in
+      let x : excludedIn w′ ≡ excludedIn w = excluded-same w w′ (D .size) (A .excluded) (D .low 4 (omega arith)) (λ i a b. D .middle i (omega arith) (omega arith)) in
+      let r : refusalsOf w′ ≡ refusalsOf w = D .middle 16 (omega arith) (omega arith) in
+      let k : controlIn w′ ≡ withDraft (controlIn w) fs = λ i. record { staged = s i; excluded = x i; draft = e i; refusals = r i } in
+      record { arranged = B .arranged; means = B .means ∙ ap (withControl (meaning w)) k; size = B .size; past = B .past }
+
+-- ---- written
+
+module _ (w : List ℕ) (A : Arranged w) (l : Layout) (ys : List ℕ) (W : WrittenTo l ys) where
+  abbrev ss : List (ℕ × ℕ)
+  ss = (5, l .families) ∷ (6, l .groups) ∷ []
+
+  abbrev v : List ℕ
+  v = stores w ss
+
+  fits : 576 ≤ length v
+  fits = omega (arith, length-stores w ss, long w A)
+
+  sized : length ys ≡ 576 - 256
+  sized = W .formed .size
+
+  front : (i : ℕ) → i < 256 → getD (patch 256 576 v ys) i 0 ≡ getD v i 0
+  front i h = word-front 256 v (patch 256 576 v ys) (patch-front 256 576 v ys (omega arith) fits sized) i h
+
+  beyond : drop 576 (patch 256 576 v ys) ≡ drop 576 v
+  beyond = patch-rest 256 576 v ys (omega arith) fits sized
+
+  written : Drafted w (patch 256 576 v ys)
+  written =
+      record {
+        size = patch-length 256 576 v ys (omega arith) fits sized ∙ length-stores w ss;
+        low = λ i h. front i (omega arith) ∙ miss w ss i (omega arith);
+        middle = λ i a b. front i b ∙ miss w ss i (omega arith);
+        upper = λ i a b. word-rest 576 v (patch 256 576 v ys) beyond i a ∙ miss w ss i (omega arith);
+        rest = drop-later 576 1024 v (patch 256 576 v ys) (omega arith) beyond ∙ drop-stores 1024 w ss (omega arith);
+      }
+
+  arrays : draftArrays (patch 256 576 v ys) ≡ blockArrays ys (l .families)
+  arrays =
+      ap (λ (b : List ℕ). blockArrays b (draftFamilies (patch 256 576 v ys))) (patch-between 256 576 v ys (omega arith) fits sized)
+      ∙ ap (blockArrays ys) (front 5 (omega arith) ∙ hit w ss 0 5 (l .families) (omega arith) (omega (arith, long w A)))
+
+  groups : draftGroups (patch 256 576 v ys) ≡ l .groups
+  groups = front 6 (omega arith) ∙ hit w ss 1 6 (l .groups) (omega arith) (omega (arith, long w A))
+
+  pub draft-becomes : Becomes w (patch 256 576 v ys) (drafting l (meaning w))
+  draft-becomes =
+      drafted-becomes w (patch 256 576 v ys) A written (familiesOf [] (arraysOf l)) (subst WellFormed (sym arrays) (W .formed .good))
+      (groups ∙ W .formed .groups ∙ sym (ap groupCount arrays)) (ap (familiesOf []) arrays ∙ W .means [])

@@ -1,0 +1,33 @@
+use mathlib.Core.Path.{ap₂, _∙_}
+use Rattle.entity.specs.Change.{isFull}
+use borrow.Author.Needs.{needs}
+use Rattle.control.proofs.EntityPart.{entities-read, sound-in}
+use Rattle.control.proofs.entities.is_full.Statement.{statement}
+use Rattle.control.proofs.entities.is_full.Tie as tie
+
+is-full-requires : tie.Need-is-full-requires
+is-full-requires c κs =
+    let s = c .before .before .before in
+    let w = s .args .words .now in
+    let n = c .before .capacity .result in
+    let C = c .before .capacity .ensures in
+    sound-in w n C (s .pre) .sound
+
+returns : tie.Need-returns
+returns c =
+    let s = c .before .before .before .before in
+    let e = entities-read (s .args .words .now) (c .before .before .capacity .result) (c .before .before .capacity .ensures) in
+    c .is-full .ensures ∙ ap₂ isFull (c .before .before .capacity .ensures .is) e
+
+pub is-full-spec : {M : Type 1} → statement M
+is-full-spec =
+    tie.close
+    (tie.spec
+    (λ c κs. search needs)
+    (λ c. search needs)
+    (λ c. search needs)
+    (λ c. search needs)
+    (λ c. search needs)
+    (λ c. search needs)
+    is-full-requires
+    returns)

@@ -1,0 +1,104 @@
+// A group of the layout in force: its place among the layout's kinds, its family's groups, its count (group.rs).
+use words::LAYOUT_ARITIES;
+use words::LAYOUT_ENDS;
+use words::LAYOUT_KIND_ENDS;
+ghost use mathlib.Core.Path.{_≡_};
+ghost use mathlib.Core.Bool.{cond};
+ghost use Prim.Native.Nat.{_+_, _<_, _≤_};
+ghost use lib.Dec.{ltb};
+ghost use lib.ListN.{length, getD, drop};
+ghost use Rattle.model.specs.Model.{Storage, groupsOf};
+ghost use Rattle.layout.specs.Layout.{startOf};
+ghost use Rattle.memory.specs.Meaning.{meaning};
+ghost use Rattle.memory.specs.Change.{onStorage, withLayout};
+ghost use Rattle.memory.specs.Arranged.{Arranged, Becomes};
+ghost use Rattle.group.specs.Flat.{located, setCount};
+ghost use Rattle.group.specs.Metadata.{orderOf, Describes};
+
+// Say a family is made of two groups, (A, B) and (A, B, C, D). The larger has the kinds A B C D, which are new from C on:
+// storage_start is A's place among the layout's kinds, new_storage_start C's, storage_end the one past D's. The family's groups are
+// numbered from first to top - 1.
+pub struct GroupMetadata {
+    pub storage_start: usize,
+    pub new_storage_start: usize,
+    pub storage_end: usize,
+    pub first: usize,
+    pub top: usize,
+}
+
+// Where number f starts, of the ends that stand from `ends` on: where the one before ends.
+pub fn start_of(words: &[u32], ends: usize, f: usize) -> usize
+    requires { ⌜ ends + f ≤ length (now words) ⌝ }
+    ensures { λ r. ⌜ r ≡ startOf (drop ends (now (words .entry))) f ⌝ }
+{
+    if f == 0 {
+        return 0;
+    }
+    words::word(words, ends + (f - 1))
+}
+
+// The size of the group before g in its family, 0 where g is the first. Group g's stands at 576 + 128 + g (docs/WORDS.md).
+fn prior_arity(words: &[u32], first: usize, g: usize) -> usize
+    requires { ⌜ ((g < 64) × (1024 ≤ length (now words))) ⌝ }
+    ensures { λ r. ⌜ r ≡ cond (ltb first g) (getD (now (words .entry)) (703 + g) 0) 0 ⌝ }
+{
+    if first < g {
+        return words::word(words, LAYOUT_ARITIES + (g - 1));
+    }
+    0
+}
+
+pub fn metadata(words: &[u32], g: usize) -> GroupMetadata
+    requires { ⌜ Arranged (now words) ⌝ }
+    requires { ⌜ g < groupsOf (meaning (now words) .storage .layout) ⌝ }
+    ensures { λ r. ⌜ Describes (meaning (now (words .entry))) g r ⌝ }
+{
+    let f = words::word(words, words::GROUP_FAMILIES + g);
+    let start = start_of(words, LAYOUT_KIND_ENDS, f);
+    let first = start_of(words, LAYOUT_ENDS, f);
+    let top = words::word(words, LAYOUT_ENDS + f);
+    let arity = words::word(words, LAYOUT_ARITIES + g);
+    let prior = prior_arity(words, first, g);
+    GroupMetadata {
+        storage_start: start,
+        new_storage_start: start + prior,
+        storage_end: start + arity,
+        first,
+        top,
+    }
+}
+
+// The kind at a place among the layout's.
+pub fn kind_at(words: &[u32], place: usize) -> usize
+    requires { ⌜ Arranged (now words) ⌝ }
+    requires { ⌜ place < length (orderOf (meaning (now words))) ⌝ }
+    ensures { λ r. ⌜ r ≡ getD (orderOf (meaning (now (words .entry)))) place 0 ⌝ }
+{
+    words::word(words, words::LAYOUT + place)
+}
+
+pub fn group_count(words: &[u32]) -> usize
+    requires { ⌜ Arranged (now words) ⌝ }
+    ensures { λ r. ⌜ r ≡ groupsOf (meaning (now (words .entry)) .storage .layout) ⌝ }
+{
+    words::word(words, words::LAYOUT_GROUPS)
+}
+
+// How many entities are inside group g.
+pub fn count(words: &[u32], g: usize) -> usize
+    requires { ⌜ Arranged (now words) ⌝ }
+    requires { ⌜ g < groupsOf (meaning (now words) .storage .layout) ⌝ }
+    ensures { λ r. ⌜ r ≡ located (meaning (now (words .entry)) .storage .layout) g .count ⌝ }
+{
+    words::word(words, words::GROUP_COUNTS + g)
+}
+
+pub fn set_count(words: &mut [u32], g: usize, count: usize)
+    requires { ⌜ Arranged (now words) ⌝ }
+    requires { ⌜ g < groupsOf (meaning (now words) .storage .layout) ⌝ }
+    requires { ⌜ count < 4294967296 ⌝ }
+    ensures { λ _. ⌜ Becomes (now (words .entry)) (now (words .exit)) (onStorage (λ (s : Storage). withLayout s (setCount g count (s .layout))) (meaning (now (words .entry)))) ⌝ }
+{
+    let at = words::GROUP_COUNTS + g;
+    words[at] = count as u32;
+}

@@ -1,0 +1,79 @@
+// Whether an entity holds a group's kinds, and whether it is inside the group (group.rs).
+use crate::group_metadata::kind_at;
+use component::Found;
+ghost use mathlib.Core.Path.{_≡_};
+ghost use Prim.Native.Nat.{_<_};
+ghost use lib.ListN.{length, getD};
+ghost use Rattle.model.specs.Model.{setOf, held, allHeld};
+ghost use Rattle.model.specs.Sound.{In};
+ghost use Rattle.words.specs.Part.{between};
+ghost use Rattle.component.specs.SparseSet.{entity};
+ghost use Rattle.memory.specs.Meaning.{meaning};
+ghost use Rattle.memory.specs.Arranged.{Arranged};
+ghost use Rattle.group.specs.Metadata.{orderOf, Listed};
+ghost use Rattle.group.specs.Steps.{statusIn};
+
+pub enum GroupStatus {
+    Incomplete,
+    Ungrouped,
+    Grouped,
+}
+
+// Does the entity hold the kind at a place among the layout's?
+fn holds(words: &[u32], place: usize, index: u32, version: u32) -> bool
+    requires { ⌜ Arranged (now words) ⌝ }
+    requires { ⌜ place < length (orderOf (meaning (now words))) ⌝ }
+    requires { ⌜ In (meaning (now words) .kinds) (getD (orderOf (meaning (now words))) place 0) ⌝ }
+    ensures { λ r. ⌜ r ≡ held (entity index version) (setOf (meaning (now (words .entry)) .storage .sets) (getD (orderOf (meaning (now (words .entry)))) place 0)) ⌝ }
+{
+    let kind = kind_at(words, place);
+    let found = kinds::find(words, kind, index, version);
+    let Found::At(_) = found else {
+        return false;
+    };
+    true
+}
+
+// Does it hold each of them, from start to end?
+fn holds_all(words: &[u32], start: usize, end: usize, index: u32, version: u32) -> bool
+    requires { ⌜ Arranged (now words) ⌝ }
+    requires { ⌜ Listed (meaning (now words)) start end ⌝ }
+    ensures { λ r. ⌜ r ≡ allHeld (entity index version) (between start end (orderOf (meaning (now (words .entry))))) (meaning (now (words .entry)) .storage .sets) ⌝ }
+{
+    let mut place = start;
+    while place < end {
+        if !holds(words, place, index, version) {
+            return false;
+        }
+        place += 1;
+    }
+    true
+}
+
+// The status of an entity in the group whose new kinds stand from start to end and whose count is group_len.
+pub fn get_group_status(
+    words: &[u32],
+    start: usize,
+    end: usize,
+    group_len: usize,
+    index: u32,
+    version: u32,
+) -> GroupStatus
+    requires { ⌜ Arranged (now words) ⌝ }
+    requires { ⌜ Listed (meaning (now words)) start end ⌝ }
+    requires { ⌜ start < end ⌝ }
+    ensures { λ r. ⌜ r ≡ statusIn (entity index version) (between start end (orderOf (meaning (now (words .entry))))) «group_len» (meaning (now (words .entry)) .storage .sets) ⌝ }
+{
+    let first = kind_at(words, start);
+    let found = kinds::find(words, first, index, version);
+    let Found::At(place) = found else {
+        return GroupStatus::Incomplete;
+    };
+    if !holds_all(words, start + 1, end, index, version) {
+        return GroupStatus::Incomplete;
+    }
+    if place < group_len {
+        return GroupStatus::Grouped;
+    }
+    GroupStatus::Ungrouped
+}

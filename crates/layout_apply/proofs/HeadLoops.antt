@@ -1,0 +1,240 @@
+-- The loops that set the heads: over a group's new kinds, a family's groups, the families. Assumes nothing.
+use mathlib.Core.Path.{_≡_, sym, ap, _∙_, subst}
+use mathlib.Core.List.{List}
+use Prim.Native.Nat.{ℕ, _+_, _-_, _≤_, _<_}
+use native.Mathlib.Nat.{add-zero}
+use native.Mathlib.Numerals.{add-one}
+use native.Mathlib.Omega.{arith}
+use lib.ListN.{getD, drop}
+use Rattle.component.specs.Columns.{Lent}
+use Rattle.component.proofs.Parts.{lent}
+use Rattle.layout.specs.Layout.{Arrays, startOf, widthOf}
+use Rattle.layout.proofs.Arrays.{kind-order, groups-inside}
+use Rattle.layout.proofs.Family.{start-next}
+use Rattle.memory.specs.Header.{capacityOf, kindCapacityOf, slotOf}
+use Rattle.memory.specs.Meaning.{layoutArrays}
+use Rattle.memory.specs.Arranged.{priorArity}
+use Rattle.memory.proofs.Prior.{prior-low, prior-next}
+use Rattle.layout_apply.specs.Heads.{withOwn, Heads, kindNo, slotNo, Ready, InFamily, NewAt, placeNo, Upto, Headed, HeadsGroup}
+use Rattle.layout_apply.proofs.Words.{block-at, block-start}
+use Rattle.layout_apply.proofs.Arities.{prior-end, prior-less, arity-inside, place-below}
+use Rattle.layout_apply.proofs.HeadSteps.{sized, heads-none, heads-then, ready-kept, capacity-same, arrays-same, slot-small, upto-more}
+
+-- ---- what the code reads of the layout's block
+
+pub kind-word : (w : List ℕ) (p : ℕ) → p < 128 → kindNo w p ≡ getD w (576 + p) 0
+kind-word w p h = block-at 576 w 0 128 p (omega arith) (omega arith) ∙ ap (λ (i : ℕ). getD w i 0) (omega arith)
+
+pub arity-word : (w : List ℕ) (g : ℕ) → g < 64 → getD (layoutArrays w .arities) g 0 ≡ getD w (704 + g) 0
+arity-word w g h = block-at 576 w 128 192 g (omega arith) (omega arith) ∙ ap (λ (i : ℕ). getD w i 0) (omega arith)
+
+pub kind-start-word : (w : List ℕ) (f : ℕ) → f ≤ 64 → startOf (layoutArrays w .kindEnds) f ≡ startOf (drop 768 w) f
+kind-start-word w f h = block-start 576 w 192 256 f (omega arith) (omega arith)
+
+pub start-word : (w : List ℕ) (f : ℕ) → f ≤ 64 → startOf (layoutArrays w .ends) f ≡ startOf (drop 832 w) f
+start-word w f h = block-start 576 w 256 320 f (omega arith) (omega arith)
+
+pub end-word : (w : List ℕ) (f : ℕ) → f < 64 → getD (layoutArrays w .ends) f 0 ≡ getD w (832 + f) 0
+end-word w f h = block-at 576 w 256 320 f (omega arith) (omega arith) ∙ ap (λ (i : ℕ). getD w i 0) (omega arith)
+
+-- ---- one kind's column
+
+module _ (w : List ℕ) (R : Ready w) (p : ℕ) (h : p < widthOf (layoutArrays w)) where
+  place-small : p < 128
+  place-small = omega (arith, R .formed .wide)
+
+  pub kind-small : (k : ℕ) → k ≡ getD w (576 + p) 0 → k < 128
+  kind-small k e = omega (arith, R .known p h .small, kind-word w p place-small)
+
+  pub slot-is : (k s : ℕ) → k ≡ getD w (576 + p) 0 → s ≡ getD w (32 + k) 0 → s ≡ slotNo w p
+  slot-is k s ek es = es ∙ ap (slotOf w) (ek ∙ sym (kind-word w p place-small))
+
+  pub member-lent : (n k s : ℕ) → n ≡ capacityOf w → k ≡ getD w (576 + p) 0 → s ≡ getD w (32 + k) 0 → Lent n s w
+  member-lent n k s en ek es =
+      rw (en, slot-is k s ek es) (lent (capacityOf w) (kindCapacityOf w) (slotNo w p) w (R .columns) (slot-small w R p h))
+
+-- ---- a group's new kinds
+
+module _ (w : List ℕ) (R : Ready w) (f g : ℕ) (G : InFamily (layoutArrays w) f g) where
+  pub group-few : g < 63
+  group-few = omega (arith, groups-inside (layoutArrays w) (R .formed) f (G .family), R .formed .many, G .high)
+
+  pub family-few : f < 63
+  family-few = omega (arith, G .family, R .formed .few)
+
+  arity-few : getD (layoutArrays w .arities) g 0 ≤ 15
+  arity-few =
+      omega (arith, arity-inside (layoutArrays w) (R .formed) (sized w (R .long)) f (G .family) g (G .low) (G .high), R .formed .family f (G .family) .most)
+
+  prior-few : priorArity (layoutArrays w) f g ≤ getD (layoutArrays w .arities) g 0
+  prior-few = omega (arith, prior-less (layoutArrays w) (R .formed) (sized w (R .long)) f (G .family) g (G .low) (G .high))
+
+-- w₀ are the words before group g's new kinds; the heads are set up to place j of family f
+pub record Groupwise (w₀ : List ℕ) (n f g start arity : ℕ) (w : List ℕ) (j : ℕ) : Type 0 where
+  pub ready : Ready w₀
+  pub group : InFamily (layoutArrays w₀) f g
+  pub capacity : n ≡ capacityOf w₀
+  pub starts : start ≡ startOf (layoutArrays w₀ .kindEnds) f
+  pub ends : arity ≡ getD (layoutArrays w₀ .arities) g 0
+  pub low : priorArity (layoutArrays w₀) f g ≤ j
+  pub high : j ≤ arity
+  pub headed : Headed w₀ w (placeNo (layoutArrays w₀) f j)
+
+pub group-none : (w : List ℕ) (n f g prior start arity : ℕ) → Ready w → n ≡ capacityOf w → InFamily (layoutArrays w) f g → prior ≡ priorArity (layoutArrays w) f g
+    → Upto w (placeNo (layoutArrays w) f prior) → start ≡ startOf (drop 768 w) f → arity ≡ getD w (704 + g) 0 → Groupwise w n f g start arity w prior
+group-none w n f g prior start arity R en G ep U es ea =
+    let q : arity ≡ getD (layoutArrays w .arities) g 0 = ea ∙ sym (arity-word w g (omega (arith, group-few w R f g G))) in
+    record {
+      ready = R;
+      group = G;
+      capacity = en;
+      starts = es ∙ sym (kind-start-word w f (omega (arith, family-few w R f g G)));
+      ends = q;
+      low = omega arith;
+      high = omega (arith, prior-few w R f g G);
+      headed = record { heads = heads-none w R; upto = U };
+    }
+
+-- what the next kind's column asks
+pub record NextKind (w : List ℕ) (n g p j : ℕ) : Type 0 where
+  pub ready : Ready w
+  pub capacity : n ≡ capacityOf w
+  pub place : p < widthOf (layoutArrays w)
+  pub group : g < 64
+  pub local : j < 128
+  pub small : p < 128
+
+module _ (w₀ : List ℕ) (n f g start arity : ℕ) (w : List ℕ) (j : ℕ) (B : Groupwise w₀ n f g start arity w j) where
+  abbrev a : Arrays
+  a = layoutArrays w₀
+
+  abbrev R : Ready w₀
+  R = B .ready
+
+  abbrev H : Heads w₀ w
+  H = B .headed .heads
+
+  place-is : start + j ≡ placeNo a f j
+  place-is = ap (λ (s : ℕ). s + j) (B .starts)
+
+  module _ (h : j < arity) where
+    new-at : NewAt a f g j
+    new-at = record { group = B .group; from = B .low; to = omega (arith, B .ends) }
+
+    pub next-kind : NextKind w n g (start + j) j
+    next-kind =
+        let p : placeNo a f j < widthOf a = place-below a (R .formed) (sized w₀ (R .long)) f g j new-at in
+        record {
+          ready = ready-kept w₀ w R H;
+          capacity = B .capacity ∙ sym (capacity-same w₀ w R H);
+          place = subst (λ (b : Arrays). start + j < widthOf b) (sym (arrays-same w₀ w R H)) (omega (arith, place-is));
+          group = omega (arith, group-few w₀ R f g (B .group));
+          local = omega (arith, arity-few w₀ R f g (B .group), B .ends);
+          small = omega (arith, place-is, R .formed .wide);
+        }
+
+    pub group-more : (w′ : List ℕ) → w′ ≡ withOwn n (slotNo w (start + j)) (g + 1) j w → Groupwise w₀ n f g start arity w′ (j + 1)
+    group-more w′ e =
+        let R′ = ready-kept w₀ w R H in
+        let q = sym (arrays-same w₀ w R H) in
+        let M = upto-more w R′ f g j (subst (λ (b : Arrays). NewAt b f g j) q new-at) (subst (λ (b : Arrays). Upto w (placeNo b f j)) q (B .headed .upto)) in
+        let c : n ≡ capacityOf w = next-kind .capacity in
+        let r : start + j ≡ placeNo (layoutArrays w) f j = place-is ∙ ap (λ (b : Arrays). placeNo b f j) q in
+        let t : placeNo (layoutArrays w) f j + 1 ≡ placeNo a f (j + 1) = ap (λ (b : Arrays). placeNo b f j + 1) (sym q) ∙ omega arith in
+        let W = withOwn (capacityOf w) (slotNo w (placeNo (layoutArrays w) f j)) (g + 1) j w in
+        let done : w′ ≡ W = e ∙ ap (λ (m : ℕ). withOwn m (slotNo w (start + j)) (g + 1) j w) c ∙ ap (λ (p : ℕ). withOwn (capacityOf w) (slotNo w p) (g + 1) j w) r in
+        record {
+          ready = R;
+          group = B .group;
+          capacity = B .capacity;
+          starts = B .starts;
+          ends = B .ends;
+          low = omega (arith, B .low);
+          high = omega arith;
+          headed =
+              subst (λ (v : List ℕ). Headed w₀ v (placeNo a f (j + 1))) (sym done)
+              (record { heads = heads-then w₀ w R H W (M .heads); upto = subst (Upto W) t (M .upto) });
+        }
+
+  pub group-done : arity ≤ j → HeadsGroup w₀ w f g arity
+  group-done h =
+      let e : j ≡ arity = omega (arith, B .high) in
+      record { arity = B .ends; headed = subst (λ (i : ℕ). Headed w₀ w (placeNo a f i)) e (B .headed) }
+
+-- ---- a family's groups
+
+-- prior is the arity of the group before g
+pub record Familywise (w₀ w : List ℕ) (f g prior : ℕ) : Type 0 where
+  pub low : startOf (layoutArrays w₀ .ends) f ≤ g
+  pub high : g ≤ getD (layoutArrays w₀ .ends) f 0
+  pub before : prior ≡ priorArity (layoutArrays w₀) f g
+  pub headed : Headed w₀ w (placeNo (layoutArrays w₀) f prior)
+
+module _ (w₀ : List ℕ) (R : Ready w₀) (f : ℕ) (hf : f < layoutArrays w₀ .families) where
+  pub family-none : (g : ℕ) → g ≡ startOf (layoutArrays w₀ .ends) f → Upto w₀ (startOf (layoutArrays w₀ .kindEnds) f) → Familywise w₀ w₀ f g 0
+  family-none g e U =
+      record {
+        low = omega arith;
+        high = omega (arith, R .formed .family f hf .some);
+        before = sym (prior-low (layoutArrays w₀) f g (omega arith));
+        headed = record { heads = heads-none w₀ R; upto = subst (Upto w₀) (sym (add-zero (startOf (layoutArrays w₀ .kindEnds) f))) U };
+      }
+
+  module _ (w : List ℕ) (g prior : ℕ) (F : Familywise w₀ w f g prior) (h : g < getD (layoutArrays w₀ .ends) f 0) where
+    q : layoutArrays w₀ ≡ layoutArrays w
+    q = sym (arrays-same w₀ w R (F .headed .heads))
+
+    pub family-group : InFamily (layoutArrays w) f g
+    family-group = subst (λ (b : Arrays). InFamily b f g) q (record { family = hf; low = F .low; high = h })
+
+    pub family-prior : prior ≡ priorArity (layoutArrays w) f g
+    family-prior = F .before ∙ ap (λ (b : Arrays). priorArity b f g) q
+
+    pub family-upto : Upto w (placeNo (layoutArrays w) f prior)
+    family-upto = subst (λ (b : Arrays). Upto w (placeNo b f prior)) q (F .headed .upto)
+
+    pub family-more : (w′ : List ℕ) (r : ℕ) → HeadsGroup w w′ f g r → Familywise w₀ w′ f (g + 1) r
+    family-more w′ r M =
+        record {
+          low = omega (arith, F .low);
+          high = omega arith;
+          before =
+              M .arity ∙ ap (λ (b : Arrays). getD (b .arities) g 0) (sym q) ∙ sym (prior-next (layoutArrays w₀) f g (F .low))
+              ∙ ap (priorArity (layoutArrays w₀) f) (sym (add-one g));
+          headed =
+              record {
+                heads = heads-then w₀ w R (F .headed .heads) w′ (M .headed .heads);
+                upto = subst (λ (b : Arrays). Upto w′ (placeNo b f r)) (sym q) (M .headed .upto);
+              };
+        }
+
+  pub family-done : (w : List ℕ) (g prior : ℕ) → Familywise w₀ w f g prior → getD (layoutArrays w₀ .ends) f 0 ≤ g → Headed w₀ w (getD (layoutArrays w₀ .kindEnds) f 0)
+  family-done w g prior F h =
+      let e : g ≡ getD (layoutArrays w₀ .ends) f 0 = omega (arith, F .high) in
+      let p : prior ≡ getD (layoutArrays w₀ .kindEnds) f 0 - startOf (layoutArrays w₀ .kindEnds) f =
+      F .before ∙ ap (priorArity (layoutArrays w₀) f) e ∙ prior-end (layoutArrays w₀) (R .formed) (sized w₀ (R .long)) f hf in
+      let t : placeNo (layoutArrays w₀) f prior ≡ getD (layoutArrays w₀ .kindEnds) f 0 = omega (arith, kind-order (layoutArrays w₀) (R .formed) f hf) in
+      record { heads = F .headed .heads; upto = subst (Upto w) t (F .headed .upto) }
+
+-- ---- the families
+
+pub families-none : (w : List ℕ) → Ready w → Upto w 0 → Headed w w (startOf (layoutArrays w .kindEnds) 0)
+families-none w R U = record { heads = heads-none w R; upto = U }
+
+module _ (w₀ : List ℕ) (R : Ready w₀) (w : List ℕ) (f : ℕ) (D : Headed w₀ w (startOf (layoutArrays w₀ .kindEnds) f)) where
+  same : layoutArrays w₀ ≡ layoutArrays w
+  same = sym (arrays-same w₀ w R (D .heads))
+
+  pub families-here : f < layoutArrays w₀ .families → f < layoutArrays w .families
+  families-here h = subst (λ (b : Arrays). f < b .families) same h
+
+  pub families-upto : Upto w (startOf (layoutArrays w .kindEnds) f)
+  families-upto = subst (λ (b : Arrays). Upto w (startOf (b .kindEnds) f)) same (D .upto)
+
+  pub families-more : (w′ : List ℕ) → Headed w w′ (getD (layoutArrays w .kindEnds) f 0) → Headed w₀ w′ (startOf (layoutArrays w₀ .kindEnds) (f + 1))
+  families-more w′ M =
+      record {
+        heads = heads-then w₀ w R (D .heads) w′ (M .heads);
+        upto =
+            subst (Upto w′) (ap (λ (b : Arrays). getD (b .kindEnds) f 0) (sym same) ∙ sym (start-next (layoutArrays w₀ .kindEnds) f)) (M .upto);
+      }

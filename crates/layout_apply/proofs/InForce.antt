@@ -1,0 +1,352 @@
+-- The words as the steps leave them are well arranged, and mean the store with the draft in force. Assumes nothing.
+use mathlib.Core.Path.{_≡_, refl, sym, ap, ap₂, _∙_, subst}
+use mathlib.Core.Logic.{_≢_}
+use mathlib.Core.List.{List, [], _∷_}
+use Prim.Native.Nat.{ℕ, zero, suc, _+_, _*_, _≤_, _<_}
+use native.Mathlib.Omega.{arith}
+use native.Mathlib.Decide.{decLt}
+use borrow.Author.Tests.{ltb-true}
+use lib.Dec.{ltb}
+use lib.ListN.{length, getD, drop, List·getD-eq-default}
+use lib.Seq.{ext-getD}
+use Rattle.model.specs.Model.{Family}
+use Rattle.model.specs.Sound.{In, Sound}
+use Rattle.model.proofs.Walk.{bool-cases}
+use Rattle.words.specs.Offsets.{columnStart, columnStart-mono}
+use Rattle.words.specs.Part.{between, between-front, between-rest, length-between, getD-between}
+use Rattle.words.specs.Table.{table, table-same}
+use Rattle.component.specs.SparseSet.{rows}
+use Rattle.component.specs.Columns.{columnOf, rowsOf, Columns}
+use Rattle.component.proofs.Frames.{front-column, front-columns}
+use Rattle.entity.specs.Meaning as entity
+use Rattle.entity.specs.Change.{entityPart, entitiesIn}
+use Rattle.layout.specs.Layout.{Arrays, blockArrays, Sized, WellFormed, startOf, widthOf, groupCount, kindsAt, aritiesAt, groupsFrom, familyAt, familiesOf}
+use Rattle.layout.proofs.Arrays.{none-formed, table-none, layout-kinds, block-sized}
+use Rattle.memory.specs.Header.{capacityOf, kindCapacityOf, registeredOf, layoutGroups, refusalsOf, slotOf, groupFamilyAt}
+use Rattle.memory.specs.Meaning.{kindAt, kindsIn, setAt, setsIn, draftArrays, layoutArrays, draftIn, layoutIn, meaning}
+use Rattle.memory.specs.Arranged.{TableSound, GroupSound, LayoutSound, Arranged, Becomes}
+use Rattle.memory.proofs.Frames.{start-header, drop-later, staged-same, excluded-same, long}
+use Rattle.kinds.proofs.Slot.{known-slot, known-small}
+use Rattle.kinds.proofs.Clear.{fewer}
+use Rattle.layout_apply.specs.Steps.{installed, Prepared}
+use Rattle.layout_apply.specs.Heads.{Reheaded, Heads, ClearsHeads, Slotted, Ready, InFamily, placeNo, Upto, Headed}
+use Rattle.layout_apply.proofs.Arities.{kind-among, place-in}
+use Rattle.layout_apply.proofs.HeadSteps.{word-same, registered-same, arrays-same, head-same, ready-kept, heads-then, upto-none}
+
+-- ---- layouts without counts, and without families
+
+groups-uncounted : (counts : List ℕ) → ((g : ℕ) → getD counts g 0 ≡ 0) → (g : ℕ) (ks : List ℕ) (b : ℕ) (ars : List ℕ) → groupsFrom counts g ks b ars ≡ groupsFrom [] g ks b ars
+unfolding groupsFrom
+groups-uncounted counts z g ks b [] = refl
+groups-uncounted counts z g ks b (a ∷ ars) =
+    ap₂ (λ (c : ℕ) (rs : Family). record { newKinds = between b a ks; count = c } ∷ rs) (z g) (groups-uncounted counts z (suc g) ks a ars)
+
+uncounted : (counts : List ℕ) (a : Arrays) → ((g : ℕ) → getD counts g 0 ≡ 0) → familiesOf counts a ≡ familiesOf [] a
+uncounted counts a z =
+    table-same [] (a .families) (familyAt [] a) (familyAt counts a) (λ f h. groups-uncounted counts z (startOf (a .ends) f) (kindsAt a f) 0 (aritiesAt a f))
+
+-- ---- the family of a group
+
+pub record FamilyOf (es : List ℕ) (n g : ℕ) : Type 0 where
+  pub f : ℕ
+  pub below : f < n
+  pub low : startOf es f ≤ g
+  pub high : g < getD es f 0
+
+family-of : (es : List ℕ) (n g : ℕ) → g < startOf es n → FamilyOf es n g
+family-of es zero g h = absurd (omega arith)
+family-of es (suc n) g h =
+    elim (decLt g (startOf es n)) [
+      | yes q ↦ let r = family-of es n g q in record { f = r .f; below = omega (arith, r .below); low = r .low; high = r .high }
+      | no q ↦ record { f = n; below = omega arith; low = omega arith; high = h }
+    ]
+
+-- ---- the header done
+
+module _ (w₀ w₁ : List ℕ) (A : Arranged w₀) (M : Sound (meaning w₀)) (P : Prepared w₀ w₁) where
+  abbrev n : ℕ
+  n = capacityOf w₀
+
+  abbrev k : ℕ
+  k = kindCapacityOf w₀
+
+  abbrev d : Arrays
+  d = draftArrays w₀
+
+  cap₁ : capacityOf w₁ ≡ n
+  cap₁ = P .low 0 (omega arith)
+
+  kcap₁ : kindCapacityOf w₁ ≡ k
+  kcap₁ = P .low 1 (omega arith)
+
+  reg₁ : registeredOf w₁ ≡ registeredOf w₀
+  reg₁ = P .low 2 (omega arith)
+
+  slot₁ : (j : ℕ) → j < 128 → slotOf w₁ j ≡ slotOf w₀ j
+  slot₁ j h = P .lists (32 + j) (omega arith) (omega arith)
+
+  rest₁ : drop (columnStart n 0) w₁ ≡ drop (columnStart n 0) w₀
+  rest₁ = drop-later 1024 (columnStart n 0) w₀ w₁ (omega (arith, start-header n)) (P .rest)
+
+  column₁ : (s : ℕ) → columnOf n s w₁ ≡ columnOf n s w₀
+  column₁ s = front-column n w₀ w₁ rest₁ s
+
+  kind₁ : (s : ℕ) → kindAt w₁ s ≡ kindAt w₀ s
+  kind₁ s = ap (λ (c : ℕ). getD (columnOf c s w₁) 1 0) cap₁ ∙ ap (λ (u : List ℕ). getD u 1 0) (column₁ s)
+
+  block₁ : between 576 896 w₁ ≡ between 256 576 w₀
+  block₁ =
+      let l₁ : length (between 576 896 w₁) ≡ 320 = length-between 576 896 w₁ (omega (arith, P .size, long w₀ A)) in
+      let l₀ : length (between 256 576 w₀) ≡ 320 = length-between 256 576 w₀ (omega (arith, long w₀ A)) in
+      ext-getD 0 (between 576 896 w₁) (between 256 576 w₀) (l₁ ∙ sym l₀)
+      (λ i h. getD-between 576 896 i w₁ 0 (omega arith) ∙ P .block i (omega arith) ∙ sym (getD-between 256 576 i w₀ 0 (omega arith)))
+
+  arrays₁ : layoutArrays w₁ ≡ d
+  arrays₁ = ap (λ (b : List ℕ). blockArrays b (getD w₁ 7 0)) block₁ ∙ ap (blockArrays (between 256 576 w₀)) (P .families)
+
+  sized₀ : Sized d
+  sized₀ = block-sized (between 256 576 w₀) (getD w₀ 5 0) (length-between 256 576 w₀ (omega (arith, long w₀ A)))
+
+  -- the draft's kinds are registered
+  registered₀ : (p : ℕ) → p < widthOf d → In (meaning w₀ .kinds) (getD (d .kinds) p 0)
+  unfolding meaning draftIn
+  registered₀ p h =
+      M .draft .known (getD (d .kinds) p 0)
+      (subst (λ (l : List ℕ). In l (getD (d .kinds) p 0)) (sym (layout-kinds [] d (A .draft) sized₀)) (kind-among d (A .draft) sized₀ p h))
+
+  slotted₁ : (p : ℕ) → p < widthOf d → Slotted w₁ (getD (d .kinds) p 0)
+  slotted₁ p h =
+      let j = getD (d .kinds) p 0 in
+      let i = registered₀ p h in
+      let S = known-slot w₀ A j i in
+      let small : j < 128 = known-small w₀ A j i in
+      record {
+        small = small;
+        slot = rw (slot₁ j small, reg₁) (S .real);
+        back = ap (kindAt w₁) (slot₁ j small) ∙ kind₁ (slotOf w₀ j) ∙ S .kind;
+      }
+
+  pub ready₁ : Ready w₁
+  ready₁ =
+      record {
+        long = omega (arith, P .size, long w₀ A);
+        columns = rw (cap₁, kcap₁) (front-columns n w₀ w₁ rest₁ k (P .size) (A .columns));
+        few = rw (reg₁, kcap₁) (A .table .few);
+        formed = subst WellFormed (sym arrays₁) (A .draft);
+        known = subst (λ (a : Arrays). (p : ℕ) → p < widthOf a → Slotted w₁ (getD (a .kinds) p 0)) (sym arrays₁) slotted₁;
+      }
+
+  -- ---- the heads cleared
+
+  module _ (c m : ℕ) (ec : c ≡ capacityOf w₁) (em : m ≡ registeredOf w₁) where
+    pub clear-asks : Columns c m w₁
+    clear-asks = rw (ec, em) (fewer (capacityOf w₁) (registeredOf w₁) (kindCapacityOf w₁) (ready₁ .few) w₁ w₁ (ready₁ .columns))
+
+    pub cleared : (w₂ : List ℕ) → ClearsHeads c m w₁ w₂ → ClearsHeads (capacityOf w₁) (registeredOf w₁) w₁ w₂
+    cleared w₂ C = rw (ec, em) at C
+
+  module _ (w₂ : List ℕ) (C : ClearsHeads (capacityOf w₁) (registeredOf w₁) w₁ w₂) where
+    pub heads₂ : Heads w₁ w₂
+    heads₂ = C (kindCapacityOf w₁) (ready₁ .few) (ready₁ .columns) .heads
+
+    pub ready₂ : Ready w₂
+    ready₂ = ready-kept w₁ w₂ ready₁ heads₂
+
+    pub upto₂ : Upto w₂ 0
+    upto₂ =
+        upto-none w₂
+        (λ s h. head-same w₁ w₂ ready₁ heads₂ s 2 ∙ C (kindCapacityOf w₁) (ready₁ .few) (ready₁ .columns) .none s (rw (registered-same w₁ w₂ ready₁ heads₂) at h))
+
+  -- ---- the heads set
+
+  module _ (w : List ℕ) (H : Heads w₁ w) (U : Upto w (widthOf (layoutArrays w))) where
+    ready : Ready w
+    ready = ready-kept w₁ w ready₁ H
+
+    changed : Reheaded n k w₁ w
+    changed = rw (cap₁, kcap₁) at H
+
+    same : (i : ℕ) → i < 1024 → getD w i 0 ≡ getD w₁ i 0
+    same i h = word-same w₁ w ready₁ H i h
+
+    low : (i : ℕ) → i < 5 → getD w i 0 ≡ getD w₀ i 0
+    low i h = same i (omega arith) ∙ P .low i h
+
+    lists : (i : ℕ) → 9 ≤ i → i < 576 → getD w i 0 ≡ getD w₀ i 0
+    lists i a b = same i (omega arith) ∙ P .lists i a b
+
+    size : length w ≡ length w₀
+    size = H .size ∙ P .size
+
+    cap : capacityOf w ≡ n
+    cap = low 0 (omega arith)
+
+    kcap : kindCapacityOf w ≡ k
+    kcap = low 1 (omega arith)
+
+    reg : registeredOf w ≡ registeredOf w₀
+    reg = low 2 (omega arith)
+
+    slot : (j : ℕ) → j < 128 → slotOf w j ≡ slotOf w₀ j
+    slot j h = lists (32 + j) (omega arith) (omega arith)
+
+    kind : (s : ℕ) → s < registeredOf w₀ → kindAt w s ≡ kindAt w₀ s
+    kind s h =
+        ap (λ (c : ℕ). getD (columnOf c s w) 1 0) cap ∙ changed .kinds s (omega (arith, A .table .few)) ∙ ap (λ (u : List ℕ). getD u 1 0) (column₁ s)
+
+    row : (s : ℕ) → s < k → rowsOf n s w ≡ rowsOf n s w₀
+    row s h = changed .rows s h ∙ ap (rows n) (column₁ s)
+
+    arrays : layoutArrays w ≡ d
+    arrays = arrays-same w₁ w ready₁ H ∙ arrays₁
+
+    sized : Sized (layoutArrays w)
+    sized = subst Sized (sym arrays) sized₀
+
+    table-sound : TableSound w
+    table-sound =
+        let T = A .table in
+        record {
+          few = ready .few;
+          slot = λ j h ne. rw (slot j h, reg) (T .slot j h (λ e. ne (slot j h ∙ e)));
+          back =
+              λ j h ne.
+              let ne₀ : slotOf w₀ j ≢ 255 = λ e. ne (slot j h ∙ e) in
+              ap (kindAt w) (slot j h) ∙ kind (slotOf w₀ j) (T .slot j h ne₀) ∙ T .back j h ne₀;
+          small = λ s h. let h₀ : s < registeredOf w₀ = rw reg at h in rw (kind s h₀) (T .small s h₀);
+          own =
+              λ s h.
+              let h₀ : s < registeredOf w₀ = rw reg at h in
+              ap (slotOf w) (kind s h₀) ∙ slot (kindAt w₀ s) (T .small s h₀) ∙ T .own s h₀;
+        }
+
+    -- group g of family f
+    group-sound : (f g : ℕ) → InFamily (layoutArrays w) f g → GroupSound w (layoutArrays w) g f
+    group-sound f g G =
+        let a = layoutArrays w in
+        let inside : (j : ℕ) → j < getD (a .arities) g 0 → placeNo a f j < widthOf a = λ j h. place-in a (ready .formed) sized f g G j h in
+        record {
+          family = G .family;
+          low = G .low;
+          high = G .high;
+          known = λ j h. let S = ready .known (placeNo a f j) (inside j h) in record { small = S .small; slot = S .slot };
+          own = λ j l h. U .right f g j (record { group = G; from = l; to = h }) (inside j h) .own;
+          local = λ j l h. U .right f g j (record { group = G; from = l; to = h }) (inside j h) .local;
+        }
+
+    count : layoutGroups w ≡ groupCount (layoutArrays w)
+    count = same 8 (omega arith) ∙ P .groups ∙ A .draftCount ∙ sym (ap groupCount arrays)
+
+    groups : (g : ℕ) → g < layoutGroups w → GroupSound w (layoutArrays w) g (groupFamilyAt w g)
+    groups g h =
+        let a = layoutArrays w in
+        let F = family-of (a .ends) (a .families) g (omega (arith, count)) in
+        let few : g < 64 = omega (arith, count, ready .formed .many) in
+        let e : groupFamilyAt w g ≡ F .f =
+        same (896 + g) (omega arith)
+        ∙ P .family (F .f) g (subst (λ (b : Arrays). F .f < b .families) arrays (F .below)) (subst (λ (b : Arrays). startOf (b .ends) (F .f) ≤ g) arrays (F .low))
+        (subst (λ (b : Arrays). g < getD (b .ends) (F .f) 0) arrays (F .high)) in
+        subst (GroupSound w a g) (sym e) (group-sound (F .f) g (record { family = F .below; low = F .low; high = F .high }))
+
+    layout-sound : LayoutSound w
+    layout-sound = record { formed = ready .formed; count = count; groups = groups; none = U .none }
+
+    no-draft : getD w 5 0 ≡ 0
+    no-draft = same 5 (omega arith) ∙ P .none
+
+    entity-part : entityPart n w ≡ entityPart n w₀
+    entity-part =
+        between-front (columnStart n 0) 1024 (1024 + 16 * n) w₁ w (omega (arith, start-header n)) (changed .front)
+        ∙ between-rest 1024 1024 (1024 + 16 * n) w₀ w₁ (omega arith) (P .rest)
+
+    arranged : Arranged w
+    arranged =
+        record {
+          limits = rw (cap, kcap) (A .limits);
+          enough = rw (cap, kcap, size) (A .enough);
+          table = table-sound;
+          entities = rw cap (subst (entity.Sound n) (sym entity-part) (A .entities));
+          columns = ready .columns;
+          vacant =
+              λ s l h.
+              let l₀ : registeredOf w₀ ≤ s = rw reg at l in
+              let h₀ : s < k = rw kcap at h in
+              rw cap (row s h₀ ∙ A .vacant s l₀ h₀);
+          staged = rw (low 3 (omega arith)) (A .staged);
+          excluded = rw (low 4 (omega arith)) (A .excluded);
+          draft = subst (λ (m : ℕ). WellFormed (blockArrays (between 256 576 w) m)) (sym no-draft) (none-formed (between 256 576 w));
+          draftCount = same 6 (omega arith) ∙ P .noGroups ∙ sym (ap (λ (m : ℕ). groupCount (blockArrays (between 256 576 w) m)) no-draft);
+          layout = layout-sound;
+        }
+
+    -- ---- what the words mean
+
+    kinds-same : kindsIn w ≡ kindsIn w₀
+    unfolding kindsIn
+    kinds-same = ap (λ (m : ℕ). table m (kindAt w)) reg ∙ table-same 0 (registeredOf w₀) (kindAt w₀) (kindAt w) kind
+
+    set-same : (j : ℕ) → j < 128 → setAt w j ≡ setAt w₀ j
+    set-same j h =
+        rw (slot j h, reg, cap)
+        (bool-cases (ltb (slotOf w₀ j) (registeredOf w₀))
+        (λ t. rw (t, row (slotOf w₀ j) (omega (arith, ltb-true (slotOf w₀ j) (registeredOf w₀) t, A .table .few))))
+        (λ t. rw t))
+
+    sets-same : setsIn w ≡ setsIn w₀
+    unfolding setsIn
+    sets-same = table-same [] 128 (setAt w₀) (setAt w) set-same
+
+    counts-none : (g : ℕ) → getD (between 960 1024 w) g 0 ≡ 0
+    counts-none g =
+        elim (decLt g 64) [
+          | yes h ↦ getD-between 960 1024 g w 0 (omega arith) ∙ same (960 + g) (omega arith) ∙ P .counts g h
+          | no h ↦ List·getD-eq-default (between 960 1024 w) 0 (omega (arith, length-between 960 1024 w (omega (arith, size, long w₀ A))))
+        ]
+
+    layout-is : layoutIn w ≡ draftIn w₀
+    unfolding layoutIn draftIn
+    layout-is = ap (familiesOf (between 960 1024 w)) arrays ∙ uncounted (between 960 1024 w) d counts-none
+
+    draft-is : draftIn w ≡ []
+    unfolding draftIn
+    draft-is = ap (λ (m : ℕ). familiesOf [] (blockArrays (between 256 576 w) m)) no-draft ∙ table-none (familyAt [] (blockArrays (between 256 576 w) 0))
+
+    pub installed-becomes : Becomes w₀ w (installed (meaning w₀))
+    unfolding meaning
+    installed-becomes =
+        let ks = kinds-same in
+        let ss = sets-same in
+        let ls = layout-is in
+        let ds = draft-is in
+        let c = cap in
+        let kc = kcap in
+        let es : entitiesIn (capacityOf w) w ≡ entitiesIn n w₀ = ap (λ (m : ℕ). entitiesIn m w) cap ∙ ap (entity.entitiesOf n) entity-part in
+        let st = staged-same w₀ w size (A .staged) (low 3 (omega arith)) (λ i a b. lists i (omega arith) (omega arith)) in
+        let ex = excluded-same w₀ w size (A .excluded) (low 4 (omega arith)) (λ i a b. lists i (omega arith) (omega arith)) in
+        let re : refusalsOf w ≡ refusalsOf w₀ = lists 16 (omega arith) (omega arith) in
+        record {
+          arranged = arranged;
+          means =
+              λ i.
+              record {
+                capacity = c i;
+                kindCapacity = kc i;
+                kinds = ks i;
+                entities = es i;
+                storage = record { sets = ss i; layout = ls i };
+                control = record { staged = st i; excluded = ex i; draft = ds i; refusals = re i };
+              };
+          size = size;
+          past =
+              changed .past
+              ∙ drop-later 1024 (columnStart n k) w₀ w₁ (omega (arith, start-header n, columnStart-mono n 0 k (omega arith))) (P .rest);
+        }
+
+  -- ---- all of it
+
+  pub heads-set : (w₂ w : List ℕ) → ClearsHeads (capacityOf w₁) (registeredOf w₁) w₁ w₂ → Headed w₂ w (widthOf (layoutArrays w₂)) → Becomes w₀ w (installed (meaning w₀))
+  heads-set w₂ w C D =
+      let H₂ = heads₂ w₂ C in
+      let H = heads-then w₁ w₂ ready₁ H₂ w (D .heads) in
+      let e : layoutArrays w₂ ≡ layoutArrays w = sym (arrays-same w₂ w (ready₂ w₂ C) (D .heads)) in
+      installed-becomes w H (subst (λ (a : Arrays). Upto w (widthOf a)) e (D .upto))

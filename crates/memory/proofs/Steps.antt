@@ -1,0 +1,36 @@
+-- The steps of a start: words cleared one after another, kinds of the table freed one after another. Assumes nothing.
+use mathlib.Core.Path.{_≡_, refl, _∙_}
+use mathlib.Core.List.{List}
+use Prim.Native.Nat.{ℕ, _+_, _<_}
+use native.Mathlib.Omega.{arith}
+use lib.ListN.{length, set, length-set}
+use lib.Seq.{getD-set-same, getD-set-other, drop-set-lt}
+use Rattle.words.specs.Table.{by-eq}
+use Rattle.memory.proofs.Frames.{drop-later}
+use Rattle.memory.specs.Fresh.{Cleared, Tabled}
+
+pub cleared-none : (w : List ℕ) → Cleared w 0 w
+cleared-none w = record { size = refl; zero = λ i h. absurd (omega arith); rest = refl }
+
+pub cleared-more : (w₀ w : List ℕ) (i : ℕ) → Cleared w₀ i w → i < length w → Cleared w₀ (i + 1) (set w i 0)
+cleared-more w₀ w i c h =
+    record {
+      size = length-set w i 0 ∙ c .size;
+      zero = λ j hj. by-eq j i (λ e. rw e (getD-set-same w i 0 0 h)) (λ ne. getD-set-other w i j 0 0 ne ∙ c .zero j (omega arith));
+      rest = drop-set-lt (i + 1) w i 0 (omega arith) ∙ drop-later i (i + 1) w₀ w (omega arith) (c .rest);
+    }
+
+pub tabled-none : (w : List ℕ) → Tabled w 0 w
+tabled-none w = record { size = refl; free = λ k h. absurd (omega arith); low = λ i h. refl; rest = refl }
+
+pub tabled-more : (w₀ w : List ℕ) (k : ℕ) → Tabled w₀ k w → 32 + k < length w → Tabled w₀ (k + 1) (set w (32 + k) 255)
+tabled-more w₀ w k t h =
+    record {
+      size = length-set w (32 + k) 255 ∙ t .size;
+      free = λ j hj. by-eq j k (λ e. rw e (getD-set-same w (32 + k) 255 0 h)) (λ ne. getD-set-other w (32 + k) (32 + j) 255 0 (omega arith) ∙ t .free j (omega arith));
+      low = λ i hi. getD-set-other w (32 + k) i 255 0 (omega arith) ∙ t .low i hi;
+      rest = drop-set-lt (32 + (k + 1)) w (32 + k) 255 (omega arith) ∙ drop-later (32 + k) (32 + (k + 1)) w₀ w (omega arith) (t .rest);
+    }
+
+pub tabled-step : (w₀ w : List ℕ) (k v : ℕ) → Tabled w₀ k w → 32 + k < length w → v ≡ 255 → Tabled w₀ (k + 1) (set w (32 + k) v)
+tabled-step w₀ w k v t h e = rw e (tabled-more w₀ w k t h)

@@ -1,0 +1,46 @@
+-- `memory::empty::make` meets its contract. Assumes nothing.
+use mathlib.Core.Path.{_∙_, subst}
+use Prim.Native.Nat.{ℕ}
+use native.Mathlib.Omega.{arith}
+use borrow.Author.Needs.{needs}
+use lib.ListN.{length-set}
+use Rattle.words.specs.Offsets.{columnStart-mono}
+use Rattle.memory.proofs.Frames.{start-header}
+use Rattle.memory.specs.Fresh.{Cleared}
+use Rattle.memory.proofs.EmptyStore.{made}
+use Rattle.memory.proofs.empty.make.Statement.{statement}
+use Rattle.memory.proofs.empty.make.Tie as tie
+
+put-table-requires : tie.Need-put-table-requires
+put-table-requires c κs =
+    let a = c .before .before .before .before .before .before .before .args in
+    let h = c .before .before .before .before .before .before .before .pre in
+    omega (arith, c .before .before .before .clear .ensures .size, h .1, start-header (a .n), columnStart-mono (a .n) 0 (a .k) (omega arith))
+
+slice-write-words : tie.Need-slice-write-words
+slice-write-words c =
+    let a = c .before .before .before .before .before .before .before .before .before .before .args in
+    let h = c .before .before .before .before .before .before .before .before .before .before .pre in
+    omega (arith, c .before .before .put-table .ensures .size, c .before .before .before .before .before .before .clear .ensures .size, h .1, start-header (a .n), columnStart-mono (a .n) 0 (a .k) (omega arith))
+
+slice-write-words-2 : tie.Need-slice-write-words-2
+slice-write-words-2 c =
+    let a = c .before .before .before .before .before .before .before .before .before .before .args in
+    let h = c .before .before .before .before .before .before .before .before .before .before .pre in
+    simp length-set (omega (arith, c .before .before .put-table .ensures .size, c .before .before .before .before .before .before .clear .ensures .size, h .1, start-header (a .n), columnStart-mono (a .n) 0 (a .k) (omega arith)))
+
+same-length : tie.Need-same-length
+same-length c = simp length-set (c .before .before .put-table .ensures .size ∙ c .before .before .before .before .before .before .clear .ensures .size)
+
+returns : tie.Need-returns
+returns c =
+    let a = c .before .before .before .before .before .before .before .before .before .before .args in
+    let h = c .before .before .before .before .before .before .before .before .before .before .pre in
+    made (a .n) (a .k) (a .words .now) (c .before .before .before .before .before .before .clear .last .0) (c .before .before .put-table .last .0) (h .0) (h .1)
+    (subst (λ (e : ℕ). Cleared (c .before .before .before .before .before .before .before .before .before .before .args .words .now) e (c .before .before .before .before .before .before .clear .last .0)) (c .before .before .before .before .before .before .before .before .column-start .ensures) (c .before .before .before .before .before .before .clear .ensures))
+    (c .before .before .put-table .ensures)
+
+pub make-spec : {M : Type 1} → statement M
+make-spec =
+    tie.close
+    (tie.spec (λ c κs. search needs) (λ c κs. search needs) put-table-requires (λ c. search needs) slice-write-words (λ c. search needs) slice-write-words-2 same-length returns)

@@ -1,0 +1,44 @@
+// An empty store, whatever the words held.
+ghost use Prim.Native.Nat.{_≤_};
+ghost use lib.ListN.{length};
+ghost use Rattle.model.specs.Sound.{Limits};
+ghost use Rattle.words.specs.Offsets.{columnStart};
+ghost use Rattle.memory.specs.Fresh.{Cleared, Tabled, Made};
+
+// Zeros up to `end`.
+fn clear(words: &mut [u32], end: usize)
+    requires { ⌜ end ≤ length (now words) ⌝ }
+    ensures { λ _. ⌜ Cleared (now (words .entry)) end (now (words .exit)) ⌝ }
+{
+    let mut i = 0;
+    while i < end {
+        words[i] = 0;
+        i += 1;
+    }
+}
+
+// The table of 128 kinds, all unregistered.
+fn put_table(words: &mut [u32])
+    requires { ⌜ 160 ≤ length (now words) ⌝ }
+    ensures { λ _. ⌜ Tabled (now (words .entry)) 128 (now (words .exit)) ⌝ }
+{
+    let table = [255u32; 128];
+    let mut k = 0;
+    while k < 128 {
+        words[words::TABLE + k] = table[k];
+        k += 1;
+    }
+}
+
+// The empty store of n entities and k kinds.
+pub fn make(words: &mut [u32], n: usize, k: usize)
+    requires { ⌜ Limits n k ⌝ }
+    requires { ⌜ columnStart n k ≤ length (now words) ⌝ }
+    ensures { λ _. ⌜ Made n k (now (words .entry)) (now (words .exit)) ⌝ }
+{
+    let end = words::column_start(n, k);
+    clear(words, end);
+    put_table(words);
+    words[words::CAPACITY] = n as u32;
+    words[words::KIND_CAPACITY] = k as u32;
+}

@@ -1,0 +1,136 @@
+-- The cases of a step, at a place of the tape. Assumes nothing.
+use mathlib.Core.Path.{_≡_, refl}
+use mathlib.Core.Bool.{true, false}
+use mathlib.Core.List.{List, [], _∷_}
+use Prim.Native.Nat.{ℕ, suc, _+_, _-_, _≤_, _<_}
+use native.Mathlib.Omega.{arith}
+use borrow.Author.Tests.{lt-ltb, le-ltb, le-leb, lt-leb}
+use lib.Dec.{ltb}
+use lib.ListN.{length, getD, take, drop, length-drop}
+use Rattle.model.specs.Model.{addsNothing}
+use Rattle.model.specs.Store.{Store, Bytes, isKind, stagedKinds}
+use Rattle.model.specs.Commands.{Command, REG, HOLD, NEW, PUT, TAKE, DROP, KILL, WIPE, GROUP, APPLY, BAR, RANGE, EMPTY, TALLY, Done, accepted, width, commandAt, answerLength}
+use Rattle.model.specs.Run.{Outcome, refuses, accepts, does, Step, stops, goes, stepOf, step, storeAfter, answerOf}
+use Rattle.model.proofs.SparseSets.{cond-case}
+use Rattle.model.proofs.Lines.{accepted-exact}
+use Rattle.model.proofs.Lengths.{answer-length, answer-positive, step-case}
+use Rattle.model.proofs.Sound.{After, bytes-drop, tape-fits}
+use Rattle.memory.specs.Meaning.{meaning}
+use Rattle.memory.specs.Arranged.{Sound}
+use Rattle.command.specs.Acted.{Acted}
+use Rattle.command.proofs.Acts.{SameSize, stays, acted-sound}
+use Rattle.run.specs.Stream.{commandIn, Given, StepReady, stepAt, Stepped}
+use Rattle.run.specs.declared.Went.the-variants.{Done as Goes, Stop}
+
+-- ---- the model's step
+
+module _ (s : Store) (t : List ℕ) (at room : ℕ) where
+  pub step-zero : getD t at 0 ≡ 0 → stepAt s t at room ≡ stops 4
+  unfolding step
+  step-zero h = rw h
+
+  module _ (low : 1 ≤ getD t at 0) where
+    pub step-high : 14 < getD t at 0 → stepAt s t at room ≡ stops 4
+    unfolding step
+    step-high h = rw (le-leb 1 (getD t at 0) low, lt-leb (getD t at 0) 14 h)
+
+    module _ (high : getD t at 0 ≤ 14) where
+      pub step-cut : at < length t → length t - at < 1 + width (getD t at 0) → stepAt s t at room ≡ stops 5
+      unfolding step
+      step-cut more h =
+          let e : ltb (length (drop (at + 1) t)) (width (getD t at 0)) ≡ true = lt-ltb (length (drop (at + 1) t)) (width (getD t at 0)) (rw (length-drop (at + 1) t) (omega arith)) in
+          rw (le-leb 1 (getD t at 0) low, le-leb (getD t at 0) 14 high, e)
+
+      module _ (whole : 1 + width (getD t at 0) ≤ length t - at) where
+        fits : ltb (length (drop (at + 1) t)) (width (getD t at 0)) ≡ false
+        fits = le-ltb (length (drop (at + 1) t)) (width (getD t at 0)) (rw (length-drop (at + 1) t) (omega arith))
+
+        pub step-room : room < answerLength (commandIn (getD t at 0) t (at + 1)) s → stepAt s t at room ≡ stops 6
+        unfolding step
+        step-room h = rw (le-leb 1 (getD t at 0) low, le-leb (getD t at 0) 14 high, fits, lt-ltb room (answerLength (commandIn (getD t at 0) t (at + 1)) s) h)
+
+        pub step-did : answerLength (commandIn (getD t at 0) t (at + 1)) s ≤ room → stepAt s t at room ≡ stepOf (suc (width (getD t at 0))) s (does (commandIn (getD t at 0) t (at + 1)) s)
+        unfolding step
+        step-did h = rw (le-leb 1 (getD t at 0) low, le-leb (getD t at 0) 14 high, fits, le-ltb room (answerLength (commandIn (getD t at 0) t (at + 1)) s) h)
+
+-- the answer takes no more than the accepted one
+answer-fits : (c : Command) (s : Store) (x : Outcome) → does c s ≡ x → length (answerOf x) ≤ answerLength c s
+answer-fits c s (refuses n) e = answer-positive c s
+answer-fits c s (accepts s′ a) e = omega (arith, answer-length c s s′ a e)
+
+-- ---- commands keep N and K
+
+accepted-size : (c : Command) (s : Store) → SameSize s ((accepted c s) .store)
+unfolding accepted
+accepted-size (REG k) s = cond-case (λ (d : Done). SameSize s (d .store)) (isKind k s) _ _ (λ t. record { capacity = refl; kindCapacity = refl }) (λ t. record { capacity = refl; kindCapacity = refl })
+accepted-size (HOLD k v) s = record { capacity = refl; kindCapacity = refl }
+accepted-size NEW s = record { capacity = refl; kindCapacity = refl }
+accepted-size (PUT e) s = record { capacity = refl; kindCapacity = refl }
+accepted-size (TAKE e) s = record { capacity = refl; kindCapacity = refl }
+accepted-size (DROP e) s = record { capacity = refl; kindCapacity = refl }
+accepted-size (KILL e) s = record { capacity = refl; kindCapacity = refl }
+accepted-size WIPE s = record { capacity = refl; kindCapacity = refl }
+accepted-size GROUP s = cond-case (λ (d : Done). SameSize s (d .store)) (addsNothing (stagedKinds s) (s .control .draft)) _ _ (λ t. record { capacity = refl; kindCapacity = refl }) (λ t. record { capacity = refl; kindCapacity = refl })
+accepted-size APPLY s = record { capacity = refl; kindCapacity = refl }
+accepted-size (BAR k) s = record { capacity = refl; kindCapacity = refl }
+accepted-size RANGE s = record { capacity = refl; kindCapacity = refl }
+accepted-size EMPTY s = record { capacity = refl; kindCapacity = refl }
+accepted-size TALLY s = record { capacity = refl; kindCapacity = refl }
+
+after-size : (c : Command) (s : Store) (x : Outcome) → does c s ≡ x → SameSize s (storeAfter s x)
+after-size c s (refuses n) e = record { capacity = refl; kindCapacity = refl }
+after-size c s (accepts s′ a) e = rw (accepted-exact c s s′ a .0 e .1) at (accepted-size c s)
+
+size-by : (k : ℕ) (c : Command) (s : Store) (x : Outcome) → does c s ≡ x → After (SameSize s) (stepOf k s x)
+size-by k c s (refuses n) e = after-size c s (refuses n) e
+size-by k c s (accepts s′ a) e = after-size c s (accepts s′ a) e
+
+pub step-same : (b : ℕ) (t : List ℕ) (room : ℕ) (s : Store) → After (SameSize s) (step b t room s)
+step-same b t room s =
+    step-case (After (SameSize s)) b t room s (λ n. tt)
+    (λ h. size-by (suc (width b)) (commandAt b (take (width b) t)) s (does (commandAt b (take (width b) t)) s) refl)
+
+-- ---- the code's step
+
+pub stopped : {w t o : List ℕ} {at p n : ℕ} {x : Step} → Sound w → p ≤ length o → x ≡ stops n → Stepped w w t o o at p (Stop n) x
+stopped S h e = rw e (record { sound = S; becomes = stays (S .arranged); kept = refl; bytes = refl; within = omega arith; result = refl })
+
+-- bytes by the bound of each
+pub bytes-all : (l : List ℕ) → ((i : ℕ) → getD l i 0 < 256) → Bytes l
+bytes-all [] h = tt
+bytes-all (b ∷ l) h = (h 0, bytes-all l (λ i. h (suc i)))
+
+pub positive : (n : ℕ) → (n ≡ 0 → ⊥) → 1 ≤ n
+positive n h = omega arith
+
+-- what a command is given, once the run does not stop before it
+pub given : {w t o : List ℕ} {at p : ℕ} (b n need : ℕ) → StepReady w t at o p → n ≡ width b → 1 + n ≤ length t - at → need ≡ answerLength (commandIn b t (at + 1)) (meaning w) → need ≤ length o - p → Given w b t (at + 1) o p
+given b n need s e f g h =
+    record {
+      whole = omega (arith, s .more);
+      ready = record { sound = s .sound; room = omega (arith, s .within) };
+    }
+
+-- its answer is within the bytes
+pub acted-within : {w w′ o o′ t : List ℕ} {at p r : ℕ} (b : ℕ) → Given w b t at o p → Acted w w′ o o′ p r (does (commandIn b t at) (meaning w)) → p + r ≤ length o
+acted-within {w} {t = t} {at = at} b G A =
+    omega (arith, A .written .count, G .ready .room, answer-fits (commandIn b t at) (meaning w) (does (commandIn b t at) (meaning w)) refl)
+
+module _ {w w′ o o′ t : List ℕ} {at p r a : ℕ} {x : Step} where
+  pub stepped : (b : ℕ) → b ≡ getD t at 0 → x ≡ stepOf (suc (width b)) (meaning w) (does (commandIn b t (at + 1)) (meaning w)) → a ≡ width b → Bytes t
+      → Given w b t (at + 1) o p → Acted w w′ o o′ p r (does (commandIn b t (at + 1)) (meaning w))
+      → Stepped w w′ t o o′ at p (Goes (at + (1 + a)) (p + r)) x
+  stepped b v e q B G A =
+      let c = commandIn b t (at + 1) in
+      let s = meaning w in
+      let d : x ≡ goes (suc (width b)) (answerOf (does c s)) (storeAfter s (does c s)) = e in
+      let f : 1 + a ≡ suc (width b) = omega arith in
+      rw (d, f, A .written .count)
+      (record {
+        sound = acted-sound c (tape-fits b (drop (at + 1) t) (bytes-drop (at + 1) t B)) (G .ready .sound) A;
+        becomes = A .becomes;
+        kept = rw (← v) (A .refused);
+        bytes = A .written .bytes;
+        within = omega (arith, G .ready .room, answer-fits c s (does c s) refl);
+        result = refl;
+      })

@@ -1,0 +1,15 @@
+use Rattle.model.proofs.Sound.{width-le}
+use native.Mathlib.Omega.{arith}
+use mathlib.Core.Path.{refl}
+use borrow.Author.Needs.{needs}
+use Rattle.run.proofs.operand_bytes.Statement.{statement}
+use Rattle.run.proofs.operand_bytes.Tie as tie
+
+cast-result : tie.Need-cast-result
+cast-result c = omega (arith, width-le (c .args .op))
+
+returns : tie.Need-returns
+returns c = (refl, width-le (c .args .op))
+
+pub operand-bytes-spec : {M : Type 1} → statement M
+operand-bytes-spec = tie.close (tie.spec (λ c. search needs) cast-result returns)

@@ -1,0 +1,67 @@
+use Rattle.run.proofs.Runs.{Going, start, ended, stops-here, goes-on, moves}
+use borrow.Author.Needs.{needs}
+use lib.ListN.{length}
+use native.Mathlib.Omega.{arith}
+use mathlib.Core.Path.{_∙_}
+use Prim.Native.Nat.{_-_}
+use Rattle.run.proofs.run_sound.Statement.{statement}
+use Rattle.run.proofs.run_sound.Tie as tie
+
+abbrev Inv-loop : tie.InvT-loop
+Inv-loop words₀ tape out₀ at₀ to₀ done₀ words out at to done = Going words₀ tape out₀ words out at to done
+
+abbrev μ-loop : tie.MeasureT-loop
+μ-loop words₀ tape out₀ at₀ to₀ done₀ words out at to done = length tape - at
+
+loop-holds : tie.Need-loop-holds Inv-loop μ-loop
+loop-holds c = start (c .before .before .before .pre)
+
+step-requires : tie.Need-step-requires Inv-loop μ-loop
+step-requires c κs = record { sound = c .before .before .before .loop .inv .sound; more = c .before .before .loop-test .taken; within = c .before .before .before .loop .inv .within }
+
+add-done : tie.Need-add-done Inv-loop μ-loop
+add-done c = omega (arith, c .before .before .before .before .before .before .before .before .before .before .before .loop .inv .few, c .before .before .before .before .before .before .before .before .before .before .loop-test .taken, c .before .before .before .before .before .before .before .before .before .before .before .before .before .before .before .good)
+
+loop-less : tie.Need-loop-less Inv-loop μ-loop
+loop-less c = omega (arith, moves (c .before .before .before .before .before .before .before .before .before .before .before .loop .inv) (c .before .before .before .before .before .before .before .before .before .before .loop-test .taken) (c .before .next .given .0 .0) (c .before .next .given .0 .1 .0) (rw (c .before .next .given .1) at (c .before .before .before .before .before .before .before .step .ensures)), c .before .before .before .before .before .before .before .before .before .before .loop-test .taken)
+
+loop-again : tie.Need-loop-again Inv-loop μ-loop
+loop-again c = goes-on (c .before .before .before .before .before .before .before .before .before .before .before .loop .inv) (c .before .before .before .before .before .before .before .before .before .before .loop-test .taken) (c .before .next .given .0 .0) (c .before .next .given .0 .1 .0) (rw (c .before .next .given .1) at (c .before .before .before .before .before .before .before .step .ensures))
+
+same-length : tie.Need-same-length Inv-loop μ-loop
+same-length c = c .before .before .before .before .before .before .before .step .kept .0 ∙ c .before .before .before .before .before .before .before .before .before .before .before .loop .inv .becomes .size
+
+same-length-2 : tie.Need-same-length-2 Inv-loop μ-loop
+same-length-2 c = c .before .before .before .before .before .before .before .step .kept .1 .1 .1 .0 ∙ c .before .before .before .before .before .before .before .before .before .before .before .loop .inv .same-out
+
+returns : tie.Need-returns Inv-loop μ-loop
+returns c = stops-here (c .before .before .before .before .before .before .before .before .before .before .before .loop .inv) (c .before .before .before .before .before .before .before .before .before .before .loop-test .taken) (c .before .number .given .0 .0) (rw (c .before .number .given .1) at (c .before .before .before .before .before .before .before .step .ensures))
+
+same-length-3 : tie.Need-same-length-3 Inv-loop μ-loop
+same-length-3 c = c .before .loop .inv .becomes .size
+
+same-length-4 : tie.Need-same-length-4 Inv-loop μ-loop
+same-length-4 c = c .before .loop .inv .same-out
+
+returns-2 : tie.Need-returns-2 Inv-loop μ-loop
+returns-2 c = ended (c .before .loop .inv) (c .loop-test .left)
+
+pub run-sound-spec : {M : Type 1} → statement M
+run-sound-spec =
+    tie.close
+    (tie.spec
+    Inv-loop
+    μ-loop
+    loop-holds
+    step-requires
+    (λ c. search needs)
+    add-done
+    loop-less
+    loop-again
+    (λ c. search needs)
+    same-length
+    same-length-2
+    returns
+    same-length-3
+    same-length-4
+    returns-2)

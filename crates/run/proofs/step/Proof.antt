@@ -1,0 +1,79 @@
+use Rattle.run.proofs.Steps.{step-zero, step-high, step-cut, step-room, step-did, positive, stopped, given, acted-within, bytes-all, stepped}
+use Rattle.memory.specs.Meaning.{meaning}
+use Rattle.model.specs.Commands.{width}
+use lib.ListN.{getD, take, drop}
+use Prim.Native.Nat.{_+_}
+use mathlib.Core.Path.{refl}
+use native.Mathlib.Omega.{arith}
+use borrow.Author.Needs.{needs}
+use Rattle.run.proofs.step.Statement.{statement}
+use Rattle.run.proofs.step.Tie as tie
+
+returns : tie.Need-returns
+returns c =
+    let s = c .before .before .before .before .before in
+    stopped (s .pre .sound) (s .pre .within) (step-zero (meaning (s .args .words .now)) (s .args .tape .now) (s .args .at) _ (c .if1 .taken))
+
+returns-2 : tie.Need-returns-2
+returns-2 c =
+    let s = c .before .before .before .before .before .before in
+    stopped (s .pre .sound) (s .pre .within) (step-high (meaning (s .args .words .now)) (s .args .tape .now) (s .args .at) _ (positive _ (c .before .if1 .left)) (c .if2 .taken))
+
+returns-3 : tie.Need-returns-3
+returns-3 c =
+    let s = c .before .before .before .before .before .before .before .before in
+    stopped (s .pre .sound) (s .pre .within) (step-cut (meaning (s .args .words .now)) (s .args .tape .now) (s .args .at) _ (positive _ (c .before .before .before .if1 .left)) (c .before .before .if2 .left) (s .pre .more) (omega (arith, c .if3 .taken, c .before .operand-bytes .ensures .0)))
+
+returns-4 : tie.Need-returns-4
+returns-4 c =
+    let s = c .before .before .before .before .before .before .before .before .before .before .before in
+    let t = s .args .tape .now in
+    let b = getD t (s .args .at) 0 in
+    stopped (s .pre .sound) (s .pre .within) (step-room (meaning (s .args .words .now)) t (s .args .at) _ (positive b (c .before .before .before .before .before .before .if1 .left)) (c .before .before .before .before .before .if2 .left) (omega (arith, c .before .before .before .if3 .left, c .before .before .before .before .operand-bytes .ensures .0)) (omega (arith, c .if4 .taken, c .before .answer-bytes .ensures (take (width b) (drop (s .args .at + 1) t)))))
+
+act-requires : tie.Need-act-requires
+act-requires c κs =
+    let s = c .before .before .before .before .before .before .before .before .before .before .before .before .before in
+    let t = s .args .tape .now in
+    let b = getD t (s .args .at) 0 in
+    ((positive b (c .before .before .before .before .before .before .before .before .if1 .left), omega (arith, c .before .before .before .before .before .before .before .if2 .left)), (given b (c .before .before .before .before .before .before .operand-bytes .result) (c .before .before .before .answer-bytes .result) (s .pre) (c .before .before .before .before .before .before .operand-bytes .ensures .0) (c .before .before .before .before .before .if3 .left) (c .before .before .before .answer-bytes .ensures (take (width b) (drop (s .args .at + 1) t))) (c .before .before .if4 .left)))
+
+add-t13 : tie.Need-add-t13
+add-t13 c =
+    let d = c .before .before .before .before in
+    let s = d .before .before .before .before .before .before .before .before .before .before .before .before .before .before in
+    omega (arith, acted-within (getD (s .args .tape .now) (s .args .at) 0) (act-requires (d .before) (d .act .lifetimes) .1) (d .act .ensures), s .good)
+
+returns-5 : tie.Need-returns-5
+returns-5 c =
+    let d = c .before .before .before .before in
+    let s = d .before .before .before .before .before .before .before .before .before .before .before .before .before .before in
+    let t = s .args .tape .now in
+    let b = getD t (s .args .at) 0 in
+    let n = d .before .before .before .before .before .before .before .operand-bytes .ensures .0 in
+    stepped b refl
+    (step-did (meaning (s .args .words .now)) t (s .args .at) _ (positive b (d .before .before .before .before .before .before .before .before .before .if1 .left)) (d .before .before .before .before .before .before .before .before .if2 .left) (omega (arith, d .before .before .before .before .before .before .if3 .left, n)) (omega (arith, d .before .before .before .if4 .left, d .before .before .before .before .answer-bytes .ensures (take (width b) (drop (s .args .at + 1) t)))))
+    n (bytes-all t (λ i. omega (arith, d .before .before .before .before .before .before .before .before .before .before .before .before .shared-slice-known .given i))) (act-requires (d .before) (d .act .lifetimes) .1) (d .act .ensures)
+
+pub step-spec : {M : Type 1} → statement M
+step-spec =
+    tie.close
+    (tie.spec
+    (λ c. search needs)
+    returns
+    returns-2
+    (λ c κs. search needs)
+    (λ c. search needs)
+    (λ c. search needs)
+    returns-3
+    (λ c κs. search needs)
+    (λ c. search needs)
+    (λ c. search needs)
+    returns-4
+    (λ c. search needs)
+    act-requires
+    (λ c. search needs)
+    add-t13
+    (λ c. search needs)
+    (λ c. search needs)
+    returns-5)

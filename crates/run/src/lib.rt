@@ -1,0 +1,143 @@
+// A run: command after command off a tape, up to its end or a stop.
+pub mod operands;
+
+ghost use mathlib.Core.Path.{_≡_};
+ghost use mathlib.Core.List.{List};
+ghost use Prim.Native.Nat.{ℕ, _-_, _<_, _≤_};
+ghost use lib.ListN.{length};
+ghost use Rattle.model.specs.Commands.{width, commandAt, answerLength};
+ghost use Rattle.model.specs.Run.{does, run};
+ghost use Rattle.memory.specs.Meaning.{meaning};
+ghost use Rattle.memory.specs.Arranged.{Arranged, Sound};
+ghost use Rattle.command.specs.Acted.{Acted};
+ghost use Rattle.run.specs.Stream.{commandIn, Given, StepReady, stepAt, Stepped, Completed};
+
+// Operand bytes by command byte.
+const WIDTHS: [u8; 15] = [0, 1, 9, 0, 8, 8, 8, 8, 0, 0, 0, 1, 0, 0, 0];
+// Bytes of the accepted answer by command byte. TAKE has nine more for each staged component.
+const ANSWERS: [u8; 15] = [5, 2, 1, 9, 1, 1, 1, 1, 1, 2, 1, 1, 10, 1, 5];
+
+const TAKE: u8 = 5;
+// What stops a run before a command.
+const UNKNOWN: u8 = 4;
+
+const CUT: u8 = 5;
+
+const NOROOM: u8 = 6;
+
+// One command is done, and the tape goes on at the first number, the answers at the second; or the run stops.
+pub enum Went {
+    Done(usize, usize),
+    Stop(u8),
+}
+
+// What a run answers.
+pub struct Ran {
+    pub stop: u8,
+    pub commands: usize,
+    pub read: usize,
+    pub written: usize,
+}
+
+fn operand_bytes(op: u8) -> usize
+    requires { ⌜ op < 15 ⌝ }
+    ensures { λ r. ⌜ (r ≡ width op) × (r ≤ 9) ⌝ }
+{
+    let i = op as usize;
+    WIDTHS[i] as usize
+}
+
+// Bytes that the accepted answer takes, whatever the operands are.
+fn answer_bytes(words: &[u32], op: u8) -> usize
+    requires { ⌜ Arranged (now words) ⌝ }
+    requires { ⌜ op < 15 ⌝ }
+    ensures { λ r. ⌜ ((ops : List ℕ) → r ≡ answerLength (commandAt op ops) (meaning (now (words .entry)))) ⌝ }
+{
+    let i = op as usize;
+    let fixed = ANSWERS[i] as usize;
+    if op == TAKE {
+        return fixed + 9 * control::staged::staged_len(words);
+    }
+    fixed
+}
+
+// The command of byte op, from 1 to 14, whose operands stand at `at`.
+fn act(words: &mut [u32], op: u8, tape: &[u8], at: usize, out: &mut [u8], to: usize) -> usize
+    requires { ⌜ (1 ≤ op) × (op < 15) ⌝ }
+    requires { ⌜ Given (now words) op (now tape) at (now out) to ⌝ }
+    ensures { λ r. ⌜ Acted (now (words .entry)) (now (words .exit)) (now (out .entry)) (now (out .exit)) to r (does (commandIn op (now (tape .entry)) at) (meaning (now (words .entry)))) ⌝ }
+{
+    match op {
+        1 => operands::reg(words, tape, at, out, to),
+        2 => operands::hold(words, tape, at, out, to),
+        3 => command_entity::entities::new(words, out, to),
+        4 => operands::put(words, tape, at, out, to),
+        5 => operands::take(words, tape, at, out, to),
+        6 => operands::drop(words, tape, at, out, to),
+        7 => operands::kill(words, tape, at, out, to),
+        8 => command_entity::components::wipe(words, out, to),
+        9 => command_group::group(words, out, to),
+        10 => command_entity::applying::apply(words, out, to),
+        11 => operands::bar(words, tape, at, out, to),
+        12 => command_range::range(words, out, to),
+        13 => command::lists::empty(words, out, to),
+        _ => command::lists::tally(words, out, to),
+    }
+}
+
+// One command, or the number of the stop before it.
+pub fn step(words: &mut [u32], tape: &[u8], at: usize, out: &mut [u8], to: usize) -> Went
+    requires { ⌜ StepReady (now words) (now tape) at (now out) to ⌝ }
+    ensures { λ r. ⌜ Stepped (now (words .entry)) (now (words .exit)) (now (tape .entry)) (now (out .entry)) (now (out .exit)) at to r (stepAt (meaning (now (words .entry))) (now (tape .entry)) at (length (now (out .entry)) - to)) ⌝ }
+{
+    let op = tape[at];
+    if op == 0 {
+        return Went::Stop(UNKNOWN);
+    }
+    if 14 < op {
+        return Went::Stop(UNKNOWN);
+    }
+    let read = 1 + operand_bytes(op);
+    if tape.len() - at < read {
+        return Went::Stop(CUT);
+    }
+    let need = answer_bytes(words, op);
+    if out.len() - to < need {
+        return Went::Stop(NOROOM);
+    }
+    let written = act(words, op, tape, at + 1, out, to);
+    Went::Done(at + read, to + written)
+}
+
+// The whole tape, over words that are sound.
+pub fn run_sound(words: &mut [u32], tape: &[u8], out: &mut [u8]) -> Ran
+    requires { ⌜ Sound (now words) ⌝ }
+    ensures { λ r. ⌜ Completed (now (words .entry)) (now (words .exit)) (now (tape .entry)) (now (out .entry)) (now (out .exit)) r (run (now (tape .entry)) (length (now (out .entry))) (meaning (now (words .entry)))) ⌝ }
+{
+    let mut at: usize = 0;
+    let mut to: usize = 0;
+    let mut done: usize = 0;
+    while at < tape.len() {
+        match step(words, tape, at, out, to) {
+            Went::Done(next, end) => {
+                at = next;
+                to = end;
+                done += 1;
+            }
+            Went::Stop(number) => {
+                return Ran {
+                    stop: number,
+                    commands: done,
+                    read: at,
+                    written: to,
+                };
+            }
+        }
+    }
+    Ran {
+        stop: 0,
+        commands: done,
+        read: at,
+        written: to,
+    }
+}

@@ -1,0 +1,52 @@
+-- Lists of kinds told place by place: once each, by a table of what was seen; and where a kind of the list stands. Assumes nothing.
+use mathlib.Core.Path.{_≡_, ap, sym, _∙_, subst}
+use mathlib.Core.Bool.{false, _||_, or-false}
+use mathlib.Core.List.{List, [], _∷_}
+use Prim.Native.Nat.{ℕ, zero, suc, _+_, _≤_, _<_}
+use native.Mathlib.Numerals.{add-one}
+use native.Mathlib.Omega.{arith}
+use borrow.Author.Tests.{eqb-true, eq-eqb, ne-eqb}
+use lib.Dec.{eqb}
+use lib.ListN.{length, take, getD, set, replicate, getD-replicate}
+use lib.Seq.{take-suc, take-length, getD-set-same, getD-set-other}
+use Rattle.model.specs.Lists.{place, count-place, getD-place}
+use Rattle.model.specs.Model.{mem}
+use Rattle.model.specs.Sound.{In, Distinct}
+use Rattle.model.proofs.Walk.{or-true, mem-append}
+use Rattle.words.specs.Table.{by-eq}
+use Rattle.words.specs.Decides.{Each}
+use Rattle.model.proofs.KindLists.{in-count, distinct-snoc}
+
+-- ---- where a kind stands
+
+pub in-at : (l : List ℕ) (k : ℕ) → In l k → (i : ℕ) × (i < length l) × (getD l i 0 ≡ k)
+in-at l k t = let p = count-place eqb k l (in-count l k t) in (place eqb k l, p, getD-place eqb eqb-true k 0 l p)
+
+-- ---- once each, place by place
+
+front : (l : List ℕ) → Each (length l) (λ i. mem (getD l i 0) (take i l) ≡ false) → (n : ℕ) → n ≤ length l → Distinct (take n l)
+front l f zero h = λ k. omega arith
+front l f (suc n) h = rw (take-suc l n 0 h) (distinct-snoc (take n l) (getD l n 0) (front l f n (omega arith)) (f n h))
+
+pub new-distinct : (l : List ℕ) → Each (length l) (λ i. mem (getD l i 0) (take i l) ≡ false) → Distinct l
+new-distinct l f = subst Distinct (take-length l) (front l f (length l) (omega arith))
+
+-- ---- a table of what was seen
+
+-- the table marks what stands before i
+abbrev pub Marks : List ℕ → List ℕ → ℕ → Type 0
+Marks seen l i = (k : ℕ) → k < 128 → eqb (getD seen k 0) 1 ≡ mem k (take i l)
+
+pub marks-more : (seen l : List ℕ) (i : ℕ) → length seen ≡ 128 → i < length l → getD l i 0 < 128 → Marks seen l i → Marks (set seen (getD l i 0) 1) l (i + 1)
+marks-more seen l i e h s m k hk =
+    let v = getD l i 0 in
+    let to : mem k (take (i + 1) l) ≡ (mem k (take i l) || (eqb k v || false)) =
+    ap (λ (n : ℕ). mem k (take n l)) (add-one i) ∙ ap (mem k) (take-suc l i 0 h) ∙ mem-append k (take i l) (v ∷ []) in
+    by-eq k v
+    (λ p.
+    eq-eqb (getD (set seen v 1) k 0) 1 (ap (λ (x : ℕ). getD (set seen v 1) x 0) p ∙ getD-set-same seen v 1 0 (omega arith))
+    ∙ sym (to ∙ rw (eq-eqb k v p) (or-true (mem k (take i l)))))
+    (λ n. ap (λ (x : ℕ). eqb x 1) (getD-set-other seen v k 1 0 n) ∙ m k hk ∙ sym (to ∙ rw (ne-eqb k v n) (or-false (mem k (take i l)))))
+
+pub marks-none : (l : List ℕ) → Marks (replicate 128 0) l 0
+marks-none l k h = rw (getD-replicate {A = ℕ} 128 k 0 0 h)

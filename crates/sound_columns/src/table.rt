@@ -1,0 +1,97 @@
+// The table of kinds and the columns' heads point to each other.
+ghost use mathlib.Core.Path.{_≡_};
+ghost use Prim.Native.Nat.{_<_};
+ghost use Rattle.words.specs.Decides.{Decides, Each};
+ghost use Rattle.sound_columns.specs.Slots.{Slot, Room, headAt};
+ghost use Rattle.sound_columns.specs.Table.{KindOk, SlotOk, TableOk};
+
+// Word i of the head of slot s's column.
+pub fn head(words: &[u32], n: usize, s: usize, i: usize) -> usize
+    requires { ⌜ Slot n s (now words) ⌝ }
+    requires { ⌜ i < 8 ⌝ }
+    ensures { λ r. ⌜ r ≡ headAt n (now (words .entry)) s i ⌝ }
+{
+    let base = words::column_start(n, s);
+    words[base + i] as usize
+}
+
+// A registered kind has a slot in use, whose column says the kind.
+fn kind_ok(words: &[u32], n: usize, registered: usize, kind: usize) -> bool
+    requires { ⌜ Room n registered (now words) ⌝ }
+    requires { ⌜ kind < 128 ⌝ }
+    ensures { λ r. ⌜ Decides r (KindOk n registered (now (words .entry)) kind) ⌝ }
+{
+    let s = words[words::TABLE + kind] as usize;
+    if s == 255 {
+        return true;
+    }
+    if registered <= s {
+        return false;
+    }
+    if head(words, n, s, words::KIND) != kind {
+        return false;
+    }
+    true
+}
+
+// A slot in use says a kind, and the table says the slot.
+fn slot_ok(words: &[u32], n: usize, s: usize) -> bool
+    requires { ⌜ Slot n s (now words) ⌝ }
+    ensures { λ r. ⌜ Decides r (SlotOk n (now (words .entry)) s) ⌝ }
+{
+    let kind = head(words, n, s, words::KIND);
+    if 128 <= kind {
+        return false;
+    }
+    let back = words[words::TABLE + kind] as usize;
+    if back != s {
+        return false;
+    }
+    true
+}
+
+fn kinds_ok(words: &[u32], n: usize, registered: usize) -> bool
+    requires { ⌜ Room n registered (now words) ⌝ }
+    ensures { λ r. ⌜ Decides r (Each 128 (KindOk n registered (now (words .entry)))) ⌝ }
+{
+    let mut kind = 0;
+    while kind < 128 {
+        if !kind_ok(words, n, registered, kind) {
+            return false;
+        }
+        kind += 1;
+    }
+    true
+}
+
+fn slots_ok(words: &[u32], n: usize, registered: usize) -> bool
+    requires { ⌜ Room n registered (now words) ⌝ }
+    ensures { λ r. ⌜ Decides r (Each registered (SlotOk n (now (words .entry)))) ⌝ }
+{
+    let mut s = 0;
+    while s < registered {
+        if !slot_ok(words, n, s) {
+            return false;
+        }
+        s += 1;
+    }
+    true
+}
+
+// Are at most k kinds registered, each with a column of its own?
+pub fn is_table(words: &[u32], n: usize, k: usize) -> bool
+    requires { ⌜ Room n k (now words) ⌝ }
+    ensures { λ r. ⌜ Decides r (TableOk n k (now (words .entry))) ⌝ }
+{
+    let registered = words[words::REGISTERED] as usize;
+    if k < registered {
+        return false;
+    }
+    if !kinds_ok(words, n, registered) {
+        return false;
+    }
+    if !slots_ok(words, n, registered) {
+        return false;
+    }
+    true
+}

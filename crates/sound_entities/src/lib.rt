@@ -1,0 +1,247 @@
+// Is an entity part sound? Each check is exact, and together they are linear in the words.
+use entity::entity_allocator::wrap;
+ghost use mathlib.Core.Path.{_≡_};
+ghost use Prim.Native.Nat.{_+_, _*_, _≤_, _<_};
+ghost use lib.ListN.{length};
+ghost use Rattle.words.specs.Decides.{Decides, Each};
+ghost use Rattle.entity.specs.Ring.{since};
+ghost use Rattle.entity.specs.Change.{entityPart};
+ghost use Rattle.entity.specs.Meaning.{Sized, Sound, lenOf, recycledLen};
+ghost use Rattle.sound_entities.specs.Checks.{Counts, LiveOk, LookupOk, WaitsOk, ListedOk, IndexOk};
+
+// The counts are within the capacity.
+fn counts_ok(part: &[u32], n: usize) -> bool
+    requires { ⌜ Sized n (now part) ⌝ }
+    ensures { λ r. ⌜ Decides r (Counts n (now (part .entry))) ⌝ }
+{
+    let issued = part[1] as usize;
+    if n < issued {
+        return false;
+    }
+    let live = part[0] as usize;
+    if n < live {
+        return false;
+    }
+    let head = part[2] as usize;
+    if n <= head {
+        return false;
+    }
+    let recycled = part[3] as usize;
+    if n < recycled {
+        return false;
+    }
+    true
+}
+
+// The live list's place i has an issued index, whose lookup points back.
+fn live_ok(part: &[u32], n: usize, i: usize) -> bool
+    requires { ⌜ Sized n (now part) × (i < n) ⌝ }
+    ensures { λ r. ⌜ Decides r (LiveOk n (now (part .entry)) i) ⌝ }
+{
+    let index = part[8 + 2 * i] as usize;
+    let issued = part[1] as usize;
+    if issued <= index {
+        return false;
+    }
+    if n <= index {
+        return false;
+    }
+    let version = part[8 + 2 * i + 1];
+    if version < 1 {
+        return false;
+    }
+    let slot = 8 + 2 * n + 2 * index;
+    let place = part[slot] as usize;
+    if place != i {
+        return false;
+    }
+    let held = part[slot + 1];
+    if held != version {
+        return false;
+    }
+    true
+}
+
+fn live_list_ok(part: &[u32], n: usize) -> bool
+    requires { ⌜ Sized n (now part) ⌝ }
+    requires { ⌜ Counts n (now part) ⌝ }
+    ensures { λ r. ⌜ Decides r (Each (lenOf (now (part .entry))) (LiveOk n (now (part .entry)))) ⌝ }
+{
+    let k = part[0] as usize;
+    let mut i = 0;
+    while i < k {
+        if !live_ok(part, n, i) {
+            return false;
+        }
+        i += 1;
+    }
+    true
+}
+
+// The number that waits behind j others is issued and not live, and its index says where it waits.
+fn waits_ok(part: &[u32], n: usize, j: usize) -> bool
+    requires { ⌜ Sized n (now part) × (j < n) ⌝ }
+    requires { ⌜ Counts n (now part) ⌝ }
+    ensures { λ r. ⌜ Decides r (WaitsOk n (now (part .entry)) j) ⌝ }
+{
+    let place = wrap(n, part[2] as usize + j);
+    let at = 8 + 4 * n + 2 * place;
+    let index = part[at] as usize;
+    let issued = part[1] as usize;
+    if issued <= index {
+        return false;
+    }
+    let version = part[at + 1];
+    if version < 1 {
+        return false;
+    }
+    let slot = part[8 + 6 * n + index] as usize;
+    if slot != place + 1 {
+        return false;
+    }
+    let held = part[8 + 2 * n + 2 * index + 1];
+    if held != 0 {
+        return false;
+    }
+    true
+}
+
+fn ring_ok(part: &[u32], n: usize) -> bool
+    requires { ⌜ Sized n (now part) ⌝ }
+    requires { ⌜ Counts n (now part) ⌝ }
+    ensures { λ r. ⌜ Decides r (Each (recycledLen (now (part .entry))) (WaitsOk n (now (part .entry)))) ⌝ }
+{
+    let k = part[3] as usize;
+    let mut j = 0;
+    while j < k {
+        if !waits_ok(part, n, j) {
+            return false;
+        }
+        j += 1;
+    }
+    true
+}
+
+// A lookup that says live points to a place of the live list that has the index.
+fn lookup_ok(part: &[u32], n: usize, x: usize) -> bool
+    requires { ⌜ Sized n (now part) × (x < n) ⌝ }
+    requires { ⌜ Counts n (now part) ⌝ }
+    ensures { λ r. ⌜ Decides r (LookupOk n (now (part .entry)) x) ⌝ }
+{
+    let slot = 8 + 2 * n + 2 * x;
+    let held = part[slot + 1];
+    if held < 1 {
+        return true;
+    }
+    let place = part[slot] as usize;
+    let k = part[0] as usize;
+    if k <= place {
+        return false;
+    }
+    let index = part[8 + 2 * place] as usize;
+    if index != x {
+        return false;
+    }
+    true
+}
+
+// How many places after the head the place comes.
+fn behind(n: usize, head: usize, place: usize) -> usize
+    requires { ⌜ (n ≤ 4096) × (head < n) × (place < n) ⌝ }
+    ensures { λ r. ⌜ r ≡ since n head place ⌝ }
+{
+    if head <= place {
+        return place - head;
+    }
+    place + n - head
+}
+
+// An index that says that it waits points to a place in use that has the index.
+fn listed_ok(part: &[u32], n: usize, x: usize) -> bool
+    requires { ⌜ Sized n (now part) × (x < n) ⌝ }
+    requires { ⌜ Counts n (now part) ⌝ }
+    ensures { λ r. ⌜ Decides r (ListedOk n (now (part .entry)) x) ⌝ }
+{
+    let slot = part[8 + 6 * n + x] as usize;
+    if slot < 1 {
+        return true;
+    }
+    if n < slot {
+        return false;
+    }
+    let place = slot - 1;
+    let others = behind(n, part[2] as usize, place);
+    let k = part[3] as usize;
+    if k <= others {
+        return false;
+    }
+    let index = part[8 + 4 * n + 2 * place] as usize;
+    if index != x {
+        return false;
+    }
+    true
+}
+
+fn index_ok(part: &[u32], n: usize, x: usize) -> bool
+    requires { ⌜ Sized n (now part) × (x < n) ⌝ }
+    requires { ⌜ Counts n (now part) ⌝ }
+    ensures { λ r. ⌜ Decides r (IndexOk n (now (part .entry)) x) ⌝ }
+{
+    if !lookup_ok(part, n, x) {
+        return false;
+    }
+    if !listed_ok(part, n, x) {
+        return false;
+    }
+    true
+}
+
+fn indexes_ok(part: &[u32], n: usize) -> bool
+    requires { ⌜ Sized n (now part) ⌝ }
+    requires { ⌜ Counts n (now part) ⌝ }
+    ensures { λ r. ⌜ Decides r (Each n (IndexOk n (now (part .entry)))) ⌝ }
+{
+    let mut x = 0;
+    while x < n {
+        if !index_ok(part, n, x) {
+            return false;
+        }
+        x += 1;
+    }
+    true
+}
+
+// Whether a part is a sound entity part of capacity n.
+pub fn is_sound(part: &[u32], n: usize) -> bool
+    requires { ⌜ n ≤ 4096 ⌝ }
+    ensures { λ r. ⌜ Decides r (Sound n (now (part .entry))) ⌝ }
+{
+    if n < 1 {
+        return false;
+    }
+    if part.len() != 16 * n {
+        return false;
+    }
+    if !counts_ok(part, n) {
+        return false;
+    }
+    if !live_list_ok(part, n) {
+        return false;
+    }
+    if !ring_ok(part, n) {
+        return false;
+    }
+    if !indexes_ok(part, n) {
+        return false;
+    }
+    true
+}
+
+// Whether the words have a sound entity part.
+pub fn is_sound_in(words: &[u32], n: usize) -> bool
+    requires { ⌜ (n ≤ 4096) × (1024 + 16 * n ≤ length (now words)) ⌝ }
+    ensures { λ r. ⌜ Decides r (Sound n (entityPart n (now (words .entry)))) ⌝ }
+{
+    let end = words::ENTITIES + 16 * n;
+    is_sound(&words[words::ENTITIES..end], n)
+}

@@ -1,0 +1,100 @@
+-- The first rows of two columns, word by word and entity by entity; numbers before a number. Assumes nothing.
+use mathlib.Core.Path.{_≡_, refl, sym, ap, ap₂, _∙_}
+use mathlib.Core.Logic.{_≢_}
+use mathlib.Core.Bool.{Bool, true, false}
+use mathlib.Core.List.{List}
+use Prim.Native.Nat.{ℕ, zero, suc, _+_, _*_, _-_, _/_, _%_, _≤_, _<_}
+use native.Mathlib.Omega.{arith}
+use borrow.Author.Tests.{lt-ltb, le-ltb, eqb-true, eq-eqb}
+use lib.ListN.{length, getD}
+use Rattle.model.specs.Model.{Entity}
+use Rattle.words.specs.Offsets.{columnStart}
+use Rattle.words.specs.Table.{by-eq}
+use Rattle.words.specs.Decides.{Decides, Each}
+use Rattle.component.specs.Columns.{rowsOf, Lent}
+use Rattle.sound_columns.specs.Rows.{entityIn}
+use Rattle.memory.specs.Header.{slotOf, countAt}
+use Rattle.sound_groups.specs.declared.heads.Span.{Span}
+use Rattle.sound_columns.specs.Slots.{headAt, Over}
+use Rattle.sound_groups.specs.Spans.{startIn, priorIn, firstAt, ReadSpan, HeadOk, NewOk, OwnOk, Marked, SeenOk}
+use Rattle.sound_columns.specs.Rows.{keyAt}
+use Rattle.sound_groups.specs.Counts.{SameWord, rowsAt, CountOk, GroupCounted}
+use Rattle.sound_columns.proofs.SlotLaws.{key-word}
+
+-- ---- numbers before a number
+
+pub start-in : (w : List ℕ) (a f : ℕ) → f ≢ 0 → getD w (a + (f - 1)) 0 ≡ startIn w a f
+start-in w a zero h = absurd (h refl)
+start-in w a (suc f) h = ap (λ (i : ℕ). getD w (a + i) 0) (omega arith)
+
+pub prior-some : (w : List ℕ) (a start g whole : ℕ) → start < g → getD w (a + (g - 1)) 0 ≡ priorIn w a start g whole
+prior-some w a start g whole h = rw (lt-ltb start g h)
+
+pub prior-whole : (w : List ℕ) (a start g whole : ℕ) → g ≤ start → whole ≡ priorIn w a start g whole
+prior-whole w a start g whole h = rw (le-ltb start g h)
+
+-- ---- a group's numbers, as they were read
+
+pub new-moved : (n : ℕ) (w : List ℕ) (g f : ℕ) (p : Span) → ReadSpan w f g p → (b : Bool) → Decides b (Over (p .from) (p .to) (HeadOk n w g (p .first))) → Decides b (NewOk n w f g)
+new-moved n w g f p R b d = rw (R .from, R .to, R .first) at d
+
+pub count-moved : (n : ℕ) (w : List ℕ) (g f : ℕ) (p : Span) (whole prior : ℕ) → ReadSpan w f g p → length (rowsAt n w (p .first)) ≡ whole
+    → prior ≡ priorIn w 960 (p .start) g whole → (b : Bool)
+    → Decides b (CountOk n w (slotOf w (getD w (p .first) 0)) (p .from) (p .to) prior (countAt w g)) → Decides b (GroupCounted n w f g)
+count-moved n w g f p whole prior R e q b d =
+    let o : prior ≡ priorIn w 960 (startIn w 832 f) g (length (rowsAt n w (firstAt w f))) =
+    q ∙ ap₂ (λ (s x : ℕ). priorIn w 960 s g x) (R .start) (sym e ∙ ap (λ (i : ℕ). length (rowsAt n w i)) (R .first)) in
+    rw (o, R .from, R .to, R .first) at d
+
+-- ---- entities and their words
+
+module _ (w : List ℕ) (a b : ℕ) where
+  entity-words : (i : ℕ) → SameWord w a b (2 * i) → SameWord w a b (2 * i + 1) → entityIn w (a + 2 * i) ≡ entityIn w (b + 2 * i)
+  entity-words i x v =
+      let y : getD w (a + 2 * i + 1) 0 ≡ getD w (b + 2 * i + 1) 0 = ap (λ (j : ℕ). getD w j 0) (omega arith) ∙ v ∙ ap (λ (j : ℕ). getD w j 0) (omega arith) in
+      λ j. record { index = x j; version = y j }
+
+  words-entity : (i : ℕ) → entityIn w (a + 2 * i) ≡ entityIn w (b + 2 * i) → SameWord w a b (2 * i) × SameWord w a b (2 * i + 1)
+  words-entity i e = (
+    ap (λ (x : Entity). x .index) e,
+    ap (λ (j : ℕ). getD w j 0) (omega arith) ∙ ap (λ (x : Entity). x .version) e ∙ ap (λ (j : ℕ). getD w j 0) (omega arith),
+  )
+
+  pub words-entities : (c : ℕ) → Each (2 * c) (SameWord w a b) → Each c (λ i. entityIn w (a + 2 * i) ≡ entityIn w (b + 2 * i))
+  words-entities c f i h = entity-words i (f (2 * i) (omega arith)) (f (2 * i + 1) (omega arith))
+
+  pub entities-words : (c : ℕ) → Each c (λ i. entityIn w (a + 2 * i) ≡ entityIn w (b + 2 * i)) → Each (2 * c) (SameWord w a b)
+  entities-words c f i h =
+      let q = words-entity (i / 2) (f (i / 2) (omega arith)) in
+      by-eq (i % 2) 0
+      (λ e. let z : 2 * (i / 2) ≡ i = omega arith in rw z at (q .0))
+      (λ e. let z : 2 * (i / 2) + 1 ≡ i = omega arith in rw z at (q .1))
+
+-- ---- two slots, whose columns start at x and y
+
+module _ (n s h c x y : ℕ) (w : List ℕ) (ex : x ≡ columnStart n s) (ey : y ≡ columnStart n h) (S : Lent n s w) (H : Lent n h w)
+    (cs : c ≤ length (rowsOf n s w)) (ch : c ≤ length (rowsOf n h w)) where
+  abbrev first : ℕ → Entity
+  first i = entityIn w (x + 8 + 2 * i)
+
+  abbrev second : ℕ → Entity
+  second i = entityIn w (y + 8 + 2 * i)
+
+  at-first : (i : ℕ) → i < c → keyAt n w s i ≡ first i
+  at-first i lt = key-word n s w S i (omega arith) ∙ ap (λ (z : ℕ). entityIn w (z + 8 + 2 * i)) (sym ex)
+
+  at-second : (i : ℕ) → i < c → keyAt n w h i ≡ second i
+  at-second i lt = key-word n h w H i (omega arith) ∙ ap (λ (z : ℕ). entityIn w (z + 8 + 2 * i)) (sym ey)
+
+  pub even-words : Each c (λ i. keyAt n w s i ≡ keyAt n w h i) → Each (2 * c) (SameWord w (x + 8) (y + 8))
+  even-words f = entities-words w (x + 8) (y + 8) c (λ i lt. sym (at-first i lt) ∙ f i lt ∙ at-second i lt)
+
+  pub words-even : Each (2 * c) (SameWord w (x + 8) (y + 8)) → Each c (λ i. keyAt n w s i ≡ keyAt n w h i)
+  words-even f i lt = at-first i lt ∙ words-entities w (x + 8) (y + 8) c f i lt ∙ sym (at-second i lt)
+
+-- ---- a table of the kinds seen
+
+pub seen-own : (n : ℕ) (w seen kinds : List ℕ) (reg : ℕ) → Marked seen kinds → ((s : ℕ) → s < reg → headAt n w s 1 < 128)
+    → (b : Bool) → Decides b (Each reg (SeenOk n w seen)) → Decides b (Each reg (OwnOk n w kinds))
+seen-own n w seen kinds reg M small true O = λ s h o. sym (M (headAt n w s 1) (small s h)) ∙ eq-eqb _ _ (O s h o)
+seen-own n w seen kinds reg M small false N = λ O. N (λ s h o. eqb-true (getD seen (headAt n w s 1) 0) 1 (M (headAt n w s 1) (small s h) ∙ O s h o))

@@ -1,0 +1,48 @@
+-- A group's count, told by one pass over the columns: `h` is the slot of its family's first kind, its new kinds are the words from a on, below e.
+-- 01, a sound store: "groups as demand 3 says". Assumes nothing.
+use mathlib.Core.Path.{_≡_}
+use mathlib.Core.Bool.{true}
+use mathlib.Core.List.{List}
+use Prim.Native.Nat.{ℕ, _+_, _≤_}
+use lib.ListN.{length, getD}
+use Rattle.model.specs.Model.{Entity, SparseSet, held}
+use Rattle.words.specs.Decides.{Each}
+use Rattle.component.specs.Columns.{rowsOf}
+use Rattle.memory.specs.Header.{slotOf, groupFamilyAt, countAt}
+use Rattle.sound_columns.specs.Slots.{Over}
+use Rattle.sound_columns.specs.Rows.{keyAt}
+use Rattle.sound_groups.specs.Spans.{startIn, priorIn, firstAt, fromAt, toAt}
+
+-- the words at i from a and from b on are equal
+abbrev pub SameWord : List ℕ → ℕ → ℕ → ℕ → Type 0
+SameWord w a b i = getD w (a + i) 0 ≡ getD w (b + i) 0
+
+-- the rows of the kind at word j
+abbrev pub rowsAt : ℕ → List ℕ → ℕ → SparseSet
+rowsAt n w j = rowsOf n (slotOf w (getD w j 0)) w
+
+-- the first c rows of the kind at word j have h's entities
+pub record EvenOk (n : ℕ) (w : List ℕ) (h c j : ℕ) : Type 0 where
+  pub fits : c ≤ length (rowsAt n w j)
+  pub even : Each c (λ i. keyAt n w (slotOf w (getD w j 0)) i ≡ keyAt n w h i)
+
+-- the entity holds all these kinds
+abbrev pub Holds : ℕ → List ℕ → ℕ → ℕ → Entity → Type 0
+Holds n w a e x = Over a e (λ j. held x (rowsAt n w j) ≡ true)
+
+-- the group has count c, the next smaller one b (the smallest: as many as h has rows)
+pub record CountOk (n : ℕ) (w : List ℕ) (h a e b c : ℕ) : Type 0 where
+  pub less : c ≤ b
+  pub inside : b ≤ length (rowsOf n h w)
+  pub even : Over a e (EvenOk n w h c)
+  pub past : Over c b (λ i. Holds n w a e (keyAt n w h i) → ⊥)
+
+-- group g of family f
+abbrev pub GroupCounted : ℕ → List ℕ → ℕ → ℕ → Type 0
+GroupCounted n w f g =
+    CountOk n w (slotOf w (getD w (firstAt w f) 0)) (fromAt w f g) (toAt w f g)
+    (priorIn w 960 (startIn w 832 f) g (length (rowsAt n w (firstAt w f))))
+    (countAt w g)
+
+abbrev pub CountedOk : ℕ → List ℕ → ℕ → Type 0
+CountedOk n w g = GroupCounted n w (groupFamilyAt w g) g

@@ -1,0 +1,192 @@
+// The groups' counts: a group's first places hold the same entities in each of its columns, and past them each lacks a kind.
+use crate::heads::prior_in;
+use crate::heads::span_of;
+use component::Found;
+ghost use mathlib.Core.Path.{_≡_};
+ghost use Prim.Native.Nat.{_+_, _*_, _<_, _≤_};
+ghost use lib.ListN.{length};
+ghost use Rattle.model.specs.Model.{held};
+ghost use Rattle.component.specs.SparseSet.{entity};
+ghost use Rattle.words.specs.Decides.{Decides, Each};
+ghost use Rattle.component.specs.Columns.{Lent, rowsOf};
+ghost use Rattle.memory.specs.Header.{groupFamilyAt};
+ghost use Rattle.sound_columns.specs.Slots.{Over};
+ghost use Rattle.sound_groups.specs.Spans.{KindAt, KindsAt, Force, GroupOf};
+ghost use Rattle.sound_columns.specs.Rows.{keyAt};
+ghost use Rattle.sound_groups.specs.Counts.{SameWord, rowsAt, EvenOk, Holds, CountOk, GroupCounted, CountedOk};
+
+// Are c entities from two words on the same?
+fn same_rows(words: &[u32], a: usize, b: usize, c: usize) -> bool
+    requires { ⌜ (a + 2 * c ≤ length (now words)) × (b + 2 * c ≤ length (now words)) ⌝ }
+    ensures { λ r. ⌜ Decides r (Each (2 * c) (SameWord (now (words .entry)) a b)) ⌝ }
+{
+    let end = 2 * c;
+    let mut i = 0;
+    while i < end {
+        if words[a + i] != words[b + i] {
+            return false;
+        }
+        i += 1;
+    }
+    true
+}
+
+// Has the kind at word j the entities of slot h in its first c rows?
+fn even_ok(words: &[u32], n: usize, h: usize, c: usize, j: usize) -> bool
+    requires { ⌜ (704 ≤ length (now words)) × (j < 704) × Lent n h (now words) × (c ≤ length (rowsOf n h (now words))) ⌝ }
+    requires { ⌜ KindAt n (now words) j ⌝ }
+    ensures { λ r. ⌜ Decides r (EvenOk n (now (words .entry)) h c j) ⌝ }
+{
+    let kind = words[j] as usize;
+    let s = words[words::TABLE + kind] as usize;
+    let len = component::slots::len_in(words, n, s);
+    if len < c {
+        return false;
+    }
+    let a = words::column_start(n, s) + words::ROWS;
+    let b = words::column_start(n, h) + words::ROWS;
+    if !same_rows(words, a, b, c) {
+        return false;
+    }
+    true
+}
+
+fn span_even(words: &[u32], n: usize, h: usize, c: usize, from: usize, to: usize) -> bool
+    requires { ⌜ (704 ≤ length (now words)) × Lent n h (now words) × (c ≤ length (rowsOf n h (now words))) ⌝ }
+    requires { ⌜ KindsAt n (now words) from to ⌝ }
+    ensures { λ r. ⌜ Decides r (Over from to (EvenOk n (now (words .entry)) h c)) ⌝ }
+{
+    let mut j = from;
+    while j < to {
+        if !even_ok(words, n, h, c, j) {
+            return false;
+        }
+        j += 1;
+    }
+    true
+}
+
+// Has the entity the kind at word j?
+fn holds(words: &[u32], n: usize, index: u32, version: u32, j: usize) -> bool
+    requires { ⌜ (704 ≤ length (now words)) × (j < 704) ⌝ }
+    requires { ⌜ KindAt n (now words) j ⌝ }
+    ensures { λ r. ⌜ r ≡ held (entity index version) (rowsAt n (now (words .entry)) j) ⌝ }
+{
+    let kind = words[j] as usize;
+    let s = words[words::TABLE + kind] as usize;
+    let found = component::slots::find_in(words, n, s, index, version);
+    let Found::At(_) = found else {
+        return false;
+    };
+    true
+}
+
+fn holds_all(words: &[u32], n: usize, index: u32, version: u32, from: usize, to: usize) -> bool
+    requires { ⌜ 704 ≤ length (now words) ⌝ }
+    requires { ⌜ KindsAt n (now words) from to ⌝ }
+    ensures { λ r. ⌜ Decides r (Holds n (now (words .entry)) from to (entity index version)) ⌝ }
+{
+    let mut j = from;
+    while j < to {
+        if !holds(words, n, index, version, j) {
+            return false;
+        }
+        j += 1;
+    }
+    true
+}
+
+// Does the entity in row i of slot h lack one of the kinds?
+fn lacks(words: &[u32], n: usize, h: usize, from: usize, to: usize, i: usize) -> bool
+    requires { ⌜ (704 ≤ length (now words)) × Lent n h (now words) × (i < length (rowsOf n h (now words))) ⌝ }
+    requires { ⌜ KindsAt n (now words) from to ⌝ }
+    ensures { λ r. ⌜ Decides r (Holds n (now (words .entry)) from to (keyAt n (now (words .entry)) h i) → ⊥) ⌝ }
+{
+    let at = words::column_start(n, h) + words::ROWS + 2 * i;
+    let index = words[at];
+    let version = words[at + 1];
+    if holds_all(words, n, index, version, from, to) {
+        return false;
+    }
+    true
+}
+
+fn rows_lack(words: &[u32], n: usize, h: usize, from: usize, to: usize, c: usize, b: usize) -> bool
+    requires { ⌜ (704 ≤ length (now words)) × Lent n h (now words) × (b ≤ length (rowsOf n h (now words))) ⌝ }
+    requires { ⌜ KindsAt n (now words) from to ⌝ }
+    ensures { λ r. ⌜ Decides r (Over c b (λ i. Holds n (now (words .entry)) from to (keyAt n (now (words .entry)) h i) → ⊥)) ⌝ }
+{
+    let mut i = c;
+    while i < b {
+        if !lacks(words, n, h, from, to, i) {
+            return false;
+        }
+        i += 1;
+    }
+    true
+}
+
+// Is c the count of the group with these new kinds, b being that of the next smaller one?
+fn count_ok(words: &[u32], n: usize, h: usize, from: usize, to: usize, b: usize, c: usize) -> bool
+    requires { ⌜ (704 ≤ length (now words)) × Lent n h (now words) ⌝ }
+    requires { ⌜ KindsAt n (now words) from to ⌝ }
+    ensures { λ r. ⌜ Decides r (CountOk n (now (words .entry)) h from to b c) ⌝ }
+{
+    if b < c {
+        return false;
+    }
+    if component::slots::len_in(words, n, h) < b {
+        return false;
+    }
+    if !span_even(words, n, h, c, from, to) {
+        return false;
+    }
+    if !rows_lack(words, n, h, from, to, c, b) {
+        return false;
+    }
+    true
+}
+
+fn group_counted(words: &[u32], n: usize, families: usize, g: usize, f: usize) -> bool
+    requires { ⌜ Force n families (now words) ⌝ }
+    requires { ⌜ (g < 64) × GroupOf (now words) families g f ⌝ }
+    ensures { λ r. ⌜ Decides r (GroupCounted n (now (words .entry)) f g) ⌝ }
+{
+    let p = span_of(words, g, f);
+    let first = p.first;
+    let kind = words[first] as usize;
+    let h = words[words::TABLE + kind] as usize;
+    let whole = component::slots::len_in(words, n, h);
+    let b = prior_in(words, words::GROUP_COUNTS, p.start, g, whole);
+    count_ok(
+        words,
+        n,
+        h,
+        p.from,
+        p.to,
+        b,
+        words[words::GROUP_COUNTS + g] as usize,
+    )
+}
+
+// Are all groups' counts right?
+pub fn are_counts(words: &[u32], n: usize, families: usize, groups: usize) -> bool
+    requires { ⌜ Force n families (now words) ⌝ }
+    requires { ⌜ (groups ≤ 63) × Each groups (λ g. GroupOf (now words) families g (groupFamilyAt (now words) g)) ⌝ }
+    ensures { λ r. ⌜ Decides r (Each groups (CountedOk n (now (words .entry)))) ⌝ }
+{
+    let mut g = 0;
+    while g < groups {
+        if !group_counted(
+            words,
+            n,
+            families,
+            g,
+            words[words::GROUP_FAMILIES + g] as usize,
+        ) {
+            return false;
+        }
+        g += 1;
+    }
+    true
+}

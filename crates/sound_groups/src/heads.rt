@@ -1,0 +1,206 @@
+// The layout in force and the columns' heads: which group is a kind's own, and the kind's place in its family.
+use sound_columns::table::head;
+ghost use Prim.Native.Nat.{ℕ, _+_, _<_, _≤_};
+ghost use lib.ListN.{length, getD};
+ghost use Rattle.words.specs.Part.{between};
+ghost use Rattle.words.specs.Decides.{Decides, Each};
+ghost use Rattle.sound_columns.specs.Slots.{Slot, Room, headAt, Over};
+ghost use Rattle.sound_groups.specs.Spans.{ReadStart, ReadPrior, ReadSpan, KindAt, KindsAt, Force, HeadOk, NewOk, GroupOf, HeadsOk, OwnOk, Marked, SeenOk};
+
+// Where number f starts, its ends standing from a word on.
+pub fn start_in(words: &[u32], at: usize, f: usize) -> usize
+    requires { ⌜ at + f ≤ length (now words) ⌝ }
+    ensures { λ r. ⌜ ReadStart (now (words .entry)) at f r ⌝ }
+{
+    if f == 0 {
+        return 0;
+    }
+    let before = f - 1;
+    words[at + before] as usize
+}
+
+// What an array has for the group before g in its family, which starts at group `start`: an arity, or a count.
+pub fn prior_in(words: &[u32], at: usize, start: usize, g: usize, whole: usize) -> usize
+    requires { ⌜ (at + g ≤ length (now words)) × (whole < 4294967296) ⌝ }
+    ensures { λ r. ⌜ ReadPrior (now (words .entry)) at start g whole r ⌝ }
+{
+    if start < g {
+        let before = g - 1;
+        return words[at + before] as usize;
+    }
+    whole
+}
+
+// The head of the column of the kind at word j says its own group and its place in its family.
+fn head_ok(words: &[u32], n: usize, g: usize, first: usize, j: usize) -> bool
+    requires { ⌜ (704 ≤ length (now words)) × (first ≤ j) × (j < 704) × (g < 64) ⌝ }
+    requires { ⌜ KindAt n (now words) j ⌝ }
+    ensures { λ r. ⌜ Decides r (HeadOk n (now (words .entry)) g first j) ⌝ }
+{
+    let kind = words[j] as usize;
+    let s = words[words::TABLE + kind] as usize;
+    if head(words, n, s, words::OWN_GROUP) != g + 1 {
+        return false;
+    }
+    if head(words, n, s, words::PLACE_IN_FAMILY) != j - first {
+        return false;
+    }
+    true
+}
+
+fn span_ok(words: &[u32], n: usize, g: usize, first: usize, from: usize, to: usize) -> bool
+    requires { ⌜ (704 ≤ length (now words)) × (first ≤ from) × (g < 64) ⌝ }
+    requires { ⌜ KindsAt n (now words) from to ⌝ }
+    ensures { λ r. ⌜ Decides r (Over from to (HeadOk n (now (words .entry)) g first)) ⌝ }
+{
+    let mut j = from;
+    while j < to {
+        if !head_ok(words, n, g, first, j) {
+            return false;
+        }
+        j += 1;
+    }
+    true
+}
+
+// Where a family's groups start, and the words of its first kind and of a group's new kinds.
+pub struct Span {
+    pub start: usize,
+    pub first: usize,
+    pub from: usize,
+    pub to: usize,
+}
+
+// Those of group g of family f.
+pub fn span_of(words: &[u32], g: usize, f: usize) -> Span
+    requires { ⌜ (1024 ≤ length (now words)) × (g < 64) × (f < 64) ⌝ }
+    ensures { λ r. ⌜ ReadSpan (now (words .entry)) f g r ⌝ }
+{
+    let start = start_in(words, words::LAYOUT_ENDS, f);
+    let first = words::LAYOUT + start_in(words, words::LAYOUT_KIND_ENDS, f);
+    let from = first + prior_in(words, words::LAYOUT_ARITIES, start, g, 0);
+    let to = first + words[words::LAYOUT_ARITIES + g] as usize;
+    Span {
+        start,
+        first,
+        from,
+        to,
+    }
+}
+
+// The heads of the new kinds of group g of family f.
+fn new_ok(words: &[u32], n: usize, families: usize, g: usize, f: usize) -> bool
+    requires { ⌜ Force n families (now words) ⌝ }
+    requires { ⌜ (g < 64) × GroupOf (now words) families g f ⌝ }
+    ensures { λ r. ⌜ Decides r (NewOk n (now (words .entry)) f g) ⌝ }
+{
+    let p = span_of(words, g, f);
+    span_ok(words, n, g, p.first, p.from, p.to)
+}
+
+// Group g is of the family that is said to have it.
+fn family_ok(words: &[u32], families: usize, g: usize, f: usize) -> bool
+    requires { ⌜ (1024 ≤ length (now words)) × (families ≤ 63) ⌝ }
+    ensures { λ r. ⌜ Decides r (GroupOf (now (words .entry)) families g f) ⌝ }
+{
+    if families <= f {
+        return false;
+    }
+    let start = start_in(words, words::LAYOUT_ENDS, f);
+    if g < start {
+        return false;
+    }
+    let end = words[words::LAYOUT_ENDS + f] as usize;
+    if end <= g {
+        return false;
+    }
+    true
+}
+
+fn group_ok(words: &[u32], n: usize, families: usize, g: usize) -> bool
+    requires { ⌜ Force n families (now words) ⌝ }
+    requires { ⌜ g < 64 ⌝ }
+    ensures { λ r. ⌜ Decides r (HeadsOk n families (now (words .entry)) g) ⌝ }
+{
+    let f = words[words::GROUP_FAMILIES + g] as usize;
+    if !family_ok(words, families, g, f) {
+        return false;
+    }
+    if !new_ok(words, n, families, g, f) {
+        return false;
+    }
+    true
+}
+
+// Are the groups' families and the heads of the grouped kinds right?
+pub fn are_heads(words: &[u32], n: usize, families: usize, groups: usize) -> bool
+    requires { ⌜ Force n families (now words) ⌝ }
+    requires { ⌜ groups ≤ 63 ⌝ }
+    ensures { λ r. ⌜ Decides r (Each groups (HeadsOk n families (now (words .entry)))) ⌝ }
+{
+    let mut g = 0;
+    while g < groups {
+        if !group_ok(words, n, families, g) {
+            return false;
+        }
+        g += 1;
+    }
+    true
+}
+
+// A table of the kinds that stand in the list.
+fn mark(kinds: &[u32]) -> [u8; 128]
+    requires { ⌜ ((i : ℕ) → i < length (now kinds) → getD (now kinds) i 0 < 128) ⌝ }
+    ensures { λ r. ⌜ Marked r (now (kinds .entry)) ⌝ }
+{
+    let mut seen = [0u8; 128];
+    for i in 0..kinds.len() {
+        let k = kinds[i] as usize;
+        seen[k] = 1;
+    }
+    seen
+}
+
+// A column that says a group has a kind that was seen.
+fn own_ok(words: &[u32], n: usize, seen: &[u8; 128], s: usize) -> bool
+    requires { ⌜ Slot n s (now words) ⌝ }
+    requires { ⌜ headAt n (now words) s 1 < 128 ⌝ }
+    ensures { λ r. ⌜ Decides r (SeenOk n (now (words .entry)) (now (seen .entry)) s) ⌝ }
+{
+    if head(words, n, s, words::OWN_GROUP) < 1 {
+        return true;
+    }
+    let kind = head(words, n, s, words::KIND);
+    if seen[kind] != 1 {
+        return false;
+    }
+    true
+}
+
+fn own_all_ok(words: &[u32], n: usize, seen: &[u8; 128], registered: usize) -> bool
+    requires { ⌜ Room n registered (now words) ⌝ }
+    requires { ⌜ ((s : ℕ) → s < registered → headAt n (now words) s 1 < 128) ⌝ }
+    ensures { λ r. ⌜ Decides r (Each registered (SeenOk n (now (words .entry)) (now (seen .entry)))) ⌝ }
+{
+    let mut s = 0;
+    while s < registered {
+        if !own_ok(words, n, seen, s) {
+            return false;
+        }
+        s += 1;
+    }
+    true
+}
+
+// Does a column say a group only if its kind is one of the layout's, which has so many?
+pub fn are_own(words: &[u32], n: usize, registered: usize, width: usize) -> bool
+    requires { ⌜ Room n registered (now words) ⌝ }
+    requires { ⌜ ((s : ℕ) → s < registered → headAt n (now words) s 1 < 128) ⌝ }
+    requires { ⌜ (width ≤ 128) × (704 ≤ length (now words)) ⌝ }
+    requires { ⌜ ((i : ℕ) → i < width → getD (now words) (576 + i) 0 < 128) ⌝ }
+    ensures { λ r. ⌜ Decides r (Each registered (OwnOk n (now (words .entry)) (between 576 (576 + width) (now (words .entry))))) ⌝ }
+{
+    let end = words::LAYOUT + width;
+    let seen = mark(&words[words::LAYOUT..end]);
+    own_all_ok(words, n, &seen, registered)
+}

@@ -1,2 +1,0 @@
-pub mod Insert
-pub mod Remove

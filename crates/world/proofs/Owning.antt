@@ -1,0 +1,96 @@
+-- The group whose new kinds have a kind, as the head of the kind's column says it. Assumes nothing.
+use mathlib.Core.Path.{_≡_, ap, sym, _∙_, subst}
+use mathlib.Core.Bool.{false}
+use mathlib.Core.List.{List, [], _∷_}
+use Prim.Native.Nat.{ℕ, _+_, _-_, _≤_, _<_}
+use native.Mathlib.Omega.{arith}
+use lib.ListN.{length, getD}
+use lib.Seq.{getD-take, take-all}
+use Rattle.model.specs.Model.{mem, groupsOf}
+use Rattle.model.specs.Sound.{In, Distinct, layoutKinds}
+use Rattle.masks.specs.Masks.{bitsOf, upFrom, Ordered}
+use Rattle.words.specs.Part.{between}
+use Rattle.layout.specs.Layout.{Arrays, startOf, widthOf, aritiesAt, familiesOf}
+use Rattle.layout.proofs.Arrays.{kinds-inside}
+use Rattle.memory.specs.Header.{slotOf, groupFamilyAt}
+use Rattle.memory.specs.Meaning.{ownAt, localAt, layoutArrays, meaning}
+use Rattle.memory.specs.Arranged.{Arranged, priorArity}
+use Rattle.memory.proofs.Frames.{layout-sized}
+use Rattle.kinds.proofs.Owned.{Owned, no-group, prior-at}
+use Rattle.group.specs.declared.group_metadata.GroupMetadata.{GroupMetadata}
+use Rattle.group.specs.Flat.{Located, located, insertPositions, deletePositions}
+use Rattle.group.specs.Metadata.{orderOf, Describes}
+use Rattle.group.proofs.FlatArrays.{arity-rises, located-is}
+use Rattle.group.proofs.InWords.{layout-means, groups-are, order-is, order-length, order-part-once}
+use Rattle.group.proofs.Places.{between-in}
+use Rattle.group.proofs.Counts.{placed}
+use Rattle.group.proofs.KindPositions.{insert-none, delete-none, insert-run, delete-run}
+
+module _ (w : List ℕ) (A : Arranged w) where
+  abbrev a : Arrays
+  a = layoutArrays w
+
+  pub order-once : Distinct (layoutKinds (meaning w .storage .layout))
+  order-once = subst Distinct (take-all (length (orderOf (meaning w)) - 0) (orderOf (meaning w)) (omega arith)) (order-part-once w A 0 (length (orderOf (meaning w))))
+
+  module _ (k g : ℕ) (O : Owned w k g) where
+    pub own-below : g < groupsOf (meaning w .storage .layout)
+    own-below = omega (arith, O .group, groups-are w A)
+
+    own-new : In (located (meaning w .storage .layout) g .newKinds) k
+    own-new =
+        let G = A .layout .groups g (O .group) in
+        let f : ℕ = groupFamilyAt w g in
+        let s : ℕ = startOf (layoutArrays w .kindEnds) (groupFamilyAt w g) in
+        let j : ℕ = localAt w (slotOf w k) in
+        let i : ℕ = g - startOf (layoutArrays w .ends) (groupFamilyAt w g) in
+        let at : startOf (layoutArrays w .ends) (groupFamilyAt w g) + (g - startOf (layoutArrays w .ends) (groupFamilyAt w g)) ≡ g = omega (arith, G .low) in
+        let inside : startOf (layoutArrays w .ends) (groupFamilyAt w g) + (g - startOf (layoutArrays w .ends) (groupFamilyAt w g)) < getD (layoutArrays w .ends) (groupFamilyAt w g) 0 = omega (arith, G .low, G .high) in
+        let r = arity-rises (between 960 1024 w) (layoutArrays w) (A .layout .formed) (layout-sized w A) f i (G .family) inside in
+        let arity : getD (layoutArrays w .arities) (startOf (layoutArrays w .ends) f + i) 0 ≡ getD (layoutArrays w .arities) g 0 = ap (λ (m : ℕ). getD (layoutArrays w .arities) m 0) at in
+        let prior : getD (0 ∷ aritiesAt (layoutArrays w) f) i 0 ≡ priorArity (layoutArrays w) f g = sym (prior-at (layoutArrays w) f i inside) ∙ ap (priorArity (layoutArrays w) f) at in
+        let order : layoutKinds (familiesOf (between 960 1024 w) (layoutArrays w)) ≡ orderOf (meaning w) = sym (ap layoutKinds (layout-means w A)) in
+        let width : s + getD (layoutArrays w .arities) g 0 ≤ length (orderOf (meaning w)) = omega (arith, r .1, arity, order-length w A, kinds-inside (layoutArrays w) (A .layout .formed) f (G .family)) in
+        let here : getD (orderOf (meaning w)) (s + j) 0 ≡ k =
+        ap (λ (l : List ℕ). getD l (s + j) 0) (order-is w A) ∙ getD-take (widthOf (layoutArrays w)) (layoutArrays w .kinds) (s + j) 0 (omega (arith, O .high, width, order-length w A)) ∙ O .member in
+        let news : located (meaning w .storage .layout) g .newKinds ≡ between (s + priorArity (layoutArrays w) f g) (s + getD (layoutArrays w .arities) g 0) (orderOf (meaning w)) =
+        ap (λ (fs : _). located fs g .newKinds) (layout-means w A)
+        ∙ ap (λ (m : ℕ). located (familiesOf (between 960 1024 w) (layoutArrays w)) m .newKinds) (sym at)
+        ∙ ap (λ (l : Located). l .newKinds) (located-is (between 960 1024 w) (layoutArrays w) (A .layout .formed) (layout-sized w A) f i (G .family) inside)
+        ∙ (λ t. between (s + prior t) (s + arity t) (order t)) in
+        subst (λ (l : List ℕ). In l k) (sym news)
+        (subst (In (between (s + priorArity (layoutArrays w) f g) (s + getD (layoutArrays w .arities) g 0) (orderOf (meaning w)))) here
+        (between-in (s + priorArity (layoutArrays w) f g) (s + getD (layoutArrays w .arities) g 0) (s + j) (orderOf (meaning w)) (omega (arith, O .low)) (omega (arith, O .high)) width))
+
+    module _ (d : GroupMetadata) (D : Describes (meaning w) g d) where
+      pub insert-ordered : Ordered 64 (d .first) (d .top)
+      insert-ordered =
+          let P = placed (meaning w .storage .layout) g own-below in
+          record { rising = omega (arith, P .0, P .1, D .first, D .top); inside = omega (arith, D .few) }
+
+      pub delete-ordered : Ordered 64 g (d .top)
+      delete-ordered =
+          let P = placed (meaning w .storage .layout) g own-below in
+          record { rising = omega (arith, P .1, D .top); inside = omega (arith, D .few) }
+
+      pub insert-mask-is : (m : ℕ) → bitsOf 64 m ≡ upFrom (d .first) (d .top - d .first) → bitsOf 64 m ≡ insertPositions (k ∷ []) (meaning w .storage .layout)
+      insert-mask-is m b =
+          b
+          ∙ (λ t. upFrom (D .first t) (D .top t - D .first t))
+          ∙ sym (insert-run (meaning w .storage .layout) order-once k g own-below own-new)
+
+      pub delete-mask-is : (m : ℕ) → bitsOf 64 m ≡ upFrom g (d .top - g) → bitsOf 64 m ≡ deletePositions (k ∷ []) (meaning w .storage .layout)
+      delete-mask-is m b =
+          b
+          ∙ ap (λ (t : ℕ). upFrom g (t - g)) (D .top)
+          ∙ sym (delete-run (meaning w .storage .layout) order-once k g own-below own-new)
+
+  module _ (k : ℕ) (o : ownAt w (slotOf w k) ≡ 0) where
+    in-none : mem k (layoutKinds (meaning w .storage .layout)) ≡ false
+    in-none = ap (mem k) (order-is w A) ∙ no-group w A k o
+
+    pub insert-mask-none : insertPositions (k ∷ []) (meaning w .storage .layout) ≡ []
+    insert-mask-none = insert-none k 0 (meaning w .storage .layout) in-none
+
+    pub delete-mask-none : deletePositions (k ∷ []) (meaning w .storage .layout) ≡ []
+    delete-mask-none = delete-none k 0 (meaning w .storage .layout) in-none

@@ -1,0 +1,58 @@
+-- `world::component_set::delete_staged` meets its contract: the first i staged kinds are done. Assumes nothing.
+use mathlib.Core.Path.{_≡_, ap, sym, _∙_}
+use Prim.Native.Nat.{_≤_, _-_}
+use native.Mathlib.Omega.{arith}
+use lib.ListN.{length, getD, take, length-map}
+use Rattle.model.specs.Model.{kindOf}
+use Rattle.model.specs.Store.{Store, stagedKinds}
+use Rattle.component.specs.SparseSet.{entity}
+use Rattle.memory.specs.Meaning.{meaning}
+use Rattle.world.proofs.Removing.{Gone, eachGone, gone-none, gone-turn, gone-all, staged-kept, staged-small}
+use Rattle.world.proofs.component_set.delete_staged.Statement.{statement}
+use Rattle.world.proofs.component_set.delete_staged.Tie as tie
+
+abbrev Inv-loop : tie.InvT-loop
+Inv-loop words₀ index version n i₀ words i =
+    (i ≤ n) × (n ≡ length (stagedKinds (meaning words₀))) × Gone words₀ (entity index version) (stagedKinds (meaning words₀)) words i
+
+abbrev μ-loop : tie.MeasureT-loop
+μ-loop words₀ index version n i₀ words i = n - i
+
+staged-len-requires : tie.Need-staged-len-requires Inv-loop μ-loop
+staged-len-requires c κs = c .before .before .pre .arranged
+
+loop-holds : tie.Need-loop-holds Inv-loop μ-loop
+loop-holds c =
+    let a = c .before .before .before .args in
+    (omega arith, c .staged-len .ensures .is ∙ sym (length-map (meaning (a .words .now) .control .staged) kindOf), gone-none (a .words .now) (entity (a .index) (a .version)) (stagedKinds (meaning (a .words .now))) (c .before .before .before .pre .arranged))
+
+delete-one-requires : tie.Need-delete-one-requires Inv-loop μ-loop
+delete-one-requires c κs =
+    let a = c .before .before .before .before .before .before .args in
+    let v = c .before .before .loop .inv in
+    let w = c .before .before .loop .words in
+    let n : length (meaning w .control .staged) ≡ length (stagedKinds (meaning (a .words .now))) = sym (length-map (meaning w .control .staged) kindOf) ∙ ap (λ (m : Store). length (stagedKinds m)) (v .2 .means) in
+    (staged-kept (a .words .now) w (eachGone (entity (a .index) (a .version)) (take (c .before .before .loop .i) (stagedKinds (meaning (a .words .now))))) (c .before .before .before .before .before .before .pre) (v .2), omega (arith, n, v .1, c .before .loop-test))
+
+loop-again : tie.Need-loop-again Inv-loop μ-loop
+loop-again c =
+    let a = c .before .before .before .before .before .before .before .before .before .args in
+    let v = c .before .before .before .before .before .loop .inv in
+    let w = c .before .before .before .before .before .loop .words in
+    let i = c .before .before .before .before .before .loop .i in
+    let same = ap (λ (m : Store). getD (stagedKinds m) (c .before .before .before .before .before .loop .i) 0) (v .2 .means) in
+    (omega arith, v .1, gone-turn (a .words .now) (entity (a .index) (a .version)) (stagedKinds (meaning (a .words .now))) w (c .before .before .delete-one .last .0) i (getD (stagedKinds (meaning w)) i 0) (omega (arith, v .1, c .before .before .before .before .loop-test)) same (v .2) (c .before .before .delete-one .ensures))
+
+same-length : tie.Need-same-length Inv-loop μ-loop
+same-length c = c .before .loop .inv .2 .size
+
+returns : tie.Need-returns Inv-loop μ-loop
+returns c =
+    let a = c .before .before .before .before .before .args in
+    let v = c .before .loop .inv in
+    gone-all (a .words .now) (entity (a .index) (a .version)) (stagedKinds (meaning (a .words .now))) (c .before .loop .words) (c .before .loop .i) (omega (arith, v .1, c .loop-test)) (c .before .before .before .before .before .pre .once) (staged-small (a .words .now) (c .before .before .before .before .before .pre)) (v .2)
+
+pub delete-staged-spec : {M : Type 1} → statement M
+delete-staged-spec =
+    tie.close
+    (tie.spec Inv-loop μ-loop staged-len-requires loop-holds delete-one-requires (λ c. omega arith) (λ c. omega arith) loop-again same-length returns)

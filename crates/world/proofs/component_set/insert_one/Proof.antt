@@ -1,0 +1,27 @@
+-- `world::component_set::insert_one` meets its contract. Assumes nothing.
+use mathlib.Core.Path.{ap, subst}
+use borrow.Author.Needs.{needs}
+use Rattle.model.specs.Model.{Component}
+use Rattle.component.specs.SparseSet.{entity}
+use Rattle.memory.specs.Meaning.{meaning}
+use Rattle.memory.specs.Change.{onStorage}
+use Rattle.memory.specs.Arranged.{Becomes}
+use Rattle.world.specs.Insert.{insertOne}
+use Rattle.world.proofs.Inserting.{staged-known}
+use Rattle.world.proofs.component_set.insert_one.Statement.{statement}
+use Rattle.world.proofs.component_set.insert_one.Tie as tie
+
+insert-requires : tie.Need-insert-requires
+insert-requires c κs =
+    let a = c .before .before .before .before .args in
+    let I = c .before .before .before .before .pre .0 in
+    let e = c .before .staged-at .ensures in
+    (I .arranged, (staged-known (a .words .now) (a .index) (a .version) I (a .i) (c .before .before .before .before .pre .1) _ (ap (λ (p : Component). p .kind) e), ((I .below, I .version), I .current _)))
+
+returns : tie.Need-returns
+returns c =
+    let a = c .before .before .before .before .before .before .before .args in
+    subst (λ (p : Component). Becomes (a .words .now) (c .before .before .insert .last .0) (onStorage (insertOne (entity (a .index) (a .version)) p) (meaning (a .words .now)))) (c .before .before .before .before .staged-at .ensures) (c .before .before .insert .ensures)
+
+pub insert-one-spec : {M : Type 1} → statement M
+insert-one-spec = tie.close (tie.spec (λ c κs. search needs) insert-requires (λ c. search needs) returns)

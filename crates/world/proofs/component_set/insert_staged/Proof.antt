@@ -1,0 +1,54 @@
+-- `world::component_set::insert_staged` meets its contract: the first i staged components are in. Assumes nothing.
+use mathlib.Core.Path.{_≡_}
+use Prim.Native.Nat.{_≤_, _-_}
+use native.Mathlib.Omega.{arith}
+use borrow.Author.Needs.{needs}
+use lib.ListN.{length, take}
+use Rattle.component.specs.SparseSet.{entity}
+use Rattle.memory.specs.Meaning.{meaning}
+use Rattle.memory.specs.Change.{onStorage}
+use Rattle.memory.specs.Arranged.{Becomes}
+use Rattle.world.specs.Insert.{inserted}
+use Rattle.world.proofs.Inserting.{insert-none, insert-all, insert-ask, insert-count, insert-turn}
+use Rattle.world.proofs.component_set.insert_staged.Statement.{statement}
+use Rattle.world.proofs.component_set.insert_staged.Tie as tie
+
+abbrev Inv-loop : tie.InvT-loop
+Inv-loop words₀ index version n i₀ words i =
+    (i ≤ n) × (n ≡ length (meaning words₀ .control .staged)) × Becomes words₀ words (onStorage (inserted (entity index version) (take i (meaning words₀ .control .staged))) (meaning words₀))
+
+abbrev μ-loop : tie.MeasureT-loop
+μ-loop words₀ index version n i₀ words i = n - i
+
+loop-holds : tie.Need-loop-holds Inv-loop μ-loop
+loop-holds c =
+    let a = c .before .before .before .args in
+    (omega arith, c .staged-len .ensures .is, insert-none (a .words .now) (a .index) (a .version) (c .before .before .before .pre))
+
+insert-one-requires : tie.Need-insert-one-requires Inv-loop μ-loop
+insert-one-requires c κs =
+    let a = c .before .before .before .before .before .before .args in
+    let v = c .before .before .loop .inv in
+    let I = c .before .before .before .before .before .before .pre in (
+      insert-ask (a .words .now) (a .index) (a .version) I (c .before .before .loop .words) (take (c .before .before .loop .i) (meaning (a .words .now) .control .staged)) (v .2),
+      insert-count (a .words .now) (a .index) (a .version) I (c .before .before .loop .words) (take (c .before .before .loop .i) (meaning (a .words .now) .control .staged)) (v .2) (c .before .before .loop .i) (omega arith),
+    )
+
+loop-again : tie.Need-loop-again Inv-loop μ-loop
+loop-again c =
+    let a = c .before .before .before .before .before .before .before .before .before .args in
+    let v = c .before .before .before .before .before .loop .inv in
+    (omega arith, v .1, insert-turn (a .words .now) (a .index) (a .version) (c .before .before .before .before .before .before .before .before .before .pre) (c .before .before .before .before .before .loop .words) (c .before .before .insert-one .last .0) (c .before .before .before .before .before .loop .i) (omega arith) (v .2) (c .before .before .insert-one .ensures))
+
+same-length : tie.Need-same-length Inv-loop μ-loop
+same-length c = c .before .loop .inv .2 .size
+
+returns : tie.Need-returns Inv-loop μ-loop
+returns c =
+    let a = c .before .before .before .before .before .args in
+    insert-all (a .words .now) (a .index) (a .version) (c .before .before .before .before .before .pre) (c .before .loop .words) (c .before .loop .i) (omega arith) (c .before .loop .inv .2)
+
+pub insert-staged-spec : {M : Type 1} → statement M
+insert-staged-spec =
+    tie.close
+    (tie.spec Inv-loop μ-loop (λ c κs. search needs) loop-holds insert-one-requires (λ c. omega arith) (λ c. omega arith) loop-again same-length returns)

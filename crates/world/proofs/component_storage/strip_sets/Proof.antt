@@ -1,0 +1,57 @@
+-- `world::component_storage::strip_sets` meets its contract: the kinds of the slots before slot are done. Assumes nothing.
+use mathlib.Core.Path.{_≡_, ap, sym, _∙_}
+use Prim.Native.Nat.{_≤_, _-_}
+use native.Mathlib.Omega.{arith}
+use lib.ListN.{length, getD}
+use Rattle.model.specs.Store.{Store}
+use Rattle.component.specs.SparseSet.{entity}
+use Rattle.memory.specs.Meaning.{meaning}
+use Rattle.memory.proofs.Becomes.{kinds-count}
+use Rattle.kinds.proofs.Slot.{header-long, known-small}
+use Rattle.world.proofs.Removing.{Gone, gone-none, gone-turn, gone-all}
+use Rattle.world.proofs.component_storage.strip_sets.Statement.{statement}
+use Rattle.world.proofs.component_storage.strip_sets.Tie as tie
+
+abbrev Inv-loop : tie.InvT-loop
+Inv-loop words₀ index version m slot₀ words slot =
+    (slot ≤ m) × (m ≡ length (meaning words₀ .kinds)) × Gone words₀ (entity index version) (meaning words₀ .kinds) words slot
+
+abbrev μ-loop : tie.MeasureT-loop
+μ-loop words₀ index version m slot₀ words slot = m - slot
+
+word-requires : tie.Need-word-requires Inv-loop μ-loop
+word-requires c κs = let s = c .before .before in header-long (s .args .words .now) (s .pre .0) 2 (omega arith)
+
+loop-holds : tie.Need-loop-holds Inv-loop μ-loop
+loop-holds c =
+    let a = c .before .before .before .args in
+    (omega arith, c .word .ensures .is ∙ sym (kinds-count (a .words .now)), gone-none (a .words .now) (entity (a .index) (a .version)) (meaning (a .words .now) .kinds) (c .before .before .before .pre .0))
+
+strip-slot-requires : tie.Need-strip-slot-requires Inv-loop μ-loop
+strip-slot-requires c κs =
+    let v = c .before .before .loop .inv in
+    let n : length (meaning (c .before .before .loop .words) .kinds) ≡ length (meaning (c .before .before .before .before .before .before .args .words .now) .kinds) = ap (λ (m : Store). length (m .kinds)) (v .2 .means) in
+    (v .2 .arranged, omega (arith, n, v .1, c .before .loop-test))
+
+loop-again : tie.Need-loop-again Inv-loop μ-loop
+loop-again c =
+    let a = c .before .before .before .before .before .before .before .before .before .args in
+    let v = c .before .before .before .before .before .loop .inv in
+    let w = c .before .before .before .before .before .loop .words in
+    let i = c .before .before .before .before .before .loop .slot in
+    let same = ap (λ (m : Store). getD (m .kinds) (c .before .before .before .before .before .loop .slot) 0) (v .2 .means) in
+    (omega arith, v .1, gone-turn (a .words .now) (entity (a .index) (a .version)) (meaning (a .words .now) .kinds) w (c .before .before .strip-slot .last .0) i (getD (meaning w .kinds) i 0) (omega (arith, v .1, c .before .before .before .before .loop-test)) same (v .2) (c .before .before .strip-slot .ensures))
+
+same-length : tie.Need-same-length Inv-loop μ-loop
+same-length c = c .before .loop .inv .2 .size
+
+returns : tie.Need-returns Inv-loop μ-loop
+returns c =
+    let a = c .before .before .before .before .before .args in
+    let v = c .before .loop .inv in
+    gone-all (a .words .now) (entity (a .index) (a .version)) (meaning (a .words .now) .kinds) (c .before .loop .words) (c .before .loop .slot) (omega (arith, v .1, c .loop-test)) (c .before .before .before .before .before .pre .1) (known-small (a .words .now) (c .before .before .before .before .before .pre .0)) (v .2)
+
+pub strip-sets-spec : {M : Type 1} → statement M
+strip-sets-spec =
+    tie.close
+    (tie.spec Inv-loop μ-loop word-requires loop-holds strip-slot-requires (λ c. omega arith) (λ c. omega arith) loop-again same-length returns)

@@ -1,0 +1,90 @@
+// Components go into an entity and out of it, with the groups kept right (component_set.rs). Insertion: all staged components go in, then the
+// touched families' groups are walked upward. Removal: before any component goes, the entity leaves the groups that have one of the kinds.
+ghost use mathlib.Core.Path.{_≡_};
+ghost use mathlib.Core.Bool.{true};
+ghost use Prim.Native.Nat.{_<_};
+ghost use lib.ListN.{length, getD};
+ghost use Rattle.model.specs.Model.{isLive, insert, removeRow, remove};
+ghost use Rattle.model.specs.Store.{stagedKinds};
+ghost use Rattle.model.specs.Sound.{noComponent};
+ghost use Rattle.component.specs.SparseSet.{entity};
+ghost use Rattle.memory.specs.Meaning.{meaning};
+ghost use Rattle.memory.specs.Change.{onSet, onStorage};
+ghost use Rattle.memory.specs.Arranged.{Becomes, Sound};
+ghost use Rattle.world.specs.Insert.{Insertable, insertOne, inserted};
+ghost use Rattle.world.specs.Remove.{Staged, ungrouped, removed};
+
+// The staged component at i goes into the entity.
+fn insert_one(words: &mut [u32], i: usize, index: u32, version: u32)
+    requires { ⌜ Insertable (now words) index version ⌝ }
+    requires { ⌜ i < length (meaning (now words) .control .staged) ⌝ }
+    ensures { λ _. ⌜ Becomes (now (words .entry)) (now (words .exit)) (onStorage (insertOne (entity index version) (getD (meaning (now (words .entry)) .control .staged) i noComponent)) (meaning (now (words .entry)))) ⌝ }
+{
+    let c = control::staged::staged_at(words, i);
+    kinds::insert(words, c.kind, index, version, c.low, c.high);
+}
+
+// All staged components go into the entity; no group is walked yet.
+pub fn insert_staged(words: &mut [u32], index: u32, version: u32)
+    requires { ⌜ Insertable (now words) index version ⌝ }
+    ensures { λ _. ⌜ Becomes (now (words .entry)) (now (words .exit)) (onStorage (inserted (entity index version) (meaning (now (words .entry)) .control .staged)) (meaning (now (words .entry)))) ⌝ }
+{
+    let n = control::staged::staged_len(words);
+    let mut i = 0;
+    while i < n {
+        insert_one(words, i, index, version);
+        i += 1;
+    }
+}
+
+// The staged components go into a live entity.
+pub fn insert(words: &mut [u32], index: u32, version: u32)
+    requires { ⌜ Sound (now words) ⌝ }
+    requires { ⌜ isLive (entity index version) (meaning (now words) .entities) ≡ true ⌝ }
+    ensures { λ _. ⌜ Becomes (now (words .entry)) (now (words .exit)) (onStorage (insert (entity index version) (meaning (now (words .entry)) .control .staged)) (meaning (now (words .entry)))) ⌝ }
+{
+    let mask = crate::mask::staged_insert_mask(words);
+    insert_staged(words, index, version);
+    group::group(words, mask, index, version);
+}
+
+// The entity leaves the groups that have a staged kind, highest first.
+pub fn ungroup_staged(words: &mut [u32], index: u32, version: u32)
+    requires { ⌜ Sound (now words) ⌝ }
+    ensures { λ _. ⌜ Becomes (now (words .entry)) (now (words .exit)) (onStorage (ungrouped (entity index version) (stagedKinds (meaning (now (words .entry))))) (meaning (now (words .entry)))) ⌝ }
+{
+    let mask = crate::mask::staged_delete_mask(words);
+    group::ungroup(words, mask, index, version);
+}
+
+// The entity's component of the staged kind at i goes.
+fn delete_one(words: &mut [u32], i: usize, index: u32, version: u32)
+    requires { ⌜ Staged (now words) ⌝ }
+    requires { ⌜ i < length (meaning (now words) .control .staged) ⌝ }
+    ensures { λ _. ⌜ Becomes (now (words .entry)) (now (words .exit)) (onStorage (onSet (getD (stagedKinds (meaning (now (words .entry)))) i 0) (removeRow (entity index version))) (meaning (now (words .entry)))) ⌝ }
+{
+    let kind = control::staged::staged_kind(words, i);
+    kinds::remove(words, kind, index, version);
+}
+
+// Its components of all staged kinds go; no group is walked.
+fn delete_staged(words: &mut [u32], index: u32, version: u32)
+    requires { ⌜ Staged (now words) ⌝ }
+    ensures { λ _. ⌜ Becomes (now (words .entry)) (now (words .exit)) (onStorage (removed (entity index version) (stagedKinds (meaning (now (words .entry))))) (meaning (now (words .entry)))) ⌝ }
+{
+    let n = control::staged::staged_len(words);
+    let mut i = 0;
+    while i < n {
+        delete_one(words, i, index, version);
+        i += 1;
+    }
+}
+
+// The components of the staged kinds go.
+pub fn delete(words: &mut [u32], index: u32, version: u32)
+    requires { ⌜ Sound (now words) ⌝ }
+    ensures { λ _. ⌜ Becomes (now (words .entry)) (now (words .exit)) (onStorage (remove (entity index version) (stagedKinds (meaning (now (words .entry))))) (meaning (now (words .entry)))) ⌝ }
+{
+    ungroup_staged(words, index, version);
+    delete_staged(words, index, version);
+}
