@@ -1,4 +1,2 @@
-// The commands of a run: one function each, which answers how many bytes it wrote. Refusals come in the order of 01's table.
+// What every command has in common: what its function asks and leaves (specs/), and how it answers.
 pub mod answers;
-pub mod lists;
-pub mod registering;

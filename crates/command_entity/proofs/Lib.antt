@@ -1,1 +1,1 @@
-pub mod Emptied
+pub mod Made

@@ -1,9 +1,9 @@
-// PUT, TAKE, DROP and WIPE: components go into an entity, or go.
+// PUT, DROP and WIPE: components go into an entity, or go.
 use command::answers::DEAD;
 use command::answers::ack;
 use command::answers::refuse;
 use entity::Found;
-ghost use Rattle.model.specs.Commands.{PUT, TAKE, DROP, WIPE};
+ghost use Rattle.model.specs.Commands.{PUT, DROP, WIPE};
 ghost use Rattle.model.specs.Run.{does};
 ghost use Rattle.component.specs.SparseSet.{entity};
 ghost use Rattle.memory.specs.Meaning.{meaning};
@@ -44,20 +44,4 @@ pub fn wipe(words: &mut [u32], out: &mut [u8], at: usize) -> usize
 {
     world::component_storage::clear(words);
     ack(out, at)
-}
-
-// TAKE: a live entity's components of the staged kinds go, and are told.
-pub fn take(words: &mut [u32], index: u32, version: u32, out: &mut [u8], at: usize) -> usize
-    requires { ⌜ Ready (now words) (now out) at (TAKE (entity index version)) ⌝ }
-    ensures { λ r. ⌜ Acted (now (words .entry)) (now (words .exit)) (now (out .entry)) (now (out .exit)) at r (does (TAKE (entity index version)) (meaning (now (words .entry)))) ⌝ }
-{
-    let found = control::entities::get(words, index, version);
-    let Found::At(_) = found else {
-        return refuse(words, out, at, DEAD);
-    };
-    let n = control::staged::staged_len(words);
-    ack(out, at);
-    world::take::remove(words, index, version, out, at + 1);
-    control::staged::clear_staged(words);
-    1 + 9 * n
 }

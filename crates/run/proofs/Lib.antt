@@ -1,4 +1,4 @@
-pub mod Reading
+pub mod Answers
 pub mod Steps
 pub mod Traces
 pub mod Runs

@@ -19,7 +19,8 @@ use Rattle.memory.specs.Meaning.{meaning}
 use Rattle.memory.specs.Arranged.{Sound}
 use Rattle.command.specs.Acted.{Acted}
 use Rattle.command.proofs.Acts.{SameSize, stays, acted-sound}
-use Rattle.run.specs.Stream.{commandIn, Given, StepReady, stepAt, Stepped}
+use Rattle.run_command.specs.Given.{commandIn, Given}
+use Rattle.run.specs.Run.{StepReady, stepAt, Stepped}
 use Rattle.run.specs.declared.Went.the-variants.{Done as Goes, Stop}
 
 -- ---- the model's step

@@ -9,7 +9,8 @@ use Rattle.model.specs.Run.{Step, stops, goes, step}
 use Rattle.layout.proofs.Scan.{drop-step}
 use Rattle.memory.specs.Meaning.{meaning}
 use Rattle.memory.specs.Arranged.{Becomes}
-use Rattle.run.specs.Stream.{commandIn, stepAt, Refused, GoesOn, Traced}
+use Rattle.run_command.specs.Given.{commandIn}
+use Rattle.run.specs.Run.{stepAt, Refused, GoesOn, Traced}
 
 traced-none : (m room : ℕ) (w : List ℕ) → Traced m [] room w w
 unfolding Traced

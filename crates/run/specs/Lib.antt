@@ -1,1 +1,1 @@
-pub mod Stream
+pub mod Run

@@ -1,16 +1,13 @@
 // A run: command after command off a tape, up to its end or a stop.
-pub mod operands;
-
 ghost use mathlib.Core.Path.{_≡_};
 ghost use mathlib.Core.List.{List};
 ghost use Prim.Native.Nat.{ℕ, _-_, _<_, _≤_};
 ghost use lib.ListN.{length};
 ghost use Rattle.model.specs.Commands.{width, commandAt, answerLength};
-ghost use Rattle.model.specs.Run.{does, run};
+ghost use Rattle.model.specs.Run.{run};
 ghost use Rattle.memory.specs.Meaning.{meaning};
 ghost use Rattle.memory.specs.Arranged.{Arranged, Sound};
-ghost use Rattle.command.specs.Acted.{Acted};
-ghost use Rattle.run.specs.Stream.{commandIn, Given, StepReady, stepAt, Stepped, Completed};
+ghost use Rattle.run.specs.Run.{StepReady, stepAt, Stepped, Completed};
 
 // Operand bytes by command byte.
 const WIDTHS: [u8; 15] = [0, 1, 9, 0, 8, 8, 8, 8, 0, 0, 0, 1, 0, 0, 0];
@@ -61,30 +58,6 @@ fn answer_bytes(words: &[u32], op: u8) -> usize
     fixed
 }
 
-// The command of byte op, from 1 to 14, whose operands stand at `at`.
-fn act(words: &mut [u32], op: u8, tape: &[u8], at: usize, out: &mut [u8], to: usize) -> usize
-    requires { ⌜ (1 ≤ op) × (op < 15) ⌝ }
-    requires { ⌜ Given (now words) op (now tape) at (now out) to ⌝ }
-    ensures { λ r. ⌜ Acted (now (words .entry)) (now (words .exit)) (now (out .entry)) (now (out .exit)) to r (does (commandIn op (now (tape .entry)) at) (meaning (now (words .entry)))) ⌝ }
-{
-    match op {
-        1 => operands::reg(words, tape, at, out, to),
-        2 => operands::hold(words, tape, at, out, to),
-        3 => command_entity::entities::new(words, out, to),
-        4 => operands::put(words, tape, at, out, to),
-        5 => operands::take(words, tape, at, out, to),
-        6 => operands::drop(words, tape, at, out, to),
-        7 => operands::kill(words, tape, at, out, to),
-        8 => command_entity::components::wipe(words, out, to),
-        9 => command_group::group(words, out, to),
-        10 => command_entity::applying::apply(words, out, to),
-        11 => operands::bar(words, tape, at, out, to),
-        12 => command_range::range(words, out, to),
-        13 => command::lists::empty(words, out, to),
-        _ => command::lists::tally(words, out, to),
-    }
-}
-
 // One command, or the number of the stop before it.
 pub fn step(words: &mut [u32], tape: &[u8], at: usize, out: &mut [u8], to: usize) -> Went
     requires { ⌜ StepReady (now words) (now tape) at (now out) to ⌝ }
@@ -105,7 +78,7 @@ pub fn step(words: &mut [u32], tape: &[u8], at: usize, out: &mut [u8], to: usize
     if out.len() - to < need {
         return Went::Stop(NOROOM);
     }
-    let written = act(words, op, tape, at + 1, out, to);
+    let written = run_command::act(words, op, tape, at + 1, out, to);
     Went::Done(at + read, to + written)
 }
 

@@ -14,7 +14,7 @@ use Rattle.model.proofs.Lines.{none-to, refusal-exact, accepted-exact, stop-exa
 use Rattle.model.proofs.Sound.{bytes-drop, step-sound}
 use Rattle.memory.specs.Meaning.{meaning}
 use Rattle.memory.specs.Arranged.{Sound}
-use Rattle.run.specs.Stream.{Leaves, GoesOn, Traced}
+use Rattle.run.specs.Run.{Leaves, GoesOn, Traced}
 use Rattle.store.specs.Course.{commandOn, tallied, Course, ended, stopped, refused, done}
 
 -- ---- a step that goes on: which line refused its command, or that none did

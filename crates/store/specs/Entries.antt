@@ -18,7 +18,7 @@ use Rattle.words.specs.Decides.{Decides}
 use Rattle.memory.specs.Header.{capacityOf, slotOf}
 use Rattle.memory.specs.Meaning.{meaning}
 use Rattle.memory.specs.Arranged.{Sound}
-use Rattle.run.specs.Stream.{Traced}
+use Rattle.run.specs.Run.{Traced}
 use Rattle.run.specs.declared.Ran.{Ran}
 use Rattle.store.specs.declared.Rolled.{Rolled}
 

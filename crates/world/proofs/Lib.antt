@@ -5,6 +5,4 @@ pub mod Owning
 pub mod Masking
 pub mod Live
 pub mod Whole
-pub mod Taking
-pub mod Kept
 pub mod Lifetimes

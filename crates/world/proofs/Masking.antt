@@ -8,8 +8,10 @@ use lib.ListN.{length, getD, take}
 use lib.Seq.{take-all, take-suc}
 use Rattle.model.specs.Model.{Family, groupsOf}
 use Rattle.masks.specs.Masks.{bitsOf, unionOf}
-use Rattle.group.specs.Flat.{insertPositions, deletePositions}
-use Rattle.group.proofs.KindPositions.{insert-union, delete-union}
+use Rattle.group.proofs.KindPositions.{insert-no-kinds, delete-no-kinds, insert-union, delete-union}
+use Rattle.world.specs.declared.mask.Walk.{Walk}
+use Rattle.world.specs.declared.mask.Walk.the-variants.{Insert, Delete}
+use Rattle.world.specs.Walked.{walkPositions}
 
 -- positions P of the first i of the kinds ks, where those of more kinds are the union of the kinds'
 module _ (P : List ℕ → List ℕ) (none : P [] ≡ []) (union : (ks js : List ℕ) → P (ks ++ js) ≡ unionOf 64 (P ks) (P js)) (ks : List ℕ) where
@@ -25,10 +27,11 @@ module _ (P : List ℕ → List ℕ) (none : P [] ≡ []) (union : (ks js : List
   pub mask-all : (m i : ℕ) → length ks ≤ i → bitsOf 64 m ≡ P (take i ks) → bitsOf 64 m ≡ P ks
   mask-all m i h b = b ∙ ap P (take-all i ks h)
 
--- the two unions of a layout of at most 64 groups
-module _ (fs : List Family) (few : groupsOf fs ≤ 63) where
-  pub inserts : (ks js : List ℕ) → insertPositions (ks ++ js) fs ≡ unionOf 64 (insertPositions ks fs) (insertPositions js fs)
-  inserts ks js = insert-union 64 ks js fs (omega arith)
+-- the positions of no kind, and of more kinds, in a layout of at most 64 groups
+pub no-kinds : (walk : Walk) (fs : List Family) → walkPositions walk [] fs ≡ []
+no-kinds Insert fs = insert-no-kinds 0 fs
+no-kinds Delete fs = delete-no-kinds 0 fs
 
-  pub deletes : (ks js : List ℕ) → deletePositions (ks ++ js) fs ≡ unionOf 64 (deletePositions ks fs) (deletePositions js fs)
-  deletes ks js = delete-union 64 ks js fs (omega arith)
+pub more-kinds : (walk : Walk) (fs : List Family) → groupsOf fs ≤ 63 → (ks js : List ℕ) → walkPositions walk (ks ++ js) fs ≡ unionOf 64 (walkPositions walk ks fs) (walkPositions walk js fs)
+more-kinds Insert fs few ks js = insert-union 64 ks js fs (omega arith)
+more-kinds Delete fs few ks js = delete-union 64 ks js fs (omega arith)

@@ -18,13 +18,16 @@ use Rattle.memory.specs.Arranged.{Arranged, priorArity}
 use Rattle.memory.proofs.Frames.{layout-sized}
 use Rattle.kinds.proofs.Owned.{Owned, no-group, prior-at}
 use Rattle.group.specs.declared.group_metadata.GroupMetadata.{GroupMetadata}
-use Rattle.group.specs.Flat.{Located, located, insertPositions, deletePositions}
+use Rattle.group.specs.Flat.{Located, located}
 use Rattle.group.specs.Metadata.{orderOf, Describes}
 use Rattle.group.proofs.FlatArrays.{arity-rises, located-is}
 use Rattle.group.proofs.InWords.{layout-means, groups-are, order-is, order-length, order-part-once}
 use Rattle.group.proofs.Places.{between-in}
 use Rattle.group.proofs.Counts.{placed}
 use Rattle.group.proofs.KindPositions.{insert-none, delete-none, insert-run, delete-run}
+use Rattle.world.specs.declared.mask.Walk.{Walk}
+use Rattle.world.specs.declared.mask.Walk.the-variants.{Insert, Delete}
+use Rattle.world.specs.Walked.{lowestOf, walkPositions}
 
 module _ (w : List ℕ) (A : Arranged w) where
   abbrev a : Arrays
@@ -63,24 +66,20 @@ module _ (w : List ℕ) (A : Arranged w) where
         (between-in (s + priorArity (layoutArrays w) f g) (s + getD (layoutArrays w .arities) g 0) (s + j) (orderOf (meaning w)) (omega (arith, O .low)) (omega (arith, O .high)) width))
 
     module _ (d : GroupMetadata) (D : Describes (meaning w) g d) where
-      pub insert-ordered : Ordered 64 (d .first) (d .top)
-      insert-ordered =
+      pub mask-ordered : (walk : Walk) → Ordered 64 (lowestOf walk (d .first) g) (d .top)
+      mask-ordered Insert =
           let P = placed (meaning w .storage .layout) g own-below in
           record { rising = omega (arith, P .0, P .1, D .first, D .top); inside = omega (arith, D .few) }
-
-      pub delete-ordered : Ordered 64 g (d .top)
-      delete-ordered =
+      mask-ordered Delete =
           let P = placed (meaning w .storage .layout) g own-below in
           record { rising = omega (arith, P .1, D .top); inside = omega (arith, D .few) }
 
-      pub insert-mask-is : (m : ℕ) → bitsOf 64 m ≡ upFrom (d .first) (d .top - d .first) → bitsOf 64 m ≡ insertPositions (k ∷ []) (meaning w .storage .layout)
-      insert-mask-is m b =
+      pub mask-is : (walk : Walk) (m : ℕ) → bitsOf 64 m ≡ upFrom (lowestOf walk (d .first) g) (d .top - lowestOf walk (d .first) g) → bitsOf 64 m ≡ walkPositions walk (k ∷ []) (meaning w .storage .layout)
+      mask-is Insert m b =
           b
           ∙ (λ t. upFrom (D .first t) (D .top t - D .first t))
           ∙ sym (insert-run (meaning w .storage .layout) order-once k g own-below own-new)
-
-      pub delete-mask-is : (m : ℕ) → bitsOf 64 m ≡ upFrom g (d .top - g) → bitsOf 64 m ≡ deletePositions (k ∷ []) (meaning w .storage .layout)
-      delete-mask-is m b =
+      mask-is Delete m b =
           b
           ∙ ap (λ (t : ℕ). upFrom g (t - g)) (D .top)
           ∙ sym (delete-run (meaning w .storage .layout) order-once k g own-below own-new)
@@ -89,8 +88,6 @@ module _ (w : List ℕ) (A : Arranged w) where
     in-none : mem k (layoutKinds (meaning w .storage .layout)) ≡ false
     in-none = ap (mem k) (order-is w A) ∙ no-group w A k o
 
-    pub insert-mask-none : insertPositions (k ∷ []) (meaning w .storage .layout) ≡ []
-    insert-mask-none = insert-none k 0 (meaning w .storage .layout) in-none
-
-    pub delete-mask-none : deletePositions (k ∷ []) (meaning w .storage .layout) ≡ []
-    delete-mask-none = delete-none k 0 (meaning w .storage .layout) in-none
+    pub mask-nothing : (walk : Walk) → walkPositions walk (k ∷ []) (meaning w .storage .layout) ≡ []
+    mask-nothing Insert = insert-none k 0 (meaning w .storage .layout) in-none
+    mask-nothing Delete = delete-none k 0 (meaning w .storage .layout) in-none

@@ -5,10 +5,8 @@ use mathlib.Core.List.{List, reverse}
 use Prim.Native.Nat.{ℕ, _+_, _<_}
 use native.Mathlib.Omega.{arith}
 use lib.ListN.{length}
-use lib.Seq.{sets}
 use Rattle.model.specs.Model.{Entity, Family, Storage, kindsOf, meets, groupsOf, isLive, insert, remove}
 use Rattle.model.specs.Store.{Store, stagedKinds}
-use Rattle.model.specs.Commands.{heldBytes}
 use Rattle.model.specs.Sound.{Distinct}
 use Rattle.model.proofs.Families.{Kinds}
 use Rattle.model.proofs.Invariant.{Fit}
@@ -30,11 +28,10 @@ use Rattle.group.proofs.UpReady.{ready-insert}
 use Rattle.group.proofs.Downward.{walk-ungroup, ready-remove}
 use Rattle.group.proofs.AllGroups.{walk-ungroup-all, ready-remove-all}
 use Rattle.world.specs.Insert.{Insertable, inserted}
-use Rattle.world.specs.Remove.{Staged, TakesStaged, Takes, ungrouped, removed}
+use Rattle.world.specs.Remove.{Staged, ungrouped, removed}
 use Rattle.group.proofs.Storing.{becomes-then, storage-becomes}
 use Rattle.world.proofs.Removing.{staged-kept}
 use Rattle.world.proofs.Live.{current}
-use Rattle.world.proofs.Kept.{ungroup-held}
 
 module _ (w : List ℕ) (S : Sound w) where
   abbrev m : Store
@@ -111,18 +108,9 @@ module _ (w : List ℕ) (S : Sound w) where
     pub count-after : length (meaning w₁ .control .staged) ≡ length (meaning w .control .staged)
     count-after = ap (λ (s : Store). length (s .control .staged)) (B .means)
 
-    held-after : heldBytes e (stagedKinds (meaning w₁)) (meaning w₁ .storage) ≡ heldBytes e (stagedKinds (meaning w)) (meaning w .storage)
-    held-after =
-        ap (λ (s : Store). heldBytes e (stagedKinds s) (s .storage)) (B .means)
-        ∙ ungroup-held e (stagedKinds (meaning w)) (stagedKinds (meaning w)) (meaning w .storage) fit
-
     pub delete-whole : (w₂ : List ℕ) → Becomes w₁ w₂ (onStorage (removed e (stagedKinds (meaning w₁))) (meaning w₁)) → Becomes w w₂ (onStorage (remove e (stagedKinds (meaning w))) (meaning w))
     unfolding remove
     delete-whole w₂ C = becomes-then w w₁ w₂ (ungrouped e (stagedKinds (meaning w))) (λ (s : Store). onStorage (removed e (stagedKinds s)) s) B C
-
-    -- the bytes are those of the words before the walk
-    pub take-whole : (w₂ out out₂ : List ℕ) (at : ℕ) → TakesStaged w₁ w₂ out out₂ e at → Takes w w₂ out out₂ e at
-    take-whole w₂ out out₂ at T = record { becomes = delete-whole w₂ (T .becomes); bytes = T .bytes ∙ ap (sets out at) held-after }
 
   -- ---- all components: out of all groups, then they go
 

@@ -1,3 +1,4 @@
 pub mod World
 pub mod Insert
 pub mod Remove
+pub mod Walked

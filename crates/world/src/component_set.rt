@@ -1,16 +1,20 @@
 // Components go into an entity and out of it, with the groups kept right (component_set.rs). Insertion: all staged components go in, then the
 // touched families' groups are walked upward. Removal: before any component goes, the entity leaves the groups that have one of the kinds.
+use crate::mask::Walk;
+use crate::mask::staged_mask;
+use component::Removed;
 ghost use mathlib.Core.Path.{_≡_};
 ghost use mathlib.Core.Bool.{true};
 ghost use Prim.Native.Nat.{_<_};
 ghost use lib.ListN.{length, getD};
-ghost use Rattle.model.specs.Model.{isLive, insert, removeRow, remove};
+ghost use Rattle.model.specs.Model.{isLive, insert, remove};
 ghost use Rattle.model.specs.Store.{stagedKinds};
 ghost use Rattle.model.specs.Sound.{noComponent};
 ghost use Rattle.component.specs.SparseSet.{entity};
 ghost use Rattle.memory.specs.Meaning.{meaning};
-ghost use Rattle.memory.specs.Change.{onSet, onStorage};
+ghost use Rattle.memory.specs.Change.{onStorage};
 ghost use Rattle.memory.specs.Arranged.{Becomes, Sound};
+ghost use Rattle.kinds.specs.Kinds.{RemovesKind};
 ghost use Rattle.world.specs.Insert.{Insertable, insertOne, inserted};
 ghost use Rattle.world.specs.Remove.{Staged, ungrouped, removed};
 
@@ -43,7 +47,7 @@ pub fn insert(words: &mut [u32], index: u32, version: u32)
     requires { ⌜ isLive (entity index version) (meaning (now words) .entities) ≡ true ⌝ }
     ensures { λ _. ⌜ Becomes (now (words .entry)) (now (words .exit)) (onStorage (insert (entity index version) (meaning (now (words .entry)) .control .staged)) (meaning (now (words .entry)))) ⌝ }
 {
-    let mask = crate::mask::staged_insert_mask(words);
+    let mask = staged_mask(words, Walk::Insert);
     insert_staged(words, index, version);
     group::group(words, mask, index, version);
 }
@@ -53,18 +57,18 @@ pub fn ungroup_staged(words: &mut [u32], index: u32, version: u32)
     requires { ⌜ Sound (now words) ⌝ }
     ensures { λ _. ⌜ Becomes (now (words .entry)) (now (words .exit)) (onStorage (ungrouped (entity index version) (stagedKinds (meaning (now (words .entry))))) (meaning (now (words .entry)))) ⌝ }
 {
-    let mask = crate::mask::staged_delete_mask(words);
+    let mask = staged_mask(words, Walk::Delete);
     group::ungroup(words, mask, index, version);
 }
 
-// The entity's component of the staged kind at i goes.
-fn delete_one(words: &mut [u32], i: usize, index: u32, version: u32)
+// The entity's component of the staged kind at i goes, if it has one, and its value is handed back.
+pub fn remove_one(words: &mut [u32], i: usize, index: u32, version: u32) -> Removed
     requires { ⌜ Staged (now words) ⌝ }
     requires { ⌜ i < length (meaning (now words) .control .staged) ⌝ }
-    ensures { λ _. ⌜ Becomes (now (words .entry)) (now (words .exit)) (onStorage (onSet (getD (stagedKinds (meaning (now (words .entry)))) i 0) (removeRow (entity index version))) (meaning (now (words .entry)))) ⌝ }
+    ensures { λ r. ⌜ RemovesKind (now (words .entry)) (now (words .exit)) (getD (stagedKinds (meaning (now (words .entry)))) i 0) (entity index version) r ⌝ }
 {
     let kind = control::staged::staged_kind(words, i);
-    kinds::remove(words, kind, index, version);
+    kinds::remove(words, kind, index, version)
 }
 
 // Its components of all staged kinds go; no group is walked.
@@ -75,7 +79,7 @@ fn delete_staged(words: &mut [u32], index: u32, version: u32)
     let n = control::staged::staged_len(words);
     let mut i = 0;
     while i < n {
-        delete_one(words, i, index, version);
+        remove_one(words, i, index, version);
         i += 1;
     }
 }

@@ -2,7 +2,6 @@
 pub mod component_set;
 pub mod component_storage;
 pub mod mask;
-pub mod take;
 
 use entity::Entity;
 ghost use mathlib.Core.Path.{_≡_};

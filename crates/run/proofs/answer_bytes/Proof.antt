@@ -1,4 +1,4 @@
-use Rattle.run.proofs.Reading.{answers-small, take-answer, fixed-answer}
+use Rattle.run.proofs.Answers.{answers-small, take-answer, fixed-answer}
 use Rattle.memory.specs.Meaning.{meaning}
 use native.Mathlib.Omega.{arith}
 use borrow.Author.Needs.{needs}

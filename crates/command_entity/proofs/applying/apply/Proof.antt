@@ -1,5 +1,5 @@
 use Rattle.command.proofs.Acts.{accepted-by}
-use Rattle.command_entity.proofs.Emptied.{applies}
+use Rattle.command_entity.proofs.Made.{applies}
 use Rattle.memory.specs.Meaning.{meaning}
 use borrow.Author.Needs.{needs}
 use Rattle.command_entity.proofs.applying.apply.Statement.{statement}

@@ -1,6 +1,6 @@
 use Rattle.command.proofs.Acts.{accepted-by}
 use Rattle.memory.specs.Meaning.{meaning}
-use Rattle.command_entity.proofs.Emptied.{wiped}
+use Rattle.command_entity.proofs.Made.{wiped}
 use borrow.Author.Needs.{needs}
 use Rattle.command_entity.proofs.components.wipe.Statement.{statement}
 use Rattle.command_entity.proofs.components.wipe.Tie as tie

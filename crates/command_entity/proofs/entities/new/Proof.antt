@@ -1,5 +1,5 @@
-use Rattle.command.proofs.Acts.{refused-by, accepted-by}
-use Rattle.command_entity.proofs.Emptied.{emptied, new-made, told}
+use Rattle.command.proofs.Acts.{refused-by, accepted-by, emptied}
+use Rattle.command_entity.proofs.Made.{new-made, told}
 use Rattle.memory.specs.Meaning.{meaning}
 use Rattle.model.proofs.Outcomes.{new-full}
 use mathlib.Core.Path.{refl, sym, _∙_}

@@ -26,8 +26,8 @@ loop-holds c =
     let a = c .before .before .before .args in
     (omega arith, c .staged-len .ensures .is ∙ sym (length-map (meaning (a .words .now) .control .staged) kindOf), gone-none (a .words .now) (entity (a .index) (a .version)) (stagedKinds (meaning (a .words .now))) (c .before .before .before .pre .arranged))
 
-delete-one-requires : tie.Need-delete-one-requires Inv-loop μ-loop
-delete-one-requires c κs =
+remove-one-requires : tie.Need-remove-one-requires Inv-loop μ-loop
+remove-one-requires c κs =
     let a = c .before .before .before .before .before .before .args in
     let v = c .before .before .loop .inv in
     let w = c .before .before .loop .words in
@@ -41,7 +41,7 @@ loop-again c =
     let w = c .before .before .before .before .before .loop .words in
     let i = c .before .before .before .before .before .loop .i in
     let same = ap (λ (m : Store). getD (stagedKinds m) (c .before .before .before .before .before .loop .i) 0) (v .2 .means) in
-    (omega arith, v .1, gone-turn (a .words .now) (entity (a .index) (a .version)) (stagedKinds (meaning (a .words .now))) w (c .before .before .delete-one .last .0) i (getD (stagedKinds (meaning w)) i 0) (omega (arith, v .1, c .before .before .before .before .loop-test)) same (v .2) (c .before .before .delete-one .ensures))
+    (omega arith, v .1, gone-turn (a .words .now) (entity (a .index) (a .version)) (stagedKinds (meaning (a .words .now))) w (c .before .before .remove-one .last .0) i (getD (stagedKinds (meaning w)) i 0) (omega (arith, v .1, c .before .before .before .before .loop-test)) same (v .2) (c .before .before .remove-one .ensures .becomes))
 
 same-length : tie.Need-same-length Inv-loop μ-loop
 same-length c = c .before .loop .inv .2 .size
@@ -55,4 +55,4 @@ returns c =
 pub delete-staged-spec : {M : Type 1} → statement M
 delete-staged-spec =
     tie.close
-    (tie.spec Inv-loop μ-loop staged-len-requires loop-holds delete-one-requires (λ c. omega arith) (λ c. omega arith) loop-again same-length returns)
+    (tie.spec Inv-loop μ-loop staged-len-requires loop-holds remove-one-requires (λ c. omega arith) (λ c. omega arith) loop-again same-length returns)

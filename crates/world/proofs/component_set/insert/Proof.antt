@@ -4,8 +4,8 @@ use Rattle.world.proofs.Whole.{staged-sound, insertable, insert-below, 
 use Rattle.world.proofs.component_set.insert.Statement.{statement}
 use Rattle.world.proofs.component_set.insert.Tie as tie
 
-staged-insert-mask-requires : tie.Need-staged-insert-mask-requires
-staged-insert-mask-requires c κs = let s = c .before .before in staged-sound (s .args .words .now) (s .pre .0)
+staged-mask-requires : tie.Need-staged-mask-requires
+staged-mask-requires c κs = let s = c .before .before in staged-sound (s .args .words .now) (s .pre .0)
 
 insert-staged-requires : tie.Need-insert-staged-requires
 insert-staged-requires c κs = let s = c .before .before .before .before in insertable (s .args .words .now) (s .pre .0) (s .args .index) (s .args .version) (s .pre .1)
@@ -16,15 +16,15 @@ group-requires c κs =
     let a = s .args in
     let w = c .before .before .before .insert-staged .last .0 in
     let B = c .before .before .before .insert-staged .ensures in
-    let m = c .before .before .before .before .before .staged-insert-mask in
+    let m = c .before .before .before .before .before .staged-mask in
     (B .arranged, (insert-below (a .words .now) (s .pre .0) (a .index) (a .version) (m .result .0) (m .ensures) w B, insert-ready (a .words .now) (s .pre .0) (a .index) (a .version) (m .result .0) (m .ensures) w B))
 
 returns : tie.Need-returns
 returns c =
     let s = c .before .before .before .before .before .before .before .before .before .before .before in
     let a = s .args in
-    let m = c .before .before .before .before .before .before .before .before .staged-insert-mask in
+    let m = c .before .before .before .before .before .before .before .before .staged-mask in
     insert-whole (a .words .now) (s .pre .0) (a .index) (a .version) (m .result .0) (m .ensures) (c .before .before .before .before .before .before .insert-staged .last .0) (c .before .before .before .before .before .before .insert-staged .ensures) (c .before .before .group .last .0) (c .before .before .group .ensures)
 
 pub insert-spec : {M : Type 1} → statement M
-insert-spec = tie.close (tie.spec staged-insert-mask-requires insert-staged-requires group-requires (λ c. search needs) returns)
+insert-spec = tie.close (tie.spec staged-mask-requires insert-staged-requires group-requires (λ c. search needs) returns)

@@ -5,14 +5,14 @@ use Rattle.world.proofs.Whole.{staged-sound, delete-inside, delete-read
 use Rattle.world.proofs.component_set.ungroup_staged.Statement.{statement}
 use Rattle.world.proofs.component_set.ungroup_staged.Tie as tie
 
-staged-delete-mask-requires : tie.Need-staged-delete-mask-requires
-staged-delete-mask-requires c κs = let s = c .before .before in staged-sound (s .args .words .now) (s .pre)
+staged-mask-requires : tie.Need-staged-mask-requires
+staged-mask-requires c κs = let s = c .before .before in staged-sound (s .args .words .now) (s .pre)
 
 ungroup-requires : tie.Need-ungroup-requires
 ungroup-requires c κs =
     let s = c .before .before .before .before in
     let a = s .args in
-    let m = c .before .staged-delete-mask in
+    let m = c .before .staged-mask in
     let e = entity (a .index) (a .version) in
     (s .pre .arranged, (delete-inside (a .words .now) (s .pre) e (m .result .0) (m .ensures), delete-ready (a .words .now) (s .pre) e (m .result .0) (m .ensures)))
 
@@ -20,8 +20,8 @@ returns : tie.Need-returns
 returns c =
     let s = c .before .before .before .before .before .before .before in
     let a = s .args in
-    let m = c .before .before .before .before .staged-delete-mask in
+    let m = c .before .before .before .before .staged-mask in
     ungroup-whole (a .words .now) (s .pre) (entity (a .index) (a .version)) (m .result .0) (m .ensures) (c .before .before .ungroup .last .0) (c .before .before .ungroup .ensures)
 
 pub ungroup-staged-spec : {M : Type 1} → statement M
-ungroup-staged-spec = tie.close (tie.spec staged-delete-mask-requires ungroup-requires (λ c. search needs) returns)
+ungroup-staged-spec = tie.close (tie.spec staged-mask-requires ungroup-requires (λ c. search needs) returns)

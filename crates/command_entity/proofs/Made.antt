@@ -1,0 +1,32 @@
+-- What the commands over the world leave, beside what the world's functions do. Assumes nothing.
+use mathlib.Core.Path.{_≡_, subst}
+use mathlib.Core.Bool.{false}
+use mathlib.Core.List.{List, [], _∷_, _++_}
+use Prim.Native.Nat.{ℕ}
+use Rattle.model.specs.Model.{Entity, clearAll, create}
+use Rattle.model.specs.Store.{Store, le, withControl, emptyStaged}
+use Rattle.model.specs.Commands.{WIPE, APPLY, NEW, accepted}
+use Rattle.model.specs.Run.{accepts, does}
+use Rattle.model.proofs.Outcomes.{wipe-does, apply-does, new-created}
+use Rattle.component.specs.SparseSet.{entity}
+use Rattle.entity.specs.Change.{isFull}
+use Rattle.memory.specs.Change.{onStorage}
+use Rattle.world.specs.World.{created}
+use Rattle.layout_apply.specs.Steps.{applied}
+use Rattle.command.specs.Acted.{Written}
+
+pub wiped : (s : Store) → does WIPE s ≡ accepts (onStorage clearAll s) []
+unfolding accepted
+wiped s = wipe-does s
+
+pub applies : (s : Store) → does APPLY s ≡ accepts (applied s) []
+unfolding accepted
+applies s = apply-does s
+
+-- NEW: the created entity's store, with nothing staged, and its number and version told
+pub new-made : (s : Store) → isFull (s .capacity) (s .entities) ≡ false → does NEW s ≡ accepts (withControl (created s) (emptyStaged (s .control))) (le 4 (create (s .entities) .entity .index) ++ le 4 (create (s .entities) .entity .version))
+unfolding accepted
+new-made s h = new-created s h
+
+pub told : {o o′ : List ℕ} {at r : ℕ} (i v : ℕ) {e : Entity} → entity i v ≡ e → Written o o′ at r (0 ∷ le 4 i ++ le 4 v) → Written o o′ at r (0 ∷ le 4 (e .index) ++ le 4 (e .version))
+told {o} {o′} {at} {r} i v q h = subst (λ (x : Entity). Written o o′ at r (0 ∷ le 4 (x .index) ++ le 4 (x .version))) q h

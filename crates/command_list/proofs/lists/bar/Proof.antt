@@ -1,0 +1,65 @@
+use Rattle.command.proofs.Acts.{refused-by, accepted-by}
+use Rattle.command_list.proofs.Known.{known-small}
+use Rattle.memory.specs.Meaning.{meaning}
+use Rattle.model.proofs.Outcomes.{bar-unknown, bar-again, bar-full, bar-excluded}
+use lib.ListN.{length}
+use borrow.Author.Tests.{le-leb, lt-leb}
+use native.Mathlib.Omega.{arith}
+use Prim.Native.Nat.{_≤_, _<_}
+use mathlib.Core.Path.{sym, _∙_}
+use borrow.Author.Needs.{needs}
+use Rattle.command_list.proofs.lists.bar.Statement.{statement}
+use Rattle.command_list.proofs.lists.bar.Tie as tie
+
+returns : tie.Need-returns
+returns c = let a = c .before .before .before .before .before .before .before .before .before .before .before .before .args in
+    refused-by (bar-unknown (meaning (a .words .now)) (a .kind) (sym (c .before .before .before .before .before .before .before .before .is-unknown .ensures) ∙ c .before .before .before .before .before .before .before .if1 .taken)) (c .before .before .before .before .refuse .ensures)
+
+refuse-requires-2 : tie.Need-refuse-requires-2
+refuse-requires-2 c κs = (c .before .before .before .before .before .before .before .before .before .before .pre .sound .arranged, omega (arith, c .before .before .before .before .before .before .before .before .before .before .pre .room))
+
+returns-2 : tie.Need-returns-2
+returns-2 c = let a = c .before .before .before .before .before .before .before .before .before .before .before .before .before .before .before .args in
+    refused-by (bar-again (meaning (a .words .now)) (a .kind) (sym (c .before .before .before .before .before .before .before .before .before .before .before .is-unknown .ensures) ∙ c .before .before .before .before .before .before .before .before .before .before .if1 .left) (sym (c .before .before .before .before .before .before .before .before .is-excluded .ensures) ∙ c .before .before .before .before .before .before .before .if2 .taken)) (c .before .before .before .before .refuse2 .ensures)
+
+refuse-requires-3 : tie.Need-refuse-requires-3
+refuse-requires-3 c κs = (c .before .before .before .before .before .before .before .before .before .before .before .before .before .pre .sound .arranged, omega (arith, c .before .before .before .before .before .before .before .before .before .before .before .before .before .pre .room))
+
+returns-3 : tie.Need-returns-3
+returns-3 c = let a = c .before .before .before .before .before .before .before .before .before .before .before .before .before .before .before .before .before .before .args in
+    let h : 16 ≤ length (meaning (a .words .now) .control .excluded) = omega (arith, c .before .before .before .before .before .before .before .if3 .taken, c .before .before .before .before .before .before .before .before .excluded-len .ensures .is) in
+    refused-by (bar-full (meaning (a .words .now)) (a .kind) (sym (c .before .before .before .before .before .before .before .before .before .before .before .before .before .before .is-unknown .ensures) ∙ c .before .before .before .before .before .before .before .before .before .before .before .before .before .if1 .left) (sym (c .before .before .before .before .before .before .before .before .before .before .before .is-excluded .ensures) ∙ c .before .before .before .before .before .before .before .before .before .before .if2 .left) (le-leb 16 _ h)) (c .before .before .before .before .refuse3 .ensures)
+
+exclude-requires : tie.Need-exclude-requires
+exclude-requires c κs = let a = c .before .before .before .before .before .before .before .before .before .before .before .before .args in
+    (c .before .before .before .before .before .before .before .before .before .before .before .before .pre .sound .arranged, (omega (arith, c .before .if3 .left, c .before .before .excluded-len .ensures .is), known-small (a .kind) (meaning (a .words .now)) (sym (c .before .before .before .before .before .before .before .before .is-unknown .ensures) ∙ c .before .before .before .before .before .before .before .if1 .left)))
+
+returns-4 : tie.Need-returns-4
+returns-4 c = let a = c .before .before .before .before .before .before .before .before .before .before .before .before .before .before .before .before .before .before .before .args in
+    let h : length (meaning (a .words .now) .control .excluded) < 16 = omega (arith, c .before .before .before .before .before .before .before .before .if3 .left, c .before .before .before .before .before .before .before .before .before .excluded-len .ensures .is) in
+    accepted-by (bar-excluded (meaning (a .words .now)) (a .kind) (sym (c .before .before .before .before .before .before .before .before .before .before .before .before .before .before .before .is-unknown .ensures) ∙ c .before .before .before .before .before .before .before .before .before .before .before .before .before .before .if1 .left) (sym (c .before .before .before .before .before .before .before .before .before .before .before .before .is-excluded .ensures) ∙ c .before .before .before .before .before .before .before .before .before .before .before .if2 .left) (lt-leb 16 _ h)) (c .before .before .before .before .before .before .exclude .ensures) (c .before .before .ack .ensures)
+
+pub bar-spec : {M : Type 1} → statement M
+bar-spec =
+    tie.close
+    (tie.spec
+    (λ c κs. search needs)
+    (λ c κs. search needs)
+    (λ c. search needs)
+    (λ c. search needs)
+    returns
+    (λ c κs. search needs)
+    refuse-requires-2
+    (λ c. search needs)
+    (λ c. search needs)
+    returns-2
+    (λ c κs. search needs)
+    refuse-requires-3
+    (λ c. search needs)
+    (λ c. search needs)
+    returns-3
+    exclude-requires
+    (λ c κs. search needs)
+    (λ c. search needs)
+    (λ c. search needs)
+    returns-4)

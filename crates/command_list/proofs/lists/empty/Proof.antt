@@ -1,0 +1,13 @@
+use Rattle.command.proofs.Acts.{accepted-by}
+use Rattle.memory.specs.Meaning.{meaning}
+use Rattle.model.proofs.Outcomes.{empty-does}
+use borrow.Author.Needs.{needs}
+use Rattle.command_list.proofs.lists.empty.Statement.{statement}
+use Rattle.command_list.proofs.lists.empty.Tie as tie
+
+returns : tie.Need-returns
+returns c = accepted-by (empty-does (meaning (c .before .before .before .before .before .before .before .before .before .before .args .words .now))) (c .before .before .before .before .before .before .clear-lists .ensures) (c .before .before .ack .ensures)
+
+pub empty-spec : {M : Type 1} → statement M
+empty-spec =
+    tie.close (tie.spec (λ c κs. search needs) (λ c κs. search needs) (λ c. search needs) (λ c. search needs) returns)

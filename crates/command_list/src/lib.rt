@@ -1,0 +1,3 @@
+// REG, HOLD, BAR, EMPTY and TALLY: one function each, which answers how many bytes it wrote. Refusals come in the order of 01's table.
+pub mod lists;
+pub mod registering;

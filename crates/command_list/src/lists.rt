@@ -1,0 +1,85 @@
+// HOLD, BAR, EMPTY and TALLY: the staged components, the excluded kinds and the count of refusals.
+use command::answers::AGAIN;
+use command::answers::HANDFUL;
+use command::answers::KIND;
+use command::answers::ack;
+use command::answers::ack_number;
+use command::answers::refuse;
+ghost use mathlib.Core.Path.{_≡_};
+ghost use Rattle.model.specs.Commands.{HOLD, BAR, EMPTY, TALLY};
+ghost use Rattle.model.specs.Refusals.{unknownKind};
+ghost use Rattle.model.specs.Run.{does};
+ghost use Rattle.component.specs.SparseSet.{valueOf};
+ghost use Rattle.memory.specs.Meaning.{meaning};
+ghost use Rattle.memory.specs.Arranged.{Arranged};
+ghost use Rattle.command.specs.Acted.{Ready, Acted};
+
+// Whether a kind is above 127 or unregistered.
+pub fn is_unknown(words: &[u32], kind: usize) -> bool
+    requires { ⌜ Arranged (now words) ⌝ }
+    ensures { λ r. ⌜ r ≡ unknownKind kind (meaning (now (words .entry))) ⌝ }
+{
+    if 127 < kind {
+        return true;
+    }
+    if kinds::is_registered(words, kind) {
+        return false;
+    }
+    true
+}
+
+// HOLD: a kind with its value, staged.
+pub fn hold(words: &mut [u32], kind: u8, low: u32, high: u32, out: &mut [u8], at: usize) -> usize
+    requires { ⌜ Ready (now words) (now out) at (HOLD kind (valueOf low high)) ⌝ }
+    ensures { λ r. ⌜ Acted (now (words .entry)) (now (words .exit)) (now (out .entry)) (now (out .exit)) at r (does (HOLD kind (valueOf low high)) (meaning (now (words .entry)))) ⌝ }
+{
+    let k = kind as usize;
+    if is_unknown(words, k) {
+        return refuse(words, out, at, KIND);
+    }
+    if control::staged::is_staged(words, k) {
+        return refuse(words, out, at, AGAIN);
+    }
+    if 16 <= control::staged::staged_len(words) {
+        return refuse(words, out, at, HANDFUL);
+    }
+    control::staged::stage(words, k, low, high);
+    ack(out, at)
+}
+
+// BAR: a kind, excluded.
+pub fn bar(words: &mut [u32], kind: u8, out: &mut [u8], at: usize) -> usize
+    requires { ⌜ Ready (now words) (now out) at (BAR kind) ⌝ }
+    ensures { λ r. ⌜ Acted (now (words .entry)) (now (words .exit)) (now (out .entry)) (now (out .exit)) at r (does (BAR kind) (meaning (now (words .entry)))) ⌝ }
+{
+    let k = kind as usize;
+    if is_unknown(words, k) {
+        return refuse(words, out, at, KIND);
+    }
+    if control::excluded::is_excluded(words, k) {
+        return refuse(words, out, at, AGAIN);
+    }
+    if 16 <= control::excluded::excluded_len(words) {
+        return refuse(words, out, at, HANDFUL);
+    }
+    control::excluded::exclude(words, k);
+    ack(out, at)
+}
+
+// EMPTY: both lists.
+pub fn empty(words: &mut [u32], out: &mut [u8], at: usize) -> usize
+    requires { ⌜ Ready (now words) (now out) at EMPTY ⌝ }
+    ensures { λ r. ⌜ Acted (now (words .entry)) (now (words .exit)) (now (out .entry)) (now (out .exit)) at r (does EMPTY (meaning (now (words .entry)))) ⌝ }
+{
+    control::staged::clear_lists(words);
+    ack(out, at)
+}
+
+// TALLY: how many commands were refused.
+pub fn tally(words: &[u32], out: &mut [u8], at: usize) -> usize
+    requires { ⌜ Ready (now words) (now out) at TALLY ⌝ }
+    ensures { λ r. ⌜ Acted (now (words .entry)) (now (words .entry)) (now (out .entry)) (now (out .exit)) at r (does TALLY (meaning (now (words .entry)))) ⌝ }
+{
+    let count = control::refusals::refusals(words);
+    ack_number(out, at, count)
+}

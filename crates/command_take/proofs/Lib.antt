@@ -1,0 +1,4 @@
+pub mod Taking
+pub mod Kept
+pub mod Whole
+pub mod Told

@@ -1,0 +1,27 @@
+-- TAKE as the model has it: the groups left, then the components gone, with the bytes of what was held before. Assumes nothing.
+use mathlib.Core.Path.{_≡_, ap, _∙_}
+use mathlib.Core.List.{List}
+use Prim.Native.Nat.{ℕ}
+use lib.Seq.{sets}
+use Rattle.model.specs.Model.{Entity}
+use Rattle.model.specs.Store.{Store, stagedKinds}
+use Rattle.model.specs.Commands.{heldBytes}
+use Rattle.model.proofs.Operations.{sound-held}
+use Rattle.memory.specs.Meaning.{meaning}
+use Rattle.memory.specs.Change.{onStorage}
+use Rattle.memory.specs.Arranged.{Sound, Becomes}
+use Rattle.world.specs.Remove.{ungrouped}
+use Rattle.world.proofs.Whole.{delete-whole}
+use Rattle.command_take.specs.Take.{TakesStaged, Takes}
+use Rattle.command_take.proofs.Kept.{ungroup-held}
+
+-- the words w₁, where the entity has left its groups
+module _ (w : List ℕ) (S : Sound w) (e : Entity) (w₁ : List ℕ) (B : Becomes w w₁ (onStorage (ungrouped e (stagedKinds (meaning w))) (meaning w))) where
+  held-after : heldBytes e (stagedKinds (meaning w₁)) (meaning w₁ .storage) ≡ heldBytes e (stagedKinds (meaning w)) (meaning w .storage)
+  held-after =
+      ap (λ (s : Store). heldBytes e (stagedKinds s) (s .storage)) (B .means)
+      ∙ ungroup-held e (stagedKinds (meaning w)) (stagedKinds (meaning w)) (meaning w .storage) (sound-held (meaning w) (S .means) .fit)
+
+  -- the bytes are those of the words before the walk
+  pub take-whole : (w₂ out out₂ : List ℕ) (at : ℕ) → TakesStaged w₁ w₂ out out₂ e at → Takes w w₂ out out₂ e at
+  take-whole w₂ out out₂ at T = record { becomes = delete-whole w S e w₁ B w₂ (T .becomes); bytes = T .bytes ∙ ap (sets out at) held-after }

@@ -1,0 +1,51 @@
+use Rattle.command.proofs.Acts.{refused-by, accepted-by, emptied}
+use Rattle.command_take.proofs.Told.{taken-written}
+use Rattle.entity.proofs.Lookups.{found-live, found-dead}
+use Rattle.memory.specs.Meaning.{meaning}
+use Rattle.component.specs.SparseSet.{entity}
+use Rattle.model.proofs.Outcomes.{take-dead, take-live}
+use native.Mathlib.Omega.{arith}
+use mathlib.Core.Path.{refl, sym, _∙_}
+use borrow.Author.Needs.{needs}
+use Rattle.command_take.proofs.take.Statement.{statement}
+use Rattle.command_take.proofs.take.Tie as tie
+
+refuse-requires : tie.Need-refuse-requires
+refuse-requires c κs = (c .before .before .before .before .before .before .before .before .pre .sound .arranged, omega (arith, c .before .before .before .before .before .before .before .before .pre .room))
+
+returns : tie.Need-returns
+returns c =
+    let a = c .before .before .before .before .before .before .before .before .before .before .before .before .before .args in
+    let e = entity (a .index) (a .version) in
+    let s = meaning (a .words .now) in
+    refused-by (take-dead s e (found-dead e (s .entities) (sym (c .before .before .before .before .before .before .before .before .before .get .ensures) ∙ c .before .before .before .before .before .before .before .enum-told2 .given .1))) (c .before .before .before .before .refuse .ensures)
+
+returns-2 : tie.Need-returns-2
+returns-2 c =
+    let a = c .before .before .before .before .before .before .before .before .before .before .before .before .before .before .before .before .before .before .before .before .before .before .before .args in
+    let e = entity (a .index) (a .version) in
+    let s = meaning (a .words .now) in
+    let live = found-live e (s .entities) _ (sym (c .before .before .before .before .before .before .before .before .before .before .before .before .before .before .before .before .before .before .before .get .ensures) ∙ c .before .before .before .before .before .before .before .before .before .before .before .before .before .before .before .before .before .enum-told .given .1) .0 in
+    accepted-by (take-live s e live) (emptied _ (c .before .before .before .before .before .before .before .before .take-out .ensures .becomes) (record { capacity = refl; kindCapacity = refl }) (c .before .before .clear-staged .ensures)) (taken-written (a .out .now) _ _ (a .at) _ e s live (c .before .before .before .before .before .before .before .before .before .before .before .before .before .ack .ensures .bytes) (c .before .before .before .before .before .before .before .before .take-out .ensures .bytes) (c .before .before .before .before .before .before .before .before .before .before .before .before .before .before .before .staged-len .ensures .is))
+
+pub take-spec : {M : Type 1} → statement M
+take-spec =
+    tie.close
+    (tie.spec
+    (λ c κs. search needs)
+    (λ c. search needs)
+    (λ c. search needs)
+    refuse-requires
+    (λ c. search needs)
+    (λ c. search needs)
+    returns
+    (λ c κs. search needs)
+    (λ c κs. search needs)
+    (λ c. search needs)
+    (λ c κs. search needs)
+    (λ c κs. search needs)
+    (λ c. search needs)
+    (λ c. search needs)
+    (λ c. search needs)
+    (λ c. search needs)
+    returns-2)

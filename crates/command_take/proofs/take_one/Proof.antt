@@ -1,0 +1,53 @@
+-- `command_take::take_one` meets its contract. Assumes nothing.
+use mathlib.Core.Path.{ap, _∙_, subst}
+use borrow.Author.Needs.{needs}
+use lib.ListN.{getD}
+use lib.Seq.{sets}
+use Rattle.model.specs.Store.{stagedKinds}
+use Rattle.component.specs.SparseSet.{entity}
+use Rattle.component.specs.Answers.{Gives}
+use Rattle.component.specs.declared.Removed.{Removed}
+use Rattle.memory.specs.Meaning.{meaning}
+use Rattle.kinds.specs.Kinds.{kindSet}
+use Rattle.command_take.proofs.Taking.{bytes-none, bytes-held}
+use Rattle.command_take.proofs.take_one.Statement.{statement}
+use Rattle.command_take.proofs.take_one.Tie as tie
+
+remove-one-requires : tie.Need-remove-one-requires
+remove-one-requires c κs = let s = c .before .before .before in (s .pre .0, s .pre .1 .0)
+
+returns : tie.Need-returns
+returns c =
+    let a = c .before .before .before .before .before .before .before .before .before .before .before .before .args in
+    let w = a .words .now in
+    let e = entity (a .index) (a .version) in
+    let k = getD (stagedKinds (meaning w)) (a .i) 0 in
+    let r = c .before .before .before .before .before .before .before .before .remove-one in
+    let g = subst (λ (x : Removed). Gives e (kindSet w k) x) (c .before .before .before .before .enum-told .given .1) (r .ensures .gives) in
+    record { becomes = r .ensures .becomes; bytes = c .before .before .put-held .ensures ∙ ap (sets (a .out .now) (a .at)) (bytes-none e (kindSet w k) g) }
+
+returns-2 : tie.Need-returns-2
+returns-2 c =
+    let a = c .before .before .before .before .before .before .before .before .before .before .before .before .before .args in
+    let w = a .words .now in
+    let e = entity (a .index) (a .version) in
+    let k = getD (stagedKinds (meaning w)) (a .i) 0 in
+    let r = c .before .before .before .before .before .before .before .before .before .remove-one in
+    let g = subst (λ (x : Removed). Gives e (kindSet w k) x) (c .before .before .before .before .before .removed .given .1) (r .ensures .gives) in
+    record { becomes = r .ensures .becomes; bytes = c .before .before .put-held2 .ensures ∙ ap (sets (a .out .now) (a .at)) (bytes-held e (kindSet w k) _ (g .holds) (g .value)) }
+
+pub take-one-spec : {M : Type 1} → statement M
+take-one-spec =
+    tie.close
+    (tie.spec
+    remove-one-requires
+    (λ c. search needs)
+    (λ c. search needs)
+    (λ c κs. c .before .before .before .before .before .before .before .before .before .pre .1 .1)
+    (λ c. c .before .before .before .before .before .before .before .before .remove-one .kept .0)
+    (λ c. c .before .before .put-held .kept .0)
+    returns
+    (λ c κs. c .before .before .before .before .before .before .before .before .before .before .pre .1 .1)
+    (λ c. c .before .before .before .before .before .before .before .before .before .remove-one .kept .0)
+    (λ c. c .before .before .put-held2 .kept .0)
+    returns-2)

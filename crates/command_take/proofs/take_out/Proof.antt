@@ -1,0 +1,28 @@
+-- `command_take::take_out` meets its contract. Assumes nothing.
+use native.Mathlib.Omega.{arith}
+use borrow.Author.Needs.{needs}
+use Rattle.component.specs.SparseSet.{entity}
+use Rattle.world.proofs.Whole.{staged-after, count-after}
+use Rattle.command_take.proofs.Whole.{take-whole}
+use Rattle.command_take.proofs.take_out.Statement.{statement}
+use Rattle.command_take.proofs.take_out.Tie as tie
+
+take-staged-requires : tie.Need-take-staged-requires
+take-staged-requires c κs =
+    let s = c .before .before .before .before .before .before .before .before in
+    let w = s .args .words .now in
+    let e = entity (s .args .index) (s .args .version) in
+    let u = c .before .before .before .before .ungroup-staged in
+    let n = count-after w (s .pre .0) e (u .last .0) (u .ensures) in
+    (staged-after w (s .pre .0) e (u .last .0) (u .ensures), omega (arith, n, s .pre .1))
+
+returns : tie.Need-returns
+returns c =
+    let s = c .before .before .before .before .before .before .before .before .before .before .before .before .before in
+    let a = s .args in
+    let u = c .before .before .before .before .before .before .before .before .before .ungroup-staged in
+    let t = c .before .before .before .before .take-staged in
+    take-whole (a .words .now) (s .pre .0) (entity (a .index) (a .version)) (u .last .0) (u .ensures) (t .last .0) (a .out .now) _ (a .at) (t .ensures)
+
+pub take-out-spec : {M : Type 1} → statement M
+take-out-spec = tie.close (tie.spec (λ c κs. search needs) take-staged-requires (λ c. search needs) (λ c. search needs) returns)

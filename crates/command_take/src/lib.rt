@@ -1,0 +1,86 @@
+// TAKE (component_set.rs, remove): a live entity's components of the staged kinds go, and are told. The groups are left first; then each removal
+// gives the value that was held.
+use command::answers::DEAD;
+use command::answers::ack;
+use command::answers::refuse;
+use component::Removed;
+use entity::Found;
+use world::component_set;
+ghost use mathlib.Core.Path.{_≡_};
+ghost use mathlib.Core.List.{_∷_};
+ghost use Prim.Native.Nat.{_+_, _*_, _≤_, _<_};
+ghost use lib.ListN.{length, getD};
+ghost use lib.Seq.{sets};
+ghost use Rattle.model.specs.Store.{stagedKinds, le};
+ghost use Rattle.model.specs.Commands.{TAKE};
+ghost use Rattle.model.specs.Run.{does};
+ghost use Rattle.component.specs.SparseSet.{entity};
+ghost use Rattle.memory.specs.Meaning.{meaning};
+ghost use Rattle.memory.specs.Arranged.{Sound};
+ghost use Rattle.world.specs.Remove.{Staged};
+ghost use Rattle.command.specs.Acted.{Ready, Acted};
+ghost use Rattle.command_take.specs.Take.{TakesKind, TakesStaged, Takes};
+
+// The byte held and the value's eight, at `at`.
+fn put_held(out: &mut [u8], at: usize, held: u8, low: u32, high: u32)
+    requires { ⌜ at + 9 ≤ length (now out) ⌝ }
+    ensures { λ _. ⌜ now (out .exit) ≡ sets (now (out .entry)) at (held ∷ le 8 (low + 4294967296 * high)) ⌝ }
+{
+    out[at] = held;
+    codec::put_value(out, at + 1, low, high);
+}
+
+// The entity's component of the staged kind at i goes, and is written out.
+fn take_one(words: &mut [u32], i: usize, index: u32, version: u32, out: &mut [u8], at: usize)
+    requires { ⌜ Staged (now words) ⌝ }
+    requires { ⌜ i < length (meaning (now words) .control .staged) ⌝ }
+    requires { ⌜ at + 9 ≤ length (now out) ⌝ }
+    ensures { λ _. ⌜ TakesKind (now (words .entry)) (now (words .exit)) (now (out .entry)) (now (out .exit)) (entity index version) (getD (stagedKinds (meaning (now (words .entry)))) i 0) at ⌝ }
+{
+    let removed = component_set::remove_one(words, i, index, version);
+    let Removed::Value(low, high) = removed else {
+        put_held(out, at, 0, 0, 0);
+        return;
+    };
+    put_held(out, at, 1, low, high);
+}
+
+// Its components of all staged kinds go, and are written out; no group is walked.
+fn take_staged(words: &mut [u32], index: u32, version: u32, out: &mut [u8], at: usize)
+    requires { ⌜ Staged (now words) ⌝ }
+    requires { ⌜ at + 9 * length (meaning (now words) .control .staged) ≤ length (now out) ⌝ }
+    ensures { λ _. ⌜ TakesStaged (now (words .entry)) (now (words .exit)) (now (out .entry)) (now (out .exit)) (entity index version) at ⌝ }
+{
+    let n = control::staged::staged_len(words);
+    let mut i = 0;
+    while i < n {
+        take_one(words, i, index, version, out, at + 9 * i);
+        i += 1;
+    }
+}
+
+// The groups that have a staged kind are left; then the components go, and are written out.
+fn take_out(words: &mut [u32], index: u32, version: u32, out: &mut [u8], at: usize)
+    requires { ⌜ Sound (now words) ⌝ }
+    requires { ⌜ at + 9 * length (meaning (now words) .control .staged) ≤ length (now out) ⌝ }
+    ensures { λ _. ⌜ Takes (now (words .entry)) (now (words .exit)) (now (out .entry)) (now (out .exit)) (entity index version) at ⌝ }
+{
+    component_set::ungroup_staged(words, index, version);
+    take_staged(words, index, version, out, at);
+}
+
+// TAKE: a live entity's components of the staged kinds go, and are told.
+pub fn take(words: &mut [u32], index: u32, version: u32, out: &mut [u8], at: usize) -> usize
+    requires { ⌜ Ready (now words) (now out) at (TAKE (entity index version)) ⌝ }
+    ensures { λ r. ⌜ Acted (now (words .entry)) (now (words .exit)) (now (out .entry)) (now (out .exit)) at r (does (TAKE (entity index version)) (meaning (now (words .entry)))) ⌝ }
+{
+    let found = control::entities::get(words, index, version);
+    let Found::At(_) = found else {
+        return refuse(words, out, at, DEAD);
+    };
+    let n = control::staged::staged_len(words);
+    ack(out, at);
+    take_out(words, index, version, out, at + 1);
+    control::staged::clear_staged(words);
+    1 + 9 * n
+}

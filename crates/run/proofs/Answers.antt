@@ -1,0 +1,43 @@
+-- How many bytes a command's accepted answer takes. Assumes nothing.
+use mathlib.Core.Path.{_≡_, refl, sym, _∙_}
+use mathlib.Core.Logic.{_≢_}
+use mathlib.Core.List.{List, [], _∷_}
+use Prim.Native.Nat.{ℕ, zero, suc, _+_, _*_, _≤_, _<_}
+use native.Mathlib.Omega.{arith}
+use lib.ListN.{length, getD, set, drop, List·getD-map}
+use lib.Seq.{getD-set-other}
+use Rattle.model.specs.Store.{Store, number}
+use Rattle.model.specs.Commands.{Command, REG, HOLD, NEW, PUT, TAKE, DROP, KILL, WIPE, GROUP, APPLY, BAR, RANGE, EMPTY, TALLY, entityOfBytes, commandAt, answerLength}
+
+default-any : (l : List ℕ) (i d e : ℕ) → i < length l → getD l i d ≡ getD l i e
+default-any [] i d e h = absurd (omega arith)
+default-any (x ∷ l) zero d e h = refl
+default-any (x ∷ l) (suc i) d e h = default-any l i d e (omega arith)
+
+-- by command byte; TAKE's is for no staged component
+abbrev pub answers : List ℕ
+answers = 5 ∷ 2 ∷ 1 ∷ 9 ∷ 1 ∷ 1 ∷ 1 ∷ 1 ∷ 1 ∷ 2 ∷ 1 ∷ 1 ∷ 10 ∷ 1 ∷ 5 ∷ []
+
+pub answers-small : (b : ℕ) → getD answers b 0 ≤ 10
+answers-small b = small answers (omega arith) b
+  where
+    Small : List ℕ → Type 0
+    Small [] = Unit {0}
+    Small (w ∷ ws) = (w ≤ 10) × Small ws
+
+    small : (l : List ℕ) → Small l → (j : ℕ) → getD l j 0 ≤ 10
+    small [] h j = omega arith
+    small (w ∷ ws) h zero = h .0
+    small (w ∷ ws) h (suc j) = small ws (h .1) j
+
+module _ (s : Store) (ops : List ℕ) where
+  by-byte : (b : ℕ) → answerLength (commandAt b ops) s ≡ getD (set answers 5 (1 + 9 * length (s .control .staged))) b 5
+  by-byte b =
+      sym (List·getD-map (λ (c : Command). answerLength c s)
+      (TALLY ∷ REG (getD ops 0 0) ∷ HOLD (getD ops 0 0) (number (drop 1 ops)) ∷ NEW ∷ PUT (entityOfBytes ops) ∷ TAKE (entityOfBytes ops) ∷ DROP (entityOfBytes ops) ∷ KILL (entityOfBytes ops) ∷ WIPE ∷ GROUP ∷ APPLY ∷ BAR (getD ops 0 0) ∷ RANGE ∷ EMPTY ∷ TALLY ∷ []) b TALLY)
+
+  pub take-answer : (b n : ℕ) → b ≡ 5 → n ≡ length (s .control .staged) → getD answers b 0 + 9 * n ≡ answerLength (commandAt b ops) s
+  take-answer b n e f = rw (e, f)
+
+  pub fixed-answer : (b : ℕ) → b ≢ 5 → b < 15 → getD answers b 0 ≡ answerLength (commandAt b ops) s
+  fixed-answer b ne h = default-any answers b 0 5 h ∙ sym (getD-set-other answers 5 b (1 + 9 * length (s .control .staged)) 5 ne) ∙ sym (by-byte b)

@@ -1,0 +1,104 @@
+-- Operands off the tape, and commands by their bytes. Assumes nothing.
+use mathlib.Core.Path.{_≡_, refl, ap, ap₂, sym, _∙_, subst}
+use mathlib.Core.Logic.{_≢_}
+use mathlib.Core.List.{List, [], _∷_}
+use Prim.Native.Nat.{ℕ, zero, suc, _+_, _*_, _≤_, _<_}
+use native.Mathlib.Omega.{arith}
+use native.Mathlib.Nat.{add-zero}
+use lib.ListN.{length, getD, set, take, drop, length-drop, List·getD-map}
+use lib.Seq.{getD-take, getD-drop, length-take-le, take-take, take-add, drop-drop, drop-at, getD-set-other}
+use Rattle.model.specs.Model.{Entity}
+use Rattle.words.specs.Table.{by-eq}
+use Rattle.model.specs.Store.{Store, number}
+use Rattle.model.specs.Commands.{Command, REG, HOLD, NEW, PUT, TAKE, DROP, KILL, WIPE, GROUP, APPLY, BAR, RANGE, EMPTY, TALLY, entityOfBytes, commandAt, answerLength}
+use Rattle.component.specs.SparseSet.{entity, valueOf}
+use Rattle.model.specs.Run.{does}
+use Rattle.memory.specs.Meaning.{meaning}
+use Rattle.command.specs.Acted.{Ready, Acted}
+use Rattle.run_command.specs.Given.{commandIn, Given}
+use Rattle.codec.proofs.Numbers.{number-join}
+
+-- ---- operands
+
+-- the second part of n + m bytes
+halves : (t : List ℕ) (at n m : ℕ) → at + (n + m) ≤ length t → drop n (take (n + m) (drop at t)) ≡ take m (drop (at + n) t)
+halves t at n m h =
+    let s : n ≤ length (drop at t) = rw (length-drop at t) (omega arith) in
+    ap (drop n) (take-add n m (drop at t))
+    ∙ drop-at (take n (drop at t)) (take m (drop n (drop at t))) n (length-take-le n (drop at t) s)
+    ∙ ap (take m) (drop-drop n at t)
+
+module _ (t : List ℕ) (at : ℕ) where
+  pub kind-operand : (n : ℕ) → 0 < n → getD (take n (drop at t)) 0 0 ≡ getD t at 0
+  kind-operand n h = getD-take n (drop at t) 0 0 h ∙ getD-drop at t 0 0 ∙ ap (λ (i : ℕ). getD t i 0) (add-zero at)
+
+  pub entity-operand : at + 8 ≤ length t → entityOfBytes (take 8 (drop at t)) ≡ entity (number (take 4 (drop at t))) (number (take 4 (drop (at + 4) t)))
+  entity-operand h =
+      let a : take 4 (take 8 (drop at t)) ≡ take 4 (drop at t) = take-take 4 8 (drop at t) (omega arith) in
+      let b : drop 4 (take 8 (drop at t)) ≡ take 4 (drop (at + 4) t) = halves t at 4 4 (omega arith) in
+      λ i. record { index = number (a i); version = number (b i) }
+
+  pub entity-read : at + 8 ≤ length t → {i v : ℕ} → i ≡ number (take 4 (drop at t)) → v ≡ number (take 4 (drop (at + 4) t)) → entity i v ≡ entityOfBytes (take 8 (drop at t))
+  entity-read h e f = ap₂ entity e f ∙ sym (entity-operand h)
+
+  pub value-operand : at + 9 ≤ length t → number (drop 1 (take 9 (drop at t))) ≡ valueOf (number (take 4 (drop (at + 1) t))) (number (take 4 (drop (at + 5) t)))
+  value-operand h =
+      let e : drop 1 (take 9 (drop at t)) ≡ take 8 (drop (at + 1) t) = halves t at 1 8 (omega arith) in
+      let l : 8 ≤ length (drop (at + 1) t) = rw (length-drop (at + 1) t) (omega arith) in
+      let s : 4 ≤ length (take 8 (drop (at + 1) t)) = omega (arith, length-take-le 8 (drop (at + 1) t) l) in
+      let a : take 4 (take 8 (drop (at + 1) t)) ≡ take 4 (drop (at + 1) t) = take-take 4 8 (drop (at + 1) t) (omega arith) in
+      let b : drop 4 (take 8 (drop (at + 1) t)) ≡ take 4 (drop (at + 1 + 4) t) = halves t (at + 1) 4 4 (omega arith) in
+      let f : at + 1 + 4 ≡ at + 5 = omega arith in
+      let j = number-join 4 (take 8 (drop (at + 1) t)) s in
+      ap number e ∙ j ∙ rw (a, b, f)
+
+-- ---- a command byte that is known
+
+pub given-as : {w t o : List ℕ} {op at p : ℕ} (k : ℕ) → op ≡ k → Given w op t at o p → Given w k t at o p
+given-as k e g = rw e at g
+
+pub acts-as : {w w′ o o′ : List ℕ} {p r : ℕ} (op k : ℕ) → op ≡ k → (t : List ℕ) (at : ℕ) → Acted w w′ o o′ p r (does (commandIn k t at) (meaning w)) → Acted w w′ o o′ p r (does (commandIn op t at) (meaning w))
+acts-as op k e t at a = rw e a
+
+-- the commands on an entity, whose index i and version v were read
+module _ (f : Entity → Command) (t : List ℕ) (at : ℕ) where
+  pub on-ready : {w o : List ℕ} {p i v : ℕ} → Ready w o p (f (entityOfBytes (take 8 (drop at t)))) → at + 8 ≤ length t → i ≡ number (take 4 (drop at t)) → v ≡ number (take 4 (drop (at + 4) t)) → Ready w o p (f (entity i v))
+  on-ready {w} {o} {p} r h e q = subst (λ (x : Entity). Ready w o p (f x)) (sym (entity-read t at h e q)) r
+
+  pub on-acts : {w w′ o o′ : List ℕ} {p r i v : ℕ} → at + 8 ≤ length t → i ≡ number (take 4 (drop at t)) → v ≡ number (take 4 (drop (at + 4) t))
+      → Acted w w′ o o′ p r (does (f (entity i v)) (meaning w)) → Acted w w′ o o′ p r (does (f (entityOfBytes (take 8 (drop at t)))) (meaning w))
+  on-acts {w} {w′} {o} {o′} {p} {r} h e q a = subst (λ (x : Entity). Acted w w′ o o′ p r (does (f x) (meaning w))) (entity-read t at h e q) a
+
+-- ---- what is left after the other arms
+
+up : {b : ℕ} (k : ℕ) → k ≤ b → (b ≡ k → ⊥) → suc k ≤ b
+up k h n = omega arith
+
+-- none of 4, 5 and 6
+abbrev pub OnEntity : ℕ → Type 0
+OnEntity b = ((Unit {0} × (b ≡ 4 → ⊥)) × (b ≡ 5 → ⊥)) × (b ≡ 6 → ⊥)
+
+pub is-kill : (b : ℕ) → (4 ≤ b) × (b ≤ 7) → OnEntity b → b ≡ 7
+is-kill b h n = omega (arith, h .1, up 6 (up 5 (up 4 (h .0) (n .0 .0 .1)) (n .0 .1)) (n .1))
+
+-- each of the four has eight operand bytes
+pub entity-whole : {w t o : List ℕ} {at p : ℕ} (b : ℕ) → (4 ≤ b) × (b ≤ 7) → Given w b t at o p → at + 8 ≤ length t
+entity-whole {t = t} {at = at} b h g =
+    by-eq b 4 (λ e. given-as 4 e g .whole)
+    (λ n4. by-eq b 5 (λ e. given-as 5 e g .whole)
+    (λ n5. by-eq b 6 (λ e. given-as 6 e g .whole)
+    (λ n6. given-as 7 (is-kill b h (((tt, n4), n5), n6)) g .whole)))
+
+-- none of 1 to 3, and none of 8 to 13
+abbrev pub Passed : ℕ → Type 0
+Passed b =
+    ((((((((Unit {0} × (b ≡ 1 → ⊥)) × (b ≡ 2 → ⊥)) × (b ≡ 3 → ⊥)) × (b ≡ 8 → ⊥)) × (b ≡ 9 → ⊥)) × (b ≡ 10 → ⊥)) × (b ≡ 11 → ⊥)) × (b ≡ 12 → ⊥)) × (b ≡ 13 → ⊥)
+
+pub on-entity : (b : ℕ) → 1 ≤ b → b < 8 → Passed b → (4 ≤ b) × (b ≤ 7)
+on-entity b h l n =
+    let m = n .0 .0 .0 .0 .0 .0 in
+    (up 3 (up 2 (up 1 h (m .0 .0 .1)) (m .0 .1)) (m .1), omega arith)
+
+pub is-tally : (b : ℕ) → 8 ≤ b → b < 15 → Passed b → b ≡ 14
+is-tally b h l n =
+    omega (arith, up 13 (up 12 (up 11 (up 10 (up 9 (up 8 h (n .0 .0 .0 .0 .0 .1)) (n .0 .0 .0 .0 .1)) (n .0 .0 .0 .1)) (n .0 .0 .1)) (n .0 .1)) (n .1))

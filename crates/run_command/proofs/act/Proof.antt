@@ -1,0 +1,125 @@
+use mathlib.Core.Path.{_≡_}
+use mathlib.Core.Logic.{⊎-elim}
+use native.Mathlib.Omega.{arith}
+use borrow.Author.Needs.{needs}
+use Rattle.run_command.proofs.Reading.{given-as, acts-as, on-entity, is-tally}
+use Rattle.run_command.proofs.act.Statement.{statement}
+use Rattle.run_command.proofs.act.Tie as tie
+
+reg-requires : tie.Need-reg-requires
+reg-requires c κs = given-as 1 (c .before .before .match .keys1) (c .before .before .before .before .before .before .pre .1)
+
+hold-requires : tie.Need-hold-requires
+hold-requires c κs = given-as 2 (c .before .before .match .keys2) (c .before .before .before .before .before .before .pre .1)
+
+new-requires : tie.Need-new-requires
+new-requires c κs = given-as 3 (c .before .before .match .keys3) (c .before .before .before .before .before .before .pre .1) .ready
+
+wipe-requires : tie.Need-wipe-requires
+wipe-requires c κs = given-as 8 (c .before .before .match .keys4) (c .before .before .before .before .before .before .pre .1) .ready
+
+group-requires : tie.Need-group-requires
+group-requires c κs = given-as 9 (c .before .before .match .keys5) (c .before .before .before .before .before .before .pre .1) .ready
+
+apply-requires : tie.Need-apply-requires
+apply-requires c κs = given-as 10 (c .before .before .match .keys6) (c .before .before .before .before .before .before .pre .1) .ready
+
+bar-requires : tie.Need-bar-requires
+bar-requires c κs = given-as 11 (c .before .before .match .keys7) (c .before .before .before .before .before .before .pre .1)
+
+range-requires : tie.Need-range-requires
+range-requires c κs = given-as 12 (c .before .before .match .keys8) (c .before .before .before .before .before .before .pre .1) .ready
+
+empty-requires : tie.Need-empty-requires
+empty-requires c κs = given-as 13 (c .before .before .match .keys9) (c .before .before .before .before .before .before .pre .1) .ready
+
+on-entity-requires : tie.Need-on-entity-requires
+on-entity-requires c κs = let s = c .before .before .before .before .before .before .before .before in (on-entity (s .args .op) (c .before .before .before .if1 .left) (c .before .before .if2 .taken) (c .before .before .before .before .match .rest), s .pre .1)
+
+-- the last byte, 14, in the arm that is left
+tallied : (c : tie.Joined1) → c .before .before .before .before .before .args .op ≡ 14
+tallied c =
+    let s = c .before .before .before .before .before in
+    ⊎-elim (λ l. absurd (omega (arith, l .taken, s .pre .0))) (λ l. is-tally (s .args .op) (l .1 .left) (s .pre .0 .1) (c .before .match .rest)) (c .if1 .came)
+
+tally-requires : tie.Need-tally-requires
+tally-requires c κs = given-as 14 (tallied (c .before .before)) (c .before .before .before .before .before .before .before .pre .1) .ready
+
+returns : tie.Need-returns
+returns c = let s = c .before .before .before .before .before .before .before .before .before .before .before .args in acts-as (s .op) 1 (c .before .before .before .before .before .before .before .match .keys1) (s .tape .now) (s .at) (c .before .before .before .before .reg .ensures)
+
+returns-2 : tie.Need-returns-2
+returns-2 c = let s = c .before .before .before .before .before .before .before .before .before .before .before .args in acts-as (s .op) 2 (c .before .before .before .before .before .before .before .match .keys2) (s .tape .now) (s .at) (c .before .before .before .before .hold .ensures)
+
+returns-3 : tie.Need-returns-3
+returns-3 c = let s = c .before .before .before .before .before .before .before .before .before .before .before .args in acts-as (s .op) 3 (c .before .before .before .before .before .before .before .match .keys3) (s .tape .now) (s .at) (c .before .before .before .before .new .ensures)
+
+returns-4 : tie.Need-returns-4
+returns-4 c = let s = c .before .before .before .before .before .before .before .before .before .before .before .args in acts-as (s .op) 8 (c .before .before .before .before .before .before .before .match .keys4) (s .tape .now) (s .at) (c .before .before .before .before .wipe .ensures)
+
+returns-5 : tie.Need-returns-5
+returns-5 c = let s = c .before .before .before .before .before .before .before .before .before .before .before .args in acts-as (s .op) 9 (c .before .before .before .before .before .before .before .match .keys5) (s .tape .now) (s .at) (c .before .before .before .before .group .ensures)
+
+returns-6 : tie.Need-returns-6
+returns-6 c = let s = c .before .before .before .before .before .before .before .before .before .before .before .args in acts-as (s .op) 10 (c .before .before .before .before .before .before .before .match .keys6) (s .tape .now) (s .at) (c .before .before .before .before .apply .ensures)
+
+returns-7 : tie.Need-returns-7
+returns-7 c = let s = c .before .before .before .before .before .before .before .before .before .before .before .args in acts-as (s .op) 11 (c .before .before .before .before .before .before .before .match .keys7) (s .tape .now) (s .at) (c .before .before .before .before .bar .ensures)
+
+returns-8 : tie.Need-returns-8
+returns-8 c = let s = c .before .before .before .before .before .before .before .before .before .before .before .args in acts-as (s .op) 12 (c .before .before .before .before .before .before .before .match .keys8) (s .tape .now) (s .at) (c .before .before .before .before .range .ensures)
+
+returns-9 : tie.Need-returns-9
+returns-9 c = let s = c .before .before .before .before .before .before .before .before .before .before .before .args in acts-as (s .op) 13 (c .before .before .before .before .before .before .before .match .keys9) (s .tape .now) (s .at) (c .before .before .before .before .empty .ensures)
+
+returns-11 : tie.Need-returns-11
+returns-11 c = let s = c .before .before .before .before .before .before .before .before .before .before .args in acts-as (s .op) 14 (tallied (c .before .before .before .before .before)) (s .tape .now) (s .at) (c .before .before .tally .ensures)
+
+pub act-spec : {M : Type 1} → statement M
+act-spec =
+    tie.close
+    (tie.spec
+    reg-requires
+    hold-requires
+    new-requires
+    wipe-requires
+    group-requires
+    apply-requires
+    bar-requires
+    range-requires
+    empty-requires
+    on-entity-requires
+    tally-requires
+    (λ c. c .before .before .before .before .reg .kept .0)
+    (λ c. c .before .before .before .before .reg .kept .1 .1 .1 .0)
+    returns
+    (λ c. c .before .before .before .before .hold .kept .0)
+    (λ c. c .before .before .before .before .hold .kept .1 .1 .1 .0)
+    returns-2
+    (λ c. c .before .before .before .before .new .kept .0)
+    (λ c. c .before .before .before .before .new .kept .1 .0)
+    returns-3
+    (λ c. c .before .before .before .before .wipe .kept .0)
+    (λ c. c .before .before .before .before .wipe .kept .1 .0)
+    returns-4
+    (λ c. c .before .before .before .before .group .kept .0)
+    (λ c. c .before .before .before .before .group .kept .1 .0)
+    returns-5
+    (λ c. c .before .before .before .before .apply .kept .0)
+    (λ c. c .before .before .before .before .apply .kept .1 .0)
+    returns-6
+    (λ c. c .before .before .before .before .bar .kept .0)
+    (λ c. c .before .before .before .before .bar .kept .1 .1 .1 .0)
+    returns-7
+    (λ c. c .before .before .before .before .range .kept .0)
+    (λ c. c .before .before .before .before .range .kept .1 .0)
+    returns-8
+    (λ c. c .before .before .before .before .empty .kept .0)
+    (λ c. c .before .before .before .before .empty .kept .1 .0)
+    returns-9
+    (λ c. c .before .before .before .before .on-entity .kept .0)
+    (λ c. c .before .before .before .before .on-entity .kept .1 .1 .1 .1 .0)
+    (λ c. c .before .before .before .before .on-entity .ensures)
+    (λ c. search needs)
+    (λ c. c .before .before .tally .kept .1 .0)
+    returns-11)

@@ -1,0 +1,28 @@
+-- `world::component_set::remove_one` meets its contract. Assumes nothing.
+use mathlib.Core.Path.{_∙_, subst}
+use Prim.Native.Nat.{ℕ}
+use borrow.Author.Needs.{needs}
+use Rattle.component.specs.SparseSet.{entity}
+use Rattle.memory.specs.Meaning.{meaning}
+use Rattle.kinds.specs.Kinds.{RemovesKind}
+use Rattle.world.proofs.Removing.{kind-at, staged-in}
+use Rattle.world.proofs.component_set.remove_one.Statement.{statement}
+use Rattle.world.proofs.component_set.remove_one.Tie as tie
+
+staged-kind-requires : tie.Need-staged-kind-requires
+staged-kind-requires c κs = (c .before .before .pre .0 .arranged, c .before .before .pre .1)
+
+remove-requires : tie.Need-remove-requires
+remove-requires c κs =
+    let s = c .before .before .before .before in
+    (s .pre .0 .arranged, staged-in (s .args .words .now) (s .pre .0) (s .args .i) (c .before .staged-kind .result) (s .pre .1) (c .before .staged-kind .ensures))
+
+returns : tie.Need-returns
+returns c =
+    let a = c .before .before .before .before .before .before .before .args in
+    let r = c .before .before .remove in
+    subst (λ (k : ℕ). RemovesKind (a .words .now) (r .last .0) k (entity (a .index) (a .version)) (r .result))
+    (c .before .before .before .before .staged-kind .ensures ∙ kind-at (meaning (a .words .now) .control .staged) (a .i)) (r .ensures)
+
+pub remove-one-spec : {M : Type 1} → statement M
+remove-one-spec = tie.close (tie.spec staged-kind-requires remove-requires (λ c. search needs) returns)

@@ -1,0 +1,62 @@
+-- `world::mask::staged_mask` meets its contract: the mask of the first i staged kinds. Assumes nothing.
+use mathlib.Core.Path.{_≡_}
+use mathlib.Core.List.{List}
+use Prim.Native.Nat.{ℕ, _≤_, _-_}
+use native.Mathlib.Omega.{arith}
+use borrow.Author.Needs.{needs}
+use lib.ListN.{length, take, length-map}
+use Rattle.model.specs.Model.{kindOf}
+use Rattle.model.specs.Store.{stagedKinds}
+use Rattle.masks.specs.Masks.{bitsOf}
+use Rattle.memory.specs.Meaning.{meaning}
+use Rattle.group.proofs.InWords.{groups-few}
+use Rattle.world.specs.declared.mask.Walk.{Walk}
+use Rattle.world.specs.Walked.{walkPositions}
+use Rattle.world.proofs.Masking.{mask-none, mask-turn, mask-all, no-kinds, more-kinds}
+use Rattle.world.proofs.mask.staged_mask.Statement.{statement}
+use Rattle.world.proofs.mask.staged_mask.Tie as tie
+
+abbrev at : List ℕ → Walk → List ℕ → List ℕ
+at w walk ks = walkPositions walk ks (meaning w .storage .layout)
+
+abbrev Inv-loop : tie.InvT-loop
+Inv-loop words walk n mask₀ i₀ mask i = (i ≤ n) × (n ≡ length (meaning words .control .staged)) × (bitsOf 64 (mask .0) ≡ at words walk (take i (stagedKinds (meaning words))))
+
+abbrev μ-loop : tie.MeasureT-loop
+μ-loop words walk n mask₀ i₀ mask i = n - i
+
+staged-len-requires : tie.Need-staged-len-requires Inv-loop μ-loop
+staged-len-requires c κs = c .before .pre .arranged
+
+loop-holds : tie.Need-loop-holds Inv-loop μ-loop
+loop-holds c =
+    let a = c .before .before .before .args in
+    let w = a .words .now in
+    (omega arith, c .before .staged-len .ensures .is, mask-none (at w (a .walk)) (no-kinds (a .walk) (meaning w .storage .layout)) (more-kinds (a .walk) (meaning w .storage .layout) (groups-few w (c .before .before .before .pre .arranged))) (stagedKinds (meaning w)) (c .empty .result .0) (c .empty .ensures))
+
+mask-at-requires : tie.Need-mask-at-requires Inv-loop μ-loop
+mask-at-requires c κs = (c .before .before .before .before .before .pre, omega (arith, c .before .loop .inv .1, c .loop-test))
+
+loop-again : tie.Need-loop-again Inv-loop μ-loop
+loop-again c =
+    let a = c .before .before .before .before .before .before .before .args in
+    let w = a .words .now in
+    let v = c .before .before .before .loop .inv in (
+      omega arith,
+      v .1,
+      mask-turn (at w (a .walk)) (no-kinds (a .walk) (meaning w .storage .layout)) (more-kinds (a .walk) (meaning w .storage .layout) (groups-few w (c .before .before .before .before .before .before .before .pre .arranged))) (stagedKinds (meaning w)) (c .before .before .before .loop .mask .0) (c .before .mask-at .result .0) (c .union .result .0) (c .before .before .before .loop .i)
+          (omega (arith, v .1, c .before .before .loop-test, length-map (meaning w .control .staged) kindOf)) (v .2) (c .before .mask-at .ensures) (c .union .ensures),
+    )
+
+returns : tie.Need-returns Inv-loop μ-loop
+returns c =
+    let a = c .before .before .before .before .before .args in
+    let w = a .words .now in
+    let v = c .before .loop .inv in
+    mask-all (at w (a .walk)) (no-kinds (a .walk) (meaning w .storage .layout)) (more-kinds (a .walk) (meaning w .storage .layout) (groups-few w (c .before .before .before .before .before .pre .arranged))) (stagedKinds (meaning w)) (c .before .loop .mask .0) (c .before .loop .i)
+    (omega (arith, v .1, c .loop-test, length-map (meaning w .control .staged) kindOf)) (v .2)
+
+pub staged-mask-spec : {M : Type 1} → statement M
+staged-mask-spec =
+    tie.close
+    (tie.spec Inv-loop μ-loop staged-len-requires (λ c κs. search needs) loop-holds mask-at-requires (λ c κs. search needs) (λ c. omega arith) (λ c. omega arith) loop-again returns)
