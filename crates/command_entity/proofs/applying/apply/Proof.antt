@@ -10,4 +10,9 @@ returns c = accepted-by (applies (meaning (c .before .before .before .before .be
 
 pub apply-spec : {M : Type 1} → statement M
 apply-spec =
-    tie.close (tie.spec (λ c κs. search needs) (λ c κs. search needs) (λ c. search needs) (λ c. search needs) returns)
+    tie.close (tie.spec
+    (λ c κs. search needs)
+    (λ c κs. search needs)
+    (λ c. c .before .before .before .before .before .before .set-layout .kept .0)
+    (λ c. c .before .before .ack .kept .0)
+    returns)

@@ -30,16 +30,16 @@ pub drop-spec : {M : Type 1} → statement M
 drop-spec =
     tie.close
     (tie.spec
-    (λ c κs. search needs)
+    (λ c κs. c .before .before .before .pre .sound .arranged)
     (λ c. search needs)
     (λ c. search needs)
     refuse-requires
-    (λ c. search needs)
-    (λ c. search needs)
+    (λ c. c .before .before .before .before .refuse .kept .0)
+    (λ c. c .before .before .before .before .refuse .kept .1 .0)
     returns
-    (λ c κs. search needs)
-    (λ c κs. search needs)
+    (λ c κs. c .before .before .before .before .before .before .before .pre .sound)
+    (λ c κs. c .before .before .before .delete .ensures .arranged)
     (λ c κs. search needs)
     (λ c. search needs)
-    (λ c. search needs)
+    (λ c. c .before .before .ack .kept .0)
     returns-2)

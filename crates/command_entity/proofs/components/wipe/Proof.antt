@@ -10,4 +10,9 @@ returns c = accepted-by (wiped (meaning (c .before .before .before .before .befo
 
 pub wipe-spec : {M : Type 1} → statement M
 wipe-spec =
-    tie.close (tie.spec (λ c κs. search needs) (λ c κs. search needs) (λ c. search needs) (λ c. search needs) returns)
+    tie.close (tie.spec
+    (λ c κs. c .before .before .before .pre .sound .arranged)
+    (λ c κs. search needs)
+    (λ c. c .before .before .before .before .before .before .clear .kept .0)
+    (λ c. c .before .before .ack .kept .0)
+    returns)

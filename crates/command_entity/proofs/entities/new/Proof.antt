@@ -22,14 +22,14 @@ pub new-spec : {M : Type 1} → statement M
 new-spec =
     tie.close
     (tie.spec
+    (λ c κs. c .before .before .before .pre .sound .arranged)
     (λ c κs. search needs)
-    (λ c κs. search needs)
-    (λ c. search needs)
-    (λ c. search needs)
+    (λ c. c .before .before .before .before .refuse .kept .0)
+    (λ c. c .before .before .before .before .refuse .kept .1 .0)
     returns
     create-requires
-    (λ c κs. search needs)
+    (λ c κs. c .before .before .before .create .ensures .becomes .arranged)
     (λ c κs. search needs)
     (λ c. search needs)
-    (λ c. search needs)
+    (λ c. c .before .before .ack-entity .kept .0)
     returns-2)
