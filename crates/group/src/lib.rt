@@ -3,13 +3,11 @@ pub mod group_metadata;
 pub mod group_status;
 
 use crate::group_metadata::GroupMetadata;
-use crate::group_metadata::count;
 use crate::group_metadata::group_count;
 use crate::group_metadata::kind_at;
-use crate::group_metadata::metadata;
 use crate::group_metadata::set_count;
 use crate::group_status::GroupStatus;
-use crate::group_status::get_group_status;
+use crate::group_status::standing_in;
 use masks::group_mask::GroupMask;
 use masks::group_mask::NextBit;
 ghost use mathlib.Core.List.{reverse};
@@ -94,23 +92,22 @@ fn group_step(words: &mut [u32], g: usize, rest: GroupMask, index: u32, version:
     requires { ⌜ ReadyIn (statusAt (entity index version) g (meaning (now words) .storage)) (entity index version) (located (meaning (now words) .storage .layout) g) (meaning (now words) .storage .sets) ⌝ }
     ensures { λ r. ⌜ StepsUp (now (words .entry)) (now (words .exit)) (entity index version) g (rest .0) (r .0) ⌝ }
 {
-    let metadata = metadata(words, g);
-    let group_len = count(words, g);
-    let status = get_group_status(
-        words,
-        metadata.new_storage_start,
-        metadata.storage_end,
-        group_len,
-        index,
-        version,
-    );
+    let standing = standing_in(words, g, index, version);
+    let status = standing.status;
     match status {
         GroupStatus::Incomplete => {
-            let skip = GroupMask::skip_from_to(g, metadata.top);
+            let skip = GroupMask::skip_from_to(g, standing.metadata.top);
             return rest.intersection(skip);
         }
         GroupStatus::Ungrouped => {
-            group_components(words, metadata, g, group_len, index, version);
+            group_components(
+                words,
+                standing.metadata,
+                g,
+                standing.group_len,
+                index,
+                version,
+            );
             return rest;
         }
         GroupStatus::Grouped => {
@@ -142,16 +139,8 @@ fn ungroup_step(words: &mut [u32], g: usize, index: u32, version: u32)
     requires { ⌜ ReadyOut (statusAt (entity index version) g (meaning (now words) .storage)) (entity index version) (located (meaning (now words) .storage .layout) g) (meaning (now words) .storage .sets) ⌝ }
     ensures { λ _. ⌜ Becomes (now (words .entry)) (now (words .exit)) (onStorage (stepDown (statusAt (entity index version) g (meaning (now (words .entry)) .storage)) (entity index version) g) (meaning (now (words .entry)))) ⌝ }
 {
-    let metadata = metadata(words, g);
-    let group_len = count(words, g);
-    let status = get_group_status(
-        words,
-        metadata.new_storage_start,
-        metadata.storage_end,
-        group_len,
-        index,
-        version,
-    );
+    let standing = standing_in(words, g, index, version);
+    let status = standing.status;
     match status {
         GroupStatus::Incomplete => {
             return;
@@ -160,7 +149,14 @@ fn ungroup_step(words: &mut [u32], g: usize, index: u32, version: u32)
             return;
         }
         GroupStatus::Grouped => {
-            ungroup_components(words, metadata, g, group_len, index, version);
+            ungroup_components(
+                words,
+                standing.metadata,
+                g,
+                standing.group_len,
+                index,
+                version,
+            );
             return;
         }
     }

@@ -1,7 +1,6 @@
-use mathlib.Core.Path.{refl, ap}
+use mathlib.Core.Path.{refl, ap, _∙_}
 use Prim.Native.Nat.{ℕ, _-_, _<_}
 use native.Mathlib.Omega.{arith}
-use borrow.Author.Needs.{needs}
 use Rattle.words.specs.Part.{between}
 use Rattle.component.specs.SparseSet.{entity}
 use Rattle.memory.specs.Meaning.{meaning}
@@ -45,4 +44,10 @@ returns c =
 
 pub ungroup-components-spec : {M : Type 1} → statement M
 ungroup-components-spec =
-    tie.close (tie.spec (λ c. search needs) swap-kinds-requires set-count-requires (λ c. search needs) returns)
+    tie.close
+    (tie.spec
+    (λ c. c .before .pre .1 .1 .0)
+    swap-kinds-requires
+    set-count-requires
+    (λ c. c .before .before .set-count .kept .0 ∙ c .before .before .before .before .before .before .swap-kinds .kept .0)
+    returns)

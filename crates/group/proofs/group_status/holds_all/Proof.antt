@@ -34,7 +34,7 @@ holds-requires c κs =
       s .pre .0,
       (
         omega (arith, l .within),
-        l .known (getD (orderOf (meaning (a .words .now))) (i .place) 0) (between-in (a .start) (a .end) (i .place) (orderOf (meaning (a .words .now))) (i .inv .0) (omega arith) (l .within)),
+        l .known (getD (orderOf (meaning (a .words .now))) (i .place) 0) (between-in (a .start) (a .end) (i .place) (orderOf (meaning (a .words .now))) (i .inv .0) (c .loop-test .taken) (l .within)),
       ),
     )
 
@@ -46,7 +46,7 @@ returns c =
     let m = meaning (a .words .now) in
     sym
     (i .inv .2
-    ∙ all-miss (entity (a .index) (a .version)) (m .storage .sets) (orderOf m) (i .place) (a .end) (omega (arith, c .before .before .loop-test)) (s .pre .1 .within) (sym (c .before .holds .ensures) ∙ not-true (c .before .holds .result) (c .if1 .taken)))
+    ∙ all-miss (entity (a .index) (a .version)) (m .storage .sets) (orderOf m) (i .place) (a .end) (c .before .before .loop-test .taken) (s .pre .1 .within) (sym (c .before .holds .ensures) ∙ not-true (c .before .holds .result) (c .if1 .taken)))
 
 add-place : tie.Need-add-place Inv-loop μ-loop
 add-place c = omega (arith, c .before .before .loop-test)
@@ -63,7 +63,7 @@ loop-again c =
       omega (arith, i .inv .0),
       omega (arith, c .before .before .loop-test),
       i .inv .2
-          ∙ all-hit (entity (a .index) (a .version)) (m .storage .sets) (orderOf m) (i .place) (a .end) (omega (arith, c .before .before .loop-test)) (s .pre .1 .within) (sym (c .before .holds .ensures) ∙ not-false (c .before .holds .result) (c .if1 .left)),
+          ∙ all-hit (entity (a .index) (a .version)) (m .storage .sets) (orderOf m) (i .place) (a .end) (c .before .before .loop-test .taken) (s .pre .1 .within) (sym (c .before .holds .ensures) ∙ not-false (c .before .holds .result) (c .if1 .left)),
     )
 
 returns-2 : tie.Need-returns-2 Inv-loop μ-loop
