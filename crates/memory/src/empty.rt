@@ -3,7 +3,27 @@ ghost use Prim.Native.Nat.{_≤_};
 ghost use lib.ListN.{length};
 ghost use Rattle.model.specs.Sound.{Limits};
 ghost use Rattle.words.specs.Offsets.{columnStart};
+ghost use Rattle.words.specs.Decides.{Decides};
 ghost use Rattle.memory.specs.Fresh.{Cleared, Tabled, Made};
+
+// N from 1 to 4,096 and K from 1 to 128.
+pub fn within_limits(n: usize, k: usize) -> bool
+    ensures { λ r. ⌜ Decides r (Limits n k) ⌝ }
+{
+    if n < 1 {
+        return false;
+    }
+    if model::MAX_ENTITIES < n {
+        return false;
+    }
+    if k < 1 {
+        return false;
+    }
+    if model::MAX_KINDS < k {
+        return false;
+    }
+    true
+}
 
 // Zeros up to `end`.
 fn clear(words: &mut [u32], end: usize)

@@ -1,11 +1,12 @@
 // The public entries of document 01: *start*, *run*, *column* and its number, *roll*. None asks anything of its caller.
 pub mod exports;
 
+use memory::empty;
+use memory::empty::within_limits;
 use run::Ran;
 ghost use Prim.Native.Nat.{_≤_};
 ghost use lib.ListN.{length};
-ghost use Rattle.model.specs.Sound.{Limits, In};
-ghost use Rattle.words.specs.Decides.{Decides};
+ghost use Rattle.model.specs.Sound.{In};
 ghost use Rattle.memory.specs.Meaning.{meaning};
 ghost use Rattle.memory.specs.Arranged.{Arranged};
 ghost use Rattle.kinds.specs.Kinds.{kindSet};
@@ -33,25 +34,6 @@ pub struct Rolled {
     pub written: usize,
 }
 
-// N from 1 to 4,096 and K from 1 to 128.
-fn within_limits(n: usize, k: usize) -> bool
-    ensures { λ r. ⌜ Decides r (Limits n k) ⌝ }
-{
-    if n < 1 {
-        return false;
-    }
-    if model::MAX_ENTITIES < n {
-        return false;
-    }
-    if k < 1 {
-        return false;
-    }
-    if model::MAX_KINDS < k {
-        return false;
-    }
-    true
-}
-
 // How many words to lend to a store, 0 where start would refuse n or k.
 pub fn words_needed(n: usize, k: usize) -> usize
     ensures { λ r. ⌜ Needs n k r ⌝ }
@@ -72,7 +54,7 @@ pub fn start(words: &mut [u32], n: usize, k: usize) -> u8
     if words.len() < model::words_needed(n, k) {
         return SHORT;
     }
-    memory::empty::make(words, n, k);
+    empty::make(words, n, k);
     0
 }
 
