@@ -32,20 +32,20 @@ pub take-spec : {M : Type 1} → statement M
 take-spec =
     tie.close
     (tie.spec
-    (λ c κs. search needs)
-    (λ c. search needs)
-    (λ c. search needs)
+    (λ c κs. c .before .before .before .pre .sound .arranged)
+    (λ c. c .match .keys1)
+    (λ c. c .match .keys2)
     refuse-requires
-    (λ c. search needs)
-    (λ c. search needs)
+    (λ c. c .before .before .before .before .refuse .kept .0)
+    (λ c. c .before .before .before .before .before .before .before .before .before .get .kept .0)
     returns
-    (λ c κs. search needs)
-    (λ c κs. search needs)
+    (λ c κs. c .before .before .before .before .before .before .before .pre .sound .arranged)
+    (λ c κs. c .before .before .before .before .before .before .before .before .before .pre .arranged)
     (λ c. search needs)
-    (λ c κs. search needs)
-    (λ c κs. search needs)
-    (λ c. search needs)
-    (λ c. search needs)
+    (λ c κs. c .before .before .before .before .before .before .before .before .before .before .before .before .before .before .pre .arranged)
+    (λ c κs. c .before .before .before .before .before .before .before .before .before .before .before .before .before .before .before .before .before .before .before .before .pre .arranged)
     (λ c. search needs)
     (λ c. search needs)
+    (λ c. c .before .before .before .before .before .before .before .before .take-out .kept .0)
+    (λ c. c .before .before .before .before .before .before .before .before .take-out .kept .0)
     returns-2)

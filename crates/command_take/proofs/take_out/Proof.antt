@@ -1,6 +1,5 @@
 -- `command_take::take_out` meets its contract. Assumes nothing.
 use native.Mathlib.Omega.{arith}
-use borrow.Author.Needs.{needs}
 use Rattle.component.specs.SparseSet.{entity}
 use Rattle.world.proofs.Whole.{staged-after, count-after}
 use Rattle.command_take.proofs.Whole.{take-whole}
@@ -25,4 +24,9 @@ returns c =
     take-whole (a .words .now) (s .pre .0) (entity (a .index) (a .version)) (u .last .0) (u .ensures) (t .last .0) (a .out .now) _ (a .at) (t .ensures)
 
 pub take-out-spec : {M : Type 1} → statement M
-take-out-spec = tie.close (tie.spec (λ c κs. search needs) take-staged-requires (λ c. search needs) (λ c. search needs) returns)
+take-out-spec = tie.close (tie.spec
+    (λ c κs. c .before .before .before .pre .arranged)
+    take-staged-requires
+    (λ c. c .before .before .before .before .before .before .before .before .before .ungroup-staged .kept .0)
+    (λ c. c .before .before .before .before .before .before .before .before .before .ungroup-staged .kept .0)
+    returns)

@@ -1,7 +1,7 @@
+use native.Mathlib.Omega.{arith}
 use Rattle.command.proofs.Acts.{accepted-by}
 use Rattle.memory.specs.Meaning.{meaning}
 use Rattle.model.proofs.Outcomes.{empty-does}
-use borrow.Author.Needs.{needs}
 use Rattle.command_list.proofs.lists.empty.Statement.{statement}
 use Rattle.command_list.proofs.lists.empty.Tie as tie
 
@@ -10,4 +10,9 @@ returns c = accepted-by (empty-does (meaning (c .before .before .before .before 
 
 pub empty-spec : {M : Type 1} → statement M
 empty-spec =
-    tie.close (tie.spec (λ c κs. search needs) (λ c κs. search needs) (λ c. search needs) (λ c. search needs) returns)
+    tie.close (tie.spec
+    (λ c κs. c .before .before .before .pre .sound .arranged)
+    (λ c κs. omega (arith, c .before .before .before .before .before .before .before .pre .room))
+    (λ c. c .before .before .before .before .before .before .clear-lists .kept .0)
+    (λ c. c .before .before .ack .kept .0)
+    returns)

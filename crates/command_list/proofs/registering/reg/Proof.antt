@@ -1,3 +1,4 @@
+use mathlib.Core.Path.{refl}
 use Rattle.command.proofs.Acts.{refused-by, accepted-by, stays}
 use Rattle.memory.specs.Meaning.{meaning}
 use Rattle.model.proofs.Outcomes.{reg-above, reg-full, reg-known, reg-new}
@@ -31,21 +32,21 @@ reg-spec =
     tie.close
     (tie.spec
     (λ c κs. search needs)
-    (λ c. search needs)
-    (λ c. search needs)
+    (λ c. c .before .before .before .before .refuse .kept .0)
+    (λ c. c .before .before .before .before .refuse .kept .1 .0)
     returns
     (λ c κs. search needs)
-    (λ c κs. search needs)
-    (λ c. search needs)
-    (λ c. search needs)
+    (λ c κs. omega (arith, c .before .before .before .before .before .before .before .pre .room))
+    (λ c. refl)
+    (λ c. c .before .before .ack-byte .kept .0)
     returns-2
-    (λ c κs. search needs)
+    (λ c κs. c .before .before .before .before .before .before .before .pre .sound .arranged)
     refuse-requires-2
-    (λ c. search needs)
-    (λ c. search needs)
+    (λ c. c .before .before .before .before .refuse2 .kept .0)
+    (λ c. c .before .before .before .before .refuse2 .kept .1 .0)
     returns-3
     register-requires
-    (λ c κs. search needs)
-    (λ c. search needs)
-    (λ c. search needs)
+    (λ c κs. omega (arith, c .before .before .before .before .before .before .before .before .before .before .before .before .before .before .pre .room))
+    (λ c. c .before .before .before .before .before .before .register .kept .0)
+    (λ c. c .before .before .ack-byte2 .kept .0)
     returns-4)

@@ -1,5 +1,5 @@
+use mathlib.Core.Path.{_∙_}
 -- `world::component_set::insert` meets its contract. Assumes nothing.
-use borrow.Author.Needs.{needs}
 use Rattle.world.proofs.Whole.{staged-sound, insertable, insert-below, insert-ready, insert-whole}
 use Rattle.world.proofs.component_set.insert.Statement.{statement}
 use Rattle.world.proofs.component_set.insert.Tie as tie
@@ -27,4 +27,9 @@ returns c =
     insert-whole (a .words .now) (s .pre .0) (a .index) (a .version) (m .result .0) (m .ensures) (c .before .before .before .before .before .before .insert-staged .last .0) (c .before .before .before .before .before .before .insert-staged .ensures) (c .before .before .group .last .0) (c .before .before .group .ensures)
 
 pub insert-spec : {M : Type 1} → statement M
-insert-spec = tie.close (tie.spec staged-mask-requires insert-staged-requires group-requires (λ c. search needs) returns)
+insert-spec = tie.close (tie.spec
+    staged-mask-requires
+    insert-staged-requires
+    group-requires
+    (λ c. c .before .before .group .kept .0 ∙ c .before .before .before .before .before .before .insert-staged .kept .0)
+    returns)

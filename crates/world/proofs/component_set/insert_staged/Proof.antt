@@ -2,7 +2,6 @@
 use mathlib.Core.Path.{_≡_}
 use Prim.Native.Nat.{_≤_, _-_}
 use native.Mathlib.Omega.{arith}
-use borrow.Author.Needs.{needs}
 use lib.ListN.{length, take}
 use Rattle.component.specs.SparseSet.{entity}
 use Rattle.memory.specs.Meaning.{meaning}
@@ -51,4 +50,14 @@ returns c =
 pub insert-staged-spec : {M : Type 1} → statement M
 insert-staged-spec =
     tie.close
-    (tie.spec Inv-loop μ-loop (λ c κs. search needs) loop-holds insert-one-requires (λ c. omega arith) (λ c. omega arith) loop-again same-length returns)
+    (tie.spec
+    Inv-loop
+    μ-loop
+    (λ c κs. c .before .before .pre .arranged)
+    loop-holds
+    insert-one-requires
+    (λ c. omega arith)
+    (λ c. omega arith)
+    loop-again
+    same-length
+    returns)
