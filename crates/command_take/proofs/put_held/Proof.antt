@@ -22,9 +22,4 @@ returns c =
     c .before .before .put-value .ensures ∙ ap (λ (k : ℕ). sets (set (a .out .now) (a .at) (a .held)) k (le 8 (a .low + 4294967296 * a .high))) (add-one (a .at))
 
 pub put-held-spec : {M : Type 1} → statement M
-put-held-spec = tie.close (tie.spec
-    (λ c. search needs)
-    (λ c. search needs)
-    put-value-requires
-    same-length
-    returns)
+put-held-spec = tie.close (tie.spec (λ c. search needs) (λ c. search needs) put-value-requires same-length returns)

@@ -1,3 +1,4 @@
+use mathlib.Core.Path.{_∙_}
 -- `command_take::take_out` meets its contract. Assumes nothing.
 use native.Mathlib.Omega.{arith}
 use Rattle.component.specs.SparseSet.{entity}
@@ -25,8 +26,8 @@ returns c =
 
 pub take-out-spec : {M : Type 1} → statement M
 take-out-spec = tie.close (tie.spec
-    (λ c κs. c .before .before .before .pre .arranged)
+    (λ c κs. c .before .before .before .pre .0)
     take-staged-requires
-    (λ c. c .before .before .before .before .before .before .before .before .before .ungroup-staged .kept .0)
-    (λ c. c .before .before .before .before .before .before .before .before .before .ungroup-staged .kept .0)
+    (λ c. c .before .before .before .before .take-staged .kept .0 ∙ c .before .before .before .before .before .before .before .before .before .ungroup-staged .kept .0)
+    (λ c. c .before .before .before .before .take-staged .kept .1 .1 .1 .0)
     returns)
