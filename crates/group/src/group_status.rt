@@ -61,7 +61,7 @@ fn holds_all(words: &[u32], start: usize, end: usize, index: u32, version: u32) 
 }
 
 // The status of an entity in the group whose new kinds stand from start to end and whose count is group_len.
-pub fn get_group_status(
+fn get_group_status(
     words: &[u32],
     start: usize,
     end: usize,
