@@ -21,7 +21,7 @@ use Rattle.group.specs.declared.group_metadata.GroupMetadata.{GroupMetad
 use Rattle.group.specs.declared.group_status.GroupStatus.{GroupStatus}
 use Rattle.group.specs.Flat.{located, setCount, statusAt, groupAt, ungroupAt, stepUp, stepDown}
 use Rattle.group.specs.Ready.{Swappable, ReadyIn, ReadyOut}
-use Rattle.group.specs.Metadata.{orderOf, Stands}
+use Rattle.group.specs.Metadata.{orderOf, Describes, Stands}
 use Rattle.group.specs.Steps.{swapKinds, leftAfter, StepsUp}
 use Rattle.group.proofs.Counts.{placed}
 use Rattle.group.proofs.Places.{between-in}
@@ -81,10 +81,10 @@ module _ (w₀ : List ℕ) (A : Arranged w₀) (e : Entity) (g len : ℕ) (d : G
           (λ i. record { sets = onKinds (kinds i) (swapTo e (place i)) (meaning w₀ .storage .sets); layout = setCount g (next i) (meaning w₀ .storage .layout) }) both
 
 -- the family's rest is past g
-pub skip-ordered : (m : Store) (g : ℕ) (d : GroupMetadata) (len : ℕ) → Stands m g d len → Ordered 64 g (d .top)
-skip-ordered m g d len S =
-    let P = placed (m .storage .layout) g (S .below) in
-    record { rising = omega (arith, P .1, S .metadata .top); inside = omega (arith, S .metadata .few) }
+pub skip-ordered : (m : Store) (g : ℕ) (d : GroupMetadata) → g < groupsOf (m .storage .layout) → Describes m g d → Ordered 64 g (d .top)
+skip-ordered m g d h D =
+    let P = placed (m .storage .layout) g h in
+    record { rising = omega (arith, P .1, D .top); inside = omega (arith, D .few) }
 
 -- ---- the steps, by status
 

@@ -4,7 +4,6 @@ use mathlib.Core.Bool.{true, cond}
 use mathlib.Core.List.{List}
 use Prim.Native.Nat.{ℕ, _<_}
 use lib.Dec.{ltb}
-use Rattle.model.specs.Run.{Store}
 use Rattle.model.specs.Model.{Entity, SparseSet, Storage, setOf, at, headKind, allHeld, onKinds, swapTo, groupsOf}
 use Rattle.masks.specs.Masks.{bitsOf, has, commonOf, skipping}
 use Rattle.memory.specs.Meaning.{meaning}
@@ -12,20 +11,13 @@ use Rattle.memory.specs.Change.{onStorage}
 use Rattle.memory.specs.Arranged.{Becomes}
 use Rattle.group.specs.declared.group_status.GroupStatus.{GroupStatus}
 use Rattle.group.specs.declared.group_status.GroupStatus.the-variants.{Incomplete, Ungrouped, Grouped}
-use Rattle.group.specs.declared.group_status.Standing.{Standing}
 use Rattle.group.specs.Flat.{located, statusAt, stepUp}
-use Rattle.group.specs.Metadata.{Stands}
 
 -- statusOf, of a group with these new kinds and this count
 abbrev pub statusIn : Entity → List ℕ → ℕ → List SparseSet → GroupStatus
 statusIn e new c sets =
     let inside = cond (ltb (at e (setOf sets (headKind new))) c) Grouped Ungrouped in
     cond (allHeld e new sets) inside Incomplete
-
--- what a step finds: the metadata and the count of group g, as they were read, and the entity's status in it
-pub record StandsTo (m : Store) (g : ℕ) (e : Entity) (r : Standing) : Type 0 where
-  pub stands : Stands m g (r .metadata) (r .«group_len»)
-  pub status : r .status ≡ statusAt e g (m .storage)
 
 -- the entity swapped to place c in the sparse sets of ks: "in every column of the group"
 abbrev pub swapKinds : Entity → ℕ → List ℕ → Storage → Storage

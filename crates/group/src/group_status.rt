@@ -2,7 +2,6 @@
 use crate::group_metadata::GroupMetadata;
 use crate::group_metadata::count;
 use crate::group_metadata::kind_at;
-use crate::group_metadata::metadata;
 use component::Found;
 ghost use mathlib.Core.Path.{_≡_};
 ghost use Prim.Native.Nat.{_<_};
@@ -13,20 +12,14 @@ ghost use Rattle.words.specs.Part.{between};
 ghost use Rattle.component.specs.SparseSet.{entity};
 ghost use Rattle.memory.specs.Meaning.{meaning};
 ghost use Rattle.memory.specs.Arranged.{Arranged};
-ghost use Rattle.group.specs.Metadata.{orderOf, Listed};
-ghost use Rattle.group.specs.Steps.{statusIn, StandsTo};
+ghost use Rattle.group.specs.Flat.{statusAt};
+ghost use Rattle.group.specs.Metadata.{orderOf, Listed, Describes};
+ghost use Rattle.group.specs.Steps.{statusIn};
 
 pub enum GroupStatus {
     Incomplete,
     Ungrouped,
     Grouped,
-}
-
-// What was read of a group for an entity: its metadata, its count, and the entity's status in it.
-pub struct Standing {
-    pub metadata: GroupMetadata,
-    pub group_len: usize,
-    pub status: GroupStatus,
 }
 
 // Does the entity hold the kind at a place among the layout's?
@@ -88,25 +81,26 @@ fn get_group_status(
     GroupStatus::Ungrouped
 }
 
-// The entity's standing in group g: what a step of either walk goes by.
-pub fn standing_in(words: &[u32], g: usize, index: u32, version: u32) -> Standing
+// The entity's status in group g, by the group's metadata and its count.
+pub fn status_in(
+    words: &[u32],
+    g: usize,
+    metadata: GroupMetadata,
+    index: u32,
+    version: u32,
+) -> GroupStatus
     requires { ⌜ Arranged (now words) ⌝ }
     requires { ⌜ g < groupsOf (meaning (now words) .storage .layout) ⌝ }
-    ensures { λ r. ⌜ StandsTo (meaning (now (words .entry))) g (entity index version) r ⌝ }
+    requires { ⌜ Describes (meaning (now words)) g metadata ⌝ }
+    ensures { λ r. ⌜ r ≡ statusAt (entity index version) g (meaning (now (words .entry)) .storage) ⌝ }
 {
-    let metadata = metadata(words, g);
     let group_len = count(words, g);
-    let status = get_group_status(
+    get_group_status(
         words,
         metadata.new_storage_start,
         metadata.storage_end,
         group_len,
         index,
         version,
-    );
-    Standing {
-        metadata,
-        group_len,
-        status,
-    }
+    )
 }

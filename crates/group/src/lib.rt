@@ -3,11 +3,13 @@ pub mod group_metadata;
 pub mod group_status;
 
 use crate::group_metadata::GroupMetadata;
+use crate::group_metadata::count;
 use crate::group_metadata::group_count;
 use crate::group_metadata::kind_at;
+use crate::group_metadata::metadata;
 use crate::group_metadata::set_count;
 use crate::group_status::GroupStatus;
-use crate::group_status::standing_in;
+use crate::group_status::status_in;
 use masks::group_mask::GroupMask;
 use masks::group_mask::NextBit;
 ghost use mathlib.Core.List.{reverse};
@@ -92,22 +94,16 @@ fn group_step(words: &mut [u32], g: usize, rest: GroupMask, index: u32, version:
     requires { ⌜ ReadyIn (statusAt (entity index version) g (meaning (now words) .storage)) (entity index version) (located (meaning (now words) .storage .layout) g) (meaning (now words) .storage .sets) ⌝ }
     ensures { λ r. ⌜ StepsUp (now (words .entry)) (now (words .exit)) (entity index version) g (rest .0) (r .0) ⌝ }
 {
-    let standing = standing_in(words, g, index, version);
-    let status = standing.status;
+    let metadata = metadata(words, g);
+    let status = status_in(words, g, metadata, index, version);
     match status {
         GroupStatus::Incomplete => {
-            let skip = GroupMask::skip_from_to(g, standing.metadata.top);
+            let skip = GroupMask::skip_from_to(g, metadata.top);
             return rest.intersection(skip);
         }
         GroupStatus::Ungrouped => {
-            group_components(
-                words,
-                standing.metadata,
-                g,
-                standing.group_len,
-                index,
-                version,
-            );
+            let group_len = count(words, g);
+            group_components(words, metadata, g, group_len, index, version);
             return rest;
         }
         GroupStatus::Grouped => {
@@ -139,8 +135,8 @@ fn ungroup_step(words: &mut [u32], g: usize, index: u32, version: u32)
     requires { ⌜ ReadyOut (statusAt (entity index version) g (meaning (now words) .storage)) (entity index version) (located (meaning (now words) .storage .layout) g) (meaning (now words) .storage .sets) ⌝ }
     ensures { λ _. ⌜ Becomes (now (words .entry)) (now (words .exit)) (onStorage (stepDown (statusAt (entity index version) g (meaning (now (words .entry)) .storage)) (entity index version) g) (meaning (now (words .entry)))) ⌝ }
 {
-    let standing = standing_in(words, g, index, version);
-    let status = standing.status;
+    let metadata = metadata(words, g);
+    let status = status_in(words, g, metadata, index, version);
     match status {
         GroupStatus::Incomplete => {
             return;
@@ -149,14 +145,8 @@ fn ungroup_step(words: &mut [u32], g: usize, index: u32, version: u32)
             return;
         }
         GroupStatus::Grouped => {
-            ungroup_components(
-                words,
-                standing.metadata,
-                g,
-                standing.group_len,
-                index,
-                version,
-            );
+            let group_len = count(words, g);
+            ungroup_components(words, metadata, g, group_len, index, version);
             return;
         }
     }

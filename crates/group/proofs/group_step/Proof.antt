@@ -8,62 +8,57 @@ use Rattle.group.proofs.Stepping.{skip-ordered, steps-up, ready-in}
 use Rattle.group.proofs.group_step.Statement.{statement}
 use Rattle.group.proofs.group_step.Tie as tie
 
-standing-in-requires : tie.Need-standing-in-requires
-standing-in-requires c κs = let s = c .before .before in (s .pre .0, s .pre .1 .0)
-
 skip-from-to-requires : tie.Need-skip-from-to-requires
 skip-from-to-requires c κs =
-    let a = c .before .before .before .before .before .args in
-    let r = c .before .before .standing-in in
-    skip-ordered (meaning (a .words .now)) (a .g) (r .result .metadata) (r .result .«group_len») (r .ensures .stands)
+    let s = c .before .before .before .before .before .before .before in
+    let d = c .before .before .before .before .metadata in
+    skip-ordered (meaning (s .args .words .now)) (s .args .g) (d .result) (s .pre .1 .0) (d .ensures)
 
 returns : tie.Need-returns
 returns c =
-    let s = c .before .before .before .before .before .before .before in
+    let s = c .before .before .before .before .before .before .before .before .before in
     let a = s .args in
-    let r = c .before .before .before .before .standing-in .ensures in
-    steps-up (a .words .now) (a .words .now) (entity (a .index) (a .version)) (a .g) Incomplete (sym (c .before .before .enum-told .given .1) ∙ r .status) (a .rest .0) (c .intersection .result .0)
+    steps-up (a .words .now) (a .words .now) (entity (a .index) (a .version)) (a .g) Incomplete (sym (c .before .before .enum-told .given .1) ∙ c .before .before .before .before .status-in .ensures) (a .rest .0) (c .intersection .result .0)
     (stays (s .pre .0))
-    (c .intersection .ensures ∙ ap (commonOf (bitsOf 64 (a .rest .0))) (c .before .skip-from-to .ensures ∙ ap (skipping 64 (a .g)) (r .stands .metadata .top)))
+    (c .intersection .ensures ∙ ap (commonOf (bitsOf 64 (a .rest .0))) (c .before .skip-from-to .ensures ∙ ap (skipping 64 (a .g)) (c .before .before .before .before .before .before .metadata .ensures .top)))
 
 group-components-requires : tie.Need-group-components-requires
 group-components-requires c κs =
-    let s = c .before .before .before .before .before .before in
-    let a = s .args in
-    let r = c .before .before .before .standing-in .ensures in (
+    let s = c .before .before .before .before .before .before .before .before .before .before in
+    let a = s .args in (
       s .pre .0,
       (
-        r .stands,
-        ready-in (a .words .now) (a .words .now) (entity (a .index) (a .version)) (a .g) Ungrouped (sym (c .before .enum-told2 .given .1) ∙ r .status) (s .pre .1 .1),
+        record { below = s .pre .1 .0; metadata = c .before .before .before .before .before .before .before .metadata .ensures; counted = c .before .count .ensures },
+        ready-in (a .words .now) (a .words .now) (entity (a .index) (a .version)) (a .g) Ungrouped (sym (c .before .before .before .enum-told2 .given .1) ∙ c .before .before .before .before .before .status-in .ensures) (s .pre .1 .1),
       ),
     )
 
 returns-2 : tie.Need-returns-2
 returns-2 c =
-    let a = c .before .before .before .before .before .before .before .before .before .args in
-    let r = c .before .before .before .before .before .before .standing-in .ensures in
-    steps-up (a .words .now) (c .before .before .group-components .last .0) (entity (a .index) (a .version)) (a .g) Ungrouped (sym (c .before .before .before .before .enum-told2 .given .1) ∙ r .status) (a .rest .0) (a .rest .0)
+    let a = c .before .before .before .before .before .before .before .before .before .before .before .before .before .args in
+    steps-up (a .words .now) (c .before .before .group-components .last .0) (entity (a .index) (a .version)) (a .g) Ungrouped (sym (c .before .before .before .before .before .before .enum-told2 .given .1) ∙ c .before .before .before .before .before .before .before .before .status-in .ensures) (a .rest .0) (a .rest .0)
     (c .before .before .group-components .ensures) refl
 
 returns-3 : tie.Need-returns-3
 returns-3 c =
-    let s = c .before .before .before .before .before in
+    let s = c .before .before .before .before .before .before .before in
     let a = s .args in
-    let r = c .before .before .standing-in .ensures in
-    steps-up (a .words .now) (a .words .now) (entity (a .index) (a .version)) (a .g) Grouped (sym (c .enum-told3 .given .1) ∙ r .status) (a .rest .0) (a .rest .0)
+    steps-up (a .words .now) (a .words .now) (entity (a .index) (a .version)) (a .g) Grouped (sym (c .enum-told3 .given .1) ∙ c .before .before .status-in .ensures) (a .rest .0) (a .rest .0)
     (stays (s .pre .0)) refl
 
 pub group-step-spec : {M : Type 1} → statement M
 group-step-spec =
     tie.close
     (tie.spec
-    standing-in-requires
+    (λ c κs. let s = c .before .before in (s .pre .0, s .pre .1 .0))
+    (λ c κs. let s = c .before .before .before .before in (s .pre .0, (s .pre .1 .0, c .before .metadata .ensures)))
     (λ c. c .match .keys1)
     skip-from-to-requires
     (λ c κs. tt)
     (λ c. refl)
     returns
     (λ c. c .match .keys2)
+    (λ c κs. let s = c .before .before .before .before .before .before .before .before in (s .pre .0, s .pre .1 .0))
     group-components-requires
     (λ c. c .before .before .group-components .kept .0)
     returns-2

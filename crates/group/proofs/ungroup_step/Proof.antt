@@ -7,42 +7,36 @@ use Rattle.group.proofs.Stepping.{steps-down, ready-out}
 use Rattle.group.proofs.ungroup_step.Statement.{statement}
 use Rattle.group.proofs.ungroup_step.Tie as tie
 
-standing-in-requires : tie.Need-standing-in-requires
-standing-in-requires c κs = let s = c .before .before in (s .pre .0, s .pre .1 .0)
-
 returns : tie.Need-returns
 returns c =
-    let s = c .before .before .before .before .before in
+    let s = c .before .before .before .before .before .before .before in
     let a = s .args in
-    let r = c .before .before .standing-in .ensures in
-    steps-down (a .words .now) (a .words .now) (entity (a .index) (a .version)) (a .g) Incomplete (sym (c .enum-told .given .1) ∙ r .status) (stays (s .pre .0))
+    steps-down (a .words .now) (a .words .now) (entity (a .index) (a .version)) (a .g) Incomplete (sym (c .enum-told .given .1) ∙ c .before .before .status-in .ensures) (stays (s .pre .0))
 
 returns-2 : tie.Need-returns-2
 returns-2 c =
-    let s = c .before .before .before .before .before in
+    let s = c .before .before .before .before .before .before .before in
     let a = s .args in
-    let r = c .before .before .standing-in .ensures in
-    steps-down (a .words .now) (a .words .now) (entity (a .index) (a .version)) (a .g) Ungrouped (sym (c .enum-told2 .given .1) ∙ r .status) (stays (s .pre .0))
+    steps-down (a .words .now) (a .words .now) (entity (a .index) (a .version)) (a .g) Ungrouped (sym (c .enum-told2 .given .1) ∙ c .before .before .status-in .ensures) (stays (s .pre .0))
 
 ungroup-components-requires : tie.Need-ungroup-components-requires
 ungroup-components-requires c κs =
-    let s = c .before .before .before .before .before .before in
+    let s = c .before .before .before .before .before .before .before .before .before .before in
     let a = s .args in
-    let r = c .before .before .before .standing-in .ensures in
-    let out = ready-out (a .words .now) (a .words .now) (entity (a .index) (a .version)) (a .g) Grouped (sym (c .before .enum-told3 .given .1) ∙ r .status) (s .pre .1 .1) in
-    (s .pre .0, (r .stands, (omega (arith, out .0, r .stands .counted), out .1)))
+    let out = ready-out (a .words .now) (a .words .now) (entity (a .index) (a .version)) (a .g) Grouped (sym (c .before .before .before .enum-told3 .given .1) ∙ c .before .before .before .before .before .status-in .ensures) (s .pre .1 .1) in
+    (s .pre .0, (record { below = s .pre .1 .0; metadata = c .before .before .before .before .before .before .before .metadata .ensures; counted = c .before .count .ensures }, (omega (arith, out .0, c .before .count .ensures), out .1)))
 
 returns-3 : tie.Need-returns-3
 returns-3 c =
-    let a = c .before .before .before .before .before .before .before .before .before .args in
-    let r = c .before .before .before .before .before .before .standing-in .ensures in
-    steps-down (a .words .now) (c .before .before .ungroup-components .last .0) (entity (a .index) (a .version)) (a .g) Grouped (sym (c .before .before .before .before .enum-told3 .given .1) ∙ r .status) (c .before .before .ungroup-components .ensures)
+    let a = c .before .before .before .before .before .before .before .before .before .before .before .before .before .args in
+    steps-down (a .words .now) (c .before .before .ungroup-components .last .0) (entity (a .index) (a .version)) (a .g) Grouped (sym (c .before .before .before .before .before .before .enum-told3 .given .1) ∙ c .before .before .before .before .before .before .before .before .status-in .ensures) (c .before .before .ungroup-components .ensures)
 
 pub ungroup-step-spec : {M : Type 1} → statement M
 ungroup-step-spec =
     tie.close
     (tie.spec
-    standing-in-requires
+    (λ c κs. let s = c .before .before in (s .pre .0, s .pre .1 .0))
+    (λ c κs. let s = c .before .before .before .before in (s .pre .0, (s .pre .1 .0, c .before .metadata .ensures)))
     (λ c. c .match .keys1)
     (λ c. refl)
     returns
@@ -50,6 +44,7 @@ ungroup-step-spec =
     (λ c. refl)
     returns-2
     (λ c. c .match .keys3)
+    (λ c κs. let s = c .before .before .before .before .before .before .before .before in (s .pre .0, s .pre .1 .0))
     ungroup-components-requires
     (λ c. c .before .before .ungroup-components .kept .0)
     returns-3)
