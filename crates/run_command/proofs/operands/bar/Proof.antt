@@ -9,4 +9,9 @@ returns c = rw (kind-operand (c .before .before .before .before .before .before 
 
 pub bar-spec : {M : Type 1} → statement M
 bar-spec =
-    tie.close (tie.spec (λ c. search needs) (λ c κs. search needs) (λ c. search needs) (λ c. search needs) returns)
+    tie.close (tie.spec
+    (λ c. search needs)
+    (λ c κs. search needs)
+    (λ c. c .before .before .before .before .bar .kept .0)
+    (λ c. c .before .before .before .before .bar .kept .1 .1 .0)
+    returns)

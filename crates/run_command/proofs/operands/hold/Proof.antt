@@ -17,6 +17,6 @@ hold-spec =
     (λ c. search needs)
     (λ c κs. search needs)
     (λ c κs. search needs)
-    (λ c. search needs)
-    (λ c. search needs)
+    (λ c. c .before .before .before .before .hold .kept .0)
+    (λ c. c .before .before .before .before .hold .kept .1 .1 .1 .1 .0)
     returns)

@@ -9,4 +9,9 @@ returns c = rw (kind-operand (c .before .before .before .before .before .before 
 
 pub reg-spec : {M : Type 1} → statement M
 reg-spec =
-    tie.close (tie.spec (λ c. search needs) (λ c κs. search needs) (λ c. search needs) (λ c. search needs) returns)
+    tie.close (tie.spec
+    (λ c. search needs)
+    (λ c κs. search needs)
+    (λ c. c .before .before .before .before .reg .kept .0)
+    (λ c. c .before .before .before .before .reg .kept .1 .1 .0)
+    returns)
