@@ -66,14 +66,14 @@ step-spec =
     (λ c. search needs)
     (λ c. search needs)
     returns-3
-    (λ c κs. search needs)
+    (λ c κs. (c .before .before .before .before .before .before .before .before .before .pre .sound .arranged, omega (arith, c .before .before .before .if2 .left)))
     (λ c. search needs)
-    (λ c. search needs)
+    (λ c. refl)
     returns-4
     (λ c. search needs)
     act-requires
     (λ c. search needs)
     add-t13
-    (λ c. search needs)
-    (λ c. search needs)
+    (λ c. c .before .before .before .before .act .kept .0)
+    (λ c. c .before .before .before .before .act .kept .1 .1 .1 .1 .0)
     returns-5)
