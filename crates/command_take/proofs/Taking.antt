@@ -1,5 +1,5 @@
 -- The loop that takes an entity's components of the staged kinds out and writes their bytes, one kind after another. Assumes nothing.
-use mathlib.Core.Path.{_≡_, refl, ap, sym, _∙_, subst}
+use mathlib.Core.Path.{_≡_, refl, ap, sym, _∙_}
 use mathlib.Core.Bool.{true, false}
 use mathlib.Core.List.{List, [], _∷_, _++_, append-nil, append-assoc}
 use Prim.Native.Nat.{ℕ, _+_, _*_, _≤_, _<_}
@@ -7,14 +7,12 @@ use native.Mathlib.Omega.{arith}
 use native.Mathlib.Numerals.{add-one}
 use lib.ListN.{length, getD, take, length-map}
 use lib.Seq.{sets, length-sets, take-all, take-suc, length-take-le}
-use Rattle.model.specs.Model.{Entity, SparseSet, Storage, noRow, setOf, at, held, kindOf, removeRow}
+use Rattle.model.specs.Model.{Entity, SparseSet, Storage, noRow, setOf, at, held, kindOf}
 use Rattle.model.specs.Store.{Store, stagedKinds, le}
 use Rattle.model.specs.Commands.{takenBytes, heldBytes}
 use Rattle.model.proofs.Lengths.{held-length}
 use Rattle.codec.proofs.Numbers.{sets-join}
 use Rattle.memory.specs.Meaning.{meaning}
-use Rattle.memory.specs.Change.{onSet, onStorage}
-use Rattle.memory.specs.Arranged.{Becomes}
 use Rattle.world.specs.Remove.{Staged}
 use Rattle.command_take.specs.Take.{TakesKind, TakesStaged}
 use Rattle.world.proofs.Removing.{Gone, eachGone, gone-none, gone-next, gone-turn, gone-all, staged-kept, staged-small}

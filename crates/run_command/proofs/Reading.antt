@@ -1,16 +1,15 @@
 -- Operands off the tape, and commands by their bytes. Assumes nothing.
-use mathlib.Core.Path.{_≡_, refl, ap, ap₂, sym, _∙_, subst}
-use mathlib.Core.Logic.{_≢_}
-use mathlib.Core.List.{List, [], _∷_}
-use Prim.Native.Nat.{ℕ, zero, suc, _+_, _*_, _≤_, _<_}
+use mathlib.Core.Path.{_≡_, ap, ap₂, sym, _∙_, subst}
+use mathlib.Core.List.{List}
+use Prim.Native.Nat.{ℕ, zero, suc, _+_, _≤_, _<_}
 use native.Mathlib.Omega.{arith}
 use native.Mathlib.Nat.{add-zero}
-use lib.ListN.{length, getD, set, take, drop, length-drop, List·getD-map}
-use lib.Seq.{getD-take, getD-drop, length-take-le, take-take, take-add, drop-drop, drop-at, getD-set-other}
+use lib.ListN.{length, getD, take, drop, length-drop}
+use lib.Seq.{getD-take, getD-drop, length-take-le, take-take, take-add, drop-drop, drop-at}
 use Rattle.model.specs.Model.{Entity}
 use Rattle.words.specs.Table.{by-eq}
-use Rattle.model.specs.Store.{Store, number}
-use Rattle.model.specs.Commands.{Command, REG, HOLD, NEW, PUT, TAKE, DROP, KILL, WIPE, GROUP, APPLY, BAR, RANGE, EMPTY, TALLY, entityOfBytes, commandAt, answerLength}
+use Rattle.model.specs.Store.{number}
+use Rattle.model.specs.Commands.{Command, entityOfBytes}
 use Rattle.component.specs.SparseSet.{entity, valueOf}
 use Rattle.model.specs.Run.{does}
 use Rattle.memory.specs.Meaning.{meaning}
