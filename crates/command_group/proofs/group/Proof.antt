@@ -1,4 +1,5 @@
 -- `command_group::group` meets its contract: one arm for each outcome of the draft by value. Assumes nothing.
+use mathlib.Core.Path.{_∙_}
 use native.Mathlib.Omega.{arith}
 use borrow.Author.Needs.{needs}
 use Rattle.layout.specs.declared.group_layout.Outcome.the-variants as outcome
@@ -46,32 +47,32 @@ pub group-spec : {M : Type 1} → statement M
 group-spec =
     tie.close
     (tie.spec
+    (λ c κs. c .before .before .before .pre .sound)
+    (λ c. c .match .keys1)
+    (λ c κs. c .before .before .before .before .before .before .before .pre .sound .arranged)
+    (λ c κs. omega (arith, c .before .before .before .before .before .before .before .before .before .before .before .pre .room))
+    (λ c. c .match .keys2)
     (λ c κs. search needs)
-    (λ c. search needs)
-    (λ c κs. search needs)
-    (λ c κs. search needs)
-    (λ c. search needs)
-    (λ c κs. search needs)
-    (λ c κs. search needs)
-    (λ c κs. search needs)
-    (λ c. search needs)
+    (λ c κs. c .before .before .before .set-draft .ensures .arranged)
+    (λ c κs. omega (arith, c .before .before .before .before .before .before .before .before .before .before .before .before .before .before .before .before .pre .room))
+    (λ c. c .match .keys3)
     refuse-requires
-    (λ c. search needs)
+    (λ c. c .match .keys4)
     refuse-requires-2
-    (λ c. search needs)
+    (λ c. c .match .keys5)
     refuse-requires-3
-    (λ c. search needs)
-    (λ c. search needs)
+    (λ c. c .before .before .before .before .before .before .clear-staged .kept .0)
+    (λ c. c .before .before .ack-byte .kept .0)
     returns
-    (λ c. search needs)
-    (λ c. search needs)
+    (λ c. c .before .before .before .before .before .before .clear-staged2 .kept .0 ∙ c .before .before .before .before .before .before .before .before .before .before .set-draft .kept .0)
+    (λ c. c .before .before .ack-byte2 .kept .0)
     returns-2
-    (λ c. search needs)
-    (λ c. search needs)
+    (λ c. c .before .before .before .before .refuse .kept .0)
+    (λ c. c .before .before .before .before .refuse .kept .1 .0)
     returns-3
-    (λ c. search needs)
-    (λ c. search needs)
+    (λ c. c .before .before .before .before .refuse2 .kept .0)
+    (λ c. c .before .before .before .before .refuse2 .kept .1 .0)
     returns-4
-    (λ c. search needs)
-    (λ c. search needs)
+    (λ c. c .before .before .before .before .refuse3 .kept .0)
+    (λ c. c .before .before .before .before .refuse3 .kept .1 .0)
     returns-5)

@@ -40,17 +40,17 @@ pub range-spec : {M : Type 1} → statement M
 range-spec =
     tie.close
     (tie.spec
-    (λ c κs. search needs)
-    (λ c κs. search needs)
+    (λ c κs. c .before .before .before .pre .sound)
+    (λ c κs. c .before .before .before .before .before .pre .sound .arranged)
     (λ c. search needs)
     (λ c. search needs)
-    (λ c κs. search needs)
-    (λ c. search needs)
-    (λ c. search needs)
+    (λ c κs. omega (arith, c .before .before .before .before .before .before .before .before .before .before .before .pre .room))
+    (λ c. c .before .before .before .before .before .before .before .before .clear-lists .kept .0)
+    (λ c. c .before .before .ack-range .kept .0)
     returns
     cast-ack-range
     cast-ack-range-2
-    (λ c κs. search needs)
-    (λ c. search needs)
-    (λ c. search needs)
+    (λ c κs. omega (arith, c .before .before .before .before .before .before .before .before .before .before .before .before .pre .room))
+    (λ c. c .before .before .before .before .before .before .before .before .before .clear-lists .kept .0)
+    (λ c. c .before .before .ack-range2 .kept .0)
     returns-2)

@@ -1,7 +1,9 @@
 -- `world::component_set::delete_staged` meets its contract: the first i staged kinds are done. Assumes nothing.
-use mathlib.Core.Path.{_≡_, ap, sym, _∙_}
-use Prim.Native.Nat.{_≤_, _-_}
+use mathlib.Core.Path.{_≡_, ap, sym, _∙_, subst}
+use Prim.Native.Nat.{_≤_, _-_, ℕ, _<_}
 use native.Mathlib.Omega.{arith}
+use native.Mathlib.Numerals.{add-one-le}
+use borrow.Author.Count.{falls}
 use lib.ListN.{length, getD, take, length-map}
 use Rattle.model.specs.Model.{kindOf}
 use Rattle.model.specs.Store.{Store, stagedKinds}
@@ -32,7 +34,7 @@ remove-one-requires c κs =
     let v = c .before .before .loop .inv in
     let w = c .before .before .loop .words in
     let n : length (meaning w .control .staged) ≡ length (stagedKinds (meaning (a .words .now))) = sym (length-map (meaning w .control .staged) kindOf) ∙ ap (λ (m : Store). length (stagedKinds m)) (v .2 .means) in
-    (staged-kept (a .words .now) w (eachGone (entity (a .index) (a .version)) (take (c .before .before .loop .i) (stagedKinds (meaning (a .words .now))))) (c .before .before .before .before .before .before .pre) (v .2), omega (arith, n, v .1, c .before .loop-test))
+    (staged-kept (a .words .now) w (eachGone (entity (a .index) (a .version)) (take (c .before .before .loop .i) (stagedKinds (meaning (a .words .now))))) (c .before .before .before .before .before .before .pre) (v .2), subst (λ (m : ℕ). c .before .before .loop .i < m) (v .1 ∙ sym n) (c .before .loop-test .taken))
 
 loop-again : tie.Need-loop-again Inv-loop μ-loop
 loop-again c =
@@ -41,7 +43,7 @@ loop-again c =
     let w = c .before .before .before .before .before .loop .words in
     let i = c .before .before .before .before .before .loop .i in
     let same = ap (λ (m : Store). getD (stagedKinds m) (c .before .before .before .before .before .loop .i) 0) (v .2 .means) in
-    (omega arith, v .1, gone-turn (a .words .now) (entity (a .index) (a .version)) (stagedKinds (meaning (a .words .now))) w (c .before .before .remove-one .last .0) i (getD (stagedKinds (meaning w)) i 0) (omega (arith, v .1, c .before .before .before .before .loop-test)) same (v .2) (c .before .before .remove-one .ensures .becomes))
+    (add-one-le (c .before .before .before .before .loop-test .taken), v .1, gone-turn (a .words .now) (entity (a .index) (a .version)) (stagedKinds (meaning (a .words .now))) w (c .before .before .remove-one .last .0) i (getD (stagedKinds (meaning w)) i 0) (subst (λ (m : ℕ). c .before .before .before .before .before .loop .i < m) (v .1) (c .before .before .before .before .loop-test .taken)) same (v .2) (c .before .before .remove-one .ensures .becomes))
 
 same-length : tie.Need-same-length Inv-loop μ-loop
 same-length c = c .before .loop .inv .2 .size
@@ -50,9 +52,9 @@ returns : tie.Need-returns Inv-loop μ-loop
 returns c =
     let a = c .before .before .before .before .before .args in
     let v = c .before .loop .inv in
-    gone-all (a .words .now) (entity (a .index) (a .version)) (stagedKinds (meaning (a .words .now))) (c .before .loop .words) (c .before .loop .i) (omega (arith, v .1, c .loop-test)) (c .before .before .before .before .before .pre .once) (staged-small (a .words .now) (c .before .before .before .before .before .pre)) (v .2)
+    gone-all (a .words .now) (entity (a .index) (a .version)) (stagedKinds (meaning (a .words .now))) (c .before .loop .words) (c .before .loop .i) (subst (λ (m : ℕ). m ≤ c .before .loop .i) (v .1) (c .loop-test .left)) (c .before .before .before .before .before .pre .once) (staged-small (a .words .now) (c .before .before .before .before .before .pre)) (v .2)
 
 pub delete-staged-spec : {M : Type 1} → statement M
 delete-staged-spec =
     tie.close
-    (tie.spec Inv-loop μ-loop staged-len-requires loop-holds remove-one-requires (λ c. omega arith) (λ c. omega arith) loop-again same-length returns)
+    (tie.spec Inv-loop μ-loop staged-len-requires loop-holds remove-one-requires (λ c. omega arith) (λ c. falls _ _ (c .before .before .before .before .loop-test .taken)) loop-again same-length returns)

@@ -1,7 +1,9 @@
 -- `world::component_set::insert_staged` meets its contract: the first i staged components are in. Assumes nothing.
-use mathlib.Core.Path.{_≡_}
-use Prim.Native.Nat.{_≤_, _-_}
+use mathlib.Core.Path.{_≡_, subst}
+use Prim.Native.Nat.{_≤_, _-_, ℕ, _<_}
 use native.Mathlib.Omega.{arith}
+use native.Mathlib.Numerals.{add-one-le}
+use borrow.Author.Count.{falls}
 use lib.ListN.{length, take}
 use Rattle.component.specs.SparseSet.{entity}
 use Rattle.memory.specs.Meaning.{meaning}
@@ -30,14 +32,14 @@ insert-one-requires c κs =
     let v = c .before .before .loop .inv in
     let I = c .before .before .before .before .before .before .pre in (
       insert-ask (a .words .now) (a .index) (a .version) I (c .before .before .loop .words) (take (c .before .before .loop .i) (meaning (a .words .now) .control .staged)) (v .2),
-      insert-count (a .words .now) (a .index) (a .version) I (c .before .before .loop .words) (take (c .before .before .loop .i) (meaning (a .words .now) .control .staged)) (v .2) (c .before .before .loop .i) (omega arith),
+      insert-count (a .words .now) (a .index) (a .version) I (c .before .before .loop .words) (take (c .before .before .loop .i) (meaning (a .words .now) .control .staged)) (v .2) (c .before .before .loop .i) (subst (λ (m : ℕ). c .before .before .loop .i < m) (v .1) (c .before .loop-test .taken)),
     )
 
 loop-again : tie.Need-loop-again Inv-loop μ-loop
 loop-again c =
     let a = c .before .before .before .before .before .before .before .before .before .args in
     let v = c .before .before .before .before .before .loop .inv in
-    (omega arith, v .1, insert-turn (a .words .now) (a .index) (a .version) (c .before .before .before .before .before .before .before .before .before .pre) (c .before .before .before .before .before .loop .words) (c .before .before .insert-one .last .0) (c .before .before .before .before .before .loop .i) (omega arith) (v .2) (c .before .before .insert-one .ensures))
+    (add-one-le (c .before .before .before .before .loop-test .taken), v .1, insert-turn (a .words .now) (a .index) (a .version) (c .before .before .before .before .before .before .before .before .before .pre) (c .before .before .before .before .before .loop .words) (c .before .before .insert-one .last .0) (c .before .before .before .before .before .loop .i) (subst (λ (m : ℕ). c .before .before .before .before .before .loop .i < m) (v .1) (c .before .before .before .before .loop-test .taken)) (v .2) (c .before .before .insert-one .ensures))
 
 same-length : tie.Need-same-length Inv-loop μ-loop
 same-length c = c .before .loop .inv .2 .size
@@ -45,7 +47,7 @@ same-length c = c .before .loop .inv .2 .size
 returns : tie.Need-returns Inv-loop μ-loop
 returns c =
     let a = c .before .before .before .before .before .args in
-    insert-all (a .words .now) (a .index) (a .version) (c .before .before .before .before .before .pre) (c .before .loop .words) (c .before .loop .i) (omega arith) (c .before .loop .inv .2)
+    insert-all (a .words .now) (a .index) (a .version) (c .before .before .before .before .before .pre) (c .before .loop .words) (c .before .loop .i) (subst (λ (m : ℕ). m ≤ c .before .loop .i) (c .before .loop .inv .1) (c .loop-test .left)) (c .before .loop .inv .2)
 
 pub insert-staged-spec : {M : Type 1} → statement M
 insert-staged-spec =
@@ -57,7 +59,7 @@ insert-staged-spec =
     loop-holds
     insert-one-requires
     (λ c. omega arith)
-    (λ c. omega arith)
+    (λ c. falls _ _ (c .before .before .before .before .loop-test .taken))
     loop-again
     same-length
     returns)

@@ -1,7 +1,9 @@
 -- `world::component_storage::clear_counts` meets its contract: the groups before g count nothing. Assumes nothing.
-use mathlib.Core.Path.{_≡_}
-use Prim.Native.Nat.{_≤_, _-_}
+use mathlib.Core.Path.{_≡_, subst}
+use Prim.Native.Nat.{_≤_, _-_, ℕ, _<_}
 use native.Mathlib.Omega.{arith}
+use native.Mathlib.Numerals.{add-one-le}
+use borrow.Author.Count.{falls}
 use Rattle.model.specs.Model.{groupsOf}
 use Rattle.memory.specs.Meaning.{meaning}
 use Rattle.group.proofs.InWords.{groups-few}
@@ -26,12 +28,12 @@ loop-holds c =
 set-count-requires : tie.Need-set-count-requires Inv-loop μ-loop
 set-count-requires c κs =
     let v = c .before .before .loop .inv in
-    (v .3 .arranged, (zeroed-below (c .before .before .before .before .before .before .args .words .now) (c .before .before .loop .words) (c .before .before .loop .g) (v .3) (omega (arith, v .2, c .before .loop-test)), omega arith))
+    (v .3 .arranged, (zeroed-below (c .before .before .before .before .before .before .args .words .now) (c .before .before .loop .words) (c .before .before .loop .g) (v .3) (subst (λ (m : ℕ). c .before .before .loop .g < m) (v .2) (c .before .loop-test .taken)), omega arith))
 
 loop-again : tie.Need-loop-again Inv-loop μ-loop
 loop-again c =
     let v = c .before .before .before .before .before .loop .inv in
-    (omega arith, v .1, v .2, zeroed-turn (c .before .before .before .before .before .before .before .before .before .args .words .now) (c .before .before .before .before .before .loop .words) (c .before .before .set-count .last .0) (c .before .before .before .before .before .loop .g) (omega (arith, v .2, c .before .before .before .before .loop-test)) (v .3) (c .before .before .set-count .ensures))
+    (add-one-le (c .before .before .before .before .loop-test .taken), v .1, v .2, zeroed-turn (c .before .before .before .before .before .before .before .before .before .args .words .now) (c .before .before .before .before .before .loop .words) (c .before .before .set-count .last .0) (c .before .before .before .before .before .loop .g) (subst (λ (m : ℕ). c .before .before .before .before .before .loop .g < m) (v .2) (c .before .before .before .before .loop-test .taken)) (v .3) (c .before .before .set-count .ensures))
 
 same-length : tie.Need-same-length Inv-loop μ-loop
 same-length c = c .before .loop .inv .3 .size
@@ -39,9 +41,9 @@ same-length c = c .before .loop .inv .3 .size
 returns : tie.Need-returns Inv-loop μ-loop
 returns c =
     let v = c .before .loop .inv in
-    zeroed-all (c .before .before .before .before .before .args .words .now) (c .before .loop .words) (c .before .loop .g) (omega (arith, v .2, c .loop-test)) (v .3)
+    zeroed-all (c .before .before .before .before .before .args .words .now) (c .before .loop .words) (c .before .loop .g) (subst (λ (m : ℕ). m ≤ c .before .loop .g) (v .2) (c .loop-test .left)) (v .3)
 
 pub clear-counts-spec : {M : Type 1} → statement M
 clear-counts-spec =
     tie.close
-    (tie.spec Inv-loop μ-loop group-count-requires loop-holds set-count-requires (λ c. omega arith) (λ c. omega arith) loop-again same-length returns)
+    (tie.spec Inv-loop μ-loop group-count-requires loop-holds set-count-requires (λ c. omega arith) (λ c. falls _ _ (c .before .before .before .before .loop-test .taken)) loop-again same-length returns)

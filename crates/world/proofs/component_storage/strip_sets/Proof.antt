@@ -1,7 +1,9 @@
 -- `world::component_storage::strip_sets` meets its contract: the kinds of the slots before slot are done. Assumes nothing.
-use mathlib.Core.Path.{_≡_, ap, sym, _∙_}
-use Prim.Native.Nat.{_≤_, _-_}
+use mathlib.Core.Path.{_≡_, ap, sym, _∙_, subst}
+use Prim.Native.Nat.{_≤_, _-_, ℕ, _<_}
 use native.Mathlib.Omega.{arith}
+use native.Mathlib.Numerals.{add-one-le}
+use borrow.Author.Count.{falls}
 use lib.ListN.{length, getD}
 use Rattle.model.specs.Store.{Store}
 use Rattle.component.specs.SparseSet.{entity}
@@ -31,7 +33,7 @@ strip-slot-requires : tie.Need-strip-slot-requires Inv-loop μ-loop
 strip-slot-requires c κs =
     let v = c .before .before .loop .inv in
     let n : length (meaning (c .before .before .loop .words) .kinds) ≡ length (meaning (c .before .before .before .before .before .before .args .words .now) .kinds) = ap (λ (m : Store). length (m .kinds)) (v .2 .means) in
-    (v .2 .arranged, omega (arith, n, v .1, c .before .loop-test))
+    (v .2 .arranged, subst (λ (m : ℕ). c .before .before .loop .slot < m) (v .1 ∙ sym n) (c .before .loop-test .taken))
 
 loop-again : tie.Need-loop-again Inv-loop μ-loop
 loop-again c =
@@ -40,7 +42,7 @@ loop-again c =
     let w = c .before .before .before .before .before .loop .words in
     let i = c .before .before .before .before .before .loop .slot in
     let same = ap (λ (m : Store). getD (m .kinds) (c .before .before .before .before .before .loop .slot) 0) (v .2 .means) in
-    (omega arith, v .1, gone-turn (a .words .now) (entity (a .index) (a .version)) (meaning (a .words .now) .kinds) w (c .before .before .strip-slot .last .0) i (getD (meaning w .kinds) i 0) (omega (arith, v .1, c .before .before .before .before .loop-test)) same (v .2) (c .before .before .strip-slot .ensures))
+    (add-one-le (c .before .before .before .before .loop-test .taken), v .1, gone-turn (a .words .now) (entity (a .index) (a .version)) (meaning (a .words .now) .kinds) w (c .before .before .strip-slot .last .0) i (getD (meaning w .kinds) i 0) (subst (λ (m : ℕ). c .before .before .before .before .before .loop .slot < m) (v .1) (c .before .before .before .before .loop-test .taken)) same (v .2) (c .before .before .strip-slot .ensures))
 
 same-length : tie.Need-same-length Inv-loop μ-loop
 same-length c = c .before .loop .inv .2 .size
@@ -49,9 +51,9 @@ returns : tie.Need-returns Inv-loop μ-loop
 returns c =
     let a = c .before .before .before .before .before .args in
     let v = c .before .loop .inv in
-    gone-all (a .words .now) (entity (a .index) (a .version)) (meaning (a .words .now) .kinds) (c .before .loop .words) (c .before .loop .slot) (omega (arith, v .1, c .loop-test)) (c .before .before .before .before .before .pre .1) (known-small (a .words .now) (c .before .before .before .before .before .pre .0)) (v .2)
+    gone-all (a .words .now) (entity (a .index) (a .version)) (meaning (a .words .now) .kinds) (c .before .loop .words) (c .before .loop .slot) (subst (λ (m : ℕ). m ≤ c .before .loop .slot) (v .1) (c .loop-test .left)) (c .before .before .before .before .before .pre .1) (known-small (a .words .now) (c .before .before .before .before .before .pre .0)) (v .2)
 
 pub strip-sets-spec : {M : Type 1} → statement M
 strip-sets-spec =
     tie.close
-    (tie.spec Inv-loop μ-loop word-requires loop-holds strip-slot-requires (λ c. omega arith) (λ c. omega arith) loop-again same-length returns)
+    (tie.spec Inv-loop μ-loop word-requires loop-holds strip-slot-requires (λ c. omega arith) (λ c. falls _ _ (c .before .before .before .before .loop-test .taken)) loop-again same-length returns)
