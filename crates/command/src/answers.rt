@@ -7,19 +7,6 @@ ghost use Rattle.model.specs.Run.{refuses};
 ghost use Rattle.memory.specs.Arranged.{Arranged};
 ghost use Rattle.command.specs.Acted.{Written, Acted};
 
-// The refusals of commands, by their names in 01's table.
-pub const KIND: u8 = 7;
-
-pub const KINDS: u8 = 8;
-
-pub const AGAIN: u8 = 9;
-
-pub const HANDFUL: u8 = 10;
-
-pub const DEAD: u8 = 11;
-
-pub const FULL: u8 = 12;
-
 // The number is the answer, and the count of refusals grows. No other word changes.
 pub fn refuse(words: &mut [u32], out: &mut [u8], at: usize, number: u8) -> usize
     requires { ⌜ Arranged (now words) ⌝ }

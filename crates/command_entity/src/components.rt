@@ -1,8 +1,8 @@
 // PUT, DROP and WIPE: components go into an entity, or go.
-use command::answers::DEAD;
 use command::answers::ack;
 use command::answers::refuse;
 use entity::Found;
+use model::refusals::DEAD;
 ghost use Rattle.model.specs.Commands.{PUT, DROP, WIPE};
 ghost use Rattle.model.specs.Run.{does};
 ghost use Rattle.component.specs.SparseSet.{entity};

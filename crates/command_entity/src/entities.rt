@@ -1,10 +1,10 @@
 // NEW and KILL: an entity comes, or goes.
-use command::answers::DEAD;
-use command::answers::FULL;
 use command::answers::ack;
 use command::answers::ack_number;
 use command::answers::refuse;
 use entity::Found;
+use model::refusals::DEAD;
+use model::refusals::FULL;
 ghost use mathlib.Core.List.{_∷_, _++_};
 ghost use Prim.Native.Nat.{_+_, _≤_};
 ghost use lib.ListN.{length};

@@ -3,8 +3,12 @@ use command::answers::ack_byte;
 use command::answers::refuse;
 use layout::group_layout::Answer;
 use layout::group_layout::Outcome;
+use model::refusals::CLASH;
+use model::refusals::MANY;
+use model::refusals::WIDE;
 ghost use Prim.Native.Nat.{_≤_};
 ghost use lib.ListN.{length};
+ghost use Rattle.model.specs.Numbers.{LIST-CAPACITY};
 ghost use Rattle.model.specs.Commands.{GROUP};
 ghost use Rattle.model.specs.Run.{does};
 ghost use Rattle.memory.specs.Meaning.{meaning};
@@ -13,16 +17,10 @@ ghost use Rattle.command.specs.Acted.{Ready, Acted};
 ghost use Rattle.command_group.specs.Drafts.{StagedBytes, Drafts};
 
 // The refusals of GROUP, by their names in 01's table.
-const WIDE: u8 = 13;
-
-const CLASH: u8 = 14;
-
-const MANY: u8 = 15;
-
 // The staged kinds as bytes, in the front of `kinds`. Answers how many.
 fn staged_kinds(words: &[u32], kinds: &mut [u8]) -> usize
     requires { ⌜ Sound (now words) ⌝ }
-    requires { ⌜ 16 ≤ length (now kinds) ⌝ }
+    requires { ⌜ LIST-CAPACITY ≤ length (now kinds) ⌝ }
     ensures { λ r. ⌜ StagedBytes (meaning (now (words .entry))) (now (kinds .exit)) r ⌝ }
 {
     let n = control::staged::staged_len(words);

@@ -7,6 +7,7 @@ use native.Mathlib.Omega.{arith}
 use borrow.Author.Tests.{ltb-false, le-leb, lt-leb}
 use lib.Dec.{leb, ltb}
 use lib.ListN.{length}
+use Rattle.model.specs.Numbers.{LAST-KIND, MAX-KINDS}
 use Rattle.model.specs.Store.{Store, isKind}
 use Rattle.model.specs.Refusals.{unknownKind}
 use Rattle.model.proofs.Walk.{or-false}
@@ -14,8 +15,8 @@ use Rattle.memory.specs.Header.{kindCapacityOf, registeredOf}
 use Rattle.memory.specs.Meaning.{meaning}
 use Rattle.memory.proofs.Becomes.{kinds-count}
 
-pub known-small : (k : ℕ) (s : Store) → unknownKind k s ≡ false → k < 128
-known-small k s h = omega (arith, ltb-false 127 k (or-false (ltb 127 k) (not (isKind k s)) h))
+pub known-small : (k : ℕ) (s : Store) → unknownKind k s ≡ false → k < MAX-KINDS
+known-small k s h = omega (arith, ltb-false LAST-KIND k (or-false (ltb LAST-KIND k) (not (isKind k s)) h))
 
 module _ (w : List ℕ) (most count : ℕ) (m : most ≡ kindCapacityOf w) (c : count ≡ registeredOf w) where
   pub slots-taken : most ≤ count → true ≡ leb (meaning w .kindCapacity) (length (meaning w .kinds))

@@ -1,10 +1,10 @@
 // HOLD, BAR, EMPTY and TALLY: the staged components, the excluded kinds and the count of refusals.
-use command::answers::AGAIN;
-use command::answers::HANDFUL;
-use command::answers::KIND;
 use command::answers::ack;
 use command::answers::ack_number;
 use command::answers::refuse;
+use model::refusals::AGAIN;
+use model::refusals::HANDFUL;
+use model::refusals::KIND;
 ghost use mathlib.Core.Path.{_≡_};
 ghost use Rattle.model.specs.Commands.{HOLD, BAR, EMPTY, TALLY};
 ghost use Rattle.model.specs.Refusals.{unknownKind};
@@ -19,7 +19,7 @@ pub fn is_unknown(words: &[u32], kind: usize) -> bool
     requires { ⌜ Arranged (now words) ⌝ }
     ensures { λ r. ⌜ r ≡ unknownKind kind (meaning (now (words .entry))) ⌝ }
 {
-    if 127 < kind {
+    if model::LAST_KIND < kind {
         return true;
     }
     if kinds::is_registered(words, kind) {
@@ -40,7 +40,7 @@ pub fn hold(words: &mut [u32], kind: u8, low: u32, high: u32, out: &mut [u8], at
     if control::staged::is_staged(words, k) {
         return refuse(words, out, at, AGAIN);
     }
-    if 16 <= control::staged::staged_len(words) {
+    if model::LIST_CAPACITY <= control::staged::staged_len(words) {
         return refuse(words, out, at, HANDFUL);
     }
     control::staged::stage(words, k, low, high);
@@ -59,7 +59,7 @@ pub fn bar(words: &mut [u32], kind: u8, out: &mut [u8], at: usize) -> usize
     if control::excluded::is_excluded(words, k) {
         return refuse(words, out, at, AGAIN);
     }
-    if 16 <= control::excluded::excluded_len(words) {
+    if model::LIST_CAPACITY <= control::excluded::excluded_len(words) {
         return refuse(words, out, at, HANDFUL);
     }
     control::excluded::exclude(words, k);

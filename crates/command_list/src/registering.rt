@@ -1,8 +1,8 @@
 // REG: a kind gets its sparse set.
-use command::answers::KIND;
-use command::answers::KINDS;
 use command::answers::ack_byte;
 use command::answers::refuse;
+use model::refusals::KIND;
+use model::refusals::KINDS;
 ghost use mathlib.Core.Path.{_≡_};
 ghost use lib.Dec.{leb};
 ghost use lib.ListN.{length};
@@ -31,7 +31,7 @@ pub fn reg(words: &mut [u32], kind: u8, out: &mut [u8], at: usize) -> usize
     ensures { λ r. ⌜ Acted (now (words .entry)) (now (words .exit)) (now (out .entry)) (now (out .exit)) at r (does (REG kind) (meaning (now (words .entry)))) ⌝ }
 {
     let k = kind as usize;
-    if 127 < k {
+    if model::LAST_KIND < k {
         return refuse(words, out, at, KIND);
     }
     if kinds::is_registered(words, k) {

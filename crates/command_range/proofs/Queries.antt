@@ -4,6 +4,7 @@ use mathlib.Core.List.{List, [], _∷_, _++_}
 use Prim.Native.Nat.{ℕ, _+_, _-_, _≤_, _<_}
 use native.Mathlib.Omega.{arith}
 use lib.ListN.{length, getD}
+use Rattle.words.specs.Offsets.{ARITIES, ENTITIES, EXCLUDED-KINDS, GROUP-COUNTS, GROUP-FAMILIES, KIND-ENDS, LAYOUT, LAYOUT-ARITIES, LAYOUT-KIND-ENDS, STAGED-KINDS}
 use Rattle.model.specs.Model.{none, range}
 use Rattle.model.specs.Sound.{In}
 use Rattle.words.specs.Part.{between, length-between}
@@ -56,17 +57,17 @@ module _ (w : List ℕ) (A : Arranged w) where
 
   -- ---- the range
 
-  pub tables : Tables (between 704 768 w) (between 960 1024 w)
-  tables = record { arities = length-between 704 768 w (omega (arith, long w A)); counts-size = length-between 960 1024 w (omega (arith, long w A)) }
+  pub tables : Tables (between LAYOUT-ARITIES LAYOUT-KIND-ENDS w) (between GROUP-COUNTS ENTITIES w)
+  tables = record { arities = length-between LAYOUT-ARITIES LAYOUT-KIND-ENDS w (omega (arith, long w A)); counts-size = length-between GROUP-COUNTS ENTITIES w (omega (arith, long w A)) }
 
-  arities-are : layoutArrays w .arities ≡ between 704 768 w
-  arities-are = between-part 128 192 576 896 w (omega arith)
+  arities-are : layoutArrays w .arities ≡ between LAYOUT-ARITIES LAYOUT-KIND-ENDS w
+  arities-are = between-part ARITIES KIND-ENDS LAYOUT GROUP-FAMILIES w (omega arith)
 
-  pub query-inside : (hs : List ℕ) (q : QueryGroupInfo) → Describes (layoutArrays w) (meaning w .storage) hs q → InsideFound (between 704 768 w) (infoOf q)
+  pub query-inside : (hs : List ℕ) (q : QueryGroupInfo) → Describes (layoutArrays w) (meaning w .storage) hs q → InsideFound (between LAYOUT-ARITIES LAYOUT-KIND-ENDS w) (infoOf q)
   query-inside hs q d = subst (λ (l : List ℕ). InsideFound l (infoOf q)) arities-are (describes-inside a (A .layout .formed) (layout-sized w A) (meaning w .storage) hs q d)
 
   pub both-queries : (hs bs : List ℕ) (p q : QueryGroupInfo) (r : GroupRange) → Describes (layoutArrays w) (meaning w .storage) hs p → Describes (layoutArrays w) (meaning w .storage) bs q
-      → RangeSays (between 704 768 w) (between 960 1024 w) p q r → rangeOf r ≡ range hs bs (meaning w .storage)
+      → RangeSays (between LAYOUT-ARITIES LAYOUT-KIND-ENDS w) (between GROUP-COUNTS ENTITIES w) p q r → rangeOf r ≡ range hs bs (meaning w .storage)
   both-queries hs bs p q r d e says =
       says
       (record {
@@ -83,25 +84,25 @@ module _ (w : List ℕ) (A : Arranged w) where
       })
 
   pub no-staged : (hs bs : List ℕ) → Scattered (layoutArrays w) hs → none ≡ range hs bs (meaning w .storage)
-  no-staged hs bs x = sym (scattered-staged a (meaning w .storage) (between 960 1024 w) (A .layout .formed) (layout-sized w A) (layout-means w A) hs bs x)
+  no-staged hs bs x = sym (scattered-staged a (meaning w .storage) (between GROUP-COUNTS ENTITIES w) (A .layout .formed) (layout-sized w A) (layout-means w A) hs bs x)
 
   pub no-excluded : (hs bs : List ℕ) → Scattered (layoutArrays w) bs → none ≡ range hs bs (meaning w .storage)
-  no-excluded hs bs x = sym (scattered-excluded a (meaning w .storage) (between 960 1024 w) (A .layout .formed) (layout-sized w A) (layout-means w A) hs bs x)
+  no-excluded hs bs x = sym (scattered-excluded a (meaning w .storage) (between GROUP-COUNTS ENTITIES w) (A .layout .formed) (layout-sized w A) (layout-means w A) hs bs x)
 
 -- ---- the lists in the words
 
-pub staged-in : (w : List ℕ) → Sound w → (n : ℕ) → n ≡ stagedLen w → Kinds w 160 (160 + n)
+pub staged-in : (w : List ℕ) → Sound w → (n : ℕ) → n ≡ stagedLen w → Kinds w STAGED-KINDS (STAGED-KINDS + n)
 staged-in w S n e =
     record {
       rising = omega arith;
       within = omega (arith, S .arranged .staged, long w (S .arranged));
-      known = λ k i. S .means .staged .known k (subst (λ (l : List ℕ). In l k) (ap (λ (m : ℕ). between 160 (160 + m) w) e ∙ sym (staged-kinds w (S .arranged))) i);
+      known = λ k i. S .means .staged .known k (subst (λ (l : List ℕ). In l k) (ap (λ (m : ℕ). between STAGED-KINDS (STAGED-KINDS + m) w) e ∙ sym (staged-kinds w (S .arranged))) i);
     }
 
-pub excluded-in : (w : List ℕ) → Sound w → (n : ℕ) → n ≡ excludedLen w → Kinds w 240 (240 + n)
+pub excluded-in : (w : List ℕ) → Sound w → (n : ℕ) → n ≡ excludedLen w → Kinds w EXCLUDED-KINDS (EXCLUDED-KINDS + n)
 excluded-in w S n e =
     record {
       rising = omega arith;
       within = omega (arith, S .arranged .excluded, long w (S .arranged));
-      known = λ k i. S .means .excluded .known k (subst (λ (l : List ℕ). In l k) (ap (λ (m : ℕ). between 240 (240 + m) w) e ∙ sym (excluded-kinds w (S .arranged))) i);
+      known = λ k i. S .means .excluded .known k (subst (λ (l : List ℕ). In l k) (ap (λ (m : ℕ). between EXCLUDED-KINDS (EXCLUDED-KINDS + m) w) e ∙ sym (excluded-kinds w (S .arranged))) i);
     }

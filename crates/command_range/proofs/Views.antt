@@ -7,6 +7,7 @@ use native.Mathlib.Omega.{arith}
 use borrow.Author.Tests.{lt-ltb}
 use lib.ListN.{length, getD, take}
 use lib.Seq.{getD-take, length-take-le}
+use Rattle.words.specs.Offsets.{ENTITIES, GROUP-COUNTS, GROUP-PLACES}
 use Rattle.model.specs.Model.{mem, groupsOf}
 use Rattle.model.specs.Sound.{In}
 use Rattle.model.proofs.KindLists.{not-true, at-in}
@@ -93,7 +94,7 @@ module _ (w : List ℕ) (A : Arranged w) where
     among : place < length (kindsAt (layoutArrays w) f)
     among = omega (arith, below, rising-at 0 (length (kindsAt a f)) (aritiesAt a f) own (family-rising a good (layout-sized w A) f inside) in-family)
 
-    pub small : (g < 64) × (place < 16)
+    pub small : (g < GROUP-PLACES) × (place < 16)
     small =
         (omega (arith, o .group, A .layout .count, good .many), omega (arith, among, kinds-length a good (layout-sized w A) f inside, good .family f inside .most))
 
@@ -110,8 +111,8 @@ module _ (w : List ℕ) (A : Arranged w) where
     first-is : located (meaning w .storage .layout) g .first ≡ startOf (layoutArrays w .ends) f
     first-is =
         ap (λ l. located l g .first) (layout-means w A)
-        ∙ ap (λ (n : ℕ). located (familiesOf (between 960 1024 w) a) n .first) (sym at)
-        ∙ ap (λ (l : Located). l .first) (located-is (between 960 1024 w) a good (layout-sized w A) f own inside under)
+        ∙ ap (λ (n : ℕ). located (familiesOf (between GROUP-COUNTS ENTITIES w) a) n .first) (sym at)
+        ∙ ap (λ (l : Located). l .first) (located-is (between GROUP-COUNTS ENTITIES w) a good (layout-sized w A) f own inside under)
 
     pub grouped : (first : ℕ) (r : GroupInfo) → first ≡ located (meaning w .storage .layout) g .first → KindInfo first g (localAt w (slotOf w k)) r → GroupedKinds (layoutArrays w) (k ∷ []) r
     grouped first r e i =

@@ -1,10 +1,10 @@
 // TAKE (component_set.rs, remove): a live entity's components of the staged kinds go, and are told. The groups are left first; then each removal
 // gives the value that was held.
-use command::answers::DEAD;
 use command::answers::ack;
 use command::answers::refuse;
 use component::Removed;
 use entity::Found;
+use model::refusals::DEAD;
 use world::component_set;
 ghost use mathlib.Core.Path.{_≡_};
 ghost use mathlib.Core.List.{_∷_};

@@ -5,15 +5,16 @@ use Prim.Native.Nat.{ℕ, _+_, _*_, _-_, _≤_, _<_}
 use native.Mathlib.Omega.{arith}
 use native.Mathlib.Nat.{add-zero}
 use lib.ListN.{length, getD}
+use Rattle.model.specs.Numbers.{MAX-ENTITIES, MAX-KINDS, columnLen}
 use Rattle.words.specs.Part.{length-between}
-use Rattle.words.specs.Offsets.{columnStart, columnStart-apart}
+use Rattle.words.specs.Offsets.{columnStart, columnStart-apart, ROWS}
 use Rattle.component.proofs.Meaning.{empty-rows, fresh-sound}
 use Rattle.component.specs.Columns.{columnOf, rowsOf, Columns}
 use Rattle.component.proofs.Parts.{getD-column}
 
-pub length-column : (n s : ℕ) (w : List ℕ) → columnStart n s + (8 + 6 * n) ≤ length w → length (columnOf n s w) ≡ 8 + 6 * n
+pub length-column : (n s : ℕ) (w : List ℕ) → columnStart n s + (columnLen n) ≤ length w → length (columnOf n s w) ≡ columnLen n
 unfolding columnOf
-length-column n s w h = omega (arith, length-between (columnStart n s) (columnStart n s + (8 + 6 * n)) w h)
+length-column n s w h = omega (arith, length-between (columnStart n s) (columnStart n s + (columnLen n)) w h)
 
 fresh-length : (n s : ℕ) (w : List ℕ) → getD w (columnStart n s) 0 ≡ 0 → getD (columnOf n s w) 0 0 ≡ 0
 fresh-length n s w e = getD-column n s 0 w (omega arith) ∙ ap (λ (i : ℕ). getD w i 0) (add-zero (columnStart n s)) ∙ e
@@ -21,9 +22,9 @@ fresh-length n s w e = getD-column n s 0 w (omega arith) ∙ ap (λ (i : ℕ). g
 pub fresh-rows : (n s : ℕ) (w : List ℕ) → getD w (columnStart n s) 0 ≡ 0 → rowsOf n s w ≡ []
 fresh-rows n s w e = empty-rows n (columnOf n s w) (fresh-length n s w e)
 
-pub fresh-columns : (n m : ℕ) (w : List ℕ) → n ≤ 4096 → m ≤ 128 → columnStart n m ≤ length w
+pub fresh-columns : (n m : ℕ) (w : List ℕ) → n ≤ MAX-ENTITIES → m ≤ MAX-KINDS → columnStart n m ≤ length w
     → ((s : ℕ) → s < m → getD w (columnStart n s) 0 ≡ 0)
-    → ((s x : ℕ) → s < m → x < n → getD w (columnStart n s + (8 + 4 * n + 2 * x + 1)) 0 ≡ 0) → Columns n m w
+    → ((s x : ℕ) → s < m → x < n → getD w (columnStart n s + (ROWS + 4 * n + 2 * x + 1)) 0 ≡ 0) → Columns n m w
 fresh-columns n m w hn hm size none free =
     record {
       small = hn;
@@ -34,5 +35,5 @@ fresh-columns n m w hn hm size none free =
           fresh-sound n (columnOf n s w)
           (record { size = length-column n s w (omega (arith, columnStart-apart n s m h)); small = hn })
           (fresh-length n s w (none s h))
-          (λ x hx. getD-column n s (8 + 4 * n + 2 * x + 1) w (omega arith) ∙ free s x h hx);
+          (λ x hx. getD-column n s (ROWS + 4 * n + 2 * x + 1) w (omega arith) ∙ free s x h hx);
     }

@@ -6,6 +6,7 @@ use Prim.Native.Nat.{ℕ, _+_, _*_, _-_, _≤_, _<_}
 use native.Mathlib.Omega.{arith}
 use lib.ListN.{length, getD, set, take}
 use lib.Seq.{take-all, take-take, length-take-le, take-set-le}
+use Rattle.words.specs.Offsets.{ROWS}
 use Rattle.model.specs.Lists.{cutAt}
 use Rattle.model.specs.Model.{Row, SparseSet, noRow}
 use Rattle.words.specs.Table.{by-eq, table-swap, table-set, table-snoc, table-removed}
@@ -154,7 +155,7 @@ module _ (n : ℕ) (w : List ℕ) (s : Sound n w) (x v l h : ℕ) (hx : x < n) (
 -- ---- replace
 
 abbrev replaceStores : ℕ → ℕ → ℕ → ℕ → List (ℕ × ℕ)
-replaceStores n p l h = (8 + 2 * n + 2 * p, l) ∷ (8 + 2 * n + 2 * p + 1, h) ∷ []
+replaceStores n p l h = (ROWS + 2 * n + 2 * p, l) ∷ (ROWS + 2 * n + 2 * p + 1, h) ∷ []
 
 module _ (n : ℕ) (w : List ℕ) (s : Sound n w) (p l h : ℕ) (hp : p < lengthOf w) where
   replaced-sound : Sound n (stores w (replaceStores n p l h))
@@ -203,7 +204,7 @@ module _ (n : ℕ) (w : List ℕ) (s : Sound n w) (p l h : ℕ) (hp : p < length
 abbrev removeStores : ℕ → ℕ → List ℕ → List (ℕ × ℕ)
 removeStores n p w =
     rowStores n p (wordsAt n w (lengthOf w - 1))
-    ++ ((8 + 4 * n + 2 * indexAt w (lengthOf w - 1), p) ∷ (8 + 4 * n + 2 * indexAt w p + 1, 0) ∷ (0, lengthOf w - 1) ∷ [])
+    ++ ((ROWS + 4 * n + 2 * indexAt w (lengthOf w - 1), p) ∷ (ROWS + 4 * n + 2 * indexAt w p + 1, 0) ∷ (0, lengthOf w - 1) ∷ [])
 
 module _ (n : ℕ) (w : List ℕ) (s : Sound n w) (p : ℕ) (hp : p < lengthOf w) where
   removed-sound : Sound n (stores w (removeStores n p w))
@@ -256,13 +257,13 @@ module _ (n : ℕ) (w : List ℕ) (s : Sound n w) (p : ℕ) (hp : p < lengthOf w
 
   -- the steps, one after the other
   pub removed-by : (w₁ : List ℕ) (gone last : RowWords) → gone ≡ wordsAt n w p → last ≡ wordsAt n w (lengthOf w - 1) → w₁ ≡ stores w (rowStores n p last)
-      → Changed n (cutAt noRow p) w (stores w₁ ((8 + 4 * n + 2 * (last .index), p) ∷ (8 + 4 * n + 2 * (gone .index) + 1, 0) ∷ (0, lengthOf w - 1) ∷ []))
+      → Changed n (cutAt noRow p) w (stores w₁ ((ROWS + 4 * n + 2 * (last .index), p) ∷ (ROWS + 4 * n + 2 * (gone .index) + 1, 0) ∷ (0, lengthOf w - 1) ∷ []))
   removed-by w₁ gone last eg el e = rw (e, eg, el) removed
 
 -- ---- pop
 
 abbrev popStores : ℕ → List ℕ → List (ℕ × ℕ)
-popStores n w = (8 + 4 * n + 2 * indexAt w (lengthOf w - 1) + 1, 0) ∷ (0, lengthOf w - 1) ∷ []
+popStores n w = (ROWS + 4 * n + 2 * indexAt w (lengthOf w - 1) + 1, 0) ∷ (0, lengthOf w - 1) ∷ []
 
 module _ (n : ℕ) (w : List ℕ) (s : Sound n w) (some : 1 ≤ lengthOf w) where
   popped-sound : Sound n (stores w (popStores n w))
@@ -318,7 +319,7 @@ module _ (n : ℕ) (w : List ℕ) (s : Sound n w) (some : 1 ≤ lengthOf w) wher
       }
 
   pub popped-by : (last : RowWords) → last ≡ wordsAt n w (lengthOf w - 1)
-      → Changed n popped w (stores w ((8 + 4 * n + 2 * (last .index) + 1, 0) ∷ (0, lengthOf w - 1) ∷ []))
+      → Changed n popped w (stores w ((ROWS + 4 * n + 2 * (last .index) + 1, 0) ∷ (0, lengthOf w - 1) ∷ []))
   popped-by last el = rw el popped-changed
 
 -- ---- clear: rows go one by one from the end

@@ -5,6 +5,7 @@ use mathlib.Core.Logic.{_≢_}
 use mathlib.Core.List.{List}
 use Prim.Native.Nat.{ℕ, _+_, _*_, _≤_, _<_}
 use lib.ListN.{length, getD, take, drop}
+use Rattle.model.specs.Numbers.{MAX-ENTITIES, MAX-KINDS, columnLen}
 use Rattle.model.specs.Model.{Entity, SparseSet, removeRow}
 use Rattle.words.specs.Part.{between}
 use Rattle.words.specs.Offsets.{columnStart}
@@ -14,7 +15,7 @@ use Rattle.component.specs.declared.Removed.{Removed}
 
 -- the part of slot s in a store of capacity n
 unfoldable pub columnOf : ℕ → ℕ → List ℕ → List ℕ
-columnOf n s w = between (columnStart n s) (columnStart n s + (8 + 6 * n)) w
+columnOf n s w = between (columnStart n s) (columnStart n s + (columnLen n)) w
 
 -- its rows
 abbrev pub rowsOf : ℕ → ℕ → List ℕ → SparseSet
@@ -22,16 +23,16 @@ rowsOf n s w = rows n (columnOf n s w)
 
 -- the words hold m sound sparse sets
 pub record Columns (n m : ℕ) (w : List ℕ) : Type 0 where
-  pub small : n ≤ 4096
-  pub few : m ≤ 128
+  pub small : n ≤ MAX-ENTITIES
+  pub few : m ≤ MAX-KINDS
   pub size : columnStart n m ≤ length w
   pub columns : (s : ℕ) → s < m → Sound n (columnOf n s w)
 
 -- what a function on one slot asks of the words: the slot's part is there, and is sound
 pub record Lent (n s : ℕ) (w : List ℕ) : Type 0 where
-  pub small : n ≤ 4096
-  pub few : s < 128
-  pub size : columnStart n s + (8 + 6 * n) ≤ length w
+  pub small : n ≤ MAX-ENTITIES
+  pub few : s < MAX-KINDS
+  pub size : columnStart n s + (columnLen n) ≤ length w
   pub sound : Sound n (columnOf n s w)
 
 -- words 1 to 7 of slot s, which are the storage's, are as they were

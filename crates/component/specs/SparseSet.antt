@@ -6,6 +6,8 @@ use mathlib.Core.Path.{_≡_}
 use mathlib.Core.List.{List}
 use Prim.Native.Nat.{ℕ, _+_, _*_, _≤_, _<_}
 use lib.ListN.{length, getD}
+use Rattle.model.specs.Numbers.{MAX-ENTITIES, columnLen}
+use Rattle.words.specs.Offsets.{ROWS}
 use Rattle.model.specs.Lists.{swap}
 use Rattle.model.specs.Model.{Entity, Row, SparseSet, noRow}
 use Rattle.words.specs.Table.{table}
@@ -18,23 +20,23 @@ lengthOf w = getD w 0 0
 
 -- row i
 abbrev pub indexAt : List ℕ → ℕ → ℕ
-indexAt w i = getD w (8 + 2 * i) 0
+indexAt w i = getD w (ROWS + 2 * i) 0
 
 abbrev pub versionAt : List ℕ → ℕ → ℕ
-versionAt w i = getD w (8 + 2 * i + 1) 0
+versionAt w i = getD w (ROWS + 2 * i + 1) 0
 
 abbrev pub lowAt : ℕ → List ℕ → ℕ → ℕ
-lowAt n w i = getD w (8 + 2 * n + 2 * i) 0
+lowAt n w i = getD w (ROWS + 2 * n + 2 * i) 0
 
 abbrev pub highAt : ℕ → List ℕ → ℕ → ℕ
-highAt n w i = getD w (8 + 2 * n + 2 * i + 1) 0
+highAt n w i = getD w (ROWS + 2 * n + 2 * i + 1) 0
 
 -- index x's lookup
 abbrev pub placeOf : ℕ → List ℕ → ℕ → ℕ
-placeOf n w x = getD w (8 + 4 * n + 2 * x) 0
+placeOf n w x = getD w (ROWS + 4 * n + 2 * x) 0
 
 abbrev pub heldOf : ℕ → List ℕ → ℕ → ℕ
-heldOf n w x = getD w (8 + 4 * n + 2 * x + 1) 0
+heldOf n w x = getD w (ROWS + 4 * n + 2 * x + 1) 0
 
 -- ---- what they mean
 
@@ -60,13 +62,13 @@ rows n w = table (lengthOf w) (rowAt n w)
 
 -- the words of a part of capacity n, whatever they hold
 pub record Sized (n : ℕ) (w : List ℕ) : Type 0 where
-  pub size : length w ≡ 8 + 6 * n
-  pub small : n ≤ 4096
+  pub size : length w ≡ columnLen n
+  pub small : n ≤ MAX-ENTITIES
 
 -- 01, a sound store: "each column with its own lookups" agrees
 pub record Sound (n : ℕ) (w : List ℕ) : Type 0 where
-  pub size : length w ≡ 8 + 6 * n
-  pub small : n ≤ 4096
+  pub size : length w ≡ columnLen n
+  pub small : n ≤ MAX-ENTITIES
   pub linked : Linked n (lengthOf w) (indexAt w) (versionAt w) (placeOf n w) (heldOf n w)
 
 -- ---- changes

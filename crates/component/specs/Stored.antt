@@ -3,6 +3,7 @@ use mathlib.Core.Path.{_≡_}
 use mathlib.Core.List.{List, [], _∷_}
 use Prim.Native.Nat.{ℕ, _+_, _*_, _-_, _<_}
 use lib.ListN.{length, getD, set, take}
+use Rattle.words.specs.Offsets.{ROWS}
 use Rattle.model.specs.Model.{SparseSet, noRow}
 use Rattle.component.specs.declared.component_sparse_set.RowWords.{RowWords}
 use Rattle.component.specs.SparseSet.{indexAt, versionAt, lowAt, highAt}
@@ -14,10 +15,10 @@ wordsAt n w i = record { index = indexAt w i; version = versionAt w i; low = low
 -- a row put at i, and a lookup of x
 abbrev pub rowStores : ℕ → ℕ → RowWords → List (ℕ × ℕ)
 rowStores n i r =
-    (8 + 2 * i, r .index) ∷ (8 + 2 * i + 1, r .version) ∷ (8 + 2 * n + 2 * i, r .low) ∷ (8 + 2 * n + 2 * i + 1, r .high) ∷ []
+    (ROWS + 2 * i, r .index) ∷ (ROWS + 2 * i + 1, r .version) ∷ (ROWS + 2 * n + 2 * i, r .low) ∷ (ROWS + 2 * n + 2 * i + 1, r .high) ∷ []
 
 abbrev pub lookupStores : ℕ → ℕ → ℕ → ℕ → List (ℕ × ℕ)
-lookupStores n x p v = (8 + 4 * n + 2 * x, p) ∷ (8 + 4 * n + 2 * x + 1, v) ∷ []
+lookupStores n x p v = (ROWS + 4 * n + 2 * x, p) ∷ (ROWS + 4 * n + 2 * x + 1, v) ∷ []
 
 -- no row has the index x
 abbrev pub Absent : ℕ → SparseSet → Type 0

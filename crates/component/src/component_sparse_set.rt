@@ -29,8 +29,8 @@ fn read_row(part: &[u32], n: usize, i: usize) -> RowWords
     requires { ⌜ Sized n (now part) × (i < n) ⌝ }
     ensures { λ r. ⌜ r ≡ wordsAt n (now (part .entry)) i ⌝ }
 {
-    let c = 8 + 2 * i;
-    let v = 8 + 2 * n + 2 * i;
+    let c = words::ROWS + 2 * i;
+    let v = words::ROWS + 2 * n + 2 * i;
     RowWords {
         index: part[c],
         version: part[c + 1],
@@ -43,8 +43,8 @@ fn put_row(part: &mut [u32], n: usize, i: usize, r: RowWords)
     requires { ⌜ Sized n (now part) × (i < n) ⌝ }
     ensures { λ _. ⌜ now (part .exit) ≡ stores (now (part .entry)) (rowStores n i r) ⌝ }
 {
-    let c = 8 + 2 * i;
-    let v = 8 + 2 * n + 2 * i;
+    let c = words::ROWS + 2 * i;
+    let v = words::ROWS + 2 * n + 2 * i;
     part[c] = r.index;
     part[c + 1] = r.version;
     part[v] = r.low;
@@ -131,7 +131,7 @@ fn replace(part: &mut [u32], n: usize, place: usize, low: u32, high: u32)
     requires { ⌜ place < lengthOf (now part) ⌝ }
     ensures { λ _. ⌜ Changed n (valued place (valueOf low high)) (now (part .entry)) (now (part .exit)) ⌝ }
 {
-    let v = 8 + 2 * n + 2 * place;
+    let v = words::ROWS + 2 * n + 2 * place;
     part[v] = low;
     part[v + 1] = high;
 }
@@ -161,8 +161,8 @@ fn remove_at(part: &mut [u32], n: usize, place: usize)
     let gone = read_row(part, n, place);
     let last = read_row(part, n, k as usize);
     put_row(part, n, place, last);
-    let sl = 8 + 4 * n + 2 * (last.index as usize);
-    let sp = 8 + 4 * n + 2 * (gone.index as usize);
+    let sl = words::ROWS + 4 * n + 2 * (last.index as usize);
+    let sp = words::ROWS + 4 * n + 2 * (gone.index as usize);
     part[sl] = place as u32;
     part[sp + 1] = 0;
     part[0] = k;
@@ -190,7 +190,7 @@ fn pop(part: &mut [u32], n: usize)
 {
     let k = part[0] - 1;
     let last = read_row(part, n, k as usize);
-    let s = 8 + 4 * n + 2 * (last.index as usize);
+    let s = words::ROWS + 4 * n + 2 * (last.index as usize);
     part[s + 1] = 0;
     part[0] = k;
 }

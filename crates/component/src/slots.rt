@@ -19,7 +19,7 @@ pub fn len_in(words: &[u32], n: usize, slot: usize) -> usize
     ensures { λ r. ⌜ length (rowsOf n slot (now (words .entry))) ≡ r ⌝ }
 {
     let base = words::column_start(n, slot);
-    let end = base + (8 + 6 * n);
+    let end = base + (words::ROWS + model::ROW_LEN * n);
     component_sparse_set::len(&words[base..end])
 }
 
@@ -28,7 +28,7 @@ pub fn find_in(words: &[u32], n: usize, slot: usize, index: u32, version: u32) -
     ensures { λ r. ⌜ Finds n (entity index version) (rowsOf n slot (now (words .entry))) r ⌝ }
 {
     let base = words::column_start(n, slot);
-    let end = base + (8 + 6 * n);
+    let end = base + (words::ROWS + model::ROW_LEN * n);
     sparse_vec::find(&words[base..end], n, index, version)
 }
 
@@ -38,7 +38,7 @@ pub fn value_in(words: &[u32], n: usize, slot: usize, place: usize) -> Value
     ensures { λ r. ⌜ valueOf (r .low) (r .high) ≡ getD (rowsOf n slot (now (words .entry))) place noRow .value ⌝ }
 {
     let base = words::column_start(n, slot);
-    let end = base + (8 + 6 * n);
+    let end = base + (words::ROWS + model::ROW_LEN * n);
     component_sparse_set::value_at(&words[base..end], n, place)
 }
 
@@ -57,7 +57,7 @@ pub fn insert_in(
     ensures { λ _. ⌜ Only n slot (insertRow (entity index version) (valueOf low high)) (now (words .entry)) (now (words .exit)) ⌝ }
 {
     let base = words::column_start(n, slot);
-    let end = base + (8 + 6 * n);
+    let end = base + (words::ROWS + model::ROW_LEN * n);
     component_sparse_set::insert(&mut words[base..end], n, index, version, low, high);
 }
 
@@ -66,7 +66,7 @@ pub fn remove_in(words: &mut [u32], n: usize, slot: usize, index: u32, version: 
     ensures { λ r. ⌜ RemovesIn n slot (entity index version) (now (words .entry)) (now (words .exit)) r ⌝ }
 {
     let base = words::column_start(n, slot);
-    let end = base + (8 + 6 * n);
+    let end = base + (words::ROWS + model::ROW_LEN * n);
     component_sparse_set::remove(&mut words[base..end], n, index, version)
 }
 
@@ -76,7 +76,7 @@ pub fn swap_to_in(words: &mut [u32], n: usize, slot: usize, index: u32, version:
     ensures { λ _. ⌜ Only n slot (swapTo (entity index version) place) (now (words .entry)) (now (words .exit)) ⌝ }
 {
     let base = words::column_start(n, slot);
-    let end = base + (8 + 6 * n);
+    let end = base + (words::ROWS + model::ROW_LEN * n);
     component_sparse_set::swap_to(&mut words[base..end], n, index, version, place);
 }
 
@@ -85,7 +85,7 @@ pub fn clear_in(words: &mut [u32], n: usize, slot: usize)
     ensures { λ _. ⌜ Only n slot (λ (rs : SparseSet). []) (now (words .entry)) (now (words .exit)) ⌝ }
 {
     let base = words::column_start(n, slot);
-    let end = base + (8 + 6 * n);
+    let end = base + (words::ROWS + model::ROW_LEN * n);
     component_sparse_set::clear(&mut words[base..end], n);
 }
 

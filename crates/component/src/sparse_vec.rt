@@ -12,7 +12,7 @@ pub fn put_lookup(part: &mut [u32], n: usize, x: u32, p: usize, v: u32)
     requires { ⌜ Sized n (now part) × (x < n) × (p < n) ⌝ }
     ensures { λ _. ⌜ now (part .exit) ≡ stores (now (part .entry)) (lookupStores n x p v) ⌝ }
 {
-    let s = 8 + 4 * n + 2 * (x as usize);
+    let s = words::ROWS + 4 * n + 2 * (x as usize);
     part[s] = p as u32;
     part[s + 1] = v;
 }
@@ -29,7 +29,7 @@ pub fn find(part: &[u32], n: usize, index: u32, version: u32) -> Found
     if version == 0 {
         return Found::Nothing;
     }
-    let s = 8 + 4 * n + 2 * x;
+    let s = words::ROWS + 4 * n + 2 * x;
     let v = part[s + 1];
     if v != version {
         return Found::Nothing;

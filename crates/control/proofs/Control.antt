@@ -7,6 +7,8 @@ use native.Mathlib.Omega.{arith}
 use borrow.Author.Tests.{lt-ltb, le-ltb}
 use lib.ListN.{length, getD, set, drop}
 use lib.Seq.{drop-set-lt, set-getD}
+use Rattle.model.specs.Numbers.{LIST-CAPACITY, MAX-REFUSALS}
+use Rattle.words.specs.Offsets.{DRAFT, ENTITIES, EXCLUDED-KINDS, EXCLUDED-LEN, REFUSALS, STAGED-KINDS, STAGED-LEN, STAGED-VALUES, TABLE}
 use Rattle.model.specs.Model.{Component, Family, kindOf}
 use Rattle.model.specs.Sound.{noComponent}
 use Rattle.model.specs.Store.{Control, stagedKinds, withControl, emptyStaged, emptyBoth, counted}
@@ -40,19 +42,19 @@ module _ (w : List ℕ) where
   excluded-length = length-table (excludedLen w) (excludedAt w)
 
   module _ (A : Arranged w) where
-    pub staged-few : length (meaning w .control .staged) ≤ 16
+    pub staged-few : length (meaning w .control .staged) ≤ LIST-CAPACITY
     staged-few = omega (arith, staged-length, A .staged)
 
-    pub excluded-few : length (meaning w .control .excluded) ≤ 16
+    pub excluded-few : length (meaning w .control .excluded) ≤ LIST-CAPACITY
     excluded-few = omega (arith, excluded-length, A .excluded)
 
-    pub staged-kinds : stagedKinds (meaning w) ≡ between 160 (160 + stagedLen w) w
+    pub staged-kinds : stagedKinds (meaning w) ≡ between STAGED-KINDS (STAGED-KINDS + stagedLen w) w
     unfolding meaning stagedIn
-    staged-kinds = map-table kindOf (stagedLen w) (stagedAt w) ∙ words-table w 160 (stagedLen w) (omega (arith, A .staged, long w A))
+    staged-kinds = map-table kindOf (stagedLen w) (stagedAt w) ∙ words-table w STAGED-KINDS (stagedLen w) (omega (arith, A .staged, long w A))
 
-    pub excluded-kinds : meaning w .control .excluded ≡ between 240 (240 + excludedLen w) w
+    pub excluded-kinds : meaning w .control .excluded ≡ between EXCLUDED-KINDS (EXCLUDED-KINDS + excludedLen w) w
     unfolding meaning excludedIn
-    excluded-kinds = words-table w 240 (excludedLen w) (omega (arith, A .excluded, long w A))
+    excluded-kinds = words-table w EXCLUDED-KINDS (excludedLen w) (omega (arith, A .excluded, long w A))
 
 -- ---- words that differ in the two lists and the refusal count alone
 
@@ -60,9 +62,9 @@ pub record Listed (w w′ : List ℕ) : Type 0 where
   pub size : length w′ ≡ length w
   pub limits : (i : ℕ) → i < 3 → getD w′ i 0 ≡ getD w i 0
   pub layouts : (i : ℕ) → 5 ≤ i → i < 9 → getD w′ i 0 ≡ getD w i 0
-  pub table : (i : ℕ) → 32 ≤ i → i < 160 → getD w′ i 0 ≡ getD w i 0
-  pub blocks : (i : ℕ) → 256 ≤ i → i < 1024 → getD w′ i 0 ≡ getD w i 0
-  pub rest : drop 1024 w′ ≡ drop 1024 w
+  pub table : (i : ℕ) → TABLE ≤ i → i < STAGED-KINDS → getD w′ i 0 ≡ getD w i 0
+  pub blocks : (i : ℕ) → DRAFT ≤ i → i < ENTITIES → getD w′ i 0 ≡ getD w i 0
+  pub rest : drop ENTITIES w′ ≡ drop ENTITIES w
 
 -- each store of the run is below k
 abbrev pub Below : ℕ → List (ℕ × ℕ) → Type 0
@@ -73,8 +75,8 @@ pub drop-stores : (k : ℕ) (w : List ℕ) (ss : List (ℕ × ℕ)) → Below k 
 drop-stores k w [] b = refl
 drop-stores k w (s ∷ ss) b = drop-stores k (set w (s .0) (s .1)) ss (b .1) ∙ drop-set-lt k w (s .0) (s .1) (b .0)
 
-stores-listed : (w : List ℕ) (ss : List (ℕ × ℕ)) → ((i : ℕ) → i < 3 → Misses ss i) → ((i : ℕ) → 5 ≤ i → i < 9 → Misses ss i) → ((i : ℕ) → 32 ≤ i → i < 160 → Misses ss i)
-    → ((i : ℕ) → 256 ≤ i → i < 1024 → Misses ss i) → Below 1024 ss → Listed w (stores w ss)
+stores-listed : (w : List ℕ) (ss : List (ℕ × ℕ)) → ((i : ℕ) → i < 3 → Misses ss i) → ((i : ℕ) → 5 ≤ i → i < 9 → Misses ss i) → ((i : ℕ) → TABLE ≤ i → i < STAGED-KINDS → Misses ss i)
+    → ((i : ℕ) → DRAFT ≤ i → i < ENTITIES → Misses ss i) → Below ENTITIES ss → Listed w (stores w ss)
 stores-listed w ss a b c d below =
     record {
       size = length-stores w ss;
@@ -82,7 +84,7 @@ stores-listed w ss a b c d below =
       layouts = λ i h k. miss w ss i (b i h k);
       table = λ i h k. miss w ss i (c i h k);
       blocks = λ i h k. miss w ss i (d i h k);
-      rest = drop-stores 1024 w ss below;
+      rest = drop-stores ENTITIES w ss below;
     }
 
 abbrev control : List Component → List ℕ → List Family → ℕ → Control
@@ -103,7 +105,7 @@ module _ (w w′ : List ℕ) (A : Arranged w) (L : Listed w w′) where
   arrays : draftArrays w′ ≡ draftArrays w
   arrays = draft-arrays-same w w′ (L .size) (long w A) (L .layouts 5 (omega arith) (omega arith)) (λ i a b. L .blocks i a (omega arith))
 
-  listed-becomes : (s : List Component) (e : List ℕ) (r : ℕ) → stagedLen w′ ≤ 16 → excludedLen w′ ≤ 16 → stagedIn w′ ≡ s → excludedIn w′ ≡ e → refusalsOf w′ ≡ r
+  listed-becomes : (s : List Component) (e : List ℕ) (r : ℕ) → stagedLen w′ ≤ LIST-CAPACITY → excludedLen w′ ≤ LIST-CAPACITY → stagedIn w′ ≡ s → excludedIn w′ ≡ e → refusalsOf w′ ≡ r
       → Becomes w w′ (withControl (meaning w) (control s e (meaning w .control .draft) r))
   unfolding meaning draftIn
   listed-becomes s e r st ex es ee er =
@@ -116,12 +118,12 @@ module _ (w w′ : List ℕ) (A : Arranged w) (L : Listed w w′) where
 
 -- ---- one component more
 
-module _ (w : List ℕ) (A : Arranged w) (k l h : ℕ) (few : stagedLen w < 16) where
+module _ (w : List ℕ) (A : Arranged w) (k l h : ℕ) (few : stagedLen w < LIST-CAPACITY) where
   abbrev n : ℕ
   n = stagedLen w
 
   abbrev ss : List (ℕ × ℕ)
-  ss = (3, n + 1) ∷ (160 + n, k) ∷ (176 + 4 * n, l) ∷ (176 + 4 * n + 1, h) ∷ []
+  ss = (3, n + 1) ∷ (STAGED-KINDS + n, k) ∷ (STAGED-VALUES + 4 * n, l) ∷ (STAGED-VALUES + 4 * n + 1, h) ∷ []
 
   stage-listed : Listed w (stores w ss)
   stage-listed = stores-listed w ss (λ i a. omega arith) (λ i a b. omega arith) (λ i a b. omega arith) (λ i a b. omega arith) (omega arith)
@@ -131,16 +133,16 @@ module _ (w : List ℕ) (A : Arranged w) (k l h : ℕ) (few : stagedLen w < 16) 
 
   stage-last : stagedAt (stores w ss) n ≡ record { kind = k; value = valueOf l h }
   stage-last =
-      let a : stagedKindAt (stores w ss) n ≡ k = hit w ss 1 (160 + n) k (omega arith) (omega (arith, long w A)) in
-      let b : getD (stores w ss) (176 + 4 * n) 0 ≡ l = hit w ss 2 (176 + 4 * n) l (omega arith) (omega (arith, long w A)) in
-      let c : getD (stores w ss) (176 + 4 * n + 1) 0 ≡ h = hit w ss 3 (176 + 4 * n + 1) h (omega arith) (omega (arith, long w A)) in
+      let a : stagedKindAt (stores w ss) n ≡ k = hit w ss 1 (STAGED-KINDS + n) k (omega arith) (omega (arith, long w A)) in
+      let b : getD (stores w ss) (STAGED-VALUES + 4 * n) 0 ≡ l = hit w ss 2 (STAGED-VALUES + 4 * n) l (omega arith) (omega (arith, long w A)) in
+      let c : getD (stores w ss) (STAGED-VALUES + 4 * n + 1) 0 ≡ h = hit w ss 3 (STAGED-VALUES + 4 * n + 1) h (omega arith) (omega (arith, long w A)) in
       λ i. record { kind = a i; value = valueOf (b i) (c i) }
 
   stage-other : (i : ℕ) → i < n → stagedAt (stores w ss) i ≡ stagedAt w i
   stage-other i hi =
-      let a : stagedKindAt (stores w ss) i ≡ stagedKindAt w i = miss w ss (160 + i) (omega arith) in
-      let b : getD (stores w ss) (176 + 4 * i) 0 ≡ getD w (176 + 4 * i) 0 = miss w ss (176 + 4 * i) (omega arith) in
-      let c : getD (stores w ss) (176 + 4 * i + 1) 0 ≡ getD w (176 + 4 * i + 1) 0 = miss w ss (176 + 4 * i + 1) (omega arith) in
+      let a : stagedKindAt (stores w ss) i ≡ stagedKindAt w i = miss w ss (STAGED-KINDS + i) (omega arith) in
+      let b : getD (stores w ss) (STAGED-VALUES + 4 * i) 0 ≡ getD w (STAGED-VALUES + 4 * i) 0 = miss w ss (STAGED-VALUES + 4 * i) (omega arith) in
+      let c : getD (stores w ss) (STAGED-VALUES + 4 * i + 1) 0 ≡ getD w (STAGED-VALUES + 4 * i + 1) 0 = miss w ss (STAGED-VALUES + 4 * i + 1) (omega arith) in
       λ j. record { kind = a j; value = valueOf (b j) (c j) }
 
   stage-staged : stagedIn (stores w ss) ≡ stagedIn w ++ (record { kind = k; value = valueOf l h } ∷ [])
@@ -154,19 +156,19 @@ module _ (w : List ℕ) (A : Arranged w) (k l h : ℕ) (few : stagedLen w < 16) 
   stage-becomes =
       listed-becomes w (stores w ss) A stage-listed (stagedIn w ++ (record { kind = k; value = valueOf l h } ∷ [])) (excludedIn w) (refusalsOf w)
       (omega (arith, stage-length))
-      (omega (arith, miss w ss 4 (omega arith), A .excluded))
+      (omega (arith, miss w ss EXCLUDED-LEN (omega arith), A .excluded))
       stage-staged
-      (excluded-same w (stores w ss) (length-stores w ss) (A .excluded) (miss w ss 4 (omega arith)) (λ i a b. miss w ss i (omega arith)))
-      (miss w ss 16 (omega arith))
+      (excluded-same w (stores w ss) (length-stores w ss) (A .excluded) (miss w ss EXCLUDED-LEN (omega arith)) (λ i a b. miss w ss i (omega arith)))
+      (miss w ss REFUSALS (omega arith))
 
 -- ---- one excluded kind more
 
-module _ (w : List ℕ) (A : Arranged w) (k : ℕ) (few : excludedLen w < 16) where
+module _ (w : List ℕ) (A : Arranged w) (k : ℕ) (few : excludedLen w < LIST-CAPACITY) where
   abbrev m : ℕ
   m = excludedLen w
 
   abbrev ts : List (ℕ × ℕ)
-  ts = (4, m + 1) ∷ (240 + m, k) ∷ []
+  ts = (4, m + 1) ∷ (EXCLUDED-KINDS + m, k) ∷ []
 
   exclude-listed : Listed w (stores w ts)
   exclude-listed = stores-listed w ts (λ i a. omega arith) (λ i a b. omega arith) (λ i a b. omega arith) (λ i a b. omega arith) (omega arith)
@@ -179,18 +181,18 @@ module _ (w : List ℕ) (A : Arranged w) (k : ℕ) (few : excludedLen w < 16) wh
   exclude-excluded =
       ap (λ (j : ℕ). table j (excludedAt (stores w ts))) exclude-length
       ∙ table-snoc 0 k m (excludedAt w) (excludedAt (stores w ts))
-      (hit w ts 1 (240 + m) k (omega arith) (omega (arith, long w A)))
-      (λ i h. miss w ts (240 + i) (omega arith))
+      (hit w ts 1 (EXCLUDED-KINDS + m) k (omega arith) (omega (arith, long w A)))
+      (λ i h. miss w ts (EXCLUDED-KINDS + i) (omega arith))
 
   pub exclude-becomes : Becomes w (stores w ts) (excluding k (meaning w))
   unfolding meaning
   exclude-becomes =
       listed-becomes w (stores w ts) A exclude-listed (stagedIn w) (excludedIn w ++ (k ∷ [])) (refusalsOf w)
-      (omega (arith, miss w ts 3 (omega arith), A .staged))
+      (omega (arith, miss w ts STAGED-LEN (omega arith), A .staged))
       (omega (arith, exclude-length))
-      (staged-same w (stores w ts) (length-stores w ts) (A .staged) (miss w ts 3 (omega arith)) (λ i a b. miss w ts i (omega arith)))
+      (staged-same w (stores w ts) (length-stores w ts) (A .staged) (miss w ts STAGED-LEN (omega arith)) (λ i a b. miss w ts i (omega arith)))
       exclude-excluded
-      (miss w ts 16 (omega arith))
+      (miss w ts REFUSALS (omega arith))
 
 -- ---- the lists emptied
 
@@ -217,10 +219,10 @@ module _ (w : List ℕ) (A : Arranged w) where
       (stores-listed w us (λ i a. omega arith) (λ i a b. omega arith) (λ i a b. omega arith) (λ i a b. omega arith) (omega arith))
       [] (excludedIn w) (refusalsOf w)
       (omega arith)
-      (omega (arith, miss w us 4 (omega arith), A .excluded))
+      (omega (arith, miss w us EXCLUDED-LEN (omega arith), A .excluded))
       (staged-none us z)
-      (excluded-same w (stores w us) (length-stores w us) (A .excluded) (miss w us 4 (omega arith)) (λ i a b. miss w us i (omega arith)))
-      (miss w us 16 (omega arith))
+      (excluded-same w (stores w us) (length-stores w us) (A .excluded) (miss w us EXCLUDED-LEN (omega arith)) (λ i a b. miss w us i (omega arith)))
+      (miss w us REFUSALS (omega arith))
 
   pub clear-lists-becomes : Becomes w (stores w vs) (withControl (meaning w) (emptyBoth (meaning w .control)))
   unfolding meaning
@@ -234,25 +236,25 @@ module _ (w : List ℕ) (A : Arranged w) where
       (omega arith)
       (staged-none vs z)
       (excluded-none vs y)
-      (miss w vs 16 (omega arith))
+      (miss w vs REFUSALS (omega arith))
 
 -- ---- one refusal more
 
 module _ (w : List ℕ) (A : Arranged w) where
-  refusal-becomes : (r : ℕ) → Becomes w (set w 16 r) (withControl (meaning w) (control (meaning w .control .staged) (meaning w .control .excluded) (meaning w .control .draft) r))
+  refusal-becomes : (r : ℕ) → Becomes w (set w REFUSALS r) (withControl (meaning w) (control (meaning w .control .staged) (meaning w .control .excluded) (meaning w .control .draft) r))
   unfolding meaning
   refusal-becomes r =
-      let rs : List (ℕ × ℕ) = (16, r) ∷ [] in
-      listed-becomes w (set w 16 r) A
+      let rs : List (ℕ × ℕ) = (REFUSALS, r) ∷ [] in
+      listed-becomes w (set w REFUSALS r) A
       (stores-listed w rs (λ i a. omega arith) (λ i a b. omega arith) (λ i a b. omega arith) (λ i a b. omega arith) (omega arith))
       (stagedIn w) (excludedIn w) r
-      (omega (arith, miss w rs 3 (omega arith), A .staged))
-      (omega (arith, miss w rs 4 (omega arith), A .excluded))
-      (staged-same w (set w 16 r) (length-stores w rs) (A .staged) (miss w rs 3 (omega arith)) (λ i a b. miss w rs i (omega arith)))
-      (excluded-same w (set w 16 r) (length-stores w rs) (A .excluded) (miss w rs 4 (omega arith)) (λ i a b. miss w rs i (omega arith)))
-      (hit w rs 0 16 r (omega arith) (omega (arith, long w A)))
+      (omega (arith, miss w rs STAGED-LEN (omega arith), A .staged))
+      (omega (arith, miss w rs EXCLUDED-LEN (omega arith), A .excluded))
+      (staged-same w (set w REFUSALS r) (length-stores w rs) (A .staged) (miss w rs STAGED-LEN (omega arith)) (λ i a b. miss w rs i (omega arith)))
+      (excluded-same w (set w REFUSALS r) (length-stores w rs) (A .excluded) (miss w rs EXCLUDED-LEN (omega arith)) (λ i a b. miss w rs i (omega arith)))
+      (hit w rs 0 REFUSALS r (omega arith) (omega (arith, long w A)))
 
-  counts : (w′ : List ℕ) → w′ ≡ set w 16 (counted (meaning w .control) .refusals) → CountsRefusal w w′
+  counts : (w′ : List ℕ) → w′ ≡ set w REFUSALS (counted (meaning w .control) .refusals) → CountsRefusal w w′
   counts w′ e =
       record {
         becomes = subst (λ (u : List ℕ). Becomes w u (withControl (meaning w) (counted (meaning w .control)))) (sym e) (refusal-becomes (counted (meaning w .control) .refusals));
@@ -263,10 +265,10 @@ module _ (w : List ℕ) (A : Arranged w) where
   unfolding meaning
   refusals-read = refl
 
-  pub counts-more : refusalsOf w < 4294967295 → CountsRefusal w (set w 16 (refusalsOf w + 1))
+  pub counts-more : refusalsOf w < MAX-REFUSALS → CountsRefusal w (set w REFUSALS (refusalsOf w + 1))
   unfolding meaning
-  counts-more h = counts (set w 16 (refusalsOf w + 1)) (rw (lt-ltb (refusalsOf w) 4294967295 h, add-one (refusalsOf w)))
+  counts-more h = counts (set w REFUSALS (refusalsOf w + 1)) (rw (lt-ltb (refusalsOf w) MAX-REFUSALS h, add-one (refusalsOf w)))
 
-  pub counts-most : 4294967295 ≤ refusalsOf w → CountsRefusal w w
+  pub counts-most : MAX-REFUSALS ≤ refusalsOf w → CountsRefusal w w
   unfolding meaning
-  counts-most h = counts w (rw (le-ltb (refusalsOf w) 4294967295 h) (sym (set-getD w 16 0)))
+  counts-most h = counts w (rw (le-ltb (refusalsOf w) MAX-REFUSALS h) (sym (set-getD w REFUSALS 0)))

@@ -4,6 +4,7 @@ use mathlib.Core.List.{List, [], _∷_}
 use Prim.Native.Nat.{ℕ, _-_, _≤_, _<_}
 use native.Mathlib.Omega.{arith}
 use lib.ListN.{length, getD, drop}
+use Rattle.words.specs.Offsets.{DRAFT, ENTITIES, EXCLUDED-LEN, LAYOUT, REFUSALS, STAGED-LEN}
 use Rattle.model.specs.Model.{Family}
 use Rattle.model.specs.Store.{withControl, withDraft}
 use Rattle.words.specs.Table.{table}
@@ -23,26 +24,26 @@ use Rattle.control.proofs.Control.{drop-stores}
 
 -- ---- read
 
-pub draft-block : (w : List ℕ) → Arranged w → (f g : ℕ) → Word w 5 f → Word w 6 g → BlockFormed (between 256 576 w) f g
+pub draft-block : (w : List ℕ) → Arranged w → (f g : ℕ) → Word w 5 f → Word w 6 g → BlockFormed (between DRAFT LAYOUT w) f g
 draft-block w A f g hf hg =
     record {
-      size = length-between 256 576 w (omega (arith, long w A));
+      size = length-between DRAFT LAYOUT w (omega (arith, long w A));
       good = rw (hf .is) (A .draft);
       groups = rw (hf .is, hg .is) (A .draftCount);
     }
 
-pub is-draft : (w : List ℕ) → (f g : ℕ) → Word w 5 f → (r : Layout) → ReadFrom (between 256 576 w) f g r → IsDraft w r
+pub is-draft : (w : List ℕ) → (f g : ℕ) → Word w 5 f → (r : Layout) → ReadFrom (between DRAFT LAYOUT w) f g r → IsDraft w r
 unfolding meaning draftIn
-is-draft w f g hf r R = record { formed = R .formed; means = R .means [] ∙ ap (λ (n : ℕ). familiesOf [] (blockArrays (between 256 576 w) n)) (hf .is) }
+is-draft w f g hf r R = record { formed = R .formed; means = R .means [] ∙ ap (λ (n : ℕ). familiesOf [] (blockArrays (between DRAFT LAYOUT w) n)) (hf .is) }
 
 -- ---- words that differ in the draft alone
 
 record Drafted (w w′ : List ℕ) : Type 0 where
   pub size : length w′ ≡ length w
   pub low : (i : ℕ) → i < 5 → getD w′ i 0 ≡ getD w i 0
-  pub middle : (i : ℕ) → 7 ≤ i → i < 256 → getD w′ i 0 ≡ getD w i 0
-  pub upper : (i : ℕ) → 576 ≤ i → i < 1024 → getD w′ i 0 ≡ getD w i 0
-  pub rest : drop 1024 w′ ≡ drop 1024 w
+  pub middle : (i : ℕ) → 7 ≤ i → i < DRAFT → getD w′ i 0 ≡ getD w i 0
+  pub upper : (i : ℕ) → LAYOUT ≤ i → i < ENTITIES → getD w′ i 0 ≡ getD w i 0
+  pub rest : drop ENTITIES w′ ≡ drop ENTITIES w
 
 module _ (w w′ : List ℕ) (A : Arranged w) (D : Drafted w w′) where
   static : Static w w′
@@ -61,10 +62,10 @@ module _ (w w′ : List ℕ) (A : Arranged w) (D : Drafted w w′) where
   unfolding meaning draftIn
   drafted-becomes fs good groups e =
       let B =
-      control-becomes w w′ A static (λ i a b. D .upper i (omega arith) b) (omega (arith, D .low 3 (omega arith), A .staged)) (omega (arith, D .low 4 (omega arith), A .excluded)) good groups in
-      let s : stagedIn w′ ≡ stagedIn w = staged-same w w′ (D .size) (A .staged) (D .low 3 (omega arith)) (λ i a b. D .middle i (omega arith) (omega arith)) in
-      let x : excludedIn w′ ≡ excludedIn w = excluded-same w w′ (D .size) (A .excluded) (D .low 4 (omega arith)) (λ i a b. D .middle i (omega arith) (omega arith)) in
-      let r : refusalsOf w′ ≡ refusalsOf w = D .middle 16 (omega arith) (omega arith) in
+      control-becomes w w′ A static (λ i a b. D .upper i (omega arith) b) (omega (arith, D .low STAGED-LEN (omega arith), A .staged)) (omega (arith, D .low EXCLUDED-LEN (omega arith), A .excluded)) good groups in
+      let s : stagedIn w′ ≡ stagedIn w = staged-same w w′ (D .size) (A .staged) (D .low STAGED-LEN (omega arith)) (λ i a b. D .middle i (omega arith) (omega arith)) in
+      let x : excludedIn w′ ≡ excludedIn w = excluded-same w w′ (D .size) (A .excluded) (D .low EXCLUDED-LEN (omega arith)) (λ i a b. D .middle i (omega arith) (omega arith)) in
+      let r : refusalsOf w′ ≡ refusalsOf w = D .middle REFUSALS (omega arith) (omega arith) in
       let k : controlIn w′ ≡ withDraft (controlIn w) fs = λ i. record { staged = s i; excluded = x i; draft = e i; refusals = r i } in
       record { arranged = B .arranged; means = B .means ∙ ap (withControl (meaning w)) k; size = B .size; past = B .past }
 
@@ -77,37 +78,37 @@ module _ (w : List ℕ) (A : Arranged w) (l : Layout) (ys : List ℕ) (W : Writt
   abbrev v : List ℕ
   v = stores w ss
 
-  fits : 576 ≤ length v
+  fits : LAYOUT ≤ length v
   fits = omega (arith, length-stores w ss, long w A)
 
-  sized : length ys ≡ 576 - 256
+  sized : length ys ≡ LAYOUT - DRAFT
   sized = W .formed .size
 
-  front : (i : ℕ) → i < 256 → getD (patch 256 576 v ys) i 0 ≡ getD v i 0
-  front i h = word-front 256 v (patch 256 576 v ys) (patch-front 256 576 v ys (omega arith) fits sized) i h
+  front : (i : ℕ) → i < DRAFT → getD (patch DRAFT LAYOUT v ys) i 0 ≡ getD v i 0
+  front i h = word-front DRAFT v (patch DRAFT LAYOUT v ys) (patch-front DRAFT LAYOUT v ys (omega arith) fits sized) i h
 
-  beyond : drop 576 (patch 256 576 v ys) ≡ drop 576 v
-  beyond = patch-rest 256 576 v ys (omega arith) fits sized
+  beyond : drop LAYOUT (patch DRAFT LAYOUT v ys) ≡ drop LAYOUT v
+  beyond = patch-rest DRAFT LAYOUT v ys (omega arith) fits sized
 
-  written : Drafted w (patch 256 576 v ys)
+  written : Drafted w (patch DRAFT LAYOUT v ys)
   written =
       record {
-        size = patch-length 256 576 v ys (omega arith) fits sized ∙ length-stores w ss;
+        size = patch-length DRAFT LAYOUT v ys (omega arith) fits sized ∙ length-stores w ss;
         low = λ i h. front i (omega arith) ∙ miss w ss i (omega arith);
         middle = λ i a b. front i b ∙ miss w ss i (omega arith);
-        upper = λ i a b. word-rest 576 v (patch 256 576 v ys) beyond i a ∙ miss w ss i (omega arith);
-        rest = drop-later 576 1024 v (patch 256 576 v ys) (omega arith) beyond ∙ drop-stores 1024 w ss (omega arith);
+        upper = λ i a b. word-rest LAYOUT v (patch DRAFT LAYOUT v ys) beyond i a ∙ miss w ss i (omega arith);
+        rest = drop-later LAYOUT ENTITIES v (patch DRAFT LAYOUT v ys) (omega arith) beyond ∙ drop-stores ENTITIES w ss (omega arith);
       }
 
-  arrays : draftArrays (patch 256 576 v ys) ≡ blockArrays ys (l .families)
+  arrays : draftArrays (patch DRAFT LAYOUT v ys) ≡ blockArrays ys (l .families)
   arrays =
-      ap (λ (b : List ℕ). blockArrays b (draftFamilies (patch 256 576 v ys))) (patch-between 256 576 v ys (omega arith) fits sized)
+      ap (λ (b : List ℕ). blockArrays b (draftFamilies (patch DRAFT LAYOUT v ys))) (patch-between DRAFT LAYOUT v ys (omega arith) fits sized)
       ∙ ap (blockArrays ys) (front 5 (omega arith) ∙ hit w ss 0 5 (l .families) (omega arith) (omega (arith, long w A)))
 
-  groups : draftGroups (patch 256 576 v ys) ≡ l .groups
+  groups : draftGroups (patch DRAFT LAYOUT v ys) ≡ l .groups
   groups = front 6 (omega arith) ∙ hit w ss 1 6 (l .groups) (omega arith) (omega (arith, long w A))
 
-  pub draft-becomes : Becomes w (patch 256 576 v ys) (drafting l (meaning w))
+  pub draft-becomes : Becomes w (patch DRAFT LAYOUT v ys) (drafting l (meaning w))
   draft-becomes =
-      drafted-becomes w (patch 256 576 v ys) A written (familiesOf [] (arraysOf l)) (subst WellFormed (sym arrays) (W .formed .good))
+      drafted-becomes w (patch DRAFT LAYOUT v ys) A written (familiesOf [] (arraysOf l)) (subst WellFormed (sym arrays) (W .formed .good))
       (groups ∙ W .formed .groups ∙ sym (ap groupCount arrays)) (ap (familiesOf []) arrays ∙ W .means [])

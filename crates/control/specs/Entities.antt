@@ -3,6 +3,8 @@ use mathlib.Core.Path.{_≡_}
 use mathlib.Core.List.{List}
 use Prim.Native.Nat.{ℕ, _+_, _*_, _≤_, _<_}
 use lib.ListN.{length}
+use Rattle.model.specs.Numbers.{ENTITY-LEN, MAX-ENTITIES}
+use Rattle.words.specs.Offsets.{ENTITIES}
 use Rattle.model.specs.Model.{create}
 use Rattle.entity.specs.declared.Entity.{Entity}
 use Rattle.entity.specs.Answers.{entityOf}
@@ -15,9 +17,9 @@ use Rattle.memory.specs.Arranged.{Becomes}
 pub record Capacity (w : List ℕ) (n : ℕ) : Type 0 where
   pub is : n ≡ meaning w .capacity
   pub some : 1 ≤ n
-  pub most : n ≤ 4096
+  pub most : n ≤ MAX-ENTITIES
   pub word : n ≡ capacityOf w
-  pub fits : 1024 + 16 * n ≤ length w
+  pub fits : ENTITIES + ENTITY-LEN * n ≤ length w
 
 -- 01: "A new card takes the longest waiting number, else the next index at version 1, and joins the live list at its end"
 pub record Creates (w w′ : List ℕ) (r : Entity) : Type 0 where

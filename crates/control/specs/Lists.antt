@@ -3,6 +3,7 @@ use mathlib.Core.Path.{_≡_}
 use mathlib.Core.List.{List, [], _∷_, _++_}
 use Prim.Native.Nat.{ℕ, _≤_}
 use lib.ListN.{length}
+use Rattle.model.specs.Numbers.{LIST-CAPACITY}
 use Rattle.model.specs.Model.{Component}
 use Rattle.model.specs.Store.{Store, withControl, withStaged, withExcluded}
 use Rattle.component.specs.SparseSet.{valueOf}
@@ -11,7 +12,7 @@ use Rattle.control.specs.declared.staged.Component.{Component as Answer}
 -- 01: a hand has "up to 16 distinct kinds with values", a bar "up to 16 distinct kinds"
 pub record Few {A : Type 0} (l : List A) (r : ℕ) : Type 0 where
   pub is : r ≡ length l
-  pub few : r ≤ 16
+  pub few : r ≤ LIST-CAPACITY
 
 -- the answered component, as the model has it
 abbrev pub componentOf : Answer → Component

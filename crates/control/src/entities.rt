@@ -35,7 +35,7 @@ pub fn get(words: &[u32], index: u32, version: u32) -> Found
     ensures { λ r. ⌜ r ≡ foundOf (entity index version) (meaning (now (words .entry)) .entities) ⌝ }
 {
     let n = capacity(words);
-    let end = ENTITIES + 16 * n;
+    let end = ENTITIES + model::ENTITY_LEN * n;
     sparse_vec::get(&words[ENTITIES..end], n, index, version)
 }
 
@@ -45,7 +45,7 @@ pub fn is_full(words: &[u32]) -> bool
     ensures { λ r. ⌜ r ≡ isFull (meaning (now (words .entry)) .capacity) (meaning (now (words .entry)) .entities) ⌝ }
 {
     let n = capacity(words);
-    let end = ENTITIES + 16 * n;
+    let end = ENTITIES + model::ENTITY_LEN * n;
     entity_allocator::is_full(&words[ENTITIES..end], n)
 }
 
@@ -75,7 +75,7 @@ pub fn live_len(words: &[u32]) -> usize
     ensures { λ r. ⌜ r ≡ length (meaning (now (words .entry)) .entities .live) ⌝ }
 {
     let n = capacity(words);
-    let end = ENTITIES + 16 * n;
+    let end = ENTITIES + model::ENTITY_LEN * n;
     entity_sparse_set::len(&words[ENTITIES..end], n)
 }
 
@@ -86,7 +86,7 @@ pub fn live_at(words: &[u32], place: usize) -> Entity
     ensures { λ r. ⌜ entityOf r ≡ getD (meaning (now (words .entry)) .entities .live) place noEntity ⌝ }
 {
     let n = capacity(words);
-    let end = ENTITIES + 16 * n;
+    let end = ENTITIES + model::ENTITY_LEN * n;
     entity_sparse_set::live_at(&words[ENTITIES..end], n, place)
 }
 
@@ -96,7 +96,7 @@ pub fn issued(words: &[u32]) -> usize
     ensures { λ r. ⌜ r ≡ meaning (now (words .entry)) .entities .issued ⌝ }
 {
     let n = capacity(words);
-    let end = ENTITIES + 16 * n;
+    let end = ENTITIES + model::ENTITY_LEN * n;
     entity_allocator::issued(&words[ENTITIES..end], n)
 }
 
@@ -107,6 +107,6 @@ pub fn version_at(words: &[u32], index: usize) -> u32
     ensures { λ r. ⌜ r ≡ versionAt index (meaning (now (words .entry)) .entities .live) ⌝ }
 {
     let n = capacity(words);
-    let end = ENTITIES + 16 * n;
+    let end = ENTITIES + model::ENTITY_LEN * n;
     sparse_vec::version_at(&words[ENTITIES..end], n, index)
 }

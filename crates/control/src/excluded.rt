@@ -5,6 +5,7 @@ use words::EXCLUDED_LEN;
 ghost use mathlib.Core.Path.{_≡_};
 ghost use Prim.Native.Nat.{_<_};
 ghost use lib.ListN.{length};
+ghost use Rattle.model.specs.Numbers.{LIST-CAPACITY, MAX-KINDS};
 ghost use Rattle.model.specs.Model.{mem};
 ghost use Rattle.memory.specs.Meaning.{meaning};
 ghost use Rattle.memory.specs.Arranged.{Arranged, Becomes};
@@ -28,8 +29,8 @@ pub fn is_excluded(words: &[u32], kind: usize) -> bool
 // One kind more.
 pub fn exclude(words: &mut [u32], kind: usize)
     requires { ⌜ Arranged (now words) ⌝ }
-    requires { ⌜ length (meaning (now words) .control .excluded) < 16 ⌝ }
-    requires { ⌜ kind < 128 ⌝ }
+    requires { ⌜ length (meaning (now words) .control .excluded) < LIST-CAPACITY ⌝ }
+    requires { ⌜ kind < MAX-KINDS ⌝ }
     ensures { λ _. ⌜ Becomes (now (words .entry)) (now (words .exit)) (excluding kind (meaning (now (words .entry)))) ⌝ }
 {
     let count = words[EXCLUDED_LEN];

@@ -7,6 +7,7 @@ use words::STAGED_VALUES;
 ghost use mathlib.Core.Path.{_≡_};
 ghost use Prim.Native.Nat.{_<_};
 ghost use lib.ListN.{length, getD};
+ghost use Rattle.model.specs.Numbers.{LIST-CAPACITY, MAX-KINDS};
 ghost use Rattle.model.specs.Model.{mem};
 ghost use Rattle.model.specs.Sound.{noComponent};
 ghost use Rattle.model.specs.Store.{stagedKinds, withControl, emptyStaged, emptyBoth};
@@ -61,8 +62,8 @@ pub fn is_staged(words: &[u32], kind: usize) -> bool
 // One component more.
 pub fn stage(words: &mut [u32], kind: usize, low: u32, high: u32)
     requires { ⌜ Arranged (now words) ⌝ }
-    requires { ⌜ length (meaning (now words) .control .staged) < 16 ⌝ }
-    requires { ⌜ kind < 128 ⌝ }
+    requires { ⌜ length (meaning (now words) .control .staged) < LIST-CAPACITY ⌝ }
+    requires { ⌜ kind < MAX-KINDS ⌝ }
     ensures { λ _. ⌜ Becomes (now (words .entry)) (now (words .exit)) (staging kind (valueOf low high) (meaning (now (words .entry)))) ⌝ }
 {
     let count = words[STAGED_LEN];

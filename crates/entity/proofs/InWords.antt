@@ -4,25 +4,27 @@ use mathlib.Core.List.{List}
 use Prim.Native.Nat.{ℕ, _+_, _*_, _-_, _≤_}
 use native.Mathlib.Omega.{arith}
 use lib.ListN.{length}
+use Rattle.model.specs.Numbers.{ENTITY-LEN}
+use Rattle.words.specs.Offsets.{ENTITIES}
 use Rattle.model.specs.Model.{Entities}
 use Rattle.words.specs.Part.{patch, patch-front, patch-rest, patch-between, patch-length}
 use Rattle.entity.specs.Change.{Changed, SoundIn, EntityChange, entityPart}
 
 -- the part, changed where it lies
-pub changed-in : (n : ℕ) (f : Entities → Entities) (w ys : List ℕ) → 1024 + 16 * n ≤ length w → Changed n f (entityPart n w) ys → EntityChange n f w (patch 1024 (1024 + 16 * n) w ys)
+pub changed-in : (n : ℕ) (f : Entities → Entities) (w ys : List ℕ) → ENTITIES + ENTITY-LEN * n ≤ length w → Changed n f (entityPart n w) ys → EntityChange n f w (patch ENTITIES (ENTITIES + ENTITY-LEN * n) w ys)
 changed-in n f w ys g c =
-    let e = 1024 + 16 * n in
-    let h : 1024 ≤ e = omega arith in
-    let l : length ys ≡ e - 1024 = omega (arith, c .sound .sized .size) in
-    let m : entityPart n (patch 1024 e w ys) ≡ ys = patch-between 1024 e w ys h g l in
+    let e = ENTITIES + ENTITY-LEN * n in
+    let h : ENTITIES ≤ e = omega arith in
+    let l : length ys ≡ e - ENTITIES = omega (arith, c .sound .sized .size) in
+    let m : entityPart n (patch ENTITIES e w ys) ≡ ys = patch-between ENTITIES e w ys h g l in
     record {
       sound = rw m (c .sound);
-      size = patch-length 1024 e w ys h g l;
+      size = patch-length ENTITIES e w ys h g l;
       becomes = rw m (c .becomes);
-      front = patch-front 1024 e w ys h g l;
-      rest = patch-rest 1024 e w ys h g l;
+      front = patch-front ENTITIES e w ys h g l;
+      rest = patch-rest ENTITIES e w ys h g l;
     }
 
 -- the words have a sound entity part still
-pub sound-in : (n : ℕ) (f : Entities → Entities) (w w′ : List ℕ) → 1024 + 16 * n ≤ length w → EntityChange n f w w′ → SoundIn n w′
+pub sound-in : (n : ℕ) (f : Entities → Entities) (w w′ : List ℕ) → ENTITIES + ENTITY-LEN * n ≤ length w → EntityChange n f w w′ → SoundIn n w′
 sound-in n f w w′ g c = record { fits = omega (arith, c .size); sound = c .sound }

@@ -5,6 +5,7 @@ use Prim.Native.Nat.{ℕ, _+_, _*_, _<_}
 use native.Mathlib.Omega.{arith}
 use native.Mathlib.Nat.{not-suc-le-zero}
 use lib.ListN.{length, getD}
+use Rattle.model.specs.Numbers.{ENTITY-LEN}
 use Rattle.words.specs.Table.{table, is-table}
 use Rattle.model.specs.Model.{Entity, noEntity}
 use Rattle.entity.specs.Meaning.{Sized, entitiesOf, lenOf, issuedOf, headOf, recycledLen, heldOf, ringSlot}
@@ -21,7 +22,7 @@ table-none k f e = rw e (is-table noEntity 0 f [] refl (λ i h. absurd (not-suc-
 pub zeros-changed : (n : ℕ) (w₀ w : List ℕ) → Sized n w₀ → length w ≡ length w₀ → ZerosTo w (length w) → Changed n (λ s. noEntities) w₀ w
 unfolding entitiesOf
 zeros-changed n w₀ w d l z =
-    let size : length w ≡ 16 * n = l ∙ d .size in
+    let size : length w ≡ ENTITY-LEN * n = l ∙ d .size in
     let some = d .some in
     let e₀ : lenOf w ≡ 0 = z 0 (omega arith) in
     let e₁ : issuedOf w ≡ 0 = z 1 (omega arith) in

@@ -5,6 +5,8 @@ use mathlib.Core.List.{List, [], _∷_, _++_}
 use Prim.Native.Nat.{ℕ, suc, _+_, _*_, _≤_}
 use lib.Dec.{ltb}
 use lib.ListN.{length, take, drop}
+use Rattle.model.specs.Numbers.{ENTITY-LEN}
+use Rattle.words.specs.Offsets.{ENTITIES}
 use Rattle.model.specs.Lists.{cutAt}
 use Rattle.model.specs.Model.{Entity, Entities, noEntity, lastVersion}
 pub use Rattle.model.specs.Model.{isFull, noEntities}
@@ -59,14 +61,14 @@ pub record Changed (n : ℕ) (f : Entities → Entities) (w w′ : List ℕ) : T
 
 -- the part of the words that holds the entities
 abbrev pub entityPart : ℕ → List ℕ → List ℕ
-entityPart n w = between 1024 (1024 + 16 * n) w
+entityPart n w = between ENTITIES (ENTITIES + ENTITY-LEN * n) w
 
 abbrev pub entitiesIn : ℕ → List ℕ → Entities
 entitiesIn n w = entitiesOf n (entityPart n w)
 
 -- the words have a sound entity part
 pub record SoundIn (n : ℕ) (w : List ℕ) : Type 0 where
-  pub fits : 1024 + 16 * n ≤ length w
+  pub fits : ENTITIES + ENTITY-LEN * n ≤ length w
   pub sound : Sound n (entityPart n w)
 
 -- the entities have become f of what they were; the words before and after their part are as they were
@@ -74,5 +76,5 @@ pub record EntityChange (n : ℕ) (f : Entities → Entities) (w w′ : List ℕ
   pub sound : Sound n (entityPart n w′)
   pub size : length w′ ≡ length w
   pub becomes : entitiesIn n w′ ≡ f (entitiesIn n w)
-  pub front : take 1024 w′ ≡ take 1024 w
-  pub rest : drop (1024 + 16 * n) w′ ≡ drop (1024 + 16 * n) w
+  pub front : take ENTITIES w′ ≡ take ENTITIES w
+  pub rest : drop (ENTITIES + ENTITY-LEN * n) w′ ≡ drop (ENTITIES + ENTITY-LEN * n) w

@@ -6,6 +6,7 @@ use mathlib.Core.Path.{_≡_}
 use mathlib.Core.List.{List}
 use Prim.Native.Nat.{ℕ, _+_, _*_, _≤_, _<_}
 use lib.ListN.{length, getD}
+use Rattle.model.specs.Numbers.{ENTITY-LEN, MAX-ENTITIES}
 use Rattle.model.specs.Model.{Entity, Entities}
 use Rattle.words.specs.Table.{table}
 use Rattle.words.specs.Links.{Linked}
@@ -69,9 +70,9 @@ entitiesOf n w =
 
 -- a part for n entities, whatever it holds
 pub record Sized (n : ℕ) (w : List ℕ) : Type 0 where
-  pub size : length w ≡ 16 * n
+  pub size : length w ≡ ENTITY-LEN * n
   pub some : 1 ≤ n
-  pub small : n ≤ 4096
+  pub small : n ≤ MAX-ENTITIES
 
 -- 01, a sound store: live list and card lookups that agree; at most N issued numbers, from index 0 without gaps, every live or waiting index
 -- among them; each issued number live, waiting once, or neither, with versions of 1 or more

@@ -14,7 +14,7 @@ pub fn create_in(words: &mut [u32], n: usize) -> Entity
     requires { ⌜ isFull n (entitiesIn n (now words)) ≡ false ⌝ }
     ensures { λ r. ⌜ CreatedIn n (now (words .entry)) (now (words .exit)) r ⌝ }
 {
-    let end = words::ENTITIES + 16 * n;
+    let end = words::ENTITIES + model::ENTITY_LEN * n;
     entity_storage::create(&mut words[words::ENTITIES..end], n)
 }
 
@@ -24,6 +24,6 @@ pub fn destroy_in(words: &mut [u32], n: usize, place: usize, index: u32, version
     requires { ⌜ LiveAt (entity index version) place (entitiesIn n (now words)) ⌝ }
     ensures { λ _. ⌜ EntityChange n (destroy (entity index version)) (now (words .entry)) (now (words .exit)) ⌝ }
 {
-    let end = words::ENTITIES + 16 * n;
+    let end = words::ENTITIES + model::ENTITY_LEN * n;
     entity_storage::destroy(&mut words[words::ENTITIES..end], n, place, index, version);
 }

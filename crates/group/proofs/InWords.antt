@@ -8,6 +8,8 @@ use borrow.Author.Tests.{lt-ltb, le-ltb, ltb-true}
 use lib.Dec.{ltb}
 use lib.ListN.{length, getD, set, take, drop}
 use lib.Seq.{getD-take, getD-drop, length-take-le}
+use Rattle.model.specs.Numbers.{MAX-GROUP-COUNT, MAX-KINDS}
+use Rattle.words.specs.Offsets.{ARITIES, BLOCK-LEN, ENDS, ENTITIES, GROUP-COUNTS, GROUP-FAMILIES, GROUP-PLACES, KIND-ENDS, LAYOUT, LAYOUT-ARITIES, LAYOUT-ENDS, LAYOUT-KIND-ENDS}
 use Rattle.model.specs.Model.{Family, Storage, groupsOf}
 use Rattle.model.specs.Sound.{In, Distinct, layoutKinds}
 use Rattle.model.proofs.Walk.{bool-cases}
@@ -30,14 +32,14 @@ use Rattle.group.proofs.FlatArrays.{arity-rises, located-is, counts-are
 -- ---- words of the block
 
 -- element i of the array from o to e, of the block at 576
-array-at : (w : List ℕ) (o e i : ℕ) → o + i < e → e ≤ 320 → getD (between o e (between 576 896 w)) i 0 ≡ getD w (576 + (o + i)) 0
-array-at w o e i h l = getD-between o e i (between 576 896 w) 0 h ∙ getD-between 576 896 (o + i) w 0 (omega arith)
+array-at : (w : List ℕ) (o e i : ℕ) → o + i < e → e ≤ BLOCK-LEN → getD (between o e (between LAYOUT GROUP-FAMILIES w)) i 0 ≡ getD w (LAYOUT + (o + i)) 0
+array-at w o e i h l = getD-between o e i (between LAYOUT GROUP-FAMILIES w) 0 h ∙ getD-between LAYOUT GROUP-FAMILIES (o + i) w 0 (omega arith)
 
-start-at : (w : List ℕ) (o e f : ℕ) → o + f ≤ e → e ≤ 320 → startOf (between o e (between 576 896 w)) f ≡ startOf (drop (576 + o) w) f
+start-at : (w : List ℕ) (o e f : ℕ) → o + f ≤ e → e ≤ BLOCK-LEN → startOf (between o e (between LAYOUT GROUP-FAMILIES w)) f ≡ startOf (drop (LAYOUT + o) w) f
 start-at w o e zero h l = refl
 start-at w o e (suc f) h l =
-    let n : 576 + (o + f) ≡ 576 + o + f = omega arith in
-    array-at w o e f (omega arith) l ∙ ap (λ (i : ℕ). getD w i 0) n ∙ sym (getD-drop (576 + o) w f 0)
+    let n : LAYOUT + (o + f) ≡ LAYOUT + o + f = omega arith in
+    array-at w o e f (omega arith) l ∙ ap (λ (i : ℕ). getD w i 0) n ∙ sym (getD-drop (LAYOUT + o) w f 0)
 
 -- the arity before group first + i, in a family whose groups are from first to e
 prior-at : (ars : List ℕ) (first e i : ℕ) → first + i < e → getD (0 ∷ between first e ars) i 0 ≡ cond (ltb first (first + i)) (getD ars (first + i - 1) 0) 0
@@ -53,9 +55,9 @@ module _ (w : List ℕ) (A : Arranged w) where
   arrays = layoutArrays w
 
   abbrev counts : List ℕ
-  counts = between 960 1024 w
+  counts = between GROUP-COUNTS ENTITIES w
 
-  pub layout-means : meaning w .storage .layout ≡ familiesOf (between 960 1024 w) (layoutArrays w)
+  pub layout-means : meaning w .storage .layout ≡ familiesOf (between GROUP-COUNTS ENTITIES w) (layoutArrays w)
   unfolding meaning layoutIn
   layout-means = refl
 
@@ -64,28 +66,28 @@ module _ (w : List ℕ) (A : Arranged w) where
 
   -- how many groups there are
   pub groups-are : groupsOf (meaning w .storage .layout) ≡ layoutGroups w
-  groups-are = ap groupsOf layout-means ∙ groups-of (between 960 1024 w) (layoutArrays w) good (layout-sized w A) ∙ sym (A .layout .count)
+  groups-are = ap groupsOf layout-means ∙ groups-of (between GROUP-COUNTS ENTITIES w) (layoutArrays w) good (layout-sized w A) ∙ sym (A .layout .count)
 
-  pub groups-few : groupsOf (meaning w .storage .layout) ≤ 63
+  pub groups-few : groupsOf (meaning w .storage .layout) ≤ MAX-GROUP-COUNT
   groups-few = omega (arith, groups-are, A .layout .count, good .many)
 
   -- the kinds in order
   pub order-is : orderOf (meaning w) ≡ take (widthOf (layoutArrays w)) (layoutArrays w .kinds)
-  order-is = ap layoutKinds layout-means ∙ layout-kinds (between 960 1024 w) (layoutArrays w) good (layout-sized w A)
+  order-is = ap layoutKinds layout-means ∙ layout-kinds (between GROUP-COUNTS ENTITIES w) (layoutArrays w) good (layout-sized w A)
 
   pub order-length : length (orderOf (meaning w)) ≡ widthOf (layoutArrays w)
   order-length =
       ap length order-is ∙ length-take-le (widthOf (layoutArrays w)) (layoutArrays w .kinds) (omega (arith, good .wide, layout-sized w A .kinds))
 
-  pub order-wide : length (orderOf (meaning w)) ≤ 128
+  pub order-wide : length (orderOf (meaning w)) ≤ MAX-KINDS
   order-wide = omega (arith, order-length, good .wide)
 
-  pub order-at : (p : ℕ) → p < length (orderOf (meaning w)) → getD (orderOf (meaning w)) p 0 ≡ getD w (576 + p) 0
+  pub order-at : (p : ℕ) → p < length (orderOf (meaning w)) → getD (orderOf (meaning w)) p 0 ≡ getD w (LAYOUT + p) 0
   order-at p h =
-      let n : 576 + (0 + p) ≡ 576 + p = omega arith in
+      let n : LAYOUT + (0 + p) ≡ LAYOUT + p = omega arith in
       ap (λ (l : List ℕ). getD l p 0) order-is
       ∙ getD-take (widthOf (layoutArrays w)) (layoutArrays w .kinds) p 0 (omega (arith, order-length))
-      ∙ array-at w 0 128 p (omega (arith, order-wide)) (omega arith)
+      ∙ array-at w 0 MAX-KINDS p (omega (arith, order-wide)) (omega arith)
       ∙ ap (λ (i : ℕ). getD w i 0) n
 
   pub order-part-once : (x y : ℕ) → Distinct (between x y (orderOf (meaning w)))
@@ -100,10 +102,10 @@ module _ (w : List ℕ) (A : Arranged w) where
     pub group-sound : GroupSound w (layoutArrays w) g f
     group-sound = A .layout .groups g (omega (arith, groups-are))
 
-    pub family-few : f < 63
+    pub family-few : f < MAX-GROUP-COUNT
     family-few = omega (arith, group-sound .family, good .few)
 
-    pub group-few : g < 63
+    pub group-few : g < MAX-GROUP-COUNT
     group-few = omega (arith, groups-few)
 
     abbrev i : ℕ
@@ -117,35 +119,35 @@ module _ (w : List ℕ) (A : Arranged w) where
 
     -- the words that a group's metadata is read from
     abbrev pub start : ℕ
-    start = startOf (drop 768 w) f
+    start = startOf (drop LAYOUT-KIND-ENDS w) f
 
     abbrev pub first : ℕ
-    first = startOf (drop 832 w) f
+    first = startOf (drop LAYOUT-ENDS w) f
 
     abbrev pub top : ℕ
-    top = getD w (832 + f) 0
+    top = getD w (LAYOUT-ENDS + f) 0
 
     abbrev pub arity : ℕ
-    arity = getD w (704 + g) 0
+    arity = getD w (LAYOUT-ARITIES + g) 0
 
     abbrev pub prior : ℕ
     prior = cond (ltb first g) (getD w (703 + g) 0) 0
 
     start-is : startOf (layoutArrays w .kindEnds) f ≡ start
-    start-is = start-at w 192 256 f (omega (arith, family-few)) (omega arith)
+    start-is = start-at w KIND-ENDS ENDS f (omega (arith, family-few)) (omega arith)
 
     first-is : startOf (layoutArrays w .ends) f ≡ first
-    first-is = start-at w 256 320 f (omega (arith, family-few)) (omega arith)
+    first-is = start-at w ENDS BLOCK-LEN f (omega (arith, family-few)) (omega arith)
 
     top-is : getD (layoutArrays w .ends) f 0 ≡ top
     top-is =
-        let n : 576 + (256 + f) ≡ 832 + f = omega arith in
-        array-at w 256 320 f (omega (arith, family-few)) (omega arith) ∙ ap (λ (m : ℕ). getD w m 0) n
+        let n : LAYOUT + (ENDS + f) ≡ LAYOUT-ENDS + f = omega arith in
+        array-at w ENDS BLOCK-LEN f (omega (arith, family-few)) (omega arith) ∙ ap (λ (m : ℕ). getD w m 0) n
 
     arity-at : getD (layoutArrays w .arities) g 0 ≡ arity
     arity-at =
-        let n : 576 + (128 + g) ≡ 704 + g = omega arith in
-        array-at w 128 192 g (omega (arith, group-few)) (omega arith) ∙ ap (λ (m : ℕ). getD w m 0) n
+        let n : LAYOUT + (ARITIES + g) ≡ LAYOUT-ARITIES + g = omega arith in
+        array-at w ARITIES KIND-ENDS g (omega (arith, group-few)) (omega arith) ∙ ap (λ (m : ℕ). getD w m 0) n
 
     arity-is : getD (layoutArrays w .arities) (startOf (layoutArrays w .ends) f + i) 0 ≡ arity
     arity-is = ap (λ (m : ℕ). getD (layoutArrays w .arities) m 0) at ∙ arity-at
@@ -157,12 +159,12 @@ module _ (w : List ℕ) (A : Arranged w) where
         ∙ bool-cases (ltb first g)
         (λ t.
         let lt : first < g = ltb-true first g t in
-        let n : 576 + (128 + (g - 1)) ≡ 703 + g = omega arith in
-        rw t (array-at w 128 192 (g - 1) (omega (arith, group-few)) (omega arith) ∙ ap (λ (m : ℕ). getD w m 0) n))
+        let n : LAYOUT + (ARITIES + (g - 1)) ≡ 703 + g = omega arith in
+        rw t (array-at w ARITIES KIND-ENDS (g - 1) (omega (arith, group-few)) (omega arith) ∙ ap (λ (m : ℕ). getD w m 0) n))
         (λ t. rw t)
 
-    count-is : getD (between 960 1024 w) (startOf (layoutArrays w .ends) f + i) 0 ≡ countAt w g
-    count-is = ap (λ (m : ℕ). getD (between 960 1024 w) m 0) at ∙ getD-between 960 1024 g w 0 (omega (arith, group-few))
+    count-is : getD (between GROUP-COUNTS ENTITIES w) (startOf (layoutArrays w .ends) f + i) 0 ≡ countAt w g
+    count-is = ap (λ (m : ℕ). getD (between GROUP-COUNTS ENTITIES w) m 0) at ∙ getD-between GROUP-COUNTS ENTITIES g w 0 (omega (arith, group-few))
 
     -- what stands at position g
     pub located-words : located (meaning w .storage .layout) g ≡ record {
@@ -176,20 +178,20 @@ module _ (w : List ℕ) (A : Arranged w) where
         subst
         (λ (fs : List Family). located fs g ≡ record { kinds = between start (start + arity) (layoutKinds fs); newKinds = between (start + prior) (start + arity) (layoutKinds fs); count = countAt w g; first = first; top = top })
         (sym layout-means)
-        (ap (located (familiesOf (between 960 1024 w) (layoutArrays w))) (sym at)
-        ∙ located-is (between 960 1024 w) (layoutArrays w) good (layout-sized w A) f i (group-sound .family) inside
+        (ap (located (familiesOf (between GROUP-COUNTS ENTITIES w) (layoutArrays w))) (sym at)
+        ∙ located-is (between GROUP-COUNTS ENTITIES w) (layoutArrays w) good (layout-sized w A) f i (group-sound .family) inside
         ∙ (λ j.
         record {
-          kinds = between (start-is j) (start-is j + arity-is j) (layoutKinds (familiesOf (between 960 1024 w) (layoutArrays w)));
-          newKinds = between (start-is j + prior-is j) (start-is j + arity-is j) (layoutKinds (familiesOf (between 960 1024 w) (layoutArrays w)));
+          kinds = between (start-is j) (start-is j + arity-is j) (layoutKinds (familiesOf (between GROUP-COUNTS ENTITIES w) (layoutArrays w)));
+          newKinds = between (start-is j + prior-is j) (start-is j + arity-is j) (layoutKinds (familiesOf (between GROUP-COUNTS ENTITIES w) (layoutArrays w)));
           count = count-is j;
           first = first-is j;
           top = top-is j;
         }))
 
-    pub group-rises : (prior < arity) × (start + arity ≤ length (orderOf (meaning w))) × (top ≤ 63)
+    pub group-rises : (prior < arity) × (start + arity ≤ length (orderOf (meaning w))) × (top ≤ MAX-GROUP-COUNT)
     group-rises =
-        let r = arity-rises (between 960 1024 w) (layoutArrays w) good (layout-sized w A) f i (group-sound .family) inside in (
+        let r = arity-rises (between GROUP-COUNTS ENTITIES w) (layoutArrays w) good (layout-sized w A) f i (group-sound .family) inside in (
           omega (arith, r .0, prior-is, arity-is),
           omega (arith, r .1, start-is, arity-is, order-length, kinds-inside (layoutArrays w) good f (group-sound .family)),
           omega (arith, top-is, groups-inside (layoutArrays w) good f (group-sound .family), good .many),
@@ -225,21 +227,21 @@ module _ (w : List ℕ) (A : Arranged w) where
         }
 
     -- the words that were read
-    module _ (fam s h t k p : ℕ) (f-read : Word w (896 + g) fam) (s-read : s ≡ startOf (drop 768 w) fam) (h-read : h ≡ startOf (drop 832 w) fam) (t-read : Word w (832 + fam) t) (k-read : Word w (704 + g) k)
+    module _ (fam s h t k p : ℕ) (f-read : Word w (GROUP-FAMILIES + g) fam) (s-read : s ≡ startOf (drop LAYOUT-KIND-ENDS w) fam) (h-read : h ≡ startOf (drop LAYOUT-ENDS w) fam) (t-read : Word w (LAYOUT-ENDS + fam) t) (k-read : Word w (LAYOUT-ARITIES + g) k)
         (p-read : p ≡ cond (ltb h g) (getD w (703 + g) 0) 0) where
       s-is : s ≡ start
-      s-is = s-read ∙ ap (startOf (drop 768 w)) (f-read .is)
+      s-is = s-read ∙ ap (startOf (drop LAYOUT-KIND-ENDS w)) (f-read .is)
 
       h-is : h ≡ first
-      h-is = h-read ∙ ap (startOf (drop 832 w)) (f-read .is)
+      h-is = h-read ∙ ap (startOf (drop LAYOUT-ENDS w)) (f-read .is)
 
       t-is : t ≡ top
-      t-is = t-read .is ∙ ap (λ (m : ℕ). getD w (832 + m) 0) (f-read .is)
+      t-is = t-read .is ∙ ap (λ (m : ℕ). getD w (LAYOUT-ENDS + m) 0) (f-read .is)
 
       p-is : p ≡ prior
       p-is = p-read ∙ ap (λ (m : ℕ). cond (ltb m g) (getD w (703 + g) 0) 0) h-is
 
-      pub read-small : (s + k ≤ 128) × (p < k)
+      pub read-small : (s + k ≤ MAX-KINDS) × (p < k)
       read-small = (
         omega (arith, s-is, k-read .is, group-rises .1, order-wide),
         omega (arith, p-is, k-read .is, group-rises .0),
@@ -255,12 +257,12 @@ module _ (w : List ℕ) (A : Arranged w) where
     pub count-words : countAt w g ≡ located (meaning w .storage .layout) g .count
     count-words = sym (ap (λ (l : Located). l .count) located-words)
 
-    pub count-set : (c : ℕ) → Becomes w (set w (960 + g) c) (onStorage (λ (s : Storage). withLayout s (setCount g c (s .layout))) (meaning w))
+    pub count-set : (c : ℕ) → Becomes w (set w (GROUP-COUNTS + g) c) (onStorage (λ (s : Storage). withLayout s (setCount g c (s .layout))) (meaning w))
     count-set c =
-        let few : g < 64 = omega (arith, group-few) in
-        let l : length (between 960 1024 w) ≡ 64 = length-between 960 1024 w (long w A) in
-        let e : familiesOf (set (between 960 1024 w) g c) (layoutArrays w) ≡ setCount g c (meaning w .storage .layout) =
-        subst (λ (m : ℕ). familiesOf (set (between 960 1024 w) m c) (layoutArrays w) ≡ setCount m c (familiesOf (between 960 1024 w) (layoutArrays w))) at
-        (counts-are (between 960 1024 w) (layoutArrays w) good (layout-sized w A) f i (group-sound .family) inside c (omega (arith, at)))
+        let few : g < GROUP-PLACES = omega (arith, group-few) in
+        let l : length (between GROUP-COUNTS ENTITIES w) ≡ GROUP-PLACES = length-between GROUP-COUNTS ENTITIES w (long w A) in
+        let e : familiesOf (set (between GROUP-COUNTS ENTITIES w) g c) (layoutArrays w) ≡ setCount g c (meaning w .storage .layout) =
+        subst (λ (m : ℕ). familiesOf (set (between GROUP-COUNTS ENTITIES w) m c) (layoutArrays w) ≡ setCount m c (familiesOf (between GROUP-COUNTS ENTITIES w) (layoutArrays w))) at
+        (counts-are (between GROUP-COUNTS ENTITIES w) (layoutArrays w) good (layout-sized w A) f i (group-sound .family) inside c (omega (arith, at)))
         ∙ ap (setCount g c) (sym layout-means) in
-        subst (λ (fs : List Family). Becomes w (set w (960 + g) c) (onStorage (λ (s : Storage). withLayout s fs) (meaning w))) e (count-becomes w A g c few)
+        subst (λ (fs : List Family). Becomes w (set w (GROUP-COUNTS + g) c) (onStorage (λ (s : Storage). withLayout s fs) (meaning w))) e (count-becomes w A g c few)

@@ -4,6 +4,7 @@ use mathlib.Core.List.{List}
 use Prim.Native.Nat.{ℕ, _+_, _-_, _≤_, _<_}
 use native.Mathlib.Omega.{arith}
 use lib.ListN.{length, getD}
+use Rattle.model.specs.Numbers.{MAX-ENTITIES}
 use Rattle.model.specs.Run.{Store}
 use Rattle.model.specs.Model.{Entity, Storage, setOf, onKinds, swapTo, groupsOf}
 use Rattle.model.specs.Sound.{In}
@@ -28,7 +29,7 @@ use Rattle.group.proofs.Places.{between-in}
 use Rattle.group.proofs.Storing.{becomes-then, storage-becomes}
 
 -- a sparse set has no more rows than the store has room for
-pub set-room : (w : List ℕ) → Arranged w → (k : ℕ) → In (meaning w .kinds) k → length (setOf (meaning w .storage .sets) k) ≤ 4096
+pub set-room : (w : List ℕ) → Arranged w → (k : ℕ) → In (meaning w .kinds) k → length (setOf (meaning w .storage .sets) k) ≤ MAX-ENTITIES
 set-room w A k i =
     let S = known-slot w A k i in
     let n : length (setOf (meaning w .storage .sets) k) ≡ length (rowsOf (capacityOf w) (slotOf w k) w) = ap length (S .rows) in
@@ -48,7 +49,7 @@ module _ (w₀ : List ℕ) (A : Arranged w₀) (e : Entity) (g len : ℕ) (d : G
       (subst (λ (l : List ℕ). Swappable e l c (meaning w₀ .storage .sets)) (sym (S .metadata .kinds)) R)
 
   -- a place to swap to is small
-  pub place-small : (c : ℕ) → Swappable e ks c (meaning w₀ .storage .sets) → c < 4096
+  pub place-small : (c : ℕ) → Swappable e ks c (meaning w₀ .storage .sets) → c < MAX-ENTITIES
   place-small c R =
       let D = S .metadata in
       let i : In ks (getD order (d .«storage_start») 0) = between-in (d .«storage_start») (d .«storage_end») (d .«storage_start») order (omega arith) (omega (arith, D .low, D .some)) (D .listed .within) in

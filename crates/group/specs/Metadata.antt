@@ -3,6 +3,7 @@ use mathlib.Core.Path.{_≡_}
 use mathlib.Core.List.{List}
 use Prim.Native.Nat.{ℕ, _≤_, _<_}
 use lib.ListN.{length}
+use Rattle.model.specs.Numbers.{MAX-GROUP-COUNT}
 use Rattle.model.specs.Run.{Store}
 use Rattle.model.specs.Model.{groupsOf}
 use Rattle.model.specs.Sound.{In, layoutKinds}
@@ -29,7 +30,7 @@ pub record Describes (m : Store) (g : ℕ) (d : GroupMetadata) : Type 0 where
   pub low : d .«storage_start» ≤ d .«new_storage_start»
   pub some : d .«new_storage_start» < d .«storage_end»
   pub listed : Listed m (d .«storage_start») (d .«storage_end»)
-  pub few : d .top ≤ 63
+  pub few : d .top ≤ MAX-GROUP-COUNT
 
 -- the metadata and the count of group g, as they were read
 pub record Stands (m : Store) (g : ℕ) (d : GroupMetadata) (len : ℕ) : Type 0 where

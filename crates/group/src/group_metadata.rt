@@ -7,6 +7,7 @@ ghost use mathlib.Core.Bool.{cond};
 ghost use Prim.Native.Nat.{_+_, _<_, _≤_};
 ghost use lib.Dec.{ltb};
 ghost use lib.ListN.{length, getD, drop};
+ghost use Rattle.words.specs.Offsets.{ENTITIES, GROUP-PLACES};
 ghost use Rattle.model.specs.Model.{Storage, groupsOf};
 ghost use Rattle.layout.specs.Layout.{startOf};
 ghost use Rattle.memory.specs.Meaning.{meaning};
@@ -39,7 +40,7 @@ pub fn start_of(words: &[u32], ends: usize, f: usize) -> usize
 
 // The size of the group before g in its family, 0 where g is the first. Group g's stands at 576 + 128 + g (docs/WORDS.md).
 fn prior_arity(words: &[u32], first: usize, g: usize) -> usize
-    requires { ⌜ ((g < 64) × (1024 ≤ length (now words))) ⌝ }
+    requires { ⌜ ((g < GROUP-PLACES) × (ENTITIES ≤ length (now words))) ⌝ }
     ensures { λ r. ⌜ r ≡ cond (ltb first g) (getD (now (words .entry)) (703 + g) 0) 0 ⌝ }
 {
     if first < g {

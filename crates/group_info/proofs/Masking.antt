@@ -5,6 +5,7 @@ use Prim.Native.Nat.{ℕ, _-_, _<_, _^_}
 use native.Mathlib.Decide.{decLe}
 use native.Mathlib.Omega.{arith}
 use lib.ListN.{getD}
+use Rattle.model.specs.Numbers.{MAX-GROUP-COUNT}
 use Rattle.masks.specs.Masks.{bitsOf, Ordered}
 use Rattle.masks.proofs.Bits.{bits-injective}
 use Rattle.group_info.specs.Info.{Inside, topOf}
@@ -18,7 +19,7 @@ pub agree : (m n : ℕ) (l : List ℕ) → m ≡ n → bitsOf 16 n ≡ l → bit
 agree m n l e en = ap (bitsOf 16) e ∙ en
 
 module _ (ars : List ℕ) (i e : GroupInfo) (x : Inside ars i) (y : Inside ars e) (same : i .«group_start» ≡ e .«group_start») where
-  pub top-below : topOf i e < 63
+  pub top-below : topOf i e < MAX-GROUP-COUNT
   top-below = omega (arith, x .low, x .high, y .high)
 
   pub top-ordered : i .«group_start» < topOf i e → Ordered 16 (getD ars (topOf i e - 1) 0) (getD ars (topOf i e) 0)

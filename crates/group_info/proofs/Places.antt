@@ -8,6 +8,7 @@ use native.Mathlib.Omega.{arith}
 use borrow.Author.Tests.{eq-eqb, eqb-true, lt-ltb, le-ltb}
 use lib.Dec.{eqb, ltb}
 use lib.ListN.{length, getD}
+use Rattle.model.specs.Numbers.{MAX-GROUP-ARITY}
 use Rattle.model.specs.Lists.{one, count, place, count-place, getD-place}
 use Rattle.model.specs.Model.{mem, within, sameSet}
 use Rattle.model.proofs.Walk.{bool-cases, all-in}
@@ -66,7 +67,7 @@ module _ (ks : List ℕ) (s : KindSet ks) (lo hi : ℕ) (ord : lo ≤ hi) (top :
       record { low = omega arith; high = omega arith; there = ap (λ (i : ℕ). getD ks i 0) p ∙ g }
 
   -- a mask of the places of hs, which are kinds of ks
-  module _ (hs : List ℕ) (m : ℕ) (few : length ks ≤ 15) (inside : (k : ℕ) → mem k hs ≡ true → mem k ks ≡ true)
+  module _ (hs : List ℕ) (m : ℕ) (few : length ks ≤ MAX-GROUP-ARITY) (inside : (k : ℕ) → mem k hs ≡ true → mem k ks ≡ true)
       (places : (p : ℕ) → p < 16 → Masks.has p (Masks.bitsOf 16 m) ≡ (ltb p (length ks) && mem (getD ks p 0) hs)) where
     pub places-of-part : sameSet hs (between lo hi ks) ≡ true → Masks.bitsOf 16 m ≡ Masks.upFrom lo (hi - lo)
     places-of-part e = bits-members 16 m (Masks.between lo hi) (λ p h. places p h ∙ claim p) ∙ keep-between 16 lo hi ord (omega arith)

@@ -8,6 +8,7 @@ use native.Mathlib.Nat.{sub-zero}
 use native.Mathlib.Decide.{decLt}
 use native.Mathlib.Omega.{arith}
 use lib.ListN.{length, getD, take, drop, take-append-drop}
+use Rattle.model.specs.Numbers.{MAX-GROUP-ARITY}
 use Rattle.model.specs.Model.{Family, none, found, mem, within, sameSet, kindsOf, rangeAt, rangeIn, rangeAll}
 use Rattle.model.proofs.Walk.{bool-cases, in-left, all-in}
 use Rattle.model.proofs.KindLists.{not-true}
@@ -88,7 +89,7 @@ module _ (ks ars : List ℕ) (s : KindSet ks) (r : Rising 0 (length ks) ars) whe
 -- ---- over the arrays
 
 module _ (a : Arrays) (good : WellFormed a) (sized : Sized a) where
-  pub few-kinds : (f : ℕ) → f < a .families → length (kindsAt a f) ≤ 15
+  pub few-kinds : (f : ℕ) → f < a .families → length (kindsAt a f) ≤ MAX-GROUP-ARITY
   few-kinds f h = omega (arith, kinds-length a good sized f h, good .family f h .most)
 
   -- two families that start at one group are one

@@ -4,6 +4,8 @@ use mathlib.Core.Logic.{_≢_}
 use mathlib.Core.List.{List, [], _∷_}
 use Prim.Native.Nat.{ℕ, _+_, _-_, _≤_, _<_, max}
 use lib.ListN.{length, getD}
+use Rattle.model.specs.Numbers.{MAX-GROUP-COUNT}
+use Rattle.words.specs.Offsets.{GROUP-PLACES}
 use Rattle.masks.specs.Masks.{bitsOf, upFrom, unionOf}
 use Rattle.group_info.specs.declared.GroupInfo.{GroupInfo}
 use Rattle.group_info.specs.declared.FoundInfo.{FoundInfo}
@@ -74,7 +76,7 @@ ViewAdded (query.Many i) v r = BothAdded (info.Info i) (v .info) r
 -- its groups stand in the arrays
 pub record Inside (ars : List ℕ) (i : GroupInfo) : Type 0 where
   pub low : i .«group_start» < i .«group_end»
-  pub high : i .«group_end» ≤ 63
+  pub high : i .«group_end» ≤ MAX-GROUP-COUNT
   pub small : (g : ℕ) → i .«group_start» ≤ g → g < i .«group_end» → getD ars g 0 < 16
   pub rising : (g : ℕ) → i .«group_start» < g → g < i .«group_end» → getD ars (g - 1) 0 ≤ getD ars g 0
 
@@ -85,8 +87,8 @@ InsideFound ars info.Nothing = Unit {0}
 
 -- the arrays of arities and counts, a number for each of 64 groups
 pub record Tables (ars counts : List ℕ) : Type 0 where
-  pub arities : length ars ≡ 64
-  pub counts-size : length counts ≡ 64
+  pub arities : length ars ≡ GROUP-PLACES
+  pub counts-size : length counts ≡ GROUP-PLACES
 
 -- the group that the info reaches up to: its arity and its count
 pub record WholeGroup (ars counts : List ℕ) (i : GroupInfo) (a b : ℕ) : Type 0 where

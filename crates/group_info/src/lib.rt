@@ -1,6 +1,7 @@
 // Grouping information of the kinds of a query (group_info.rs), and the range that a query gets (ComponentStorage::group_range).
 ghost use mathlib.Core.Path.{_≡_};
 ghost use Prim.Native.Nat.{_+_, _<_, max};
+ghost use Rattle.words.specs.Offsets.{GROUP-PLACES};
 ghost use Rattle.group_info.specs.Info.{KindInfo, JoinedBy, infoOf, BothAdded, ViewAdded, Inside, InsideFound, Tables, IncludeSays, ExcludeSays, ExcludedSays, IncludedSays};
 ghost use Rattle.group_info.specs.Describes.{RangeSays};
 use masks::group_mask::QueryMask;
@@ -54,7 +55,7 @@ fn larger(a: usize, b: usize) -> usize
 impl GroupInfo {
     // Of one kind: its family's first group, its own group, its place among the family's kinds.
     pub fn of_kind(start: usize, own: usize, place: usize) -> GroupInfo
-        requires { ⌜ (own < 64) × (place < 16) ⌝ }
+        requires { ⌜ (own < GROUP-PLACES) × (place < 16) ⌝ }
         ensures { λ r. ⌜ KindInfo start own place r ⌝ }
     {
         let storage_mask = StorageMask::single(place);

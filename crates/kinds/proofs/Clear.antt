@@ -7,9 +7,10 @@ use native.Mathlib.Decide.{decLt}
 use borrow.Author.Tests.{ltb-true}
 use lib.Dec.{ltb}
 use lib.ListN.{length, getD, length-map, List·getD-map}
+use Rattle.model.specs.Numbers.{ENTITY-LEN, MAX-KINDS, columnLen}
 use Rattle.model.specs.Model.{SparseSet, Storage}
 use Rattle.model.proofs.Walk.{bool-cases}
-use Rattle.words.specs.Offsets.{columnStart, columnStart-mono}
+use Rattle.words.specs.Offsets.{columnStart, columnStart-mono, ENTITIES, EXCLUDED-LEN, STAGED-LEN}
 use Rattle.words.specs.Part.{between-rest}
 use Rattle.words.specs.Table.{table, is-table, length-table, getD-table}
 use Rattle.component.specs.SparseSet.{rows, Sound}
@@ -39,7 +40,7 @@ module _ (n r m : ℕ) (h : r ≤ m) (w w′ : List ℕ) (all : Columns n m w) w
   module _ (f : SparseSet → SparseSet) (c : Changes n r (λ (s : ℕ). f) w w′) where
     past-column : (s : ℕ) → r ≤ s → columnOf n s w′ ≡ columnOf n s w
     unfolding columnOf
-    past-column s l = between-rest (columnStart n r) (columnStart n s) (columnStart n s + (8 + 6 * n)) w w′ (columnStart-mono n r s l) (c .past)
+    past-column s l = between-rest (columnStart n r) (columnStart n s) (columnStart n s + (columnLen n)) w w′ (columnStart-mono n r s l) (c .past)
 
     wide-sound : (s : ℕ) → s < m → Sound n (columnOf n s w′)
     wide-sound s l =
@@ -80,16 +81,16 @@ module _ (w w′ : List ℕ) (A : Arranged w) (f : SparseSet → SparseSet) (z :
   abbrev n : ℕ
   n = capacityOf w
 
-  same-before : (i : ℕ) → i < 1024 + 16 * n → getD w′ i 0 ≡ getD w i 0
+  same-before : (i : ℕ) → i < ENTITIES + ENTITY-LEN * n → getD w′ i 0 ≡ getD w i 0
   same-before i h = word-front (columnStart n 0) w w′ (o .front) i (omega (arith, start-header n))
 
-  same : (i : ℕ) → i < 1024 → getD w′ i 0 ≡ getD w i 0
+  same : (i : ℕ) → i < ENTITIES → getD w′ i 0 ≡ getD w i 0
   same i h = same-before i (omega arith)
 
   each-kept : Kept w w′
   each-kept = header-kept w w′ A (o .size) same (λ s h. o .heads s h)
 
-  each-set : (k : ℕ) → k < 128 → setAt w′ k ≡ f (setAt w k)
+  each-set : (k : ℕ) → k < MAX-KINDS → setAt w′ k ≡ f (setAt w k)
   each-set k h =
       rw (each-kept .slots k h, each-kept .registered, each-kept .capacity)
       (bool-cases (ltb (slotOf w k) (registeredOf w))
@@ -99,17 +100,17 @@ module _ (w w′ : List ℕ) (A : Arranged w) (f : SparseSet → SparseSet) (z :
   each-sets : setsIn w′ ≡ map f (setsIn w)
   unfolding setsIn
   each-sets =
-      is-table [] 128 (setAt w′) (map f (table 128 (setAt w))) (length-map (table 128 (setAt w)) f ∙ length-table 128 (setAt w))
+      is-table [] MAX-KINDS (setAt w′) (map f (table MAX-KINDS (setAt w))) (length-map (table MAX-KINDS (setAt w)) f ∙ length-table MAX-KINDS (setAt w))
       (λ k h.
       each-set k h
-      ∙ ap f (sym (getD-table 128 (setAt w) k [] h))
-      ∙ sym (List·getD-map f (table 128 (setAt w)) k [])
-      ∙ ap (getD (map f (table 128 (setAt w))) k) z)
+      ∙ ap f (sym (getD-table MAX-KINDS (setAt w) k [] h))
+      ∙ sym (List·getD-map f (table MAX-KINDS (setAt w)) k [])
+      ∙ ap (getD (map f (table MAX-KINDS (setAt w))) k) z)
 
   each-entities : entityPart n w′ ≡ entityPart n w
-  each-entities = part-same w w′ (o .size) 1024 (1024 + 16 * n) enough (λ i a b. same-before i b)
+  each-entities = part-same w w′ (o .size) ENTITIES (ENTITIES + ENTITY-LEN * n) enough (λ i a b. same-before i b)
     where
-      enough : 1024 + 16 * n ≤ length w
+      enough : ENTITIES + ENTITY-LEN * n ≤ length w
       enough = omega (arith, A .enough, start-header n, columnStart-mono n 0 (kindCapacityOf w) (omega arith))
 
   pub each-becomes : Becomes w w′ (onStorage (onEach f) (meaning w))
@@ -128,7 +129,7 @@ module _ (w w′ : List ℕ) (A : Arranged w) (f : SparseSet → SparseSet) (z :
         arranged =
             arranged-kept A K (subst (entity.Sound n) (sym each-entities) (A .entities)) (o .columns)
             (λ s l h. o .becomes s h ∙ ap f (A .vacant s l h) ∙ z)
-            (rw (same 3 (omega arith)) (A .staged)) (rw (same 4 (omega arith)) (A .excluded)) (D .0) (D .1);
+            (rw (same STAGED-LEN (omega arith)) (A .staged)) (rw (same EXCLUDED-LEN (omega arith)) (A .excluded)) (D .0) (D .1);
         means =
             λ i. record { capacity = cap i; kindCapacity = kcap i; kinds = kinds i; entities = ents i; storage = record { sets = sets i; layout = layout i }; control = control i };
         size = o .size;

@@ -9,10 +9,11 @@ use native.Mathlib.Decide.{decLt}
 use borrow.Author.Tests.{lt-ltb, le-ltb}
 use lib.ListN.{length, getD, set, take, drop, length-set}
 use lib.Seq.{getD-set-same, getD-set-other, drop-set-lt}
+use Rattle.model.specs.Numbers.{ENTITY-LEN, MAX-KINDS}
 use Rattle.model.specs.Model.{mem}
 use Rattle.model.specs.Run.{withKinds}
 use Rattle.model.specs.Sound.{In}
-use Rattle.words.specs.Offsets.{columnStart, columnStart-mono}
+use Rattle.words.specs.Offsets.{columnStart, columnStart-mono, CAPACITY, COLUMN-KIND, DRAFT-FAMILIES, DRAFT-GROUPS, ENTITIES, EXCLUDED-LEN, GROUP-COUNTS, GROUP-FAMILIES, GROUP-PLACES, KIND-CAPACITY, LAYOUT-FAMILIES, LAYOUT-GROUPS, OWN-GROUP, REFUSALS, REGISTERED, STAGED-LEN, TABLE, UNREGISTERED}
 use Rattle.words.specs.Part.{between}
 use Rattle.words.specs.Table.{table, table-same, table-snoc, length-table, by-eq}
 use Rattle.component.specs.SparseSet.{rows}
@@ -33,22 +34,22 @@ use Rattle.kinds.proofs.Slot.{slot-known}
 
 -- the table's word of kind k, and how many slots kinds have
 abbrev pub withSlot : ℕ → ℕ → List ℕ → List ℕ
-withSlot s k w = set (set w (32 + k) s) 2 (s + 1)
+withSlot s k w = set (set w (TABLE + k) s) 2 (s + 1)
 
 -- what the stores leave: one kind more, k, whose slot is the first that no kind had
 pub record Registers (w w′ : List ℕ) (k : ℕ) : Type 0 where
   pub size : length w′ ≡ length w
   pub count : registeredOf w′ ≡ registeredOf w + 1
   pub slot : slotOf w′ k ≡ registeredOf w
-  pub header : (i : ℕ) → i < 1024 + 16 * capacityOf w → i ≢ 2 → i ≢ 32 + k → getD w′ i 0 ≡ getD w i 0
+  pub header : (i : ℕ) → i < ENTITIES + ENTITY-LEN * capacityOf w → i ≢ REGISTERED → i ≢ TABLE + k → getD w′ i 0 ≡ getD w i 0
   pub columns : Columns (capacityOf w) (kindCapacityOf w) w′
   pub same : (j : ℕ) → j < kindCapacityOf w → rowsOf (capacityOf w) j w′ ≡ rowsOf (capacityOf w) j w
-  pub kind : getD (columnOf (capacityOf w) (registeredOf w) w′) 1 0 ≡ k
-  pub own : getD (columnOf (capacityOf w) (registeredOf w) w′) 2 0 ≡ 0
+  pub kind : getD (columnOf (capacityOf w) (registeredOf w) w′) COLUMN-KIND 0 ≡ k
+  pub own : getD (columnOf (capacityOf w) (registeredOf w) w′) OWN-GROUP 0 ≡ 0
   pub others : (j : ℕ) → j < kindCapacityOf w → j ≢ registeredOf w → columnOf (capacityOf w) j w′ ≡ columnOf (capacityOf w) j w
   pub past : drop (columnStart (capacityOf w) (kindCapacityOf w)) w′ ≡ drop (columnStart (capacityOf w) (kindCapacityOf w)) w
 
-module _ (w : List ℕ) (A : Arranged w) (k : ℕ) (hk : k < 128) (room : registeredOf w < kindCapacityOf w) where
+module _ (w : List ℕ) (A : Arranged w) (k : ℕ) (hk : k < MAX-KINDS) (room : registeredOf w < kindCapacityOf w) where
   abbrev n : ℕ
   n = capacityOf w
 
@@ -64,59 +65,59 @@ module _ (w : List ℕ) (A : Arranged w) (k : ℕ) (hk : k < 128) (room : regist
       let w₁ = set w (b + 1) k in
       let w₂ = set w₁ (b + 2) 0 in
       let w₃ = withHead n s k w in
-      let w₄ = set w₃ (32 + k) s in
-      let w₅ = set w₄ 2 (s + 1) in
+      let w₄ = set w₃ (TABLE + k) s in
+      let w₅ = set w₄ REGISTERED (s + 1) in
       let h₁ = headed n m s 1 k w (A .columns) room (omega arith) (omega arith) in
       let h₂ = headed n m s 2 0 w₁ (h₁ .columns) room (omega arith) (omega arith) in
       let h₃ = headed n m s 3 0 w₂ (h₂ .columns) room (omega arith) (omega arith) in
       let z₃ : length w₃ ≡ length w = h₃ .size ∙ h₂ .size ∙ h₁ .size in
-      let z₄ : length w₄ ≡ length w = length-set w₃ (32 + k) s ∙ z₃ in
-      let z₅ : length w₅ ≡ length w = length-set w₄ 2 (s + 1) ∙ z₄ in
-      let l : 1024 ≤ length w = long w A in
+      let z₄ : length w₄ ≡ length w = length-set w₃ (TABLE + k) s ∙ z₃ in
+      let z₅ : length w₅ ≡ length w = length-set w₄ REGISTERED (s + 1) ∙ z₄ in
+      let l : ENTITIES ≤ length w = long w A in
       let f : take (columnStart n 0) w₃ ≡ take (columnStart n 0) w = h₃ .front ∙ h₂ .front ∙ h₁ .front in
       let q = start-header n in
       let d : drop (columnStart n 0) w₅ ≡ drop (columnStart n 0) w₃ =
-      drop-set-lt (columnStart n 0) w₄ 2 (s + 1) (omega arith) ∙ drop-set-lt (columnStart n 0) w₃ (32 + k) s (omega arith) in
+      drop-set-lt (columnStart n 0) w₄ 2 (s + 1) (omega arith) ∙ drop-set-lt (columnStart n 0) w₃ (TABLE + k) s (omega arith) in
       let c : (j : ℕ) → columnOf n j w₅ ≡ columnOf n j w₃ = front-column n w₃ w₅ d in
       record {
         size = z₅;
-        count = getD-set-same w₄ 2 (s + 1) 0 (omega arith);
-        slot = getD-set-other w₄ 2 (32 + k) (s + 1) 0 (omega arith) ∙ getD-set-same w₃ (32 + k) s 0 (omega arith);
+        count = getD-set-same w₄ REGISTERED (s + 1) 0 (omega arith);
+        slot = getD-set-other w₄ REGISTERED (TABLE + k) (s + 1) 0 (omega arith) ∙ getD-set-same w₃ (TABLE + k) s 0 (omega arith);
         header =
             λ i h two ne.
-            getD-set-other w₄ 2 i (s + 1) 0 two ∙ getD-set-other w₃ (32 + k) i s 0 ne ∙ word-front (columnStart n 0) w w₃ f i (omega arith);
+            getD-set-other w₄ REGISTERED i (s + 1) 0 two ∙ getD-set-other w₃ (TABLE + k) i s 0 ne ∙ word-front (columnStart n 0) w w₃ f i (omega arith);
         columns = front-columns n w₃ w₅ d m (z₅ ∙ sym z₃) (h₃ .columns);
         same = λ j h. ap (rows n) (c j) ∙ h₃ .same j h ∙ h₂ .same j h ∙ h₁ .same j h;
-        kind = ap (λ (u : List ℕ). getD u 1 0) (c s) ∙ h₃ .words 1 (omega arith) ∙ h₂ .words 1 (omega arith) ∙ h₁ .word;
-        own = ap (λ (u : List ℕ). getD u 2 0) (c s) ∙ h₃ .words 2 (omega arith) ∙ h₂ .word;
+        kind = ap (λ (u : List ℕ). getD u COLUMN-KIND 0) (c s) ∙ h₃ .words 1 (omega arith) ∙ h₂ .words 1 (omega arith) ∙ h₁ .word;
+        own = ap (λ (u : List ℕ). getD u OWN-GROUP 0) (c s) ∙ h₃ .words 2 (omega arith) ∙ h₂ .word;
         others = λ j h ne. c j ∙ h₃ .others j h ne ∙ h₂ .others j h ne ∙ h₁ .others j h ne;
         past = drop-later (columnStart n 0) (columnStart n m) w₃ w₅ (columnStart-mono n 0 m (omega arith)) d ∙ h₃ .past ∙ h₂ .past ∙ h₁ .past;
       }
 
 -- ---- the table of kinds and the layout
 
-module _ (w w′ : List ℕ) (A : Arranged w) (k : ℕ) (hk : k < 128) (new : mem k (meaning w .kinds) ≡ false) (room : registeredOf w < kindCapacityOf w) (R : Registers w w′ k) where
-  no-slot : slotOf w k ≡ 255
-  no-slot = by-eq (slotOf w k) 255 (λ e. e) (λ ne. absurd (false≢true (sym new ∙ slot-known w A k hk ne)))
+module _ (w w′ : List ℕ) (A : Arranged w) (k : ℕ) (hk : k < MAX-KINDS) (new : mem k (meaning w .kinds) ≡ false) (room : registeredOf w < kindCapacityOf w) (R : Registers w w′ k) where
+  no-slot : slotOf w k ≡ UNREGISTERED
+  no-slot = by-eq (slotOf w k) UNREGISTERED (λ e. e) (λ ne. absurd (false≢true (sym new ∙ slot-known w A k hk ne)))
 
   cap : capacityOf w′ ≡ capacityOf w
-  cap = R .header 0 (omega arith) (omega arith) (omega arith)
+  cap = R .header CAPACITY (omega arith) (omega arith) (omega arith)
 
   kind-cap : kindCapacityOf w′ ≡ kindCapacityOf w
-  kind-cap = R .header 1 (omega arith) (omega arith) (omega arith)
+  kind-cap = R .header KIND-CAPACITY (omega arith) (omega arith) (omega arith)
 
-  slot-other : (j : ℕ) → j < 128 → j ≢ k → slotOf w′ j ≡ slotOf w j
-  slot-other j h ne = R .header (32 + j) (omega arith) (omega arith) (omega arith)
+  slot-other : (j : ℕ) → j < MAX-KINDS → j ≢ k → slotOf w′ j ≡ slotOf w j
+  slot-other j h ne = R .header (TABLE + j) (omega arith) (omega arith) (omega arith)
 
   -- the head of a column that was there, and of the new one
   head-other : (t : ℕ) → t < registeredOf w → (i : ℕ) → getD (columnOf (capacityOf w′) t w′) i 0 ≡ getD (columnOf (capacityOf w) t w) i 0
   head-other t h i = ap (λ (c : ℕ). getD (columnOf c t w′) i 0) cap ∙ ap (λ (u : List ℕ). getD u i 0) (R .others t (omega arith) (omega arith))
 
   kind-new : kindAt w′ (registeredOf w) ≡ k
-  kind-new = ap (λ (c : ℕ). getD (columnOf c (registeredOf w) w′) 1 0) cap ∙ R .kind
+  kind-new = ap (λ (c : ℕ). getD (columnOf c (registeredOf w) w′) COLUMN-KIND 0) cap ∙ R .kind
 
   own-new : ownAt w′ (registeredOf w) ≡ 0
-  own-new = ap (λ (c : ℕ). getD (columnOf c (registeredOf w) w′) 2 0) cap ∙ R .own
+  own-new = ap (λ (c : ℕ). getD (columnOf c (registeredOf w) w′) OWN-GROUP 0) cap ∙ R .own
 
   -- a kind that was there is not the new one
   kind-ne : (t : ℕ) → t < registeredOf w → kindAt w t ≢ k
@@ -125,7 +126,7 @@ module _ (w w′ : List ℕ) (A : Arranged w) (k : ℕ) (hk : k < 128) (new : me
       omega (arith, no-slot, A .limits .mostKinds)
 
   slot-ne : (j : ℕ) → slotOf w j < registeredOf w → j ≢ k
-  slot-ne j h e = let q : slotOf w j ≡ 255 = ap (slotOf w) e ∙ no-slot in omega (arith, A .limits .mostKinds)
+  slot-ne j h e = let q : slotOf w j ≡ UNREGISTERED = ap (slotOf w) e ∙ no-slot in omega (arith, A .limits .mostKinds)
 
   each-slot : (P : ℕ → Type 0) (t : ℕ) → t < registeredOf w′ → (t < registeredOf w → P t) → P (registeredOf w) → P t
   each-slot P t h f p = by-eq t (registeredOf w) (λ e. subst P (sym e) p) (λ ne. f (omega (arith, R .count)))
@@ -145,9 +146,9 @@ module _ (w w′ : List ℕ) (A : Arranged w) (k : ℕ) (hk : k < 128) (new : me
             by-eq j k
             (λ e. ap (kindAt w′) (ap (slotOf w′) e ∙ R .slot) ∙ kind-new ∙ sym e)
             (λ d.
-            let ne₀ : slotOf w j ≢ 255 = λ e. ne (slot-other j h d ∙ e) in
+            let ne₀ : slotOf w j ≢ UNREGISTERED = λ e. ne (slot-other j h d ∙ e) in
             ap (kindAt w′) (slot-other j h d) ∙ head-other (slotOf w j) (T .slot j h ne₀) 1 ∙ T .back j h ne₀);
-        small = λ t h. each-slot (λ (t : ℕ). kindAt w′ t < 128) t h (λ l. rw (head-other t l 1) (T .small t l)) (rw kind-new hk);
+        small = λ t h. each-slot (λ (t : ℕ). kindAt w′ t < MAX-KINDS) t h (λ l. rw (head-other t l 1) (T .small t l)) (rw kind-new hk);
         own =
             λ t h.
             each-slot (λ (t : ℕ). slotOf w′ (kindAt w′ t) ≡ t) t h
@@ -157,7 +158,7 @@ module _ (w w′ : List ℕ) (A : Arranged w) (k : ℕ) (hk : k < 128) (new : me
 
   arrays : layoutArrays w′ ≡ layoutArrays w
   arrays =
-      layout-arrays-same w w′ (R .size) (long w A) (R .header 7 (omega arith) (omega arith) (omega arith))
+      layout-arrays-same w w′ (R .size) (long w A) (R .header LAYOUT-FAMILIES (omega arith) (omega arith) (omega arith))
       (λ i a b. R .header i (omega arith) (omega arith) (omega arith))
 
   registered-new : (j : ℕ) → Registered w j → Registered w′ j
@@ -181,15 +182,15 @@ module _ (w w′ : List ℕ) (A : Arranged w) (k : ℕ) (hk : k < 128) (new : me
   layout-new : LayoutSound w′
   layout-new =
       let L = A .layout in
-      let groups : layoutGroups w′ ≡ layoutGroups w = R .header 8 (omega arith) (omega arith) (omega arith) in
+      let groups : layoutGroups w′ ≡ layoutGroups w = R .header LAYOUT-GROUPS (omega arith) (omega arith) (omega arith) in
       record {
         formed = subst WellFormed (sym arrays) (L .formed);
         count = groups ∙ L .count ∙ sym (ap groupCount arrays);
         groups =
             λ g h.
             let h₀ : g < layoutGroups w = rw groups at h in
-            let few : g < 64 = omega (arith, L .count, L .formed .many) in
-            let same : groupFamilyAt w′ g ≡ groupFamilyAt w g = R .header (896 + g) (omega arith) (omega arith) (omega arith) in
+            let few : g < GROUP-PLACES = omega (arith, L .count, L .formed .many) in
+            let same : groupFamilyAt w′ g ≡ groupFamilyAt w g = R .header (GROUP-FAMILIES + g) (omega arith) (omega arith) (omega arith) in
             subst (λ (a : Arrays). GroupSound w′ a g (groupFamilyAt w′ g)) (sym arrays)
             (subst (λ (f : ℕ). GroupSound w′ (layoutArrays w) g f) (sym same) (group-new (layoutArrays w) g (groupFamilyAt w g) (L .groups g h₀)));
         none =
@@ -209,11 +210,11 @@ module _ (w w′ : List ℕ) (A : Arranged w) (k : ℕ) (hk : k < 128) (new : me
       ap (λ (c : ℕ). table c (kindAt w′)) (R .count)
       ∙ table-snoc 0 k (registeredOf w) (kindAt w) (kindAt w′) kind-new (λ t h. head-other t h 1)
 
-  set-new : (j : ℕ) → j < 128 → setAt w′ j ≡ setAt w j
+  set-new : (j : ℕ) → j < MAX-KINDS → setAt w′ j ≡ setAt w j
   set-new j h =
       by-eq j k
       (λ e.
-      rw (e, R .slot, no-slot, R .count, cap, lt-ltb (registeredOf w) (registeredOf w + 1) (omega arith), le-ltb 255 (registeredOf w) (omega (arith, A .limits .mostKinds)))
+      rw (e, R .slot, no-slot, R .count, cap, lt-ltb (registeredOf w) (registeredOf w + 1) (omega arith), le-ltb UNREGISTERED (registeredOf w) (omega (arith, A .limits .mostKinds)))
       (R .same (registeredOf w) room ∙ A .vacant (registeredOf w) (omega arith) room))
       (λ ne.
       rw (slot-other j h ne, R .count, cap)
@@ -221,38 +222,38 @@ module _ (w w′ : List ℕ) (A : Arranged w) (k : ℕ) (hk : k < 128) (new : me
         | yes l ↦
             rw (lt-ltb (slotOf w j) (registeredOf w) l, lt-ltb (slotOf w j) (registeredOf w + 1) (omega arith)) (R .same (slotOf w j) (omega arith))
         | no l ↦
-            let q : slotOf w j ≡ 255 = by-eq (slotOf w j) 255 (λ e. e) (λ d. absurd (l (A .table .slot j h d))) in
+            let q : slotOf w j ≡ UNREGISTERED = by-eq (slotOf w j) UNREGISTERED (λ e. e) (λ d. absurd (l (A .table .slot j h d))) in
             rw (le-ltb (slotOf w j) (registeredOf w) (omega arith), le-ltb (slotOf w j) (registeredOf w + 1) (omega (arith, A .limits .mostKinds)))
       ]))
 
   sets-new : setsIn w′ ≡ setsIn w
   unfolding setsIn
-  sets-new = table-same [] 128 (setAt w) (setAt w′) set-new
+  sets-new = table-same [] MAX-KINDS (setAt w) (setAt w′) set-new
 
   layout-is : layoutIn w′ ≡ layoutIn w
   unfolding layoutIn
   layout-is =
       ap (λ (c : List ℕ). familiesOf c (layoutArrays w′)) (counts-same w w′ (R .size) (long w A) (λ i a b. R .header i (omega arith) (omega arith) (omega arith)))
-      ∙ ap (familiesOf (between 960 1024 w)) arrays
+      ∙ ap (familiesOf (between GROUP-COUNTS ENTITIES w)) arrays
 
   draft-is : draftArrays w′ ≡ draftArrays w
   draft-is =
-      draft-arrays-same w w′ (R .size) (long w A) (R .header 5 (omega arith) (omega arith) (omega arith))
+      draft-arrays-same w w′ (R .size) (long w A) (R .header DRAFT-FAMILIES (omega arith) (omega arith) (omega arith))
       (λ i a b. R .header i (omega arith) (omega arith) (omega arith))
 
   control-is : controlIn w′ ≡ controlIn w
   unfolding draftIn
   control-is =
-      let p = staged-same w w′ (R .size) (A .staged) (R .header 3 (omega arith) (omega arith) (omega arith)) (λ i a b. R .header i (omega arith) (omega arith) (omega arith)) in
-      let e = excluded-same w w′ (R .size) (A .excluded) (R .header 4 (omega arith) (omega arith) (omega arith)) (λ i a b. R .header i (omega arith) (omega arith) (omega arith)) in
+      let p = staged-same w w′ (R .size) (A .staged) (R .header STAGED-LEN (omega arith) (omega arith) (omega arith)) (λ i a b. R .header i (omega arith) (omega arith) (omega arith)) in
+      let e = excluded-same w w′ (R .size) (A .excluded) (R .header EXCLUDED-LEN (omega arith) (omega arith) (omega arith)) (λ i a b. R .header i (omega arith) (omega arith) (omega arith)) in
       let d : draftIn w′ ≡ draftIn w = ap (familiesOf []) draft-is in
-      let r : refusalsOf w′ ≡ refusalsOf w = R .header 16 (omega arith) (omega arith) (omega arith) in
+      let r : refusalsOf w′ ≡ refusalsOf w = R .header REFUSALS (omega arith) (omega arith) (omega arith) in
       λ i. record { staged = p i; excluded = e i; draft = d i; refusals = r i }
 
   entities-are : entityPart (capacityOf w) w′ ≡ entityPart (capacityOf w) w
-  entities-are = part-same w w′ (R .size) 1024 (1024 + 16 * capacityOf w) enough (λ i a b. R .header i b (omega arith) (omega arith))
+  entities-are = part-same w w′ (R .size) ENTITIES (ENTITIES + ENTITY-LEN * capacityOf w) enough (λ i a b. R .header i b (omega arith) (omega arith))
     where
-      enough : 1024 + 16 * capacityOf w ≤ length w
+      enough : ENTITIES + ENTITY-LEN * capacityOf w ≤ length w
       enough = omega (arith, A .enough, start-header (capacityOf w), columnStart-mono (capacityOf w) 0 (kindCapacityOf w) (omega arith))
 
   arranged-new : Arranged w′
@@ -268,10 +269,10 @@ module _ (w w′ : List ℕ) (A : Arranged w) (k : ℕ) (hk : k < 128) (new : me
             let l₀ : registeredOf w ≤ j = omega (arith, R .count) in
             let h₀ : j < kindCapacityOf w = rw kind-cap at h in
             rw cap (R .same j h₀ ∙ A .vacant j l₀ h₀);
-        staged = rw (R .header 3 (omega arith) (omega arith) (omega arith)) (A .staged);
-        excluded = rw (R .header 4 (omega arith) (omega arith) (omega arith)) (A .excluded);
+        staged = rw (R .header STAGED-LEN (omega arith) (omega arith) (omega arith)) (A .staged);
+        excluded = rw (R .header EXCLUDED-LEN (omega arith) (omega arith) (omega arith)) (A .excluded);
         draft = subst WellFormed (sym draft-is) (A .draft);
-        draftCount = R .header 6 (omega arith) (omega arith) (omega arith) ∙ A .draftCount ∙ sym (ap groupCount draft-is);
+        draftCount = R .header DRAFT-GROUPS (omega arith) (omega arith) (omega arith) ∙ A .draftCount ∙ sym (ap groupCount draft-is);
         layout = layout-new;
       }
 
@@ -302,7 +303,7 @@ pub vacant-lent : (w : List ℕ) (n s : ℕ) → Arranged w → n ≡ capacityOf
 vacant-lent w n s A en es room = rw (en, es) (lent (capacityOf w) (kindCapacityOf w) (registeredOf w) w (A .columns) room)
 
 -- the words as the code leaves them
-pub registered : (w : List ℕ) (n s k : ℕ) → Arranged w → k < 128 → mem k (meaning w .kinds) ≡ false → registeredOf w < kindCapacityOf w
+pub registered : (w : List ℕ) (n s k : ℕ) → Arranged w → k < MAX-KINDS → mem k (meaning w .kinds) ≡ false → registeredOf w < kindCapacityOf w
     → n ≡ capacityOf w → s ≡ registeredOf w → (w₃ : List ℕ) → w₃ ≡ withHead n s k w → Becomes w (withSlot s k w₃) (withKinds (meaning w) (meaning w .kinds ++ (k ∷ [])))
 registered w n s k A hk new room en es w₃ e =
     rw (e, en, es) (registers-becomes w (withSlot (registeredOf w) k (withHead (capacityOf w) (registeredOf w) k w)) A k hk new room (registers w A k hk room))

@@ -8,11 +8,12 @@ use native.Mathlib.Omega.{arith}
 use borrow.Author.Tests.{eqb-true}
 use lib.Dec.{eqb}
 use lib.ListN.{length, getD}
+use Rattle.model.specs.Numbers.{MAX-KINDS}
 use Rattle.model.specs.Model.{SparseSet, mem}
 use Rattle.model.specs.Sound.{In}
 use Rattle.model.proofs.Walk.{or-cases}
 use Rattle.model.proofs.KindLists.{not-true, at-in}
-use Rattle.words.specs.Offsets.{columnStart}
+use Rattle.words.specs.Offsets.{columnStart, ENTITIES, ROWS, UNREGISTERED}
 use Rattle.words.specs.Table.{table, length-table, getD-table}
 use Rattle.component.specs.Columns.{Lent, Only, rowsOf}
 use Rattle.component.proofs.Parts.{lent, getD-column}
@@ -51,7 +52,7 @@ table-in m f k i h e = subst (In (table m f)) (getD-table m f i 0 h ∙ e) (at-i
 -- ---- the table of kinds
 
 module _ (w : List ℕ) (A : Arranged w) where
-  pub slot-known : (k : ℕ) → k < 128 → slotOf w k ≢ 255 → In (meaning w .kinds) k
+  pub slot-known : (k : ℕ) → k < MAX-KINDS → slotOf w k ≢ UNREGISTERED → In (meaning w .kinds) k
   unfolding meaning kindsIn
   slot-known k h ne = table-in (registeredOf w) (kindAt w) k (slotOf w k) (A .table .slot k h ne) (A .table .back k h ne)
 
@@ -60,7 +61,7 @@ module _ (w : List ℕ) (A : Arranged w) where
   known-slot k i =
       let p = in-table (registeredOf w) (kindAt w) k i in
       let e : slotOf w k ≡ p .place = ap (slotOf w) (sym (p .is)) ∙ A .table .own (p .place) (p .below) in
-      let small : k < 128 = subst (λ (j : ℕ). j < 128) (p .is) (A .table .small (p .place) (p .below)) in
+      let small : k < MAX-KINDS = subst (λ (j : ℕ). j < MAX-KINDS) (p .is) (A .table .small (p .place) (p .below)) in
       let real : slotOf w k < registeredOf w = rw e (p .below) in
       let kind : kindAt w (slotOf w k) ≡ k = ap (kindAt w) e ∙ p .is in
       record {
@@ -71,13 +72,13 @@ module _ (w : List ℕ) (A : Arranged w) where
         rows = set-in w A k small ∙ ap (setAt w) (sym kind) ∙ set-at w A (slotOf w k) real;
       }
 
-  pub known-small : (k : ℕ) → In (meaning w .kinds) k → k < 128
-  known-small k i = let s = known-slot k i in subst (λ (j : ℕ). j < 128) (s .kind) (A .table .small (slotOf w k) (s .real))
+  pub known-small : (k : ℕ) → In (meaning w .kinds) k → k < MAX-KINDS
+  known-small k i = let s = known-slot k i in subst (λ (j : ℕ). j < MAX-KINDS) (s .kind) (A .table .small (slotOf w k) (s .real))
 
-  pub unknown : (k : ℕ) → k < 128 → slotOf w k ≡ 255 → mem k (meaning w .kinds) ≡ false
+  pub unknown : (k : ℕ) → k < MAX-KINDS → slotOf w k ≡ UNREGISTERED → mem k (meaning w .kinds) ≡ false
   unknown k h e = not-true (mem k (meaning w .kinds)) (λ i. omega (arith, known-slot k i .real, A .table .few, A .limits .mostKinds))
 
-  pub header-long : (i : ℕ) → i < 1024 → i < length w
+  pub header-long : (i : ℕ) → i < ENTITIES → i < length w
   header-long i h = omega (arith, long w A)
 
 -- ---- what a function on a slot says, of the kind
@@ -96,5 +97,5 @@ module _ (w : List ℕ) (n k s : ℕ) (e : n ≡ capacityOf w) (at : InSlot w k 
       (one-becomes w w′ A s (at .real) f ((rw e at o) (kindCapacityOf w) few (A .columns)))
 
   -- word i of the column's head, where the code reads it
-  pub head-at : (i : ℕ) → i < 8 → getD w (columnStart n s + i) 0 ≡ headOf w k i
+  pub head-at : (i : ℕ) → i < ROWS → getD w (columnStart n s + i) 0 ≡ headOf w k i
   head-at i h = sym (getD-column n s i w (omega arith)) ∙ rw (e, at .is)

@@ -7,6 +7,8 @@ ghost use mathlib.Core.Bool.{true, false};
 ghost use mathlib.Core.List.{[], _∷_, _++_};
 ghost use Prim.Native.Nat.{_<_, _≤_};
 ghost use lib.ListN.{length, getD};
+ghost use Rattle.model.specs.Numbers.{MAX-KINDS};
+ghost use Rattle.words.specs.Offsets.{ROWS};
 ghost use Rattle.model.specs.Model.{noRow, mem, held, insertRow, swapTo};
 ghost use Rattle.model.specs.Run.{withKinds};
 ghost use Rattle.model.specs.Sound.{In};
@@ -29,11 +31,11 @@ pub enum Own {
 // 255 in the table says that the kind has no column.
 pub fn is_registered(words: &[u32], kind: usize) -> bool
     requires { ⌜ Arranged (now words) ⌝ }
-    requires { ⌜ kind < 128 ⌝ }
+    requires { ⌜ kind < MAX-KINDS ⌝ }
     ensures { λ r. ⌜ r ≡ mem kind (meaning (now (words .entry)) .kinds) ⌝ }
 {
     let slot = words::word(words, words::TABLE + kind);
-    if slot == 255 {
+    if slot == words::UNREGISTERED as usize {
         return false;
     }
     true
@@ -132,7 +134,7 @@ pub fn clear_sets(words: &mut [u32])
 fn head(words: &[u32], kind: usize, i: usize) -> usize
     requires { ⌜ Arranged (now words) ⌝ }
     requires { ⌜ In (meaning (now words) .kinds) kind ⌝ }
-    requires { ⌜ i < 8 ⌝ }
+    requires { ⌜ i < ROWS ⌝ }
     ensures { λ r. ⌜ r ≡ headOf (now (words .entry)) kind i ⌝ }
 {
     let n = words::word(words, words::CAPACITY);
@@ -165,11 +167,11 @@ pub fn place_in_family(words: &[u32], kind: usize) -> usize
 // The head of a column that a kind gets: the kind, in no group.
 fn put_head(words: &mut [u32], n: usize, slot: usize, kind: usize)
     requires { ⌜ Lent n slot (now words) ⌝ }
-    requires { ⌜ kind < 128 ⌝ }
+    requires { ⌜ kind < MAX-KINDS ⌝ }
     ensures { λ _. ⌜ now (words .exit) ≡ withHead n slot kind (now (words .entry)) ⌝ }
 {
     let base = words::column_start(n, slot);
-    words[base + words::KIND] = kind as u32;
+    words[base + words::COLUMN_KIND] = kind as u32;
     words[base + words::OWN_GROUP] = 0;
     words[base + words::PLACE_IN_FAMILY] = 0;
 }
@@ -177,7 +179,7 @@ fn put_head(words: &mut [u32], n: usize, slot: usize, kind: usize)
 // The first slot that no kind has becomes the kind's. Its column has no rows.
 pub fn register(words: &mut [u32], kind: usize)
     requires { ⌜ Arranged (now words) ⌝ }
-    requires { ⌜ kind < 128 ⌝ }
+    requires { ⌜ kind < MAX-KINDS ⌝ }
     requires { ⌜ mem kind (meaning (now words) .kinds) ≡ false ⌝ }
     requires { ⌜ length (meaning (now words) .kinds) < meaning (now words) .kindCapacity ⌝ }
     ensures { λ _. ⌜ Becomes (now (words .entry)) (now (words .exit)) (withKinds (meaning (now (words .entry))) (meaning (now (words .entry)) .kinds ++ (kind ∷ []))) ⌝ }

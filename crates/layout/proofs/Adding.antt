@@ -9,6 +9,7 @@ use borrow.Author.Tests.{eq-eqb}
 use lib.Dec.{eqb}
 use lib.ListN.{length, getD, take, set}
 use lib.Seq.{getD-set-same, getD-set-other}
+use Rattle.model.specs.Numbers.{MAX-GROUP-COUNT}
 use Rattle.model.specs.Lists.{count, count-append}
 use Rattle.model.specs.Model.{Family, newGroup, grown, mem, meets, within, without, sameSet, kindsOf, groupsOf}
 use Rattle.model.proofs.Walk.{bool-cases}
@@ -26,7 +27,7 @@ use Rattle.layout.proofs.Fits.{IsFresh, IsOnto, Target, target, not-all
 use Rattle.layout.proofs.Arrays
 
 -- staged kinds that fit, and room for a group
-pub group-kinds : (l : Layout) (hs : List ℕ) (x : Fit) → Fitting l hs x → l .groups < 63 → GroupKinds l hs
+pub group-kinds : (l : Layout) (hs : List ℕ) (x : Fit) → Fitting l hs x → l .groups < MAX-GROUP-COUNT → GroupKinds l hs
 group-kinds l hs x p g = record { formed = p .formed; room = omega (arith, g); staged = p .kinds; least = p .least; most = omega (arith, p .most) }
 
 -- as many groups as the model counts
@@ -48,7 +49,7 @@ module _ (l : Layout) (hs : List ℕ) (ask : FreshAsk l hs) (sized : Sized (arra
   good : WellFormed now
   good = ask .group .formed .good
 
-  pub few : l .families < 63
+  pub few : l .families < MAX-GROUP-COUNT
   few = omega (arith, Arrays.families-groups now good, ask .group .room, ask .group .formed .groups)
 
   inKinds : l .families < length (l .«kind_ends»)

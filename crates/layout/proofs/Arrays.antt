@@ -7,6 +7,8 @@ use native.Mathlib.Omega.{arith}
 use lib.Dec.{eqb}
 use lib.ListN.{length, getD, take, drop, drop-of-length-le}
 use lib.Seq.{take-take}
+use Rattle.model.specs.Numbers.{MAX-GROUP-COUNT, MAX-KINDS}
+use Rattle.words.specs.Offsets.{ARITIES, BLOCK-LEN, ENDS, KIND-ENDS}
 use Rattle.model.specs.Lists.{count, count-append}
 use Rattle.model.specs.Model.{Family, kindsOf, groupsOf}
 use Rattle.model.specs.Sound.{layoutKinds}
@@ -19,13 +21,13 @@ use Rattle.layout.proofs.Scan.{drop-step}
 use Rattle.layout.proofs.KindSets.{set-between}
 use Rattle.layout.proofs.Family.{between-join, rising-zero, kinds-from, no-counts}
 
-pub block-sized : (w : List ℕ) (n : ℕ) → length w ≡ 320 → Sized (blockArrays w n)
+pub block-sized : (w : List ℕ) (n : ℕ) → length w ≡ BLOCK-LEN → Sized (blockArrays w n)
 block-sized w n e =
     record {
-      kinds = length-between 0 128 w (omega arith);
-      arities = length-between 128 192 w (omega arith);
-      kindEnds = length-between 192 256 w (omega arith);
-      ends = length-between 256 320 w (omega arith);
+      kinds = length-between 0 ARITIES w (omega arith);
+      arities = length-between ARITIES KIND-ENDS w (omega arith);
+      kindEnds = length-between KIND-ENDS ENDS w (omega arith);
+      ends = length-between ENDS BLOCK-LEN w (omega arith);
     }
 
 -- ---- ends that rise
@@ -106,8 +108,8 @@ pub record Bounds (a : Arrays) (i : ℕ) : Type 0 where
   pub groupHigh : getD (a .ends) i 0 ≤ length (a .arities)
   pub inKinds : i < length (a .kindEnds)
   pub inGroups : i < length (a .ends)
-  pub kindSmall : getD (a .kindEnds) i 0 ≤ 128
-  pub groupSmall : getD (a .ends) i 0 ≤ 63
+  pub kindSmall : getD (a .kindEnds) i 0 ≤ MAX-KINDS
+  pub groupSmall : getD (a .ends) i 0 ≤ MAX-GROUP-COUNT
 
 pub bounds : (a : Arrays) → WellFormed a → Sized a → (i : ℕ) → i < a .families → Bounds a i
 bounds a good sized i h =

@@ -8,6 +8,7 @@ use native.Mathlib.Decide.{decLt}
 use native.Mathlib.Omega.{arith}
 use lib.ListN.{length, getD, take, drop, length-append}
 use lib.Seq.{take-nil, take-take, take-at, drop-drop, drop-append-le, drop-append-add, length-take-le}
+use Rattle.model.specs.Numbers.{MAX-GROUP-ARITY, MAX-KINDS}
 use Rattle.words.specs.Part.{between, between-front, length-between}
 use Rattle.words.specs.Table.{by-eq}
 use Rattle.layout.specs.Layout.{Arrays, Sized, arraysIn, startOf, widthOf, groupCount, kindsAt, aritiesAt, groupsFrom, familyAt, KindSet, Rising, FamilyFormed, WellFormed}
@@ -114,7 +115,7 @@ module _ (a : Arrays) (f : ℕ) (more : List ℕ) (loose : LooseAt a f) (sized :
       let l4 = length-take-le k (a .kinds) (omega arith) in
       omega arith
 
-  pub kind-room : KindSet (widened (a .kinds) (getD (a .kindEnds) f 0) more (widthOf a)) → widthOf a + length more ≤ 128
+  pub kind-room : KindSet (widened (a .kinds) (getD (a .kindEnds) f 0) more (widthOf a)) → widthOf a + length more ≤ MAX-KINDS
   kind-room kinds = omega (arith, widened-length, pigeon (widened (a .kinds) (getD (a .kindEnds) f 0) more (widthOf a)) kinds)
 
 -- ---- the law
@@ -175,7 +176,7 @@ module _ (a : Arrays) (f : ℕ) (more : List ℕ) (s : ℕ) (ks′ ars′ kes′
         rising = rw (size, arities-other i h ne) (o .rising);
       }
 
-  module _ (arity : s ≡ getD (a .kindEnds) f 0 - startOf (a .kindEnds) f + length more) (lo : 2 ≤ s) (hi : s ≤ 15) (climbs : Rising 1 s (aritiesAt a f ++ (s ∷ [])))
+  module _ (arity : s ≡ getD (a .kindEnds) f 0 - startOf (a .kindEnds) f + length more) (lo : 2 ≤ s) (hi : s ≤ MAX-GROUP-ARITY) (climbs : Rising 1 s (aritiesAt a f ++ (s ∷ [])))
       (kinds : KindSet (widened (a .kinds) (getD (a .kindEnds) f 0) more (widthOf a))) where
     formed-here : FamilyFormed after f
     formed-here =

@@ -10,6 +10,7 @@ use native.Mathlib.Omega.{arith}
 use borrow.Author.Tests.{eqb-true, lt-ltb, le-ltb, le-leb, lt-leb}
 use lib.Dec.{eqb, eqb·suc-zero, eqb·suc-suc}
 use lib.ListN.{length, getD, set}
+use Rattle.model.specs.Numbers.{CLASH, MANY, MAX-GROUP-ARITY, MAX-GROUP-COUNT, WIDE}
 use Rattle.model.specs.Model.{Family, nothing, added, refused, meets, within, sameSet, without, kindsOf, groupsOf, isGroup, present, touched, covers, newGroup, grown, addGroup}
 use Rattle.model.proofs.Walk.{bool-cases, or-false}
 use Rattle.model.proofs.SparseSets.{and-right}
@@ -153,36 +154,36 @@ fit-says ks fs s e = subst (Says ks fs) (sym (fit-fresh ks 0 fs) ∙ e) (go (pre
 module _ (ks : List ℕ) (fs : List Family) where
   pub add-small : length ks < 2 → addGroup ks fs ≡ nothing
   unfolding addGroup
-  add-small h = rw (lt-leb 16 (length ks) (omega arith), lt-ltb (length ks) 2 h)
+  add-small h = rw (le-ltb MAX-GROUP-ARITY (length ks) (omega arith), lt-ltb (length ks) 2 h)
 
-  pub add-wide : 16 ≤ length ks → addGroup ks fs ≡ refused 13
+  pub add-wide : MAX-GROUP-ARITY < length ks → addGroup ks fs ≡ refused WIDE
   unfolding addGroup
-  add-wide h = rw (le-leb 16 (length ks) h)
+  add-wide h = rw (lt-ltb MAX-GROUP-ARITY (length ks) h)
 
-  module _ (lo : 2 ≤ length ks) (hi : length ks < 16) where
+  module _ (lo : 2 ≤ length ks) (hi : length ks ≤ MAX-GROUP-ARITY) where
     pub add-present : present ks fs ≡ true → addGroup ks fs ≡ nothing
     unfolding addGroup
-    add-present e = rw (le-ltb (length ks) 2 lo, lt-leb 16 (length ks) hi, e)
+    add-present e = rw (le-ltb (length ks) 2 lo, le-ltb MAX-GROUP-ARITY (length ks) hi, e)
 
-    pub add-clash : IsClash ks fs → addGroup ks fs ≡ refused 14
+    pub add-clash : IsClash ks fs → addGroup ks fs ≡ refused CLASH
     unfolding addGroup
-    add-clash s = rw (le-ltb (length ks) 2 lo, lt-leb 16 (length ks) hi, s .absent, s .crosses)
+    add-clash s = rw (le-ltb (length ks) 2 lo, le-ltb MAX-GROUP-ARITY (length ks) hi, s .absent, s .crosses)
 
-    pub fresh-many : IsFresh ks fs → 63 ≤ groupsOf fs → addGroup ks fs ≡ refused 15
+    pub fresh-many : IsFresh ks fs → MAX-GROUP-COUNT ≤ groupsOf fs → addGroup ks fs ≡ refused MANY
     unfolding addGroup
-    fresh-many s h = rw (le-ltb (length ks) 2 lo, lt-leb 16 (length ks) hi, s .absent, s .none, le-leb 63 (groupsOf fs) h)
+    fresh-many s h = rw (le-ltb (length ks) 2 lo, le-ltb MAX-GROUP-ARITY (length ks) hi, s .absent, s .none, le-leb MAX-GROUP-COUNT (groupsOf fs) h)
 
-    pub fresh-added : IsFresh ks fs → groupsOf fs < 63 → addGroup ks fs ≡ added (fs ++ ((newGroup ks ∷ []) ∷ []))
+    pub fresh-added : IsFresh ks fs → groupsOf fs < MAX-GROUP-COUNT → addGroup ks fs ≡ added (fs ++ ((newGroup ks ∷ []) ∷ []))
     unfolding addGroup
-    fresh-added s h = rw (le-ltb (length ks) 2 lo, lt-leb 16 (length ks) hi, s .absent, s .none, lt-leb 63 (groupsOf fs) h)
+    fresh-added s h = rw (le-ltb (length ks) 2 lo, le-ltb MAX-GROUP-ARITY (length ks) hi, s .absent, s .none, lt-leb MAX-GROUP-COUNT (groupsOf fs) h)
 
-    pub onto-many : (f : ℕ) → IsOnto ks fs f → 63 ≤ groupsOf fs → addGroup ks fs ≡ refused 15
+    pub onto-many : (f : ℕ) → IsOnto ks fs f → MAX-GROUP-COUNT ≤ groupsOf fs → addGroup ks fs ≡ refused MANY
     unfolding addGroup
-    onto-many f s h = rw (le-ltb (length ks) 2 lo, lt-leb 16 (length ks) hi, s .absent, s .alone, s .held, le-leb 63 (groupsOf fs) h)
+    onto-many f s h = rw (le-ltb (length ks) 2 lo, le-ltb MAX-GROUP-ARITY (length ks) hi, s .absent, s .alone, s .held, le-leb MAX-GROUP-COUNT (groupsOf fs) h)
 
-    pub onto-added : (f : ℕ) → IsOnto ks fs f → groupsOf fs < 63 → addGroup ks fs ≡ added (grown ks fs)
+    pub onto-added : (f : ℕ) → IsOnto ks fs f → groupsOf fs < MAX-GROUP-COUNT → addGroup ks fs ≡ added (grown ks fs)
     unfolding addGroup
-    onto-added f s h = rw (le-ltb (length ks) 2 lo, lt-leb 16 (length ks) hi, s .absent, s .alone, s .held, lt-leb 63 (groupsOf fs) h)
+    onto-added f s h = rw (le-ltb (length ks) 2 lo, le-ltb MAX-GROUP-ARITY (length ks) hi, s .absent, s .alone, s .held, lt-leb MAX-GROUP-COUNT (groupsOf fs) h)
 
 -- ---- by the number of a family
 

@@ -8,6 +8,7 @@ use native.Mathlib.Decide.{decLt}
 use borrow.Author.Tests.{eq-eqb, ne-eqb, eqb-true}
 use lib.Dec.{eqb}
 use lib.ListN.{length, take, drop, take-append-drop, length-append}
+use Rattle.model.specs.Numbers.{MAX-KINDS}
 use Rattle.model.specs.Lists.{one, count, count-append, count-length-le, count-length}
 use Rattle.model.specs.Model.{mem, any, within, meets, sameSet, without}
 use Rattle.model.proofs.Walk.{bool-cases, or-cases, all-in}
@@ -89,17 +90,17 @@ down-count (suc n) x h =
     by-eq x n (λ e. omega (arith, ap one (eq-eqb x n e))) (λ ne. omega (arith, down-count n x (omega arith)))
 
 -- different kinds below 128 are 128 at most
-pub pigeon : (l : List ℕ) → KindSet l → length l ≤ 128
-pigeon l s = omega (arith, down-length 128, shorter l (downFrom 128) fits)
+pub pigeon : (l : List ℕ) → KindSet l → length l ≤ MAX-KINDS
+pigeon l s = omega (arith, down-length MAX-KINDS, shorter l (downFrom MAX-KINDS) fits)
   where
-    fits : (x : ℕ) → count eqb x l ≤ count eqb x (downFrom 128)
+    fits : (x : ℕ) → count eqb x l ≤ count eqb x (downFrom MAX-KINDS)
     fits x = go (ltd x)
       where
-        ltd : (x : ℕ) → Dec (x < 128)
-        ltd x = decLt x 128
+        ltd : (x : ℕ) → Dec (x < MAX-KINDS)
+        ltd x = decLt x MAX-KINDS
 
-        go : Dec (x < 128) → count eqb x l ≤ count eqb x (downFrom 128)
-        go (yes h) = omega (arith, s .once x, down-count 128 x h)
+        go : Dec (x < MAX-KINDS) → count eqb x l ≤ count eqb x (downFrom MAX-KINDS)
+        go (yes h) = omega (arith, s .once x, down-count MAX-KINDS x h)
         go (no h) = omega (arith, s .known x (omega arith))
 
 -- ---- two sets are the same where they are as long and one holds the other

@@ -3,6 +3,7 @@ use mathlib.Core.Path.{_≡_}
 use mathlib.Core.List.{List}
 use Prim.Native.Nat.{ℕ, _≤_, _<_}
 use lib.ListN.{length}
+use Rattle.model.specs.Numbers.{BEYOND, CLASH, MANY, MAX-GROUP-ARITY, WIDE}
 use Rattle.model.specs.Model.{Family, Added, nothing, added, refused, addGroup}
 use Rattle.layout.specs.Layout.{Formed, KindSet, meaning}
 use Rattle.layout.specs.Fit.{fitFrom}
@@ -15,11 +16,11 @@ use Rattle.layout.specs.declared.group_layout.Outcome.the-variants as ou
 
 -- the number of the refusal (01: WIDE, CLASH, MANY), 0 where the command is accepted
 abbrev pub refusalOf : Outcome → ℕ
-refusalOf outcome.Nothing = 0
-refusalOf outcome.Added = 0
-refusalOf outcome.Wide = 13
-refusalOf outcome.Clash = 14
-refusalOf outcome.Many = 15
+refusalOf outcome.Nothing = BEYOND
+refusalOf outcome.Added = BEYOND
+refusalOf outcome.Wide = WIDE
+refusalOf outcome.Clash = CLASH
+refusalOf outcome.Many = MANY
 
 -- 01: "a definition gives this paper's number and values for each of the enum's cases". The outcome with the families after it, as the model answers: GROUP's
 -- byte is 0 for `nothing` and 1 for `added`, and a refusal has its number
@@ -35,7 +36,7 @@ pub record Fitting (l : Layout) (staged : List ℕ) (x : Fit) : Type 0 where
   pub formed : Formed l
   pub kinds : KindSet staged
   pub least : 2 ≤ length staged
-  pub most : length staged < 16
+  pub most : length staged ≤ MAX-GROUP-ARITY
   pub fits : fitFrom staged 0 Fresh (meaning l) ≡ x
 
 -- GROUP, as the model says; unless the group is added, the layout is the one that came

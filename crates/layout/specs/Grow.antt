@@ -6,6 +6,7 @@ use mathlib.Core.List.{List, [], _∷_, _++_}
 use Prim.Native.Nat.{ℕ, _+_, _-_, _≤_, _<_}
 use lib.Dec.{eqb}
 use lib.ListN.{length, getD, take, drop, set}
+use Rattle.model.specs.Numbers.{MAX-GROUP-ARITY, MAX-GROUP-COUNT, MAX-KINDS}
 use Rattle.model.specs.Lists.{count}
 use Rattle.model.specs.Model.{newGroup, within, without}
 use Rattle.words.specs.Part.{between}
@@ -40,9 +41,9 @@ pub record RaiseAsk (d : List ℕ) (a e by : ℕ) : Type 0 where
 
 -- all families but f are well formed, and f may still be empty
 pub record LooseAt (a : Arrays) (f : ℕ) : Type 0 where
-  pub few : a .families ≤ 63
+  pub few : a .families ≤ MAX-GROUP-COUNT
   pub inside : f < a .families
-  pub wide : widthOf a ≤ 128
+  pub wide : widthOf a ≤ MAX-KINDS
   pub many : groupCount a ≤ 62
   pub kindOrder : (i : ℕ) → i < a .families → startOf (a .kindEnds) i ≤ getD (a .kindEnds) i 0
   pub order : (i : ℕ) → i < a .families → startOf (a .ends) i ≤ getD (a .ends) i 0
@@ -60,7 +61,7 @@ pub record Extends (l : Layout) (f : ℕ) (more : List ℕ) (s : ℕ) : Type 0 w
   pub kinds : KindSet (widened (l .kinds) (getD (l .«kind_ends») f 0) more (widthOf (arraysOf l)))
   pub arity : s ≡ getD (l .«kind_ends») f 0 - startOf (l .«kind_ends») f + length more
   pub least : 2 ≤ s
-  pub most : s ≤ 15
+  pub most : s ≤ MAX-GROUP-ARITY
   pub rising : Rising 1 s (aritiesAt (arraysOf l) f ++ (s ∷ []))
 
 -- r is l with more at the end of family f's kinds and a group of arity s after its groups; the other families are as they were
@@ -91,7 +92,7 @@ pub record GroupKinds (l : Layout) (hs : List ℕ) : Type 0 where
   pub room : l .groups ≤ 62
   pub staged : KindSet hs
   pub least : 2 ≤ length hs
-  pub most : length hs ≤ 15
+  pub most : length hs ≤ MAX-GROUP-ARITY
 
 -- no kind of the list is in the layout
 abbrev pub Unknown : Layout → List ℕ → Type 0

@@ -4,6 +4,8 @@ use mathlib.Core.List.{List, [], _∷_}
 use Prim.Native.Nat.{ℕ, zero, suc, _+_, _-_, _≤_, _<_}
 use lib.Dec.{eqb}
 use lib.ListN.{length, getD, take}
+use Rattle.model.specs.Numbers.{MAX-GROUP-ARITY, MAX-GROUP-COUNT, MAX-KINDS}
+use Rattle.words.specs.Offsets.{ARITIES, BLOCK-LEN, ENDS, GROUP-PLACES, KIND-ENDS}
 use Rattle.model.specs.Lists.{count}
 use Rattle.model.specs.Model.{Family}
 use Rattle.words.specs.Part.{between}
@@ -26,13 +28,13 @@ arraysOf l = arraysIn (l .kinds) (l .arities) (l .«kind_ends») (l .ends) (l .f
 
 -- a block of 320 words
 abbrev pub blockArrays : List ℕ → ℕ → Arrays
-blockArrays w n = arraysIn (between 0 128 w) (between 128 192 w) (between 192 256 w) (between 256 320 w) n
+blockArrays w n = arraysIn (between 0 ARITIES w) (between ARITIES KIND-ENDS w) (between KIND-ENDS ENDS w) (between ENDS BLOCK-LEN w) n
 
 pub record Sized (a : Arrays) : Type 0 where
-  pub kinds : length (a .kinds) ≡ 128
-  pub arities : length (a .arities) ≡ 64
-  pub kindEnds : length (a .kindEnds) ≡ 64
-  pub ends : length (a .ends) ≡ 64
+  pub kinds : length (a .kinds) ≡ MAX-KINDS
+  pub arities : length (a .arities) ≡ GROUP-PLACES
+  pub kindEnds : length (a .kindEnds) ≡ GROUP-PLACES
+  pub ends : length (a .ends) ≡ GROUP-PLACES
 
 -- ---- the meaning
 
@@ -78,7 +80,7 @@ blockMeaning w n = familiesOf [] (blockArrays w n)
 -- kinds, once each, all below 128
 pub record KindSet (l : List ℕ) : Type 0 where
   pub once : (k : ℕ) → count eqb k l ≤ 1
-  pub known : (k : ℕ) → 128 ≤ k → count eqb k l ≡ 0
+  pub known : (k : ℕ) → MAX-KINDS ≤ k → count eqb k l ≡ 0
 
 -- the arities rise strictly, from above b to n
 unfoldable pub Rising : ℕ → ℕ → List ℕ → Type 0
@@ -88,14 +90,14 @@ Rising b n (a ∷ rest) = (b < a) × Rising a n rest
 -- 2 to 15 kinds; the first group has 2 or more, the last has all
 pub record FamilyFormed (a : Arrays) (f : ℕ) : Type 0 where
   pub least : startOf (a .kindEnds) f + 2 ≤ getD (a .kindEnds) f 0
-  pub most : getD (a .kindEnds) f 0 ≤ startOf (a .kindEnds) f + 15
+  pub most : getD (a .kindEnds) f 0 ≤ startOf (a .kindEnds) f + MAX-GROUP-ARITY
   pub some : startOf (a .ends) f < getD (a .ends) f 0
   pub rising : Rising 1 (getD (a .kindEnds) f 0 - startOf (a .kindEnds) f) (aritiesAt a f)
 
 pub record WellFormed (a : Arrays) : Type 0 where
-  pub few : a .families ≤ 63
-  pub wide : widthOf a ≤ 128
-  pub many : groupCount a ≤ 63
+  pub few : a .families ≤ MAX-GROUP-COUNT
+  pub wide : widthOf a ≤ MAX-KINDS
+  pub many : groupCount a ≤ MAX-GROUP-COUNT
   pub kinds : KindSet (take (widthOf a) (a .kinds))
   pub family : (f : ℕ) → f < a .families → FamilyFormed a f
 

@@ -3,6 +3,7 @@ ghost use mathlib.Core.Path.{_≡_};
 ghost use mathlib.Core.List.{[]};
 ghost use Prim.Native.Nat.{_+_, _-_, _≤_, _<_};
 ghost use lib.ListN.{length, take};
+ghost use Rattle.model.specs.Numbers.{LIST-CAPACITY, MAX-GROUP-COUNT, MAX-KINDS};
 ghost use Rattle.model.specs.Model.{mem, within, meets, sameSet, isGroup, without};
 ghost use Rattle.layout.specs.Layout.{Formed, KindSet, groupsFrom, arraysIn, familiesOf, startOf};
 ghost use Rattle.layout.specs.Fit.{partOf, joinFit, fitFrom, GroupAsk, FamilyAsk, FitAsk};
@@ -218,7 +219,7 @@ struct Kinds16 {
 
 // The staged kinds that ks lacks, in their order.
 fn missing(ks: &[u8], staged: &[u8]) -> Kinds16
-    requires { ⌜ length (now staged) ≤ 16 ⌝ }
+    requires { ⌜ length (now staged) ≤ LIST-CAPACITY ⌝ }
     ensures { λ r. ⌜ (take (r .count) (r .kinds) ≡ without (now (staged .entry)) (now (ks .entry))) × (r .count ≤ length (now (staged .entry))) ⌝ }
 {
     let mut kinds = [0u8; 16];
@@ -247,7 +248,7 @@ fn start_of(ends: &[u8], f: usize) -> usize
 
 // The layout with an empty family at its end, for `extended` to fill.
 fn opened(l: Layout) -> Layout
-    requires { ⌜ (l .families < 63) × (l .width ≤ 128) × (l .groups ≤ 63) ⌝ }
+    requires { ⌜ (l .families < MAX-GROUP-COUNT) × (l .width ≤ MAX-KINDS) × (l .groups ≤ MAX-GROUP-COUNT) ⌝ }
     ensures { λ r. ⌜ r ≡ openedOf l ⌝ }
 {
     let families = l.families;
@@ -330,7 +331,7 @@ fn add_fresh(l: Layout, staged: &[u8]) -> Answer
     requires { ⌜ Fitting l (now staged) Fit.Fresh ⌝ }
     ensures { λ r. ⌜ AddsGroup l (now (staged .entry)) r ⌝ }
 {
-    if 63 <= l.groups {
+    if model::MAX_GROUP_COUNT <= l.groups {
         return Answer {
             outcome: Outcome::Many,
             layout: l,
@@ -348,7 +349,7 @@ fn add_onto(l: Layout, f: usize, staged: &[u8]) -> Answer
     requires { ⌜ Fitting l (now staged) (Fit.Onto f) ⌝ }
     ensures { λ r. ⌜ AddsGroup l (now (staged .entry)) r ⌝ }
 {
-    if 63 <= l.groups {
+    if model::MAX_GROUP_COUNT <= l.groups {
         return Answer {
             outcome: Outcome::Many,
             layout: l,
@@ -363,7 +364,7 @@ fn add_onto(l: Layout, f: usize, staged: &[u8]) -> Answer
 
 // Adds a group of the staged kinds.
 pub fn add_group(l: Layout, staged: &[u8]) -> Answer
-    requires { ⌜ Formed l × KindSet (now staged) × (length (now staged) ≤ 16) ⌝ }
+    requires { ⌜ Formed l × KindSet (now staged) × (length (now staged) ≤ LIST-CAPACITY) ⌝ }
     ensures { λ r. ⌜ AddsGroup l (now (staged .entry)) r ⌝ }
 {
     if staged.len() < 2 {
@@ -372,7 +373,7 @@ pub fn add_group(l: Layout, staged: &[u8]) -> Answer
             layout: l,
         };
     }
-    if 16 <= staged.len() {
+    if model::MAX_GROUP_ARITY < staged.len() {
         return Answer {
             outcome: Outcome::Wide,
             layout: l,

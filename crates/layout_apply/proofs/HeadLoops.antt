@@ -6,6 +6,8 @@ use native.Mathlib.Nat.{add-zero}
 use native.Mathlib.Numerals.{add-one}
 use native.Mathlib.Omega.{arith}
 use lib.ListN.{getD, drop}
+use Rattle.model.specs.Numbers.{MAX-GROUP-ARITY, MAX-GROUP-COUNT, MAX-KINDS}
+use Rattle.words.specs.Offsets.{ARITIES, BLOCK-LEN, ENDS, GROUP-PLACES, KIND-ENDS, LAYOUT, LAYOUT-ARITIES, LAYOUT-ENDS, LAYOUT-KIND-ENDS, TABLE}
 use Rattle.component.specs.Columns.{Lent}
 use Rattle.component.proofs.Parts.{lent}
 use Rattle.layout.specs.Layout.{Arrays, startOf, widthOf}
@@ -22,47 +24,47 @@ use Rattle.layout_apply.proofs.HeadSteps.{sized, heads-none, heads-then
 
 -- ---- what the code reads of the layout's block
 
-pub kind-word : (w : List ℕ) (p : ℕ) → p < 128 → kindNo w p ≡ getD w (576 + p) 0
-kind-word w p h = block-at 576 w 0 128 p (omega arith) (omega arith) ∙ ap (λ (i : ℕ). getD w i 0) (omega arith)
+pub kind-word : (w : List ℕ) (p : ℕ) → p < MAX-KINDS → kindNo w p ≡ getD w (LAYOUT + p) 0
+kind-word w p h = block-at LAYOUT w 0 MAX-KINDS p (omega arith) (omega arith) ∙ ap (λ (i : ℕ). getD w i 0) (omega arith)
 
-pub arity-word : (w : List ℕ) (g : ℕ) → g < 64 → getD (layoutArrays w .arities) g 0 ≡ getD w (704 + g) 0
-arity-word w g h = block-at 576 w 128 192 g (omega arith) (omega arith) ∙ ap (λ (i : ℕ). getD w i 0) (omega arith)
+pub arity-word : (w : List ℕ) (g : ℕ) → g < GROUP-PLACES → getD (layoutArrays w .arities) g 0 ≡ getD w (LAYOUT-ARITIES + g) 0
+arity-word w g h = block-at LAYOUT w ARITIES KIND-ENDS g (omega arith) (omega arith) ∙ ap (λ (i : ℕ). getD w i 0) (omega arith)
 
-pub kind-start-word : (w : List ℕ) (f : ℕ) → f ≤ 64 → startOf (layoutArrays w .kindEnds) f ≡ startOf (drop 768 w) f
-kind-start-word w f h = block-start 576 w 192 256 f (omega arith) (omega arith)
+pub kind-start-word : (w : List ℕ) (f : ℕ) → f ≤ GROUP-PLACES → startOf (layoutArrays w .kindEnds) f ≡ startOf (drop LAYOUT-KIND-ENDS w) f
+kind-start-word w f h = block-start LAYOUT w KIND-ENDS ENDS f (omega arith) (omega arith)
 
-pub start-word : (w : List ℕ) (f : ℕ) → f ≤ 64 → startOf (layoutArrays w .ends) f ≡ startOf (drop 832 w) f
-start-word w f h = block-start 576 w 256 320 f (omega arith) (omega arith)
+pub start-word : (w : List ℕ) (f : ℕ) → f ≤ GROUP-PLACES → startOf (layoutArrays w .ends) f ≡ startOf (drop LAYOUT-ENDS w) f
+start-word w f h = block-start LAYOUT w ENDS BLOCK-LEN f (omega arith) (omega arith)
 
-pub end-word : (w : List ℕ) (f : ℕ) → f < 64 → getD (layoutArrays w .ends) f 0 ≡ getD w (832 + f) 0
-end-word w f h = block-at 576 w 256 320 f (omega arith) (omega arith) ∙ ap (λ (i : ℕ). getD w i 0) (omega arith)
+pub end-word : (w : List ℕ) (f : ℕ) → f < GROUP-PLACES → getD (layoutArrays w .ends) f 0 ≡ getD w (LAYOUT-ENDS + f) 0
+end-word w f h = block-at LAYOUT w ENDS BLOCK-LEN f (omega arith) (omega arith) ∙ ap (λ (i : ℕ). getD w i 0) (omega arith)
 
 -- ---- one kind's column
 
 module _ (w : List ℕ) (R : Ready w) (p : ℕ) (h : p < widthOf (layoutArrays w)) where
-  place-small : p < 128
+  place-small : p < MAX-KINDS
   place-small = omega (arith, R .formed .wide)
 
-  pub kind-small : (k : ℕ) → k ≡ getD w (576 + p) 0 → k < 128
+  pub kind-small : (k : ℕ) → k ≡ getD w (LAYOUT + p) 0 → k < MAX-KINDS
   kind-small k e = omega (arith, R .known p h .small, kind-word w p place-small)
 
-  pub slot-is : (k s : ℕ) → k ≡ getD w (576 + p) 0 → s ≡ getD w (32 + k) 0 → s ≡ slotNo w p
+  pub slot-is : (k s : ℕ) → k ≡ getD w (LAYOUT + p) 0 → s ≡ getD w (TABLE + k) 0 → s ≡ slotNo w p
   slot-is k s ek es = es ∙ ap (slotOf w) (ek ∙ sym (kind-word w p place-small))
 
-  pub member-lent : (n k s : ℕ) → n ≡ capacityOf w → k ≡ getD w (576 + p) 0 → s ≡ getD w (32 + k) 0 → Lent n s w
+  pub member-lent : (n k s : ℕ) → n ≡ capacityOf w → k ≡ getD w (LAYOUT + p) 0 → s ≡ getD w (TABLE + k) 0 → Lent n s w
   member-lent n k s en ek es =
       rw (en, slot-is k s ek es) (lent (capacityOf w) (kindCapacityOf w) (slotNo w p) w (R .columns) (slot-small w R p h))
 
 -- ---- a group's new kinds
 
 module _ (w : List ℕ) (R : Ready w) (f g : ℕ) (G : InFamily (layoutArrays w) f g) where
-  pub group-few : g < 63
+  pub group-few : g < MAX-GROUP-COUNT
   group-few = omega (arith, groups-inside (layoutArrays w) (R .formed) f (G .family), R .formed .many, G .high)
 
-  pub family-few : f < 63
+  pub family-few : f < MAX-GROUP-COUNT
   family-few = omega (arith, G .family, R .formed .few)
 
-  arity-few : getD (layoutArrays w .arities) g 0 ≤ 15
+  arity-few : getD (layoutArrays w .arities) g 0 ≤ MAX-GROUP-ARITY
   arity-few =
       omega (arith, arity-inside (layoutArrays w) (R .formed) (sized w (R .long)) f (G .family) g (G .low) (G .high), R .formed .family f (G .family) .most)
 
@@ -81,7 +83,7 @@ pub record Groupwise (w₀ : List ℕ) (n f g start arity : ℕ) (w : List ℕ) 
   pub headed : Headed w₀ w (placeNo (layoutArrays w₀) f j)
 
 pub group-none : (w : List ℕ) (n f g prior start arity : ℕ) → Ready w → n ≡ capacityOf w → InFamily (layoutArrays w) f g → prior ≡ priorArity (layoutArrays w) f g
-    → Upto w (placeNo (layoutArrays w) f prior) → start ≡ startOf (drop 768 w) f → arity ≡ getD w (704 + g) 0 → Groupwise w n f g start arity w prior
+    → Upto w (placeNo (layoutArrays w) f prior) → start ≡ startOf (drop LAYOUT-KIND-ENDS w) f → arity ≡ getD w (LAYOUT-ARITIES + g) 0 → Groupwise w n f g start arity w prior
 group-none w n f g prior start arity R en G ep U es ea =
     let q : arity ≡ getD (layoutArrays w .arities) g 0 = ea ∙ sym (arity-word w g (omega (arith, group-few w R f g G))) in
     record {
@@ -100,9 +102,9 @@ pub record NextKind (w : List ℕ) (n g p j : ℕ) : Type 0 where
   pub ready : Ready w
   pub capacity : n ≡ capacityOf w
   pub place : p < widthOf (layoutArrays w)
-  pub group : g < 64
-  pub local : j < 128
-  pub small : p < 128
+  pub group : g < GROUP-PLACES
+  pub local : j < MAX-KINDS
+  pub small : p < MAX-KINDS
 
 module _ (w₀ : List ℕ) (n f g start arity : ℕ) (w : List ℕ) (j : ℕ) (B : Groupwise w₀ n f g start arity w j) where
   abbrev a : Arrays

@@ -7,7 +7,7 @@ use native.Mathlib.Numerals.{add-one}
 use native.Mathlib.Omega.{arith}
 use lib.ListN.{length, getD, set, take}
 use Rattle.model.specs.Sound.{In}
-use Rattle.words.specs.Offsets.{columnStart}
+use Rattle.words.specs.Offsets.{columnStart, CAPACITY, COLUMN-KIND, ENTITIES, GROUP-FAMILIES, KIND-CAPACITY, LAYOUT, LAYOUT-FAMILIES, OWN-GROUP, PLACE-IN-FAMILY, REGISTERED, TABLE}
 use Rattle.words.specs.Part.{between, length-between}
 use Rattle.words.specs.Table.{by-eq}
 use Rattle.component.specs.Columns.{columnOf, Columns}
@@ -40,8 +40,8 @@ reheaded-then n k w₀ w w′ r q =
 
 pub record Owned (n k s o p : ℕ) (w w′ : List ℕ) : Type 0 where
   pub heads : Reheaded n k w w′
-  pub own : getD (columnOf n s w′) 2 0 ≡ o
-  pub local : getD (columnOf n s w′) 3 0 ≡ p
+  pub own : getD (columnOf n s w′) OWN-GROUP 0 ≡ o
+  pub local : getD (columnOf n s w′) PLACE-IN-FAMILY 0 ≡ p
   pub others : (j : ℕ) → j < k → j ≢ s → columnOf n j w′ ≡ columnOf n j w
 
 pub owned : (n k s own place : ℕ) (w : List ℕ) → Columns n k w → s < k → Owned n k s own place w (withOwn n s own place w)
@@ -59,7 +59,7 @@ owned n k s own place w c h =
                 λ j hj.
                 by-eq j s
                 (λ e. rw e (b .words 1 (omega arith) ∙ a .words 1 (omega arith)))
-                (λ ne. ap (λ (u : List ℕ). getD u 1 0) (b .others j hj ne ∙ a .others j hj ne));
+                (λ ne. ap (λ (u : List ℕ). getD u COLUMN-KIND 0) (b .others j hj ne ∙ a .others j hj ne));
             front = b .front ∙ a .front;
             past = b .past ∙ a .past;
           };
@@ -80,26 +80,26 @@ clear-more n k s w₀ w h G =
       heads = reheaded-then n k w₀ w (withOwn n s 0 0 w) (G .heads) (o .heads);
       none =
           λ j hj.
-          by-eq j s (λ e. rw e (o .own)) (λ ne. ap (λ (u : List ℕ). getD u 2 0) (o .others j (omega arith) ne) ∙ G .none j (omega arith));
+          by-eq j s (λ e. rw e (o .own)) (λ ne. ap (λ (u : List ℕ). getD u OWN-GROUP 0) (o .others j (omega arith) ne) ∙ G .none j (omega arith));
     }
 
 -- ---- a change of the heads leaves all but them
 
 module _ (w w′ : List ℕ) (R : Ready w) (H : Heads w w′) where
-  pub word-same : (i : ℕ) → i < 1024 → getD w′ i 0 ≡ getD w i 0
+  pub word-same : (i : ℕ) → i < ENTITIES → getD w′ i 0 ≡ getD w i 0
   word-same i h = word-front (columnStart (capacityOf w) 0) w w′ (H .front) i (omega (arith, start-header (capacityOf w)))
 
   pub capacity-same : capacityOf w′ ≡ capacityOf w
-  capacity-same = word-same 0 (omega arith)
+  capacity-same = word-same CAPACITY (omega arith)
 
   kind-capacity-same : kindCapacityOf w′ ≡ kindCapacityOf w
-  kind-capacity-same = word-same 1 (omega arith)
+  kind-capacity-same = word-same KIND-CAPACITY (omega arith)
 
   pub registered-same : registeredOf w′ ≡ registeredOf w
-  registered-same = word-same 2 (omega arith)
+  registered-same = word-same REGISTERED (omega arith)
 
   pub arrays-same : layoutArrays w′ ≡ layoutArrays w
-  arrays-same = layout-arrays-same w w′ (H .size) (R .long) (word-same 7 (omega arith)) (λ i a b. word-same i (omega arith))
+  arrays-same = layout-arrays-same w w′ (H .size) (R .long) (word-same LAYOUT-FAMILIES (omega arith)) (λ i a b. word-same i (omega arith))
 
   pub head-same : (s i : ℕ) → getD (columnOf (capacityOf w′) s w′) i 0 ≡ getD (columnOf (capacityOf w) s w′) i 0
   head-same s i = ap (λ (c : ℕ). getD (columnOf c s w′) i 0) capacity-same
@@ -109,7 +109,7 @@ module _ (w w′ : List ℕ) (R : Ready w) (H : Heads w w′) where
 
   slotted-same : (k : ℕ) → Slotted w k → Slotted w′ k
   slotted-same k S =
-      let e : slotOf w′ k ≡ slotOf w k = word-same (32 + k) (omega (arith, S .small)) in
+      let e : slotOf w′ k ≡ slotOf w k = word-same (TABLE + k) (omega (arith, S .small)) in
       record {
         small = S .small;
         slot = rw (e, registered-same) (S .slot);
@@ -138,8 +138,8 @@ heads-none w R = reheaded-none (capacityOf w) (kindCapacityOf w) w (R .columns)
 
 -- ---- the heads of the layout's kinds
 
-pub sized : (w : List ℕ) → 1024 ≤ length w → Sized (layoutArrays w)
-sized w l = block-sized (between 576 896 w) (getD w 7 0) (length-between 576 896 w (omega arith))
+pub sized : (w : List ℕ) → ENTITIES ≤ length w → Sized (layoutArrays w)
+sized w l = block-sized (between LAYOUT GROUP-FAMILIES w) (getD w LAYOUT-FAMILIES 0) (length-between LAYOUT GROUP-FAMILIES w (omega arith))
 
 module _ (w : List ℕ) (R : Ready w) where
   abbrev a : Arrays
@@ -173,7 +173,7 @@ module _ (w : List ℕ) (R : Ready w) where
     slot-same : (q : ℕ) → q < widthOf a → slotNo w′ q ≡ slotNo w q
     slot-same q h =
         ap (λ (b : Arrays). slotOf w′ (getD (b .kinds) q 0)) (arrays-same w w′ R (change .heads))
-        ∙ word-same w w′ R (change .heads) (32 + kindNo w q) (omega (arith, R .known q h .small))
+        ∙ word-same w w′ R (change .heads) (TABLE + kindNo w q) (omega (arith, R .known q h .small))
 
     head-other : (t i : ℕ) → t < kindCapacityOf w → t ≢ s → getD (columnOf (capacityOf w′) t w′) i 0 ≡ getD (columnOf (capacityOf w) t w) i 0
     head-other t i h ne = head-same w w′ R (change .heads) t i ∙ ap (λ (u : List ℕ). getD u i 0) (change .others t h ne)

@@ -9,10 +9,11 @@ use borrow.Author.Tests.{ltb-true}
 use lib.Dec.{ltb}
 use lib.ListN.{length, getD, drop, List·getD-eq-default}
 use lib.Seq.{ext-getD}
+use Rattle.model.specs.Numbers.{ENTITY-LEN, MAX-KINDS}
 use Rattle.model.specs.Model.{Family}
 use Rattle.model.specs.Sound.{In, Sound}
 use Rattle.model.proofs.Walk.{bool-cases}
-use Rattle.words.specs.Offsets.{columnStart, columnStart-mono}
+use Rattle.words.specs.Offsets.{columnStart, columnStart-mono, BLOCK-LEN, CAPACITY, COLUMN-KIND, DRAFT, DRAFT-FAMILIES, DRAFT-GROUPS, ENTITIES, EXCLUDED-LEN, GROUP-COUNTS, GROUP-FAMILIES, GROUP-PLACES, KIND-CAPACITY, LAYOUT, LAYOUT-FAMILIES, LAYOUT-GROUPS, REFUSALS, REGISTERED, STAGED-LEN, TABLE, UNREGISTERED}
 use Rattle.words.specs.Part.{between, between-front, between-rest, length-between, getD-between}
 use Rattle.words.specs.Table.{table, table-same}
 use Rattle.component.specs.SparseSet.{rows}
@@ -74,38 +75,38 @@ module _ (w₀ w₁ : List ℕ) (A : Arranged w₀) (M : Sound (meaning w₀)) (
   d = draftArrays w₀
 
   cap₁ : capacityOf w₁ ≡ n
-  cap₁ = P .low 0 (omega arith)
+  cap₁ = P .low CAPACITY (omega arith)
 
   kcap₁ : kindCapacityOf w₁ ≡ k
-  kcap₁ = P .low 1 (omega arith)
+  kcap₁ = P .low KIND-CAPACITY (omega arith)
 
   reg₁ : registeredOf w₁ ≡ registeredOf w₀
-  reg₁ = P .low 2 (omega arith)
+  reg₁ = P .low REGISTERED (omega arith)
 
-  slot₁ : (j : ℕ) → j < 128 → slotOf w₁ j ≡ slotOf w₀ j
-  slot₁ j h = P .lists (32 + j) (omega arith) (omega arith)
+  slot₁ : (j : ℕ) → j < MAX-KINDS → slotOf w₁ j ≡ slotOf w₀ j
+  slot₁ j h = P .lists (TABLE + j) (omega arith) (omega arith)
 
   rest₁ : drop (columnStart n 0) w₁ ≡ drop (columnStart n 0) w₀
-  rest₁ = drop-later 1024 (columnStart n 0) w₀ w₁ (omega (arith, start-header n)) (P .rest)
+  rest₁ = drop-later ENTITIES (columnStart n 0) w₀ w₁ (omega (arith, start-header n)) (P .rest)
 
   column₁ : (s : ℕ) → columnOf n s w₁ ≡ columnOf n s w₀
   column₁ s = front-column n w₀ w₁ rest₁ s
 
   kind₁ : (s : ℕ) → kindAt w₁ s ≡ kindAt w₀ s
-  kind₁ s = ap (λ (c : ℕ). getD (columnOf c s w₁) 1 0) cap₁ ∙ ap (λ (u : List ℕ). getD u 1 0) (column₁ s)
+  kind₁ s = ap (λ (c : ℕ). getD (columnOf c s w₁) COLUMN-KIND 0) cap₁ ∙ ap (λ (u : List ℕ). getD u COLUMN-KIND 0) (column₁ s)
 
-  block₁ : between 576 896 w₁ ≡ between 256 576 w₀
+  block₁ : between LAYOUT GROUP-FAMILIES w₁ ≡ between DRAFT LAYOUT w₀
   block₁ =
-      let l₁ : length (between 576 896 w₁) ≡ 320 = length-between 576 896 w₁ (omega (arith, P .size, long w₀ A)) in
-      let l₀ : length (between 256 576 w₀) ≡ 320 = length-between 256 576 w₀ (omega (arith, long w₀ A)) in
-      ext-getD 0 (between 576 896 w₁) (between 256 576 w₀) (l₁ ∙ sym l₀)
-      (λ i h. getD-between 576 896 i w₁ 0 (omega arith) ∙ P .block i (omega arith) ∙ sym (getD-between 256 576 i w₀ 0 (omega arith)))
+      let l₁ : length (between LAYOUT GROUP-FAMILIES w₁) ≡ BLOCK-LEN = length-between LAYOUT GROUP-FAMILIES w₁ (omega (arith, P .size, long w₀ A)) in
+      let l₀ : length (between DRAFT LAYOUT w₀) ≡ BLOCK-LEN = length-between DRAFT LAYOUT w₀ (omega (arith, long w₀ A)) in
+      ext-getD 0 (between LAYOUT GROUP-FAMILIES w₁) (between DRAFT LAYOUT w₀) (l₁ ∙ sym l₀)
+      (λ i h. getD-between LAYOUT GROUP-FAMILIES i w₁ 0 (omega arith) ∙ P .block i (omega arith) ∙ sym (getD-between DRAFT LAYOUT i w₀ 0 (omega arith)))
 
   arrays₁ : layoutArrays w₁ ≡ d
-  arrays₁ = ap (λ (b : List ℕ). blockArrays b (getD w₁ 7 0)) block₁ ∙ ap (blockArrays (between 256 576 w₀)) (P .families)
+  arrays₁ = ap (λ (b : List ℕ). blockArrays b (getD w₁ LAYOUT-FAMILIES 0)) block₁ ∙ ap (blockArrays (between DRAFT LAYOUT w₀)) (P .families)
 
   sized₀ : Sized d
-  sized₀ = block-sized (between 256 576 w₀) (getD w₀ 5 0) (length-between 256 576 w₀ (omega (arith, long w₀ A)))
+  sized₀ = block-sized (between DRAFT LAYOUT w₀) (getD w₀ DRAFT-FAMILIES 0) (length-between DRAFT LAYOUT w₀ (omega (arith, long w₀ A)))
 
   -- the draft's kinds are registered
   registered₀ : (p : ℕ) → p < widthOf d → In (meaning w₀ .kinds) (getD (d .kinds) p 0)
@@ -119,7 +120,7 @@ module _ (w₀ w₁ : List ℕ) (A : Arranged w₀) (M : Sound (meaning w₀)) (
       let j = getD (d .kinds) p 0 in
       let i = registered₀ p h in
       let S = known-slot w₀ A j i in
-      let small : j < 128 = known-small w₀ A j i in
+      let small : j < MAX-KINDS = known-small w₀ A j i in
       record {
         small = small;
         slot = rw (slot₁ j small, reg₁) (S .real);
@@ -166,33 +167,33 @@ module _ (w₀ w₁ : List ℕ) (A : Arranged w₀) (M : Sound (meaning w₀)) (
     changed : Reheaded n k w₁ w
     changed = rw (cap₁, kcap₁) at H
 
-    same : (i : ℕ) → i < 1024 → getD w i 0 ≡ getD w₁ i 0
+    same : (i : ℕ) → i < ENTITIES → getD w i 0 ≡ getD w₁ i 0
     same i h = word-same w₁ w ready₁ H i h
 
     low : (i : ℕ) → i < 5 → getD w i 0 ≡ getD w₀ i 0
     low i h = same i (omega arith) ∙ P .low i h
 
-    lists : (i : ℕ) → 9 ≤ i → i < 576 → getD w i 0 ≡ getD w₀ i 0
+    lists : (i : ℕ) → 9 ≤ i → i < LAYOUT → getD w i 0 ≡ getD w₀ i 0
     lists i a b = same i (omega arith) ∙ P .lists i a b
 
     size : length w ≡ length w₀
     size = H .size ∙ P .size
 
     cap : capacityOf w ≡ n
-    cap = low 0 (omega arith)
+    cap = low CAPACITY (omega arith)
 
     kcap : kindCapacityOf w ≡ k
-    kcap = low 1 (omega arith)
+    kcap = low KIND-CAPACITY (omega arith)
 
     reg : registeredOf w ≡ registeredOf w₀
-    reg = low 2 (omega arith)
+    reg = low REGISTERED (omega arith)
 
-    slot : (j : ℕ) → j < 128 → slotOf w j ≡ slotOf w₀ j
-    slot j h = lists (32 + j) (omega arith) (omega arith)
+    slot : (j : ℕ) → j < MAX-KINDS → slotOf w j ≡ slotOf w₀ j
+    slot j h = lists (TABLE + j) (omega arith) (omega arith)
 
     kind : (s : ℕ) → s < registeredOf w₀ → kindAt w s ≡ kindAt w₀ s
     kind s h =
-        ap (λ (c : ℕ). getD (columnOf c s w) 1 0) cap ∙ changed .kinds s (omega (arith, A .table .few)) ∙ ap (λ (u : List ℕ). getD u 1 0) (column₁ s)
+        ap (λ (c : ℕ). getD (columnOf c s w) COLUMN-KIND 0) cap ∙ changed .kinds s (omega (arith, A .table .few)) ∙ ap (λ (u : List ℕ). getD u COLUMN-KIND 0) (column₁ s)
 
     row : (s : ℕ) → s < k → rowsOf n s w ≡ rowsOf n s w₀
     row s h = changed .rows s h ∙ ap (rows n) (column₁ s)
@@ -211,7 +212,7 @@ module _ (w₀ w₁ : List ℕ) (A : Arranged w₀) (M : Sound (meaning w₀)) (
           slot = λ j h ne. rw (slot j h, reg) (T .slot j h (λ e. ne (slot j h ∙ e)));
           back =
               λ j h ne.
-              let ne₀ : slotOf w₀ j ≢ 255 = λ e. ne (slot j h ∙ e) in
+              let ne₀ : slotOf w₀ j ≢ UNREGISTERED = λ e. ne (slot j h ∙ e) in
               ap (kindAt w) (slot j h) ∙ kind (slotOf w₀ j) (T .slot j h ne₀) ∙ T .back j h ne₀;
           small = λ s h. let h₀ : s < registeredOf w₀ = rw reg at h in rw (kind s h₀) (T .small s h₀);
           own =
@@ -235,15 +236,15 @@ module _ (w₀ w₁ : List ℕ) (A : Arranged w₀) (M : Sound (meaning w₀)) (
         }
 
     count : layoutGroups w ≡ groupCount (layoutArrays w)
-    count = same 8 (omega arith) ∙ P .groups ∙ A .draftCount ∙ sym (ap groupCount arrays)
+    count = same LAYOUT-GROUPS (omega arith) ∙ P .groups ∙ A .draftCount ∙ sym (ap groupCount arrays)
 
     groups : (g : ℕ) → g < layoutGroups w → GroupSound w (layoutArrays w) g (groupFamilyAt w g)
     groups g h =
         let a = layoutArrays w in
         let F = family-of (a .ends) (a .families) g (omega (arith, count)) in
-        let few : g < 64 = omega (arith, count, ready .formed .many) in
+        let few : g < GROUP-PLACES = omega (arith, count, ready .formed .many) in
         let e : groupFamilyAt w g ≡ F .f =
-        same (896 + g) (omega arith)
+        same (GROUP-FAMILIES + g) (omega arith)
         ∙ P .family (F .f) g (subst (λ (b : Arrays). F .f < b .families) arrays (F .below)) (subst (λ (b : Arrays). startOf (b .ends) (F .f) ≤ g) arrays (F .low))
         (subst (λ (b : Arrays). g < getD (b .ends) (F .f) 0) arrays (F .high)) in
         subst (GroupSound w a g) (sym e) (group-sound (F .f) g (record { family = F .below; low = F .low; high = F .high }))
@@ -251,13 +252,13 @@ module _ (w₀ w₁ : List ℕ) (A : Arranged w₀) (M : Sound (meaning w₀)) (
     layout-sound : LayoutSound w
     layout-sound = record { formed = ready .formed; count = count; groups = groups; none = U .none }
 
-    no-draft : getD w 5 0 ≡ 0
-    no-draft = same 5 (omega arith) ∙ P .none
+    no-draft : getD w DRAFT-FAMILIES 0 ≡ 0
+    no-draft = same DRAFT-FAMILIES (omega arith) ∙ P .none
 
     entity-part : entityPart n w ≡ entityPart n w₀
     entity-part =
-        between-front (columnStart n 0) 1024 (1024 + 16 * n) w₁ w (omega (arith, start-header n)) (changed .front)
-        ∙ between-rest 1024 1024 (1024 + 16 * n) w₀ w₁ (omega arith) (P .rest)
+        between-front (columnStart n 0) ENTITIES (ENTITIES + ENTITY-LEN * n) w₁ w (omega (arith, start-header n)) (changed .front)
+        ∙ between-rest ENTITIES ENTITIES (ENTITIES + ENTITY-LEN * n) w₀ w₁ (omega arith) (P .rest)
 
     arranged : Arranged w
     arranged =
@@ -272,10 +273,10 @@ module _ (w₀ w₁ : List ℕ) (A : Arranged w₀) (M : Sound (meaning w₀)) (
               let l₀ : registeredOf w₀ ≤ s = rw reg at l in
               let h₀ : s < k = rw kcap at h in
               rw cap (row s h₀ ∙ A .vacant s l₀ h₀);
-          staged = rw (low 3 (omega arith)) (A .staged);
-          excluded = rw (low 4 (omega arith)) (A .excluded);
-          draft = subst (λ (m : ℕ). WellFormed (blockArrays (between 256 576 w) m)) (sym no-draft) (none-formed (between 256 576 w));
-          draftCount = same 6 (omega arith) ∙ P .noGroups ∙ sym (ap (λ (m : ℕ). groupCount (blockArrays (between 256 576 w) m)) no-draft);
+          staged = rw (low STAGED-LEN (omega arith)) (A .staged);
+          excluded = rw (low EXCLUDED-LEN (omega arith)) (A .excluded);
+          draft = subst (λ (m : ℕ). WellFormed (blockArrays (between DRAFT LAYOUT w) m)) (sym no-draft) (none-formed (between DRAFT LAYOUT w));
+          draftCount = same DRAFT-GROUPS (omega arith) ∙ P .noGroups ∙ sym (ap (λ (m : ℕ). groupCount (blockArrays (between DRAFT LAYOUT w) m)) no-draft);
           layout = layout-sound;
         }
 
@@ -283,9 +284,9 @@ module _ (w₀ w₁ : List ℕ) (A : Arranged w₀) (M : Sound (meaning w₀)) (
 
     kinds-same : kindsIn w ≡ kindsIn w₀
     unfolding kindsIn
-    kinds-same = ap (λ (m : ℕ). table m (kindAt w)) reg ∙ table-same 0 (registeredOf w₀) (kindAt w₀) (kindAt w) kind
+    kinds-same = ap (λ (m : ℕ). table m (kindAt w)) reg ∙ table-same CAPACITY (registeredOf w₀) (kindAt w₀) (kindAt w) kind
 
-    set-same : (j : ℕ) → j < 128 → setAt w j ≡ setAt w₀ j
+    set-same : (j : ℕ) → j < MAX-KINDS → setAt w j ≡ setAt w₀ j
     set-same j h =
         rw (slot j h, reg, cap)
         (bool-cases (ltb (slotOf w₀ j) (registeredOf w₀))
@@ -294,22 +295,22 @@ module _ (w₀ w₁ : List ℕ) (A : Arranged w₀) (M : Sound (meaning w₀)) (
 
     sets-same : setsIn w ≡ setsIn w₀
     unfolding setsIn
-    sets-same = table-same [] 128 (setAt w₀) (setAt w) set-same
+    sets-same = table-same [] MAX-KINDS (setAt w₀) (setAt w) set-same
 
-    counts-none : (g : ℕ) → getD (between 960 1024 w) g 0 ≡ 0
+    counts-none : (g : ℕ) → getD (between GROUP-COUNTS ENTITIES w) g 0 ≡ 0
     counts-none g =
-        elim (decLt g 64) [
-          | yes h ↦ getD-between 960 1024 g w 0 (omega arith) ∙ same (960 + g) (omega arith) ∙ P .counts g h
-          | no h ↦ List·getD-eq-default (between 960 1024 w) 0 (omega (arith, length-between 960 1024 w (omega (arith, size, long w₀ A))))
+        elim (decLt g GROUP-PLACES) [
+          | yes h ↦ getD-between GROUP-COUNTS ENTITIES g w 0 (omega arith) ∙ same (GROUP-COUNTS + g) (omega arith) ∙ P .counts g h
+          | no h ↦ List·getD-eq-default (between GROUP-COUNTS ENTITIES w) 0 (omega (arith, length-between GROUP-COUNTS ENTITIES w (omega (arith, size, long w₀ A))))
         ]
 
     layout-is : layoutIn w ≡ draftIn w₀
     unfolding layoutIn draftIn
-    layout-is = ap (familiesOf (between 960 1024 w)) arrays ∙ uncounted (between 960 1024 w) d counts-none
+    layout-is = ap (familiesOf (between GROUP-COUNTS ENTITIES w)) arrays ∙ uncounted (between GROUP-COUNTS ENTITIES w) d counts-none
 
     draft-is : draftIn w ≡ []
     unfolding draftIn
-    draft-is = ap (λ (m : ℕ). familiesOf [] (blockArrays (between 256 576 w) m)) no-draft ∙ table-none (familyAt [] (blockArrays (between 256 576 w) 0))
+    draft-is = ap (λ (m : ℕ). familiesOf [] (blockArrays (between DRAFT LAYOUT w) m)) no-draft ∙ table-none (familyAt [] (blockArrays (between DRAFT LAYOUT w) 0))
 
     pub installed-becomes : Becomes w₀ w (installed (meaning w₀))
     unfolding meaning
@@ -321,9 +322,9 @@ module _ (w₀ w₁ : List ℕ) (A : Arranged w₀) (M : Sound (meaning w₀)) (
         let c = cap in
         let kc = kcap in
         let es : entitiesIn (capacityOf w) w ≡ entitiesIn n w₀ = ap (λ (m : ℕ). entitiesIn m w) cap ∙ ap (entity.entitiesOf n) entity-part in
-        let st = staged-same w₀ w size (A .staged) (low 3 (omega arith)) (λ i a b. lists i (omega arith) (omega arith)) in
-        let ex = excluded-same w₀ w size (A .excluded) (low 4 (omega arith)) (λ i a b. lists i (omega arith) (omega arith)) in
-        let re : refusalsOf w ≡ refusalsOf w₀ = lists 16 (omega arith) (omega arith) in
+        let st = staged-same w₀ w size (A .staged) (low STAGED-LEN (omega arith)) (λ i a b. lists i (omega arith) (omega arith)) in
+        let ex = excluded-same w₀ w size (A .excluded) (low EXCLUDED-LEN (omega arith)) (λ i a b. lists i (omega arith) (omega arith)) in
+        let re : refusalsOf w ≡ refusalsOf w₀ = lists REFUSALS (omega arith) (omega arith) in
         record {
           arranged = arranged;
           means =
@@ -339,7 +340,7 @@ module _ (w₀ w₁ : List ℕ) (A : Arranged w₀) (M : Sound (meaning w₀)) (
           size = size;
           past =
               changed .past
-              ∙ drop-later 1024 (columnStart n k) w₀ w₁ (omega (arith, start-header n, columnStart-mono n 0 k (omega arith))) (P .rest);
+              ∙ drop-later ENTITIES (columnStart n k) w₀ w₁ (omega (arith, start-header n, columnStart-mono n 0 k (omega arith))) (P .rest);
         }
 
   -- ---- all of it

@@ -5,6 +5,8 @@ use Prim.Native.Nat.{ℕ, zero, suc, _+_, _-_, _≤_, _<_}
 use native.Mathlib.Omega.{arith}
 use lib.ListN.{length, getD, set, drop, length-set, length-drop}
 use lib.Seq.{getD-set-same, getD-set-other, getD-drop, ext-getD}
+use Rattle.model.specs.Numbers.{MAX-GROUP-COUNT}
+use Rattle.words.specs.Offsets.{BLOCK-LEN, DRAFT, DRAFT-FAMILIES, DRAFT-GROUPS, ENDS, ENTITIES, GROUP-COUNTS, GROUP-FAMILIES, GROUP-PLACES, LAYOUT, LAYOUT-ENDS, LAYOUT-FAMILIES, LAYOUT-GROUPS}
 use Rattle.words.specs.Table.{by-eq}
 use Rattle.words.specs.Part.{between, getD-between}
 use Rattle.words.specs.Stores.{length-stores, miss, hit}
@@ -39,51 +41,51 @@ fill-more w₀ w a i v l h F =
 pub copy-none : (w : List ℕ) → Copied w 0 w
 copy-none w = record { size = refl; here = λ i h. absurd (omega arith); before = λ i h. refl; after = λ i h. refl }
 
-pub copy-more : (w₀ w : List ℕ) (i : ℕ) → i < 320 → 1024 ≤ length w → Copied w₀ i w → Copied w₀ (i + 1) (set w (576 + i) (getD w (256 + i) 0))
+pub copy-more : (w₀ w : List ℕ) (i : ℕ) → i < BLOCK-LEN → ENTITIES ≤ length w → Copied w₀ i w → Copied w₀ (i + 1) (set w (LAYOUT + i) (getD w (DRAFT + i) 0))
 copy-more w₀ w i h l C =
-    let v = getD w (256 + i) 0 in
+    let v = getD w (DRAFT + i) 0 in
     record {
-      size = length-set w (576 + i) v ∙ C .size;
+      size = length-set w (LAYOUT + i) v ∙ C .size;
       here =
           λ j hj.
           by-eq j i
-          (λ e. rw e (getD-set-same w (576 + i) v 0 (omega arith) ∙ C .before (256 + i) (omega arith)))
-          (λ ne. getD-set-other w (576 + i) (576 + j) v 0 (omega arith) ∙ C .here j (omega arith));
-      before = λ j hj. getD-set-other w (576 + i) j v 0 (omega arith) ∙ C .before j hj;
-      after = λ j hj. getD-set-other w (576 + i) j v 0 (omega arith) ∙ C .after j (omega arith);
+          (λ e. rw e (getD-set-same w (LAYOUT + i) v 0 (omega arith) ∙ C .before (DRAFT + i) (omega arith)))
+          (λ ne. getD-set-other w (LAYOUT + i) (LAYOUT + j) v 0 (omega arith) ∙ C .here j (omega arith));
+      before = λ j hj. getD-set-other w (LAYOUT + i) j v 0 (omega arith) ∙ C .before j hj;
+      after = λ j hj. getD-set-other w (LAYOUT + i) j v 0 (omega arith) ∙ C .after j (omega arith);
     }
 
 pub number-none : (w : List ℕ) → Numbered w 0 w
 number-none w = record { size = refl; here = λ f g h l u. absurd (omega arith); before = λ i h. refl; after = λ i h. refl }
 
 -- ends that rise
-earlier : (w : List ℕ) (n : ℕ) → EndsAsk w n → (f e : ℕ) → e < f → f ≤ n → getD w (832 + e) 0 ≤ startOf (drop 832 w) f
+earlier : (w : List ℕ) (n : ℕ) → EndsAsk w n → (f e : ℕ) → e < f → f ≤ n → getD w (LAYOUT-ENDS + e) 0 ≤ startOf (drop LAYOUT-ENDS w) f
 earlier w n A zero e h l = absurd (omega arith)
 earlier w n A (suc f) e h l =
     by-eq e f
-    (λ q. rw q (omega (arith, getD-drop 832 w f 0)))
-    (λ ne. omega (arith, earlier w n A f e (omega arith) (omega arith), A .rising f (omega arith), getD-drop 832 w f 0))
+    (λ q. rw q (omega (arith, getD-drop LAYOUT-ENDS w f 0)))
+    (λ ne. omega (arith, earlier w n A f e (omega arith) (omega arith), A .rising f (omega arith), getD-drop LAYOUT-ENDS w f 0))
 
 -- the ends stay, so a family's start is read as it was
-start-same : (w₀ w : List ℕ) → ((i : ℕ) → i < 896 → getD w i 0 ≡ getD w₀ i 0) → (f : ℕ) → f ≤ 64 → startOf (drop 832 w) f ≡ startOf (drop 832 w₀) f
+start-same : (w₀ w : List ℕ) → ((i : ℕ) → i < GROUP-FAMILIES → getD w i 0 ≡ getD w₀ i 0) → (f : ℕ) → f ≤ GROUP-PLACES → startOf (drop LAYOUT-ENDS w) f ≡ startOf (drop LAYOUT-ENDS w₀) f
 start-same w₀ w same zero h = refl
-start-same w₀ w same (suc f) h = getD-drop 832 w f 0 ∙ same (832 + f) (omega arith) ∙ sym (getD-drop 832 w₀ f 0)
+start-same w₀ w same (suc f) h = getD-drop LAYOUT-ENDS w f 0 ∙ same (LAYOUT-ENDS + f) (omega arith) ∙ sym (getD-drop LAYOUT-ENDS w₀ f 0)
 
 -- where family f's groups start and end
 pub record Spans (w₀ w : List ℕ) (f s e : ℕ) : Type 0 where
-  pub starts : s ≡ startOf (drop 832 w₀) f
-  pub ends : e ≡ getD w₀ (832 + f) 0
+  pub starts : s ≡ startOf (drop LAYOUT-ENDS w₀) f
+  pub ends : e ≡ getD w₀ (LAYOUT-ENDS + f) 0
   pub order : s ≤ e
-  pub most : e ≤ 64
-  pub long : 1024 ≤ length w
+  pub most : e ≤ GROUP-PLACES
+  pub long : ENTITIES ≤ length w
 
-pub spans : (w₀ w : List ℕ) (n f s e : ℕ) → EndsAsk w₀ n → f < n → Numbered w₀ f w → s ≡ startOf (drop 832 w) f → e ≡ getD w (832 + f) 0 → Spans w₀ w f s e
+pub spans : (w₀ w : List ℕ) (n f s e : ℕ) → EndsAsk w₀ n → f < n → Numbered w₀ f w → s ≡ startOf (drop LAYOUT-ENDS w) f → e ≡ getD w (LAYOUT-ENDS + f) 0 → Spans w₀ w f s e
 spans w₀ w n f s e A h N es ee =
-    let b : s ≡ startOf (drop 832 w₀) f = es ∙ start-same w₀ w (N .before) f (omega (arith, A .few)) in
-    let d : e ≡ getD w₀ (832 + f) 0 = ee ∙ N .before (832 + f) (omega (arith, A .few)) in
+    let b : s ≡ startOf (drop LAYOUT-ENDS w₀) f = es ∙ start-same w₀ w (N .before) f (omega (arith, A .few)) in
+    let d : e ≡ getD w₀ (LAYOUT-ENDS + f) 0 = ee ∙ N .before (LAYOUT-ENDS + f) (omega (arith, A .few)) in
     record { starts = b; ends = d; order = omega (arith, A .rising f h); most = omega (arith, A .most f h); long = omega (arith, A .long, N .size) }
 
-pub number-more : (w₀ w w′ : List ℕ) (n f s e : ℕ) → EndsAsk w₀ n → f < n → Numbered w₀ f w → Spans w₀ w f s e → Filled w (896 + s) (896 + e) f w′ → Numbered w₀ (f + 1) w′
+pub number-more : (w₀ w w′ : List ℕ) (n f s e : ℕ) → EndsAsk w₀ n → f < n → Numbered w₀ f w → Spans w₀ w f s e → Filled w (GROUP-FAMILIES + s) (GROUP-FAMILIES + e) f w′ → Numbered w₀ (f + 1) w′
 number-more w₀ w w′ n f s e A h N S F =
     let es = S .starts in
     let ee = S .ends in
@@ -92,20 +94,20 @@ number-more w₀ w w′ n f s e A h N S F =
       here =
           λ i g hi l u.
           by-eq i f
-          (λ q. F .here (896 + g) (omega (arith, rw q at l)) (omega (arith, rw q at u)) ∙ sym q)
+          (λ q. F .here (GROUP-FAMILIES + g) (omega (arith, rw q at l)) (omega (arith, rw q at u)) ∙ sym q)
           (λ ne.
-          let before : getD w₀ (832 + i) 0 ≤ startOf (drop 832 w₀) f = earlier w₀ n A f i (omega arith) (omega arith) in
-          F .before (896 + g) (omega arith) ∙ N .here i g (omega arith) l u);
+          let before : getD w₀ (LAYOUT-ENDS + i) 0 ≤ startOf (drop LAYOUT-ENDS w₀) f = earlier w₀ n A f i (omega arith) (omega arith) in
+          F .before (GROUP-FAMILIES + g) (omega arith) ∙ N .here i g (omega arith) l u);
       before = λ i hi. F .before i (omega arith) ∙ N .before i hi;
       after = λ i hi. F .after i (omega (arith, S .most)) ∙ N .after i hi;
     }
 
 -- ---- the words of a block that stands at b
 
-pub block-at : (b : ℕ) (w : List ℕ) (o e i : ℕ) → o + i < e → e ≤ 320 → getD (between o e (between b (b + 320) w)) i 0 ≡ getD w (b + (o + i)) 0
-block-at b w o e i h l = getD-between o e i (between b (b + 320) w) 0 h ∙ getD-between b (b + 320) (o + i) w 0 (omega arith)
+pub block-at : (b : ℕ) (w : List ℕ) (o e i : ℕ) → o + i < e → e ≤ BLOCK-LEN → getD (between o e (between b (b + BLOCK-LEN) w)) i 0 ≡ getD w (b + (o + i)) 0
+block-at b w o e i h l = getD-between o e i (between b (b + BLOCK-LEN) w) 0 h ∙ getD-between b (b + BLOCK-LEN) (o + i) w 0 (omega arith)
 
-pub block-start : (b : ℕ) (w : List ℕ) (o e f : ℕ) → o + f ≤ e → e ≤ 320 → startOf (between o e (between b (b + 320) w)) f ≡ startOf (drop (b + o) w) f
+pub block-start : (b : ℕ) (w : List ℕ) (o e f : ℕ) → o + f ≤ e → e ≤ BLOCK-LEN → startOf (between o e (between b (b + BLOCK-LEN) w)) f ≡ startOf (drop (b + o) w) f
 block-start b w o e zero h l = refl
 block-start b w o e (suc f) h l =
     let n : b + (o + f) ≡ b + o + f = omega arith in
@@ -113,20 +115,20 @@ block-start b w o e (suc f) h l =
 
 -- ---- the draft in the place of the layout
 
-module _ (w : List ℕ) (A : Arranged w) (w₁ : List ℕ) (C : Copied w 320 w₁) where
-  end-at : (f : ℕ) → f < 64 → getD (draftArrays w .ends) f 0 ≡ getD w₁ (832 + f) 0
+module _ (w : List ℕ) (A : Arranged w) (w₁ : List ℕ) (C : Copied w BLOCK-LEN w₁) where
+  end-at : (f : ℕ) → f < GROUP-PLACES → getD (draftArrays w .ends) f 0 ≡ getD w₁ (LAYOUT-ENDS + f) 0
   end-at f h =
-      let k : 576 + (256 + f) ≡ 832 + f = omega arith in
-      block-at 256 w 256 320 f (omega arith) (omega arith) ∙ sym (C .here (256 + f) (omega arith)) ∙ ap (λ (i : ℕ). getD w₁ i 0) k
+      let k : LAYOUT + (ENDS + f) ≡ LAYOUT-ENDS + f = omega arith in
+      block-at DRAFT w ENDS BLOCK-LEN f (omega arith) (omega arith) ∙ sym (C .here (ENDS + f) (omega arith)) ∙ ap (λ (i : ℕ). getD w₁ i 0) k
 
-  start-at : (f : ℕ) → f ≤ 64 → startOf (draftArrays w .ends) f ≡ startOf (drop 832 w₁) f
+  start-at : (f : ℕ) → f ≤ GROUP-PLACES → startOf (draftArrays w .ends) f ≡ startOf (drop LAYOUT-ENDS w₁) f
   start-at zero h = refl
-  start-at (suc f) h = end-at f (omega arith) ∙ sym (getD-drop 832 w₁ f 0)
+  start-at (suc f) h = end-at f (omega arith) ∙ sym (getD-drop LAYOUT-ENDS w₁ f 0)
 
-  families-few : draftFamilies w ≤ 63
+  families-few : draftFamilies w ≤ MAX-GROUP-COUNT
   families-few = A .draft .few
 
-  pub ends-ask : (n : ℕ) → n ≡ getD w₁ 5 0 → EndsAsk w₁ n
+  pub ends-ask : (n : ℕ) → n ≡ getD w₁ DRAFT-FAMILIES 0 → EndsAsk w₁ n
   ends-ask n e =
       let k : n ≡ draftFamilies w = e ∙ C .before 5 (omega arith) in
       record {
@@ -136,31 +138,31 @@ module _ (w : List ℕ) (A : Arranged w) (w₁ : List ℕ) (C : Copied w 320 w�
         most = λ f h. omega (arith, groups-inside (draftArrays w) (A .draft) f (omega arith), A .draft .many, end-at f (omega (arith, families-few)));
       }
 
-  pub prepared : (n : ℕ) (w₂ w₃ w₄ : List ℕ) → n ≡ getD w₁ 5 0 → Numbered w₁ n w₂ → Filled w₂ 960 1024 0 w₃ → w₄ ≡ switched w₃ → Prepared w w₄
+  pub prepared : (n : ℕ) (w₂ w₃ w₄ : List ℕ) → n ≡ getD w₁ DRAFT-FAMILIES 0 → Numbered w₁ n w₂ → Filled w₂ GROUP-COUNTS ENTITIES 0 w₃ → w₄ ≡ switched w₃ → Prepared w w₄
   prepared n w₂ w₃ w₄ e N F q =
       let k : n ≡ draftFamilies w = e ∙ C .before 5 (omega arith) in
       let size₃ : length w₃ ≡ length w = F .size ∙ N .size ∙ C .size in
-      let l : 1024 ≤ length w₃ = omega (arith, long w A) in
-      let ss : List (ℕ × ℕ) = (7, getD w₃ 5 0) ∷ (8, getD w₃ 6 0) ∷ (5, 0) ∷ (6, 0) ∷ [] in
-      let low₃ : (i : ℕ) → i < 576 → getD w₃ i 0 ≡ getD w i 0 = λ i h. F .before i (omega arith) ∙ N .before i (omega arith) ∙ C .before i h in
+      let l : ENTITIES ≤ length w₃ = omega (arith, long w A) in
+      let ss : List (ℕ × ℕ) = (LAYOUT-FAMILIES, getD w₃ DRAFT-FAMILIES 0) ∷ (LAYOUT-GROUPS, getD w₃ DRAFT-GROUPS 0) ∷ (DRAFT-FAMILIES, 0) ∷ (DRAFT-GROUPS, 0) ∷ [] in
+      let low₃ : (i : ℕ) → i < LAYOUT → getD w₃ i 0 ≡ getD w i 0 = λ i h. F .before i (omega arith) ∙ N .before i (omega arith) ∙ C .before i h in
       let other : (i : ℕ) → 9 ≤ i → getD (switched w₃) i 0 ≡ getD w₃ i 0 = λ i h. miss w₃ ss i (omega arith) in
       let size₄ : length (switched w₃) ≡ length w = length-stores w₃ ss ∙ size₃ in
       rw q
       (record {
         size = size₄;
-        block = λ i h. other (576 + i) (omega arith) ∙ F .before (576 + i) (omega arith) ∙ N .before (576 + i) (omega arith) ∙ C .here i h;
-        families = hit w₃ ss 0 7 (getD w₃ 5 0) (omega arith) (omega arith) ∙ low₃ 5 (omega arith);
-        groups = hit w₃ ss 1 8 (getD w₃ 6 0) (omega arith) (omega arith) ∙ low₃ 6 (omega arith);
+        block = λ i h. other (LAYOUT + i) (omega arith) ∙ F .before (LAYOUT + i) (omega arith) ∙ N .before (LAYOUT + i) (omega arith) ∙ C .here i h;
+        families = hit w₃ ss 0 LAYOUT-FAMILIES (getD w₃ DRAFT-FAMILIES 0) (omega arith) (omega arith) ∙ low₃ DRAFT-FAMILIES (omega arith);
+        groups = hit w₃ ss 1 LAYOUT-GROUPS (getD w₃ DRAFT-GROUPS 0) (omega arith) (omega arith) ∙ low₃ DRAFT-GROUPS (omega arith);
         family =
             λ f g h lo hi.
-            let u : f < 64 = omega (arith, families-few) in
-            let v : getD (draftArrays w .ends) f 0 ≤ 63 = omega (arith, groups-inside (draftArrays w) (A .draft) f h, A .draft .many) in
-            other (896 + g) (omega arith) ∙ F .before (896 + g) (omega arith)
+            let u : f < GROUP-PLACES = omega (arith, families-few) in
+            let v : getD (draftArrays w .ends) f 0 ≤ MAX-GROUP-COUNT = omega (arith, groups-inside (draftArrays w) (A .draft) f h, A .draft .many) in
+            other (GROUP-FAMILIES + g) (omega arith) ∙ F .before (GROUP-FAMILIES + g) (omega arith)
             ∙ N .here f g (omega arith) (omega (arith, start-at f (omega arith))) (omega (arith, end-at f u));
-        counts = λ g h. other (960 + g) (omega arith) ∙ F .here (960 + g) (omega arith) (omega arith);
+        counts = λ g h. other (GROUP-COUNTS + g) (omega arith) ∙ F .here (GROUP-COUNTS + g) (omega arith) (omega arith);
         none = hit w₃ ss 2 5 0 (omega arith) (omega arith);
         noGroups = hit w₃ ss 3 6 0 (omega arith) (omega arith);
         low = λ i h. miss w₃ ss i (omega arith) ∙ low₃ i (omega arith);
         lists = λ i a b. other i a ∙ low₃ i b;
-        rest = drop-same 1024 w (switched w₃) size₄ (λ i h. other i (omega arith) ∙ F .after i h ∙ N .after i (omega arith) ∙ C .after i (omega arith));
+        rest = drop-same ENTITIES w (switched w₃) size₄ (λ i h. other i (omega arith) ∙ F .after i h ∙ N .after i (omega arith) ∙ C .after i (omega arith));
       })

@@ -3,8 +3,9 @@ use mathlib.Core.Path.{_≡_}
 use mathlib.Core.List.{List}
 use Prim.Native.Nat.{ℕ, suc, _+_, _≤_, _<_}
 use lib.ListN.{length, getD, set, take, drop}
+use Rattle.model.specs.Numbers.{MAX-KINDS}
 use Rattle.model.specs.Sound.{In}
-use Rattle.words.specs.Offsets.{columnStart}
+use Rattle.words.specs.Offsets.{columnStart, COLUMN-KIND, ENTITIES, OWN-GROUP}
 use Rattle.component.specs.Columns.{columnOf, rowsOf, Columns}
 use Rattle.layout.specs.Layout.{Arrays, WellFormed, startOf, widthOf}
 use Rattle.memory.specs.Header.{capacityOf, kindCapacityOf, registeredOf, slotOf}
@@ -20,7 +21,7 @@ pub record Reheaded (n k : ℕ) (w w′ : List ℕ) : Type 0 where
   pub columns : Columns n k w′
   pub size : length w′ ≡ length w
   pub rows : (s : ℕ) → s < k → rowsOf n s w′ ≡ rowsOf n s w
-  pub kinds : (s : ℕ) → s < k → getD (columnOf n s w′) 1 0 ≡ getD (columnOf n s w) 1 0
+  pub kinds : (s : ℕ) → s < k → getD (columnOf n s w′) COLUMN-KIND 0 ≡ getD (columnOf n s w) COLUMN-KIND 0
   pub front : take (columnStart n 0) w′ ≡ take (columnStart n 0) w
   pub past : drop (columnStart n k) w′ ≡ drop (columnStart n k) w
 
@@ -30,7 +31,7 @@ Heads w w′ = Reheaded (capacityOf w) (kindCapacityOf w) w w′
 -- the columns of the first m slots are in no group
 pub record Groupless (n k m : ℕ) (w w′ : List ℕ) : Type 0 where
   pub heads : Reheaded n k w w′
-  pub none : (s : ℕ) → s < m → getD (columnOf n s w′) 2 0 ≡ 0
+  pub none : (s : ℕ) → s < m → getD (columnOf n s w′) OWN-GROUP 0 ≡ 0
 
 -- of however many slots the words have
 abbrev pub ClearsHeads : ℕ → ℕ → List ℕ → List ℕ → Type 0
@@ -38,7 +39,7 @@ ClearsHeads n m w w′ = (k : ℕ) → m ≤ k → Columns n k w → Groupless n
 
 -- kind k has a slot, whose column is k's
 pub record Slotted (w : List ℕ) (k : ℕ) : Type 0 where
-  pub small : k < 128
+  pub small : k < MAX-KINDS
   pub slot : slotOf w k < registeredOf w
   pub back : kindAt w (slotOf w k) ≡ k
 
@@ -51,7 +52,7 @@ slotNo w p = slotOf w (kindNo w p)
 
 -- the words are well arranged but for the columns' heads: enough for the heads to be set
 pub record Ready (w : List ℕ) : Type 0 where
-  pub long : 1024 ≤ length w
+  pub long : ENTITIES ≤ length w
   pub columns : Columns (capacityOf w) (kindCapacityOf w) w
   pub few : registeredOf w ≤ kindCapacityOf w
   pub formed : WellFormed (layoutArrays w)

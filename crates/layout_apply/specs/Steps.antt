@@ -3,6 +3,7 @@ use mathlib.Core.Path.{_≡_}
 use mathlib.Core.List.{List, [], _∷_}
 use Prim.Native.Nat.{ℕ, _+_, _≤_, _<_}
 use lib.ListN.{length, getD, drop}
+use Rattle.words.specs.Offsets.{BLOCK-LEN, DRAFT, DRAFT-FAMILIES, DRAFT-GROUPS, ENTITIES, GROUP-COUNTS, GROUP-FAMILIES, GROUP-PLACES, LAYOUT, LAYOUT-ENDS, LAYOUT-FAMILIES, LAYOUT-GROUPS}
 use Rattle.model.specs.Model.{setLayout}
 use Rattle.model.specs.Store.{Store, withStorage, withDraft}
 use Rattle.words.specs.Stores.{stores}
@@ -30,38 +31,38 @@ pub record Filled (w : List ℕ) (a e v : ℕ) (w′ : List ℕ) : Type 0 where
 -- the first n words of the draft's block are the layout's
 pub record Copied (w : List ℕ) (n : ℕ) (w′ : List ℕ) : Type 0 where
   pub size : length w′ ≡ length w
-  pub here : (i : ℕ) → i < n → getD w′ (576 + i) 0 ≡ getD w (256 + i) 0
-  pub before : (i : ℕ) → i < 576 → getD w′ i 0 ≡ getD w i 0
-  pub after : (i : ℕ) → 576 + n ≤ i → getD w′ i 0 ≡ getD w i 0
+  pub here : (i : ℕ) → i < n → getD w′ (LAYOUT + i) 0 ≡ getD w (DRAFT + i) 0
+  pub before : (i : ℕ) → i < LAYOUT → getD w′ i 0 ≡ getD w i 0
+  pub after : (i : ℕ) → LAYOUT + n ≤ i → getD w′ i 0 ≡ getD w i 0
 
 -- the ends of the first n families' groups, as the layout's block has them, are no more than 64
 pub record EndsAsk (w : List ℕ) (n : ℕ) : Type 0 where
-  pub long : 1024 ≤ length w
-  pub few : n ≤ 64
-  pub rising : (f : ℕ) → f < n → startOf (drop 832 w) f ≤ getD w (832 + f) 0
-  pub most : (f : ℕ) → f < n → getD w (832 + f) 0 ≤ 64
+  pub long : ENTITIES ≤ length w
+  pub few : n ≤ GROUP-PLACES
+  pub rising : (f : ℕ) → f < n → startOf (drop LAYOUT-ENDS w) f ≤ getD w (LAYOUT-ENDS + f) 0
+  pub most : (f : ℕ) → f < n → getD w (LAYOUT-ENDS + f) 0 ≤ GROUP-PLACES
 
 -- each group of the first n families has its family's number
 pub record Numbered (w : List ℕ) (n : ℕ) (w′ : List ℕ) : Type 0 where
   pub size : length w′ ≡ length w
-  pub here : (f g : ℕ) → f < n → startOf (drop 832 w) f ≤ g → g < getD w (832 + f) 0 → groupFamilyAt w′ g ≡ f
-  pub before : (i : ℕ) → i < 896 → getD w′ i 0 ≡ getD w i 0
-  pub after : (i : ℕ) → 960 ≤ i → getD w′ i 0 ≡ getD w i 0
+  pub here : (f g : ℕ) → f < n → startOf (drop LAYOUT-ENDS w) f ≤ g → g < getD w (LAYOUT-ENDS + f) 0 → groupFamilyAt w′ g ≡ f
+  pub before : (i : ℕ) → i < GROUP-FAMILIES → getD w′ i 0 ≡ getD w i 0
+  pub after : (i : ℕ) → GROUP-COUNTS ≤ i → getD w′ i 0 ≡ getD w i 0
 
 -- the draft's numbers of families and groups are the layout's, and those of the draft 0
 abbrev pub switched : List ℕ → List ℕ
-switched w = stores w ((7, getD w 5 0) ∷ (8, getD w 6 0) ∷ (5, 0) ∷ (6, 0) ∷ [])
+switched w = stores w ((LAYOUT-FAMILIES, getD w DRAFT-FAMILIES 0) ∷ (LAYOUT-GROUPS, getD w DRAFT-GROUPS 0) ∷ (DRAFT-FAMILIES, 0) ∷ (DRAFT-GROUPS, 0) ∷ [])
 
 -- the draft is in the place of the layout in force, with its groups' families and no counts, and no draft is left; the other words are as they were
 pub record Prepared (w w′ : List ℕ) : Type 0 where
   pub size : length w′ ≡ length w
-  pub block : (i : ℕ) → i < 320 → getD w′ (576 + i) 0 ≡ getD w (256 + i) 0
+  pub block : (i : ℕ) → i < BLOCK-LEN → getD w′ (LAYOUT + i) 0 ≡ getD w (DRAFT + i) 0
   pub families : layoutFamilies w′ ≡ draftFamilies w
   pub groups : layoutGroups w′ ≡ draftGroups w
   pub family : (f g : ℕ) → f < draftFamilies w → startOf (draftArrays w .ends) f ≤ g → g < getD (draftArrays w .ends) f 0 → groupFamilyAt w′ g ≡ f
-  pub counts : (g : ℕ) → g < 64 → countAt w′ g ≡ 0
+  pub counts : (g : ℕ) → g < GROUP-PLACES → countAt w′ g ≡ 0
   pub none : draftFamilies w′ ≡ 0
   pub noGroups : draftGroups w′ ≡ 0
   pub low : (i : ℕ) → i < 5 → getD w′ i 0 ≡ getD w i 0
-  pub lists : (i : ℕ) → 9 ≤ i → i < 576 → getD w′ i 0 ≡ getD w i 0
-  pub rest : drop 1024 w′ ≡ drop 1024 w
+  pub lists : (i : ℕ) → 9 ≤ i → i < LAYOUT → getD w′ i 0 ≡ getD w i 0
+  pub rest : drop ENTITIES w′ ≡ drop ENTITIES w

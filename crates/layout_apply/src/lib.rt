@@ -6,6 +6,8 @@ use words::LAYOUT_KIND_ENDS;
 ghost use mathlib.Core.Path.{_≡_};
 ghost use Prim.Native.Nat.{_+_, _≤_, _<_};
 ghost use lib.ListN.{length, getD};
+ghost use Rattle.model.specs.Numbers.{MAX-KINDS};
+ghost use Rattle.words.specs.Offsets.{BLOCK-LEN, ENTITIES, GROUP-PLACES};
 ghost use Rattle.model.specs.Model.{regroup};
 ghost use Rattle.model.specs.Sound.{Sound};
 ghost use Rattle.component.specs.Columns.{Columns, Lent};
@@ -33,8 +35,8 @@ fn fill(words: &mut [u32], start: usize, end: usize, value: usize)
 
 // The draft's block becomes the layout's.
 fn copy_block(words: &mut [u32])
-    requires { ⌜ 1024 ≤ length (now words) ⌝ }
-    ensures { λ _. ⌜ Copied (now (words .entry)) 320 (now (words .exit)) ⌝ }
+    requires { ⌜ ENTITIES ≤ length (now words) ⌝ }
+    ensures { λ _. ⌜ Copied (now (words .entry)) BLOCK-LEN (now (words .exit)) ⌝ }
 {
     let mut i = 0;
     while i < words::BLOCK_LEN {
@@ -64,7 +66,7 @@ fn number_groups(words: &mut [u32], families: usize)
 
 // The draft's numbers of families and groups become the layout's. No draft is left.
 fn switch(words: &mut [u32])
-    requires { ⌜ 1024 ≤ length (now words) ⌝ }
+    requires { ⌜ ENTITIES ≤ length (now words) ⌝ }
     ensures { λ _. ⌜ now (words .exit) ≡ switched (now (words .entry)) ⌝ }
 {
     words[words::LAYOUT_FAMILIES] = words[words::DRAFT_FAMILIES];
@@ -113,7 +115,7 @@ fn put_member(words: &mut [u32], n: usize, p: usize, g: usize, j: usize)
     requires { ⌜ Ready (now words) ⌝ }
     requires { ⌜ n ≡ capacityOf (now words) ⌝ }
     requires { ⌜ p < widthOf (layoutArrays (now words)) ⌝ }
-    requires { ⌜ (g < 64) × (j < 128) ⌝ }
+    requires { ⌜ (g < GROUP-PLACES) × (j < MAX-KINDS) ⌝ }
     ensures { λ _. ⌜ now (words .exit) ≡ withOwn n (slotNo (now (words .entry)) p) (g + 1) j (now (words .entry)) ⌝ }
 {
     let kind = words::word(words, words::LAYOUT + p);

@@ -6,6 +6,8 @@ use native.Mathlib.Decide.{decLt}
 use native.Mathlib.Omega.{arith}
 use lib.Dec.{eqb}
 use lib.ListN.{length, getD, take}
+use Rattle.model.specs.Numbers.{MAX-GROUP-ARITY, MAX-KINDS}
+use Rattle.words.specs.Offsets.{UNREGISTERED}
 use Rattle.model.specs.Lists.{count}
 use Rattle.model.specs.Model.{Family, kindsOf}
 use Rattle.model.specs.Sound.{In, BuildableFamily, BuildableFamilies, Buildable, Uncounted, AllUncounted}
@@ -27,7 +29,7 @@ rising-groups counts g ks b [] r = tt
 rising-groups counts g ks b (a ∷ ars) r =
     (omega (arith, r .0, length-between b a ks (rising-le a (length ks) ars (r .1))), rising-groups counts (suc g) ks a ars (r .1))
 
-buildable-family : (counts : List ℕ) (g : ℕ) (ks ars : List ℕ) → 2 ≤ length ks → length ks ≤ 15 → Rising 1 (length ks) ars → BuildableFamily (groupsFrom counts g ks 0 ars)
+buildable-family : (counts : List ℕ) (g : ℕ) (ks ars : List ℕ) → 2 ≤ length ks → length ks ≤ MAX-GROUP-ARITY → Rising 1 (length ks) ars → BuildableFamily (groupsFrom counts g ks 0 ars)
 unfolding groupsFrom Rising
 buildable-family counts g ks [] lo hi r = absurd (omega (arith, r))
 buildable-family counts g ks (a ∷ ars) lo hi r =
@@ -68,11 +70,11 @@ pub uncounted : (a : Arrays) → AllUncounted (familiesOf [] a)
 uncounted a = all-uncounted (a .families) (familyAt [] a) (λ i. uncounted-groups (startOf (a .ends) i) (kindsAt a i) 0 (aritiesAt a i))
 
 -- of a sound block, where the table's words that are not 255 are those of the registered kinds
-pub block-buildable : (w table : List ℕ) (n g : ℕ) (counts registered : List ℕ) → BlockSound w table n g → ((k : ℕ) → k < 128 → (getD table k 0 ≡ 255 → ⊥) → In registered k)
+pub block-buildable : (w table : List ℕ) (n g : ℕ) (counts registered : List ℕ) → BlockSound w table n g → ((k : ℕ) → k < MAX-KINDS → (getD table k 0 ≡ UNREGISTERED → ⊥) → In registered k)
     → Buildable registered (familiesOf counts (blockArrays w n))
 block-buildable w table n g counts registered s t =
     buildable (blockArrays w n) (s .formed .good) (block-sized w n (s .formed .size)) counts registered
     (λ k c. t k (small k c) (s .registered k c))
   where
-    small : (k : ℕ) → 1 ≤ count eqb k (take (widthOf (blockArrays w n)) (blockArrays w n .kinds)) → k < 128
-    small k c = elim (decLt k 128) [ yes h ↦ h | no h ↦ absurd (omega (arith, s .formed .good .kinds .known k (omega arith))) ]
+    small : (k : ℕ) → 1 ≤ count eqb k (take (widthOf (blockArrays w n)) (blockArrays w n .kinds)) → k < MAX-KINDS
+    small k c = elim (decLt k MAX-KINDS) [ yes h ↦ h | no h ↦ absurd (omega (arith, s .formed .good .kinds .known k (omega arith))) ]

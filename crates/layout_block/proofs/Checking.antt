@@ -8,6 +8,8 @@ use borrow.Author.Tests.{eq-eqb, ne-eqb}
 use lib.Dec.{eqb}
 use lib.ListN.{length, getD, take, drop, set, length-set, replicate, take-append-drop, getD-replicate}
 use lib.Seq.{take-suc, take-take, drop-length, getD-set-same, getD-set-other}
+use Rattle.model.specs.Numbers.{MAX-GROUP-COUNT, MAX-KINDS}
+use Rattle.words.specs.Offsets.{ARITIES, BLOCK-LEN, ENDS, KIND-ENDS, UNREGISTERED}
 use Rattle.model.specs.Lists.{one, count, count-append}
 use Rattle.words.specs.Part.{between}
 use Rattle.words.specs.Table.{by-eq}
@@ -82,8 +84,8 @@ pub record FormedSoFar (a : Arrays) (k g f : ℕ) : Type 0 where
   pub below : f ≤ a .families
   pub kinds : k ≡ startOf (a .kindEnds) f
   pub groups : g ≡ startOf (a .ends) f
-  pub wide : k ≤ 128
-  pub many : g ≤ 63
+  pub wide : k ≤ MAX-KINDS
+  pub many : g ≤ MAX-GROUP-COUNT
   pub family : (i : ℕ) → i < f → FamilyFormed a i
 
 pub formed-none : (a : Arrays) → FormedSoFar a 0 0 0
@@ -134,20 +136,20 @@ kind-counts l i h =
 -- the kinds before i are sound, and the table marks them
 pub record SeenSoFar (table l seen : List ℕ) (i : ℕ) : Type 0 where
   pub below : i ≤ length l
-  pub size : length seen ≡ 128
-  pub marks : (k : ℕ) → k < 128 → getD seen k 0 ≡ count eqb k (take i l)
+  pub size : length seen ≡ MAX-KINDS
+  pub marks : (k : ℕ) → k < MAX-KINDS → getD seen k 0 ≡ count eqb k (take i l)
   pub sound : KindsOk table (take i l)
 
-pub seen-none : (table l : List ℕ) → SeenSoFar table l (replicate 128 0) 0
+pub seen-none : (table l : List ℕ) → SeenSoFar table l (replicate MAX-KINDS 0) 0
 seen-none table l =
     record {
       below = omega arith;
       size = refl;
-      marks = λ k h. getD-replicate 128 k 0 0 h;
+      marks = λ k h. getD-replicate MAX-KINDS k 0 0 h;
       sound = record { once = record { once = λ k. omega arith; known = λ k h. refl }; registered = λ k h. absurd (omega arith) };
     }
 
-pub seen-more : (table l seen : List ℕ) (i : ℕ) → i < length l → getD l i 0 < 128 → (getD seen (getD l i 0) 0 ≡ 1 → ⊥) → (getD table (getD l i 0) 0 ≡ 255 → ⊥)
+pub seen-more : (table l seen : List ℕ) (i : ℕ) → i < length l → getD l i 0 < MAX-KINDS → (getD seen (getD l i 0) 0 ≡ 1 → ⊥) → (getD table (getD l i 0) 0 ≡ UNREGISTERED → ⊥)
     → SeenSoFar table l seen i → SeenSoFar table l (set seen (getD l i 0) 1) (i + 1)
 seen-more table l seen i h small new reg s =
     let v = getD l i 0 in
@@ -171,7 +173,7 @@ seen-more table l seen i h small new reg s =
 
 -- ---- the whole block
 
-pub families-of : (w : List ℕ) (n : ℕ) → WellFormed (blockArrays w n) → FamiliesFormed (arraysIn [] (between 128 192 w) (between 192 256 w) (between 256 320 w) n)
+pub families-of : (w : List ℕ) (n : ℕ) → WellFormed (blockArrays w n) → FamiliesFormed (arraysIn [] (between ARITIES KIND-ENDS w) (between KIND-ENDS ENDS w) (between ENDS BLOCK-LEN w) n)
 families-of w n good =
     record {
       wide = good .wide;
@@ -179,13 +181,13 @@ families-of w n good =
       family = λ f h. let x = good .family f h in record { least = x .least; most = x .most; some = x .some; rising = x .rising };
     }
 
-kinds-front : (w : List ℕ) (n m : ℕ) → n ≤ 128 → n ≡ m → take m (between 0 128 w) ≡ take n w
-kinds-front w n m h e = ap (λ (k : ℕ). take k (between 0 128 w)) (sym e) ∙ take-take n 128 w h
+kinds-front : (w : List ℕ) (n m : ℕ) → n ≤ MAX-KINDS → n ≡ m → take m (between 0 ARITIES w) ≡ take n w
+kinds-front w n m h e = ap (λ (k : ℕ). take k (between 0 ARITIES w)) (sym e) ∙ take-take n MAX-KINDS w h
 
-pub block-sound : (w table : List ℕ) (n g width : ℕ) → length w ≡ 320 → n ≤ 63 → FamiliesFormed (arraysIn [] (between 128 192 w) (between 192 256 w) (between 256 320 w) n)
-    → startOf (between 256 320 w) n ≡ g → width ≡ startOf (between 192 256 w) n → KindsOk table (take width w) → BlockSound w table n g
+pub block-sound : (w table : List ℕ) (n g width : ℕ) → length w ≡ BLOCK-LEN → n ≤ MAX-GROUP-COUNT → FamiliesFormed (arraysIn [] (between ARITIES KIND-ENDS w) (between KIND-ENDS ENDS w) (between ENDS BLOCK-LEN w) n)
+    → startOf (between ENDS BLOCK-LEN w) n ≡ g → width ≡ startOf (between KIND-ENDS ENDS w) n → KindsOk table (take width w) → BlockSound w table n g
 block-sound w table n g width size few f eg ew k =
-    let front = kinds-front w width (startOf (between 192 256 w) n) (omega (arith, f .wide)) ew in
+    let front = kinds-front w width (startOf (between KIND-ENDS ENDS w) n) (omega (arith, f .wide)) ew in
     record {
       formed = record {
         size = size;
@@ -201,7 +203,7 @@ block-sound w table n g width size few f eg ew k =
       registered = rw front (k .registered);
     }
 
-pub block-kinds : (w table : List ℕ) (n g width : ℕ) → width ≡ startOf (between 192 256 w) n → BlockSound w table n g → KindsOk table (take width w)
+pub block-kinds : (w table : List ℕ) (n g width : ℕ) → width ≡ startOf (between KIND-ENDS ENDS w) n → BlockSound w table n g → KindsOk table (take width w)
 block-kinds w table n g width ew s =
-    let front = kinds-front w width (startOf (between 192 256 w) n) (omega (arith, s .formed .good .wide)) ew in
+    let front = kinds-front w width (startOf (between KIND-ENDS ENDS w) n) (omega (arith, s .formed .good .wide)) ew in
     record { once = rw front at (s .formed .good .kinds); registered = rw front at (s .registered) }

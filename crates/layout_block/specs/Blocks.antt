@@ -4,12 +4,13 @@ use mathlib.Core.Path.{_≡_}
 use mathlib.Core.List.{List}
 use Prim.Native.Nat.{ℕ, _+_, _≤_, _<_}
 use lib.ListN.{length, getD}
+use Rattle.words.specs.Offsets.{BLOCK-LEN}
 use Rattle.layout.specs.Layout.{blockArrays, arraysOf, groupCount, familiesOf, WellFormed, Formed}
 use Rattle.layout.specs.declared.group_layout.Layout.{Layout}
 
 -- the block is such as commands can build (01, "sound"), for n families and g groups
 pub record BlockFormed (w : List ℕ) (n g : ℕ) : Type 0 where
-  pub size : length w ≡ 320
+  pub size : length w ≡ BLOCK-LEN
   pub good : WellFormed (blockArrays w n)
   pub groups : g ≡ groupCount (blockArrays w n)
 

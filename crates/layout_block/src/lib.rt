@@ -3,6 +3,8 @@ ghost use mathlib.Core.Path.{_≡_};
 ghost use mathlib.Core.List.{[]};
 ghost use Prim.Native.Nat.{_+_, _-_, _≤_, _<_};
 ghost use lib.ListN.{length};
+ghost use Rattle.model.specs.Numbers.{MAX-KINDS};
+ghost use Rattle.words.specs.Offsets.{BLOCK-LEN, GROUP-PLACES};
 ghost use Rattle.words.specs.Decides.{Decides};
 ghost use Rattle.layout.specs.Layout.{Formed, Rising, startOf, arraysIn};
 ghost use Rattle.layout_block.specs.Blocks.{BlockFormed, ReadFrom, WrittenTo, FetchAsk, Fetched, PutAt};
@@ -75,7 +77,7 @@ pub fn read_layout(block: &[u32], families: usize, groups: usize) -> Layout
 
 // Writes a layout into a block.
 pub fn write_layout(block: &mut [u32], l: Layout)
-    requires { ⌜ Formed l × (length (now block) ≡ 320) ⌝ }
+    requires { ⌜ Formed l × (length (now block) ≡ BLOCK-LEN) ⌝ }
     ensures { λ r. ⌜ WrittenTo l (now (block .exit)) ⌝ }
 {
     let families = l.families;
@@ -111,22 +113,22 @@ fn rises(arities: &[u32], n: usize) -> bool
 
 // Is there a family from kind k to ke and from group g to ge?
 fn family_ok(arities: &[u32], k: usize, ke: usize, g: usize, ge: usize) -> bool
-    requires { ⌜ (length (now arities) ≡ 64) × (k ≤ 128) ⌝ }
+    requires { ⌜ (length (now arities) ≡ GROUP-PLACES) × (k ≤ MAX-KINDS) ⌝ }
     ensures { λ r. ⌜ Decides r (FamilyInside (now (arities .entry)) k ke g ge) ⌝ }
 {
     if ke < k + 2 {
         return false;
     }
-    if k + 15 < ke {
+    if k + model::MAX_GROUP_ARITY < ke {
         return false;
     }
-    if 128 < ke {
+    if model::MAX_KINDS < ke {
         return false;
     }
     if ge <= g {
         return false;
     }
-    if 63 < ge {
+    if model::MAX_GROUP_COUNT < ge {
         return false;
     }
     if !rises(&arities[g..ge], ke - k) {
@@ -161,19 +163,19 @@ fn families_ok<'a>(
 
 // Are the kinds registered, and none there twice? A table of what was seen saves the scan.
 pub fn kinds_ok(kinds: &[u32], table: &[u32]) -> bool
-    requires { ⌜ length (now table) ≡ 128 ⌝ }
+    requires { ⌜ length (now table) ≡ MAX-KINDS ⌝ }
     ensures { λ r. ⌜ Decides r (KindsOk (now (table .entry)) (now (kinds .entry))) ⌝ }
 {
     let mut seen = [0u8; 128];
     for i in 0..kinds.len() {
         let k = kinds[i] as usize;
-        if 128 <= k {
+        if model::MAX_KINDS <= k {
             return false;
         }
         if seen[k] == 1 {
             return false;
         }
-        if table[k] == 255 {
+        if table[k] == words::UNREGISTERED {
             return false;
         }
         seen[k] = 1;
@@ -183,10 +185,10 @@ pub fn kinds_ok(kinds: &[u32], table: &[u32]) -> bool
 
 // Is the block such as commands can build, of registered kinds?
 pub fn block_ok(block: &[u32], families: usize, groups: usize, table: &[u32]) -> bool
-    requires { ⌜ (length (now block) ≡ 320) × (length (now table) ≡ 128) ⌝ }
+    requires { ⌜ (length (now block) ≡ BLOCK-LEN) × (length (now table) ≡ MAX-KINDS) ⌝ }
     ensures { λ r. ⌜ Decides r (BlockSound (now (block .entry)) (now (table .entry)) families groups) ⌝ }
 {
-    if 63 < families {
+    if model::MAX_GROUP_COUNT < families {
         return false;
     }
     if !families_ok(

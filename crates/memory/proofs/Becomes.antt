@@ -8,10 +8,11 @@ use borrow.Author.Tests.{lt-ltb, ltb-true}
 use lib.Dec.{ltb}
 use lib.ListN.{length, getD, set, drop, length-set}
 use lib.Seq.{getD-set-same, getD-set-other, drop-set-lt, ext-getD}
+use Rattle.model.specs.Numbers.{ENTITY-LEN, LIST-CAPACITY, MAX-KINDS, columnLen}
 use Rattle.model.specs.Model.{Entities, SparseSet, Storage, setOf}
 use Rattle.model.specs.Run.{withControl, Store}
 use Rattle.model.proofs.Walk.{bool-cases}
-use Rattle.words.specs.Offsets.{columnStart, columnStart-mono}
+use Rattle.words.specs.Offsets.{columnStart, columnStart-mono, DRAFT-FAMILIES, DRAFT-GROUPS, ENTITIES, EXCLUDED-LEN, GROUP-COUNTS, GROUP-FAMILIES, GROUP-PLACES, LAYOUT, STAGED-KINDS, STAGED-LEN, TABLE, UNREGISTERED}
 use Rattle.words.specs.Part.{between, between-rest, length-between, getD-between}
 use Rattle.words.specs.Table.{table, table-same, table-set, getD-table, by-eq, length-table}
 use Rattle.component.specs.SparseSet.{rows, Sound}
@@ -29,31 +30,31 @@ use Rattle.memory.proofs.Frames.{word-front, start-header, drop-later, 
 -- ---- reading a registered kind's sparse set
 
 module _ (w : List ℕ) (A : Arranged w) where
-  kinds-few : kindCapacityOf w ≤ 128
+  kinds-few : kindCapacityOf w ≤ MAX-KINDS
   kinds-few = A .limits .mostKinds
 
   -- slot s's rows are its kind's sparse set
   pub set-at : (s : ℕ) → s < registeredOf w → setAt w (kindAt w s) ≡ rowsOf (capacityOf w) s w
   set-at s h = rw (A .table .own s h, lt-ltb s (registeredOf w) h)
 
-  pub set-in : (k : ℕ) → k < 128 → setOf (setsIn w) k ≡ setAt w k
+  pub set-in : (k : ℕ) → k < MAX-KINDS → setOf (setsIn w) k ≡ setAt w k
   unfolding setsIn
-  set-in k h = getD-table 128 (setAt w) k [] h
+  set-in k h = getD-table MAX-KINDS (setAt w) k [] h
 
   -- a slot below the registered number is no 255
-  pub slot-real : (k : ℕ) → slotOf w k < registeredOf w → slotOf w k ≢ 255
+  pub slot-real : (k : ℕ) → slotOf w k < registeredOf w → slotOf w k ≢ UNREGISTERED
   slot-real k h = omega (arith, A .table .few, kinds-few)
 
 -- the sparse sets, from the registered columns
 module _ (w w′ : List ℕ) (K : Kept w w′) where
-  set-same : (k : ℕ) → k < 128 → (slotOf w k < registeredOf w → rowsOf (capacityOf w) (slotOf w k) w′ ≡ rowsOf (capacityOf w) (slotOf w k) w) → setAt w′ k ≡ setAt w k
+  set-same : (k : ℕ) → k < MAX-KINDS → (slotOf w k < registeredOf w → rowsOf (capacityOf w) (slotOf w k) w′ ≡ rowsOf (capacityOf w) (slotOf w k) w) → setAt w′ k ≡ setAt w k
   set-same k h r =
       rw (K .slots k h, K .registered, K .capacity)
       (bool-cases (ltb (slotOf w k) (registeredOf w)) (λ t. rw (t, r (ltb-true (slotOf w k) (registeredOf w) t))) (λ t. rw t))
 
   pub sets-same : ((s : ℕ) → s < registeredOf w → rowsOf (capacityOf w) s w′ ≡ rowsOf (capacityOf w) s w) → setsIn w′ ≡ setsIn w
   unfolding setsIn
-  sets-same r = table-same [] 128 (setAt w) (setAt w′) (λ k h. set-same k h (r (slotOf w k)))
+  sets-same r = table-same [] MAX-KINDS (setAt w) (setAt w′) (λ k h. set-same k h (r (slotOf w k)))
 
 -- ---- one column
 
@@ -67,7 +68,7 @@ module _ (w w′ : List ℕ) (A : Arranged w) (s : ℕ) (hs : s < registeredOf w
   few : registeredOf w ≤ kindCapacityOf w
   few = A .table .few
 
-  same : (i : ℕ) → i < 1024 → getD w′ i 0 ≡ getD w i 0
+  same : (i : ℕ) → i < ENTITIES → getD w′ i 0 ≡ getD w i 0
   same i h = word-front (columnStart n 0) w w′ (o .front) i (omega (arith, start-header n))
 
   one-kept : Kept w w′
@@ -81,20 +82,20 @@ module _ (w w′ : List ℕ) (A : Arranged w) (s : ℕ) (hs : s < registeredOf w
   one-sets : setsIn w′ ≡ set (setsIn w) k (f (setOf (setsIn w) k))
   unfolding setsIn
   one-sets =
-      let hk : k < 128 = A .table .small s hs in
+      let hk : k < MAX-KINDS = A .table .small s hs in
       let was : setOf (setsIn w) k ≡ rowsOf n s w = set-in w A k hk ∙ set-at w A s hs in
       let sl : slotOf w′ k ≡ s = one-kept .slots k hk ∙ A .table .own s hs in
       let here : setAt w′ k ≡ f (setOf (setsIn w) k) =
       rw (sl, one-kept .registered, one-kept .capacity, lt-ltb s (registeredOf w) hs) (o .becomes ∙ ap f (sym was)) in
-      table-set [] (f (setOf (setsIn w) k)) 128 (setAt w) (setAt w′) k hk here
+      table-set [] (f (setOf (setsIn w) k)) MAX-KINDS (setAt w) (setAt w′) k hk here
       (λ j h ne.
       set-same w w′ one-kept j h
       (λ l. rows-other (slotOf w j) (omega arith) (λ e. ne (sym (A .table .back j h (slot-real w A j l)) ∙ ap (kindAt w) e))))
 
   one-entities : entityPart n w′ ≡ entityPart n w
-  one-entities = part-same w w′ (o .size) 1024 (1024 + 16 * n) enough (λ i a b. word-front (columnStart n 0) w w′ (o .front) i (omega (arith, start-header n)))
+  one-entities = part-same w w′ (o .size) ENTITIES (ENTITIES + ENTITY-LEN * n) enough (λ i a b. word-front (columnStart n 0) w w′ (o .front) i (omega (arith, start-header n)))
     where
-      enough : 1024 + 16 * n ≤ length w
+      enough : ENTITIES + ENTITY-LEN * n ≤ length w
       enough = omega (arith, A .enough, start-header n, columnStart-mono n 0 (kindCapacityOf w) (omega arith))
 
   pub one-becomes : Becomes w w′ (onStorage (onSet k f) (meaning w))
@@ -113,7 +114,7 @@ module _ (w w′ : List ℕ) (A : Arranged w) (s : ℕ) (hs : s < registeredOf w
         arranged =
             arranged-kept A K (subst (entity.Sound n) (sym one-entities) (A .entities)) (o .columns)
             (λ j l h. rows-other j h (omega arith) ∙ A .vacant j l h)
-            (rw (same 3 (omega arith)) (A .staged)) (rw (same 4 (omega arith)) (A .excluded)) (D .0) (D .1);
+            (rw (same STAGED-LEN (omega arith)) (A .staged)) (rw (same EXCLUDED-LEN (omega arith)) (A .excluded)) (D .0) (D .1);
         means =
             λ i. record { capacity = cap i; kindCapacity = kcap i; kinds = kinds i; entities = ents i; storage = record { sets = sets i; layout = layout i }; control = control i };
         size = o .size;
@@ -122,11 +123,11 @@ module _ (w w′ : List ℕ) (A : Arranged w) (s : ℕ) (hs : s < registeredOf w
 
 -- ---- words from 1,024 + 16 * N on as they were
 
-module _ (w w′ : List ℕ) (A : Arranged w) (size : length w′ ≡ length w) (m : ℕ) (le : m ≤ 1024 + 16 * capacityOf w) (rest : drop m w′ ≡ drop m w) where
+module _ (w w′ : List ℕ) (A : Arranged w) (size : length w′ ≡ length w) (m : ℕ) (le : m ≤ ENTITIES + ENTITY-LEN * capacityOf w) (rest : drop m w′ ≡ drop m w) where
   pub column-rest : (s : ℕ) → columnOf (capacityOf w) s w′ ≡ columnOf (capacityOf w) s w
   unfolding columnOf
   column-rest s =
-      between-rest m (columnStart (capacityOf w) s) (columnStart (capacityOf w) s + (8 + 6 * capacityOf w)) w w′
+      between-rest m (columnStart (capacityOf w) s) (columnStart (capacityOf w) s + (columnLen (capacityOf w))) w w′
       (omega (arith, start-header (capacityOf w), columnStart-mono (capacityOf w) 0 s (omega arith))) rest
 
   rows-rest : (s : ℕ) → rowsOf (capacityOf w) s w′ ≡ rowsOf (capacityOf w) s w
@@ -152,14 +153,14 @@ module _ (w w′ : List ℕ) (A : Arranged w) (size : length w′ ≡ length w) 
 -- ---- the entities
 
 module _ (w w′ : List ℕ) (A : Arranged w) (f : Entities → Entities) (o : EntityChange (capacityOf w) f w w′) where
-  entity-word : (i : ℕ) → i < 1024 → getD w′ i 0 ≡ getD w i 0
-  entity-word i h = word-front 1024 w w′ (o .front) i h
+  entity-word : (i : ℕ) → i < ENTITIES → getD w′ i 0 ≡ getD w i 0
+  entity-word i h = word-front ENTITIES w w′ (o .front) i h
 
   pub entities-become : Becomes w w′ (withEntities (meaning w) (f (meaning w .entities)))
   unfolding meaning
   entities-become =
-      let e = 1024 + 16 * capacityOf w in
-      let le : e ≤ 1024 + 16 * capacityOf w = omega arith in
+      let e = ENTITIES + ENTITY-LEN * capacityOf w in
+      let le : e ≤ ENTITIES + ENTITY-LEN * capacityOf w = omega arith in
       let K = header-kept w w′ A (o .size) entity-word (λ s h i a b. ap (λ (u : List ℕ). getD u i 0) (column-rest w w′ A (o .size) e le (o .rest) s)) in
       let D = draft-formed w w′ A (o .size) entity-word in
       let sets = sets-same w w′ K (λ s h. rows-rest w w′ A (o .size) e le (o .rest) s) in
@@ -186,12 +187,12 @@ pub record Static (w w′ : List ℕ) : Type 0 where
   pub size : length w′ ≡ length w
   pub limits : (i : ℕ) → i < 3 → getD w′ i 0 ≡ getD w i 0
   pub force : (i : ℕ) → 7 ≤ i → i < 9 → getD w′ i 0 ≡ getD w i 0
-  pub table : (i : ℕ) → 32 ≤ i → i < 160 → getD w′ i 0 ≡ getD w i 0
-  pub layout : (i : ℕ) → 576 ≤ i → i < 960 → getD w′ i 0 ≡ getD w i 0
-  pub rest : drop 1024 w′ ≡ drop 1024 w
+  pub table : (i : ℕ) → TABLE ≤ i → i < STAGED-KINDS → getD w′ i 0 ≡ getD w i 0
+  pub layout : (i : ℕ) → LAYOUT ≤ i → i < GROUP-COUNTS → getD w′ i 0 ≡ getD w i 0
+  pub rest : drop ENTITIES w′ ≡ drop ENTITIES w
 
 module _ (w w′ : List ℕ) (A : Arranged w) (S : Static w w′) where
-  static-le : 1024 ≤ 1024 + 16 * capacityOf w
+  static-le : ENTITIES ≤ ENTITIES + ENTITY-LEN * capacityOf w
   static-le = omega arith
 
   pub static-kept : Kept w w′
@@ -201,23 +202,23 @@ module _ (w w′ : List ℕ) (A : Arranged w) (S : Static w w′) where
         capacity = S .limits 0 (omega arith);
         kindCapacity = S .limits 1 (omega arith);
         registered = S .limits 2 (omega arith);
-        slots = λ k h. S .table (32 + k) (omega arith) (omega arith);
-        heads = λ s h i a b. ap (λ (u : List ℕ). getD u i 0) (column-rest w w′ A (S .size) 1024 static-le (S .rest) s);
+        slots = λ k h. S .table (TABLE + k) (omega arith) (omega arith);
+        heads = λ s h i a b. ap (λ (u : List ℕ). getD u i 0) (column-rest w w′ A (S .size) ENTITIES static-le (S .rest) s);
         layout = layout-arrays-same w w′ (S .size) (long w A) (S .force 7 (omega arith) (omega arith)) (λ i a b. S .layout i a (omega arith));
         groups = S .force 8 (omega arith) (omega arith);
-        families = λ g h. S .layout (896 + g) (omega arith) (omega arith);
+        families = λ g h. S .layout (GROUP-FAMILIES + g) (omega arith) (omega arith);
       }
 
   static-entities : entityPart (capacityOf w) w′ ≡ entityPart (capacityOf w) w
-  static-entities = between-rest 1024 1024 (1024 + 16 * capacityOf w) w w′ (omega arith) (S .rest)
+  static-entities = between-rest ENTITIES ENTITIES (ENTITIES + ENTITY-LEN * capacityOf w) w w′ (omega arith) (S .rest)
 
   -- a change of the control and of the counts
-  static-becomes : (c : List ℕ) → between 960 1024 w′ ≡ c → stagedLen w′ ≤ 16 → excludedLen w′ ≤ 16 → WellFormed (draftArrays w′) → draftGroups w′ ≡ groupCount (draftArrays w′)
+  static-becomes : (c : List ℕ) → between GROUP-COUNTS ENTITIES w′ ≡ c → stagedLen w′ ≤ LIST-CAPACITY → excludedLen w′ ≤ LIST-CAPACITY → WellFormed (draftArrays w′) → draftGroups w′ ≡ groupCount (draftArrays w′)
       → Becomes w w′ (withControl (onStorage (λ (s : Storage). withLayout s (familiesOf c (layoutArrays w))) (meaning w)) (controlIn w′))
   unfolding meaning layoutIn
   static-becomes c counts st ex d g =
       let K = static-kept in
-      let sets = sets-same w w′ K (λ s h. rows-rest w w′ A (S .size) 1024 static-le (S .rest) s) in
+      let sets = sets-same w w′ K (λ s h. rows-rest w w′ A (S .size) ENTITIES static-le (S .rest) s) in
       let layout : layoutIn w′ ≡ familiesOf c (layoutArrays w) = ap (λ (l : List ℕ). familiesOf l (layoutArrays w′)) counts ∙ ap (familiesOf c) (K .layout) in
       let cap = K .capacity in
       let kcap = K .kindCapacity in
@@ -225,62 +226,62 @@ module _ (w w′ : List ℕ) (A : Arranged w) (S : Static w w′) where
       let ents : entitiesIn (capacityOf w′) w′ ≡ entitiesIn (capacityOf w) w = ap (λ (c : ℕ). entitiesIn c w′) cap ∙ ap (entity.entitiesOf (capacityOf w)) static-entities in
       record {
         arranged =
-            arranged-kept A K (subst (entity.Sound (capacityOf w)) (sym static-entities) (A .entities)) (columns-rest w w′ A (S .size) 1024 static-le (S .rest))
-            (vacant-rest w w′ A (S .size) 1024 static-le (S .rest)) st ex d g;
+            arranged-kept A K (subst (entity.Sound (capacityOf w)) (sym static-entities) (A .entities)) (columns-rest w w′ A (S .size) ENTITIES static-le (S .rest))
+            (vacant-rest w w′ A (S .size) ENTITIES static-le (S .rest)) st ex d g;
         means =
             λ i. record { capacity = cap i; kindCapacity = kcap i; kinds = kinds i; entities = ents i; storage = record { sets = sets i; layout = layout i }; control = controlIn w′ };
         size = S .size;
-        past = past-rest w w′ A (S .size) 1024 static-le (S .rest);
+        past = past-rest w w′ A (S .size) ENTITIES static-le (S .rest);
       }
 
   -- a change of the control alone
-  pub control-becomes : ((i : ℕ) → 960 ≤ i → i < 1024 → getD w′ i 0 ≡ getD w i 0) → stagedLen w′ ≤ 16 → excludedLen w′ ≤ 16 → WellFormed (draftArrays w′) → draftGroups w′ ≡ groupCount (draftArrays w′)
+  pub control-becomes : ((i : ℕ) → GROUP-COUNTS ≤ i → i < ENTITIES → getD w′ i 0 ≡ getD w i 0) → stagedLen w′ ≤ LIST-CAPACITY → excludedLen w′ ≤ LIST-CAPACITY → WellFormed (draftArrays w′) → draftGroups w′ ≡ groupCount (draftArrays w′)
       → Becomes w w′ (withControl (meaning w) (controlIn w′))
   unfolding meaning layoutIn
-  control-becomes counts st ex d g = static-becomes (between 960 1024 w) (part-same w w′ (S .size) 960 1024 (long w A) counts) st ex d g
+  control-becomes counts st ex d g = static-becomes (between GROUP-COUNTS ENTITIES w) (part-same w w′ (S .size) GROUP-COUNTS ENTITIES (long w A) counts) st ex d g
 
 -- a group's count
-module _ (w : List ℕ) (A : Arranged w) (g c : ℕ) (hg : g < 64) where
+module _ (w : List ℕ) (A : Arranged w) (g c : ℕ) (hg : g < GROUP-PLACES) where
   abbrev w′ : List ℕ
-  w′ = set w (960 + g) c
+  w′ = set w (GROUP-COUNTS + g) c
 
-  set-other : (i : ℕ) → i < 960 → getD w′ i 0 ≡ getD w i 0
-  set-other i h = getD-set-other w (960 + g) i c 0 (omega arith)
+  set-other : (i : ℕ) → i < GROUP-COUNTS → getD w′ i 0 ≡ getD w i 0
+  set-other i h = getD-set-other w (GROUP-COUNTS + g) i c 0 (omega arith)
 
   count-static : Static w w′
   count-static =
       record {
-        size = length-set w (960 + g) c;
+        size = length-set w (GROUP-COUNTS + g) c;
         limits = λ i h. set-other i (omega arith);
         force = λ i a b. set-other i (omega arith);
         table = λ i a b. set-other i (omega arith);
         layout = λ i a b. set-other i b;
-        rest = drop-set-lt 1024 w (960 + g) c (omega arith);
+        rest = drop-set-lt ENTITIES w (GROUP-COUNTS + g) c (omega arith);
       }
 
-  counts-set : between 960 1024 w′ ≡ set (between 960 1024 w) g c
+  counts-set : between GROUP-COUNTS ENTITIES w′ ≡ set (between GROUP-COUNTS ENTITIES w) g c
   counts-set =
-      let l : length (between 960 1024 w) ≡ 64 = length-between 960 1024 w (long w A) in
-      let l′ : length (between 960 1024 w′) ≡ 64 = length-between 960 1024 w′ (omega (arith, length-set w (960 + g) c, long w A)) in
-      ext-getD 0 (between 960 1024 w′) (set (between 960 1024 w) g c) (l′ ∙ sym (length-set (between 960 1024 w) g c ∙ l))
+      let l : length (between GROUP-COUNTS ENTITIES w) ≡ GROUP-PLACES = length-between GROUP-COUNTS ENTITIES w (long w A) in
+      let l′ : length (between GROUP-COUNTS ENTITIES w′) ≡ GROUP-PLACES = length-between GROUP-COUNTS ENTITIES w′ (omega (arith, length-set w (GROUP-COUNTS + g) c, long w A)) in
+      ext-getD 0 (between GROUP-COUNTS ENTITIES w′) (set (between GROUP-COUNTS ENTITIES w) g c) (l′ ∙ sym (length-set (between GROUP-COUNTS ENTITIES w) g c ∙ l))
       (λ i h.
-      let hi : i < 64 = omega arith in
-      getD-between 960 1024 i w′ 0 (omega arith)
+      let hi : i < GROUP-PLACES = omega arith in
+      getD-between GROUP-COUNTS ENTITIES i w′ 0 (omega arith)
       ∙ by-eq i g
-      (λ e. rw e (getD-set-same w (960 + g) c 0 (omega (arith, long w A)) ∙ sym (getD-set-same (between 960 1024 w) g c 0 (omega arith))))
-      (λ ne. getD-set-other w (960 + g) (960 + i) c 0 (omega arith) ∙ sym (getD-between 960 1024 i w 0 (omega arith)) ∙ sym (getD-set-other (between 960 1024 w) g i c 0 ne)))
+      (λ e. rw e (getD-set-same w (GROUP-COUNTS + g) c 0 (omega (arith, long w A)) ∙ sym (getD-set-same (between GROUP-COUNTS ENTITIES w) g c 0 (omega arith))))
+      (λ ne. getD-set-other w (GROUP-COUNTS + g) (GROUP-COUNTS + i) c 0 (omega arith) ∙ sym (getD-between GROUP-COUNTS ENTITIES i w 0 (omega arith)) ∙ sym (getD-set-other (between GROUP-COUNTS ENTITIES w) g i c 0 ne)))
 
-  pub count-becomes : Becomes w w′ (onStorage (λ (s : Storage). withLayout s (familiesOf (set (between 960 1024 w) g c) (layoutArrays w))) (meaning w))
+  pub count-becomes : Becomes w w′ (onStorage (λ (s : Storage). withLayout s (familiesOf (set (between GROUP-COUNTS ENTITIES w) g c) (layoutArrays w))) (meaning w))
   unfolding meaning layoutIn
   count-becomes =
-      let D = draft-arrays-same w w′ (count-static .size) (long w A) (set-other 5 (omega arith)) (λ i a b. set-other i (omega arith)) in
-      let B = static-becomes w w′ A count-static (set (between 960 1024 w) g c) counts-set (rw (set-other 3 (omega arith)) (A .staged)) (rw (set-other 4 (omega arith)) (A .excluded))
-      (subst WellFormed (sym D) (A .draft)) (set-other 6 (omega arith) ∙ A .draftCount ∙ sym (ap groupCount D)) in
+      let D = draft-arrays-same w w′ (count-static .size) (long w A) (set-other DRAFT-FAMILIES (omega arith)) (λ i a b. set-other i (omega arith)) in
+      let B = static-becomes w w′ A count-static (set (between GROUP-COUNTS ENTITIES w) g c) counts-set (rw (set-other STAGED-LEN (omega arith)) (A .staged)) (rw (set-other EXCLUDED-LEN (omega arith)) (A .excluded))
+      (subst WellFormed (sym D) (A .draft)) (set-other DRAFT-GROUPS (omega arith) ∙ A .draftCount ∙ sym (ap groupCount D)) in
       let k : controlIn w′ ≡ controlIn w = count-control in
-      record { arranged = B .arranged; means = B .means ∙ ap (withControl (onStorage (λ (s : Storage). withLayout s (familiesOf (set (between 960 1024 w) g c) (layoutArrays w))) (meaning w))) k; size = B .size; past = B .past }
+      record { arranged = B .arranged; means = B .means ∙ ap (withControl (onStorage (λ (s : Storage). withLayout s (familiesOf (set (between GROUP-COUNTS ENTITIES w) g c) (layoutArrays w))) (meaning w))) k; size = B .size; past = B .past }
     where
       count-control : controlIn w′ ≡ controlIn w
-      count-control = control-parts w w′ A (length-set w (960 + g) c) set-other
+      count-control = control-parts w w′ A (length-set w (GROUP-COUNTS + g) c) set-other
 
 -- ---- one change after another
 
@@ -318,6 +319,6 @@ pub kinds-count : (w : List ℕ) → length (meaning w .kinds) ≡ registeredOf 
 unfolding meaning kindsIn
 kinds-count w = length-table (registeredOf w) (kindAt w)
 
-pub sets-wide : (w : List ℕ) → length (meaning w .storage .sets) ≡ 128
+pub sets-wide : (w : List ℕ) → length (meaning w .storage .sets) ≡ MAX-KINDS
 unfolding meaning setsIn
-sets-wide w = length-table 128 (setAt w)
+sets-wide w = length-table MAX-KINDS (setAt w)

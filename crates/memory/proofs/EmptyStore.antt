@@ -5,10 +5,11 @@ use Prim.Native.Nat.{ℕ, zero, _+_, _*_, _-_, _≤_, _<_}
 use native.Mathlib.Omega.{arith}
 use lib.ListN.{length, getD, set, replicate, length-set, length-replicate, getD-replicate}
 use lib.Seq.{getD-set-same, getD-set-other, drop-set-lt}
+use Rattle.model.specs.Numbers.{ENTITY-LEN, MAX-KINDS, columnLen}
 use Rattle.model.specs.Model.{Entities, SparseSet}
 use Rattle.model.specs.Store.{empty}
 use Rattle.model.specs.Sound.{Limits}
-use Rattle.words.specs.Offsets.{columnStart, columnStart-mono, columnStart-apart}
+use Rattle.words.specs.Offsets.{columnStart, columnStart-mono, columnStart-apart, CAPACITY, DRAFT, DRAFT-FAMILIES, DRAFT-GROUPS, ENTITIES, EXCLUDED-LEN, GROUP-COUNTS, GROUP-FAMILIES, KIND-CAPACITY, LAYOUT, LAYOUT-FAMILIES, LAYOUT-GROUPS, REFUSALS, REGISTERED, ROWS, STAGED-KINDS, STAGED-LEN, TABLE, UNREGISTERED}
 use Rattle.words.specs.Part.{between, length-between, getD-between}
 use Rattle.words.specs.Table.{table, is-table}
 use Rattle.component.specs.Columns.{Columns}
@@ -37,58 +38,58 @@ none-count b n e = ap (λ (k : ℕ). groupCount (blockArrays b k)) e
 no-families : (c b : List ℕ) (n : ℕ) → n ≡ 0 → familiesOf c (blockArrays b n) ≡ []
 no-families c b n e = table-none n _ e
 
-module _ (n k : ℕ) (w w₁ w₂ : List ℕ) (L : Limits n k) (enough : columnStart n k ≤ length w) (C : Cleared w (columnStart n k) w₁) (T : Tabled w₁ 128 w₂) where
+module _ (n k : ℕ) (w w₁ w₂ : List ℕ) (L : Limits n k) (enough : columnStart n k ≤ length w) (C : Cleared w (columnStart n k) w₁) (T : Tabled w₁ MAX-KINDS w₂) where
   abbrev w′ : List ℕ
-  w′ = set (set w₂ 0 n) 1 k
+  w′ = set (set w₂ CAPACITY n) KIND-CAPACITY k
 
   abbrev end : ℕ
   end = columnStart n k
 
-  past-header : 1024 + 16 * n ≤ end
+  past-header : ENTITIES + ENTITY-LEN * n ≤ end
   past-header = omega (arith, start-header n, columnStart-mono n 0 k (omega arith))
 
   size : length w′ ≡ length w
-  size = length-set (set w₂ 0 n) 1 k ∙ length-set w₂ 0 n ∙ T .size ∙ C .size
+  size = length-set (set w₂ CAPACITY n) KIND-CAPACITY k ∙ length-set w₂ CAPACITY n ∙ T .size ∙ C .size
 
   other : (i : ℕ) → 2 ≤ i → getD w′ i 0 ≡ getD w₂ i 0
-  other i h = getD-set-other (set w₂ 0 n) 1 i k 0 (omega arith) ∙ getD-set-other w₂ 0 i n 0 (omega arith)
+  other i h = getD-set-other (set w₂ CAPACITY n) KIND-CAPACITY i k 0 (omega arith) ∙ getD-set-other w₂ CAPACITY i n 0 (omega arith)
 
-  low : (i : ℕ) → 2 ≤ i → i < 32 → getD w′ i 0 ≡ 0
+  low : (i : ℕ) → 2 ≤ i → i < TABLE → getD w′ i 0 ≡ 0
   low i a b = other i a ∙ T .low i b ∙ C .zero i (omega (arith, past-header))
 
-  high : (i : ℕ) → 160 ≤ i → i < end → getD w′ i 0 ≡ 0
-  high i a b = other i (omega arith) ∙ word-rest 160 w₁ w₂ (T .rest) i a ∙ C .zero i b
+  high : (i : ℕ) → STAGED-KINDS ≤ i → i < end → getD w′ i 0 ≡ 0
+  high i a b = other i (omega arith) ∙ word-rest STAGED-KINDS w₁ w₂ (T .rest) i a ∙ C .zero i b
 
-  free : (j : ℕ) → j < 128 → slotOf w′ j ≡ 255
-  free j h = other (32 + j) (omega arith) ∙ T .free j h
+  free : (j : ℕ) → j < MAX-KINDS → slotOf w′ j ≡ UNREGISTERED
+  free j h = other (TABLE + j) (omega arith) ∙ T .free j h
 
   cap : capacityOf w′ ≡ n
-  cap = getD-set-other (set w₂ 0 n) 1 0 k 0 (omega arith) ∙ getD-set-same w₂ 0 n 0 (omega (arith, T .size, C .size, past-header, enough))
+  cap = getD-set-other (set w₂ CAPACITY n) KIND-CAPACITY 0 k 0 (omega arith) ∙ getD-set-same w₂ CAPACITY n 0 (omega (arith, T .size, C .size, past-header, enough))
 
   kcap : kindCapacityOf w′ ≡ k
-  kcap = getD-set-same (set w₂ 0 n) 1 k 0 (omega (arith, length-set w₂ 0 n, T .size, C .size, past-header, enough))
+  kcap = getD-set-same (set w₂ CAPACITY n) KIND-CAPACITY k 0 (omega (arith, length-set w₂ CAPACITY n, T .size, C .size, past-header, enough))
 
   none : registeredOf w′ ≡ 0
-  none = low 2 (omega arith) (omega arith)
+  none = low REGISTERED (omega arith) (omega arith)
 
   long : end ≤ length w′
   long = omega (arith, size, enough)
 
   entities : Changed n (λ (s : Entities). noEntities) (entityPart n w′) (entityPart n w′)
   entities =
-      let l : length (entityPart n w′) ≡ 16 * n = length-between 1024 (1024 + 16 * n) w′ (omega (arith, long, past-header)) ∙ omega arith in
+      let l : length (entityPart n w′) ≡ ENTITY-LEN * n = length-between ENTITIES (ENTITIES + ENTITY-LEN * n) w′ (omega (arith, long, past-header)) ∙ omega arith in
       zeros-changed n (entityPart n w′) (entityPart n w′)
       (record { size = l; some = L .some; small = L .most }) refl
-      (λ i h. getD-between 1024 (1024 + 16 * n) i w′ 0 (omega arith) ∙ high (1024 + i) (omega arith) (omega (arith, past-header)))
+      (λ i h. getD-between ENTITIES (ENTITIES + ENTITY-LEN * n) i w′ 0 (omega arith) ∙ high (ENTITIES + i) (omega arith) (omega (arith, past-header)))
 
-  column-zero : (s : ℕ) → s < k → (i : ℕ) → i < 8 + 6 * n → getD w′ (columnStart n s + i) 0 ≡ 0
+  column-zero : (s : ℕ) → s < k → (i : ℕ) → i < columnLen n → getD w′ (columnStart n s + i) 0 ≡ 0
   column-zero s h i b = high (columnStart n s + i) (omega (arith, start-header n, columnStart-mono n 0 s (omega arith))) (omega (arith, columnStart-apart n s k h))
 
   column-head : (s : ℕ) → s < k → getD w′ (columnStart n s) 0 ≡ 0
   column-head s h = high (columnStart n s) (omega (arith, start-header n, columnStart-mono n 0 s (omega arith))) (omega (arith, columnStart-apart n s k h))
 
   columns : Columns n k w′
-  columns = fresh-columns n k w′ (L .most) (L .mostKinds) long column-head (λ s x h hx. column-zero s h (8 + 4 * n + 2 * x + 1) (omega arith))
+  columns = fresh-columns n k w′ (L .most) (L .mostKinds) long column-head (λ s x h hx. column-zero s h (ROWS + 4 * n + 2 * x + 1) (omega arith))
 
   tables : TableSound w′
   tables =
@@ -102,18 +103,18 @@ module _ (n k : ℕ) (w w₁ w₂ : List ℕ) (L : Limits n k) (enough : columnS
 
   layouts : LayoutSound w′
   layouts =
-      let f : getD w′ 7 0 ≡ 0 = low 7 (omega arith) (omega arith) in
-      let g : getD w′ 8 0 ≡ 0 = low 8 (omega arith) (omega arith) in
+      let f : getD w′ LAYOUT-FAMILIES 0 ≡ 0 = low LAYOUT-FAMILIES (omega arith) (omega arith) in
+      let g : getD w′ LAYOUT-GROUPS 0 ≡ 0 = low LAYOUT-GROUPS (omega arith) (omega arith) in
       record {
-        formed = formed (between 576 896 w′) (getD w′ 7 0) f;
-        count = g ∙ sym (none-count (between 576 896 w′) (getD w′ 7 0) f);
+        formed = formed (between LAYOUT GROUP-FAMILIES w′) (getD w′ LAYOUT-FAMILIES 0) f;
+        count = g ∙ sym (none-count (between LAYOUT GROUP-FAMILIES w′) (getD w′ LAYOUT-FAMILIES 0) f);
         groups = λ j h. absurd (omega (arith, g));
         none = λ s h o. absurd (omega (arith, none));
       }
 
   arranged : Arranged w′
   arranged =
-      let f : getD w′ 5 0 ≡ 0 = low 5 (omega arith) (omega arith) in
+      let f : getD w′ DRAFT-FAMILIES 0 ≡ 0 = low DRAFT-FAMILIES (omega arith) (omega arith) in
       record {
         limits = rw (cap, kcap) L;
         enough = rw (cap, kcap) long;
@@ -121,18 +122,18 @@ module _ (n k : ℕ) (w w₁ w₂ : List ℕ) (L : Limits n k) (enough : columnS
         entities = rw cap (entities .sound);
         columns = rw (cap, kcap) columns;
         vacant = λ s r h. rw cap (fresh-rows n s w′ (column-head s (rw kcap at h)));
-        staged = omega (arith, low 3 (omega arith) (omega arith));
-        excluded = omega (arith, low 4 (omega arith) (omega arith));
-        draft = formed (between 256 576 w′) (getD w′ 5 0) f;
-        draftCount = low 6 (omega arith) (omega arith) ∙ sym (none-count (between 256 576 w′) (getD w′ 5 0) f);
+        staged = omega (arith, low STAGED-LEN (omega arith) (omega arith));
+        excluded = omega (arith, low EXCLUDED-LEN (omega arith) (omega arith));
+        draft = formed (between DRAFT LAYOUT w′) (getD w′ DRAFT-FAMILIES 0) f;
+        draftCount = low DRAFT-GROUPS (omega arith) (omega arith) ∙ sym (none-count (between DRAFT LAYOUT w′) (getD w′ DRAFT-FAMILIES 0) f);
         layout = layouts;
       }
 
-  sets : setsIn w′ ≡ replicate 128 []
+  sets : setsIn w′ ≡ replicate MAX-KINDS []
   unfolding setsIn
   sets =
-      is-table {A = SparseSet} [] 128 (setAt w′) (replicate 128 []) (length-replicate {A = SparseSet} 128 [])
-      (λ j h. rw (free j h, none) (sym (getD-replicate {A = SparseSet} 128 j [] [] h)))
+      is-table {A = SparseSet} [] MAX-KINDS (setAt w′) (replicate MAX-KINDS []) (length-replicate {A = SparseSet} MAX-KINDS [])
+      (λ j h. rw (free j h, none) (sym (getD-replicate {A = SparseSet} MAX-KINDS j [] [] h)))
 
   means : meaning w′ ≡ empty n k
   unfolding meaning kindsIn stagedIn excludedIn draftIn layoutIn empty
@@ -140,11 +141,11 @@ module _ (n k : ℕ) (w w₁ w₂ : List ℕ) (L : Limits n k) (enough : columnS
       let ks : kindsIn w′ ≡ [] = table-none (registeredOf w′) (kindAt w′) none in
       let es : entity.entitiesOf (capacityOf w′) (entityPart (capacityOf w′) w′) ≡ noEntities = rw cap (entities .becomes) in
       let ss = sets in
-      let la : layoutIn w′ ≡ [] = no-families (between 960 1024 w′) (between 576 896 w′) (getD w′ 7 0) (low 7 (omega arith) (omega arith)) in
-      let st : stagedIn w′ ≡ [] = table-none (getD w′ 3 0) (stagedAt w′) (low 3 (omega arith) (omega arith)) in
-      let ex : excludedIn w′ ≡ [] = table-none (getD w′ 4 0) _ (low 4 (omega arith) (omega arith)) in
-      let dr : draftIn w′ ≡ [] = no-families [] (between 256 576 w′) (getD w′ 5 0) (low 5 (omega arith) (omega arith)) in
-      let re : getD w′ 16 0 ≡ 0 = low 16 (omega arith) (omega arith) in
+      let la : layoutIn w′ ≡ [] = no-families (between GROUP-COUNTS ENTITIES w′) (between LAYOUT GROUP-FAMILIES w′) (getD w′ LAYOUT-FAMILIES 0) (low LAYOUT-FAMILIES (omega arith) (omega arith)) in
+      let st : stagedIn w′ ≡ [] = table-none (getD w′ STAGED-LEN 0) (stagedAt w′) (low STAGED-LEN (omega arith) (omega arith)) in
+      let ex : excludedIn w′ ≡ [] = table-none (getD w′ EXCLUDED-LEN 0) _ (low EXCLUDED-LEN (omega arith) (omega arith)) in
+      let dr : draftIn w′ ≡ [] = no-families [] (between DRAFT LAYOUT w′) (getD w′ DRAFT-FAMILIES 0) (low DRAFT-FAMILIES (omega arith) (omega arith)) in
+      let re : getD w′ REFUSALS 0 ≡ 0 = low REFUSALS (omega arith) (omega arith) in
       λ i.
       record {
         capacity = cap i;
@@ -162,6 +163,6 @@ module _ (n k : ℕ) (w w₁ w₂ : List ℕ) (L : Limits n k) (enough : columnS
         means = means;
         size = size;
         past =
-            drop-set-lt end (set w₂ 0 n) 1 k (omega (arith, past-header)) ∙ drop-set-lt end w₂ 0 n (omega (arith, past-header))
-            ∙ drop-later 160 end w₁ w₂ (omega (arith, past-header)) (T .rest) ∙ C .rest;
+            drop-set-lt end (set w₂ CAPACITY n) KIND-CAPACITY k (omega (arith, past-header)) ∙ drop-set-lt end w₂ CAPACITY n (omega (arith, past-header))
+            ∙ drop-later STAGED-KINDS end w₁ w₂ (omega (arith, past-header)) (T .rest) ∙ C .rest;
       }

@@ -5,6 +5,8 @@ use mathlib.Core.List.{List, []}
 use Prim.Native.Nat.{ℕ, _-_, _≤_, _<_}
 use native.Mathlib.Omega.{arith}
 use lib.ListN.{length, getD, take}
+use Rattle.model.specs.Numbers.{LIST-CAPACITY, MAX-KINDS}
+use Rattle.words.specs.Offsets.{CAPACITY, GROUP-PLACES, ROWS, UNREGISTERED}
 use Rattle.words.specs.Table.{table, table-same}
 use Rattle.component.specs.Columns.{columnOf, rowsOf, Columns}
 use Rattle.entity.specs.Meaning as entity
@@ -20,14 +22,14 @@ pub record Kept (w w′ : List ℕ) : Type 0 where
   pub capacity : capacityOf w′ ≡ capacityOf w
   pub kindCapacity : kindCapacityOf w′ ≡ kindCapacityOf w
   pub registered : registeredOf w′ ≡ registeredOf w
-  pub slots : (k : ℕ) → k < 128 → slotOf w′ k ≡ slotOf w k
-  pub heads : (s : ℕ) → s < kindCapacityOf w → (i : ℕ) → 1 ≤ i → i < 8 → getD (columnOf (capacityOf w) s w′) i 0 ≡ getD (columnOf (capacityOf w) s w) i 0
+  pub slots : (k : ℕ) → k < MAX-KINDS → slotOf w′ k ≡ slotOf w k
+  pub heads : (s : ℕ) → s < kindCapacityOf w → (i : ℕ) → 1 ≤ i → i < ROWS → getD (columnOf (capacityOf w) s w′) i 0 ≡ getD (columnOf (capacityOf w) s w) i 0
   pub layout : layoutArrays w′ ≡ layoutArrays w
   pub groups : layoutGroups w′ ≡ layoutGroups w
-  pub families : (g : ℕ) → g < 64 → groupFamilyAt w′ g ≡ groupFamilyAt w g
+  pub families : (g : ℕ) → g < GROUP-PLACES → groupFamilyAt w′ g ≡ groupFamilyAt w g
 
 module _ {w w′ : List ℕ} (A : Arranged w) (K : Kept w w′) where
-  head-kept : (s : ℕ) → s < kindCapacityOf w → (i : ℕ) → 1 ≤ i → i < 8 → getD (columnOf (capacityOf w′) s w′) i 0 ≡ getD (columnOf (capacityOf w) s w) i 0
+  head-kept : (s : ℕ) → s < kindCapacityOf w → (i : ℕ) → 1 ≤ i → i < ROWS → getD (columnOf (capacityOf w′) s w′) i 0 ≡ getD (columnOf (capacityOf w) s w) i 0
   head-kept s h i a b = ap (λ (c : ℕ). getD (columnOf c s w′) i 0) (K .capacity) ∙ K .heads s h i a b
 
   registered-slot : (s : ℕ) → s < registeredOf w → s < kindCapacityOf w
@@ -44,7 +46,7 @@ module _ {w w′ : List ℕ} (A : Arranged w) (K : Kept w w′) where
 
   pub kinds-kept : kindsIn w′ ≡ kindsIn w
   unfolding kindsIn
-  kinds-kept = ap (λ (n : ℕ). table n (kindAt w′)) (K .registered) ∙ table-same 0 (registeredOf w) (kindAt w) (kindAt w′) kind-kept
+  kinds-kept = ap (λ (n : ℕ). table n (kindAt w′)) (K .registered) ∙ table-same CAPACITY (registeredOf w) (kindAt w) (kindAt w′) kind-kept
 
   pub table-kept : TableSound w′
   table-kept =
@@ -54,7 +56,7 @@ module _ {w w′ : List ℕ} (A : Arranged w) (K : Kept w w′) where
         slot = λ k h ne. rw (K .slots k h, K .registered) (T .slot k h (λ e. ne (K .slots k h ∙ e)));
         back =
             λ k h ne.
-            let ne₀ : slotOf w k ≢ 255 = λ e. ne (K .slots k h ∙ e) in
+            let ne₀ : slotOf w k ≢ UNREGISTERED = λ e. ne (K .slots k h ∙ e) in
             ap (kindAt w′) (K .slots k h) ∙ kind-kept (slotOf w k) (T .slot k h ne₀) ∙ T .back k h ne₀;
         small = λ s h. let h₀ : s < registeredOf w = rw (K .registered) at h in rw (kind-kept s h₀) (T .small s h₀);
         own =
@@ -92,7 +94,7 @@ module _ {w w′ : List ℕ} (A : Arranged w) (K : Kept w w′) where
         groups =
             λ g h.
             let h₀ : g < layoutGroups w = rw (K .groups) at h in
-            let few : g < 64 = omega (arith, L .count, L .formed .many) in
+            let few : g < GROUP-PLACES = omega (arith, L .count, L .formed .many) in
             subst (λ (a : Arrays). GroupSound w′ a g (groupFamilyAt w′ g)) (sym (K .layout))
             (subst (λ (f : ℕ). GroupSound w′ (layoutArrays w) g f) (sym (K .families g few)) (group-kept (layoutArrays w) g (groupFamilyAt w g) (L .groups g h₀)));
         none =
@@ -104,7 +106,7 @@ module _ {w w′ : List ℕ} (A : Arranged w) (K : Kept w w′) where
 
   pub arranged-kept : entity.Sound (capacityOf w) (entityPart (capacityOf w) w′) → Columns (capacityOf w) (kindCapacityOf w) w′
       → ((s : ℕ) → registeredOf w ≤ s → s < kindCapacityOf w → rowsOf (capacityOf w) s w′ ≡ [])
-      → stagedLen w′ ≤ 16 → excludedLen w′ ≤ 16 → WellFormed (draftArrays w′) → draftGroups w′ ≡ groupCount (draftArrays w′) → Arranged w′
+      → stagedLen w′ ≤ LIST-CAPACITY → excludedLen w′ ≤ LIST-CAPACITY → WellFormed (draftArrays w′) → draftGroups w′ ≡ groupCount (draftArrays w′) → Arranged w′
   arranged-kept e c v st ex d g =
       record {
         limits = rw (K .capacity, K .kindCapacity) (A .limits);

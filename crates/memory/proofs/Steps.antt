@@ -5,6 +5,7 @@ use Prim.Native.Nat.{ℕ, _+_, _<_}
 use native.Mathlib.Omega.{arith}
 use lib.ListN.{length, set, length-set}
 use lib.Seq.{getD-set-same, getD-set-other, drop-set-lt}
+use Rattle.words.specs.Offsets.{TABLE, UNREGISTERED}
 use Rattle.words.specs.Table.{by-eq}
 use Rattle.memory.proofs.Frames.{drop-later}
 use Rattle.memory.specs.Fresh.{Cleared, Tabled}
@@ -23,14 +24,14 @@ cleared-more w₀ w i c h =
 pub tabled-none : (w : List ℕ) → Tabled w 0 w
 tabled-none w = record { size = refl; free = λ k h. absurd (omega arith); low = λ i h. refl; rest = refl }
 
-pub tabled-more : (w₀ w : List ℕ) (k : ℕ) → Tabled w₀ k w → 32 + k < length w → Tabled w₀ (k + 1) (set w (32 + k) 255)
+pub tabled-more : (w₀ w : List ℕ) (k : ℕ) → Tabled w₀ k w → TABLE + k < length w → Tabled w₀ (k + 1) (set w (TABLE + k) UNREGISTERED)
 tabled-more w₀ w k t h =
     record {
-      size = length-set w (32 + k) 255 ∙ t .size;
-      free = λ j hj. by-eq j k (λ e. rw e (getD-set-same w (32 + k) 255 0 h)) (λ ne. getD-set-other w (32 + k) (32 + j) 255 0 (omega arith) ∙ t .free j (omega arith));
-      low = λ i hi. getD-set-other w (32 + k) i 255 0 (omega arith) ∙ t .low i hi;
-      rest = drop-set-lt (32 + (k + 1)) w (32 + k) 255 (omega arith) ∙ drop-later (32 + k) (32 + (k + 1)) w₀ w (omega arith) (t .rest);
+      size = length-set w (TABLE + k) UNREGISTERED ∙ t .size;
+      free = λ j hj. by-eq j k (λ e. rw e (getD-set-same w (TABLE + k) UNREGISTERED 0 h)) (λ ne. getD-set-other w (TABLE + k) (TABLE + j) UNREGISTERED 0 (omega arith) ∙ t .free j (omega arith));
+      low = λ i hi. getD-set-other w (TABLE + k) i UNREGISTERED 0 (omega arith) ∙ t .low i hi;
+      rest = drop-set-lt (TABLE + (k + 1)) w (TABLE + k) UNREGISTERED (omega arith) ∙ drop-later (TABLE + k) (TABLE + (k + 1)) w₀ w (omega arith) (t .rest);
     }
 
-pub tabled-step : (w₀ w : List ℕ) (k v : ℕ) → Tabled w₀ k w → 32 + k < length w → v ≡ 255 → Tabled w₀ (k + 1) (set w (32 + k) v)
+pub tabled-step : (w₀ w : List ℕ) (k v : ℕ) → Tabled w₀ k w → TABLE + k < length w → v ≡ UNREGISTERED → Tabled w₀ (k + 1) (set w (TABLE + k) v)
 tabled-step w₀ w k v t h e = rw e (tabled-more w₀ w k t h)

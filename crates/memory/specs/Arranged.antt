@@ -6,6 +6,8 @@ use Prim.Native.Nat.{ℕ, zero, suc, _+_, _≤_, _<_}
 use mathlib.Core.Bool.{cond}
 use lib.Dec.{ltb}
 use lib.ListN.{length, getD, take, drop}
+use Rattle.model.specs.Numbers.{LIST-CAPACITY, MAX-KINDS}
+use Rattle.words.specs.Offsets.{UNREGISTERED}
 use Rattle.model.specs.Store.{Store, wordsNeeded}
 use Rattle.model.specs.Sound.{In, Limits}
 use Rattle.model.specs.Sound as modelSound
@@ -19,9 +21,9 @@ use Rattle.memory.specs.Meaning.{kindAt, ownAt, localAt, draftArrays, la
 -- "at most K registered kinds, each with a column of its own": the table of kinds and the columns' heads point to each other
 pub record TableSound (w : List ℕ) : Type 0 where
   pub few : registeredOf w ≤ kindCapacityOf w
-  pub slot : (k : ℕ) → k < 128 → slotOf w k ≢ 255 → slotOf w k < registeredOf w
-  pub back : (k : ℕ) → k < 128 → slotOf w k ≢ 255 → kindAt w (slotOf w k) ≡ k
-  pub small : (s : ℕ) → s < registeredOf w → kindAt w s < 128
+  pub slot : (k : ℕ) → k < MAX-KINDS → slotOf w k ≢ UNREGISTERED → slotOf w k < registeredOf w
+  pub back : (k : ℕ) → k < MAX-KINDS → slotOf w k ≢ UNREGISTERED → kindAt w (slotOf w k) ≡ k
+  pub small : (s : ℕ) → s < registeredOf w → kindAt w s < MAX-KINDS
   pub own : (s : ℕ) → s < registeredOf w → slotOf w (kindAt w s) ≡ s
 
 -- the arity of the group before g in its family f, 0 where g is the family's smallest
@@ -31,7 +33,7 @@ priorArity a f (suc g) = cond (ltb (startOf (a .ends) f) (suc g)) (getD (a .arit
 
 -- kind k is registered: it has a slot of its own
 pub record Registered (w : List ℕ) (k : ℕ) : Type 0 where
-  pub small : k < 128
+  pub small : k < MAX-KINDS
   pub slot : slotOf w k < registeredOf w
 
 -- the kind at place j of family f
@@ -62,8 +64,8 @@ pub record Arranged (w : List ℕ) : Type 0 where
   pub entities : entity.Sound (capacityOf w) (entityPart (capacityOf w) w)
   pub columns : Columns (capacityOf w) (kindCapacityOf w) w
   pub vacant : (s : ℕ) → registeredOf w ≤ s → s < kindCapacityOf w → rowsOf (capacityOf w) s w ≡ []
-  pub staged : stagedLen w ≤ 16
-  pub excluded : excludedLen w ≤ 16
+  pub staged : stagedLen w ≤ LIST-CAPACITY
+  pub excluded : excludedLen w ≤ LIST-CAPACITY
   pub draft : WellFormed (draftArrays w)
   pub draftCount : draftGroups w ≡ groupCount (draftArrays w)
   pub layout : LayoutSound w

@@ -4,7 +4,7 @@ use mathlib.Core.List.{List}
 use Prim.Native.Nat.{ℕ, _+_, _<_}
 use lib.ListN.{length, getD, drop}
 use Rattle.model.specs.Store.{empty}
-use Rattle.words.specs.Offsets.{columnStart}
+use Rattle.words.specs.Offsets.{columnStart, TABLE, UNREGISTERED}
 use Rattle.memory.specs.Arranged.{Arranged}
 use Rattle.memory.specs.Meaning.{meaning}
 
@@ -17,9 +17,9 @@ pub record Cleared (w : List ℕ) (end : ℕ) (w′ : List ℕ) : Type 0 where
 -- the first n kinds of the table unregistered, and the other words as they were
 pub record Tabled (w : List ℕ) (n : ℕ) (w′ : List ℕ) : Type 0 where
   pub size : length w′ ≡ length w
-  pub free : (k : ℕ) → k < n → getD w′ (32 + k) 0 ≡ 255
-  pub low : (i : ℕ) → i < 32 → getD w′ i 0 ≡ getD w i 0
-  pub rest : drop (32 + n) w′ ≡ drop (32 + n) w
+  pub free : (k : ℕ) → k < n → getD w′ (TABLE + k) 0 ≡ UNREGISTERED
+  pub low : (i : ℕ) → i < TABLE → getD w′ i 0 ≡ getD w i 0
+  pub rest : drop (TABLE + n) w′ ≡ drop (TABLE + n) w
 
 -- 01: "whatever the words held, makes an empty store"; the words past the needed ones are as they were
 pub record Made (n k : ℕ) (w w′ : List ℕ) : Type 0 where

@@ -2,59 +2,60 @@
 use mathlib.Core.List.{List}
 use Prim.Native.Nat.{ℕ, _+_, _*_}
 use lib.ListN.{getD}
+use Rattle.words.specs.Offsets.{CAPACITY, DRAFT-FAMILIES, DRAFT-GROUPS, EXCLUDED-KINDS, EXCLUDED-LEN, GROUP-COUNTS, GROUP-FAMILIES, KIND-CAPACITY, LAYOUT-FAMILIES, LAYOUT-GROUPS, REFUSALS, REGISTERED, STAGED-KINDS, STAGED-LEN, STAGED-VALUES, TABLE}
 
 -- capacity N (entities) and K (kinds), and how many kinds are registered
 abbrev pub capacityOf : List ℕ → ℕ
-capacityOf w = getD w 0 0
+capacityOf w = getD w CAPACITY 0
 
 abbrev pub kindCapacityOf : List ℕ → ℕ
-kindCapacityOf w = getD w 1 0
+kindCapacityOf w = getD w KIND-CAPACITY 0
 
 abbrev pub registeredOf : List ℕ → ℕ
-registeredOf w = getD w 2 0
+registeredOf w = getD w REGISTERED 0
 
 -- the lengths of the staged and the excluded list
 abbrev pub stagedLen : List ℕ → ℕ
-stagedLen w = getD w 3 0
+stagedLen w = getD w STAGED-LEN 0
 
 abbrev pub excludedLen : List ℕ → ℕ
-excludedLen w = getD w 4 0
+excludedLen w = getD w EXCLUDED-LEN 0
 
 -- the families and groups of the draft and of the layout in force
 abbrev pub draftFamilies : List ℕ → ℕ
-draftFamilies w = getD w 5 0
+draftFamilies w = getD w DRAFT-FAMILIES 0
 
 abbrev pub draftGroups : List ℕ → ℕ
-draftGroups w = getD w 6 0
+draftGroups w = getD w DRAFT-GROUPS 0
 
 abbrev pub layoutFamilies : List ℕ → ℕ
-layoutFamilies w = getD w 7 0
+layoutFamilies w = getD w LAYOUT-FAMILIES 0
 
 abbrev pub layoutGroups : List ℕ → ℕ
-layoutGroups w = getD w 8 0
+layoutGroups w = getD w LAYOUT-GROUPS 0
 
 abbrev pub refusalsOf : List ℕ → ℕ
-refusalsOf w = getD w 16 0
+refusalsOf w = getD w REFUSALS 0
 
 -- the slot of kind k's column, 255 where the kind is not registered
 abbrev pub slotOf : List ℕ → ℕ → ℕ
-slotOf w k = getD w (32 + k) 0
+slotOf w k = getD w (TABLE + k) 0
 
 abbrev pub stagedKindAt : List ℕ → ℕ → ℕ
-stagedKindAt w i = getD w (160 + i) 0
+stagedKindAt w i = getD w (STAGED-KINDS + i) 0
 
 abbrev pub stagedLowAt : List ℕ → ℕ → ℕ
-stagedLowAt w i = getD w (176 + 4 * i) 0
+stagedLowAt w i = getD w (STAGED-VALUES + 4 * i) 0
 
 abbrev pub stagedHighAt : List ℕ → ℕ → ℕ
-stagedHighAt w i = getD w (176 + 4 * i + 1) 0
+stagedHighAt w i = getD w (STAGED-VALUES + 4 * i + 1) 0
 
 abbrev pub excludedAt : List ℕ → ℕ → ℕ
-excludedAt w i = getD w (240 + i) 0
+excludedAt w i = getD w (EXCLUDED-KINDS + i) 0
 
 -- the family and the count of group g of the layout in force
 abbrev pub groupFamilyAt : List ℕ → ℕ → ℕ
-groupFamilyAt w g = getD w (896 + g) 0
+groupFamilyAt w g = getD w (GROUP-FAMILIES + g) 0
 
 abbrev pub countAt : List ℕ → ℕ → ℕ
-countAt w g = getD w (960 + g) 0
+countAt w g = getD w (GROUP-COUNTS + g) 0

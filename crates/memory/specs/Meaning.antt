@@ -4,6 +4,8 @@ use mathlib.Core.List.{List, []}
 use Prim.Native.Nat.{ℕ}
 use lib.Dec.{ltb}
 use lib.ListN.{getD}
+use Rattle.model.specs.Numbers.{MAX-KINDS}
+use Rattle.words.specs.Offsets.{COLUMN-KIND, DRAFT, ENTITIES, GROUP-COUNTS, GROUP-FAMILIES, LAYOUT, OWN-GROUP, PLACE-IN-FAMILY}
 use Rattle.model.specs.Model.{Component, SparseSet, Family, Storage}
 use Rattle.model.specs.Run.{Store, Control}
 use Rattle.words.specs.Table.{table}
@@ -18,13 +20,13 @@ use Rattle.memory.specs.Header.{capacityOf, kindCapacityOf, registeredOf
 
 -- the head of the column in slot s: its kind; its own group plus one, 0 where it is in none; its place among its family's kinds
 abbrev pub kindAt : List ℕ → ℕ → ℕ
-kindAt w s = getD (columnOf (capacityOf w) s w) 1 0
+kindAt w s = getD (columnOf (capacityOf w) s w) COLUMN-KIND 0
 
 abbrev pub ownAt : List ℕ → ℕ → ℕ
-ownAt w s = getD (columnOf (capacityOf w) s w) 2 0
+ownAt w s = getD (columnOf (capacityOf w) s w) OWN-GROUP 0
 
 abbrev pub localAt : List ℕ → ℕ → ℕ
-localAt w s = getD (columnOf (capacityOf w) s w) 3 0
+localAt w s = getD (columnOf (capacityOf w) s w) PLACE-IN-FAMILY 0
 
 -- the registered kinds, in the order of their slots
 unfoldable pub kindsIn : List ℕ → List ℕ
@@ -35,21 +37,21 @@ abbrev pub setAt : List ℕ → ℕ → SparseSet
 setAt w k = cond (ltb (slotOf w k) (registeredOf w)) (rowsOf (capacityOf w) (slotOf w k) w) []
 
 unfoldable pub setsIn : List ℕ → List SparseSet
-setsIn w = table 128 (setAt w)
+setsIn w = table MAX-KINDS (setAt w)
 
 -- ---- layouts: a block of 320 words, and the counts of the groups in force
 
 abbrev pub draftArrays : List ℕ → Arrays
-draftArrays w = blockArrays (between 256 576 w) (draftFamilies w)
+draftArrays w = blockArrays (between DRAFT LAYOUT w) (draftFamilies w)
 
 abbrev pub layoutArrays : List ℕ → Arrays
-layoutArrays w = blockArrays (between 576 896 w) (layoutFamilies w)
+layoutArrays w = blockArrays (between LAYOUT GROUP-FAMILIES w) (layoutFamilies w)
 
 unfoldable pub draftIn : List ℕ → List Family
 draftIn w = familiesOf [] (draftArrays w)
 
 unfoldable pub layoutIn : List ℕ → List Family
-layoutIn w = familiesOf (between 960 1024 w) (layoutArrays w)
+layoutIn w = familiesOf (between GROUP-COUNTS ENTITIES w) (layoutArrays w)
 
 abbrev pub storageIn : List ℕ → Storage
 storageIn w = record { sets = setsIn w; layout = layoutIn w }

@@ -1,8 +1,9 @@
 // An empty store, whatever the words held.
 ghost use Prim.Native.Nat.{_≤_};
 ghost use lib.ListN.{length};
+ghost use Rattle.model.specs.Numbers.{MAX-KINDS};
 ghost use Rattle.model.specs.Sound.{Limits};
-ghost use Rattle.words.specs.Offsets.{columnStart};
+ghost use Rattle.words.specs.Offsets.{columnStart, STAGED-KINDS};
 ghost use Rattle.words.specs.Decides.{Decides};
 ghost use Rattle.memory.specs.Fresh.{Cleared, Tabled, Made};
 
@@ -39,12 +40,12 @@ fn clear(words: &mut [u32], end: usize)
 
 // The table of 128 kinds, all unregistered.
 fn put_table(words: &mut [u32])
-    requires { ⌜ 160 ≤ length (now words) ⌝ }
-    ensures { λ _. ⌜ Tabled (now (words .entry)) 128 (now (words .exit)) ⌝ }
+    requires { ⌜ STAGED-KINDS ≤ length (now words) ⌝ }
+    ensures { λ _. ⌜ Tabled (now (words .entry)) MAX-KINDS (now (words .exit)) ⌝ }
 {
     let table = [255u32; 128];
     let mut k = 0;
-    while k < 128 {
+    while k < model::MAX_KINDS {
         words[words::TABLE + k] = table[k];
         k += 1;
     }

@@ -7,6 +7,7 @@ use native.Mathlib.Omega.{arith}
 use borrow.Author.Tests.{ltb-false, leb-false, eqb-true, eq-eqb}
 use lib.Dec.{ltb, leb, eqb}
 use lib.ListN.{length, length-append}
+use Rattle.model.specs.Numbers.{MAX-GROUP-ARITY, MAX-GROUP-COUNT}
 use Rattle.model.specs.Lists.{count, count-append, count-length-le}
 use Rattle.model.specs.Model.{Group, Family, Added, nothing, added, refused, mem, meets, within, sameSet, without, kindsOf, groupsOf, isGroup, present, touched, covers, newGroup, grown, addGroup, addsNothing, joins, withGroup}
 use Rattle.model.specs.Sound.{Distinct, layoutKinds, Rising, BuildableFamily, BuildableFamilies, Buildable, Uncounted, AllUncounted}
@@ -70,9 +71,9 @@ uncounted-snoc : (f : Family) (r : Group) → Uncounted f → r .count ≡ 0 →
 uncounted-snoc [] r h z = (z, tt)
 uncounted-snoc (q ∷ f) r h z = (h .0, uncounted-snoc f r (h .1) z)
 
-family-snoc : (f : Family) (r : Group) → BuildableFamily f → 1 ≤ length (r .newKinds) → length (kindsOf f ++ r .newKinds) ≤ 15 → BuildableFamily (f ++ (r ∷ []))
+family-snoc : (f : Family) (r : Group) → BuildableFamily f → 1 ≤ length (r .newKinds) → length (kindsOf f ++ r .newKinds) ≤ MAX-GROUP-ARITY → BuildableFamily (f ++ (r ∷ []))
 family-snoc [] r h l w = absurd h
-family-snoc (q ∷ f) r h l w = (h .0, rising-snoc f r (h .1) l, subst (λ (ks : List ℕ). length ks ≤ 15) (sym (kinds-snoc (q ∷ f) r)) w)
+family-snoc (q ∷ f) r h l w = (h .0, rising-snoc f r (h .1) l, subst (λ (ks : List ℕ). length ks ≤ MAX-GROUP-ARITY) (sym (kinds-snoc (q ∷ f) r)) w)
 
 -- ---- the family that grows
 
@@ -166,7 +167,7 @@ record Grows (ks : List ℕ) (fs : List Family) : Type 0 where
   pub families : BuildableFamilies (grown ks fs)
   pub uncounted : AllUncounted (grown ks fs)
 
-grown-families : (ks : List ℕ) (fs : List Family) → covers ks fs ≡ true → present ks fs ≡ false → length ks ≤ 15 → Distinct (layoutKinds fs) → BuildableFamilies fs → AllUncounted fs → Grows ks fs
+grown-families : (ks : List ℕ) (fs : List Family) → covers ks fs ≡ true → present ks fs ≡ false → length ks ≤ MAX-GROUP-ARITY → Distinct (layoutKinds fs) → BuildableFamilies fs → AllUncounted fs → Grows ks fs
 grown-families ks [] c p l d b u = record { families = tt; uncounted = tt }
 grown-families ks (f ∷ fs) c p l d b u =
     let r = grown-families ks fs (and-right (not (meets ks (kindsOf f)) || within (kindsOf f) ks) (covers ks fs) c) (or-false-right (isGroup ks [] f) (present ks fs) p) l (distinct-right (kindsOf f) (layoutKinds fs) d) (b .1) (u .1) in
@@ -183,7 +184,7 @@ grown-families ks (f ∷ fs) c p l d b u =
 
 -- ---- a family of its own
 
-own-families : (ks : List ℕ) (fs : List Family) → 2 ≤ length ks → length ks ≤ 15 → BuildableFamilies fs → BuildableFamilies (fs ++ ((newGroup ks ∷ []) ∷ []))
+own-families : (ks : List ℕ) (fs : List Family) → 2 ≤ length ks → length ks ≤ MAX-GROUP-ARITY → BuildableFamilies fs → BuildableFamilies (fs ++ ((newGroup ks ∷ []) ∷ []))
 own-families ks [] h l b = ((h, tt, rw (append-nil ks) l), tt)
 own-families ks (f ∷ fs) h l b = (b .0, own-families ks fs h l (b .1))
 
@@ -205,7 +206,7 @@ or-right : (a b : Bool) → (a || b) ≡ true → a ≡ false → b ≡ true
 or-right true b h n = absurd (true≢false n)
 or-right false b h n = h
 
-module _ (kinds ks : List ℕ) (fs : List Family) (d : Distinct ks) (known : (k : ℕ) → In ks k → In kinds k) (narrow : length ks ≤ 15) (few : groupsOf fs < 63) (D : DraftSound kinds fs) where
+module _ (kinds ks : List ℕ) (fs : List Family) (d : Distinct ks) (known : (k : ℕ) → In ks k → In kinds k) (narrow : length ks ≤ MAX-GROUP-ARITY) (few : groupsOf fs < MAX-GROUP-COUNT) (D : DraftSound kinds fs) where
   own-sound : 2 ≤ length ks → touched ks fs ≡ 0 → DraftSound kinds (fs ++ ((newGroup ks ∷ []) ∷ []))
   own-sound two z =
       record {
@@ -252,9 +253,9 @@ AddedSound kinds (refused n) = Unit {0}
 pub addGroup-sound : (kinds ks : List ℕ) (fs : List Family) → Distinct ks → ((k : ℕ) → In ks k → In kinds k) → DraftSound kinds fs → AddedSound kinds (addGroup ks fs)
 unfolding addGroup
 addGroup-sound kinds ks fs d known D =
-    cond-case (AddedSound kinds) (leb 16 (length ks)) _ _ (λ t. tt)
+    cond-case (AddedSound kinds) (ltb MAX-GROUP-ARITY (length ks)) _ _ (λ t. tt)
     (λ wide. cond-case (AddedSound kinds) (addsNothing ks fs) _ _ (λ t. tt)
     (λ new. cond-case (AddedSound kinds) (joins ks fs) _ _
-    (λ fits. cond-case (AddedSound kinds) (leb 63 (groupsOf fs)) _ _ (λ t. tt)
-    (λ few. withGroup-sound kinds ks fs d known (omega (arith, leb-false 16 (length ks) wide)) (omega (arith, leb-false 63 (groupsOf fs) few)) D new fits))
+    (λ fits. cond-case (AddedSound kinds) (leb MAX-GROUP-COUNT (groupsOf fs)) _ _ (λ t. tt)
+    (λ few. withGroup-sound kinds ks fs d known (omega (arith, ltb-false MAX-GROUP-ARITY (length ks) wide)) (omega (arith, leb-false MAX-GROUP-COUNT (groupsOf fs) few)) D new fits))
     (λ clash. tt)))

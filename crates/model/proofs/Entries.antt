@@ -10,6 +10,7 @@ use borrow.Author.Tests.{ltb-false, eqb-false, not-false}
 use lib.Dec.{eqb, ltb}
 use lib.ListN.{length, take, length-map, length-drop}
 use lib.Seq.{length-take-le}
+use Rattle.model.specs.Numbers.{LAST-KIND, MAX-ENTITIES, MAX-KINDS}
 use Rattle.model.specs.Model.{Entity, SparseSet, setOf, keys, entityOf}
 use Rattle.model.specs.Store.{Store, empty, wordsNeeded, isKind}
 use Rattle.model.specs.Snapshot.{snapshot}
@@ -39,17 +40,17 @@ start-exact n k words m = (
   (λ f. ap (λ (r : Option ℕ). startedBy r (empty n k)) (first-exact startLines (record { capacity = n; kindCapacity = k; words = words }) m .1 f)),
 )
 
-within-limits : (n k : ℕ) → ((eqb n 0 || ltb 4096 n) || (eqb k 0 || ltb 128 k)) ≡ false → Limits n k
+within-limits : (n k : ℕ) → ((eqb n 0 || ltb MAX-ENTITIES n) || (eqb k 0 || ltb MAX-KINDS k)) ≡ false → Limits n k
 within-limits n k h =
-    let a = or-false (eqb n 0 || ltb 4096 n) (eqb k 0 || ltb 128 k) h in
-    let b = or-false-right (eqb n 0 || ltb 4096 n) (eqb k 0 || ltb 128 k) h in
-    let n0 : n ≡ 0 → ⊥ = eqb-false n 0 (or-false (eqb n 0) (ltb 4096 n) a) in
-    let k0 : k ≡ 0 → ⊥ = eqb-false k 0 (or-false (eqb k 0) (ltb 128 k) b) in
+    let a = or-false (eqb n 0 || ltb MAX-ENTITIES n) (eqb k 0 || ltb MAX-KINDS k) h in
+    let b = or-false-right (eqb n 0 || ltb MAX-ENTITIES n) (eqb k 0 || ltb MAX-KINDS k) h in
+    let n0 : n ≡ 0 → ⊥ = eqb-false n 0 (or-false (eqb n 0) (ltb MAX-ENTITIES n) a) in
+    let k0 : k ≡ 0 → ⊥ = eqb-false k 0 (or-false (eqb k 0) (ltb MAX-KINDS k) b) in
     record {
       some = positive n n0;
-      most = ltb-false 4096 n (or-false-right (eqb n 0) (ltb 4096 n) a);
+      most = ltb-false MAX-ENTITIES n (or-false-right (eqb n 0) (ltb MAX-ENTITIES n) a);
       someKinds = positive k k0;
-      mostKinds = ltb-false 128 k (or-false-right (eqb k 0) (ltb 128 k) b);
+      mostKinds = ltb-false MAX-KINDS k (or-false-right (eqb k 0) (ltb MAX-KINDS k) b);
     }
   where
     positive : (n : ℕ) → (n ≡ 0 → ⊥) → 1 ≤ n
@@ -98,7 +99,7 @@ part-length a e l h = length-drop a (take e l) ∙ ap (λ (n : ℕ). n - a) (len
 -- an accepted one is the rows from start to end, two words each
 pub record Columned (which : Bool) (k a e : ℕ) (s : Store) : Type 0 where
   pub known : isKind k s ≡ true
-  pub small : k ≤ 127
+  pub small : k ≤ LAST-KIND
   pub order : a ≤ e
   pub inside : e ≤ length (setOf (s .storage .sets) k)
   pub words : column which k a e s ≡ partWords which a e (setOf (s .storage .sets) k)
@@ -111,8 +112,8 @@ column-accepted which k a e s p =
     let inside : e ≤ length (setOf (s .storage .sets) k) = ltb-false (length (setOf (s .storage .sets) k)) e (or-false-right (ltb e a) (ltb (length (setOf (s .storage .sets) k)) e) (h .1 .0)) in
     let w : column which k a e s ≡ partWords which a e (setOf (s .storage .sets) k) = rw p in
     record {
-      known = not-false (isKind k s) (or-false-right (ltb 127 k) (not (isKind k s)) (h .0));
-      small = ltb-false 127 k (or-false (ltb 127 k) (not (isKind k s)) (h .0));
+      known = not-false (isKind k s) (or-false-right (ltb LAST-KIND k) (not (isKind k s)) (h .0));
+      small = ltb-false LAST-KIND k (or-false (ltb LAST-KIND k) (not (isKind k s)) (h .0));
       order = ltb-false e a (or-false (ltb e a) (ltb (length (setOf (s .storage .sets) k)) e) (h .1 .0));
       inside = inside;
       words = w;

@@ -7,6 +7,7 @@ use native.Mathlib.Omega.{arith}
 use borrow.Author.Tests.{eq-eqb}
 use lib.Dec.{eqb}
 use lib.ListN.{length, take}
+use Rattle.model.specs.Numbers.{MAX-KINDS}
 use Rattle.model.specs.Lists.{one, count-take-le}
 use Rattle.model.specs.Model.{Entity, Entities, SparseSet, Group, Family, Component, Storage, sameEntity, mem, all, setOf, held, allHeld, kindOf, kindsOf, headKind, insert, remove, clearAll, setLayout, destroy}
 use Rattle.model.specs.Sound.{Distinct, layoutKinds, Rising, BuildableFamilies, Uncounted, AllUncounted, Right, RightFrom, AllRight}
@@ -26,7 +27,7 @@ pub record Held (entities : Entities) (kinds : List ℕ) (storage : Storage) : T
   pub fit : Fit storage
   pub alive : (x : Entity) (k : ℕ) → 1 ≤ cnt x (key (storage .sets) k) → 1 ≤ cnt x (entities .live)
   pub bare : (k : ℕ) → mem k kinds ≡ false → (x : Entity) → cnt x (key (storage .sets) k) ≡ 0
-  pub small : (k : ℕ) → In kinds k → k < 128
+  pub small : (k : ℕ) → In kinds k → k < MAX-KINDS
 
 -- ---- the operations
 

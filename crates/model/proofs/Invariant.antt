@@ -9,6 +9,7 @@ use borrow.Author.Tests.{eqb-true}
 use lib.Dec.{eqb}
 use lib.ListN.{length, take, set, length-set}
 use lib.Seq.{length-take-le}
+use Rattle.model.specs.Numbers.{MAX-KINDS}
 use Rattle.model.specs.Lists.{one, count-take-le, count-length}
 use Rattle.model.specs.Model.{Entity, SparseSet, Group, Family, Component, Storage, Walked, Stepped, sameEntity, mem, any, meets, setOf, held, allHeld, kindsOf, kindOf, insertRow, insertAll, mapOn, swapTo, isGrouped, groupComponents, groupFamily, groupTouched, insert}
 pub use Rattle.model.specs.Sound.{holders}
@@ -21,7 +22,7 @@ pub record Fit (p : Storage) : Type 0 where
   pub once : (x : Entity) (k : ℕ) → cnt x (key (p .sets) k) ≤ 1
   pub fams : Fams (key (p .sets)) (p .layout)
   pub apart : Apart (famKinds (p .layout))
-  pub wide : length (p .sets) ≡ 128
+  pub wide : length (p .sets) ≡ MAX-KINDS
 
 -- ---- the number of sparse sets stays
 

@@ -8,6 +8,7 @@ use Prim.Native.Nat.{ℕ, suc, _≤_, _<_}
 use native.Mathlib.Omega.{arith}
 use borrow.Author.Tests.{lt-ltb, le-ltb}
 use lib.ListN.{take}
+use Rattle.model.specs.Numbers.{MAX-REFUSALS}
 use Rattle.model.specs.Store.{Store}
 pub use Rattle.model.specs.Refusals.{Unchanged}
 use Rattle.model.specs.Commands.{Command, REG, HOLD, NEW, PUT, TAKE, DROP, KILL, WIPE, GROUP, APPLY, BAR, RANGE, EMPTY, TALLY, Done, accepted, width, commandAt}
@@ -135,8 +136,8 @@ pub record Refused (n w : ℕ) (s : Store) (p : Step) : Type 0 where
   pub after : Store
   pub step : p ≡ goes w (n ∷ []) after
   pub same : Unchanged s after
-  pub more : s .control .refusals < 4294967295 → after .control .refusals ≡ suc (s .control .refusals)
-  pub full : 4294967295 ≤ s .control .refusals → after .control .refusals ≡ s .control .refusals
+  pub more : s .control .refusals < MAX-REFUSALS → after .control .refusals ≡ suc (s .control .refusals)
+  pub full : MAX-REFUSALS ≤ s .control .refusals → after .control .refusals ≡ s .control .refusals
 
 -- "7 to 15 in a run write their number as one byte, add to the tally, change no other word, and the run goes on."
 pub refused-step : (w : ℕ) (c : Command) (s : Store) (n : ℕ) → does c s ≡ refuses n → Refused n w s (stepOf w s (does c s))
@@ -145,8 +146,8 @@ refused-step w c s n e =
       after = storeAfter s (refuses n);
       step = rw e;
       same = record { capacity = refl; kindCapacity = refl; kinds = refl; entities = refl; storage = refl; staged = refl; excluded = refl; draft = refl };
-      more = λ h. rw (lt-ltb (s .control .refusals) 4294967295 h);
-      full = λ h. rw (le-ltb (s .control .refusals) 4294967295 h);
+      more = λ h. rw (lt-ltb (s .control .refusals) MAX-REFUSALS h);
+      full = λ h. rw (le-ltb (s .control .refusals) MAX-REFUSALS h);
     }
 
 -- ---- stops

@@ -11,6 +11,7 @@ use borrow.Author.Tests.{eqb-true, eq-eqb, ne-eqb, lt-ltb, ltb-true}
 use native.Mathlib.Decide.{ℕ-discrete, decLt}
 use lib.Dec.{eqb, ltb, eqb·suc-zero}
 use lib.ListN.{length, getD}
+use Rattle.model.specs.Numbers.{MAX-KINDS}
 use Rattle.model.specs.Lists.{count, one, count-length}
 use Rattle.model.specs.Model.{sameEntity, Entity, SparseSet, Component, setOf}
 use Rattle.model.specs.Store.{Store, le}
@@ -161,7 +162,7 @@ pub record Listed (s : Store) : Type 0 where
   pub issued : (k : ℕ) → s .entities .issued ≤ k → versionAt k (s .entities .live) ≡ 0
   pub fit : FitEntries (listing s)
   pub few : length (s .entities .live) < 256 ^ 4
-  pub columns : length (s .storage .sets) ≡ 128
+  pub columns : length (s .storage .sets) ≡ MAX-KINDS
 
 module _ (s t : Store) (ls : Listed s) (lt : Listed t) where
   bound : ℕ

@@ -7,6 +7,7 @@ use native.Mathlib.Omega.{arith}
 use borrow.Author.Tests.{ltb-true, leb-false, lt-ltb, eqb-true}
 use lib.Dec.{ltb, leb, eqb, lit<}
 use lib.ListN.{length, getD, replicate, length-append, length-replicate}
+use Rattle.model.specs.Numbers.{LIST-CAPACITY, MAX-KINDS, MAX-REFUSALS}
 use Rattle.model.specs.Lists.{one, place-count, count-place}
 use Rattle.model.specs.Model.{Entity, Entities, SparseSet, Family, Component, sameEntity, mem, setOf, keys, kindOf, isLive, insert, remove, clearAll, setLayout, create, createWith, destroy}
 use Rattle.model.specs.Store.{Control, Store, empty, withControl, withStorage, withAll, withKinds, emptyStaged, emptyBoth, withStaged, withExcluded, withDraft, counted}
@@ -51,7 +52,7 @@ pub record ControlSound (kinds : List ℕ) (d : Control) : Type 0 where
   pub staged : StagedSound kinds (d .staged)
   pub excluded : ExcludedSound kinds (d .excluded)
   pub draft : DraftSound kinds (d .draft)
-  pub refusals : d .refusals ≤ 4294967295
+  pub refusals : d .refusals ≤ MAX-REFUSALS
 
 pub control-of : (s : Store) → Sound s → ControlSound (s .kinds) (s .control)
 control-of s S = record { staged = S .staged; excluded = S .excluded; draft = record { buildable = S .draft; uncounted = S .uncounted }; refusals = S .refusals }
@@ -124,7 +125,7 @@ module _ (kinds : List ℕ) (d : Control) (C : ControlSound kinds d) where
   emptyBoth-sound = record { staged = no-staged kinds; excluded = no-excluded kinds; draft = C .draft; refusals = C .refusals }
 
   -- one component more in the hand
-  pub stage-sound : (k v : ℕ) → In kinds k → mem k (map kindOf (d .staged)) ≡ false → length (d .staged) < 16 → Eight v → ControlSound kinds (withStaged d (d .staged ++ (record { kind = k; value = v } ∷ [])))
+  pub stage-sound : (k v : ℕ) → In kinds k → mem k (map kindOf (d .staged)) ≡ false → length (d .staged) < LIST-CAPACITY → Eight v → ControlSound kinds (withStaged d (d .staged ++ (record { kind = k; value = v } ∷ [])))
   stage-sound k v known new few fits =
       record {
         staged = record {
@@ -139,7 +140,7 @@ module _ (kinds : List ℕ) (d : Control) (C : ControlSound kinds d) where
       }
 
   -- one kind more in the bar
-  pub exclude-sound : (k : ℕ) → In kinds k → mem k (d .excluded) ≡ false → length (d .excluded) < 16 → ControlSound kinds (withExcluded d (d .excluded ++ (k ∷ [])))
+  pub exclude-sound : (k : ℕ) → In kinds k → mem k (d .excluded) ≡ false → length (d .excluded) < LIST-CAPACITY → ControlSound kinds (withExcluded d (d .excluded ++ (k ∷ [])))
   exclude-sound k known new few =
       record {
         staged = C .staged;
@@ -161,7 +162,7 @@ module _ (kinds : List ℕ) (d : Control) (C : ControlSound kinds d) where
         staged = C .staged;
         excluded = C .excluded;
         draft = C .draft;
-        refusals = cond-case (λ (n : ℕ). n ≤ 4294967295) (ltb (d .refusals) 4294967295) _ _ (λ t. omega (arith, ltb-true (d .refusals) 4294967295 t)) (λ t. omega (arith, C .refusals));
+        refusals = cond-case (λ (n : ℕ). n ≤ MAX-REFUSALS) (ltb (d .refusals) MAX-REFUSALS) _ _ (λ t. omega (arith, ltb-true (d .refusals) MAX-REFUSALS t)) (λ t. omega (arith, C .refusals));
       }
 
 -- ---- more kinds are registered
@@ -203,7 +204,7 @@ module _ (s : Store) (S : Sound s) where
   control-sound d D = make (withControl s d) (S .limits) (S .kinds) (S .entities .few) H (S .sets .values) (S .layout) D
 
   -- REG of a new kind
-  pub register-sound : (k : ℕ) → k < 128 → mem k (s .kinds) ≡ false → length (s .kinds) < s .kindCapacity → Sound (withKinds s (s .kinds ++ (k ∷ [])))
+  pub register-sound : (k : ℕ) → k < MAX-KINDS → mem k (s .kinds) ≡ false → length (s .kinds) < s .kindCapacity → Sound (withKinds s (s .kinds ++ (k ∷ [])))
   register-sound k lt new few =
       let sub : (j : ℕ) → In (s .kinds) j → In (s .kinds ++ (k ∷ [])) j = in-left (s .kinds) (k ∷ []) in
       make (withKinds s (s .kinds ++ (k ∷ []))) (S .limits)
@@ -288,11 +289,11 @@ empty-sound n k limits =
       kinds = record { few = omega arith; once = λ j. omega arith; small = λ j i. absurd (false≢true i) };
       entities = record { few = omega arith; below = λ i h. absurd (omega arith); single = λ i. omega arith; positive = λ x h. absurd (omega arith); small = λ x h. absurd (omega arith) };
       sets = record {
-        wide = length-replicate {A = SparseSet} 128 [];
-        bare = λ j m. setOf-empty 128 j;
+        wide = length-replicate {A = SparseSet} MAX-KINDS [];
+        bare = λ j m. setOf-empty MAX-KINDS j;
         alive = λ x j h. absurd (omega (arith, none x j));
         once = λ x j. omega (arith, none x j);
-        values = λ j i. rw (setOf-empty 128 j) eight0;
+        values = λ j i. rw (setOf-empty MAX-KINDS j) eight0;
       };
       staged = no-staged [];
       excluded = no-excluded [];
@@ -303,5 +304,5 @@ empty-sound n k limits =
       refusals = omega arith;
     }
   where
-    none : (x : Entity) (j : ℕ) → cnt x (key (replicate 128 []) j) ≡ 0
-    none x j = ap (λ (c : SparseSet). cnt x (keys c)) (setOf-empty 128 j)
+    none : (x : Entity) (j : ℕ) → cnt x (key (replicate MAX-KINDS []) j) ≡ 0
+    none x j = ap (λ (c : SparseSet). cnt x (keys c)) (setOf-empty MAX-KINDS j)

@@ -5,6 +5,7 @@ use mathlib.Core.List.{[], _∷_, _++_}
 use Prim.Native.Nat.{ℕ}
 use lib.Dec.{leb, ltb}
 use lib.ListN.{length}
+use Rattle.model.specs.Numbers.{AGAIN, DEAD, FULL, HANDFUL, KIND, KINDS, LAST-KIND, LIST-CAPACITY, MAX-GROUP-ARITY, MAX-GROUP-COUNT}
 use Rattle.model.specs.Model.{Entity, Added, nothing, added, refused, mem, isFull, isLive, groupsOf, addGroup, addsNothing, joins, destroy, insert, remove}
 use Rattle.model.specs.Store.{Store, le, stagedKinds, isKind, withControl, withStorage, withAll, withKinds, withStaged, withExcluded, withDraft, emptyStaged, emptyBoth}
 use Rattle.model.specs.Commands.{REG, HOLD, NEW, PUT, TAKE, DROP, KILL, WIPE, GROUP, APPLY, BAR, RANGE, EMPTY, TALLY, heldBytes, accepted}
@@ -15,61 +16,61 @@ use Rattle.model.proofs.Walk.{bool-cases}
 module _ (s : Store) where
   -- ---- REG
 
-  pub reg-above : (k : ℕ) → ltb 127 k ≡ true → does (REG k) s ≡ refuses 7
+  pub reg-above : (k : ℕ) → ltb LAST-KIND k ≡ true → does (REG k) s ≡ refuses KIND
   unfolding does linesOf
   reg-above k h = rw h
 
-  pub reg-full : (k : ℕ) → ltb 127 k ≡ false → isKind k s ≡ false → leb (s .kindCapacity) (length (s .kinds)) ≡ true → does (REG k) s ≡ refuses 8
+  pub reg-full : (k : ℕ) → ltb LAST-KIND k ≡ false → isKind k s ≡ false → leb (s .kindCapacity) (length (s .kinds)) ≡ true → does (REG k) s ≡ refuses KINDS
   unfolding does linesOf
   reg-full k h i j = rw (h, i, j)
 
-  pub reg-known : (k : ℕ) → ltb 127 k ≡ false → isKind k s ≡ true → does (REG k) s ≡ accepts s (0 ∷ [])
+  pub reg-known : (k : ℕ) → ltb LAST-KIND k ≡ false → isKind k s ≡ true → does (REG k) s ≡ accepts s (0 ∷ [])
   unfolding does linesOf accepted
   reg-known k h i = rw (h, i)
 
-  pub reg-new : (k : ℕ) → ltb 127 k ≡ false → isKind k s ≡ false → leb (s .kindCapacity) (length (s .kinds)) ≡ false → does (REG k) s ≡ accepts (withKinds s (s .kinds ++ (k ∷ []))) (1 ∷ [])
+  pub reg-new : (k : ℕ) → ltb LAST-KIND k ≡ false → isKind k s ≡ false → leb (s .kindCapacity) (length (s .kinds)) ≡ false → does (REG k) s ≡ accepts (withKinds s (s .kinds ++ (k ∷ []))) (1 ∷ [])
   unfolding does linesOf accepted
   reg-new k h i j = rw (h, i, j)
 
   -- ---- HOLD
 
-  pub hold-unknown : (k v : ℕ) → unknownKind k s ≡ true → does (HOLD k v) s ≡ refuses 7
+  pub hold-unknown : (k v : ℕ) → unknownKind k s ≡ true → does (HOLD k v) s ≡ refuses KIND
   unfolding does linesOf
   hold-unknown k v h = rw h
 
-  pub hold-again : (k v : ℕ) → unknownKind k s ≡ false → mem k (stagedKinds s) ≡ true → does (HOLD k v) s ≡ refuses 9
+  pub hold-again : (k v : ℕ) → unknownKind k s ≡ false → mem k (stagedKinds s) ≡ true → does (HOLD k v) s ≡ refuses AGAIN
   unfolding does linesOf
   hold-again k v h i = rw (h, i)
 
-  pub hold-full : (k v : ℕ) → unknownKind k s ≡ false → mem k (stagedKinds s) ≡ false → leb 16 (length (s .control .staged)) ≡ true → does (HOLD k v) s ≡ refuses 10
+  pub hold-full : (k v : ℕ) → unknownKind k s ≡ false → mem k (stagedKinds s) ≡ false → leb LIST-CAPACITY (length (s .control .staged)) ≡ true → does (HOLD k v) s ≡ refuses HANDFUL
   unfolding does linesOf
   hold-full k v h i j = rw (h, i, j)
 
-  pub hold-staged : (k v : ℕ) → unknownKind k s ≡ false → mem k (stagedKinds s) ≡ false → leb 16 (length (s .control .staged)) ≡ false → does (HOLD k v) s ≡ accepts (withControl s (withStaged (s .control) (s .control .staged ++ (record { kind = k; value = v } ∷ [])))) []
+  pub hold-staged : (k v : ℕ) → unknownKind k s ≡ false → mem k (stagedKinds s) ≡ false → leb LIST-CAPACITY (length (s .control .staged)) ≡ false → does (HOLD k v) s ≡ accepts (withControl s (withStaged (s .control) (s .control .staged ++ (record { kind = k; value = v } ∷ [])))) []
   unfolding does linesOf accepted
   hold-staged k v h i j = rw (h, i, j)
 
   -- ---- BAR
 
-  pub bar-unknown : (k : ℕ) → unknownKind k s ≡ true → does (BAR k) s ≡ refuses 7
+  pub bar-unknown : (k : ℕ) → unknownKind k s ≡ true → does (BAR k) s ≡ refuses KIND
   unfolding does linesOf
   bar-unknown k h = rw h
 
-  pub bar-again : (k : ℕ) → unknownKind k s ≡ false → mem k (s .control .excluded) ≡ true → does (BAR k) s ≡ refuses 9
+  pub bar-again : (k : ℕ) → unknownKind k s ≡ false → mem k (s .control .excluded) ≡ true → does (BAR k) s ≡ refuses AGAIN
   unfolding does linesOf
   bar-again k h i = rw (h, i)
 
-  pub bar-full : (k : ℕ) → unknownKind k s ≡ false → mem k (s .control .excluded) ≡ false → leb 16 (length (s .control .excluded)) ≡ true → does (BAR k) s ≡ refuses 10
+  pub bar-full : (k : ℕ) → unknownKind k s ≡ false → mem k (s .control .excluded) ≡ false → leb LIST-CAPACITY (length (s .control .excluded)) ≡ true → does (BAR k) s ≡ refuses HANDFUL
   unfolding does linesOf
   bar-full k h i j = rw (h, i, j)
 
-  pub bar-excluded : (k : ℕ) → unknownKind k s ≡ false → mem k (s .control .excluded) ≡ false → leb 16 (length (s .control .excluded)) ≡ false → does (BAR k) s ≡ accepts (withControl s (withExcluded (s .control) (s .control .excluded ++ (k ∷ [])))) []
+  pub bar-excluded : (k : ℕ) → unknownKind k s ≡ false → mem k (s .control .excluded) ≡ false → leb LIST-CAPACITY (length (s .control .excluded)) ≡ false → does (BAR k) s ≡ accepts (withControl s (withExcluded (s .control) (s .control .excluded ++ (k ∷ [])))) []
   unfolding does linesOf accepted
   bar-excluded k h i j = rw (h, i, j)
 
   -- ---- NEW
 
-  pub new-full : isFull (s .capacity) (s .entities) ≡ true → does NEW s ≡ refuses 12
+  pub new-full : isFull (s .capacity) (s .entities) ≡ true → does NEW s ≡ refuses FULL
   unfolding does linesOf
   new-full h = rw h
 
@@ -79,7 +80,7 @@ module _ (s : Store) where
 
   -- ---- PUT, TAKE, DROP, KILL
 
-  pub put-dead : (e : Entity) → isLive e (s .entities) ≡ false → does (PUT e) s ≡ refuses 11
+  pub put-dead : (e : Entity) → isLive e (s .entities) ≡ false → does (PUT e) s ≡ refuses DEAD
   unfolding does linesOf
   put-dead e h = rw h
 
@@ -87,7 +88,7 @@ module _ (s : Store) where
   unfolding does linesOf accepted
   put-live e h = rw h
 
-  pub take-dead : (e : Entity) → isLive e (s .entities) ≡ false → does (TAKE e) s ≡ refuses 11
+  pub take-dead : (e : Entity) → isLive e (s .entities) ≡ false → does (TAKE e) s ≡ refuses DEAD
   unfolding does linesOf
   take-dead e h = rw h
 
@@ -95,7 +96,7 @@ module _ (s : Store) where
   unfolding does linesOf accepted
   take-live e h = rw h
 
-  pub drop-dead : (e : Entity) → isLive e (s .entities) ≡ false → does (DROP e) s ≡ refuses 11
+  pub drop-dead : (e : Entity) → isLive e (s .entities) ≡ false → does (DROP e) s ≡ refuses DEAD
   unfolding does linesOf
   drop-dead e h = rw h
 
@@ -103,7 +104,7 @@ module _ (s : Store) where
   unfolding does linesOf accepted
   drop-live e h = rw h
 
-  pub kill-dead : (e : Entity) → isLive e (s .entities) ≡ false → does (KILL e) s ≡ refuses 11
+  pub kill-dead : (e : Entity) → isLive e (s .entities) ≡ false → does (KILL e) s ≡ refuses DEAD
   unfolding does linesOf
   kill-dead e h = rw h
 
@@ -144,8 +145,8 @@ grouped s (refused n) = refuses n
 pub group-does : (s : Store) → does GROUP s ≡ grouped s (addGroup (stagedKinds s) (s .control .draft))
 unfolding does linesOf accepted addGroup
 group-does s =
-    bool-cases (leb 16 (length (stagedKinds s))) (λ a. rw a)
+    bool-cases (ltb MAX-GROUP-ARITY (length (stagedKinds s))) (λ a. rw a)
     (λ a. bool-cases (addsNothing (stagedKinds s) (s .control .draft)) (λ b. rw (a, b))
     (λ b. bool-cases (joins (stagedKinds s) (s .control .draft))
-    (λ c. bool-cases (leb 63 (groupsOf (s .control .draft))) (λ d. rw (a, b, c, d)) (λ d. rw (a, b, c, d)))
+    (λ c. bool-cases (leb MAX-GROUP-COUNT (groupsOf (s .control .draft))) (λ d. rw (a, b, c, d)) (λ d. rw (a, b, c, d)))
     (λ c. rw (a, b, c))))

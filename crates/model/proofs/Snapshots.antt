@@ -9,6 +9,7 @@ use native.Mathlib.Omega.{arith}
 use borrow.Author.Tests.{eq-eqb}
 use lib.Dec.{eqb}
 use lib.ListN.{getD}
+use Rattle.model.specs.Numbers.{MAX-ENTITIES}
 use Rattle.model.specs.Lists.{one}
 use Rattle.model.specs.Model.{Entity, SparseSet, sameEntity, noRow, at, held, lastVersion}
 use Rattle.model.specs.Store.{Store, empty}
@@ -58,7 +59,7 @@ components-fit e k (c ∷ cs) h = go (held e c) (components-fit e (suc k) cs (λ
     go false r = r
 
 module _ (live : List Entity) (sets : List SparseSet) (h : ColsOk Eight eight0 sets) (vs : (x : Entity) → 1 ≤ cnt x live → x .version ≤ lastVersion) where
-  entries-fit : (n i : ℕ) → i + n ≤ 4096 → FitEntries (entries i n live sets)
+  entries-fit : (n i : ℕ) → i + n ≤ MAX-ENTITIES → FitEntries (entries i n live sets)
   entries-fit zero i le = tt
   entries-fit (suc n) i le = go (versionAt i live) refl (entries-fit n (suc i) (omega arith))
     where

@@ -9,6 +9,7 @@ use native.Mathlib.Nat.{pow-suc}
 use borrow.Author.Tests.{ltb-false, leb-false, not-false}
 use lib.Dec.{ltb, leb, lit<}
 use lib.ListN.{length, take, drop, getD, length-take, length-drop}
+use Rattle.model.specs.Numbers.{LAST-KIND, LIST-CAPACITY, MAX-GROUP-ARITY, MAX-GROUP-COUNT}
 use Rattle.model.specs.Model.{Created, isLive, addsNothing, joins, withGroup, groupsOf, create}
 pub use Rattle.model.specs.Store.{Bytes}
 use Rattle.model.specs.Store.{Store, empty, number, stagedKinds, isKind, withControl, withAll, counted, emptyStaged, emptyBoth}
@@ -52,8 +53,8 @@ not-and false b h e = h
 not-not : (a b : Bool) → (not a && not b) ≡ false → a ≡ false → b ≡ true
 not-not a b h e = not-false b (not-and a (not b) h e)
 
-known-kind : (k : ℕ) (s : Store) → (ltb 127 k || not (isKind k s)) ≡ false → isKind k s ≡ true
-known-kind k s h = not-false (isKind k s) (or-false-right (ltb 127 k) (not (isKind k s)) h)
+known-kind : (k : ℕ) (s : Store) → (ltb LAST-KIND k || not (isKind k s)) ≡ false → isKind k s ≡ true
+known-kind k s h = not-false (isKind k s) (or-false-right (ltb LAST-KIND k) (not (isKind k s)) h)
 
 module _ (s : Store) (S : Sound s) where
   -- the hand is emptied beside a change of the components
@@ -67,8 +68,8 @@ accepted-sound : (c : Command) (s : Store) → Fits c → Sound s → NoneHolds 
 unfolding accepted linesOf
 accepted-sound (REG k) s f S n =
     cond-case (λ (d : Done). Sound (d .store)) (isKind k s) _ _ (λ t. S)
-    (λ t. register-sound s S k (omega (arith, ltb-false 127 k (n .0))) t (omega (arith, leb-false (s .kindCapacity) (length (s .kinds)) (not-and (isKind k s) (leb (s .kindCapacity) (length (s .kinds))) (n .1 .0) t))))
-accepted-sound (HOLD k v) s f S n = control-sound s S _ (stage-sound (s .kinds) (s .control) (control-of s S) k v (known-kind k s (n .0)) (n .1 .0) (omega (arith, leb-false 16 (length (s .control .staged)) (n .1 .1 .0))) f)
+    (λ t. register-sound s S k (omega (arith, ltb-false LAST-KIND k (n .0))) t (omega (arith, leb-false (s .kindCapacity) (length (s .kinds)) (not-and (isKind k s) (leb (s .kindCapacity) (length (s .kinds))) (n .1 .0) t))))
+accepted-sound (HOLD k v) s f S n = control-sound s S _ (stage-sound (s .kinds) (s .control) (control-of s S) k v (known-kind k s (n .0)) (n .1 .0) (omega (arith, leb-false LIST-CAPACITY (length (s .control .staged)) (n .1 .1 .0))) f)
 accepted-sound NEW s f S n =
     let c : Created = create (s .entities) in
     let A : Sound (withAll s (c .entities) (s .storage) (s .control)) = create-sound s S (n .0) in
@@ -82,12 +83,12 @@ accepted-sound WIPE s f S n = clearAll-sound s S
 accepted-sound GROUP s f S n =
     cond-case (λ (d : Done). Sound (d .store)) (addsNothing (stagedKinds s) (s .control .draft)) _ _ (λ t. emptied s S)
     (λ t.
-    let D : DraftSound (s .kinds) (withGroup (stagedKinds s) (s .control .draft)) = withGroup-sound (s .kinds) (stagedKinds s) (s .control .draft) (S .staged .once) (S .staged .known) (omega (arith, leb-false 16 (length (stagedKinds s)) (n .0))) (omega (arith, leb-false 63 (groupsOf (s .control .draft)) (not-and (addsNothing (stagedKinds s) (s .control .draft)) (leb 63 (groupsOf (s .control .draft))) (n .1 .1 .0) t))) (control-of s S .draft) t (not-not (addsNothing (stagedKinds s) (s .control .draft)) (joins (stagedKinds s) (s .control .draft)) (n .1 .0) t) in
+    let D : DraftSound (s .kinds) (withGroup (stagedKinds s) (s .control .draft)) = withGroup-sound (s .kinds) (stagedKinds s) (s .control .draft) (S .staged .once) (S .staged .known) (omega (arith, ltb-false MAX-GROUP-ARITY (length (stagedKinds s)) (n .0))) (omega (arith, leb-false MAX-GROUP-COUNT (groupsOf (s .control .draft)) (not-and (addsNothing (stagedKinds s) (s .control .draft)) (leb MAX-GROUP-COUNT (groupsOf (s .control .draft))) (n .1 .1 .0) t))) (control-of s S .draft) t (not-not (addsNothing (stagedKinds s) (s .control .draft)) (joins (stagedKinds s) (s .control .draft)) (n .1 .0) t) in
     control-sound s S _ (draft-sound (s .kinds) (emptyStaged (s .control)) (emptyStaged-sound (s .kinds) (s .control) (control-of s S)) (withGroup (stagedKinds s) (s .control .draft)) D))
 accepted-sound APPLY s f S n =
     let A = setLayout-sound s S (s .control .draft) (control-of s S .draft) in
     control-sound _ A _ (draft-sound (s .kinds) (s .control) (control-of s S) [] (no-draft (s .kinds)))
-accepted-sound (BAR k) s f S n = control-sound s S _ (exclude-sound (s .kinds) (s .control) (control-of s S) k (known-kind k s (n .0)) (n .1 .0) (omega (arith, leb-false 16 (length (s .control .excluded)) (n .1 .1 .0))))
+accepted-sound (BAR k) s f S n = control-sound s S _ (exclude-sound (s .kinds) (s .control) (control-of s S) k (known-kind k s (n .0)) (n .1 .0) (omega (arith, leb-false LIST-CAPACITY (length (s .control .excluded)) (n .1 .1 .0))))
 accepted-sound RANGE s f S n = both-emptied s S
 accepted-sound EMPTY s f S n = both-emptied s S
 accepted-sound TALLY s f S n = S

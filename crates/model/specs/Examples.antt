@@ -3,6 +3,7 @@ use mathlib.Core.Path.{_≡_, refl}
 use mathlib.Core.List.{List, [], _∷_, _++_, map}
 use Prim.Native.Nat.{ℕ}
 use lib.ListN.{length, replicate}
+use Rattle.model.specs.Numbers.{MAX-KINDS}
 use Rattle.model.specs.Model.{Entity, Component, Storage, Group, Family, Entities, Created, Range, none, found, Added, nothing, added, refused}
 use Rattle.model.specs.Store.{empty, le}
 use Rattle.model.specs.Commands.{accepted}
@@ -37,7 +38,7 @@ countsOf [] = []
 countsOf (f ∷ fs) = map (λ (r : Group). r .count) f ++ countsOf fs
 
 columns : ℕ
-columns = 128
+columns = MAX-KINDS
 
 bare : Storage
 unfolding columns

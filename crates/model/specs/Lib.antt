@@ -1,3 +1,4 @@
+pub mod Numbers
 pub mod Lists
 pub mod Model
 pub mod Store

@@ -5,6 +5,7 @@ use mathlib.Core.List.{List, [], _∷_, _++_, map}
 use Prim.Native.Nat.{ℕ, suc, _+_, _-_}
 use lib.Dec.{eqb, leb, ltb}
 use lib.ListN.{length, getD, set}
+use Rattle.model.specs.Numbers.{CLASH, MANY, MAX-GROUP-ARITY, MAX-GROUP-COUNT, WIDE}
 use Rattle.model.specs.Lists.{swap, place, cutAt}
 
 -- ---- entities, rows, components, groups
@@ -370,10 +371,10 @@ withGroup ks fs =
 -- the rule whole, in the table's order: 13 WIDE, 14 CLASH, 15 MANY
 unfoldable pub addGroup : List ℕ → List Family → Added
 addGroup ks fs =
-    let room = cond (leb 63 (groupsOf fs)) (refused 15) (added (withGroup ks fs)) in
-    let fits = cond (joins ks fs) room (refused 14) in
+    let room = cond (leb MAX-GROUP-COUNT (groupsOf fs)) (refused MANY) (added (withGroup ks fs)) in
+    let fits = cond (joins ks fs) room (refused CLASH) in
     let new = cond (addsNothing ks fs) nothing fits in
-    cond (leb 16 (length ks)) (refused 13) new
+    cond (ltb MAX-GROUP-ARITY (length ks)) (refused WIDE) new
 
 -- ---- entities
 

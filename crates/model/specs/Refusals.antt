@@ -6,6 +6,8 @@ use mathlib.Core.List.{List, [], _∷_, _++_}
 use Prim.Native.Nat.{ℕ}
 use lib.Dec.{eqb, leb, ltb}
 use lib.ListN.{length, take}
+use Rattle.model.specs.Numbers.{HANDFUL, KIND, LAST-KIND, LIST-CAPACITY, MANY, MAX-ENTITIES, MAX-GROUP-ARITY, MAX-GROUP-COUNT, MAX-KINDS, SIZE, WIDE}
+pub use Rattle.model.specs.Numbers.{SIZE, SHORT, UNSOUND, UNKNOWN, CUT, NOROOM, KIND, KINDS, AGAIN, HANDFUL, DEAD, FULL, WIDE, CLASH, MANY, BEYOND}
 use Rattle.model.specs.Model.{Entity, mem, setOf, groupsOf, addsNothing, joins, isFull, isLive}
 use Rattle.model.specs.Store.{Store, stagedKinds, isKind, wordsNeeded}
 use Rattle.model.specs.Commands.{Command, REG, HOLD, NEW, PUT, TAKE, DROP, KILL, WIPE, GROUP, APPLY, BAR, RANGE, EMPTY, TALLY, width, isCommand, commandAt, answerLength}
@@ -46,56 +48,6 @@ abbrev pub numberOf : Option ℕ → ℕ
 numberOf none = 0
 numberOf (some n) = n
 
--- ---- the numbers by name
-
-abbrev pub SIZE : ℕ
-SIZE = 1
-
-abbrev pub SHORT : ℕ
-SHORT = 2
-
-abbrev pub UNSOUND : ℕ
-UNSOUND = 3
-
-abbrev pub UNKNOWN : ℕ
-UNKNOWN = 4
-
-abbrev pub CUT : ℕ
-CUT = 5
-
-abbrev pub NOROOM : ℕ
-NOROOM = 6
-
-abbrev pub KIND : ℕ
-KIND = 7
-
-abbrev pub KINDS : ℕ
-KINDS = 8
-
-abbrev pub AGAIN : ℕ
-AGAIN = 9
-
-abbrev pub HANDFUL : ℕ
-HANDFUL = 10
-
-abbrev pub DEAD : ℕ
-DEAD = 11
-
-abbrev pub FULL : ℕ
-FULL = 12
-
-abbrev pub WIDE : ℕ
-WIDE = 13
-
-abbrev pub CLASH : ℕ
-CLASH = 14
-
-abbrev pub MANY : ℕ
-MANY = 15
-
-abbrev pub BEYOND : ℕ
-BEYOND = 16
-
 -- ---- start
 
 -- what start is told: N, K, and how many words are lent
@@ -107,7 +59,7 @@ pub record Lent : Type 0 where
 abbrev pub startLines : List (Line Lent)
 startLines =
     -- "N not 1 to 4,096 or K not 1 to 128"
-    line SIZE (λ l. (eqb (l .capacity) 0 || ltb 4096 (l .capacity)) || (eqb (l .kindCapacity) 0 || ltb 128 (l .kindCapacity)))
+    line SIZE (λ l. (eqb (l .capacity) 0 || ltb MAX-ENTITIES (l .capacity)) || (eqb (l .kindCapacity) 0 || ltb MAX-KINDS (l .kindCapacity)))
     -- "too few words"
     ∷ line SHORT (λ l. ltb (l .words) (wordsNeeded (l .capacity) (l .kindCapacity)))
     ∷ []
@@ -164,12 +116,12 @@ deadLine e = line DEAD (λ s. not (isLive e (s .entities)))
 
 -- for HOLD, BAR and column: "above 127; for all but REG also unregistered"
 abbrev pub unknownKind : ℕ → Store → Bool
-unknownKind k s = ltb 127 k || not (isKind k s)
+unknownKind k s = ltb LAST-KIND k || not (isKind k s)
 
 unfoldable pub linesOf : Command → List (Line Store)
 linesOf (REG k) =
     -- "above 127"
-    line KIND (λ s. ltb 127 k)
+    line KIND (λ s. ltb LAST-KIND k)
     -- "new, and K are registered"
     ∷ line KINDS (λ s. not (isKind k s) && leb (s .kindCapacity) (length (s .kinds)))
     ∷ []
@@ -178,12 +130,12 @@ linesOf (HOLD k v) =
     -- "already in that list"
     ∷ line AGAIN (λ s. mem k (stagedKinds s))
     -- "list has 16"
-    ∷ line HANDFUL (λ s. leb 16 (length (s .control .staged)))
+    ∷ line HANDFUL (λ s. leb LIST-CAPACITY (length (s .control .staged)))
     ∷ []
 linesOf (BAR k) =
     line KIND (unknownKind k)
     ∷ line AGAIN (λ s. mem k (s .control .excluded))
-    ∷ line HANDFUL (λ s. leb 16 (length (s .control .excluded)))
+    ∷ line HANDFUL (λ s. leb LIST-CAPACITY (length (s .control .excluded)))
     ∷ []
 linesOf (PUT e) = deadLine e ∷ []
 linesOf (TAKE e) = deadLine e ∷ []
@@ -196,11 +148,11 @@ linesOf NEW =
 -- "GROUP answers "nothing added" for a small hand before 13 and for an equal group before 14."
 linesOf GROUP =
     -- "16 kinds"
-    line WIDE (λ s. leb 16 (length (stagedKinds s)))
+    line WIDE (λ s. ltb MAX-GROUP-ARITY (length (stagedKinds s)))
     -- "Everything else clashes."
     ∷ line CLASH (λ s. not (addsNothing (stagedKinds s) (s .control .draft)) && not (joins (stagedKinds s) (s .control .draft)))
     -- "draft has 63 groups"
-    ∷ line MANY (λ s. not (addsNothing (stagedKinds s) (s .control .draft)) && leb 63 (groupsOf (s .control .draft)))
+    ∷ line MANY (λ s. not (addsNothing (stagedKinds s) (s .control .draft)) && leb MAX-GROUP-COUNT (groupsOf (s .control .draft)))
     ∷ []
 linesOf WIPE = []
 linesOf APPLY = []

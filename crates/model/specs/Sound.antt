@@ -6,6 +6,7 @@ use mathlib.Core.List.{List, [], _∷_, _++_, map}
 use Prim.Native.Nat.{ℕ, _+_, _^_, _≤_, _<_}
 use lib.Dec.{eqb}
 use lib.ListN.{length, take, drop, getD}
+use Rattle.model.specs.Numbers.{LIST-CAPACITY, MAX-ENTITIES, MAX-GROUP-ARITY, MAX-GROUP-COUNT, MAX-KINDS, MAX-REFUSALS}
 use Rattle.model.specs.Lists.{count}
 use Rattle.model.specs.Model.{Entity, Entities, SparseSet, Component, Family, sameEntity, noRow, mem, setOf, keys, kindOf, kindsOf, groupsOf, allHeld, lastVersion}
 use Rattle.model.specs.Store.{Store}
@@ -48,16 +49,16 @@ noComponent = record { kind = 0; value = 0 }
 
 pub record Limits (n k : ℕ) : Type 0 where
   pub some : 1 ≤ n
-  pub most : n ≤ 4096
+  pub most : n ≤ MAX-ENTITIES
   pub someKinds : 1 ≤ k
-  pub mostKinds : k ≤ 128
+  pub mostKinds : k ≤ MAX-KINDS
 
 -- ---- "at most K registered kinds"; "A kind is a number 0 to 127."
 
 pub record KindsSound (k : ℕ) (kinds : List ℕ) : Type 0 where
   pub few : length kinds ≤ k
   pub once : Distinct kinds
-  pub small : (j : ℕ) → In kinds j → j < 128
+  pub small : (j : ℕ) → In kinds j → j < MAX-KINDS
 
 -- ---- "at most N issued numbers, from index 0 without gaps, every live or waiting index among them; each issued number live, waiting once, or
 -- neither, with versions of 1 or more". The last version is 4,294,967,295.
@@ -72,7 +73,7 @@ pub record EntitiesSound (n : ℕ) (c : Entities) : Type 0 where
 -- ---- "columns holding live cards only, once each"; a kind that is not registered has no column, which is an empty one here
 
 pub record SetsSound (kinds : List ℕ) (live : List Entity) (sets : List SparseSet) : Type 0 where
-  pub wide : length sets ≡ 128
+  pub wide : length sets ≡ MAX-KINDS
   pub bare : (k : ℕ) → mem k kinds ≡ false → setOf sets k ≡ []
   pub alive : (x : Entity) (k : ℕ) → 1 ≤ cnt x (key sets k) → 1 ≤ cnt x live
   pub once : (x : Entity) (k : ℕ) → cnt x (key sets k) ≤ 1
@@ -82,14 +83,14 @@ pub record SetsSound (kinds : List ℕ) (live : List Entity) (sets : List Sparse
 
 -- the staged components
 pub record StagedSound (kinds : List ℕ) (staged : List Component) : Type 0 where
-  pub few : length staged ≤ 16
+  pub few : length staged ≤ LIST-CAPACITY
   pub once : Distinct (map kindOf staged)
   pub known : (k : ℕ) → In (map kindOf staged) k → In kinds k
   pub values : (j : ℕ) → Eight (getD staged j noComponent .value)
 
 -- the excluded kinds
 pub record ExcludedSound (kinds excluded : List ℕ) : Type 0 where
-  pub few : length excluded ≤ 16
+  pub few : length excluded ≤ LIST-CAPACITY
   pub once : Distinct excluded
   pub known : (k : ℕ) → In excluded k → In kinds k
 
@@ -108,7 +109,7 @@ Rising (r ∷ rs) = (1 ≤ length (r .newKinds)) × Rising rs
 -- a family's first group has two kinds or more, its last 15 or fewer
 abbrev pub BuildableFamily : Family → Type 0
 BuildableFamily [] = ⊥
-BuildableFamily (r ∷ rs) = (2 ≤ length (r .newKinds)) × Rising rs × (length (kindsOf (r ∷ rs)) ≤ 15)
+BuildableFamily (r ∷ rs) = (2 ≤ length (r .newKinds)) × Rising rs × (length (kindsOf (r ∷ rs)) ≤ MAX-GROUP-ARITY)
 
 -- and each family is such
 abbrev pub BuildableFamilies : List Family → Type 0
@@ -120,7 +121,7 @@ pub record Buildable (kinds : List ℕ) (fs : List Family) : Type 0 where
   pub families : BuildableFamilies fs
   pub once : Distinct (layoutKinds fs)
   pub known : (k : ℕ) → In (layoutKinds fs) k → In kinds k
-  pub few : groupsOf fs ≤ 63
+  pub few : groupsOf fs ≤ MAX-GROUP-COUNT
 
 -- a draft's groups count nothing yet
 abbrev pub Uncounted : Family → Type 0
@@ -173,7 +174,7 @@ pub record Sound (s : Store) : Type 0 where
   pub layout : Buildable (s .kinds) (s .storage .layout)
   pub groups : AllRight (s .storage .sets) (s .entities .live) (s .storage .layout)
   -- "a tally of refused commands that stays at 4,294,967,295"
-  pub refusals : s .control .refusals ≤ 4294967295
+  pub refusals : s .control .refusals ≤ MAX-REFUSALS
 
 -- ---- demand 3 of a store, for the theorems on runs
 

@@ -4,6 +4,7 @@ use mathlib.Core.List.{List, [], _∷_, map}
 use Prim.Native.Nat.{ℕ, zero, suc, _+_, _*_, _/_, _%_, _<_}
 use lib.Dec.{ltb}
 use lib.ListN.{replicate}
+use Rattle.model.specs.Numbers.{ENTITY-LEN, HEADER-LEN, MAX-KINDS, MAX-REFUSALS, columnLen}
 use Rattle.model.specs.Model.{Family, Component, Storage, Entities, noEntities, mem, kindOf}
 
 -- ---- bytes: "numbers in bytes are little-endian"
@@ -49,13 +50,13 @@ empty n k =
       kindCapacity = k;
       kinds = [];
       entities = noEntities;
-      storage = record { sets = replicate 128 []; layout = [] };
+      storage = record { sets = replicate MAX-KINDS []; layout = [] };
       control = record { staged = []; excluded = []; draft = []; refusals = 0 };
     }
 
 -- a store "needs 1,024 + 16 × N + K × (8 + 6 × N) words"
 unfoldable pub wordsNeeded : ℕ → ℕ → ℕ
-wordsNeeded n k = 1024 + 16 * n + k * (8 + 6 * n)
+wordsNeeded n k = HEADER-LEN + ENTITY-LEN * n + k * (columnLen n)
 
 -- the hand's kinds, in its order
 abbrev pub stagedKinds : Store → List ℕ
@@ -96,4 +97,4 @@ withDraft d f = record { staged = d .staged; excluded = d .excluded; draft = f; 
 
 -- "a tally of refused commands that stays at 4,294,967,295": a refusal more
 abbrev pub counted : Control → Control
-counted d = record { staged = d .staged; excluded = d .excluded; draft = d .draft; refusals = cond (ltb (d .refusals) 4294967295) (suc (d .refusals)) (d .refusals) }
+counted d = record { staged = d .staged; excluded = d .excluded; draft = d .draft; refusals = cond (ltb (d .refusals) MAX-REFUSALS) (suc (d .refusals)) (d .refusals) }

@@ -1,4 +1,6 @@
 // What the store gives, beside what is recorded.
+use crate::recorded::short_at;
+use model::refusals::BEYOND;
 use run::Ran;
 use store::Rolled;
 ghost use mathlib.Core.Path.{_≡_};
@@ -10,11 +12,8 @@ ghost use Rattle.memory.specs.Meaning.{meaning};
 ghost use Rattle.memory.specs.Arranged.{Sound};
 ghost use Rattle.replay.specs.Recorded.{short, SameWords, SameColumn};
 ghost use Rattle.replay.specs.Agreement.{GaveSame, RolledSame};
-use crate::recorded::short_at;
 
 // BEYOND of 01's table.
-const BEYOND: u8 = 16;
-
 // A run, with its answers at the front of `out`, beside its numbers and answers, recorded at `at`.
 pub fn is_same_run(file: &[u8], at: usize, ran: Ran, out: &[u8]) -> bool
     requires { ⌜ at + 7 + short (now file) (at + 5) ≤ length (now file) ⌝ }

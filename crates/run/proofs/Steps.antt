@@ -7,6 +7,7 @@ use native.Mathlib.Omega.{arith}
 use borrow.Author.Tests.{lt-ltb, le-ltb, le-leb, lt-leb}
 use lib.Dec.{ltb}
 use lib.ListN.{length, getD, take, drop, length-drop}
+use Rattle.model.specs.Numbers.{CUT, NOROOM, UNKNOWN}
 use Rattle.model.specs.Model.{addsNothing}
 use Rattle.model.specs.Store.{Store, Bytes, isKind, stagedKinds}
 use Rattle.model.specs.Commands.{Command, REG, HOLD, NEW, PUT, TAKE, DROP, KILL, WIPE, GROUP, APPLY, BAR, RANGE, EMPTY, TALLY, Done, accepted, width, commandAt, answerLength}
@@ -26,17 +27,17 @@ use Rattle.run.specs.declared.Went.the-variants.{Done as Goes, Stop}
 -- ---- the model's step
 
 module _ (s : Store) (t : List ℕ) (at room : ℕ) where
-  pub step-zero : getD t at 0 ≡ 0 → stepAt s t at room ≡ stops 4
+  pub step-zero : getD t at 0 ≡ 0 → stepAt s t at room ≡ stops UNKNOWN
   unfolding step
   step-zero h = rw h
 
   module _ (low : 1 ≤ getD t at 0) where
-    pub step-high : 14 < getD t at 0 → stepAt s t at room ≡ stops 4
+    pub step-high : 14 < getD t at 0 → stepAt s t at room ≡ stops UNKNOWN
     unfolding step
     step-high h = rw (le-leb 1 (getD t at 0) low, lt-leb (getD t at 0) 14 h)
 
     module _ (high : getD t at 0 ≤ 14) where
-      pub step-cut : at < length t → length t - at < 1 + width (getD t at 0) → stepAt s t at room ≡ stops 5
+      pub step-cut : at < length t → length t - at < 1 + width (getD t at 0) → stepAt s t at room ≡ stops CUT
       unfolding step
       step-cut more h =
           let e : ltb (length (drop (at + 1) t)) (width (getD t at 0)) ≡ true = lt-ltb (length (drop (at + 1) t)) (width (getD t at 0)) (rw (length-drop (at + 1) t) (omega arith)) in
@@ -46,7 +47,7 @@ module _ (s : Store) (t : List ℕ) (at room : ℕ) where
         fits : ltb (length (drop (at + 1) t)) (width (getD t at 0)) ≡ false
         fits = le-ltb (length (drop (at + 1) t)) (width (getD t at 0)) (rw (length-drop (at + 1) t) (omega arith))
 
-        pub step-room : room < answerLength (commandIn (getD t at 0) t (at + 1)) s → stepAt s t at room ≡ stops 6
+        pub step-room : room < answerLength (commandIn (getD t at 0) t (at + 1)) s → stepAt s t at room ≡ stops NOROOM
         unfolding step
         step-room h = rw (le-leb 1 (getD t at 0) low, le-leb (getD t at 0) 14 high, fits, lt-ltb room (answerLength (commandIn (getD t at 0) t (at + 1)) s) h)
 

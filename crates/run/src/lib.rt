@@ -1,4 +1,8 @@
 // A run: command after command off a tape, up to its end or a stop.
+use model::commands::TAKE;
+use model::refusals::CUT;
+use model::refusals::NOROOM;
+use model::refusals::UNKNOWN;
 ghost use mathlib.Core.Path.{_≡_};
 ghost use mathlib.Core.List.{List};
 ghost use Prim.Native.Nat.{ℕ, _-_, _<_, _≤_};
@@ -13,14 +17,6 @@ ghost use Rattle.run.specs.Run.{StepReady, stepAt, Stepped, Completed};
 const WIDTHS: [u8; 15] = [0, 1, 9, 0, 8, 8, 8, 8, 0, 0, 0, 1, 0, 0, 0];
 // Bytes of the accepted answer by command byte. TAKE has nine more for each staged component.
 const ANSWERS: [u8; 15] = [5, 2, 1, 9, 1, 1, 1, 1, 1, 2, 1, 1, 10, 1, 5];
-
-const TAKE: u8 = 5;
-// What stops a run before a command.
-const UNKNOWN: u8 = 4;
-
-const CUT: u8 = 5;
-
-const NOROOM: u8 = 6;
 
 // One command is done, and the tape goes on at the first number, the answers at the second; or the run stops.
 pub enum Went {

@@ -6,6 +6,8 @@ use Prim.Native.Nat.{ℕ, _≤_, _<_}
 use native.Mathlib.Omega.{arith}
 use borrow.Author.Tests.{le-ltb}
 use lib.ListN.{length}
+use Rattle.model.specs.Numbers.{MAX-ENTITIES, MAX-KINDS}
+use Rattle.words.specs.Offsets.{UNREGISTERED}
 use Rattle.model.specs.Model.{mem}
 use Rattle.words.specs.Table.{by-eq}
 use Rattle.entity.specs.Change.{entityPart}
@@ -18,14 +20,14 @@ use Rattle.kinds.specs.Kinds.{kindSet}
 use Rattle.kinds.proofs.Slot.{slot-known}
 
 module _ (w : List ℕ) (A : Arranged w) where
-  no-slot : (k : ℕ) → slotOf w k ≡ 255 → setAt w k ≡ []
-  no-slot k e = rw (e, le-ltb 255 (registeredOf w) (omega (arith, A .table .few, A .limits .mostKinds)))
+  no-slot : (k : ℕ) → slotOf w k ≡ UNREGISTERED → setAt w k ≡ []
+  no-slot k e = rw (e, le-ltb UNREGISTERED (registeredOf w) (omega (arith, A .table .few, A .limits .mostKinds)))
 
-  pub no-rows : (k : ℕ) → k < 128 → mem k (meaning w .kinds) ≡ false → kindSet w k ≡ []
+  pub no-rows : (k : ℕ) → k < MAX-KINDS → mem k (meaning w .kinds) ≡ false → kindSet w k ≡ []
   unfolding meaning
-  no-rows k h f = set-in w A k h ∙ by-eq (slotOf w k) 255 (no-slot k) (λ ne. absurd (false≢true (sym f ∙ slot-known w A k h ne)))
+  no-rows k h f = set-in w A k h ∙ by-eq (slotOf w k) UNREGISTERED (no-slot k) (λ ne. absurd (false≢true (sym f ∙ slot-known w A k h ne)))
 
-  pub capacity-most : meaning w .capacity ≤ 4096
+  pub capacity-most : meaning w .capacity ≤ MAX-ENTITIES
   unfolding meaning
   capacity-most = A .limits .most
 

@@ -8,6 +8,7 @@ use native.Mathlib.Omega.{arith}
 use native.Mathlib.Numerals.{add-one, towards-suc}
 use lib.ListN.{length, getD, set, take, drop, drop-of-length-le}
 use lib.Seq.{sets, drop-cons, take-suc-set, append-snoc}
+use Rattle.model.specs.Numbers.{MAX-KINDS}
 use Rattle.model.specs.Model.{Entity, SparseSet, Component, noRow, mem, at, held, setOf}
 use Rattle.model.specs.Sound.{In}
 use Rattle.model.specs.Store.{le}
@@ -22,25 +23,25 @@ use Rattle.snapshot.specs.Wrote.{oneBytes, Wrote}
 module _ (ks : List ℕ) where
   -- what is left to list from kind k on
   abbrev pub later : ℕ → List ℕ
-  later k = risingFrom ks (128 - k) k
+  later k = risingFrom ks (MAX-KINDS - k) k
 
-  later-turn : (k : ℕ) → k < 128 → later k ≡ cond (mem k ks) (k ∷ later (k + 1)) (later (k + 1))
+  later-turn : (k : ℕ) → k < MAX-KINDS → later k ≡ cond (mem k ks) (k ∷ later (k + 1)) (later (k + 1))
   later-turn k h =
-      let e : 128 - k ≡ suc (128 - (k + 1)) = omega arith in
-      ap (λ (n : ℕ). risingFrom ks n k) e ∙ ap (λ (j : ℕ). cond (mem k ks) (k ∷ risingFrom ks (128 - (k + 1)) j) (risingFrom ks (128 - (k + 1)) j)) (sym (add-one k))
+      let e : MAX-KINDS - k ≡ suc (MAX-KINDS - (k + 1)) = omega arith in
+      ap (λ (n : ℕ). risingFrom ks n k) e ∙ ap (λ (j : ℕ). cond (mem k ks) (k ∷ risingFrom ks (MAX-KINDS - (k + 1)) j) (risingFrom ks (MAX-KINDS - (k + 1)) j)) (sym (add-one k))
 
-  pub lists-none : (l : List ℕ) (n k : ℕ) → k < 128 → mem k ks ≡ false → take n l ++ later k ≡ take n l ++ later (k + 1)
+  pub lists-none : (l : List ℕ) (n k : ℕ) → k < MAX-KINDS → mem k ks ≡ false → take n l ++ later k ≡ take n l ++ later (k + 1)
   lists-none l n k h f = ap (λ (r : List ℕ). take n l ++ r) (later-turn k h ∙ rw f)
 
-  pub lists-one : (l : List ℕ) (n k : ℕ) → n < length l → k < 128 → mem k ks ≡ true → take n l ++ later k ≡ take (n + 1) (set l n k) ++ later (k + 1)
+  pub lists-one : (l : List ℕ) (n k : ℕ) → n < length l → k < MAX-KINDS → mem k ks ≡ true → take n l ++ later k ≡ take (n + 1) (set l n k) ++ later (k + 1)
   lists-one l n k b h t =
       ap (λ (r : List ℕ). take n l ++ r) (later-turn k h ∙ rw t)
       ∙ sym (append-snoc (take n l) k (later (k + 1)))
       ∙ ap (λ (r : List ℕ). r ++ later (k + 1)) (sym (ap (λ (j : ℕ). take j (set l n k)) (add-one n) ∙ take-suc-set l n k b))
 
-  pub lists-end : (l : List ℕ) (n k : ℕ) → 128 ≤ k → take n l ++ later k ≡ take n l
+  pub lists-end : (l : List ℕ) (n k : ℕ) → MAX-KINDS ≤ k → take n l ++ later k ≡ take n l
   lists-end l n k h =
-      let e : 128 - k ≡ 0 = omega arith in
+      let e : MAX-KINDS - k ≡ 0 = omega arith in
       ap (λ (m : ℕ). take n l ++ risingFrom ks m k) e ∙ append-nil (take n l)
 
   -- only registered kinds are listed
@@ -58,7 +59,7 @@ module _ (ks : List ℕ) where
 
   pub rising-in : (l : List ℕ) → l ≡ risingKinds ks → (i : ℕ) → i < length l → In ks (getD l i 0)
   unfolding risingKinds
-  rising-in l e i h = rw e (from-in 128 0 i (rw e at h))
+  rising-in l e i h = rw e (from-in MAX-KINDS 0 i (rw e at h))
 
 -- ---- one kind
 
@@ -98,7 +99,7 @@ components-few e k (c ∷ cs) = go (valueAt e c) (components-few e (suc k) cs)
     go none h = omega arith
     go (some x) h = omega arith
 
-pub few-components : (e : Entity) (ss : List SparseSet) → length ss ≡ 128 → length (componentsOf e 0 ss) ≤ 128
+pub few-components : (e : Entity) (ss : List SparseSet) → length ss ≡ MAX-KINDS → length (componentsOf e 0 ss) ≤ MAX-KINDS
 few-components e ss h = omega (arith, components-few e 0 ss)
 
 -- the bytes of the components of these kinds
@@ -113,8 +114,8 @@ bytes-turn e ss l i h = ap (kindsBytes e ss) (drop-cons l i 0 h ∙ ap (λ (j : 
 pub bytes-end : (e : Entity) (ss : List SparseSet) (l : List ℕ) (i : ℕ) → length l ≤ i → kindsBytes e ss (drop i l) ≡ []
 bytes-end e ss l i h = ap (kindsBytes e ss) (drop-of-length-le l h)
 
-module _ (e : Entity) (ks : List ℕ) (ss : List SparseSet) (wide : length ss ≡ 128) (bare : (k : ℕ) → k < 128 → mem k ks ≡ false → setOf ss k ≡ []) where
-  from-bytes : (n k : ℕ) → n + k ≡ 128 → componentBytes (componentsOf e k (drop k ss)) ≡ kindsBytes e ss (risingFrom ks n k)
+module _ (e : Entity) (ks : List ℕ) (ss : List SparseSet) (wide : length ss ≡ MAX-KINDS) (bare : (k : ℕ) → k < MAX-KINDS → mem k ks ≡ false → setOf ss k ≡ []) where
+  from-bytes : (n k : ℕ) → n + k ≡ MAX-KINDS → componentBytes (componentsOf e k (drop k ss)) ≡ kindsBytes e ss (risingFrom ks n k)
   from-bytes zero k q = let h : length ss ≤ k = omega (arith, wide) in ap (λ (l : List SparseSet). componentBytes (componentsOf e k l)) (drop-of-length-le ss h)
   from-bytes (suc n) k q =
       let h : k < length ss = omega (arith, wide) in
@@ -133,4 +134,4 @@ module _ (e : Entity) (ks : List ℕ) (ss : List SparseSet) (wide : length ss �
   -- an entity's components are those of the registered kinds
   pub bytes-all : (l : List ℕ) → l ≡ risingKinds ks → componentBytes (componentsOf e 0 ss) ≡ kindsBytes e ss l
   unfolding risingKinds
-  bytes-all l q = from-bytes 128 0 refl ∙ ap (kindsBytes e ss) (sym q)
+  bytes-all l q = from-bytes MAX-KINDS 0 refl ∙ ap (kindsBytes e ss) (sym q)

@@ -4,6 +4,7 @@ use mathlib.Core.Bool.{cond}
 use mathlib.Core.List.{List, [], _∷_}
 use Prim.Native.Nat.{ℕ, zero, suc, _+_, _≤_}
 use lib.ListN.{length, take}
+use Rattle.model.specs.Numbers.{MAX-KINDS}
 use Rattle.model.specs.Model.{SparseSet, mem}
 
 -- of the n kinds from k on, those in the list ks
@@ -13,12 +14,12 @@ risingFrom ks (suc n) k = let r = risingFrom ks n (suc k) in cond (mem k ks) (k 
 
 -- 01, roll: "each part by rising kind"
 unfoldable pub risingKinds : List ℕ → List ℕ
-risingKinds ks = risingFrom ks 128 0
+risingKinds ks = risingFrom ks MAX-KINDS 0
 
 -- the first r numbers of l are the kinds ks, rising
 pub record Lists (l : List ℕ) (r : ℕ) (ks : List ℕ) : Type 0 where
   pub is : take r l ≡ risingKinds ks
-  pub few : r ≤ 128
+  pub few : r ≤ MAX-KINDS
 
 -- the rows of all sparse sets together
 abbrev pub rowsIn : List SparseSet → ℕ

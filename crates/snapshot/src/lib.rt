@@ -4,6 +4,7 @@ use component::Found;
 ghost use mathlib.Core.Path.{_≡_};
 ghost use Prim.Native.Nat.{_+_, _<_, _≤_};
 ghost use lib.ListN.{length};
+ghost use Rattle.model.specs.Numbers.{MAX-ENTITIES, MAX-KINDS};
 ghost use Rattle.model.specs.Sound.{In};
 ghost use Rattle.model.specs.Snapshot.{valueAt, componentsOf, componentBytes, entryBytes, flat, listing, snapshot};
 ghost use Rattle.component.specs.SparseSet.{entity};
@@ -16,8 +17,8 @@ ghost use Rattle.snapshot.specs.Wrote.{oneBytes, entryFor, indexBytes, W
 // The rows of a kind's column, none where the kind has no column.
 fn set_length(words: &[u32], kind: usize) -> usize
     requires { ⌜ Sound (now words) ⌝ }
-    requires { ⌜ kind < 128 ⌝ }
-    ensures { λ r. ⌜ Counted r (length (kindSet (now (words .entry)) kind)) 4096 ⌝ }
+    requires { ⌜ kind < MAX-KINDS ⌝ }
+    ensures { λ r. ⌜ Counted r (length (kindSet (now (words .entry)) kind)) MAX-ENTITIES ⌝ }
 {
     if kinds::is_registered(words, kind) {
         return kinds::set_len(words, kind);
@@ -49,7 +50,7 @@ pub fn snapshot_length(words: &[u32]) -> usize
 // The registered kinds, rising, at the front of list.
 fn rising_kinds(words: &[u32], list: &mut [u8]) -> usize
     requires { ⌜ Arranged (now words) ⌝ }
-    requires { ⌜ 128 ≤ length (now list) ⌝ }
+    requires { ⌜ MAX-KINDS ≤ length (now list) ⌝ }
     ensures { λ r. ⌜ Lists (now (list .exit)) r (meaning (now (words .entry)) .kinds) ⌝ }
 {
     let mut count = 0;

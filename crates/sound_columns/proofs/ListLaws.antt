@@ -9,6 +9,7 @@ use borrow.Author.Tests.{eqb-true, eq-eqb, ne-eqb}
 use lib.Dec.{eqb}
 use lib.ListN.{length, take, getD, set, replicate, getD-replicate}
 use lib.Seq.{take-suc, take-length, getD-set-same, getD-set-other}
+use Rattle.model.specs.Numbers.{MAX-KINDS}
 use Rattle.model.specs.Lists.{place, count-place, getD-place}
 use Rattle.model.specs.Model.{mem}
 use Rattle.model.specs.Sound.{In, Distinct}
@@ -35,9 +36,9 @@ new-distinct l f = subst Distinct (take-length l) (front l f (length l) (omega a
 
 -- the table marks what stands before i
 abbrev pub Marks : List ℕ → List ℕ → ℕ → Type 0
-Marks seen l i = (k : ℕ) → k < 128 → eqb (getD seen k 0) 1 ≡ mem k (take i l)
+Marks seen l i = (k : ℕ) → k < MAX-KINDS → eqb (getD seen k 0) 1 ≡ mem k (take i l)
 
-pub marks-more : (seen l : List ℕ) (i : ℕ) → length seen ≡ 128 → i < length l → getD l i 0 < 128 → Marks seen l i → Marks (set seen (getD l i 0) 1) l (i + 1)
+pub marks-more : (seen l : List ℕ) (i : ℕ) → length seen ≡ MAX-KINDS → i < length l → getD l i 0 < MAX-KINDS → Marks seen l i → Marks (set seen (getD l i 0) 1) l (i + 1)
 marks-more seen l i e h s m k hk =
     let v = getD l i 0 in
     let to : mem k (take (i + 1) l) ≡ (mem k (take i l) || (eqb k v || false)) =
@@ -48,5 +49,5 @@ marks-more seen l i e h s m k hk =
     ∙ sym (to ∙ rw (eq-eqb k v p) (or-true (mem k (take i l)))))
     (λ n. ap (λ (x : ℕ). eqb x 1) (getD-set-other seen v k 1 0 n) ∙ m k hk ∙ sym (to ∙ rw (ne-eqb k v n) (or-false (mem k (take i l)))))
 
-pub marks-none : (l : List ℕ) → Marks (replicate 128 0) l 0
-marks-none l k h = rw (getD-replicate {A = ℕ} 128 k 0 0 h)
+pub marks-none : (l : List ℕ) → Marks (replicate MAX-KINDS 0) l 0
+marks-none l k h = rw (getD-replicate {A = ℕ} MAX-KINDS k 0 0 h)

@@ -5,7 +5,7 @@ use Prim.Native.Nat.{ℕ, _+_, _*_, _≤_, _<_}
 use native.Mathlib.Omega.{arith}
 use lib.ListN.{length, getD, List·getD-map}
 use Rattle.model.specs.Model.{Row, noRow, entityOf}
-use Rattle.words.specs.Offsets.{columnStart, columnStart-apart, columnStart-mono}
+use Rattle.words.specs.Offsets.{columnStart, columnStart-apart, columnStart-mono, ENTITIES, ROWS}
 use Rattle.words.specs.Table.{by-eq}
 use Rattle.component.specs.SparseSet.{lengthOf, indexAt, versionAt}
 use Rattle.component.proofs.Meaning.{length-rows, getD-rows}
@@ -24,18 +24,18 @@ module _ (n k : ℕ) (w : List ℕ) (R : Room n k w) where
   pub slot-of : (s : ℕ) → s < k → Slot n s w
   slot-of s h = record { small = R .small; few = omega (arith, R .few); size = omega (arith, columnStart-apart n s k h, R .size) }
 
-  pub room-long : 1024 ≤ length w
+  pub room-long : ENTITIES ≤ length w
   room-long = omega (arith, R .size, start-header n, columnStart-mono n 0 k (omega arith))
 
   pub room-less : (r : ℕ) → r ≤ k → Room n r w
   room-less r h = record { small = R .small; few = omega (arith, R .few); size = omega (arith, columnStart-mono n r k h, R .size) }
 
-pub slot-long : (n s : ℕ) (w : List ℕ) → Slot n s w → 1024 ≤ length w
+pub slot-long : (n s : ℕ) (w : List ℕ) → Slot n s w → ENTITIES ≤ length w
 slot-long n s w S = omega (arith, S .size, start-header n, columnStart-mono n 0 s (omega arith))
 
 -- ---- words of a column
 
-pub head-read : (n s i b : ℕ) (w : List ℕ) → i < 8 → b ≡ columnStart n s → getD w (b + i) 0 ≡ headAt n w s i
+pub head-read : (n s i b : ℕ) (w : List ℕ) → i < ROWS → b ≡ columnStart n s → getD w (b + i) 0 ≡ headAt n w s i
 head-read n s i b w h e = ap (λ (x : ℕ). getD w (x + i) 0) e ∙ sym (getD-column n s i w (omega arith))
 
 pub length-read : (n s b : ℕ) (w : List ℕ) → b ≡ columnStart n s → getD w b 0 ≡ lengthOf (columnOf n s w)
@@ -48,10 +48,10 @@ module _ (n s : ℕ) (w : List ℕ) (L : Lent n s w) where
   pub rows-most : length (rowsOf n s w) ≤ n
   rows-most = omega (arith, length-rows n col, L .sound .linked .room)
 
-  pub key-word : (i : ℕ) → i < length (rowsOf n s w) → keyAt n w s i ≡ entityIn w (columnStart n s + 8 + 2 * i)
+  pub key-word : (i : ℕ) → i < length (rowsOf n s w) → keyAt n w s i ≡ entityIn w (columnStart n s + ROWS + 2 * i)
   key-word i h =
       let len = length-rows n col in
       let m = rows-most in
-      let x : indexAt col i ≡ getD w (columnStart n s + 8 + 2 * i) 0 = getD-column n s (8 + 2 * i) w (omega arith) ∙ ap (λ (a : ℕ). getD w a 0) (omega arith) in
-      let v : versionAt col i ≡ getD w (columnStart n s + 8 + 2 * i + 1) 0 = getD-column n s (8 + 2 * i + 1) w (omega arith) ∙ ap (λ (a : ℕ). getD w a 0) (omega arith) in
+      let x : indexAt col i ≡ getD w (columnStart n s + ROWS + 2 * i) 0 = getD-column n s (ROWS + 2 * i) w (omega arith) ∙ ap (λ (a : ℕ). getD w a 0) (omega arith) in
+      let v : versionAt col i ≡ getD w (columnStart n s + ROWS + 2 * i + 1) 0 = getD-column n s (ROWS + 2 * i + 1) w (omega arith) ∙ ap (λ (a : ℕ). getD w a 0) (omega arith) in
       List·getD-map entityOf (rowsOf n s w) i noRow ∙ ap (λ (r : Row). r .entity) (getD-rows n col i (omega arith)) ∙ (λ j. record { index = x j; version = v j })

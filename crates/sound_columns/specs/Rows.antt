@@ -5,7 +5,7 @@ use mathlib.Core.List.{List}
 use Prim.Native.Nat.{ℕ, _+_, _*_, _≤_}
 use lib.ListN.{getD}
 use Rattle.model.specs.Model.{Entity, noEntity, keys, isLive}
-use Rattle.words.specs.Offsets.{columnStart}
+use Rattle.words.specs.Offsets.{columnStart, ROWS}
 use Rattle.component.specs.SparseSet.{Sound, lengthOf, entity}
 use Rattle.words.specs.Decides.{Each}
 use Rattle.component.specs.Columns.{columnOf, rowsOf}
@@ -27,4 +27,4 @@ RowLive n w a i = isLive (entityIn w (a + 2 * i)) (entitiesIn n w) ≡ true
 pub record ColumnOk (n reg : ℕ) (w : List ℕ) (s : ℕ) : Type 0 where
   pub sound : Sound n (columnOf n s w)
   pub vacant : reg ≤ s → lengthOf (columnOf n s w) ≡ 0
-  pub alive : Each (lengthOf (columnOf n s w)) (RowLive n w (columnStart n s + 8))
+  pub alive : Each (lengthOf (columnOf n s w)) (RowLive n w (columnStart n s + ROWS))

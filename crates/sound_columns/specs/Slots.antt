@@ -2,19 +2,20 @@
 use mathlib.Core.List.{List}
 use Prim.Native.Nat.{ℕ, _+_, _*_, _≤_, _<_}
 use lib.ListN.{length, getD}
+use Rattle.model.specs.Numbers.{MAX-ENTITIES, MAX-KINDS, columnLen}
 use Rattle.words.specs.Offsets.{columnStart}
 use Rattle.component.specs.Columns.{columnOf}
 
 -- slot s's column is among the words
 pub record Slot (n s : ℕ) (w : List ℕ) : Type 0 where
-  pub small : n ≤ 4096
-  pub few : s < 128
-  pub size : columnStart n s + (8 + 6 * n) ≤ length w
+  pub small : n ≤ MAX-ENTITIES
+  pub few : s < MAX-KINDS
+  pub size : columnStart n s + (columnLen n) ≤ length w
 
 -- and so are k columns
 pub record Room (n k : ℕ) (w : List ℕ) : Type 0 where
-  pub small : n ≤ 4096
-  pub few : k ≤ 128
+  pub small : n ≤ MAX-ENTITIES
+  pub few : k ≤ MAX-KINDS
   pub size : columnStart n k ≤ length w
 
 -- word i of the head of slot s's column

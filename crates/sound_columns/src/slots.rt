@@ -16,7 +16,7 @@ fn is_live(words: &[u32], n: usize, at: usize) -> bool
 {
     let index = words[at];
     let version = words[at + 1];
-    let end = words::ENTITIES + 16 * n;
+    let end = words::ENTITIES + model::ENTITY_LEN * n;
     entity::entity_storage::contains(&words[words::ENTITIES..end], n, index, version)
 }
 
@@ -42,7 +42,7 @@ fn column_ok(words: &[u32], n: usize, registered: usize, s: usize) -> bool
     ensures { λ r. ⌜ Decides r (ColumnOk n registered (now (words .entry)) s) ⌝ }
 {
     let base = words::column_start(n, s);
-    let end = base + (8 + 6 * n);
+    let end = base + (words::ROWS + model::ROW_LEN * n);
     if !crate::sparse_set::is_sound(&words[base..end], n) {
         return false;
     }

@@ -8,7 +8,7 @@ fn row_ok(part: &[u32], n: usize, i: usize) -> bool
     requires { ⌜ Sized n (now part) × (i < n) ⌝ }
     ensures { λ r. ⌜ Decides r (RowOk n (now (part .entry)) i) ⌝ }
 {
-    let c = 8 + 2 * i;
+    let c = words::ROWS + 2 * i;
     let x = part[c] as usize;
     if n <= x {
         return false;
@@ -17,7 +17,7 @@ fn row_ok(part: &[u32], n: usize, i: usize) -> bool
     if v < 1 {
         return false;
     }
-    let s = 8 + 4 * n + 2 * x;
+    let s = words::ROWS + 4 * n + 2 * x;
     let p = part[s] as usize;
     if p != i {
         return false;
@@ -33,7 +33,7 @@ fn lookup_ok(part: &[u32], n: usize, x: usize) -> bool
     requires { ⌜ Sized n (now part) × (x < n) × (lengthOf (now part) ≤ n) ⌝ }
     ensures { λ r. ⌜ Decides r (LookupOk n (now (part .entry)) x) ⌝ }
 {
-    let s = 8 + 4 * n + 2 * x;
+    let s = words::ROWS + 4 * n + 2 * x;
     let h = part[s + 1];
     if h < 1 {
         return true;
@@ -43,7 +43,7 @@ fn lookup_ok(part: &[u32], n: usize, x: usize) -> bool
     if k <= p {
         return false;
     }
-    let y = part[8 + 2 * p] as usize;
+    let y = part[words::ROWS + 2 * p] as usize;
     if y != x {
         return false;
     }
@@ -82,10 +82,10 @@ fn lookups_ok(part: &[u32], n: usize) -> bool
 pub fn is_sound(part: &[u32], n: usize) -> bool
     ensures { λ r. ⌜ Decides r (Sound n (now (part .entry))) ⌝ }
 {
-    if 4096 < n {
+    if model::MAX_ENTITIES < n {
         return false;
     }
-    if part.len() != 8 + 6 * n {
+    if part.len() != words::ROWS + model::ROW_LEN * n {
         return false;
     }
     let k = part[0] as usize;

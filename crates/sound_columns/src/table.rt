@@ -1,6 +1,8 @@
 // The table of kinds and the columns' heads point to each other.
 ghost use mathlib.Core.Path.{_≡_};
 ghost use Prim.Native.Nat.{_<_};
+ghost use Rattle.model.specs.Numbers.{MAX-KINDS};
+ghost use Rattle.words.specs.Offsets.{ROWS};
 ghost use Rattle.words.specs.Decides.{Decides, Each};
 ghost use Rattle.sound_columns.specs.Slots.{Slot, Room, headAt};
 ghost use Rattle.sound_columns.specs.Table.{KindOk, SlotOk, TableOk};
@@ -8,7 +10,7 @@ ghost use Rattle.sound_columns.specs.Table.{KindOk, SlotOk, TableOk};
 // Word i of the head of slot s's column.
 pub fn head(words: &[u32], n: usize, s: usize, i: usize) -> usize
     requires { ⌜ Slot n s (now words) ⌝ }
-    requires { ⌜ i < 8 ⌝ }
+    requires { ⌜ i < ROWS ⌝ }
     ensures { λ r. ⌜ r ≡ headAt n (now (words .entry)) s i ⌝ }
 {
     let base = words::column_start(n, s);
@@ -18,17 +20,17 @@ pub fn head(words: &[u32], n: usize, s: usize, i: usize) -> usize
 // A registered kind has a slot in use, whose column says the kind.
 fn kind_ok(words: &[u32], n: usize, registered: usize, kind: usize) -> bool
     requires { ⌜ Room n registered (now words) ⌝ }
-    requires { ⌜ kind < 128 ⌝ }
+    requires { ⌜ kind < MAX-KINDS ⌝ }
     ensures { λ r. ⌜ Decides r (KindOk n registered (now (words .entry)) kind) ⌝ }
 {
     let s = words[words::TABLE + kind] as usize;
-    if s == 255 {
+    if s == words::UNREGISTERED as usize {
         return true;
     }
     if registered <= s {
         return false;
     }
-    if head(words, n, s, words::KIND) != kind {
+    if head(words, n, s, words::COLUMN_KIND) != kind {
         return false;
     }
     true
@@ -39,8 +41,8 @@ fn slot_ok(words: &[u32], n: usize, s: usize) -> bool
     requires { ⌜ Slot n s (now words) ⌝ }
     ensures { λ r. ⌜ Decides r (SlotOk n (now (words .entry)) s) ⌝ }
 {
-    let kind = head(words, n, s, words::KIND);
-    if 128 <= kind {
+    let kind = head(words, n, s, words::COLUMN_KIND);
+    if model::MAX_KINDS <= kind {
         return false;
     }
     let back = words[words::TABLE + kind] as usize;
@@ -52,10 +54,10 @@ fn slot_ok(words: &[u32], n: usize, s: usize) -> bool
 
 fn kinds_ok(words: &[u32], n: usize, registered: usize) -> bool
     requires { ⌜ Room n registered (now words) ⌝ }
-    ensures { λ r. ⌜ Decides r (Each 128 (KindOk n registered (now (words .entry)))) ⌝ }
+    ensures { λ r. ⌜ Decides r (Each MAX-KINDS (KindOk n registered (now (words .entry)))) ⌝ }
 {
     let mut kind = 0;
-    while kind < 128 {
+    while kind < model::MAX_KINDS {
         if !kind_ok(words, n, registered, kind) {
             return false;
         }

@@ -3,6 +3,8 @@ use entity::entity_allocator::wrap;
 ghost use mathlib.Core.Path.{_≡_};
 ghost use Prim.Native.Nat.{_+_, _*_, _≤_, _<_};
 ghost use lib.ListN.{length};
+ghost use Rattle.model.specs.Numbers.{ENTITY-LEN, MAX-ENTITIES};
+ghost use Rattle.words.specs.Offsets.{ENTITIES};
 ghost use Rattle.words.specs.Decides.{Decides, Each};
 ghost use Rattle.entity.specs.Ring.{since};
 ghost use Rattle.entity.specs.Change.{entityPart};
@@ -147,7 +149,7 @@ fn lookup_ok(part: &[u32], n: usize, x: usize) -> bool
 
 // How many places after the head the place comes.
 fn behind(n: usize, head: usize, place: usize) -> usize
-    requires { ⌜ (n ≤ 4096) × (head < n) × (place < n) ⌝ }
+    requires { ⌜ (n ≤ MAX-ENTITIES) × (head < n) × (place < n) ⌝ }
     ensures { λ r. ⌜ r ≡ since n head place ⌝ }
 {
     if head <= place {
@@ -213,13 +215,13 @@ fn indexes_ok(part: &[u32], n: usize) -> bool
 
 // Whether a part is a sound entity part of capacity n.
 pub fn is_sound(part: &[u32], n: usize) -> bool
-    requires { ⌜ n ≤ 4096 ⌝ }
+    requires { ⌜ n ≤ MAX-ENTITIES ⌝ }
     ensures { λ r. ⌜ Decides r (Sound n (now (part .entry))) ⌝ }
 {
     if n < 1 {
         return false;
     }
-    if part.len() != 16 * n {
+    if part.len() != model::ENTITY_LEN * n {
         return false;
     }
     if !counts_ok(part, n) {
@@ -239,9 +241,9 @@ pub fn is_sound(part: &[u32], n: usize) -> bool
 
 // Whether the words have a sound entity part.
 pub fn is_sound_in(words: &[u32], n: usize) -> bool
-    requires { ⌜ (n ≤ 4096) × (1024 + 16 * n ≤ length (now words)) ⌝ }
+    requires { ⌜ (n ≤ MAX-ENTITIES) × (ENTITIES + ENTITY-LEN * n ≤ length (now words)) ⌝ }
     ensures { λ r. ⌜ Decides r (Sound n (entityPart n (now (words .entry)))) ⌝ }
 {
-    let end = words::ENTITIES + 16 * n;
+    let end = words::ENTITIES + model::ENTITY_LEN * n;
     is_sound(&words[words::ENTITIES..end], n)
 }

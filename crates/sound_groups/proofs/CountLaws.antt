@@ -7,8 +7,9 @@ use Prim.Native.Nat.{ℕ, zero, suc, _+_, _*_, _-_, _/_, _%_, _≤_, _<_}
 use native.Mathlib.Omega.{arith}
 use borrow.Author.Tests.{lt-ltb, le-ltb, eqb-true, eq-eqb}
 use lib.ListN.{length, getD}
+use Rattle.model.specs.Numbers.{MAX-KINDS}
 use Rattle.model.specs.Model.{Entity}
-use Rattle.words.specs.Offsets.{columnStart}
+use Rattle.words.specs.Offsets.{columnStart, COLUMN-KIND, GROUP-COUNTS, LAYOUT-ENDS, ROWS}
 use Rattle.words.specs.Table.{by-eq}
 use Rattle.words.specs.Decides.{Decides, Each}
 use Rattle.component.specs.Columns.{rowsOf, Lent}
@@ -39,11 +40,11 @@ pub new-moved : (n : ℕ) (w : List ℕ) (g f : ℕ) (p : Span) → ReadSpan w f
 new-moved n w g f p R b d = rw (R .from, R .to, R .first) at d
 
 pub count-moved : (n : ℕ) (w : List ℕ) (g f : ℕ) (p : Span) (whole prior : ℕ) → ReadSpan w f g p → length (rowsAt n w (p .first)) ≡ whole
-    → prior ≡ priorIn w 960 (p .start) g whole → (b : Bool)
+    → prior ≡ priorIn w GROUP-COUNTS (p .start) g whole → (b : Bool)
     → Decides b (CountOk n w (slotOf w (getD w (p .first) 0)) (p .from) (p .to) prior (countAt w g)) → Decides b (GroupCounted n w f g)
 count-moved n w g f p whole prior R e q b d =
-    let o : prior ≡ priorIn w 960 (startIn w 832 f) g (length (rowsAt n w (firstAt w f))) =
-    q ∙ ap₂ (λ (s x : ℕ). priorIn w 960 s g x) (R .start) (sym e ∙ ap (λ (i : ℕ). length (rowsAt n w i)) (R .first)) in
+    let o : prior ≡ priorIn w GROUP-COUNTS (startIn w LAYOUT-ENDS f) g (length (rowsAt n w (firstAt w f))) =
+    q ∙ ap₂ (λ (s x : ℕ). priorIn w GROUP-COUNTS s g x) (R .start) (sym e ∙ ap (λ (i : ℕ). length (rowsAt n w i)) (R .first)) in
     rw (o, R .from, R .to, R .first) at d
 
 -- ---- entities and their words
@@ -75,26 +76,26 @@ module _ (w : List ℕ) (a b : ℕ) where
 module _ (n s h c x y : ℕ) (w : List ℕ) (ex : x ≡ columnStart n s) (ey : y ≡ columnStart n h) (S : Lent n s w) (H : Lent n h w)
     (cs : c ≤ length (rowsOf n s w)) (ch : c ≤ length (rowsOf n h w)) where
   abbrev first : ℕ → Entity
-  first i = entityIn w (x + 8 + 2 * i)
+  first i = entityIn w (x + ROWS + 2 * i)
 
   abbrev second : ℕ → Entity
-  second i = entityIn w (y + 8 + 2 * i)
+  second i = entityIn w (y + ROWS + 2 * i)
 
   at-first : (i : ℕ) → i < c → keyAt n w s i ≡ first i
-  at-first i lt = key-word n s w S i (omega arith) ∙ ap (λ (z : ℕ). entityIn w (z + 8 + 2 * i)) (sym ex)
+  at-first i lt = key-word n s w S i (omega arith) ∙ ap (λ (z : ℕ). entityIn w (z + ROWS + 2 * i)) (sym ex)
 
   at-second : (i : ℕ) → i < c → keyAt n w h i ≡ second i
-  at-second i lt = key-word n h w H i (omega arith) ∙ ap (λ (z : ℕ). entityIn w (z + 8 + 2 * i)) (sym ey)
+  at-second i lt = key-word n h w H i (omega arith) ∙ ap (λ (z : ℕ). entityIn w (z + ROWS + 2 * i)) (sym ey)
 
-  pub even-words : Each c (λ i. keyAt n w s i ≡ keyAt n w h i) → Each (2 * c) (SameWord w (x + 8) (y + 8))
-  even-words f = entities-words w (x + 8) (y + 8) c (λ i lt. sym (at-first i lt) ∙ f i lt ∙ at-second i lt)
+  pub even-words : Each c (λ i. keyAt n w s i ≡ keyAt n w h i) → Each (2 * c) (SameWord w (x + ROWS) (y + ROWS))
+  even-words f = entities-words w (x + ROWS) (y + ROWS) c (λ i lt. sym (at-first i lt) ∙ f i lt ∙ at-second i lt)
 
-  pub words-even : Each (2 * c) (SameWord w (x + 8) (y + 8)) → Each c (λ i. keyAt n w s i ≡ keyAt n w h i)
-  words-even f i lt = at-first i lt ∙ words-entities w (x + 8) (y + 8) c f i lt ∙ sym (at-second i lt)
+  pub words-even : Each (2 * c) (SameWord w (x + ROWS) (y + ROWS)) → Each c (λ i. keyAt n w s i ≡ keyAt n w h i)
+  words-even f i lt = at-first i lt ∙ words-entities w (x + ROWS) (y + ROWS) c f i lt ∙ sym (at-second i lt)
 
 -- ---- a table of the kinds seen
 
-pub seen-own : (n : ℕ) (w seen kinds : List ℕ) (reg : ℕ) → Marked seen kinds → ((s : ℕ) → s < reg → headAt n w s 1 < 128)
+pub seen-own : (n : ℕ) (w seen kinds : List ℕ) (reg : ℕ) → Marked seen kinds → ((s : ℕ) → s < reg → headAt n w s COLUMN-KIND < MAX-KINDS)
     → (b : Bool) → Decides b (Each reg (SeenOk n w seen)) → Decides b (Each reg (OwnOk n w kinds))
-seen-own n w seen kinds reg M small true O = λ s h o. sym (M (headAt n w s 1) (small s h)) ∙ eq-eqb _ _ (O s h o)
-seen-own n w seen kinds reg M small false N = λ O. N (λ s h o. eqb-true (getD seen (headAt n w s 1) 0) 1 (M (headAt n w s 1) (small s h) ∙ O s h o))
+seen-own n w seen kinds reg M small true O = λ s h o. sym (M (headAt n w s COLUMN-KIND) (small s h)) ∙ eq-eqb _ _ (O s h o)
+seen-own n w seen kinds reg M small false N = λ O. N (λ s h o. eqb-true (getD seen (headAt n w s COLUMN-KIND) 0) 1 (M (headAt n w s COLUMN-KIND) (small s h) ∙ O s h o))

@@ -5,6 +5,7 @@ use mathlib.Core.Bool.{true}
 use mathlib.Core.List.{List}
 use Prim.Native.Nat.{ℕ, _+_, _≤_}
 use lib.ListN.{length, getD}
+use Rattle.words.specs.Offsets.{GROUP-COUNTS, LAYOUT-ENDS}
 use Rattle.model.specs.Model.{Entity, SparseSet, held}
 use Rattle.words.specs.Decides.{Each}
 use Rattle.component.specs.Columns.{rowsOf}
@@ -41,7 +42,7 @@ pub record CountOk (n : ℕ) (w : List ℕ) (h a e b c : ℕ) : Type 0 where
 abbrev pub GroupCounted : ℕ → List ℕ → ℕ → ℕ → Type 0
 GroupCounted n w f g =
     CountOk n w (slotOf w (getD w (firstAt w f) 0)) (fromAt w f g) (toAt w f g)
-    (priorIn w 960 (startIn w 832 f) g (length (rowsAt n w (firstAt w f))))
+    (priorIn w GROUP-COUNTS (startIn w LAYOUT-ENDS f) g (length (rowsAt n w (firstAt w f))))
     (countAt w g)
 
 abbrev pub CountedOk : ℕ → List ℕ → ℕ → Type 0

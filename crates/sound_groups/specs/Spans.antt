@@ -5,6 +5,8 @@ use mathlib.Core.List.{List}
 use Prim.Native.Nat.{ℕ, zero, suc, _+_, _-_, _≤_, _<_}
 use lib.Dec.{ltb, eqb}
 use lib.ListN.{length, getD}
+use Rattle.model.specs.Numbers.{MAX-GROUP-COUNT, MAX-KINDS}
+use Rattle.words.specs.Offsets.{COLUMN-KIND, ENTITIES, LAYOUT, LAYOUT-ARITIES, LAYOUT-ENDS, LAYOUT-KIND-ENDS, OWN-GROUP}
 use Rattle.model.specs.Model.{mem}
 use Rattle.model.specs.Sound.{In}
 use Rattle.component.specs.Columns.{Lent}
@@ -32,42 +34,42 @@ pub record ReadPrior (w : List ℕ) (a start g whole r : ℕ) : Type 0 where
 
 -- the words of family f's first kind, of the first of group g's new kinds, and past the last of them
 abbrev pub firstAt : List ℕ → ℕ → ℕ
-firstAt w f = 576 + startIn w 768 f
+firstAt w f = LAYOUT + startIn w LAYOUT-KIND-ENDS f
 
 abbrev pub fromAt : List ℕ → ℕ → ℕ → ℕ
-fromAt w f g = firstAt w f + priorIn w 704 (startIn w 832 f) g 0
+fromAt w f g = firstAt w f + priorIn w LAYOUT-ARITIES (startIn w LAYOUT-ENDS f) g 0
 
 abbrev pub toAt : List ℕ → ℕ → ℕ → ℕ
-toAt w f g = firstAt w f + getD w (704 + g) 0
+toAt w f g = firstAt w f + getD w (LAYOUT-ARITIES + g) 0
 
 -- those read
 pub record ReadSpan (w : List ℕ) (f g : ℕ) (r : Span) : Type 0 where
-  pub start : r .start ≡ startIn w 832 f
+  pub start : r .start ≡ startIn w LAYOUT-ENDS f
   pub first : r .first ≡ firstAt w f
   pub from : r .from ≡ fromAt w f g
   pub to : r .to ≡ toAt w f g
 
 -- the word at j is a kind that has a column
 pub record KindAt (n : ℕ) (w : List ℕ) (j : ℕ) : Type 0 where
-  pub small : getD w j 0 < 128
+  pub small : getD w j 0 < MAX-KINDS
   pub lent : Lent n (slotOf w (getD w j 0)) w
 
 -- so are the words from a on, below e
 pub record KindsAt (n : ℕ) (w : List ℕ) (a e : ℕ) : Type 0 where
-  pub inside : e ≤ 704
+  pub inside : e ≤ LAYOUT-ARITIES
   pub kinds : Over a e (KindAt n w)
 
 -- those words, of group g of family f, are such kinds
 pub record SpanOk (n : ℕ) (w : List ℕ) (f g : ℕ) : Type 0 where
   pub first : KindAt n w (firstAt w f)
-  pub low : firstAt w f < 704
+  pub low : firstAt w f < LAYOUT-ARITIES
   pub new : KindsAt n w (fromAt w f g) (toAt w f g)
 
 -- what the block of the layout in force is good for, whatever the heads and the counts say
 pub record Force (n families : ℕ) (w : List ℕ) : Type 0 where
-  pub long : 1024 ≤ length w
-  pub few : families ≤ 63
-  pub spans : (f g : ℕ) → f < families → startIn w 832 f ≤ g → g < getD w (832 + f) 0 → SpanOk n w f g
+  pub long : ENTITIES ≤ length w
+  pub few : families ≤ MAX-GROUP-COUNT
+  pub spans : (f g : ℕ) → f < families → startIn w LAYOUT-ENDS f ≤ g → g < getD w (LAYOUT-ENDS + f) 0 → SpanOk n w f g
 
 -- the head of the column of the kind at word j says its own group and its place in its family
 pub record HeadOk (n : ℕ) (w : List ℕ) (g first j : ℕ) : Type 0 where
@@ -81,8 +83,8 @@ NewOk n w f g = Over (fromAt w f g) (toAt w f g) (HeadOk n w g (firstAt w f))
 -- group g is of family f
 pub record GroupOf (w : List ℕ) (families g f : ℕ) : Type 0 where
   pub family : f < families
-  pub low : startIn w 832 f ≤ g
-  pub high : g < getD w (832 + f) 0
+  pub low : startIn w LAYOUT-ENDS f ≤ g
+  pub high : g < getD w (LAYOUT-ENDS + f) 0
 
 -- group g is of the family that is said to have it, and the heads of its new kinds' columns say so
 pub record HeadsOk (n families : ℕ) (w : List ℕ) (g : ℕ) : Type 0 where
@@ -91,12 +93,12 @@ pub record HeadsOk (n families : ℕ) (w : List ℕ) (g : ℕ) : Type 0 where
 
 -- a column that says a group has one of these kinds
 abbrev pub OwnOk : ℕ → List ℕ → List ℕ → ℕ → Type 0
-OwnOk n w kinds s = 1 ≤ headAt n w s 2 → In kinds (headAt n w s 1)
+OwnOk n w kinds s = 1 ≤ headAt n w s OWN-GROUP → In kinds (headAt n w s COLUMN-KIND)
 
 -- the table has 1 for the kinds of the list, and for no others
 abbrev pub Marked : List ℕ → List ℕ → Type 0
-Marked seen kinds = (k : ℕ) → k < 128 → eqb (getD seen k 0) 1 ≡ mem k kinds
+Marked seen kinds = (k : ℕ) → k < MAX-KINDS → eqb (getD seen k 0) 1 ≡ mem k kinds
 
 -- the same of a column, by the table
 abbrev pub SeenOk : ℕ → List ℕ → List ℕ → ℕ → Type 0
-SeenOk n w seen s = 1 ≤ headAt n w s 2 → getD seen (headAt n w s 1) 0 ≡ 1
+SeenOk n w seen s = 1 ≤ headAt n w s OWN-GROUP → getD seen (headAt n w s COLUMN-KIND) 0 ≡ 1

@@ -5,6 +5,8 @@ use component::Found;
 ghost use mathlib.Core.Path.{_≡_};
 ghost use Prim.Native.Nat.{_+_, _*_, _<_, _≤_};
 ghost use lib.ListN.{length};
+ghost use Rattle.model.specs.Numbers.{MAX-GROUP-COUNT};
+ghost use Rattle.words.specs.Offsets.{GROUP-PLACES, LAYOUT-ARITIES};
 ghost use Rattle.model.specs.Model.{held};
 ghost use Rattle.component.specs.SparseSet.{entity};
 ghost use Rattle.words.specs.Decides.{Decides, Each};
@@ -33,7 +35,7 @@ fn same_rows(words: &[u32], a: usize, b: usize, c: usize) -> bool
 
 // Has the kind at word j the entities of slot h in its first c rows?
 fn even_ok(words: &[u32], n: usize, h: usize, c: usize, j: usize) -> bool
-    requires { ⌜ (704 ≤ length (now words)) × (j < 704) × Lent n h (now words) × (c ≤ length (rowsOf n h (now words))) ⌝ }
+    requires { ⌜ (LAYOUT-ARITIES ≤ length (now words)) × (j < LAYOUT-ARITIES) × Lent n h (now words) × (c ≤ length (rowsOf n h (now words))) ⌝ }
     requires { ⌜ KindAt n (now words) j ⌝ }
     ensures { λ r. ⌜ Decides r (EvenOk n (now (words .entry)) h c j) ⌝ }
 {
@@ -52,7 +54,7 @@ fn even_ok(words: &[u32], n: usize, h: usize, c: usize, j: usize) -> bool
 }
 
 fn span_even(words: &[u32], n: usize, h: usize, c: usize, from: usize, to: usize) -> bool
-    requires { ⌜ (704 ≤ length (now words)) × Lent n h (now words) × (c ≤ length (rowsOf n h (now words))) ⌝ }
+    requires { ⌜ (LAYOUT-ARITIES ≤ length (now words)) × Lent n h (now words) × (c ≤ length (rowsOf n h (now words))) ⌝ }
     requires { ⌜ KindsAt n (now words) from to ⌝ }
     ensures { λ r. ⌜ Decides r (Over from to (EvenOk n (now (words .entry)) h c)) ⌝ }
 {
@@ -68,7 +70,7 @@ fn span_even(words: &[u32], n: usize, h: usize, c: usize, from: usize, to: usize
 
 // Has the entity the kind at word j?
 fn holds(words: &[u32], n: usize, index: u32, version: u32, j: usize) -> bool
-    requires { ⌜ (704 ≤ length (now words)) × (j < 704) ⌝ }
+    requires { ⌜ (LAYOUT-ARITIES ≤ length (now words)) × (j < LAYOUT-ARITIES) ⌝ }
     requires { ⌜ KindAt n (now words) j ⌝ }
     ensures { λ r. ⌜ r ≡ held (entity index version) (rowsAt n (now (words .entry)) j) ⌝ }
 {
@@ -82,7 +84,7 @@ fn holds(words: &[u32], n: usize, index: u32, version: u32, j: usize) -> bool
 }
 
 fn holds_all(words: &[u32], n: usize, index: u32, version: u32, from: usize, to: usize) -> bool
-    requires { ⌜ 704 ≤ length (now words) ⌝ }
+    requires { ⌜ LAYOUT-ARITIES ≤ length (now words) ⌝ }
     requires { ⌜ KindsAt n (now words) from to ⌝ }
     ensures { λ r. ⌜ Decides r (Holds n (now (words .entry)) from to (entity index version)) ⌝ }
 {
@@ -98,7 +100,7 @@ fn holds_all(words: &[u32], n: usize, index: u32, version: u32, from: usize, to:
 
 // Does the entity in row i of slot h lack one of the kinds?
 fn lacks(words: &[u32], n: usize, h: usize, from: usize, to: usize, i: usize) -> bool
-    requires { ⌜ (704 ≤ length (now words)) × Lent n h (now words) × (i < length (rowsOf n h (now words))) ⌝ }
+    requires { ⌜ (LAYOUT-ARITIES ≤ length (now words)) × Lent n h (now words) × (i < length (rowsOf n h (now words))) ⌝ }
     requires { ⌜ KindsAt n (now words) from to ⌝ }
     ensures { λ r. ⌜ Decides r (Holds n (now (words .entry)) from to (keyAt n (now (words .entry)) h i) → ⊥) ⌝ }
 {
@@ -112,7 +114,7 @@ fn lacks(words: &[u32], n: usize, h: usize, from: usize, to: usize, i: usize) ->
 }
 
 fn rows_lack(words: &[u32], n: usize, h: usize, from: usize, to: usize, c: usize, b: usize) -> bool
-    requires { ⌜ (704 ≤ length (now words)) × Lent n h (now words) × (b ≤ length (rowsOf n h (now words))) ⌝ }
+    requires { ⌜ (LAYOUT-ARITIES ≤ length (now words)) × Lent n h (now words) × (b ≤ length (rowsOf n h (now words))) ⌝ }
     requires { ⌜ KindsAt n (now words) from to ⌝ }
     ensures { λ r. ⌜ Decides r (Over c b (λ i. Holds n (now (words .entry)) from to (keyAt n (now (words .entry)) h i) → ⊥)) ⌝ }
 {
@@ -128,7 +130,7 @@ fn rows_lack(words: &[u32], n: usize, h: usize, from: usize, to: usize, c: usize
 
 // Is c the count of the group with these new kinds, b being that of the next smaller one?
 fn count_ok(words: &[u32], n: usize, h: usize, from: usize, to: usize, b: usize, c: usize) -> bool
-    requires { ⌜ (704 ≤ length (now words)) × Lent n h (now words) ⌝ }
+    requires { ⌜ (LAYOUT-ARITIES ≤ length (now words)) × Lent n h (now words) ⌝ }
     requires { ⌜ KindsAt n (now words) from to ⌝ }
     ensures { λ r. ⌜ Decides r (CountOk n (now (words .entry)) h from to b c) ⌝ }
 {
@@ -149,7 +151,7 @@ fn count_ok(words: &[u32], n: usize, h: usize, from: usize, to: usize, b: usize,
 
 fn group_counted(words: &[u32], n: usize, families: usize, g: usize, f: usize) -> bool
     requires { ⌜ Force n families (now words) ⌝ }
-    requires { ⌜ (g < 64) × GroupOf (now words) families g f ⌝ }
+    requires { ⌜ (g < GROUP-PLACES) × GroupOf (now words) families g f ⌝ }
     ensures { λ r. ⌜ Decides r (GroupCounted n (now (words .entry)) f g) ⌝ }
 {
     let p = span_of(words, g, f);
@@ -172,7 +174,7 @@ fn group_counted(words: &[u32], n: usize, families: usize, g: usize, f: usize) -
 // Are all groups' counts right?
 pub fn are_counts(words: &[u32], n: usize, families: usize, groups: usize) -> bool
     requires { ⌜ Force n families (now words) ⌝ }
-    requires { ⌜ (groups ≤ 63) × Each groups (λ g. GroupOf (now words) families g (groupFamilyAt (now words) g)) ⌝ }
+    requires { ⌜ (groups ≤ MAX-GROUP-COUNT) × Each groups (λ g. GroupOf (now words) families g (groupFamilyAt (now words) g)) ⌝ }
     ensures { λ r. ⌜ Decides r (Each groups (CountedOk n (now (words .entry)))) ⌝ }
 {
     let mut g = 0;

@@ -2,6 +2,8 @@
 use sound_columns::table::head;
 ghost use Prim.Native.Nat.{ℕ, _+_, _<_, _≤_};
 ghost use lib.ListN.{length, getD};
+ghost use Rattle.model.specs.Numbers.{MAX-GROUP-COUNT, MAX-KINDS};
+ghost use Rattle.words.specs.Offsets.{COLUMN-KIND, ENTITIES, GROUP-PLACES, LAYOUT, LAYOUT-ARITIES};
 ghost use Rattle.words.specs.Part.{between};
 ghost use Rattle.words.specs.Decides.{Decides, Each};
 ghost use Rattle.sound_columns.specs.Slots.{Slot, Room, headAt, Over};
@@ -33,7 +35,7 @@ pub fn prior_in(words: &[u32], at: usize, start: usize, g: usize, whole: usize) 
 
 // The head of the column of the kind at word j says its own group and its place in its family.
 fn head_ok(words: &[u32], n: usize, g: usize, first: usize, j: usize) -> bool
-    requires { ⌜ (704 ≤ length (now words)) × (first ≤ j) × (j < 704) × (g < 64) ⌝ }
+    requires { ⌜ (LAYOUT-ARITIES ≤ length (now words)) × (first ≤ j) × (j < LAYOUT-ARITIES) × (g < GROUP-PLACES) ⌝ }
     requires { ⌜ KindAt n (now words) j ⌝ }
     ensures { λ r. ⌜ Decides r (HeadOk n (now (words .entry)) g first j) ⌝ }
 {
@@ -49,7 +51,7 @@ fn head_ok(words: &[u32], n: usize, g: usize, first: usize, j: usize) -> bool
 }
 
 fn span_ok(words: &[u32], n: usize, g: usize, first: usize, from: usize, to: usize) -> bool
-    requires { ⌜ (704 ≤ length (now words)) × (first ≤ from) × (g < 64) ⌝ }
+    requires { ⌜ (LAYOUT-ARITIES ≤ length (now words)) × (first ≤ from) × (g < GROUP-PLACES) ⌝ }
     requires { ⌜ KindsAt n (now words) from to ⌝ }
     ensures { λ r. ⌜ Decides r (Over from to (HeadOk n (now (words .entry)) g first)) ⌝ }
 {
@@ -73,7 +75,7 @@ pub struct Span {
 
 // Those of group g of family f.
 pub fn span_of(words: &[u32], g: usize, f: usize) -> Span
-    requires { ⌜ (1024 ≤ length (now words)) × (g < 64) × (f < 64) ⌝ }
+    requires { ⌜ (ENTITIES ≤ length (now words)) × (g < GROUP-PLACES) × (f < GROUP-PLACES) ⌝ }
     ensures { λ r. ⌜ ReadSpan (now (words .entry)) f g r ⌝ }
 {
     let start = start_in(words, words::LAYOUT_ENDS, f);
@@ -91,7 +93,7 @@ pub fn span_of(words: &[u32], g: usize, f: usize) -> Span
 // The heads of the new kinds of group g of family f.
 fn new_ok(words: &[u32], n: usize, families: usize, g: usize, f: usize) -> bool
     requires { ⌜ Force n families (now words) ⌝ }
-    requires { ⌜ (g < 64) × GroupOf (now words) families g f ⌝ }
+    requires { ⌜ (g < GROUP-PLACES) × GroupOf (now words) families g f ⌝ }
     ensures { λ r. ⌜ Decides r (NewOk n (now (words .entry)) f g) ⌝ }
 {
     let p = span_of(words, g, f);
@@ -100,7 +102,7 @@ fn new_ok(words: &[u32], n: usize, families: usize, g: usize, f: usize) -> bool
 
 // Group g is of the family that is said to have it.
 fn family_ok(words: &[u32], families: usize, g: usize, f: usize) -> bool
-    requires { ⌜ (1024 ≤ length (now words)) × (families ≤ 63) ⌝ }
+    requires { ⌜ (ENTITIES ≤ length (now words)) × (families ≤ MAX-GROUP-COUNT) ⌝ }
     ensures { λ r. ⌜ Decides r (GroupOf (now (words .entry)) families g f) ⌝ }
 {
     if families <= f {
@@ -119,7 +121,7 @@ fn family_ok(words: &[u32], families: usize, g: usize, f: usize) -> bool
 
 fn group_ok(words: &[u32], n: usize, families: usize, g: usize) -> bool
     requires { ⌜ Force n families (now words) ⌝ }
-    requires { ⌜ g < 64 ⌝ }
+    requires { ⌜ g < GROUP-PLACES ⌝ }
     ensures { λ r. ⌜ Decides r (HeadsOk n families (now (words .entry)) g) ⌝ }
 {
     let f = words[words::GROUP_FAMILIES + g] as usize;
@@ -135,7 +137,7 @@ fn group_ok(words: &[u32], n: usize, families: usize, g: usize) -> bool
 // Are the groups' families and the heads of the grouped kinds right?
 pub fn are_heads(words: &[u32], n: usize, families: usize, groups: usize) -> bool
     requires { ⌜ Force n families (now words) ⌝ }
-    requires { ⌜ groups ≤ 63 ⌝ }
+    requires { ⌜ groups ≤ MAX-GROUP-COUNT ⌝ }
     ensures { λ r. ⌜ Decides r (Each groups (HeadsOk n families (now (words .entry)))) ⌝ }
 {
     let mut g = 0;
@@ -150,7 +152,7 @@ pub fn are_heads(words: &[u32], n: usize, families: usize, groups: usize) -> boo
 
 // A table of the kinds that stand in the list.
 fn mark(kinds: &[u32]) -> [u8; 128]
-    requires { ⌜ ((i : ℕ) → i < length (now kinds) → getD (now kinds) i 0 < 128) ⌝ }
+    requires { ⌜ ((i : ℕ) → i < length (now kinds) → getD (now kinds) i 0 < MAX-KINDS) ⌝ }
     ensures { λ r. ⌜ Marked r (now (kinds .entry)) ⌝ }
 {
     let mut seen = [0u8; 128];
@@ -164,13 +166,13 @@ fn mark(kinds: &[u32]) -> [u8; 128]
 // A column that says a group has a kind that was seen.
 fn own_ok(words: &[u32], n: usize, seen: &[u8; 128], s: usize) -> bool
     requires { ⌜ Slot n s (now words) ⌝ }
-    requires { ⌜ headAt n (now words) s 1 < 128 ⌝ }
+    requires { ⌜ headAt n (now words) s COLUMN-KIND < MAX-KINDS ⌝ }
     ensures { λ r. ⌜ Decides r (SeenOk n (now (words .entry)) (now (seen .entry)) s) ⌝ }
 {
     if head(words, n, s, words::OWN_GROUP) < 1 {
         return true;
     }
-    let kind = head(words, n, s, words::KIND);
+    let kind = head(words, n, s, words::COLUMN_KIND);
     if seen[kind] != 1 {
         return false;
     }
@@ -179,7 +181,7 @@ fn own_ok(words: &[u32], n: usize, seen: &[u8; 128], s: usize) -> bool
 
 fn own_all_ok(words: &[u32], n: usize, seen: &[u8; 128], registered: usize) -> bool
     requires { ⌜ Room n registered (now words) ⌝ }
-    requires { ⌜ ((s : ℕ) → s < registered → headAt n (now words) s 1 < 128) ⌝ }
+    requires { ⌜ ((s : ℕ) → s < registered → headAt n (now words) s COLUMN-KIND < MAX-KINDS) ⌝ }
     ensures { λ r. ⌜ Decides r (Each registered (SeenOk n (now (words .entry)) (now (seen .entry)))) ⌝ }
 {
     let mut s = 0;
@@ -195,10 +197,10 @@ fn own_all_ok(words: &[u32], n: usize, seen: &[u8; 128], registered: usize) -> b
 // Does a column say a group only if its kind is one of the layout's, which has so many?
 pub fn are_own(words: &[u32], n: usize, registered: usize, width: usize) -> bool
     requires { ⌜ Room n registered (now words) ⌝ }
-    requires { ⌜ ((s : ℕ) → s < registered → headAt n (now words) s 1 < 128) ⌝ }
-    requires { ⌜ (width ≤ 128) × (704 ≤ length (now words)) ⌝ }
-    requires { ⌜ ((i : ℕ) → i < width → getD (now words) (576 + i) 0 < 128) ⌝ }
-    ensures { λ r. ⌜ Decides r (Each registered (OwnOk n (now (words .entry)) (between 576 (576 + width) (now (words .entry))))) ⌝ }
+    requires { ⌜ ((s : ℕ) → s < registered → headAt n (now words) s COLUMN-KIND < MAX-KINDS) ⌝ }
+    requires { ⌜ (width ≤ MAX-KINDS) × (LAYOUT-ARITIES ≤ length (now words)) ⌝ }
+    requires { ⌜ ((i : ℕ) → i < width → getD (now words) (LAYOUT + i) 0 < MAX-KINDS) ⌝ }
+    ensures { λ r. ⌜ Decides r (Each registered (OwnOk n (now (words .entry)) (between LAYOUT (LAYOUT + width) (now (words .entry))))) ⌝ }
 {
     let end = words::LAYOUT + width;
     let seen = mark(&words[words::LAYOUT..end]);

@@ -7,6 +7,7 @@ use native.Mathlib.Decide.{decLe}
 use native.Mathlib.Omega.{arith}
 use lib.ListN.{length, take, drop, getD, length-map, List·getD-map, List·getD-eq-default}
 use lib.Seq.{getD-drop}
+use Rattle.words.specs.Offsets.{ROWS}
 use Rattle.model.specs.Lists.{one, place, count-place, getD-place}
 use Rattle.model.specs.Model.{Entity, sameEntity, noEntity, noRow, entityOf, keys}
 use Rattle.model.specs.Sound.{cnt, Eight}
@@ -48,7 +49,7 @@ module _ (n : ℕ) (w : List ℕ) where
   rows-values bits i =
       elim (decLe (lengthOf w) i) [
         | yes h ↦ rw (List·getD-eq-default (rows n w) noRow {n = i} (omega (arith, length-rows n w))) (omega arith)
-        | no h ↦ rw (getD-rows n w i (omega arith)) (value-eight (lowAt n w i) (highAt n w i) (bits (8 + 2 * n + 2 * i)) (bits (8 + 2 * n + 2 * i + 1)))
+        | no h ↦ rw (getD-rows n w i (omega arith)) (value-eight (lowAt n w i) (highAt n w i) (bits (ROWS + 2 * n + 2 * i)) (bits (ROWS + 2 * n + 2 * i + 1)))
       ]
 
 -- ---- the words of a part are words

@@ -6,6 +6,8 @@ use Prim.Native.Nat.{ℕ, suc, _+_, _-_, _≤_, _<_}
 use native.Mathlib.Omega.{arith}
 use borrow.Author.Tests.{lt-ltb}
 use lib.ListN.{length, getD, length-map}
+use Rattle.model.specs.Numbers.{MAX-KINDS}
+use Rattle.words.specs.Offsets.{ENTITIES, GROUP-COUNTS, LAYOUT, LAYOUT-ENDS}
 use Rattle.model.specs.Model.{Entity, SparseSet, noEntity, setOf, keys, entityOf, held, allHeld}
 use Rattle.model.specs.Sound.{key}
 use Rattle.model.proofs.Walk.{all-in}
@@ -26,30 +28,30 @@ use Rattle.soundness.specs.Groups.{GroupOk}
 use Rattle.soundness.specs.ByNumber.{newAt, priorCount, GroupAt}
 use Rattle.soundness.proofs.WordLaws.{Reads, group-start, prior-count, start-width, member-word, group-few, arity-most, arity-fits, first-is, from-is, to-is, new-at, at-new}
 
-module _ (w : List ℕ) (a : Arrays) (R : Reads w a) (good : WellFormed a) (known : (i : ℕ) → i < widthOf a → Registered w (getD w (576 + i) 0)) where
+module _ (w : List ℕ) (a : Arrays) (R : Reads w a) (good : WellFormed a) (known : (i : ℕ) → i < widthOf a → Registered w (getD w (LAYOUT + i) 0)) where
   -- ---- what the checks ask
 
   module _ (n k : ℕ) (C : Columns n k w) (few : registeredOf w ≤ k) where
-    kind-at : (i : ℕ) → i < widthOf a → KindAt n w (576 + i)
-    kind-at i h = record { small = known i h .small; lent = lent n k (slotOf w (getD w (576 + i) 0)) w C (omega (arith, known i h .slot)) }
+    kind-at : (i : ℕ) → i < widthOf a → KindAt n w (LAYOUT + i)
+    kind-at i h = record { small = known i h .small; lent = lent n k (slotOf w (getD w (LAYOUT + i) 0)) w C (omega (arith, known i h .slot)) }
 
     span : (f g : ℕ) → f < a .families → startOf (a .ends) f ≤ g → g < getD (a .ends) f 0 → SpanOk n w f g
     span f g hf low high =
         let s = startOf (a .kindEnds) f in
         let b : s + 2 ≤ widthOf a = start-width w a R good f hf in
-        let e : firstAt w f ≡ 576 + s = first-is w a R good f hf g low high in
+        let e : firstAt w f ≡ LAYOUT + s = first-is w a R good f hf g low high in
         let t : toAt w f g ≡ firstAt w f + getD (a .arities) g 0 = to-is w a R good f hf g low high in
         let o : fromAt w f g ≡ firstAt w f + priorArity a f g = from-is w a R good f hf g low high in
         let m : s + getD (a .arities) g 0 ≤ getD (a .kindEnds) f 0 = arity-most w a R good f hf g low high in
         let i : getD (a .kindEnds) f 0 ≤ widthOf a = kinds-inside a good f hf in
-        let wide : widthOf a ≤ 128 = good .wide in
+        let wide : widthOf a ≤ MAX-KINDS = good .wide in
         record {
           first = subst (KindAt n w) (sym e) (kind-at s (omega arith));
           low = omega arith;
           new =
               record {
                 inside = omega arith;
-                kinds = λ j lo hi. let q : 576 + (j - 576) ≡ j = omega arith in subst (KindAt n w) q (kind-at (j - 576) (omega arith));
+                kinds = λ j lo hi. let q : LAYOUT + (j - LAYOUT) ≡ j = omega arith in subst (KindAt n w) q (kind-at (j - LAYOUT) (omega arith));
               };
         }
 
@@ -92,7 +94,7 @@ module _ (w : List ℕ) (a : Arrays) (R : Reads w a) (good : WellFormed a) (know
         let m = arity-most w a R good f hf g low high in
         let i = kinds-inside a good f hf in
         let r = known (startOf (a .kindEnds) f + j) (omega arith) in
-        let e : getD w (576 + (startOf (a .kindEnds) f + j)) 0 ≡ memberAt a f j =
+        let e : getD w (LAYOUT + (startOf (a .kindEnds) f + j)) 0 ≡ memberAt a f j =
         ap (λ (x : ℕ). getD w x 0) (omega (arith, first-is w a R good f hf g low high)) ∙ sym (member-at j h) in
         subst (Registered w) e r
 
@@ -157,8 +159,8 @@ module _ (w : List ℕ) (a : Arrays) (R : Reads w a) (good : WellFormed a) (know
           let t = to-is w a R good f hf g low high in
           let m = arity-most w a R good f hf g low high in
           let i = kinds-inside a good f hf in
-          let q : 576 + (j - 576) ≡ j = omega arith in
-          subst (λ (x : ℕ). Registered w (getD w x 0)) q (known (j - 576) (omega arith))
+          let q : LAYOUT + (j - LAYOUT) ≡ j = omega arith in
+          subst (λ (x : ℕ). Registered w (getD w x 0)) q (known (j - LAYOUT) (omega arith))
 
       set-new : (j : ℕ) → fromAt w f g ≤ j → j < toAt w f g → setOf sets (getD w j 0) ≡ rowsAt cap w j
       set-new j lo hi = set-of (getD w j 0) (new-known j lo hi)
@@ -224,23 +226,23 @@ module _ (w : List ℕ) (a : Arrays) (R : Reads w a) (good : WellFormed a) (know
             }
 
       abbrev counts : List ℕ
-      counts = between 960 1024 w
+      counts = between GROUP-COUNTS ENTITIES w
 
       whole-is : length (key sets (memberAt a f 0)) ≡ length (rowsAt cap w (firstAt w f))
       whole-is = ap length key-head ∙ length-map (rowsAt cap w (firstAt w f)) entityOf
 
-      prior-is : priorCount a counts (length (key sets (memberAt a f 0))) f g ≡ priorIn w 960 (startIn w 832 f) g (length (rowsAt cap w (firstAt w f)))
+      prior-is : priorCount a counts (length (key sets (memberAt a f 0))) f g ≡ priorIn w GROUP-COUNTS (startIn w LAYOUT-ENDS f) g (length (rowsAt cap w (firstAt w f)))
       prior-is =
           prior-count w a R (length (key sets (memberAt a f 0))) f g (omega (arith, good .few)) (omega (arith, group-few w a R good f hf g low high))
-          ∙ ap (priorIn w 960 (startIn w 832 f) g) whole-is
+          ∙ ap (priorIn w GROUP-COUNTS (startIn w LAYOUT-ENDS f) g) whole-is
 
       count-is : getD counts g 0 ≡ countAt w g
-      count-is = getD-between 960 1024 g w 0 (omega (arith, group-few w a R good f hf g low high))
+      count-is = getD-between GROUP-COUNTS ENTITIES g w 0 (omega (arith, group-few w a R good f hf g low high))
 
       pub counted-at : GroupCounted cap w f g → GroupAt sets counts a f g
       counted-at K =
           subst (λ (T : Type 0). T) (sym (ap₂ (λ (x y : ℕ). GroupOk sets (memberAt a f 0) (newAt a f g) x y) prior-is count-is))
-          (count-ok (priorIn w 960 (startIn w 832 f) g (length (rowsAt cap w (firstAt w f)))) (countAt w g) K)
+          (count-ok (priorIn w GROUP-COUNTS (startIn w LAYOUT-ENDS f) g (length (rowsAt cap w (firstAt w f)))) (countAt w g) K)
 
       pub at-counted : GroupAt sets counts a f g → priorCount a counts (length (key sets (memberAt a f 0))) f g ≤ length (key sets (memberAt a f 0)) → GroupCounted cap w f g
       at-counted G inside =

@@ -5,6 +5,7 @@ use Prim.Native.Nat.{ℕ, zero, suc, _+_, _≤_}
 use native.Mathlib.Decide.{decLe}
 use native.Mathlib.Omega.{arith}
 use lib.ListN.{length, getD, List·getD-eq-default}
+use Rattle.model.specs.Numbers.{LIST-CAPACITY}
 use Rattle.model.specs.Model.{Component, kindOf}
 use Rattle.model.specs.Sound.{In, Distinct, Eight, noComponent, StagedSound}
 use Rattle.words.specs.Part.{between, getD-between, length-between}
@@ -20,7 +21,7 @@ pub table-between : (a n : ℕ) (w : List ℕ) → a + n ≤ length w → table 
 table-between a n w h = is-table 0 n (λ i. getD w (a + i) 0) (between a (a + n) w) (length-between a (a + n) w h ∙ omega arith) (λ i b. sym (getD-between a (a + n) i w 0 (omega arith)))
 
 pub staged-sound : (kinds : List ℕ) (n : ℕ) (f : ℕ → Component) (l : List ℕ) → table n (λ i. kindOf (f i)) ≡ l
-    → n ≤ 16 → Distinct l → ((k : ℕ) → In l k → In kinds k) → ((i : ℕ) → Eight (f i .value)) → StagedSound kinds (table n f)
+    → n ≤ LIST-CAPACITY → Distinct l → ((k : ℕ) → In l k → In kinds k) → ((i : ℕ) → Eight (f i .value)) → StagedSound kinds (table n f)
 staged-sound kinds n f l e few once known values =
     let m : map kindOf (table n f) ≡ l = map-table kindOf n f ∙ e in
     record {

@@ -11,6 +11,8 @@ use borrow.Author.Tests.{lt-ltb, le-ltb}
 use lib.Dec.{ltb}
 use lib.ListN.{length, take, getD, length-map, List·getD-map, List·getD-eq-default}
 use lib.Seq.{getD-take, length-take-le}
+use Rattle.model.specs.Numbers.{MAX-KINDS}
+use Rattle.words.specs.Offsets.{UNREGISTERED}
 use Rattle.model.specs.Lists.{place, count-place, getD-place}
 use Rattle.model.specs.Model.{Entity, SparseSet, sameEntity, noEntity, noRow, mem, setOf, entityOf, keys}
 use Rattle.model.specs.Sound.{cnt, In, Distinct, Eight, KindsSound, SetsSound}
@@ -22,10 +24,10 @@ use Rattle.sound_columns.proofs.ListLaws.{in-at, new-distinct}
 
 -- the table and the columns' heads point to each other; there are fewer columns than 255
 pub record Tabled (reg : ℕ) (kindAt slotOf : ℕ → ℕ) : Type 0 where
-  pub few : reg ≤ 128
-  pub slot : (k : ℕ) → k < 128 → slotOf k ≢ 255 → slotOf k < reg
-  pub back : (k : ℕ) → k < 128 → slotOf k ≢ 255 → kindAt (slotOf k) ≡ k
-  pub small : (s : ℕ) → s < reg → kindAt s < 128
+  pub few : reg ≤ MAX-KINDS
+  pub slot : (k : ℕ) → k < MAX-KINDS → slotOf k ≢ UNREGISTERED → slotOf k < reg
+  pub back : (k : ℕ) → k < MAX-KINDS → slotOf k ≢ UNREGISTERED → kindAt (slotOf k) ≡ k
+  pub small : (s : ℕ) → s < reg → kindAt s < MAX-KINDS
   pub own : (s : ℕ) → s < reg → slotOf (kindAt s) ≡ s
 
 -- kind k's sparse set: its slot's rows, none where it has no slot
@@ -55,10 +57,10 @@ module _ (reg : ℕ) (kindAt slotOf : ℕ → ℕ) (T : Tabled reg kindAt slotOf
   pub registered-slot : (k : ℕ) → In (table reg kindAt) k → slotOf k < reg
   registered-slot k t = let q = in-slot k t in omega (arith, q .1, T .own (q .0) (q .1), ap slotOf (q .2))
 
-  pub registered-small : (k : ℕ) → In (table reg kindAt) k → k < 128
+  pub registered-small : (k : ℕ) → In (table reg kindAt) k → k < MAX-KINDS
   registered-small k t = let q = in-slot k t in omega (arith, T .small (q .0) (q .1), q .2)
 
-  pub slot-registered : (k : ℕ) → k < 128 → slotOf k ≢ 255 → In (table reg kindAt) k
+  pub slot-registered : (k : ℕ) → k < MAX-KINDS → slotOf k ≢ UNREGISTERED → In (table reg kindAt) k
   slot-registered k h n = subst (λ (j : ℕ). In (table reg kindAt) j) (T .back k h n) (slot-in (slotOf k) (T .slot k h n))
 
   pub registered-once : Distinct (table reg kindAt)
@@ -83,20 +85,20 @@ module _ (reg : ℕ) (kindAt slotOf : ℕ → ℕ) (T : Tabled reg kindAt slotOf
 
   module _ (rowsAt : ℕ → SparseSet) where
     abbrev sets : List SparseSet
-    sets = table 128 (setAt reg slotOf rowsAt)
+    sets = table MAX-KINDS (setAt reg slotOf rowsAt)
 
     pub set-slot : (k : ℕ) → In (table reg kindAt) k → setOf sets k ≡ rowsAt (slotOf k)
-    set-slot k t = getD-table 128 (setAt reg slotOf rowsAt) k [] (registered-small k t) ∙ rw (lt-ltb (slotOf k) reg (registered-slot k t))
+    set-slot k t = getD-table MAX-KINDS (setAt reg slotOf rowsAt) k [] (registered-small k t) ∙ rw (lt-ltb (slotOf k) reg (registered-slot k t))
 
     pub slot-set : (s : ℕ) → s < reg → setOf sets (kindAt s) ≡ rowsAt s
     slot-set s h = set-slot (kindAt s) (slot-in s h) ∙ ap rowsAt (T .own s h)
 
     pub set-none : (k : ℕ) → mem k (table reg kindAt) ≡ false → setOf sets k ≡ []
     set-none k n =
-        elim (decLe 128 k) [
-          | yes h ↦ List·getD-eq-default sets [] {n = k} (omega (arith, length-table 128 (setAt reg slotOf rowsAt)))
-          | no h ↦ getD-table 128 (setAt reg slotOf rowsAt) k [] (omega arith)
-              ∙ by-eq (slotOf k) 255
+        elim (decLe MAX-KINDS k) [
+          | yes h ↦ List·getD-eq-default sets [] {n = k} (omega (arith, length-table MAX-KINDS (setAt reg slotOf rowsAt)))
+          | no h ↦ getD-table MAX-KINDS (setAt reg slotOf rowsAt) k [] (omega arith)
+              ∙ by-eq (slotOf k) UNREGISTERED
               (λ e. rw (le-ltb (slotOf k) reg (omega (arith, T .few))))
               (λ ne. absurd (true≢false (sym (slot-registered k (omega arith) ne) ∙ n)))
         ]
@@ -112,7 +114,7 @@ module _ (reg : ℕ) (kindAt slotOf : ℕ → ℕ) (T : Tabled reg kindAt slotOf
     pub sets-sound : (live : List Entity) → ((s : ℕ) → s < reg → RowsOk live (rowsAt s)) → SetsSound (table reg kindAt) live sets
     sets-sound live f =
         record {
-          wide = length-table 128 (setAt reg slotOf rowsAt);
+          wide = length-table MAX-KINDS (setAt reg slotOf rowsAt);
           bare = set-none;
           alive = λ x k.
               each-set (λ (r : SparseSet). 1 ≤ cnt x (keys r) → 1 ≤ cnt x live) (λ h. absurd (omega arith))

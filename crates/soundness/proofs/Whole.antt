@@ -10,13 +10,14 @@ use borrow.Author.Tests.{ltb-true, lt-ltb}
 use lib.Dec.{eqb}
 use lib.ListN.{length, getD, take, List·getD-map}
 use lib.Seq.{getD-take, length-take-le}
+use Rattle.model.specs.Numbers.{ENTITY-LEN, LIST-CAPACITY, MAX-GROUP-COUNT, MAX-KINDS, columnLen}
 use Rattle.model.specs.Lists.{count, count-place, place-count}
 use Rattle.model.specs.Model.{Entity, sameEntity, noRow, kindOf, entityOf, isLive}
 use Rattle.model.specs.Sound.{cnt, In, Distinct, KindsSound, EntitiesSound, SetsSound, StagedSound, ExcludedSound, Buildable, AllRight}
 use Rattle.model.specs.Sound as modelSound
 use Rattle.model.proofs.Numbers.{cnt-num}
 use Rattle.model.proofs.KindLists.{in-count, count-in, at-in}
-use Rattle.words.specs.Offsets.{columnStart, columnStart-mono}
+use Rattle.words.specs.Offsets.{columnStart, columnStart-mono, BLOCK-LEN, COLUMN-KIND, DRAFT, ENTITIES, EXCLUDED-KINDS, GROUP-COUNTS, GROUP-FAMILIES, LAYOUT, LAYOUT-ARITIES, LAYOUT-KIND-ENDS, REFUSALS, ROWS, STAGED-KINDS, STAGED-VALUES, TABLE, UNREGISTERED}
 use Rattle.words.specs.Part.{between, getD-between, length-between}
 use Rattle.words.specs.Table.{table}
 use Rattle.component.specs.SparseSet.{Sound, lengthOf}
@@ -61,10 +62,10 @@ module _ (n k : ℕ) (w : List ℕ) (Z : SizeOk n k w) where
   pub size-room : Room n k w
   size-room = record { small = Z .limits .most; few = Z .limits .mostKinds; size = Z .enough }
 
-  pub size-long : 1024 ≤ length w
+  pub size-long : ENTITIES ≤ length w
   size-long = room-long n k w size-room
 
-  pub size-entities : 1024 + 16 * n ≤ length w
+  pub size-entities : ENTITIES + ENTITY-LEN * n ≤ length w
   size-entities = omega (arith, Z .enough, start-header n, columnStart-mono n 0 k (omega arith))
 
 module _ (w : List ℕ) where
@@ -79,10 +80,10 @@ module _ (w : List ℕ) where
 
   -- the table of kinds, as the lists' and the blocks' checks have it
   abbrev slots : List ℕ
-  slots = between 32 160 w
+  slots = between TABLE STAGED-KINDS w
 
-  slot-word : (j : ℕ) → j < 128 → getD slots j 0 ≡ slotOf w j
-  slot-word j h = getD-between 32 160 j w 0 (omega arith)
+  slot-word : (j : ℕ) → j < MAX-KINDS → getD slots j 0 ≡ slotOf w j
+  slot-word j h = getD-between TABLE STAGED-KINDS j w 0 (omega arith)
 
   table-sound : TableOk n k w → TableSound w
   table-sound T =
@@ -102,7 +103,7 @@ module _ (w : List ℕ) where
         slots = λ s h. record { small = T .small s h; own = T .own s h };
       }
 
-  module _ (T : TableSound w) (most : k ≤ 128) where
+  module _ (T : TableSound w) (most : k ≤ MAX-KINDS) where
     tabled : Tabled reg (kindAt w) (slotOf w)
     tabled = record { few = omega (arith, T .few); slot = T .slot; back = T .back; small = T .small; own = T .own }
 
@@ -110,7 +111,7 @@ module _ (w : List ℕ) where
     unfolding kindsIn
     kinds-are = kinds-sound reg (kindAt w) (slotOf w) tabled k (T .few)
 
-    known-in : (j : ℕ) → j < 128 → slotOf w j ≢ 255 → In (kindsIn w) j
+    known-in : (j : ℕ) → j < MAX-KINDS → slotOf w j ≢ UNREGISTERED → In (kindsIn w) j
     unfolding kindsIn
     known-in j h ne = slot-registered reg (kindAt w) (slotOf w) tabled j h ne
 
@@ -119,73 +120,73 @@ module _ (w : List ℕ) where
     in-known j t = record { small = registered-small reg (kindAt w) (slotOf w) tabled j t; slot = registered-slot reg (kindAt w) (slotOf w) tabled j t }
 
     -- so the table's words that are not 255 are those of the registered kinds
-    slots-in : (j : ℕ) → j < 128 → getD slots j 0 ≢ 255 → In (kindsIn w) j
+    slots-in : (j : ℕ) → j < MAX-KINDS → getD slots j 0 ≢ UNREGISTERED → In (kindsIn w) j
     slots-in j h ne = known-in j h (λ e. ne (slot-word j h ∙ e))
 
-    in-slots : (j : ℕ) → In (kindsIn w) j → getD slots j 0 ≢ 255
+    in-slots : (j : ℕ) → In (kindsIn w) j → getD slots j 0 ≢ UNREGISTERED
     in-slots j t e = let r = in-known j t in omega (arith, r .slot, T .few, slot-word j (r .small))
 
     -- ---- lists of kinds
 
     listed-of : (l : List ℕ) → Distinct l → ((j : ℕ) → In l j → In (kindsIn w) j) → KindsOk slots l
     listed-of l once known =
-        let small : (j : ℕ) → 128 ≤ j → count eqb j l ≡ 0 =
+        let small : (j : ℕ) → MAX-KINDS ≤ j → count eqb j l ≡ 0 =
         λ j h. elim (decLe 1 (count eqb j l)) [ yes c ↦ absurd (omega (arith, in-known j (known j (count-in l j c)) .small)) | no c ↦ omega arith ] in
         record { once = record { once = once; known = small }; registered = λ j c. in-slots j (known j (count-in l j c)) }
 
     of-listed : (l : List ℕ) → KindsOk slots l → (j : ℕ) → In l j → In (kindsIn w) j
     of-listed l L j t =
         let c = in-count l j t in
-        let h : j < 128 = elim (decLt j 128) [ yes q ↦ q | no q ↦ absurd (omega (arith, L .once .known j (omega arith))) ] in
+        let h : j < MAX-KINDS = elim (decLt j MAX-KINDS) [ yes q ↦ q | no q ↦ absurd (omega (arith, L .once .known j (omega arith))) ] in
         slots-in j h (L .registered j c)
 
-    staged-words : stagedLen w ≤ 16 → 1024 ≤ length w → table (stagedLen w) (λ i. kindOf (stagedAt w i)) ≡ between 160 (160 + stagedLen w) w
-    staged-words few long = table-between 160 (stagedLen w) w (omega arith)
+    staged-words : stagedLen w ≤ LIST-CAPACITY → ENTITIES ≤ length w → table (stagedLen w) (λ i. kindOf (stagedAt w i)) ≡ between STAGED-KINDS (STAGED-KINDS + stagedLen w) w
+    staged-words few long = table-between STAGED-KINDS (stagedLen w) w (omega arith)
 
-    staged-are : Bits w → 1024 ≤ length w → ListOk w 160 (stagedLen w) → StagedSound (kindsIn w) (stagedIn w)
+    staged-are : Bits w → ENTITIES ≤ length w → ListOk w STAGED-KINDS (stagedLen w) → StagedSound (kindsIn w) (stagedIn w)
     unfolding stagedIn
     staged-are bits long L =
-        staged-sound (kindsIn w) (stagedLen w) (stagedAt w) (between 160 (160 + stagedLen w) w) (staged-words (L .few) long) (L .few) (L .listed .once .once)
-        (of-listed (between 160 (160 + stagedLen w) w) (L .listed))
-        (λ i. value-eight n w (stagedLowAt w i) (stagedHighAt w i) (bits (176 + 4 * i)) (bits (176 + 4 * i + 1)))
+        staged-sound (kindsIn w) (stagedLen w) (stagedAt w) (between STAGED-KINDS (STAGED-KINDS + stagedLen w) w) (staged-words (L .few) long) (L .few) (L .listed .once .once)
+        (of-listed (between STAGED-KINDS (STAGED-KINDS + stagedLen w) w) (L .listed))
+        (λ i. value-eight n w (stagedLowAt w i) (stagedHighAt w i) (bits (STAGED-VALUES + 4 * i)) (bits (STAGED-VALUES + 4 * i + 1)))
 
-    are-staged : 1024 ≤ length w → stagedLen w ≤ 16 → StagedSound (kindsIn w) (stagedIn w) → ListOk w 160 (stagedLen w)
+    are-staged : ENTITIES ≤ length w → stagedLen w ≤ LIST-CAPACITY → StagedSound (kindsIn w) (stagedIn w) → ListOk w STAGED-KINDS (stagedLen w)
     unfolding stagedIn
     are-staged long few S =
-        let e : map kindOf (table (stagedLen w) (stagedAt w)) ≡ between 160 (160 + stagedLen w) w = map-table kindOf (stagedLen w) (stagedAt w) ∙ staged-words few long in
+        let e : map kindOf (table (stagedLen w) (stagedAt w)) ≡ between STAGED-KINDS (STAGED-KINDS + stagedLen w) w = map-table kindOf (stagedLen w) (stagedAt w) ∙ staged-words few long in
         record {
           few = few;
           listed =
-              listed-of (between 160 (160 + stagedLen w) w) (subst Distinct e (S .once))
+              listed-of (between STAGED-KINDS (STAGED-KINDS + stagedLen w) w) (subst Distinct e (S .once))
               (λ j t. S .known j (subst (λ (l : List ℕ). In l j) (sym e) t));
         }
 
-    excluded-words : excludedLen w ≤ 16 → 1024 ≤ length w → excludedIn w ≡ between 240 (240 + excludedLen w) w
+    excluded-words : excludedLen w ≤ LIST-CAPACITY → ENTITIES ≤ length w → excludedIn w ≡ between EXCLUDED-KINDS (EXCLUDED-KINDS + excludedLen w) w
     unfolding excludedIn
-    excluded-words few long = table-between 240 (excludedLen w) w (omega arith)
+    excluded-words few long = table-between EXCLUDED-KINDS (excludedLen w) w (omega arith)
 
-    excluded-are : 1024 ≤ length w → ListOk w 240 (excludedLen w) → ExcludedSound (kindsIn w) (excludedIn w)
+    excluded-are : ENTITIES ≤ length w → ListOk w EXCLUDED-KINDS (excludedLen w) → ExcludedSound (kindsIn w) (excludedIn w)
     excluded-are long L =
         let e = excluded-words (L .few) long in
         record {
-          few = omega (arith, ap length e, length-between 240 (240 + excludedLen w) w (omega (arith, L .few)), L .few);
+          few = omega (arith, ap length e, length-between EXCLUDED-KINDS (EXCLUDED-KINDS + excludedLen w) w (omega (arith, L .few)), L .few);
           once = subst Distinct (sym e) (L .listed .once .once);
-          known = λ j t. of-listed (between 240 (240 + excludedLen w) w) (L .listed) j (subst (λ (l : List ℕ). In l j) e t);
+          known = λ j t. of-listed (between EXCLUDED-KINDS (EXCLUDED-KINDS + excludedLen w) w) (L .listed) j (subst (λ (l : List ℕ). In l j) e t);
         }
 
-    are-excluded : 1024 ≤ length w → excludedLen w ≤ 16 → ExcludedSound (kindsIn w) (excludedIn w) → ListOk w 240 (excludedLen w)
+    are-excluded : ENTITIES ≤ length w → excludedLen w ≤ LIST-CAPACITY → ExcludedSound (kindsIn w) (excludedIn w) → ListOk w EXCLUDED-KINDS (excludedLen w)
     are-excluded long few S =
         let e = excluded-words few long in
         record {
           few = few;
           listed =
-              listed-of (between 240 (240 + excludedLen w) w) (subst Distinct e (S .once))
+              listed-of (between EXCLUDED-KINDS (EXCLUDED-KINDS + excludedLen w) w) (subst Distinct e (S .once))
               (λ j t. S .known j (subst (λ (l : List ℕ). In l j) (sym e) t));
         }
 
     -- ---- blocks
 
-    block-of : (b : List ℕ) (f g : ℕ) (counts : List ℕ) → length b ≡ 320 → WellFormed (blockArrays b f) → g ≡ groupCount (blockArrays b f)
+    block-of : (b : List ℕ) (f g : ℕ) (counts : List ℕ) → length b ≡ BLOCK-LEN → WellFormed (blockArrays b f) → g ≡ groupCount (blockArrays b f)
         → Buildable (kindsIn w) (familiesOf counts (blockArrays b f)) → BlockSound b slots f g
     block-of b f g counts size good groups B =
         let a = blockArrays b f in
@@ -200,21 +201,21 @@ module _ (w : List ℕ) where
     block-known b f g B j t =
         let l = take (widthOf (blockArrays b f)) (blockArrays b f .kinds) in
         let c = in-count l j t in
-        let h : j < 128 = elim (decLt j 128) [ yes q ↦ q | no q ↦ absurd (omega (arith, B .formed .good .kinds .known j (omega arith))) ] in
+        let h : j < MAX-KINDS = elim (decLt j MAX-KINDS) [ yes q ↦ q | no q ↦ absurd (omega (arith, B .formed .good .kinds .known j (omega arith))) ] in
         in-known j (slots-in j h (B .registered j c))
 
   -- the kinds of the layout in force, word by word
-  pub layout-known : TableSound w → k ≤ 128 → 1024 ≤ length w → BlockSound (between 576 896 w) slots (layoutFamilies w) (layoutGroups w)
-      → (i : ℕ) → i < widthOf (layoutArrays w) → Registered w (getD w (576 + i) 0)
+  pub layout-known : TableSound w → k ≤ MAX-KINDS → ENTITIES ≤ length w → BlockSound (between LAYOUT GROUP-FAMILIES w) slots (layoutFamilies w) (layoutGroups w)
+      → (i : ℕ) → i < widthOf (layoutArrays w) → Registered w (getD w (LAYOUT + i) 0)
   layout-known T most long B i h =
       let a = layoutArrays w in
-      let wide : widthOf a ≤ 128 = B .formed .good .wide in
+      let wide : widthOf a ≤ MAX-KINDS = B .formed .good .wide in
       let R = layout-reads w long in
       let l = take (widthOf a) (a .kinds) in
-      let z : length (a .kinds) ≡ 128 = R .sized .kinds in
+      let z : length (a .kinds) ≡ MAX-KINDS = R .sized .kinds in
       let m : length l ≡ widthOf a = length-take-le (widthOf a) (a .kinds) (omega arith) in
-      let e : getD l i 0 ≡ getD w (576 + i) 0 = getD-take (widthOf a) (a .kinds) i 0 h ∙ R .kinds i (omega arith) in
-      subst (Registered w) e (block-known T most (between 576 896 w) (layoutFamilies w) (layoutGroups w) B (getD l i 0) (at-in l i (omega arith)))
+      let e : getD l i 0 ≡ getD w (LAYOUT + i) 0 = getD-take (widthOf a) (a .kinds) i 0 h ∙ R .kinds i (omega arith) in
+      subst (Registered w) e (block-known T most (between LAYOUT GROUP-FAMILIES w) (layoutFamilies w) (layoutGroups w) B (getD l i 0) (at-in l i (omega arith)))
 
   -- ---- columns
 
@@ -231,14 +232,14 @@ module _ (w : List ℕ) where
   count-live e c = lt-ltb _ _ (count-place sameEntity e live c)
 
   -- the entity of a row, as the words have it
-  row-entity : (s : ℕ) → Lent n s w → (i : ℕ) → i < length (rowsOf n s w) → getD (rowsOf n s w) i noRow .entity ≡ entityIn w (columnStart n s + 8 + 2 * i)
+  row-entity : (s : ℕ) → Lent n s w → (i : ℕ) → i < length (rowsOf n s w) → getD (rowsOf n s w) i noRow .entity ≡ entityIn w (columnStart n s + ROWS + 2 * i)
   row-entity s L i h = sym (List·getD-map entityOf (rowsOf n s w) i noRow) ∙ key-word n s w L i h
 
   column-bits : Bits w → (s : ℕ) → Bits (columnOf n s w)
   unfolding columnOf
-  column-bits bits s = between-below 4294967296 (columnStart n s) (columnStart n s + (8 + 6 * n)) w (omega arith) bits
+  column-bits bits s = between-below 4294967296 (columnStart n s) (columnStart n s + (columnLen n)) w (omega arith) bits
 
-  sets-are : TableSound w → k ≤ 128 → Bits w → Columns n k w → Each k (ColumnOk n reg w) → SetsSound (kindsIn w) live (setsIn w)
+  sets-are : TableSound w → k ≤ MAX-KINDS → Bits w → Columns n k w → Each k (ColumnOk n reg w) → SetsSound (kindsIn w) live (setsIn w)
   unfolding kindsIn setsIn
   sets-are T most bits D C =
       sets-sound reg (kindAt w) (slotOf w) (tabled T most) (λ s. rowsOf n s w) live
@@ -248,22 +249,22 @@ module _ (w : List ℕ) where
         once = rows-once n (columnOf n s w) (C s q .sound);
         alive = λ i lt.
             subst (λ (e : Entity). 1 ≤ cnt e live) (sym (row-entity s (lent n k s w D q) i lt))
-            (live-count (entityIn w (columnStart n s + 8 + 2 * i)) (C s q .alive i (omega (arith, length-rows n (columnOf n s w)))));
+            (live-count (entityIn w (columnStart n s + ROWS + 2 * i)) (C s q .alive i (omega (arith, length-rows n (columnOf n s w)))));
         values = rows-values n (columnOf n s w) (column-bits bits s);
       })
 
-  alive-of : TableSound w → k ≤ 128 → Columns n k w → SetsSound (kindsIn w) live (setsIn w) → (s : ℕ) → s < reg → Each (lengthOf (columnOf n s w)) (RowLive n w (columnStart n s + 8))
+  alive-of : TableSound w → k ≤ MAX-KINDS → Columns n k w → SetsSound (kindsIn w) live (setsIn w) → (s : ℕ) → s < reg → Each (lengthOf (columnOf n s w)) (RowLive n w (columnStart n s + ROWS))
   unfolding kindsIn setsIn
   alive-of T most D S s h i lt =
       let q : s < k = omega (arith, T .few) in
       let l : i < length (rowsOf n s w) = omega (arith, length-rows n (columnOf n s w)) in
-      count-live (entityIn w (columnStart n s + 8 + 2 * i))
+      count-live (entityIn w (columnStart n s + ROWS + 2 * i))
       (subst (λ (e : Entity). 1 ≤ cnt e live) (row-entity s (lent n k s w D q) i l)
       (sets-alive reg (kindAt w) (slotOf w) (tabled T most) (λ s. rowsOf n s w) live S s h i l))
 
   entities-are : Bits w → entity.Sound n (entityPart n w) → EntitiesSound n (entitiesIn n w)
   entities-are bits s =
-      let e = entities-ok n (entityPart n w) s (between-below 4294967296 1024 (1024 + 16 * n) w (omega arith) bits) in
+      let e = entities-ok n (entityPart n w) s (between-below 4294967296 ENTITIES (ENTITIES + ENTITY-LEN * n) w (omega arith) bits) in
       record {
         few = rw (issued-is n (entityPart n w)) (s .few);
         below = e .below;
@@ -280,16 +281,16 @@ module _ (w : List ℕ) where
   abbrev a : Arrays
   a = layoutArrays w
 
-  module _ (long : 1024 ≤ length w) where
+  module _ (long : ENTITIES ≤ length w) where
     abbrev R : Reads w a
     R = layout-reads w long
 
     -- the kinds of the layout in force, as a part of the words
-    own-words : WellFormed a → take (widthOf a) (a .kinds) ≡ between 576 (576 + startIn w 768 (layoutFamilies w)) w
+    own-words : WellFormed a → take (widthOf a) (a .kinds) ≡ between LAYOUT (LAYOUT + startIn w LAYOUT-KIND-ENDS (layoutFamilies w)) w
     own-words good =
-        layout-words w a R good ∙ ap (λ (x : ℕ). between 576 (576 + x) w) (kind-start w a R (layoutFamilies w) (omega (arith, good .few)))
+        layout-words w a R good ∙ ap (λ (x : ℕ). between LAYOUT (LAYOUT + x) w) (kind-start w a R (layoutFamilies w) (omega (arith, good .few)))
 
-    module _ (good : WellFormed a) (known : (i : ℕ) → i < widthOf a → Registered w (getD w (576 + i) 0)) where
+    module _ (good : WellFormed a) (known : (i : ℕ) → i < widthOf a → Registered w (getD w (LAYOUT + i) 0)) where
       layout-are : LayoutOk n w → LayoutSound w
       layout-are Y =
           record {
@@ -311,7 +312,7 @@ module _ (w : List ℕ) where
             heads = group-heads w a R good known f g (G .family) (G .low) (G .high) G;
           }
 
-      are-own : LayoutSound w → Each (registeredOf w) (OwnOk n w (between 576 (576 + startIn w 768 (layoutFamilies w)) w))
+      are-own : LayoutSound w → Each (registeredOf w) (OwnOk n w (between LAYOUT (LAYOUT + startIn w LAYOUT-KIND-ENDS (layoutFamilies w)) w))
       are-own Y s h o = subst (λ (l : List ℕ). In l (kindAt w s)) (own-words good) (Y .none s h o)
 
       -- ---- the counts
@@ -327,7 +328,7 @@ module _ (w : List ℕ) where
         of g = groupFamilyAt w g
 
         abbrev counts : List ℕ
-        counts = between 960 1024 w
+        counts = between GROUP-COUNTS ENTITIES w
 
         inside : (g : ℕ) → g < groupCount a → Within a g (of g)
         inside = within H (A .layout .count)
@@ -356,14 +357,14 @@ module _ (w : List ℕ) where
     abbrev T : TableSound w
     T = table-sound (P .table)
 
-    pub forced : (block : BlockSound (between 576 896 w) slots (layoutFamilies w) (layoutGroups w)) → Force n (layoutFamilies w) w
+    pub forced : (block : BlockSound (between LAYOUT GROUP-FAMILIES w) slots (layoutFamilies w) (layoutGroups w)) → Force n (layoutFamilies w) w
     forced block =
         let l = size-long n k w Z in
         force w a (layout-reads w l) (block .formed .good) (layout-known T (Z .limits .mostKinds) l block) n k (columns-are Z (P .columns)) (P .table .few)
 
     -- what the check of the columns' own groups asks, with the layout's width read
-    module _ (block : BlockSound (between 576 896 w) slots (layoutFamilies w) (layoutGroups w)) (width : ℕ) (e : width ≡ startIn w 768 (layoutFamilies w)) where
-      abbrev reach : 1024 ≤ length w
+    module _ (block : BlockSound (between LAYOUT GROUP-FAMILIES w) slots (layoutFamilies w) (layoutGroups w)) (width : ℕ) (e : width ≡ startIn w LAYOUT-KIND-ENDS (layoutFamilies w)) where
+      abbrev reach : ENTITIES ≤ length w
       reach = size-long n k w Z
 
       width-is : width ≡ widthOf a
@@ -372,23 +373,23 @@ module _ (w : List ℕ) where
       pub own-room : Room n reg w
       own-room = room-less n k w (size-room n k w Z) reg (P .table .few)
 
-      pub own-heads : (s : ℕ) → s < reg → headAt n w s 1 < 128
+      pub own-heads : (s : ℕ) → s < reg → headAt n w s COLUMN-KIND < MAX-KINDS
       own-heads s h = P .table .slots s h .small
 
-      pub own-width : (width ≤ 128) × (704 ≤ length w)
+      pub own-width : (width ≤ MAX-KINDS) × (LAYOUT-ARITIES ≤ length w)
       own-width = (omega (arith, width-is, block .formed .good .wide), omega (arith, reach))
 
-      pub own-kinds : (i : ℕ) → i < width → getD w (576 + i) 0 < 128
+      pub own-kinds : (i : ℕ) → i < width → getD w (LAYOUT + i) 0 < MAX-KINDS
       own-kinds i h = layout-known T (Z .limits .mostKinds) reach block i (omega (arith, width-is)) .small
 
-    pub groups-few : BlockSound (between 576 896 w) slots (layoutFamilies w) (layoutGroups w) → layoutGroups w ≤ 63
+    pub groups-few : BlockSound (between LAYOUT GROUP-FAMILIES w) slots (layoutFamilies w) (layoutGroups w) → layoutGroups w ≤ MAX-GROUP-COUNT
     groups-few block = omega (arith, block .formed .groups, block .formed .good .many)
 
     module _ (L : ListsOk w) (Y : LayoutOk n w) where
-      abbrev most : k ≤ 128
+      abbrev most : k ≤ MAX-KINDS
       most = Z .limits .mostKinds
 
-      abbrev long : 1024 ≤ length w
+      abbrev long : ENTITIES ≤ length w
       long = size-long n k w Z
 
       layout-sound : LayoutSound w
@@ -412,11 +413,11 @@ module _ (w : List ℕ) where
 
       draft-are : Buildable (kindsIn w) (draftIn w)
       unfolding draftIn
-      draft-are = block-buildable (between 256 576 w) slots (draftFamilies w) (draftGroups w) [] (kindsIn w) (L .draft) (slots-in T most)
+      draft-are = block-buildable (between DRAFT LAYOUT w) slots (draftFamilies w) (draftGroups w) [] (kindsIn w) (L .draft) (slots-in T most)
 
       layout-build : Buildable (kindsIn w) (layoutIn w)
       unfolding layoutIn
-      layout-build = block-buildable (between 576 896 w) slots (layoutFamilies w) (layoutGroups w) (between 960 1024 w) (kindsIn w) (Y .block) (slots-in T most)
+      layout-build = block-buildable (between LAYOUT GROUP-FAMILIES w) slots (layoutFamilies w) (layoutGroups w) (between GROUP-COUNTS ENTITIES w) (kindsIn w) (Y .block) (slots-in T most)
 
       uncounted-are : modelSound.AllUncounted (draftIn w)
       unfolding draftIn
@@ -443,7 +444,7 @@ module _ (w : List ℕ) where
               uncounted = uncounted-are;
               layout = layout-build;
               groups = groups-are long (Y .block .formed .good) (layout-known T most long (Y .block)) arranged-of (Y .heads) S (live-once E) layout-build K;
-              refusals = omega (arith, bits 16);
+              refusals = omega (arith, bits REFUSALS);
             }
 
         pub sound-of : StoreSound w
@@ -472,13 +473,13 @@ module _ (w : List ℕ) where
     abbrev M : Means
     M = means (X .means)
 
-    abbrev small : k ≤ 128
+    abbrev small : k ≤ MAX-KINDS
     small = A .limits .mostKinds
 
     pub size-of : SizeOk n k w
     size-of = record { limits = A .limits; enough = A .enough }
 
-    abbrev far : 1024 ≤ length w
+    abbrev far : ENTITIES ≤ length w
     far = size-long n k w size-of
 
     pub parts-of : PartsOk n k w
@@ -499,15 +500,15 @@ module _ (w : List ℕ) where
               };
         }
 
-    draft-of : BlockSound (between 256 576 w) slots (draftFamilies w) (draftGroups w)
+    draft-of : BlockSound (between DRAFT LAYOUT w) slots (draftFamilies w) (draftGroups w)
     unfolding draftIn
     draft-of =
-        block-of (A .table) small (between 256 576 w) (draftFamilies w) (draftGroups w) [] (length-between 256 576 w (omega (arith, far))) (A .draft) (A .draftCount) (M .draft)
+        block-of (A .table) small (between DRAFT LAYOUT w) (draftFamilies w) (draftGroups w) [] (length-between DRAFT LAYOUT w (omega (arith, far))) (A .draft) (A .draftCount) (M .draft)
 
-    layout-block : BlockSound (between 576 896 w) slots (layoutFamilies w) (layoutGroups w)
+    layout-block : BlockSound (between LAYOUT GROUP-FAMILIES w) slots (layoutFamilies w) (layoutGroups w)
     unfolding layoutIn
     layout-block =
-        block-of (A .table) small (between 576 896 w) (layoutFamilies w) (layoutGroups w) (between 960 1024 w) (length-between 576 896 w (omega (arith, far)))
+        block-of (A .table) small (between LAYOUT GROUP-FAMILIES w) (layoutFamilies w) (layoutGroups w) (between GROUP-COUNTS ENTITIES w) (length-between LAYOUT GROUP-FAMILIES w (omega (arith, far)))
         (A .layout .formed) (A .layout .count) (M .layout)
 
     pub lists-of : ListsOk w
@@ -518,7 +519,7 @@ module _ (w : List ℕ) where
           draft = draft-of;
         }
 
-    kinds-known : (i : ℕ) → i < widthOf a → Registered w (getD w (576 + i) 0)
+    kinds-known : (i : ℕ) → i < widthOf a → Registered w (getD w (LAYOUT + i) 0)
     kinds-known = layout-known (A .table) small far layout-block
 
     pub layout-of : LayoutOk n w

@@ -8,6 +8,8 @@ use borrow.Author.Tests.{le-ltb}
 use lib.Dec.{ltb}
 use lib.ListN.{length, getD, take}
 use lib.Seq.{ext-getD, getD-take, length-take-le}
+use Rattle.model.specs.Numbers.{MAX-GROUP-COUNT, MAX-KINDS}
+use Rattle.words.specs.Offsets.{ARITIES, BLOCK-LEN, ENDS, ENTITIES, GROUP-COUNTS, GROUP-FAMILIES, GROUP-PLACES, KIND-ENDS, LAYOUT, LAYOUT-ARITIES, LAYOUT-ENDS, LAYOUT-FAMILIES, LAYOUT-KIND-ENDS}
 use Rattle.model.specs.Sound.{In}
 use Rattle.model.proofs.KindLists.{at-in}
 use Rattle.words.specs.Part.{between, getD-between, length-between}
@@ -28,29 +30,29 @@ inner a c d e i w h k = getD-between c d i (between a e w) 0 h ∙ getD-between 
 
 -- the arrays are those of the words
 pub record Reads (w : List ℕ) (a : Arrays) : Type 0 where
-  pub long : 1024 ≤ length w
+  pub long : ENTITIES ≤ length w
   pub sized : Sized a
-  pub kinds : (i : ℕ) → i < 128 → getD (a .kinds) i 0 ≡ getD w (576 + i) 0
-  pub arities : (g : ℕ) → g < 64 → getD (a .arities) g 0 ≡ getD w (704 + g) 0
-  pub kindEnds : (f : ℕ) → f < 64 → getD (a .kindEnds) f 0 ≡ getD w (768 + f) 0
-  pub ends : (f : ℕ) → f < 64 → getD (a .ends) f 0 ≡ getD w (832 + f) 0
+  pub kinds : (i : ℕ) → i < MAX-KINDS → getD (a .kinds) i 0 ≡ getD w (LAYOUT + i) 0
+  pub arities : (g : ℕ) → g < GROUP-PLACES → getD (a .arities) g 0 ≡ getD w (LAYOUT-ARITIES + g) 0
+  pub kindEnds : (f : ℕ) → f < GROUP-PLACES → getD (a .kindEnds) f 0 ≡ getD w (LAYOUT-KIND-ENDS + f) 0
+  pub ends : (f : ℕ) → f < GROUP-PLACES → getD (a .ends) f 0 ≡ getD w (LAYOUT-ENDS + f) 0
 
-pub layout-reads : (w : List ℕ) → 1024 ≤ length w → Reads w (layoutArrays w)
+pub layout-reads : (w : List ℕ) → ENTITIES ≤ length w → Reads w (layoutArrays w)
 layout-reads w long =
     record {
       long = long;
-      sized = block-sized (between 576 896 w) (getD w 7 0) (length-between 576 896 w (omega arith));
-      kinds = λ i h. inner 576 0 128 896 i w (omega arith) (omega arith);
-      arities = λ g h. inner 576 128 192 896 g w (omega arith) (omega arith);
-      kindEnds = λ f h. inner 576 192 256 896 f w (omega arith) (omega arith);
-      ends = λ f h. inner 576 256 320 896 f w (omega arith) (omega arith);
+      sized = block-sized (between LAYOUT GROUP-FAMILIES w) (getD w LAYOUT-FAMILIES 0) (length-between LAYOUT GROUP-FAMILIES w (omega arith));
+      kinds = λ i h. inner LAYOUT 0 ARITIES GROUP-FAMILIES i w (omega arith) (omega arith);
+      arities = λ g h. inner LAYOUT ARITIES KIND-ENDS GROUP-FAMILIES g w (omega arith) (omega arith);
+      kindEnds = λ f h. inner LAYOUT KIND-ENDS ENDS GROUP-FAMILIES f w (omega arith) (omega arith);
+      ends = λ f h. inner LAYOUT ENDS BLOCK-LEN GROUP-FAMILIES f w (omega arith) (omega arith);
     }
 
 -- ---- arities that rise
 
 -- ---- starts and what stands before
 
-start-word : (w es : List ℕ) (b : ℕ) → ((f : ℕ) → f < 64 → getD es f 0 ≡ getD w (b + f) 0) → (f : ℕ) → f ≤ 64 → startOf es f ≡ startIn w b f
+start-word : (w es : List ℕ) (b : ℕ) → ((f : ℕ) → f < GROUP-PLACES → getD es f 0 ≡ getD w (b + f) 0) → (f : ℕ) → f ≤ GROUP-PLACES → startOf es f ≡ startIn w b f
 start-word w es b same zero h = refl
 start-word w es b same (suc f) h = same f h
 
@@ -58,51 +60,51 @@ none-before : (w : List ℕ) (b s whole : ℕ) → whole ≡ priorIn w b s 0 who
 none-before w b s whole = rw (le-ltb s 0 (omega arith))
 
 module _ (w : List ℕ) (a : Arrays) (R : Reads w a) where
-  pub kind-start : (f : ℕ) → f ≤ 64 → startOf (a .kindEnds) f ≡ startIn w 768 f
-  kind-start = start-word w (a .kindEnds) 768 (R .kindEnds)
+  pub kind-start : (f : ℕ) → f ≤ GROUP-PLACES → startOf (a .kindEnds) f ≡ startIn w LAYOUT-KIND-ENDS f
+  kind-start = start-word w (a .kindEnds) LAYOUT-KIND-ENDS (R .kindEnds)
 
-  pub group-start : (f : ℕ) → f ≤ 64 → startOf (a .ends) f ≡ startIn w 832 f
-  group-start = start-word w (a .ends) 832 (R .ends)
+  pub group-start : (f : ℕ) → f ≤ GROUP-PLACES → startOf (a .ends) f ≡ startIn w LAYOUT-ENDS f
+  group-start = start-word w (a .ends) LAYOUT-ENDS (R .ends)
 
-  pub prior-arity : (f g : ℕ) → f ≤ 64 → g < 64 → priorArity a f g ≡ priorIn w 704 (startIn w 832 f) g 0
-  prior-arity f zero hf hg = none-before w 704 (startIn w 832 f) 0
+  pub prior-arity : (f g : ℕ) → f ≤ GROUP-PLACES → g < GROUP-PLACES → priorArity a f g ≡ priorIn w LAYOUT-ARITIES (startIn w LAYOUT-ENDS f) g 0
+  prior-arity f zero hf hg = none-before w LAYOUT-ARITIES (startIn w LAYOUT-ENDS f) 0
   prior-arity f (suc g) hf hg =
-      ap₂ (λ (s x : ℕ). cond (ltb s (suc g)) x 0) (group-start f hf) (R .arities g (omega arith) ∙ ap (λ (i : ℕ). getD w (704 + i) 0) (omega arith))
+      ap₂ (λ (s x : ℕ). cond (ltb s (suc g)) x 0) (group-start f hf) (R .arities g (omega arith) ∙ ap (λ (i : ℕ). getD w (LAYOUT-ARITIES + i) 0) (omega arith))
 
-  pub prior-count : (whole f g : ℕ) → f ≤ 64 → g < 64 → priorCount a (between 960 1024 w) whole f g ≡ priorIn w 960 (startIn w 832 f) g whole
-  prior-count whole f zero hf hg = none-before w 960 (startIn w 832 f) whole
+  pub prior-count : (whole f g : ℕ) → f ≤ GROUP-PLACES → g < GROUP-PLACES → priorCount a (between GROUP-COUNTS ENTITIES w) whole f g ≡ priorIn w GROUP-COUNTS (startIn w LAYOUT-ENDS f) g whole
+  prior-count whole f zero hf hg = none-before w GROUP-COUNTS (startIn w LAYOUT-ENDS f) whole
   prior-count whole f (suc g) hf hg =
       ap₂ (λ (s x : ℕ). cond (ltb s (suc g)) x whole) (group-start f hf)
-      (getD-between 960 1024 g w 0 (omega arith) ∙ ap (λ (i : ℕ). getD w (960 + i) 0) (omega arith))
+      (getD-between GROUP-COUNTS ENTITIES g w 0 (omega arith) ∙ ap (λ (i : ℕ). getD w (GROUP-COUNTS + i) 0) (omega arith))
 
   module _ (good : WellFormed a) where
     -- the kinds of all families, in order
-    pub layout-words : take (widthOf a) (a .kinds) ≡ between 576 (576 + widthOf a) w
+    pub layout-words : take (widthOf a) (a .kinds) ≡ between LAYOUT (LAYOUT + widthOf a) w
     layout-words =
-        let z : length (a .kinds) ≡ 128 = R .sized .kinds in
+        let z : length (a .kinds) ≡ MAX-KINDS = R .sized .kinds in
         let l : length (take (widthOf a) (a .kinds)) ≡ widthOf a = length-take-le (widthOf a) (a .kinds) (omega (arith, good .wide)) in
-        let m : length (between 576 (576 + widthOf a) w) ≡ 576 + widthOf a - 576 = length-between 576 (576 + widthOf a) w (omega (arith, good .wide, R .long)) in
-        ext-getD 0 (take (widthOf a) (a .kinds)) (between 576 (576 + widthOf a) w) (omega arith)
+        let m : length (between LAYOUT (LAYOUT + widthOf a) w) ≡ LAYOUT + widthOf a - LAYOUT = length-between LAYOUT (LAYOUT + widthOf a) w (omega (arith, good .wide, R .long)) in
+        ext-getD 0 (take (widthOf a) (a .kinds)) (between LAYOUT (LAYOUT + widthOf a) w) (omega arith)
         (λ i h.
         getD-take (widthOf a) (a .kinds) i 0 (omega arith) ∙ R .kinds i (omega (arith, good .wide))
-        ∙ sym (getD-between 576 (576 + widthOf a) i w 0 (omega arith)))
+        ∙ sym (getD-between LAYOUT (LAYOUT + widthOf a) i w 0 (omega arith)))
 
     -- ---- family f
 
     module _ (f : ℕ) (hf : f < a .families) where
-      few : f < 63
+      few : f < MAX-GROUP-COUNT
       few = omega (arith, good .few)
 
       pub start-width : startOf (a .kindEnds) f + 2 ≤ widthOf a
       start-width = omega (arith, good .family f hf .least, kinds-inside a good f hf)
 
-      pub member-word : (j : ℕ) → startOf (a .kindEnds) f + j < 128 → memberAt a f j ≡ getD w (firstAt w f + j) 0
+      pub member-word : (j : ℕ) → startOf (a .kindEnds) f + j < MAX-KINDS → memberAt a f j ≡ getD w (firstAt w f + j) 0
       member-word j h = R .kinds (startOf (a .kindEnds) f + j) h ∙ ap (λ (x : ℕ). getD w x 0) (omega (arith, kind-start f (omega (arith, few))))
 
       -- ---- group g of it
 
       module _ (g : ℕ) (low : startOf (a .ends) f ≤ g) (high : g < getD (a .ends) f 0) where
-        pub group-few : g < 63
+        pub group-few : g < MAX-GROUP-COUNT
         group-few = omega (arith, bounds a good (R .sized) f hf .groupSmall)
 
         pub arity-most : startOf (a .kindEnds) f + getD (a .arities) g 0 ≤ getD (a .kindEnds) f 0
@@ -114,11 +116,11 @@ module _ (w : List ℕ) (a : Arrays) (R : Reads w a) where
             let r = rising-at 1 (getD (a .kindEnds) f 0 - startOf (a .kindEnds) f) (aritiesAt a f) (g - s) (good .family f hf .rising) (omega (arith, arities-length a good (R .sized) f hf)) in
             omega (arith, b .low)
 
-        pub arity-fits : startOf (a .kindEnds) f + getD (a .arities) g 0 ≤ 128
+        pub arity-fits : startOf (a .kindEnds) f + getD (a .arities) g 0 ≤ MAX-KINDS
         arity-fits = omega (arith, arity-most, bounds a good (R .sized) f hf .kindSmall)
 
-        pub first-is : firstAt w f ≡ 576 + startOf (a .kindEnds) f
-        first-is = ap (λ (x : ℕ). 576 + x) (sym (kind-start f (omega (arith, few))))
+        pub first-is : firstAt w f ≡ LAYOUT + startOf (a .kindEnds) f
+        first-is = ap (λ (x : ℕ). LAYOUT + x) (sym (kind-start f (omega (arith, few))))
 
         pub from-is : fromAt w f g ≡ firstAt w f + priorArity a f g
         from-is = ap (λ (x : ℕ). firstAt w f + x) (sym (prior-arity f g (omega (arith, few)) (omega (arith, group-few))))
@@ -134,12 +136,12 @@ module _ (w : List ℕ) (a : Arrays) (R : Reads w a) where
             let p = priorArity a f g in
             let r = getD (a .arities) g 0 in
             let z : s + r ≤ e = arity-most in
-            let y : s + r ≤ 128 = arity-fits in
+            let y : s + r ≤ MAX-KINDS = arity-fits in
             let k : length (kindsAt a f) ≡ e - s = kinds-length a good (R .sized) f hf in
-            let i₁ : firstAt w f ≡ 576 + s = first-is in
+            let i₁ : firstAt w f ≡ LAYOUT + s = first-is in
             let i₂ : fromAt w f g ≡ firstAt w f + p = from-is in
             let i₃ : toAt w f g ≡ firstAt w f + r = to-is in
-            let long : 1024 ≤ length w = R .long in
+            let long : ENTITIES ≤ length w = R .long in
             let l : length (newAt a f g) ≡ r - p = length-between p r (kindsAt a f) (omega arith) in
             let m : length (between (fromAt w f g) (toAt w f g) w) ≡ toAt w f g - fromAt w f g = length-between (fromAt w f g) (toAt w f g) w (omega arith) in
             ext-getD 0 (newAt a f g) (between (fromAt w f g) (toAt w f g) w) (omega arith)

@@ -4,7 +4,7 @@ use mathlib.Core.List.{List}
 use Prim.Native.Nat.{ℕ, _+_, _≤_}
 use lib.ListN.{length}
 use Rattle.model.specs.Sound.{Limits}
-use Rattle.words.specs.Offsets.{columnStart}
+use Rattle.words.specs.Offsets.{columnStart, DRAFT, EXCLUDED-KINDS, GROUP-FAMILIES, LAYOUT, LAYOUT-KIND-ENDS, STAGED-KINDS, TABLE}
 use Rattle.words.specs.Part.{between}
 use Rattle.words.specs.Decides.{Each}
 use Rattle.entity.specs.Meaning as entity
@@ -30,9 +30,9 @@ pub record PartsOk (n k : ℕ) (w : List ℕ) : Type 0 where
 
 -- "hand, bar, draft .. of registered kinds, such as commands can build"
 pub record ListsOk (w : List ℕ) : Type 0 where
-  pub staged : ListOk w 160 (stagedLen w)
-  pub excluded : ListOk w 240 (excludedLen w)
-  pub draft : BlockSound (between 256 576 w) (between 32 160 w) (draftFamilies w) (draftGroups w)
+  pub staged : ListOk w STAGED-KINDS (stagedLen w)
+  pub excluded : ListOk w EXCLUDED-KINDS (excludedLen w)
+  pub draft : BlockSound (between DRAFT LAYOUT w) (between TABLE STAGED-KINDS w) (draftFamilies w) (draftGroups w)
 
 -- what the clauses on the layout stand on
 pub record Ground (w : List ℕ) : Type 0 where
@@ -41,9 +41,9 @@ pub record Ground (w : List ℕ) : Type 0 where
 
 -- "layout of registered kinds, such as commands can build", and the heads of the columns that it names
 pub record LayoutOk (n : ℕ) (w : List ℕ) : Type 0 where
-  pub block : BlockSound (between 576 896 w) (between 32 160 w) (layoutFamilies w) (layoutGroups w)
+  pub block : BlockSound (between LAYOUT GROUP-FAMILIES w) (between TABLE STAGED-KINDS w) (layoutFamilies w) (layoutGroups w)
   pub heads : Each (layoutGroups w) (HeadsOk n (layoutFamilies w) w)
-  pub own : Each (registeredOf w) (OwnOk n w (between 576 (576 + startIn w 768 (layoutFamilies w)) w))
+  pub own : Each (registeredOf w) (OwnOk n w (between LAYOUT (LAYOUT + startIn w LAYOUT-KIND-ENDS (layoutFamilies w)) w))
 
 -- "groups as demand 3 says"
 abbrev pub CountsOk : ℕ → List ℕ → Type 0

@@ -26,6 +26,7 @@ use words::STAGED_LEN;
 use words::TABLE;
 ghost use Prim.Native.Nat.{_≤_};
 ghost use lib.ListN.{length};
+ghost use Rattle.words.specs.Offsets.{ENTITIES};
 ghost use Rattle.words.specs.Decides.{Decides};
 ghost use Rattle.memory.specs.Header.{capacityOf};
 ghost use Rattle.memory.specs.Arranged.{Sound};
@@ -38,13 +39,13 @@ fn has_room(words: &[u32], n: usize, k: usize) -> bool
     if n < 1 {
         return false;
     }
-    if 4096 < n {
+    if model::MAX_ENTITIES < n {
         return false;
     }
     if k < 1 {
         return false;
     }
-    if 128 < k {
+    if model::MAX_KINDS < k {
         return false;
     }
     if words.len() < words::column_start(n, k) {
@@ -72,7 +73,7 @@ fn has_parts(words: &[u32], n: usize, k: usize) -> bool
 
 // The staged and the excluded kinds, and the draft.
 fn has_lists(words: &[u32]) -> bool
-    requires { ⌜ 1024 ≤ length (now words) ⌝ }
+    requires { ⌜ ENTITIES ≤ length (now words) ⌝ }
     ensures { λ r. ⌜ Decides r (ListsOk (now (words .entry))) ⌝ }
 {
     if !is_list(words, STAGED_KINDS, words[STAGED_LEN] as usize) {

@@ -10,6 +10,7 @@ use borrow.Author.Tests.{lt-ltb, le-ltb}
 use lib.ListN.{length, getD, take, drop, length-map, length-drop, List·getD-map}
 use lib.Seq.{length-take-le}
 use denote.Ref.{RefT}
+use Rattle.model.specs.Numbers.{LAST-KIND, MAX-ENTITIES, columnLen}
 use Rattle.model.specs.Model.{Row, SparseSet, setOf, keys, entityOf, noRow}
 use Rattle.model.specs.Store.{Store, isKind}
 use Rattle.model.specs.Refusals.{numberOf, columnLines}
@@ -18,7 +19,7 @@ use Rattle.model.specs.Entries as model
 use Rattle.model.specs.Sound.{In}
 use Rattle.model.proofs.Lines.{first-number}
 use Rattle.model.proofs.Entries.{Columned, column-accepted, column-refused}
-use Rattle.words.specs.Offsets.{columnStart, columnStart-fits}
+use Rattle.words.specs.Offsets.{columnStart, columnStart-fits, ROWS}
 use Rattle.component.specs.SparseSet.{lengthOf, rowAt, valueOf, rows}
 use Rattle.component.proofs.Meaning.{length-rows, getD-rows}
 use Rattle.words.specs.Decides.{Decides}
@@ -36,27 +37,27 @@ use Rattle.store.proofs.Pairs.{pairs-part, indexOf, versionOf, lowOf, h
 -- ---- the lines of column
 
 module _ (k a e : ℕ) (s : Store) where
-  pub column-large : 127 < k → columnRefusal k a e s ≡ some 7
+  pub column-large : LAST-KIND < k → columnRefusal k a e s ≡ some 7
   unfolding columnRefusal
-  column-large h = rw (lt-ltb 127 k h)
+  column-large h = rw (lt-ltb LAST-KIND k h)
 
-  module _ (h : k ≤ 127) where
+  module _ (h : k ≤ LAST-KIND) where
     pub column-unknown : isKind k s ≡ false → columnRefusal k a e s ≡ some 7
     unfolding columnRefusal
-    column-unknown u = rw (le-ltb 127 k h, u)
+    column-unknown u = rw (le-ltb LAST-KIND k h, u)
 
     module _ (u : isKind k s ≡ true) where
       pub column-turned : e < a → columnRefusal k a e s ≡ some 16
       unfolding columnRefusal
-      column-turned t = rw (le-ltb 127 k h, u, lt-ltb e a t)
+      column-turned t = rw (le-ltb LAST-KIND k h, u, lt-ltb e a t)
 
       pub column-beyond : a ≤ e → length (setOf (s .storage .sets) k) < e → columnRefusal k a e s ≡ some 16
       unfolding columnRefusal
-      column-beyond o t = rw (le-ltb 127 k h, u, le-ltb e a o, lt-ltb (length (setOf (s .storage .sets) k)) e t)
+      column-beyond o t = rw (le-ltb LAST-KIND k h, u, le-ltb e a o, lt-ltb (length (setOf (s .storage .sets) k)) e t)
 
       pub column-within : a ≤ e → e ≤ length (setOf (s .storage .sets) k) → columnRefusal k a e s ≡ none
       unfolding columnRefusal
-      column-within o t = rw (le-ltb 127 k h, u, le-ltb e a o, le-ltb (length (setOf (s .storage .sets) k)) e t)
+      column-within o t = rw (le-ltb LAST-KIND k h, u, le-ltb e a o, le-ltb (length (setOf (s .storage .sets) k)) e t)
 
 -- ---- the number
 
@@ -139,14 +140,14 @@ module _ (w : List ℕ) (A : Arranged w) (k : ℕ) (i : In (meaning w .kinds) k)
   row-start-small true a h = omega (arith, rows-few, A .limits .most, columnStart-fits (capacityOf w) (slotOf w k) (A .limits .most) (omega (arith, slot-at .lent .few)))
 
   -- the words of a row
-  row-word : (j : ℕ) → j < 8 + 6 * capacityOf w → getD w (columnStart (capacityOf w) (slotOf w k) + j) 0 ≡ getD (columnOf (capacityOf w) (slotOf w k) w) j 0
+  row-word : (j : ℕ) → j < columnLen (capacityOf w) → getD w (columnStart (capacityOf w) (slotOf w k) + j) 0 ≡ getD (columnOf (capacityOf w) (slotOf w k) w) j 0
   row-word j h = sym (getD-column (capacityOf w) (slotOf w k) j w h)
 
   row-is : (j : ℕ) → j < length (kindSet w k) → getD (kindSet w k) j noRow ≡ rowAt (capacityOf w) (columnOf (capacityOf w) (slotOf w k) w) j
   row-is j h = ap (λ (rs : SparseSet). getD rs j noRow) (slot-at .rows) ∙ getD-rows (capacityOf w) (columnOf (capacityOf w) (slotOf w k) w) j (omega (arith, rows-len))
 
   module _ (small : (j : ℕ) → getD w j 0 < 4294967296) where
-    word-of : (p q j : ℕ) → p ≡ q + j → q ≡ columnStart (capacityOf w) (slotOf w k) → j < 8 + 6 * capacityOf w → getD w p 0 ≡ getD (columnOf (capacityOf w) (slotOf w k) w) j 0
+    word-of : (p q j : ℕ) → p ≡ q + j → q ≡ columnStart (capacityOf w) (slotOf w k) → j < columnLen (capacityOf w) → getD w p 0 ≡ getD (columnOf (capacityOf w) (slotOf w k) w) j 0
     word-of p q j e b h = ap (λ (n : ℕ). getD w n 0) e ∙ ap (λ (n : ℕ). getD w (n + j) 0) b ∙ row-word j h
 
     -- the part from row a to row a + m
@@ -158,9 +159,9 @@ module _ (w : List ℕ) (A : Arranged w) (k : ℕ) (i : In (meaning w .kinds) k)
         let l : length (keys rs) ≡ length rs = length-map rs entityOf in
         let key : (j : ℕ) → getD (keys rs) j (entityOf noRow) ≡ entityOf (getD rs j noRow) = λ j. List·getD-map entityOf rs j noRow in
         entity-pairs (model.part a (a + m) (keys rs))
-        ∙ pairs-part indexOf versionOf (entityOf noRow) (keys rs) w (b + 8)
-        (λ j q. word-of (b + 8 + 2 * j) b (8 + 2 * j) (omega arith) refl (omega (arith, rows-few)) ∙ sym (ap indexOf (key j) ∙ ap (λ (r : Row). r .entity .index) (row-is j (omega arith))))
-        (λ j q. word-of (b + 8 + 2 * j + 1) b (8 + 2 * j + 1) (omega arith) refl (omega (arith, rows-few)) ∙ sym (ap versionOf (key j) ∙ ap (λ (r : Row). r .entity .version) (row-is j (omega arith))))
+        ∙ pairs-part indexOf versionOf (entityOf noRow) (keys rs) w (b + ROWS)
+        (λ j q. word-of (b + ROWS + 2 * j) b (ROWS + 2 * j) (omega arith) refl (omega (arith, rows-few)) ∙ sym (ap indexOf (key j) ∙ ap (λ (r : Row). r .entity .index) (row-is j (omega arith))))
+        (λ j q. word-of (b + ROWS + 2 * j + 1) b (ROWS + 2 * j + 1) (omega arith) refl (omega (arith, rows-few)) ∙ sym (ap versionOf (key j) ∙ ap (λ (r : Row). r .entity .version) (row-is j (omega arith))))
         m a (omega arith) (omega (arith, rows-few, slot-at .lent .size))
     part-there true a m h =
         let n : ℕ = capacityOf w in
@@ -169,17 +170,17 @@ module _ (w : List ℕ) (A : Arranged w) (k : ℕ) (i : In (meaning w .kinds) k)
         let col = columnOf (capacityOf w) (slotOf w k) w in
         let l : length (map model.valueOf rs) ≡ length rs = length-map rs model.valueOf in
         let val : (j : ℕ) → getD (map model.valueOf rs) j (model.valueOf noRow) ≡ model.valueOf (getD rs j noRow) = λ j. List·getD-map model.valueOf rs j noRow in
-        let lo : (j : ℕ) → j < length rs → getD w (b + 8 + 2 * n + 2 * j) 0 ≡ getD col (8 + 2 * n + 2 * j) 0 =
-        λ j q. word-of (b + 8 + 2 * n + 2 * j) b (8 + 2 * n + 2 * j) (omega arith) refl (omega (arith, rows-few)) in
-        let hi : (j : ℕ) → j < length rs → getD w (b + 8 + 2 * n + 2 * j + 1) 0 ≡ getD col (8 + 2 * n + 2 * j + 1) 0 =
-        λ j q. word-of (b + 8 + 2 * n + 2 * j + 1) b (8 + 2 * n + 2 * j + 1) (omega arith) refl (omega (arith, rows-few)) in
-        let below : (j : ℕ) → j < length rs → getD col (8 + 2 * n + 2 * j) 0 < 4294967296 = λ j q. omega (arith, lo j q, small (b + 8 + 2 * n + 2 * j)) in
-        let is : (j : ℕ) → j < length rs → getD (map model.valueOf rs) j (model.valueOf noRow) ≡ valueOf (getD col (8 + 2 * n + 2 * j) 0) (getD col (8 + 2 * n + 2 * j + 1) 0) =
+        let lo : (j : ℕ) → j < length rs → getD w (b + ROWS + 2 * n + 2 * j) 0 ≡ getD col (ROWS + 2 * n + 2 * j) 0 =
+        λ j q. word-of (b + ROWS + 2 * n + 2 * j) b (ROWS + 2 * n + 2 * j) (omega arith) refl (omega (arith, rows-few)) in
+        let hi : (j : ℕ) → j < length rs → getD w (b + ROWS + 2 * n + 2 * j + 1) 0 ≡ getD col (ROWS + 2 * n + 2 * j + 1) 0 =
+        λ j q. word-of (b + ROWS + 2 * n + 2 * j + 1) b (ROWS + 2 * n + 2 * j + 1) (omega arith) refl (omega (arith, rows-few)) in
+        let below : (j : ℕ) → j < length rs → getD col (ROWS + 2 * n + 2 * j) 0 < 4294967296 = λ j q. omega (arith, lo j q, small (b + ROWS + 2 * n + 2 * j)) in
+        let is : (j : ℕ) → j < length rs → getD (map model.valueOf rs) j (model.valueOf noRow) ≡ valueOf (getD col (ROWS + 2 * n + 2 * j) 0) (getD col (ROWS + 2 * n + 2 * j + 1) 0) =
         λ j q. val j ∙ ap (λ (r : Row). r .value) (row-is j q) in
         value-pairs (model.part a (a + m) (map model.valueOf rs))
-        ∙ pairs-part lowOf highOf (model.valueOf noRow) (map model.valueOf rs) w (b + 8 + 2 * n)
-        (λ j q. let t : j < length rs = omega arith in lo j t ∙ sym (ap lowOf (is j t) ∙ value-low (getD col (8 + 2 * n + 2 * j) 0) (getD col (8 + 2 * n + 2 * j + 1) 0) (below j t)))
-        (λ j q. let t : j < length rs = omega arith in hi j t ∙ sym (ap highOf (is j t) ∙ value-high (getD col (8 + 2 * n + 2 * j) 0) (getD col (8 + 2 * n + 2 * j + 1) 0) (below j t)))
+        ∙ pairs-part lowOf highOf (model.valueOf noRow) (map model.valueOf rs) w (b + ROWS + 2 * n)
+        (λ j q. let t : j < length rs = omega arith in lo j t ∙ sym (ap lowOf (is j t) ∙ value-low (getD col (ROWS + 2 * n + 2 * j) 0) (getD col (ROWS + 2 * n + 2 * j + 1) 0) (below j t)))
+        (λ j q. let t : j < length rs = omega arith in hi j t ∙ sym (ap highOf (is j t) ∙ value-high (getD col (ROWS + 2 * n + 2 * j) 0) (getD col (ROWS + 2 * n + 2 * j + 1) 0) (below j t)))
         m a (omega arith) (omega (arith, rows-few, slot-at .lent .size))
 
   part-inside : (values : Bool) (a m : ℕ) → a + m ≤ length (kindSet w k) → rowPlace values w k a + 2 * m ≤ length w
@@ -188,10 +189,10 @@ module _ (w : List ℕ) (A : Arranged w) (k : ℕ) (i : In (meaning w .kinds) k)
 
 -- the code's place of a row, of the capacity n, the slot t and where the slot's column starts
 module _ (w : List ℕ) (k a n t b : ℕ) (en : n ≡ capacityOf w) (et : t ≡ slotOf w k) (eb : b ≡ columnStart n t) where
-  pub value-place : (values : Bool) → values ≡ true → b + 8 + 2 * n + 2 * a ≡ rowPlace values w k a
+  pub value-place : (values : Bool) → values ≡ true → b + ROWS + 2 * n + 2 * a ≡ rowPlace values w k a
   value-place values q = rw q (rw (eb, en, et))
 
-  pub entity-place : (values : Bool) → values ≡ false → b + 8 + 2 * a ≡ rowPlace values w k a
+  pub entity-place : (values : Bool) → values ≡ false → b + ROWS + 2 * a ≡ rowPlace values w k a
   entity-place values q = rw q (rw (eb, en, et))
 
 -- ---- an accepted column
@@ -202,7 +203,7 @@ known-of w values k a e G = column-accepted values k a e (meaning w) (G .taken)
 -- it is a part of the words, of at most 4,096 rows
 pub record Inside (w : List ℕ) (values : Bool) (k a e : ℕ) : Type 0 where
   pub order : a ≤ e
-  pub few : e ≤ 4096
+  pub few : e ≤ MAX-ENTITIES
   pub within : rowPlace values w k a + 2 * (e - a) ≤ length w
 
 pub given-inside : (w : List ℕ) (values : Bool) (k a e : ℕ) → Given w k a e → Inside w values k a e

@@ -8,6 +8,7 @@ use Prim.Native.Nat.{ℕ, _+_, _*_, _≤_}
 use native.Mathlib.Omega.{arith}
 use lib.ListN.{length, take, drop, length-map}
 use denote.Ref.{RefT}
+use Rattle.model.specs.Numbers.{LAST-KIND}
 use Rattle.model.specs.Model.{found, range, setOf, entityOf}
 use Rattle.model.specs.Store.{Store, empty}
 use Rattle.model.specs.Refusals.{numberOf, startLines, rollLines, columnLines}
@@ -212,7 +213,7 @@ pub range-shown : (v r : RefT (List ℕ)) (h b : List ℕ) (k a e : ℕ) → Sou
 range-shown v r h b k a e S i known f P =
     let s = meaning (v .now) in
     let shows : Showing (s .storage .sets) (s .entities .live) h b a e = range-shows s (S .means) h b a e f in
-    let small : k ≤ 127 = omega (arith, S .means .kinds .small k known) in
+    let small : k ≤ LAST-KIND = omega (arith, S .means .kinds .small k known) in
     let inside : e ≤ length (setOf (s .storage .sets) k) = omega (arith, shows .places k i, length-map (setOf (s .storage .sets) k) entityOf) in
     let taken : columnRefusal k a e s ≡ none = column-within k a e s small known (omega (arith, shows .start)) inside in
     (shows, go (P .sound) (P .decides) (P .words) taken)

@@ -7,6 +7,7 @@ use native.Mathlib.Nat.{zero-add}
 use native.Mathlib.Omega.{arith}
 use lib.ListN.{length, drop}
 use lib.Seq.{sets, sets-eq}
+use Rattle.model.specs.Numbers.{NOROOM, UNSOUND}
 use Rattle.model.specs.Snapshot.{snapshot}
 use Rattle.memory.specs.Meaning.{meaning}
 use Rattle.memory.specs.Arranged.{Sound}
@@ -14,10 +15,10 @@ use Rattle.snapshot.specs.Wrote.{Wrote}
 use Rattle.snapshot.proofs.Rolled.{roll-short, roll-fits}
 use Rattle.store.specs.Entries.{Rolls}
 
-pub refused-roll : (w o : List ℕ) → (Sound w → ⊥) → Rolls w o o (record { number = 3; written = 0 })
+pub refused-roll : (w o : List ℕ) → (Sound w → ⊥) → Rolls w o o (record { number = UNSOUND; written = 0 })
 refused-roll w o d = record { sound = false; decides = d; number = refl; written = refl; bytes = refl }
 
-pub short-roll : (w o : List ℕ) → Sound w → length o < length (snapshot (meaning w)) → Rolls w o o (record { number = 6; written = 0 })
+pub short-roll : (w o : List ℕ) → Sound w → length o < length (snapshot (meaning w)) → Rolls w o o (record { number = NOROOM; written = 0 })
 short-roll w o S h =
     let e = roll-short (length o) (meaning w) h in
     record { sound = true; decides = S; number = rw e; written = rw e; bytes = rw e }

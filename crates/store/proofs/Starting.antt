@@ -7,6 +7,7 @@ use native.Mathlib.Omega.{arith}
 use borrow.Author.Tests.{lt-ltb, le-ltb, ne-eqb}
 use lib.Dec.{eqb, ltb}
 use lib.ListN.{length}
+use Rattle.model.specs.Numbers.{MAX-ENTITIES, MAX-KINDS}
 use Rattle.model.specs.Store.{empty, wordsNeeded}
 use Rattle.model.specs.Refusals.{startLines}
 use Rattle.model.specs.Entries.{refusesStart, makes, start}
@@ -21,13 +22,13 @@ use Rattle.store.specs.Entries.{Starts}
 
 -- the test of refusal 1
 abbrev oversize : ℕ → ℕ → Bool
-oversize n k = (eqb n 0 || ltb 4096 n) || (eqb k 0 || ltb 128 k)
+oversize n k = (eqb n 0 || ltb MAX-ENTITIES n) || (eqb k 0 || ltb MAX-KINDS k)
 
 within-size : (n k : ℕ) → Limits n k → oversize n k ≡ false
 within-size n k l =
     let n0 : n ≡ 0 → ⊥ = λ e. omega (arith, l .some) in
     let k0 : k ≡ 0 → ⊥ = λ e. omega (arith, l .someKinds) in
-    simp (ne-eqb n 0 n0, ne-eqb k 0 k0, le-ltb 4096 n (l .most), le-ltb 128 k (l .mostKinds))
+    simp (ne-eqb n 0 n0, ne-eqb k 0 k0, le-ltb MAX-ENTITIES n (l .most), le-ltb MAX-KINDS k (l .mostKinds))
 
 size-within : (n k : ℕ) → oversize n k ≡ false → Limits n k
 unfolding start

@@ -3,6 +3,7 @@
 use mathlib.Core.List.{List, [], _∷_, _++_}
 use Prim.Native.Nat.{ℕ, suc, _+_, _-_}
 use lib.ListN.{length, set, take, drop}
+use Rattle.words.specs.Offsets.{REFUSALS}
 use Rattle.model.specs.Store.{counted}
 use Rattle.model.specs.Commands.{Command, width, commandAt, accepted}
 use Rattle.model.specs.Refusals.{NoneHolds, First, Ready, beforeLines, linesOf}
@@ -21,7 +22,7 @@ commandOn b t = commandAt b (take (width b) t)
 
 -- "add to the tally, change no other word"
 abbrev pub tallied : List ℕ → List ℕ
-tallied w = set w 16 (counted (meaning w .control) .refusals)
+tallied w = set w REFUSALS (counted (meaning w .control) .refusals)
 
 -- from the words w, the tape and so many free bytes to the words w′, with stop number, commands done, tape bytes read, and answer bytes
 pub data Course : List ℕ → List ℕ → ℕ → List ℕ → ℕ → ℕ → ℕ → List ℕ → Type 0 where

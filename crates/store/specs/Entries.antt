@@ -13,7 +13,7 @@ use Rattle.model.specs.Run as model
 use Rattle.model.specs.Entries.{Started, refusesStart, makes, start, columnRefusal, column, refusesRoll, writes, roll}
 use Rattle.model.specs.Entries as entries
 use Rattle.model.specs.Sound.{Limits}
-use Rattle.words.specs.Offsets.{columnStart}
+use Rattle.words.specs.Offsets.{columnStart, ROWS}
 use Rattle.words.specs.Decides.{Decides}
 use Rattle.memory.specs.Header.{capacityOf, slotOf}
 use Rattle.memory.specs.Meaning.{meaning}
@@ -73,8 +73,8 @@ columnWords false values k a e s = []
 
 -- where row a's words stand among all words (docs/WORDS.md): "cards (index word, version word) or values (low word, high word)"
 abbrev pub rowPlace : Bool → List ℕ → ℕ → ℕ → ℕ
-rowPlace false w k a = columnStart (capacityOf w) (slotOf w k) + 8 + 2 * a
-rowPlace true w k a = columnStart (capacityOf w) (slotOf w k) + 8 + 2 * capacityOf w + 2 * a
+rowPlace false w k a = columnStart (capacityOf w) (slotOf w k) + ROWS + 2 * a
+rowPlace true w k a = columnStart (capacityOf w) (slotOf w k) + ROWS + 2 * capacityOf w + 2 * a
 
 -- the code's place of that row; two words more for each row stay a small number
 pub record RowStart (values : Bool) (w : List ℕ) (k a r : ℕ) : Type 0 where

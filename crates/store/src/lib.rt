@@ -3,6 +3,12 @@ pub mod exports;
 
 use memory::empty;
 use memory::empty::within_limits;
+use model::refusals::BEYOND;
+use model::refusals::KIND;
+use model::refusals::NOROOM;
+use model::refusals::SHORT;
+use model::refusals::SIZE;
+use model::refusals::UNSOUND;
 use run::Ran;
 ghost use Prim.Native.Nat.{_≤_};
 ghost use lib.ListN.{length};
@@ -11,21 +17,6 @@ ghost use Rattle.memory.specs.Meaning.{meaning};
 ghost use Rattle.memory.specs.Arranged.{Arranged};
 ghost use Rattle.kinds.specs.Kinds.{kindSet};
 ghost use Rattle.store.specs.Entries.{Needs, Starts, Runs, ColumnNumbered, RowStart, ColumnPart, Rolls};
-
-// Numbers of 01's table.
-const SIZE: u8 = 1;
-
-const SHORT: u8 = 2;
-
-const UNSOUND: u8 = 3;
-
-const NOROOM: u8 = 6;
-
-const KIND: u8 = 7;
-
-const BEYOND: u8 = 16;
-// Words of a column before its rows.
-const HEAD: usize = 8;
 
 // What roll answers: 0 and how many bytes, or the number of a refusal and 0.
 #[repr(C)]
@@ -80,10 +71,10 @@ pub fn column_number(words: &[u32], kind: u8, values: bool, start: usize, end: u
     if !soundness::is_sound(words) {
         return UNSOUND;
     }
-    if 127 < kind {
+    let k = kind as usize;
+    if model::LAST_KIND < k {
         return KIND;
     }
-    let k = kind as usize;
     if !kinds::is_registered(words, k) {
         return KIND;
     }
@@ -105,7 +96,7 @@ fn row_start(words: &[u32], kind: usize, values: bool, place: usize) -> usize
 {
     let n = words::word(words, words::CAPACITY);
     let slot = words::word(words, words::TABLE + kind);
-    let entities = words::column_start(n, slot) + HEAD;
+    let entities = words::column_start(n, slot) + words::ROWS;
     if values {
         return entities + 2 * n + 2 * place;
     }

@@ -4,29 +4,143 @@ use mathlib.Core.Path.{_≡_, refl}
 use Prim.Native.Nat.{ℕ, suc, _+_, _*_, _-_, _≤_, _<_}
 use native.Mathlib.Nat.{mul-le-mul-right, mul-le-mul, suc-mul}
 use native.Mathlib.Omega.{arith}
+use Rattle.model.specs.Numbers.{MAX-ENTITIES, MAX-KINDS, HEADER-LEN, ENTITY-LEN, COLUMN-HEAD, columnLen}
 use Rattle.model.specs.Store.{wordsNeeded}
+
+-- ---- the header, word by word
+
+-- what a start is told
+abbrev pub CAPACITY : ℕ
+CAPACITY = 0
+
+abbrev pub KIND-CAPACITY : ℕ
+KIND-CAPACITY = 1
+
+-- how many kinds are registered, and how long the staged and the excluded list are
+abbrev pub REGISTERED : ℕ
+REGISTERED = 2
+
+abbrev pub STAGED-LEN : ℕ
+STAGED-LEN = 3
+
+abbrev pub EXCLUDED-LEN : ℕ
+EXCLUDED-LEN = 4
+
+-- the families and groups of the draft, and of the layout in force
+abbrev pub DRAFT-FAMILIES : ℕ
+DRAFT-FAMILIES = 5
+
+abbrev pub DRAFT-GROUPS : ℕ
+DRAFT-GROUPS = 6
+
+abbrev pub LAYOUT-FAMILIES : ℕ
+LAYOUT-FAMILIES = 7
+
+abbrev pub LAYOUT-GROUPS : ℕ
+LAYOUT-GROUPS = 8
+
+-- the refusal count
+abbrev pub REFUSALS : ℕ
+REFUSALS = 16
+
+-- the slot of each kind, and the word of a kind that has none
+abbrev pub TABLE : ℕ
+TABLE = 32
+
+abbrev pub UNREGISTERED : ℕ
+UNREGISTERED = 255
+
+-- the staged kinds, their values at four words each, the excluded kinds
+abbrev pub STAGED-KINDS : ℕ
+STAGED-KINDS = 160
+
+abbrev pub STAGED-VALUES : ℕ
+STAGED-VALUES = 176
+
+abbrev pub EXCLUDED-KINDS : ℕ
+EXCLUDED-KINDS = 240
+
+-- two blocks: the draft, and the layout in force
+abbrev pub DRAFT : ℕ
+DRAFT = 256
+
+abbrev pub LAYOUT : ℕ
+LAYOUT = 576
+
+-- a block: kinds in order, then arities, kind ends and group ends, which have places for 64 groups each
+abbrev pub ARITIES : ℕ
+ARITIES = 128
+
+abbrev pub KIND-ENDS : ℕ
+KIND-ENDS = 192
+
+abbrev pub ENDS : ℕ
+ENDS = 256
+
+abbrev pub BLOCK-LEN : ℕ
+BLOCK-LEN = 320
+
+abbrev pub GROUP-PLACES : ℕ
+GROUP-PLACES = 64
+
+-- the same three of the layout in force
+abbrev pub LAYOUT-ARITIES : ℕ
+LAYOUT-ARITIES = LAYOUT + ARITIES
+
+abbrev pub LAYOUT-KIND-ENDS : ℕ
+LAYOUT-KIND-ENDS = LAYOUT + KIND-ENDS
+
+abbrev pub LAYOUT-ENDS : ℕ
+LAYOUT-ENDS = LAYOUT + ENDS
+
+-- the family and the count of each group of the layout in force
+abbrev pub GROUP-FAMILIES : ℕ
+GROUP-FAMILIES = 896
+
+abbrev pub GROUP-COUNTS : ℕ
+GROUP-COUNTS = 960
+
+-- the entity part follows the header
+abbrev pub ENTITIES : ℕ
+ENTITIES = HEADER-LEN
+
+-- ---- a column's head: its kind, the kind's own group plus one, the kind's place in its family; the rows follow the head
+
+abbrev pub COLUMN-KIND : ℕ
+COLUMN-KIND = 1
+
+abbrev pub OWN-GROUP : ℕ
+OWN-GROUP = 2
+
+abbrev pub PLACE-IN-FAMILY : ℕ
+PLACE-IN-FAMILY = 3
+
+abbrev pub ROWS : ℕ
+ROWS = COLUMN-HEAD
+
+-- ---- where the columns start
 
 -- the column in slot k of a store of capacity n: it starts where the words of a store with k kinds end
 abbrev pub columnStart : ℕ → ℕ → ℕ
 columnStart n k = wordsNeeded n k
 
 -- an earlier column ends before a later one starts
-pub columnStart-apart : (n i j : ℕ) → i < j → columnStart n i + (8 + 6 * n) ≤ columnStart n j
+pub columnStart-apart : (n i j : ℕ) → i < j → columnStart n i + columnLen n ≤ columnStart n j
 unfolding wordsNeeded
-columnStart-apart n i j h = let q : suc i * (8 + 6 * n) ≤ j * (8 + 6 * n) = mul-le-mul-right (8 + 6 * n) h in omega (arith, suc-mul i (8 + 6 * n))
+columnStart-apart n i j h = let q : suc i * columnLen n ≤ j * columnLen n = mul-le-mul-right (columnLen n) h in omega (arith, suc-mul i (columnLen n))
 
 -- a columnStart fits
-pub columnStart-fits : (n k : ℕ) → n ≤ 4096 → k ≤ 128 → columnStart n k ≤ 3300000
+pub columnStart-fits : (n k : ℕ) → n ≤ MAX-ENTITIES → k ≤ MAX-KINDS → columnStart n k ≤ 3300000
 unfolding wordsNeeded
 columnStart-fits n k hn hk =
-    let m : 8 + 6 * n ≤ 24584 = omega arith in
+    let m : columnLen n ≤ 24584 = omega arith in
     omega (arith, mul-le-mul hk m)
 
 pub columnStart-mono : (n i j : ℕ) → i ≤ j → columnStart n i ≤ columnStart n j
 unfolding wordsNeeded
-columnStart-mono n i j h = omega (arith, mul-le-mul-right (8 + 6 * n) h)
+columnStart-mono n i j h = omega (arith, mul-le-mul-right (columnLen n) h)
 
 -- the words that a store needs: a header of 1,024, 16 for each entity, and K columns
-pub columnStart-needed : (n k : ℕ) → columnStart n k ≡ 1024 + 16 * n + k * (8 + 6 * n)
+pub columnStart-needed : (n k : ℕ) → columnStart n k ≡ HEADER-LEN + ENTITY-LEN * n + k * columnLen n
 unfolding wordsNeeded
 columnStart-needed n k = refl

@@ -3,6 +3,7 @@
 ghost use mathlib.Core.Path.{_≡_};
 ghost use Prim.Native.Nat.{_<_, _≤_};
 ghost use lib.ListN.{length};
+ghost use Rattle.model.specs.Numbers.{MAX-ENTITIES, MAX-KINDS};
 ghost use Rattle.words.specs.Offsets.{columnStart};
 ghost use Rattle.words.specs.Word.{Word};
 
@@ -26,8 +27,10 @@ pub const LAYOUT_FAMILIES: usize = 7;
 pub const LAYOUT_GROUPS: usize = 8;
 // The refusal count.
 pub const REFUSALS: usize = 16;
-// The slot of each of the 128 kinds, 255 where unregistered.
+// The slot of each of the 128 kinds, and the word of a kind that has none.
 pub const TABLE: usize = 32;
+
+pub const UNREGISTERED: u32 = 255;
 // Sixteen staged kinds, their values at four words each, sixteen excluded kinds.
 pub const STAGED_KINDS: usize = 160;
 
@@ -57,22 +60,22 @@ pub const GROUP_FAMILIES: usize = 896;
 
 pub const GROUP_COUNTS: usize = 960;
 // The entity part follows the header.
-pub const ENTITIES: usize = 1024;
+pub const ENTITIES: usize = model::HEADER_LEN;
 // A column's head: its kind, the kind's own group plus one, the kind's place in its family. The rows follow the head.
-pub const KIND: usize = 1;
+pub const COLUMN_KIND: usize = 1;
 
 pub const OWN_GROUP: usize = 2;
 
 pub const PLACE_IN_FAMILY: usize = 3;
 
-pub const ROWS: usize = 8;
+pub const ROWS: usize = model::COLUMN_HEAD;
 
 // Where the column in slot k starts.
 pub fn column_start(n: usize, k: usize) -> usize
-    requires { ⌜ (n ≤ 4096) × (k ≤ 128) ⌝ }
+    requires { ⌜ (n ≤ MAX-ENTITIES) × (k ≤ MAX-KINDS) ⌝ }
     ensures { λ r. ⌜ r ≡ columnStart n k ⌝ }
 {
-    1024 + 16 * n + k * (8 + 6 * n)
+    model::words_needed(n, k)
 }
 
 // The word at i, as a number for counting.

@@ -6,6 +6,7 @@ use native.Mathlib.Omega.{arith}
 use native.Mathlib.Numerals.{add-one}
 use lib.ListN.{length, getD, take}
 use lib.Seq.{take-all, take-suc}
+use Rattle.model.specs.Numbers.{MAX-GROUP-COUNT}
 use Rattle.model.specs.Model.{Family, groupsOf}
 use Rattle.masks.specs.Masks.{bitsOf, unionOf}
 use Rattle.group.proofs.KindPositions.{insert-no-kinds, delete-no-kinds, insert-union, delete-union}
@@ -32,6 +33,6 @@ pub no-kinds : (walk : Walk) (fs : List Family) → walkPositions walk [] fs ≡
 no-kinds Insert fs = insert-no-kinds 0 fs
 no-kinds Delete fs = delete-no-kinds 0 fs
 
-pub more-kinds : (walk : Walk) (fs : List Family) → groupsOf fs ≤ 63 → (ks js : List ℕ) → walkPositions walk (ks ++ js) fs ≡ unionOf 64 (walkPositions walk ks fs) (walkPositions walk js fs)
+pub more-kinds : (walk : Walk) (fs : List Family) → groupsOf fs ≤ MAX-GROUP-COUNT → (ks js : List ℕ) → walkPositions walk (ks ++ js) fs ≡ unionOf 64 (walkPositions walk ks fs) (walkPositions walk js fs)
 more-kinds Insert fs few ks js = insert-union 64 ks js fs (omega arith)
 more-kinds Delete fs few ks js = delete-union 64 ks js fs (omega arith)

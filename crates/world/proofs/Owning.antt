@@ -6,6 +6,7 @@ use Prim.Native.Nat.{ℕ, _+_, _-_, _≤_, _<_}
 use native.Mathlib.Omega.{arith}
 use lib.ListN.{length, getD}
 use lib.Seq.{getD-take, take-all}
+use Rattle.words.specs.Offsets.{ENTITIES, GROUP-COUNTS}
 use Rattle.model.specs.Model.{mem, groupsOf}
 use Rattle.model.specs.Sound.{In, Distinct, layoutKinds}
 use Rattle.masks.specs.Masks.{bitsOf, upFrom, Ordered}
@@ -49,17 +50,17 @@ module _ (w : List ℕ) (A : Arranged w) where
         let i : ℕ = g - startOf (layoutArrays w .ends) (groupFamilyAt w g) in
         let at : startOf (layoutArrays w .ends) (groupFamilyAt w g) + (g - startOf (layoutArrays w .ends) (groupFamilyAt w g)) ≡ g = omega (arith, G .low) in
         let inside : startOf (layoutArrays w .ends) (groupFamilyAt w g) + (g - startOf (layoutArrays w .ends) (groupFamilyAt w g)) < getD (layoutArrays w .ends) (groupFamilyAt w g) 0 = omega (arith, G .low, G .high) in
-        let r = arity-rises (between 960 1024 w) (layoutArrays w) (A .layout .formed) (layout-sized w A) f i (G .family) inside in
+        let r = arity-rises (between GROUP-COUNTS ENTITIES w) (layoutArrays w) (A .layout .formed) (layout-sized w A) f i (G .family) inside in
         let arity : getD (layoutArrays w .arities) (startOf (layoutArrays w .ends) f + i) 0 ≡ getD (layoutArrays w .arities) g 0 = ap (λ (m : ℕ). getD (layoutArrays w .arities) m 0) at in
         let prior : getD (0 ∷ aritiesAt (layoutArrays w) f) i 0 ≡ priorArity (layoutArrays w) f g = sym (prior-at (layoutArrays w) f i inside) ∙ ap (priorArity (layoutArrays w) f) at in
-        let order : layoutKinds (familiesOf (between 960 1024 w) (layoutArrays w)) ≡ orderOf (meaning w) = sym (ap layoutKinds (layout-means w A)) in
+        let order : layoutKinds (familiesOf (between GROUP-COUNTS ENTITIES w) (layoutArrays w)) ≡ orderOf (meaning w) = sym (ap layoutKinds (layout-means w A)) in
         let width : s + getD (layoutArrays w .arities) g 0 ≤ length (orderOf (meaning w)) = omega (arith, r .1, arity, order-length w A, kinds-inside (layoutArrays w) (A .layout .formed) f (G .family)) in
         let here : getD (orderOf (meaning w)) (s + j) 0 ≡ k =
         ap (λ (l : List ℕ). getD l (s + j) 0) (order-is w A) ∙ getD-take (widthOf (layoutArrays w)) (layoutArrays w .kinds) (s + j) 0 (omega (arith, O .high, width, order-length w A)) ∙ O .member in
         let news : located (meaning w .storage .layout) g .newKinds ≡ between (s + priorArity (layoutArrays w) f g) (s + getD (layoutArrays w .arities) g 0) (orderOf (meaning w)) =
         ap (λ (fs : _). located fs g .newKinds) (layout-means w A)
-        ∙ ap (λ (m : ℕ). located (familiesOf (between 960 1024 w) (layoutArrays w)) m .newKinds) (sym at)
-        ∙ ap (λ (l : Located). l .newKinds) (located-is (between 960 1024 w) (layoutArrays w) (A .layout .formed) (layout-sized w A) f i (G .family) inside)
+        ∙ ap (λ (m : ℕ). located (familiesOf (between GROUP-COUNTS ENTITIES w) (layoutArrays w)) m .newKinds) (sym at)
+        ∙ ap (λ (l : Located). l .newKinds) (located-is (between GROUP-COUNTS ENTITIES w) (layoutArrays w) (A .layout .formed) (layout-sized w A) f i (G .family) inside)
         ∙ (λ t. between (s + prior t) (s + arity t) (order t)) in
         subst (λ (l : List ℕ). In l k) (sym news)
         (subst (In (between (s + priorArity (layoutArrays w) f g) (s + getD (layoutArrays w .arities) g 0) (orderOf (meaning w)))) here

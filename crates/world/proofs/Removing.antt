@@ -9,6 +9,7 @@ use borrow.Author.Tests.{eqb-false}
 use lib.Dec.{eqb}
 use lib.ListN.{length, getD, set, take, length-map, List·getD-map}
 use lib.Seq.{take-all, take-suc, getD-set-other}
+use Rattle.model.specs.Numbers.{MAX-KINDS}
 use Rattle.model.specs.Model.{Entity, Component, SparseSet, Storage, mem, kindOf, setOf, onKinds, removeRow}
 use Rattle.model.specs.Store.{Store, stagedKinds}
 use Rattle.model.specs.Sound.{In, Distinct, noComponent}
@@ -62,7 +63,7 @@ module _ (w₀ : List ℕ) (e : Entity) (ks : List ℕ) where
       ap (λ (m : Store). setOf (m .storage .sets) (getD ks i 0)) (B .means)
       ∙ each-other (removeRow e) (take i ks) (meaning w₀ .storage .sets) (getD ks i 0) (distinct-new ks d i h)
 
-  pub gone-all : (w : List ℕ) (i : ℕ) → length ks ≤ i → Distinct ks → ((k : ℕ) → In ks k → k < 128) → Gone w i → Becomes w₀ w (onStorage (removed e ks) (meaning w₀))
+  pub gone-all : (w : List ℕ) (i : ℕ) → length ks ≤ i → Distinct ks → ((k : ℕ) → In ks k → k < MAX-KINDS) → Gone w i → Becomes w₀ w (onStorage (removed e ks) (meaning w₀))
   gone-all w i h d lt B =
       let ss : eachKind (removeRow e) (take i ks) (meaning w₀ .storage .sets) ≡ onKinds ks (removeRow e) (meaning w₀ .storage .sets) =
       ap (λ (l : List ℕ). eachKind (removeRow e) l (meaning w₀ .storage .sets)) (take-all i ks h)
@@ -83,7 +84,7 @@ module _ (w : List ℕ) (S : Staged w) where
   staged-in i k h q =
       S .known k (subst (In kinds) (sym (q ∙ kind-at (meaning w .control .staged) i)) (at-in kinds i (omega (arith, length-map (meaning w .control .staged) kindOf))))
 
-  pub staged-small : (k : ℕ) → In (stagedKinds (meaning w)) k → k < 128
+  pub staged-small : (k : ℕ) → In (stagedKinds (meaning w)) k → k < MAX-KINDS
   staged-small k i = known-small w (S .arranged) k (S .known k i)
 
 -- words that have become others of the same kinds and staged components

@@ -5,6 +5,7 @@ use native.Mathlib.Omega.{arith}
 use borrow.Author.Needs.{needs}
 use lib.ListN.{length}
 use lib.Seq.{length-take-le}
+use Rattle.model.specs.Numbers.{LIST-CAPACITY}
 use Rattle.model.specs.Model.{addGroup}
 use Rattle.model.specs.Store.{stagedKinds}
 use Rattle.memory.specs.Meaning.{meaning}
@@ -15,7 +16,7 @@ use Rattle.command_group.proofs.add_staged.Tie as tie
 slice-aggregate-add-group : tie.Need-slice-aggregate-add-group
 slice-aggregate-add-group c =
     let k = c .before .before .before .staged-kinds in
-    let e : length (k .last .1 .0) ≡ 16 = search needs in
+    let e : length (k .last .1 .0) ≡ LIST-CAPACITY = search needs in
     sym (length-take-le (k .result) (k .last .1 .0) (omega (arith, e, k .ensures .few)))
 
 add-group-requires : tie.Need-add-group-requires
@@ -23,7 +24,7 @@ add-group-requires c κs =
     let s = c .before .before .before .before .before .before in
     let k = c .before .before .before .staged-kinds .ensures in
     let m = meaning (s .args .words .now) in
-    let e : length (stagedKinds m) ≤ 16 = omega (arith, staged-width m, s .pre .means .staged .few) in
+    let e : length (stagedKinds m) ≤ LIST-CAPACITY = omega (arith, staged-width m, s .pre .means .staged .few) in
     (c .before .draft .ensures .formed, rw (k .front) (staged-set m (s .pre .means)), rw (k .front) e)
 
 returns : tie.Need-returns

@@ -3,6 +3,7 @@ use mathlib.Core.Path.{_≡_}
 use Prim.Native.Nat.{_-_, _≤_}
 use native.Mathlib.Omega.{arith}
 use lib.ListN.{length}
+use Rattle.model.specs.Numbers.{LIST-CAPACITY}
 use Rattle.component.specs.SparseSet.{entity}
 use Rattle.memory.specs.Meaning.{meaning}
 use Rattle.command_take.proofs.Taking.{Taken, taken-none, taken-staged, taken-count, taken-length, taken-turn, taken-all}
@@ -11,7 +12,7 @@ use Rattle.command_take.proofs.take_staged.Tie as tie
 
 abbrev Inv-loop : tie.InvT-loop
 Inv-loop words₀ index version out₀ at n i₀ words out i =
-    (i ≤ n) × (n ≤ 16) × (n ≡ length (meaning words₀ .control .staged)) × Taken words₀ out₀ (entity index version) at words out i
+    (i ≤ n) × (n ≤ LIST-CAPACITY) × (n ≡ length (meaning words₀ .control .staged)) × Taken words₀ out₀ (entity index version) at words out i
 
 abbrev μ-loop : tie.MeasureT-loop
 μ-loop words₀ index version out₀ at n i₀ words out i = n - i

@@ -2,6 +2,7 @@ use mathlib.Core.Path.{refl}
 use Prim.Native.Nat.{_+_, _<_}
 use native.Mathlib.Omega.{arith}
 use borrow.Author.Needs.{needs}
+use Rattle.model.specs.Numbers.{MAX-ENTITIES}
 use Rattle.words.specs.Part.{between}
 use Rattle.component.specs.SparseSet.{entity}
 use Rattle.memory.specs.Meaning.{meaning}
@@ -18,7 +19,7 @@ swaps c =
     let S = c .pre .1 .0 in
     swappable (a .words .now) (c .pre .0) (entity (a .index) (a .version)) (a .g) (a .group-len) (a .metadata) S (located (meaning (a .words .now) .storage .layout) (a .g) .count) (a .group-len) (S .counted) (c .pre .1 .1)
 
-small : (c : tie.Start) → c .args .group-len < 4096
+small : (c : tie.Start) → c .args .group-len < MAX-ENTITIES
 small c = let a = c .args in place-small (a .words .now) (c .pre .0) (entity (a .index) (a .version)) (a .g) (a .group-len) (a .metadata) (c .pre .1 .0) (a .group-len) (swaps c)
 
 swap-kinds-requires : tie.Need-swap-kinds-requires

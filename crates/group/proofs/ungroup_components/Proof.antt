@@ -1,6 +1,7 @@
 use mathlib.Core.Path.{refl, ap, _∙_}
 use Prim.Native.Nat.{ℕ, _-_, _<_}
 use native.Mathlib.Omega.{arith}
+use Rattle.model.specs.Numbers.{MAX-ENTITIES}
 use Rattle.words.specs.Part.{between}
 use Rattle.component.specs.SparseSet.{entity}
 use Rattle.memory.specs.Meaning.{meaning}
@@ -17,7 +18,7 @@ swaps c =
     let S = c .pre .1 .0 in
     swappable (a .words .now) (c .pre .0) (entity (a .index) (a .version)) (a .g) (a .group-len) (a .metadata) S (located (meaning (a .words .now) .storage .layout) (a .g) .count - 1) (a .group-len - 1) (ap (λ (n : ℕ). n - 1) (S .counted)) (c .pre .1 .1 .1)
 
-small : (c : tie.Start) → c .args .group-len - 1 < 4096
+small : (c : tie.Start) → c .args .group-len - 1 < MAX-ENTITIES
 small c = let a = c .args in place-small (a .words .now) (c .pre .0) (entity (a .index) (a .version)) (a .g) (a .group-len) (a .metadata) (c .pre .1 .0) (a .group-len - 1) (swaps c)
 
 swap-kinds-requires : tie.Need-swap-kinds-requires

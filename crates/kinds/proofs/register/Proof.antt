@@ -2,6 +2,7 @@ use Prim.Native.Nat.{_+_}
 use borrow.Author.Needs.{needs}
 use native.Mathlib.Omega.{arith}
 use lib.ListN.{length-set}
+use Rattle.words.specs.Offsets.{TABLE}
 use Rattle.kinds.proofs.Slot.{header-long}
 use Rattle.kinds.proofs.Registering.{vacancy, vacant-lent, registered}
 use Rattle.kinds.proofs.register.Statement.{statement}
@@ -22,7 +23,7 @@ put-head-requires c κs =
 slice-write-words : tie.Need-slice-write-words
 slice-write-words c =
     let s = c .before .before .before .before .before .before .before .before .before in
-    omega (arith, header-long (s .args .words .now) (s .pre .0) (32 + s .args .kind) (omega arith), c .before .before .put-head .kept .0)
+    omega (arith, header-long (s .args .words .now) (s .pre .0) (TABLE + s .args .kind) (omega arith), c .before .before .put-head .kept .0)
 
 slice-write-words-2 : tie.Need-slice-write-words-2
 slice-write-words-2 c =

@@ -1,6 +1,7 @@
 use mathlib.Core.Path.{sym, subst}
 use Prim.Native.Nat.{ℕ, _+_}
 use native.Mathlib.Omega.{arith}
+use Rattle.words.specs.Offsets.{TABLE}
 use Rattle.kinds.specs.Steps.{InSlot}
 use Rattle.kinds.proofs.Slot.{known-small, known-slot, header-long}
 use Rattle.kinds.proofs.slot_of.Statement.{statement}
@@ -12,7 +13,7 @@ add-word c = let s = c .before in omega (arith, known-small (s .args .words .now
 word-requires : tie.Need-word-requires
 word-requires c κs =
     let s = c .before in
-    header-long (s .args .words .now) (s .pre .0) (32 + s .args .kind) (omega (arith, known-small (s .args .words .now) (s .pre .0) (s .args .kind) (s .pre .1)))
+    header-long (s .args .words .now) (s .pre .0) (TABLE + s .args .kind) (omega (arith, known-small (s .args .words .now) (s .pre .0) (s .args .kind) (s .pre .1)))
 
 returns : tie.Need-returns
 returns c =

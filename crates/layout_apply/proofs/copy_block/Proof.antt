@@ -1,16 +1,17 @@
 use Prim.Native.Nat.{ℕ, _≤_, _-_}
 use mathlib.Core.Path.{_≡_, subst}
 use native.Mathlib.Omega.{arith}
+use Rattle.words.specs.Offsets.{BLOCK-LEN}
 use Rattle.layout_apply.specs.Steps.{Copied}
 use Rattle.layout_apply.proofs.Words.{copy-none, copy-more}
 use Rattle.layout_apply.proofs.copy_block.Statement.{statement}
 use Rattle.layout_apply.proofs.copy_block.Tie as tie
 
 abbrev Inv-loop : tie.InvT-loop
-Inv-loop words₀ i₀ words i = (i ≤ 320) × Copied words₀ i words
+Inv-loop words₀ i₀ words i = (i ≤ BLOCK-LEN) × Copied words₀ i words
 
 abbrev μ-loop : tie.MeasureT-loop
-μ-loop words₀ i₀ words i = 320 - i
+μ-loop words₀ i₀ words i = BLOCK-LEN - i
 
 loop-holds : tie.Need-loop-holds Inv-loop μ-loop
 loop-holds c = (omega arith, copy-none _)
@@ -32,7 +33,7 @@ same-length c = c .before .loop .inv .1 .size
 returns : tie.Need-returns Inv-loop μ-loop
 returns c =
     let l = c .before .loop in
-    let e : l .i ≡ 320 = omega (arith, l .inv .0) in
+    let e : l .i ≡ BLOCK-LEN = omega (arith, l .inv .0) in
     subst (λ (k : ℕ). Copied (c .before .before .args .words .now) k (l .words)) e (l .inv .1)
 
 pub copy-block-spec : {M : Type 1} → statement M

@@ -3,6 +3,7 @@ use mathlib.Core.Path.{_≡_}
 use Prim.Native.Nat.{_+_, _*_, _-_, _≤_}
 use native.Mathlib.Omega.{arith}
 use lib.ListN.{drop}
+use Rattle.model.specs.Numbers.{MAX-ENTITIES, MAX-KINDS}
 use Rattle.memory.specs.Meaning.{meaning}
 use Rattle.snapshot.specs.Rising.{rowsIn}
 use Rattle.memory.proofs.Becomes.{sets-wide}
@@ -11,10 +12,10 @@ use Rattle.snapshot.proofs.count_components.Statement.{statement}
 use Rattle.snapshot.proofs.count_components.Tie as tie
 
 abbrev Inv-loop : tie.InvT-loop
-Inv-loop words total₀ kind₀ total kind = (total + rowsIn (drop kind (meaning words .storage .sets)) ≡ rowsIn (meaning words .storage .sets)) × (total ≤ 4096 * kind) × (kind ≤ 128)
+Inv-loop words total₀ kind₀ total kind = (total + rowsIn (drop kind (meaning words .storage .sets)) ≡ rowsIn (meaning words .storage .sets)) × (total ≤ MAX-ENTITIES * kind) × (kind ≤ MAX-KINDS)
 
 abbrev μ-loop : tie.MeasureT-loop
-μ-loop words total₀ kind₀ total kind = 128 - kind
+μ-loop words total₀ kind₀ total kind = MAX-KINDS - kind
 
 loop-holds : tie.Need-loop-holds Inv-loop μ-loop
 loop-holds c = (omega arith, omega arith, omega arith)

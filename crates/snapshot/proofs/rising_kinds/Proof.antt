@@ -5,6 +5,7 @@ use mathlib.Core.List.{_++_}
 use Prim.Native.Nat.{_-_, _≤_}
 use native.Mathlib.Omega.{arith}
 use lib.ListN.{length, take, length-set}
+use Rattle.model.specs.Numbers.{MAX-KINDS}
 use Rattle.memory.specs.Meaning.{meaning}
 use Rattle.snapshot.specs.Rising.{risingKinds}
 use Rattle.snapshot.proofs.Listed.{later, lists-none, lists-one, lists-end}
@@ -12,10 +13,10 @@ use Rattle.snapshot.proofs.rising_kinds.Statement.{statement}
 use Rattle.snapshot.proofs.rising_kinds.Tie as tie
 
 abbrev Inv-loop : tie.InvT-loop
-Inv-loop words list₀ count₀ kind₀ list count kind = (risingKinds (meaning words .kinds) ≡ take count list ++ later (meaning words .kinds) kind) × (count ≤ kind) × (kind ≤ 128) × (length list ≡ length list₀)
+Inv-loop words list₀ count₀ kind₀ list count kind = (risingKinds (meaning words .kinds) ≡ take count list ++ later (meaning words .kinds) kind) × (count ≤ kind) × (kind ≤ MAX-KINDS) × (length list ≡ length list₀)
 
 abbrev μ-loop : tie.MeasureT-loop
-μ-loop words list₀ count₀ kind₀ list count kind = 128 - kind
+μ-loop words list₀ count₀ kind₀ list count kind = MAX-KINDS - kind
 
 loop-holds : tie.Need-loop-holds Inv-loop μ-loop
 unfolding risingKinds

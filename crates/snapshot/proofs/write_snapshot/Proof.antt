@@ -3,6 +3,7 @@ use native.Mathlib.Omega.{arith}
 use borrow.Author.Needs.{needs}
 use lib.ListN.{length}
 use lib.Seq.{length-take-le}
+use Rattle.model.specs.Numbers.{MAX-KINDS}
 use Rattle.memory.specs.Meaning.{meaning}
 use Rattle.snapshot.proofs.Known.{capacity-most, live-most}
 use Rattle.snapshot.proofs.Parts.{snapshot-length, snapshot-written}
@@ -20,7 +21,7 @@ put-u32-requires c κs = let s = c .before .before .before .before .before .befo
 
 slice-aggregate-write-entities : tie.Need-slice-aggregate-write-entities
 slice-aggregate-write-entities c =
-    let e : length (c .before .before .before .before .before .before .before .rising-kinds .last .1 .0) ≡ 128 = search needs in
+    let e : length (c .before .before .before .before .before .before .before .rising-kinds .last .1 .0) ≡ MAX-KINDS = search needs in
     sym (length-take-le (c .before .before .before .before .before .before .before .rising-kinds .result) (c .before .before .before .before .before .before .before .rising-kinds .last .1 .0) (omega (arith, e, c .before .before .before .before .before .before .before .rising-kinds .ensures .few)))
 
 write-entities-requires : tie.Need-write-entities-requires

@@ -2,6 +2,7 @@ use mathlib.Core.Path.{sym, subst}
 use Prim.Native.Nat.{ℕ, _+_, _-_}
 use native.Mathlib.Omega.{arith}
 use borrow.Author.Needs.{needs}
+use Rattle.words.specs.Offsets.{GROUP-FAMILIES, LAYOUT, STAGED-KINDS, TABLE}
 use Rattle.words.specs.Decides.{granted, denied, Each}
 use Rattle.words.specs.Part.{between}
 use Rattle.layout_block.specs.Checks.{BlockSound}
@@ -36,16 +37,16 @@ part-block-ok-end-2 : tie.Need-part-block-ok-end-2
 part-block-ok-end-2 c = let a = c .before .before .before .before .before .args in omega (arith, size-long (capacityOf (a .words .now)) (kindCapacityOf (a .words .now)) (a .words .now) (c .before .before .before .before .before .pre .size))
 
 returns : tie.Need-returns
-returns c = let a = c .before .before .before .before .before .before .before .before .args in λ T. denied {P = BlockSound (between 576 896 (a .words .now)) (between 32 160 (a .words .now)) (layoutFamilies (a .words .now)) (layoutGroups (a .words .now))} (c .before .block-ok .result) (c .before .block-ok .ensures) (c .if1 .taken) (T .block)
+returns c = let a = c .before .before .before .before .before .before .before .before .args in λ T. denied {P = BlockSound (between LAYOUT GROUP-FAMILIES (a .words .now)) (between TABLE STAGED-KINDS (a .words .now)) (layoutFamilies (a .words .now)) (layoutGroups (a .words .now))} (c .before .block-ok .result) (c .before .block-ok .ensures) (c .if1 .taken) (T .block)
 
 are-heads-requires : tie.Need-are-heads-requires
-are-heads-requires c κs = let a = c .before .before .before .before .before .before .before .before .args in let B : BlockSound (between 576 896 (a .words .now)) (between 32 160 (a .words .now)) (layoutFamilies (a .words .now)) (layoutGroups (a .words .now)) = granted {P = BlockSound (between 576 896 (a .words .now)) (between 32 160 (a .words .now)) (layoutFamilies (a .words .now)) (layoutGroups (a .words .now))} (c .before .block-ok .result) (c .before .block-ok .ensures) (c .if1 .left) in (forced (a .words .now) (c .before .before .before .before .before .before .before .before .pre .size) (c .before .before .before .before .before .before .before .before .pre .parts) B, groups-few (a .words .now) (c .before .before .before .before .before .before .before .before .pre .size) (c .before .before .before .before .before .before .before .before .pre .parts) B)
+are-heads-requires c κs = let a = c .before .before .before .before .before .before .before .before .args in let B : BlockSound (between LAYOUT GROUP-FAMILIES (a .words .now)) (between TABLE STAGED-KINDS (a .words .now)) (layoutFamilies (a .words .now)) (layoutGroups (a .words .now)) = granted {P = BlockSound (between LAYOUT GROUP-FAMILIES (a .words .now)) (between TABLE STAGED-KINDS (a .words .now)) (layoutFamilies (a .words .now)) (layoutGroups (a .words .now))} (c .before .block-ok .result) (c .before .block-ok .ensures) (c .if1 .left) in (forced (a .words .now) (c .before .before .before .before .before .before .before .before .pre .size) (c .before .before .before .before .before .before .before .before .pre .parts) B, groups-few (a .words .now) (c .before .before .before .before .before .before .before .before .pre .size) (c .before .before .before .before .before .before .before .before .pre .parts) B)
 
 returns-2 : tie.Need-returns-2
 returns-2 c = let a = c .before .before .before .before .before .before .before .before .before .before .args in λ T. denied {P = Each (layoutGroups (a .words .now)) (HeadsOk (capacityOf (a .words .now)) (layoutFamilies (a .words .now)) (a .words .now))} (c .before .are-heads .result) (c .before .are-heads .ensures) (c .if2 .taken) (T .heads)
 
 start-in-requires : tie.Need-start-in-requires
-start-in-requires c κs = let a = c .before .before .before .before .before .before .before .before .before .before .args in let B : BlockSound (between 576 896 (a .words .now)) (between 32 160 (a .words .now)) (layoutFamilies (a .words .now)) (layoutGroups (a .words .now)) = granted {P = BlockSound (between 576 896 (a .words .now)) (between 32 160 (a .words .now)) (layoutFamilies (a .words .now)) (layoutGroups (a .words .now))} (c .before .before .before .block-ok .result) (c .before .before .before .block-ok .ensures) (c .before .before .if1 .left) in omega (arith, size-long (capacityOf (a .words .now)) (kindCapacityOf (a .words .now)) (a .words .now) (c .before .before .before .before .before .before .before .before .before .before .pre .size), B .formed .good .few)
+start-in-requires c κs = let a = c .before .before .before .before .before .before .before .before .before .before .args in let B : BlockSound (between LAYOUT GROUP-FAMILIES (a .words .now)) (between TABLE STAGED-KINDS (a .words .now)) (layoutFamilies (a .words .now)) (layoutGroups (a .words .now)) = granted {P = BlockSound (between LAYOUT GROUP-FAMILIES (a .words .now)) (between TABLE STAGED-KINDS (a .words .now)) (layoutFamilies (a .words .now)) (layoutGroups (a .words .now))} (c .before .before .before .block-ok .result) (c .before .before .before .block-ok .ensures) (c .before .before .if1 .left) in omega (arith, size-long (capacityOf (a .words .now)) (kindCapacityOf (a .words .now)) (a .words .now) (c .before .before .before .before .before .before .before .before .before .before .pre .size), B .formed .good .few)
 
 shared-slice-read-are-own : tie.Need-shared-slice-read-are-own
 shared-slice-read-are-own c = let a = c .before .before .before .before .before .before .before .before .before .before .before .before .args in omega (arith, size-long (capacityOf (a .words .now)) (kindCapacityOf (a .words .now)) (a .words .now) (c .before .before .before .before .before .before .before .before .before .before .before .before .pre .size))
@@ -54,13 +55,13 @@ cast-are-own : tie.Need-cast-are-own
 cast-are-own c = omega (arith, c .before .before .before .before .before .before .before .before .before .before .before .shared-slice-known .given 2)
 
 are-own-requires : tie.Need-are-own-requires
-are-own-requires c κs = let a = c .before .before .before .before .before .before .before .before .before .before .before .before .args in let B : BlockSound (between 576 896 (a .words .now)) (between 32 160 (a .words .now)) (layoutFamilies (a .words .now)) (layoutGroups (a .words .now)) = granted {P = BlockSound (between 576 896 (a .words .now)) (between 32 160 (a .words .now)) (layoutFamilies (a .words .now)) (layoutGroups (a .words .now))} (c .before .before .before .before .before .block-ok .result) (c .before .before .before .before .before .block-ok .ensures) (c .before .before .before .before .if1 .left) in (own-room (a .words .now) (c .before .before .before .before .before .before .before .before .before .before .before .before .pre .size) (c .before .before .before .before .before .before .before .before .before .before .before .before .pre .parts) B (c .before .start-in .result) (c .before .start-in .ensures .is), (own-heads (a .words .now) (c .before .before .before .before .before .before .before .before .before .before .before .before .pre .size) (c .before .before .before .before .before .before .before .before .before .before .before .before .pre .parts) B (c .before .start-in .result) (c .before .start-in .ensures .is), (own-width (a .words .now) (c .before .before .before .before .before .before .before .before .before .before .before .before .pre .size) (c .before .before .before .before .before .before .before .before .before .before .before .before .pre .parts) B (c .before .start-in .result) (c .before .start-in .ensures .is), own-kinds (a .words .now) (c .before .before .before .before .before .before .before .before .before .before .before .before .pre .size) (c .before .before .before .before .before .before .before .before .before .before .before .before .pre .parts) B (c .before .start-in .result) (c .before .start-in .ensures .is))))
+are-own-requires c κs = let a = c .before .before .before .before .before .before .before .before .before .before .before .before .args in let B : BlockSound (between LAYOUT GROUP-FAMILIES (a .words .now)) (between TABLE STAGED-KINDS (a .words .now)) (layoutFamilies (a .words .now)) (layoutGroups (a .words .now)) = granted {P = BlockSound (between LAYOUT GROUP-FAMILIES (a .words .now)) (between TABLE STAGED-KINDS (a .words .now)) (layoutFamilies (a .words .now)) (layoutGroups (a .words .now))} (c .before .before .before .before .before .block-ok .result) (c .before .before .before .before .before .block-ok .ensures) (c .before .before .before .before .if1 .left) in (own-room (a .words .now) (c .before .before .before .before .before .before .before .before .before .before .before .before .pre .size) (c .before .before .before .before .before .before .before .before .before .before .before .before .pre .parts) B (c .before .start-in .result) (c .before .start-in .ensures .is), (own-heads (a .words .now) (c .before .before .before .before .before .before .before .before .before .before .before .before .pre .size) (c .before .before .before .before .before .before .before .before .before .before .before .before .pre .parts) B (c .before .start-in .result) (c .before .start-in .ensures .is), (own-width (a .words .now) (c .before .before .before .before .before .before .before .before .before .before .before .before .pre .size) (c .before .before .before .before .before .before .before .before .before .before .before .before .pre .parts) B (c .before .start-in .result) (c .before .start-in .ensures .is), own-kinds (a .words .now) (c .before .before .before .before .before .before .before .before .before .before .before .before .pre .size) (c .before .before .before .before .before .before .before .before .before .before .before .before .pre .parts) B (c .before .start-in .result) (c .before .start-in .ensures .is))))
 
 returns-3 : tie.Need-returns-3
-returns-3 c = let a = c .before .before .before .before .before .before .before .before .before .before .before .before .before .before .args in λ T. denied {P = Each (registeredOf (a .words .now)) (OwnOk (capacityOf (a .words .now)) (a .words .now) (between 576 (576 + c .before .before .before .start-in .result) (a .words .now)))} (c .before .are-own .result) (c .before .are-own .ensures) (c .if3 .taken) (subst (λ (x : ℕ). Each (registeredOf (a .words .now)) (OwnOk (capacityOf (a .words .now)) (a .words .now) (between 576 (576 + x) (a .words .now)))) (sym (c .before .before .before .start-in .ensures .is)) (T .own))
+returns-3 c = let a = c .before .before .before .before .before .before .before .before .before .before .before .before .before .before .args in λ T. denied {P = Each (registeredOf (a .words .now)) (OwnOk (capacityOf (a .words .now)) (a .words .now) (between LAYOUT (LAYOUT + c .before .before .before .start-in .result) (a .words .now)))} (c .before .are-own .result) (c .before .are-own .ensures) (c .if3 .taken) (subst (λ (x : ℕ). Each (registeredOf (a .words .now)) (OwnOk (capacityOf (a .words .now)) (a .words .now) (between LAYOUT (LAYOUT + x) (a .words .now)))) (sym (c .before .before .before .start-in .ensures .is)) (T .own))
 
 returns-4 : tie.Need-returns-4
-returns-4 c = let a = c .before .before .before .before .before .before .before .before .before .before .before .before .before .before .args in let B : BlockSound (between 576 896 (a .words .now)) (between 32 160 (a .words .now)) (layoutFamilies (a .words .now)) (layoutGroups (a .words .now)) = granted {P = BlockSound (between 576 896 (a .words .now)) (between 32 160 (a .words .now)) (layoutFamilies (a .words .now)) (layoutGroups (a .words .now))} (c .before .before .before .before .before .before .before .block-ok .result) (c .before .before .before .before .before .before .before .block-ok .ensures) (c .before .before .before .before .before .before .if1 .left) in record { block = B; heads = granted {P = Each (layoutGroups (a .words .now)) (HeadsOk (capacityOf (a .words .now)) (layoutFamilies (a .words .now)) (a .words .now))} (c .before .before .before .before .before .are-heads .result) (c .before .before .before .before .before .are-heads .ensures) (c .before .before .before .before .if2 .left); own = subst (λ (x : ℕ). Each (registeredOf (a .words .now)) (OwnOk (capacityOf (a .words .now)) (a .words .now) (between 576 (576 + x) (a .words .now)))) (c .before .before .before .start-in .ensures .is) (granted {P = Each (registeredOf (a .words .now)) (OwnOk (capacityOf (a .words .now)) (a .words .now) (between 576 (576 + c .before .before .before .start-in .result) (a .words .now)))} (c .before .are-own .result) (c .before .are-own .ensures) (c .if3 .left)) }
+returns-4 c = let a = c .before .before .before .before .before .before .before .before .before .before .before .before .before .before .args in let B : BlockSound (between LAYOUT GROUP-FAMILIES (a .words .now)) (between TABLE STAGED-KINDS (a .words .now)) (layoutFamilies (a .words .now)) (layoutGroups (a .words .now)) = granted {P = BlockSound (between LAYOUT GROUP-FAMILIES (a .words .now)) (between TABLE STAGED-KINDS (a .words .now)) (layoutFamilies (a .words .now)) (layoutGroups (a .words .now))} (c .before .before .before .before .before .before .before .block-ok .result) (c .before .before .before .before .before .before .before .block-ok .ensures) (c .before .before .before .before .before .before .if1 .left) in record { block = B; heads = granted {P = Each (layoutGroups (a .words .now)) (HeadsOk (capacityOf (a .words .now)) (layoutFamilies (a .words .now)) (a .words .now))} (c .before .before .before .before .before .are-heads .result) (c .before .before .before .before .before .are-heads .ensures) (c .before .before .before .before .if2 .left); own = subst (λ (x : ℕ). Each (registeredOf (a .words .now)) (OwnOk (capacityOf (a .words .now)) (a .words .now) (between LAYOUT (LAYOUT + x) (a .words .now)))) (c .before .before .before .start-in .ensures .is) (granted {P = Each (registeredOf (a .words .now)) (OwnOk (capacityOf (a .words .now)) (a .words .now) (between LAYOUT (LAYOUT + c .before .before .before .start-in .result) (a .words .now)))} (c .before .are-own .result) (c .before .are-own .ensures) (c .if3 .left)) }
 
 pub has-layout-spec : {M : Type 1} → statement M
 has-layout-spec =

@@ -1,6 +1,7 @@
 use Prim.Native.Nat.{_-_}
 use native.Mathlib.Omega.{arith}
 use borrow.Author.Needs.{needs}
+use Rattle.words.specs.Offsets.{DRAFT, EXCLUDED-KINDS, LAYOUT, STAGED-KINDS, TABLE}
 use Rattle.words.specs.Decides.{granted, denied}
 use Rattle.words.specs.Part.{between}
 use Rattle.layout_block.specs.Checks.{BlockSound}
@@ -13,13 +14,13 @@ cast-is-list : tie.Need-cast-is-list
 cast-is-list c = omega (arith, c .before .shared-slice-known .given 3)
 
 returns : tie.Need-returns
-returns c = let a = c .before .before .before .before .args in λ T. denied {P = ListOk (a .words .now) 160 (stagedLen (a .words .now))} (c .before .is-list .result) (c .before .is-list .ensures) (c .if1 .taken) (T .staged)
+returns c = let a = c .before .before .before .before .args in λ T. denied {P = ListOk (a .words .now) STAGED-KINDS (stagedLen (a .words .now))} (c .before .is-list .result) (c .before .is-list .ensures) (c .if1 .taken) (T .staged)
 
 cast-is-list-2 : tie.Need-cast-is-list-2
 cast-is-list-2 c = omega (arith, c .before .before .before .before .shared-slice-known .given 4)
 
 returns-2 : tie.Need-returns-2
-returns-2 c = let a = c .before .before .before .before .before .before .before .args in λ T. denied {P = ListOk (a .words .now) 240 (excludedLen (a .words .now))} (c .before .is-list2 .result) (c .before .is-list2 .ensures) (c .if2 .taken) (T .excluded)
+returns-2 c = let a = c .before .before .before .before .before .before .before .args in λ T. denied {P = ListOk (a .words .now) EXCLUDED-KINDS (excludedLen (a .words .now))} (c .before .is-list2 .result) (c .before .is-list2 .ensures) (c .if2 .taken) (T .excluded)
 
 cast-families : tie.Need-cast-families
 cast-families c = omega (arith, c .before .before .before .before .before .before .before .shared-slice-known .given 5)
@@ -28,10 +29,10 @@ cast-groups : tie.Need-cast-groups
 cast-groups c = omega (arith, c .before .before .before .before .before .before .before .before .shared-slice-known .given 6)
 
 returns-3 : tie.Need-returns-3
-returns-3 c = let a = c .before .before .before .before .before .before .before .before .before .before .before .before .before .args in λ T. denied {P = BlockSound (between 256 576 (a .words .now)) (between 32 160 (a .words .now)) (draftFamilies (a .words .now)) (draftGroups (a .words .now))} (c .before .block-ok .result) (c .before .block-ok .ensures) (c .if3 .taken) (T .draft)
+returns-3 c = let a = c .before .before .before .before .before .before .before .before .before .before .before .before .before .args in λ T. denied {P = BlockSound (between DRAFT LAYOUT (a .words .now)) (between TABLE STAGED-KINDS (a .words .now)) (draftFamilies (a .words .now)) (draftGroups (a .words .now))} (c .before .block-ok .result) (c .before .block-ok .ensures) (c .if3 .taken) (T .draft)
 
 returns-4 : tie.Need-returns-4
-returns-4 c = let a = c .before .before .before .before .before .before .before .before .before .before .before .before .before .args in record { staged = granted {P = ListOk (a .words .now) 160 (stagedLen (a .words .now))} (c .before .before .before .before .before .before .before .before .before .before .is-list .result) (c .before .before .before .before .before .before .before .before .before .before .is-list .ensures) (c .before .before .before .before .before .before .before .before .before .if1 .left); excluded = granted {P = ListOk (a .words .now) 240 (excludedLen (a .words .now))} (c .before .before .before .before .before .before .before .is-list2 .result) (c .before .before .before .before .before .before .before .is-list2 .ensures) (c .before .before .before .before .before .before .if2 .left); draft = granted {P = BlockSound (between 256 576 (a .words .now)) (between 32 160 (a .words .now)) (draftFamilies (a .words .now)) (draftGroups (a .words .now))} (c .before .block-ok .result) (c .before .block-ok .ensures) (c .if3 .left) }
+returns-4 c = let a = c .before .before .before .before .before .before .before .before .before .before .before .before .before .args in record { staged = granted {P = ListOk (a .words .now) STAGED-KINDS (stagedLen (a .words .now))} (c .before .before .before .before .before .before .before .before .before .before .is-list .result) (c .before .before .before .before .before .before .before .before .before .before .is-list .ensures) (c .before .before .before .before .before .before .before .before .before .if1 .left); excluded = granted {P = ListOk (a .words .now) EXCLUDED-KINDS (excludedLen (a .words .now))} (c .before .before .before .before .before .before .before .is-list2 .result) (c .before .before .before .before .before .before .before .is-list2 .ensures) (c .before .before .before .before .before .before .if2 .left); draft = granted {P = BlockSound (between DRAFT LAYOUT (a .words .now)) (between TABLE STAGED-KINDS (a .words .now)) (draftFamilies (a .words .now)) (draftGroups (a .words .now))} (c .before .block-ok .result) (c .before .block-ok .ensures) (c .if3 .left) }
 
 pub has-lists-spec : {M : Type 1} → statement M
 has-lists-spec =

@@ -2,7 +2,7 @@
 use Prim.Native.Nat.{_+_}
 use native.Mathlib.Omega.{arith}
 use borrow.Author.Needs.{needs}
-use Rattle.words.specs.Offsets.{columnStart-fits}
+use Rattle.words.specs.Offsets.{columnStart-fits, TABLE}
 use Rattle.kinds.proofs.Slot.{known-small, known-slot, header-long}
 use Rattle.store.proofs.Columns.{rows-few, row-start-small, value-place, entity-place}
 use Rattle.store.proofs.row_start.Statement.{statement}
@@ -17,7 +17,7 @@ add-word c = let s = c .before .before in omega (arith, known-small (s .args .wo
 word-requires-2 : tie.Need-word-requires-2
 word-requires-2 c κs =
     let s = c .before .before in
-    header-long (s .args .words .now) (s .pre .0) (32 + s .args .kind) (omega (arith, known-small (s .args .words .now) (s .pre .0) (s .args .kind) (s .pre .1 .0)))
+    header-long (s .args .words .now) (s .pre .0) (TABLE + s .args .kind) (omega (arith, known-small (s .args .words .now) (s .pre .0) (s .args .kind) (s .pre .1 .0)))
 
 column-start-requires : tie.Need-column-start-requires
 column-start-requires c κs =

@@ -39,7 +39,7 @@ drop-spec =
     returns
     (λ c κs. c .before .before .before .before .before .before .before .pre .sound)
     (λ c κs. c .before .before .before .delete .ensures .arranged)
-    (λ c κs. search needs)
+    (λ c κs. omega (arith, c .before .before .before .before .before .before .before .before .before .before .before .before .before .before .before .pre .room))
     (λ c. search needs)
     (λ c. c .before .before .ack .kept .0)
     returns-2)

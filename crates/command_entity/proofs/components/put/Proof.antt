@@ -44,7 +44,7 @@ put-spec =
     returns
     insert-requires
     (λ c κs. c .before .before .before .insert .ensures .arranged)
-    (λ c κs. search needs)
+    (λ c κs. omega (arith, c .before .before .before .before .before .before .before .before .before .before .before .before .before .before .before .pre .room))
     (λ c. search needs)
     (λ c. c .before .before .ack .kept .0)
     returns-2)

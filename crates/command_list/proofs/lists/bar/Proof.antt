@@ -1,3 +1,4 @@
+use Rattle.model.specs.Numbers.{LIST-CAPACITY}
 use Rattle.command.proofs.Acts.{refused-by, accepted-by}
 use Rattle.command_list.proofs.Known.{known-small}
 use Rattle.memory.specs.Meaning.{meaning}
@@ -27,8 +28,8 @@ refuse-requires-3 c κs = (c .before .before .before .before .before .before .be
 
 returns-3 : tie.Need-returns-3
 returns-3 c = let a = c .before .before .before .before .before .before .before .before .before .before .before .before .before .before .before .before .before .before .args in
-    let h : 16 ≤ length (meaning (a .words .now) .control .excluded) = omega (arith, c .before .before .before .before .before .before .before .if3 .taken, c .before .before .before .before .before .before .before .before .excluded-len .ensures .is) in
-    refused-by (bar-full (meaning (a .words .now)) (a .kind) (sym (c .before .before .before .before .before .before .before .before .before .before .before .before .before .before .is-unknown .ensures) ∙ c .before .before .before .before .before .before .before .before .before .before .before .before .before .if1 .left) (sym (c .before .before .before .before .before .before .before .before .before .before .before .is-excluded .ensures) ∙ c .before .before .before .before .before .before .before .before .before .before .if2 .left) (le-leb 16 _ h)) (c .before .before .before .before .refuse3 .ensures)
+    let h : LIST-CAPACITY ≤ length (meaning (a .words .now) .control .excluded) = omega (arith, c .before .before .before .before .before .before .before .if3 .taken, c .before .before .before .before .before .before .before .before .excluded-len .ensures .is) in
+    refused-by (bar-full (meaning (a .words .now)) (a .kind) (sym (c .before .before .before .before .before .before .before .before .before .before .before .before .before .before .is-unknown .ensures) ∙ c .before .before .before .before .before .before .before .before .before .before .before .before .before .if1 .left) (sym (c .before .before .before .before .before .before .before .before .before .before .before .is-excluded .ensures) ∙ c .before .before .before .before .before .before .before .before .before .before .if2 .left) (le-leb LIST-CAPACITY _ h)) (c .before .before .before .before .refuse3 .ensures)
 
 exclude-requires : tie.Need-exclude-requires
 exclude-requires c κs = let a = c .before .before .before .before .before .before .before .before .before .before .before .before .args in
@@ -36,8 +37,8 @@ exclude-requires c κs = let a = c .before .before .before .before .before .befo
 
 returns-4 : tie.Need-returns-4
 returns-4 c = let a = c .before .before .before .before .before .before .before .before .before .before .before .before .before .before .before .before .before .before .before .args in
-    let h : length (meaning (a .words .now) .control .excluded) < 16 = omega (arith, c .before .before .before .before .before .before .before .before .if3 .left, c .before .before .before .before .before .before .before .before .before .excluded-len .ensures .is) in
-    accepted-by (bar-excluded (meaning (a .words .now)) (a .kind) (sym (c .before .before .before .before .before .before .before .before .before .before .before .before .before .before .before .is-unknown .ensures) ∙ c .before .before .before .before .before .before .before .before .before .before .before .before .before .before .if1 .left) (sym (c .before .before .before .before .before .before .before .before .before .before .before .before .is-excluded .ensures) ∙ c .before .before .before .before .before .before .before .before .before .before .before .if2 .left) (lt-leb 16 _ h)) (c .before .before .before .before .before .before .exclude .ensures) (c .before .before .ack .ensures)
+    let h : length (meaning (a .words .now) .control .excluded) < LIST-CAPACITY = omega (arith, c .before .before .before .before .before .before .before .before .if3 .left, c .before .before .before .before .before .before .before .before .before .excluded-len .ensures .is) in
+    accepted-by (bar-excluded (meaning (a .words .now)) (a .kind) (sym (c .before .before .before .before .before .before .before .before .before .before .before .before .before .before .before .is-unknown .ensures) ∙ c .before .before .before .before .before .before .before .before .before .before .before .before .before .before .if1 .left) (sym (c .before .before .before .before .before .before .before .before .before .before .before .before .is-excluded .ensures) ∙ c .before .before .before .before .before .before .before .before .before .before .before .if2 .left) (lt-leb LIST-CAPACITY _ h)) (c .before .before .before .before .before .before .exclude .ensures) (c .before .before .ack .ensures)
 
 pub bar-spec : {M : Type 1} → statement M
 bar-spec =

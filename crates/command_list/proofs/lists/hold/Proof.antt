@@ -1,3 +1,4 @@
+use Rattle.model.specs.Numbers.{LIST-CAPACITY}
 use Rattle.command.proofs.Acts.{refused-by, accepted-by}
 use Rattle.command_list.proofs.Known.{known-small}
 use Rattle.memory.specs.Meaning.{meaning}
@@ -28,8 +29,8 @@ refuse-requires-3 c κs = (c .before .before .before .before .before .before .be
 
 returns-3 : tie.Need-returns-3
 returns-3 c = let a = c .before .before .before .before .before .before .before .before .before .before .before .before .before .before .before .before .before .before .args in
-    let h : 16 ≤ length (meaning (a .words .now) .control .staged) = omega (arith, c .before .before .before .before .before .before .before .if3 .taken, c .before .before .before .before .before .before .before .before .staged-len .ensures .is) in
-    refused-by (hold-full (meaning (a .words .now)) (a .kind) (valueOf (a .low) (a .high)) (sym (c .before .before .before .before .before .before .before .before .before .before .before .before .before .before .is-unknown .ensures) ∙ c .before .before .before .before .before .before .before .before .before .before .before .before .before .if1 .left) (sym (c .before .before .before .before .before .before .before .before .before .before .before .is-staged .ensures) ∙ c .before .before .before .before .before .before .before .before .before .before .if2 .left) (le-leb 16 _ h)) (c .before .before .before .before .refuse3 .ensures)
+    let h : LIST-CAPACITY ≤ length (meaning (a .words .now) .control .staged) = omega (arith, c .before .before .before .before .before .before .before .if3 .taken, c .before .before .before .before .before .before .before .before .staged-len .ensures .is) in
+    refused-by (hold-full (meaning (a .words .now)) (a .kind) (valueOf (a .low) (a .high)) (sym (c .before .before .before .before .before .before .before .before .before .before .before .before .before .before .is-unknown .ensures) ∙ c .before .before .before .before .before .before .before .before .before .before .before .before .before .if1 .left) (sym (c .before .before .before .before .before .before .before .before .before .before .before .is-staged .ensures) ∙ c .before .before .before .before .before .before .before .before .before .before .if2 .left) (le-leb LIST-CAPACITY _ h)) (c .before .before .before .before .refuse3 .ensures)
 
 stage-requires : tie.Need-stage-requires
 stage-requires c κs = let a = c .before .before .before .before .before .before .before .before .before .before .before .before .args in
@@ -37,8 +38,8 @@ stage-requires c κs = let a = c .before .before .before .before .before .before
 
 returns-4 : tie.Need-returns-4
 returns-4 c = let a = c .before .before .before .before .before .before .before .before .before .before .before .before .before .before .before .before .before .before .before .args in
-    let h : length (meaning (a .words .now) .control .staged) < 16 = omega (arith, c .before .before .before .before .before .before .before .before .if3 .left, c .before .before .before .before .before .before .before .before .before .staged-len .ensures .is) in
-    accepted-by (hold-staged (meaning (a .words .now)) (a .kind) (valueOf (a .low) (a .high)) (sym (c .before .before .before .before .before .before .before .before .before .before .before .before .before .before .before .is-unknown .ensures) ∙ c .before .before .before .before .before .before .before .before .before .before .before .before .before .before .if1 .left) (sym (c .before .before .before .before .before .before .before .before .before .before .before .before .is-staged .ensures) ∙ c .before .before .before .before .before .before .before .before .before .before .before .if2 .left) (lt-leb 16 _ h)) (c .before .before .before .before .before .before .stage .ensures) (c .before .before .ack .ensures)
+    let h : length (meaning (a .words .now) .control .staged) < LIST-CAPACITY = omega (arith, c .before .before .before .before .before .before .before .before .if3 .left, c .before .before .before .before .before .before .before .before .before .staged-len .ensures .is) in
+    accepted-by (hold-staged (meaning (a .words .now)) (a .kind) (valueOf (a .low) (a .high)) (sym (c .before .before .before .before .before .before .before .before .before .before .before .before .before .before .before .is-unknown .ensures) ∙ c .before .before .before .before .before .before .before .before .before .before .before .before .before .before .if1 .left) (sym (c .before .before .before .before .before .before .before .before .before .before .before .before .is-staged .ensures) ∙ c .before .before .before .before .before .before .before .before .before .before .before .if2 .left) (lt-leb LIST-CAPACITY _ h)) (c .before .before .before .before .before .before .stage .ensures) (c .before .before .ack .ensures)
 
 pub hold-spec : {M : Type 1} → statement M
 hold-spec =

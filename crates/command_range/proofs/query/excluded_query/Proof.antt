@@ -3,6 +3,7 @@ use mathlib.Core.List.{List}
 use Prim.Native.Nat.{ℕ, _+_}
 use native.Mathlib.Omega.{arith}
 use borrow.Author.Needs.{needs}
+use Rattle.words.specs.Offsets.{EXCLUDED-KINDS}
 use Rattle.words.specs.Part.{between}
 use Rattle.memory.proofs.Frames.{long}
 use Rattle.control.proofs.Control.{excluded-kinds}
@@ -21,7 +22,7 @@ returns : tie.Need-returns
 returns c =
     let s = c .before .before .before in
     let w = s .args .words .now in
-    subst (λ (hs : List ℕ). QueryOf w hs (c .query-of .result)) (ap (λ (n : ℕ). between 240 (240 + n) w) (c .before .word .ensures .is) ∙ sym (excluded-kinds w (s .pre .arranged))) (c .query-of .ensures)
+    subst (λ (hs : List ℕ). QueryOf w hs (c .query-of .result)) (ap (λ (n : ℕ). between EXCLUDED-KINDS (EXCLUDED-KINDS + n) w) (c .before .word .ensures .is) ∙ sym (excluded-kinds w (s .pre .arranged))) (c .query-of .ensures)
 
 pub excluded-query-spec : {M : Type 1} → statement M
 excluded-query-spec = tie.close (tie.spec word-requires (λ c. search needs) query-of-requires returns)

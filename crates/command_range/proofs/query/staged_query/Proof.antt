@@ -3,6 +3,7 @@ use mathlib.Core.List.{List}
 use Prim.Native.Nat.{ℕ, _+_}
 use native.Mathlib.Omega.{arith}
 use borrow.Author.Needs.{needs}
+use Rattle.words.specs.Offsets.{STAGED-KINDS}
 use Rattle.words.specs.Part.{between}
 use Rattle.memory.proofs.Frames.{long}
 use Rattle.control.proofs.Control.{staged-kinds}
@@ -21,7 +22,7 @@ returns : tie.Need-returns
 returns c =
     let s = c .before .before .before in
     let w = s .args .words .now in
-    subst (λ (hs : List ℕ). QueryOf w hs (c .query-of .result)) (ap (λ (n : ℕ). between 160 (160 + n) w) (c .before .word .ensures .is) ∙ sym (staged-kinds w (s .pre .arranged))) (c .query-of .ensures)
+    subst (λ (hs : List ℕ). QueryOf w hs (c .query-of .result)) (ap (λ (n : ℕ). between STAGED-KINDS (STAGED-KINDS + n) w) (c .before .word .ensures .is) ∙ sym (staged-kinds w (s .pre .arranged))) (c .query-of .ensures)
 
 pub staged-query-spec : {M : Type 1} → statement M
 staged-query-spec = tie.close (tie.spec word-requires (λ c. search needs) query-of-requires returns)

@@ -1,6 +1,7 @@
 use borrow.Author.Needs.{needs}
 use Prim.Native.Nat.{_+_, _*_, _-_}
 use native.Mathlib.Omega.{arith}
+use Rattle.words.specs.Offsets.{ROWS}
 use Rattle.component.proofs.Places.{finds-at, finds-nothing, finds-beyond, finds-unissued}
 use Rattle.component.proofs.sparse_vec.find.Statement.{statement}
 use Rattle.component.proofs.sparse_vec.find.Tie as tie
@@ -24,7 +25,7 @@ returns-3 c =
     finds-nothing (a .n) (a .part .now) (s .pre) (a .index) (a .version) (omega arith)
 
 cast-t11 : tie.Need-cast-t11
-cast-t11 c = let a = c .before .before .before .before .before .args in omega (arith, c .shared-slice-known2 .given (8 + 4 * a .n + 2 * a .index))
+cast-t11 c = let a = c .before .before .before .before .before .args in omega (arith, c .shared-slice-known2 .given (ROWS + 4 * a .n + 2 * a .index))
 
 returns-4 : tie.Need-returns-4
 returns-4 c =

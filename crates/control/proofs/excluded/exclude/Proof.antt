@@ -2,6 +2,8 @@ use Prim.Native.Nat.{_<_, _≤_}
 use native.Mathlib.Omega.{arith}
 use lib.ListN.{length, length-set}
 use borrow.Author.Needs.{needs}
+use Rattle.model.specs.Numbers.{LIST-CAPACITY}
+use Rattle.words.specs.Offsets.{ENTITIES}
 use Rattle.memory.specs.Header.{excludedLen}
 use Rattle.memory.proofs.Frames.{long}
 use Rattle.control.proofs.Control.{excluded-length, exclude-becomes}
@@ -9,7 +11,7 @@ use Rattle.control.proofs.excluded.exclude.Statement.{statement}
 use Rattle.control.proofs.excluded.exclude.Tie as tie
 
 -- there is room for one more, in the header
-inside : (s : tie.Start) → (excludedLen (s .args .words .now) < 16) × (1024 ≤ length (s .args .words .now))
+inside : (s : tie.Start) → (excludedLen (s .args .words .now) < LIST-CAPACITY) × (ENTITIES ≤ length (s .args .words .now))
 inside s = (omega (arith, excluded-length (s .args .words .now), s .pre .1), long (s .args .words .now) (s .pre .0))
 
 slice-read-count : tie.Need-slice-read-count

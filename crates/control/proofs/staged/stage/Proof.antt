@@ -2,6 +2,8 @@ use Prim.Native.Nat.{_<_, _≤_}
 use native.Mathlib.Omega.{arith}
 use lib.ListN.{length, length-set}
 use borrow.Author.Needs.{needs}
+use Rattle.model.specs.Numbers.{LIST-CAPACITY}
+use Rattle.words.specs.Offsets.{ENTITIES}
 use Rattle.memory.specs.Header.{stagedLen}
 use Rattle.memory.proofs.Frames.{long}
 use Rattle.control.proofs.Control.{staged-length, stage-becomes}
@@ -9,7 +11,7 @@ use Rattle.control.proofs.staged.stage.Statement.{statement}
 use Rattle.control.proofs.staged.stage.Tie as tie
 
 -- there is room for one more, in the header
-inside : (s : tie.Start) → (stagedLen (s .args .words .now) < 16) × (1024 ≤ length (s .args .words .now))
+inside : (s : tie.Start) → (stagedLen (s .args .words .now) < LIST-CAPACITY) × (ENTITIES ≤ length (s .args .words .now))
 inside s = (omega (arith, staged-length (s .args .words .now), s .pre .1), long (s .args .words .now) (s .pre .0))
 
 slice-read-count : tie.Need-slice-read-count

@@ -3,6 +3,8 @@ use mathlib.Core.List.{List}
 use Prim.Native.Nat.{ℕ, _+_, _≤_, _<_}
 use native.Mathlib.Omega.{arith}
 use lib.ListN.{length}
+use Rattle.model.specs.Numbers.{LIST-CAPACITY}
+use Rattle.words.specs.Offsets.{ENTITIES, STAGED-KINDS}
 use Rattle.memory.specs.Meaning.{meaning}
 use Rattle.memory.specs.Arranged.{Arranged}
 use Rattle.memory.proofs.Frames.{long}
@@ -11,7 +13,7 @@ use Rattle.control.proofs.staged.staged_at.Statement.{statement}
 use Rattle.control.proofs.staged.staged_at.Tie as tie
 
 -- place i of the list is in the header
-inside : (w : List ℕ) (i : ℕ) → Arranged w → i < length (meaning w .control .staged) → (i < 16) × (1024 ≤ length w)
+inside : (w : List ℕ) (i : ℕ) → Arranged w → i < length (meaning w .control .staged) → (i < LIST-CAPACITY) × (ENTITIES ≤ length w)
 inside w i A h = (omega (arith, staged-few w A), long w A)
 
 mul-at : tie.Need-mul-at
@@ -45,7 +47,7 @@ shared-slice-read-t15 : tie.Need-shared-slice-read-t15
 shared-slice-read-t15 c = let s = c .before .before .before in omega (arith, inside (s .args .words .now) (s .args .i) (s .pre .0) (s .pre .1))
 
 cast-t8 : tie.Need-cast-t8
-cast-t8 c = omega (arith, c .shared-slice-known .given (160 + c .before .args .i))
+cast-t8 c = omega (arith, c .shared-slice-known .given (STAGED-KINDS + c .before .args .i))
 
 returns : tie.Need-returns
 returns c = let s = c .before .before .before in sym (staged-read (s .args .words .now) (s .args .i) (s .pre .1))

@@ -1,5 +1,7 @@
 use Prim.Native.Nat.{_+_, _≤_, _<_}
 use native.Mathlib.Omega.{arith}
+use Rattle.model.specs.Numbers.{MAX-GROUP-COUNT, MAX-KINDS}
+use Rattle.words.specs.Offsets.{GROUP-FAMILIES, LAYOUT-ARITIES}
 use Rattle.kinds.proofs.Slot.{header-long}
 use Rattle.group.proofs.InWords.{group-few, family-few, read-small, read-describes}
 use Rattle.group.proofs.group_metadata.metadata.Statement.{statement}
@@ -9,10 +11,10 @@ add-word : tie.Need-add-word
 add-word c = let s = c .before in omega (arith, group-few (s .args .words .now) (s .pre .0) (s .args .g) (s .pre .1))
 
 word-requires : tie.Need-word-requires
-word-requires c κs = let s = c .before in header-long (s .args .words .now) (s .pre .0) (896 + s .args .g) (omega (arith, group-few (s .args .words .now) (s .pre .0) (s .args .g) (s .pre .1)))
+word-requires c κs = let s = c .before in header-long (s .args .words .now) (s .pre .0) (GROUP-FAMILIES + s .args .g) (omega (arith, group-few (s .args .words .now) (s .pre .0) (s .args .g) (s .pre .1)))
 
 -- the family's number is small
-few : (c : tie.After-word) → c .word .result < 63
+few : (c : tie.After-word) → c .word .result < MAX-GROUP-COUNT
 few c = let s = c .before .before in omega (arith, c .word .ensures .is, family-few (s .args .words .now) (s .pre .0) (s .args .g) (s .pre .1))
 
 start-of-requires : tie.Need-start-of-requires
@@ -31,7 +33,7 @@ add-word-3 : tie.Need-add-word-3
 add-word-3 c = let s = c .before .before .before .before .before in omega (arith, group-few (s .args .words .now) (s .pre .0) (s .args .g) (s .pre .1))
 
 word-requires-3 : tie.Need-word-requires-3
-word-requires-3 c κs = let s = c .before .before .before .before .before in header-long (s .args .words .now) (s .pre .0) (704 + s .args .g) (omega (arith, group-few (s .args .words .now) (s .pre .0) (s .args .g) (s .pre .1)))
+word-requires-3 c κs = let s = c .before .before .before .before .before in header-long (s .args .words .now) (s .pre .0) (LAYOUT-ARITIES + s .args .g) (omega (arith, group-few (s .args .words .now) (s .pre .0) (s .args .g) (s .pre .1)))
 
 prior-arity-requires : tie.Need-prior-arity-requires
 prior-arity-requires c κs =
@@ -39,7 +41,7 @@ prior-arity-requires c κs =
     (omega (arith, group-few (s .args .words .now) (s .pre .0) (s .args .g) (s .pre .1)), omega (arith, header-long (s .args .words .now) (s .pre .0) 1023 (omega arith)))
 
 -- sums of what was read
-small : (c : tie.After-prior-arity) → (c .before .before .before .before .start-of .result + c .before .word3 .result ≤ 128) × (c .prior-arity .result < c .before .word3 .result)
+small : (c : tie.After-prior-arity) → (c .before .before .before .before .start-of .result + c .before .word3 .result ≤ MAX-KINDS) × (c .prior-arity .result < c .before .word3 .result)
 small c =
     let s = c .before .before .before .before .before .before .before in
     read-small (s .args .words .now) (s .pre .0) (s .args .g) (s .pre .1)

@@ -4,13 +4,14 @@ use native.Mathlib.Omega.{arith}
 use borrow.Author.Needs.{needs}
 use borrow.Author.Tests.{lt-ltb, le-ltb}
 use lib.ListN.{getD}
+use Rattle.words.specs.Offsets.{LAYOUT-ARITIES}
 use Rattle.group.proofs.group_metadata.prior_arity.Statement.{statement}
 use Rattle.group.proofs.group_metadata.prior_arity.Tie as tie
 
 returns : tie.Need-returns
 returns c =
     let a = c .before .before .before .args in
-    let e : 704 + (a .g - 1) ≡ 703 + a .g = omega arith in
+    let e : LAYOUT-ARITIES + (a .g - 1) ≡ 703 + a .g = omega arith in
     rw (lt-ltb (a .first) (a .g) (c .before .if1 .taken)) (c .word .ensures .is ∙ ap (λ (i : ℕ). getD (a .words .now) i 0) e)
 
 returns-2 : tie.Need-returns-2

@@ -3,6 +3,7 @@ use mathlib.Core.Path.{_≡_, _∙_, sym, ap, subst}
 use Prim.Native.Nat.{ℕ, _-_}
 use lib.ListN.{length, getD}
 use lib.Seq.{length-take-le}
+use Rattle.model.specs.Numbers.{LIST-CAPACITY}
 use Rattle.words.specs.Part.{between}
 use Rattle.layout.specs.Layout.{arraysOf, Sized}
 use Rattle.model.specs.Model.{without}
@@ -41,12 +42,12 @@ missing-requires c κs = omega (arith, c .before .before .before .before .before
 
 array-share-prefix-more : tie.Need-array-share-prefix-more
 array-share-prefix-more c =
-    let e : length (c .before .missing .result .kinds) ≡ 16 = search needs in
+    let e : length (c .before .missing .result .kinds) ≡ LIST-CAPACITY = search needs in
     omega (arith, c .before .missing .ensures .1, c .before .before .before .before .before .before .before .before .before .pre .group .most)
 
 slice-aggregate-extended : tie.Need-slice-aggregate-extended
 slice-aggregate-extended c =
-    let e : length (c .before .before .missing .result .kinds) ≡ 16 = search needs in
+    let e : length (c .before .before .missing .result .kinds) ≡ LIST-CAPACITY = search needs in
     sym (length-take-le _ _ (omega (arith, c .before .before .missing .ensures .1, c .before .before .before .before .before .before .before .before .before .before .pre .group .most)))
 
 cast-extended : tie.Need-cast-extended

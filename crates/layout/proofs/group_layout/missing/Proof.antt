@@ -4,6 +4,7 @@ use Prim.Native.Nat.{_+_, _≤_, _-_}
 use mathlib.Core.Logic.{⊎-elim}
 use borrow.Author.Tests.{not-true, not-false}
 use lib.ListN.{length, take, drop, length-set}
+use Rattle.model.specs.Numbers.{LIST-CAPACITY}
 use Rattle.model.specs.Model.{without}
 use Rattle.layout.proofs.Append.{without-held, without-new, without-end}
 use native.Mathlib.Omega.{arith}
@@ -12,7 +13,7 @@ use Rattle.layout.proofs.group_layout.missing.Statement.{statement}
 use Rattle.layout.proofs.group_layout.missing.Tie as tie
 
 abbrev Inv-loop : tie.InvT-loop
-Inv-loop ks staged kinds₀ n₀ i₀ i-end kinds n i = (i ≤ length staged) × (n ≤ i) × (length kinds ≡ 16) × (without staged ks ≡ take n kinds ++ without (drop i staged) ks)
+Inv-loop ks staged kinds₀ n₀ i₀ i-end kinds n i = (i ≤ length staged) × (n ≤ i) × (length kinds ≡ LIST-CAPACITY) × (without staged ks ≡ take n kinds ++ without (drop i staged) ks)
 
 abbrev μ-loop : tie.MeasureT-loop
 μ-loop ks staged kinds₀ n₀ i₀ i-end kinds n i = length staged - i

@@ -4,29 +4,31 @@ use Prim.Native.Nat.{ℕ, _≤_, _-_}
 use native.Mathlib.Omega.{arith}
 use borrow.Author.Needs.{needs}
 use lib.ListN.{length, length-set, getD-replicate}
+use Rattle.model.specs.Numbers.{MAX-KINDS}
+use Rattle.words.specs.Offsets.{STAGED-KINDS, UNREGISTERED}
 use Rattle.memory.specs.Fresh.{Tabled}
 use Rattle.memory.proofs.Steps.{tabled-none, tabled-step}
 use Rattle.memory.proofs.empty.put_table.Statement.{statement}
 use Rattle.memory.proofs.empty.put_table.Tie as tie
 
 abbrev Inv-loop : tie.InvT-loop
-Inv-loop words₀ table k₀ words k = (k ≤ 128) × (160 ≤ length words) × Tabled words₀ k words
+Inv-loop words₀ table k₀ words k = (k ≤ MAX-KINDS) × (STAGED-KINDS ≤ length words) × Tabled words₀ k words
 
 abbrev μ-loop : tie.MeasureT-loop
-μ-loop words₀ table k₀ words k = 128 - k
+μ-loop words₀ table k₀ words k = MAX-KINDS - k
 
 loop-again : tie.Need-loop-again Inv-loop μ-loop
 loop-again c =
     let i = c .before .loop .inv in
     let k = c .before .loop .k in
-    (omega arith, simp length-set (i .1), tabled-step (c .before .before .args .words .now) (c .before .loop .words) k _ (i .2) (omega arith) (getD-replicate 128 k 255 0 (omega arith)))
+    (omega arith, simp length-set (i .1), tabled-step (c .before .before .args .words .now) (c .before .loop .words) k _ (i .2) (omega arith) (getD-replicate MAX-KINDS k UNREGISTERED 0 (omega arith)))
 
 same-length : tie.Need-same-length Inv-loop μ-loop
 same-length c = c .before .loop .inv .2 .size
 
 returns : tie.Need-returns Inv-loop μ-loop
 returns c =
-    let e : c .before .loop .k ≡ 128 = omega arith in
+    let e : c .before .loop .k ≡ MAX-KINDS = omega arith in
     subst (λ (k : ℕ). Tabled (c .before .before .args .words .now) k (c .before .loop .words)) e (c .before .loop .inv .2)
 
 pub put-table-spec : {M : Type 1} → statement M

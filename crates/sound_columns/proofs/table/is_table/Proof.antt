@@ -1,5 +1,6 @@
 use Prim.Native.Nat.{_-_}
 use native.Mathlib.Omega.{arith}
+use Rattle.model.specs.Numbers.{MAX-KINDS}
 use Rattle.words.specs.Decides.{granted, denied, Each}
 use Rattle.sound_columns.proofs.SlotLaws.{room-long, room-less}
 use Rattle.memory.specs.Header.{registeredOf}
@@ -18,7 +19,7 @@ kinds-ok-requires : tie.Need-kinds-ok-requires
 kinds-ok-requires c κs = let a = c .before .before .before .args in room-less (a .n) (a .k) (a .words .now) (c .before .before .before .pre) (registeredOf (a .words .now)) (omega arith)
 
 returns-2 : tie.Need-returns-2
-returns-2 c = let a = c .before .before .before .before .before .args in λ T. denied {P = Each 128 (KindOk (a .n) (registeredOf (a .words .now)) (a .words .now))} (c .before .kinds-ok .result) (c .before .kinds-ok .ensures) (c .if2 .taken) (T .kinds)
+returns-2 c = let a = c .before .before .before .before .before .args in λ T. denied {P = Each MAX-KINDS (KindOk (a .n) (registeredOf (a .words .now)) (a .words .now))} (c .before .kinds-ok .result) (c .before .kinds-ok .ensures) (c .if2 .taken) (T .kinds)
 
 slots-ok-requires : tie.Need-slots-ok-requires
 slots-ok-requires c κs = let a = c .before .before .before .before .before .args in room-less (a .n) (a .k) (a .words .now) (c .before .before .before .before .before .pre) (registeredOf (a .words .now)) (omega arith)
@@ -27,7 +28,7 @@ returns-3 : tie.Need-returns-3
 returns-3 c = let a = c .before .before .before .before .before .before .before .args in λ T. denied {P = Each (registeredOf (a .words .now)) (SlotOk (a .n) (a .words .now))} (c .before .slots-ok .result) (c .before .slots-ok .ensures) (c .if3 .taken) (T .slots)
 
 returns-4 : tie.Need-returns-4
-returns-4 c = let a = c .before .before .before .before .before .before .before .args in record { few = omega (arith, c .before .before .before .before .if1 .left); kinds = granted {P = Each 128 (KindOk (a .n) (registeredOf (a .words .now)) (a .words .now))} (c .before .before .before .kinds-ok .result) (c .before .before .before .kinds-ok .ensures) (c .before .before .if2 .left); slots = granted {P = Each (registeredOf (a .words .now)) (SlotOk (a .n) (a .words .now))} (c .before .slots-ok .result) (c .before .slots-ok .ensures) (c .if3 .left) }
+returns-4 c = let a = c .before .before .before .before .before .before .before .args in record { few = omega (arith, c .before .before .before .before .if1 .left); kinds = granted {P = Each MAX-KINDS (KindOk (a .n) (registeredOf (a .words .now)) (a .words .now))} (c .before .before .before .kinds-ok .result) (c .before .before .before .kinds-ok .ensures) (c .before .before .if2 .left); slots = granted {P = Each (registeredOf (a .words .now)) (SlotOk (a .n) (a .words .now))} (c .before .slots-ok .result) (c .before .slots-ok .ensures) (c .if3 .left) }
 
 pub is-table-spec : {M : Type 1} → statement M
 is-table-spec =

@@ -1,6 +1,7 @@
 use mathlib.Core.Path.{_∙_}
 use Prim.Native.Nat.{_+_, _-_}
 use native.Mathlib.Omega.{arith}
+use Rattle.words.specs.Offsets.{TABLE}
 use Rattle.sound_columns.proofs.SlotLaws.{slot-of, room-long}
 use Rattle.memory.specs.Header.{slotOf}
 use borrow.Author.Needs.{needs}
@@ -11,7 +12,7 @@ shared-slice-read-s : tie.Need-shared-slice-read-s
 shared-slice-read-s c = let a = c .before .before .args in omega (arith, room-long (a .n) (a .registered) (a .words .now) (c .before .before .pre .0))
 
 cast-s : tie.Need-cast-s
-cast-s c = let a = c .before .before .args in omega (arith, c .before .shared-slice-known .given (32 + a .kind))
+cast-s c = let a = c .before .before .args in omega (arith, c .before .shared-slice-known .given (TABLE + a .kind))
 
 returns-2 : tie.Need-returns-2
 returns-2 c = λ K. let x = K .slot (c .before .if1 .left) in omega arith
@@ -30,6 +31,7 @@ kind-ok-spec =
     (λ c. search needs)
     shared-slice-read-s
     cast-s
+    (λ c. search needs)
     (λ c. search needs)
     returns-2
     head-requires

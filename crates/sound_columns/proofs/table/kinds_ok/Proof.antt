@@ -1,16 +1,17 @@
 use Prim.Native.Nat.{_-_, _≤_}
 use native.Mathlib.Omega.{arith}
 use borrow.Author.Count.{below-more}
+use Rattle.model.specs.Numbers.{MAX-KINDS}
 use Rattle.words.specs.Decides.{granted, denied, Each}
 use Rattle.sound_columns.specs.Table.{KindOk}
 use Rattle.sound_columns.proofs.table.kinds_ok.Statement.{statement}
 use Rattle.sound_columns.proofs.table.kinds_ok.Tie as tie
 
 abbrev Inv-loop : tie.InvT-loop
-Inv-loop words n registered kind₀ kind = (kind ≤ 128) × Each kind (KindOk n registered words)
+Inv-loop words n registered kind₀ kind = (kind ≤ MAX-KINDS) × Each kind (KindOk n registered words)
 
 abbrev μ-loop : tie.MeasureT-loop
-μ-loop words n registered kind₀ kind = 128 - kind
+μ-loop words n registered kind₀ kind = MAX-KINDS - kind
 
 loop-holds : tie.Need-loop-holds Inv-loop μ-loop
 loop-holds c = (omega arith, λ j h. absurd (omega arith))

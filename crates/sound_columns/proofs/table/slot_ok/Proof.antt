@@ -1,6 +1,7 @@
 use mathlib.Core.Path.{sym, ap, _∙_}
 use Prim.Native.Nat.{_+_, _-_}
 use native.Mathlib.Omega.{arith}
+use Rattle.words.specs.Offsets.{TABLE}
 use Rattle.sound_columns.proofs.SlotLaws.{slot-long}
 use Rattle.memory.specs.Header.{slotOf}
 use borrow.Author.Needs.{needs}
@@ -11,7 +12,7 @@ shared-slice-read-back : tie.Need-shared-slice-read-back
 shared-slice-read-back c = let a = c .before .before .before .before .args in omega (arith, slot-long (a .n) (a .s) (a .words .now) (c .before .before .before .before .pre))
 
 cast-back : tie.Need-cast-back
-cast-back c = let a = c .before .before .before .before .args in omega (arith, c .before .before .before .shared-slice-known .given (32 + c .before .before .head .result))
+cast-back c = let a = c .before .before .before .before .args in omega (arith, c .before .before .before .shared-slice-known .given (TABLE + c .before .before .head .result))
 
 returns-2 : tie.Need-returns-2
 returns-2 c = let a = c .before .before .before .before .before .args in λ K. c .if2 .taken (ap (slotOf (a .words .now)) (c .before .before .before .head .ensures) ∙ K .own)

@@ -1,5 +1,6 @@
 use Prim.Native.Nat.{_+_, _-_, _≤_}
 use native.Mathlib.Omega.{arith}
+use Rattle.words.specs.Offsets.{GROUP-FAMILIES}
 use Rattle.words.specs.Decides.{granted, denied, Each}
 use borrow.Author.Count.{below-more}
 use Rattle.sound_groups.specs.Counts.{CountedOk}
@@ -25,7 +26,7 @@ shared-slice-read-group-counted : tie.Need-shared-slice-read-group-counted Inv-l
 shared-slice-read-group-counted c = omega (arith, c .before .before .before .before .pre .0 .long, c .before .before .before .before .pre .1 .0)
 
 cast-group-counted : tie.Need-cast-group-counted Inv-loop μ-loop
-cast-group-counted c = omega (arith, c .before .before .before .shared-slice-known .given (896 + c .before .before .loop .g))
+cast-group-counted c = omega (arith, c .before .before .before .shared-slice-known .given (GROUP-FAMILIES + c .before .before .loop .g))
 
 group-counted-requires : tie.Need-group-counted-requires Inv-loop μ-loop
 group-counted-requires c κs = let l = c .before .before .loop in (c .before .before .before .before .pre .0, (omega (arith, c .before .before .before .before .pre .1 .0), c .before .before .before .before .pre .1 .1 (l .g) (omega arith)))

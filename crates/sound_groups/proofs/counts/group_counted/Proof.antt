@@ -2,6 +2,7 @@ use mathlib.Core.Path.{sym, subst}
 use Prim.Native.Nat.{_+_, _-_}
 use native.Mathlib.Omega.{arith}
 use lib.ListN.{getD}
+use Rattle.words.specs.Offsets.{GROUP-COUNTS, TABLE}
 use Rattle.sound_columns.proofs.SlotLaws.{rows-most}
 use Rattle.sound_groups.proofs.CountLaws.{count-moved}
 use Rattle.memory.specs.Header.{slotOf}
@@ -31,7 +32,7 @@ shared-slice-read-h : tie.Need-shared-slice-read-h
 shared-slice-read-h c = let a = c .before .before .before .before .args in let p = c .before .before .before .before .pre in let G = p .1 .1 in let S = p .0 .spans (a .f) (a .g) (G .family) (G .low) (G .high) in let r = c .before .before .span-of .result in let q = c .before .before .span-of .ensures in let K : KindAt (a .n) (a .words .now) (r .first) = subst (KindAt (a .n) (a .words .now)) (sym (q .first)) (S .first) in omega (arith, K .small, p .0 .long)
 
 cast-h : tie.Need-cast-h
-cast-h c = let a = c .before .before .before .before .args in omega (arith, c .before .before .before .shared-slice-known .given (32 + getD (a .words .now) (c .before .before .span-of .result .first) 0))
+cast-h c = let a = c .before .before .before .before .args in omega (arith, c .before .before .before .shared-slice-known .given (TABLE + getD (a .words .now) (c .before .before .span-of .result .first) 0))
 
 len-in-requires : tie.Need-len-in-requires
 len-in-requires c κs = let a = c .before .before .before .before .args in let p = c .before .before .before .before .pre in let G = p .1 .1 in let S = p .0 .spans (a .f) (a .g) (G .family) (G .low) (G .high) in let r = c .before .before .span-of .result in let q = c .before .before .span-of .ensures in let K : KindAt (a .n) (a .words .now) (r .first) = subst (KindAt (a .n) (a .words .now)) (sym (q .first)) (S .first) in K .lent
@@ -49,7 +50,7 @@ shared-slice-read-count-ok : tie.Need-shared-slice-read-count-ok
 shared-slice-read-count-ok c = let p = c .before .before .before .before .before .before .before .pre in omega (arith, p .0 .long, p .1 .0)
 
 cast-count-ok : tie.Need-cast-count-ok
-cast-count-ok c = let a = c .before .before .before .before .before .before .before .args in omega (arith, c .before .before .before .before .before .before .shared-slice-known .given (960 + a .g))
+cast-count-ok c = let a = c .before .before .before .before .before .before .before .args in omega (arith, c .before .before .before .before .before .before .shared-slice-known .given (GROUP-COUNTS + a .g))
 
 count-ok-requires : tie.Need-count-ok-requires
 count-ok-requires c κs = let a = c .before .before .before .before .before .before .before .args in let p = c .before .before .before .before .before .before .before .pre in let G = p .1 .1 in let S = p .0 .spans (a .f) (a .g) (G .family) (G .low) (G .high) in let r = c .before .before .before .before .before .span-of .result in let q = c .before .before .before .before .before .span-of .ensures in let K : KindAt (a .n) (a .words .now) (r .first) = subst (KindAt (a .n) (a .words .now)) (sym (q .first)) (S .first) in ((omega (arith, p .0 .long), K .lent), rw (q .from, q .to) (S .new))

@@ -1,6 +1,7 @@
 use mathlib.Core.Path.{_≡_, sym, ap, _∙_, subst}
 use Prim.Native.Nat.{ℕ, _+_, _*_, _-_}
 use native.Mathlib.Omega.{arith}
+use Rattle.words.specs.Offsets.{ROWS}
 use Rattle.sound_columns.proofs.SlotLaws.{rows-most, key-word}
 use Rattle.words.specs.Decides.{yes-of, no-of}
 use Rattle.sound_columns.specs.Rows.{entityIn}
@@ -32,10 +33,10 @@ shared-slice-read-version : tie.Need-shared-slice-read-version
 shared-slice-read-version c = let a = c .before .before .before .before .args in let m = rows-most (a .n) (a .h) (a .words .now) (c .before .before .before .before .pre .0 .1) in omega (arith, m, c .before .before .before .before .pre .0, c .before .before .column-start .ensures)
 
 returns : tie.Need-returns
-returns c = let a = c .before .before .before .before .before .before .args in let w = a .words .now in let k : keyAt (a .n) w (a .h) (a .i) ≡ entityIn w (c .before .before .before .before .column-start .result + 8 + 2 * a .i) = key-word (a .n) (a .h) w (c .before .before .before .before .before .before .pre .0 .1) (a .i) (c .before .before .before .before .before .before .pre .0 .2) ∙ ap (λ (b : ℕ). entityIn w (b + 8 + 2 * a .i)) (sym (c .before .before .before .before .column-start .ensures)) in λ no. no (subst (Holds (a .n) w (a .from) (a .to)) (sym k) (yes-of {P = Holds (a .n) w (a .from) (a .to) (entityIn w (c .before .before .before .before .column-start .result + 8 + 2 * a .i))} (c .before .holds-all .result) (c .before .holds-all .ensures) (c .if1 .taken)))
+returns c = let a = c .before .before .before .before .before .before .args in let w = a .words .now in let k : keyAt (a .n) w (a .h) (a .i) ≡ entityIn w (c .before .before .before .before .column-start .result + ROWS + 2 * a .i) = key-word (a .n) (a .h) w (c .before .before .before .before .before .before .pre .0 .1) (a .i) (c .before .before .before .before .before .before .pre .0 .2) ∙ ap (λ (b : ℕ). entityIn w (b + ROWS + 2 * a .i)) (sym (c .before .before .before .before .column-start .ensures)) in λ no. no (subst (Holds (a .n) w (a .from) (a .to)) (sym k) (yes-of {P = Holds (a .n) w (a .from) (a .to) (entityIn w (c .before .before .before .before .column-start .result + ROWS + 2 * a .i))} (c .before .holds-all .result) (c .before .holds-all .ensures) (c .if1 .taken)))
 
 returns-2 : tie.Need-returns-2
-returns-2 c = let a = c .before .before .before .before .before .before .args in let w = a .words .now in let k : keyAt (a .n) w (a .h) (a .i) ≡ entityIn w (c .before .before .before .before .column-start .result + 8 + 2 * a .i) = key-word (a .n) (a .h) w (c .before .before .before .before .before .before .pre .0 .1) (a .i) (c .before .before .before .before .before .before .pre .0 .2) ∙ ap (λ (b : ℕ). entityIn w (b + 8 + 2 * a .i)) (sym (c .before .before .before .before .column-start .ensures)) in λ H. no-of {P = Holds (a .n) w (a .from) (a .to) (entityIn w (c .before .before .before .before .column-start .result + 8 + 2 * a .i))} (c .before .holds-all .result) (c .before .holds-all .ensures) (c .if1 .left) (subst (Holds (a .n) w (a .from) (a .to)) k H)
+returns-2 c = let a = c .before .before .before .before .before .before .args in let w = a .words .now in let k : keyAt (a .n) w (a .h) (a .i) ≡ entityIn w (c .before .before .before .before .column-start .result + ROWS + 2 * a .i) = key-word (a .n) (a .h) w (c .before .before .before .before .before .before .pre .0 .1) (a .i) (c .before .before .before .before .before .before .pre .0 .2) ∙ ap (λ (b : ℕ). entityIn w (b + ROWS + 2 * a .i)) (sym (c .before .before .before .before .column-start .ensures)) in λ H. no-of {P = Holds (a .n) w (a .from) (a .to) (entityIn w (c .before .before .before .before .column-start .result + ROWS + 2 * a .i))} (c .before .holds-all .result) (c .before .holds-all .ensures) (c .if1 .left) (subst (Holds (a .n) w (a .from) (a .to)) k H)
 
 pub lacks-spec : {M : Type 1} → statement M
 lacks-spec =

@@ -1,5 +1,6 @@
 use Prim.Native.Nat.{_+_, _-_}
 use native.Mathlib.Omega.{arith}
+use Rattle.words.specs.Offsets.{GROUP-FAMILIES}
 use Rattle.words.specs.Decides.{granted, denied}
 use Rattle.memory.specs.Header.{groupFamilyAt}
 use Rattle.sound_groups.specs.Spans.{GroupOf, NewOk}
@@ -8,7 +9,7 @@ use Rattle.sound_groups.proofs.heads.group_ok.Statement.{statement}
 use Rattle.sound_groups.proofs.heads.group_ok.Tie as tie
 
 cast-f : tie.Need-cast-f
-cast-f c = let a = c .before .before .args in omega (arith, c .before .shared-slice-known .given (896 + a .g))
+cast-f c = let a = c .before .before .args in omega (arith, c .before .shared-slice-known .given (GROUP-FAMILIES + a .g))
 
 returns : tie.Need-returns
 returns c = let a = c .before .before .before .before .args in λ H. denied {P = GroupOf (a .words .now) (a .families) (a .g) (groupFamilyAt (a .words .now) (a .g))} (c .before .family-ok .result) (c .before .family-ok .ensures) (c .if1 .taken) (H .of)

@@ -4,13 +4,14 @@ use native.Mathlib.Omega.{arith}
 use lib.ListN.{length}
 use lib.ListN.{take, length-set}
 use lib.Seq.{take-length}
+use Rattle.model.specs.Numbers.{MAX-KINDS}
 use Rattle.model.specs.Model.{mem}
 use Rattle.sound_columns.proofs.ListLaws.{Marks, marks-more, marks-none}
 use Rattle.sound_groups.proofs.heads.mark.Statement.{statement}
 use Rattle.sound_groups.proofs.heads.mark.Tie as tie
 
 abbrev Inv-loop : tie.InvT-loop
-Inv-loop kinds seen₀ i₀ i-end seen i = (i ≤ length kinds) × (length seen ≡ 128) × Marks seen kinds i
+Inv-loop kinds seen₀ i₀ i-end seen i = (i ≤ length kinds) × (length seen ≡ MAX-KINDS) × Marks seen kinds i
 
 abbrev μ-loop : tie.MeasureT-loop
 μ-loop kinds seen₀ i₀ i-end seen i = length kinds - i

@@ -4,6 +4,7 @@ use Prim.Native.Nat.{_≤_, _-_, ℕ, _<_}
 use native.Mathlib.Omega.{arith}
 use native.Mathlib.Numerals.{add-one-le}
 use borrow.Author.Count.{falls}
+use Rattle.model.specs.Numbers.{MAX-GROUP-COUNT}
 use Rattle.model.specs.Model.{groupsOf}
 use Rattle.memory.specs.Meaning.{meaning}
 use Rattle.group.proofs.InWords.{groups-few}
@@ -12,7 +13,7 @@ use Rattle.world.proofs.component_storage.clear_counts.Statement.{state
 use Rattle.world.proofs.component_storage.clear_counts.Tie as tie
 
 abbrev Inv-loop : tie.InvT-loop
-Inv-loop words₀ n g₀ words g = (g ≤ n) × (n ≤ 63) × (n ≡ groupsOf (meaning words₀ .storage .layout)) × Zeroed words₀ words g
+Inv-loop words₀ n g₀ words g = (g ≤ n) × (n ≤ MAX-GROUP-COUNT) × (n ≡ groupsOf (meaning words₀ .storage .layout)) × Zeroed words₀ words g
 
 abbrev μ-loop : tie.MeasureT-loop
 μ-loop words₀ n g₀ words g = n - g

@@ -1,0 +1,102 @@
+-- The numbers of the papers, by name: the limits, the words that things take, the refusals. The code has the same names (src/lib.rt,
+-- src/refusals.rt); a name's underscores are hyphens here. Assumes nothing.
+use Prim.Native.Nat.{ℕ, _+_, _*_}
+
+-- ---- limits
+
+-- "N not 1 to 4,096 or K not 1 to 128" is SIZE
+abbrev pub MAX-ENTITIES : ℕ
+MAX-ENTITIES = 4096
+
+abbrev pub MAX-KINDS : ℕ
+MAX-KINDS = 128
+
+-- "A kind is a number 0 to 127."
+abbrev pub LAST-KIND : ℕ
+LAST-KIND = 127
+
+-- a hand and a bar have "up to 16 distinct kinds"
+abbrev pub LIST-CAPACITY : ℕ
+LIST-CAPACITY = 16
+
+-- the most kinds of a group: a hand of "16 kinds" is WIDE
+abbrev pub MAX-GROUP-ARITY : ℕ
+MAX-GROUP-ARITY = 15
+
+-- the most groups of a layout: "draft has 63 groups" is MANY
+abbrev pub MAX-GROUP-COUNT : ℕ
+MAX-GROUP-COUNT = 63
+
+-- "a tally of refused commands that stays at 4,294,967,295"
+abbrev pub MAX-REFUSALS : ℕ
+MAX-REFUSALS = 4294967295
+
+-- ---- a store "needs 1,024 + 16 × N + K × (8 + 6 × N) words"
+
+-- the header, and the words for each entity
+abbrev pub HEADER-LEN : ℕ
+HEADER-LEN = 1024
+
+abbrev pub ENTITY-LEN : ℕ
+ENTITY-LEN = 16
+
+-- a column: its head, and the words for each entity
+abbrev pub COLUMN-HEAD : ℕ
+COLUMN-HEAD = 8
+
+abbrev pub ROW-LEN : ℕ
+ROW-LEN = 6
+
+-- the words of a column in a store of capacity n
+abbrev pub columnLen : ℕ → ℕ
+columnLen n = COLUMN-HEAD + ROW-LEN * n
+
+-- ---- "Refusals by place": their numbers
+
+abbrev pub SIZE : ℕ
+SIZE = 1
+
+abbrev pub SHORT : ℕ
+SHORT = 2
+
+abbrev pub UNSOUND : ℕ
+UNSOUND = 3
+
+abbrev pub UNKNOWN : ℕ
+UNKNOWN = 4
+
+abbrev pub CUT : ℕ
+CUT = 5
+
+abbrev pub NOROOM : ℕ
+NOROOM = 6
+
+abbrev pub KIND : ℕ
+KIND = 7
+
+abbrev pub KINDS : ℕ
+KINDS = 8
+
+abbrev pub AGAIN : ℕ
+AGAIN = 9
+
+abbrev pub HANDFUL : ℕ
+HANDFUL = 10
+
+abbrev pub DEAD : ℕ
+DEAD = 11
+
+abbrev pub FULL : ℕ
+FULL = 12
+
+abbrev pub WIDE : ℕ
+WIDE = 13
+
+abbrev pub CLASH : ℕ
+CLASH = 14
+
+abbrev pub MANY : ℕ
+MANY = 15
+
+abbrev pub BEYOND : ℕ
+BEYOND = 16
