@@ -7,22 +7,22 @@ use native.Mathlib.Nat.{div-lt-iff-lt-mul, pow-suc, mul-assoc, mul-comm, add-mul
 use lib.Dec.{lit<}
 use lib.ListN.{length, set, take, drop}
 use lib.Seq.{sets}
-use Rattle.model.specs.Store.{le, number}
+use Rattle.model.specs.Store.{bytesOf, number}
 
 -- the bytes of x, which has no more than n, and then those of y
-pub le-join : (n m x y : ℕ) → x < 256 ^ n → le (n + m) (x + 256 ^ n * y) ≡ le n x ++ le m y
-le-join zero m x y h =
+pub bytesOf-join : (n m x y : ℕ) → x < 256 ^ n → bytesOf (n + m) (x + 256 ^ n * y) ≡ bytesOf n x ++ bytesOf m y
+bytesOf-join zero m x y h =
     let e : x + 256 ^ 0 * y ≡ y = omega arith in
-    ap₂ le (zero-add m) e
-le-join (suc n) m x y h =
+    ap₂ bytesOf (zero-add m) e
+bytesOf-join (suc n) m x y h =
     let b : x / 256 < 256 ^ n = div-lt-iff-lt-mul (lit< tt) .1 (rw pow-suc at h) in
     let e : x + 256 ^ suc n * y ≡ x + 256 * (256 ^ n * y) = ap (λ (k : ℕ). x + k) (rw (pow-suc 256 n, mul-comm (256 ^ n) 256) (mul-assoc 256 (256 ^ n) y)) in
     rw (suc-add n m, e, add-mul-mod-self-left x 256 (256 ^ n * y), add-mul-div-left x (256 ^ n * y) (lit< tt))
-    (ap {B = List ℕ} (λ l. x % 256 ∷ l) (le-join n m (x / 256) y b))
+    (ap {B = List ℕ} (λ l. x % 256 ∷ l) (bytesOf-join n m (x / 256) y b))
 
 -- a value from its two words
-pub le-value : (l h : ℕ) → l < 4294967296 → le 8 (l + 4294967296 * h) ≡ le 4 l ++ le 4 h
-le-value l h b = le-join 4 4 l h b
+pub bytesOf-value : (l h : ℕ) → l < 4294967296 → bytesOf 8 (l + 4294967296 * h) ≡ bytesOf 4 l ++ bytesOf 4 h
+bytesOf-value l h b = bytesOf-join 4 4 l h b
 
 -- bytes written one run after another
 pub sets-join : (l : List ℕ) (i : ℕ) (a b : List ℕ) → sets (sets l i a) (i + length a) b ≡ sets l i (a ++ b)

@@ -3,12 +3,12 @@ ghost use mathlib.Core.Path.{_≡_};
 ghost use Prim.Native.Nat.{_+_, _*_, _<_, _≤_};
 ghost use lib.ListN.{length, take, drop};
 ghost use lib.Seq.{sets};
-ghost use Rattle.model.specs.Store.{le, number};
+ghost use Rattle.model.specs.Store.{bytesOf, number};
 
 // The four bytes of v, at `at`.
 pub fn put_u32(out: &mut [u8], at: usize, v: u32)
     requires { ⌜ at + 4 ≤ length (now out) ⌝ }
-    ensures { λ _. ⌜ now (out .exit) ≡ sets (now (out .entry)) at (le 4 v) ⌝ }
+    ensures { λ _. ⌜ now (out .exit) ≡ sets (now (out .entry)) at (bytesOf 4 v) ⌝ }
 {
     let a = v / 256;
     let b = a / 256;
@@ -22,7 +22,7 @@ pub fn put_u32(out: &mut [u8], at: usize, v: u32)
 // The eight bytes of a value, given as its low and its high word.
 pub fn put_value(out: &mut [u8], at: usize, low: u32, high: u32)
     requires { ⌜ at + 8 ≤ length (now out) ⌝ }
-    ensures { λ _. ⌜ now (out .exit) ≡ sets (now (out .entry)) at (le 8 (low + 4294967296 * high)) ⌝ }
+    ensures { λ _. ⌜ now (out .exit) ≡ sets (now (out .entry)) at (bytesOf 8 (low + 4294967296 * high)) ⌝ }
 {
     put_u32(out, at, low);
     put_u32(out, at + 4, high);

@@ -22,7 +22,7 @@ clash s a n e = let z : _≡_ {A = ℕ} 0 1 = cc in omega arith
 pub accepted-by : {w w′ o o′ : List ℕ} {at r : ℕ} {x : Outcome} {s : Store} {a : List ℕ} → x ≡ accepts s a → Becomes w w′ s → Written o o′ at r (0 ∷ a) → Acted w w′ o o′ at r x
 accepted-by {s = s} {a = a} e b v = rw e (record { becomes = b; written = v; refused = λ n q. absurd (clash s a n q) })
 
-after-sound : (s : Store) (x : Outcome) → modelSound.Sound s → OutSound x → modelSound.Sound (storeAfter s x)
+after-sound : (s : Store) (x : Outcome) → modelSound.StoreSound s → OutSound x → modelSound.StoreSound (storeAfter s x)
 after-sound s (refuses n) S h = refused-sound s S
 after-sound s (accepts s′ a) S h = h
 

@@ -2,7 +2,7 @@
 ghost use mathlib.Core.List.{[], _∷_};
 ghost use Prim.Native.Nat.{_+_, _<_, _≤_};
 ghost use lib.ListN.{length};
-ghost use Rattle.model.specs.Store.{le};
+ghost use Rattle.model.specs.Store.{bytesOf};
 ghost use Rattle.model.specs.Run.{refuses};
 ghost use Rattle.memory.specs.Arranged.{Arranged};
 ghost use Rattle.command.specs.Acted.{Written, Acted};
@@ -40,7 +40,7 @@ pub fn ack_byte(out: &mut [u8], at: usize, byte: u8) -> usize
 // Accepted, with a number of four bytes to tell.
 pub fn ack_number(out: &mut [u8], at: usize, number: u32) -> usize
     requires { ⌜ at + 5 ≤ length (now out) ⌝ }
-    ensures { λ r. ⌜ Written (now (out .entry)) (now (out .exit)) at r (0 ∷ le 4 number) ⌝ }
+    ensures { λ r. ⌜ Written (now (out .entry)) (now (out .exit)) at r (0 ∷ bytesOf 4 number) ⌝ }
 {
     out[at] = 0;
     codec::put_u32(out, at + 1, number);

@@ -4,7 +4,7 @@ use mathlib.Core.Bool.{false}
 use mathlib.Core.List.{List, [], _∷_, _++_}
 use Prim.Native.Nat.{ℕ}
 use Rattle.model.specs.Model.{Entity, clearAll, create}
-use Rattle.model.specs.Store.{Store, le, withControl, emptyStaged}
+use Rattle.model.specs.Store.{Store, bytesOf, withControl, emptyStaged}
 use Rattle.model.specs.Commands.{WIPE, APPLY, NEW, accepted}
 use Rattle.model.specs.Run.{accepts, does}
 use Rattle.model.proofs.Outcomes.{wipe-does, apply-does, new-created}
@@ -24,9 +24,9 @@ unfolding accepted
 applies s = apply-does s
 
 -- NEW: the created entity's store, with nothing staged, and its number and version told
-pub new-made : (s : Store) → isFull (s .capacity) (s .entities) ≡ false → does NEW s ≡ accepts (withControl (created s) (emptyStaged (s .control))) (le 4 (create (s .entities) .entity .index) ++ le 4 (create (s .entities) .entity .version))
+pub new-made : (s : Store) → isFull (s .capacity) (s .entities) ≡ false → does NEW s ≡ accepts (withControl (created s) (emptyStaged (s .control))) (bytesOf 4 (create (s .entities) .entity .index) ++ bytesOf 4 (create (s .entities) .entity .version))
 unfolding accepted
 new-made s h = new-created s h
 
-pub told : {o o′ : List ℕ} {at r : ℕ} (i v : ℕ) {e : Entity} → entity i v ≡ e → Written o o′ at r (0 ∷ le 4 i ++ le 4 v) → Written o o′ at r (0 ∷ le 4 (e .index) ++ le 4 (e .version))
-told {o} {o′} {at} {r} i v q h = subst (λ (x : Entity). Written o o′ at r (0 ∷ le 4 (x .index) ++ le 4 (x .version))) q h
+pub told : {o o′ : List ℕ} {at r : ℕ} (i v : ℕ) {e : Entity} → entity i v ≡ e → Written o o′ at r (0 ∷ bytesOf 4 i ++ bytesOf 4 v) → Written o o′ at r (0 ∷ bytesOf 4 (e .index) ++ bytesOf 4 (e .version))
+told {o} {o′} {at} {r} i v q h = subst (λ (x : Entity). Written o o′ at r (0 ∷ bytesOf 4 (x .index) ++ bytesOf 4 (x .version))) q h

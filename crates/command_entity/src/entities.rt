@@ -8,7 +8,7 @@ use model::refusals::FULL;
 ghost use mathlib.Core.List.{_∷_, _++_};
 ghost use Prim.Native.Nat.{_+_, _≤_};
 ghost use lib.ListN.{length};
-ghost use Rattle.model.specs.Store.{le};
+ghost use Rattle.model.specs.Store.{bytesOf};
 ghost use Rattle.model.specs.Commands.{NEW, KILL};
 ghost use Rattle.model.specs.Run.{does};
 ghost use Rattle.component.specs.SparseSet.{entity};
@@ -31,7 +31,7 @@ pub fn kill(words: &mut [u32], index: u32, version: u32, out: &mut [u8], at: usi
 // Accepted, with an entity to tell.
 fn ack_entity(out: &mut [u8], at: usize, index: u32, version: u32) -> usize
     requires { ⌜ at + 9 ≤ length (now out) ⌝ }
-    ensures { λ r. ⌜ Written (now (out .entry)) (now (out .exit)) at r (0 ∷ le 4 index ++ le 4 version) ⌝ }
+    ensures { λ r. ⌜ Written (now (out .entry)) (now (out .exit)) at r (0 ∷ bytesOf 4 index ++ bytesOf 4 version) ⌝ }
 {
     ack_number(out, at, index);
     codec::put_u32(out, at + 5, version);

@@ -7,7 +7,7 @@ use native.Mathlib.Omega.{arith}
 use lib.ListN.{length, getD, take, set, length-map, List·getD-map}
 use lib.Seq.{take-suc-set, take-suc, take-all}
 use Rattle.model.specs.Model.{kindOf, mem}
-use Rattle.model.specs.Sound.{noComponent, Sound}
+use Rattle.model.specs.Sound.{noComponent, StoreSound}
 use Rattle.model.specs.Store.{Store, stagedKinds}
 use Rattle.model.proofs.Walk.{bool-cases}
 use Rattle.model.proofs.KindLists.{out-count}
@@ -16,7 +16,7 @@ use Rattle.layout_block.proofs.Transfer.{kind-small}
 
 module _ (s : Store) where
   -- 01, "sound": a hand of distinct registered kinds
-  pub staged-set : Sound s → KindSet (stagedKinds s)
+  pub staged-set : StoreSound s → KindSet (stagedKinds s)
   staged-set S =
       record {
         once = S .staged .once;
@@ -31,7 +31,7 @@ module _ (s : Store) where
     kind-read : k ≡ getD (stagedKinds s) i 0
     kind-read = e ∙ sym (List·getD-map kindOf (s .control .staged) i noComponent)
 
-    pub kind-byte : Sound s → k < 256
+    pub kind-byte : StoreSound s → k < 256
     kind-byte S = omega (arith, kind-read, kind-small (stagedKinds s) (staged-set S) i (omega (arith, staged-width)))
 
     -- a turn of the loop

@@ -5,7 +5,7 @@ use Prim.Native.Nat.{ℕ, _+_, _-_, _≤_, _<_}
 use native.Mathlib.Omega.{arith}
 use lib.ListN.{length, getD}
 use Rattle.words.specs.Offsets.{ARITIES, ENTITIES, EXCLUDED-KINDS, GROUP-COUNTS, GROUP-FAMILIES, KIND-ENDS, LAYOUT, LAYOUT-ARITIES, LAYOUT-KIND-ENDS, STAGED-KINDS}
-use Rattle.model.specs.Model.{none, range}
+use Rattle.model.specs.Model.{none, rangeFor}
 use Rattle.model.specs.Sound.{In}
 use Rattle.words.specs.Part.{between, length-between}
 use Rattle.layout.specs.Layout.{Arrays}
@@ -67,7 +67,7 @@ module _ (w : List ℕ) (A : Arranged w) where
   query-inside hs q d = subst (λ (l : List ℕ). InsideFound l (infoOf q)) arities-are (describes-inside a (A .layout .formed) (layout-sized w A) (meaning w .storage) hs q d)
 
   pub both-queries : (hs bs : List ℕ) (p q : QueryGroupInfo) (r : GroupRange) → Describes (layoutArrays w) (meaning w .storage) hs p → Describes (layoutArrays w) (meaning w .storage) bs q
-      → RangeSays (between LAYOUT-ARITIES LAYOUT-KIND-ENDS w) (between GROUP-COUNTS ENTITIES w) p q r → rangeOf r ≡ range hs bs (meaning w .storage)
+      → RangeSays (between LAYOUT-ARITIES LAYOUT-KIND-ENDS w) (between GROUP-COUNTS ENTITIES w) p q r → rangeOf r ≡ rangeFor hs bs (meaning w .storage)
   both-queries hs bs p q r d e says =
       says
       (record {
@@ -80,13 +80,13 @@ module _ (w : List ℕ) (A : Arranged w) where
         arities = arities-are;
         layout = layout-means w A;
         included = d;
-        barred = e;
+        excludes = e;
       })
 
-  pub no-staged : (hs bs : List ℕ) → Scattered (layoutArrays w) hs → none ≡ range hs bs (meaning w .storage)
+  pub no-staged : (hs bs : List ℕ) → Scattered (layoutArrays w) hs → none ≡ rangeFor hs bs (meaning w .storage)
   no-staged hs bs x = sym (scattered-staged a (meaning w .storage) (between GROUP-COUNTS ENTITIES w) (A .layout .formed) (layout-sized w A) (layout-means w A) hs bs x)
 
-  pub no-excluded : (hs bs : List ℕ) → Scattered (layoutArrays w) bs → none ≡ range hs bs (meaning w .storage)
+  pub no-excluded : (hs bs : List ℕ) → Scattered (layoutArrays w) bs → none ≡ rangeFor hs bs (meaning w .storage)
   no-excluded hs bs x = sym (scattered-excluded a (meaning w .storage) (between GROUP-COUNTS ENTITIES w) (A .layout .formed) (layout-sized w A) (layout-means w A) hs bs x)
 
 -- ---- the lists in the words

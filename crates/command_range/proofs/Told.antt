@@ -4,9 +4,9 @@ use mathlib.Core.List.{List, [], _∷_, _++_}
 use Prim.Native.Nat.{ℕ, _+_, _<_}
 use native.Mathlib.Omega.{arith}
 use lib.Seq.{sets}
-use Rattle.model.specs.Model.{Range, found, range}
-use Rattle.model.specs.Sound.{Sound}
-use Rattle.model.specs.Store.{Store, le, stagedKinds, withControl, emptyBoth}
+use Rattle.model.specs.Model.{Range, found, rangeFor}
+use Rattle.model.specs.Sound.{StoreSound}
+use Rattle.model.specs.Store.{Store, bytesOf, stagedKinds, withControl, emptyBoth}
 use Rattle.model.specs.Commands.{RANGE, rangeBytes, accepted}
 use Rattle.model.specs.Run.{accepts, does}
 use Rattle.model.proofs.Bounds.{range-bounded}
@@ -15,21 +15,21 @@ use Rattle.codec.proofs.Numbers.{sets-join}
 
 -- the model's range of the hand without the bar
 abbrev pub rangeTold : Store → Range
-rangeTold s = range (stagedKinds s) (s .control .excluded) (s .storage)
+rangeTold s = rangeFor (stagedKinds s) (s .control .excluded) (s .storage)
 
 pub range-told : (s : Store) {q : Range} → q ≡ rangeTold s → does RANGE s ≡ accepts (withControl s (emptyBoth (s .control))) (rangeBytes q)
 unfolding accepted
 range-told s e = range-does s ∙ ap (λ (r : Range). accepts (withControl s (emptyBoth (s .control))) (rangeBytes r)) (sym e)
 
 -- start and end fit a word
-pub range-fits : (s : Store) → Sound s → (a b : ℕ) → found a b ≡ rangeTold s → (a < 4294967296) × (b < 4294967296)
+pub range-fits : (s : Store) → StoreSound s → (a b : ℕ) → found a b ≡ rangeTold s → (a < 4294967296) × (b < 4294967296)
 range-fits s S a b e =
     let h = range-bounded s S (stagedKinds s) (s .control .excluded) a b (sym e) in
     (omega (arith, h .0, h .1, S .limits), omega (arith, h .1, S .limits))
 
 -- the two bytes, then start, then end
-pub range-bytes : (o : List ℕ) {o₁ o₂ o′ : List ℕ} (at f a b : ℕ) → o₁ ≡ sets o at (0 ∷ f ∷ []) → o₂ ≡ sets o₁ (at + 2) (le 4 a) → o′ ≡ sets o₂ (at + 6) (le 4 b) → o′ ≡ sets o at (0 ∷ f ∷ le 4 a ++ le 4 b)
+pub range-bytes : (o : List ℕ) {o₁ o₂ o′ : List ℕ} (at f a b : ℕ) → o₁ ≡ sets o at (0 ∷ f ∷ []) → o₂ ≡ sets o₁ (at + 2) (bytesOf 4 a) → o′ ≡ sets o₂ (at + 6) (bytesOf 4 b) → o′ ≡ sets o at (0 ∷ f ∷ bytesOf 4 a ++ bytesOf 4 b)
 range-bytes o at f a b p q r =
     r
-    ∙ ap (λ (l : List ℕ). sets l (at + 6) (le 4 b)) (q ∙ ap (λ (l : List ℕ). sets l (at + 2) (le 4 a)) p ∙ sets-join o at (0 ∷ f ∷ []) (le 4 a))
-    ∙ sets-join o at (0 ∷ f ∷ le 4 a) (le 4 b)
+    ∙ ap (λ (l : List ℕ). sets l (at + 6) (bytesOf 4 b)) (q ∙ ap (λ (l : List ℕ). sets l (at + 2) (bytesOf 4 a)) p ∙ sets-join o at (0 ∷ f ∷ []) (bytesOf 4 a))
+    ∙ sets-join o at (0 ∷ f ∷ bytesOf 4 a) (bytesOf 4 b)

@@ -6,7 +6,7 @@ use group_info::GroupRange;
 ghost use mathlib.Core.List.{_∷_, _++_};
 ghost use Prim.Native.Nat.{_+_, _≤_};
 ghost use lib.ListN.{length};
-ghost use Rattle.model.specs.Store.{le};
+ghost use Rattle.model.specs.Store.{bytesOf};
 ghost use Rattle.model.specs.Commands.{RANGE};
 ghost use Rattle.model.specs.Run.{does};
 ghost use Rattle.memory.specs.Meaning.{meaning};
@@ -15,7 +15,7 @@ ghost use Rattle.command.specs.Acted.{Ready, Written, Acted};
 // Accepted, with a range to tell.
 fn ack_range(out: &mut [u8], at: usize, found: u8, start: u32, end: u32) -> usize
     requires { ⌜ at + 10 ≤ length (now out) ⌝ }
-    ensures { λ r. ⌜ Written (now (out .entry)) (now (out .exit)) at r (0 ∷ found ∷ le 4 start ++ le 4 end) ⌝ }
+    ensures { λ r. ⌜ Written (now (out .entry)) (now (out .exit)) at r (0 ∷ found ∷ bytesOf 4 start ++ bytesOf 4 end) ⌝ }
 {
     ack_byte(out, at, found);
     codec::put_u32(out, at + 2, start);

@@ -7,7 +7,7 @@ use group_info::QueryGroupInfo;
 use group_info::ViewGroupInfo;
 use kinds::Own;
 ghost use mathlib.Core.Path.{_≡_};
-ghost use Rattle.model.specs.Model.{range};
+ghost use Rattle.model.specs.Model.{rangeFor};
 ghost use Rattle.model.specs.Sound.{In};
 ghost use Rattle.model.specs.Store.{stagedKinds};
 ghost use Rattle.words.specs.Part.{between};
@@ -88,7 +88,7 @@ pub fn excluded_query(words: &[u32]) -> FoundQuery
 // 01, RANGE: the range of the staged kinds without the excluded ones.
 pub fn group_range(words: &[u32]) -> GroupRange
     requires { ⌜ Sound (now words) ⌝ }
-    ensures { λ r. ⌜ rangeOf r ≡ range (stagedKinds (meaning (now (words .entry)))) (meaning (now (words .entry)) .control .excluded) (meaning (now (words .entry)) .storage) ⌝ }
+    ensures { λ r. ⌜ rangeOf r ≡ rangeFor (stagedKinds (meaning (now (words .entry)))) (meaning (now (words .entry)) .control .excluded) (meaning (now (words .entry)) .storage) ⌝ }
 {
     let FoundQuery::Query(include) = staged_query(words) else {
         return GroupRange::Nothing;

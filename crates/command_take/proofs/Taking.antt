@@ -8,7 +8,7 @@ use native.Mathlib.Numerals.{add-one}
 use lib.ListN.{length, getD, take, length-map}
 use lib.Seq.{sets, length-sets, take-all, take-suc, length-take-le}
 use Rattle.model.specs.Model.{Entity, SparseSet, Storage, noRow, setOf, at, held, kindOf}
-use Rattle.model.specs.Store.{Store, stagedKinds, le}
+use Rattle.model.specs.Store.{Store, stagedKinds, bytesOf}
 use Rattle.model.specs.Commands.{takenBytes, heldBytes}
 use Rattle.model.proofs.Lengths.{held-length}
 use Rattle.codec.proofs.Numbers.{sets-join}
@@ -17,11 +17,11 @@ use Rattle.world.specs.Remove.{Staged}
 use Rattle.command_take.specs.Take.{TakesKind, TakesStaged}
 use Rattle.world.proofs.Removing.{Gone, eachGone, gone-none, gone-next, gone-turn, gone-all, staged-kept, staged-small}
 
-pub bytes-none : (e : Entity) (rows : SparseSet) → held e rows ≡ false → 0 ∷ le 8 0 ≡ takenBytes e rows
+pub bytes-none : (e : Entity) (rows : SparseSet) → held e rows ≡ false → 0 ∷ bytesOf 8 0 ≡ takenBytes e rows
 bytes-none e rows h = rw h
 
-pub bytes-held : (e : Entity) (rows : SparseSet) (v : ℕ) → held e rows ≡ true → v ≡ getD rows (at e rows) noRow .value → 1 ∷ le 8 v ≡ takenBytes e rows
-bytes-held e rows v h q = rw h (ap {B = List ℕ} (λ (x : ℕ). 1 ∷ le 8 x) q)
+pub bytes-held : (e : Entity) (rows : SparseSet) (v : ℕ) → held e rows ≡ true → v ≡ getD rows (at e rows) noRow .value → 1 ∷ bytesOf 8 v ≡ takenBytes e rows
+bytes-held e rows v h q = rw h (ap {B = List ℕ} (λ (x : ℕ). 1 ∷ bytesOf 8 x) q)
 
 held-snoc : (e : Entity) (ks : List ℕ) (k : ℕ) (p : Storage) → heldBytes e (ks ++ (k ∷ [])) p ≡ heldBytes e ks p ++ takenBytes e (setOf (p .sets) k)
 held-snoc e [] k p = append-nil (takenBytes e (setOf (p .sets) k))

@@ -11,7 +11,7 @@ ghost use mathlib.Core.List.{_∷_};
 ghost use Prim.Native.Nat.{_+_, _*_, _≤_, _<_};
 ghost use lib.ListN.{length, getD};
 ghost use lib.Seq.{sets};
-ghost use Rattle.model.specs.Store.{stagedKinds, le};
+ghost use Rattle.model.specs.Store.{stagedKinds, bytesOf};
 ghost use Rattle.model.specs.Commands.{TAKE};
 ghost use Rattle.model.specs.Run.{does};
 ghost use Rattle.component.specs.SparseSet.{entity};
@@ -24,7 +24,7 @@ ghost use Rattle.command_take.specs.Take.{TakesKind, TakesStaged, Takes}
 // The byte held and the value's eight, at `at`.
 fn put_held(out: &mut [u8], at: usize, held: u8, low: u32, high: u32)
     requires { ⌜ at + 9 ≤ length (now out) ⌝ }
-    ensures { λ _. ⌜ now (out .exit) ≡ sets (now (out .entry)) at (held ∷ le 8 (low + 4294967296 * high)) ⌝ }
+    ensures { λ _. ⌜ now (out .exit) ≡ sets (now (out .entry)) at (held ∷ bytesOf 8 (low + 4294967296 * high)) ⌝ }
 {
     out[at] = held;
     codec::put_value(out, at + 1, low, high);

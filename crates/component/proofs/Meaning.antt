@@ -10,7 +10,7 @@ use Rattle.model.specs.Model.{Row, noRow}
 use Rattle.words.specs.Table.{table, length-table, getD-table, table-same}
 use Rattle.words.specs.Links.{apart, linked-same}
 use Rattle.words.specs.Pigeon.{pigeon-free}
-use Rattle.component.specs.SparseSet.{lengthOf, indexAt, versionAt, lowAt, highAt, placeOf, heldOf, row, rowAt, rows, Sized, Sound}
+use Rattle.component.specs.SparseSet.{lengthOf, indexAt, versionAt, lowAt, highAt, placeOf, heldOf, row, rowAt, rows, Sized, ColumnSound}
 use Rattle.component.specs.Stored.{Absent}
 
 pub length-rows : (n : ℕ) (w : List ℕ) → length (rows n w) ≡ lengthOf w
@@ -28,7 +28,7 @@ index-rows n w i h = ap (λ (r : Row). r .entity .index) (getD-rows n w i h)
 pub row-is : (n : ℕ) (w : List ℕ) (i x v l h : ℕ) → indexAt w i ≡ x → versionAt w i ≡ v → lowAt n w i ≡ l → highAt n w i ≡ h → rowAt n w i ≡ row x v l h
 row-is n w i x v l h ex ev el eh = λ k. row (ex k) (ev k) (el k) (eh k)
 
-pub sized : (n : ℕ) (w : List ℕ) → Sound n w → Sized n w
+pub sized : (n : ℕ) (w : List ℕ) → ColumnSound n w → Sized n w
 sized n w s = record { size = s .size; small = s .small }
 
 -- ---- an empty part: no rows, and no index held; what words 1 to 7 hold, and rows and places past the end, does not matter
@@ -37,7 +37,7 @@ pub empty-rows : (n : ℕ) (w : List ℕ) → lengthOf w ≡ 0 → rows n w ≡ 
 unfolding rows table
 empty-rows n w e = rw e
 
-pub fresh-sound : (n : ℕ) (w : List ℕ) → Sized n w → lengthOf w ≡ 0 → ((x : ℕ) → x < n → heldOf n w x ≡ 0) → Sound n w
+pub fresh-sound : (n : ℕ) (w : List ℕ) → Sized n w → lengthOf w ≡ 0 → ((x : ℕ) → x < n → heldOf n w x ≡ 0) → ColumnSound n w
 fresh-sound n w z e free =
     record {
       size = z .size;
@@ -53,7 +53,7 @@ fresh-sound n w z e free =
 
 -- ---- rows of a sound part
 
-module _ (n : ℕ) (w : List ℕ) (s : Sound n w) where
+module _ (n : ℕ) (w : List ℕ) (s : ColumnSound n w) where
   -- no two rows have one index
   pub rows-apart : (i j : ℕ) → i < lengthOf w → j < lengthOf w → i ≢ j → indexAt w i ≢ indexAt w j
   rows-apart = apart n (lengthOf w) (indexAt w) (versionAt w) (placeOf n w) (heldOf n w) (s .linked)
@@ -78,9 +78,9 @@ module _ (n : ℕ) (w : List ℕ) (s : Sound n w) where
 
 -- ---- words 1 to 7 are the storage's: other words there leave the rows as they were
 
-module _ (n : ℕ) (w w′ : List ℕ) (s : Sound n w) (size : length w′ ≡ length w) (first : lengthOf w′ ≡ lengthOf w)
+module _ (n : ℕ) (w w′ : List ℕ) (s : ColumnSound n w) (size : length w′ ≡ length w) (first : lengthOf w′ ≡ lengthOf w)
     (rest : (i : ℕ) → 8 ≤ i → getD w′ i 0 ≡ getD w i 0) where
-  pub head-sound : Sound n w′
+  pub head-sound : ColumnSound n w′
   head-sound =
       record {
         size = size ∙ s .size;

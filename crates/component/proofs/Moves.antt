@@ -13,13 +13,13 @@ use Rattle.words.specs.Table.{by-eq, table-swap, table-set, table-snoc, table-r
 use Rattle.words.specs.Stores.{stores, miss, hit, length-stores}
 use Rattle.words.specs.Links.{linked-exchanged, linked-appended, linked-removed, linked-same}
 use Rattle.component.specs.declared.component_sparse_set.RowWords.{RowWords}
-use Rattle.component.specs.SparseSet.{lengthOf, indexAt, versionAt, placeOf, heldOf, valueOf, row, rowAt, rows, Sound, Changed, swapRows}
+use Rattle.component.specs.SparseSet.{lengthOf, indexAt, versionAt, placeOf, heldOf, valueOf, row, rowAt, rows, ColumnSound, Changed, swapRows}
 use Rattle.component.specs.Stored.{wordsAt, rowStores, lookupStores, Absent, valued, popped}
 use Rattle.component.proofs.Meaning.{length-rows, getD-rows, row-is, rows-apart, absent-free, absent-room}
 
 -- ---- no change, and a change under another name
 
-pub changed-none : (n : ℕ) (f : SparseSet → SparseSet) (w : List ℕ) → Sound n w → rows n w ≡ f (rows n w) → Changed n f w w
+pub changed-none : (n : ℕ) (f : SparseSet → SparseSet) (w : List ℕ) → ColumnSound n w → rows n w ≡ f (rows n w) → Changed n f w w
 changed-none n f w s e = record { sound = s; size = refl; becomes = e; kept = λ i l h. refl }
 
 pub changed-as : (n : ℕ) (f g : SparseSet → SparseSet) (w w′ : List ℕ) → Changed n f w w′ → f (rows n w) ≡ g (rows n w) → Changed n g w w′
@@ -41,8 +41,8 @@ swapStores n a b w =
     rowStores n a (wordsAt n w b) ++ (rowStores n b (wordsAt n w a)
     ++ (lookupStores n (indexAt w a) b (versionAt w a) ++ lookupStores n (indexAt w b) a (versionAt w b)))
 
-module _ (n : ℕ) (w : List ℕ) (s : Sound n w) (a b : ℕ) (ha : a < lengthOf w) (hb : b < lengthOf w) (ab : a ≢ b) where
-  swapped-sound : Sound n (stores w (swapStores n a b w))
+module _ (n : ℕ) (w : List ℕ) (s : ColumnSound n w) (a b : ℕ) (ha : a < lengthOf w) (hb : b < lengthOf w) (ab : a ≢ b) where
+  swapped-sound : ColumnSound n (stores w (swapStores n a b w))
   swapped-sound =
       let ss = swapStores n a b w in
       let w′ = stores w ss in
@@ -111,8 +111,8 @@ abbrev appendStores : ℕ → ℕ → ℕ → ℕ → ℕ → List ℕ → List 
 appendStores n x v l h w =
     rowStores n (lengthOf w) (record { index = x; version = v; low = l; high = h }) ++ (lookupStores n x (lengthOf w) v ++ ((0, lengthOf w + 1) ∷ []))
 
-module _ (n : ℕ) (w : List ℕ) (s : Sound n w) (x v l h : ℕ) (hx : x < n) (hv : 1 ≤ v) (f : Absent x (rows n w)) where
-  appended-sound : Sound n (stores w (appendStores n x v l h w))
+module _ (n : ℕ) (w : List ℕ) (s : ColumnSound n w) (x v l h : ℕ) (hx : x < n) (hv : 1 ≤ v) (f : Absent x (rows n w)) where
+  appended-sound : ColumnSound n (stores w (appendStores n x v l h w))
   appended-sound =
       let ss = appendStores n x v l h w in
       let w′ = stores w ss in
@@ -157,8 +157,8 @@ module _ (n : ℕ) (w : List ℕ) (s : Sound n w) (x v l h : ℕ) (hx : x < n) (
 abbrev replaceStores : ℕ → ℕ → ℕ → ℕ → List (ℕ × ℕ)
 replaceStores n p l h = (ROWS + 2 * n + 2 * p, l) ∷ (ROWS + 2 * n + 2 * p + 1, h) ∷ []
 
-module _ (n : ℕ) (w : List ℕ) (s : Sound n w) (p l h : ℕ) (hp : p < lengthOf w) where
-  replaced-sound : Sound n (stores w (replaceStores n p l h))
+module _ (n : ℕ) (w : List ℕ) (s : ColumnSound n w) (p l h : ℕ) (hp : p < lengthOf w) where
+  replaced-sound : ColumnSound n (stores w (replaceStores n p l h))
   replaced-sound =
       let ss = replaceStores n p l h in
       let w′ = stores w ss in
@@ -206,8 +206,8 @@ removeStores n p w =
     rowStores n p (wordsAt n w (lengthOf w - 1))
     ++ ((ROWS + 4 * n + 2 * indexAt w (lengthOf w - 1), p) ∷ (ROWS + 4 * n + 2 * indexAt w p + 1, 0) ∷ (0, lengthOf w - 1) ∷ [])
 
-module _ (n : ℕ) (w : List ℕ) (s : Sound n w) (p : ℕ) (hp : p < lengthOf w) where
-  removed-sound : Sound n (stores w (removeStores n p w))
+module _ (n : ℕ) (w : List ℕ) (s : ColumnSound n w) (p : ℕ) (hp : p < lengthOf w) where
+  removed-sound : ColumnSound n (stores w (removeStores n p w))
   removed-sound =
       let ss = removeStores n p w in
       let w′ = stores w ss in
@@ -265,8 +265,8 @@ module _ (n : ℕ) (w : List ℕ) (s : Sound n w) (p : ℕ) (hp : p < lengthOf w
 abbrev popStores : ℕ → List ℕ → List (ℕ × ℕ)
 popStores n w = (ROWS + 4 * n + 2 * indexAt w (lengthOf w - 1) + 1, 0) ∷ (0, lengthOf w - 1) ∷ []
 
-module _ (n : ℕ) (w : List ℕ) (s : Sound n w) (some : 1 ≤ lengthOf w) where
-  popped-sound : Sound n (stores w (popStores n w))
+module _ (n : ℕ) (w : List ℕ) (s : ColumnSound n w) (some : 1 ≤ lengthOf w) where
+  popped-sound : ColumnSound n (stores w (popStores n w))
   popped-sound =
       let ss = popStores n w in
       let w′ = stores w ss in
@@ -324,7 +324,7 @@ module _ (n : ℕ) (w : List ℕ) (s : Sound n w) (some : 1 ≤ lengthOf w) wher
 
 -- ---- clear: rows go one by one from the end
 
-pub clear-none : (n : ℕ) (w : List ℕ) → Sound n w → Changed n (take (lengthOf w)) w w
+pub clear-none : (n : ℕ) (w : List ℕ) → ColumnSound n w → Changed n (take (lengthOf w)) w w
 clear-none n w s = changed-none n (take (lengthOf w)) w s (sym (take-all (lengthOf w) (rows n w) (omega (arith, length-rows n w))))
 
 pub clear-more : (n k : ℕ) (w₀ w w′ : List ℕ) → k ≡ lengthOf w → 1 ≤ k → Changed n (take k) w₀ w → Changed n popped w w′ → Changed n (take (k - 1)) w₀ w′

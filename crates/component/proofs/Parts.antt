@@ -12,7 +12,7 @@ use Rattle.model.specs.Model.{SparseSet}
 use Rattle.words.specs.Table.{by-eq}
 use Rattle.words.specs.Part.{between, patch, getD-between, between-front, between-rest, patch-front, patch-between, patch-rest, patch-length}
 use Rattle.words.specs.Offsets.{columnStart, columnStart-apart, columnStart-mono}
-use Rattle.component.specs.SparseSet.{rows, Sound, Changed}
+use Rattle.component.specs.SparseSet.{rows, ColumnSound, Changed}
 use Rattle.component.specs.Columns.{columnOf, Columns, Lent, Only}
 
 pub lent : (n m s : ℕ) (w : List ℕ) → Columns n m w → s < m → Lent n s w
@@ -59,7 +59,7 @@ pub past-kept : (n m s : ℕ) (w w′ : List ℕ) → s < m → drop (columnStar
 past-kept n m s w w′ h rest = drop-later (columnStart n s + (columnLen n)) (columnStart n m) w w′ (columnStart-apart n s m h) rest
 
 -- the slots are sound where slot s is and the others are as they were
-pub columns-kept : (n m s : ℕ) (w w′ : List ℕ) → Columns n m w → length w′ ≡ length w → Sound n (columnOf n s w′)
+pub columns-kept : (n m s : ℕ) (w w′ : List ℕ) → Columns n m w → length w′ ≡ length w → ColumnSound n (columnOf n s w′)
     → ((j : ℕ) → j < m → j ≢ s → columnOf n j w′ ≡ columnOf n j w) → Columns n m w′
 columns-kept n m s w w′ c size sound others =
     record {

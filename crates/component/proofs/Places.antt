@@ -13,7 +13,7 @@ use Rattle.model.specs.Lists.{after, getD-place, cutAt}
 use Rattle.model.specs.Model.{Entity, SparseSet, sameEntity, noEntity, noRow, keys, entityOf, at, held, insertRow, removeRow, swapTo}
 use Rattle.model.proofs.SparseSets.{entity-eq, entity-same}
 use Rattle.component.specs.declared.Found.the-variants as found
-use Rattle.component.specs.SparseSet.{lengthOf, indexAt, versionAt, placeOf, heldOf, entity, rows, Sound, Current, swapRows}
+use Rattle.component.specs.SparseSet.{lengthOf, indexAt, versionAt, placeOf, heldOf, entity, rows, ColumnSound, Current, swapRows}
 use Rattle.component.specs.Answers.{HeldAt, Finds}
 use Rattle.component.specs.Stored.{Absent, valued}
 use Rattle.component.proofs.Meaning.{length-rows, getD-rows, rows-apart}
@@ -55,7 +55,7 @@ module _ (e : Entity) (rs : SparseSet) where
 
 -- ---- a search in sound words
 
-module _ (n : ℕ) (w : List ℕ) (s : Sound n w) (x v : ℕ) where
+module _ (n : ℕ) (w : List ℕ) (s : ColumnSound n w) (x v : ℕ) where
   -- a row that is the entity's
   of-entity : (i : ℕ) → i < lengthOf w → getD (rows n w) i noRow .entity ≡ entity x v → (indexAt w i ≡ x) × (versionAt w i ≡ v)
   of-entity i h q =

@@ -9,7 +9,7 @@ use Rattle.model.specs.Numbers.{MAX-ENTITIES, MAX-KINDS, columnLen}
 use Rattle.model.specs.Model.{Entity, SparseSet, removeRow}
 use Rattle.words.specs.Part.{between}
 use Rattle.words.specs.Offsets.{columnStart}
-use Rattle.component.specs.SparseSet.{rows, Sound}
+use Rattle.component.specs.SparseSet.{rows, ColumnSound}
 use Rattle.component.specs.Answers.{Gives}
 use Rattle.component.specs.declared.Removed.{Removed}
 
@@ -26,14 +26,14 @@ pub record Columns (n m : ℕ) (w : List ℕ) : Type 0 where
   pub small : n ≤ MAX-ENTITIES
   pub few : m ≤ MAX-KINDS
   pub size : columnStart n m ≤ length w
-  pub columns : (s : ℕ) → s < m → Sound n (columnOf n s w)
+  pub columns : (s : ℕ) → s < m → ColumnSound n (columnOf n s w)
 
 -- what a function on one slot asks of the words: the slot's part is there, and is sound
 pub record Lent (n s : ℕ) (w : List ℕ) : Type 0 where
   pub small : n ≤ MAX-ENTITIES
   pub few : s < MAX-KINDS
   pub size : columnStart n s + (columnLen n) ≤ length w
-  pub sound : Sound n (columnOf n s w)
+  pub sound : ColumnSound n (columnOf n s w)
 
 -- words 1 to 7 of slot s, which are the storage's, are as they were
 abbrev pub HeadKept : ℕ → ℕ → List ℕ → List ℕ → Type 0

@@ -66,7 +66,7 @@ pub record Sized (n : ℕ) (w : List ℕ) : Type 0 where
   pub small : n ≤ MAX-ENTITIES
 
 -- 01, a sound store: "each column with its own lookups" agrees
-pub record Sound (n : ℕ) (w : List ℕ) : Type 0 where
+pub record ColumnSound (n : ℕ) (w : List ℕ) : Type 0 where
   pub size : length w ≡ columnLen n
   pub small : n ≤ MAX-ENTITIES
   pub linked : Linked n (lengthOf w) (indexAt w) (versionAt w) (placeOf n w) (heldOf n w)
@@ -75,7 +75,7 @@ pub record Sound (n : ℕ) (w : List ℕ) : Type 0 where
 
 -- a sound part whose rows have become f of what they were; words 1 to 7 are as they were
 pub record Changed (n : ℕ) (f : SparseSet → SparseSet) (w w′ : List ℕ) : Type 0 where
-  pub sound : Sound n w′
+  pub sound : ColumnSound n w′
   pub size : length w′ ≡ length w
   pub becomes : rows n w′ ≡ f (rows n w)
   pub kept : (i : ℕ) → 1 ≤ i → i < 8 → getD w′ i 0 ≡ getD w i 0

@@ -13,7 +13,7 @@ ghost use lib.ListN.{length, getD};
 ghost use Rattle.model.specs.Lists.{cutAt};
 ghost use Rattle.model.specs.Model.{SparseSet, noRow, held, insertRow, swapTo};
 ghost use Rattle.words.specs.Stores.{stores};
-ghost use Rattle.component.specs.SparseSet.{lengthOf, entity, valueOf, row, rows, Sized, Sound, Changed, swapRows, Current};
+ghost use Rattle.component.specs.SparseSet.{lengthOf, entity, valueOf, row, rows, Sized, ColumnSound, Changed, swapRows, Current};
 ghost use Rattle.component.specs.Answers.{Removes};
 ghost use Rattle.component.specs.Stored.{wordsAt, rowStores, Absent, valued, popped};
 
@@ -61,7 +61,7 @@ pub fn len(part: &[u32]) -> usize
 
 // The value of the row at a place.
 pub fn value_at(part: &[u32], n: usize, place: usize) -> Value
-    requires { ⌜ Sound n (now part) × (place < length (rows n (now part))) ⌝ }
+    requires { ⌜ ColumnSound n (now part) × (place < length (rows n (now part))) ⌝ }
     ensures { λ r. ⌜ valueOf (r .low) (r .high) ≡ getD (rows n (now (part .entry))) place noRow .value ⌝ }
 {
     let r = read_row(part, n, place);
@@ -73,7 +73,7 @@ pub fn value_at(part: &[u32], n: usize, place: usize) -> Value
 
 // Exchanges the rows at a and b.
 pub fn swap(part: &mut [u32], n: usize, a: usize, b: usize)
-    requires { ⌜ Sound n (now part) ⌝ }
+    requires { ⌜ ColumnSound n (now part) ⌝ }
     requires { ⌜ (a < length (rows n (now part))) × (b < length (rows n (now part))) ⌝ }
     ensures { λ _. ⌜ Changed n (swapRows a b) (now (part .entry)) (now (part .exit)) ⌝ }
 {
@@ -90,7 +90,7 @@ pub fn swap(part: &mut [u32], n: usize, a: usize, b: usize)
 
 // Exchanges the entity's row with the one at place.
 pub fn swap_to(part: &mut [u32], n: usize, index: u32, version: u32, place: usize)
-    requires { ⌜ Sound n (now part) ⌝ }
+    requires { ⌜ ColumnSound n (now part) ⌝ }
     requires { ⌜ (held (entity index version) (rows n (now part)) ≡ true) × (place < length (rows n (now part))) ⌝ }
     ensures { λ _. ⌜ Changed n (swapTo (entity index version) place) (now (part .entry)) (now (part .exit)) ⌝ }
 {
@@ -103,7 +103,7 @@ pub fn swap_to(part: &mut [u32], n: usize, index: u32, version: u32, place: usiz
 
 // One more row, of an index that no row has.
 fn append(part: &mut [u32], n: usize, index: u32, version: u32, low: u32, high: u32)
-    requires { ⌜ Sound n (now part) ⌝ }
+    requires { ⌜ ColumnSound n (now part) ⌝ }
     requires { ⌜ (index < n) × (1 ≤ version) ⌝ }
     requires { ⌜ Absent index (rows n (now part)) ⌝ }
     ensures { λ _. ⌜ Changed n (λ (rs : SparseSet). rs ++ (row index version low high ∷ [])) (now (part .entry)) (now (part .exit)) ⌝ }
@@ -127,7 +127,7 @@ fn append(part: &mut [u32], n: usize, index: u32, version: u32, low: u32, high: 
 
 // Another value in the row at place.
 fn replace(part: &mut [u32], n: usize, place: usize, low: u32, high: u32)
-    requires { ⌜ Sound n (now part) ⌝ }
+    requires { ⌜ ColumnSound n (now part) ⌝ }
     requires { ⌜ place < lengthOf (now part) ⌝ }
     ensures { λ _. ⌜ Changed n (valued place (valueOf low high)) (now (part .entry)) (now (part .exit)) ⌝ }
 {
@@ -138,7 +138,7 @@ fn replace(part: &mut [u32], n: usize, place: usize, low: u32, high: u32)
 
 // Puts a value with an entity: in the entity's row, or in a new one at the end.
 pub fn insert(part: &mut [u32], n: usize, index: u32, version: u32, low: u32, high: u32)
-    requires { ⌜ Sound n (now part) ⌝ }
+    requires { ⌜ ColumnSound n (now part) ⌝ }
     requires { ⌜ (index < n) × (1 ≤ version) ⌝ }
     requires { ⌜ Current index version (rows n (now part)) ⌝ }
     ensures { λ _. ⌜ Changed n (insertRow (entity index version) (valueOf low high)) (now (part .entry)) (now (part .exit)) ⌝ }
@@ -153,7 +153,7 @@ pub fn insert(part: &mut [u32], n: usize, index: u32, version: u32, low: u32, hi
 
 // The row at place goes, and the last row takes its place.
 fn remove_at(part: &mut [u32], n: usize, place: usize)
-    requires { ⌜ Sound n (now part) ⌝ }
+    requires { ⌜ ColumnSound n (now part) ⌝ }
     requires { ⌜ place < lengthOf (now part) ⌝ }
     ensures { λ _. ⌜ Changed n (cutAt noRow place) (now (part .entry)) (now (part .exit)) ⌝ }
 {
@@ -170,7 +170,7 @@ fn remove_at(part: &mut [u32], n: usize, place: usize)
 
 // The entity's row goes, if it has one, and its value is handed back.
 pub fn remove(part: &mut [u32], n: usize, index: u32, version: u32) -> Removed
-    requires { ⌜ Sound n (now part) ⌝ }
+    requires { ⌜ ColumnSound n (now part) ⌝ }
     ensures { λ r. ⌜ Removes n (entity index version) (now (part .entry)) (now (part .exit)) r ⌝ }
 {
     let found = find(part, n, index, version);
@@ -184,7 +184,7 @@ pub fn remove(part: &mut [u32], n: usize, index: u32, version: u32) -> Removed
 
 // The last row goes.
 fn pop(part: &mut [u32], n: usize)
-    requires { ⌜ Sound n (now part) ⌝ }
+    requires { ⌜ ColumnSound n (now part) ⌝ }
     requires { ⌜ 1 ≤ lengthOf (now part) ⌝ }
     ensures { λ _. ⌜ Changed n popped (now (part .entry)) (now (part .exit)) ⌝ }
 {
@@ -197,7 +197,7 @@ fn pop(part: &mut [u32], n: usize)
 
 // Every row goes, one by one from the end: the cost is that of the rows held.
 pub fn clear(part: &mut [u32], n: usize)
-    requires { ⌜ Sound n (now part) ⌝ }
+    requires { ⌜ ColumnSound n (now part) ⌝ }
     ensures { λ _. ⌜ Changed n (λ (rs : SparseSet). []) (now (part .entry)) (now (part .exit)) ⌝ }
 {
     let mut k = part[0];

@@ -3,7 +3,7 @@ use crate::Found;
 ghost use mathlib.Core.Path.{_≡_};
 ghost use Prim.Native.Nat.{_<_};
 ghost use Rattle.words.specs.Stores.{stores};
-ghost use Rattle.component.specs.SparseSet.{entity, rows, Sized, Sound};
+ghost use Rattle.component.specs.SparseSet.{entity, rows, Sized, ColumnSound};
 ghost use Rattle.component.specs.Answers.{Finds};
 ghost use Rattle.component.specs.Stored.{lookupStores};
 
@@ -19,7 +19,7 @@ pub fn put_lookup(part: &mut [u32], n: usize, x: u32, p: usize, v: u32)
 
 // Any index and version may be asked for.
 pub fn find(part: &[u32], n: usize, index: u32, version: u32) -> Found
-    requires { ⌜ Sound n (now part) ⌝ }
+    requires { ⌜ ColumnSound n (now part) ⌝ }
     ensures { λ r. ⌜ Finds n (entity index version) (rows n (now (part .entry))) r ⌝ }
 {
     let x = index as usize;

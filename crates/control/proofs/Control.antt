@@ -58,7 +58,7 @@ module _ (w : List ℕ) where
 
 -- ---- words that differ in the two lists and the refusal count alone
 
-pub record Listed (w w′ : List ℕ) : Type 0 where
+pub record ListsOnly (w w′ : List ℕ) : Type 0 where
   pub size : length w′ ≡ length w
   pub limits : (i : ℕ) → i < 3 → getD w′ i 0 ≡ getD w i 0
   pub layouts : (i : ℕ) → 5 ≤ i → i < 9 → getD w′ i 0 ≡ getD w i 0
@@ -76,7 +76,7 @@ drop-stores k w [] b = refl
 drop-stores k w (s ∷ ss) b = drop-stores k (set w (s .0) (s .1)) ss (b .1) ∙ drop-set-lt k w (s .0) (s .1) (b .0)
 
 stores-listed : (w : List ℕ) (ss : List (ℕ × ℕ)) → ((i : ℕ) → i < 3 → Misses ss i) → ((i : ℕ) → 5 ≤ i → i < 9 → Misses ss i) → ((i : ℕ) → TABLE ≤ i → i < STAGED-KINDS → Misses ss i)
-    → ((i : ℕ) → DRAFT ≤ i → i < ENTITIES → Misses ss i) → Below ENTITIES ss → Listed w (stores w ss)
+    → ((i : ℕ) → DRAFT ≤ i → i < ENTITIES → Misses ss i) → Below ENTITIES ss → ListsOnly w (stores w ss)
 stores-listed w ss a b c d below =
     record {
       size = length-stores w ss;
@@ -90,7 +90,7 @@ stores-listed w ss a b c d below =
 abbrev control : List Component → List ℕ → List Family → ℕ → Control
 control s e d r = record { staged = s; excluded = e; draft = d; refusals = r }
 
-module _ (w w′ : List ℕ) (A : Arranged w) (L : Listed w w′) where
+module _ (w w′ : List ℕ) (A : Arranged w) (L : ListsOnly w w′) where
   static : Static w w′
   static =
       record {
@@ -125,7 +125,7 @@ module _ (w : List ℕ) (A : Arranged w) (k l h : ℕ) (few : stagedLen w < LIST
   abbrev ss : List (ℕ × ℕ)
   ss = (3, n + 1) ∷ (STAGED-KINDS + n, k) ∷ (STAGED-VALUES + 4 * n, l) ∷ (STAGED-VALUES + 4 * n + 1, h) ∷ []
 
-  stage-listed : Listed w (stores w ss)
+  stage-listed : ListsOnly w (stores w ss)
   stage-listed = stores-listed w ss (λ i a. omega arith) (λ i a b. omega arith) (λ i a b. omega arith) (λ i a b. omega arith) (omega arith)
 
   stage-length : stagedLen (stores w ss) ≡ n + 1
@@ -170,7 +170,7 @@ module _ (w : List ℕ) (A : Arranged w) (k : ℕ) (few : excludedLen w < LIST-C
   abbrev ts : List (ℕ × ℕ)
   ts = (4, m + 1) ∷ (EXCLUDED-KINDS + m, k) ∷ []
 
-  exclude-listed : Listed w (stores w ts)
+  exclude-listed : ListsOnly w (stores w ts)
   exclude-listed = stores-listed w ts (λ i a. omega arith) (λ i a b. omega arith) (λ i a b. omega arith) (λ i a b. omega arith) (omega arith)
 
   exclude-length : excludedLen (stores w ts) ≡ m + 1

@@ -12,7 +12,7 @@ use Rattle.model.specs.Model.{Entity, Entities, noEntity, sameEntity, isLive, c
 use Rattle.model.proofs.SparseSets.{entity-eq, entity-same}
 use Rattle.words.specs.Offsets.{columnStart-mono}
 use Rattle.entity.specs.declared.Entity.{Entity as Answer}
-use Rattle.entity.specs.Meaning.{Sound, entityAt, entitiesOf, lenOf}
+use Rattle.entity.specs.Meaning.{EntityPartSound, entityAt, entitiesOf, lenOf}
 use Rattle.entity.specs.Change.{SoundIn, entityPart, entitiesIn, EntityChange}
 use Rattle.entity.specs.Answers.{entityOf, created, CreatedIn}
 use Rattle.entity.proofs.Lookups.{length-live, getD-live}
@@ -51,7 +51,7 @@ module _ (w : List ℕ) (n : ℕ) (C : Capacity w n) where
 -- ---- live entities
 
 -- a live entity has an index below the capacity, and a version of 1 or more
-live-in : (n : ℕ) (p : List ℕ) → Sound n p → (e : Entity) → isLive e (entitiesOf n p) ≡ true → (e .index < n) × (1 ≤ e .version)
+live-in : (n : ℕ) (p : List ℕ) → EntityPartSound n p → (e : Entity) → isLive e (entitiesOf n p) ≡ true → (e .index < n) × (1 ≤ e .version)
 live-in n p S e t =
     let l = entitiesOf n p .live in
     let i = place sameEntity e l in

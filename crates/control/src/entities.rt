@@ -12,7 +12,7 @@ ghost use mathlib.Core.Bool.{false};
 ghost use Prim.Native.Nat.{_<_};
 ghost use lib.ListN.{length, getD};
 ghost use Rattle.model.specs.Model.{noEntity, destroy};
-ghost use Rattle.model.specs.Snapshot.{versionAt};
+ghost use Rattle.model.specs.Snapshot.{liveVersion};
 ghost use Rattle.entity.specs.Meaning.{entity};
 ghost use Rattle.entity.specs.Change.{isFull};
 ghost use Rattle.entity.specs.Answers.{entityOf, foundOf, LiveAt};
@@ -104,7 +104,7 @@ pub fn issued(words: &[u32]) -> usize
 pub fn version_at(words: &[u32], index: usize) -> u32
     requires { ⌜ Arranged (now words) ⌝ }
     requires { ⌜ index < meaning (now words) .capacity ⌝ }
-    ensures { λ r. ⌜ r ≡ versionAt index (meaning (now (words .entry)) .entities .live) ⌝ }
+    ensures { λ r. ⌜ r ≡ liveVersion index (meaning (now (words .entry)) .entities .live) ⌝ }
 {
     let n = capacity(words);
     let end = ENTITIES + model::ENTITY_LEN * n;

@@ -10,7 +10,7 @@ use lib.Seq.{getD-append-seam}
 use Rattle.model.specs.Lists.{place, getD-place}
 use Rattle.model.specs.Model.{Entity, noEntity, sameEntity, isLive, create}
 use Rattle.model.proofs.SparseSets.{entity-eq}
-use Rattle.entity.specs.Meaning.{Sound, entitiesOf, lenOf}
+use Rattle.entity.specs.Meaning.{EntityPartSound, entitiesOf, lenOf}
 use Rattle.entity.specs.Answers.{created}
 use Rattle.entity.proofs.Lookups.{length-live, getD-live, issued-is}
 use Rattle.entity.proofs.ModelSteps.{create-steps, allocated-live}
@@ -20,7 +20,7 @@ pub record Known (n : ℕ) (e : Entity) : Type 0 where
   pub below : e .index < n
   pub positive : 1 ≤ e .version
 
-module _ (n : ℕ) (w : List ℕ) (s : Sound n w) where
+module _ (n : ℕ) (w : List ℕ) (s : EntityPartSound n w) where
   pub live-few : length (entitiesOf n w .live) ≤ n
   live-few = omega (arith, length-live n w, s .linked .room)
 
@@ -40,7 +40,7 @@ module _ (n : ℕ) (w : List ℕ) (s : Sound n w) where
       rw (getD-place sameEntity entity-eq e noEntity l b) at (known-at (place sameEntity e l) b)
 
 -- a new entity is known
-pub known-created : (n : ℕ) (w w′ : List ℕ) → Sound n w′ → entitiesOf n w′ ≡ created (entitiesOf n w) → Known n (create (entitiesOf n w) .entity)
+pub known-created : (n : ℕ) (w w′ : List ℕ) → EntityPartSound n w′ → entitiesOf n w′ ≡ created (entitiesOf n w) → Known n (create (entitiesOf n w) .entity)
 known-created n w w′ d c =
     let s = entitiesOf n w in
     let e = create s .entity in

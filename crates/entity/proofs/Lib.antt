@@ -1,7 +1,7 @@
-pub mod RingLaws
+pub mod QueueLaws
 pub mod Kept
 pub mod LiveSteps
-pub mod RingSteps
+pub mod QueueSteps
 pub mod ModelSteps
 pub mod Lookups
 pub mod Numbering

@@ -9,25 +9,25 @@ use Rattle.words.specs.Table.{by-eq, table-snoc, table-removed}
 use Rattle.words.specs.Stores.{stores, miss, hit, length-stores}
 use Rattle.words.specs.Links.{apart, linked-appended, linked-removed}
 use Rattle.words.specs.Pigeon.{pigeon-free}
-use Rattle.entity.specs.Meaning.{Sound, Idle, entity, entitiesOf, entityAt, lenOf, issuedOf, indexAt, versionAt, placeOf, heldOf, ringSlot}
+use Rattle.entity.specs.Meaning.{EntityPartSound, Idle, entity, entitiesOf, entityAt, lenOf, issuedOf, liveIndexAt, liveVersionAt, placeOf, heldOf, queueSlot}
 use Rattle.entity.specs.Change.{Changed, joined, left}
 use Rattle.entity.specs.Stored.{putStores}
-use Rattle.entity.proofs.Kept.{entity-path, entities-path, kept-ring, live-unlisted}
+use Rattle.entity.proofs.Kept.{entity-path, entities-path, kept-queue, live-unlisted}
 
 -- ---- an entity joins
 
 abbrev pub joinStores : ℕ → ℕ → ℕ → List ℕ → List (ℕ × ℕ)
 joinStores n x v w = putStores n (lenOf w) x v ++ ((0, lenOf w + 1) ∷ [])
 
-module _ (n : ℕ) (w : List ℕ) (s : Sound n w) (x v : ℕ) (d : Idle n w x) (hv : 1 ≤ v) where
+module _ (n : ℕ) (w : List ℕ) (s : EntityPartSound n w) (x v : ℕ) (d : Idle n w x) (hv : 1 ≤ v) where
   -- where an issued index is not live, there is room for it
   pub live-room : lenOf w < n
   live-room =
       let L = s .linked in
       let hx : x < n = omega (arith, d .below, s .few) in
-      pigeon-free n (lenOf w) x (indexAt w) hx
+      pigeon-free n (lenOf w) x (liveIndexAt w) hx
       (λ i hi. L .tied i hi .below)
-      (apart n (lenOf w) (indexAt w) (versionAt w) (placeOf n w) (heldOf n w) L)
+      (apart n (lenOf w) (liveIndexAt w) (liveVersionAt w) (placeOf n w) (heldOf n w) L)
       (λ i hi e. let t = L .tied i hi in let z = ap (heldOf n w) e in omega (arith, t .agreed, t .issued, d .free))
 
   pub joined-changed : Changed n (joined (entity x v)) w (stores w (joinStores n x v w))
@@ -42,17 +42,17 @@ module _ (n : ℕ) (w : List ℕ) (s : Sound n w) (x v : ℕ) (d : Idle n w x) (
       let hx : x < n = omega (arith, d .below, s .few) in
       let e₀ : lenOf w′ ≡ k + 1 = hit w ss 4 _ _ (omega arith) (omega arith) in
       let e₁ : issuedOf w′ ≡ issuedOf w = miss w ss _ (omega arith) in
-      let ik : indexAt w′ k ≡ x = hit w ss 0 _ _ (omega arith) (omega arith) in
-      let vk : versionAt w′ k ≡ v = hit w ss 1 _ _ (omega arith) (omega arith) in
-      let io : (i : ℕ) → i < k → indexAt w′ i ≡ indexAt w i = λ i hi. miss w ss _ (omega arith) in
-      let vo : (i : ℕ) → i < k → versionAt w′ i ≡ versionAt w i = λ i hi. miss w ss _ (omega arith) in
+      let ik : liveIndexAt w′ k ≡ x = hit w ss 0 _ _ (omega arith) (omega arith) in
+      let vk : liveVersionAt w′ k ≡ v = hit w ss 1 _ _ (omega arith) (omega arith) in
+      let io : (i : ℕ) → i < k → liveIndexAt w′ i ≡ liveIndexAt w i = λ i hi. miss w ss _ (omega arith) in
+      let vo : (i : ℕ) → i < k → liveVersionAt w′ i ≡ liveVersionAt w i = λ i hi. miss w ss _ (omega arith) in
       let ho : (y : ℕ) → y < n → y ≢ x → heldOf n w′ y ≡ heldOf n w y = λ y hy ne. miss w ss _ (omega arith) in
       let kept =
-      kept-ring n w w′ s (miss w ss _ (omega arith)) (miss w ss _ (omega arith)) (omega arith)
+      kept-queue n w w′ s (miss w ss _ (omega arith)) (miss w ss _ (omega arith)) (omega arith)
       (λ p hp. miss w ss _ (omega arith))
       (λ p hp. miss w ss _ (omega arith))
       (λ y hy. miss w ss _ (omega arith))
-      (λ y hy b. ho y hy (λ e. let z = ap (ringSlot n w) e in omega (arith, d .unlisted))) in
+      (λ y hy b. ho y hy (λ e. let z = ap (queueSlot n w) e in omega (arith, d .unlisted))) in
       record {
         sound =
             record {
@@ -60,8 +60,8 @@ module _ (n : ℕ) (w : List ℕ) (s : Sound n w) (x v : ℕ) (d : Idle n w x) (
               few = rw e₁ (s .few);
               linked =
                   rw e₀
-                  (linked-appended n k (indexAt w) (versionAt w) (placeOf n w) (heldOf n w) (s .linked)
-                  (indexAt w′) (versionAt w′) (placeOf n w′) (heldOf n w′) room x v hx hv (d .free)
+                  (linked-appended n k (liveIndexAt w) (liveVersionAt w) (placeOf n w) (heldOf n w) (s .linked)
+                  (liveIndexAt w′) (liveVersionAt w′) (placeOf n w′) (heldOf n w′) room x v hx hv (d .free)
                   ik io vk vo
                   (hit w ss 2 _ _ (omega arith) (omega arith))
                   (λ y hy ne. miss w ss _ (omega arith))
@@ -72,7 +72,7 @@ module _ (n : ℕ) (w : List ℕ) (s : Sound n w) (x v : ℕ) (d : Idle n w x) (
                   by-eq i k
                   (λ e. rw (e, ik) (omega (arith, d .below)))
                   (λ ne. let h : i < k = omega arith in omega (arith, io i h, s .known i h));
-              ring = kept .ring;
+              queue = kept .queue;
             };
         size = length-stores w ss;
         becomes =
@@ -86,17 +86,17 @@ module _ (n : ℕ) (w : List ℕ) (s : Sound n w) (x v : ℕ) (d : Idle n w x) (
 
 abbrev pub leaveStores : ℕ → ℕ → List ℕ → List (ℕ × ℕ)
 leaveStores n p w =
-    putStores n p (indexAt w (lenOf w - 1)) (versionAt w (lenOf w - 1))
-    ++ ((8 + 2 * n + 2 * indexAt w p + 1, 0) ∷ (0, lenOf w - 1) ∷ [])
+    putStores n p (liveIndexAt w (lenOf w - 1)) (liveVersionAt w (lenOf w - 1))
+    ++ ((8 + 2 * n + 2 * liveIndexAt w p + 1, 0) ∷ (0, lenOf w - 1) ∷ [])
 
-module _ (n : ℕ) (w : List ℕ) (s : Sound n w) (p : ℕ) (hp : p < lenOf w) where
+module _ (n : ℕ) (w : List ℕ) (s : EntityPartSound n w) (p : ℕ) (hp : p < lenOf w) where
   -- the index that left is neither live nor waiting
-  pub left-idle : Idle n (stores w (leaveStores n p w)) (indexAt w p)
+  pub left-idle : Idle n (stores w (leaveStores n p w)) (liveIndexAt w p)
   left-idle =
       let ss = leaveStores n p w in
       let L = s .linked in
-      let x = indexAt w p in
-      let y = indexAt w (lenOf w - 1) in
+      let x = liveIndexAt w p in
+      let y = liveIndexAt w (lenOf w - 1) in
       let t = L .tied p hp in
       let hy : y < n = L .tied (lenOf w - 1) (omega arith) .below in
       let size = s .sized .size in
@@ -114,8 +114,8 @@ module _ (n : ℕ) (w : List ℕ) (s : Sound n w) (p : ℕ) (hp : p < lenOf w) w
       let w′ = stores w ss in
       let L = s .linked in
       let k = lenOf w in
-      let x = indexAt w p in
-      let y = indexAt w (k - 1) in
+      let x = liveIndexAt w p in
+      let y = liveIndexAt w (k - 1) in
       let hl : k - 1 < k = omega arith in
       let tp = L .tied p hp in
       let tl = L .tied (k - 1) hl in
@@ -123,22 +123,22 @@ module _ (n : ℕ) (w : List ℕ) (s : Sound n w) (p : ℕ) (hp : p < lenOf w) w
       let size = s .sized .size in
       let e₀ : lenOf w′ ≡ k - 1 = hit w ss 5 _ _ (omega arith) (omega arith) in
       let e₁ : issuedOf w′ ≡ issuedOf w = miss w ss _ (omega arith) in
-      let ip : p < k - 1 → indexAt w′ p ≡ y = λ q. hit w ss 0 _ _ (omega arith) (omega arith) in
-      let vp : p < k - 1 → versionAt w′ p ≡ versionAt w (k - 1) = λ q. hit w ss 1 _ _ (omega arith) (omega arith) in
-      let io : (i : ℕ) → i < k - 1 → i ≢ p → indexAt w′ i ≡ indexAt w i = λ i hi ne. miss w ss _ (omega arith) in
-      let vo : (i : ℕ) → i < k - 1 → i ≢ p → versionAt w′ i ≡ versionAt w i = λ i hi ne. miss w ss _ (omega arith) in
+      let ip : p < k - 1 → liveIndexAt w′ p ≡ y = λ q. hit w ss 0 _ _ (omega arith) (omega arith) in
+      let vp : p < k - 1 → liveVersionAt w′ p ≡ liveVersionAt w (k - 1) = λ q. hit w ss 1 _ _ (omega arith) (omega arith) in
+      let io : (i : ℕ) → i < k - 1 → i ≢ p → liveIndexAt w′ i ≡ liveIndexAt w i = λ i hi ne. miss w ss _ (omega arith) in
+      let vo : (i : ℕ) → i < k - 1 → i ≢ p → liveVersionAt w′ i ≡ liveVersionAt w i = λ i hi ne. miss w ss _ (omega arith) in
       let ho : (z : ℕ) → z < n → z ≢ x → heldOf n w′ z ≡ heldOf n w z =
       λ z hz ne.
       by-eq z y
       (λ e. hit w ss 3 _ _ (omega arith) (omega arith) ∙ sym (tl .agreed) ∙ ap (heldOf n w) (sym e))
       (λ ny. miss w ss _ (omega arith)) in
-      let xu : ringSlot n w x ≡ 0 = live-unlisted n w s x (tp .below) (omega (arith, tp .agreed, tp .issued)) in
+      let xu : queueSlot n w x ≡ 0 = live-unlisted n w s x (tp .below) (omega (arith, tp .agreed, tp .issued)) in
       let kept =
-      kept-ring n w w′ s (miss w ss _ (omega arith)) (miss w ss _ (omega arith)) (omega arith)
+      kept-queue n w w′ s (miss w ss _ (omega arith)) (miss w ss _ (omega arith)) (omega arith)
       (λ q hq. miss w ss _ (omega arith))
       (λ q hq. miss w ss _ (omega arith))
       (λ z hz. miss w ss _ (omega arith))
-      (λ z hz b. ho z hz (λ e. let t = ap (ringSlot n w) e in omega arith)) in
+      (λ z hz b. ho z hz (λ e. let t = ap (queueSlot n w) e in omega arith)) in
       record {
         sound =
             record {
@@ -146,12 +146,12 @@ module _ (n : ℕ) (w : List ℕ) (s : Sound n w) (p : ℕ) (hp : p < lenOf w) w
               few = rw e₁ (s .few);
               linked =
                   rw e₀
-                  (linked-removed n k (indexAt w) (versionAt w) (placeOf n w) (heldOf n w) L
-                  (indexAt w′) (versionAt w′) (placeOf n w′) (heldOf n w′) p hp ip io vp vo
+                  (linked-removed n k (liveIndexAt w) (liveVersionAt w) (placeOf n w) (heldOf n w) L
+                  (liveIndexAt w′) (liveVersionAt w′) (placeOf n w′) (heldOf n w′) p hp ip io vp vo
                   (λ q. hit w ss 2 _ _ (omega arith) (omega arith))
                   (λ i hi ne.
                   let z = L .tied i (omega arith) .below in
-                  let d = apart n k (indexAt w) (versionAt w) (placeOf n w) (heldOf n w) L i (k - 1) (omega arith) hl (omega arith) in
+                  let d = apart n k (liveIndexAt w) (liveVersionAt w) (placeOf n w) (heldOf n w) L i (k - 1) (omega arith) hl (omega arith) in
                   miss w ss _ (omega arith))
                   (hit w ss 4 _ _ (omega arith) (omega arith))
                   ho);
@@ -160,7 +160,7 @@ module _ (n : ℕ) (w : List ℕ) (s : Sound n w) (p : ℕ) (hp : p < lenOf w) w
                   by-eq i p
                   (λ e. let q : p < k - 1 = omega arith in rw (e, ip q, e₁) (s .known (k - 1) hl))
                   (λ ne. let h : i < k - 1 = omega arith in rw (io i h ne, e₁) (s .known i (omega arith)));
-              ring = kept .ring;
+              queue = kept .queue;
             };
         size = length-stores w ss;
         becomes =

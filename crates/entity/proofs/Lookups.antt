@@ -11,12 +11,12 @@ use borrow.Author.Tests.{lt-ltb, ltb-true, eq-eqb, ne-eqb}
 use lib.ListN.{length, getD}
 use Rattle.model.specs.Lists.{place, after, getD-place}
 use Rattle.model.specs.Model.{Entity, Entities, noEntity, sameEntity, isLive}
-use Rattle.model.specs.Snapshot.{versionAt as versionIn}
+use Rattle.model.specs.Snapshot.{liveVersion as versionIn}
 use Rattle.model.proofs.SparseSets.{entity-eq, entity-same}
 use Rattle.model.proofs.Walk.{bool-cases}
 use Rattle.words.specs.Table.{length-table, getD-table}
 use Rattle.entity.specs.declared.Found.the-variants.{At, Nothing}
-use Rattle.entity.specs.Meaning.{Sound, entity, entitiesOf, entityAt, waitingAt, lenOf, issuedOf, recycledLen, indexAt, versionAt, placeOf, heldOf}
+use Rattle.entity.specs.Meaning.{EntityPartSound, entity, entitiesOf, entityAt, waitingAt, lenOf, issuedOf, recycledLen, liveIndexAt, liveVersionAt, placeOf, heldOf}
 use Rattle.entity.specs.Answers.{foundOf, pickFound}
 
 same-other : (a b : Entity) → b ≢ a → sameEntity a b ≡ false
@@ -69,12 +69,12 @@ module _ (n : ℕ) (w : List ℕ) where
   unfolding entitiesOf
   issued-is = refl
 
-  module _ (s : Sound n w) where
+  module _ (s : EntityPartSound n w) where
     -- the live list's place i with index x is what x's lookup says
-    looked-up : (i x : ℕ) → i < length (entitiesOf n w .live) → getD (entitiesOf n w .live) i noEntity .index ≡ x → (placeOf n w x ≡ i) × (heldOf n w x ≡ versionAt w i) × (1 ≤ versionAt w i)
+    looked-up : (i x : ℕ) → i < length (entitiesOf n w .live) → getD (entitiesOf n w .live) i noEntity .index ≡ x → (placeOf n w x ≡ i) × (heldOf n w x ≡ liveVersionAt w i) × (1 ≤ liveVersionAt w i)
     looked-up i x hi e =
         let h : i < lenOf w = omega (arith, length-live) in
-        let ix : indexAt w i ≡ x = sym (ap (λ (q : Entity). q .index) (getD-live i h)) ∙ e in
+        let ix : liveIndexAt w i ≡ x = sym (ap (λ (q : Entity). q .index) (getD-live i h)) ∙ e in
         let t = s .linked .tied i h in
         (ap (placeOf n w) (sym ix) ∙ t .placed, ap (heldOf n w) (sym ix) ∙ t .agreed, t .issued)
 
@@ -122,8 +122,8 @@ module _ (n : ℕ) (w : List ℕ) where
         (λ i hi e.
         let h : i < lenOf w = omega (arith, length-live) in
         let q = sym (getD-live i h) ∙ e in
-        let ix : indexAt w i ≡ x = ap (λ (u : Entity). u .index) q in
-        let vx : versionAt w i ≡ v = ap (λ (u : Entity). u .version) q in
+        let ix : liveIndexAt w i ≡ x = ap (λ (u : Entity). u .index) q in
+        let vx : liveVersionAt w i ≡ v = ap (λ (u : Entity). u .version) q in
         let t = s .linked .tied i h in
         f (rw ix at (t .below)) (rw vx at (t .issued)) (ap (heldOf n w) (sym ix) ∙ t .agreed ∙ vx)) in
         sym (ap (λ (b : Bool). pickFound b (place sameEntity (entity x v) (entitiesOf n w .live))) no)
@@ -154,7 +154,7 @@ found-dead e s = go (isLive e s) refl
     go false q h = q
 
 -- a place that is found is in the live list, and has the index
-pub found-place : (n : ℕ) (w : List ℕ) (x v p : ℕ) → foundOf (entity x v) (entitiesOf n w) ≡ At p → (p < lenOf w) × (indexAt w p ≡ x)
+pub found-place : (n : ℕ) (w : List ℕ) (x v p : ℕ) → foundOf (entity x v) (entitiesOf n w) ≡ At p → (p < lenOf w) × (liveIndexAt w p ≡ x)
 found-place n w x v p f =
     let l = entitiesOf n w .live in
     let q = found-live (entity x v) (entitiesOf n w) p f in

@@ -14,21 +14,21 @@ use Rattle.model.specs.Model.{Entity, noEntity, sameEntity, lastVersion}
 use Rattle.model.proofs.SparseSets.{entity-eq}
 use Rattle.model.proofs.Groups.{cnt, plc}
 use Rattle.model.proofs.Walk.{bool-cases}
-use Rattle.model.proofs.Numbers.{EntitiesOk, num, idxOf}
+use Rattle.model.proofs.Numbers.{EntitiesOk, num, indexOf}
 use Rattle.words.specs.Links.{apart}
-use Rattle.entity.specs.Ring.{wrapped}
-use Rattle.entity.specs.Meaning.{Sound, entitiesOf, lenOf, issuedOf, headOf, recycledLen, indexAt, versionAt, placeOf, heldOf, ringIndex, ringVersion, ringSlot}
-use Rattle.entity.proofs.RingLaws.{ring-apart}
+use Rattle.entity.specs.Queue.{wrapped}
+use Rattle.entity.specs.Meaning.{EntityPartSound, entitiesOf, lenOf, issuedOf, headOf, recycledLen, liveIndexAt, liveVersionAt, placeOf, heldOf, queueIndex, queueVersion, queueSlot}
+use Rattle.entity.proofs.QueueLaws.{queue-apart}
 use Rattle.entity.proofs.Lookups.{length-live, getD-live, length-recycled, getD-recycled, issued-is}
 
 -- an index that the list counts is that of a place
 num-found : (x : ℕ) (l : List Entity) → 1 ≤ num x l → (i : ℕ) × (i < length l) × (getD l i noEntity .index ≡ x)
 num-found x l h =
-    let ks = map idxOf l in
+    let ks = map indexOf l in
     let p = count-place eqb x ks h in (
       place eqb x ks,
-      omega (arith, length-map l idxOf),
-      sym (List·getD-map idxOf l (place eqb x ks) noEntity) ∙ getD-place eqb eqb-true x 0 ks p,
+      omega (arith, length-map l indexOf),
+      sym (List·getD-map indexOf l (place eqb x ks) noEntity) ∙ getD-place eqb eqb-true x 0 ks p,
     )
 
 cnt-found : (e : Entity) (l : List Entity) → 1 ≤ cnt e l → (i : ℕ) × (i < length l) × (getD l i noEntity ≡ e)
@@ -47,18 +47,18 @@ num-once x (y ∷ l) f =
     omega (arith, ap one t))
     (λ t. omega (arith, ap one t))
 
-module _ (n : ℕ) (w : List ℕ) (s : Sound n w) where
-  live-place : (x : ℕ) → 1 ≤ num x (entitiesOf n w .live) → (i : ℕ) × (i < lenOf w) × (indexAt w i ≡ x)
+module _ (n : ℕ) (w : List ℕ) (s : EntityPartSound n w) where
+  live-place : (x : ℕ) → 1 ≤ num x (entitiesOf n w .live) → (i : ℕ) × (i < lenOf w) × (liveIndexAt w i ≡ x)
   live-place x h =
       let q = num-found x (entitiesOf n w .live) h in
       let b : q .0 < lenOf w = omega (arith, q .1, length-live n w) in
-      (q .0, b, sym (ap idxOf (getD-live n w (q .0) b)) ∙ q .2)
+      (q .0, b, sym (ap indexOf (getD-live n w (q .0) b)) ∙ q .2)
 
-  recycled-place : (x : ℕ) → 1 ≤ num x (entitiesOf n w .recycled) → (j : ℕ) × (j < recycledLen w) × (ringIndex n w (wrapped n (headOf w + j)) ≡ x)
+  recycled-place : (x : ℕ) → 1 ≤ num x (entitiesOf n w .recycled) → (j : ℕ) × (j < recycledLen w) × (queueIndex n w (wrapped n (headOf w + j)) ≡ x)
   recycled-place x h =
       let q = num-found x (entitiesOf n w .recycled) h in
       let b : q .0 < recycledLen w = omega (arith, q .1, length-recycled n w) in
-      (q .0, b, sym (ap idxOf (getD-recycled n w (q .0) b)) ∙ q .2)
+      (q .0, b, sym (ap indexOf (getD-recycled n w (q .0) b)) ∙ q .2)
 
   -- no index is live and recycled
   not-both : (x : ℕ) → 1 ≤ num x (entitiesOf n w .live) → 1 ≤ num x (entitiesOf n w .recycled) → ⊥
@@ -66,7 +66,7 @@ module _ (n : ℕ) (w : List ℕ) (s : Sound n w) where
       let i = live-place x h in
       let j = recycled-place x r in
       let t = s .linked .tied (i .0) (i .1) in
-      let u = s .ring .waits (j .0) (j .1) in
+      let u = s .queue .waits (j .0) (j .1) in
       let a = ap (heldOf n w) (i .2) in
       let b = ap (heldOf n w) (j .2) in
       omega (arith, t .agreed, t .issued, u .free)
@@ -77,8 +77,8 @@ module _ (n : ℕ) (w : List ℕ) (s : Sound n w) where
       (λ i j hi hj ne e.
       let bi : i < lenOf w = omega (arith, length-live n w) in
       let bj : j < lenOf w = omega (arith, length-live n w) in
-      apart n (lenOf w) (indexAt w) (versionAt w) (placeOf n w) (heldOf n w) (s .linked) i j bi bj ne
-      (sym (ap idxOf (getD-live n w i bi)) ∙ e ∙ ap idxOf (getD-live n w j bj)))
+      apart n (lenOf w) (liveIndexAt w) (liveVersionAt w) (placeOf n w) (heldOf n w) (s .linked) i j bi bj ne
+      (sym (ap indexOf (getD-live n w i bi)) ∙ e ∙ ap indexOf (getD-live n w j bj)))
 
   recycled-once : (x : ℕ) → num x (entitiesOf n w .recycled) ≤ 1
   recycled-once x =
@@ -86,11 +86,11 @@ module _ (n : ℕ) (w : List ℕ) (s : Sound n w) where
       (λ i j hi hj ne e.
       let bi : i < recycledLen w = omega (arith, length-recycled n w) in
       let bj : j < recycledLen w = omega (arith, length-recycled n w) in
-      ring-apart n (issuedOf w) (headOf w) (recycledLen w) (ringIndex n w) (ringVersion n w) (ringSlot n w) (heldOf n w) (s .ring) i j bi bj ne
-      (sym (ap idxOf (getD-recycled n w i bi)) ∙ e ∙ ap idxOf (getD-recycled n w j bj)))
+      queue-apart n (issuedOf w) (headOf w) (recycledLen w) (queueIndex n w) (queueVersion n w) (queueSlot n w) (heldOf n w) (s .queue) i j bi bj ne
+      (sym (ap indexOf (getD-recycled n w i bi)) ∙ e ∙ ap indexOf (getD-recycled n w j bj)))
 
-  -- a version of the live list or of the ring is that of a place
-  versions : (P : ℕ → Type 0) → ((i : ℕ) → i < lenOf w → P (versionAt w i)) → ((j : ℕ) → j < recycledLen w → P (ringVersion n w (wrapped n (headOf w + j))))
+  -- a version of the live list or of the queue is that of a place
+  versions : (P : ℕ → Type 0) → ((i : ℕ) → i < lenOf w → P (liveVersionAt w i)) → ((j : ℕ) → j < recycledLen w → P (queueVersion n w (wrapped n (headOf w + j))))
       → (x : Entity) → 1 ≤ cnt x (entitiesOf n w .live) + cnt x (entitiesOf n w .recycled) → P (x .version)
   versions P f g x h =
       elim (decLe 1 (cnt x (entitiesOf n w .live))) [
@@ -120,8 +120,8 @@ module _ (n : ℕ) (w : List ℕ) (s : Sound n w) where
             rw (issued-is n w)
             (elim (decLe 1 (num x (entitiesOf n w .live))) [
               | yes l ↦ let q = live-place x l in omega (arith, q .2, s .known (q .0) (q .1))
-              | no l ↦ let q = recycled-place x (omega arith) in omega (arith, q .2, s .ring .waits (q .0) (q .1) .below)
+              | no l ↦ let q = recycled-place x (omega arith) in omega (arith, q .2, s .queue .waits (q .0) (q .1) .below)
             ]);
-        positive = versions (λ v. 1 ≤ v) (λ i hi. s .linked .tied i hi .issued) (λ j hj. s .ring .waits j hj .positive);
+        positive = versions (λ v. 1 ≤ v) (λ i hi. s .linked .tied i hi .issued) (λ j hj. s .queue .waits j hj .positive);
         small = versions (λ v. v ≤ lastVersion) (λ i hi. omega (arith, bits (8 + 2 * i + 1))) (λ j hj. omega (arith, bits (8 + 4 * n + 2 * wrapped n (headOf w + j) + 1)));
       }

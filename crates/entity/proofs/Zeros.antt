@@ -8,7 +8,7 @@ use lib.ListN.{length, getD}
 use Rattle.model.specs.Numbers.{ENTITY-LEN}
 use Rattle.words.specs.Table.{table, is-table}
 use Rattle.model.specs.Model.{Entity, noEntity}
-use Rattle.entity.specs.Meaning.{Sized, entitiesOf, lenOf, issuedOf, headOf, recycledLen, heldOf, ringSlot}
+use Rattle.entity.specs.Meaning.{Sized, entitiesOf, lenOf, issuedOf, headOf, recycledLen, heldOf, queueSlot}
 use Rattle.entity.specs.Change.{Changed, noEntities}
 use Rattle.entity.proofs.Kept.{entities-path}
 
@@ -29,7 +29,7 @@ zeros-changed n w₀ w d l z =
     let e₂ : headOf w ≡ 0 = z 2 (omega arith) in
     let e₃ : recycledLen w ≡ 0 = z 3 (omega arith) in
     let held : (x : ℕ) → x < n → heldOf n w x ≡ 0 = λ x h. z (8 + 2 * n + 2 * x + 1) (omega arith) in
-    let slot : (x : ℕ) → x < n → ringSlot n w x ≡ 0 = λ x h. z (8 + 6 * n + x) (omega arith) in
+    let slot : (x : ℕ) → x < n → queueSlot n w x ≡ 0 = λ x h. z (8 + 6 * n + x) (omega arith) in
     record {
       sound =
           record {
@@ -43,7 +43,7 @@ zeros-changed n w₀ w d l z =
                   back = λ x h b. absurd (omega (arith, held x h));
                 };
             known = λ i h. absurd (omega arith);
-            ring =
+            queue =
                 record {
                   start = omega arith;
                   few = omega arith;

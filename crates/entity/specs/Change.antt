@@ -11,7 +11,7 @@ use Rattle.model.specs.Lists.{cutAt}
 use Rattle.model.specs.Model.{Entity, Entities, noEntity, lastVersion}
 pub use Rattle.model.specs.Model.{isFull, noEntities}
 use Rattle.words.specs.Part.{between}
-use Rattle.entity.specs.Meaning.{Sound, entitiesOf, entity}
+use Rattle.entity.specs.Meaning.{EntityPartSound, entitiesOf, entity}
 
 -- ---- the steps of create and destroy
 
@@ -53,7 +53,7 @@ recycledAs e s =
 
 -- the entities have become f of what they were, and the part is sound
 pub record Changed (n : ℕ) (f : Entities → Entities) (w w′ : List ℕ) : Type 0 where
-  pub sound : Sound n w′
+  pub sound : EntityPartSound n w′
   pub size : length w′ ≡ length w
   pub becomes : entitiesOf n w′ ≡ f (entitiesOf n w)
 
@@ -69,11 +69,11 @@ entitiesIn n w = entitiesOf n (entityPart n w)
 -- the words have a sound entity part
 pub record SoundIn (n : ℕ) (w : List ℕ) : Type 0 where
   pub fits : ENTITIES + ENTITY-LEN * n ≤ length w
-  pub sound : Sound n (entityPart n w)
+  pub sound : EntityPartSound n (entityPart n w)
 
 -- the entities have become f of what they were; the words before and after their part are as they were
 pub record EntityChange (n : ℕ) (f : Entities → Entities) (w w′ : List ℕ) : Type 0 where
-  pub sound : Sound n (entityPart n w′)
+  pub sound : EntityPartSound n (entityPart n w′)
   pub size : length w′ ≡ length w
   pub becomes : entitiesIn n w′ ≡ f (entitiesIn n w)
   pub front : take ENTITIES w′ ≡ take ENTITIES w

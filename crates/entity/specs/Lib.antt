@@ -1,4 +1,4 @@
-pub mod Ring
+pub mod Queue
 pub mod Meaning
 pub mod Change
 pub mod Answers

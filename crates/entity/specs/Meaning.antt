@@ -1,7 +1,7 @@
 -- What the entity part means, and when it is sound. A part of 16 * n words for a capacity of n (docs/WORDS.md): word 0 the live count,
--- 1 the numbers issued, 2 the ring's head, 3 the recycled count; then the live list (index, version) from 8, the lookups by index
--- (place, version; version 0: not live) from 8 + 2 * n, the ring of recycled numbers (index, version) from 8 + 4 * n, and from 8 + 6 * n
--- for each index its place in the ring plus one, 0 where it does not wait. Assumes nothing.
+-- 1 the numbers issued, 2 the queue's head, 3 the recycled count; then the live list (index, version) from 8, the lookups by index
+-- (place, version; version 0: not live) from 8 + 2 * n, the queue of recycled numbers (index, version) from 8 + 4 * n, and from 8 + 6 * n
+-- for each index its place in the queue plus one, 0 where it does not wait. Assumes nothing.
 use mathlib.Core.Path.{_≡_}
 use mathlib.Core.List.{List}
 use Prim.Native.Nat.{ℕ, _+_, _*_, _≤_, _<_}
@@ -10,7 +10,7 @@ use Rattle.model.specs.Numbers.{ENTITY-LEN, MAX-ENTITIES}
 use Rattle.model.specs.Model.{Entity, Entities}
 use Rattle.words.specs.Table.{table}
 use Rattle.words.specs.Links.{Linked}
-use Rattle.entity.specs.Ring.{Ring, wrapped}
+use Rattle.entity.specs.Queue.{Queue, wrapped}
 
 abbrev pub lenOf : List ℕ → ℕ
 lenOf w = getD w 0 0
@@ -25,11 +25,11 @@ abbrev pub recycledLen : List ℕ → ℕ
 recycledLen w = getD w 3 0
 
 -- the live list's entity at place i
-abbrev pub indexAt : List ℕ → ℕ → ℕ
-indexAt w i = getD w (8 + 2 * i) 0
+abbrev pub liveIndexAt : List ℕ → ℕ → ℕ
+liveIndexAt w i = getD w (8 + 2 * i) 0
 
-abbrev pub versionAt : List ℕ → ℕ → ℕ
-versionAt w i = getD w (8 + 2 * i + 1) 0
+abbrev pub liveVersionAt : List ℕ → ℕ → ℕ
+liveVersionAt w i = getD w (8 + 2 * i + 1) 0
 
 -- the lookup of index x: its place in the live list, and its version, 0 where it is not live
 abbrev pub placeOf : ℕ → List ℕ → ℕ → ℕ
@@ -38,26 +38,26 @@ placeOf n w x = getD w (8 + 2 * n + 2 * x) 0
 abbrev pub heldOf : ℕ → List ℕ → ℕ → ℕ
 heldOf n w x = getD w (8 + 2 * n + 2 * x + 1) 0
 
--- the number at the ring's place p
-abbrev pub ringIndex : ℕ → List ℕ → ℕ → ℕ
-ringIndex n w p = getD w (8 + 4 * n + 2 * p) 0
+-- the number at the queue's place p
+abbrev pub queueIndex : ℕ → List ℕ → ℕ → ℕ
+queueIndex n w p = getD w (8 + 4 * n + 2 * p) 0
 
-abbrev pub ringVersion : ℕ → List ℕ → ℕ → ℕ
-ringVersion n w p = getD w (8 + 4 * n + 2 * p + 1) 0
+abbrev pub queueVersion : ℕ → List ℕ → ℕ → ℕ
+queueVersion n w p = getD w (8 + 4 * n + 2 * p + 1) 0
 
--- index x's place in the ring plus one
-abbrev pub ringSlot : ℕ → List ℕ → ℕ → ℕ
-ringSlot n w x = getD w (8 + 6 * n + x) 0
+-- index x's place in the queue plus one
+abbrev pub queueSlot : ℕ → List ℕ → ℕ → ℕ
+queueSlot n w x = getD w (8 + 6 * n + x) 0
 
 abbrev pub entity : ℕ → ℕ → Entity
 entity x v = record { index = x; version = v }
 
 abbrev pub entityAt : List ℕ → ℕ → Entity
-entityAt w i = entity (indexAt w i) (versionAt w i)
+entityAt w i = entity (liveIndexAt w i) (liveVersionAt w i)
 
 -- the number that waits behind j others
 abbrev pub waitingAt : ℕ → List ℕ → ℕ → Entity
-waitingAt n w j = entity (ringIndex n w (wrapped n (headOf w + j))) (ringVersion n w (wrapped n (headOf w + j)))
+waitingAt n w j = entity (queueIndex n w (wrapped n (headOf w + j))) (queueVersion n w (wrapped n (headOf w + j)))
 
 -- the model's entities, read off the part
 unfoldable pub entitiesOf : ℕ → List ℕ → Entities
@@ -76,15 +76,15 @@ pub record Sized (n : ℕ) (w : List ℕ) : Type 0 where
 
 -- 01, a sound store: live list and card lookups that agree; at most N issued numbers, from index 0 without gaps, every live or waiting index
 -- among them; each issued number live, waiting once, or neither, with versions of 1 or more
-pub record Sound (n : ℕ) (w : List ℕ) : Type 0 where
+pub record EntityPartSound (n : ℕ) (w : List ℕ) : Type 0 where
   pub sized : Sized n w
   pub few : issuedOf w ≤ n
-  pub linked : Linked n (lenOf w) (indexAt w) (versionAt w) (placeOf n w) (heldOf n w)
-  pub known : (i : ℕ) → i < lenOf w → indexAt w i < issuedOf w
-  pub ring : Ring n (issuedOf w) (headOf w) (recycledLen w) (ringIndex n w) (ringVersion n w) (ringSlot n w) (heldOf n w)
+  pub linked : Linked n (lenOf w) (liveIndexAt w) (liveVersionAt w) (placeOf n w) (heldOf n w)
+  pub known : (i : ℕ) → i < lenOf w → liveIndexAt w i < issuedOf w
+  pub queue : Queue n (issuedOf w) (headOf w) (recycledLen w) (queueIndex n w) (queueVersion n w) (queueSlot n w) (heldOf n w)
 
 -- index x is issued, and neither live nor waiting: retired, or between the two
 pub record Idle (n : ℕ) (w : List ℕ) (x : ℕ) : Type 0 where
   pub below : x < issuedOf w
   pub free : heldOf n w x ≡ 0
-  pub unlisted : ringSlot n w x ≡ 0
+  pub unlisted : queueSlot n w x ≡ 0

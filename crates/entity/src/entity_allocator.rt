@@ -1,16 +1,16 @@
-// The numbers: those issued, and the ring of those that wait to be used again.
+// The numbers: those issued, and the queue of those that wait to be used again.
 use crate::Entity;
 ghost use mathlib.Core.Path.{_≡_};
 ghost use mathlib.Core.Bool.{false};
 ghost use Prim.Native.Nat.{_≤_, _<_, _+_};
-ghost use Rattle.entity.specs.Ring.{wrapped};
-ghost use Rattle.entity.specs.Meaning.{Sound, Idle, entity, entitiesOf, recycledLen, issuedOf};
+ghost use Rattle.entity.specs.Queue.{wrapped};
+ghost use Rattle.entity.specs.Meaning.{EntityPartSound, Idle, entity, entitiesOf, recycledLen, issuedOf};
 ghost use Rattle.entity.specs.Change.{Changed, isFull, queued, recycledAs};
 ghost use Rattle.entity.specs.Answers.{Allocated, Unqueued, Issued};
 
 // How many numbers are issued.
 pub fn issued(part: &[u32], n: usize) -> usize
-    requires { ⌜ Sound n (now part) ⌝ }
+    requires { ⌜ EntityPartSound n (now part) ⌝ }
     ensures { λ r. ⌜ r ≡ entitiesOf n (now (part .entry)) .issued ⌝ }
 {
     part[1] as usize
@@ -18,7 +18,7 @@ pub fn issued(part: &[u32], n: usize) -> usize
 
 // Whether no number is left: none waits, and n are issued.
 pub fn is_full(part: &[u32], n: usize) -> bool
-    requires { ⌜ Sound n (now part) ⌝ }
+    requires { ⌜ EntityPartSound n (now part) ⌝ }
     ensures { λ r. ⌜ r ≡ isFull n (entitiesOf n (now (part .entry))) ⌝ }
 {
     if part[3] != 0 {
@@ -31,7 +31,7 @@ pub fn is_full(part: &[u32], n: usize) -> bool
     true
 }
 
-// The ring's place k, counted on past the end.
+// The queue's place k, counted on past the end.
 pub fn wrap(n: usize, k: usize) -> usize
     requires { ⌜ k < n + n ⌝ }
     ensures { λ r. ⌜ (r ≡ wrapped n k) × (r < n) ⌝ }
@@ -44,7 +44,7 @@ pub fn wrap(n: usize, k: usize) -> usize
 
 // The longest waiting number, which waits no more.
 fn pop_front(part: &mut [u32], n: usize) -> Entity
-    requires { ⌜ Sound n (now part) ⌝ }
+    requires { ⌜ EntityPartSound n (now part) ⌝ }
     requires { ⌜ 1 ≤ recycledLen (now part) ⌝ }
     ensures { λ r. ⌜ Unqueued n (now (part .entry)) (now (part .exit)) r ⌝ }
 {
@@ -62,7 +62,7 @@ fn pop_front(part: &mut [u32], n: usize) -> Entity
 
 // The number waits behind all others.
 fn push_back(part: &mut [u32], n: usize, index: u32, version: u32)
-    requires { ⌜ Sound n (now part) ⌝ }
+    requires { ⌜ EntityPartSound n (now part) ⌝ }
     requires { ⌜ Idle n (now part) index × (1 ≤ version) ⌝ }
     ensures { λ _. ⌜ Changed n (queued (entity index version)) (now (part .entry)) (now (part .exit)) ⌝ }
 {
@@ -77,7 +77,7 @@ fn push_back(part: &mut [u32], n: usize, index: u32, version: u32)
 
 // The next index, at version 1.
 fn issue(part: &mut [u32], n: usize) -> Entity
-    requires { ⌜ Sound n (now part) ⌝ }
+    requires { ⌜ EntityPartSound n (now part) ⌝ }
     requires { ⌜ issuedOf (now part) < n ⌝ }
     ensures { λ r. ⌜ Issued n (now (part .entry)) (now (part .exit)) r ⌝ }
 {
@@ -88,7 +88,7 @@ fn issue(part: &mut [u32], n: usize) -> Entity
 
 // A number for a new entity: the longest waiting one, else the next index at version 1.
 pub fn allocate(part: &mut [u32], n: usize) -> Entity
-    requires { ⌜ Sound n (now part) ⌝ }
+    requires { ⌜ EntityPartSound n (now part) ⌝ }
     requires { ⌜ isFull n (entitiesOf n (now part)) ≡ false ⌝ }
     ensures { λ r. ⌜ Allocated n (now (part .entry)) (now (part .exit)) r ⌝ }
 {
@@ -100,7 +100,7 @@ pub fn allocate(part: &mut [u32], n: usize) -> Entity
 
 // The number waits with its version plus one, or is retired if there is none.
 pub fn recycle(part: &mut [u32], n: usize, index: u32, version: u32)
-    requires { ⌜ Sound n (now part) ⌝ }
+    requires { ⌜ EntityPartSound n (now part) ⌝ }
     requires { ⌜ Idle n (now part) index ⌝ }
     ensures { λ _. ⌜ Changed n (recycledAs (entity index version)) (now (part .entry)) (now (part .exit)) ⌝ }
 {

@@ -5,14 +5,14 @@ ghost use Prim.Native.Nat.{_≤_, _<_};
 ghost use lib.ListN.{length, getD};
 ghost use Rattle.model.specs.Model.{noEntity};
 ghost use Rattle.words.specs.Stores.{stores};
-ghost use Rattle.entity.specs.Meaning.{Sized, Sound, Idle, entity, entitiesOf, lenOf, indexAt};
+ghost use Rattle.entity.specs.Meaning.{Sized, EntityPartSound, Idle, entity, entitiesOf, lenOf, liveIndexAt};
 ghost use Rattle.entity.specs.Change.{Changed, joined, left};
 ghost use Rattle.entity.specs.Answers.{entityOf};
 ghost use Rattle.entity.specs.Stored.{putStores};
 
 // How many entities are live.
 pub fn len(part: &[u32], n: usize) -> usize
-    requires { ⌜ Sound n (now part) ⌝ }
+    requires { ⌜ EntityPartSound n (now part) ⌝ }
     ensures { λ r. ⌜ r ≡ length (entitiesOf n (now (part .entry)) .live) ⌝ }
 {
     part[0] as usize
@@ -20,7 +20,7 @@ pub fn len(part: &[u32], n: usize) -> usize
 
 // The live list's entity at place.
 pub fn live_at(part: &[u32], n: usize, place: usize) -> Entity
-    requires { ⌜ Sound n (now part) ⌝ }
+    requires { ⌜ EntityPartSound n (now part) ⌝ }
     requires { ⌜ place < length (entitiesOf n (now part) .live) ⌝ }
     ensures { λ r. ⌜ entityOf r ≡ getD (entitiesOf n (now (part .entry)) .live) place noEntity ⌝ }
 {
@@ -47,7 +47,7 @@ fn put(part: &mut [u32], n: usize, place: usize, index: u32, version: u32)
 
 // The entity joins the live list at its end.
 pub fn insert(part: &mut [u32], n: usize, index: u32, version: u32)
-    requires { ⌜ Sound n (now part) ⌝ }
+    requires { ⌜ EntityPartSound n (now part) ⌝ }
     requires { ⌜ Idle n (now part) index × (1 ≤ version) ⌝ }
     ensures { λ _. ⌜ Changed n (joined (entity index version)) (now (part .entry)) (now (part .exit)) ⌝ }
 {
@@ -58,9 +58,9 @@ pub fn insert(part: &mut [u32], n: usize, index: u32, version: u32)
 
 // The entity at place leaves the live list, and the list's last takes its place.
 pub fn remove(part: &mut [u32], n: usize, place: usize)
-    requires { ⌜ Sound n (now part) ⌝ }
+    requires { ⌜ EntityPartSound n (now part) ⌝ }
     requires { ⌜ place < lenOf (now part) ⌝ }
-    ensures { λ _. ⌜ Changed n (left place) (now (part .entry)) (now (part .exit)) × Idle n (now (part .exit)) (indexAt (now (part .entry)) place) ⌝ }
+    ensures { λ _. ⌜ Changed n (left place) (now (part .entry)) (now (part .exit)) × Idle n (now (part .exit)) (liveIndexAt (now (part .entry)) place) ⌝ }
 {
     let k = part[0] - 1;
     let last = 8 + 2 * (k as usize);

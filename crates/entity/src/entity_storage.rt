@@ -7,13 +7,13 @@ use crate::sparse_vec;
 ghost use mathlib.Core.Path.{_≡_};
 ghost use mathlib.Core.Bool.{false};
 ghost use Rattle.model.specs.Model.{isLive, destroy};
-ghost use Rattle.entity.specs.Meaning.{Sound, entity, entitiesOf};
+ghost use Rattle.entity.specs.Meaning.{EntityPartSound, entity, entitiesOf};
 ghost use Rattle.entity.specs.Change.{Changed, isFull};
 ghost use Rattle.entity.specs.Answers.{LiveAt, Created};
 
 // Whether the entity is live.
 pub fn contains(part: &[u32], n: usize, index: u32, version: u32) -> bool
-    requires { ⌜ Sound n (now part) ⌝ }
+    requires { ⌜ EntityPartSound n (now part) ⌝ }
     ensures { λ r. ⌜ r ≡ isLive (entity index version) (entitiesOf n (now (part .entry))) ⌝ }
 {
     let found = sparse_vec::get(part, n, index, version);
@@ -25,7 +25,7 @@ pub fn contains(part: &[u32], n: usize, index: u32, version: u32) -> bool
 
 // A new entity. The caller has seen that there is a number left.
 pub fn create(part: &mut [u32], n: usize) -> Entity
-    requires { ⌜ Sound n (now part) ⌝ }
+    requires { ⌜ EntityPartSound n (now part) ⌝ }
     requires { ⌜ isFull n (entitiesOf n (now part)) ≡ false ⌝ }
     ensures { λ r. ⌜ Created n (now (part .entry)) (now (part .exit)) r ⌝ }
 {
@@ -36,7 +36,7 @@ pub fn create(part: &mut [u32], n: usize) -> Entity
 
 // Destroys a live entity, whose place in the live list the caller has looked up.
 pub fn destroy(part: &mut [u32], n: usize, place: usize, index: u32, version: u32)
-    requires { ⌜ Sound n (now part) ⌝ }
+    requires { ⌜ EntityPartSound n (now part) ⌝ }
     requires { ⌜ LiveAt (entity index version) place (entitiesOf n (now part)) ⌝ }
     ensures { λ _. ⌜ Changed n (destroy (entity index version)) (now (part .entry)) (now (part .exit)) ⌝ }
 {

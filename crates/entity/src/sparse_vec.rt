@@ -2,13 +2,13 @@
 use crate::Found;
 ghost use mathlib.Core.Path.{_≡_};
 ghost use Prim.Native.Nat.{_<_};
-ghost use Rattle.model.specs.Snapshot.{versionAt};
-ghost use Rattle.entity.specs.Meaning.{Sound, entity, entitiesOf};
+ghost use Rattle.model.specs.Snapshot.{liveVersion};
+ghost use Rattle.entity.specs.Meaning.{EntityPartSound, entity, entitiesOf};
 ghost use Rattle.entity.specs.Answers.{foundOf};
 
 // Where the entity is in the live list.
 pub fn get(part: &[u32], n: usize, index: u32, version: u32) -> Found
-    requires { ⌜ Sound n (now part) ⌝ }
+    requires { ⌜ EntityPartSound n (now part) ⌝ }
     ensures { λ r. ⌜ r ≡ foundOf (entity index version) (entitiesOf n (now (part .entry))) ⌝ }
 {
     let x = index as usize;
@@ -28,9 +28,9 @@ pub fn get(part: &[u32], n: usize, index: u32, version: u32) -> Found
 
 // The version of the live entity with this index, 0 where there is none.
 pub fn version_at(part: &[u32], n: usize, index: usize) -> u32
-    requires { ⌜ Sound n (now part) ⌝ }
+    requires { ⌜ EntityPartSound n (now part) ⌝ }
     requires { ⌜ index < n ⌝ }
-    ensures { λ r. ⌜ r ≡ versionAt index (entitiesOf n (now (part .entry)) .live) ⌝ }
+    ensures { λ r. ⌜ r ≡ liveVersion index (entitiesOf n (now (part .entry)) .live) ⌝ }
 {
     part[8 + 2 * n + 2 * index + 1]
 }

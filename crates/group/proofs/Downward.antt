@@ -7,7 +7,7 @@ use native.Mathlib.Omega.{arith}
 use borrow.Author.Tests.{ltb-true}
 use lib.ListN.{length, length-map}
 use Rattle.model.specs.Lists.{place-count-take, count-take-le}
-use Rattle.model.specs.Model.{Entity, SparseSet, Group, Family, Storage, Walked, Stepped, sameEntity, meets, setOf, keys, entityOf, at, held, onKinds, swapTo, allHeld, isGrouped, headKind, kindsOf, ungroupComponents, ungroupFamily, ungroup}
+use Rattle.model.specs.Model.{Entity, SparseSet, Group, Family, Storage, Walked, GroupStep, sameEntity, meets, setOf, keys, entityOf, at, held, onKinds, swapTo, allHeld, isGrouped, headKind, kindsOf, ungroupComponents, ungroupFamily, ungroup}
 use Rattle.model.proofs.SparseSets.{cond-case, key}
 use Rattle.model.proofs.Groups.{cnt, plc, In, Even, SameEntities}
 use Rattle.model.proofs.Walk.{bool-cases, in-right, Chain, Every, Missing, all-missing, count-held}
@@ -112,7 +112,7 @@ module _ (e : Entity) where
           },
         )
 
-    abbrev stepped : Stepped → Storage
+    abbrev stepped : GroupStep → Storage
     stepped t = record { sets = t .sets; layout = H .build (t .group ∷ rs) }
 
     out : isGrouped e r sets ≡ true → ungroupComponents e g r sets ≡ record { sets = onKinds g (swapTo e (r .count - 1)) sets; group = withCount (r .count - 1) r }
@@ -165,7 +165,7 @@ module _ (e : Entity) where
         S : Storage
         S = record { sets = sets; layout = H .build (r ∷ rs) }
 
-        s : Stepped
+        s : GroupStep
         s = ungroupComponents e g r (w .sets)
 
         D : Down e gone g sets rs (ungroupFamily e gone g sets rs)

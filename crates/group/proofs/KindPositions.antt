@@ -10,7 +10,7 @@ use lib.Dec.{eqb}
 use lib.ListN.{length, getD, List·getD-append}
 use lib.Seq.{getD-append-add}
 use Rattle.model.specs.Lists.{count-append}
-use Rattle.model.specs.Model.{Family, mem, any, meets, headKind, kindsOf, groupsOf}
+use Rattle.model.specs.Model.{Family, mem, anyOf, meets, headKind, kindsOf, groupsOf}
 use Rattle.model.specs.Sound.{In, Distinct, layoutKinds}
 use Rattle.model.proofs.Walk.{bool-cases, or-true, or-false, mem-append, in-left, in-right}
 use Rattle.model.proofs.Families.{or-false-right}
@@ -51,9 +51,9 @@ union-of w l xs ys a h low =
 
 -- ---- several kinds
 
-any-append : (p : ℕ → Bool) (a b : List ℕ) → any p (a ++ b) ≡ (any p a || any p b)
+any-append : (p : ℕ → Bool) (a b : List ℕ) → anyOf p (a ++ b) ≡ (anyOf p a || anyOf p b)
 any-append p [] b = refl
-any-append p (k ∷ a) b = rw (any-append p a b) (sym (or-assoc (p k) (any p a) (any p b)))
+any-append p (k ∷ a) b = rw (any-append p a b) (sym (or-assoc (p k) (anyOf p a) (anyOf p b)))
 
 -- a run taken where t or where u
 either : (t u r a b : Bool) → (((t || u) && r) || (a || b)) ≡ (((t && r) || a) || ((u && r) || b))

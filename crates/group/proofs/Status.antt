@@ -14,7 +14,7 @@ use Rattle.layout.proofs.Family.{between-none}
 use Rattle.group.specs.declared.group_metadata.GroupMetadata.{GroupMetadata}
 use Rattle.group.specs.declared.group_status.GroupStatus.the-variants.{Incomplete, Ungrouped, Grouped}
 use Rattle.group.specs.Flat.{statusAt}
-use Rattle.group.specs.Metadata.{orderOf, Listed, Stands}
+use Rattle.group.specs.Metadata.{orderOf, PlacesKnown, Stands}
 use Rattle.group.specs.Steps.{statusIn}
 use Rattle.group.proofs.FlatArrays.{between-split}
 use Rattle.group.proofs.Places.{between-step}
@@ -62,7 +62,7 @@ pub status-is : (m : Store) (g : ℕ) (d : GroupMetadata) (len : ℕ) (e : Entit
 status-is m g d len e S = ap₂ (λ (ks : List ℕ) (n : ℕ). statusIn e ks n (m .storage .sets)) (S .metadata .newKinds) (S .counted)
 
 -- a later start
-pub listed-later : (m : Store) (start p end : ℕ) → start ≤ p → p ≤ end → Listed m start end → Listed m p end
+pub listed-later : (m : Store) (start p end : ℕ) → start ≤ p → p ≤ end → PlacesKnown m start end → PlacesKnown m p end
 listed-later m start p end lo hi L =
     record {
       rising = hi;

@@ -18,7 +18,7 @@ use Rattle.memory.specs.Arranged.{Arranged, Becomes}
 use Rattle.memory.proofs.Becomes.{stays, sets-wide}
 use Rattle.kinds.proofs.Slot.{known-small}
 use Rattle.group.specs.Ready.{Swappable}
-use Rattle.group.specs.Metadata.{orderOf, Listed}
+use Rattle.group.specs.Metadata.{orderOf, PlacesKnown}
 use Rattle.group.specs.Steps.{swapKinds}
 use Rattle.group.proofs.KindPositions.{not-left}
 use Rattle.group.proofs.EachKind.{eachKind, each-append, setOf-each, each-kinds}
@@ -43,7 +43,7 @@ pub record SwapAsk (w : List ℕ) (e : Entity) (c p : ℕ) : Type 0 where
   pub holds : held e (setOf (meaning w .storage .sets) (getD (orderOf (meaning w)) p 0)) ≡ true
   pub room : c < length (setOf (meaning w .storage .sets) (getD (orderOf (meaning w)) p 0))
 
-module _ (w₀ : List ℕ) (A : Arranged w₀) (e : Entity) (start end c : ℕ) (L : Listed (meaning w₀) start end) (R : Swappable e (between start end (orderOf (meaning w₀))) c (meaning w₀ .storage .sets)) where
+module _ (w₀ : List ℕ) (A : Arranged w₀) (e : Entity) (start end c : ℕ) (L : PlacesKnown (meaning w₀) start end) (R : Swappable e (between start end (orderOf (meaning w₀))) c (meaning w₀ .storage .sets)) where
   pub swap-start : Swapping w₀ e start end c w₀ start
   swap-start =
       record {

@@ -7,7 +7,7 @@ use native.Mathlib.Omega.{arith}
 use native.Mathlib.Numerals.{add-one}
 use borrow.Author.Tests.{lt-ltb, le-ltb}
 use lib.ListN.{length}
-use Rattle.model.specs.Model.{Entity, SparseSet, Group, Family, Storage, Walked, Stepped, meets, onKinds, swapTo, allHeld, isGrouped, kindsOf, groupComponents, groupFamily, groupTouched, groupAll}
+use Rattle.model.specs.Model.{Entity, SparseSet, Group, Family, Storage, Walked, GroupStep, meets, onKinds, swapTo, allHeld, isGrouped, kindsOf, groupComponents, groupFamily, groupTouched, groupAll}
 use Rattle.model.proofs.SparseSets.{cond-case}
 use Rattle.model.proofs.Walk.{bool-cases}
 use Rattle.masks.specs.Masks.{upFrom}
@@ -98,7 +98,7 @@ pub stop : (e : Entity) (acc : List ℕ) (sets : List SparseSet) (r : Group) (rs
 unfolding groupFamily
 stop e acc sets r rs a = rw a
 
-pub goes-on : (e : Entity) (acc : List ℕ) (sets : List SparseSet) (r : Group) (rs : Family) (t : Stepped) → allHeld e (r .newKinds) sets ≡ true → groupComponents e (acc ++ r .newKinds) r sets ≡ t
+pub goes-on : (e : Entity) (acc : List ℕ) (sets : List SparseSet) (r : Group) (rs : Family) (t : GroupStep) → allHeld e (r .newKinds) sets ≡ true → groupComponents e (acc ++ r .newKinds) r sets ≡ t
     → groupFamily e acc sets (r ∷ rs) ≡ record { sets = (groupFamily e (acc ++ r .newKinds) (t .sets) rs) .sets; groups = t .group ∷ (groupFamily e (acc ++ r .newKinds) (t .sets) rs) .groups }
 unfolding groupFamily
 goes-on e acc sets r rs t a q = rw (a, q)

@@ -16,7 +16,7 @@ abbrev pub orderOf : Store → List ℕ
 orderOf m = layoutKinds (m .storage .layout)
 
 -- the places from start to end are there, and their kinds are registered
-pub record Listed (m : Store) (start end : ℕ) : Type 0 where
+pub record PlacesKnown (m : Store) (start end : ℕ) : Type 0 where
   pub rising : start ≤ end
   pub within : end ≤ length (orderOf m)
   pub known : (k : ℕ) → In (between start end (orderOf m)) k → In (m .kinds) k
@@ -29,7 +29,7 @@ pub record Describes (m : Store) (g : ℕ) (d : GroupMetadata) : Type 0 where
   pub top : d .top ≡ located (m .storage .layout) g .top
   pub low : d .«storage_start» ≤ d .«new_storage_start»
   pub some : d .«new_storage_start» < d .«storage_end»
-  pub listed : Listed m (d .«storage_start») (d .«storage_end»)
+  pub listed : PlacesKnown m (d .«storage_start») (d .«storage_end»)
   pub few : d .top ≤ MAX-GROUP-COUNT
 
 -- the metadata and the count of group g, as they were read

@@ -13,7 +13,7 @@ ghost use Rattle.component.specs.SparseSet.{entity};
 ghost use Rattle.memory.specs.Meaning.{meaning};
 ghost use Rattle.memory.specs.Arranged.{Arranged};
 ghost use Rattle.group.specs.Flat.{statusAt};
-ghost use Rattle.group.specs.Metadata.{orderOf, Listed, Describes};
+ghost use Rattle.group.specs.Metadata.{orderOf, PlacesKnown, Describes};
 ghost use Rattle.group.specs.Steps.{statusIn};
 
 pub enum GroupStatus {
@@ -40,7 +40,7 @@ fn holds(words: &[u32], place: usize, index: u32, version: u32) -> bool
 // Does it hold each of them, from start to end?
 fn holds_all(words: &[u32], start: usize, end: usize, index: u32, version: u32) -> bool
     requires { ⌜ Arranged (now words) ⌝ }
-    requires { ⌜ Listed (meaning (now words)) start end ⌝ }
+    requires { ⌜ PlacesKnown (meaning (now words)) start end ⌝ }
     ensures { λ r. ⌜ r ≡ allHeld (entity index version) (between start end (orderOf (meaning (now (words .entry))))) (meaning (now (words .entry)) .storage .sets) ⌝ }
 {
     let mut place = start;
@@ -63,7 +63,7 @@ fn get_group_status(
     version: u32,
 ) -> GroupStatus
     requires { ⌜ Arranged (now words) ⌝ }
-    requires { ⌜ Listed (meaning (now words)) start end ⌝ }
+    requires { ⌜ PlacesKnown (meaning (now words)) start end ⌝ }
     requires { ⌜ start < end ⌝ }
     ensures { λ r. ⌜ r ≡ statusIn (entity index version) (between start end (orderOf (meaning (now (words .entry))))) «group_len» (meaning (now (words .entry)) .storage .sets) ⌝ }
 {

@@ -24,7 +24,7 @@ ghost use Rattle.memory.specs.Change.{onStorage};
 ghost use Rattle.memory.specs.Arranged.{Arranged, Becomes};
 ghost use Rattle.group.specs.Flat.{located, statusAt, groupAt, ungroupAt, stepDown, walkUp, walkDown};
 ghost use Rattle.group.specs.Ready.{Swappable, ReadyIn, ReadyOut, ReadyUp, ReadyDown};
-ghost use Rattle.group.specs.Metadata.{orderOf, Listed, Stands};
+ghost use Rattle.group.specs.Metadata.{orderOf, PlacesKnown, Stands};
 ghost use Rattle.group.specs.Steps.{swapKinds, Below, StepsUp};
 
 // Swaps the entity to a place in every sparse set of a group.
@@ -36,7 +36,7 @@ fn swap_kinds(
     swap_index: usize,
 )
     requires { ⌜ Arranged (now words) ⌝ }
-    requires { ⌜ Listed (meaning (now words)) (metadata .«storage_start») (metadata .«storage_end») ⌝ }
+    requires { ⌜ PlacesKnown (meaning (now words)) (metadata .«storage_start») (metadata .«storage_end») ⌝ }
     requires { ⌜ Swappable (entity index version) (between (metadata .«storage_start») (metadata .«storage_end») (orderOf (meaning (now words)))) «swap_index» (meaning (now words) .storage .sets) ⌝ }
     ensures { λ _. ⌜ Becomes (now (words .entry)) (now (words .exit)) (onStorage (swapKinds (entity index version) «swap_index» (between (metadata .«storage_start») (metadata .«storage_end») (orderOf (meaning (now (words .entry)))))) (meaning (now (words .entry)))) ⌝ }
 {

@@ -10,8 +10,8 @@ use native.Mathlib.Omega.{arith}
 use lib.Dec.{eqb}
 use lib.ListN.{length, getD, take, drop, drop-of-length-le}
 use lib.Seq.{drop-cons}
-use Rattle.model.specs.Lists.{count, count-append}
-use Rattle.model.specs.Model.{Family, Range, none, found, mem, within, sameSet, kindsOf, orElse, rangeAt, rangeIn, rangeAll}
+use Rattle.model.specs.Lists.{countOf, count-append}
+use Rattle.model.specs.Model.{Family, Range, none, found, mem, within, sameSet, kindsOf, firstRange, rangeAt, rangeIn, rangeAll}
 use Rattle.model.proofs.Walk.{mem-append, in-left, all-in}
 use Rattle.model.proofs.KindLists.{not-true, in-count}
 use Rattle.words.specs.Part.{between}
@@ -65,7 +65,7 @@ pub all-none : (hs bs : List ℕ) (fs : List Family) → ((i : ℕ) → i < leng
 all-none hs bs [] h = refl
 all-none hs bs (f ∷ fs) h = rw (h 0 (omega arith)) (all-none hs bs fs (λ i l. h (suc i) (omega arith)))
 
-else-none : (r : Range) → orElse r none ≡ r
+else-none : (r : Range) → firstRange r none ≡ r
 else-none none = refl
 else-none (found a b) = refl
 
@@ -80,24 +80,24 @@ only-one hs bs (x ∷ fs) (suc f) h o = rw (o 0 (omega arith) (omega arith)) (on
 
 -- ---- the families have no kind in common
 
-count-part : (k : ℕ) (ks : List ℕ) (s e n : ℕ) → s ≤ e → e ≤ n → count eqb k (between s e ks) ≤ count eqb k (take n ks)
+count-part : (k : ℕ) (ks : List ℕ) (s e n : ℕ) → s ≤ e → e ≤ n → countOf eqb k (between s e ks) ≤ countOf eqb k (take n ks)
 count-part k ks s e n h l =
     let a = count-append eqb k (take s ks) (between s e ks) in
-    let b = ap (count eqb k) (between-join ks s e h) in
+    let b = ap (countOf eqb k) (between-join ks s e h) in
     let c = count-append eqb k (take e ks) (between e n ks) in
-    let d = ap (count eqb k) (between-join ks e n l) in
+    let d = ap (countOf eqb k) (between-join ks e n l) in
     omega arith
 
-pub apart : (a : Arrays) → WellFormed a → (k i j : ℕ) → i < j → j < a .families → count eqb k (kindsAt a i) + count eqb k (kindsAt a j) ≤ 1
+pub apart : (a : Arrays) → WellFormed a → (k i j : ℕ) → i < j → j < a .families → countOf eqb k (kindsAt a i) + countOf eqb k (kindsAt a j) ≤ 1
 apart a good k i j h l =
     let ks = a .kinds in
     let es = a .kindEnds in
     let o = kind-order a good in
     let p = count-part k ks (startOf es i) (getD es i 0) (startOf es j) (o i (omega arith)) (ends-rise es j (λ m u. o m (omega arith)) (suc i) h) in
     let c = count-append eqb k (take (startOf es j) ks) (kindsAt a j) in
-    let d = ap (count eqb k) (between-join ks (startOf es j) (getD es j 0) (o j l)) in
+    let d = ap (countOf eqb k) (between-join ks (startOf es j) (getD es j 0) (o j l)) in
     let e = count-append eqb k (take (getD es j 0) ks) (between (getD es j 0) (widthOf a) ks) in
-    let f = ap (count eqb k) (between-join ks (getD es j 0) (widthOf a) (kinds-inside a good j l)) in
+    let f = ap (countOf eqb k) (between-join ks (getD es j 0) (widthOf a) (kinds-inside a good j l)) in
     omega (arith, good .kinds .once k)
 
 pub elsewhere : (a : Arrays) → WellFormed a → (k f i : ℕ) → f < a .families → i < a .families → i ≢ f → mem k (kindsAt a f) ≡ true → mem k (kindsAt a i) ≡ false
@@ -187,10 +187,10 @@ module _ (hs bs counts ks : List ℕ) (s : KindSet ks) where
 
 -- ---- what follows a group: the next larger one's new kinds
 
-pub next-ring : (b : ℕ) (bs counts ks : List ℕ) (g a n : ℕ) (ars : List ℕ) (j : ℕ) → j < length ars
+pub next-new-kinds : (b : ℕ) (bs counts ks : List ℕ) (g a n : ℕ) (ars : List ℕ) (j : ℕ) → j < length ars
     → rangeAt (b ∷ bs) n (groupsFrom counts g ks a (drop j ars)) ≡ cond (sameSet (b ∷ bs) (between a (getD ars j 0) ks)) (found (getD counts g 0) n) none
 unfolding groupsFrom
-next-ring b bs counts ks g a n ars j h = rw (drop-cons ars j 0 h)
+next-new-kinds b bs counts ks g a n ars j h = rw (drop-cons ars j 0 h)
 
 pub no-next : (b : ℕ) (bs counts ks : List ℕ) (g a n : ℕ) (ars : List ℕ) (j : ℕ) → length ars ≤ j → rangeAt (b ∷ bs) n (groupsFrom counts g ks a (drop j ars)) ≡ none
 unfolding groupsFrom

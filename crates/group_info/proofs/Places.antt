@@ -9,7 +9,7 @@ use borrow.Author.Tests.{eq-eqb, eqb-true, lt-ltb, le-ltb}
 use lib.Dec.{eqb, ltb}
 use lib.ListN.{length, getD}
 use Rattle.model.specs.Numbers.{MAX-GROUP-ARITY}
-use Rattle.model.specs.Lists.{one, count, place, count-place, getD-place}
+use Rattle.model.specs.Lists.{one, countOf, place, count-place, getD-place}
 use Rattle.model.specs.Model.{mem, within, sameSet}
 use Rattle.model.proofs.Walk.{bool-cases, all-in}
 use Rattle.model.proofs.KindLists.{in-count, all-true, at-count, at-in}
@@ -33,7 +33,7 @@ unfolding placeOf
 at-place k l m = getD-place eqb eqb-true k 0 l (count-place eqb k l (in-count l k m))
 
 -- the list has each once
-once-place : (l : List ℕ) → ((k : ℕ) → count eqb k l ≤ 1) → (i : ℕ) → i < length l → place eqb (getD l i 0) l ≡ i
+once-place : (l : List ℕ) → ((k : ℕ) → countOf eqb k l ≤ 1) → (i : ℕ) → i < length l → place eqb (getD l i 0) l ≡ i
 once-place [] s i h = absurd (omega arith)
 once-place (x ∷ l) s zero h = rw (eq-eqb x x refl)
 once-place (x ∷ l) s (suc i) h =

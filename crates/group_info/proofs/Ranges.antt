@@ -19,13 +19,13 @@ use Rattle.masks.proofs.Lists.{and-parts}
 use Rattle.layout.specs.Layout.{Arrays, Sized, startOf, kindsAt, aritiesAt, groupsFrom, familiesOf, KindSet, Rising, WellFormed}
 use Rattle.layout.proofs.Family.{rising-at, rising-above, rising-less}
 use Rattle.layout.proofs.Arrays.{group-order, ends-rise, families-length, families-at, family-kindsOf, family-kinds, family-rising, kinds-length, arities-length}
-use Rattle.group_info.specs.Info.{placesOf, IncludeSays, topOf, Ring, RingRange, ExcludeSays}
+use Rattle.group_info.specs.Info.{placesOf, IncludeSays, topOf, NextGroup, NextGroupRange, ExcludeSays}
 use Rattle.group_info.specs.Describes.{InFamily, rangeOf}
 use Rattle.group_info.specs.declared.GroupInfo.{GroupInfo}
 use Rattle.group_info.specs.declared.GroupRange.{GroupRange}
 use Rattle.group_info.specs.declared.GroupRange.the-variants as ranged
 use Rattle.group_info.proofs.Places.{placeOf, part-mem, mem-part, places-of-part, part-of-places}
-use Rattle.group_info.proofs.Families.{lacks-staged, lacks-excluded, all-none, only-one, elsewhere, start-zero, next-kind, mem-take-le, not-in-take, at-group, empty-none, next-ring, no-next}
+use Rattle.group_info.proofs.Families.{lacks-staged, lacks-excluded, all-none, only-one, elsewhere, start-zero, next-kind, mem-take-le, not-in-take, at-group, empty-none, next-new-kinds, no-next}
 
 pub mem-take : (k n : ℕ) (l : List ℕ) → mem k (take n l) ≡ true → mem k l ≡ true
 mem-take k n l m = ap (mem k) (sym (take-append-drop n l)) ∙ in-left (take n l) (drop n l) k m
@@ -65,8 +65,8 @@ module _ (ks ars : List ℕ) (s : KindSet ks) (r : Rising 0 (length ks) ars) whe
         ]
 
     -- and so have kinds equal to its new ones
-    pub own-ring : (j : ℕ) → j < length ars → sameSet hs (between (startOf ars j) (getD ars j 0) ks) ≡ true → own ≡ j
-    own-ring j h e =
+    pub own-new-kinds : (j : ℕ) → j < length ars → sameSet hs (between (startOf ars j) (getD ars j 0) ks) ≡ true → own ≡ j
+    own-new-kinds j h e =
         let lo = startOf ars j in
         let hi = getD ars j 0 in
         let in-ks = rising-at 0 (length ks) ars j r h in
@@ -134,19 +134,19 @@ module _ (a : Arrays) (good : WellFormed a) (sized : Sized a) where
     start-inside : (j : ℕ) → j < length (aritiesAt a f) → startOf (aritiesAt a f) j ≤ getD (aritiesAt a f) j 0
     start-inside j h = omega (arith, start-below (kindsAt a f) (aritiesAt a f) (family-kinds a good f (x .inside)) (family-rising a good sized f (x .inside)) j h)
 
-    pub ring-places : (j : ℕ) → j < length (aritiesAt a f) → sameSet hs (between (startOf (aritiesAt a f) j) (getD (aritiesAt a f) j 0) (kindsAt a f)) ≡ true
+    pub next-places : (j : ℕ) → j < length (aritiesAt a f) → sameSet hs (between (startOf (aritiesAt a f) j) (getD (aritiesAt a f) j 0) (kindsAt a f)) ≡ true
         → placesOf i ≡ upFrom (startOf (aritiesAt a f) j) (getD (aritiesAt a f) j 0 - startOf (aritiesAt a f) j)
-    ring-places j h e = part-places (startOf (aritiesAt a f) j) (getD (aritiesAt a f) j 0) (start-inside j h) (arity-inside j h) e
+    next-places j h e = part-places (startOf (aritiesAt a f) j) (getD (aritiesAt a f) j 0) (start-inside j h) (arity-inside j h) e
 
-    pub places-ring : (j : ℕ) → j < length (aritiesAt a f) → placesOf i ≡ upFrom (startOf (aritiesAt a f) j) (getD (aritiesAt a f) j 0 - startOf (aritiesAt a f) j)
+    pub places-new-kinds : (j : ℕ) → j < length (aritiesAt a f) → placesOf i ≡ upFrom (startOf (aritiesAt a f) j) (getD (aritiesAt a f) j 0 - startOf (aritiesAt a f) j)
         → sameSet hs (between (startOf (aritiesAt a f) j) (getD (aritiesAt a f) j 0) (kindsAt a f)) ≡ true
-    places-ring j h e = places-part (startOf (aritiesAt a f) j) (getD (aritiesAt a f) j 0) (start-inside j h) (arity-inside j h) e
+    places-new-kinds j h e = places-part (startOf (aritiesAt a f) j) (getD (aritiesAt a f) j 0) (start-inside j h) (arity-inside j h) e
 
     pub is-group : (j : ℕ) → j < length (aritiesAt a f) → sameSet hs (take (getD (aritiesAt a f) j 0) (kindsAt a f)) ≡ true → x .own ≡ j
     is-group = own-group (kindsAt a f) (aritiesAt a f) (family-kinds a good f (x .inside)) (family-rising a good sized f (x .inside)) hs (x .own) (x .top) (x .group) (x .below) (x .topIn) (x .topNew)
 
-    pub is-ring : (j : ℕ) → j < length (aritiesAt a f) → sameSet hs (between (startOf (aritiesAt a f) j) (getD (aritiesAt a f) j 0) (kindsAt a f)) ≡ true → x .own ≡ j
-    is-ring = own-ring (kindsAt a f) (aritiesAt a f) (family-kinds a good f (x .inside)) (family-rising a good sized f (x .inside)) hs (x .own) (x .top) (x .group) (x .below) (x .topIn) (x .topNew)
+    pub is-new-kinds : (j : ℕ) → j < length (aritiesAt a f) → sameSet hs (between (startOf (aritiesAt a f) j) (getD (aritiesAt a f) j 0) (kindsAt a f)) ≡ true → x .own ≡ j
+    is-new-kinds = own-new-kinds (kindsAt a f) (aritiesAt a f) (family-kinds a good f (x .inside)) (family-rising a good sized f (x .inside)) hs (x .own) (x .top) (x .group) (x .below) (x .topIn) (x .topNew)
 
   module _ (counts : List ℕ) where
     abbrev fs : List Family
@@ -215,34 +215,34 @@ module _ (a : Arrays) (good : WellFormed a) (sized : Sized a) where
       own-top y′ = omega (arith, x .last, y′ .last)
 
       -- the ring is there: both are of family f, and the bar's own group follows the hand's
-      ring-found : (y′ : InFamily a f (b ∷ bs) e) → (p q : ℕ) → RingRange (a .arities) counts i e p q → found p q ≡ rangeAll hs (b ∷ bs) fs
-      ring-found y′ p q w =
+      next-found : (y′ : InFamily a f (b ∷ bs) e) → (p q : ℕ) → NextGroupRange (a .arities) counts i e p q → found p q ≡ rangeAll hs (b ∷ bs) fs
+      next-found y′ p q w =
           let m = max (x .own) (y′ .own) in
           let ars = aritiesAt a f in
           let ks = kindsAt a f in
           let inM : m < length ars = omega (arith, x .group, y′ .group) in
           let t = own-top y′ in
-          let later : 1 ≤ m = omega (arith, w .ring .later, x .first) in
+          let later : 1 ≤ m = omega (arith, w .next .later, x .first) in
           let pred : suc (m - 1) ≡ m = omega arith in
           let before : getD (a .arities) (topOf i e - 1) 0 ≡ getD ars (m - 1) 0 = ap (λ (j : ℕ). getD (a .arities) j 0) (omega arith) ∙ arity-at f (m - 1) (x .inside) (omega arith) in
           let at : getD (a .arities) (topOf i e) 0 ≡ getD ars m 0 = ap (λ (j : ℕ). getD (a .arities) j 0) t ∙ arity-at f m (x .inside) inM in
           let start : startOf ars m ≡ getD ars (m - 1) 0 = ap (startOf ars) (sym pred) in
-          let equal = places-group f hs i x (m - 1) (omega arith) (w .ring .included ∙ ap (upFrom 0) before) in
+          let equal = places-group f hs i x (m - 1) (omega arith) (w .next .included ∙ ap (upFrom 0) before) in
           let own : x .own ≡ m - 1 = is-group f hs i x (m - 1) (omega arith) equal in
           let next : suc (x .own) ≡ m = omega arith in
-          let ring = places-ring f (b ∷ bs) e y′ m inM (w .ring .excluded ∙ ap₂ (λ (u v : ℕ). upFrom u (v - u)) (before ∙ sym start) at) in
+          let new-kinds = places-new-kinds f (b ∷ bs) e y′ m inM (w .next .excluded ∙ ap₂ (λ (u v : ℕ). upFrom u (v - u)) (before ∙ sym start) at) in
           let here : sameSet hs (take (getD ars (x .own) 0) ks) ≡ true = ap (λ (j : ℕ). sameSet hs (take (getD ars j 0) ks)) own ∙ equal in
           let there : sameSet (b ∷ bs) (between (getD ars (x .own) 0) (getD ars (suc (x .own)) 0) ks) ≡ true =
-          ap₂ (λ (u v : ℕ). sameSet (b ∷ bs) (between u v ks)) (ap (λ (j : ℕ). getD ars j 0) own ∙ sym start) (ap (λ (j : ℕ). getD ars j 0) next) ∙ ring in
+          ap₂ (λ (u v : ℕ). sameSet (b ∷ bs) (between u v ks)) (ap (λ (j : ℕ). getD ars j 0) own ∙ sym start) (ap (λ (j : ℕ). getD ars j 0) next) ∙ new-kinds in
           let upper : topOf i e ≡ suc (startOf (a .ends) f + x .own) = omega arith in
           let lower : topOf i e - 1 ≡ startOf (a .ends) f + x .own = omega arith in
           ap₂ found (w .from ∙ ap (λ (j : ℕ). getD counts j 0) upper) (w .to ∙ ap (λ (j : ℕ). getD counts j 0) lower)
-          ∙ sym (family-range f hs (b ∷ bs) i x ∙ rw here (next-ring b bs counts ks (suc (startOf (a .ends) f + x .own)) (getD ars (x .own) 0) (getD counts (startOf (a .ends) f + x .own) 0) ars (suc (x .own)) (omega arith) ∙ rw there))
+          ∙ sym (family-range f hs (b ∷ bs) i x ∙ rw here (next-new-kinds b bs counts ks (suc (startOf (a .ends) f + x .own)) (getD ars (x .own) 0) (getD counts (startOf (a .ends) f + x .own) 0) ars (suc (x .own)) (omega arith) ∙ rw there))
 
       -- no ring: then no next group has the bar's kinds for its new ones
-      no-ring : (Ring (a .arities) i e → ⊥) → sameSet hs (take (getD (aritiesAt a f) (x .own) 0) (kindsAt a f)) ≡ true → suc (x .own) < length (aritiesAt a f)
+      no-queue : (NextGroup (a .arities) i e → ⊥) → sameSet hs (take (getD (aritiesAt a f) (x .own) 0) (kindsAt a f)) ≡ true → suc (x .own) < length (aritiesAt a f)
           → sameSet (b ∷ bs) (between (getD (aritiesAt a f) (x .own) 0) (getD (aritiesAt a f) (suc (x .own)) 0) (kindsAt a f)) ≡ false
-      no-ring n equal inM = not-true (sameSet (b ∷ bs) (between (getD (aritiesAt a f) (x .own) 0) (getD (aritiesAt a f) (suc (x .own)) 0) (kindsAt a f))) go
+      no-queue n equal inM = not-true (sameSet (b ∷ bs) (between (getD (aritiesAt a f) (x .own) 0) (getD (aritiesAt a f) (suc (x .own)) 0) (kindsAt a f))) go
         where
           go : sameSet (b ∷ bs) (between (getD (aritiesAt a f) (x .own) 0) (getD (aritiesAt a f) (suc (x .own)) 0) (kindsAt a f)) ≡ true → ⊥
           go t =
@@ -256,7 +256,7 @@ module _ (a : Arrays) (good : WellFormed a) (sized : Sized a) where
               ap (λ (k : ℕ). mem k ks) (sym (topAt .there)) ∙ mem-take (getD ks (placeOf (y .top) ks) 0) (getD ars m 0) ks (ap (λ (u : ℕ). mem (getD ks (placeOf (y .top) ks) 0) (take u ks)) (sym (sub-zero (getD ars m 0))) ∙ part-mem ks sets 0 (getD ars m 0) (omega arith) (arity-inside f hs i x m inM) (placeOf (y .top) ks) (omega arith) (topAt .high)) in
               let same : h ≡ f = family topHere in
               let y′ = subst (λ (z : ℕ). InFamily a z (b ∷ bs) e) same y in
-              let own : y′ .own ≡ m = is-ring f (b ∷ bs) e y′ m inM t in
+              let own : y′ .own ≡ m = is-new-kinds f (b ∷ bs) e y′ m inM t in
               let t₁ = own-top y′ in
               let before : getD (a .arities) (topOf i e - 1) 0 ≡ getD ars (x .own) 0 = ap (λ (j : ℕ). getD (a .arities) j 0) (omega arith) ∙ arity-at f (x .own) (x .inside) (x .group) in
               let at : getD (a .arities) (topOf i e) 0 ≡ getD ars m 0 = ap (λ (j : ℕ). getD (a .arities) j 0) (omega arith) ∙ arity-at f m (x .inside) inM in
@@ -264,7 +264,7 @@ module _ (a : Arrays) (good : WellFormed a) (sized : Sized a) where
                 same = x .first ∙ sym (y′ .first);
                 later = omega (arith, x .first);
                 included = group-places f hs i x (x .own) (x .group) equal ∙ ap (upFrom 0) (sym before);
-                excluded = ring-places f (b ∷ bs) e y′ m inM t ∙ ap₂ (λ (u v : ℕ). upFrom u (v - u)) (sym before) (sym at);
+                excluded = next-places f (b ∷ bs) e y′ m inM t ∙ ap₂ (λ (u v : ℕ). upFrom u (v - u)) (sym before) (sym at);
               })
             where
               family : mem (y .top) (kindsAt a f) ≡ true → h ≡ f
@@ -274,13 +274,13 @@ module _ (a : Arrays) (good : WellFormed a) (sized : Sized a) where
 
       pub exclude-range : (r : GroupRange) → ExcludeSays (a .arities) counts i e r → rangeOf r ≡ rangeAll hs (b ∷ bs) fs
       exclude-range (ranged.Found p q) w =
-          let same : h ≡ f = same-family h f (y .inside) (x .inside) (sym (y .first) ∙ sym (w .ring .same) ∙ x .first) in
-          ring-found (subst (λ (z : ℕ). InFamily a z (b ∷ bs) e) same y) p q w
+          let same : h ≡ f = same-family h f (y .inside) (x .inside) (sym (y .first) ∙ sym (w .next .same) ∙ x .first) in
+          next-found (subst (λ (z : ℕ). InFamily a z (b ∷ bs) e) same y) p q w
       exclude-range ranged.Nothing w =
           sym (family-range f hs (b ∷ bs) i x
           ∙ bool-cases (sameSet hs (take (getD (aritiesAt a f) (x .own) 0) (kindsAt a f)))
           (λ t. rw t (elim (decLt (suc (x .own)) (length (aritiesAt a f))) [
-            | yes l ↦ next-ring b bs counts (kindsAt a f) (suc (startOf (a .ends) f + x .own)) (getD (aritiesAt a f) (x .own) 0) (getD counts (startOf (a .ends) f + x .own) 0) (aritiesAt a f) (suc (x .own)) l ∙ rw (no-ring w t l)
+            | yes l ↦ next-new-kinds b bs counts (kindsAt a f) (suc (startOf (a .ends) f + x .own)) (getD (aritiesAt a f) (x .own) 0) (getD counts (startOf (a .ends) f + x .own) 0) (aritiesAt a f) (suc (x .own)) l ∙ rw (no-queue w t l)
             | no l ↦ no-next b bs counts (kindsAt a f) (suc (startOf (a .ends) f + x .own)) (getD (aritiesAt a f) (x .own) 0) (getD counts (startOf (a .ends) f + x .own) 0) (aritiesAt a f) (suc (x .own)) (omega arith)
           ]))
           (λ t. rw t))

@@ -5,7 +5,7 @@ use mathlib.Core.List.{List, [], _∷_}
 use Prim.Native.Nat.{ℕ, _+_, _≤_, _<_}
 use lib.Dec.{ltb}
 use lib.ListN.{length, getD, take}
-use Rattle.model.specs.Model.{Storage, Range, none, found, mem, within, setOf, range}
+use Rattle.model.specs.Model.{Storage, Range, none, found, mem, within, setOf, rangeFor}
 use Rattle.masks.specs.Masks.{has}
 use Rattle.layout.specs.Layout.{Arrays, Sized, startOf, kindsAt, aritiesAt, familiesOf, WellFormed}
 use Rattle.group_info.specs.declared.GroupInfo.{GroupInfo}
@@ -91,7 +91,7 @@ pub record RangeQuery (ars counts : List ℕ) (include exclude : QueryGroupInfo)
   pub arities : arrays .arities ≡ ars
   pub layout : storage .layout ≡ familiesOf counts arrays
   pub included : Describes arrays storage staged include
-  pub barred : Describes arrays storage excluded exclude
+  pub excludes : Describes arrays storage excluded exclude
 
 abbrev pub RangeSays : List ℕ → List ℕ → QueryGroupInfo → QueryGroupInfo → GroupRange → Type 0
-RangeSays ars counts include exclude r = (q : RangeQuery ars counts include exclude) → rangeOf r ≡ range (q .staged) (q .excluded) (q .storage)
+RangeSays ars counts include exclude r = (q : RangeQuery ars counts include exclude) → rangeOf r ≡ rangeFor (q .staged) (q .excluded) (q .storage)

@@ -106,22 +106,22 @@ abbrev pub topOf : GroupInfo → GroupInfo → ℕ
 topOf i e = max (i .«group_end») (e .«group_end») - 1
 
 -- it is not its family's first; i has the places of the group before, and e those of its new kinds
-pub record Ring (ars : List ℕ) (i e : GroupInfo) : Type 0 where
+pub record NextGroup (ars : List ℕ) (i e : GroupInfo) : Type 0 where
   pub same : i .«group_start» ≡ e .«group_start»
   pub later : i .«group_start» < topOf i e
   pub included : placesOf i ≡ upFrom 0 (getD ars (topOf i e - 1) 0)
   pub excluded : placesOf e ≡ upFrom (getD ars (topOf i e - 1) 0) (getD ars (topOf i e) 0 - getD ars (topOf i e - 1) 0)
 
 -- "a hand equal to a group and a bar equal to the next larger group's ring give the larger's count to the hand's"
-pub record RingRange (ars counts : List ℕ) (i e : GroupInfo) (a b : ℕ) : Type 0 where
-  pub ring : Ring ars i e
+pub record NextGroupRange (ars counts : List ℕ) (i e : GroupInfo) (a b : ℕ) : Type 0 where
+  pub next : NextGroup ars i e
   pub from : a ≡ getD counts (topOf i e) 0
   pub to : b ≡ getD counts (topOf i e - 1) 0
 
 -- none otherwise
 abbrev pub ExcludeSays : List ℕ → List ℕ → GroupInfo → GroupInfo → GroupRange → Type 0
-ExcludeSays ars counts i e (ranged.Found a b) = RingRange ars counts i e a b
-ExcludeSays ars counts i e ranged.Nothing = Ring ars i e → ⊥
+ExcludeSays ars counts i e (ranged.Found a b) = NextGroupRange ars counts i e a b
+ExcludeSays ars counts i e ranged.Nothing = NextGroup ars i e → ⊥
 
 -- none too where the staged kinds or the excluded ones have no info
 abbrev pub ExcludedSays : List ℕ → List ℕ → FoundInfo → FoundInfo → GroupRange → Type 0

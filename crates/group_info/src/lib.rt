@@ -170,9 +170,9 @@ fn exclude_group_range(
     if mask.0 != whole.0 {
         return GroupRange::Nothing;
     }
-    let barred = exclude.storage_mask;
-    let ring = group.exclude;
-    if barred.0 != ring.0 {
+    let outside = exclude.storage_mask;
+    let new_kinds = group.exclude;
+    if outside.0 != new_kinds.0 {
         return GroupRange::Nothing;
     }
     let from = counts[child] as usize;
@@ -222,8 +222,8 @@ pub fn group_range(
     match exclude {
         QueryGroupInfo::Empty => included_range(include, arities, counts),
         QueryGroupInfo::One(view) => {
-            let barred = view.info;
-            excluded_range(include.group_info(), barred, arities, counts)
+            let outside = view.info;
+            excluded_range(include.group_info(), outside, arities, counts)
         }
         QueryGroupInfo::Many(info) => excluded_range(
             include.group_info(),

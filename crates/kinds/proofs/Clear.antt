@@ -13,7 +13,7 @@ use Rattle.model.proofs.Walk.{bool-cases}
 use Rattle.words.specs.Offsets.{columnStart, columnStart-mono, ENTITIES, EXCLUDED-LEN, STAGED-LEN}
 use Rattle.words.specs.Part.{between-rest}
 use Rattle.words.specs.Table.{table, is-table, length-table, getD-table}
-use Rattle.component.specs.SparseSet.{rows, Sound}
+use Rattle.component.specs.SparseSet.{rows, ColumnSound}
 use Rattle.component.specs.Columns.{columnOf, rowsOf, Columns, HeadKept, Changes}
 use Rattle.entity.specs.Meaning as entity
 use Rattle.entity.specs.Change.{entityPart, entitiesIn}
@@ -42,11 +42,11 @@ module _ (n r m : ℕ) (h : r ≤ m) (w w′ : List ℕ) (all : Columns n m w) w
     unfolding columnOf
     past-column s l = between-rest (columnStart n r) (columnStart n s) (columnStart n s + (columnLen n)) w w′ (columnStart-mono n r s l) (c .past)
 
-    wide-sound : (s : ℕ) → s < m → Sound n (columnOf n s w′)
+    wide-sound : (s : ℕ) → s < m → ColumnSound n (columnOf n s w′)
     wide-sound s l =
         elim (decLt s r) [
           | yes q ↦ c .columns .columns s q
-          | no q ↦ subst (Sound n) (sym (past-column s (omega arith))) (all .columns s l)
+          | no q ↦ subst (ColumnSound n) (sym (past-column s (omega arith))) (all .columns s l)
         ]
 
     wide-head : (s : ℕ) → HeadKept n s w w′
@@ -127,7 +127,7 @@ module _ (w w′ : List ℕ) (A : Arranged w) (f : SparseSet → SparseSet) (z :
       let control = control-same w w′ A (o .size) same in
       record {
         arranged =
-            arranged-kept A K (subst (entity.Sound n) (sym each-entities) (A .entities)) (o .columns)
+            arranged-kept A K (subst (entity.EntityPartSound n) (sym each-entities) (A .entities)) (o .columns)
             (λ s l h. o .becomes s h ∙ ap f (A .vacant s l h) ∙ z)
             (rw (same STAGED-LEN (omega arith)) (A .staged)) (rw (same EXCLUDED-LEN (omega arith)) (A .excluded)) (D .0) (D .1);
         means =

@@ -99,7 +99,7 @@ pub record Placed (w : List ℕ) (j : ℕ) : Type 0 where
   pub low : priorArity (layoutArrays w) (groupFamilyAt w group) group ≤ local
   pub high : local < getD (layoutArrays w .arities) group 0
 
-pub record Listed (w : List ℕ) (k : ℕ) : Type 0 where
+pub record InGroup (w : List ℕ) (k : ℕ) : Type 0 where
   pub group : ℕ
   pub says : ownAt w (slotOf w k) ≡ suc group
   pub owned : Owned w k group
@@ -137,7 +137,7 @@ module _ (w : List ℕ) (A : Arranged w) where
       (omega (arith, kinds-length a good (layout-sized w A) f (F .below), F .low, F .high)) in
       placed-in j f (L .number) (F .below) (F .low) (L .below) (L .low) (L .high)
 
-  pub listed : (k : ℕ) → In (take (widthOf (layoutArrays w)) (layoutArrays w .kinds)) k → Listed w k
+  pub listed : (k : ℕ) → In (take (widthOf (layoutArrays w)) (layoutArrays w .kinds)) k → InGroup w k
   listed k i =
       let P = in-list (take (widthOf a) (a .kinds)) k i in
       let h : P .place < widthOf a = omega (arith, P .below, length-take-le (widthOf a) (a .kinds) (omega (arith, good .wide, (layout-sized w A) .kinds))) in

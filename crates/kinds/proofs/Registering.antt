@@ -262,7 +262,7 @@ module _ (w w′ : List ℕ) (A : Arranged w) (k : ℕ) (hk : k < MAX-KINDS) (ne
         limits = rw (cap, kind-cap) (A .limits);
         enough = rw (cap, kind-cap, R .size) (A .enough);
         table = table-new;
-        entities = rw cap (subst (entity.Sound (capacityOf w)) (sym entities-are) (A .entities));
+        entities = rw cap (subst (entity.EntityPartSound (capacityOf w)) (sym entities-are) (A .entities));
         columns = rw (cap, kind-cap) (R .columns);
         vacant =
             λ j l h.

@@ -10,7 +10,7 @@ use lib.Dec.{eqb}
 use lib.ListN.{length, getD, take, set}
 use lib.Seq.{getD-set-same, getD-set-other}
 use Rattle.model.specs.Numbers.{MAX-GROUP-COUNT}
-use Rattle.model.specs.Lists.{count, count-append}
+use Rattle.model.specs.Lists.{countOf, count-append}
 use Rattle.model.specs.Model.{Family, newGroup, grown, mem, meets, within, without, sameSet, kindsOf, groupsOf}
 use Rattle.model.proofs.Walk.{bool-cases}
 use Rattle.model.proofs.KindLists.{out-count}
@@ -125,7 +125,7 @@ module _ (l : Layout) (hs : List ℕ) (ask : FreshAsk l hs) (sized : Sized (arra
   kinds-opn : KindSet (widened (l .kinds) (l .width) hs (l .width))
   kinds-opn =
       record {
-        once = λ k. rw (counted k) (sum-once (count eqb k (take (l .width) (l .kinds))) (count eqb k hs) (w .once k) (s .once k) (apart k));
+        once = λ k. rw (counted k) (sum-once (countOf eqb k (take (l .width) (l .kinds))) (countOf eqb k hs) (w .once k) (s .once k) (apart k));
         known = λ k h. omega (arith, counted k, s .known k h, w .known k h);
       }
     where
@@ -135,12 +135,12 @@ module _ (l : Layout) (hs : List ℕ) (ask : FreshAsk l hs) (sized : Sized (arra
       w : KindSet (take (l .width) (l .kinds))
       w = rw (ask .group .formed .width) (good .kinds)
 
-      counted : (k : ℕ) → count eqb k (widened (l .kinds) (l .width) hs (l .width)) ≡ count eqb k (take (l .width) (l .kinds)) + count eqb k hs
+      counted : (k : ℕ) → countOf eqb k (widened (l .kinds) (l .width) hs (l .width)) ≡ countOf eqb k (take (l .width) (l .kinds)) + countOf eqb k hs
       counted k =
           count-append eqb k (take (l .width) (l .kinds)) (hs ++ between (l .width) (l .width) (l .kinds))
-          ∙ omega (arith, count-append eqb k hs (between (l .width) (l .width) (l .kinds)), ap (count eqb k) (between-none (l .width) (l .kinds)))
+          ∙ omega (arith, count-append eqb k hs (between (l .width) (l .width) (l .kinds)), ap (countOf eqb k) (between-none (l .width) (l .kinds)))
 
-      apart : (k : ℕ) → 1 ≤ count eqb k hs → count eqb k (take (l .width) (l .kinds)) ≡ 0
+      apart : (k : ℕ) → 1 ≤ countOf eqb k hs → countOf eqb k (take (l .width) (l .kinds)) ≡ 0
       apart k h = rw (ask .group .formed .width) (ask .unknown k h)
 
   pub fresh-extends : Extends (openedOf l) (l .families) hs (length hs)
@@ -199,14 +199,14 @@ module _ (l : Layout) (f : ℕ) (hs : List ℕ) (ask : OntoAsk l f hs) (sized : 
   kinds-grown : KindSet (widened (l .kinds) (getD (l .«kind_ends») f 0) lacks (widthOf has))
   kinds-grown =
       record {
-        once = λ k. rw (counted k) (sum-once (count eqb k (take (widthOf has) (l .kinds))) (count eqb k lacks) (well .kinds .once k) (omega (arith, ask .group .staged .once k, without-le k hs own)) (ask .unknown k));
+        once = λ k. rw (counted k) (sum-once (countOf eqb k (take (widthOf has) (l .kinds))) (countOf eqb k lacks) (well .kinds .once k) (omega (arith, ask .group .staged .once k, without-le k hs own)) (ask .unknown k));
         known = λ k h. omega (arith, counted k, well .kinds .known k h, ask .group .staged .known k h, without-le k hs own);
       }
     where
-      counted : (k : ℕ) → count eqb k (widened (l .kinds) (getD (l .«kind_ends») f 0) lacks (widthOf has)) ≡ count eqb k (take (widthOf has) (l .kinds)) + count eqb k lacks
+      counted : (k : ℕ) → countOf eqb k (widened (l .kinds) (getD (l .«kind_ends») f 0) lacks (widthOf has)) ≡ countOf eqb k (take (widthOf has) (l .kinds)) + countOf eqb k lacks
       counted k =
           count-append eqb k (take (getD (l .«kind_ends») f 0) (l .kinds)) (lacks ++ between (getD (l .«kind_ends») f 0) (widthOf has) (l .kinds))
-          ∙ omega (arith, count-append eqb k lacks (between (getD (l .«kind_ends») f 0) (widthOf has) (l .kinds)), count-append eqb k (take (getD (l .«kind_ends») f 0) (l .kinds)) (between (getD (l .«kind_ends») f 0) (widthOf has) (l .kinds)), ap (count eqb k) (between-join (l .kinds) (getD (l .«kind_ends») f 0) (widthOf has) (Arrays.kinds-inside has well f (ask .inside))))
+          ∙ omega (arith, count-append eqb k lacks (between (getD (l .«kind_ends») f 0) (widthOf has) (l .kinds)), count-append eqb k (take (getD (l .«kind_ends») f 0) (l .kinds)) (between (getD (l .«kind_ends») f 0) (widthOf has) (l .kinds)), ap (countOf eqb k) (between-join (l .kinds) (getD (l .«kind_ends») f 0) (widthOf has) (Arrays.kinds-inside has well f (ask .inside))))
 
   pub onto-extends : Extends l f lacks (length hs)
   onto-extends =
@@ -248,7 +248,7 @@ module _ (l : Layout) (hs : List ℕ) (group : GroupKinds l hs) (sized : Sized (
   fine : WellFormed (arraysOf l)
   fine = group .formed .good
 
-  unmet-at : (i : ℕ) → i < l .families → meets hs (kindsOf (getD (meaning l) i [])) ≡ false → (k : ℕ) → 1 ≤ count eqb k hs → count eqb k (kindsAt (arraysOf l) i) ≡ 0
+  unmet-at : (i : ℕ) → i < l .families → meets hs (kindsOf (getD (meaning l) i [])) ≡ false → (k : ℕ) → 1 ≤ countOf eqb k hs → countOf eqb k (kindsAt (arraysOf l) i) ≡ 0
   unmet-at i h m k c =
       unmet hs (kindsAt (arraysOf l) i) k
       (ap (meets hs) (sym (ap kindsOf (Arrays.families-at [] (arraysOf l) i h) ∙ Arrays.family-kindsOf (arraysOf l) fine sized [] i h)) ∙ m) c
@@ -306,7 +306,7 @@ module _ (l : Layout) (hs : List ℕ) (group : GroupKinds l hs) (sized : Sized (
               (λ i h. by-eq i f (λ e. rw e (own-none k c)) (λ ne. unmet-at i h (t .others i (omega (arith, counted-length)) ne) k (omega (arith, without-le k hs (kindsAt (arraysOf l) f)))));
         }
       where
-        own-none : (k : ℕ) → 1 ≤ count eqb k (without hs (kindsAt (arraysOf l) f)) → count eqb k (kindsAt (arraysOf l) f) ≡ 0
+        own-none : (k : ℕ) → 1 ≤ countOf eqb k (without hs (kindsAt (arraysOf l) f)) → countOf eqb k (kindsAt (arraysOf l) f) ≡ 0
         own-none k c =
             out-count (kindsAt (arraysOf l) f) k
             (bool-cases (mem k (kindsAt (arraysOf l) f)) (λ m. absurd (omega (arith, without-held k hs (kindsAt (arraysOf l) f) m))) (λ m. m))

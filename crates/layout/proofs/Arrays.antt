@@ -9,7 +9,7 @@ use lib.ListN.{length, getD, take, drop, drop-of-length-le}
 use lib.Seq.{take-take}
 use Rattle.model.specs.Numbers.{MAX-GROUP-COUNT, MAX-KINDS}
 use Rattle.words.specs.Offsets.{ARITIES, BLOCK-LEN, ENDS, KIND-ENDS}
-use Rattle.model.specs.Lists.{count, count-append}
+use Rattle.model.specs.Lists.{countOf, count-append}
 use Rattle.model.specs.Model.{Family, kindsOf, groupsOf}
 use Rattle.model.specs.Sound.{layoutKinds}
 use Rattle.words.specs.Part.{between, length-between, between-front}
@@ -48,11 +48,11 @@ ends-count es (suc n) o = omega (arith, ends-count es n (λ j l. o j (omega arit
 
 -- a kind in none of the families is in no front of the kinds
 pub in-no-family : (k : ℕ) (es ks : List ℕ) (n : ℕ) → ((i : ℕ) → i < n → startOf es i ≤ getD es i 0)
-    → ((i : ℕ) → i < n → count eqb k (between (startOf es i) (getD es i 0) ks) ≡ 0) → count eqb k (take (startOf es n) ks) ≡ 0
+    → ((i : ℕ) → i < n → countOf eqb k (between (startOf es i) (getD es i 0) ks) ≡ 0) → countOf eqb k (take (startOf es n) ks) ≡ 0
 in-no-family k es ks zero o h = refl
 in-no-family k es ks (suc n) o h =
     let e = between-join ks (startOf es n) (getD es n 0) (o n (omega arith)) in
-    sym (ap (count eqb k) e) ∙ count-append eqb k (take (startOf es n) ks) (between (startOf es n) (getD es n 0) ks)
+    sym (ap (countOf eqb k) e) ∙ count-append eqb k (take (startOf es n) ks) (between (startOf es n) (getD es n 0) ks)
     ∙ omega (arith, in-no-family k es ks n (λ i l. o i (omega arith)) (λ i l. h i (omega arith)), h n (omega arith))
 
 -- ---- a well-formed layout

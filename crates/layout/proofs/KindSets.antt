@@ -9,8 +9,8 @@ use borrow.Author.Tests.{eq-eqb, ne-eqb, eqb-true}
 use lib.Dec.{eqb}
 use lib.ListN.{length, take, drop, take-append-drop, length-append}
 use Rattle.model.specs.Numbers.{MAX-KINDS}
-use Rattle.model.specs.Lists.{one, count, count-append, count-length-le, count-length}
-use Rattle.model.specs.Model.{mem, any, within, meets, sameSet, without}
+use Rattle.model.specs.Lists.{one, countOf, count-append, count-length-le, count-length}
+use Rattle.model.specs.Model.{mem, anyOf, within, meets, sameSet, without}
 use Rattle.model.proofs.Walk.{bool-cases, or-cases, all-in}
 use Rattle.model.proofs.KindLists.{in-count, out-count, count-in, all-true}
 use Rattle.words.specs.Part.{between}
@@ -19,22 +19,22 @@ use Rattle.layout.specs.Layout.{KindSet}
 
 -- ---- tests of all and of some
 
-pub any-none : (p : ℕ → Bool) (l : List ℕ) (x : ℕ) → any p l ≡ false → mem x l ≡ true → p x ≡ false
+pub any-none : (p : ℕ → Bool) (l : List ℕ) (x : ℕ) → anyOf p l ≡ false → mem x l ≡ true → p x ≡ false
 any-none p [] x h m = absurd (false≢true m)
 any-none p (y ∷ l) x h m = go (p y) refl h (any-none p l x)
   where
-    go : (b : Bool) → p y ≡ b → (b || any p l) ≡ false → (any p l ≡ false → mem x l ≡ true → p x ≡ false) → p x ≡ false
+    go : (b : Bool) → p y ≡ b → (b || anyOf p l) ≡ false → (anyOf p l ≡ false → mem x l ≡ true → p x ≡ false) → p x ≡ false
     go true e h r = absurd (true≢false h)
     go false e h r = or-cases (eqb x y) (mem x l) m (λ t. ap p (eqb-true x y t) ∙ e) (λ t. r h t)
 
 -- no kind in common
-pub unmet : (ks js : List ℕ) (x : ℕ) → meets ks js ≡ false → 1 ≤ count eqb x ks → count eqb x js ≡ 0
+pub unmet : (ks js : List ℕ) (x : ℕ) → meets ks js ≡ false → 1 ≤ countOf eqb x ks → countOf eqb x js ≡ 0
 unmet ks js x m h = out-count js x (any-none (λ k. mem k js) ks x m (count-in ks x h))
 
 -- ---- once each
 
-below-counts : (x : ℕ) (s t : List ℕ) (l : List ℕ) → s ++ t ≡ l → (count eqb x s ≤ count eqb x l) × (count eqb x t ≤ count eqb x l)
-below-counts x s t l e = let c = sym (count-append eqb x s t) ∙ ap (count eqb x) e in (omega arith, omega arith)
+below-counts : (x : ℕ) (s t : List ℕ) (l : List ℕ) → s ++ t ≡ l → (countOf eqb x s ≤ countOf eqb x l) × (countOf eqb x t ≤ countOf eqb x l)
+below-counts x s t l e = let c = sym (count-append eqb x s t) ∙ ap (countOf eqb x) e in (omega arith, omega arith)
 
 pub set-take : (n : ℕ) (l : List ℕ) → KindSet l → KindSet (take n l)
 set-take n l s =
@@ -54,10 +54,10 @@ pub set-between : (a e : ℕ) (l : List ℕ) → KindSet l → KindSet (between 
 set-between a e l s = set-take (e - a) (drop a l) (set-drop a l s)
 
 -- where each of js is in ks, js has no kind more often
-pub within-counts : (js ks : List ℕ) → KindSet js → within js ks ≡ true → (x : ℕ) → count eqb x js ≤ count eqb x ks
-within-counts js ks s w x = go (count eqb x js) refl
+pub within-counts : (js ks : List ℕ) → KindSet js → within js ks ≡ true → (x : ℕ) → countOf eqb x js ≤ countOf eqb x ks
+within-counts js ks s w x = go (countOf eqb x js) refl
   where
-    go : (n : ℕ) → count eqb x js ≡ n → count eqb x js ≤ count eqb x ks
+    go : (n : ℕ) → countOf eqb x js ≡ n → countOf eqb x js ≤ countOf eqb x ks
     go zero e = omega arith
     go (suc n) e = omega (arith, s .once x, in-count ks x (all-in (λ k. mem k ks) js w x (count-in js x (omega arith))))
 
@@ -68,10 +68,10 @@ sum-once x (suc y) hx hy h = omega (arith, h (omega arith))
 
 -- ---- lengths
 
-pub shorter : (l m : List ℕ) → ((x : ℕ) → count eqb x l ≤ count eqb x m) → length l ≤ length m
+pub shorter : (l m : List ℕ) → ((x : ℕ) → countOf eqb x l ≤ countOf eqb x m) → length l ≤ length m
 shorter l m h = count-length-le eqb eqb-true (λ x. eq-eqb x x refl) l m h
 
-pub as-long : (l m : List ℕ) → ((x : ℕ) → count eqb x l ≡ count eqb x m) → length l ≡ length m
+pub as-long : (l m : List ℕ) → ((x : ℕ) → countOf eqb x l ≡ countOf eqb x m) → length l ≡ length m
 as-long l m h = count-length eqb eqb-true (λ x. eq-eqb x x refl) l m h
 
 downFrom : ℕ → List ℕ
@@ -83,7 +83,7 @@ unfolding downFrom
 down-length zero = refl
 down-length (suc n) = ap suc (down-length n)
 
-down-count : (n x : ℕ) → x < n → 1 ≤ count eqb x (downFrom n)
+down-count : (n x : ℕ) → x < n → 1 ≤ countOf eqb x (downFrom n)
 unfolding downFrom
 down-count zero x h = absurd (omega arith)
 down-count (suc n) x h =
@@ -93,13 +93,13 @@ down-count (suc n) x h =
 pub pigeon : (l : List ℕ) → KindSet l → length l ≤ MAX-KINDS
 pigeon l s = omega (arith, down-length MAX-KINDS, shorter l (downFrom MAX-KINDS) fits)
   where
-    fits : (x : ℕ) → count eqb x l ≤ count eqb x (downFrom MAX-KINDS)
+    fits : (x : ℕ) → countOf eqb x l ≤ countOf eqb x (downFrom MAX-KINDS)
     fits x = go (ltd x)
       where
         ltd : (x : ℕ) → Dec (x < MAX-KINDS)
         ltd x = decLt x MAX-KINDS
 
-        go : Dec (x < MAX-KINDS) → count eqb x l ≤ count eqb x (downFrom MAX-KINDS)
+        go : Dec (x < MAX-KINDS) → countOf eqb x l ≤ countOf eqb x (downFrom MAX-KINDS)
         go (yes h) = omega (arith, s .once x, down-count MAX-KINDS x h)
         go (no h) = omega (arith, s .known x (omega arith))
 
@@ -127,21 +127,21 @@ same-set ks js sk sj = bool-cases (within js ks) inside outside
 
 -- ---- those of ks that js lacks
 
-pub count-without : (x : ℕ) (ks js : List ℕ) → mem x js ≡ false → count eqb x (without ks js) ≡ count eqb x ks
+pub count-without : (x : ℕ) (ks js : List ℕ) → mem x js ≡ false → countOf eqb x (without ks js) ≡ countOf eqb x ks
 count-without x [] js n = refl
 count-without x (k ∷ ks) js n =
     bool-cases (mem k js)
     (λ t. rw t (count-without x ks js n ∙ (let ne : eqb x k ≡ false = ne-eqb x k (λ e. true≢false (sym t ∙ ap (λ (y : ℕ). mem y js) (sym e) ∙ n)) in omega (arith, ap one ne))))
     (λ t. rw t (omega (arith, count-without x ks js n)))
 
-pub without-held : (x : ℕ) (ks js : List ℕ) → mem x js ≡ true → count eqb x (without ks js) ≡ 0
+pub without-held : (x : ℕ) (ks js : List ℕ) → mem x js ≡ true → countOf eqb x (without ks js) ≡ 0
 without-held x [] js n = refl
 without-held x (k ∷ ks) js n =
     bool-cases (mem k js)
     (λ t. rw t (without-held x ks js n))
     (λ t. rw t (let ne : eqb x k ≡ false = ne-eqb x k (λ e. true≢false (sym n ∙ ap (λ (y : ℕ). mem y js) e ∙ t)) in omega (arith, ap one ne, without-held x ks js n)))
 
-pub without-le : (x : ℕ) (ks js : List ℕ) → count eqb x (without ks js) ≤ count eqb x ks
+pub without-le : (x : ℕ) (ks js : List ℕ) → countOf eqb x (without ks js) ≤ countOf eqb x ks
 without-le x ks js = bool-cases (mem x js) (λ t. omega (arith, without-held x ks js t)) (λ t. omega (arith, count-without x ks js t))
 
 -- a set that holds another is as long as it and what it lacks

@@ -7,7 +7,7 @@ use native.Mathlib.Numerals.{add-one}
 use borrow.Author.Tests.{eq-eqb, ne-eqb}
 use lib.ListN.{length, getD, drop}
 use lib.Seq.{drop-cons}
-use Rattle.model.specs.Model.{mem, all, any}
+use Rattle.model.specs.Model.{mem, allOf, anyOf}
 
 pub drop-step : {A : Type 0} (l : List A) (i : ℕ) (d : A) → i < length l → drop i l ≡ getD l i d ∷ drop (i + 1) l
 drop-step {A} l i d h = drop-cons l i d h ∙ ap (λ (k : ℕ). getD l i d ∷ drop k l) (sym (add-one i))
@@ -18,14 +18,14 @@ mem-hit x l i h e = rw (drop-step l i 0 h, eq-eqb x (getD l i 0) e)
 pub mem-miss : (x : ℕ) (l : List ℕ) (i : ℕ) → i < length l → (x ≡ getD l i 0 → ⊥) → mem x (drop i l) ≡ mem x (drop (i + 1) l)
 mem-miss x l i h e = rw (drop-step l i 0 h, ne-eqb x (getD l i 0) e)
 
-pub all-hit : (p : ℕ → Bool) (l : List ℕ) (i : ℕ) → i < length l → p (getD l i 0) ≡ true → all p (drop i l) ≡ all p (drop (i + 1) l)
+pub all-hit : (p : ℕ → Bool) (l : List ℕ) (i : ℕ) → i < length l → p (getD l i 0) ≡ true → allOf p (drop i l) ≡ allOf p (drop (i + 1) l)
 all-hit p l i h e = rw (drop-step l i 0 h, e)
 
-pub all-miss : (p : ℕ → Bool) (l : List ℕ) (i : ℕ) → i < length l → p (getD l i 0) ≡ false → all p (drop i l) ≡ false
+pub all-miss : (p : ℕ → Bool) (l : List ℕ) (i : ℕ) → i < length l → p (getD l i 0) ≡ false → allOf p (drop i l) ≡ false
 all-miss p l i h e = rw (drop-step l i 0 h, e)
 
-pub any-hit : (p : ℕ → Bool) (l : List ℕ) (i : ℕ) → i < length l → p (getD l i 0) ≡ true → any p (drop i l) ≡ true
+pub any-hit : (p : ℕ → Bool) (l : List ℕ) (i : ℕ) → i < length l → p (getD l i 0) ≡ true → anyOf p (drop i l) ≡ true
 any-hit p l i h e = rw (drop-step l i 0 h, e)
 
-pub any-miss : (p : ℕ → Bool) (l : List ℕ) (i : ℕ) → i < length l → p (getD l i 0) ≡ false → any p (drop i l) ≡ any p (drop (i + 1) l)
+pub any-miss : (p : ℕ → Bool) (l : List ℕ) (i : ℕ) → i < length l → p (getD l i 0) ≡ false → anyOf p (drop i l) ≡ anyOf p (drop (i + 1) l)
 any-miss p l i h e = rw (drop-step l i 0 h, e)

@@ -7,7 +7,7 @@ use Prim.Native.Nat.{ℕ, _+_, _-_, _≤_, _<_}
 use lib.Dec.{eqb}
 use lib.ListN.{length, getD, take, drop, set}
 use Rattle.model.specs.Numbers.{MAX-GROUP-ARITY, MAX-GROUP-COUNT, MAX-KINDS}
-use Rattle.model.specs.Lists.{count}
+use Rattle.model.specs.Lists.{countOf}
 use Rattle.model.specs.Model.{newGroup, within, without}
 use Rattle.words.specs.Part.{between}
 use Rattle.layout.specs.Layout.{Arrays, arraysOf, startOf, widthOf, groupCount, kindsAt, aritiesAt, groupsFrom, familyAt, meaning, KindSet, Rising, FamilyFormed, Formed}
@@ -96,7 +96,7 @@ pub record GroupKinds (l : Layout) (hs : List ℕ) : Type 0 where
 
 -- no kind of the list is in the layout
 abbrev pub Unknown : Layout → List ℕ → Type 0
-Unknown l ks = (k : ℕ) → 1 ≤ count eqb k ks → count eqb k (take (widthOf (arraysOf l)) (l .kinds)) ≡ 0
+Unknown l ks = (k : ℕ) → 1 ≤ countOf eqb k ks → countOf eqb k (take (widthOf (arraysOf l)) (l .kinds)) ≡ 0
 
 -- "It is added if it shares no kind with any group"
 pub record FreshAsk (l : Layout) (staged : List ℕ) : Type 0 where

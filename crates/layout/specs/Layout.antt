@@ -6,7 +6,7 @@ use lib.Dec.{eqb}
 use lib.ListN.{length, getD, take}
 use Rattle.model.specs.Numbers.{MAX-GROUP-ARITY, MAX-GROUP-COUNT, MAX-KINDS}
 use Rattle.words.specs.Offsets.{ARITIES, BLOCK-LEN, ENDS, GROUP-PLACES, KIND-ENDS}
-use Rattle.model.specs.Lists.{count}
+use Rattle.model.specs.Lists.{countOf}
 use Rattle.model.specs.Model.{Family}
 use Rattle.words.specs.Part.{between}
 use Rattle.words.specs.Table.{table}
@@ -79,8 +79,8 @@ blockMeaning w n = familiesOf [] (blockArrays w n)
 
 -- kinds, once each, all below 128
 pub record KindSet (l : List ℕ) : Type 0 where
-  pub once : (k : ℕ) → count eqb k l ≤ 1
-  pub known : (k : ℕ) → MAX-KINDS ≤ k → count eqb k l ≡ 0
+  pub once : (k : ℕ) → countOf eqb k l ≤ 1
+  pub known : (k : ℕ) → MAX-KINDS ≤ k → countOf eqb k l ≡ 0
 
 -- the arities rise strictly, from above b to n
 unfoldable pub Rising : ℕ → ℕ → List ℕ → Type 0

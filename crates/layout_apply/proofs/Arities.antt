@@ -10,7 +10,7 @@ use borrow.Author.Tests.{eq-eqb}
 use lib.Dec.{eqb}
 use lib.ListN.{length, getD, take}
 use lib.Seq.{getD-take, length-take-le}
-use Rattle.model.specs.Lists.{one, count}
+use Rattle.model.specs.Lists.{one, countOf}
 use Rattle.model.specs.Sound.{In}
 use Rattle.model.proofs.KindLists.{at-count, at-in}
 use Rattle.words.specs.Table.{by-eq}
@@ -24,13 +24,13 @@ use Rattle.layout_apply.specs.Heads.{InFamily, NewAt, placeNo}
 
 -- ---- kinds once each
 
-count-twice : (l : List ℕ) (i j : ℕ) → i < j → j < length l → getD l i 0 ≡ getD l j 0 → 2 ≤ count eqb (getD l j 0) l
+count-twice : (l : List ℕ) (i j : ℕ) → i < j → j < length l → getD l i 0 ≡ getD l j 0 → 2 ≤ countOf eqb (getD l j 0) l
 count-twice [] i j h l e = absurd (not-suc-le-zero l)
 count-twice (y ∷ l) i zero h k e = absurd (omega arith)
 count-twice (y ∷ l) zero (suc j) h k e = omega (arith, ap one (eq-eqb (getD l j 0) y (sym e)), at-count l j (le-of-suc-le-suc k))
 count-twice (y ∷ l) (suc i) (suc j) h k e = omega (arith, count-twice l i j (le-of-suc-le-suc h) (le-of-suc-le-suc k) e)
 
-distinct-at : (l : List ℕ) → ((k : ℕ) → count eqb k l ≤ 1) → (i j : ℕ) → i < length l → j < length l → i ≢ j → getD l i 0 ≢ getD l j 0
+distinct-at : (l : List ℕ) → ((k : ℕ) → countOf eqb k l ≤ 1) → (i j : ℕ) → i < length l → j < length l → i ≢ j → getD l i 0 ≢ getD l j 0
 distinct-at l once i j hi hj ne e =
     elim (decLt i j) [
       | yes q ↦ omega (arith, count-twice l i j q hj e, once (getD l j 0))

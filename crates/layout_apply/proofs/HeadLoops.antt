@@ -17,7 +17,7 @@ use Rattle.memory.specs.Header.{capacityOf, kindCapacityOf, slotOf}
 use Rattle.memory.specs.Meaning.{layoutArrays}
 use Rattle.memory.specs.Arranged.{priorArity}
 use Rattle.memory.proofs.Prior.{prior-low, prior-next}
-use Rattle.layout_apply.specs.Heads.{withOwn, Heads, kindNo, slotNo, Ready, InFamily, NewAt, placeNo, Upto, Headed, HeadsGroup}
+use Rattle.layout_apply.specs.Heads.{withOwn, Heads, kindNo, slotNo, HeadsReady, InFamily, NewAt, placeNo, Upto, Headed, HeadsGroup}
 use Rattle.layout_apply.proofs.Words.{block-at, block-start}
 use Rattle.layout_apply.proofs.Arities.{prior-end, prior-less, arity-inside, place-below}
 use Rattle.layout_apply.proofs.HeadSteps.{sized, heads-none, heads-then, ready-kept, capacity-same, arrays-same, slot-small, upto-more}
@@ -41,7 +41,7 @@ end-word w f h = block-at LAYOUT w ENDS BLOCK-LEN f (omega arith) (omega arith) 
 
 -- ---- one kind's column
 
-module _ (w : List ℕ) (R : Ready w) (p : ℕ) (h : p < widthOf (layoutArrays w)) where
+module _ (w : List ℕ) (R : HeadsReady w) (p : ℕ) (h : p < widthOf (layoutArrays w)) where
   place-small : p < MAX-KINDS
   place-small = omega (arith, R .formed .wide)
 
@@ -57,7 +57,7 @@ module _ (w : List ℕ) (R : Ready w) (p : ℕ) (h : p < widthOf (layoutArrays w
 
 -- ---- a group's new kinds
 
-module _ (w : List ℕ) (R : Ready w) (f g : ℕ) (G : InFamily (layoutArrays w) f g) where
+module _ (w : List ℕ) (R : HeadsReady w) (f g : ℕ) (G : InFamily (layoutArrays w) f g) where
   pub group-few : g < MAX-GROUP-COUNT
   group-few = omega (arith, groups-inside (layoutArrays w) (R .formed) f (G .family), R .formed .many, G .high)
 
@@ -73,7 +73,7 @@ module _ (w : List ℕ) (R : Ready w) (f g : ℕ) (G : InFamily (layoutArrays w)
 
 -- w₀ are the words before group g's new kinds; the heads are set up to place j of family f
 pub record Groupwise (w₀ : List ℕ) (n f g start arity : ℕ) (w : List ℕ) (j : ℕ) : Type 0 where
-  pub ready : Ready w₀
+  pub ready : HeadsReady w₀
   pub group : InFamily (layoutArrays w₀) f g
   pub capacity : n ≡ capacityOf w₀
   pub starts : start ≡ startOf (layoutArrays w₀ .kindEnds) f
@@ -82,7 +82,7 @@ pub record Groupwise (w₀ : List ℕ) (n f g start arity : ℕ) (w : List ℕ) 
   pub high : j ≤ arity
   pub headed : Headed w₀ w (placeNo (layoutArrays w₀) f j)
 
-pub group-none : (w : List ℕ) (n f g prior start arity : ℕ) → Ready w → n ≡ capacityOf w → InFamily (layoutArrays w) f g → prior ≡ priorArity (layoutArrays w) f g
+pub group-none : (w : List ℕ) (n f g prior start arity : ℕ) → HeadsReady w → n ≡ capacityOf w → InFamily (layoutArrays w) f g → prior ≡ priorArity (layoutArrays w) f g
     → Upto w (placeNo (layoutArrays w) f prior) → start ≡ startOf (drop LAYOUT-KIND-ENDS w) f → arity ≡ getD w (LAYOUT-ARITIES + g) 0 → Groupwise w n f g start arity w prior
 group-none w n f g prior start arity R en G ep U es ea =
     let q : arity ≡ getD (layoutArrays w .arities) g 0 = ea ∙ sym (arity-word w g (omega (arith, group-few w R f g G))) in
@@ -99,7 +99,7 @@ group-none w n f g prior start arity R en G ep U es ea =
 
 -- what the next kind's column asks
 pub record NextKind (w : List ℕ) (n g p j : ℕ) : Type 0 where
-  pub ready : Ready w
+  pub ready : HeadsReady w
   pub capacity : n ≡ capacityOf w
   pub place : p < widthOf (layoutArrays w)
   pub group : g < GROUP-PLACES
@@ -110,7 +110,7 @@ module _ (w₀ : List ℕ) (n f g start arity : ℕ) (w : List ℕ) (j : ℕ) (B
   abbrev a : Arrays
   a = layoutArrays w₀
 
-  abbrev R : Ready w₀
+  abbrev R : HeadsReady w₀
   R = B .ready
 
   abbrev H : Heads w₀ w
@@ -172,7 +172,7 @@ pub record Familywise (w₀ w : List ℕ) (f g prior : ℕ) : Type 0 where
   pub before : prior ≡ priorArity (layoutArrays w₀) f g
   pub headed : Headed w₀ w (placeNo (layoutArrays w₀) f prior)
 
-module _ (w₀ : List ℕ) (R : Ready w₀) (f : ℕ) (hf : f < layoutArrays w₀ .families) where
+module _ (w₀ : List ℕ) (R : HeadsReady w₀) (f : ℕ) (hf : f < layoutArrays w₀ .families) where
   pub family-none : (g : ℕ) → g ≡ startOf (layoutArrays w₀ .ends) f → Upto w₀ (startOf (layoutArrays w₀ .kindEnds) f) → Familywise w₀ w₀ f g 0
   family-none g e U =
       record {
@@ -220,10 +220,10 @@ module _ (w₀ : List ℕ) (R : Ready w₀) (f : ℕ) (hf : f < layoutArrays w�
 
 -- ---- the families
 
-pub families-none : (w : List ℕ) → Ready w → Upto w 0 → Headed w w (startOf (layoutArrays w .kindEnds) 0)
+pub families-none : (w : List ℕ) → HeadsReady w → Upto w 0 → Headed w w (startOf (layoutArrays w .kindEnds) 0)
 families-none w R U = record { heads = heads-none w R; upto = U }
 
-module _ (w₀ : List ℕ) (R : Ready w₀) (w : List ℕ) (f : ℕ) (D : Headed w₀ w (startOf (layoutArrays w₀ .kindEnds) f)) where
+module _ (w₀ : List ℕ) (R : HeadsReady w₀) (w : List ℕ) (f : ℕ) (D : Headed w₀ w (startOf (layoutArrays w₀ .kindEnds) f)) where
   same : layoutArrays w₀ ≡ layoutArrays w
   same = sym (arrays-same w₀ w R (D .heads))
 

@@ -17,7 +17,7 @@ use Rattle.layout.proofs.Arrays.{block-sized}
 use Rattle.memory.specs.Header.{capacityOf, kindCapacityOf, registeredOf, slotOf}
 use Rattle.memory.specs.Meaning.{kindAt, ownAt, localAt, layoutArrays}
 use Rattle.memory.proofs.Frames.{word-front, start-header, layout-arrays-same}
-use Rattle.layout_apply.specs.Heads.{withOwn, Reheaded, Heads, Groupless, Slotted, kindNo, slotNo, Ready, NewAt, placeNo, HeadIs, Upto, Headed}
+use Rattle.layout_apply.specs.Heads.{withOwn, Reheaded, Heads, Groupless, Slotted, kindNo, slotNo, HeadsReady, NewAt, placeNo, HeadIs, Upto, Headed}
 use Rattle.layout_apply.proofs.Arities.{kinds-apart, kind-among, same-place, place-below}
 
 -- ---- nothing but words 2 and 3 of the heads
@@ -85,7 +85,7 @@ clear-more n k s w₀ w h G =
 
 -- ---- a change of the heads leaves all but them
 
-module _ (w w′ : List ℕ) (R : Ready w) (H : Heads w w′) where
+module _ (w w′ : List ℕ) (R : HeadsReady w) (H : Heads w w′) where
   pub word-same : (i : ℕ) → i < ENTITIES → getD w′ i 0 ≡ getD w i 0
   word-same i h = word-front (columnStart (capacityOf w) 0) w w′ (H .front) i (omega (arith, start-header (capacityOf w)))
 
@@ -116,7 +116,7 @@ module _ (w w′ : List ℕ) (R : Ready w) (H : Heads w w′) where
         back = ap (kindAt w′) e ∙ kind-same (slotOf w k) (S .slot) ∙ S .back;
       }
 
-  pub ready-kept : Ready w′
+  pub ready-kept : HeadsReady w′
   ready-kept =
       record {
         long = omega (arith, R .long, H .size);
@@ -133,7 +133,7 @@ module _ (w w′ : List ℕ) (R : Ready w) (H : Heads w w′) where
   heads-then w″ H′ =
       reheaded-then (capacityOf w) (kindCapacityOf w) w w′ w″ H (rw (capacity-same, kind-capacity-same) at H′)
 
-pub heads-none : (w : List ℕ) → Ready w → Heads w w
+pub heads-none : (w : List ℕ) → HeadsReady w → Heads w w
 heads-none w R = reheaded-none (capacityOf w) (kindCapacityOf w) w (R .columns)
 
 -- ---- the heads of the layout's kinds
@@ -141,7 +141,7 @@ heads-none w R = reheaded-none (capacityOf w) (kindCapacityOf w) w (R .columns)
 pub sized : (w : List ℕ) → ENTITIES ≤ length w → Sized (layoutArrays w)
 sized w l = block-sized (between LAYOUT GROUP-FAMILIES w) (getD w LAYOUT-FAMILIES 0) (length-between LAYOUT GROUP-FAMILIES w (omega arith))
 
-module _ (w : List ℕ) (R : Ready w) where
+module _ (w : List ℕ) (R : HeadsReady w) where
   abbrev a : Arrays
   a = layoutArrays w
 

@@ -11,7 +11,7 @@ use lib.ListN.{length, getD, drop, List·getD-eq-default}
 use lib.Seq.{ext-getD}
 use Rattle.model.specs.Numbers.{ENTITY-LEN, MAX-KINDS}
 use Rattle.model.specs.Model.{Family}
-use Rattle.model.specs.Sound.{In, Sound}
+use Rattle.model.specs.Sound.{In, StoreSound}
 use Rattle.model.proofs.Walk.{bool-cases}
 use Rattle.words.specs.Offsets.{columnStart, columnStart-mono, BLOCK-LEN, CAPACITY, COLUMN-KIND, DRAFT, DRAFT-FAMILIES, DRAFT-GROUPS, ENTITIES, EXCLUDED-LEN, GROUP-COUNTS, GROUP-FAMILIES, GROUP-PLACES, KIND-CAPACITY, LAYOUT, LAYOUT-FAMILIES, LAYOUT-GROUPS, REFUSALS, REGISTERED, STAGED-LEN, TABLE, UNREGISTERED}
 use Rattle.words.specs.Part.{between, between-front, between-rest, length-between, getD-between}
@@ -30,7 +30,7 @@ use Rattle.memory.proofs.Frames.{start-header, drop-later, staged-same, exclude
 use Rattle.kinds.proofs.Slot.{known-slot, known-small}
 use Rattle.kinds.proofs.Clear.{fewer}
 use Rattle.layout_apply.specs.Steps.{installed, Prepared}
-use Rattle.layout_apply.specs.Heads.{Reheaded, Heads, ClearsHeads, Slotted, Ready, InFamily, placeNo, Upto, Headed}
+use Rattle.layout_apply.specs.Heads.{Reheaded, Heads, ClearsHeads, Slotted, HeadsReady, InFamily, placeNo, Upto, Headed}
 use Rattle.layout_apply.proofs.Arities.{kind-among, place-in}
 use Rattle.layout_apply.proofs.HeadSteps.{word-same, registered-same, arrays-same, head-same, ready-kept, heads-then, upto-none}
 
@@ -64,7 +64,7 @@ family-of es (suc n) g h =
 
 -- ---- the header done
 
-module _ (w₀ w₁ : List ℕ) (A : Arranged w₀) (M : Sound (meaning w₀)) (P : Prepared w₀ w₁) where
+module _ (w₀ w₁ : List ℕ) (A : Arranged w₀) (M : StoreSound (meaning w₀)) (P : Prepared w₀ w₁) where
   abbrev n : ℕ
   n = capacityOf w₀
 
@@ -127,7 +127,7 @@ module _ (w₀ w₁ : List ℕ) (A : Arranged w₀) (M : Sound (meaning w₀)) (
         back = ap (kindAt w₁) (slot₁ j small) ∙ kind₁ (slotOf w₀ j) ∙ S .kind;
       }
 
-  pub ready₁ : Ready w₁
+  pub ready₁ : HeadsReady w₁
   ready₁ =
       record {
         long = omega (arith, P .size, long w₀ A);
@@ -150,7 +150,7 @@ module _ (w₀ w₁ : List ℕ) (A : Arranged w₀) (M : Sound (meaning w₀)) (
     pub heads₂ : Heads w₁ w₂
     heads₂ = C (kindCapacityOf w₁) (ready₁ .few) (ready₁ .columns) .heads
 
-    pub ready₂ : Ready w₂
+    pub ready₂ : HeadsReady w₂
     ready₂ = ready-kept w₁ w₂ ready₁ heads₂
 
     pub upto₂ : Upto w₂ 0
@@ -161,7 +161,7 @@ module _ (w₀ w₁ : List ℕ) (A : Arranged w₀) (M : Sound (meaning w₀)) (
   -- ---- the heads set
 
   module _ (w : List ℕ) (H : Heads w₁ w) (U : Upto w (widthOf (layoutArrays w))) where
-    ready : Ready w
+    ready : HeadsReady w
     ready = ready-kept w₁ w ready₁ H
 
     changed : Reheaded n k w₁ w
@@ -266,7 +266,7 @@ module _ (w₀ w₁ : List ℕ) (A : Arranged w₀) (M : Sound (meaning w₀)) (
           limits = rw (cap, kcap) (A .limits);
           enough = rw (cap, kcap, size) (A .enough);
           table = table-sound;
-          entities = rw cap (subst (entity.Sound n) (sym entity-part) (A .entities));
+          entities = rw cap (subst (entity.EntityPartSound n) (sym entity-part) (A .entities));
           columns = ready .columns;
           vacant =
               λ s l h.

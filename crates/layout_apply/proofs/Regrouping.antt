@@ -6,7 +6,7 @@ use native.Mathlib.Omega.{arith}
 use lib.ListN.{length, getD, drop, drop-of-length-le}
 use Rattle.model.specs.Model.{Entity, SparseSet, Family, Storage, noEntity, groupsOf, groupFamily, groupAll, regroup}
 use Rattle.model.specs.Store.{Store, withStorage, withDraft}
-use Rattle.model.specs.Sound.{Sound}
+use Rattle.model.specs.Sound.{StoreSound}
 use Rattle.model.proofs.Regroup.{FreshAll, setLayout-is}
 use Rattle.model.proofs.Held.{distinct-families, buildable-fresh}
 use Rattle.masks.specs.Masks.{upFrom, has}
@@ -109,7 +109,7 @@ module _ (w₀ w : List ℕ) (i : ℕ) (R : Regrouping w₀ w i) where
 
 -- ---- a layout applied
 
-module _ (w w₁ : List ℕ) (M : Sound (meaning w)) (B : Becomes w w₁ (installed (meaning w))) where
+module _ (w w₁ : List ℕ) (M : StoreSound (meaning w)) (B : Becomes w w₁ (installed (meaning w))) where
   pub walks-ready : ReadyEach (meaning w₁ .entities .live) (meaning w₁ .storage)
   walks-ready =
       let m = meaning w in

@@ -51,7 +51,7 @@ abbrev pub slotNo : List ℕ → ℕ → ℕ
 slotNo w p = slotOf w (kindNo w p)
 
 -- the words are well arranged but for the columns' heads: enough for the heads to be set
-pub record Ready (w : List ℕ) : Type 0 where
+pub record HeadsReady (w : List ℕ) : Type 0 where
   pub long : ENTITIES ≤ length w
   pub columns : Columns (capacityOf w) (kindCapacityOf w) w
   pub few : registeredOf w ≤ kindCapacityOf w

@@ -9,7 +9,7 @@ ghost use lib.ListN.{length, getD};
 ghost use Rattle.model.specs.Numbers.{MAX-KINDS};
 ghost use Rattle.words.specs.Offsets.{BLOCK-LEN, ENTITIES, GROUP-PLACES};
 ghost use Rattle.model.specs.Model.{regroup};
-ghost use Rattle.model.specs.Sound.{Sound};
+ghost use Rattle.model.specs.Sound.{StoreSound};
 ghost use Rattle.component.specs.Columns.{Columns, Lent};
 ghost use Rattle.layout.specs.Layout.{startOf, widthOf};
 ghost use Rattle.memory.specs.Header.{capacityOf};
@@ -18,7 +18,7 @@ ghost use Rattle.memory.specs.Change.{onStorage};
 ghost use Rattle.memory.specs.Arranged.{Arranged, Becomes, priorArity};
 ghost use Rattle.group.specs.Ready.{ReadyEach};
 ghost use Rattle.layout_apply.specs.Steps.{installed, applied, Filled, Copied, EndsAsk, Numbered, switched, Prepared};
-ghost use Rattle.layout_apply.specs.Heads.{withOwn, ClearsHeads, slotNo, Ready, InFamily, placeNo, Upto, Headed, HeadsGroup};
+ghost use Rattle.layout_apply.specs.Heads.{withOwn, ClearsHeads, slotNo, HeadsReady, InFamily, placeNo, Upto, Headed, HeadsGroup};
 
 // One value from start to end.
 fn fill(words: &mut [u32], start: usize, end: usize, value: usize)
@@ -112,7 +112,7 @@ fn clear_heads(words: &mut [u32], n: usize, m: usize)
 
 // The column of the p-th kind: new in group g, at place j of its family.
 fn put_member(words: &mut [u32], n: usize, p: usize, g: usize, j: usize)
-    requires { ⌜ Ready (now words) ⌝ }
+    requires { ⌜ HeadsReady (now words) ⌝ }
     requires { ⌜ n ≡ capacityOf (now words) ⌝ }
     requires { ⌜ p < widthOf (layoutArrays (now words)) ⌝ }
     requires { ⌜ (g < GROUP-PLACES) × (j < MAX-KINDS) ⌝ }
@@ -125,7 +125,7 @@ fn put_member(words: &mut [u32], n: usize, p: usize, g: usize, j: usize)
 
 // The columns of the kinds that are new in group g, from place prior of its family on. Answers the group's arity.
 fn put_group(words: &mut [u32], n: usize, f: usize, g: usize, prior: usize) -> usize
-    requires { ⌜ Ready (now words) ⌝ }
+    requires { ⌜ HeadsReady (now words) ⌝ }
     requires { ⌜ n ≡ capacityOf (now words) ⌝ }
     requires { ⌜ InFamily (layoutArrays (now words)) f g ⌝ }
     requires { ⌜ prior ≡ priorArity (layoutArrays (now words)) f g ⌝ }
@@ -144,7 +144,7 @@ fn put_group(words: &mut [u32], n: usize, f: usize, g: usize, prior: usize) -> u
 
 // The columns of a family's kinds, one group after another.
 fn put_family(words: &mut [u32], n: usize, f: usize)
-    requires { ⌜ Ready (now words) ⌝ }
+    requires { ⌜ HeadsReady (now words) ⌝ }
     requires { ⌜ n ≡ capacityOf (now words) ⌝ }
     requires { ⌜ f < layoutArrays (now words) .families ⌝ }
     requires { ⌜ Upto (now words) (startOf (layoutArrays (now words) .kindEnds) f) ⌝ }
@@ -161,7 +161,7 @@ fn put_family(words: &mut [u32], n: usize, f: usize)
 
 // The columns of all kinds of the layout.
 fn put_heads(words: &mut [u32], n: usize)
-    requires { ⌜ Ready (now words) ⌝ }
+    requires { ⌜ HeadsReady (now words) ⌝ }
     requires { ⌜ n ≡ capacityOf (now words) ⌝ }
     requires { ⌜ Upto (now words) 0 ⌝ }
     ensures { λ _. ⌜ Headed (now (words .entry)) (now (words .exit)) (widthOf (layoutArrays (now (words .entry)))) ⌝ }
@@ -177,7 +177,7 @@ fn put_heads(words: &mut [u32], n: usize)
 // The draft becomes the layout in force, with no entity in its groups yet, and no draft is left.
 pub fn install(words: &mut [u32])
     requires { ⌜ Arranged (now words) ⌝ }
-    requires { ⌜ Sound (meaning (now words)) ⌝ }
+    requires { ⌜ StoreSound (meaning (now words)) ⌝ }
     ensures { λ _. ⌜ Becomes (now (words .entry)) (now (words .exit)) (installed (meaning (now (words .entry)))) ⌝ }
 {
     prepare(words);
@@ -207,7 +207,7 @@ fn regroup(words: &mut [u32])
 // 01's APPLY.
 pub fn set_layout(words: &mut [u32])
     requires { ⌜ Arranged (now words) ⌝ }
-    requires { ⌜ Sound (meaning (now words)) ⌝ }
+    requires { ⌜ StoreSound (meaning (now words)) ⌝ }
     ensures { λ _. ⌜ Becomes (now (words .entry)) (now (words .exit)) (applied (meaning (now (words .entry)))) ⌝ }
 {
     install(words);

@@ -8,7 +8,7 @@ use lib.Dec.{eqb}
 use lib.ListN.{length, getD, take}
 use Rattle.model.specs.Numbers.{MAX-GROUP-ARITY, MAX-KINDS}
 use Rattle.words.specs.Offsets.{UNREGISTERED}
-use Rattle.model.specs.Lists.{count}
+use Rattle.model.specs.Lists.{countOf}
 use Rattle.model.specs.Model.{Family, kindsOf}
 use Rattle.model.specs.Sound.{In, BuildableFamily, BuildableFamilies, Buildable, Uncounted, AllUncounted}
 use Rattle.model.specs.Sound as sound
@@ -55,7 +55,7 @@ all-uncounted zero F h = tt
 all-uncounted (suc n) F h = (h 0, all-uncounted n (λ i. F (suc i)) (λ i. h (suc i)))
 
 module _ (a : Arrays) (good : WellFormed a) (sized : Sized a) (counts : List ℕ) where
-  pub buildable : (registered : List ℕ) → ((k : ℕ) → 1 ≤ count eqb k (take (widthOf a) (a .kinds)) → In registered k) → Buildable registered (familiesOf counts a)
+  pub buildable : (registered : List ℕ) → ((k : ℕ) → 1 ≤ countOf eqb k (take (widthOf a) (a .kinds)) → In registered k) → Buildable registered (familiesOf counts a)
   buildable registered known =
       record {
         families = all-buildable (a .families) (familyAt counts a)
@@ -76,5 +76,5 @@ block-buildable w table n g counts registered s t =
     buildable (blockArrays w n) (s .formed .good) (block-sized w n (s .formed .size)) counts registered
     (λ k c. t k (small k c) (s .registered k c))
   where
-    small : (k : ℕ) → 1 ≤ count eqb k (take (widthOf (blockArrays w n)) (blockArrays w n .kinds)) → k < MAX-KINDS
+    small : (k : ℕ) → 1 ≤ countOf eqb k (take (widthOf (blockArrays w n)) (blockArrays w n .kinds)) → k < MAX-KINDS
     small k c = elim (decLt k MAX-KINDS) [ yes h ↦ h | no h ↦ absurd (omega (arith, s .formed .good .kinds .known k (omega arith))) ]

@@ -10,7 +10,7 @@ use lib.ListN.{length, getD, take, drop, set, length-set, replicate, take-append
 use lib.Seq.{take-suc, take-take, drop-length, getD-set-same, getD-set-other}
 use Rattle.model.specs.Numbers.{MAX-GROUP-COUNT, MAX-KINDS}
 use Rattle.words.specs.Offsets.{ARITIES, BLOCK-LEN, ENDS, KIND-ENDS, UNREGISTERED}
-use Rattle.model.specs.Lists.{one, count, count-append}
+use Rattle.model.specs.Lists.{one, countOf, count-append}
 use Rattle.words.specs.Part.{between}
 use Rattle.words.specs.Table.{by-eq}
 use Rattle.layout.specs.Layout.{Arrays, arraysIn, blockArrays, startOf, Rising, FamilyFormed, WellFormed}
@@ -121,14 +121,14 @@ formed-done a k g f h s =
 take-next : (l : List ℕ) (i : ℕ) → i < length l → take (i + 1) l ≡ take i l ++ (getD l i 0 ∷ [])
 take-next l i h = ap (λ (n : ℕ). take n l) (add-one i) ∙ take-suc l i 0 h
 
-count-next : (k : ℕ) (l : List ℕ) (i : ℕ) → i < length l → count eqb k (take (i + 1) l) ≡ count eqb k (take i l) + one (eqb k (getD l i 0))
-count-next k l i h = ap (count eqb k) (take-next l i h) ∙ count-append eqb k (take i l) (getD l i 0 ∷ []) ∙ omega arith
+count-next : (k : ℕ) (l : List ℕ) (i : ℕ) → i < length l → countOf eqb k (take (i + 1) l) ≡ countOf eqb k (take i l) + one (eqb k (getD l i 0))
+count-next k l i h = ap (countOf eqb k) (take-next l i h) ∙ count-append eqb k (take i l) (getD l i 0 ∷ []) ∙ omega arith
 
-count-front : (k : ℕ) (l : List ℕ) (i : ℕ) → count eqb k (take i l) ≤ count eqb k l
-count-front k l i = omega (arith, count-append eqb k (take i l) (drop i l), ap (count eqb k) (take-append-drop i l))
+count-front : (k : ℕ) (l : List ℕ) (i : ℕ) → countOf eqb k (take i l) ≤ countOf eqb k l
+count-front k l i = omega (arith, count-append eqb k (take i l) (drop i l), ap (countOf eqb k) (take-append-drop i l))
 
 -- the kind at i, and how often it stood before
-pub kind-counts : (l : List ℕ) (i : ℕ) → i < length l → count eqb (getD l i 0) (take i l) + 1 ≤ count eqb (getD l i 0) l
+pub kind-counts : (l : List ℕ) (i : ℕ) → i < length l → countOf eqb (getD l i 0) (take i l) + 1 ≤ countOf eqb (getD l i 0) l
 kind-counts l i h =
     let k = getD l i 0 in
     omega (arith, count-front k l (i + 1), count-next k l i h, ap one (eq-eqb k k refl))
@@ -137,7 +137,7 @@ kind-counts l i h =
 pub record SeenSoFar (table l seen : List ℕ) (i : ℕ) : Type 0 where
   pub below : i ≤ length l
   pub size : length seen ≡ MAX-KINDS
-  pub marks : (k : ℕ) → k < MAX-KINDS → getD seen k 0 ≡ count eqb k (take i l)
+  pub marks : (k : ℕ) → k < MAX-KINDS → getD seen k 0 ≡ countOf eqb k (take i l)
   pub sound : KindsOk table (take i l)
 
 pub seen-none : (table l : List ℕ) → SeenSoFar table l (replicate MAX-KINDS 0) 0
@@ -153,7 +153,7 @@ pub seen-more : (table l seen : List ℕ) (i : ℕ) → i < length l → getD l 
     → SeenSoFar table l seen i → SeenSoFar table l (set seen (getD l i 0) 1) (i + 1)
 seen-more table l seen i h small new reg s =
     let v = getD l i 0 in
-    let z : count eqb v (take i l) ≡ 0 = omega (arith, s .marks v small, s .sound .once .once v) in
+    let z : countOf eqb v (take i l) ≡ 0 = omega (arith, s .marks v small, s .sound .once .once v) in
     record {
       below = omega arith;
       size = length-set seen v 1 ∙ s .size;

@@ -7,14 +7,14 @@ use lib.Dec.{eqb}
 use lib.ListN.{length, getD, take}
 use Rattle.model.specs.Numbers.{MAX-GROUP-ARITY, MAX-GROUP-COUNT, MAX-KINDS}
 use Rattle.words.specs.Offsets.{GROUP-PLACES, UNREGISTERED}
-use Rattle.model.specs.Lists.{count}
+use Rattle.model.specs.Lists.{countOf}
 use Rattle.words.specs.Part.{between}
 use Rattle.layout.specs.Layout.{Arrays, widthOf, groupCount, blockArrays, KindSet, Rising, FamilyFormed}
 use Rattle.layout_block.specs.Blocks.{BlockFormed}
 
 -- each kind of the list is registered: its word in the table of kinds is not 255
 abbrev pub Registered : List ℕ → List ℕ → Type 0
-Registered table ks = (k : ℕ) → 1 ≤ count eqb k ks → getD table k 0 ≢ UNREGISTERED
+Registered table ks = (k : ℕ) → 1 ≤ countOf eqb k ks → getD table k 0 ≢ UNREGISTERED
 
 -- "draft and layout of registered kinds, such as commands can build" (01, "sound")
 pub record BlockSound (w table : List ℕ) (n g : ℕ) : Type 0 where

@@ -15,7 +15,7 @@ use Rattle.model.proofs.Walk.{bool-cases}
 use Rattle.words.specs.Offsets.{columnStart, columnStart-mono, DRAFT-FAMILIES, DRAFT-GROUPS, ENTITIES, EXCLUDED-LEN, GROUP-COUNTS, GROUP-FAMILIES, GROUP-PLACES, LAYOUT, STAGED-KINDS, STAGED-LEN, TABLE, UNREGISTERED}
 use Rattle.words.specs.Part.{between, between-rest, length-between, getD-between}
 use Rattle.words.specs.Table.{table, table-same, table-set, getD-table, by-eq, length-table}
-use Rattle.component.specs.SparseSet.{rows, Sound}
+use Rattle.component.specs.SparseSet.{rows, ColumnSound}
 use Rattle.component.specs.Columns.{columnOf, rowsOf, Columns, One}
 use Rattle.entity.specs.Meaning as entity
 use Rattle.entity.specs.Change.{entityPart, entitiesIn, EntityChange}
@@ -112,7 +112,7 @@ module _ (w w′ : List ℕ) (A : Arranged w) (s : ℕ) (hs : s < registeredOf w
       let control = control-same w w′ A (o .size) same in
       record {
         arranged =
-            arranged-kept A K (subst (entity.Sound n) (sym one-entities) (A .entities)) (o .columns)
+            arranged-kept A K (subst (entity.EntityPartSound n) (sym one-entities) (A .entities)) (o .columns)
             (λ j l h. rows-other j h (omega arith) ∙ A .vacant j l h)
             (rw (same STAGED-LEN (omega arith)) (A .staged)) (rw (same EXCLUDED-LEN (omega arith)) (A .excluded)) (D .0) (D .1);
         means =
@@ -139,7 +139,7 @@ module _ (w w′ : List ℕ) (A : Arranged w) (size : length w′ ≡ length w) 
         small = A .columns .small;
         few = A .columns .few;
         size = omega (arith, A .columns .size);
-        columns = λ s h. subst (Sound (capacityOf w)) (sym (column-rest s)) (A .columns .columns s h);
+        columns = λ s h. subst (ColumnSound (capacityOf w)) (sym (column-rest s)) (A .columns .columns s h);
       }
 
   vacant-rest : (s : ℕ) → registeredOf w ≤ s → s < kindCapacityOf w → rowsOf (capacityOf w) s w′ ≡ []
@@ -226,7 +226,7 @@ module _ (w w′ : List ℕ) (A : Arranged w) (S : Static w w′) where
       let ents : entitiesIn (capacityOf w′) w′ ≡ entitiesIn (capacityOf w) w = ap (λ (c : ℕ). entitiesIn c w′) cap ∙ ap (entity.entitiesOf (capacityOf w)) static-entities in
       record {
         arranged =
-            arranged-kept A K (subst (entity.Sound (capacityOf w)) (sym static-entities) (A .entities)) (columns-rest w w′ A (S .size) ENTITIES static-le (S .rest))
+            arranged-kept A K (subst (entity.EntityPartSound (capacityOf w)) (sym static-entities) (A .entities)) (columns-rest w w′ A (S .size) ENTITIES static-le (S .rest))
             (vacant-rest w w′ A (S .size) ENTITIES static-le (S .rest)) st ex d g;
         means =
             λ i. record { capacity = cap i; kindCapacity = kcap i; kinds = kinds i; entities = ents i; storage = record { sets = sets i; layout = layout i }; control = controlIn w′ };

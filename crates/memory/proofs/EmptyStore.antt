@@ -23,7 +23,7 @@ use Rattle.memory.specs.Header.{capacityOf, kindCapacityOf, registeredOf
 use Rattle.memory.specs.Meaning.{kindAt, kindsIn, setAt, setsIn, draftIn, layoutIn, stagedAt, stagedIn, excludedIn, meaning}
 use Rattle.memory.specs.Arranged.{TableSound, LayoutSound, Arranged}
 use Rattle.memory.proofs.Frames.{start-header, drop-later, word-rest}
-use Rattle.memory.specs.Fresh.{Cleared, Tabled, Made}
+use Rattle.memory.specs.Fresh.{Cleared, TableCleared, Made}
 
 table-none : {A : Type 0} (k : ℕ) (f : ℕ → A) → k ≡ 0 → table k f ≡ []
 unfolding table
@@ -38,7 +38,7 @@ none-count b n e = ap (λ (k : ℕ). groupCount (blockArrays b k)) e
 no-families : (c b : List ℕ) (n : ℕ) → n ≡ 0 → familiesOf c (blockArrays b n) ≡ []
 no-families c b n e = table-none n _ e
 
-module _ (n k : ℕ) (w w₁ w₂ : List ℕ) (L : Limits n k) (enough : columnStart n k ≤ length w) (C : Cleared w (columnStart n k) w₁) (T : Tabled w₁ MAX-KINDS w₂) where
+module _ (n k : ℕ) (w w₁ w₂ : List ℕ) (L : Limits n k) (enough : columnStart n k ≤ length w) (C : Cleared w (columnStart n k) w₁) (T : TableCleared w₁ MAX-KINDS w₂) where
   abbrev w′ : List ℕ
   w′ = set (set w₂ CAPACITY n) KIND-CAPACITY k
 

@@ -104,7 +104,7 @@ module _ {w w′ : List ℕ} (A : Arranged w) (K : Kept w w′) where
             rw (kind-kept s h₀) (subst (λ (a : Arrays). In (take (widthOf a) (a .kinds)) (kindAt w s)) (sym (K .layout)) (L .none s h₀ o₀));
       }
 
-  pub arranged-kept : entity.Sound (capacityOf w) (entityPart (capacityOf w) w′) → Columns (capacityOf w) (kindCapacityOf w) w′
+  pub arranged-kept : entity.EntityPartSound (capacityOf w) (entityPart (capacityOf w) w′) → Columns (capacityOf w) (kindCapacityOf w) w′
       → ((s : ℕ) → registeredOf w ≤ s → s < kindCapacityOf w → rowsOf (capacityOf w) s w′ ≡ [])
       → stagedLen w′ ≤ LIST-CAPACITY → excludedLen w′ ≤ LIST-CAPACITY → WellFormed (draftArrays w′) → draftGroups w′ ≡ groupCount (draftArrays w′) → Arranged w′
   arranged-kept e c v st ex d g =

@@ -8,7 +8,7 @@ use lib.Seq.{getD-set-same, getD-set-other, drop-set-lt}
 use Rattle.words.specs.Offsets.{TABLE, UNREGISTERED}
 use Rattle.words.specs.Table.{by-eq}
 use Rattle.memory.proofs.Frames.{drop-later}
-use Rattle.memory.specs.Fresh.{Cleared, Tabled}
+use Rattle.memory.specs.Fresh.{Cleared, TableCleared}
 
 pub cleared-none : (w : List ℕ) → Cleared w 0 w
 cleared-none w = record { size = refl; zero = λ i h. absurd (omega arith); rest = refl }
@@ -21,10 +21,10 @@ cleared-more w₀ w i c h =
       rest = drop-set-lt (i + 1) w i 0 (omega arith) ∙ drop-later i (i + 1) w₀ w (omega arith) (c .rest);
     }
 
-pub tabled-none : (w : List ℕ) → Tabled w 0 w
+pub tabled-none : (w : List ℕ) → TableCleared w 0 w
 tabled-none w = record { size = refl; free = λ k h. absurd (omega arith); low = λ i h. refl; rest = refl }
 
-pub tabled-more : (w₀ w : List ℕ) (k : ℕ) → Tabled w₀ k w → TABLE + k < length w → Tabled w₀ (k + 1) (set w (TABLE + k) UNREGISTERED)
+pub tabled-more : (w₀ w : List ℕ) (k : ℕ) → TableCleared w₀ k w → TABLE + k < length w → TableCleared w₀ (k + 1) (set w (TABLE + k) UNREGISTERED)
 tabled-more w₀ w k t h =
     record {
       size = length-set w (TABLE + k) UNREGISTERED ∙ t .size;
@@ -33,5 +33,5 @@ tabled-more w₀ w k t h =
       rest = drop-set-lt (TABLE + (k + 1)) w (TABLE + k) UNREGISTERED (omega arith) ∙ drop-later (TABLE + k) (TABLE + (k + 1)) w₀ w (omega arith) (t .rest);
     }
 
-pub tabled-step : (w₀ w : List ℕ) (k v : ℕ) → Tabled w₀ k w → TABLE + k < length w → v ≡ UNREGISTERED → Tabled w₀ (k + 1) (set w (TABLE + k) v)
+pub tabled-step : (w₀ w : List ℕ) (k v : ℕ) → TableCleared w₀ k w → TABLE + k < length w → v ≡ UNREGISTERED → TableCleared w₀ (k + 1) (set w (TABLE + k) v)
 tabled-step w₀ w k v t h e = rw e (tabled-more w₀ w k t h)

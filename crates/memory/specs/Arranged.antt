@@ -61,7 +61,7 @@ pub record Arranged (w : List ℕ) : Type 0 where
   pub limits : Limits (capacityOf w) (kindCapacityOf w)
   pub enough : wordsNeeded (capacityOf w) (kindCapacityOf w) ≤ length w
   pub table : TableSound w
-  pub entities : entity.Sound (capacityOf w) (entityPart (capacityOf w) w)
+  pub entities : entity.EntityPartSound (capacityOf w) (entityPart (capacityOf w) w)
   pub columns : Columns (capacityOf w) (kindCapacityOf w) w
   pub vacant : (s : ℕ) → registeredOf w ≤ s → s < kindCapacityOf w → rowsOf (capacityOf w) s w ≡ []
   pub staged : stagedLen w ≤ LIST-CAPACITY
@@ -73,7 +73,7 @@ pub record Arranged (w : List ℕ) : Type 0 where
 -- 01: "A sound store"
 pub record Sound (w : List ℕ) : Type 0 where
   pub arranged : Arranged w
-  pub means : modelSound.Sound (meaning w)
+  pub means : modelSound.StoreSound (meaning w)
 
 -- what an operation leaves: well-arranged words that mean the store s, as many as before, those past the needed ones as they were
 pub record Becomes (w w′ : List ℕ) (s : Store) : Type 0 where

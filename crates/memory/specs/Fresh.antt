@@ -15,7 +15,7 @@ pub record Cleared (w : List ℕ) (end : ℕ) (w′ : List ℕ) : Type 0 where
   pub rest : drop end w′ ≡ drop end w
 
 -- the first n kinds of the table unregistered, and the other words as they were
-pub record Tabled (w : List ℕ) (n : ℕ) (w′ : List ℕ) : Type 0 where
+pub record TableCleared (w : List ℕ) (n : ℕ) (w′ : List ℕ) : Type 0 where
   pub size : length w′ ≡ length w
   pub free : (k : ℕ) → k < n → getD w′ (TABLE + k) 0 ≡ UNREGISTERED
   pub low : (i : ℕ) → i < TABLE → getD w′ i 0 ≡ getD w i 0

@@ -5,7 +5,7 @@ ghost use Rattle.model.specs.Numbers.{MAX-KINDS};
 ghost use Rattle.model.specs.Sound.{Limits};
 ghost use Rattle.words.specs.Offsets.{columnStart, STAGED-KINDS};
 ghost use Rattle.words.specs.Decides.{Decides};
-ghost use Rattle.memory.specs.Fresh.{Cleared, Tabled, Made};
+ghost use Rattle.memory.specs.Fresh.{Cleared, TableCleared, Made};
 
 // N from 1 to 4,096 and K from 1 to 128.
 pub fn within_limits(n: usize, k: usize) -> bool
@@ -41,7 +41,7 @@ fn clear(words: &mut [u32], end: usize)
 // The table of 128 kinds, all unregistered.
 fn put_table(words: &mut [u32])
     requires { ⌜ STAGED-KINDS ≤ length (now words) ⌝ }
-    ensures { λ _. ⌜ Tabled (now (words .entry)) MAX-KINDS (now (words .exit)) ⌝ }
+    ensures { λ _. ⌜ TableCleared (now (words .entry)) MAX-KINDS (now (words .exit)) ⌝ }
 {
     let table = [255u32; 128];
     let mut k = 0;

@@ -6,33 +6,33 @@ use native.Mathlib.Omega.{arith}
 use borrow.Author.Tests.{eqb-true, eq-eqb}
 use lib.Dec.{eqb}
 use lib.ListN.{length, length-map, length-append}
-use Rattle.model.specs.Lists.{count, count-append, count-length-le}
-use Rattle.model.specs.Model.{Entity, Entities, SparseSet, Family, found, sameEntity, setOf, entityOf, allHeld, range}
+use Rattle.model.specs.Lists.{countOf, count-append, count-length-le}
+use Rattle.model.specs.Model.{Entity, Entities, SparseSet, Family, found, sameEntity, setOf, entityOf, allHeld, rangeFor}
 use Rattle.model.specs.Store.{Store}
-use Rattle.model.specs.Sound.{cnt, num, idxOf, key, holders, EntitiesSound, RightFrom, AllRight, Sound}
+use Rattle.model.specs.Sound.{cnt, num, indexOf, key, holders, EntitiesSound, RightFrom, AllRight, StoreSound}
 use Rattle.model.proofs.SparseSets.{entity-eq, entity-same, cond-case}
 use Rattle.model.proofs.Numbers.{upTo, length-upTo, in-upTo}
 use Rattle.model.proofs.Ranges.{range-shows}
 
 -- ---- numbers
 
-map-append : (a b : List Entity) → map idxOf (a ++ b) ≡ map idxOf a ++ map idxOf b
+map-append : (a b : List Entity) → map indexOf (a ++ b) ≡ map indexOf a ++ map indexOf b
 map-append [] b = refl
-map-append (e ∷ a) b = ap {B = List ℕ} (λ r. idxOf e ∷ r) (map-append a b)
+map-append (e ∷ a) b = ap {B = List ℕ} (λ r. indexOf e ∷ r) (map-append a b)
 
 -- the live and the waiting are no more than the issued
 pub numbers-few : (n : ℕ) (c : Entities) → EntitiesSound n c → length (c .live) + length (c .recycled) ≤ c .issued
 numbers-few n c E =
-    let le = count-length-le eqb (λ x y. eqb-true x y) (λ x. eq-eqb x x refl) (map idxOf (c .live ++ c .recycled)) (upTo (c .issued)) few in
-    omega (arith, le, length-upTo (c .issued), length-map (c .live ++ c .recycled) idxOf, length-append (c .live) (c .recycled))
+    let le = count-length-le eqb (λ x y. eqb-true x y) (λ x. eq-eqb x x refl) (map indexOf (c .live ++ c .recycled)) (upTo (c .issued)) few in
+    omega (arith, le, length-upTo (c .issued), length-map (c .live ++ c .recycled) indexOf, length-append (c .live) (c .recycled))
   where
-    both : (i : ℕ) → count eqb i (map idxOf (c .live ++ c .recycled)) ≡ num i (c .live) + num i (c .recycled)
-    both i = ap (λ (l : List ℕ). count eqb i l) (map-append (c .live) (c .recycled)) ∙ count-append eqb i (map idxOf (c .live)) (map idxOf (c .recycled))
+    both : (i : ℕ) → countOf eqb i (map indexOf (c .live ++ c .recycled)) ≡ num i (c .live) + num i (c .recycled)
+    both i = ap (λ (l : List ℕ). countOf eqb i l) (map-append (c .live) (c .recycled)) ∙ count-append eqb i (map indexOf (c .live)) (map indexOf (c .recycled))
 
-    few : (i : ℕ) → count eqb i (map idxOf (c .live ++ c .recycled)) ≤ count eqb i (upTo (c .issued))
+    few : (i : ℕ) → countOf eqb i (map indexOf (c .live ++ c .recycled)) ≤ countOf eqb i (upTo (c .issued))
     few i = go (num i (c .live) + num i (c .recycled)) refl
       where
-        go : (m : ℕ) → num i (c .live) + num i (c .recycled) ≡ m → count eqb i (map idxOf (c .live ++ c .recycled)) ≤ count eqb i (upTo (c .issued))
+        go : (m : ℕ) → num i (c .live) + num i (c .recycled) ≡ m → countOf eqb i (map indexOf (c .live ++ c .recycled)) ≤ countOf eqb i (upTo (c .issued))
         go zero e = omega (arith, both i, e)
         go (suc m) e = omega (arith, both i, e, E .single i, in-upTo (c .issued) i (E .below i (omega (arith, e))))
 
@@ -51,7 +51,7 @@ abbrev pub AllCountsTo : ℕ → List Family → Type 0
 AllCountsTo n [] = Unit {0}
 AllCountsTo n (f ∷ fs) = CountsTo n f × AllCountsTo n fs
 
-module _ (s : Store) (S : Sound s) where
+module _ (s : Store) (S : StoreSound s) where
   pub live-bounded : length (s .entities .live) ≤ s .capacity
   live-bounded = omega (arith, numbers-few (s .capacity) (s .entities) (S .entities), S .entities .few)
 
@@ -83,7 +83,7 @@ module _ (s : Store) (S : Sound s) where
   counts-bounded = counts-all (s .storage .layout) (S .groups)
 
   -- a range stands in order and ends by N
-  pub range-bounded : (h b : List ℕ) (a e : ℕ) → range h b (s .storage) ≡ found a e → (a ≤ e) × (e ≤ s .capacity)
+  pub range-bounded : (h b : List ℕ) (a e : ℕ) → rangeFor h b (s .storage) ≡ found a e → (a ≤ e) × (e ≤ s .capacity)
   range-bounded h b a e p =
       let W = range-shows s S h b a e p in
       (omega (arith, W .start), omega (arith, W .end, holders-few h (s .storage .sets) (s .entities .live), live-bounded))

@@ -10,10 +10,10 @@ use Rattle.model.specs.Model.{Entity, SparseSet, Family, sameEntity}
 use Rattle.model.specs.Store.{Store, empty}
 use Rattle.model.specs.Run.{Step, stops, goes, step, Ran, halt, more, runFor, run}
 use Rattle.model.specs.History.{trailFor, trail}
-use Rattle.model.specs.Sound.{cnt, In, key, holders, Limits, Right, RightFrom, AllRight, Between, BetweenFrom, AllBetween, GroupsRight, GroupsBetween, Sound}
+use Rattle.model.specs.Sound.{cnt, In, key, holders, Limits, Right, RightFrom, AllRight, Between, BetweenFrom, AllBetween, GroupsRight, GroupsBetween, StoreSound}
 use Rattle.model.proofs.Walk.{in-left}
 use Rattle.model.proofs.Held.{holders-fewer}
-use Rattle.model.proofs.Sound.{Bytes, Each, run-sound, trail-sound}
+use Rattle.model.proofs.Sound.{Bytes, EachStore, run-sound, trail-sound}
 
 -- ---- the trail is what the run passes through: a store for each command, the last one the run's
 
@@ -41,13 +41,13 @@ trail-passes t room s = passes-for (length t) t room s
 
 -- ---- the groups after each command
 
-each-right : (ss : List Store) → Each Sound ss → Each GroupsRight ss
+each-right : (ss : List Store) → EachStore StoreSound ss → EachStore GroupsRight ss
 each-right [] h = tt
 each-right (s ∷ ss) h = (h .0 .groups, each-right ss (h .1))
 
 -- after each command of every tape from an empty store, each group's count is the number of live entities holding all its kinds, and the first that
 -- many places of each of its sparse sets hold exactly those, once each, the same at the same place
-pub after-each-command : (t : List ℕ) (room n k : ℕ) → Bytes t → Limits n k → Each GroupsRight (trail t room (empty n k))
+pub after-each-command : (t : List ℕ) (room n k : ℕ) → Bytes t → Limits n k → EachStore GroupsRight (trail t room (empty n k))
 after-each-command t room n k h l = each-right (trail t room (empty n k)) (trail-sound t room n k h l)
 
 pub after-every-run : (t : List ℕ) (room n k : ℕ) → Bytes t → Limits n k → GroupsRight ((run t room (empty n k)) .store)
@@ -78,9 +78,9 @@ module _ (sets : List SparseSet) (live : List Entity) where
   all-between [] R = tt
   all-between (f ∷ fs) R = (between-from [] f (R .0), all-between fs (R .1))
 
-each-between : (ss : List Store) → Each GroupsRight ss → Each GroupsBetween ss
+each-between : (ss : List Store) → EachStore GroupsRight ss → EachStore GroupsBetween ss
 each-between [] h = tt
 each-between (s ∷ ss) h = (all-between (s .storage .sets) (s .entities .live) (s .storage .layout) (h .0), each-between ss (h .1))
 
-pub between-after-each-command : (t : List ℕ) (room n k : ℕ) → Bytes t → Limits n k → Each GroupsBetween (trail t room (empty n k))
+pub between-after-each-command : (t : List ℕ) (room n k : ℕ) → Bytes t → Limits n k → EachStore GroupsBetween (trail t room (empty n k))
 between-after-each-command t room n k h l = each-between (trail t room (empty n k)) (after-each-command t room n k h l)

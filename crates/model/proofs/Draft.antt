@@ -8,7 +8,7 @@ use borrow.Author.Tests.{ltb-false, leb-false, eqb-true, eq-eqb}
 use lib.Dec.{ltb, leb, eqb}
 use lib.ListN.{length, length-append}
 use Rattle.model.specs.Numbers.{MAX-GROUP-ARITY, MAX-GROUP-COUNT}
-use Rattle.model.specs.Lists.{count, count-append, count-length-le}
+use Rattle.model.specs.Lists.{countOf, count-append, count-length-le}
 use Rattle.model.specs.Model.{Group, Family, Added, nothing, added, refused, mem, meets, within, sameSet, without, kindsOf, groupsOf, isGroup, present, touched, covers, newGroup, grown, addGroup, addsNothing, joins, withGroup}
 use Rattle.model.specs.Sound.{Distinct, layoutKinds, Rising, BuildableFamily, BuildableFamilies, Buildable, Uncounted, AllUncounted}
 use Rattle.model.proofs.SparseSets.{cond-case, and-left, and-right}
@@ -103,7 +103,7 @@ more-kinds ks (r ∷ rs) m w g =
 joined-length : (ks js : List ℕ) → Distinct js → within js ks ≡ true → length (js ++ without ks js) ≤ length ks
 joined-length ks js d w = count-length-le eqb (λ x y. eqb-true x y) (λ x. eq-eqb x x refl) (js ++ without ks js) ks few
   where
-    few : (z : ℕ) → count eqb z (js ++ without ks js) ≤ count eqb z ks
+    few : (z : ℕ) → countOf eqb z (js ++ without ks js) ≤ countOf eqb z ks
     few z =
         bool-cases (mem z js)
         (λ t. omega (arith, count-append eqb z js (without ks js), rw t at (count-without ks js z), d z, in-count ks z (all-in (λ k. mem k ks) js w z t)))
@@ -115,15 +115,15 @@ not-or false b h t = absurd (false≢true t)
 
 -- ---- what the grown layout's kinds are
 
-grown-out : (ks : List ℕ) (fs : List Family) (z : ℕ) → mem z ks ≡ false → count eqb z (layoutKinds (grown ks fs)) ≡ count eqb z (layoutKinds fs)
+grown-out : (ks : List ℕ) (fs : List Family) (z : ℕ) → mem z ks ≡ false → countOf eqb z (layoutKinds (grown ks fs)) ≡ countOf eqb z (layoutKinds fs)
 grown-out ks [] z n = refl
 grown-out ks (f ∷ fs) z n =
     let r = grown-out ks fs z n in
-    cond-case (λ (h : Family). count eqb z (kindsOf h ++ layoutKinds (grown ks fs)) ≡ count eqb z (kindsOf f ++ layoutKinds fs)) (meets ks (kindsOf f)) _ _
+    cond-case (λ (h : Family). countOf eqb z (kindsOf h ++ layoutKinds (grown ks fs)) ≡ countOf eqb z (kindsOf f ++ layoutKinds fs)) (meets ks (kindsOf f)) _ _
     (λ t. rw (kinds-snoc f (newGroup (without ks (kindsOf f)))) (omega (arith, r, none, count-append eqb z (kindsOf f ++ without ks (kindsOf f)) (layoutKinds (grown ks fs)), count-append eqb z (kindsOf f) (without ks (kindsOf f)), count-append eqb z (kindsOf f) (layoutKinds fs))))
     (λ t. omega (arith, r, count-append eqb z (kindsOf f) (layoutKinds (grown ks fs)), count-append eqb z (kindsOf f) (layoutKinds fs)))
   where
-    none : count eqb z (without ks (kindsOf f)) ≡ 0
+    none : countOf eqb z (without ks (kindsOf f)) ≡ 0
     none = count-without ks (kindsOf f) z ∙ bool-cases (mem z (kindsOf f)) (λ t. rw t) (λ t. rw t (out-count ks z n))
 
 grown-once : (ks : List ℕ) (fs : List Family) → touched ks fs ≡ 1 → Distinct ks → Distinct (layoutKinds fs) → Distinct (layoutKinds (grown ks fs))
@@ -140,7 +140,7 @@ grown-once ks (f ∷ fs) t d o = bool-cases (meets ks (kindsOf f)) here (λ m. l
         (λ v. omega (arith, parts z, rw u at (count-without ks (kindsOf f) z), d z, out-count (kindsOf f) z u, out-count (layoutKinds fs) z (not-true (mem z (layoutKinds fs)) (λ i. true≢false (sym v ∙ untouched ks fs t0 z i)))))
         (λ v. omega (arith, parts z, rw u at (count-without ks (kindsOf f) z), out-count ks z v, o z, count-append eqb z (kindsOf f) (layoutKinds fs)))))
       where
-        parts : (z : ℕ) → count eqb z ((kindsOf f ++ without ks (kindsOf f)) ++ layoutKinds fs) ≡ count eqb z (kindsOf f) + count eqb z (without ks (kindsOf f)) + count eqb z (layoutKinds fs)
+        parts : (z : ℕ) → countOf eqb z ((kindsOf f ++ without ks (kindsOf f)) ++ layoutKinds fs) ≡ countOf eqb z (kindsOf f) + countOf eqb z (without ks (kindsOf f)) + countOf eqb z (layoutKinds fs)
         parts z = omega (arith, count-append eqb z (kindsOf f ++ without ks (kindsOf f)) (layoutKinds fs), count-append eqb z (kindsOf f) (without ks (kindsOf f)))
 
     later : meets ks (kindsOf f) ≡ false → Distinct (layoutKinds (grown ks fs)) → Distinct (layoutKinds (grown ks (f ∷ fs)))

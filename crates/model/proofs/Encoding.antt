@@ -7,17 +7,17 @@ use native.Mathlib.Nat.{pow-suc, div-lt-iff-lt-mul}
 use lib.Dec.{lit<}
 use lib.ListN.{length}
 use Rattle.model.specs.Model.{Component}
-use Rattle.model.specs.Store.{le}
+use Rattle.model.specs.Store.{bytesOf}
 use Rattle.model.specs.Snapshot.{Entry, componentBytes, entryBytes, flat}
 
 -- a number of n bytes is read back, and so is what follows it
-pub le-inj : (n x y : ℕ) (r s : List ℕ) → x < 256 ^ n → y < 256 ^ n → le n x ++ r ≡ le n y ++ s → (x ≡ y) × (r ≡ s)
-le-inj zero x y r s hx hy e = (omega (arith, hx, hy), e)
-le-inj (suc n) x y r s hx hy e =
+pub bytesOf-inj : (n x y : ℕ) (r s : List ℕ) → x < 256 ^ n → y < 256 ^ n → bytesOf n x ++ r ≡ bytesOf n y ++ s → (x ≡ y) × (r ≡ s)
+bytesOf-inj zero x y r s hx hy e = (omega (arith, hx, hy), e)
+bytesOf-inj (suc n) x y r s hx hy e =
     let m : x % 256 ≡ y % 256 = head-eq-of-cons-eq e in
     let hx′ : x / 256 < 256 ^ n = div-lt-iff-lt-mul (lit< tt) .1 (rw pow-suc at hx) in
     let hy′ : y / 256 < 256 ^ n = div-lt-iff-lt-mul (lit< tt) .1 (rw pow-suc at hy) in
-    let t = le-inj n (x / 256) (y / 256) r s hx′ hy′ (tail-eq-of-cons-eq e) in
+    let t = bytesOf-inj n (x / 256) (y / 256) r s hx′ hy′ (tail-eq-of-cons-eq e) in
     let q : x / 256 ≡ y / 256 = t .0 in
     (omega arith, t .1)
 
@@ -32,7 +32,7 @@ storage-inj [] (q ∷ qs) r s fp fq l e = absurd (omega arith)
 storage-inj (p ∷ ps) [] r s fp fq l e = absurd (omega arith)
 storage-inj (p ∷ ps) (q ∷ qs) r s fp fq l e =
     let k : p .kind ≡ q .kind = head-eq-of-cons-eq e in
-    let v = le-inj 8 (p .value) (q .value) (componentBytes ps ++ r) (componentBytes qs ++ s) (fp .0) (fq .0) (tail-eq-of-cons-eq e) in
+    let v = bytesOf-inj 8 (p .value) (q .value) (componentBytes ps ++ r) (componentBytes qs ++ s) (fp .0) (fq .0) (tail-eq-of-cons-eq e) in
     let t = storage-inj ps qs r s (fp .1) (fq .1) (omega arith) (v .1) in
     let h : p ≡ q = λ i. record { kind = k i; value = v .0 i } in
     (ap₂ {C = List Component} (λ x xs. x ∷ xs) h (t .0), t .1)
@@ -44,8 +44,8 @@ pub record FitEntry (t : Entry) : Type 0 where
 
 pub entry-inj : (t u : Entry) (r s : List ℕ) → FitEntry t → FitEntry u → entryBytes t ++ r ≡ entryBytes u ++ s → (t ≡ u) × (r ≡ s)
 entry-inj t u r s ft fu e =
-    let a = le-inj 4 (t .entity .index) (u .entity .index) (le 4 (t .entity .version) ++ (length (t .components) ∷ (componentBytes (t .components) ++ r))) (le 4 (u .entity .version) ++ (length (u .components) ∷ (componentBytes (u .components) ++ s))) (ft .index) (fu .index) e in
-    let b = le-inj 4 (t .entity .version) (u .entity .version) (length (t .components) ∷ (componentBytes (t .components) ++ r)) (length (u .components) ∷ (componentBytes (u .components) ++ s)) (ft .version) (fu .version) (a .1) in
+    let a = bytesOf-inj 4 (t .entity .index) (u .entity .index) (bytesOf 4 (t .entity .version) ++ (length (t .components) ∷ (componentBytes (t .components) ++ r))) (bytesOf 4 (u .entity .version) ++ (length (u .components) ∷ (componentBytes (u .components) ++ s))) (ft .index) (fu .index) e in
+    let b = bytesOf-inj 4 (t .entity .version) (u .entity .version) (length (t .components) ∷ (componentBytes (t .components) ++ r)) (length (u .components) ∷ (componentBytes (u .components) ++ s)) (ft .version) (fu .version) (a .1) in
     let c = storage-inj (t .components) (u .components) r s (ft .components) (fu .components) (head-eq-of-cons-eq (b .1)) (tail-eq-of-cons-eq (b .1)) in
     ((λ i. record { entity = record { index = a .0 i; version = b .0 i }; components = c .0 i }), c .1)
 

@@ -16,7 +16,7 @@ use Rattle.model.specs.Store.{Store, empty, wordsNeeded, isKind}
 use Rattle.model.specs.Snapshot.{snapshot}
 use Rattle.model.specs.Refusals.{firstLine, NoneHolds, First, startLines, rollLines, columnLines}
 use Rattle.model.specs.Entries.{refusesStart, makes, startedBy, start, entityWords, valueWords, valueOf, part, partWords, columnRefusal, column, refusesRoll, writes, rolledBy, roll}
-use Rattle.model.specs.Sound.{Limits, Sound}
+use Rattle.model.specs.Sound.{Limits, StoreSound}
 use Rattle.model.proofs.Walk.{or-false}
 use Rattle.model.proofs.Families.{or-false-right}
 use Rattle.model.proofs.Operations.{empty-sound}
@@ -62,7 +62,7 @@ pub record Makes (n k words : ℕ) (s : Store) : Type 0 where
   pub store : s ≡ empty n k
   pub limits : Limits n k
   pub words-enough : wordsNeeded n k ≤ words
-  pub sound : Sound s
+  pub sound : StoreSound s
 
 pub start-makes : (n k words : ℕ) (s : Store) → start n k words ≡ makes s → Makes n k words s
 unfolding start
@@ -70,7 +70,7 @@ start-makes n k words s e =
     let p = started-made (firstLine startLines (record { capacity = n; kindCapacity = k; words = words })) (empty n k) s e in
     let h : NoneHolds startLines (record { capacity = n; kindCapacity = k; words = words }) = none-to startLines (record { capacity = n; kindCapacity = k; words = words }) (p .0) in
     let l : Limits n k = within-limits n k (h .0) in
-    let S : Sound (empty n k) = empty-sound n k l in
+    let S : StoreSound (empty n k) = empty-sound n k l in
     record { store = sym (p .1); limits = l; words-enough = ltb-false words (wordsNeeded n k) (h .1 .0); sound = rw (← (p .1)) S }
 
 -- ---- column

@@ -9,7 +9,7 @@ use lib.Dec.{eqb}
 use lib.ListN.{length, take}
 use Rattle.model.specs.Numbers.{MAX-KINDS}
 use Rattle.model.specs.Lists.{one, count-take-le}
-use Rattle.model.specs.Model.{Entity, Entities, SparseSet, Group, Family, Component, Storage, sameEntity, mem, all, setOf, held, allHeld, kindOf, kindsOf, headKind, insert, remove, clearAll, setLayout, destroy}
+use Rattle.model.specs.Model.{Entity, Entities, SparseSet, Group, Family, Component, Storage, sameEntity, mem, allOf, setOf, held, allHeld, kindOf, kindsOf, headKind, insertComponents, remove, clearAll, setLayout, destroy}
 use Rattle.model.specs.Sound.{Distinct, layoutKinds, Rising, BuildableFamilies, Uncounted, AllUncounted, Right, RightFrom, AllRight}
 use Rattle.model.proofs.SparseSets.{entity-eq, cond-case, key, and-left}
 use Rattle.model.proofs.Groups.{cnt, In}
@@ -40,7 +40,7 @@ module _ (entities : Entities) (kinds : List ℕ) (storage : Storage) (H : Held 
   staged-kinds staged h = kinds-of staged (length (storage .sets)) (λ k i. omega (arith, H .small k (h k i), H .fit .wide))
 
   -- insertion into an entity that is live in entities′, where those live before still are
-  pub insert-held : (entities′ : Entities) → EntitiesOk entities′ → ((x : Entity) → 1 ≤ cnt x (entities .live) → 1 ≤ cnt x (entities′ .live)) → (e : Entity) (staged : List Component) → ((k : ℕ) → In (map kindOf staged) k → In kinds k) → 1 ≤ cnt e (entities′ .live) → Held entities′ kinds (insert e staged storage)
+  pub insert-held : (entities′ : Entities) → EntitiesOk entities′ → ((x : Entity) → 1 ≤ cnt x (entities .live) → 1 ≤ cnt x (entities′ .live)) → (e : Entity) (staged : List Component) → ((k : ℕ) → In (map kindOf staged) k → In kinds k) → 1 ≤ cnt e (entities′ .live) → Held entities′ kinds (insertComponents e staged storage)
   insert-held entities′ ok′ more′ e staged h live =
       let lt = staged-kinds staged h in
       record {
@@ -151,9 +151,9 @@ module _ (sets : List SparseSet) (live : List Entity) (alive : (x : Entity) (k :
       record {
         head = h;
         even = record { fit = R .places; align = R .aligned };
-        full = λ x w all k j.
-            let a : allHeld x g sets ≡ true = all-true (λ y. held x (setOf sets y)) g (λ y u. count-held x sets y (all y u)) in
-            omega (arith, R .exact k j x, rw a at (holders-count g sets live x), alive x hd (all hd i));
+        full = λ x w allOf k j.
+            let a : allHeld x g sets ≡ true = all-true (λ y. held x (setOf sets y)) g (λ y u. count-held x sets y (allOf y u)) in
+            omega (arith, R .exact k j x, rw a at (holders-count g sets live x), alive x hd (allOf hd i));
       }
 
   right-chain : (acc : List ℕ) (rs : Family) → Rising rs → RightFrom sets live acc rs → Chain (key sets) Every acc rs

@@ -11,7 +11,7 @@ use lib.ListN.{length, take, set, length-set}
 use lib.Seq.{length-take-le}
 use Rattle.model.specs.Numbers.{MAX-KINDS}
 use Rattle.model.specs.Lists.{one, count-take-le, count-length}
-use Rattle.model.specs.Model.{Entity, SparseSet, Group, Family, Component, Storage, Walked, Stepped, sameEntity, mem, any, meets, setOf, held, allHeld, kindsOf, kindOf, insertRow, insertAll, mapOn, swapTo, isGrouped, groupComponents, groupFamily, groupTouched, insert}
+use Rattle.model.specs.Model.{Entity, SparseSet, Group, Family, Component, Storage, Walked, GroupStep, sameEntity, mem, anyOf, meets, setOf, held, allHeld, kindsOf, kindOf, insertRow, insertAll, mapOn, swapTo, isGrouped, groupComponents, groupFamily, groupTouched, insertComponents}
 pub use Rattle.model.specs.Sound.{holders}
 use Rattle.model.proofs.SparseSets.{entity-eq, entity-same, cond-case, key}
 use Rattle.model.proofs.Groups.{cnt, In, SameEntities}
@@ -32,7 +32,7 @@ length-mapOn ks f i (c ∷ cs) = ap suc (length-mapOn ks f (suc i) cs)
 
 length-groupComponents : (e : Entity) (ks : List ℕ) (r : Group) (sets : List SparseSet) → length ((groupComponents e ks r sets) .sets) ≡ length sets
 unfolding groupComponents
-length-groupComponents e ks r sets = cond-case (λ (s : Stepped). length (s .sets) ≡ length sets) (isGrouped e r sets) _ _ (λ t. refl) (λ t. length-mapOn ks (swapTo e (r .count)) 0 sets)
+length-groupComponents e ks r sets = cond-case (λ (s : GroupStep). length (s .sets) ≡ length sets) (isGrouped e r sets) _ _ (λ t. refl) (λ t. length-mapOn ks (swapTo e (r .count)) 0 sets)
 
 pub length-groupFamily : (e : Entity) (acc : List ℕ) (sets : List SparseSet) (rs : Family) → length ((groupFamily e acc sets rs) .sets) ≡ length sets
 unfolding groupFamily
@@ -56,7 +56,7 @@ length-put e (p ∷ ps) sets = length-put e ps (set sets (p .kind) (insertRow e 
 
 -- ---- insertion
 
-pub any-in : (p : ℕ → Bool) (ks : List ℕ) (k : ℕ) → In ks k → p k ≡ true → any p ks ≡ true
+pub any-in : (p : ℕ → Bool) (ks : List ℕ) (k : ℕ) → In ks k → p k ≡ true → anyOf p ks ≡ true
 any-in p [] k i t = i
 any-in p (j ∷ ks) k i t =
     or-cases (eqb k j) (mem k ks) i
@@ -71,8 +71,8 @@ pending e ks key new p (f ∷ fs) fm = (
   pending e ks key new p fs (fm .1),
 )
 
-pub insert-fit : (e : Entity) (staged : List Component) (p : Storage) → Kinds (length (p .sets)) staged → Fit p → Fit (insert e staged p)
-unfolding insert
+pub insert-fit : (e : Entity) (staged : List Component) (p : Storage) → Kinds (length (p .sets)) staged → Fit p → Fit (insertComponents e staged p)
+unfolding insertComponents
 insert-fit e staged p lt f =
     let P : Put e (map kindOf staged) (key (p .sets)) (key (insertAll e staged (p .sets))) = put-all e staged (p .sets) lt in
     let U : UpAll (insertAll e staged (p .sets)) (p .layout) (groupTouched e (map kindOf staged) (insertAll e staged (p .sets)) (p .layout)) = groupFamily-all-good e (map kindOf staged) (insertAll e staged (p .sets)) (p .layout) (f .apart) (pending e (map kindOf staged) (key (p .sets)) (key (insertAll e staged (p .sets))) P (p .layout) (f .fams)) in
@@ -85,15 +85,15 @@ insert-fit e staged p lt f =
 
 -- what insertion does to the other entities, and to the kinds that are not staged
 module _ (e : Entity) (staged : List Component) (p : Storage) (lt : Kinds (length (p .sets)) staged) (f : Fit p) where
-  inserted : SameEntities (key (insertAll e staged (p .sets))) (key ((insert e staged p) .sets))
-  unfolding insert
+  inserted : SameEntities (key (insertAll e staged (p .sets))) (key ((insertComponents e staged p) .sets))
+  unfolding insertComponents
   inserted =
       groupFamily-all-good e (map kindOf staged) (insertAll e staged (p .sets)) (p .layout) (f .apart) (pending e (map kindOf staged) (key (p .sets)) (key (insertAll e staged (p .sets))) (put-all e staged (p .sets) lt) (p .layout) (f .fams)) .same
 
-  pub insert-others : (x : Entity) → But e x → (k : ℕ) → cnt x (key ((insert e staged p) .sets) k) ≡ cnt x (key (p .sets) k)
+  pub insert-others : (x : Entity) → But e x → (k : ℕ) → cnt x (key ((insertComponents e staged p) .sets) k) ≡ cnt x (key (p .sets) k)
   insert-others x ne k = inserted .entities x k ∙ put-all e staged (p .sets) lt .counts x ne k
 
-  pub insert-kinds : (x : Entity) (k : ℕ) → mem k (map kindOf staged) ≡ false → cnt x (key ((insert e staged p) .sets) k) ≡ cnt x (key (p .sets) k)
+  pub insert-kinds : (x : Entity) (k : ℕ) → mem k (map kindOf staged) ≡ false → cnt x (key ((insertComponents e staged p) .sets) k) ≡ cnt x (key (p .sets) k)
   insert-kinds x k n = inserted .entities x k ∙ ap (cnt x) (put-all e staged (p .sets) lt .other k n)
 
 -- ---- what a right group's count is

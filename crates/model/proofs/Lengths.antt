@@ -9,8 +9,8 @@ use native.Mathlib.Omega.{arith}
 use borrow.Author.Tests.{ltb-false}
 use lib.Dec.{ltb}
 use lib.ListN.{length, take, drop, getD, length-append, length-map, length-drop}
-use Rattle.model.specs.Model.{Entity, SparseSet, Storage, Range, none, found, noRow, setOf, at, held, kindOf, range, addsNothing, create}
-use Rattle.model.specs.Store.{Store, le, stagedKinds, isKind}
+use Rattle.model.specs.Model.{Entity, SparseSet, Storage, Range, none, found, noRow, setOf, at, held, kindOf, rangeFor, addsNothing, create}
+use Rattle.model.specs.Store.{Store, bytesOf, stagedKinds, isKind}
 use Rattle.model.specs.Commands.{Command, REG, HOLD, NEW, PUT, TAKE, DROP, KILL, WIPE, GROUP, APPLY, BAR, RANGE, EMPTY, TALLY, Done, accepted, answerLength, takenBytes, heldBytes, rangeBytes, width, commandAt}
 use Rattle.model.specs.Refusals.{firstLine, NoneHolds, beforeLines}
 use Rattle.model.specs.Run.{Outcome, refuses, accepts, does, Step, stops, goes, stepOf, stepIf, step, Ran, halt, more, runFor, run}
@@ -19,15 +19,15 @@ use Rattle.model.proofs.Lines.{none-to, accepted-exact, stop-number}
 
 -- ---- answers
 
-pub le-length : (n x : ℕ) → length (le n x) ≡ n
-le-length zero x = refl
-le-length (suc n) x = ap suc (le-length n (x / 256))
+pub bytesOf-length : (n x : ℕ) → length (bytesOf n x) ≡ n
+bytesOf-length zero x = refl
+bytesOf-length (suc n) x = ap suc (bytesOf-length n (x / 256))
 
-pair-length : (x y : ℕ) → length (le 4 x ++ le 4 y) ≡ 8
-pair-length x y = length-append (le 4 x) (le 4 y) ∙ ap₂ (λ (a b : ℕ). a + b) (le-length 4 x) (le-length 4 y)
+pair-length : (x y : ℕ) → length (bytesOf 4 x ++ bytesOf 4 y) ≡ 8
+pair-length x y = length-append (bytesOf 4 x) (bytesOf 4 y) ∙ ap₂ (λ (a b : ℕ). a + b) (bytesOf-length 4 x) (bytesOf-length 4 y)
 
 pub component-length : (e : Entity) (rows : SparseSet) → length (takenBytes e rows) ≡ 9
-component-length e rows = cond-case (λ (b : List ℕ). length b ≡ 9) (held e rows) _ _ (λ t. ap suc (le-length 8 (getD rows (at e rows) noRow .value))) (λ t. refl)
+component-length e rows = cond-case (λ (b : List ℕ). length b ≡ 9) (held e rows) _ _ (λ t. ap suc (bytesOf-length 8 (getD rows (at e rows) noRow .value))) (λ t. refl)
 
 pub held-length : (e : Entity) (ks : List ℕ) (p : Storage) → length (heldBytes e ks p) ≡ 9 * length ks
 held-length e [] p = refl
@@ -51,9 +51,9 @@ accepted-length WIPE s = refl
 accepted-length GROUP s = cond-case (λ (d : Done). suc (length (d .answer)) ≡ 2) (addsNothing (stagedKinds s) (s .control .draft)) _ _ (λ t. refl) (λ t. refl)
 accepted-length APPLY s = refl
 accepted-length (BAR k) s = refl
-accepted-length RANGE s = ap suc (range-length (range (stagedKinds s) (s .control .excluded) (s .storage)))
+accepted-length RANGE s = ap suc (range-length (rangeFor (stagedKinds s) (s .control .excluded) (s .storage)))
 accepted-length EMPTY s = refl
-accepted-length TALLY s = ap suc (le-length 4 (s .control .refusals))
+accepted-length TALLY s = ap suc (bytesOf-length 4 (s .control .refusals))
 
 pub answer-length : (c : Command) (s s′ : Store) (a : List ℕ) → does c s ≡ accepts s′ a → suc (length a) ≡ answerLength c s
 answer-length c s s′ a e = sym (ap (λ (b : List ℕ). suc (length b)) (accepted-exact c s s′ a .0 e .2)) ∙ accepted-length c s
@@ -77,7 +77,7 @@ step-case P b t room s f g = go (firstLine beforeLines (record { byte = b; rest 
     go none h = h refl
 
 -- a step reads the command's bytes, all of which the tape has, and writes the accepted answer or one byte, for which there is room
-pub record Stepped (b : ℕ) (t : List ℕ) (room : ℕ) (s : Store) (w : ℕ) (a : List ℕ) : Type 0 where
+pub record StepFits (b : ℕ) (t : List ℕ) (room : ℕ) (s : Store) (w : ℕ) (a : List ℕ) : Type 0 where
   pub read : w ≡ suc (width b)
   pub whole : w ≤ suc (length t)
   pub fits : length a ≤ room
@@ -88,10 +88,10 @@ pub record Stepped (b : ℕ) (t : List ℕ) (room : ℕ) (s : Store) (w : ℕ) (
 pub clash : (o : Outcome) (n : ℕ) (s : Store) (a : List ℕ) → o ≡ refuses n → o ≡ accepts s a → ⊥
 clash o n s a p q = let z : _≡_ {A = ℕ} 0 1 = cc in omega arith
 
-pub step-lengths : (b : ℕ) (t : List ℕ) (room : ℕ) (s : Store) → Going (λ w a s′. Stepped b t room s w a) (step b t room s)
-step-lengths b t room s = step-case (Going (λ w a s′. Stepped b t room s w a)) b t room s (λ n. tt) (λ h. go (does (commandAt b (take (width b) t)) s) refl (h .1 .0) (h .1 .1 .0))
+pub step-lengths : (b : ℕ) (t : List ℕ) (room : ℕ) (s : Store) → Going (λ w a s′. StepFits b t room s w a) (step b t room s)
+step-lengths b t room s = step-case (Going (λ w a s′. StepFits b t room s w a)) b t room s (λ n. tt) (λ h. go (does (commandAt b (take (width b) t)) s) refl (h .1 .0) (h .1 .1 .0))
   where
-    go : (o : Outcome) → does (commandAt b (take (width b) t)) s ≡ o → ltb (length t) (width b) ≡ false → ltb room (answerLength (commandAt b (take (width b) t)) s) ≡ false → Going (λ w a s′. Stepped b t room s w a) (stepOf (suc (width b)) s o)
+    go : (o : Outcome) → does (commandAt b (take (width b) t)) s ≡ o → ltb (length t) (width b) ≡ false → ltb room (answerLength (commandAt b (take (width b) t)) s) ≡ false → Going (λ w a s′. StepFits b t room s w a) (stepOf (suc (width b)) s o)
     go (refuses n) e v w =
         record {
           read = refl;
@@ -121,11 +121,11 @@ pub record RunFits (t : List ℕ) (room : ℕ) (r : Ran) : Type 0 where
 
 run-fits-for : (fuel : ℕ) (t : List ℕ) (room : ℕ) (s : Store) → length t ≤ fuel → RunFits t room (runFor fuel t room s)
 unfolding runFor
-run-fits-for zero t room s le = record { bytes = omega arith; tape = omega arith; commands = omega arith; stop = inl refl; end = λ e. omega arith }
-run-fits-for (suc fuel) [] room s le = record { bytes = omega arith; tape = omega arith; commands = omega arith; stop = inl refl; end = λ e. refl }
-run-fits-for (suc fuel) (b ∷ t) room s le = go (step b t room s) refl (step-lengths b t room s) (λ w r s′ h. run-fits-for fuel (drop w (b ∷ t)) r s′ h)
+run-fits-for zero t room s bytesOf = record { bytes = omega arith; tape = omega arith; commands = omega arith; stop = inl refl; end = λ e. omega arith }
+run-fits-for (suc fuel) [] room s bytesOf = record { bytes = omega arith; tape = omega arith; commands = omega arith; stop = inl refl; end = λ e. refl }
+run-fits-for (suc fuel) (b ∷ t) room s bytesOf = go (step b t room s) refl (step-lengths b t room s) (λ w r s′ h. run-fits-for fuel (drop w (b ∷ t)) r s′ h)
   where
-    go : (p : Step) → step b t room s ≡ p → Going (λ w a s′. Stepped b t room s w a) p → ((w r : ℕ) (s′ : Store) → length (drop w (b ∷ t)) ≤ fuel → RunFits (drop w (b ∷ t)) r (runFor fuel (drop w (b ∷ t)) r s′)) → RunFits (b ∷ t) room (elim p as (λ p. Ran) [ stops n ↦ halt n s | goes w a s′ ↦ more w a (runFor fuel (drop w (b ∷ t)) (room - length a) s′) ])
+    go : (p : Step) → step b t room s ≡ p → Going (λ w a s′. StepFits b t room s w a) p → ((w r : ℕ) (s′ : Store) → length (drop w (b ∷ t)) ≤ fuel → RunFits (drop w (b ∷ t)) r (runFor fuel (drop w (b ∷ t)) r s′)) → RunFits (b ∷ t) room (elim p as (λ p. Ran) [ stops n ↦ halt n s | goes w a s′ ↦ more w a (runFor fuel (drop w (b ∷ t)) (room - length a) s′) ])
     go (stops n) e h rec = let q = stop-number b t room s n e in record { bytes = omega arith; tape = omega arith; commands = omega arith; stop = inr q; end = λ z. absurd (omega (arith, q .0, z)) }
     go (goes w a s′) e h rec =
         let d : length (drop w (b ∷ t)) ≡ suc (length t) - w = length-drop w (b ∷ t) in

@@ -12,13 +12,13 @@ use native.Mathlib.Decide.{ℕ-discrete, decLt}
 use lib.Dec.{eqb, ltb, eqb·suc-zero}
 use lib.ListN.{length, getD}
 use Rattle.model.specs.Numbers.{MAX-KINDS}
-use Rattle.model.specs.Lists.{count, one, count-length}
+use Rattle.model.specs.Lists.{countOf, one, count-length}
 use Rattle.model.specs.Model.{sameEntity, Entity, SparseSet, Component, setOf}
-use Rattle.model.specs.Store.{Store, le}
+use Rattle.model.specs.Store.{Store, bytesOf}
 pub use Rattle.model.specs.Snapshot.{Same}
-use Rattle.model.specs.Snapshot.{Entry, valueAt, addComponent, componentsOf, versionAt, entryOf, entries, flat, listing, snapshot}
+use Rattle.model.specs.Snapshot.{Entry, valueAt, addComponent, componentsOf, liveVersion, entryOf, entries, flat, listing, snapshot}
 use Rattle.model.proofs.SparseSets.{entity-eq, entity-same}
-use Rattle.model.proofs.Encoding.{FitEntries, flat-inj, le-inj}
+use Rattle.model.proofs.Encoding.{FitEntries, flat-inj, bytesOf-inj}
 
 abbrev entityAt : ℕ → ℕ → Entity
 entityAt i v = record { index = i; version = v }
@@ -31,34 +31,34 @@ entryIn i (t ∷ ts) = cond (eqb i (t .entity .index)) (t ∷ []) (entryIn i ts)
 
 below : (i j n : ℕ) (live : List Entity) (sets : List SparseSet) → i < j → entryIn i (entries j n live sets) ≡ []
 below i j zero live sets h = refl
-below i j (suc n) live sets h = go (versionAt j live) (below i (suc j) n live sets (omega arith))
+below i j (suc n) live sets h = go (liveVersion j live) (below i (suc j) n live sets (omega arith))
   where
     go : (v : ℕ) → entryIn i (entries (suc j) n live sets) ≡ [] → entryIn i (entryOf v j sets ++ entries (suc j) n live sets) ≡ []
     go zero r = r
     go (suc v) r = rw (ne-eqb i j (omega arith)) r
 
-found-at : (m j n : ℕ) (live : List Entity) (sets : List SparseSet) → m < n → entryIn (j + m) (entries j n live sets) ≡ entryOf (versionAt (j + m) live) (j + m) sets
+found-at : (m j n : ℕ) (live : List Entity) (sets : List SparseSet) → m < n → entryIn (j + m) (entries j n live sets) ≡ entryOf (liveVersion (j + m) live) (j + m) sets
 found-at m j zero live sets h = absurd (omega arith)
-found-at zero j (suc n) live sets h = rw add-zero (go (versionAt j live))
+found-at zero j (suc n) live sets h = rw add-zero (go (liveVersion j live))
   where
     go : (v : ℕ) → entryIn j (entryOf v j sets ++ entries (suc j) n live sets) ≡ entryOf v j sets
     go zero = below j (suc j) n live sets (omega arith)
     go (suc v) = rw (eq-eqb j j refl)
-found-at (suc m) j (suc n) live sets h = rw (add-suc, ← suc-add) (go (versionAt j live) (found-at m (suc j) n live sets (omega arith)))
+found-at (suc m) j (suc n) live sets h = rw (add-suc, ← suc-add) (go (liveVersion j live) (found-at m (suc j) n live sets (omega arith)))
   where
-    go : (v : ℕ) → entryIn (suc j + m) (entries (suc j) n live sets) ≡ entryOf (versionAt (suc j + m) live) (suc j + m) sets → entryIn (suc j + m) (entryOf v j sets ++ entries (suc j) n live sets) ≡ entryOf (versionAt (suc j + m) live) (suc j + m) sets
+    go : (v : ℕ) → entryIn (suc j + m) (entries (suc j) n live sets) ≡ entryOf (liveVersion (suc j + m) live) (suc j + m) sets → entryIn (suc j + m) (entryOf v j sets ++ entries (suc j) n live sets) ≡ entryOf (liveVersion (suc j + m) live) (suc j + m) sets
     go zero r = r
     go (suc v) r = rw (ne-eqb (suc j + m) j (omega arith)) r
 
 -- past the last live index nothing is listed
-entries-more : (a b i : ℕ) (live : List Entity) (sets : List SparseSet) → ((k : ℕ) → i + a ≤ k → versionAt k live ≡ 0) → entries i (a + b) live sets ≡ entries i a live sets
+entries-more : (a b i : ℕ) (live : List Entity) (sets : List SparseSet) → ((k : ℕ) → i + a ≤ k → liveVersion k live ≡ 0) → entries i (a + b) live sets ≡ entries i a live sets
 entries-more zero b i live sets z = rw zero-add (go b i (λ k h. z k (omega arith)))
   where
-    go : (b i : ℕ) → ((k : ℕ) → i ≤ k → versionAt k live ≡ 0) → entries i b live sets ≡ []
+    go : (b i : ℕ) → ((k : ℕ) → i ≤ k → liveVersion k live ≡ 0) → entries i b live sets ≡ []
     go zero i z = refl
     go (suc b) i z = rw (z i (omega arith)) (go b (suc i) (λ k h. z k (omega arith)))
 entries-more (suc a) b i live sets z =
-    rw suc-add (ap (λ (r : List Entry). entryOf (versionAt i live) i sets ++ r) (entries-more a b (suc i) live sets (λ k h. z k (omega arith))))
+    rw suc-add (ap (λ (r : List Entry). entryOf (liveVersion i live) i sets ++ r) (entries-more a b (suc i) live sets (λ k h. z k (omega arith))))
 
 -- ---- an entity's components, looked up by kind
 
@@ -113,7 +113,7 @@ entry-of (suc v) (suc w) i cs ds p =
 -- versions of 1 or more, and no index twice
 abbrev pub LiveOk : List Entity → Type 0
 LiveOk [] = Unit {0}
-LiveOk (e ∷ es) = (1 ≤ e .version) × (versionAt (e .index) es ≡ 0) × LiveOk es
+LiveOk (e ∷ es) = (1 ≤ e .version) × (liveVersion (e .index) es ≡ 0) × LiveOk es
 
 abbrev isVersion : Entity → ℕ → ℕ
 isVersion x v = one (ltb 0 (x .version) && eqb (x .version) v)
@@ -136,14 +136,14 @@ version-of x v h = go (ltb 0 (x .version)) (eqb (x .version) v) refl refl h
 is-version : (i v : ℕ) → 1 ≤ v → 1 ≤ isVersion (entityAt i v) v
 is-version i v h = rw (lt-ltb 0 v h, eq-eqb v v refl) (omega arith)
 
-live-count : (live : List Entity) → LiveOk live → (x : Entity) → count sameEntity x live ≡ isVersion x (versionAt (x .index) live)
+live-count : (live : List Entity) → LiveOk live → (x : Entity) → countOf sameEntity x live ≡ isVersion x (liveVersion (x .index) live)
 live-count [] ok x = sym (version-zero x)
 live-count (e ∷ es) ok x = go (ℕ-discrete (x .index) (e .index)) (live-count es (ok .2) x)
   where
-    go : Dec (x .index ≡ e .index) → count sameEntity x es ≡ isVersion x (versionAt (x .index) es) → count sameEntity x (e ∷ es) ≡ isVersion x (versionAt (x .index) (e ∷ es))
+    go : Dec (x .index ≡ e .index) → countOf sameEntity x es ≡ isVersion x (liveVersion (x .index) es) → countOf sameEntity x (e ∷ es) ≡ isVersion x (liveVersion (x .index) (e ∷ es))
     go (yes p) r =
-        let z : versionAt (x .index) es ≡ 0 = rw p (ok .1) in
-        let c : count sameEntity x es ≡ 0 = r ∙ ap (isVersion x) z ∙ version-zero x in
+        let z : liveVersion (x .index) es ≡ 0 = rw p (ok .1) in
+        let c : countOf sameEntity x es ≡ 0 = r ∙ ap (isVersion x) z ∙ version-zero x in
         rw (eq-eqb (x .index) (e .index) p, c, add-zero) (last (eqb (x .version) (e .version)) refl)
       where
         last : (b : Bool) → eqb (x .version) (e .version) ≡ b → one b ≡ one (ltb 0 (x .version) && b)
@@ -153,18 +153,18 @@ live-count (e ∷ es) ok x = go (ℕ-discrete (x .index) (e .index)) (live-count
 
 -- at each index the same version is live, 0 for none; and that entity has the same value, or none, at each kind
 record SameAt (s t : Store) : Type 0 where
-  pub versions : (i : ℕ) → versionAt i (s .entities .live) ≡ versionAt i (t .entities .live)
-  pub values : (i k : ℕ) → 1 ≤ versionAt i (s .entities .live) → valueAt (entityAt i (versionAt i (s .entities .live))) (setOf (s .storage .sets) k) ≡ valueAt (entityAt i (versionAt i (s .entities .live))) (setOf (t .storage .sets) k)
+  pub versions : (i : ℕ) → liveVersion i (s .entities .live) ≡ liveVersion i (t .entities .live)
+  pub values : (i k : ℕ) → 1 ≤ liveVersion i (s .entities .live) → valueAt (entityAt i (liveVersion i (s .entities .live))) (setOf (s .storage .sets) k) ≡ valueAt (entityAt i (liveVersion i (s .entities .live))) (setOf (t .storage .sets) k)
 
 -- what the law asks of a store; a sound one has it
-pub record Listed (s : Store) : Type 0 where
+pub record Listable (s : Store) : Type 0 where
   pub live : LiveOk (s .entities .live)
-  pub issued : (k : ℕ) → s .entities .issued ≤ k → versionAt k (s .entities .live) ≡ 0
+  pub issued : (k : ℕ) → s .entities .issued ≤ k → liveVersion k (s .entities .live) ≡ 0
   pub fit : FitEntries (listing s)
   pub few : length (s .entities .live) < 256 ^ 4
   pub columns : length (s .storage .sets) ≡ MAX-KINDS
 
-module _ (s t : Store) (ls : Listed s) (lt : Listed t) where
+module _ (s t : Store) (ls : Listable s) (lt : Listable t) where
   bound : ℕ
   bound = s .entities .issued + t .entities .issued
 
@@ -176,11 +176,11 @@ module _ (s t : Store) (ls : Listed s) (lt : Listed t) where
   unfolding bound
   wide-t = rw (add-comm (s .entities .issued) (t .entities .issued)) (entries-more (t .entities .issued) (s .entities .issued) 0 (t .entities .live) (t .storage .sets) (λ k h. lt .issued k (omega arith)))
 
-  at-index : listing s ≡ listing t → (i : ℕ) → entryOf (versionAt i (s .entities .live)) i (s .storage .sets) ≡ entryOf (versionAt i (t .entities .live)) i (t .storage .sets)
+  at-index : listing s ≡ listing t → (i : ℕ) → entryOf (liveVersion i (s .entities .live)) i (s .storage .sets) ≡ entryOf (liveVersion i (t .entities .live)) i (t .storage .sets)
   unfolding bound
   at-index e i = go (decLt i bound)
     where
-      go : Dec (i < bound) → entryOf (versionAt i (s .entities .live)) i (s .storage .sets) ≡ entryOf (versionAt i (t .entities .live)) i (t .storage .sets)
+      go : Dec (i < bound) → entryOf (liveVersion i (s .entities .live)) i (s .storage .sets) ≡ entryOf (liveVersion i (t .entities .live)) i (t .storage .sets)
       go (yes h) =
           let a = rw zero-add at (found-at i 0 bound (s .entities .live) (s .storage .sets) h) in
           let b = rw zero-add at (found-at i 0 bound (t .entities .live) (t .storage .sets) h) in
@@ -190,11 +190,11 @@ module _ (s t : Store) (ls : Listed s) (lt : Listed t) where
   snapshot-same-at : snapshot s ≡ snapshot t → SameAt s t
   unfolding snapshot
   snapshot-same-at e =
-      let h = le-inj 4 (length (s .entities .live)) (length (t .entities .live)) (flat (listing s)) (flat (listing t)) (ls .few) (lt .few) e in
+      let h = bytesOf-inj 4 (length (s .entities .live)) (length (t .entities .live)) (flat (listing s)) (flat (listing t)) (ls .few) (lt .few) e in
       let l = flat-inj (listing s) (listing t) (ls .fit) (lt .fit) (h .1) in
       record {
-        versions = λ i. entry-of (versionAt i (s .entities .live)) (versionAt i (t .entities .live)) i (s .storage .sets) (t .storage .sets) (at-index l i) .0;
-        values = λ i k a. components-values (entityAt i (versionAt i (s .entities .live))) (s .storage .sets) (t .storage .sets) (entry-of (versionAt i (s .entities .live)) (versionAt i (t .entities .live)) i (s .storage .sets) (t .storage .sets) (at-index l i) .1 a) k;
+        versions = λ i. entry-of (liveVersion i (s .entities .live)) (liveVersion i (t .entities .live)) i (s .storage .sets) (t .storage .sets) (at-index l i) .0;
+        values = λ i k a. components-values (entityAt i (liveVersion i (s .entities .live))) (s .storage .sets) (t .storage .sets) (entry-of (liveVersion i (s .entities .live)) (liveVersion i (t .entities .live)) i (s .storage .sets) (t .storage .sets) (at-index l i) .1 a) k;
       }
 
   same-of-at : SameAt s t → Same s t
@@ -202,7 +202,7 @@ module _ (s t : Store) (ls : Listed s) (lt : Listed t) where
       record {
         live = λ x. live-count (s .entities .live) (ls .live) x ∙ ap (isVersion x) (h .versions (x .index)) ∙ sym (live-count (t .entities .live) (lt .live) x);
         values = λ x a k.
-            let v = version-of x (versionAt (x .index) (s .entities .live)) (omega (arith, a, live-count (s .entities .live) (ls .live) x)) in
+            let v = version-of x (liveVersion (x .index) (s .entities .live)) (omega (arith, a, live-count (s .entities .live) (ls .live) x)) in
             subst (λ (y : Entity). valueAt y (setOf (s .storage .sets) k) ≡ valueAt y (setOf (t .storage .sets) k)) (λ i. record { index = x .index; version = sym (v .0) i }) (h .values (x .index) k (v .1));
       }
 
@@ -211,15 +211,15 @@ module _ (s t : Store) (ls : Listed s) (lt : Listed t) where
 
   -- ---- and back
 
-  one-way : (a b : List Entity) → LiveOk a → LiveOk b → ((x : Entity) → count sameEntity x a ≡ count sameEntity x b) → (i : ℕ) → 1 ≤ versionAt i a → versionAt i a ≡ versionAt i b
+  one-way : (a b : List Entity) → LiveOk a → LiveOk b → ((x : Entity) → countOf sameEntity x a ≡ countOf sameEntity x b) → (i : ℕ) → 1 ≤ liveVersion i a → liveVersion i a ≡ liveVersion i b
   one-way a b oka okb h i v =
-      let x : Entity = entityAt i (versionAt i a) in
-      version-of x (versionAt i b) (omega (arith, is-version i (versionAt i a) v, live-count a oka x, live-count b okb x, h x)) .0
+      let x : Entity = entityAt i (liveVersion i a) in
+      version-of x (liveVersion i b) (omega (arith, is-version i (liveVersion i a) v, live-count a oka x, live-count b okb x, h x)) .0
 
-  both-ways : (a b : List Entity) → LiveOk a → LiveOk b → ((x : Entity) → count sameEntity x a ≡ count sameEntity x b) → (i : ℕ) → versionAt i a ≡ versionAt i b
-  both-ways a b oka okb h i = go (versionAt i a) refl (versionAt i b) refl
+  both-ways : (a b : List Entity) → LiveOk a → LiveOk b → ((x : Entity) → countOf sameEntity x a ≡ countOf sameEntity x b) → (i : ℕ) → liveVersion i a ≡ liveVersion i b
+  both-ways a b oka okb h i = go (liveVersion i a) refl (liveVersion i b) refl
     where
-      go : (v : ℕ) → versionAt i a ≡ v → (w : ℕ) → versionAt i b ≡ w → v ≡ w
+      go : (v : ℕ) → liveVersion i a ≡ v → (w : ℕ) → liveVersion i b ≡ w → v ≡ w
       go zero p zero q = refl
       go zero p (suc w) q = omega (arith, p, q, one-way b a okb oka (λ x. sym (h x)) i (omega arith))
       go (suc v) p w q = omega (arith, p, q, one-way a b oka okb h i (omega arith))
@@ -227,15 +227,15 @@ module _ (s t : Store) (ls : Listed s) (lt : Listed t) where
   entries-same : Same s t → (n i : ℕ) → entries i n (s .entities .live) (s .storage .sets) ≡ entries i n (t .entities .live) (t .storage .sets)
   entries-same h zero i = refl
   entries-same h (suc n) i =
-      ap₂ (λ (a b : List Entry). a ++ b) (entry-same (versionAt i (s .entities .live)) refl) (entries-same h n (suc i))
+      ap₂ (λ (a b : List Entry). a ++ b) (entry-same (liveVersion i (s .entities .live)) refl) (entries-same h n (suc i))
     where
-      p : versionAt i (s .entities .live) ≡ versionAt i (t .entities .live)
+      p : liveVersion i (s .entities .live) ≡ liveVersion i (t .entities .live)
       p = both-ways (s .entities .live) (t .entities .live) (ls .live) (lt .live) (h .live) i
 
-      entry-same : (v : ℕ) → versionAt i (s .entities .live) ≡ v → entryOf (versionAt i (s .entities .live)) i (s .storage .sets) ≡ entryOf (versionAt i (t .entities .live)) i (t .storage .sets)
+      entry-same : (v : ℕ) → liveVersion i (s .entities .live) ≡ v → entryOf (liveVersion i (s .entities .live)) i (s .storage .sets) ≡ entryOf (liveVersion i (t .entities .live)) i (t .storage .sets)
       entry-same zero e = rw (← p, e)
       entry-same (suc v) e =
-          let a : 1 ≤ count sameEntity (entityAt i (suc v)) (s .entities .live) = rw (live-count (s .entities .live) (ls .live) (entityAt i (suc v)), e) (is-version i (suc v) (omega arith)) in
+          let a : 1 ≤ countOf sameEntity (entityAt i (suc v)) (s .entities .live) = rw (live-count (s .entities .live) (ls .live) (entityAt i (suc v)), e) (is-version i (suc v) (omega arith)) in
           rw (← p, e)
           (ap {B = List Entry} (λ ps. record { entity = entityAt i (suc v); components = ps } ∷ [])
           (values-components (entityAt i (suc v)) 0 (s .storage .sets) (t .storage .sets) (ls .columns ∙ sym (lt .columns)) (h .values (entityAt i (suc v)) a)))
@@ -243,7 +243,7 @@ module _ (s t : Store) (ls : Listed s) (lt : Listed t) where
   pub same-snapshot : Same s t → snapshot s ≡ snapshot t
   unfolding snapshot bound
   same-snapshot h =
-      ap₂ (λ (n : ℕ) (ts : List Entry). le 4 n ++ flat ts) (count-length sameEntity entity-eq entity-same (s .entities .live) (t .entities .live) (h .live))
+      ap₂ (λ (n : ℕ) (ts : List Entry). bytesOf 4 n ++ flat ts) (count-length sameEntity entity-eq entity-same (s .entities .live) (t .entities .live) (h .live))
       (sym wide-s ∙ entries-same h bound 0 ∙ wide-t)
 
   -- two stores write equal snapshots exactly if the same entities are live and hold the same components with the same values

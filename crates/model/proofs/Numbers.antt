@@ -9,9 +9,9 @@ use native.Mathlib.Decide.{ℕ-discrete}
 use borrow.Author.Tests.{ltb-true, eqb-true, eq-eqb, ne-eqb}
 use lib.Dec.{ltb, eqb}
 use lib.ListN.{length, getD, List·getD-map, length-map}
-use Rattle.model.specs.Lists.{one, count, count-append, count-place, getD-place, count-cutAt, map-cutAt, count-length-le}
+use Rattle.model.specs.Lists.{one, countOf, count-append, count-place, getD-place, count-cutAt, map-cutAt, count-length-le}
 use Rattle.model.specs.Model.{Entity, Entities, sameEntity, noEntity, create, createWith, destroy, lastVersion}
-pub use Rattle.model.specs.Sound.{idxOf, num}
+pub use Rattle.model.specs.Sound.{indexOf, num}
 use Rattle.model.specs.Sound.{EntitiesSound}
 use Rattle.model.proofs.SparseSets.{entity-eq, cond-case}
 use Rattle.model.proofs.Groups.{cnt, plc}
@@ -107,10 +107,10 @@ module _ (e : Entity) (c : Entities) (alive : 1 ≤ cnt e (c .live)) where
   num-cut : (i : ℕ) → num i ((destroy e c) .live) + one (eqb i (e .index)) ≡ num i (c .live)
   unfolding destroy
   num-cut i =
-      let p : plc e (c .live) < length (map idxOf (c .live)) = rw (length-map (c .live) idxOf) at-place in
-      let g : getD (map idxOf (c .live)) (plc e (c .live)) 0 ≡ e .index = List·getD-map idxOf (c .live) (plc e (c .live)) noEntity ∙ ap idxOf (getD-place sameEntity entity-eq e noEntity (c .live) at-place) in
-      let a = rw g at (count-cutAt eqb 0 (plc e (c .live)) (map idxOf (c .live)) p i) in
-      omega (arith, a, ap (count eqb i) (map-cutAt idxOf noEntity (plc e (c .live)) (c .live)))
+      let p : plc e (c .live) < length (map indexOf (c .live)) = rw (length-map (c .live) indexOf) at-place in
+      let g : getD (map indexOf (c .live)) (plc e (c .live)) 0 ≡ e .index = List·getD-map indexOf (c .live) (plc e (c .live)) noEntity ∙ ap indexOf (getD-place sameEntity entity-eq e noEntity (c .live) at-place) in
+      let a = rw g at (count-cutAt eqb 0 (plc e (c .live)) (map indexOf (c .live)) p i) in
+      omega (arith, a, ap (countOf eqb i) (map-cutAt indexOf noEntity (plc e (c .live)) (c .live)))
 
   abbrev next : Entity
   next = record { index = e .index; version = suc (e .version) }
@@ -152,22 +152,22 @@ pub length-upTo : (n : ℕ) → length (upTo n) ≡ n
 length-upTo zero = refl
 length-upTo (suc n) = ap suc (length-upTo n)
 
-pub in-upTo : (n i : ℕ) → i < n → 1 ≤ count eqb i (upTo n)
+pub in-upTo : (n i : ℕ) → i < n → 1 ≤ countOf eqb i (upTo n)
 in-upTo zero i h = absurd (omega arith)
 in-upTo (suc n) i h = go (in-upTo n i) (ℕ-discrete i n)
   where
-    go : (i < n → 1 ≤ count eqb i (upTo n)) → Dec (i ≡ n) → 1 ≤ one (eqb i n) + count eqb i (upTo n)
+    go : (i < n → 1 ≤ countOf eqb i (upTo n)) → Dec (i ≡ n) → 1 ≤ one (eqb i n) + countOf eqb i (upTo n)
     go r (yes p) = omega (arith, ap one (eq-eqb i n p))
     go r (no p) = omega (arith, r (omega arith))
 
 pub live-few : (c : Entities) → EntitiesOk c → length (c .live) ≤ c .issued
 live-few c ok =
-    let le = count-length-le eqb (λ x y. eqb-true x y) (λ x. eq-eqb x x refl) (map idxOf (c .live)) (upTo (c .issued)) few in
-    omega (arith, le, length-upTo (c .issued), length-map (c .live) idxOf)
+    let le = count-length-le eqb (λ x y. eqb-true x y) (λ x. eq-eqb x x refl) (map indexOf (c .live)) (upTo (c .issued)) few in
+    omega (arith, le, length-upTo (c .issued), length-map (c .live) indexOf)
   where
-    few : (i : ℕ) → num i (c .live) ≤ count eqb i (upTo (c .issued))
+    few : (i : ℕ) → num i (c .live) ≤ countOf eqb i (upTo (c .issued))
     few i = go (num i (c .live)) refl
       where
-        go : (m : ℕ) → num i (c .live) ≡ m → m ≤ count eqb i (upTo (c .issued))
+        go : (m : ℕ) → num i (c .live) ≡ m → m ≤ countOf eqb i (upTo (c .issued))
         go zero e = omega arith
         go (suc m) e = omega (arith, e, ok .single i, in-upTo (c .issued) i (ok .below i (omega (arith, e))))

@@ -6,8 +6,8 @@ use Prim.Native.Nat.{ℕ}
 use lib.Dec.{leb, ltb}
 use lib.ListN.{length}
 use Rattle.model.specs.Numbers.{AGAIN, DEAD, FULL, HANDFUL, KIND, KINDS, LAST-KIND, LIST-CAPACITY, MAX-GROUP-ARITY, MAX-GROUP-COUNT}
-use Rattle.model.specs.Model.{Entity, Added, nothing, added, refused, mem, isFull, isLive, groupsOf, addGroup, addsNothing, joins, destroy, insert, remove}
-use Rattle.model.specs.Store.{Store, le, stagedKinds, isKind, withControl, withStorage, withAll, withKinds, withStaged, withExcluded, withDraft, emptyStaged, emptyBoth}
+use Rattle.model.specs.Model.{Entity, Added, nothing, added, refused, mem, isFull, isLive, groupsOf, addGroup, addsNothing, joins, destroy, insertComponents, remove}
+use Rattle.model.specs.Store.{Store, bytesOf, stagedKinds, isKind, withControl, withStorage, withAll, withKinds, withStaged, withExcluded, withDraft, emptyStaged, emptyBoth}
 use Rattle.model.specs.Commands.{REG, HOLD, NEW, PUT, TAKE, DROP, KILL, WIPE, GROUP, APPLY, BAR, RANGE, EMPTY, TALLY, heldBytes, accepted}
 use Rattle.model.specs.Refusals.{linesOf, unknownKind}
 use Rattle.model.specs.Run.{Outcome, refuses, accepts, does}
@@ -84,7 +84,7 @@ module _ (s : Store) where
   unfolding does linesOf
   put-dead e h = rw h
 
-  pub put-live : (e : Entity) → isLive e (s .entities) ≡ true → does (PUT e) s ≡ accepts (withStorage s (insert e (s .control .staged) (s .storage)) (emptyStaged (s .control))) []
+  pub put-live : (e : Entity) → isLive e (s .entities) ≡ true → does (PUT e) s ≡ accepts (withStorage s (insertComponents e (s .control .staged) (s .storage)) (emptyStaged (s .control))) []
   unfolding does linesOf accepted
   put-live e h = rw h
 
@@ -130,7 +130,7 @@ module _ (s : Store) where
   unfolding does linesOf accepted
   empty-does = refl
 
-  pub tally-does : does TALLY s ≡ accepts s (le 4 (s .control .refusals))
+  pub tally-does : does TALLY s ≡ accepts s (bytesOf 4 (s .control .refusals))
   unfolding does linesOf accepted
   tally-does = refl
 

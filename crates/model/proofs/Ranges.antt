@@ -10,11 +10,11 @@ use borrow.Author.Tests.{eqb-true, eq-eqb}
 use lib.Dec.{eqb}
 use lib.ListN.{length, take, drop, getD, length-drop, length-map, take-append-drop}
 use lib.Seq.{length-take-le, take-all, drop-cons}
-use Rattle.model.specs.Lists.{one, count, count-append, count-length}
-use Rattle.model.specs.Model.{Entity, SparseSet, Group, Family, Range, none, found, sameEntity, mem, all, within, sameSet, setOf, entityOf, held, allHeld, headKind, kindsOf, newGroup, orElse, rangeAt, rangeIn, rangeAll, single, range}
+use Rattle.model.specs.Lists.{one, countOf, count-append, count-length}
+use Rattle.model.specs.Model.{Entity, SparseSet, Group, Family, Range, none, found, sameEntity, mem, allOf, within, sameSet, setOf, entityOf, held, allHeld, headKind, kindsOf, newGroup, firstRange, rangeAt, rangeIn, rangeAll, single, rangeFor}
 use Rattle.model.specs.Store.{Store}
-use Rattle.model.specs.Sound.{cnt, In, key, holders, Distinct, layoutKinds, Rising, BuildableFamilies, Right, RightFrom, AllRight, Between, Sound}
-use Rattle.model.specs.Shown.{lacking, described, Showing, EqualGroup, EqualRing, Shows, oneKind, aGroup, twoGroups}
+use Rattle.model.specs.Sound.{cnt, In, key, holders, Distinct, layoutKinds, Rising, BuildableFamilies, Right, RightFrom, AllRight, Between, StoreSound}
+use Rattle.model.specs.Shown.{lacking, described, Showing, EqualGroup, EqualNewKinds, Shows, oneKind, aGroup, twoGroups}
 use Rattle.model.proofs.SparseSets.{entity-eq, entity-same, cond-case, and-left, and-right}
 use Rattle.model.proofs.Walk.{bool-cases, in-left, in-right, or-cases, all-in, held-count, lacks-count}
 use Rattle.model.proofs.Invariant.{holders-count}
@@ -30,8 +30,8 @@ in-same h g s k i = all-in (λ j. mem j g) h (and-left (within h g) (within g h)
 same-in : (h g : List ℕ) → sameSet h g ≡ true → (k : ℕ) → In g k → In h k
 same-in h g s k i = all-in (λ j. mem j h) g (and-right (within h g) (within g h) s) k i
 
-all-same : (p : ℕ → Bool) (h g : List ℕ) → sameSet h g ≡ true → all p h ≡ all p g
-all-same p h g s = bool-cases (all p h) (λ t. t ∙ sym (all-true p g (λ k i. all-in p h t k (same-in h g s k i)))) (λ t. t ∙ sym (not-true (all p g) (λ u. true≢false (sym (all-true p h (λ k i. all-in p g u k (in-same h g s k i))) ∙ t))))
+all-same : (p : ℕ → Bool) (h g : List ℕ) → sameSet h g ≡ true → allOf p h ≡ allOf p g
+all-same p h g s = bool-cases (allOf p h) (λ t. t ∙ sym (all-true p g (λ k i. all-in p h t k (same-in h g s k i)))) (λ t. t ∙ sym (not-true (allOf p g) (λ u. true≢false (sym (all-true p h (λ k i. all-in p g u k (in-same h g s k i))) ∙ t))))
 
 module _ (sets : List SparseSet) where
   held-same : (x : Entity) (h g : List ℕ) → sameSet h g ≡ true → allHeld x h sets ≡ allHeld x g sets
@@ -132,7 +132,7 @@ module _ (sets : List SparseSet) (live : List Entity) (h : List ℕ) where
       (λ t. at-shown b (acc ++ r .newKinds) (r .count) (headKind (r .newKinds)) rs (in-right acc (r .newKinds) (headKind (r .newKinds)) (head-in (r .newKinds) (up .0))) t (R .0) (R .1))
       (λ t. in-shown b (acc ++ r .newKinds) rs (up .1) (R .1))
 
-  else-shown : (b : List ℕ) (p q : Range) → ShownBy b p → ShownBy b q → ShownBy b (orElse p q)
+  else-shown : (b : List ℕ) (p q : Range) → ShownBy b p → ShownBy b q → ShownBy b (firstRange p q)
   else-shown b none q x y = y
   else-shown b (found a e) q x y = x
 
@@ -173,7 +173,7 @@ length-zero : (b : List ℕ) → length b ≡ 0 → b ≡ []
 length-zero [] e = refl
 length-zero (k ∷ b) e = absurd (omega arith)
 
-module _ (s : Store) (S : Sound s) (h b : List ℕ) where
+module _ (s : Store) (S : StoreSound s) (h b : List ℕ) where
   abbrev C : List SparseSet
   C = s .storage .sets
 
@@ -183,8 +183,8 @@ module _ (s : Store) (S : Sound s) (h b : List ℕ) where
   live-once : (x : Entity) → cnt x L ≤ 1
   live-once x = omega (arith, cnt-num x L, S .entities .single (x .index))
 
-  shown : ShownBy C L h b (range h b (s .storage))
-  unfolding range
+  shown : ShownBy C L h b (rangeFor h b (s .storage))
+  unfolding rangeFor
   shown =
       cond-case (ShownBy C L h b) (single h b) _ _
       (λ t.
@@ -194,7 +194,7 @@ module _ (s : Store) (S : Sound s) (h b : List ℕ) where
       (λ t. all-shown C L h b (s .storage .layout) (S .layout .families) (S .groups))
 
   -- the range found shows exactly the entities that hand and bar describe
-  pub range-shows : (a e : ℕ) → range h b (s .storage) ≡ found a e → Showing C L h b a e
+  pub range-shows : (a e : ℕ) → rangeFor h b (s .storage) ≡ found a e → Showing C L h b a e
   range-shows a e p = subst (ShownBy C L h b) p shown
 
 -- ---- a range is found only where 01 says so
@@ -204,12 +204,12 @@ record InFamily (h b acc : List ℕ) (rs : Family) : Type 0 where
   pub group : ℕ
   pub there : group < length rs
   pub equal : sameSet h (acc ++ kindsOf (take (suc group) rs)) ≡ true
-  pub ring : (length b ≡ 0) ⊎ ((1 ≤ length b) × EqualRing b rs group)
+  pub newKinds : (length b ≡ 0) ⊎ ((1 ≤ length b) × EqualNewKinds b rs group)
 
 none-found : (a e : ℕ) → none ≡ found a e → ⊥
 none-found a e p = let z : _≡_ {A = ℕ} 0 1 = cc in omega arith
 
-at-where : (b : List ℕ) (c : ℕ) (r : Group) (rs : Family) (a e : ℕ) → rangeAt b c rs ≡ found a e → (length b ≡ 0) ⊎ ((1 ≤ length b) × EqualRing b (r ∷ rs) 0)
+at-where : (b : List ℕ) (c : ℕ) (r : Group) (rs : Family) (a e : ℕ) → rangeAt b c rs ≡ found a e → (length b ≡ 0) ⊎ ((1 ≤ length b) × EqualNewKinds b (r ∷ rs) 0)
 at-where [] c r rs a e p = inl refl
 at-where (b₀ ∷ bs) c r [] a e p = absurd (none-found a e p)
 at-where (b₀ ∷ bs) c r (q ∷ qs) a e p =
@@ -221,7 +221,7 @@ in-where : (h b acc : List ℕ) (rs : Family) (a e : ℕ) → rangeIn h b acc rs
 in-where h b acc [] a e p = absurd (none-found a e p)
 in-where h b acc (r ∷ rs) a e p =
     bool-cases (sameSet h (acc ++ r .newKinds))
-    (λ t. record { group = 0; there = omega arith; equal = rw (append-nil (r .newKinds)) t; ring = at-where b (r .count) r rs a e (rw t at p) })
+    (λ t. record { group = 0; there = omega arith; equal = rw (append-nil (r .newKinds)) t; newKinds = at-where b (r .count) r rs a e (rw t at p) })
     (λ t. further (in-where h b (acc ++ r .newKinds) rs a e (rw t at p)))
   where
     further : InFamily h b (acc ++ r .newKinds) rs → InFamily h b acc (r ∷ rs)
@@ -230,14 +230,14 @@ in-where h b acc (r ∷ rs) a e p =
           group = suc (f .group);
           there = omega (arith, f .there);
           equal = rw (append-assoc acc (r .newKinds) (kindsOf (take (suc (f .group)) rs))) at (f .equal);
-          ring = ⊎-elim (λ z. inl z) (λ z. inr (z .0, record { there = omega (arith, z .1 .there); equal = z .1 .equal })) (f .ring);
+          newKinds = ⊎-elim (λ z. inl z) (λ z. inr (z .0, record { there = omega (arith, z .1 .there); equal = z .1 .equal })) (f .newKinds);
         }
 
 record InLayout (h b : List ℕ) (fs : List Family) : Type 0 where
   pub family : ℕ
   pub inside : InFamily h b [] (getD fs family [])
 
-else-where : (P : Type 0) (p q : Range) → ((a e : ℕ) → p ≡ found a e → P) → ((a e : ℕ) → q ≡ found a e → P) → (a e : ℕ) → orElse p q ≡ found a e → P
+else-where : (P : Type 0) (p q : Range) → ((a e : ℕ) → p ≡ found a e → P) → ((a e : ℕ) → q ≡ found a e → P) → (a e : ℕ) → firstRange p q ≡ found a e → P
 else-where P none q f g a e x = g a e x
 else-where P (found c d) q f g a e x = f c d refl
 
@@ -252,7 +252,7 @@ all-where h b (f ∷ fs) a e p =
 layout-shows : (h b : List ℕ) (fs : List Family) → InLayout h b fs → Shows h b fs
 layout-shows h b fs x =
     let g : EqualGroup h fs = record { family = x .family; group = x .inside .group; there = x .inside .there; equal = x .inside .equal } in
-    ⊎-elim (λ z. aGroup z g) (λ z. twoGroups (z .0) g (z .1)) (x .inside .ring)
+    ⊎-elim (λ z. aGroup z g) (λ z. twoGroups (z .0) g (z .1)) (x .inside .newKinds)
 
 -- ---- and it is found wherever 01 says so
 
@@ -282,15 +282,15 @@ in-hit h b acc (r ∷ q ∷ rs) (suc j) d up lt s = rw no-match (in-hit h b (acc
     no-match : sameSet h (acc ++ r .newKinds) ≡ false
     no-match = not-true (sameSet h (acc ++ r .newKinds)) (λ t. true≢false (sym (in-left (q .newKinds) (kindsOf rs) k k∈q) ∙ distinct-apart (acc ++ r .newKinds) (kindsOf (q ∷ rs)) (rw append-assoc d) k (in-same h (acc ++ r .newKinds) t k k∈h)))
 
-at-hit : (b : List ℕ) (c : ℕ) (f : Family) (j : ℕ) → (length b ≡ 0) ⊎ EqualRing b f j → Found (rangeAt b c (drop (suc j) f))
+at-hit : (b : List ℕ) (c : ℕ) (f : Family) (j : ℕ) → (length b ≡ 0) ⊎ EqualNewKinds b f j → Found (rangeAt b c (drop (suc j) f))
 at-hit [] c f j x = tt
 at-hit (b₀ ∷ bs) c f j x = ⊎-elim (λ z. absurd (omega (arith, z))) (λ z. rw (drop-cons f (suc j) (newGroup []) (z .there), z .equal) tt) x
 
-else-left : (p q : Range) → Found p → Found (orElse p q)
+else-left : (p q : Range) → Found p → Found (firstRange p q)
 else-left none q x = absurd x
 else-left (found a e) q x = tt
 
-else-right : (p q : Range) → Found q → Found (orElse p q)
+else-right : (p q : Range) → Found q → Found (firstRange p q)
 else-right none q x = x
 else-right (found a e) q x = tt
 
@@ -310,28 +310,28 @@ family-distinct [] d i k = omega arith
 family-distinct (f ∷ fs) d zero k = distinct-left (kindsOf f) (layoutKinds fs) d k
 family-distinct (f ∷ fs) d (suc i) k = family-distinct fs (distinct-right (kindsOf f) (layoutKinds fs) d) i k
 
-module _ (s : Store) (S : Sound s) (h b : List ℕ) where
+module _ (s : Store) (S : StoreSound s) (h b : List ℕ) where
   abbrev F : List Family
   F = s .storage .layout
 
-  hit : (g : EqualGroup h F) → (length b ≡ 0) ⊎ EqualRing b (getD F (g .family) []) (g .group) → Found (rangeAll h b F)
+  hit : (g : EqualGroup h F) → (length b ≡ 0) ⊎ EqualNewKinds b (getD F (g .family) []) (g .group) → Found (rangeAll h b F)
   hit g x =
       all-hit h b F (g .family)
       (rw (in-hit h b [] (getD F (g .family) []) (g .group) (family-distinct F (S .layout .once) (g .family)) (family-rising F (S .layout .families) (g .family)) (g .there) (g .equal))
       (at-hit b (getD (getD F (g .family) []) (g .group) (newGroup []) .count) (getD F (g .family) []) (g .group) x))
 
-  searched : Found (rangeAll h b F) → Found (range h b (s .storage))
-  unfolding range
+  searched : Found (rangeAll h b F) → Found (rangeFor h b (s .storage))
+  unfolding rangeFor
   searched x = cond-case Found (single h b) _ _ (λ t. tt) (λ t. x)
 
-  shows-found : Shows h b F → Found (range h b (s .storage))
-  unfolding range
+  shows-found : Shows h b F → Found (rangeFor h b (s .storage))
+  unfolding rangeFor
   shows-found (oneKind p q) = rw (eq-eqb (length h) 1 p, eq-eqb (length b) 0 q) tt
   shows-found (aGroup p g) = searched (hit g (inl p))
   shows-found (twoGroups p g q) = searched (hit g (inr q))
 
-  range-where : (a e : ℕ) → range h b (s .storage) ≡ found a e → Shows h b F
-  unfolding range
+  range-where : (a e : ℕ) → rangeFor h b (s .storage) ≡ found a e → Shows h b F
+  unfolding rangeFor
   range-where a e p =
       bool-cases (single h b)
       (λ t. oneKind (eqb-true (length h) 1 (and-left (eqb (length h) 1) (eqb (length b) 0) t)) (eqb-true (length b) 0 (and-right (eqb (length h) 1) (eqb (length b) 0) t)))
@@ -342,8 +342,8 @@ module _ (s : Store) (S : Sound s) (h b : List ℕ) where
   not-none (found a e′) f e = none-found a e′ (sym e)
 
   -- none exactly where 01 says none
-  pub range-none : (range h b (s .storage) ≡ none) ↔ (Shows h b F → ⊥)
-  range-none = ((λ e w. not-none (range h b (s .storage)) (shows-found w) e), (λ f. go (range h b (s .storage)) (λ a e p. f (range-where a e p))))
+  pub range-none : (rangeFor h b (s .storage) ≡ none) ↔ (Shows h b F → ⊥)
+  range-none = ((λ e w. not-none (rangeFor h b (s .storage)) (shows-found w) e), (λ f. go (rangeFor h b (s .storage)) (λ a e p. f (range-where a e p))))
     where
       go : (r : Range) → ((a e : ℕ) → r ≡ found a e → ⊥) → r ≡ none
       go none f = refl

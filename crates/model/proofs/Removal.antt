@@ -10,8 +10,8 @@ use borrow.Author.Tests.{eq-eqb}
 use lib.Dec.{eqb}
 use lib.ListN.{length, take, getD, set, length-set}
 use lib.Seq.{length-take-le, take-take, take-set-le}
-use Rattle.model.specs.Lists.{one, count, cutAt, count-cutAt, map-cutAt, count-place, place-le, getD-place}
-use Rattle.model.specs.Model.{Entity, SparseSet, Group, Family, Storage, Walked, Stepped, sameEntity, noEntity, noRow, mem, any, meets, setOf, keys, entityOf, at, held, kindsOf, onKinds, swapTo, removeRow, isGrouped, ungroupComponents, ungroupFamily, ungroup, remove}
+use Rattle.model.specs.Lists.{one, countOf, cutAt, count-cutAt, map-cutAt, count-place, place-le, getD-place}
+use Rattle.model.specs.Model.{Entity, SparseSet, Group, Family, Storage, Walked, GroupStep, sameEntity, noEntity, noRow, mem, anyOf, meets, setOf, keys, entityOf, at, held, kindsOf, onKinds, swapTo, removeRow, isGrouped, ungroupComponents, ungroupFamily, ungroup, remove}
 use Rattle.model.proofs.SparseSets.{entity-eq, entity-same, cond-case, key, setOf-mapOn}
 use Rattle.model.proofs.Groups.{cnt, plc, In, Full, SameEntities}
 use Rattle.model.proofs.Walk.{Chain, Every, But, GroupRight, bool-cases, or-cases, or-true, or-false, in-left, in-right, mem-append, full-lacks, either, held-count, lacks-count}
@@ -103,10 +103,10 @@ record Common (p : ℕ → Bool) (ks : List ℕ) : Type 0 where
   pub isIn : In ks kind
   pub holds : p kind ≡ true
 
-common : (p : ℕ → Bool) (ks : List ℕ) → any p ks ≡ true → Common p ks
+common : (p : ℕ → Bool) (ks : List ℕ) → anyOf p ks ≡ true → Common p ks
 common p [] t = absurd (false≢true t)
 common p (j ∷ ks) t =
-    or-cases (p j) (any p ks) t
+    or-cases (p j) (anyOf p ks) t
     (λ u. record { kind = j; isIn = rw (eq-eqb j j refl); holds = u })
     (λ u. let c = common p ks u in record { kind = c .kind; isIn = rw (c .isIn) (or-true (eqb (c .kind) j)); holds = c .holds })
 
@@ -200,7 +200,7 @@ module _ (e : Entity) (gone : List ℕ) where
 
   length-ungroupComponents : (ks : List ℕ) (r : Group) (sets : List SparseSet) → length ((ungroupComponents e ks r sets) .sets) ≡ length sets
   unfolding ungroupComponents
-  length-ungroupComponents ks r sets = cond-case (λ (s : Stepped). length (s .sets) ≡ length sets) (isGrouped e r sets) _ _ (λ t. length-mapOn ks (swapTo e (r .count - 1)) 0 sets) (λ t. refl)
+  length-ungroupComponents ks r sets = cond-case (λ (s : GroupStep). length (s .sets) ≡ length sets) (isGrouped e r sets) _ _ (λ t. length-mapOn ks (swapTo e (r .count - 1)) 0 sets) (λ t. refl)
 
   pub length-ungroupFamily : (acc : List ℕ) (sets : List SparseSet) (rs : Family) → length ((ungroupFamily e gone acc sets rs) .sets) ≡ length sets
   unfolding ungroupFamily

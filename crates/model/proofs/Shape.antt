@@ -3,7 +3,7 @@ use mathlib.Core.Path.{_≡_, refl, ap, ap₂, _∙_}
 use mathlib.Core.List.{List, [], _∷_, _++_, map}
 use Prim.Native.Nat.{ℕ, _+_}
 use lib.ListN.{length-map}
-use Rattle.model.specs.Model.{Entity, SparseSet, Group, Family, Component, Storage, Walked, Stepped, zeroCount, meets, allHeld, isGrouped, kindOf, kindsOf, groupsOf, insertAll, groupComponents, ungroupComponents, groupFamily, ungroupFamily, groupTouched, ungroup, groupAll, regroup, setLayout, insert, remove, clearAll}
+use Rattle.model.specs.Model.{Entity, SparseSet, Group, Family, Component, Storage, Walked, GroupStep, zeroCount, meets, allHeld, isGrouped, kindOf, kindsOf, groupsOf, insertAll, groupComponents, ungroupComponents, groupFamily, ungroupFamily, groupTouched, ungroup, groupAll, regroup, setLayout, insertComponents, remove, clearAll}
 use Rattle.model.specs.Sound.{layoutKinds, Rising, BuildableFamilies, Buildable}
 use Rattle.model.proofs.SparseSets.{cond-case}
 use Rattle.model.proofs.Regroup.{zero-kinds}
@@ -16,11 +16,11 @@ plain fs = map (map zeroCount) fs
 
 groupComponents-plain : (e : Entity) (ks : List ℕ) (r : Group) (sets : List SparseSet) → zeroCount ((groupComponents e ks r sets) .group) ≡ zeroCount r
 unfolding groupComponents
-groupComponents-plain e ks r sets = cond-case (λ (s : Stepped). zeroCount (s .group) ≡ zeroCount r) (isGrouped e r sets) _ _ (λ t. refl) (λ t. refl)
+groupComponents-plain e ks r sets = cond-case (λ (s : GroupStep). zeroCount (s .group) ≡ zeroCount r) (isGrouped e r sets) _ _ (λ t. refl) (λ t. refl)
 
 ungroupComponents-plain : (e : Entity) (ks : List ℕ) (r : Group) (sets : List SparseSet) → zeroCount ((ungroupComponents e ks r sets) .group) ≡ zeroCount r
 unfolding ungroupComponents
-ungroupComponents-plain e ks r sets = cond-case (λ (s : Stepped). zeroCount (s .group) ≡ zeroCount r) (isGrouped e r sets) _ _ (λ t. refl) (λ t. refl)
+ungroupComponents-plain e ks r sets = cond-case (λ (s : GroupStep). zeroCount (s .group) ≡ zeroCount r) (isGrouped e r sets) _ _ (λ t. refl) (λ t. refl)
 
 cons : (r q : Group) (rs qs : Family) → zeroCount r ≡ zeroCount q → map zeroCount rs ≡ map zeroCount qs → map zeroCount (r ∷ rs) ≡ map zeroCount (q ∷ qs)
 cons r q rs qs p o = ap₂ {C = Family} (λ x xs. x ∷ xs) p o
@@ -64,8 +64,8 @@ groupAll-plain e sets (f ∷ fs) = consAll ((groupFamily e [] sets f) .groups) f
 
 -- ---- the operations
 
-pub insert-plain : (e : Entity) (staged : List Component) (p : Storage) → plain ((insert e staged p) .layout) ≡ plain (p .layout)
-unfolding insert
+pub insert-plain : (e : Entity) (staged : List Component) (p : Storage) → plain ((insertComponents e staged p) .layout) ≡ plain (p .layout)
+unfolding insertComponents
 insert-plain e staged p = groupTouched-plain e (map kindOf staged) (insertAll e staged (p .sets)) (p .layout)
 
 pub remove-plain : (e : Entity) (gone : List ℕ) (p : Storage) → plain ((remove e gone p) .layout) ≡ plain (p .layout)

@@ -14,8 +14,8 @@ use Rattle.model.specs.Lists.{one}
 use Rattle.model.specs.Model.{Entity, SparseSet, sameEntity, noRow, at, held, lastVersion}
 use Rattle.model.specs.Store.{Store, empty}
 use Rattle.model.specs.Run.{run}
-use Rattle.model.specs.Snapshot.{addComponent, componentsOf, versionAt, entryOf, entries, snapshot}
-use Rattle.model.specs.Sound.{Eight, Limits, Sound}
+use Rattle.model.specs.Snapshot.{addComponent, componentsOf, liveVersion, entryOf, entries, snapshot}
+use Rattle.model.specs.Sound.{Eight, Limits, StoreSound}
 use Rattle.model.proofs.SparseSets.{entity-same}
 use Rattle.model.proofs.Groups.{cnt}
 use Rattle.model.proofs.Walk.{bool-cases}
@@ -24,11 +24,11 @@ use Rattle.model.proofs.Values.{ColsOk}
 use Rattle.model.proofs.Operations.{eight0, sound-held}
 use Rattle.model.proofs.Sound.{Bytes, run-sound}
 use Rattle.model.proofs.Encoding.{FitComponents, FitEntries}
-use Rattle.model.proofs.Listing.{LiveOk, Listed, Same, snapshot-iff}
+use Rattle.model.proofs.Listing.{LiveOk, Listable, Same, snapshot-iff}
 
 -- ---- what the snapshot's law asks
 
-num-zero : (i : ℕ) (l : List Entity) → num i l ≡ 0 → versionAt i l ≡ 0
+num-zero : (i : ℕ) (l : List Entity) → num i l ≡ 0 → liveVersion i l ≡ 0
 num-zero i [] z = refl
 num-zero i (e ∷ es) z = bool-cases (eqb i (e .index)) (λ t. absurd (omega (arith, z, ap one t))) (λ t. rw t (num-zero i es (omega (arith, z))))
 
@@ -40,7 +40,7 @@ live-ok (e ∷ es) s p = (
   live-ok es (λ i. omega (arith, s i)) (λ x h. p x (omega (arith, h))),
 )
 
-version-in : (i v : ℕ) (l : List Entity) → versionAt i l ≡ suc v → 1 ≤ cnt (record { index = i; version = suc v }) l
+version-in : (i v : ℕ) (l : List Entity) → liveVersion i l ≡ suc v → 1 ≤ cnt (record { index = i; version = suc v }) l
 version-in i v [] e = absurd (omega (arith, e))
 version-in i v (c ∷ cs) e =
     bool-cases (eqb i (c .index))
@@ -61,9 +61,9 @@ components-fit e k (c ∷ cs) h = go (held e c) (components-fit e (suc k) cs (λ
 module _ (live : List Entity) (sets : List SparseSet) (h : ColsOk Eight eight0 sets) (vs : (x : Entity) → 1 ≤ cnt x live → x .version ≤ lastVersion) where
   entries-fit : (n i : ℕ) → i + n ≤ MAX-ENTITIES → FitEntries (entries i n live sets)
   entries-fit zero i le = tt
-  entries-fit (suc n) i le = go (versionAt i live) refl (entries-fit n (suc i) (omega arith))
+  entries-fit (suc n) i le = go (liveVersion i live) refl (entries-fit n (suc i) (omega arith))
     where
-      go : (v : ℕ) → versionAt i live ≡ v → FitEntries (entries (suc i) n live sets) → FitEntries (entryOf v i sets ++ entries (suc i) n live sets)
+      go : (v : ℕ) → liveVersion i live ≡ v → FitEntries (entries (suc i) n live sets) → FitEntries (entryOf v i sets ++ entries (suc i) n live sets)
       go zero e r = r
       go (suc v) e r = (
         record {
@@ -75,7 +75,7 @@ module _ (live : List Entity) (sets : List SparseSet) (h : ColsOk Eight eight0 s
       )
 
 -- a sound store has what the law asks
-pub listed : (s : Store) → Sound s → Listed s
+pub listed : (s : Store) → StoreSound s → Listable s
 listed s S =
     record {
       live = live-ok (s .entities .live) (λ i. omega (arith, N .single i)) (λ x h. N .positive x (omega (arith, h)));
@@ -89,7 +89,7 @@ listed s S =
     N = sound-held s S .numbers
 
 -- any two sound stores write equal snapshots exactly if the same entities are live with the same components and values
-pub snapshots-of-sound : (s t : Store) → Sound s → Sound t → (snapshot s ≡ snapshot t) ↔ Same s t
+pub snapshots-of-sound : (s t : Store) → StoreSound s → StoreSound t → (snapshot s ≡ snapshot t) ↔ Same s t
 snapshots-of-sound s t S T = snapshot-iff s t (listed s S) (listed t T)
 
 -- and so do the stores after any two tapes from empty stores

@@ -17,8 +17,8 @@ use Rattle.model.specs.Commands.{Command, REG, HOLD, NEW, PUT, TAKE, DRO
 use Rattle.model.specs.Refusals.{firstLine, linesOf, beforeLines}
 use Rattle.model.specs.Run.{Outcome, refuses, accepts, does, Step, stops, goes, stepOf, stepIf, step, Ran, halt, more, runFor, run}
 use Rattle.model.specs.History.{trailFor, trail}
-pub use Rattle.model.specs.History.{Each}
-use Rattle.model.specs.Sound.{Eight, Limits, Sound}
+pub use Rattle.model.specs.History.{EachStore}
+use Rattle.model.specs.Sound.{Eight, Limits, StoreSound}
 use Rattle.model.proofs.SparseSets.{cond-case}
 use Rattle.model.proofs.Families.{or-false-right}
 use Rattle.model.proofs.Draft.{DraftSound, withGroup-sound}
@@ -56,23 +56,23 @@ not-not a b h e = not-false b (not-and a (not b) h e)
 known-kind : (k : ℕ) (s : Store) → (ltb LAST-KIND k || not (isKind k s)) ≡ false → isKind k s ≡ true
 known-kind k s h = not-false (isKind k s) (or-false-right (ltb LAST-KIND k) (not (isKind k s)) h)
 
-module _ (s : Store) (S : Sound s) where
+module _ (s : Store) (S : StoreSound s) where
   -- the hand is emptied beside a change of the components
-  emptied : Sound (withControl s (emptyStaged (s .control)))
+  emptied : StoreSound (withControl s (emptyStaged (s .control)))
   emptied = control-sound s S (emptyStaged (s .control)) (emptyStaged-sound (s .kinds) (s .control) (control-of s S))
 
-  both-emptied : Sound (withControl s (emptyBoth (s .control)))
+  both-emptied : StoreSound (withControl s (emptyBoth (s .control)))
   both-emptied = control-sound s S (emptyBoth (s .control)) (emptyBoth-sound (s .kinds) (s .control) (control-of s S))
 
-accepted-sound : (c : Command) (s : Store) → Fits c → Sound s → NoneHolds (linesOf c) s → Sound ((accepted c s) .store)
+accepted-sound : (c : Command) (s : Store) → Fits c → StoreSound s → NoneHolds (linesOf c) s → StoreSound ((accepted c s) .store)
 unfolding accepted linesOf
 accepted-sound (REG k) s f S n =
-    cond-case (λ (d : Done). Sound (d .store)) (isKind k s) _ _ (λ t. S)
+    cond-case (λ (d : Done). StoreSound (d .store)) (isKind k s) _ _ (λ t. S)
     (λ t. register-sound s S k (omega (arith, ltb-false LAST-KIND k (n .0))) t (omega (arith, leb-false (s .kindCapacity) (length (s .kinds)) (not-and (isKind k s) (leb (s .kindCapacity) (length (s .kinds))) (n .1 .0) t))))
 accepted-sound (HOLD k v) s f S n = control-sound s S _ (stage-sound (s .kinds) (s .control) (control-of s S) k v (known-kind k s (n .0)) (n .1 .0) (omega (arith, leb-false LIST-CAPACITY (length (s .control .staged)) (n .1 .1 .0))) f)
 accepted-sound NEW s f S n =
     let c : Created = create (s .entities) in
-    let A : Sound (withAll s (c .entities) (s .storage) (s .control)) = create-sound s S (n .0) in
+    let A : StoreSound (withAll s (c .entities) (s .storage) (s .control)) = create-sound s S (n .0) in
     let B = insert-sound (withAll s (c .entities) (s .storage) (s .control)) A (c .entity) (s .control .staged) (create-is-live (s .entities)) (S .staged) in
     emptied _ B
 accepted-sound (PUT e) s f S n = emptied _ (insert-sound s S e (s .control .staged) (not-false (isLive e (s .entities)) (n .0)) (S .staged))
@@ -81,7 +81,7 @@ accepted-sound (DROP e) s f S n = emptied _ (remove-sound s S e (stagedKinds s))
 accepted-sound (KILL e) s f S n = kill-sound s S e (not-false (isLive e (s .entities)) (n .0))
 accepted-sound WIPE s f S n = clearAll-sound s S
 accepted-sound GROUP s f S n =
-    cond-case (λ (d : Done). Sound (d .store)) (addsNothing (stagedKinds s) (s .control .draft)) _ _ (λ t. emptied s S)
+    cond-case (λ (d : Done). StoreSound (d .store)) (addsNothing (stagedKinds s) (s .control .draft)) _ _ (λ t. emptied s S)
     (λ t.
     let D : DraftSound (s .kinds) (withGroup (stagedKinds s) (s .control .draft)) = withGroup-sound (s .kinds) (stagedKinds s) (s .control .draft) (S .staged .once) (S .staged .known) (omega (arith, ltb-false MAX-GROUP-ARITY (length (stagedKinds s)) (n .0))) (omega (arith, leb-false MAX-GROUP-COUNT (groupsOf (s .control .draft)) (not-and (addsNothing (stagedKinds s) (s .control .draft)) (leb MAX-GROUP-COUNT (groupsOf (s .control .draft))) (n .1 .1 .0) t))) (control-of s S .draft) t (not-not (addsNothing (stagedKinds s) (s .control .draft)) (joins (stagedKinds s) (s .control .draft)) (n .1 .0) t) in
     control-sound s S _ (draft-sound (s .kinds) (emptyStaged (s .control)) (emptyStaged-sound (s .kinds) (s .control) (control-of s S)) (withGroup (stagedKinds s) (s .control .draft)) D))
@@ -95,15 +95,15 @@ accepted-sound TALLY s f S n = S
 
 abbrev pub OutSound : Outcome → Type 0
 OutSound (refuses n) = Unit {0}
-OutSound (accepts s a) = Sound s
+OutSound (accepts s a) = StoreSound s
 
 -- every command keeps a sound store sound
-pub does-sound : (c : Command) (s : Store) → Fits c → Sound s → OutSound (does c s)
+pub does-sound : (c : Command) (s : Store) → Fits c → StoreSound s → OutSound (does c s)
 unfolding does
 does-sound c s f S = outcome-case OutSound (firstLine (linesOf c) s) (accepted c s) (λ n e. tt) (λ e. accepted-sound c s f S (none-to (linesOf c) s e))
 
 -- a refused one too, which is counted
-pub refused-sound : (s : Store) → Sound s → Sound (withControl s (counted (s .control)))
+pub refused-sound : (s : Store) → StoreSound s → StoreSound (withControl s (counted (s .control)))
 refused-sound s S = control-sound s S (counted (s .control)) (counted-sound (s .kinds) (s .control) (control-of s S))
 
 -- ---- the tape's bytes
@@ -173,50 +173,50 @@ stepIf-after : (P : Store → Type 0) (r : Option ℕ) (p : Step) → After P p 
 stepIf-after P (some n) p h = tt
 stepIf-after P none p h = h
 
-stepOf-sound : (w : ℕ) (s : Store) (o : Outcome) → Sound s → OutSound o → After Sound (stepOf w s o)
+stepOf-sound : (w : ℕ) (s : Store) (o : Outcome) → StoreSound s → OutSound o → After StoreSound (stepOf w s o)
 stepOf-sound w s (refuses n) S h = refused-sound s S
 stepOf-sound w s (accepts s′ a) S h = h
 
-pub step-sound : (b : ℕ) (t : List ℕ) (room : ℕ) (s : Store) → Bytes t → Sound s → After Sound (step b t room s)
+pub step-sound : (b : ℕ) (t : List ℕ) (room : ℕ) (s : Store) → Bytes t → StoreSound s → After StoreSound (step b t room s)
 unfolding step
 step-sound b t room s h S =
-    stepIf-after Sound (firstLine beforeLines (record { byte = b; rest = t; room = room; store = s })) (stepOf (suc (width b)) s (does (commandAt b (take (width b) t)) s))
+    stepIf-after StoreSound (firstLine beforeLines (record { byte = b; rest = t; room = room; store = s })) (stepOf (suc (width b)) s (does (commandAt b (take (width b) t)) s))
     (stepOf-sound (suc (width b)) s (does (commandAt b (take (width b) t)) s) S (does-sound (commandAt b (take (width b) t)) s (tape-fits b t h) S))
 
 -- the stores after the commands of a run are sound
-pub trail-sound-for : (fuel : ℕ) (t : List ℕ) (room : ℕ) (s : Store) → Bytes t → Sound s → Each Sound (trailFor fuel t room s)
+pub trail-sound-for : (fuel : ℕ) (t : List ℕ) (room : ℕ) (s : Store) → Bytes t → StoreSound s → EachStore StoreSound (trailFor fuel t room s)
 unfolding trailFor
 trail-sound-for zero t room s h S = tt
 trail-sound-for (suc fuel) [] room s h S = tt
 trail-sound-for (suc fuel) (b ∷ t) room s h S = go (step b t room s) (step-sound b t room s (h .1) S) (λ w r s′. trail-sound-for fuel (drop w (b ∷ t)) r s′ (bytes-drop w (b ∷ t) h))
   where
-    go : (p : Step) → After Sound p → ((w r : ℕ) (s′ : Store) → Sound s′ → Each Sound (trailFor fuel (drop w (b ∷ t)) r s′)) → Each Sound (elim p as (λ p. List Store) [ stops n ↦ [] | goes w a s′ ↦ s′ ∷ trailFor fuel (drop w (b ∷ t)) (room - length a) s′ ])
+    go : (p : Step) → After StoreSound p → ((w r : ℕ) (s′ : Store) → StoreSound s′ → EachStore StoreSound (trailFor fuel (drop w (b ∷ t)) r s′)) → EachStore StoreSound (elim p as (λ p. List Store) [ stops n ↦ [] | goes w a s′ ↦ s′ ∷ trailFor fuel (drop w (b ∷ t)) (room - length a) s′ ])
     go (stops n) k rec = tt
     go (goes w a s′) k rec = (k, rec w (room - length a) s′ k)
 
-pub run-sound-for : (fuel : ℕ) (t : List ℕ) (room : ℕ) (s : Store) → Bytes t → Sound s → Sound ((runFor fuel t room s) .store)
+pub run-sound-for : (fuel : ℕ) (t : List ℕ) (room : ℕ) (s : Store) → Bytes t → StoreSound s → StoreSound ((runFor fuel t room s) .store)
 unfolding runFor
 run-sound-for zero t room s h S = S
 run-sound-for (suc fuel) [] room s h S = S
 run-sound-for (suc fuel) (b ∷ t) room s h S = go (step b t room s) (step-sound b t room s (h .1) S) (λ w r s′. run-sound-for fuel (drop w (b ∷ t)) r s′ (bytes-drop w (b ∷ t) h))
   where
-    go : (p : Step) → After Sound p → ((w r : ℕ) (s′ : Store) → Sound s′ → Sound ((runFor fuel (drop w (b ∷ t)) r s′) .store)) → Sound ((elim p as (λ p. Ran) [ stops n ↦ halt n s | goes w a s′ ↦ more w a (runFor fuel (drop w (b ∷ t)) (room - length a) s′) ]) .store)
+    go : (p : Step) → After StoreSound p → ((w r : ℕ) (s′ : Store) → StoreSound s′ → StoreSound ((runFor fuel (drop w (b ∷ t)) r s′) .store)) → StoreSound ((elim p as (λ p. Ran) [ stops n ↦ halt n s | goes w a s′ ↦ more w a (runFor fuel (drop w (b ∷ t)) (room - length a) s′) ]) .store)
     go (stops n) k rec = S
     go (goes w a s′) k rec = rec w (room - length a) s′ k
 
 -- every run keeps a sound store sound
-pub run-keeps : (t : List ℕ) (room : ℕ) (s : Store) → Bytes t → Sound s → Sound ((run t room s) .store)
+pub run-keeps : (t : List ℕ) (room : ℕ) (s : Store) → Bytes t → StoreSound s → StoreSound ((run t room s) .store)
 unfolding run
 run-keeps t room s h S = run-sound-for (length t) t room s h S
 
 -- and so does each command of it
-pub trail-keeps : (t : List ℕ) (room : ℕ) (s : Store) → Bytes t → Sound s → Each Sound (trail t room s)
+pub trail-keeps : (t : List ℕ) (room : ℕ) (s : Store) → Bytes t → StoreSound s → EachStore StoreSound (trail t room s)
 unfolding trail
 trail-keeps t room s h S = trail-sound-for (length t) t room s h S
 
 -- from an empty store
-pub run-sound : (t : List ℕ) (room n k : ℕ) → Bytes t → Limits n k → Sound ((run t room (empty n k)) .store)
+pub run-sound : (t : List ℕ) (room n k : ℕ) → Bytes t → Limits n k → StoreSound ((run t room (empty n k)) .store)
 run-sound t room n k h l = run-keeps t room (empty n k) h (empty-sound n k l)
 
-pub trail-sound : (t : List ℕ) (room n k : ℕ) → Bytes t → Limits n k → Each Sound (trail t room (empty n k))
+pub trail-sound : (t : List ℕ) (room n k : ℕ) → Bytes t → Limits n k → EachStore StoreSound (trail t room (empty n k))
 trail-sound t room n k h l = trail-keeps t room (empty n k) h (empty-sound n k l)

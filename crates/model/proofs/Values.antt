@@ -4,7 +4,7 @@ use mathlib.Core.List.{List, [], _∷_, _++_, map}
 use Prim.Native.Nat.{ℕ, zero, suc, _-_}
 use native.Mathlib.Nat.{zero-add}
 use lib.ListN.{length, take, getD, set}
-use Rattle.model.specs.Model.{Entity, Row, SparseSet, Group, Family, Component, Storage, Walked, Stepped, noRow, mem, meets, setOf, at, held, allHeld, isGrouped, swapTo, insertRow, removeRow, onKinds, insertAll, kindOf, kindsOf, groupComponents, ungroupComponents, groupFamily, ungroupFamily, groupTouched, ungroup, groupAll, regroup, setLayout, insert, remove, clearAll}
+use Rattle.model.specs.Model.{Entity, Row, SparseSet, Group, Family, Component, Storage, Walked, GroupStep, noRow, mem, meets, setOf, at, held, allHeld, isGrouped, swapTo, insertRow, removeRow, onKinds, insertAll, kindOf, kindsOf, groupComponents, ungroupComponents, groupFamily, ungroupFamily, groupTouched, ungroup, groupAll, regroup, setLayout, insertComponents, remove, clearAll}
 use Rattle.model.proofs.SparseSets.{cond-case, setOf-mapOn}
 
 module _ {A : Type 0} (P : A → Type 0) (d : A) (pd : P d) where
@@ -68,11 +68,11 @@ module _ (q : ℕ → Type 0) (q0 : q 0) where
 
   groupComponents-ok : (e : Entity) (ks : List ℕ) (r : Group) (sets : List SparseSet) → ColsOk sets → ColsOk ((groupComponents e ks r sets) .sets)
   unfolding groupComponents
-  groupComponents-ok e ks r sets h = cond-case (λ (s : Stepped). ColsOk (s .sets)) (isGrouped e r sets) _ _ (λ t. h) (λ t. on-ok ks (swapTo e (r .count)) refl (swap-ok e (r .count)) sets h)
+  groupComponents-ok e ks r sets h = cond-case (λ (s : GroupStep). ColsOk (s .sets)) (isGrouped e r sets) _ _ (λ t. h) (λ t. on-ok ks (swapTo e (r .count)) refl (swap-ok e (r .count)) sets h)
 
   ungroupComponents-ok : (e : Entity) (ks : List ℕ) (r : Group) (sets : List SparseSet) → ColsOk sets → ColsOk ((ungroupComponents e ks r sets) .sets)
   unfolding ungroupComponents
-  ungroupComponents-ok e ks r sets h = cond-case (λ (s : Stepped). ColsOk (s .sets)) (isGrouped e r sets) _ _ (λ t. on-ok ks (swapTo e (r .count - 1)) refl (swap-ok e (r .count - 1)) sets h) (λ t. h)
+  ungroupComponents-ok e ks r sets h = cond-case (λ (s : GroupStep). ColsOk (s .sets)) (isGrouped e r sets) _ _ (λ t. on-ok ks (swapTo e (r .count - 1)) refl (swap-ok e (r .count - 1)) sets h) (λ t. h)
 
   groupFamily-ok : (e : Entity) (acc : List ℕ) (sets : List SparseSet) (rs : Family) → ColsOk sets → ColsOk ((groupFamily e acc sets rs) .sets)
   unfolding groupFamily
@@ -105,8 +105,8 @@ module _ (q : ℕ → Type 0) (q0 : q 0) where
   groupFamily-every-ok e sets [] h = h
   groupFamily-every-ok e sets (f ∷ fs) h = groupFamily-every-ok e ((groupFamily e [] sets f) .sets) fs (groupFamily-ok e [] sets f h)
 
-  pub insert-ok : (e : Entity) (staged : List Component) (p : Storage) → StagedOk staged → ColsOk (p .sets) → ColsOk ((insert e staged p) .sets)
-  unfolding insert
+  pub insert-ok : (e : Entity) (staged : List Component) (p : Storage) → StagedOk staged → ColsOk (p .sets) → ColsOk ((insertComponents e staged p) .sets)
+  unfolding insertComponents
   insert-ok e staged p hh h = groupFamily-all-ok e (map kindOf staged) (insertAll e staged (p .sets)) (p .layout) (put-all-ok e staged (p .sets) hh h)
 
   pub remove-ok : (e : Entity) (gone : List ℕ) (p : Storage) → ColsOk (p .sets) → ColsOk ((remove e gone p) .sets)

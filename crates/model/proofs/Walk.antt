@@ -9,7 +9,7 @@ use borrow.Author.Tests.{ltb-true, ltb-false, eqb-true, eq-eqb, lt-ltb}
 use lib.Dec.{eqb}
 use lib.ListN.{length, take, length-map}
 use Rattle.model.specs.Lists.{place-count, place-count-take, count-take-place, count-place}
-use Rattle.model.specs.Model.{Entity, SparseSet, Group, Family, Walked, Stepped, sameEntity, mem, all, setOf, entityOf, at, held, headKind, isGrouped, allHeld, swapTo, onKinds, groupComponents, groupFamily, kindsOf}
+use Rattle.model.specs.Model.{Entity, SparseSet, Group, Family, Walked, GroupStep, sameEntity, mem, allOf, setOf, entityOf, at, held, headKind, isGrouped, allHeld, swapTo, onKinds, groupComponents, groupFamily, kindsOf}
 use Rattle.model.proofs.SparseSets.{entity-eq, cond-case, key, key-swapped, key-kept, and-left, and-right}
 pub use mathlib.Core.Bool.{or-true}
 pub use Rattle.model.proofs.Groups.{bool-cases}
@@ -89,7 +89,7 @@ chain-low W c s t acc (r ∷ rs) b ch = (
 -- where the entity lacks a kind of g, the group is right for it too
 pub full-lacks : (key : ℕ → List Entity) (W : Entity → Type 0) (e : Entity) (k : ℕ) → cnt e (key k) ≡ 0 → (g : List ℕ) (c : ℕ) → In g k → ((x : Entity) → W x → Full key g c x) → (x : Entity) → Plus W e x → Full key g c x
 full-lacks key W e k z g c i f x =
-    ⊎-elim (λ w. f x w) (λ t all. absurd (omega (arith, z, subst (λ (y : Entity). 1 ≤ cnt y (key k)) (entity-eq x e t) (all k i))))
+    ⊎-elim (λ w. f x w) (λ t allOf. absurd (omega (arith, z, subst (λ (y : Entity). 1 ≤ cnt y (key k)) (entity-eq x e t) (allOf k i))))
 
 -- so is every group of the family above it
 chain-lacks : (key : ℕ → List Entity) (W : Entity → Type 0) (e : Entity) (k : ℕ) → cnt e (key k) ≡ 0 → (acc : List ℕ) (rs : Family) → In acc k → Chain key W acc rs → Chain key (Plus W e) acc rs
@@ -107,7 +107,7 @@ chain-lacks key W e k z acc (r ∷ rs) i ch = (
 -- ---- one group
 
 -- the group's step: what it leaves of the group, of the smaller groups, and of the first places of all sparse sets
-pub record Entered (W : Entity → Type 0) (e : Entity) (acc g : List ℕ) (r : Group) (sets : List SparseSet) (s : Stepped) : Type 0 where
+pub record Entered (W : Entity → Type 0) (e : Entity) (acc g : List ℕ) (r : Group) (sets : List SparseSet) (s : GroupStep) : Type 0 where
   pub same : SameEntities (key sets) (key (s .sets))
   pub kinds : s .group .newKinds ≡ r .newKinds
   pub grows : r .count ≤ s .group .count
@@ -119,23 +119,23 @@ pub record Entered (W : Entity → Type 0) (e : Entity) (acc g : List ℕ) (r : 
   pub other : (k : ℕ) → mem k g ≡ false → key (s .sets) k ≡ key sets k
   pub first : (m k : ℕ) → In g k → plc e (key sets k) < m → r .count ≤ m → s .group .count ≤ m
 
-pub all-in : (p : ℕ → Bool) (ks : List ℕ) → all p ks ≡ true → (k : ℕ) → In ks k → p k ≡ true
+pub all-in : (p : ℕ → Bool) (ks : List ℕ) → allOf p ks ≡ true → (k : ℕ) → In ks k → p k ≡ true
 all-in p [] t k i = cc
 all-in p (j ∷ ks) t k i =
     or-cases (eqb k j) (mem k ks) i
-    (λ u. rw (eqb-true k j u) (and-left (p j) (all p ks) t))
-    (λ u. all-in p ks (and-right (p j) (all p ks) t) k u)
+    (λ u. rw (eqb-true k j u) (and-left (p j) (allOf p ks) t))
+    (λ u. all-in p ks (and-right (p j) (allOf p ks) t) k u)
 
 pub record Missing (p : ℕ → Bool) (ks : List ℕ) : Type 0 where
   pub kind : ℕ
   pub isIn : In ks kind
   pub fails : p kind ≡ false
 
-pub all-missing : (p : ℕ → Bool) (ks : List ℕ) → all p ks ≡ false → Missing p ks
+pub all-missing : (p : ℕ → Bool) (ks : List ℕ) → allOf p ks ≡ false → Missing p ks
 all-missing p [] t = absurd (true≢false t)
 all-missing p (j ∷ ks) t = go (p j) refl t (all-missing p ks)
   where
-    go : (b : Bool) → p j ≡ b → (b && all p ks) ≡ false → (all p ks ≡ false → Missing p ks) → Missing p (j ∷ ks)
+    go : (b : Bool) → p j ≡ b → (b && allOf p ks) ≡ false → (allOf p ks ≡ false → Missing p ks) → Missing p (j ∷ ks)
     go true e u r = let m = r u in record { kind = m .kind; isIn = rw (m .isIn) (or-true (eqb (m .kind) j)); fails = m .fails }
     go false e u r = record { kind = j; isIn = rw (eq-eqb j j refl); fails = e }
 
@@ -174,7 +174,7 @@ module _ (W : Entity → Type 0) (e : Entity) (acc : List ℕ) (r : Group) (sets
         kinds = refl;
         grows = omega arith;
         even = v;
-        full = λ x. ⊎-elim (λ u. f x u) (λ u all. subst (λ (y : Entity). Inside (key sets) g c y) (sym (entity-eq x e u)) ins);
+        full = λ x. ⊎-elim (λ u. f x u) (λ u allOf. subst (λ (y : Entity). Inside (key sets) g c y) (sym (entity-eq x e u)) ins);
         within = ins;
         lower = λ h le k. refl;
         smaller = λ ks h sub w i. record { even = w; full = λ x y. y; within = i };
@@ -198,7 +198,7 @@ module _ (W : Entity → Type 0) (e : Entity) (acc : List ℕ) (r : Group) (sets
         kinds = refl;
         grows = omega arith;
         even = grown-even sw has room out v;
-        full = λ x. ⊎-elim (λ u. grown-full sw has room out x (f x u)) (λ u all. subst (λ (y : Entity). Inside new g (suc c) y) (sym (entity-eq x e u)) ins);
+        full = λ x. ⊎-elim (λ u. grown-full sw has room out x (f x u)) (λ u allOf. subst (λ (y : Entity). Inside new g (suc c) y) (sym (entity-eq x e u)) ins);
         within = ins;
         lower = λ h le. low sw has room h le (λ k i. omega (arith, out k i));
         smaller = λ ks h sub w i.
@@ -228,7 +228,7 @@ module _ (W : Entity → Type 0) (e : Entity) (acc : List ℕ) (sets : List Spar
   abbrev g′ : List ℕ
   g′ = acc ++ r .newKinds
 
-  abbrev s′ : Stepped
+  abbrev s′ : GroupStep
   s′ = groupComponents e g′ r sets
 
   -- one of the group's new kinds is missing: nothing moves, and no group from here on can hold the entity

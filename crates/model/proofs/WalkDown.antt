@@ -7,15 +7,15 @@ use native.Mathlib.Omega.{arith}
 use borrow.Author.Tests.{ltb-true, ltb-false}
 use lib.ListN.{length, take}
 use Rattle.model.specs.Lists.{place-count-take, count-take-place, count-take-le}
-use Rattle.model.specs.Model.{Entity, SparseSet, Group, Family, Walked, Stepped, sameEntity, mem, any, meets, headKind, isGrouped, swapTo, onKinds, ungroupComponents, ungroupFamily, kindsOf}
+use Rattle.model.specs.Model.{Entity, SparseSet, Group, Family, Walked, GroupStep, sameEntity, mem, anyOf, meets, headKind, isGrouped, swapTo, onKinds, ungroupComponents, ungroupFamily, kindsOf}
 use Rattle.model.proofs.SparseSets.{cond-case, key, key-swapped, key-kept}
 use Rattle.model.proofs.Groups.{cnt, plc, In, Even, Full, Inside, Swapped, SameEntities, even-kept, full-kept, same-entities, low, inner-even, inner-count, shrunk-even, shrunk-full, shrunk-out}
 use Rattle.model.proofs.Walk.{Below, Chain, Every, But, below-le, in-left, in-right, or-false, or-true, or-cases, mem-append}
 
-any-more : (p q : ℕ → Bool) → ((k : ℕ) → p k ≡ true → q k ≡ true) → (ks : List ℕ) → any p ks ≡ true → any q ks ≡ true
+any-more : (p q : ℕ → Bool) → ((k : ℕ) → p k ≡ true → q k ≡ true) → (ks : List ℕ) → anyOf p ks ≡ true → anyOf q ks ≡ true
 any-more p q f [] h = h
 any-more p q f (k ∷ ks) h =
-    or-cases (p k) (any p ks) h (λ t. rw (f k t)) (λ t. rw (any-more p q f ks t) (or-true (q k)))
+    or-cases (p k) (anyOf p ks) h (λ t. rw (f k t)) (λ t. rw (any-more p q f ks t) (or-true (q k)))
 
 -- what a walk leaves of a smaller group
 pub record Held (key new : ℕ → List Entity) (ks : List ℕ) (h : ℕ) : Type 0 where
@@ -72,7 +72,7 @@ module _ (e : Entity) (gone : List ℕ) where
   -- ---- one group
 
   -- the group's step, where it has a kind of gone
-  record Stepped′ (g : List ℕ) (r : Group) (sets : List SparseSet) (s : Stepped) : Type 0 where
+  record Stepped′ (g : List ℕ) (r : Group) (sets : List SparseSet) (s : GroupStep) : Type 0 where
     pub same : SameEntities (key sets) (key (s .sets))
     pub kinds : s .group .newKinds ≡ r .newKinds
     pub falls : s .group .count ≤ r .count
@@ -167,7 +167,7 @@ module _ (e : Entity) (gone : List ℕ) where
     abbrev w′ : Walked
     w′ = ungroupFamily e gone g′ sets rs
 
-    abbrev s′ : Stepped
+    abbrev s′ : GroupStep
     s′ = ungroupComponents e g′ r (w′ .sets)
 
     H : Held (key sets) (key (w′ .sets)) g′ (r .count)

@@ -4,8 +4,8 @@ use mathlib.Core.List.{List, [], _∷_, _++_}
 use Prim.Native.Nat.{ℕ, _+_, _*_}
 use lib.Dec.{leb}
 use lib.ListN.{length, take, drop, getD}
-use Rattle.model.specs.Model.{Entity, SparseSet, Storage, Range, none, found, noRow, setOf, at, held, insert, remove, clearAll, setLayout, range, addsNothing, withGroup, create, destroy}
-use Rattle.model.specs.Store.{Store, le, number, stagedKinds, isKind, withControl, withStorage, withAll, withKinds, emptyStaged, emptyBoth, withStaged, withExcluded, withDraft}
+use Rattle.model.specs.Model.{Entity, SparseSet, Storage, Range, none, found, noRow, setOf, at, held, insertComponents, remove, clearAll, setLayout, rangeFor, addsNothing, withGroup, create, destroy}
+use Rattle.model.specs.Store.{Store, bytesOf, number, stagedKinds, isKind, withControl, withStorage, withAll, withKinds, emptyStaged, emptyBoth, withStaged, withExcluded, withDraft}
 
 -- a command with its operands
 pub data Command : Type 0 where
@@ -44,8 +44,8 @@ commandAt b ops =
 -- TAKE: "for each in hand order 1 byte held, value 8 (zeros if not held)"
 abbrev pub takenBytes : Entity → SparseSet → List ℕ
 takenBytes e rows =
-    let yes′ : List ℕ = 1 ∷ le 8 (getD rows (at e rows) noRow .value) in
-    let no″ : List ℕ = 0 ∷ le 8 0 in
+    let yes′ : List ℕ = 1 ∷ bytesOf 8 (getD rows (at e rows) noRow .value) in
+    let no″ : List ℕ = 0 ∷ bytesOf 8 0 in
     cond (held e rows) yes′ no″
 
 abbrev pub heldBytes : Entity → List ℕ → Storage → List ℕ
@@ -54,8 +54,8 @@ heldBytes e (k ∷ ks) p = takenBytes e (setOf (p .sets) k) ++ heldBytes e ks p
 
 -- RANGE: "1 byte found, start 4, end 4 (zeros if none)"
 abbrev pub rangeBytes : Range → List ℕ
-rangeBytes none = 0 ∷ le 4 0 ++ le 4 0
-rangeBytes (found a b) = 1 ∷ le 4 a ++ le 4 b
+rangeBytes none = 0 ∷ bytesOf 4 0 ++ bytesOf 4 0
+rangeBytes (found a b) = 1 ∷ bytesOf 4 a ++ bytesOf 4 b
 
 -- how many bytes "the accepted answer .. takes", its 0 byte with them
 abbrev pub answerLength : Command → Store → ℕ
@@ -96,9 +96,9 @@ accepted (HOLD k v) s = done (withControl s (withStaged (s .control) (s .control
 -- "create with the hand; index 4, version 4"
 accepted NEW s =
     let c = create (s .entities) in
-    done (withAll s (c .entities) (insert (c .entity) (s .control .staged) (s .storage)) (emptyStaged (s .control))) (le 4 (c .entity .index) ++ le 4 (c .entity .version))
+    done (withAll s (c .entities) (insertComponents (c .entity) (s .control .staged) (s .storage)) (emptyStaged (s .control))) (bytesOf 4 (c .entity .index) ++ bytesOf 4 (c .entity .version))
 -- "insert the hand"
-accepted (PUT e) s = done (withStorage s (insert e (s .control .staged) (s .storage)) (emptyStaged (s .control))) []
+accepted (PUT e) s = done (withStorage s (insertComponents e (s .control .staged) (s .storage)) (emptyStaged (s .control))) []
 -- "remove the hand's kinds; for each in hand order 1 byte held, value 8 (zeros if not held)"
 accepted (TAKE e) s = done (withStorage s (remove e (stagedKinds s) (s .storage)) (emptyStaged (s .control))) (heldBytes e (stagedKinds s) (s .storage))
 -- "remove, no values"
@@ -118,8 +118,8 @@ accepted APPLY s = done (withStorage s (setLayout (s .entities .live) (s .contro
 -- "into the bar"
 accepted (BAR k) s = done (withControl s (withExcluded (s .control) (s .control .excluded ++ (k ∷ [])))) []
 -- "1 byte found, start 4, end 4 (zeros if none)"
-accepted RANGE s = done (withControl s (emptyBoth (s .control))) (rangeBytes (range (stagedKinds s) (s .control .excluded) (s .storage)))
+accepted RANGE s = done (withControl s (emptyBoth (s .control))) (rangeBytes (rangeFor (stagedKinds s) (s .control .excluded) (s .storage)))
 -- "empties hand and bar"
 accepted EMPTY s = done (withControl s (emptyBoth (s .control))) []
 -- "4 bytes"
-accepted TALLY s = done s (le 4 (s .control .refusals))
+accepted TALLY s = done s (bytesOf 4 (s .control .refusals))

@@ -5,11 +5,11 @@ use Prim.Native.Nat.{ℕ}
 use lib.ListN.{length, replicate}
 use Rattle.model.specs.Numbers.{MAX-KINDS}
 use Rattle.model.specs.Model.{Entity, Component, Storage, Group, Family, Entities, Created, Range, none, found, Added, nothing, added, refused}
-use Rattle.model.specs.Store.{empty, le}
+use Rattle.model.specs.Store.{empty, bytesOf}
 use Rattle.model.specs.Commands.{accepted}
 use Rattle.model.specs.Refusals.{linesOf}
 use Rattle.model.specs.Run.{Ran, run, runFor, step, does}
-use Rattle.model.specs.Model.{groupAll, clearAll, groupComponents, ungroupComponents, groupFamily, ungroupFamily, groupTouched, ungroup, insert, remove, range, addGroup, setLayout, regroup, create, destroy}
+use Rattle.model.specs.Model.{groupAll, clearAll, groupComponents, ungroupComponents, groupFamily, ungroupFamily, groupTouched, ungroup, insertComponents, remove, rangeFor, addGroup, setLayout, regroup, create, destroy}
 
 -- what the model gives, and what 01 says
 pub record Example : Type 0 where
@@ -64,9 +64,9 @@ unfolding create none-issued
 four = (create ((create ((create ((create none-issued) .entities)) .entities)) .entities)) .entities
 
 unfoldable pub filled : Storage
-unfolding bare draft staged entity setLayout regroup groupAll insert groupTouched groupFamily groupComponents
+unfolding bare draft staged entity setLayout regroup groupAll insertComponents groupTouched groupFamily groupComponents
 filled =
-    insert (entity 3 1) (staged (1 ∷ [])) (insert (entity 2 1) (staged (1 ∷ 2 ∷ [])) (insert (entity 1 1) (staged (1 ∷ 2 ∷ 3 ∷ 4 ∷ [])) (insert (entity 0 1) (staged (1 ∷ 2 ∷ 3 ∷ [])) (setLayout [] draft bare))))
+    insertComponents (entity 3 1) (staged (1 ∷ [])) (insertComponents (entity 2 1) (staged (1 ∷ 2 ∷ [])) (insertComponents (entity 1 1) (staged (1 ∷ 2 ∷ 3 ∷ 4 ∷ [])) (insertComponents (entity 0 1) (staged (1 ∷ 2 ∷ 3 ∷ [])) (setLayout [] draft bare))))
 
 -- "KILL card 1"
 unfoldable pub killed : Storage
@@ -75,8 +75,8 @@ killed = remove (entity 1 1) (1 ∷ 2 ∷ 3 ∷ 4 ∷ 5 ∷ 6 ∷ []) filled
 
 -- RANGE with a hand and a bar
 asks : List ℕ → List ℕ → List ℕ
-unfolding range filled
-asks h b = ofRange (range h b filled)
+unfolding rangeFor filled
+asks h b = ofRange (rangeFor h b filled)
 
 -- GROUP "In a draft with these groups"
 adds : List ℕ → List ℕ
@@ -129,7 +129,7 @@ sample = (1 ∷ 1 ∷ 1 ∷ 2 ∷ []) ++ hold0 1 ++ hold0 2 ++ (9 ∷ 10 ∷ [])
 
 -- "writes the answers, then stop 1, commands 4, read 4, written 4"
 abbrev pub written : Ran → List ℕ
-written r = r .bytes ++ (r .stop ∷ le 4 (r .commands) ++ le 4 (r .read) ++ le 4 (length (r .bytes)))
+written r = r .bytes ++ (r .stop ∷ bytesOf 4 (r .commands) ++ bytesOf 4 (r .read) ++ bytesOf 4 (length (r .bytes)))
 
 pub answer : List ℕ
 answer =
@@ -137,5 +137,5 @@ answer =
     ∷ 0 ∷ 14 ∷ 0 ∷ 0 ∷ 0 ∷ 79 ∷ 0 ∷ 0 ∷ 0 ∷ 42 ∷ 0 ∷ 0 ∷ 0 ∷ []
 
 pub stream-example : written (run sample 16384 (empty 64 8)) ≡ answer
-unfolding sample answer run runFor step does accepted linesOf empty insert groupTouched groupFamily groupComponents ungroupComponents remove ungroup ungroupFamily setLayout regroup groupAll range addGroup create destroy clearAll
+unfolding sample answer run runFor step does accepted linesOf empty insertComponents groupTouched groupFamily groupComponents ungroupComponents remove ungroup ungroupFamily setLayout regroup groupAll rangeFor addGroup create destroy clearAll
 stream-example = refl

@@ -55,6 +55,6 @@ unfoldable pub retired : List ℕ → ℕ → Store → ℕ
 retired t room s = retiredFor (length t) t room s
 
 -- of each store of a list, as of a trail
-abbrev pub Each : (Store → Type 0) → List Store → Type 0
-Each P [] = Unit {0}
-Each P (s ∷ ss) = P s × Each P ss
+abbrev pub EachStore : (Store → Type 0) → List Store → Type 0
+EachStore P [] = Unit {0}
+EachStore P (s ∷ ss) = P s × EachStore P ss

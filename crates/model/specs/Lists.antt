@@ -43,28 +43,28 @@ module _ {A : Type 0} where
 
 module _ {A : Type 0} (same : A → A → Bool) where
   -- how often x stands in the list
-  abbrev pub count : A → List A → ℕ
-  count x [] = 0
-  count x (y ∷ l) = one (same x y) + count x l
+  abbrev pub countOf : A → List A → ℕ
+  countOf x [] = 0
+  countOf x (y ∷ l) = one (same x y) + countOf x l
 
   -- the first place of x, or the length where it has none
   abbrev pub place : A → List A → ℕ
   place x [] = 0
   place x (y ∷ l) = after (same x y) (place x l)
 
-  pub count-append : (x : A) (s t : List A) → count x (s ++ t) ≡ count x s + count x t
+  pub count-append : (x : A) (s t : List A) → countOf x (s ++ t) ≡ countOf x s + countOf x t
   count-append x [] t = omega arith
   count-append x (y ∷ s) t = omega (arith, count-append x s t)
 
-  pub count-set : (x d a : A) (l : List A) (i : ℕ) → i < length l → count x (set l i a) + one (same x (getD l i d)) ≡ count x l + one (same x a)
+  pub count-set : (x d a : A) (l : List A) (i : ℕ) → i < length l → countOf x (set l i a) + one (same x (getD l i d)) ≡ countOf x l + one (same x a)
   count-set x d a [] i h = absurd (not-suc-le-zero h)
   count-set x d a (y ∷ l) zero h = omega arith
   count-set x d a (y ∷ l) (suc i) h = omega (arith, count-set x d a l i (le-of-suc-le-suc h))
 
-  pub count-swap : (x d : A) (i j : ℕ) (l : List A) → i < length l → j < length l → count x (swap d i j l) ≡ count x l
+  pub count-swap : (x d : A) (i j : ℕ) (l : List A) → i < length l → j < length l → countOf x (swap d i j l) ≡ countOf x l
   count-swap x d i j l hi hj = go (ℕ-discrete j i)
     where
-      go : Dec (j ≡ i) → count x (swap d i j l) ≡ count x l
+      go : Dec (j ≡ i) → countOf x (swap d i j l) ≡ countOf x l
       go (yes e) = rw e (simp set-getD)
       go (no e) =
           let h1 = count-set x d (getD l j d) l i hi in
@@ -90,37 +90,37 @@ module _ {A : Type 0} (same : A → A → Bool) where
       go false r = suc-le-suc r
 
   -- x is in l exactly where its place is below the length
-  pub count-place : (x : A) (l : List A) → 1 ≤ count x l → place x l < length l
+  pub count-place : (x : A) (l : List A) → 1 ≤ countOf x l → place x l < length l
   count-place x [] h = absurd (not-suc-le-zero h)
   count-place x (y ∷ l) h = go (same x y) (count-place x l) h
     where
-      go : (b : Bool) → (1 ≤ count x l → place x l < length l) → 1 ≤ one b + count x l → after b (place x l) < suc (length l)
+      go : (b : Bool) → (1 ≤ countOf x l → place x l < length l) → 1 ≤ one b + countOf x l → after b (place x l) < suc (length l)
       go true r h = suc-le-suc zero-le
       go false r h = suc-le-suc (r (omega arith))
 
-  pub place-count : (x : A) (l : List A) → place x l < length l → 1 ≤ count x l
+  pub place-count : (x : A) (l : List A) → place x l < length l → 1 ≤ countOf x l
   place-count x [] h = absurd (not-suc-le-zero h)
   place-count x (y ∷ l) h = go (same x y) (place-count x l) h
     where
-      go : (b : Bool) → (place x l < length l → 1 ≤ count x l) → after b (place x l) < suc (length l) → 1 ≤ one b + count x l
+      go : (b : Bool) → (place x l < length l → 1 ≤ countOf x l) → after b (place x l) < suc (length l) → 1 ≤ one b + countOf x l
       go true r h = omega arith
       go false r h = omega (arith, r (le-of-suc-le-suc h))
 
   -- x stands among the first n exactly where its place is below n
-  pub place-count-take : (x : A) (n : ℕ) (l : List A) → place x l < n → n ≤ length l → 1 ≤ count x (take n l)
+  pub place-count-take : (x : A) (n : ℕ) (l : List A) → place x l < n → n ≤ length l → 1 ≤ countOf x (take n l)
   place-count-take x n l h hn = place-count x (take n l) (rw (place-take x n l h, length-take-le n l hn) h)
 
-  pub count-take-place : (x : A) (n : ℕ) (l : List A) → 1 ≤ count x (take n l) → place x l < n
+  pub count-take-place : (x : A) (n : ℕ) (l : List A) → 1 ≤ countOf x (take n l) → place x l < n
   count-take-place x zero l h = absurd (not-suc-le-zero h)
   count-take-place x (suc n) [] h = absurd (not-suc-le-zero h)
   count-take-place x (suc n) (y ∷ l) h = go (same x y) (count-take-place x n l) h
     where
-      go : (b : Bool) → (1 ≤ count x (take n l) → place x l < n) → 1 ≤ one b + count x (take n l) → after b (place x l) < suc n
+      go : (b : Bool) → (1 ≤ countOf x (take n l) → place x l < n) → 1 ≤ one b + countOf x (take n l) → after b (place x l) < suc n
       go true r h = suc-le-suc zero-le
       go false r h = suc-le-suc (r (omega arith))
 
-  pub count-take-le : (x : A) (n : ℕ) (l : List A) → count x (take n l) ≤ count x l
-  count-take-le x n l = omega (arith, count-append x (take n l) (drop n l), ap (count x) (take-append-drop n l))
+  pub count-take-le : (x : A) (n : ℕ) (l : List A) → countOf x (take n l) ≤ countOf x l
+  count-take-le x n l = omega (arith, count-append x (take n l) (drop n l), ap (countOf x) (take-append-drop n l))
 
   pub getD-place : ((x y : A) → same x y ≡ true → x ≡ y) → (x d : A) (l : List A) → place x l < length l → getD l (place x l) d ≡ x
   getD-place sound x d [] h = absurd (not-suc-le-zero h)
@@ -137,30 +137,30 @@ module _ {A : Type 0} (same : A → A → Bool) (sound : (x y : A) → same x y 
   less x [] = []
   less x (y ∷ l) = cond (same x y) l (y ∷ less x l)
 
-  length-less : (x : A) (l : List A) → 1 ≤ count same x l → length l ≡ suc (length (less x l))
+  length-less : (x : A) (l : List A) → 1 ≤ countOf same x l → length l ≡ suc (length (less x l))
   length-less x [] h = absurd (not-suc-le-zero h)
   length-less x (y ∷ l) h = go (same x y) (length-less x l) h
     where
-      go : (b : Bool) → (1 ≤ count same x l → length l ≡ suc (length (less x l))) → 1 ≤ one b + count same x l → suc (length l) ≡ suc (length (cond b l (y ∷ less x l)))
+      go : (b : Bool) → (1 ≤ countOf same x l → length l ≡ suc (length (less x l))) → 1 ≤ one b + countOf same x l → suc (length l) ≡ suc (length (cond b l (y ∷ less x l)))
       go true r h = refl
       go false r h = ap suc (r (omega arith))
 
-  count-less : (z x : A) (l : List A) → 1 ≤ count same x l → count same z (less x l) + one (same z x) ≡ count same z l
+  count-less : (z x : A) (l : List A) → 1 ≤ countOf same x l → countOf same z (less x l) + one (same z x) ≡ countOf same z l
   count-less z x [] h = absurd (not-suc-le-zero h)
   count-less z x (y ∷ l) h = go (same x y) refl (count-less z x l) h
     where
-      go : (b : Bool) → same x y ≡ b → (1 ≤ count same x l → count same z (less x l) + one (same z x) ≡ count same z l) → 1 ≤ one b + count same x l → count same z (cond b l (y ∷ less x l)) + one (same z x) ≡ one (same z y) + count same z l
+      go : (b : Bool) → same x y ≡ b → (1 ≤ countOf same x l → countOf same z (less x l) + one (same z x) ≡ countOf same z l) → 1 ≤ one b + countOf same x l → countOf same z (cond b l (y ∷ less x l)) + one (same z x) ≡ one (same z y) + countOf same z l
       go true e r h = rw (sound x y e) (omega arith)
       go false e r h = omega (arith, r (omega arith))
 
-  pub count-length-le : (l m : List A) → ((z : A) → count same z l ≤ count same z m) → length l ≤ length m
+  pub count-length-le : (l m : List A) → ((z : A) → countOf same z l ≤ countOf same z m) → length l ≤ length m
   count-length-le [] m h = zero-le
   count-length-le (x ∷ l) m h =
-      let has : 1 ≤ count same x m = omega (arith, h x, ap one (self x)) in
+      let has : 1 ≤ countOf same x m = omega (arith, h x, ap one (self x)) in
       let r = count-length-le l (less x m) (λ z. omega (arith, h z, count-less z x m has)) in
       omega (arith, length-less x m has)
 
-  pub count-length : (l m : List A) → ((z : A) → count same z l ≡ count same z m) → length l ≡ length m
+  pub count-length : (l m : List A) → ((z : A) → countOf same z l ≡ countOf same z m) → length l ≡ length m
   count-length l m h = omega (arith, count-length-le l m (λ z. omega (arith, h z)), count-length-le m l (λ z. omega (arith, h z)))
 
 -- ---- the element at p goes, and the last takes its place
@@ -168,14 +168,14 @@ module _ {A : Type 0} (same : A → A → Bool) (sound : (x y : A) → same x y 
 abbrev pub cutAt : {A : Type 0} → A → ℕ → List A → List A
 cutAt d p l = take (length l - 1) (set l p (getD l (length l - 1) d))
 
-pub count-cutAt : {A : Type 0} (same : A → A → Bool) (d : A) (p : ℕ) (l : List A) → p < length l → (x : A) → count same x (cutAt d p l) + one (same x (getD l p d)) ≡ count same x l
+pub count-cutAt : {A : Type 0} (same : A → A → Bool) (d : A) (p : ℕ) (l : List A) → p < length l → (x : A) → countOf same x (cutAt d p l) + one (same x (getD l p d)) ≡ countOf same x l
 count-cutAt {A} same d p l h x =
     let n : length L ≡ length l = length-swap d p q l in
     let m : q < length (set l p (getD l q d)) = lt-length-set l p (getD l q d) (omega arith) in
     let g : getD L q d ≡ getD l p d = getD-set-same (set l p (getD l q d)) q (getD l p d) d m in
     let c : take q L ≡ cutAt d p l = take-set-le q (set l p (getD l q d)) q (getD l p d) (omega arith) in
     let e : L ≡ cutAt d p l ++ (getD l p d ∷ []) = sym (take-all (suc q) L (omega arith)) ∙ take-suc L q d (omega arith) ∙ ap₂ (λ (a : List A) (y : A). a ++ (y ∷ [])) c g in
-    omega (arith, ap (count same x) e, count-append same x (cutAt d p l) (getD l p d ∷ []), count-swap same x d p q l h (omega arith))
+    omega (arith, ap (countOf same x) e, count-append same x (cutAt d p l) (getD l p d ∷ []), count-swap same x d p q l h (omega arith))
   where
     q : ℕ
     q = length l - 1

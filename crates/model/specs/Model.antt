@@ -58,22 +58,22 @@ mem k [] = false
 mem k (j ∷ ks) = eqb k j || mem k ks
 
 -- p holds of each kind of the list
-abbrev pub all : (ℕ → Bool) → List ℕ → Bool
-all p [] = true
-all p (k ∷ ks) = p k && all p ks
+abbrev pub allOf : (ℕ → Bool) → List ℕ → Bool
+allOf p [] = true
+allOf p (k ∷ ks) = p k && allOf p ks
 
 -- p holds of a kind of the list
-abbrev pub any : (ℕ → Bool) → List ℕ → Bool
-any p [] = false
-any p (k ∷ ks) = p k || any p ks
+abbrev pub anyOf : (ℕ → Bool) → List ℕ → Bool
+anyOf p [] = false
+anyOf p (k ∷ ks) = p k || anyOf p ks
 
 -- ks has no kind that js lacks
 abbrev pub within : List ℕ → List ℕ → Bool
-within ks js = all (λ k. mem k js) ks
+within ks js = allOf (λ k. mem k js) ks
 
 -- ks and js have a kind in common
 abbrev pub meets : List ℕ → List ℕ → Bool
-meets ks js = any (λ k. mem k js) ks
+meets ks js = anyOf (λ k. mem k js) ks
 
 -- ks and js have the same kinds
 abbrev pub sameSet : List ℕ → List ℕ → Bool
@@ -139,7 +139,7 @@ pub record Walked : Type 0 where
   pub groups : Family
 
 -- one group after its step, and the sparse sets
-pub record Stepped : Type 0 where
+pub record GroupStep : Type 0 where
   pub sets : List SparseSet
   pub group : Group
 
@@ -154,20 +154,20 @@ isGrouped e r sets = ltb (at e (setOf sets (headKind (r .newKinds)))) (r .count)
 
 -- the entity holds every kind of ks; where it does not, a kind is "missing"
 abbrev pub allHeld : Entity → List ℕ → List SparseSet → Bool
-allHeld e ks sets = all (λ k. held e (setOf sets k)) ks
+allHeld e ks sets = allOf (λ k. held e (setOf sets k)) ks
 
 -- "a card not yet inside is swapped to the place equal to the count, in every column of the group, and the count grows"; ks are the group's kinds
-unfoldable pub groupComponents : Entity → List ℕ → Group → List SparseSet → Stepped
+unfoldable pub groupComponents : Entity → List ℕ → Group → List SparseSet → GroupStep
 groupComponents e ks r sets =
-    let same : Stepped = record { sets = sets; group = r } in
-    let moved : Stepped = record { sets = onKinds ks (swapTo e (r .count)) sets; group = record { newKinds = r .newKinds; count = suc (r .count) } } in
+    let same : GroupStep = record { sets = sets; group = r } in
+    let moved : GroupStep = record { sets = onKinds ks (swapTo e (r .count)) sets; group = record { newKinds = r .newKinds; count = suc (r .count) } } in
     cond (isGrouped e r sets) same moved
 
 -- "a card inside is swapped to the last counted place and the count falls"; ks are the group's kinds
-unfoldable pub ungroupComponents : Entity → List ℕ → Group → List SparseSet → Stepped
+unfoldable pub ungroupComponents : Entity → List ℕ → Group → List SparseSet → GroupStep
 ungroupComponents e ks r sets =
-    let same : Stepped = record { sets = sets; group = r } in
-    let moved : Stepped = record { sets = onKinds ks (swapTo e (r .count - 1)) sets; group = record { newKinds = r .newKinds; count = r .count - 1 } } in
+    let same : GroupStep = record { sets = sets; group = r } in
+    let moved : GroupStep = record { sets = onKinds ks (swapTo e (r .count - 1)) sets; group = record { newKinds = r .newKinds; count = r .count - 1 } } in
     cond (isGrouped e r sets) moved same
 
 -- Insertion: "the touched families' groups are walked upward. At the first group with a ring kind missing, the rest of that family is skipped."
@@ -233,8 +233,8 @@ abbrev pub kindOf : Component → ℕ
 kindOf p = p .kind
 
 -- "Insertion: all parts go in, then the touched families' groups are walked upward."
-unfoldable pub insert : Entity → List Component → Storage → Storage
-insert e staged s = groupTouched e (map kindOf staged) (insertAll e staged (s .sets)) (s .layout)
+unfoldable pub insertComponents : Entity → List Component → Storage → Storage
+insertComponents e staged s = groupTouched e (map kindOf staged) (insertAll e staged (s .sets)) (s .layout)
 
 -- "Removal: before any part goes, the groups .. are walked downward", then the parts of the kinds of gone go
 unfoldable pub remove : Entity → List ℕ → Storage → Storage
@@ -275,9 +275,9 @@ pub data Range : Type 0 where
   found : ℕ → ℕ → Range
 
 -- the first range found
-abbrev pub orElse : Range → Range → Range
-orElse none q = q
-orElse (found a b) q = found a b
+abbrev pub firstRange : Range → Range → Range
+firstRange none q = q
+firstRange (found a b) q = found a b
 
 -- at the group that the hand is equal to, with count n and the larger groups rs: "a hand equal to a group gives 0 to its count"; "Bar not empty: a hand
 -- equal to a group and a bar equal to the next larger group's ring give the larger's count to the hand's."
@@ -297,15 +297,15 @@ rangeIn staged excluded acc (r ∷ rs) =
 -- and in all families; "None otherwise."
 abbrev pub rangeAll : List ℕ → List ℕ → List Family → Range
 rangeAll staged excluded [] = none
-rangeAll staged excluded (f ∷ fs) = orElse (rangeIn staged excluded [] f) (rangeAll staged excluded fs)
+rangeAll staged excluded (f ∷ fs) = firstRange (rangeIn staged excluded [] f) (rangeAll staged excluded fs)
 
 -- "bar empty: a hand of one kind"
 abbrev pub single : List ℕ → List ℕ → Bool
 single staged excluded = eqb (length staged) 1 && eqb (length excluded) 0
 
 -- "RANGE, bar empty: a hand of one kind gives 0 to that column's length"; else by the groups
-unfoldable pub range : List ℕ → List ℕ → Storage → Range
-range staged excluded s =
+unfoldable pub rangeFor : List ℕ → List ℕ → Storage → Range
+rangeFor staged excluded s =
     let one = found 0 (length (setOf (s .sets) (headKind staged))) in
     let many = rangeAll staged excluded (s .layout) in
     cond (single staged excluded) one many

@@ -51,12 +51,12 @@ numberOf (some n) = n
 -- ---- start
 
 -- what start is told: N, K, and how many words are lent
-pub record Lent : Type 0 where
+pub record StartTold : Type 0 where
   pub capacity : ℕ
   pub kindCapacity : ℕ
   pub words : ℕ
 
-abbrev pub startLines : List (Line Lent)
+abbrev pub startLines : List (Line StartTold)
 startLines =
     -- "N not 1 to 4,096 or K not 1 to 128"
     line SIZE (λ l. (eqb (l .capacity) 0 || ltb MAX-ENTITIES (l .capacity)) || (eqb (l .kindCapacity) 0 || ltb MAX-KINDS (l .kindCapacity)))
@@ -75,17 +75,17 @@ otherLines =
 -- ---- run, before a command
 
 -- the tape from the command's byte on, the free answer bytes, and the store
-pub record Ready : Type 0 where
+pub record BeforeCommand : Type 0 where
   pub byte : ℕ
   pub rest : List ℕ
   pub room : ℕ
   pub store : Store
 
 -- the command that is to be done
-abbrev pub commandOf : Ready → Command
+abbrev pub commandOf : BeforeCommand → Command
 commandOf r = commandAt (r .byte) (take (width (r .byte)) (r .rest))
 
-abbrev pub beforeLines : List (Line Ready)
+abbrev pub beforeLines : List (Line BeforeCommand)
 beforeLines =
     -- "byte not 01 to 0E"
     line UNKNOWN (λ r. not (isCommand (r .byte)))

@@ -3,11 +3,11 @@ use mathlib.Core.Option.{Option, some, none}
 use mathlib.Core.List.{List, [], _∷_, _++_}
 use Prim.Native.Nat.{ℕ, zero, suc, _+_, _-_}
 use lib.ListN.{length, drop}
-pub use Rattle.model.specs.Store.{le, number, Control, Store, stagedKinds, isKind, withControl, withStorage, withAll, withKinds, emptyStaged, emptyBoth, withStaged, withExcluded, withDraft, counted}
+pub use Rattle.model.specs.Store.{bytesOf, number, Control, Store, stagedKinds, isKind, withControl, withStorage, withAll, withKinds, emptyStaged, emptyBoth, withStaged, withExcluded, withDraft, counted}
 unfoldable pub use Rattle.model.specs.Store.{empty}
 pub use Rattle.model.specs.Commands.{Command, REG, HOLD, NEW, PUT, TAKE, DROP, KILL, WIPE, GROUP, APPLY, BAR, RANGE, EMPTY, TALLY, takenBytes, heldBytes, rangeBytes, widths, isCommand, entityOfBytes, commandAt, answerLength}
 use Rattle.model.specs.Commands.{Done, accepted, width}
-use Rattle.model.specs.Refusals.{firstLine, linesOf, Ready, commandOf, beforeLines}
+use Rattle.model.specs.Refusals.{firstLine, linesOf, BeforeCommand, commandOf, beforeLines}
 
 -- what a command does: it is refused by a number, or accepted with the store after it and the answer after the 0 byte
 pub data Outcome : Type 0 where
@@ -51,7 +51,7 @@ stepIf none p = p
 -- the command of byte b, with the tape t after it
 unfoldable pub step : ℕ → List ℕ → ℕ → Store → Step
 step b t room s =
-    let r : Ready = record { byte = b; rest = t; room = room; store = s } in
+    let r : BeforeCommand = record { byte = b; rest = t; room = room; store = s } in
     stepIf (firstLine beforeLines r) (stepOf (suc (width b)) s (does (commandOf r) s))
 
 -- ---- a run

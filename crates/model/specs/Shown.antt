@@ -38,7 +38,7 @@ pub record EqualGroup (h : List ℕ) (fs : List Family) : Type 0 where
   pub equal : sameSet h (kindsOf (take (suc group) (getD fs family []))) ≡ true
 
 -- "a bar equal to the next larger group's ring"
-pub record EqualRing (b : List ℕ) (f : Family) (group : ℕ) : Type 0 where
+pub record EqualNewKinds (b : List ℕ) (f : Family) (group : ℕ) : Type 0 where
   pub there : suc group < length f
   pub equal : sameSet b (getD f (suc group) (newGroup []) .newKinds) ≡ true
 
@@ -49,4 +49,4 @@ pub data Shows (h b : List ℕ) (fs : List Family) : Type 0 where
   -- "a hand equal to a group"
   aGroup : length b ≡ 0 → EqualGroup h fs → Shows h b fs
   -- "Bar not empty: a hand equal to a group and a bar equal to the next larger group's ring"
-  twoGroups : 1 ≤ length b → (g : EqualGroup h fs) → EqualRing b (getD fs (g .family) []) (g .group) → Shows h b fs
+  twoGroups : 1 ≤ length b → (g : EqualGroup h fs) → EqualNewKinds b (getD fs (g .family) []) (g .group) → Shows h b fs

@@ -7,9 +7,9 @@ use mathlib.Core.List.{List, [], _∷_, _++_}
 use Prim.Native.Nat.{ℕ, zero, suc, _≤_}
 use lib.Dec.{eqb}
 use lib.ListN.{length, getD}
-use Rattle.model.specs.Lists.{count}
+use Rattle.model.specs.Lists.{countOf}
 use Rattle.model.specs.Model.{Entity, SparseSet, Component, sameEntity, noRow, at, held, setOf}
-use Rattle.model.specs.Store.{Store, le}
+use Rattle.model.specs.Store.{Store, bytesOf}
 
 -- a live entity with its components, by rising kind
 pub record Entry : Type 0 where
@@ -31,9 +31,9 @@ componentsOf e k [] = []
 componentsOf e k (c ∷ cs) = addComponent (valueAt e c) k (componentsOf e (suc k) cs)
 
 -- the version of the live entity with index i, 0 where there is none
-abbrev pub versionAt : ℕ → List Entity → ℕ
-versionAt i [] = 0
-versionAt i (e ∷ es) = cond (eqb i (e .index)) (e .version) (versionAt i es)
+abbrev pub liveVersion : ℕ → List Entity → ℕ
+liveVersion i [] = 0
+liveVersion i (e ∷ es) = cond (eqb i (e .index)) (e .version) (liveVersion i es)
 
 -- an entry for the entity with index i and this version, none at version 0
 abbrev pub entryOf : ℕ → ℕ → List SparseSet → List Entry
@@ -43,16 +43,16 @@ entryOf (suc v) i sets = record { entity = record { index = i; version = suc v }
 -- "each live card by rising index": those with n indexes from i on
 abbrev pub entries : ℕ → ℕ → List Entity → List SparseSet → List Entry
 entries i zero live sets = []
-entries i (suc n) live sets = entryOf (versionAt i live) i sets ++ entries (suc i) n live sets
+entries i (suc n) live sets = entryOf (liveVersion i live) i sets ++ entries (suc i) n live sets
 
 -- "kind 1, value 8"
 abbrev pub componentBytes : List Component → List ℕ
 componentBytes [] = []
-componentBytes (p ∷ ps) = p .kind ∷ le 8 (p .value) ++ componentBytes ps
+componentBytes (p ∷ ps) = p .kind ∷ bytesOf 8 (p .value) ++ componentBytes ps
 
 -- "index 4, version 4, part count 1, then each part"
 abbrev pub entryBytes : Entry → List ℕ
-entryBytes t = le 4 (t .entity .index) ++ (le 4 (t .entity .version) ++ (length (t .components) ∷ componentBytes (t .components)))
+entryBytes t = bytesOf 4 (t .entity .index) ++ (bytesOf 4 (t .entity .version) ++ (length (t .components) ∷ componentBytes (t .components)))
 
 -- the bytes of all entries
 abbrev pub flat : List Entry → List ℕ
@@ -65,11 +65,11 @@ listing s = entries 0 (s .entities .issued) (s .entities .live) (s .storage .set
 
 -- "live count 4, then each live card"
 unfoldable pub snapshot : Store → List ℕ
-snapshot s = le 4 (length (s .entities .live)) ++ flat (listing s)
+snapshot s = bytesOf 4 (length (s .entities .live)) ++ flat (listing s)
 
 -- ---- what two equal snapshots say
 
 -- the same entities are live, and each has the same value, or none, at each kind
 pub record Same (s t : Store) : Type 0 where
-  pub live : (x : Entity) → count sameEntity x (s .entities .live) ≡ count sameEntity x (t .entities .live)
-  pub values : (x : Entity) → 1 ≤ count sameEntity x (s .entities .live) → (k : ℕ) → valueAt x (setOf (s .storage .sets) k) ≡ valueAt x (setOf (t .storage .sets) k)
+  pub live : (x : Entity) → countOf sameEntity x (s .entities .live) ≡ countOf sameEntity x (t .entities .live)
+  pub values : (x : Entity) → 1 ≤ countOf sameEntity x (s .entities .live) → (k : ℕ) → valueAt x (setOf (s .storage .sets) k) ≡ valueAt x (setOf (t .storage .sets) k)

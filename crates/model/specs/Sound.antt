@@ -7,7 +7,7 @@ use Prim.Native.Nat.{ℕ, _+_, _^_, _≤_, _<_}
 use lib.Dec.{eqb}
 use lib.ListN.{length, take, drop, getD}
 use Rattle.model.specs.Numbers.{LIST-CAPACITY, MAX-ENTITIES, MAX-GROUP-ARITY, MAX-GROUP-COUNT, MAX-KINDS, MAX-REFUSALS}
-use Rattle.model.specs.Lists.{count}
+use Rattle.model.specs.Lists.{countOf}
 use Rattle.model.specs.Model.{Entity, Entities, SparseSet, Component, Family, sameEntity, noRow, mem, setOf, keys, kindOf, kindsOf, groupsOf, allHeld, lastVersion}
 use Rattle.model.specs.Store.{Store}
 
@@ -15,15 +15,15 @@ use Rattle.model.specs.Store.{Store}
 
 -- how often the entity stands in the list: 1 or more where it is in it, at most 1 where it is there once
 abbrev pub cnt : Entity → List Entity → ℕ
-cnt x l = count sameEntity x l
+cnt x l = countOf sameEntity x l
 
 -- an entity's index
-abbrev pub idxOf : Entity → ℕ
-idxOf e = e .index
+abbrev pub indexOf : Entity → ℕ
+indexOf e = e .index
 
 -- how many entities of the list have index i
 abbrev pub num : ℕ → List Entity → ℕ
-num i l = count eqb i (map idxOf l)
+num i l = countOf eqb i (map indexOf l)
 
 -- the kind is in the list
 abbrev pub In : List ℕ → ℕ → Type 0
@@ -31,7 +31,7 @@ In ks k = mem k ks ≡ true
 
 -- no kind stands twice in the list
 abbrev pub Distinct : List ℕ → Type 0
-Distinct ks = (k : ℕ) → count eqb k ks ≤ 1
+Distinct ks = (k : ℕ) → countOf eqb k ks ≤ 1
 
 -- the entities of kind k's sparse set, in order
 abbrev pub key : List SparseSet → ℕ → List Entity
@@ -162,7 +162,7 @@ AllRight sets live (f ∷ fs) = RightFrom sets live [] f × AllRight sets live f
 -- ---- the store
 
 -- "A sound store", but for the three clauses of words
-pub record Sound (s : Store) : Type 0 where
+pub record StoreSound (s : Store) : Type 0 where
   pub limits : Limits (s .capacity) (s .kindCapacity)
   pub kinds : KindsSound (s .kindCapacity) (s .kinds)
   pub entities : EntitiesSound (s .capacity) (s .entities)

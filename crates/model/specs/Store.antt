@@ -10,9 +10,9 @@ use Rattle.model.specs.Model.{Family, Component, Storage, Entities, noEn
 -- ---- bytes: "numbers in bytes are little-endian"
 
 -- the n bytes of x, lowest first
-abbrev pub le : ℕ → ℕ → List ℕ
-le zero x = []
-le (suc n) x = x % 256 ∷ le n (x / 256)
+abbrev pub bytesOf : ℕ → ℕ → List ℕ
+bytesOf zero x = []
+bytesOf (suc n) x = x % 256 ∷ bytesOf n (x / 256)
 
 -- the number that the bytes are, lowest first
 abbrev pub number : List ℕ → ℕ

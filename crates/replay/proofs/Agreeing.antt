@@ -26,8 +26,8 @@ use Rattle.store.specs.Entries.{startNumber, Starts, StartLeaves, ColumnNumbere
 use Rattle.store.proofs.Starting.{start-number}
 use Rattle.replay.specs.declared.recorded.Step.{Step}
 use Rattle.replay.specs.declared.Tally.{Tally}
-use Rattle.replay.specs.Recorded.{short, tapeAt, numbersAt, SameRun, runAt, RunAgrees, RunsAgree, noRuns, moreRuns, RollAgrees, SameWords, SameColumn, ColumnAgrees, ColumnsAgree, noColumns, moreColumns, CaseAgrees, CasesAgree, noCases, moreCases}
-use Rattle.replay.specs.Agreement.{GaveSame, Compared, RolledSame, Stepped, CaseStepped, Counted, Replayed}
+use Rattle.replay.specs.Recorded.{short, tapeAt, numbersAt, RunRecorded, runAt, RunAgrees, RunsAgree, noRuns, moreRuns, RollAgrees, SameWords, SameColumn, ColumnAgrees, ColumnsAgree, noColumns, moreColumns, CaseAgrees, CasesAgree, noCases, moreCases}
+use Rattle.replay.specs.Agreement.{GaveSame, Compared, RolledSame, StepAgrees, CaseStepped, Counted, Replayed}
 use Rattle.replay.proofs.Comparing.{part-size}
 
 -- what is decided of what holds is true
@@ -45,7 +45,7 @@ cut-compared f at q o r e =
       end = λ a. absurd (false≢true (sym (ap (λ (s : Step). s .agrees) e) ∙ a));
     }
 
-pub cut-stepped : (f w w′ : List ℕ) (r : Step) (P : ℕ → Type 0) → r ≡ record { at = length f; agrees = false } → Stepped f w w′ r P
+pub cut-stepped : (f w w′ : List ℕ) (r : Step) (P : ℕ → Type 0) → r ≡ record { at = length f; agrees = false } → StepAgrees f w w′ r P
 cut-stepped f w w′ r P e =
     record {
       within = let h : r .at ≡ length f = ap (λ (s : Step). s .at) e in omega arith;
@@ -90,7 +90,7 @@ module _ (f w w′ o o₁ : List ℕ) (at n m : ℕ) (q : Ran) (r : Step) (tape 
       let k : length (take m o) ≡ short f (at + 2) = length-take-le m o lent ∙ room in
       rw (← t, ← k) (rw (holds (h .sound) (h .decides) S) at (h .means))
 
-  same-run : (x : model.Ran) (e : ℕ) → Answered (take m o) o₁ q x → GaveSame f e q (o₁ ++ drop m o) → SameRun f e x
+  same-run : (x : model.Ran) (e : ℕ) → Answered (take m o) o₁ q x → GaveSame f e q (o₁ ++ drop m o) → RunRecorded f e x
   same-run x e a g =
       record {
         stop = sym (a .stop) ∙ g .stop;
@@ -101,7 +101,7 @@ module _ (f w w′ o o₁ : List ℕ) (at n m : ℕ) (q : Ran) (r : Step) (tape 
       }
 
   pub run-agrees : Runs w w′ (take (at + 4 + n - (at + 4)) (drop (at + 4) f)) (take m o) o₁ q → Compared f (at + 4 + n) q (o₁ ++ drop m o) r
-      → Stepped f w w′ r (λ e. RunAgrees f at (meaning w) e (meaning w′))
+      → StepAgrees f w w′ r (λ e. RunAgrees f at (meaning w) e (meaning w′))
   run-agrees h c =
       let e : at + 4 + n ≡ numbersAt f at = ap (λ (k : ℕ). at + 4 + k) tape in
       record {
@@ -109,7 +109,7 @@ module _ (f w w′ o o₁ : List ℕ) (at n m : ℕ) (q : Ran) (r : Step) (tape 
         agreed = λ a S. (
           left S h,
           record {
-            same = subst (λ (k : ℕ). SameRun f k (runAt f at (meaning w))) e (same-run (runAt f at (meaning w)) (at + 4 + n) (answered S h) (c .same a));
+            same = subst (λ (k : ℕ). RunRecorded f k (runAt f at (meaning w))) e (same-run (runAt f at (meaning w)) (at + 4 + n) (answered S h) (c .same a));
             store = stored S h;
             end = c .end a ∙ ap (λ (k : ℕ). k + 7 + short f (k + 5)) e;
           },
@@ -141,7 +141,7 @@ rolled-bytes w o o₁ q S h z =
     ap (take (q .written)) b ∙ take-at (snapshot (meaning w)) (drop (length (snapshot (meaning w))) o) (q .written) (sym n)
 
 pub roll-agrees : (f w o o₁ : List ℕ) (at n : ℕ) (q : Rolled) (b : Bool) → n ≡ short f at → at + 2 + n ≤ length f → Rolls w o o₁ q
-    → Decides b (RolledSame (take (at + 2 + n - (at + 2)) (drop (at + 2) f)) q o₁) → Stepped f w w (record { at = at + 2 + n; agrees = b }) (λ e. RollAgrees f at (meaning w) e)
+    → Decides b (RolledSame (take (at + 2 + n - (at + 2)) (drop (at + 2) f)) q o₁) → StepAgrees f w w (record { at = at + 2 + n; agrees = b }) (λ e. RollAgrees f at (meaning w) e)
 roll-agrees f w o o₁ at n q b size fits h d =
     record {
       within = fits;
@@ -168,7 +168,7 @@ same-column v r k n p q values b S h p0 l q16 c s =
 pub column-agrees : (f w : List ℕ) (at n : ℕ) (a b : Bool) → n ≡ short f (at + 1) → at + 3 + 8 * n + 8 * n ≤ length f
     → (a ≡ true → Sound w → SameColumn (meaning w) (getD f at 0) false n (take (at + 3 + 8 * n - (at + 3)) (drop (at + 3) f)))
     → (b ≡ true → Sound w → SameColumn (meaning w) (getD f at 0) true n (take (at + 3 + 8 * n + 8 * n - (at + 3 + 8 * n)) (drop (at + 3 + 8 * n) f)))
-    → Stepped f w w (record { at = at + 3 + 8 * n + 8 * n; agrees = a && b }) (λ e. ColumnAgrees f at (meaning w) e)
+    → StepAgrees f w w (record { at = at + 3 + 8 * n + 8 * n; agrees = a && b }) (λ e. ColumnAgrees f at (meaning w) e)
 column-agrees f w at n a b size fits h k =
     record {
       within = fits;
@@ -196,34 +196,34 @@ fresh n k w w′ r h z = subst (StartLeaves w w′) (started n k w w′ r h z) (
 
 -- ---- one after another
 
-pub no-runs : (f w : List ℕ) (at : ℕ) → at ≤ length f → Stepped f w w (record { at = at; agrees = true }) (λ e. RunsAgree f at (meaning w) 0 e (meaning w))
+pub no-runs : (f w : List ℕ) (at : ℕ) → at ≤ length f → StepAgrees f w w (record { at = at; agrees = true }) (λ e. RunsAgree f at (meaning w) 0 e (meaning w))
 no-runs f w at h = record { within = h; agreed = λ a S. (S, noRuns) }
 
-pub more-runs : (f w₀ w w′ : List ℕ) (at i m : ℕ) (a : Bool) (r : Step) → Stepped f w₀ w (record { at = m; agrees = a }) (λ e. RunsAgree f at (meaning w₀) i e (meaning w))
-    → Stepped f w w′ r (λ e. RunAgrees f m (meaning w) e (meaning w′))
-    → Stepped f w₀ w′ (record { at = r .at; agrees = a && r .agrees }) (λ e. RunsAgree f at (meaning w₀) (i + 1) e (meaning w′))
+pub more-runs : (f w₀ w w′ : List ℕ) (at i m : ℕ) (a : Bool) (r : Step) → StepAgrees f w₀ w (record { at = m; agrees = a }) (λ e. RunsAgree f at (meaning w₀) i e (meaning w))
+    → StepAgrees f w w′ r (λ e. RunAgrees f m (meaning w) e (meaning w′))
+    → StepAgrees f w₀ w′ (record { at = r .at; agrees = a && r .agrees }) (λ e. RunsAgree f at (meaning w₀) (i + 1) e (meaning w′))
 more-runs f w₀ w w′ at i m a r h k =
     record {
       within = k .within;
       agreed = λ t S. let p = h .agreed (and-left a (r .agrees) t) S in let q = k .agreed (and-right a (r .agrees) t) (p .0) in (q .0, moreRuns (p .1) (q .1));
     }
 
-pub no-columns : (f w : List ℕ) (at : ℕ) → at ≤ length f → Stepped f w w (record { at = at; agrees = true }) (λ e. ColumnsAgree f at (meaning w) 0 e)
+pub no-columns : (f w : List ℕ) (at : ℕ) → at ≤ length f → StepAgrees f w w (record { at = at; agrees = true }) (λ e. ColumnsAgree f at (meaning w) 0 e)
 no-columns f w at h = record { within = h; agreed = λ a S. (S, noColumns) }
 
-pub more-columns : (f w : List ℕ) (at i m : ℕ) (a : Bool) (r : Step) → Stepped f w w (record { at = m; agrees = a }) (λ e. ColumnsAgree f at (meaning w) i e)
-    → Stepped f w w r (λ e. ColumnAgrees f m (meaning w) e) → Stepped f w w (record { at = r .at; agrees = a && r .agrees }) (λ e. ColumnsAgree f at (meaning w) (i + 1) e)
+pub more-columns : (f w : List ℕ) (at i m : ℕ) (a : Bool) (r : Step) → StepAgrees f w w (record { at = m; agrees = a }) (λ e. ColumnsAgree f at (meaning w) i e)
+    → StepAgrees f w w r (λ e. ColumnAgrees f m (meaning w) e) → StepAgrees f w w (record { at = r .at; agrees = a && r .agrees }) (λ e. ColumnsAgree f at (meaning w) (i + 1) e)
 more-columns f w at i m a r h k =
     record {
       within = k .within;
       agreed = λ t S. let p = h .agreed (and-left a (r .agrees) t) S in let q = k .agreed (and-right a (r .agrees) t) S in (S, moreColumns (p .1) (q .1));
     }
 
-pub all-runs : (f w₀ w : List ℕ) (at i n : ℕ) (r : Step) → i ≡ n → Stepped f w₀ w r (λ e. RunsAgree f at (meaning w₀) i e (meaning w)) → Stepped f w₀ w r (λ e. RunsAgree f at (meaning w₀) n e (meaning w))
-all-runs f w₀ w at i n r e h = subst (λ (k : ℕ). Stepped f w₀ w r (λ m. RunsAgree f at (meaning w₀) k m (meaning w))) e h
+pub all-runs : (f w₀ w : List ℕ) (at i n : ℕ) (r : Step) → i ≡ n → StepAgrees f w₀ w r (λ e. RunsAgree f at (meaning w₀) i e (meaning w)) → StepAgrees f w₀ w r (λ e. RunsAgree f at (meaning w₀) n e (meaning w))
+all-runs f w₀ w at i n r e h = subst (λ (k : ℕ). StepAgrees f w₀ w r (λ m. RunsAgree f at (meaning w₀) k m (meaning w))) e h
 
-pub all-columns : (f w : List ℕ) (at i n : ℕ) (r : Step) → i ≡ n → Stepped f w w r (λ e. ColumnsAgree f at (meaning w) i e) → Stepped f w w r (λ e. ColumnsAgree f at (meaning w) n e)
-all-columns f w at i n r e h = subst (λ (k : ℕ). Stepped f w w r (λ m. ColumnsAgree f at (meaning w) k m)) e h
+pub all-columns : (f w : List ℕ) (at i n : ℕ) (r : Step) → i ≡ n → StepAgrees f w w r (λ e. ColumnsAgree f at (meaning w) i e) → StepAgrees f w w r (λ e. ColumnsAgree f at (meaning w) n e)
+all-columns f w at i n r e h = subst (λ (k : ℕ). StepAgrees f w w r (λ m. ColumnsAgree f at (meaning w) k m)) e h
 
 -- ---- a case
 
@@ -236,9 +236,9 @@ cut-case f at r e =
 
 -- a start gave z over the words w, and left w₁; the runs leave w₂
 module _ (f w w₁ w₂ : List ℕ) (at n z : ℕ) (runs roll columns : Step) (size : length w ≡ 8192) (capacity : n ≡ short f at) (begun : Starts n (getD f (at + 2) 0) w w₁ z)
-    (ran : Stepped f w₁ w₂ runs (λ e. RunsAgree f (at + 4) (meaning w₁) (getD f (at + 3) 0) e (meaning w₂)))
-    (rolled : Stepped f w₂ w₂ roll (λ e. RollAgrees f (runs .at) (meaning w₂) e))
-    (shown : Stepped f w₂ w₂ columns (λ e. ColumnsAgree f (roll .at + 1) (meaning w₂) (getD f (roll .at) 0) e)) where
+    (ran : StepAgrees f w₁ w₂ runs (λ e. RunsAgree f (at + 4) (meaning w₁) (getD f (at + 3) 0) e (meaning w₂)))
+    (rolled : StepAgrees f w₂ w₂ roll (λ e. RollAgrees f (runs .at) (meaning w₂) e))
+    (shown : StepAgrees f w₂ w₂ columns (λ e. ColumnsAgree f (roll .at + 1) (meaning w₂) (getD f (roll .at) 0) e)) where
   agreeing : z ≡ 0 → runs .agrees ≡ true → roll .agrees ≡ true → columns .agrees ≡ true → CaseAgrees f at (columns .at)
   agreeing z0 a b c =
       let k = getD f (at + 2) 0 in

@@ -33,7 +33,7 @@ pub record RolledSame (b : List ℕ) (r : Rolled) (o : List ℕ) : Type 0 where
   pub bytes : b ≡ take (r .written) o
 
 -- a step from the words w to w′: it stays within the file, and where it agrees, sound words stay sound, and P holds of the place after it
-pub record Stepped (f w w′ : List ℕ) (r : Step) (P : ℕ → Type 0) : Type 0 where
+pub record StepAgrees (f w w′ : List ℕ) (r : Step) (P : ℕ → Type 0) : Type 0 where
   pub within : r .at ≤ length f
   pub agreed : r .agrees ≡ true → Sound w → Sound w′ × P (r .at)
 

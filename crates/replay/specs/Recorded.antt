@@ -25,7 +25,7 @@ abbrev pub numbersAt : List ℕ → ℕ → ℕ
 numbersAt f at = at + 4 + short f at
 
 -- what a run gives is what is recorded
-pub record SameRun (f : List ℕ) (at : ℕ) (x : Ran) : Type 0 where
+pub record RunRecorded (f : List ℕ) (at : ℕ) (x : Ran) : Type 0 where
   pub stop : x .stop ≡ getD f at 0
   pub commands : x .commands ≡ short f (at + 1)
   pub read : x .read ≡ short f (at + 3)
@@ -38,7 +38,7 @@ runAt f at s = run (tapeAt f at) (short f (at + 2)) s
 
 -- that run agrees, leaves the store s′, and its record ends at e
 pub record RunAgrees (f : List ℕ) (at : ℕ) (s : Store) (e : ℕ) (s′ : Store) : Type 0 where
-  pub same : SameRun f (numbersAt f at) (runAt f at s)
+  pub same : RunRecorded f (numbersAt f at) (runAt f at s)
   pub store : s′ ≡ runAt f at s .store
   pub end : e ≡ numbersAt f at + 7 + short f (numbersAt f at + 5)
 

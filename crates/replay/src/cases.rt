@@ -4,7 +4,7 @@ ghost use Prim.Native.Nat.{_+_, _≤_};
 ghost use lib.ListN.{length, getD};
 ghost use Rattle.memory.specs.Meaning.{meaning};
 ghost use Rattle.replay.specs.Recorded.{RunAgrees, RunsAgree, RollAgrees, ColumnAgrees, ColumnsAgree};
-ghost use Rattle.replay.specs.Agreement.{Compared, Stepped, CaseStepped};
+ghost use Rattle.replay.specs.Agreement.{Compared, StepAgrees, CaseStepped};
 use crate::compare::is_same_column;
 use crate::compare::is_same_roll;
 use crate::compare::is_same_run;
@@ -35,7 +35,7 @@ fn compare_run(file: &[u8], at: usize, ran: Ran, out: &[u8]) -> Step
 // The run whose tape stands at `at`.
 fn replay_run(words: &mut [u32], file: &[u8], at: usize, out: &mut [u8]) -> Step
     requires { ⌜ at ≤ length (now file) ⌝ }
-    ensures { λ r. ⌜ Stepped (now (file .entry)) (now (words .entry)) (now (words .exit)) r (λ e. RunAgrees (now (file .entry)) at (meaning (now (words .entry))) e (meaning (now (words .exit)))) ⌝ }
+    ensures { λ r. ⌜ StepAgrees (now (file .entry)) (now (words .entry)) (now (words .exit)) r (λ e. RunAgrees (now (file .entry)) at (meaning (now (words .entry))) e (meaning (now (words .exit)))) ⌝ }
 {
     if file.len() - at < 4 {
         return cut(file);
@@ -56,7 +56,7 @@ fn replay_run(words: &mut [u32], file: &[u8], at: usize, out: &mut [u8]) -> Step
 
 fn replay_runs(words: &mut [u32], file: &[u8], at: usize, runs: u8, out: &mut [u8]) -> Step
     requires { ⌜ at ≤ length (now file) ⌝ }
-    ensures { λ r. ⌜ Stepped (now (file .entry)) (now (words .entry)) (now (words .exit)) r (λ e. RunsAgree (now (file .entry)) at (meaning (now (words .entry))) runs e (meaning (now (words .exit)))) ⌝ }
+    ensures { λ r. ⌜ StepAgrees (now (file .entry)) (now (words .entry)) (now (words .exit)) r (λ e. RunsAgree (now (file .entry)) at (meaning (now (words .entry))) runs e (meaning (now (words .exit)))) ⌝ }
 {
     let mut next = at;
     let mut agrees = true;
@@ -72,7 +72,7 @@ fn replay_runs(words: &mut [u32], file: &[u8], at: usize, runs: u8, out: &mut [u
 
 fn replay_roll(words: &[u32], file: &[u8], at: usize, out: &mut [u8]) -> Step
     requires { ⌜ at ≤ length (now file) ⌝ }
-    ensures { λ r. ⌜ Stepped (now (file .entry)) (now (words .entry)) (now (words .entry)) r (λ e. RollAgrees (now (file .entry)) at (meaning (now (words .entry))) e) ⌝ }
+    ensures { λ r. ⌜ StepAgrees (now (file .entry)) (now (words .entry)) (now (words .entry)) r (λ e. RollAgrees (now (file .entry)) at (meaning (now (words .entry))) e) ⌝ }
 {
     if file.len() - at < 2 {
         return cut(file);
@@ -93,7 +93,7 @@ fn replay_roll(words: &[u32], file: &[u8], at: usize, out: &mut [u8]) -> Step
 // One kind's column: its entities, and then its values.
 fn replay_column(words: &[u32], file: &[u8], at: usize) -> Step
     requires { ⌜ at ≤ length (now file) ⌝ }
-    ensures { λ r. ⌜ Stepped (now (file .entry)) (now (words .entry)) (now (words .entry)) r (λ e. ColumnAgrees (now (file .entry)) at (meaning (now (words .entry))) e) ⌝ }
+    ensures { λ r. ⌜ StepAgrees (now (file .entry)) (now (words .entry)) (now (words .entry)) r (λ e. ColumnAgrees (now (file .entry)) at (meaning (now (words .entry))) e) ⌝ }
 {
     if file.len() - at < 3 {
         return cut(file);
@@ -116,7 +116,7 @@ fn replay_column(words: &[u32], file: &[u8], at: usize) -> Step
 
 fn replay_columns(words: &[u32], file: &[u8], at: usize) -> Step
     requires { ⌜ at ≤ length (now file) ⌝ }
-    ensures { λ r. ⌜ Stepped (now (file .entry)) (now (words .entry)) (now (words .entry)) r (λ e. ColumnsAgree (now (file .entry)) (at + 1) (meaning (now (words .entry))) (getD (now (file .entry)) at 0) e) ⌝ }
+    ensures { λ r. ⌜ StepAgrees (now (file .entry)) (now (words .entry)) (now (words .entry)) r (λ e. ColumnsAgree (now (file .entry)) (at + 1) (meaning (now (words .entry))) (getD (now (file .entry)) at 0) e) ⌝ }
 {
     if file.len() == at {
         return cut(file);

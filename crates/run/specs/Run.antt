@@ -32,9 +32,9 @@ abbrev pub storeOf : Store → Step → Store
 storeOf s (stops n) = s
 storeOf s (goes k a s′) = s′
 
-abbrev pub bytesOf : Step → List ℕ
-bytesOf (stops n) = []
-bytesOf (goes k a s) = a
+abbrev pub stepBytes : Step → List ℕ
+stepBytes (stops n) = []
+stepBytes (goes k a s) = a
 
 abbrev pub resultOf : ℕ → ℕ → Step → Went
 resultOf at p (stops n) = Stop n
@@ -53,8 +53,8 @@ pub record Stepped (w w′ t o o′ : List ℕ) (at p : ℕ) (r : Went) (x : Ste
   pub sound : Sound w′
   pub becomes : Becomes w w′ (storeOf (meaning w) x)
   pub kept : Kept w w′ (commandIn (getD t at 0) t (at + 1)) x
-  pub bytes : o′ ≡ sets o p (bytesOf x)
-  pub within : p + length (bytesOf x) ≤ length o
+  pub bytes : o′ ≡ sets o p (stepBytes x)
+  pub within : p + length (stepBytes x) ≤ length o
   pub result : r ≡ resultOf at p x
 
 -- ---- a run, command by command

@@ -11,12 +11,12 @@ use lib.Seq.{sets, drop-cons, take-suc-set, append-snoc}
 use Rattle.model.specs.Numbers.{MAX-KINDS}
 use Rattle.model.specs.Model.{Entity, SparseSet, Component, noRow, mem, at, held, setOf}
 use Rattle.model.specs.Sound.{In}
-use Rattle.model.specs.Store.{le}
+use Rattle.model.specs.Store.{bytesOf}
 use Rattle.model.specs.Snapshot.{valueAt, addComponent, componentsOf, componentBytes}
-use Rattle.model.proofs.Lengths.{le-length}
+use Rattle.model.proofs.Lengths.{bytesOf-length}
 use Rattle.component.specs.SparseSet.{valueOf}
 use Rattle.snapshot.specs.Rising.{risingFrom, risingKinds}
-use Rattle.snapshot.specs.Wrote.{oneBytes, Wrote}
+use Rattle.snapshot.specs.Wrote.{oneBytes, WrittenUntil}
 
 -- ---- the list of registered kinds
 
@@ -74,16 +74,16 @@ value-none e rows h = rw h
 value-bare : (e : Entity) (rows : SparseSet) → rows ≡ [] → valueAt e rows ≡ none
 value-bare e rows h = rw h
 
-pub none-written : {o : List ℕ} {p : ℕ} {v : Option ℕ} (k : ℕ) → v ≡ none → Wrote o o p p (oneBytes v k)
+pub none-written : {o : List ℕ} {p : ℕ} {v : Option ℕ} (k : ℕ) → v ≡ none → WrittenUntil o o p p (oneBytes v k)
 none-written k e = rw e (record { bytes = refl; next = omega arith })
 
 pub one-room : {x n : ℕ} {v : Option ℕ} (p k : ℕ) → v ≡ some x → p + length (oneBytes v k) ≤ n → p + 9 ≤ n
 one-room {x} {n} p k e h =
     let z : p + length (oneBytes (some x) k) ≤ n = rw e at h in
-    omega (arith, le-length 8 x)
+    omega (arith, bytesOf-length 8 x)
 
-pub one-written : {o′ : List ℕ} {x : ℕ} {v : Option ℕ} (o : List ℕ) (p k : ℕ) → v ≡ some x → o′ ≡ sets (set o p k) (p + 1) (le 8 x) → Wrote o o′ p (p + 9) (oneBytes v k)
-one-written {x = x} o p k e q = rw e (record { bytes = q ∙ simp towards-suc; next = omega (arith, le-length 8 x) })
+pub one-written : {o′ : List ℕ} {x : ℕ} {v : Option ℕ} (o : List ℕ) (p k : ℕ) → v ≡ some x → o′ ≡ sets (set o p k) (p + 1) (bytesOf 8 x) → WrittenUntil o o′ p (p + 9) (oneBytes v k)
+one-written {x = x} o p k e q = rw e (record { bytes = q ∙ simp towards-suc; next = omega (arith, bytesOf-length 8 x) })
 
 -- ---- the kinds of one entity
 

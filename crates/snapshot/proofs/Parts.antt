@@ -7,28 +7,28 @@ use native.Mathlib.Numerals.{add-one}
 use lib.ListN.{length, set, length-append}
 use lib.Seq.{sets, set-comm}
 use Rattle.model.specs.Model.{SparseSet, Component}
-use Rattle.model.specs.Store.{Store, le}
-use Rattle.model.specs.Snapshot.{Entry, componentsOf, versionAt, entryOf, entries, componentBytes, entryBytes, flat, listing, snapshot}
-use Rattle.model.proofs.Lengths.{le-length}
+use Rattle.model.specs.Store.{Store, bytesOf}
+use Rattle.model.specs.Snapshot.{Entry, componentsOf, liveVersion, entryOf, entries, componentBytes, entryBytes, flat, listing, snapshot}
+use Rattle.model.proofs.Lengths.{bytesOf-length}
 use Rattle.component.specs.SparseSet.{entity}
 use Rattle.memory.specs.Meaning.{meaning}
-use Rattle.snapshot.specs.Wrote.{entryFor, indexBytes, Wrote}
+use Rattle.snapshot.specs.Wrote.{entryFor, indexBytes, WrittenUntil}
 use Rattle.snapshot.proofs.Writing.{writing-start, writing-turn, writing-last}
 
 -- ---- one entity
 
 bytes-length : (ps : List Component) → length (componentBytes ps) ≡ 9 * length ps
 bytes-length [] = refl
-bytes-length (p ∷ ps) = omega (arith, length-append (le 8 (p .value)) (componentBytes ps), le-length 8 (p .value), bytes-length ps)
+bytes-length (p ∷ ps) = omega (arith, length-append (bytesOf 8 (p .value)) (componentBytes ps), bytesOf-length 8 (p .value), bytes-length ps)
 
 pub entry-length : (t : Entry) → length (entryBytes t) ≡ 9 + 9 * length (t .components)
 entry-length t =
     omega (
       arith,
-      length-append (le 4 (t .entity .index)) (le 4 (t .entity .version) ++ (length (t .components) ∷ componentBytes (t .components))),
-      length-append (le 4 (t .entity .version)) (length (t .components) ∷ componentBytes (t .components)),
-      le-length 4 (t .entity .index),
-      le-length 4 (t .entity .version),
+      length-append (bytesOf 4 (t .entity .index)) (bytesOf 4 (t .entity .version) ++ (length (t .components) ∷ componentBytes (t .components))),
+      length-append (bytesOf 4 (t .entity .version)) (length (t .components) ∷ componentBytes (t .components)),
+      bytesOf-length 4 (t .entity .index),
+      bytesOf-length 4 (t .entity .version),
       bytes-length (t .components),
     )
 
@@ -36,7 +36,7 @@ pub entry-room : (t : Entry) (p n : ℕ) → p + length (entryBytes t) ≤ n →
 entry-room t p n h = (omega (arith, entry-length t), omega (arith, entry-length t, bytes-length (t .components)))
 
 -- the number of components, from the place after their bytes
-pub entry-count : {o o′ : List ℕ} {p r : ℕ} (ps : List Component) → Wrote o o′ p r (componentBytes ps) → (r - p) / 9 ≡ length ps
+pub entry-count : {o o′ : List ℕ} {p r : ℕ} (ps : List Component) → WrittenUntil o o′ p r (componentBytes ps) → (r - p) / 9 ≡ length ps
 entry-count ps w = omega (arith, w .next, bytes-length ps)
 
 -- a byte before a run, stored after it
@@ -45,17 +45,17 @@ set-before [] l i j x h = refl
 set-before (a ∷ b) l i j x h = set-before b (set l j a) i (suc j) x (omega arith) ∙ ap (λ (m : List ℕ). sets m (suc j) b) (set-comm l j i a x (omega arith))
 
 -- the count is stored last
-pub entry-written : {o o₁ o₂ o₃ o₄ : List ℕ} {p r n : ℕ} (t : Entry) → o₁ ≡ sets o p (le 4 (t .entity .index)) → o₂ ≡ sets o₁ (p + 4) (le 4 (t .entity .version))
-    → Wrote o₂ o₃ (p + 9) r (componentBytes (t .components)) → o₄ ≡ set o₃ (p + 8) n → n ≡ length (t .components) → Wrote o o₄ p r (entryBytes t)
+pub entry-written : {o o₁ o₂ o₃ o₄ : List ℕ} {p r n : ℕ} (t : Entry) → o₁ ≡ sets o p (bytesOf 4 (t .entity .index)) → o₂ ≡ sets o₁ (p + 4) (bytesOf 4 (t .entity .version))
+    → WrittenUntil o₂ o₃ (p + 9) r (componentBytes (t .components)) → o₄ ≡ set o₃ (p + 8) n → n ≡ length (t .components) → WrittenUntil o o₄ p r (entryBytes t)
 entry-written {o} {o₁} {o₂} {o₃} {o₄} {p} {r} {n} t a b d c m =
     let cs = componentBytes (t .components) in
-    let l = le 4 (t .entity .index) in
-    let v = le 4 (t .entity .version) in
+    let l = bytesOf 4 (t .entity .index) in
+    let v = bytesOf 4 (t .entity .version) in
     let k = length (t .components) in
-    let w₁ : Wrote o o₁ p (p + 4) l = record { bytes = a; next = omega (arith, le-length 4 (t .entity .index)) } in
-    let w₂ : Wrote o₁ o₂ (p + 4) (p + 8) v = record { bytes = b; next = omega (arith, le-length 4 (t .entity .version)) } in
-    let w₃ : Wrote o₂ (set o₂ (p + 8) k) (p + 8) (p + 9) (k ∷ []) = record { bytes = refl; next = omega arith } in
-    let w₄ : Wrote (set o₂ (p + 8) k) o₄ (p + 9) r cs = record { bytes = c ∙ rw (m, d .bytes) (set-before cs o₂ (p + 8) (p + 9) k (omega arith)); next = d .next } in
+    let w₁ : WrittenUntil o o₁ p (p + 4) l = record { bytes = a; next = omega (arith, bytesOf-length 4 (t .entity .index)) } in
+    let w₂ : WrittenUntil o₁ o₂ (p + 4) (p + 8) v = record { bytes = b; next = omega (arith, bytesOf-length 4 (t .entity .version)) } in
+    let w₃ : WrittenUntil o₂ (set o₂ (p + 8) k) (p + 8) (p + 9) (k ∷ []) = record { bytes = refl; next = omega arith } in
+    let w₄ : WrittenUntil (set o₂ (p + 8) k) o₄ (p + 9) r cs = record { bytes = c ∙ rw (m, d .bytes) (set-before cs o₂ (p + 8) (p + 9) k (omega arith)); next = d .next } in
     let g₁ = writing-turn l (v ++ (k ∷ cs)) (writing-start o p (entryBytes t)) refl w₁ in
     let g₂ = writing-turn v (k ∷ cs) g₁ refl w₂ in
     let g₃ = writing-turn (k ∷ []) cs g₂ refl w₃ in
@@ -70,14 +70,14 @@ an-entry : (i v : ℕ) (ss : List SparseSet) → 1 ≤ v → flat (entryOf v i s
 an-entry i zero ss h = absurd (omega arith)
 an-entry i (suc v) ss h = append-nil (entryBytes (record { entity = entity i (suc v); components = componentsOf (entity i (suc v)) 0 ss }))
 
-module _ (w : List ℕ) (i v : ℕ) (is : v ≡ versionAt i (meaning w .entities .live)) where
+module _ (w : List ℕ) (i v : ℕ) (is : v ≡ liveVersion i (meaning w .entities .live)) where
   index-none : v ≡ 0 → indexBytes w i ≡ []
-  index-none h = no-entry i (versionAt i (meaning w .entities .live)) (meaning w .storage .sets) (sym is ∙ h)
+  index-none h = no-entry i (liveVersion i (meaning w .entities .live)) (meaning w .storage .sets) (sym is ∙ h)
 
   pub index-some : (v ≡ 0 → ⊥) → indexBytes w i ≡ entryBytes (entryFor w i v)
   index-some h = rw (← is) (an-entry i v (meaning w .storage .sets) (omega arith))
 
-  pub none-at : {o : List ℕ} {p : ℕ} → v ≡ 0 → Wrote o o p p (indexBytes w i)
+  pub none-at : {o : List ℕ} {p : ℕ} → v ≡ 0 → WrittenUntil o o p p (indexBytes w i)
   none-at h = rw (index-none h) (record { bytes = refl; next = omega arith })
 
 -- ---- one index after another
@@ -95,7 +95,7 @@ from-turn w i h =
     let m = meaning w in
     let e : m .entities .issued - i ≡ suc (m .entities .issued - (i + 1)) = omega arith in
     ap (λ (n : ℕ). flat (entries i n (m .entities .live) (m .storage .sets))) e
-    ∙ flat-append (entryOf (versionAt i (m .entities .live)) i (m .storage .sets)) (entries (suc i) (m .entities .issued - (i + 1)) (m .entities .live) (m .storage .sets))
+    ∙ flat-append (entryOf (liveVersion i (m .entities .live)) i (m .storage .sets)) (entries (suc i) (m .entities .issued - (i + 1)) (m .entities .live) (m .storage .sets))
     ∙ ap (λ (j : ℕ). indexBytes w i ++ flat (entries j (m .entities .issued - (i + 1)) (m .entities .live) (m .storage .sets))) (sym (add-one i))
 
 pub from-none : (w : List ℕ) (i : ℕ) → meaning w .entities .issued ≤ i → from w i ≡ []
@@ -114,11 +114,11 @@ from-start w =
 
 pub snapshot-length : (s : Store) → length (snapshot s) ≡ 4 + length (flat (listing s))
 unfolding snapshot
-snapshot-length s = omega (arith, length-append (le 4 (length (s .entities .live))) (flat (listing s)), le-length 4 (length (s .entities .live)))
+snapshot-length s = omega (arith, length-append (bytesOf 4 (length (s .entities .live))) (flat (listing s)), bytesOf-length 4 (length (s .entities .live)))
 
-pub snapshot-written : (s : Store) {o o₁ o₂ : List ℕ} {r : ℕ} (n : ℕ) → n ≡ length (s .entities .live) → o₁ ≡ sets o 0 (le 4 n) → Wrote o₁ o₂ 4 r (flat (listing s)) → Wrote o o₂ 0 r (snapshot s)
+pub snapshot-written : (s : Store) {o o₁ o₂ : List ℕ} {r : ℕ} (n : ℕ) → n ≡ length (s .entities .live) → o₁ ≡ sets o 0 (bytesOf 4 n) → WrittenUntil o₁ o₂ 4 r (flat (listing s)) → WrittenUntil o o₂ 0 r (snapshot s)
 unfolding snapshot
 snapshot-written s {o} {o₁} n e q v =
-    let l = le 4 (length (s .entities .live)) in
-    let f : Wrote o o₁ 0 4 l = record { bytes = q ∙ rw e; next = omega (arith, le-length 4 (length (s .entities .live))) } in
+    let l = bytesOf 4 (length (s .entities .live)) in
+    let f : WrittenUntil o o₁ 0 4 l = record { bytes = q ∙ rw e; next = omega (arith, bytesOf-length 4 (length (s .entities .live))) } in
     writing-last (writing-turn l (flat (listing s)) (writing-start o 0 (snapshot s)) refl f) v

@@ -13,8 +13,8 @@ use lib.Seq.{drop-cons}
 use Rattle.model.specs.Lists.{one, count-length}
 use Rattle.model.specs.Model.{Entity, SparseSet, sameEntity, entityOf, noRow, at, held, setOf}
 use Rattle.model.specs.Store.{Store}
-use Rattle.model.specs.Snapshot.{Entry, addComponent, componentsOf, versionAt, entryOf, entries, entryBytes, flat, snapshot}
-use Rattle.model.specs.Sound.{cnt, key, holders, Sound}
+use Rattle.model.specs.Snapshot.{Entry, addComponent, componentsOf, liveVersion, entryOf, entries, entryBytes, flat, snapshot}
+use Rattle.model.specs.Sound.{cnt, key, holders, StoreSound}
 use Rattle.model.proofs.SparseSets.{entity-eq, entity-same}
 use Rattle.model.proofs.Groups.{bool-cases}
 use Rattle.model.proofs.Walk.{held-count, lacks-count}
@@ -67,9 +67,9 @@ module _ (ss : List SparseSet) where
     apart zero i h = refl
     apart (suc n) i h =
         rw (ne-eqb i (e .index) (omega arith))
-        (size-turn (versionAt i l) i (entries (suc i) n (e ∷ l) ss) ∙ ap (λ (m : ℕ). length (flat (entryOf (versionAt i l) i ss)) + m) (apart n (suc i) (omega arith)) ∙ sym (size-turn (versionAt i l) i (entries (suc i) n l ss)))
+        (size-turn (liveVersion i l) i (entries (suc i) n (e ∷ l) ss) ∙ ap (λ (m : ℕ). length (flat (entryOf (liveVersion i l) i ss)) + m) (apart n (suc i) (omega arith)) ∙ sym (size-turn (liveVersion i l) i (entries (suc i) n l ss)))
 
-    joins : (n i : ℕ) → i ≤ e .index → e .index < i + n → 1 ≤ e .version → versionAt (e .index) l ≡ 0 → size i n (e ∷ l) ≡ weight e + size i n l
+    joins : (n i : ℕ) → i ≤ e .index → e .index < i + n → 1 ≤ e .version → liveVersion (e .index) l ≡ 0 → size i n (e ∷ l) ≡ weight e + size i n l
     joins zero i lo hi p z = absurd (omega arith)
     joins (suc n) i lo hi p z = by-eq i (e .index) here (λ q. further q (λ a b. joins n (suc i) a b p z))
       where
@@ -81,9 +81,9 @@ module _ (ss : List SparseSet) where
         further : i ≢ e .index → (suc i ≤ e .index → e .index < suc i + n → size (suc i) n (e ∷ l) ≡ weight e + size (suc i) n l) → size i (suc n) (e ∷ l) ≡ weight e + size i (suc n) l
         further q f =
             let r = f (omega (arith, q)) (omega arith) in
-            rw (ne-eqb i (e .index) q) (omega (arith, size-turn (versionAt i l) i (entries (suc i) n (e ∷ l) ss), size-turn (versionAt i l) i (entries (suc i) n l ss), r))
+            rw (ne-eqb i (e .index) q) (omega (arith, size-turn (liveVersion i l) i (entries (suc i) n (e ∷ l) ss), size-turn (liveVersion i l) i (entries (suc i) n l ss), r))
 
-  live-size : (n : ℕ) (l : List Entity) → LiveOk l → ((k : ℕ) → n ≤ k → versionAt k l ≡ 0) → size 0 n l ≡ sum weight l
+  live-size : (n : ℕ) (l : List Entity) → LiveOk l → ((k : ℕ) → n ≤ k → liveVersion k l ≡ 0) → size 0 n l ≡ sum weight l
   live-size n [] ok z = nothing n 0
     where
       nothing : (n i : ℕ) → size i n [] ≡ 0
@@ -95,7 +95,7 @@ module _ (ss : List SparseSet) where
       inside : e .index < 0 + n
       inside = let no : ¬ (n ≤ e .index) = λ h. omega (arith, ok .0, rw (eq-eqb (e .index) (e .index) refl) at (z (e .index) h)) in omega arith
 
-      rest : (k : ℕ) → n ≤ k → versionAt k es ≡ 0
+      rest : (k : ℕ) → n ≤ k → liveVersion k es ≡ 0
       rest k h = by-eq k (e .index) (λ q. rw q (ok .1)) (λ q. rw (ne-eqb k (e .index) q) at (z k h))
 
 -- ---- the components of all live entities are the rows of all sparse sets
@@ -120,7 +120,7 @@ module _ (l : List Entity) where
       go [] = refl
       go (e ∷ es) = bool-cases (held e (setOf ss k)) (λ t. rw t (omega (arith, go es))) (λ t. rw t (omega (arith, go es)))
 
-module _ (s : Store) (S : Sound s) where
+module _ (s : Store) (S : StoreSound s) where
   -- the live entities that hold a kind are those of its sparse set
   holders-rows : (k : ℕ) → length (holders (k ∷ []) (s .storage .sets) (s .entities .live)) ≡ length (setOf (s .storage .sets) k)
   holders-rows k =

@@ -6,7 +6,7 @@ use native.Mathlib.Omega.{arith}
 use lib.ListN.{length, length-append}
 use lib.Seq.{sets, length-sets}
 use Rattle.codec.proofs.Numbers.{sets-join}
-use Rattle.snapshot.specs.Wrote.{Wrote}
+use Rattle.snapshot.specs.Wrote.{WrittenUntil}
 
 -- all is to stand at `at` of o₀; what is written so far left o, with the rest to come at p
 pub record Writing (o₀ : List ℕ) (at : ℕ) (all o : List ℕ) (p : ℕ) (rest : List ℕ) : Type 0 where
@@ -17,7 +17,7 @@ pub record Writing (o₀ : List ℕ) (at : ℕ) (all o : List ℕ) (p : ℕ) (re
 pub writing-start : (o : List ℕ) (at : ℕ) (all : List ℕ) → Writing o at all o at all
 writing-start o at all = record { bytes = refl; place = refl; size = refl }
 
-pub writing-turn : {o₀ all o o′ rest : List ℕ} {at p p′ : ℕ} (a rest′ : List ℕ) → Writing o₀ at all o p rest → rest ≡ a ++ rest′ → Wrote o o′ p p′ a → Writing o₀ at all o′ p′ rest′
+pub writing-turn : {o₀ all o o′ rest : List ℕ} {at p p′ : ℕ} (a rest′ : List ℕ) → Writing o₀ at all o p rest → rest ≡ a ++ rest′ → WrittenUntil o o′ p p′ a → Writing o₀ at all o′ p′ rest′
 writing-turn {o = o} {rest = rest} {p = p} a rest′ g e v =
     let z : length rest ≡ length a + length rest′ = ap (λ (l : List ℕ). length l) e ∙ length-append a rest′ in
     rw (v .bytes, v .next)
@@ -28,11 +28,11 @@ writing-turn {o = o} {rest = rest} {p = p} a rest′ g e v =
     })
 
 -- the last run
-pub writing-last : {o₀ all o o′ rest : List ℕ} {at p p′ : ℕ} → Writing o₀ at all o p rest → Wrote o o′ p p′ rest → Wrote o₀ o′ at p′ all
+pub writing-last : {o₀ all o o′ rest : List ℕ} {at p p′ : ℕ} → Writing o₀ at all o p rest → WrittenUntil o o′ p p′ rest → WrittenUntil o₀ o′ at p′ all
 writing-last {rest = rest} g v = record { bytes = v .bytes ∙ sym (g .bytes); next = omega (arith, v .next, g .place) }
 
 -- nothing is left
-pub writing-end : {o₀ all o rest : List ℕ} {at p : ℕ} → Writing o₀ at all o p rest → rest ≡ [] → Wrote o₀ o at p all
+pub writing-end : {o₀ all o rest : List ℕ} {at p : ℕ} → Writing o₀ at all o p rest → rest ≡ [] → WrittenUntil o₀ o at p all
 writing-end {o = o} {rest = rest} {p = p} g e =
     let z : length rest ≡ 0 = ap (λ (l : List ℕ). length l) e in
     record { bytes = sym (g .bytes ∙ ap (λ (l : List ℕ). sets o p l) e); next = omega (arith, z, g .place) }

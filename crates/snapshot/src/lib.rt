@@ -12,7 +12,7 @@ ghost use Rattle.memory.specs.Meaning.{meaning};
 ghost use Rattle.memory.specs.Arranged.{Arranged, Sound};
 ghost use Rattle.kinds.specs.Kinds.{kindSet};
 ghost use Rattle.snapshot.specs.Rising.{risingKinds, Lists, rowsIn, Counted};
-ghost use Rattle.snapshot.specs.Wrote.{oneBytes, entryFor, indexBytes, Wrote};
+ghost use Rattle.snapshot.specs.Wrote.{oneBytes, entryFor, indexBytes, WrittenUntil};
 
 // The rows of a kind's column, none where the kind has no column.
 fn set_length(words: &[u32], kind: usize) -> usize
@@ -75,7 +75,7 @@ fn write_one(
     requires { ⌜ Arranged (now words) ⌝ }
     requires { ⌜ In (meaning (now words) .kinds) kind ⌝ }
     requires { ⌜ at + length (oneBytes (valueAt (entity index version) (kindSet (now words) kind)) kind) ≤ length (now out) ⌝ }
-    ensures { λ r. ⌜ Wrote (now (out .entry)) (now (out .exit)) at r (oneBytes (valueAt (entity index version) (kindSet (now (words .entry)) kind)) kind) ⌝ }
+    ensures { λ r. ⌜ WrittenUntil (now (out .entry)) (now (out .exit)) at r (oneBytes (valueAt (entity index version) (kindSet (now (words .entry)) kind)) kind) ⌝ }
 {
     let found = kinds::find(words, kind, index, version);
     let Found::At(place) = found else {
@@ -99,7 +99,7 @@ fn write_components(
     requires { ⌜ Arranged (now words) ⌝ }
     requires { ⌜ now list ≡ risingKinds (meaning (now words) .kinds) ⌝ }
     requires { ⌜ at + length (componentBytes (componentsOf (entity index version) 0 (meaning (now words) .storage .sets))) ≤ length (now out) ⌝ }
-    ensures { λ r. ⌜ Wrote (now (out .entry)) (now (out .exit)) at r (componentBytes (componentsOf (entity index version) 0 (meaning (now (words .entry)) .storage .sets))) ⌝ }
+    ensures { λ r. ⌜ WrittenUntil (now (out .entry)) (now (out .exit)) at r (componentBytes (componentsOf (entity index version) 0 (meaning (now (words .entry)) .storage .sets))) ⌝ }
 {
     let mut next = at;
     for i in 0..list.len() {
@@ -121,7 +121,7 @@ fn write_entity(
     requires { ⌜ Arranged (now words) ⌝ }
     requires { ⌜ now list ≡ risingKinds (meaning (now words) .kinds) ⌝ }
     requires { ⌜ at + length (entryBytes (entryFor (now words) index version)) ≤ length (now out) ⌝ }
-    ensures { λ r. ⌜ Wrote (now (out .entry)) (now (out .exit)) at r (entryBytes (entryFor (now (words .entry)) index version)) ⌝ }
+    ensures { λ r. ⌜ WrittenUntil (now (out .entry)) (now (out .exit)) at r (entryBytes (entryFor (now (words .entry)) index version)) ⌝ }
 {
     codec::put_u32(out, at, index);
     codec::put_u32(out, at + 4, version);
@@ -137,7 +137,7 @@ fn write_index(words: &[u32], list: &[u8], index: usize, out: &mut [u8], at: usi
     requires { ⌜ now list ≡ risingKinds (meaning (now words) .kinds) ⌝ }
     requires { ⌜ index < meaning (now words) .capacity ⌝ }
     requires { ⌜ at + length (indexBytes (now words) index) ≤ length (now out) ⌝ }
-    ensures { λ r. ⌜ Wrote (now (out .entry)) (now (out .exit)) at r (indexBytes (now (words .entry)) index) ⌝ }
+    ensures { λ r. ⌜ WrittenUntil (now (out .entry)) (now (out .exit)) at r (indexBytes (now (words .entry)) index) ⌝ }
 {
     let version = control::entities::version_at(words, index);
     if version == 0 {
@@ -151,7 +151,7 @@ fn write_entities(words: &[u32], list: &[u8], out: &mut [u8], at: usize) -> usiz
     requires { ⌜ Arranged (now words) ⌝ }
     requires { ⌜ now list ≡ risingKinds (meaning (now words) .kinds) ⌝ }
     requires { ⌜ at + length (flat (listing (meaning (now words)))) ≤ length (now out) ⌝ }
-    ensures { λ r. ⌜ Wrote (now (out .entry)) (now (out .exit)) at r (flat (listing (meaning (now (words .entry))))) ⌝ }
+    ensures { λ r. ⌜ WrittenUntil (now (out .entry)) (now (out .exit)) at r (flat (listing (meaning (now (words .entry))))) ⌝ }
 {
     let issued = control::entities::issued(words);
     let mut next = at;
@@ -165,7 +165,7 @@ fn write_entities(words: &[u32], list: &[u8], out: &mut [u8], at: usize) -> usiz
 pub fn write_snapshot(words: &[u32], out: &mut [u8]) -> usize
     requires { ⌜ Arranged (now words) ⌝ }
     requires { ⌜ length (snapshot (meaning (now words))) ≤ length (now out) ⌝ }
-    ensures { λ r. ⌜ Wrote (now (out .entry)) (now (out .exit)) 0 r (snapshot (meaning (now (words .entry)))) ⌝ }
+    ensures { λ r. ⌜ WrittenUntil (now (out .entry)) (now (out .exit)) 0 r (snapshot (meaning (now (words .entry)))) ⌝ }
 {
     let mut list = [0u8; 128];
     let count = rising_kinds(words, &mut list);

@@ -6,7 +6,7 @@ use Prim.Native.Nat.{ℕ, _+_, _*_, _≤_}
 use lib.ListN.{getD}
 use Rattle.model.specs.Model.{Entity, noEntity, keys, isLive}
 use Rattle.words.specs.Offsets.{columnStart, ROWS}
-use Rattle.component.specs.SparseSet.{Sound, lengthOf, entity}
+use Rattle.component.specs.SparseSet.{ColumnSound, lengthOf, entity}
 use Rattle.words.specs.Decides.{Each}
 use Rattle.component.specs.Columns.{columnOf, rowsOf}
 use Rattle.entity.specs.Change.{entitiesIn}
@@ -25,6 +25,6 @@ RowLive n w a i = isLive (entityIn w (a + 2 * i)) (entitiesIn n w) ≡ true
 
 -- 01, a sound store: "each column with its own lookups", "columns holding live cards only"; a slot that no kind has is empty
 pub record ColumnOk (n reg : ℕ) (w : List ℕ) (s : ℕ) : Type 0 where
-  pub sound : Sound n (columnOf n s w)
+  pub sound : ColumnSound n (columnOf n s w)
   pub vacant : reg ≤ s → lengthOf (columnOf n s w) ≡ 0
   pub alive : Each (lengthOf (columnOf n s w)) (RowLive n w (columnStart n s + ROWS))

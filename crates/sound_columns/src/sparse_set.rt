@@ -1,6 +1,6 @@
 // Whether a part is a sound sparse set, in time linear in its words.
 ghost use Prim.Native.Nat.{_+_, _*_, _<_, _≤_};
-ghost use Rattle.component.specs.SparseSet.{Sound, Sized, lengthOf};
+ghost use Rattle.component.specs.SparseSet.{ColumnSound, Sized, lengthOf};
 ghost use Rattle.words.specs.Decides.{Decides, Each};
 ghost use Rattle.sound_columns.specs.Checks.{RowOk, LookupOk};
 
@@ -80,7 +80,7 @@ fn lookups_ok(part: &[u32], n: usize) -> bool
 
 // Whether a part is a sound sparse set of capacity n.
 pub fn is_sound(part: &[u32], n: usize) -> bool
-    ensures { λ r. ⌜ Decides r (Sound n (now (part .entry))) ⌝ }
+    ensures { λ r. ⌜ Decides r (ColumnSound n (now (part .entry))) ⌝ }
 {
     if model::MAX_ENTITIES < n {
         return false;

@@ -6,9 +6,9 @@ ghost use lib.ListN.{length};
 ghost use Rattle.model.specs.Numbers.{ENTITY-LEN, MAX-ENTITIES};
 ghost use Rattle.words.specs.Offsets.{ENTITIES};
 ghost use Rattle.words.specs.Decides.{Decides, Each};
-ghost use Rattle.entity.specs.Ring.{since};
+ghost use Rattle.entity.specs.Queue.{since};
 ghost use Rattle.entity.specs.Change.{entityPart};
-ghost use Rattle.entity.specs.Meaning.{Sized, Sound, lenOf, recycledLen};
+ghost use Rattle.entity.specs.Meaning.{Sized, EntityPartSound, lenOf, recycledLen};
 ghost use Rattle.sound_entities.specs.Checks.{Counts, LiveOk, LookupOk, WaitsOk, ListedOk, IndexOk};
 
 // The counts are within the capacity.
@@ -216,7 +216,7 @@ fn indexes_ok(part: &[u32], n: usize) -> bool
 // Whether a part is a sound entity part of capacity n.
 pub fn is_sound(part: &[u32], n: usize) -> bool
     requires { ⌜ n ≤ MAX-ENTITIES ⌝ }
-    ensures { λ r. ⌜ Decides r (Sound n (now (part .entry))) ⌝ }
+    ensures { λ r. ⌜ Decides r (EntityPartSound n (now (part .entry))) ⌝ }
 {
     if n < 1 {
         return false;
@@ -242,7 +242,7 @@ pub fn is_sound(part: &[u32], n: usize) -> bool
 // Whether the words have a sound entity part.
 pub fn is_sound_in(words: &[u32], n: usize) -> bool
     requires { ⌜ (n ≤ MAX-ENTITIES) × (ENTITIES + ENTITY-LEN * n ≤ length (now words)) ⌝ }
-    ensures { λ r. ⌜ Decides r (Sound n (entityPart n (now (words .entry)))) ⌝ }
+    ensures { λ r. ⌜ Decides r (EntityPartSound n (entityPart n (now (words .entry)))) ⌝ }
 {
     let end = words::ENTITIES + model::ENTITY_LEN * n;
     is_sound(&words[words::ENTITIES..end], n)

@@ -14,7 +14,7 @@ use Rattle.model.specs.Sound.{cnt, Eight}
 use Rattle.model.proofs.SparseSets.{entity-eq}
 use Rattle.model.proofs.Walk.{bool-cases}
 use Rattle.words.specs.Part.{between}
-use Rattle.component.specs.SparseSet.{lengthOf, indexAt, lowAt, highAt, valueOf, rows, Sound}
+use Rattle.component.specs.SparseSet.{lengthOf, indexAt, lowAt, highAt, valueOf, rows, ColumnSound}
 use Rattle.component.proofs.Meaning.{length-rows, getD-rows, index-rows, rows-apart}
 
 -- where no two places have one index, no entity stands twice
@@ -31,7 +31,7 @@ apart-once x (y ∷ l) f =
     (λ t. omega (arith, ap one t))
 
 module _ (n : ℕ) (w : List ℕ) where
-  pub rows-once : Sound n w → (x : Entity) → cnt x (keys (rows n w)) ≤ 1
+  pub rows-once : ColumnSound n w → (x : Entity) → cnt x (keys (rows n w)) ≤ 1
   rows-once s x =
       apart-once x (keys (rows n w))
       (λ i j hi hj ne e.

@@ -23,7 +23,7 @@ use Rattle.soundness.proofs.GroupLaws.{count-at}
 use Rattle.sound_columns.proofs.ListLaws.{in-at, new-distinct}
 
 -- the table and the columns' heads point to each other; there are fewer columns than 255
-pub record Tabled (reg : ℕ) (kindAt slotOf : ℕ → ℕ) : Type 0 where
+pub record TableLinks (reg : ℕ) (kindAt slotOf : ℕ → ℕ) : Type 0 where
   pub few : reg ≤ MAX-KINDS
   pub slot : (k : ℕ) → k < MAX-KINDS → slotOf k ≢ UNREGISTERED → slotOf k < reg
   pub back : (k : ℕ) → k < MAX-KINDS → slotOf k ≢ UNREGISTERED → kindAt (slotOf k) ≡ k
@@ -40,7 +40,7 @@ pub record RowsOk (live : List Entity) (rows : SparseSet) : Type 0 where
   pub alive : (i : ℕ) → i < length rows → 1 ≤ cnt (getD rows i noRow .entity) live
   pub values : (i : ℕ) → Eight (getD rows i noRow .value)
 
-module _ (reg : ℕ) (kindAt slotOf : ℕ → ℕ) (T : Tabled reg kindAt slotOf) where
+module _ (reg : ℕ) (kindAt slotOf : ℕ → ℕ) (T : TableLinks reg kindAt slotOf) where
   -- ---- the registered kinds
 
   slot-in : (s : ℕ) → s < reg → In (table reg kindAt) (kindAt s)

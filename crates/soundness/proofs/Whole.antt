@@ -11,7 +11,7 @@ use lib.Dec.{eqb}
 use lib.ListN.{length, getD, take, List·getD-map}
 use lib.Seq.{getD-take, length-take-le}
 use Rattle.model.specs.Numbers.{ENTITY-LEN, LIST-CAPACITY, MAX-GROUP-COUNT, MAX-KINDS, columnLen}
-use Rattle.model.specs.Lists.{count, count-place, place-count}
+use Rattle.model.specs.Lists.{countOf, count-place, place-count}
 use Rattle.model.specs.Model.{Entity, sameEntity, noRow, kindOf, entityOf, isLive}
 use Rattle.model.specs.Sound.{cnt, In, Distinct, KindsSound, EntitiesSound, SetsSound, StagedSound, ExcludedSound, Buildable, AllRight}
 use Rattle.model.specs.Sound as modelSound
@@ -20,7 +20,7 @@ use Rattle.model.proofs.KindLists.{in-count, count-in, at-in}
 use Rattle.words.specs.Offsets.{columnStart, columnStart-mono, BLOCK-LEN, COLUMN-KIND, DRAFT, ENTITIES, EXCLUDED-KINDS, GROUP-COUNTS, GROUP-FAMILIES, LAYOUT, LAYOUT-ARITIES, LAYOUT-KIND-ENDS, REFUSALS, ROWS, STAGED-KINDS, STAGED-VALUES, TABLE, UNREGISTERED}
 use Rattle.words.specs.Part.{between, getD-between, length-between}
 use Rattle.words.specs.Table.{table}
-use Rattle.component.specs.SparseSet.{Sound, lengthOf}
+use Rattle.component.specs.SparseSet.{ColumnSound, lengthOf}
 use Rattle.words.specs.Decides.{Each}
 use Rattle.component.proofs.Meaning.{length-rows, empty-rows}
 use Rattle.component.specs.Columns.{columnOf, rowsOf, Columns, Lent}
@@ -44,7 +44,7 @@ use Rattle.sound_columns.specs.Listed.{ListOk}
 use Rattle.sound_groups.specs.Spans.{startIn, Force, HeadsOk, OwnOk}
 use Rattle.sound_columns.proofs.SlotLaws.{room-long, room-less, key-word}
 use Rattle.soundness.specs.Parts.{SizeOk, PartsOk, ListsOk, LayoutOk, CountsOk}
-use Rattle.soundness.proofs.TableLaws.{Tabled, registered-slot, registered-small, slot-registered, kinds-sound, sets-sound, sets-alive}
+use Rattle.soundness.proofs.TableLaws.{TableLinks, registered-slot, registered-small, slot-registered, kinds-sound, sets-sound, sets-alive}
 use Rattle.soundness.proofs.ColumnLaws.{rows-once, rows-values, value-eight, between-below}
 use Rattle.soundness.proofs.StagedLaws.{map-table, table-between, staged-sound}
 use Rattle.soundness.proofs.GroupLaws.{families-right, right-families}
@@ -104,7 +104,7 @@ module _ (w : List ℕ) where
       }
 
   module _ (T : TableSound w) (most : k ≤ MAX-KINDS) where
-    tabled : Tabled reg (kindAt w) (slotOf w)
+    tabled : TableLinks reg (kindAt w) (slotOf w)
     tabled = record { few = omega (arith, T .few); slot = T .slot; back = T .back; small = T .small; own = T .own }
 
     kinds-are : KindsSound k (kindsIn w)
@@ -130,8 +130,8 @@ module _ (w : List ℕ) where
 
     listed-of : (l : List ℕ) → Distinct l → ((j : ℕ) → In l j → In (kindsIn w) j) → KindsOk slots l
     listed-of l once known =
-        let small : (j : ℕ) → MAX-KINDS ≤ j → count eqb j l ≡ 0 =
-        λ j h. elim (decLe 1 (count eqb j l)) [ yes c ↦ absurd (omega (arith, in-known j (known j (count-in l j c)) .small)) | no c ↦ omega arith ] in
+        let small : (j : ℕ) → MAX-KINDS ≤ j → countOf eqb j l ≡ 0 =
+        λ j h. elim (decLe 1 (countOf eqb j l)) [ yes c ↦ absurd (omega (arith, in-known j (known j (count-in l j c)) .small)) | no c ↦ omega arith ] in
         record { once = record { once = once; known = small }; registered = λ j c. in-slots j (known j (count-in l j c)) }
 
     of-listed : (l : List ℕ) → KindsOk slots l → (j : ℕ) → In l j → In (kindsIn w) j
@@ -262,7 +262,7 @@ module _ (w : List ℕ) where
       (subst (λ (e : Entity). 1 ≤ cnt e live) (row-entity s (lent n k s w D q) i l)
       (sets-alive reg (kindAt w) (slotOf w) (tabled T most) (λ s. rowsOf n s w) live S s h i l))
 
-  entities-are : Bits w → entity.Sound n (entityPart n w) → EntitiesSound n (entitiesIn n w)
+  entities-are : Bits w → entity.EntityPartSound n (entityPart n w) → EntitiesSound n (entitiesIn n w)
   entities-are bits s =
       let e = entities-ok n (entityPart n w) s (between-below 4294967296 ENTITIES (ENTITIES + ENTITY-LEN * n) w (omega arith) bits) in
       record {
@@ -430,7 +430,7 @@ module _ (w : List ℕ) where
         abbrev S : SetsSound (kindsIn w) live (setsIn w)
         S = sets-are T most bits (columns-are Z (P .columns)) (P .columns)
 
-        means-of : modelSound.Sound (meaning w)
+        means-of : modelSound.StoreSound (meaning w)
         unfolding meaning
         means-of =
             record {
@@ -462,7 +462,7 @@ module _ (w : List ℕ) where
     pub layout : Buildable (kindsIn w) (layoutIn w)
     pub groups : AllRight (setsIn w) live (layoutIn w)
 
-  means : modelSound.Sound (meaning w) → Means
+  means : modelSound.StoreSound (meaning w) → Means
   unfolding meaning
   means S = record { entities = S .entities; sets = S .sets; staged = S .staged; excluded = S .excluded; draft = S .draft; layout = S .layout; groups = S .groups }
 

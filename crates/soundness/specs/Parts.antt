@@ -25,7 +25,7 @@ pub record SizeOk (n k : ℕ) (w : List ℕ) : Type 0 where
 -- "at most K registered kinds, each with a column of its own"; the entities; "each column with its own lookups", "columns holding live cards only"
 pub record PartsOk (n k : ℕ) (w : List ℕ) : Type 0 where
   pub table : TableOk n k w
-  pub entities : entity.Sound n (entityPart n w)
+  pub entities : entity.EntityPartSound n (entityPart n w)
   pub columns : Each k (ColumnOk n (registeredOf w) w)
 
 -- "hand, bar, draft .. of registered kinds, such as commands can build"

@@ -61,7 +61,7 @@ module _ (fuel : ℕ) (w′ : List ℕ) (rest : Rest fuel w′) (b : ℕ) (t : L
   shorter = omega (arith, length-drop (width b) t)
 
   -- a command that the run goes on after
-  went : (k : ℕ) (a : List ℕ) (s : Store) → WentOn b t room (meaning w) k a s → model.Sound s → Leaves w (commandOn b t) s (λ w₁. Traced fuel (drop k (b ∷ t)) (room - length a) w₁ w′)
+  went : (k : ℕ) (a : List ℕ) (s : Store) → WentOn b t room (meaning w) k a s → model.StoreSound s → Leaves w (commandOn b t) s (λ w₁. Traced fuel (drop k (b ∷ t)) (room - length a) w₁ w′)
       → CourseOf w (b ∷ t) room w′ (more k a (runFor fuel (drop k (b ∷ t)) (room - length a) s))
   went k a s G T L =
       let w₁ = L .words in

@@ -9,7 +9,7 @@ use native.Mathlib.Omega.{arith}
 use lib.ListN.{length, take, drop, length-map}
 use denote.Ref.{RefT}
 use Rattle.model.specs.Numbers.{LAST-KIND}
-use Rattle.model.specs.Model.{found, range, setOf, entityOf}
+use Rattle.model.specs.Model.{found, rangeFor, setOf, entityOf}
 use Rattle.model.specs.Store.{Store, empty}
 use Rattle.model.specs.Refusals.{numberOf, startLines, rollLines, columnLines}
 use Rattle.model.specs.Run.{halt, run}
@@ -208,7 +208,7 @@ reached-rolls {w} o o′ r c h R = go (R .sound) (R .decides) (R .number)
 
 -- ---- RANGE and column: the entities that hand h and bar b describe stand in the column of each kind of the hand, from start to end of the range
 
-pub range-shown : (v r : RefT (List ℕ)) (h b : List ℕ) (k a e : ℕ) → Sound (v .now) → In h k → In (meaning (v .now) .kinds) k → range h b (meaning (v .now) .storage) ≡ found a e → ColumnPart v r false k a e
+pub range-shown : (v r : RefT (List ℕ)) (h b : List ℕ) (k a e : ℕ) → Sound (v .now) → In h k → In (meaning (v .now) .kinds) k → rangeFor h b (meaning (v .now) .storage) ≡ found a e → ColumnPart v r false k a e
     → Showing (meaning (v .now) .storage .sets) (meaning (v .now) .entities .live) h b a e × (r .now ≡ entityWords (part a e (key (meaning (v .now) .storage .sets) k)))
 range-shown v r h b k a e S i known f P =
     let s = meaning (v .now) in

@@ -11,7 +11,7 @@ use Rattle.model.specs.Numbers.{NOROOM, UNSOUND}
 use Rattle.model.specs.Snapshot.{snapshot}
 use Rattle.memory.specs.Meaning.{meaning}
 use Rattle.memory.specs.Arranged.{Sound}
-use Rattle.snapshot.specs.Wrote.{Wrote}
+use Rattle.snapshot.specs.Wrote.{WrittenUntil}
 use Rattle.snapshot.proofs.Rolled.{roll-short, roll-fits}
 use Rattle.store.specs.Entries.{Rolls}
 
@@ -27,7 +27,7 @@ short-roll w o S h =
 front-sets : (o a : List ℕ) → length a ≤ length o → sets o 0 a ≡ a ++ drop (length a) o
 front-sets o a h = sets-eq a o 0 (omega arith) ∙ ap (λ (n : ℕ). a ++ drop n o) (zero-add (length a))
 
-pub written-roll : (w o o′ : List ℕ) (n : ℕ) → Sound w → length (snapshot (meaning w)) ≤ length o → Wrote o o′ 0 n (snapshot (meaning w)) → Rolls w o o′ (record { number = 0; written = n })
+pub written-roll : (w o o′ : List ℕ) (n : ℕ) → Sound w → length (snapshot (meaning w)) ≤ length o → WrittenUntil o o′ 0 n (snapshot (meaning w)) → Rolls w o o′ (record { number = 0; written = n })
 written-roll w o o′ n S h W =
     let e = roll-fits (length o) (meaning w) h in
     record {

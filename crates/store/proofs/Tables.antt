@@ -13,7 +13,7 @@ use Rattle.model.specs.Entries.{startedBy, start, rolledBy, roll}
 use Rattle.model.proofs.Lines.{first-exact, none-exact, NumbersIn, first-number}
 use Rattle.words.specs.Decides.{Decides}
 use Rattle.memory.specs.Arranged.{Sound}
-use Rattle.store.specs.Entries.{startNumber, orElse, rolledOf, rollNumber}
+use Rattle.store.specs.Entries.{startNumber, firstRefusal, rolledOf, rollNumber}
 
 -- r is the number of the first line that holds, 0 where none does
 pub record Tabled {A : Type 0} (ls : List (Line A)) (x : A) (r : ℕ) : Type 0 where
@@ -41,7 +41,7 @@ pub record Judged {A : Type 0} (w : List ℕ) (ls : List (Line A)) (x : A) (r : 
   pub unsound : (r ≡ 3) ↔ (Sound w → ⊥)
   pub sound : Sound w → Tabled ls x r
 
-pub judged : {A : Type 0} (w : List ℕ) (ls : List (Line A)) (x : A) (r : ℕ) (b : Bool) → NumbersIn 1 16 ls → NumbersIn 4 16 ls → Decides b (Sound w) → r ≡ numberOf (orElse (firstLine otherLines b) (firstLine ls x)) → Judged w ls x r
+pub judged : {A : Type 0} (w : List ℕ) (ls : List (Line A)) (x : A) (r : ℕ) (b : Bool) → NumbersIn 1 16 ls → NumbersIn 4 16 ls → Decides b (Sound w) → r ≡ numberOf (firstRefusal (firstLine otherLines b) (firstLine ls x)) → Judged w ls x r
 judged w ls x r false h g d e = record { unsound = ((λ q. d), (λ n. e)); sound = λ S. absurd (d S) }
 judged w ls x r true h g d e =
     record {
@@ -67,7 +67,7 @@ roll-by : (o : Option ℕ) (b : List ℕ) → rollNumber (rolledBy o b) ≡ numb
 roll-by (some n) b = refl
 roll-by none b = refl
 
-pub roll-tabled : (sound : Bool) (room : ℕ) (s : Store) → rollNumber (rolledOf sound room s) ≡ numberOf (orElse (firstLine otherLines sound) (firstLine rollLines (record { room = room; store = s })))
+pub roll-tabled : (sound : Bool) (room : ℕ) (s : Store) → rollNumber (rolledOf sound room s) ≡ numberOf (firstRefusal (firstLine otherLines sound) (firstLine rollLines (record { room = room; store = s })))
 unfolding roll
 roll-tabled true room s = roll-by (firstLine rollLines (record { room = room; store = s })) (snapshot s)
 roll-tabled false room s = refl

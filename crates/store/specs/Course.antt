@@ -6,14 +6,14 @@ use lib.ListN.{length, set, take, drop}
 use Rattle.words.specs.Offsets.{REFUSALS}
 use Rattle.model.specs.Store.{counted}
 use Rattle.model.specs.Commands.{Command, width, commandAt, accepted}
-use Rattle.model.specs.Refusals.{NoneHolds, First, Ready, beforeLines, linesOf}
+use Rattle.model.specs.Refusals.{NoneHolds, First, BeforeCommand, beforeLines, linesOf}
 use Rattle.memory.specs.Meaning.{meaning}
 use Rattle.memory.specs.Arranged.{Sound, Becomes}
 use Rattle.run.specs.declared.Ran.{Ran}
 use Rattle.store.specs.Entries.{Starts, Runs}
 
 -- what the lines before a command are told: its byte, the tape after it, the free answer bytes, and the store that the words mean
-abbrev pub before : List ℕ → ℕ → List ℕ → ℕ → Ready
+abbrev pub before : List ℕ → ℕ → List ℕ → ℕ → BeforeCommand
 before w b t room = record { byte = b; rest = t; room = room; store = meaning w }
 
 -- the command of byte b, with the tape t after it

@@ -52,13 +52,13 @@ pub record Starts (n k : ℕ) (w w′ : List ℕ) (r : ℕ) : Type 0 where
 -- ---- column
 
 -- the first refusal, if there is one, else the second
-abbrev pub orElse : Option ℕ → Option ℕ → Option ℕ
-orElse (some n) r = some n
-orElse none r = r
+abbrev pub firstRefusal : Option ℕ → Option ℕ → Option ℕ
+firstRefusal (some n) r = some n
+firstRefusal none r = r
 
 -- "other entries, first | 3 UNSOUND", then the lines of column
 abbrev pub columnRefused : Bool → ℕ → ℕ → ℕ → Store → Option ℕ
-columnRefused sound k a e s = orElse (firstLine otherLines sound) (columnRefusal k a e s)
+columnRefused sound k a e s = firstRefusal (firstLine otherLines sound) (columnRefusal k a e s)
 
 -- kind k from a to e, with number r
 pub record ColumnNumbered (w : List ℕ) (k a e r : ℕ) : Type 0 where

@@ -6,7 +6,7 @@ use Prim.Native.Nat.{ℕ, _+_, _≤_, _<_}
 use native.Mathlib.Omega.{arith}
 use lib.ListN.{length, take, drop, set, length-append, length-drop, take-append-drop}
 use lib.Seq.{sets, sets-eq, drop-append-le, drop-append-add, drop-drop, take-append-seam, length-take-le}
-use Rattle.model.specs.Store.{Store, le, empty, wordsNeeded}
+use Rattle.model.specs.Store.{Store, bytesOf, empty, wordsNeeded}
 use Rattle.model.specs.Run.{run}
 use Rattle.model.specs.Examples.{sample, answer, stream-example}
 use Rattle.model.specs.Entries.{makes, start}
@@ -32,11 +32,11 @@ fresh w w′ r h e = subst (StartLeaves w w′) (ap (start 64 8) e ∙ started) 
 -- ---- the numbers
 
 -- one after another
-pub numbers-put : (o : List ℕ) (at s a b w : ℕ) → sets (sets (sets (set o at s) (at + 1) (le 4 a)) (at + 5) (le 4 b)) (at + 9) (le 4 w) ≡ sets o at (numbers s a b w)
+pub numbers-put : (o : List ℕ) (at s a b w : ℕ) → sets (sets (sets (set o at s) (at + 1) (bytesOf 4 a)) (at + 5) (bytesOf 4 b)) (at + 9) (bytesOf 4 w) ≡ sets o at (numbers s a b w)
 numbers-put o at s a b w =
-    ap (λ (l : List ℕ). sets (sets l (at + 5) (le 4 b)) (at + 9) (le 4 w)) (sets-join o at (s ∷ []) (le 4 a))
-    ∙ ap (λ (l : List ℕ). sets l (at + 9) (le 4 w)) (sets-join o at (s ∷ le 4 a) (le 4 b))
-    ∙ sets-join o at (s ∷ le 4 a ++ le 4 b) (le 4 w)
+    ap (λ (l : List ℕ). sets (sets l (at + 5) (bytesOf 4 b)) (at + 9) (bytesOf 4 w)) (sets-join o at (s ∷ []) (bytesOf 4 a))
+    ∙ ap (λ (l : List ℕ). sets l (at + 9) (bytesOf 4 w)) (sets-join o at (s ∷ bytesOf 4 a) (bytesOf 4 b))
+    ∙ sets-join o at (s ∷ bytesOf 4 a ++ bytesOf 4 b) (bytesOf 4 w)
 
 -- ---- the answers and then the numbers
 

@@ -3,13 +3,13 @@ use mathlib.Core.Path.{_≡_}
 use mathlib.Core.List.{List, _∷_, _++_}
 use Prim.Native.Nat.{ℕ}
 use lib.ListN.{length, drop}
-use Rattle.model.specs.Store.{le, empty}
+use Rattle.model.specs.Store.{bytesOf, empty}
 use Rattle.model.specs.Run.{Ran, run}
 use Rattle.model.specs.Examples.{written}
 
 -- "then stop 1, commands 4, read 4, written 4"
 abbrev pub numbers : ℕ → ℕ → ℕ → ℕ → List ℕ
-numbers stop commands read bytes = stop ∷ le 4 commands ++ le 4 read ++ le 4 bytes
+numbers stop commands read bytes = stop ∷ bytesOf 4 commands ++ bytesOf 4 read ++ bytesOf 4 bytes
 
 -- "The program tape (N 64, K 8) .. with 16,384 answer bytes"
 abbrev pub ranOn : List ℕ → Ran

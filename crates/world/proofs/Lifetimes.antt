@@ -3,7 +3,7 @@ use mathlib.Core.Path.{_≡_, refl, sym, subst}
 use mathlib.Core.Bool.{true, false}
 use mathlib.Core.List.{List}
 use Prim.Native.Nat.{ℕ}
-use Rattle.model.specs.Model.{Entity, insert, remove, create, destroy, isLive}
+use Rattle.model.specs.Model.{Entity, insertComponents, remove, create, destroy, isLive}
 use Rattle.model.specs.Store.{Store}
 use Rattle.model.specs.Sound as model
 use Rattle.model.proofs.Operations.{create-sound, create-is-live}
@@ -28,15 +28,15 @@ module _ (w : List ℕ) where
   module _ (S : Sound w) (room : isFull (meaning w .capacity) (meaning w .entities) ≡ false) (w₁ : List ℕ) (e : Entity) (q : e ≡ create (meaning w .entities) .entity)
       (B : Becomes w w₁ (withEntities (meaning w) (create (meaning w .entities) .entities))) where
     pub create-sounds : Sound w₁
-    create-sounds = record { arranged = B .arranged; means = subst model.Sound (sym (B .means)) (create-sound (meaning w) (S .means) room) }
+    create-sounds = record { arranged = B .arranged; means = subst model.StoreSound (sym (B .means)) (create-sound (meaning w) (S .means) room) }
 
     pub new-live : isLive e (meaning w₁ .entities) ≡ true
     new-live =
         subst (λ (s : Store). isLive e (s .entities) ≡ true) (sym (B .means))
         (subst (λ (x : Entity). isLive x (create (meaning w .entities) .entities) ≡ true) (sym q) (create-is-live (meaning w .entities)))
 
-    pub created-whole : (w₂ : List ℕ) → Becomes w₁ w₂ (onStorage (insert e (meaning w₁ .control .staged)) (meaning w₁)) → Becomes w w₂ (created (meaning w))
+    pub created-whole : (w₂ : List ℕ) → Becomes w₁ w₂ (onStorage (insertComponents e (meaning w₁ .control .staged)) (meaning w₁)) → Becomes w w₂ (created (meaning w))
     created-whole w₂ C =
-        let D : Becomes w w₂ (onStorage (insert e (meaning w .control .staged)) (withEntities (meaning w) (create (meaning w .entities) .entities))) =
-        becomes-next (withEntities (meaning w) (create (meaning w .entities) .entities)) (λ (s : Store). onStorage (insert e (s .control .staged)) s) B (record { capacity = refl; kindCapacity = refl }) C in
-        subst (λ (x : Entity). Becomes w w₂ (onStorage (insert x (meaning w .control .staged)) (withEntities (meaning w) (create (meaning w .entities) .entities)))) q D
+        let D : Becomes w w₂ (onStorage (insertComponents e (meaning w .control .staged)) (withEntities (meaning w) (create (meaning w .entities) .entities))) =
+        becomes-next (withEntities (meaning w) (create (meaning w .entities) .entities)) (λ (s : Store). onStorage (insertComponents e (s .control .staged)) s) B (record { capacity = refl; kindCapacity = refl }) C in
+        subst (λ (x : Entity). Becomes w w₂ (onStorage (insertComponents x (meaning w .control .staged)) (withEntities (meaning w) (create (meaning w .entities) .entities)))) q D

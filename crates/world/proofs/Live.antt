@@ -11,7 +11,7 @@ use lib.ListN.{length, getD}
 use Rattle.model.specs.Lists.{one}
 use Rattle.model.specs.Model.{Entity, SparseSet, sameEntity, noRow, setOf, keys, isLive}
 use Rattle.model.specs.Store.{Store}
-use Rattle.model.specs.Sound.{cnt, num, Sound}
+use Rattle.model.specs.Sound.{cnt, num, StoreSound}
 use Rattle.model.proofs.SparseSets.{entity-eq, entity-same}
 use Rattle.model.proofs.Walk.{bool-cases}
 use Rattle.model.proofs.Operations.{live-count}
@@ -44,7 +44,7 @@ row-count [] i h = absurd (not-suc-le-zero h)
 row-count (r ∷ rows) zero h = omega (arith, ap one (entity-same (r .entity)))
 row-count (r ∷ rows) (suc i) h = omega (arith, row-count rows i (le-of-suc-le-suc h))
 
-pub current : (s : Store) → Sound s → (e : Entity) → isLive e (s .entities) ≡ true → (k : ℕ) → Current (e .index) (e .version) (setOf (s .storage .sets) k)
+pub current : (s : Store) → StoreSound s → (e : Entity) → isLive e (s .entities) ≡ true → (k : ℕ) → Current (e .index) (e .version) (setOf (s .storage .sets) k)
 current s S e live k i h q =
     let y : Entity = getD (setOf (s .storage .sets) k) i noRow .entity in
     let alive : 1 ≤ cnt y (s .entities .live) = S .sets .alive y k (row-count (setOf (s .storage .sets) k) i h) in

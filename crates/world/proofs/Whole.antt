@@ -5,7 +5,7 @@ use mathlib.Core.List.{List, reverse}
 use Prim.Native.Nat.{ℕ, _+_, _<_}
 use native.Mathlib.Omega.{arith}
 use lib.ListN.{length}
-use Rattle.model.specs.Model.{Entity, Family, Storage, kindsOf, meets, groupsOf, isLive, insert, remove}
+use Rattle.model.specs.Model.{Entity, Family, Storage, kindsOf, meets, groupsOf, isLive, insertComponents, remove}
 use Rattle.model.specs.Store.{Store, stagedKinds}
 use Rattle.model.specs.Sound.{Distinct}
 use Rattle.model.proofs.Families.{Kinds}
@@ -72,15 +72,15 @@ module _ (w : List ℕ) (S : Sound w) where
         (subst (λ (ps : List ℕ). ReadyUp (entity x v) 0 ps (inserted (entity x v) (meaning w .control .staged) (meaning w .storage))) (sym b)
         (ready-insert (entity x v) (meaning w .control .staged) (meaning w .storage) staged-kinds fit))
 
-    whole : walkUp (entity x v) 0 (bitsOf 64 mask) (inserted (entity x v) (meaning w .control .staged) (meaning w .storage)) ≡ insert (entity x v) (meaning w .control .staged) (meaning w .storage)
-    unfolding insert
+    whole : walkUp (entity x v) 0 (bitsOf 64 mask) (inserted (entity x v) (meaning w .control .staged) (meaning w .storage)) ≡ insertComponents (entity x v) (meaning w .control .staged) (meaning w .storage)
+    unfolding insertComponents
     whole =
         ap (λ (ps : List ℕ). walkUp (entity x v) 0 ps (inserted (entity x v) (meaning w .control .staged) (meaning w .storage))) b
         ∙ walk-touched (entity x v) (stagedKinds (meaning w)) (inserted (entity x v) (meaning w .control .staged) (meaning w .storage))
 
-    pub insert-whole : (w₂ : List ℕ) → Becomes w₁ w₂ (onStorage (walkUp (entity x v) 0 (bitsOf 64 mask)) (meaning w₁)) → Becomes w w₂ (onStorage (insert (entity x v) (meaning w .control .staged)) (meaning w))
+    pub insert-whole : (w₂ : List ℕ) → Becomes w₁ w₂ (onStorage (walkUp (entity x v) 0 (bitsOf 64 mask)) (meaning w₁)) → Becomes w w₂ (onStorage (insertComponents (entity x v) (meaning w .control .staged)) (meaning w))
     insert-whole w₂ C =
-        storage-becomes w w₂ (meaning w) (λ (s : Storage). walkUp (entity x v) 0 (bitsOf 64 mask) (inserted (entity x v) (meaning w .control .staged) s)) (insert (entity x v) (meaning w .control .staged)) whole
+        storage-becomes w w₂ (meaning w) (λ (s : Storage). walkUp (entity x v) 0 (bitsOf 64 mask) (inserted (entity x v) (meaning w .control .staged) s)) (insertComponents (entity x v) (meaning w .control .staged)) whole
         (becomes-then w w₁ w₂ (inserted (entity x v) (meaning w .control .staged)) (onStorage (walkUp (entity x v) 0 (bitsOf 64 mask))) B C)
 
   -- ---- removal: the walk downward, then the components go

@@ -2,7 +2,7 @@
 use mathlib.Core.Path.{_≡_}
 use mathlib.Core.List.{List}
 use Prim.Native.Nat.{ℕ}
-use Rattle.model.specs.Model.{Entity, insert, remove, create, destroy}
+use Rattle.model.specs.Model.{Entity, insertComponents, remove, create, destroy}
 use Rattle.model.specs.Store.{Store, withAll}
 use Rattle.entity.specs.declared.Entity.{Entity as Answer}
 use Rattle.entity.specs.Answers.{entityOf}
@@ -11,7 +11,7 @@ use Rattle.memory.specs.Arranged.{Becomes}
 
 -- NEW: "create with the hand; index 4, version 4"
 abbrev pub created : Store → Store
-created s = withAll s (create (s .entities) .entities) (insert (create (s .entities) .entity) (s .control .staged) (s .storage)) (s .control)
+created s = withAll s (create (s .entities) .entities) (insertComponents (create (s .entities) .entity) (s .control .staged) (s .storage)) (s .control)
 
 pub record NewEntity (w w′ : List ℕ) (r : Answer) : Type 0 where
   pub becomes : Becomes w w′ (created (meaning w))

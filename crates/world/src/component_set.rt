@@ -7,7 +7,7 @@ ghost use mathlib.Core.Path.{_≡_};
 ghost use mathlib.Core.Bool.{true};
 ghost use Prim.Native.Nat.{_<_};
 ghost use lib.ListN.{length, getD};
-ghost use Rattle.model.specs.Model.{isLive, insert, remove};
+ghost use Rattle.model.specs.Model.{isLive, insertComponents, remove};
 ghost use Rattle.model.specs.Store.{stagedKinds};
 ghost use Rattle.model.specs.Sound.{noComponent};
 ghost use Rattle.component.specs.SparseSet.{entity};
@@ -45,7 +45,7 @@ pub fn insert_staged(words: &mut [u32], index: u32, version: u32)
 pub fn insert(words: &mut [u32], index: u32, version: u32)
     requires { ⌜ Sound (now words) ⌝ }
     requires { ⌜ isLive (entity index version) (meaning (now words) .entities) ≡ true ⌝ }
-    ensures { λ _. ⌜ Becomes (now (words .entry)) (now (words .exit)) (onStorage (insert (entity index version) (meaning (now (words .entry)) .control .staged)) (meaning (now (words .entry)))) ⌝ }
+    ensures { λ _. ⌜ Becomes (now (words .entry)) (now (words .exit)) (onStorage (insertComponents (entity index version) (meaning (now (words .entry)) .control .staged)) (meaning (now (words .entry)))) ⌝ }
 {
     let mask = staged_mask(words, Walk::Insert);
     insert_staged(words, index, version);

@@ -1,4 +1,3 @@
--- `command_group::add_staged` meets its contract: the front of the bytes is the staged kinds, and the draft by value is the store's. Assumes nothing.
 use mathlib.Core.Path.{_≡_, sym, ap₂, _∙_}
 use Prim.Native.Nat.{_≤_}
 use native.Mathlib.Omega.{arith}

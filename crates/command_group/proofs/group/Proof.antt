@@ -1,4 +1,3 @@
--- `command_group::group` meets its contract: one arm for each outcome of the draft by value. Assumes nothing.
 use mathlib.Core.Path.{_∙_}
 use native.Mathlib.Omega.{arith}
 use borrow.Author.Needs.{needs}

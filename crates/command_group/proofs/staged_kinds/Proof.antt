@@ -1,4 +1,3 @@
--- `command_group::staged_kinds` meets its contract: the first i bytes are the first i staged kinds. Assumes nothing.
 use mathlib.Core.Path.{_≡_, refl, subst}
 use Prim.Native.Nat.{ℕ, _≤_, _-_}
 use native.Mathlib.Omega.{arith}

@@ -1,4 +1,3 @@
--- `command_take::take_one` meets its contract. Assumes nothing.
 use mathlib.Core.Path.{ap, _∙_, subst}
 use borrow.Author.Needs.{needs}
 use lib.ListN.{getD}

@@ -1,4 +1,3 @@
--- `command_take::take_staged` meets its contract: the first i staged kinds are gone and written out. Assumes nothing.
 use mathlib.Core.Path.{_≡_}
 use Prim.Native.Nat.{_-_, _≤_}
 use native.Mathlib.Omega.{arith}

@@ -69,7 +69,7 @@ returns-5 c =
     let s = c .before .before .before .before .before .before .before .before .before .before .before .before .before .before .before .before .before .before .before .before .before in let i = s .args .include in let e = s .args .exclude in let ars = s .args .arities .now in let t = c .before .before .before .before .before .before .before .before .before .before .before .before .before .before .before .before .larger .ensures in let x = s .pre .1 in let y = s .pre .2 in let same = c .before .before .before .before .before .before .before .before .before .before .before .before .before .before .before .before .before .if1 .left in
     let counts = s .args .counts .now in
     record {
-      ring = record {
+      next = record {
         same = same;
         later = omega arith;
         included = agree _ _ _ (c .before .before .before .before .before .before .before .if3 .left) (rw t at (c .before .before .before .before .before .before .before .before .before .before .before .before .exclude .ensures .include));

@@ -1,4 +1,3 @@
--- `input::read_up_to` meets its contract: the bytes that came are within the buffer, which keeps its length. Each turn leaves less room. Assumes nothing.
 use mathlib.Core.Path.{_≡_, _∙_, refl}
 use Prim.Native.Nat.{_≤_, _-_}
 use lib.ListN.{length}

@@ -1,4 +1,3 @@
--- `replay::replay_cases` meets its contract. The invariant: where all cases so far agree, the model agrees with what is recorded of them. Assumes nothing.
 use mathlib.Core.Path.{_≡_, refl, _∙_}
 use Prim.Native.Nat.{_≤_, _-_}
 use lib.ListN.{length}

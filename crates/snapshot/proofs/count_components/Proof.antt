@@ -1,4 +1,3 @@
--- `snapshot::count_components` meets its contract: what is counted and the rows from the next kind on are all. Assumes nothing.
 use mathlib.Core.Path.{_≡_}
 use Prim.Native.Nat.{_+_, _*_, _-_, _≤_}
 use native.Mathlib.Omega.{arith}

@@ -1,4 +1,3 @@
--- `snapshot::rising_kinds` meets its contract: what is listed and what is left to list are all. Assumes nothing.
 use mathlib.Core.Path.{_≡_, refl, sym, _∙_}
 use mathlib.Core.Logic.{⊎-elim}
 use mathlib.Core.List.{_++_}

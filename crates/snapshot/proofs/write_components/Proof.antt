@@ -1,4 +1,3 @@
--- `snapshot::write_components` meets its contract: the listed kinds from the next on are what is left to write. Assumes nothing.
 use mathlib.Core.Path.{_≡_}
 use Prim.Native.Nat.{_+_, _-_, _≤_}
 use native.Mathlib.Omega.{arith}

@@ -1,4 +1,3 @@
--- `snapshot::write_entities` meets its contract: the indexes from the next on are what is left to write. Assumes nothing.
 use Prim.Native.Nat.{_+_, _-_, _≤_, _<_}
 use native.Mathlib.Omega.{arith}
 use lib.ListN.{length}

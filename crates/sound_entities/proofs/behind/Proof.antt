@@ -1,7 +1,7 @@
 use mathlib.Core.Path.{sym}
 use Prim.Native.Nat.{_-_}
 use borrow.Author.Needs.{needs}
-use Rattle.entity.proofs.RingLaws.{since-low, since-high}
+use Rattle.entity.proofs.QueueLaws.{since-low, since-high}
 use Rattle.sound_entities.proofs.behind.Statement.{statement}
 use Rattle.sound_entities.proofs.behind.Tie as tie
 

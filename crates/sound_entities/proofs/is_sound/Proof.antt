@@ -36,7 +36,7 @@ returns-5 : tie.Need-returns-5
 returns-5 c =
     let n = c .before .before .before .before .before .before .before .before .before .args .n in
     let w = c .before .before .before .before .before .before .before .before .before .args .part .now in
-    λ s. denied {P = Each (recycledLen w) (WaitsOk n w)} (c .before .ring-ok .result) (c .before .ring-ok .ensures) (c .if5 .taken) (s .ring .waits)
+    λ s. denied {P = Each (recycledLen w) (WaitsOk n w)} (c .before .ring-ok .result) (c .before .ring-ok .ensures) (c .if5 .taken) (s .queue .waits)
 
 indexes-ok-requires : tie.Need-indexes-ok-requires
 indexes-ok-requires c κs =

@@ -1,4 +1,3 @@
--- `store::column_number` meets its contract: the lines of 01's table in its order. Assumes nothing.
 use mathlib.Core.Path.{_≡_, sym, _∙_}
 use mathlib.Core.Bool.{true, false}
 use mathlib.Core.Option.{some, none}

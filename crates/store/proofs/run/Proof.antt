@@ -1,4 +1,3 @@
--- `store::run` meets its contract. Assumes nothing.
 use native.Mathlib.Omega.{arith}
 use borrow.Author.Needs.{needs}
 use Rattle.memory.specs.Arranged.{Sound}

@@ -1,4 +1,3 @@
--- `store::words_needed` meets its contract. Assumes nothing.
 use mathlib.Core.Path.{refl}
 use borrow.Author.Needs.{needs}
 use Rattle.model.specs.Sound.{Limits}

@@ -5,7 +5,7 @@ use native.Mathlib.Omega.{arith}
 use borrow.Author.Needs.{needs}
 use lib.ListN.{length-set}
 use lib.Seq.{sets}
-use Rattle.model.specs.Store.{le}
+use Rattle.model.specs.Store.{bytesOf}
 use Rattle.tape.proofs.Serving.{numbers-put}
 use Rattle.tape.proofs.put_numbers.Statement.{statement}
 use Rattle.tape.proofs.put_numbers.Tie as tie
@@ -24,8 +24,8 @@ returns c =
     let a = c .before .before .before .before .before .before .before .before .before .before .before .before .before .args in (
       refl,
       c .before .before .put-u323 .ensures
-          ∙ ap (λ (l : List ℕ). sets l (a .written + 9) (le 4 (a .written))) (c .before .before .before .before .before .before .put-u322 .ensures)
-          ∙ ap (λ (l : List ℕ). sets (sets l (a .written + 5) (le 4 (a .read))) (a .written + 9) (le 4 (a .written))) (c .before .before .before .before .before .before .before .before .before .before .put-u32 .ensures)
+          ∙ ap (λ (l : List ℕ). sets l (a .written + 9) (bytesOf 4 (a .written))) (c .before .before .before .before .before .before .put-u322 .ensures)
+          ∙ ap (λ (l : List ℕ). sets (sets l (a .written + 5) (bytesOf 4 (a .read))) (a .written + 9) (bytesOf 4 (a .written))) (c .before .before .before .before .before .before .before .before .before .before .put-u32 .ensures)
           ∙ numbers-put (a .out .now) (a .written) (a .stop) (a .commands) (a .read) (a .written),
     )
 

@@ -1,4 +1,3 @@
--- `world::create` meets its contract. Assumes nothing.
 use borrow.Author.Needs.{needs}
 use Rattle.entity.specs.Answers.{entityOf}
 use Rattle.world.proofs.Lifetimes.{create-sounds, new-live, created-whole}

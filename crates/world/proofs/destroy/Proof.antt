@@ -1,4 +1,3 @@
--- `world::destroy` meets its contract. Assumes nothing.
 use borrow.Author.Needs.{needs}
 use Rattle.component.specs.SparseSet.{entity}
 use Rattle.world.proofs.Lifetimes.{still-at, destroyed-whole}

@@ -2,7 +2,7 @@ use mathlib.Core.Path.{refl, ap, _∙_}
 use mathlib.Core.List.{List, _∷_}
 use Prim.Native.Nat.{ℕ, _+_}
 use lib.Seq.{sets}
-use Rattle.model.specs.Store.{le}
+use Rattle.model.specs.Store.{bytesOf}
 use Rattle.codec.proofs.Numbers.{sets-join}
 use borrow.Author.Needs.{needs}
 use Rattle.command_entity.proofs.entities.ack_entity.Statement.{statement}
@@ -12,7 +12,7 @@ returns : tie.Need-returns
 returns c =
     let a = c .before .before .before .before .before .before .before .before .before .args in
     record {
-      bytes = c .before .before .put-u32 .ensures ∙ ap (λ (l : List ℕ). sets l (a .at + 5) (le 4 (a .version))) (c .before .before .before .before .before .before .ack-number .ensures .bytes) ∙ sets-join (a .out .now) (a .at) (0 ∷ le 4 (a .index)) (le 4 (a .version));
+      bytes = c .before .before .put-u32 .ensures ∙ ap (λ (l : List ℕ). sets l (a .at + 5) (bytesOf 4 (a .version))) (c .before .before .before .before .before .before .ack-number .ensures .bytes) ∙ sets-join (a .out .now) (a .at) (0 ∷ bytesOf 4 (a .index)) (bytesOf 4 (a .version));
       count = refl;
     }
 

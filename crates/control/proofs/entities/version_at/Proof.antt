@@ -1,7 +1,7 @@
 use mathlib.Core.Path.{ap, _∙_}
 use native.Mathlib.Omega.{arith}
 use Rattle.model.specs.Model.{Entities}
-use Rattle.model.specs.Snapshot.{versionAt}
+use Rattle.model.specs.Snapshot.{liveVersion}
 use borrow.Author.Needs.{needs}
 use Rattle.control.proofs.EntityPart.{entities-read, sound-in}
 use Rattle.control.proofs.entities.version_at.Statement.{statement}
@@ -19,7 +19,7 @@ returns : tie.Need-returns
 returns c =
     let s = c .before .before .before .before in
     let e = entities-read (s .args .words .now) (c .before .before .capacity .result) (c .before .before .capacity .ensures) in
-    c .version-at .ensures ∙ ap (λ (x : Entities). versionAt (s .args .index) (x .live)) e
+    c .version-at .ensures ∙ ap (λ (x : Entities). liveVersion (s .args .index) (x .live)) e
 
 pub version-at-spec : {M : Type 1} → statement M
 version-at-spec =

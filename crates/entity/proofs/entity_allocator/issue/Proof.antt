@@ -2,7 +2,7 @@ use mathlib.Core.Path.{sym, ap}
 use Prim.Native.Nat.{ℕ, _-_}
 use native.Mathlib.Omega.{arith}
 use borrow.Author.Needs.{needs}
-use Rattle.entity.proofs.RingSteps.{numbered-changed, numbered-idle}
+use Rattle.entity.proofs.QueueSteps.{numbered-changed, numbered-idle}
 use Rattle.entity.proofs.Lookups.{issued-is}
 use Rattle.entity.specs.Meaning.{entity}
 use Rattle.entity.proofs.entity_allocator.issue.Statement.{statement}

@@ -2,7 +2,7 @@ use Prim.Native.Nat.{_-_}
 use native.Mathlib.Omega.{arith}
 use lib.ListN.{length-set}
 use borrow.Author.Needs.{needs}
-use Rattle.entity.proofs.RingSteps.{front-first, front-below, front-positive, unqueued-idle, unqueued-changed}
+use Rattle.entity.proofs.QueueSteps.{front-first, front-below, front-positive, unqueued-idle, unqueued-changed}
 use Rattle.entity.proofs.entity_allocator.pop_front.Statement.{statement}
 use Rattle.entity.proofs.entity_allocator.pop_front.Tie as tie
 

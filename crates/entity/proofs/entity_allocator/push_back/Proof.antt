@@ -2,7 +2,7 @@ use Prim.Native.Nat.{_-_}
 use native.Mathlib.Omega.{arith}
 use lib.ListN.{length-set}
 use borrow.Author.Needs.{needs}
-use Rattle.entity.proofs.RingSteps.{queued-changed}
+use Rattle.entity.proofs.QueueSteps.{queued-changed}
 use Rattle.entity.proofs.entity_allocator.push_back.Statement.{statement}
 use Rattle.entity.proofs.entity_allocator.push_back.Tie as tie
 

@@ -1,7 +1,7 @@
 use mathlib.Core.Path.{sym}
 use Prim.Native.Nat.{_-_}
 use native.Mathlib.Omega.{arith}
-use Rattle.entity.proofs.RingLaws.{wrapped-low, wrapped-high}
+use Rattle.entity.proofs.QueueLaws.{wrapped-low, wrapped-high}
 use Rattle.entity.proofs.entity_allocator.wrap.Statement.{statement}
 use Rattle.entity.proofs.entity_allocator.wrap.Tie as tie
 

@@ -3,7 +3,7 @@ use Prim.Native.Nat.{ℕ, _≤_, _-_}
 use borrow.Author.Tests.{not-true, not-false}
 use lib.ListN.{length, drop}
 use lib.Seq.{drop-length}
-use Rattle.model.specs.Model.{mem, all, within}
+use Rattle.model.specs.Model.{mem, allOf, within}
 use Rattle.layout.proofs.Scan.{all-hit, all-miss}
 use native.Mathlib.Omega.{arith}
 use borrow.Author.Needs.{needs}
@@ -11,7 +11,7 @@ use Rattle.layout.proofs.group_layout.all_among.Statement.{statement}
 use Rattle.layout.proofs.group_layout.all_among.Tie as tie
 
 abbrev Inv-loop : tie.InvT-loop
-Inv-loop ks js i₀ i-end i = (i ≤ length ks) × (within ks js ≡ all (λ k. mem k js) (drop i ks))
+Inv-loop ks js i₀ i-end i = (i ≤ length ks) × (within ks js ≡ allOf (λ k. mem k js) (drop i ks))
 
 abbrev μ-loop : tie.MeasureT-loop
 μ-loop ks js i₀ i-end i = length ks - i
@@ -36,7 +36,7 @@ returns-2 c =
     let a = c .before .before .before .before .args in
     let l = c .before .loop in
     let done : l .i ≡ length (a .ks .now) = omega arith in
-    sym (l .inv .1 ∙ ap (λ (i : ℕ). all (λ k. mem k (a .js .now)) (drop i (a .ks .now))) done ∙ rw drop-length)
+    sym (l .inv .1 ∙ ap (λ (i : ℕ). allOf (λ k. mem k (a .js .now)) (drop i (a .ks .now))) done ∙ rw drop-length)
 
 pub all-among-spec : {M : Type 1} → statement M
 all-among-spec =

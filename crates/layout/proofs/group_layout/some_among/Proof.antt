@@ -2,7 +2,7 @@ use mathlib.Core.Path.{_≡_, refl, _∙_, sym, ap}
 use Prim.Native.Nat.{ℕ, _≤_, _-_}
 use lib.ListN.{length, drop}
 use lib.Seq.{drop-length}
-use Rattle.model.specs.Model.{mem, any, meets}
+use Rattle.model.specs.Model.{mem, anyOf, meets}
 use Rattle.layout.proofs.Scan.{any-hit, any-miss}
 use native.Mathlib.Omega.{arith}
 use borrow.Author.Needs.{needs}
@@ -10,7 +10,7 @@ use Rattle.layout.proofs.group_layout.some_among.Statement.{statement}
 use Rattle.layout.proofs.group_layout.some_among.Tie as tie
 
 abbrev Inv-loop : tie.InvT-loop
-Inv-loop ks js i₀ i-end i = (i ≤ length ks) × (meets ks js ≡ any (λ k. mem k js) (drop i ks))
+Inv-loop ks js i₀ i-end i = (i ≤ length ks) × (meets ks js ≡ anyOf (λ k. mem k js) (drop i ks))
 
 abbrev μ-loop : tie.MeasureT-loop
 μ-loop ks js i₀ i-end i = length ks - i
@@ -35,7 +35,7 @@ returns-2 c =
     let a = c .before .before .before .before .args in
     let l = c .before .loop in
     let done : l .i ≡ length (a .ks .now) = omega arith in
-    sym (l .inv .1 ∙ ap (λ (i : ℕ). any (λ k. mem k (a .js .now)) (drop i (a .ks .now))) done ∙ rw drop-length)
+    sym (l .inv .1 ∙ ap (λ (i : ℕ). anyOf (λ k. mem k (a .js .now)) (drop i (a .ks .now))) done ∙ rw drop-length)
 
 pub some-among-spec : {M : Type 1} → statement M
 some-among-spec =

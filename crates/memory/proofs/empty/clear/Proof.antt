@@ -1,4 +1,3 @@
--- `memory::empty::clear` meets its contract: the words below i are cleared. Assumes nothing.
 use mathlib.Core.Path.{_≡_, subst}
 use Prim.Native.Nat.{ℕ, _≤_, _-_}
 use native.Mathlib.Omega.{arith}

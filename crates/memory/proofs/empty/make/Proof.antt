@@ -1,4 +1,3 @@
--- `memory::empty::make` meets its contract. Assumes nothing.
 use mathlib.Core.Path.{_∙_, subst}
 use Prim.Native.Nat.{ℕ}
 use native.Mathlib.Omega.{arith}

@@ -1,4 +1,3 @@
--- `memory::empty::put_table` meets its contract: the first k kinds are free. Assumes nothing.
 use mathlib.Core.Path.{_≡_, subst}
 use Prim.Native.Nat.{ℕ, _≤_, _-_}
 use native.Mathlib.Omega.{arith}
@@ -6,13 +5,13 @@ use borrow.Author.Needs.{needs}
 use lib.ListN.{length, length-set, getD-replicate}
 use Rattle.model.specs.Numbers.{MAX-KINDS}
 use Rattle.words.specs.Offsets.{STAGED-KINDS, UNREGISTERED}
-use Rattle.memory.specs.Fresh.{Tabled}
+use Rattle.memory.specs.Fresh.{TableCleared}
 use Rattle.memory.proofs.Steps.{tabled-none, tabled-step}
 use Rattle.memory.proofs.empty.put_table.Statement.{statement}
 use Rattle.memory.proofs.empty.put_table.Tie as tie
 
 abbrev Inv-loop : tie.InvT-loop
-Inv-loop words₀ table k₀ words k = (k ≤ MAX-KINDS) × (STAGED-KINDS ≤ length words) × Tabled words₀ k words
+Inv-loop words₀ table k₀ words k = (k ≤ MAX-KINDS) × (STAGED-KINDS ≤ length words) × TableCleared words₀ k words
 
 abbrev μ-loop : tie.MeasureT-loop
 μ-loop words₀ table k₀ words k = MAX-KINDS - k
@@ -29,7 +28,7 @@ same-length c = c .before .loop .inv .2 .size
 returns : tie.Need-returns Inv-loop μ-loop
 returns c =
     let e : c .before .loop .k ≡ MAX-KINDS = omega arith in
-    subst (λ (k : ℕ). Tabled (c .before .before .args .words .now) k (c .before .loop .words)) e (c .before .loop .inv .2)
+    subst (λ (k : ℕ). TableCleared (c .before .before .args .words .now) k (c .before .loop .words)) e (c .before .loop .inv .2)
 
 pub put-table-spec : {M : Type 1} → statement M
 put-table-spec =

@@ -3,14 +3,14 @@ use native.Mathlib.Omega.{arith}
 use borrow.Author.Needs.{needs}
 use Rattle.memory.specs.Meaning.{meaning}
 use Rattle.replay.specs.Recorded.{ColumnsAgree}
-use Rattle.replay.specs.Agreement.{Stepped}
+use Rattle.replay.specs.Agreement.{StepAgrees}
 use Rattle.replay.proofs.Agreeing.{cut-stepped, no-columns, more-columns, all-columns}
 use Rattle.replay.proofs.cases.replay_columns.Statement.{statement}
 use Rattle.replay.proofs.cases.replay_columns.Tie as tie
 
 abbrev Inv-loop : tie.InvT-loop
 Inv-loop words file at kinds next₀ agrees₀ i₀ next agrees i =
-    (i ≤ kinds) × Stepped file words words (record { at = next; agrees = agrees }) (λ e. ColumnsAgree file (at + 1) (meaning words) i e)
+    (i ≤ kinds) × StepAgrees file words words (record { at = next; agrees = agrees }) (λ e. ColumnsAgree file (at + 1) (meaning words) i e)
 
 abbrev μ-loop : tie.MeasureT-loop
 μ-loop words file at kinds next₀ agrees₀ i₀ next agrees i = kinds - i

@@ -4,14 +4,14 @@ use lib.ListN.{length}
 use native.Mathlib.Omega.{arith}
 use Rattle.memory.specs.Meaning.{meaning}
 use Rattle.replay.specs.Recorded.{RunsAgree}
-use Rattle.replay.specs.Agreement.{Stepped}
+use Rattle.replay.specs.Agreement.{StepAgrees}
 use Rattle.replay.proofs.Agreeing.{no-runs, more-runs, all-runs}
 use Rattle.replay.proofs.cases.replay_runs.Statement.{statement}
 use Rattle.replay.proofs.cases.replay_runs.Tie as tie
 
 abbrev Inv-loop : tie.InvT-loop
 Inv-loop words₀ file at runs out₀ next₀ agrees₀ i₀ words out next agrees i =
-    (i ≤ runs) × ((length words ≡ length words₀) × ((length out ≡ length out₀) × Stepped file words₀ words (record { at = next; agrees = agrees }) (λ e. RunsAgree file at (meaning words₀) i e (meaning words))))
+    (i ≤ runs) × ((length words ≡ length words₀) × ((length out ≡ length out₀) × StepAgrees file words₀ words (record { at = next; agrees = agrees }) (λ e. RunsAgree file at (meaning words₀) i e (meaning words))))
 
 abbrev μ-loop : tie.MeasureT-loop
 μ-loop words₀ file at runs out₀ next₀ agrees₀ i₀ words out next agrees i = runs - i

@@ -1,4 +1,3 @@
--- `store::exports::copy` meets its contract. The invariant of its loop: `to` is what it was with the first i words of `from` at its front. Assumes nothing.
 use mathlib.Core.Path.{_≡_, refl, ap, _∙_}
 use mathlib.Core.List.{List}
 use Prim.Native.Nat.{ℕ, _-_, _≤_}

@@ -1,4 +1,3 @@
--- `store::exports::yirbarn_column_at` meets its contract. Assumes nothing.
 use native.Mathlib.Omega.{arith}
 use borrow.Author.Needs.{needs}
 use Rattle.store.proofs.Columns.{Given, given-of, known-of}

@@ -1,4 +1,3 @@
--- `world::component_set::delete` meets its contract. Assumes nothing.
 use borrow.Author.Needs.{needs}
 use Rattle.component.specs.SparseSet.{entity}
 use Rattle.world.proofs.Whole.{staged-after, delete-whole}

@@ -1,4 +1,3 @@
--- `world::component_set::delete_staged` meets its contract: the first i staged kinds are done. Assumes nothing.
 use mathlib.Core.Path.{_≡_, ap, sym, _∙_, subst}
 use Prim.Native.Nat.{_≤_, _-_, ℕ, _<_}
 use native.Mathlib.Omega.{arith}

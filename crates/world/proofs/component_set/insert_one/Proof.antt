@@ -1,4 +1,3 @@
--- `world::component_set::insert_one` meets its contract. Assumes nothing.
 use mathlib.Core.Path.{ap, subst}
 use borrow.Author.Needs.{needs}
 use Rattle.model.specs.Model.{Component}

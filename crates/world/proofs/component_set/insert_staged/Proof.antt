@@ -1,4 +1,3 @@
--- `world::component_set::insert_staged` meets its contract: the first i staged components are in. Assumes nothing.
 use mathlib.Core.Path.{_≡_, subst}
 use Prim.Native.Nat.{_≤_, _-_, ℕ, _<_}
 use native.Mathlib.Omega.{arith}

@@ -1,4 +1,3 @@
--- `world::component_set::remove_one` meets its contract. Assumes nothing.
 use mathlib.Core.Path.{_∙_, subst}
 use Prim.Native.Nat.{ℕ}
 use borrow.Author.Needs.{needs}

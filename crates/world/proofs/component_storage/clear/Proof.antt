@@ -1,4 +1,3 @@
--- `world::component_storage::clear` meets its contract. Assumes nothing.
 use borrow.Author.Needs.{needs}
 use Rattle.world.proofs.Zeroing.{cleared-all}
 use Rattle.world.proofs.component_storage.clear.Statement.{statement}

@@ -1,4 +1,3 @@
--- `world::component_storage::clear_counts` meets its contract: the groups before g count nothing. Assumes nothing.
 use mathlib.Core.Path.{_≡_, subst}
 use Prim.Native.Nat.{_≤_, _-_, ℕ, _<_}
 use native.Mathlib.Omega.{arith}

@@ -1,4 +1,3 @@
--- `world::component_storage::strip` meets its contract. Assumes nothing.
 use borrow.Author.Needs.{needs}
 use Rattle.component.specs.SparseSet.{entity}
 use Rattle.world.proofs.Whole.{strip-ready, strip-once, strip-whole}

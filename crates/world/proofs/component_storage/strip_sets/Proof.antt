@@ -1,4 +1,3 @@
--- `world::component_storage::strip_sets` meets its contract: the kinds of the slots before slot are done. Assumes nothing.
 use mathlib.Core.Path.{_≡_, ap, sym, _∙_, subst}
 use Prim.Native.Nat.{_≤_, _-_, ℕ, _<_}
 use native.Mathlib.Omega.{arith}

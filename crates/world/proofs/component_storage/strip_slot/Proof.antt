@@ -1,4 +1,3 @@
--- `world::component_storage::strip_slot` meets its contract. Assumes nothing.
 use native.Mathlib.Omega.{arith}
 use borrow.Author.Needs.{needs}
 use Rattle.model.specs.Model.{removeRow}

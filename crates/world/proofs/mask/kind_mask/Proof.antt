@@ -1,4 +1,3 @@
--- `world::mask::kind_mask` meets its contract. Assumes nothing.
 use mathlib.Core.Path.{ap, sym, _∙_, subst}
 use Prim.Native.Nat.{ℕ, _-_}
 use borrow.Author.Needs.{needs}

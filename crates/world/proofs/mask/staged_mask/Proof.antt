@@ -1,4 +1,3 @@
--- `world::mask::staged_mask` meets its contract: the mask of the first i staged kinds. Assumes nothing.
 use mathlib.Core.Path.{_≡_}
 use mathlib.Core.List.{List}
 use Prim.Native.Nat.{ℕ, _≤_, _-_}

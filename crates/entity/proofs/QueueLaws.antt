@@ -1,4 +1,4 @@
--- Going round a ring, and how a ring stays sound when a number joins it at its end or leaves it at its front. Assumes nothing.
+-- Going round a queue, and how a queue stays sound when a number joins it at its end or leaves it at its front. Assumes nothing.
 use mathlib.Core.Path.{_≡_, sym, ap, _∙_}
 use mathlib.Core.Logic.{_≢_}
 use Prim.Native.Nat.{ℕ, suc, _+_, _-_, _≤_, _<_}
@@ -7,7 +7,7 @@ use native.Mathlib.Decide.{decLt}
 use borrow.Author.Tests.{lt-ltb, le-ltb, le-leb, lt-leb}
 use Rattle.words.specs.Table.{by-eq}
 use Rattle.words.specs.Pigeon.{pigeon-free}
-use Rattle.entity.specs.Ring.{wrapped, since, Waits, Listed, Ring}
+use Rattle.entity.specs.Queue.{wrapped, since, Waits, Queued, Queue}
 
 -- by cases on an order
 pub by-lt : {C : Type 0} (a b : ℕ) → (a < b → C) → (b ≤ a → C) → C
@@ -75,7 +75,7 @@ module _ (n h : ℕ) (b : h < n) where
       let e : wrapped n (h + 1) ≡ 0 = omega (arith, wrapped-high n (h + 1) l) in
       since-high n h p (omega arith) ∙ rw e (omega (arith, since-low n 0 p (omega arith))))
 
-module _ (n issued h c : ℕ) (idx ver back held : ℕ → ℕ) (R : Ring n issued h c idx ver back held) where
+module _ (n issued h c : ℕ) (idx ver back held : ℕ → ℕ) (R : Queue n issued h c idx ver back held) where
   -- a place in use has a number that waits
   pub waits-at : (p : ℕ) → p < n → since n h p < c → Waits issued idx ver back held p
   waits-at p hp u = rw (wrapped-since n h (R .start) p hp) at (R .waits (since n h p) u)
@@ -91,18 +91,18 @@ module _ (n issued h c : ℕ) (idx ver back held : ℕ → ℕ) (R : Ring n issu
   listed-below x hx b = rw (R .listed x hx b .found) at (listed-waits x hx b .below)
 
   -- two waiting numbers have two indices
-  pub ring-apart : (i j : ℕ) → i < c → j < c → i ≢ j → idx (wrapped n (h + i)) ≢ idx (wrapped n (h + j))
-  ring-apart i j hi hj ne e =
+  pub queue-apart : (i j : ℕ) → i < c → j < c → i ≢ j → idx (wrapped n (h + i)) ≢ idx (wrapped n (h + j))
+  queue-apart i j hi hj ne e =
       let q = ap back e in
       wrapped-apart n h (R .start) i j (omega (arith, R .few)) (omega (arith, R .few)) ne
       (omega (arith, R .waits i hi .pointed, R .waits j hj .pointed, q))
 
   -- where an issued index does not wait, there is room for it
-  pub ring-room : (x : ℕ) → x < issued → issued ≤ n → back x ≡ 0 → c < n
-  ring-room x hx hn u =
+  pub queue-has-room : (x : ℕ) → x < issued → issued ≤ n → back x ≡ 0 → c < n
+  queue-has-room x hx hn u =
       pigeon-free n c x (λ j. idx (wrapped n (h + j))) (omega arith)
       (λ j hj. omega (arith, R .waits j hj .below))
-      ring-apart
+      queue-apart
       (λ j hj e. let q = ap back e in omega (arith, R .waits j hj .pointed))
 
   module _ (issued′ : ℕ) (idx′ ver′ back′ held′ : ℕ → ℕ) where
@@ -118,8 +118,8 @@ module _ (n issued h c : ℕ) (idx ver back held : ℕ → ℕ) (R : Ring n issu
         }
 
     -- index x points where it pointed
-    relisted : (h′ c′ x : ℕ) → Listed n h c idx back x → back′ x ≡ back x → since n h′ (back x - 1) < c′ → idx′ (back x - 1) ≡ idx (back x - 1)
-        → Listed n h′ c′ idx′ back′ x
+    relisted : (h′ c′ x : ℕ) → Queued n h c idx back x → back′ x ≡ back x → since n h′ (back x - 1) < c′ → idx′ (back x - 1) ≡ idx (back x - 1)
+        → Queued n h′ c′ idx′ back′ x
     relisted h′ c′ x l e u ei =
         record {
           inside = rw e (l .inside);
@@ -127,11 +127,11 @@ module _ (n issued h c : ℕ) (idx ver back held : ℕ → ℕ) (R : Ring n issu
           found = ap (λ (k : ℕ). idx′ (k - 1)) e ∙ ei ∙ l .found;
         }
 
-    -- the ring as it was; the waiting numbers stay free
-    pub ring-same : issued ≤ issued′ → issued ≤ n → ((p : ℕ) → p < n → idx′ p ≡ idx p) → ((p : ℕ) → p < n → ver′ p ≡ ver p)
+    -- the queue as it was; the waiting numbers stay free
+    pub queue-same : issued ≤ issued′ → issued ≤ n → ((p : ℕ) → p < n → idx′ p ≡ idx p) → ((p : ℕ) → p < n → ver′ p ≡ ver p)
         → ((x : ℕ) → x < n → back′ x ≡ back x) → ((x : ℕ) → x < n → 1 ≤ back x → held′ x ≡ held x)
-        → Ring n issued′ h c idx′ ver′ back′ held′
-    ring-same le ln ei ev eb eh =
+        → Queue n issued′ h c idx′ ver′ back′ held′
+    queue-same le ln ei ev eb eh =
         record {
           start = R .start;
           few = R .few;
@@ -148,15 +148,15 @@ module _ (n issued h c : ℕ) (idx ver back held : ℕ → ℕ) (R : Ring n issu
               relisted h c x l e (l .used) (ei (back x - 1) (omega (arith, l .inside)));
         }
 
-    -- the number x, v at the end of the ring
-    pub ring-pushed : issued ≤ issued′ → issued ≤ n → (x v : ℕ) → x < issued → 1 ≤ v → held x ≡ 0 → back x ≡ 0
+    -- the number x, v at the end of the queue
+    pub queue-pushed : issued ≤ issued′ → issued ≤ n → (x v : ℕ) → x < issued → 1 ≤ v → held x ≡ 0 → back x ≡ 0
         → idx′ (wrapped n (h + c)) ≡ x → ((p : ℕ) → p < n → p ≢ wrapped n (h + c) → idx′ p ≡ idx p)
         → ver′ (wrapped n (h + c)) ≡ v → ((p : ℕ) → p < n → p ≢ wrapped n (h + c) → ver′ p ≡ ver p)
         → back′ x ≡ wrapped n (h + c) + 1 → ((y : ℕ) → y < n → y ≢ x → back′ y ≡ back y)
         → ((y : ℕ) → y < n → held′ y ≡ held y)
-        → Ring n issued′ h (c + 1) idx′ ver′ back′ held′
-    ring-pushed le ln x v hx hv free un ix io vx vo bx bo eh =
-        let room : c < n = ring-room x hx ln un in
+        → Queue n issued′ h (c + 1) idx′ ver′ back′ held′
+    queue-pushed le ln x v hx hv free un ix io vx vo bx bo eh =
+        let room : c < n = queue-has-room x hx ln un in
         let q = wrapped n (h + c) in
         let hq : q < n = wrapped-below n h (R .start) c (omega arith) in
         let sq : since n h q ≡ c = since-wrapped n h (R .start) c room in
@@ -200,13 +200,13 @@ module _ (n issued h c : ℕ) (idx ver back held : ℕ → ℕ) (R : Ring n issu
               relisted h (c + 1) y l e (omega (arith, l .used)) (io (back y - 1) (omega (arith, l .inside)) np));
         }
 
-    -- the number at the front gone from the ring
-    pub ring-popped : issued ≤ issued′ → issued ≤ n → 1 ≤ c
+    -- the number at the front gone from the queue
+    pub queue-popped : issued ≤ issued′ → issued ≤ n → 1 ≤ c
         → ((p : ℕ) → p < n → idx′ p ≡ idx p) → ((p : ℕ) → p < n → ver′ p ≡ ver p)
         → back′ (idx h) ≡ 0 → ((y : ℕ) → y < n → y ≢ idx h → back′ y ≡ back y)
         → ((y : ℕ) → y < n → held′ y ≡ held y)
-        → Ring n issued′ (wrapped n (h + 1)) (c - 1) idx′ ver′ back′ held′
-    ring-popped le ln some ei ev bx bo eh =
+        → Queue n issued′ (wrapped n (h + 1)) (c - 1) idx′ ver′ back′ held′
+    queue-popped le ln some ei ev bx bo eh =
         record {
           start = wrapped-below n h (R .start) 1 (omega (arith, R .few));
           few = omega (arith, R .few);
@@ -217,7 +217,7 @@ module _ (n issued h c : ℕ) (idx ver back held : ℕ → ℕ) (R : Ring n issu
               let hp : p < n = wrapped-below n h (R .start) (suc j) (omega (arith, R .few)) in
               let hy : idx p < n = omega (arith, o .below) in
               let ny : idx p ≢ idx h =
-              λ z. ring-apart (suc j) 0 (omega arith) (omega arith) (omega arith) (z ∙ ap idx (sym (wrapped-start n h (R .start)))) in
+              λ z. queue-apart (suc j) 0 (omega arith) (omega arith) (omega arith) (z ∙ ap idx (sym (wrapped-start n h (R .start)))) in
               rw (wrapped-next n h (R .start) j (omega (arith, R .few)))
               (carried p o le (ei p hp) (ev p hp) (bo (idx p) hy ny) (eh (idx p) hy));
           listed =

@@ -1,4 +1,4 @@
--- The words after a number has joined the ring, after the longest waiting one has left it, and after the next index is issued.
+-- The words after a number has joined the queue, after the longest waiting one has left it, and after the next index is issued.
 -- Assumes nothing.
 use mathlib.Core.Path.{_≡_, sym, ap, _∙_}
 use mathlib.Core.Logic.{_≢_}
@@ -12,13 +12,13 @@ use Rattle.model.proofs.Numbers.{zero-of}
 use Rattle.model.specs.Model.{noEntity}
 use Rattle.words.specs.Table.{table, is-table, length-table, getD-table, table-snoc}
 use Rattle.words.specs.Stores.{stores, miss, hit, length-stores}
-use Rattle.entity.specs.Ring.{wrapped, Waits}
-use Rattle.entity.specs.Meaning.{Sound, Idle, entity, entitiesOf, waitingAt, issuedOf, headOf, recycledLen, placeOf, heldOf, ringIndex, ringVersion, ringSlot}
+use Rattle.entity.specs.Queue.{wrapped, Waits}
+use Rattle.entity.specs.Meaning.{EntityPartSound, Idle, entity, entitiesOf, waitingAt, issuedOf, headOf, recycledLen, placeOf, heldOf, queueIndex, queueVersion, queueSlot}
 use Rattle.entity.specs.Change.{Changed, queued, unqueued, numbered}
-use Rattle.entity.proofs.RingLaws.{wrapped-below, wrapped-start, wrapped-next, wrapped-apart, listed-below, ring-room, ring-pushed, ring-popped}
-use Rattle.entity.proofs.Kept.{entity-path, entities-path, kept-live, kept-ring}
+use Rattle.entity.proofs.QueueLaws.{wrapped-below, wrapped-start, wrapped-next, wrapped-apart, listed-below, queue-has-room, queue-pushed, queue-popped}
+use Rattle.entity.proofs.Kept.{entity-path, entities-path, kept-live, kept-queue}
 
--- ---- a number joins the ring
+-- ---- a number joins the queue
 
 abbrev pub pushStores : ℕ → ℕ → ℕ → List ℕ → List (ℕ × ℕ)
 pushStores n x v w =
@@ -28,10 +28,10 @@ pushStores n x v w =
     ∷ (3, recycledLen w + 1)
     ∷ []
 
-module _ (n : ℕ) (w : List ℕ) (s : Sound n w) (x v : ℕ) (d : Idle n w x) (hv : 1 ≤ v) where
+module _ (n : ℕ) (w : List ℕ) (s : EntityPartSound n w) (x v : ℕ) (d : Idle n w x) (hv : 1 ≤ v) where
   pub queue-room : recycledLen w < n
   queue-room =
-      ring-room n (issuedOf w) (headOf w) (recycledLen w) (ringIndex n w) (ringVersion n w) (ringSlot n w) (heldOf n w) (s .ring)
+      queue-has-room n (issuedOf w) (headOf w) (recycledLen w) (queueIndex n w) (queueVersion n w) (queueSlot n w) (heldOf n w) (s .queue)
       x (d .below) (s .few) (d .unlisted)
 
   pub queued-changed : Changed n (queued (entity x v)) w (stores w (pushStores n x v w))
@@ -39,7 +39,7 @@ module _ (n : ℕ) (w : List ℕ) (s : Sound n w) (x v : ℕ) (d : Idle n w x) (
   queued-changed =
       let ss = pushStores n x v w in
       let w′ = stores w ss in
-      let R = s .ring in
+      let R = s .queue in
       let h = headOf w in
       let c = recycledLen w in
       let q = wrapped n (h + c) in
@@ -51,10 +51,10 @@ module _ (n : ℕ) (w : List ℕ) (s : Sound n w) (x v : ℕ) (d : Idle n w x) (
       let e₁ : issuedOf w′ ≡ issuedOf w = miss w ss _ (omega arith) in
       let e₂ : headOf w′ ≡ h = miss w ss _ (omega arith) in
       let e₃ : recycledLen w′ ≡ c + 1 = hit w ss 3 _ _ (omega arith) (omega arith) in
-      let iq : ringIndex n w′ q ≡ x = hit w ss 0 _ _ (omega arith) (omega arith) in
-      let vq : ringVersion n w′ q ≡ v = hit w ss 1 _ _ (omega arith) (omega arith) in
-      let io : (p : ℕ) → p < n → p ≢ q → ringIndex n w′ p ≡ ringIndex n w p = λ p hp ne. miss w ss _ (omega arith) in
-      let vo : (p : ℕ) → p < n → p ≢ q → ringVersion n w′ p ≡ ringVersion n w p = λ p hp ne. miss w ss _ (omega arith) in
+      let iq : queueIndex n w′ q ≡ x = hit w ss 0 _ _ (omega arith) (omega arith) in
+      let vq : queueVersion n w′ q ≡ v = hit w ss 1 _ _ (omega arith) (omega arith) in
+      let io : (p : ℕ) → p < n → p ≢ q → queueIndex n w′ p ≡ queueIndex n w p = λ p hp ne. miss w ss _ (omega arith) in
+      let vo : (p : ℕ) → p < n → p ≢ q → queueVersion n w′ p ≡ queueVersion n w p = λ p hp ne. miss w ss _ (omega arith) in
       let ho : (y : ℕ) → y < n → heldOf n w′ y ≡ heldOf n w y = λ y hy. miss w ss _ (omega arith) in
       let kept =
       kept-live n w w′ s (miss w ss _ (omega arith)) (omega arith)
@@ -69,10 +69,10 @@ module _ (n : ℕ) (w : List ℕ) (s : Sound n w) (x v : ℕ) (d : Idle n w x) (
               few = rw e₁ (s .few);
               linked = kept .linked;
               known = kept .known;
-              ring =
+              queue =
                   rw (e₂, e₃)
-                  (ring-pushed n (issuedOf w) h c (ringIndex n w) (ringVersion n w) (ringSlot n w) (heldOf n w) R
-                  (issuedOf w′) (ringIndex n w′) (ringVersion n w′) (ringSlot n w′) (heldOf n w′) (omega arith) (s .few)
+                  (queue-pushed n (issuedOf w) h c (queueIndex n w) (queueVersion n w) (queueSlot n w) (heldOf n w) R
+                  (issuedOf w′) (queueIndex n w′) (queueVersion n w′) (queueSlot n w′) (heldOf n w′) (omega arith) (s .few)
                   x v (d .below) hv (d .free) (d .unlisted) iq io vq vo
                   (hit w ss 2 _ _ (omega arith) (omega arith))
                   (λ y hy ne. miss w ss _ (omega arith))
@@ -98,10 +98,10 @@ abbrev pub popStores : ℕ → List ℕ → List (ℕ × ℕ)
 popStores n w =
     (2, wrapped n (headOf w + 1))
     ∷ (3, recycledLen w - 1)
-    ∷ (8 + 6 * n + ringIndex n w (headOf w), 0)
+    ∷ (8 + 6 * n + queueIndex n w (headOf w), 0)
     ∷ []
 
-module _ (n : ℕ) (w : List ℕ) (s : Sound n w) (hc : 1 ≤ recycledLen w) where
+module _ (n : ℕ) (w : List ℕ) (s : EntityPartSound n w) (hc : 1 ≤ recycledLen w) where
   abbrev h : ℕ
   h = headOf w
 
@@ -109,23 +109,23 @@ module _ (n : ℕ) (w : List ℕ) (s : Sound n w) (hc : 1 ≤ recycledLen w) whe
   c = recycledLen w
 
   -- it is the model's first
-  pub front-first : entity (ringIndex n w (headOf w)) (ringVersion n w (headOf w)) ≡ getD (entitiesOf n w .recycled) 0 noEntity
+  pub front-first : entity (queueIndex n w (headOf w)) (queueVersion n w (headOf w)) ≡ getD (entitiesOf n w .recycled) 0 noEntity
   unfolding entitiesOf
   front-first =
-      let e = wrapped-start n (headOf w) (s .ring .start) in
+      let e = wrapped-start n (headOf w) (s .queue .start) in
       sym (getD-table (recycledLen w) (waitingAt n w) 0 noEntity hc
-      ∙ entity-path (ap (ringIndex n w) e) (ap (ringVersion n w) e))
+      ∙ entity-path (ap (queueIndex n w) e) (ap (queueVersion n w) e))
 
-  front-waits : Waits (issuedOf w) (ringIndex n w) (ringVersion n w) (ringSlot n w) (heldOf n w) (headOf w)
-  front-waits = rw (wrapped-start n (headOf w) (s .ring .start)) at (s .ring .waits 0 hc)
+  front-waits : Waits (issuedOf w) (queueIndex n w) (queueVersion n w) (queueSlot n w) (heldOf n w) (headOf w)
+  front-waits = rw (wrapped-start n (headOf w) (s .queue .start)) at (s .queue .waits 0 hc)
 
-  pub front-below : ringIndex n w (headOf w) < issuedOf w
+  pub front-below : queueIndex n w (headOf w) < issuedOf w
   front-below = front-waits .below
 
-  pub front-positive : 1 ≤ ringVersion n w (headOf w)
+  pub front-positive : 1 ≤ queueVersion n w (headOf w)
   front-positive = front-waits .positive
 
-  pub unqueued-idle : Idle n (stores w (popStores n w)) (ringIndex n w (headOf w))
+  pub unqueued-idle : Idle n (stores w (popStores n w)) (queueIndex n w (headOf w))
   unqueued-idle =
       let ss = popStores n w in
       let t = front-waits in
@@ -144,8 +144,8 @@ module _ (n : ℕ) (w : List ℕ) (s : Sound n w) (hc : 1 ≤ recycledLen w) whe
   unqueued-changed =
       let ss = popStores n w in
       let w′ = stores w ss in
-      let R = s .ring in
-      let x = ringIndex n w h in
+      let R = s .queue in
+      let x = queueIndex n w h in
       let hx : x < n = omega (arith, front-below, s .few) in
       let few = R .few in
       let size = s .sized .size in
@@ -153,8 +153,8 @@ module _ (n : ℕ) (w : List ℕ) (s : Sound n w) (hc : 1 ≤ recycledLen w) whe
       let e₁ : issuedOf w′ ≡ issuedOf w = miss w ss _ (omega arith) in
       let e₂ : headOf w′ ≡ wrapped n (h + 1) = hit w ss 0 _ _ (omega arith) (omega arith) in
       let e₃ : recycledLen w′ ≡ c - 1 = hit w ss 1 _ _ (omega arith) (omega arith) in
-      let io : (p : ℕ) → p < n → ringIndex n w′ p ≡ ringIndex n w p = λ p hp. miss w ss _ (omega arith) in
-      let vo : (p : ℕ) → p < n → ringVersion n w′ p ≡ ringVersion n w p = λ p hp. miss w ss _ (omega arith) in
+      let io : (p : ℕ) → p < n → queueIndex n w′ p ≡ queueIndex n w p = λ p hp. miss w ss _ (omega arith) in
+      let vo : (p : ℕ) → p < n → queueVersion n w′ p ≡ queueVersion n w p = λ p hp. miss w ss _ (omega arith) in
       let ho : (y : ℕ) → y < n → heldOf n w′ y ≡ heldOf n w y = λ y hy. miss w ss _ (omega arith) in
       let kept =
       kept-live n w w′ s (miss w ss _ (omega arith)) (omega arith)
@@ -167,7 +167,7 @@ module _ (n : ℕ) (w : List ℕ) (s : Sound n w) (hc : 1 ≤ recycledLen w) whe
       let e : wrapped n (headOf w′ + j) ≡ wrapped n (h + (1 + j)) =
       ap (λ (k : ℕ). wrapped n (k + j)) e₂ ∙ wrapped-next n h (R .start) j (omega arith) ∙ ap (λ (k : ℕ). wrapped n (h + k)) (omega arith) in
       let b : wrapped n (h + (1 + j)) < n = wrapped-below n h (R .start) (1 + j) (omega arith) in
-      entity-path (ap (ringIndex n w′) e ∙ io _ b) (ap (ringVersion n w′) e ∙ vo _ b) in
+      entity-path (ap (queueIndex n w′) e ∙ io _ b) (ap (queueVersion n w′) e ∙ vo _ b) in
       let rs = table c (waitingAt n w) in
       record {
         sound =
@@ -176,10 +176,10 @@ module _ (n : ℕ) (w : List ℕ) (s : Sound n w) (hc : 1 ≤ recycledLen w) whe
               few = rw e₁ (s .few);
               linked = kept .linked;
               known = kept .known;
-              ring =
+              queue =
                   rw (e₂, e₃)
-                  (ring-popped n (issuedOf w) h c (ringIndex n w) (ringVersion n w) (ringSlot n w) (heldOf n w) R
-                  (issuedOf w′) (ringIndex n w′) (ringVersion n w′) (ringSlot n w′) (heldOf n w′) (omega arith) (s .few) hc io vo
+                  (queue-popped n (issuedOf w) h c (queueIndex n w) (queueVersion n w) (queueSlot n w) (heldOf n w) R
+                  (issuedOf w′) (queueIndex n w′) (queueVersion n w′) (queueSlot n w′) (heldOf n w′) (omega arith) (s .few) hc io vo
                   (hit w ss 2 _ _ (omega arith) (omega arith))
                   (λ y hy ne. miss w ss _ (omega arith))
                   ho);
@@ -199,7 +199,7 @@ module _ (n : ℕ) (w : List ℕ) (s : Sound n w) (hc : 1 ≤ recycledLen w) whe
 abbrev pub numberStores : List ℕ → List (ℕ × ℕ)
 numberStores w = (1, issuedOf w + 1) ∷ []
 
-module _ (n : ℕ) (w : List ℕ) (s : Sound n w) (hn : issuedOf w < n) where
+module _ (n : ℕ) (w : List ℕ) (s : EntityPartSound n w) (hn : issuedOf w < n) where
   pub numbered-idle : Idle n (stores w (numberStores w)) (issuedOf w)
   numbered-idle =
       let ss = numberStores w in
@@ -214,7 +214,7 @@ module _ (n : ℕ) (w : List ℕ) (s : Sound n w) (hn : issuedOf w < n) where
             ∙ zero-of (λ hh. let b = L .back x hn hh in omega (arith, s .known (placeOf n w x) (L .inside x hn hh)));
         unlisted =
             miss w ss _ (omega arith)
-            ∙ zero-of (λ hb. omega (arith, listed-below n x (headOf w) (recycledLen w) (ringIndex n w) (ringVersion n w) (ringSlot n w) (heldOf n w) (s .ring) x hn hb));
+            ∙ zero-of (λ hb. omega (arith, listed-below n x (headOf w) (recycledLen w) (queueIndex n w) (queueVersion n w) (queueSlot n w) (heldOf n w) (s .queue) x hn hb));
       }
 
   pub numbered-changed : Changed n numbered w (stores w (numberStores w))
@@ -232,7 +232,7 @@ module _ (n : ℕ) (w : List ℕ) (s : Sound n w) (hn : issuedOf w < n) where
       (λ y hy. miss w ss _ (omega arith))
       (λ y hy. miss w ss _ (omega arith)) in
       let kept =
-      kept-ring n w w′ s (miss w ss _ (omega arith)) (miss w ss _ (omega arith)) (omega arith)
+      kept-queue n w w′ s (miss w ss _ (omega arith)) (miss w ss _ (omega arith)) (omega arith)
       (λ p hp. miss w ss _ (omega arith))
       (λ p hp. miss w ss _ (omega arith))
       (λ y hy. miss w ss _ (omega arith))
@@ -244,7 +244,7 @@ module _ (n : ℕ) (w : List ℕ) (s : Sound n w) (hn : issuedOf w < n) where
               few = omega arith;
               linked = live .linked;
               known = live .known;
-              ring = kept .ring;
+              queue = kept .queue;
             };
         size = length-stores w ss;
         becomes = entities-path (live .live) (kept .recycled) (e₁ ∙ add-one (issuedOf w));

@@ -1,4 +1,4 @@
--- A ring of n places that holds c numbers from place h on, going round: the recycled numbers (01: waiting), longest recycled first. No words here:
+-- A queue of n places that holds c numbers from place h on, going round: the recycled numbers (01: waiting), longest recycled first. No words here:
 -- idx and ver are the places' numbers, back each index's place plus one (0: does not wait), held each index's live version (0: not live).
 -- Assumes nothing.
 use mathlib.Core.Path.{_≡_}
@@ -6,7 +6,7 @@ use mathlib.Core.Bool.{cond}
 use Prim.Native.Nat.{ℕ, _+_, _-_, _≤_, _<_}
 use lib.Dec.{ltb, leb}
 
--- the place k of the ring, k counted on past its end
+-- the place k of the queue, k counted on past its end
 unfoldable pub wrapped : ℕ → ℕ → ℕ
 wrapped n k = cond (ltb k n) k (k - n)
 
@@ -22,14 +22,14 @@ pub record Waits (issued : ℕ) (idx ver back held : ℕ → ℕ) (p : ℕ) : Ty
   pub free : held (idx p) ≡ 0
 
 -- what index x says is a place in use, and the place has that index
-pub record Listed (n h c : ℕ) (idx back : ℕ → ℕ) (x : ℕ) : Type 0 where
+pub record Queued (n h c : ℕ) (idx back : ℕ → ℕ) (x : ℕ) : Type 0 where
   pub inside : back x ≤ n
   pub used : since n h (back x - 1) < c
   pub found : idx (back x - 1) ≡ x
 
 -- the c numbers from place h on wait, and no index says that it waits but theirs
-pub record Ring (n issued h c : ℕ) (idx ver back held : ℕ → ℕ) : Type 0 where
+pub record Queue (n issued h c : ℕ) (idx ver back held : ℕ → ℕ) : Type 0 where
   pub start : h < n
   pub few : c ≤ n
   pub waits : (j : ℕ) → j < c → Waits issued idx ver back held (wrapped n (h + j))
-  pub listed : (x : ℕ) → x < n → 1 ≤ back x → Listed n h c idx back x
+  pub listed : (x : ℕ) → x < n → 1 ≤ back x → Queued n h c idx back x
