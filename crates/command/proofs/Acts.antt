@@ -11,7 +11,7 @@ use Rattle.model.proofs.Sound.{Fits, OutSound, does-sound, refused-sound}
 use Rattle.memory.specs.Meaning.{meaning}
 use Rattle.memory.specs.Arranged.{Sound, Becomes}
 use Rattle.command.specs.Acted.{Written, Acted}
-pub use Rattle.memory.proofs.Becomes.{SameSize, stays, becomes-next}
+pub use Rattle.memory.proofs.Becomes.{SameSettings, stays, becomes-next}
 
 pub refused-by : {w w′ o o′ : List ℕ} {at r n : ℕ} {x : Outcome} → x ≡ refuses n → Acted w w′ o o′ at r (refuses n) → Acted w w′ o o′ at r x
 refused-by e a = rw e a
@@ -35,5 +35,5 @@ acted-sound {w} c f S a =
     }
 
 -- the staged list emptied after another change
-pub emptied : {w₀ w w′ : List ℕ} (s : Store) → Becomes w₀ w s → SameSize (meaning w₀) s → Becomes w w′ (withControl (meaning w) (emptyStaged (meaning w .control))) → Becomes w₀ w′ (withControl s (emptyStaged (s .control)))
+pub emptied : {w₀ w w′ : List ℕ} (s : Store) → Becomes w₀ w s → SameSettings (meaning w₀) s → Becomes w w′ (withControl (meaning w) (emptyStaged (meaning w .control))) → Becomes w₀ w′ (withControl s (emptyStaged (s .control)))
 emptied s B z C = becomes-next s (λ (t : Store). withControl t (emptyStaged (t .control))) B z C

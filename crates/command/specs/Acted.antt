@@ -25,4 +25,4 @@ pub record Acted (w w′ o o′ : List ℕ) (at r : ℕ) (x : Outcome) : Type 0 
   pub becomes : Becomes w w′ (storeAfter (meaning w) x)
   pub written : Written o o′ at r (answerOf x)
   -- "add to the tally, change no other word": of the words themselves
-  pub refused : (n : ℕ) → x ≡ refuses n → w′ ≡ set w 16 (counted (meaning w .control) .refusals)
+  pub refused : (n : ℕ) → x ≡ refuses n → w′ ≡ set w 16 (counted (meaning w .control) .counts .refusals)

@@ -4,13 +4,12 @@ use mathlib.Core.Bool.{false}
 use mathlib.Core.List.{List, [], _∷_, _++_}
 use Prim.Native.Nat.{ℕ}
 use Rattle.model.specs.Model.{Entity, clearAll, create}
-use Rattle.model.specs.Store.{Store, bytesOf, withControl, emptyStaged}
+use Rattle.model.specs.Store.{Store, bytesOf, withControl, emptyStaged, onStorage}
 use Rattle.model.specs.Commands.{WIPE, APPLY, NEW, accepted}
 use Rattle.model.specs.Run.{accepts, does}
 use Rattle.model.proofs.Outcomes.{wipe-does, apply-does, new-created}
 use Rattle.component.specs.SparseSet.{entity}
 use Rattle.entity.specs.Change.{isFull}
-use Rattle.memory.specs.Change.{onStorage}
 use Rattle.world.specs.World.{created}
 use Rattle.layout_apply.specs.Steps.{applied}
 use Rattle.command.specs.Acted.{Written}
@@ -24,7 +23,7 @@ unfolding accepted
 applies s = apply-does s
 
 -- NEW: the created entity's store, with nothing staged, and its number and version told
-pub new-made : (s : Store) → isFull (s .capacity) (s .entities) ≡ false → does NEW s ≡ accepts (withControl (created s) (emptyStaged (s .control))) (bytesOf 4 (create (s .entities) .entity .index) ++ bytesOf 4 (create (s .entities) .entity .version))
+pub new-made : (s : Store) → isFull (s .settings .capacity) (s .entities) ≡ false → does NEW s ≡ accepts (withControl (created s) (emptyStaged (s .control))) (bytesOf 4 (create (s .entities) .entity .index) ++ bytesOf 4 (create (s .entities) .entity .version))
 unfolding accepted
 new-made s h = new-created s h
 

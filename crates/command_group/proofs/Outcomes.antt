@@ -24,4 +24,4 @@ group-as s r o D e = group-does s ∙ ap (grouped s) (sym (D .says)) ∙ ap (λ 
 -- the draft set, and then the staged list emptied
 pub drafted-emptied : {w₀ w w′ : List ℕ} (l : Layout) → Becomes w₀ w (drafting l (meaning w₀)) → Becomes w w′ (withControl (meaning w) (emptyStaged (meaning w .control)))
     → Becomes w₀ w′ (withControl (meaning w₀) (withDraft (emptyStaged (meaning w₀ .control)) (layout.meaning l)))
-drafted-emptied {w₀} l B C = becomes-next (drafting l (meaning w₀)) (λ (t : Store). withControl t (emptyStaged (t .control))) B (record { capacity = refl; kindCapacity = refl }) C
+drafted-emptied {w₀} l B C = becomes-next (drafting l (meaning w₀)) (λ (t : Store). withControl t (emptyStaged (t .control))) B refl C

@@ -19,10 +19,10 @@ pub known-small : (k : ℕ) (s : Store) → unknownKind k s ≡ false → k < MA
 known-small k s h = omega (arith, ltb-false LAST-KIND k (or-false (ltb LAST-KIND k) (not (isKind k s)) h))
 
 module _ (w : List ℕ) (most count : ℕ) (m : most ≡ kindCapacityOf w) (c : count ≡ registeredOf w) where
-  pub slots-taken : most ≤ count → true ≡ leb (meaning w .kindCapacity) (length (meaning w .kinds))
+  pub slots-taken : most ≤ count → true ≡ leb (meaning w .settings .kindCapacity) (length (meaning w .kinds))
   unfolding meaning
   slots-taken h = sym (le-leb (kindCapacityOf w) (length (meaning w .kinds)) (omega (arith, kinds-count w)))
 
-  pub slots-left : count < most → false ≡ leb (meaning w .kindCapacity) (length (meaning w .kinds))
+  pub slots-left : count < most → false ≡ leb (meaning w .settings .kindCapacity) (length (meaning w .kinds))
   unfolding meaning
   slots-left h = sym (lt-leb (kindCapacityOf w) (length (meaning w .kinds)) (omega (arith, kinds-count w)))

@@ -15,7 +15,7 @@ ghost use Rattle.command.specs.Acted.{Ready, Acted};
 // Whether K kinds are registered.
 fn no_slot(words: &[u32]) -> bool
     requires { ⌜ Arranged (now words) ⌝ }
-    ensures { λ r. ⌜ r ≡ leb (meaning (now (words .entry)) .kindCapacity) (length (meaning (now (words .entry)) .kinds)) ⌝ }
+    ensures { λ r. ⌜ r ≡ leb (meaning (now (words .entry)) .settings .kindCapacity) (length (meaning (now (words .entry)) .kinds)) ⌝ }
 {
     let most = words::word(words, words::KIND_CAPACITY);
     let count = words::word(words, words::REGISTERED);

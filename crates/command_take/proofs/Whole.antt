@@ -4,11 +4,10 @@ use mathlib.Core.List.{List}
 use Prim.Native.Nat.{ℕ}
 use lib.Seq.{sets}
 use Rattle.model.specs.Model.{Entity}
-use Rattle.model.specs.Store.{Store, stagedKinds}
+use Rattle.model.specs.Store.{Store, stagedKinds, onStorage}
 use Rattle.model.specs.Commands.{heldBytes}
 use Rattle.model.proofs.Operations.{sound-held}
 use Rattle.memory.specs.Meaning.{meaning}
-use Rattle.memory.specs.Change.{onStorage}
 use Rattle.memory.specs.Arranged.{Sound, Becomes}
 use Rattle.world.specs.Remove.{ungrouped}
 use Rattle.world.proofs.Whole.{delete-whole}

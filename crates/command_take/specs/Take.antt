@@ -4,10 +4,9 @@ use mathlib.Core.List.{List}
 use Prim.Native.Nat.{ℕ}
 use lib.Seq.{sets}
 use Rattle.model.specs.Model.{Entity, setOf, removeRow, remove}
-use Rattle.model.specs.Store.{stagedKinds}
+use Rattle.model.specs.Store.{stagedKinds, onSet, onStorage}
 use Rattle.model.specs.Commands.{takenBytes, heldBytes}
 use Rattle.memory.specs.Meaning.{meaning}
-use Rattle.memory.specs.Change.{onSet, onStorage}
 use Rattle.memory.specs.Arranged.{Becomes}
 use Rattle.world.specs.Remove.{removed}
 

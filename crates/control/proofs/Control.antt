@@ -11,16 +11,16 @@ use Rattle.model.specs.Numbers.{LIST-CAPACITY, MAX-REFUSALS}
 use Rattle.words.specs.Offsets.{DRAFT, ENTITIES, EXCLUDED-KINDS, EXCLUDED-LEN, REFUSALS, STAGED-KINDS, STAGED-LEN, STAGED-VALUES, TABLE}
 use Rattle.model.specs.Model.{Component, Family, kindOf}
 use Rattle.model.specs.Sound.{noComponent}
-use Rattle.model.specs.Store.{Control, stagedKinds, withControl, emptyStaged, emptyBoth, counted}
+use Rattle.model.specs.Store.{Counts, Control, stagedKinds, withControl, withCounts, emptyStaged, emptyBoth, counted}
 use Rattle.words.specs.Table.{table, length-table, getD-table, table-snoc}
 use Rattle.words.specs.Stores.{stores, Misses, length-stores, miss, hit}
 use Rattle.words.specs.Part.{between}
 use Rattle.component.specs.SparseSet.{valueOf}
 use Rattle.layout.specs.Layout.{WellFormed, groupCount, familiesOf}
 use Rattle.memory.specs.Header.{stagedLen, excludedLen, refusalsOf, stagedKindAt, excludedAt}
-use Rattle.memory.specs.Meaning.{draftArrays, draftIn, stagedAt, stagedIn, excludedIn, controlIn, meaning}
+use Rattle.memory.specs.Meaning.{draftArrays, draftIn, stagedAt, stagedIn, excludedIn, countsIn, controlIn, meaning}
 use Rattle.memory.specs.Arranged.{Arranged, Becomes}
-use Rattle.memory.proofs.Frames.{draft-arrays-same, staged-same, excluded-same, long}
+use Rattle.memory.proofs.Frames.{draft-arrays-same, staged-same, excluded-same, counts-kept, long}
 use Rattle.memory.proofs.Becomes.{Static, control-becomes}
 use Rattle.control.specs.Lists.{staging, excluding}
 use Rattle.control.specs.Refusals.{CountsRefusal}
@@ -56,12 +56,13 @@ module _ (w : List ℕ) where
     unfolding meaning excludedIn
     excluded-kinds = words-table w EXCLUDED-KINDS (excludedLen w) (omega (arith, A .excluded, long w A))
 
--- ---- words that differ in the two lists and the refusal count alone
+-- ---- words that differ in the two lists and the counts alone
 
 pub record ListsOnly (w w′ : List ℕ) : Type 0 where
   pub size : length w′ ≡ length w
   pub limits : (i : ℕ) → i < 3 → getD w′ i 0 ≡ getD w i 0
   pub layouts : (i : ℕ) → 5 ≤ i → i < 9 → getD w′ i 0 ≡ getD w i 0
+  pub told : (i : ℕ) → 10 ≤ i → i < LIST-CAPACITY → getD w′ i 0 ≡ getD w i 0
   pub table : (i : ℕ) → TABLE ≤ i → i < STAGED-KINDS → getD w′ i 0 ≡ getD w i 0
   pub blocks : (i : ℕ) → DRAFT ≤ i → i < ENTITIES → getD w′ i 0 ≡ getD w i 0
   pub rest : drop ENTITIES w′ ≡ drop ENTITIES w
@@ -75,20 +76,21 @@ pub drop-stores : (k : ℕ) (w : List ℕ) (ss : List (ℕ × ℕ)) → Below k 
 drop-stores k w [] b = refl
 drop-stores k w (s ∷ ss) b = drop-stores k (set w (s .0) (s .1)) ss (b .1) ∙ drop-set-lt k w (s .0) (s .1) (b .0)
 
-stores-listed : (w : List ℕ) (ss : List (ℕ × ℕ)) → ((i : ℕ) → i < 3 → Misses ss i) → ((i : ℕ) → 5 ≤ i → i < 9 → Misses ss i) → ((i : ℕ) → TABLE ≤ i → i < STAGED-KINDS → Misses ss i)
+stores-listed : (w : List ℕ) (ss : List (ℕ × ℕ)) → ((i : ℕ) → i < 3 → Misses ss i) → ((i : ℕ) → 5 ≤ i → i < 9 → Misses ss i) → ((i : ℕ) → 10 ≤ i → i < LIST-CAPACITY → Misses ss i) → ((i : ℕ) → TABLE ≤ i → i < STAGED-KINDS → Misses ss i)
     → ((i : ℕ) → DRAFT ≤ i → i < ENTITIES → Misses ss i) → Below ENTITIES ss → ListsOnly w (stores w ss)
-stores-listed w ss a b c d below =
+stores-listed w ss a b t c d below =
     record {
       size = length-stores w ss;
       limits = λ i h. miss w ss i (a i h);
       layouts = λ i h k. miss w ss i (b i h k);
+      told = λ i h k. miss w ss i (t i h k);
       table = λ i h k. miss w ss i (c i h k);
       blocks = λ i h k. miss w ss i (d i h k);
       rest = drop-stores ENTITIES w ss below;
     }
 
-abbrev control : List Component → List ℕ → List Family → ℕ → Control
-control s e d r = record { staged = s; excluded = e; draft = d; refusals = r }
+abbrev control : List Component → List ℕ → List Family → Counts → Control
+control s e d c = record { staged = s; excluded = e; draft = d; counts = c }
 
 module _ (w w′ : List ℕ) (A : Arranged w) (L : ListsOnly w w′) where
   static : Static w w′
@@ -97,6 +99,7 @@ module _ (w w′ : List ℕ) (A : Arranged w) (L : ListsOnly w w′) where
         size = L .size;
         limits = L .limits;
         force = λ i a b. L .layouts i (omega arith) b;
+        told = L .told;
         table = L .table;
         layout = λ i a b. L .blocks i (omega arith) (omega arith);
         rest = L .rest;
@@ -105,15 +108,15 @@ module _ (w w′ : List ℕ) (A : Arranged w) (L : ListsOnly w w′) where
   arrays : draftArrays w′ ≡ draftArrays w
   arrays = draft-arrays-same w w′ (L .size) (long w A) (L .layouts 5 (omega arith) (omega arith)) (λ i a b. L .blocks i a (omega arith))
 
-  listed-becomes : (s : List Component) (e : List ℕ) (r : ℕ) → stagedLen w′ ≤ LIST-CAPACITY → excludedLen w′ ≤ LIST-CAPACITY → stagedIn w′ ≡ s → excludedIn w′ ≡ e → refusalsOf w′ ≡ r
-      → Becomes w w′ (withControl (meaning w) (control s e (meaning w .control .draft) r))
+  listed-becomes : (s : List Component) (e : List ℕ) (c : Counts) → stagedLen w′ ≤ LIST-CAPACITY → excludedLen w′ ≤ LIST-CAPACITY → stagedIn w′ ≡ s → excludedIn w′ ≡ e → countsIn w′ ≡ c
+      → Becomes w w′ (withControl (meaning w) (control s e (meaning w .control .draft) c))
   unfolding meaning draftIn
-  listed-becomes s e r st ex es ee er =
+  listed-becomes s e c st ex es ee ec =
       let B =
       control-becomes w w′ A static (λ i a b. L .blocks i (omega arith) b) st ex (subst WellFormed (sym arrays) (A .draft))
       (L .layouts 6 (omega arith) (omega arith) ∙ A .draftCount ∙ sym (ap groupCount arrays)) in
       let d : draftIn w′ ≡ draftIn w = ap (familiesOf []) arrays in
-      let k : controlIn w′ ≡ control s e (draftIn w) r = λ i. record { staged = es i; excluded = ee i; draft = d i; refusals = er i } in
+      let k : controlIn w′ ≡ control s e (draftIn w) c = λ i. record { staged = es i; excluded = ee i; draft = d i; counts = ec i } in
       record { arranged = B .arranged; means = B .means ∙ ap (withControl (meaning w)) k; size = B .size; past = B .past }
 
 -- ---- one component more
@@ -126,7 +129,7 @@ module _ (w : List ℕ) (A : Arranged w) (k l h : ℕ) (few : stagedLen w < LIST
   ss = (3, n + 1) ∷ (STAGED-KINDS + n, k) ∷ (STAGED-VALUES + 4 * n, l) ∷ (STAGED-VALUES + 4 * n + 1, h) ∷ []
 
   stage-listed : ListsOnly w (stores w ss)
-  stage-listed = stores-listed w ss (λ i a. omega arith) (λ i a b. omega arith) (λ i a b. omega arith) (λ i a b. omega arith) (omega arith)
+  stage-listed = stores-listed w ss (λ i a. omega arith) (λ i a b. omega arith) (λ i a b. omega arith) (λ i a b. omega arith) (λ i a b. omega arith) (omega arith)
 
   stage-length : stagedLen (stores w ss) ≡ n + 1
   stage-length = hit w ss 0 3 (n + 1) (omega arith) (omega (arith, long w A))
@@ -154,12 +157,12 @@ module _ (w : List ℕ) (A : Arranged w) (k l h : ℕ) (few : stagedLen w < LIST
   pub stage-becomes : Becomes w (stores w ss) (staging k (valueOf l h) (meaning w))
   unfolding meaning
   stage-becomes =
-      listed-becomes w (stores w ss) A stage-listed (stagedIn w ++ (record { kind = k; value = valueOf l h } ∷ [])) (excludedIn w) (refusalsOf w)
+      listed-becomes w (stores w ss) A stage-listed (stagedIn w ++ (record { kind = k; value = valueOf l h } ∷ [])) (excludedIn w) (countsIn w)
       (omega (arith, stage-length))
       (omega (arith, miss w ss EXCLUDED-LEN (omega arith), A .excluded))
       stage-staged
       (excluded-same w (stores w ss) (length-stores w ss) (A .excluded) (miss w ss EXCLUDED-LEN (omega arith)) (λ i a b. miss w ss i (omega arith)))
-      (miss w ss REFUSALS (omega arith))
+      (counts-kept w (stores w ss) (λ i a b. miss w ss i (omega arith)))
 
 -- ---- one excluded kind more
 
@@ -171,7 +174,7 @@ module _ (w : List ℕ) (A : Arranged w) (k : ℕ) (few : excludedLen w < LIST-C
   ts = (4, m + 1) ∷ (EXCLUDED-KINDS + m, k) ∷ []
 
   exclude-listed : ListsOnly w (stores w ts)
-  exclude-listed = stores-listed w ts (λ i a. omega arith) (λ i a b. omega arith) (λ i a b. omega arith) (λ i a b. omega arith) (omega arith)
+  exclude-listed = stores-listed w ts (λ i a. omega arith) (λ i a b. omega arith) (λ i a b. omega arith) (λ i a b. omega arith) (λ i a b. omega arith) (omega arith)
 
   exclude-length : excludedLen (stores w ts) ≡ m + 1
   exclude-length = hit w ts 0 4 (m + 1) (omega arith) (omega (arith, long w A))
@@ -187,12 +190,12 @@ module _ (w : List ℕ) (A : Arranged w) (k : ℕ) (few : excludedLen w < LIST-C
   pub exclude-becomes : Becomes w (stores w ts) (excluding k (meaning w))
   unfolding meaning
   exclude-becomes =
-      listed-becomes w (stores w ts) A exclude-listed (stagedIn w) (excludedIn w ++ (k ∷ [])) (refusalsOf w)
+      listed-becomes w (stores w ts) A exclude-listed (stagedIn w) (excludedIn w ++ (k ∷ [])) (countsIn w)
       (omega (arith, miss w ts STAGED-LEN (omega arith), A .staged))
       (omega (arith, exclude-length))
       (staged-same w (stores w ts) (length-stores w ts) (A .staged) (miss w ts STAGED-LEN (omega arith)) (λ i a b. miss w ts i (omega arith)))
       exclude-excluded
-      (miss w ts REFUSALS (omega arith))
+      (counts-kept w (stores w ts) (λ i a b. miss w ts i (omega arith)))
 
 -- ---- the lists emptied
 
@@ -216,13 +219,13 @@ module _ (w : List ℕ) (A : Arranged w) where
   clear-staged-becomes =
       let z : stagedLen (stores w us) ≡ 0 = hit w us 0 3 0 (omega arith) (omega (arith, long w A)) in
       listed-becomes w (stores w us) A
-      (stores-listed w us (λ i a. omega arith) (λ i a b. omega arith) (λ i a b. omega arith) (λ i a b. omega arith) (omega arith))
-      [] (excludedIn w) (refusalsOf w)
+      (stores-listed w us (λ i a. omega arith) (λ i a b. omega arith) (λ i a b. omega arith) (λ i a b. omega arith) (λ i a b. omega arith) (omega arith))
+      [] (excludedIn w) (countsIn w)
       (omega arith)
       (omega (arith, miss w us EXCLUDED-LEN (omega arith), A .excluded))
       (staged-none us z)
       (excluded-same w (stores w us) (length-stores w us) (A .excluded) (miss w us EXCLUDED-LEN (omega arith)) (λ i a b. miss w us i (omega arith)))
-      (miss w us REFUSALS (omega arith))
+      (counts-kept w (stores w us) (λ i a b. miss w us i (omega arith)))
 
   pub clear-lists-becomes : Becomes w (stores w vs) (withControl (meaning w) (emptyBoth (meaning w .control)))
   unfolding meaning
@@ -230,38 +233,39 @@ module _ (w : List ℕ) (A : Arranged w) where
       let z : stagedLen (stores w vs) ≡ 0 = hit w vs 0 3 0 (omega arith) (omega (arith, long w A)) in
       let y : excludedLen (stores w vs) ≡ 0 = hit w vs 1 4 0 (omega arith) (omega (arith, long w A)) in
       listed-becomes w (stores w vs) A
-      (stores-listed w vs (λ i a. omega arith) (λ i a b. omega arith) (λ i a b. omega arith) (λ i a b. omega arith) (omega arith))
-      [] [] (refusalsOf w)
+      (stores-listed w vs (λ i a. omega arith) (λ i a b. omega arith) (λ i a b. omega arith) (λ i a b. omega arith) (λ i a b. omega arith) (omega arith))
+      [] [] (countsIn w)
       (omega arith)
       (omega arith)
       (staged-none vs z)
       (excluded-none vs y)
-      (miss w vs REFUSALS (omega arith))
+      (counts-kept w (stores w vs) (λ i a b. miss w vs i (omega arith)))
 
 -- ---- one refusal more
 
 module _ (w : List ℕ) (A : Arranged w) where
-  refusal-becomes : (r : ℕ) → Becomes w (set w REFUSALS r) (withControl (meaning w) (control (meaning w .control .staged) (meaning w .control .excluded) (meaning w .control .draft) r))
+  refusal-becomes : (r : ℕ) → Becomes w (set w REFUSALS r) (withControl (meaning w) (withCounts (meaning w .control) (record { refusals = r })))
   unfolding meaning
   refusal-becomes r =
       let rs : List (ℕ × ℕ) = (REFUSALS, r) ∷ [] in
+      let q : refusalsOf (set w REFUSALS r) ≡ r = hit w rs 0 REFUSALS r (omega arith) (omega (arith, long w A)) in
       listed-becomes w (set w REFUSALS r) A
-      (stores-listed w rs (λ i a. omega arith) (λ i a b. omega arith) (λ i a b. omega arith) (λ i a b. omega arith) (omega arith))
-      (stagedIn w) (excludedIn w) r
+      (stores-listed w rs (λ i a. omega arith) (λ i a b. omega arith) (λ i a b. omega arith) (λ i a b. omega arith) (λ i a b. omega arith) (omega arith))
+      (stagedIn w) (excludedIn w) (record { refusals = r })
       (omega (arith, miss w rs STAGED-LEN (omega arith), A .staged))
       (omega (arith, miss w rs EXCLUDED-LEN (omega arith), A .excluded))
       (staged-same w (set w REFUSALS r) (length-stores w rs) (A .staged) (miss w rs STAGED-LEN (omega arith)) (λ i a b. miss w rs i (omega arith)))
       (excluded-same w (set w REFUSALS r) (length-stores w rs) (A .excluded) (miss w rs EXCLUDED-LEN (omega arith)) (λ i a b. miss w rs i (omega arith)))
-      (hit w rs 0 REFUSALS r (omega arith) (omega (arith, long w A)))
+      (λ i. record { refusals = q i })
 
-  counts : (w′ : List ℕ) → w′ ≡ set w REFUSALS (counted (meaning w .control) .refusals) → CountsRefusal w w′
+  counts : (w′ : List ℕ) → w′ ≡ set w REFUSALS (counted (meaning w .control) .counts .refusals) → CountsRefusal w w′
   counts w′ e =
       record {
-        becomes = subst (λ (u : List ℕ). Becomes w u (withControl (meaning w) (counted (meaning w .control)))) (sym e) (refusal-becomes (counted (meaning w .control) .refusals));
+        becomes = subst (λ (u : List ℕ). Becomes w u (withControl (meaning w) (counted (meaning w .control)))) (sym e) (refusal-becomes (counted (meaning w .control) .counts .refusals));
         word = e;
       }
 
-  pub refusals-read : refusalsOf w ≡ meaning w .control .refusals
+  pub refusals-read : refusalsOf w ≡ meaning w .control .counts .refusals
   unfolding meaning
   refusals-read = refl
 

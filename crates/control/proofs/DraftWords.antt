@@ -4,7 +4,7 @@ use mathlib.Core.List.{List, [], _∷_}
 use Prim.Native.Nat.{ℕ, _-_, _≤_, _<_}
 use native.Mathlib.Omega.{arith}
 use lib.ListN.{length, getD, drop}
-use Rattle.words.specs.Offsets.{DRAFT, ENTITIES, EXCLUDED-LEN, LAYOUT, REFUSALS, STAGED-LEN}
+use Rattle.words.specs.Offsets.{DRAFT, ENTITIES, EXCLUDED-LEN, LAYOUT, STAGED-LEN}
 use Rattle.model.specs.Model.{Family}
 use Rattle.model.specs.Store.{withControl, withDraft}
 use Rattle.words.specs.Table.{table}
@@ -13,11 +13,11 @@ use Rattle.words.specs.Part.{between, patch, length-between, patch-front, patch
 use Rattle.layout.specs.declared.group_layout.Layout.{Layout}
 use Rattle.layout.specs.Layout.{arraysOf, blockArrays, WellFormed, groupCount, familiesOf}
 use Rattle.layout_block.specs.Blocks.{BlockFormed, ReadFrom, WrittenTo}
-use Rattle.memory.specs.Header.{draftFamilies, draftGroups, refusalsOf}
+use Rattle.memory.specs.Header.{draftFamilies, draftGroups}
 use Rattle.words.specs.Word.{Word}
 use Rattle.memory.specs.Meaning.{draftArrays, draftIn, stagedIn, excludedIn, controlIn, meaning}
 use Rattle.memory.specs.Arranged.{Arranged, Becomes}
-use Rattle.memory.proofs.Frames.{word-front, drop-later, staged-same, excluded-same, long, word-rest}
+use Rattle.memory.proofs.Frames.{word-front, drop-later, staged-same, excluded-same, counts-kept, long, word-rest}
 use Rattle.memory.proofs.Becomes.{Static, control-becomes}
 use Rattle.control.specs.Draft.{IsDraft, drafting}
 use Rattle.control.proofs.Control.{drop-stores}
@@ -52,6 +52,7 @@ module _ (w w′ : List ℕ) (A : Arranged w) (D : Drafted w w′) where
         size = D .size;
         limits = λ i h. D .low i (omega arith);
         force = λ i a b. D .middle i a (omega arith);
+        told = λ i a b. D .middle i (omega arith) (omega arith);
         table = λ i a b. D .middle i (omega arith) (omega arith);
         layout = λ i a b. D .upper i a (omega arith);
         rest = D .rest;
@@ -65,8 +66,8 @@ module _ (w w′ : List ℕ) (A : Arranged w) (D : Drafted w w′) where
       control-becomes w w′ A static (λ i a b. D .upper i (omega arith) b) (omega (arith, D .low STAGED-LEN (omega arith), A .staged)) (omega (arith, D .low EXCLUDED-LEN (omega arith), A .excluded)) good groups in
       let s : stagedIn w′ ≡ stagedIn w = staged-same w w′ (D .size) (A .staged) (D .low STAGED-LEN (omega arith)) (λ i a b. D .middle i (omega arith) (omega arith)) in
       let x : excludedIn w′ ≡ excludedIn w = excluded-same w w′ (D .size) (A .excluded) (D .low EXCLUDED-LEN (omega arith)) (λ i a b. D .middle i (omega arith) (omega arith)) in
-      let r : refusalsOf w′ ≡ refusalsOf w = D .middle REFUSALS (omega arith) (omega arith) in
-      let k : controlIn w′ ≡ withDraft (controlIn w) fs = λ i. record { staged = s i; excluded = x i; draft = e i; refusals = r i } in
+      let c = counts-kept w w′ (λ i a b. D .middle i (omega arith) (omega arith)) in
+      let k : controlIn w′ ≡ withDraft (controlIn w) fs = λ i. record { staged = s i; excluded = x i; draft = e i; counts = c i } in
       record { arranged = B .arranged; means = B .means ∙ ap (withControl (meaning w)) k; size = B .size; past = B .past }
 
 -- ---- written

@@ -9,6 +9,7 @@ use lib.Dec.{ltb}
 use lib.ListN.{length}
 use Rattle.model.specs.Lists.{one, place, count-place, count-append, getD-place}
 use Rattle.model.specs.Model.{Entity, Entities, noEntity, sameEntity, isLive, create, createWith}
+use Rattle.model.specs.Store.{withEntities}
 use Rattle.model.proofs.SparseSets.{entity-eq, entity-same}
 use Rattle.words.specs.Offsets.{columnStart-mono}
 use Rattle.entity.specs.declared.Entity.{Entity as Answer}
@@ -19,7 +20,6 @@ use Rattle.entity.proofs.Lookups.{length-live, getD-live}
 use Rattle.memory.specs.Header.{capacityOf, kindCapacityOf}
 use Rattle.words.specs.Word.{Word}
 use Rattle.memory.specs.Meaning.{meaning}
-use Rattle.memory.specs.Change.{withEntities}
 use Rattle.memory.specs.Arranged.{Arranged, Becomes}
 use Rattle.memory.proofs.Frames.{start-header}
 use Rattle.memory.proofs.Becomes.{entities-become}
@@ -61,7 +61,7 @@ live-in n p S e t =
     let s = S .linked .tied i b in
     (subst (λ (x : Entity). x .index < n) g (s .below), subst (λ (x : Entity). 1 ≤ x .version) g (s .issued))
 
-pub live-small : (w : List ℕ) → Arranged w → (e : Entity) → isLive e (meaning w .entities) ≡ true → (e .index < meaning w .capacity) × (1 ≤ e .version)
+pub live-small : (w : List ℕ) → Arranged w → (e : Entity) → isLive e (meaning w .entities) ≡ true → (e .index < meaning w .settings .capacity) × (1 ≤ e .version)
 unfolding meaning
 live-small w A e t = live-in (capacityOf w) (entityPart (capacityOf w) w) (A .entities) e t
 

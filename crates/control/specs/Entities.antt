@@ -6,16 +6,16 @@ use lib.ListN.{length}
 use Rattle.model.specs.Numbers.{ENTITY-LEN, MAX-ENTITIES}
 use Rattle.words.specs.Offsets.{ENTITIES}
 use Rattle.model.specs.Model.{create}
+use Rattle.model.specs.Store.{withEntities}
 use Rattle.entity.specs.declared.Entity.{Entity}
 use Rattle.entity.specs.Answers.{entityOf}
 use Rattle.memory.specs.Header.{capacityOf}
 use Rattle.memory.specs.Meaning.{meaning}
-use Rattle.memory.specs.Change.{withEntities}
 use Rattle.memory.specs.Arranged.{Becomes}
 
 -- 01: "capacity N (cards)"; the words have the part of N entities
 pub record Capacity (w : List ℕ) (n : ℕ) : Type 0 where
-  pub is : n ≡ meaning w .capacity
+  pub is : n ≡ meaning w .settings .capacity
   pub some : 1 ≤ n
   pub most : n ≤ MAX-ENTITIES
   pub word : n ≡ capacityOf w
@@ -25,5 +25,5 @@ pub record Capacity (w : List ℕ) (n : ℕ) : Type 0 where
 pub record Creates (w w′ : List ℕ) (r : Entity) : Type 0 where
   pub becomes : Becomes w w′ (withEntities (meaning w) (create (meaning w .entities) .entities))
   pub entity : entityOf r ≡ create (meaning w .entities) .entity
-  pub below : r .index < meaning w .capacity
+  pub below : r .index < meaning w .settings .capacity
   pub positive : 1 ≤ r .version

@@ -11,4 +11,4 @@ use Rattle.memory.specs.Arranged.{Becomes}
 -- "7 to 15 in a run .. add to the tally, change no other word": of the model's store, and of the words
 pub record CountsRefusal (w w′ : List ℕ) : Type 0 where
   pub becomes : Becomes w w′ (withControl (meaning w) (counted (meaning w .control)))
-  pub word : w′ ≡ set w REFUSALS (counted (meaning w .control) .refusals)
+  pub word : w′ ≡ set w REFUSALS (counted (meaning w .control) .counts .refusals)

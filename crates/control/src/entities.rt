@@ -12,12 +12,12 @@ ghost use mathlib.Core.Bool.{false};
 ghost use Prim.Native.Nat.{_<_};
 ghost use lib.ListN.{length, getD};
 ghost use Rattle.model.specs.Model.{noEntity, destroy};
+ghost use Rattle.model.specs.Store.{withEntities};
 ghost use Rattle.model.specs.Snapshot.{liveVersion};
 ghost use Rattle.entity.specs.Meaning.{entity};
 ghost use Rattle.entity.specs.Change.{isFull};
 ghost use Rattle.entity.specs.Answers.{entityOf, foundOf, LiveAt};
 ghost use Rattle.memory.specs.Meaning.{meaning};
-ghost use Rattle.memory.specs.Change.{withEntities};
 ghost use Rattle.memory.specs.Arranged.{Arranged, Becomes};
 ghost use Rattle.control.specs.Entities.{Capacity, Creates};
 
@@ -42,7 +42,7 @@ pub fn get(words: &[u32], index: u32, version: u32) -> Found
 // Whether no number is left: 01's FULL.
 pub fn is_full(words: &[u32]) -> bool
     requires { ⌜ Arranged (now words) ⌝ }
-    ensures { λ r. ⌜ r ≡ isFull (meaning (now (words .entry)) .capacity) (meaning (now (words .entry)) .entities) ⌝ }
+    ensures { λ r. ⌜ r ≡ isFull (meaning (now (words .entry)) .settings .capacity) (meaning (now (words .entry)) .entities) ⌝ }
 {
     let n = capacity(words);
     let end = ENTITIES + model::ENTITY_LEN * n;
@@ -52,7 +52,7 @@ pub fn is_full(words: &[u32]) -> bool
 // A new entity. The caller has seen that there is a number left.
 pub fn create(words: &mut [u32]) -> Entity
     requires { ⌜ Arranged (now words) ⌝ }
-    requires { ⌜ isFull (meaning (now words) .capacity) (meaning (now words) .entities) ≡ false ⌝ }
+    requires { ⌜ isFull (meaning (now words) .settings .capacity) (meaning (now words) .entities) ≡ false ⌝ }
     ensures { λ r. ⌜ Creates (now (words .entry)) (now (words .exit)) r ⌝ }
 {
     let n = capacity(words);
@@ -103,7 +103,7 @@ pub fn issued(words: &[u32]) -> usize
 // The version of the live entity with this index, 0 where there is none.
 pub fn version_at(words: &[u32], index: usize) -> u32
     requires { ⌜ Arranged (now words) ⌝ }
-    requires { ⌜ index < meaning (now words) .capacity ⌝ }
+    requires { ⌜ index < meaning (now words) .settings .capacity ⌝ }
     ensures { λ r. ⌜ r ≡ liveVersion index (meaning (now (words .entry)) .entities .live) ⌝ }
 {
     let n = capacity(words);

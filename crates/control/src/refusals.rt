@@ -7,7 +7,7 @@ ghost use Rattle.control.specs.Refusals.{CountsRefusal};
 
 pub fn refusals(words: &[u32]) -> u32
     requires { ⌜ Arranged (now words) ⌝ }
-    ensures { λ r. ⌜ r ≡ meaning (now (words .entry)) .control .refusals ⌝ }
+    ensures { λ r. ⌜ r ≡ meaning (now (words .entry)) .control .counts .refusals ⌝ }
 {
     words[REFUSALS]
 }

@@ -11,6 +11,7 @@ use lib.Seq.{getD-take, getD-drop, length-take-le}
 use Rattle.model.specs.Numbers.{MAX-GROUP-COUNT, MAX-KINDS}
 use Rattle.words.specs.Offsets.{ARITIES, BLOCK-LEN, ENDS, ENTITIES, GROUP-COUNTS, GROUP-FAMILIES, GROUP-PLACES, KIND-ENDS, LAYOUT, LAYOUT-ARITIES, LAYOUT-ENDS, LAYOUT-KIND-ENDS}
 use Rattle.model.specs.Model.{Family, Storage, groupsOf}
+use Rattle.model.specs.Store.{onStorage, withLayout}
 use Rattle.model.specs.Sound.{In, Distinct, layoutKinds}
 use Rattle.model.proofs.Walk.{bool-cases}
 use Rattle.words.specs.Part.{between, length-between, getD-between}
@@ -20,7 +21,6 @@ use Rattle.layout.proofs.Arrays.{kinds-inside, groups-inside, groups-of, layout
 use Rattle.memory.specs.Header.{layoutGroups, groupFamilyAt, countAt}
 use Rattle.words.specs.Word.{Word}
 use Rattle.memory.specs.Meaning.{layoutArrays, layoutIn, meaning}
-use Rattle.memory.specs.Change.{onStorage, withLayout}
 use Rattle.memory.specs.Arranged.{Arranged, GroupSound, Becomes, memberAt}
 use Rattle.memory.proofs.Frames.{long, layout-sized}
 use Rattle.memory.proofs.Becomes.{count-becomes, slot-real}

@@ -7,6 +7,7 @@ use lib.ListN.{length, getD}
 use Rattle.model.specs.Numbers.{MAX-ENTITIES}
 use Rattle.model.specs.Run.{Store}
 use Rattle.model.specs.Model.{Entity, Storage, setOf, onKinds, swapTo, groupsOf}
+use Rattle.model.specs.Store.{onStorage, withLayout}
 use Rattle.model.specs.Sound.{In}
 use Rattle.masks.specs.Masks.{bitsOf, Ordered}
 use Rattle.words.specs.Part.{between}
@@ -15,7 +16,6 @@ use Rattle.component.proofs.Meaning.{length-rows}
 use Rattle.component.specs.Columns.{columnOf, rowsOf}
 use Rattle.memory.specs.Header.{capacityOf, slotOf}
 use Rattle.memory.specs.Meaning.{meaning}
-use Rattle.memory.specs.Change.{onStorage, withLayout}
 use Rattle.memory.specs.Arranged.{Arranged, Becomes}
 use Rattle.kinds.proofs.Slot.{known-slot}
 use Rattle.group.specs.declared.group_metadata.GroupMetadata.{GroupMetadata}

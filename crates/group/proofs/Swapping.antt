@@ -8,12 +8,12 @@ use borrow.Author.Tests.{eq-eqb}
 use lib.ListN.{length, getD, set}
 use Rattle.model.specs.Run.{Store}
 use Rattle.model.specs.Model.{Entity, SparseSet, Storage, mem, setOf, held, swapTo}
+use Rattle.model.specs.Store.{onSet, onStorage}
 use Rattle.model.specs.Sound.{In, Distinct}
 use Rattle.model.proofs.Walk.{in-left}
 use Rattle.words.specs.Part.{between}
 use Rattle.layout.proofs.Family.{between-none}
 use Rattle.memory.specs.Meaning.{meaning}
-use Rattle.memory.specs.Change.{onSet, onStorage}
 use Rattle.memory.specs.Arranged.{Arranged, Becomes}
 use Rattle.memory.proofs.Becomes.{stays, sets-wide}
 use Rattle.kinds.proofs.Slot.{known-small}

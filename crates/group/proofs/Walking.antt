@@ -7,11 +7,11 @@ use native.Mathlib.Omega.{arith}
 use lib.ListN.{length}
 use Rattle.model.specs.Run.{Store}
 use Rattle.model.specs.Model.{Entity, Storage, groupsOf}
+use Rattle.model.specs.Store.{onStorage}
 use Rattle.masks.specs.Masks.{bitsOf, upFrom, has, keep, keepIf, skipping}
 use Rattle.masks.specs.Walk.{LowStep, HighStep}
 use Rattle.masks.proofs.Lists.{has-here, has-later, has-append, has-common, and-parts, or-right}
 use Rattle.memory.specs.Meaning.{meaning}
-use Rattle.memory.specs.Change.{onStorage}
 use Rattle.memory.specs.Arranged.{Arranged, Becomes}
 use Rattle.memory.proofs.Becomes.{stays}
 use Rattle.group.specs.declared.group_status.GroupStatus.{GroupStatus}

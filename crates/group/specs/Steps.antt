@@ -5,9 +5,9 @@ use mathlib.Core.List.{List}
 use Prim.Native.Nat.{ℕ, _<_}
 use lib.Dec.{ltb}
 use Rattle.model.specs.Model.{Entity, SparseSet, Storage, setOf, at, headKind, allHeld, onKinds, swapTo, groupsOf}
+use Rattle.model.specs.Store.{onStorage}
 use Rattle.masks.specs.Masks.{bitsOf, has, commonOf, skipping}
 use Rattle.memory.specs.Meaning.{meaning}
-use Rattle.memory.specs.Change.{onStorage}
 use Rattle.memory.specs.Arranged.{Becomes}
 use Rattle.group.specs.declared.group_status.GroupStatus.{GroupStatus}
 use Rattle.group.specs.declared.group_status.GroupStatus.the-variants.{Incomplete, Ungrouped, Grouped}

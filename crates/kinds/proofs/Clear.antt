@@ -9,6 +9,7 @@ use lib.Dec.{ltb}
 use lib.ListN.{length, getD, length-map, List·getD-map}
 use Rattle.model.specs.Numbers.{ENTITY-LEN, MAX-KINDS, columnLen}
 use Rattle.model.specs.Model.{SparseSet, Storage}
+use Rattle.model.specs.Store.{onStorage}
 use Rattle.model.proofs.Walk.{bool-cases}
 use Rattle.words.specs.Offsets.{columnStart, columnStart-mono, ENTITIES, EXCLUDED-LEN, STAGED-LEN}
 use Rattle.words.specs.Part.{between-rest}
@@ -19,10 +20,9 @@ use Rattle.entity.specs.Meaning as entity
 use Rattle.entity.specs.Change.{entityPart, entitiesIn}
 use Rattle.memory.specs.Header.{capacityOf, kindCapacityOf, registeredOf, slotOf}
 use Rattle.memory.specs.Meaning.{setAt, setsIn, meaning}
-use Rattle.memory.specs.Change.{onStorage}
 use Rattle.memory.specs.Arranged.{Arranged, Becomes}
-use Rattle.memory.proofs.Kept.{Kept, kinds-kept, arranged-kept}
-use Rattle.memory.proofs.Frames.{word-front, start-header, drop-later, part-same, control-same, layout-same, header-kept, draft-formed}
+use Rattle.memory.proofs.Kept.{Kept, capacity-kept, kinds-kept, arranged-kept}
+use Rattle.memory.proofs.Frames.{word-front, start-header, drop-later, part-same, control-same, layout-same, header-kept, draft-formed, reads-means}
 use Rattle.kinds.specs.Kinds.{emptied}
 
 -- ---- a change of the first r slots that would not change the others
@@ -92,7 +92,7 @@ module _ (w w′ : List ℕ) (A : Arranged w) (f : SparseSet → SparseSet) (z :
 
   each-set : (k : ℕ) → k < MAX-KINDS → setAt w′ k ≡ f (setAt w k)
   each-set k h =
-      rw (each-kept .slots k h, each-kept .registered, each-kept .capacity)
+      rw (each-kept .slots k h, each-kept .registered, capacity-kept each-kept)
       (bool-cases (ltb (slotOf w k) (registeredOf w))
       (λ t. rw t (o .becomes (slotOf w k) (omega (arith, ltb-true (slotOf w k) (registeredOf w) t, A .table .few))))
       (λ t. rw t (sym z)))
@@ -118,20 +118,21 @@ module _ (w w′ : List ℕ) (A : Arranged w) (f : SparseSet → SparseSet) (z :
   each-becomes =
       let K = each-kept in
       let D = draft-formed w w′ A (o .size) same in
-      let sets = each-sets in
-      let layout = layout-same w w′ A (o .size) same in
-      let cap = K .capacity in
-      let kcap = K .kindCapacity in
-      let kinds = kinds-kept A K in
-      let ents : entitiesIn (capacityOf w′) w′ ≡ entitiesIn n w = ap (λ (c : ℕ). entitiesIn c w′) cap ∙ ap (entity.entitiesOf n) each-entities in
-      let control = control-same w w′ A (o .size) same in
       record {
         arranged =
             arranged-kept A K (subst (entity.EntityPartSound n) (sym each-entities) (A .entities)) (o .columns)
             (λ s l h. o .becomes s h ∙ ap f (A .vacant s l h) ∙ z)
             (rw (same STAGED-LEN (omega arith)) (A .staged)) (rw (same EXCLUDED-LEN (omega arith)) (A .excluded)) (D .0) (D .1);
         means =
-            λ i. record { capacity = cap i; kindCapacity = kcap i; kinds = kinds i; entities = ents i; storage = record { sets = sets i; layout = layout i }; control = control i };
+            reads-means
+            (record {
+              settings = K .settings;
+              kinds = kinds-kept A K;
+              entities = ap (entity.entitiesOf n) each-entities;
+              sets = each-sets;
+              layout = layout-same w w′ A (o .size) same;
+              control = control-same w w′ A (o .size) same;
+            });
         size = o .size;
         past = o .past;
       }

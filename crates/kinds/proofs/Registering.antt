@@ -13,7 +13,7 @@ use Rattle.model.specs.Numbers.{ENTITY-LEN, MAX-KINDS}
 use Rattle.model.specs.Model.{mem}
 use Rattle.model.specs.Run.{withKinds}
 use Rattle.model.specs.Sound.{In}
-use Rattle.words.specs.Offsets.{columnStart, columnStart-mono, CAPACITY, COLUMN-KIND, DRAFT-FAMILIES, DRAFT-GROUPS, ENTITIES, EXCLUDED-LEN, GROUP-COUNTS, GROUP-FAMILIES, GROUP-PLACES, KIND-CAPACITY, LAYOUT-FAMILIES, LAYOUT-GROUPS, OWN-GROUP, REFUSALS, REGISTERED, STAGED-LEN, TABLE, UNREGISTERED}
+use Rattle.words.specs.Offsets.{columnStart, columnStart-mono, CAPACITY, COLUMN-KIND, DRAFT-FAMILIES, DRAFT-GROUPS, ENTITIES, EXCLUDED-LEN, GROUP-COUNTS, GROUP-FAMILIES, GROUP-PLACES, KIND-CAPACITY, LAYOUT-FAMILIES, LAYOUT-GROUPS, OWN-GROUP, REGISTERED, STAGED-LEN, TABLE, UNREGISTERED}
 use Rattle.words.specs.Part.{between}
 use Rattle.words.specs.Table.{table, table-same, table-snoc, length-table, by-eq}
 use Rattle.component.specs.SparseSet.{rows}
@@ -23,10 +23,10 @@ use Rattle.component.proofs.Frames.{headed, front-column, front-columns}
 use Rattle.entity.specs.Meaning as entity
 use Rattle.entity.specs.Change.{entityPart, entitiesIn}
 use Rattle.layout.specs.Layout.{Arrays, WellFormed, widthOf, groupCount, familiesOf}
-use Rattle.memory.specs.Header.{capacityOf, kindCapacityOf, registeredOf, layoutGroups, refusalsOf, slotOf, groupFamilyAt}
+use Rattle.memory.specs.Header.{capacityOf, kindCapacityOf, registeredOf, layoutGroups, slotOf, groupFamilyAt}
 use Rattle.memory.specs.Meaning.{kindAt, ownAt, kindsIn, setAt, setsIn, draftArrays, layoutArrays, draftIn, layoutIn, controlIn, meaning}
 use Rattle.memory.specs.Arranged.{TableSound, Registered, memberAt, GroupSound, LayoutSound, Arranged, Becomes}
-use Rattle.memory.proofs.Frames.{word-front, start-header, drop-later, part-same, draft-arrays-same, layout-arrays-same, counts-same, staged-same, excluded-same, long}
+use Rattle.memory.proofs.Frames.{word-front, start-header, drop-later, part-same, draft-arrays-same, layout-arrays-same, counts-same, staged-same, excluded-same, settings-kept, counts-kept, long, reads-means}
 use Rattle.kinds.specs.Steps.{withHead}
 use Rattle.kinds.proofs.Slot.{slot-known}
 
@@ -247,8 +247,8 @@ module _ (w w′ : List ℕ) (A : Arranged w) (k : ℕ) (hk : k < MAX-KINDS) (ne
       let p = staged-same w w′ (R .size) (A .staged) (R .header STAGED-LEN (omega arith) (omega arith) (omega arith)) (λ i a b. R .header i (omega arith) (omega arith) (omega arith)) in
       let e = excluded-same w w′ (R .size) (A .excluded) (R .header EXCLUDED-LEN (omega arith) (omega arith) (omega arith)) (λ i a b. R .header i (omega arith) (omega arith) (omega arith)) in
       let d : draftIn w′ ≡ draftIn w = ap (familiesOf []) draft-is in
-      let r : refusalsOf w′ ≡ refusalsOf w = R .header REFUSALS (omega arith) (omega arith) (omega arith) in
-      λ i. record { staged = p i; excluded = e i; draft = d i; refusals = r i }
+      let c = counts-kept w w′ (λ i a b. R .header i (omega arith) (omega arith) (omega arith)) in
+      λ i. record { staged = p i; excluded = e i; draft = d i; counts = c i }
 
   entities-are : entityPart (capacityOf w) w′ ≡ entityPart (capacityOf w) w
   entities-are = part-same w w′ (R .size) ENTITIES (ENTITIES + ENTITY-LEN * capacityOf w) enough (λ i a b. R .header i b (omega arith) (omega arith))
@@ -279,23 +279,24 @@ module _ (w w′ : List ℕ) (A : Arranged w) (k : ℕ) (hk : k < MAX-KINDS) (ne
   pub registers-becomes : Becomes w w′ (withKinds (meaning w) (meaning w .kinds ++ (k ∷ [])))
   unfolding meaning
   registers-becomes =
-      let kinds = kinds-new in
-      let sets = sets-new in
-      let layout = layout-is in
-      let control = control-is in
-      let c = cap in
-      let kc = kind-cap in
-      let ents : entitiesIn (capacityOf w′) w′ ≡ entitiesIn (capacityOf w) w = ap (λ (c : ℕ). entitiesIn c w′) cap ∙ ap (entity.entitiesOf (capacityOf w)) entities-are in
       record {
         arranged = arranged-new;
         means =
-            λ i. record { capacity = c i; kindCapacity = kc i; kinds = kinds i; entities = ents i; storage = record { sets = sets i; layout = layout i }; control = control i };
+            reads-means
+            (record {
+              settings = settings-kept w w′ (λ i h. R .header i (omega arith) (omega arith) (omega arith)) (λ i a b. R .header i (omega arith) (omega arith) (omega arith));
+              kinds = kinds-new;
+              entities = ap (entity.entitiesOf (capacityOf w)) entities-are;
+              sets = sets-new;
+              layout = layout-is;
+              control = control-is;
+            });
         size = R .size;
         past = R .past;
       }
 
 -- fewer kinds than there are columns: the first slot that no kind has is there
-pub vacancy : (w : List ℕ) → length (meaning w .kinds) < meaning w .kindCapacity → registeredOf w < kindCapacityOf w
+pub vacancy : (w : List ℕ) → length (meaning w .kinds) < meaning w .settings .kindCapacity → registeredOf w < kindCapacityOf w
 unfolding meaning kindsIn
 vacancy w h = rw (length-table (registeredOf w) (kindAt w)) at h
 

@@ -10,6 +10,7 @@ use lib.Dec.{eqb}
 use lib.ListN.{length, getD}
 use Rattle.model.specs.Numbers.{MAX-KINDS}
 use Rattle.model.specs.Model.{SparseSet, mem}
+use Rattle.model.specs.Store.{onSet, onStorage}
 use Rattle.model.specs.Sound.{In}
 use Rattle.model.proofs.Walk.{or-cases}
 use Rattle.model.proofs.KindLists.{not-true, at-in}
@@ -19,7 +20,6 @@ use Rattle.component.specs.Columns.{Lent, Only, rowsOf}
 use Rattle.component.proofs.Parts.{lent, getD-column}
 use Rattle.memory.specs.Header.{capacityOf, kindCapacityOf, registeredOf, slotOf}
 use Rattle.memory.specs.Meaning.{kindAt, kindsIn, setAt, meaning}
-use Rattle.memory.specs.Change.{onSet, onStorage}
 use Rattle.memory.specs.Arranged.{Arranged, Becomes}
 use Rattle.memory.proofs.Frames.{long}
 use Rattle.memory.proofs.Becomes.{set-at, set-in, one-becomes}

@@ -3,11 +3,11 @@ use mathlib.Core.Path.{_≡_}
 use mathlib.Core.List.{List, [], map}
 use Prim.Native.Nat.{ℕ, suc}
 use Rattle.model.specs.Model.{Entity, SparseSet, Storage, setOf, removeRow}
+use Rattle.model.specs.Store.{onSet, onStorage}
 use Rattle.component.specs.declared.Removed.{Removed}
 use Rattle.component.specs.Answers.{Gives}
 use Rattle.memory.specs.Header.{slotOf}
 use Rattle.memory.specs.Meaning.{ownAt, meaning}
-use Rattle.memory.specs.Change.{onSet, onStorage}
 use Rattle.memory.specs.Arranged.{Becomes}
 use Rattle.kinds.specs.declared.Own.{Own}
 use Rattle.kinds.specs.declared.Own.the-variants as own

@@ -10,6 +10,7 @@ ghost use lib.ListN.{length, getD};
 ghost use Rattle.model.specs.Numbers.{MAX-KINDS};
 ghost use Rattle.words.specs.Offsets.{ROWS};
 ghost use Rattle.model.specs.Model.{noRow, mem, held, insertRow, swapTo};
+ghost use Rattle.model.specs.Store.{onSet, onStorage};
 ghost use Rattle.model.specs.Run.{withKinds};
 ghost use Rattle.model.specs.Sound.{In};
 ghost use Rattle.component.specs.SparseSet.{entity, valueOf, Current};
@@ -17,7 +18,6 @@ ghost use Rattle.component.specs.Answers.{Finds};
 ghost use Rattle.component.specs.Columns.{Lent};
 ghost use Rattle.memory.specs.Header.{capacityOf, slotOf};
 ghost use Rattle.memory.specs.Meaning.{localAt, meaning};
-ghost use Rattle.memory.specs.Change.{onSet, onStorage};
 ghost use Rattle.memory.specs.Arranged.{Arranged, Becomes};
 ghost use Rattle.kinds.specs.Kinds.{kindSet, OwnGroup, RemovesKind, emptied};
 ghost use Rattle.kinds.specs.Steps.{InSlot, headOf, withHead};
@@ -181,7 +181,7 @@ pub fn register(words: &mut [u32], kind: usize)
     requires { ⌜ Arranged (now words) ⌝ }
     requires { ⌜ kind < MAX-KINDS ⌝ }
     requires { ⌜ mem kind (meaning (now words) .kinds) ≡ false ⌝ }
-    requires { ⌜ length (meaning (now words) .kinds) < meaning (now words) .kindCapacity ⌝ }
+    requires { ⌜ length (meaning (now words) .kinds) < meaning (now words) .settings .kindCapacity ⌝ }
     ensures { λ _. ⌜ Becomes (now (words .entry)) (now (words .exit)) (withKinds (meaning (now (words .entry))) (meaning (now (words .entry)) .kinds ++ (kind ∷ []))) ⌝ }
 {
     let n = words::word(words, words::CAPACITY);

@@ -13,7 +13,7 @@ use Rattle.model.specs.Numbers.{ENTITY-LEN, MAX-KINDS}
 use Rattle.model.specs.Model.{Family}
 use Rattle.model.specs.Sound.{In, StoreSound}
 use Rattle.model.proofs.Walk.{bool-cases}
-use Rattle.words.specs.Offsets.{columnStart, columnStart-mono, BLOCK-LEN, CAPACITY, COLUMN-KIND, DRAFT, DRAFT-FAMILIES, DRAFT-GROUPS, ENTITIES, EXCLUDED-LEN, GROUP-COUNTS, GROUP-FAMILIES, GROUP-PLACES, KIND-CAPACITY, LAYOUT, LAYOUT-FAMILIES, LAYOUT-GROUPS, REFUSALS, REGISTERED, STAGED-LEN, TABLE, UNREGISTERED}
+use Rattle.words.specs.Offsets.{columnStart, columnStart-mono, BLOCK-LEN, CAPACITY, COLUMN-KIND, DRAFT, DRAFT-FAMILIES, DRAFT-GROUPS, ENTITIES, EXCLUDED-LEN, GROUP-COUNTS, GROUP-FAMILIES, GROUP-PLACES, KIND-CAPACITY, LAYOUT, LAYOUT-FAMILIES, LAYOUT-GROUPS, REGISTERED, STAGED-LEN, TABLE, UNREGISTERED}
 use Rattle.words.specs.Part.{between, between-front, between-rest, length-between, getD-between}
 use Rattle.words.specs.Table.{table, table-same}
 use Rattle.component.specs.SparseSet.{rows}
@@ -23,10 +23,10 @@ use Rattle.entity.specs.Meaning as entity
 use Rattle.entity.specs.Change.{entityPart, entitiesIn}
 use Rattle.layout.specs.Layout.{Arrays, blockArrays, Sized, WellFormed, startOf, widthOf, groupCount, kindsAt, aritiesAt, groupsFrom, familyAt, familiesOf}
 use Rattle.layout.proofs.Arrays.{none-formed, table-none, layout-kinds, block-sized}
-use Rattle.memory.specs.Header.{capacityOf, kindCapacityOf, registeredOf, layoutGroups, refusalsOf, slotOf, groupFamilyAt}
+use Rattle.memory.specs.Header.{capacityOf, kindCapacityOf, registeredOf, layoutGroups, slotOf, groupFamilyAt}
 use Rattle.memory.specs.Meaning.{kindAt, kindsIn, setAt, setsIn, draftArrays, layoutArrays, draftIn, layoutIn, meaning}
 use Rattle.memory.specs.Arranged.{TableSound, GroupSound, LayoutSound, Arranged, Becomes}
-use Rattle.memory.proofs.Frames.{start-header, drop-later, staged-same, excluded-same, long}
+use Rattle.memory.proofs.Frames.{start-header, drop-later, staged-same, excluded-same, settings-kept, counts-kept, long, reads-means}
 use Rattle.kinds.proofs.Slot.{known-slot, known-small}
 use Rattle.kinds.proofs.Clear.{fewer}
 use Rattle.layout_apply.specs.Steps.{installed, Prepared}
@@ -315,28 +315,22 @@ module _ (w₀ w₁ : List ℕ) (A : Arranged w₀) (M : StoreSound (meaning w�
     pub installed-becomes : Becomes w₀ w (installed (meaning w₀))
     unfolding meaning
     installed-becomes =
-        let ks = kinds-same in
-        let ss = sets-same in
-        let ls = layout-is in
         let ds = draft-is in
-        let c = cap in
-        let kc = kcap in
-        let es : entitiesIn (capacityOf w) w ≡ entitiesIn n w₀ = ap (λ (m : ℕ). entitiesIn m w) cap ∙ ap (entity.entitiesOf n) entity-part in
         let st = staged-same w₀ w size (A .staged) (low STAGED-LEN (omega arith)) (λ i a b. lists i (omega arith) (omega arith)) in
         let ex = excluded-same w₀ w size (A .excluded) (low EXCLUDED-LEN (omega arith)) (λ i a b. lists i (omega arith) (omega arith)) in
-        let re : refusalsOf w ≡ refusalsOf w₀ = lists REFUSALS (omega arith) (omega arith) in
+        let cs = counts-kept w₀ w (λ i a b. lists i a (omega arith)) in
         record {
           arranged = arranged;
           means =
-              λ i.
-              record {
-                capacity = c i;
-                kindCapacity = kc i;
-                kinds = ks i;
-                entities = es i;
-                storage = record { sets = ss i; layout = ls i };
-                control = record { staged = st i; excluded = ex i; draft = ds i; refusals = re i };
-              };
+              reads-means
+              (record {
+                settings = settings-kept w₀ w (λ i h. low i (omega arith)) (λ i a b. lists i (omega arith) (omega arith));
+                kinds = kinds-same;
+                entities = ap (entity.entitiesOf n) entity-part;
+                sets = sets-same;
+                layout = layout-is;
+                control = λ i. record { staged = st i; excluded = ex i; draft = ds i; counts = cs i };
+              });
           size = size;
           past =
               changed .past

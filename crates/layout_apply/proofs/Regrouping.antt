@@ -5,7 +5,7 @@ use Prim.Native.Nat.{ℕ, _+_, _≤_, _<_}
 use native.Mathlib.Omega.{arith}
 use lib.ListN.{length, getD, drop, drop-of-length-le}
 use Rattle.model.specs.Model.{Entity, SparseSet, Family, Storage, noEntity, groupsOf, groupFamily, groupAll, regroup}
-use Rattle.model.specs.Store.{Store, withStorage, withDraft}
+use Rattle.model.specs.Store.{Store, withDraft, withStorage, withControl, onStorage}
 use Rattle.model.specs.Sound.{StoreSound}
 use Rattle.model.proofs.Regroup.{FreshAll, setLayout-is}
 use Rattle.model.proofs.Held.{distinct-families, buildable-fresh}
@@ -13,7 +13,6 @@ use Rattle.masks.specs.Masks.{upFrom, has}
 use Rattle.masks.proofs.Lists.{has-up, between-parts}
 use Rattle.layout.proofs.Scan.{drop-step}
 use Rattle.memory.specs.Meaning.{meaning}
-use Rattle.memory.specs.Change.{onStorage}
 use Rattle.memory.specs.Arranged.{Arranged, Becomes}
 use Rattle.memory.proofs.Becomes.{stays, becomes-next}
 use Rattle.group.specs.Flat.{walkUp}
@@ -120,5 +119,5 @@ module _ (w w₁ : List ℕ) (M : StoreSound (meaning w)) (B : Becomes w w₁ (i
   applied-becomes w₂ C =
       let m = meaning w in
       let fresh : FreshAll (m .control .draft) = buildable-fresh (m .control .draft) (M .draft .families) (M .uncounted) in
-      subst (λ (q : Storage). Becomes w w₂ (withStorage m q (withDraft (m .control) []))) (sym (setLayout-is (m .entities .live) (m .control .draft) (m .storage) fresh))
-      (becomes-next (installed m) (λ (x : Store). onStorage (regroup (x .entities .live)) x) B (record { capacity = refl; kindCapacity = refl }) C)
+      subst (λ (q : Storage). Becomes w w₂ (withControl (withStorage m q) (withDraft (m .control) []))) (sym (setLayout-is (m .entities .live) (m .control .draft) (m .storage) fresh))
+      (becomes-next (installed m) (λ (x : Store). onStorage (regroup (x .entities .live)) x) B refl C)

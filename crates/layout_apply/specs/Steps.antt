@@ -5,7 +5,7 @@ use Prim.Native.Nat.{ℕ, _+_, _≤_, _<_}
 use lib.ListN.{length, getD, drop}
 use Rattle.words.specs.Offsets.{BLOCK-LEN, DRAFT, DRAFT-FAMILIES, DRAFT-GROUPS, ENTITIES, GROUP-COUNTS, GROUP-FAMILIES, GROUP-PLACES, LAYOUT, LAYOUT-ENDS, LAYOUT-FAMILIES, LAYOUT-GROUPS}
 use Rattle.model.specs.Model.{setLayout}
-use Rattle.model.specs.Store.{Store, withStorage, withDraft}
+use Rattle.model.specs.Store.{Store, withDraft, withStorage, withControl, withLayout}
 use Rattle.words.specs.Stores.{stores}
 use Rattle.layout.specs.Layout.{startOf}
 use Rattle.memory.specs.Header.{draftFamilies, draftGroups, layoutFamilies, layoutGroups, groupFamilyAt, countAt}
@@ -13,11 +13,11 @@ use Rattle.memory.specs.Meaning.{draftArrays}
 
 -- APPLY, before the live entities are walked: "draft becomes layout, draft emptied". A draft's counts are 0.
 abbrev pub installed : Store → Store
-installed m = withStorage m (record { sets = m .storage .sets; layout = m .control .draft }) (withDraft (m .control) [])
+installed m = withControl (withStorage m (withLayout (m .storage) (m .control .draft))) (withDraft (m .control) [])
 
 -- APPLY: "Applying a layout keeps every column's order, starts counts at 0 and walks live cards in live-list order."
 abbrev pub applied : Store → Store
-applied m = withStorage m (setLayout (m .entities .live) (m .control .draft) (m .storage)) (withDraft (m .control) [])
+applied m = withControl (withStorage m (setLayout (m .entities .live) (m .control .draft) (m .storage))) (withDraft (m .control) [])
 
 -- ---- the header
 

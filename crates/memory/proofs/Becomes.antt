@@ -1,5 +1,5 @@
 -- A change of one column, of the entity part, of the control words or of a group's count, as a change of the model's store. Assumes nothing.
-use mathlib.Core.Path.{_≡_, refl, sym, ap, _∙_, subst, ap₂}
+use mathlib.Core.Path.{_≡_, refl, sym, ap, _∙_, subst}
 use mathlib.Core.Logic.{_≢_}
 use mathlib.Core.List.{List, []}
 use Prim.Native.Nat.{ℕ, _+_, _*_, _-_, _≤_, _<_}
@@ -10,7 +10,8 @@ use lib.ListN.{length, getD, set, drop, length-set}
 use lib.Seq.{getD-set-same, getD-set-other, drop-set-lt, ext-getD}
 use Rattle.model.specs.Numbers.{ENTITY-LEN, LIST-CAPACITY, MAX-KINDS, columnLen}
 use Rattle.model.specs.Model.{Entities, SparseSet, Storage, setOf}
-use Rattle.model.specs.Run.{withControl, Store}
+use Rattle.model.specs.Store.{onSet, withEntities, onStorage, withLayout}
+use Rattle.model.specs.Store.{Settings, Store, wordsNeeded, withEntities, withControl, onStorage, withLayout, onSet}
 use Rattle.model.proofs.Walk.{bool-cases}
 use Rattle.words.specs.Offsets.{columnStart, columnStart-mono, DRAFT-FAMILIES, DRAFT-GROUPS, ENTITIES, EXCLUDED-LEN, GROUP-COUNTS, GROUP-FAMILIES, GROUP-PLACES, LAYOUT, STAGED-KINDS, STAGED-LEN, TABLE, UNREGISTERED}
 use Rattle.words.specs.Part.{between, between-rest, length-between, getD-between}
@@ -21,11 +22,10 @@ use Rattle.entity.specs.Meaning as entity
 use Rattle.entity.specs.Change.{entityPart, entitiesIn, EntityChange}
 use Rattle.layout.specs.Layout.{WellFormed, groupCount, familiesOf}
 use Rattle.memory.specs.Header.{capacityOf, kindCapacityOf, registeredOf, stagedLen, excludedLen, draftGroups, slotOf}
-use Rattle.memory.specs.Meaning.{kindAt, setAt, setsIn, draftArrays, layoutArrays, layoutIn, controlIn, meaning, kindsIn}
-use Rattle.memory.specs.Change.{onSet, withEntities, onStorage, withLayout}
+use Rattle.memory.specs.Meaning.{kindAt, setAt, setsIn, draftArrays, layoutArrays, layoutIn, controlIn, settingsOf, meaning, kindsIn}
 use Rattle.memory.specs.Arranged.{Arranged, Becomes}
-use Rattle.memory.proofs.Kept.{Kept, kinds-kept, arranged-kept}
-use Rattle.memory.proofs.Frames.{word-front, start-header, drop-later, part-same, draft-arrays-same, layout-arrays-same, long, control-parts, control-same, layout-same, header-kept, draft-formed}
+use Rattle.memory.proofs.Kept.{Kept, capacity-kept, kinds-kept, arranged-kept}
+use Rattle.memory.proofs.Frames.{word-front, start-header, drop-later, part-same, draft-arrays-same, layout-arrays-same, long, control-parts, control-same, layout-same, header-kept, draft-formed, settings-kept, reads-means}
 
 -- ---- reading a registered kind's sparse set
 
@@ -49,7 +49,7 @@ module _ (w : List ℕ) (A : Arranged w) where
 module _ (w w′ : List ℕ) (K : Kept w w′) where
   set-same : (k : ℕ) → k < MAX-KINDS → (slotOf w k < registeredOf w → rowsOf (capacityOf w) (slotOf w k) w′ ≡ rowsOf (capacityOf w) (slotOf w k) w) → setAt w′ k ≡ setAt w k
   set-same k h r =
-      rw (K .slots k h, K .registered, K .capacity)
+      rw (K .slots k h, K .registered, capacity-kept K)
       (bool-cases (ltb (slotOf w k) (registeredOf w)) (λ t. rw (t, r (ltb-true (slotOf w k) (registeredOf w) t))) (λ t. rw t))
 
   pub sets-same : ((s : ℕ) → s < registeredOf w → rowsOf (capacityOf w) s w′ ≡ rowsOf (capacityOf w) s w) → setsIn w′ ≡ setsIn w
@@ -86,7 +86,7 @@ module _ (w w′ : List ℕ) (A : Arranged w) (s : ℕ) (hs : s < registeredOf w
       let was : setOf (setsIn w) k ≡ rowsOf n s w = set-in w A k hk ∙ set-at w A s hs in
       let sl : slotOf w′ k ≡ s = one-kept .slots k hk ∙ A .table .own s hs in
       let here : setAt w′ k ≡ f (setOf (setsIn w) k) =
-      rw (sl, one-kept .registered, one-kept .capacity, lt-ltb s (registeredOf w) hs) (o .becomes ∙ ap f (sym was)) in
+      rw (sl, one-kept .registered, capacity-kept one-kept, lt-ltb s (registeredOf w) hs) (o .becomes ∙ ap f (sym was)) in
       table-set [] (f (setOf (setsIn w) k)) MAX-KINDS (setAt w) (setAt w′) k hk here
       (λ j h ne.
       set-same w w′ one-kept j h
@@ -103,20 +103,21 @@ module _ (w w′ : List ℕ) (A : Arranged w) (s : ℕ) (hs : s < registeredOf w
   one-becomes =
       let K = one-kept in
       let D = draft-formed w w′ A (o .size) same in
-      let sets = one-sets in
-      let layout = layout-same w w′ A (o .size) same in
-      let cap = K .capacity in
-      let kcap = K .kindCapacity in
-      let kinds = kinds-kept A K in
-      let ents : entitiesIn (capacityOf w′) w′ ≡ entitiesIn n w = ap (λ (c : ℕ). entitiesIn c w′) cap ∙ ap (entity.entitiesOf n) one-entities in
-      let control = control-same w w′ A (o .size) same in
       record {
         arranged =
             arranged-kept A K (subst (entity.EntityPartSound n) (sym one-entities) (A .entities)) (o .columns)
             (λ j l h. rows-other j h (omega arith) ∙ A .vacant j l h)
             (rw (same STAGED-LEN (omega arith)) (A .staged)) (rw (same EXCLUDED-LEN (omega arith)) (A .excluded)) (D .0) (D .1);
         means =
-            λ i. record { capacity = cap i; kindCapacity = kcap i; kinds = kinds i; entities = ents i; storage = record { sets = sets i; layout = layout i }; control = control i };
+            reads-means
+            (record {
+              settings = K .settings;
+              kinds = kinds-kept A K;
+              entities = ap (entity.entitiesOf n) one-entities;
+              sets = one-sets;
+              layout = layout-same w w′ A (o .size) same;
+              control = control-same w w′ A (o .size) same;
+            });
         size = o .size;
         past = o .past;
       }
@@ -163,30 +164,32 @@ module _ (w w′ : List ℕ) (A : Arranged w) (f : Entities → Entities) (o : E
       let le : e ≤ ENTITIES + ENTITY-LEN * capacityOf w = omega arith in
       let K = header-kept w w′ A (o .size) entity-word (λ s h i a b. ap (λ (u : List ℕ). getD u i 0) (column-rest w w′ A (o .size) e le (o .rest) s)) in
       let D = draft-formed w w′ A (o .size) entity-word in
-      let sets = sets-same w w′ K (λ s h. rows-rest w w′ A (o .size) e le (o .rest) s) in
-      let layout = layout-same w w′ A (o .size) entity-word in
-      let cap = K .capacity in
-      let kcap = K .kindCapacity in
-      let kinds = kinds-kept A K in
-      let ents : entitiesIn (capacityOf w′) w′ ≡ f (entitiesIn (capacityOf w) w) = ap (λ (c : ℕ). entitiesIn c w′) cap ∙ o .becomes in
-      let control = control-same w w′ A (o .size) entity-word in
       record {
         arranged =
             arranged-kept A K (o .sound) (columns-rest w w′ A (o .size) e le (o .rest)) (vacant-rest w w′ A (o .size) e le (o .rest))
             (rw (entity-word 3 (omega arith)) (A .staged)) (rw (entity-word 4 (omega arith)) (A .excluded)) (D .0) (D .1);
         means =
-            λ i. record { capacity = cap i; kindCapacity = kcap i; kinds = kinds i; entities = ents i; storage = record { sets = sets i; layout = layout i }; control = control i };
+            reads-means
+            (record {
+              settings = K .settings;
+              kinds = kinds-kept A K;
+              entities = o .becomes;
+              sets = sets-same w w′ K (λ s h. rows-rest w w′ A (o .size) e le (o .rest) s);
+              layout = layout-same w w′ A (o .size) entity-word;
+              control = control-same w w′ A (o .size) entity-word;
+            });
         size = o .size;
         past = past-rest w w′ A (o .size) e le (o .rest);
       }
 
 -- ---- the header's other words
 
--- the tables, the layout in force and all past the header are as they were
+-- the settings, the tables, the layout in force and all past the header are as they were
 pub record Static (w w′ : List ℕ) : Type 0 where
   pub size : length w′ ≡ length w
   pub limits : (i : ℕ) → i < 3 → getD w′ i 0 ≡ getD w i 0
   pub force : (i : ℕ) → 7 ≤ i → i < 9 → getD w′ i 0 ≡ getD w i 0
+  pub told : (i : ℕ) → 10 ≤ i → i < LIST-CAPACITY → getD w′ i 0 ≡ getD w i 0
   pub table : (i : ℕ) → TABLE ≤ i → i < STAGED-KINDS → getD w′ i 0 ≡ getD w i 0
   pub layout : (i : ℕ) → LAYOUT ≤ i → i < GROUP-COUNTS → getD w′ i 0 ≡ getD w i 0
   pub rest : drop ENTITIES w′ ≡ drop ENTITIES w
@@ -199,8 +202,7 @@ module _ (w w′ : List ℕ) (A : Arranged w) (S : Static w w′) where
   static-kept =
       record {
         size = S .size;
-        capacity = S .limits 0 (omega arith);
-        kindCapacity = S .limits 1 (omega arith);
+        settings = settings-kept w w′ (λ i h. S .limits i (omega arith)) (S .told);
         registered = S .limits 2 (omega arith);
         slots = λ k h. S .table (TABLE + k) (omega arith) (omega arith);
         heads = λ s h i a b. ap (λ (u : List ℕ). getD u i 0) (column-rest w w′ A (S .size) ENTITIES static-le (S .rest) s);
@@ -218,18 +220,20 @@ module _ (w w′ : List ℕ) (A : Arranged w) (S : Static w w′) where
   unfolding meaning layoutIn
   static-becomes c counts st ex d g =
       let K = static-kept in
-      let sets = sets-same w w′ K (λ s h. rows-rest w w′ A (S .size) ENTITIES static-le (S .rest) s) in
-      let layout : layoutIn w′ ≡ familiesOf c (layoutArrays w) = ap (λ (l : List ℕ). familiesOf l (layoutArrays w′)) counts ∙ ap (familiesOf c) (K .layout) in
-      let cap = K .capacity in
-      let kcap = K .kindCapacity in
-      let kinds = kinds-kept A K in
-      let ents : entitiesIn (capacityOf w′) w′ ≡ entitiesIn (capacityOf w) w = ap (λ (c : ℕ). entitiesIn c w′) cap ∙ ap (entity.entitiesOf (capacityOf w)) static-entities in
       record {
         arranged =
             arranged-kept A K (subst (entity.EntityPartSound (capacityOf w)) (sym static-entities) (A .entities)) (columns-rest w w′ A (S .size) ENTITIES static-le (S .rest))
             (vacant-rest w w′ A (S .size) ENTITIES static-le (S .rest)) st ex d g;
         means =
-            λ i. record { capacity = cap i; kindCapacity = kcap i; kinds = kinds i; entities = ents i; storage = record { sets = sets i; layout = layout i }; control = controlIn w′ };
+            reads-means
+            (record {
+              settings = K .settings;
+              kinds = kinds-kept A K;
+              entities = ap (entity.entitiesOf (capacityOf w)) static-entities;
+              sets = sets-same w w′ K (λ s h. rows-rest w w′ A (S .size) ENTITIES static-le (S .rest) s);
+              layout = ap (λ (l : List ℕ). familiesOf l (layoutArrays w′)) counts ∙ ap (familiesOf c) (K .layout);
+              control = refl;
+            });
         size = S .size;
         past = past-rest w w′ A (S .size) ENTITIES static-le (S .rest);
       }
@@ -254,6 +258,7 @@ module _ (w : List ℕ) (A : Arranged w) (g c : ℕ) (hg : g < GROUP-PLACES) whe
         size = length-set w (GROUP-COUNTS + g) c;
         limits = λ i h. set-other i (omega arith);
         force = λ i a b. set-other i (omega arith);
+        told = λ i a b. set-other i (omega arith);
         table = λ i a b. set-other i (omega arith);
         layout = λ i a b. set-other i b;
         rest = drop-set-lt ENTITIES w (GROUP-COUNTS + g) c (omega arith);
@@ -289,28 +294,30 @@ module _ (w : List ℕ) (A : Arranged w) (g c : ℕ) (hg : g < GROUP-PLACES) whe
 pub stays : {w : List ℕ} → Arranged w → Becomes w w (meaning w)
 stays A = record { arranged = A; means = refl; size = refl; past = refl }
 
-pub capacity-means : (w : List ℕ) → meaning w .capacity ≡ capacityOf w
+pub capacity-means : (w : List ℕ) → meaning w .settings .capacity ≡ capacityOf w
 unfolding meaning
 capacity-means w = refl
 
-pub kinds-mean : (w : List ℕ) → meaning w .kindCapacity ≡ kindCapacityOf w
+pub kinds-mean : (w : List ℕ) → meaning w .settings .kindCapacity ≡ kindCapacityOf w
 unfolding meaning
 kinds-mean w = refl
 
--- a store with N and K as before
-pub record SameSize (s t : Store) : Type 0 where
-  pub capacity : t .capacity ≡ s .capacity
-  pub kindCapacity : t .kindCapacity ≡ s .kindCapacity
+settings-mean : (w : List ℕ) → meaning w .settings ≡ settingsOf w
+unfolding meaning
+settings-mean w = refl
 
-pub becomes-next : {w₀ w w′ : List ℕ} (s : Store) (h : Store → Store) → Becomes w₀ w s → SameSize (meaning w₀) s → Becomes w w′ (h (meaning w)) → Becomes w₀ w′ (h s)
+-- a store with the settings as before
+abbrev pub SameSettings : Store → Store → Type 0
+SameSettings s t = t .settings ≡ s .settings
+
+pub becomes-next : {w₀ w w′ : List ℕ} (s : Store) (h : Store → Store) → Becomes w₀ w s → SameSettings (meaning w₀) s → Becomes w w′ (h (meaning w)) → Becomes w₀ w′ (h s)
 becomes-next {w₀} {w} {w′} s h B z C =
-    let c : capacityOf w ≡ capacityOf w₀ = sym (capacity-means w) ∙ ap (λ (m : Store). m .capacity) (B .means) ∙ z .capacity ∙ capacity-means w₀ in
-    let k : kindCapacityOf w ≡ kindCapacityOf w₀ = sym (kinds-mean w) ∙ ap (λ (m : Store). m .kindCapacity) (B .means) ∙ z .kindCapacity ∙ kinds-mean w₀ in
+    let e : settingsOf w ≡ settingsOf w₀ = sym (settings-mean w) ∙ ap (λ (m : Store). m .settings) (B .means) ∙ z ∙ settings-mean w₀ in
     record {
       arranged = C .arranged;
       means = C .means ∙ ap h (B .means);
       size = C .size ∙ B .size;
-      past = subst (λ (n : ℕ). drop n w′ ≡ drop n w) (ap₂ columnStart c k) (C .past) ∙ B .past;
+      past = subst (λ (t : Settings). drop (wordsNeeded (t .capacity) (t .kindCapacity)) w′ ≡ drop (wordsNeeded (t .capacity) (t .kindCapacity)) w) e (C .past) ∙ B .past;
     }
 
 -- ---- how many kinds and sparse sets there are

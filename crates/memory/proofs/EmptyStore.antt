@@ -22,7 +22,7 @@ use Rattle.layout.proofs.Arrays.{none-formed}
 use Rattle.memory.specs.Header.{capacityOf, kindCapacityOf, registeredOf, slotOf}
 use Rattle.memory.specs.Meaning.{kindAt, kindsIn, setAt, setsIn, draftIn, layoutIn, stagedAt, stagedIn, excludedIn, meaning}
 use Rattle.memory.specs.Arranged.{TableSound, LayoutSound, Arranged}
-use Rattle.memory.proofs.Frames.{start-header, drop-later, word-rest}
+use Rattle.memory.proofs.Frames.{start-header, drop-later, word-rest, reads-means}
 use Rattle.memory.specs.Fresh.{Cleared, TableCleared, Made}
 
 table-none : {A : Type 0} (k : ℕ) (f : ℕ → A) → k ≡ 0 → table k f ≡ []
@@ -138,23 +138,19 @@ module _ (n k : ℕ) (w w₁ w₂ : List ℕ) (L : Limits n k) (enough : columnS
   means : meaning w′ ≡ empty n k
   unfolding meaning kindsIn stagedIn excludedIn draftIn layoutIn empty
   means =
-      let ks : kindsIn w′ ≡ [] = table-none (registeredOf w′) (kindAt w′) none in
-      let es : entity.entitiesOf (capacityOf w′) (entityPart (capacityOf w′) w′) ≡ noEntities = rw cap (entities .becomes) in
-      let ss = sets in
-      let la : layoutIn w′ ≡ [] = no-families (between GROUP-COUNTS ENTITIES w′) (between LAYOUT GROUP-FAMILIES w′) (getD w′ LAYOUT-FAMILIES 0) (low LAYOUT-FAMILIES (omega arith) (omega arith)) in
       let st : stagedIn w′ ≡ [] = table-none (getD w′ STAGED-LEN 0) (stagedAt w′) (low STAGED-LEN (omega arith) (omega arith)) in
       let ex : excludedIn w′ ≡ [] = table-none (getD w′ EXCLUDED-LEN 0) _ (low EXCLUDED-LEN (omega arith) (omega arith)) in
       let dr : draftIn w′ ≡ [] = no-families [] (between DRAFT LAYOUT w′) (getD w′ DRAFT-FAMILIES 0) (low DRAFT-FAMILIES (omega arith) (omega arith)) in
       let re : getD w′ REFUSALS 0 ≡ 0 = low REFUSALS (omega arith) (omega arith) in
-      λ i.
-      record {
-        capacity = cap i;
-        kindCapacity = kcap i;
-        kinds = ks i;
-        entities = es i;
-        storage = record { sets = ss i; layout = la i };
-        control = record { staged = st i; excluded = ex i; draft = dr i; refusals = re i };
-      }
+      reads-means
+      (record {
+        settings = λ i. record { capacity = cap i; kindCapacity = kcap i };
+        kinds = table-none (registeredOf w′) (kindAt w′) none;
+        entities = entities .becomes;
+        sets = sets;
+        layout = no-families (between GROUP-COUNTS ENTITIES w′) (between LAYOUT GROUP-FAMILIES w′) (getD w′ LAYOUT-FAMILIES 0) (low LAYOUT-FAMILIES (omega arith) (omega arith));
+        control = λ i. record { staged = st i; excluded = ex i; draft = dr i; counts = record { refusals = re i } };
+      })
 
   pub made : Made n k w w′
   made =

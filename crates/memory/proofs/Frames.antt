@@ -6,15 +6,17 @@ use native.Mathlib.Omega.{arith}
 use lib.ListN.{length, getD, take, drop}
 use lib.Seq.{getD-take, ext-getD, getD-drop}
 use Rattle.model.specs.Numbers.{ENTITY-LEN, LIST-CAPACITY}
-use Rattle.words.specs.Offsets.{columnStart, columnStart-needed, columnStart-mono, BLOCK-LEN, CAPACITY, DRAFT, DRAFT-FAMILIES, DRAFT-GROUPS, ENTITIES, EXCLUDED-KINDS, EXCLUDED-LEN, GROUP-COUNTS, GROUP-FAMILIES, KIND-CAPACITY, LAYOUT, LAYOUT-FAMILIES, LAYOUT-GROUPS, REFUSALS, REGISTERED, ROWS, STAGED-KINDS, STAGED-LEN, STAGED-VALUES, TABLE}
+use Rattle.model.specs.Store.{Store}
+use Rattle.words.specs.Offsets.{columnStart, columnStart-needed, columnStart-mono, BLOCK-LEN, CAPACITY, DRAFT, DRAFT-FAMILIES, DRAFT-GROUPS, ENTITIES, EXCLUDED-KINDS, EXCLUDED-LEN, GROUP-COUNTS, GROUP-FAMILIES, LAYOUT, LAYOUT-FAMILIES, LAYOUT-GROUPS, REFUSALS, REGISTERED, ROWS, STAGED-KINDS, STAGED-LEN, STAGED-VALUES, TABLE}
 use Rattle.words.specs.Part.{between, length-between, getD-between}
 use Rattle.words.specs.Table.{table, table-same}
 use Rattle.component.specs.Columns.{columnOf}
 pub use Rattle.component.proofs.Parts.{drop-later}
+use Rattle.entity.specs.Change.{entitiesIn}
 use Rattle.layout.specs.Layout.{blockArrays, WellFormed, groupCount, familiesOf, Sized}
 use Rattle.layout.proofs.Arrays.{block-sized}
-use Rattle.memory.specs.Header.{capacityOf, kindCapacityOf, stagedLen, excludedLen, draftGroups, refusalsOf, excludedAt}
-use Rattle.memory.specs.Meaning.{draftArrays, layoutArrays, draftIn, layoutIn, stagedAt, stagedIn, excludedIn, controlIn}
+use Rattle.memory.specs.Header.{capacityOf, kindCapacityOf, stagedLen, excludedLen, draftGroups, excludedAt}
+use Rattle.memory.specs.Meaning.{kindsIn, setsIn, draftArrays, layoutArrays, draftIn, layoutIn, stagedAt, stagedIn, excludedIn, countsIn, controlIn, settingsOf, meaning}
 use Rattle.memory.specs.Arranged.{Arranged}
 use Rattle.memory.proofs.Kept.{Kept}
 
@@ -69,6 +71,14 @@ module _ (w w′ : List ℕ) (size : length w′ ≡ length w) where
       ap (λ (n : ℕ). table n (excludedAt w′)) e
       ∙ table-same CAPACITY (excludedLen w) (excludedAt w) (excludedAt w′) (λ i h. same (EXCLUDED-KINDS + i) (omega arith) (omega arith))
 
+-- the settings stay if words 0 and 1 do, and words 10 to 15, which are for more of them
+pub settings-kept : (w w′ : List ℕ) → ((i : ℕ) → i < 2 → getD w′ i 0 ≡ getD w i 0) → ((i : ℕ) → 10 ≤ i → i < LIST-CAPACITY → getD w′ i 0 ≡ getD w i 0) → settingsOf w′ ≡ settingsOf w
+settings-kept w w′ size more = λ j. record { capacity = size 0 (omega arith) j; kindCapacity = size 1 (omega arith) j }
+
+-- the counts stay if words 9 to 31 do
+pub counts-kept : (w w′ : List ℕ) → ((i : ℕ) → 9 ≤ i → i < TABLE → getD w′ i 0 ≡ getD w i 0) → countsIn w′ ≡ countsIn w
+counts-kept w w′ same = λ j. record { refusals = same REFUSALS (omega arith) (omega arith) j }
+
 -- well-arranged words have a header
 pub long : (w : List ℕ) → Arranged w → ENTITIES ≤ length w
 long w A =
@@ -90,8 +100,8 @@ control-parts w w′ A size same =
     let s = staged-same w w′ size (A .staged) (same STAGED-LEN (omega arith)) (λ i a b. same i (omega arith)) in
     let e = excluded-same w w′ size (A .excluded) (same EXCLUDED-LEN (omega arith)) (λ i a b. same i (omega arith)) in
     let d : draftIn w′ ≡ draftIn w = ap (familiesOf []) (draft-arrays-same w w′ size (long w A) (same DRAFT-FAMILIES (omega arith)) (λ i a b. same i (omega arith))) in
-    let r : refusalsOf w′ ≡ refusalsOf w = same REFUSALS (omega arith) in
-    λ i. record { staged = s i; excluded = e i; draft = d i; refusals = r i }
+    let c = counts-kept w w′ (λ i a b. same i (omega arith)) in
+    λ i. record { staged = s i; excluded = e i; draft = d i; counts = c i }
 
 -- ---- all of the header as it was
 
@@ -109,8 +119,7 @@ module _ (w w′ : List ℕ) (A : Arranged w) (size : length w′ ≡ length w) 
   header-kept heads =
       record {
         size = size;
-        capacity = same CAPACITY (omega arith);
-        kindCapacity = same KIND-CAPACITY (omega arith);
+        settings = settings-kept w w′ (λ i h. same i (omega arith)) (λ i a b. same i (omega arith));
         registered = same REGISTERED (omega arith);
         slots = λ k h. same (TABLE + k) (omega arith);
         heads = heads;
@@ -123,3 +132,25 @@ module _ (w w′ : List ℕ) (A : Arranged w) (size : length w′ ≡ length w) 
   draft-formed =
       let e : draftArrays w ≡ draftArrays w′ = sym (draft-arrays-same w w′ size (long w A) (same DRAFT-FAMILIES (omega arith)) (λ i a b. same i (omega arith))) in
       (subst WellFormed e (A .draft), same DRAFT-GROUPS (omega arith) ∙ A .draftCount ∙ ap groupCount e)
+
+-- ---- what the words mean, part by part
+
+-- each part of w reads as s has it; the entities, at the capacity of s
+pub record Reads (w : List ℕ) (s : Store) : Type 0 where
+  pub settings : settingsOf w ≡ s .settings
+  pub kinds : kindsIn w ≡ s .kinds
+  pub entities : entitiesIn (s .settings .capacity) w ≡ s .entities
+  pub sets : setsIn w ≡ s .storage .sets
+  pub layout : layoutIn w ≡ s .storage .layout
+  pub control : controlIn w ≡ s .control
+
+pub reads-means : {w : List ℕ} {s : Store} → Reads w s → meaning w ≡ s
+unfolding meaning
+reads-means {w} {s} R =
+    let settings = R .settings in
+    let kinds = R .kinds in
+    let entities : entitiesIn (capacityOf w) w ≡ s .entities = ap (λ (c : ℕ). entitiesIn c w) (λ i. settings i .capacity) ∙ R .entities in
+    let sets = R .sets in
+    let layout = R .layout in
+    let control = R .control in
+    λ i. record { settings = settings i; kinds = kinds i; entities = entities i; storage = record { sets = sets i; layout = layout i }; control = control i }

@@ -14,13 +14,12 @@ use Rattle.entity.specs.Change.{entityPart}
 use Rattle.layout.specs.Layout.{Arrays, WellFormed, widthOf, groupCount}
 use Rattle.model.specs.Sound.{In}
 use Rattle.memory.specs.Header.{capacityOf, kindCapacityOf, registeredOf, stagedLen, excludedLen, draftGroups, layoutGroups, slotOf, groupFamilyAt}
-use Rattle.memory.specs.Meaning.{kindAt, ownAt, localAt, kindsIn, draftArrays, layoutArrays}
+use Rattle.memory.specs.Meaning.{kindAt, ownAt, localAt, kindsIn, draftArrays, layoutArrays, settingsOf}
 use Rattle.memory.specs.Arranged.{TableSound, Registered, memberAt, GroupSound, LayoutSound, Arranged}
 
 pub record Kept (w w′ : List ℕ) : Type 0 where
   pub size : length w′ ≡ length w
-  pub capacity : capacityOf w′ ≡ capacityOf w
-  pub kindCapacity : kindCapacityOf w′ ≡ kindCapacityOf w
+  pub settings : settingsOf w′ ≡ settingsOf w
   pub registered : registeredOf w′ ≡ registeredOf w
   pub slots : (k : ℕ) → k < MAX-KINDS → slotOf w′ k ≡ slotOf w k
   pub heads : (s : ℕ) → s < kindCapacityOf w → (i : ℕ) → 1 ≤ i → i < ROWS → getD (columnOf (capacityOf w) s w′) i 0 ≡ getD (columnOf (capacityOf w) s w) i 0
@@ -28,9 +27,16 @@ pub record Kept (w w′ : List ℕ) : Type 0 where
   pub groups : layoutGroups w′ ≡ layoutGroups w
   pub families : (g : ℕ) → g < GROUP-PLACES → groupFamilyAt w′ g ≡ groupFamilyAt w g
 
+module _ {w w′ : List ℕ} (K : Kept w w′) where
+  pub capacity-kept : capacityOf w′ ≡ capacityOf w
+  capacity-kept = λ i. K .settings i .capacity
+
+  pub kind-capacity-kept : kindCapacityOf w′ ≡ kindCapacityOf w
+  kind-capacity-kept = λ i. K .settings i .kindCapacity
+
 module _ {w w′ : List ℕ} (A : Arranged w) (K : Kept w w′) where
   head-kept : (s : ℕ) → s < kindCapacityOf w → (i : ℕ) → 1 ≤ i → i < ROWS → getD (columnOf (capacityOf w′) s w′) i 0 ≡ getD (columnOf (capacityOf w) s w) i 0
-  head-kept s h i a b = ap (λ (c : ℕ). getD (columnOf c s w′) i 0) (K .capacity) ∙ K .heads s h i a b
+  head-kept s h i a b = ap (λ (c : ℕ). getD (columnOf c s w′) i 0) (capacity-kept K) ∙ K .heads s h i a b
 
   registered-slot : (s : ℕ) → s < registeredOf w → s < kindCapacityOf w
   registered-slot s h = omega (arith, A .table .few)
@@ -52,7 +58,7 @@ module _ {w w′ : List ℕ} (A : Arranged w) (K : Kept w w′) where
   table-kept =
       let T = A .table in
       record {
-        few = rw (K .registered, K .kindCapacity) (T .few);
+        few = rw (K .registered, kind-capacity-kept K) (T .few);
         slot = λ k h ne. rw (K .slots k h, K .registered) (T .slot k h (λ e. ne (K .slots k h ∙ e)));
         back =
             λ k h ne.
@@ -109,12 +115,12 @@ module _ {w w′ : List ℕ} (A : Arranged w) (K : Kept w w′) where
       → stagedLen w′ ≤ LIST-CAPACITY → excludedLen w′ ≤ LIST-CAPACITY → WellFormed (draftArrays w′) → draftGroups w′ ≡ groupCount (draftArrays w′) → Arranged w′
   arranged-kept e c v st ex d g =
       record {
-        limits = rw (K .capacity, K .kindCapacity) (A .limits);
-        enough = rw (K .capacity, K .kindCapacity, K .size) (A .enough);
+        limits = rw (capacity-kept K, kind-capacity-kept K) (A .limits);
+        enough = rw (capacity-kept K, kind-capacity-kept K, K .size) (A .enough);
         table = table-kept;
-        entities = rw (K .capacity) e;
-        columns = rw (K .capacity, K .kindCapacity) c;
-        vacant = λ s r h. rw (K .capacity) (v s (rw (K .registered) at r) (rw (K .kindCapacity) at h));
+        entities = rw (capacity-kept K) e;
+        columns = rw (capacity-kept K, kind-capacity-kept K) c;
+        vacant = λ s r h. rw (capacity-kept K) (v s (rw (K .registered) at r) (rw (kind-capacity-kept K) at h));
         staged = st;
         excluded = ex;
         draft = d;

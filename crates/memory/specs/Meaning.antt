@@ -7,7 +7,7 @@ use lib.ListN.{getD}
 use Rattle.model.specs.Numbers.{MAX-KINDS}
 use Rattle.words.specs.Offsets.{COLUMN-KIND, DRAFT, ENTITIES, GROUP-COUNTS, GROUP-FAMILIES, LAYOUT, OWN-GROUP, PLACE-IN-FAMILY}
 use Rattle.model.specs.Model.{Component, SparseSet, Family, Storage}
-use Rattle.model.specs.Run.{Store, Control}
+use Rattle.model.specs.Store.{Counts, Control, Settings, Store}
 use Rattle.words.specs.Table.{table}
 use Rattle.words.specs.Part.{between}
 use Rattle.component.specs.SparseSet.{valueOf}
@@ -67,16 +67,23 @@ stagedIn w = table (stagedLen w) (stagedAt w)
 unfoldable pub excludedIn : List ℕ → List ℕ
 excludedIn w = table (excludedLen w) (excludedAt w)
 
+-- of words 9 to 31
+abbrev pub countsIn : List ℕ → Counts
+countsIn w = record { refusals = refusalsOf w }
+
 abbrev pub controlIn : List ℕ → Control
-controlIn w = record { staged = stagedIn w; excluded = excludedIn w; draft = draftIn w; refusals = refusalsOf w }
+controlIn w = record { staged = stagedIn w; excluded = excludedIn w; draft = draftIn w; counts = countsIn w }
 
 -- ---- the store
+
+-- of words 0 and 1
+abbrev pub settingsOf : List ℕ → Settings
+settingsOf w = record { capacity = capacityOf w; kindCapacity = kindCapacityOf w }
 
 unfoldable pub meaning : List ℕ → Store
 meaning w =
     record {
-      capacity = capacityOf w;
-      kindCapacity = kindCapacityOf w;
+      settings = settingsOf w;
       kinds = kindsIn w;
       entities = entitiesIn (capacityOf w) w;
       storage = storageIn w;

@@ -52,8 +52,8 @@ AllCountsTo n [] = Unit {0}
 AllCountsTo n (f ∷ fs) = CountsTo n f × AllCountsTo n fs
 
 module _ (s : Store) (S : StoreSound s) where
-  pub live-bounded : length (s .entities .live) ≤ s .capacity
-  live-bounded = omega (arith, numbers-few (s .capacity) (s .entities) (S .entities), S .entities .few)
+  pub live-bounded : length (s .entities .live) ≤ s .settings .capacity
+  live-bounded = omega (arith, numbers-few (s .settings .capacity) (s .entities) (S .entities), S .entities .few)
 
   -- a sparse set has no more rows than there are live entities
   pub rows-live : (k : ℕ) → length (setOf (s .storage .sets) k) ≤ length (s .entities .live)
@@ -68,22 +68,22 @@ module _ (s : Store) (S : StoreSound s) where
           go zero e = omega arith
           go (suc m) e = omega (arith, e, S .sets .once x k, S .sets .alive x k (omega (arith, e)))
 
-  pub rows-bounded : (k : ℕ) → length (setOf (s .storage .sets) k) ≤ s .capacity
+  pub rows-bounded : (k : ℕ) → length (setOf (s .storage .sets) k) ≤ s .settings .capacity
   rows-bounded k = omega (arith, rows-live k, live-bounded)
 
-  counts-from : (acc : List ℕ) (rs : Family) → RightFrom (s .storage .sets) (s .entities .live) acc rs → CountsTo (s .capacity) rs
+  counts-from : (acc : List ℕ) (rs : Family) → RightFrom (s .storage .sets) (s .entities .live) acc rs → CountsTo (s .settings .capacity) rs
   counts-from acc [] R = tt
   counts-from acc (r ∷ rs) R = (omega (arith, R .0 .number, holders-few (acc ++ r .newKinds) (s .storage .sets) (s .entities .live), live-bounded), counts-from (acc ++ r .newKinds) rs (R .1))
 
-  counts-all : (fs : List Family) → AllRight (s .storage .sets) (s .entities .live) fs → AllCountsTo (s .capacity) fs
+  counts-all : (fs : List Family) → AllRight (s .storage .sets) (s .entities .live) fs → AllCountsTo (s .settings .capacity) fs
   counts-all [] R = tt
   counts-all (f ∷ fs) R = (counts-from [] f (R .0), counts-all fs (R .1))
 
-  pub counts-bounded : AllCountsTo (s .capacity) (s .storage .layout)
+  pub counts-bounded : AllCountsTo (s .settings .capacity) (s .storage .layout)
   counts-bounded = counts-all (s .storage .layout) (S .groups)
 
   -- a range stands in order and ends by N
-  pub range-bounded : (h b : List ℕ) (a e : ℕ) → rangeFor h b (s .storage) ≡ found a e → (a ≤ e) × (e ≤ s .capacity)
+  pub range-bounded : (h b : List ℕ) (a e : ℕ) → rangeFor h b (s .storage) ≡ found a e → (a ≤ e) × (e ≤ s .settings .capacity)
   range-bounded h b a e p =
       let W = range-shows s S h b a e p in
       (omega (arith, W .start), omega (arith, W .end, holders-few h (s .storage .sets) (s .entities .live), live-bounded))

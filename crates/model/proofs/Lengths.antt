@@ -53,7 +53,7 @@ accepted-length APPLY s = refl
 accepted-length (BAR k) s = refl
 accepted-length RANGE s = ap suc (range-length (rangeFor (stagedKinds s) (s .control .excluded) (s .storage)))
 accepted-length EMPTY s = refl
-accepted-length TALLY s = ap suc (bytesOf-length 4 (s .control .refusals))
+accepted-length TALLY s = ap suc (bytesOf-length 4 (s .control .counts .refusals))
 
 pub answer-length : (c : Command) (s s′ : Store) (a : List ℕ) → does c s ≡ accepts s′ a → suc (length a) ≡ answerLength c s
 answer-length c s s′ a e = sym (ap (λ (b : List ℕ). suc (length b)) (accepted-exact c s s′ a .0 e .2)) ∙ accepted-length c s

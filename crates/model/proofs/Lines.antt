@@ -136,8 +136,8 @@ pub record Refused (n w : ℕ) (s : Store) (p : Step) : Type 0 where
   pub after : Store
   pub step : p ≡ goes w (n ∷ []) after
   pub same : Unchanged s after
-  pub more : s .control .refusals < MAX-REFUSALS → after .control .refusals ≡ suc (s .control .refusals)
-  pub full : MAX-REFUSALS ≤ s .control .refusals → after .control .refusals ≡ s .control .refusals
+  pub more : s .control .counts .refusals < MAX-REFUSALS → after .control .counts .refusals ≡ suc (s .control .counts .refusals)
+  pub full : MAX-REFUSALS ≤ s .control .counts .refusals → after .control .counts .refusals ≡ s .control .counts .refusals
 
 -- "7 to 15 in a run write their number as one byte, add to the tally, change no other word, and the run goes on."
 pub refused-step : (w : ℕ) (c : Command) (s : Store) (n : ℕ) → does c s ≡ refuses n → Refused n w s (stepOf w s (does c s))
@@ -145,9 +145,9 @@ refused-step w c s n e =
     record {
       after = storeAfter s (refuses n);
       step = rw e;
-      same = record { capacity = refl; kindCapacity = refl; kinds = refl; entities = refl; storage = refl; staged = refl; excluded = refl; draft = refl };
-      more = λ h. rw (lt-ltb (s .control .refusals) MAX-REFUSALS h);
-      full = λ h. rw (le-ltb (s .control .refusals) MAX-REFUSALS h);
+      same = record { settings = refl; kinds = refl; entities = refl; storage = refl; staged = refl; excluded = refl; draft = refl };
+      more = λ h. rw (lt-ltb (s .control .counts .refusals) MAX-REFUSALS h);
+      full = λ h. rw (le-ltb (s .control .counts .refusals) MAX-REFUSALS h);
     }
 
 -- ---- stops

@@ -10,7 +10,7 @@ use lib.ListN.{length, getD, replicate, length-append, length-replicate}
 use Rattle.model.specs.Numbers.{LIST-CAPACITY, MAX-KINDS, MAX-REFUSALS}
 use Rattle.model.specs.Lists.{one, place-count, count-place}
 use Rattle.model.specs.Model.{Entity, Entities, SparseSet, Family, Component, sameEntity, mem, setOf, keys, kindOf, isLive, insertComponents, remove, clearAll, setLayout, create, createWith, destroy}
-use Rattle.model.specs.Store.{Control, Store, empty, withControl, withStorage, withAll, withKinds, emptyStaged, emptyBoth, withStaged, withExcluded, withDraft, counted}
+use Rattle.model.specs.Store.{Control, Store, empty, withKinds, withEntities, withStorage, withControl, withAll, emptyStaged, emptyBoth, withStaged, withExcluded, withDraft, counted}
 use Rattle.model.specs.Sound.{Eight, noComponent, Limits, KindsSound, StagedSound, ExcludedSound, Buildable, StoreSound}
 use Rattle.model.proofs.SparseSets.{entity-same, cond-case, key}
 use Rattle.model.proofs.Groups.{cnt, In}
@@ -52,13 +52,13 @@ pub record ControlSound (kinds : List ℕ) (d : Control) : Type 0 where
   pub staged : StagedSound kinds (d .staged)
   pub excluded : ExcludedSound kinds (d .excluded)
   pub draft : DraftSound kinds (d .draft)
-  pub refusals : d .refusals ≤ MAX-REFUSALS
+  pub refusals : d .counts .refusals ≤ MAX-REFUSALS
 
 pub control-of : (s : Store) → StoreSound s → ControlSound (s .kinds) (s .control)
 control-of s S = record { staged = S .staged; excluded = S .excluded; draft = record { buildable = S .draft; uncounted = S .uncounted }; refusals = S .refusals }
 
 -- a store whose parts are sound
-make : (s : Store) → Limits (s .capacity) (s .kindCapacity) → KindsSound (s .kindCapacity) (s .kinds) → s .entities .issued ≤ s .capacity → Held (s .entities) (s .kinds) (s .storage) → ColsOk Eight eight0 (s .storage .sets) → Buildable (s .kinds) (s .storage .layout) → ControlSound (s .kinds) (s .control) → StoreSound s
+make : (s : Store) → Limits (s .settings .capacity) (s .settings .kindCapacity) → KindsSound (s .settings .kindCapacity) (s .kinds) → s .entities .issued ≤ s .settings .capacity → Held (s .entities) (s .kinds) (s .storage) → ColsOk Eight eight0 (s .storage .sets) → Buildable (s .kinds) (s .storage .layout) → ControlSound (s .kinds) (s .control) → StoreSound s
 make s limits kinds few H values layout C =
     record {
       limits = limits;
@@ -162,7 +162,7 @@ module _ (kinds : List ℕ) (d : Control) (C : ControlSound kinds d) where
         staged = C .staged;
         excluded = C .excluded;
         draft = C .draft;
-        refusals = cond-case (λ (n : ℕ). n ≤ MAX-REFUSALS) (ltb (d .refusals) MAX-REFUSALS) _ _ (λ t. omega (arith, ltb-true (d .refusals) MAX-REFUSALS t)) (λ t. omega (arith, C .refusals));
+        refusals = cond-case (λ (n : ℕ). n ≤ MAX-REFUSALS) (ltb (d .counts .refusals) MAX-REFUSALS) _ _ (λ t. omega (arith, ltb-true (d .counts .refusals) MAX-REFUSALS t)) (λ t. omega (arith, C .refusals));
       }
 
 -- ---- more kinds are registered
@@ -204,7 +204,7 @@ module _ (s : Store) (S : StoreSound s) where
   control-sound d D = make (withControl s d) (S .limits) (S .kinds) (S .entities .few) H (S .sets .values) (S .layout) D
 
   -- REG of a new kind
-  pub register-sound : (k : ℕ) → k < MAX-KINDS → mem k (s .kinds) ≡ false → length (s .kinds) < s .kindCapacity → StoreSound (withKinds s (s .kinds ++ (k ∷ [])))
+  pub register-sound : (k : ℕ) → k < MAX-KINDS → mem k (s .kinds) ≡ false → length (s .kinds) < s .settings .kindCapacity → StoreSound (withKinds s (s .kinds ++ (k ∷ [])))
   register-sound k lt new few =
       let sub : (j : ℕ) → In (s .kinds) j → In (s .kinds ++ (k ∷ [])) j = in-left (s .kinds) (k ∷ []) in
       make (withKinds s (s .kinds ++ (k ∷ []))) (S .limits)
@@ -224,9 +224,9 @@ module _ (s : Store) (S : StoreSound s) where
       (S .sets .values) (buildable-more (s .kinds) (s .kinds ++ (k ∷ [])) sub (s .storage .layout) (S .layout)) (control-more (s .kinds) (s .kinds ++ (k ∷ [])) sub (s .control) C)
 
   -- an entity is created, with no components; `full` is 12's line
-  pub create-sound : (eqb (length (s .entities .recycled)) 0 && leb (s .capacity) (s .entities .issued)) ≡ false → StoreSound (withAll s ((create (s .entities)) .entities) (s .storage) (s .control))
+  pub create-sound : (eqb (length (s .entities .recycled)) 0 && leb (s .settings .capacity) (s .entities .issued)) ≡ false → StoreSound (withEntities s ((create (s .entities)) .entities))
   create-sound room =
-      make (withAll s ((create (s .entities)) .entities) (s .storage) (s .control)) (S .limits) (S .kinds) (issued-new (s .entities) (s .capacity) (S .entities .few) room)
+      make (withEntities s ((create (s .entities)) .entities)) (S .limits) (S .kinds) (issued-new (s .entities) (s .settings .capacity) (S .entities .few) room)
       (record {
         numbers = create-ok (s .entities) (H .numbers);
         fit = H .fit;
@@ -237,42 +237,42 @@ module _ (s : Store) (S : StoreSound s) where
       (S .sets .values) (S .layout) C
 
   -- an entity that holds nothing is destroyed
-  pub destroy-sound : (e : Entity) → isLive e (s .entities) ≡ true → ((k : ℕ) → cnt e (key (s .storage .sets) k) ≡ 0) → StoreSound (withAll s (destroy e (s .entities)) (s .storage) (s .control))
+  pub destroy-sound : (e : Entity) → isLive e (s .entities) ≡ true → ((k : ℕ) → cnt e (key (s .storage .sets) k) ≡ 0) → StoreSound (withEntities s (destroy e (s .entities)))
   destroy-sound e live none =
-      make (withAll s (destroy e (s .entities)) (s .storage) (s .control)) (S .limits) (S .kinds) (issued-old e (s .entities) (s .capacity) (S .entities .few))
+      make (withEntities s (destroy e (s .entities))) (S .limits) (S .kinds) (issued-old e (s .entities) (s .settings .capacity) (S .entities .few))
       (destroy-held (s .entities) (s .kinds) (s .storage) H e (live-count e (s .entities) live) none) (S .sets .values) (S .layout) C
 
   -- components go into a live entity
-  pub insert-sound : (e : Entity) (staged : List Component) → isLive e (s .entities) ≡ true → StagedSound (s .kinds) staged → StoreSound (withStorage s (insertComponents e staged (s .storage)) (s .control))
+  pub insert-sound : (e : Entity) (staged : List Component) → isLive e (s .entities) ≡ true → StagedSound (s .kinds) staged → StoreSound (withStorage s (insertComponents e staged (s .storage)))
   insert-sound e staged live h =
-      make (withStorage s (insertComponents e staged (s .storage)) (s .control)) (S .limits) (S .kinds) (S .entities .few)
+      make (withStorage s (insertComponents e staged (s .storage))) (S .limits) (S .kinds) (S .entities .few)
       (insert-held (s .entities) (s .kinds) (s .storage) H (s .entities) (H .numbers) (λ x i. i) e staged (h .known) (live-count e (s .entities) live))
       (insert-ok Eight eight0 e staged (s .storage) (staged-ok staged (h .values)) (S .sets .values))
       (buildable-plain (s .kinds) (s .storage .layout) ((insertComponents e staged (s .storage)) .layout) (insert-plain e staged (s .storage)) (S .layout)) C
 
   -- components of some kinds go; the entity need not be live
-  pub remove-sound : (e : Entity) (gone : List ℕ) → StoreSound (withStorage s (remove e gone (s .storage)) (s .control))
+  pub remove-sound : (e : Entity) (gone : List ℕ) → StoreSound (withStorage s (remove e gone (s .storage)))
   remove-sound e gone =
-      make (withStorage s (remove e gone (s .storage)) (s .control)) (S .limits) (S .kinds) (S .entities .few) (remove-held (s .entities) (s .kinds) (s .storage) H e gone)
+      make (withStorage s (remove e gone (s .storage))) (S .limits) (S .kinds) (S .entities .few) (remove-held (s .entities) (s .kinds) (s .storage) H e gone)
       (remove-ok Eight eight0 e gone (s .storage) (S .sets .values))
       (buildable-plain (s .kinds) (s .storage .layout) ((remove e gone (s .storage)) .layout) (remove-plain e gone (s .storage)) (S .layout)) C
 
-  pub clearAll-sound : StoreSound (withStorage s (clearAll (s .storage)) (s .control))
+  pub clearAll-sound : StoreSound (withStorage s (clearAll (s .storage)))
   clearAll-sound =
-      make (withStorage s (clearAll (s .storage)) (s .control)) (S .limits) (S .kinds) (S .entities .few) (clearAll-held (s .entities) (s .kinds) (s .storage) H) (clearAll-ok Eight eight0 (s .storage))
+      make (withStorage s (clearAll (s .storage))) (S .limits) (S .kinds) (S .entities .few) (clearAll-held (s .entities) (s .kinds) (s .storage) H) (clearAll-ok Eight eight0 (s .storage))
       (buildable-plain (s .kinds) (s .storage .layout) ((clearAll (s .storage)) .layout) (clearAll-plain (s .storage)) (S .layout)) C
 
   -- a layout is applied
-  pub setLayout-sound : (fs : List Family) → DraftSound (s .kinds) fs → StoreSound (withStorage s (setLayout (s .entities .live) fs (s .storage)) (s .control))
+  pub setLayout-sound : (fs : List Family) → DraftSound (s .kinds) fs → StoreSound (withStorage s (setLayout (s .entities .live) fs (s .storage)))
   setLayout-sound fs D =
-      make (withStorage s (setLayout (s .entities .live) fs (s .storage)) (s .control)) (S .limits) (S .kinds) (S .entities .few)
+      make (withStorage s (setLayout (s .entities .live) fs (s .storage))) (S .limits) (S .kinds) (S .entities .few)
       (apply-held (s .entities) (s .kinds) (s .storage) H fs (buildable-fresh fs (D .buildable .families) (D .uncounted)) (distinct-families fs (D .buildable .once)))
       (setLayout-ok Eight eight0 (s .entities .live) fs (s .storage) (S .sets .values))
       (buildable-plain (s .kinds) fs ((setLayout (s .entities .live) fs (s .storage)) .layout) (setLayout-plain (s .entities .live) fs (s .storage)) (D .buildable)) C
 
 -- a live entity is stripped of all its components and destroyed
 pub kill-sound : (s : Store) → StoreSound s → (e : Entity) → isLive e (s .entities) ≡ true → StoreSound (withAll s (destroy e (s .entities)) (remove e (s .kinds) (s .storage)) (s .control))
-kill-sound s S e live = destroy-sound (withStorage s (remove e (s .kinds) (s .storage)) (s .control)) (remove-sound s S e (s .kinds)) e live (removed-none (s .entities) (s .kinds) (s .storage) (sound-held s S) e)
+kill-sound s S e live = destroy-sound (withStorage s (remove e (s .kinds) (s .storage))) (remove-sound s S e (s .kinds)) e live (removed-none (s .entities) (s .kinds) (s .storage) (sound-held s S) e)
 
 -- ---- the empty store
 

@@ -20,7 +20,7 @@ module _ (s : Store) where
   unfolding does linesOf
   reg-above k h = rw h
 
-  pub reg-full : (k : ℕ) → ltb LAST-KIND k ≡ false → isKind k s ≡ false → leb (s .kindCapacity) (length (s .kinds)) ≡ true → does (REG k) s ≡ refuses KINDS
+  pub reg-full : (k : ℕ) → ltb LAST-KIND k ≡ false → isKind k s ≡ false → leb (s .settings .kindCapacity) (length (s .kinds)) ≡ true → does (REG k) s ≡ refuses KINDS
   unfolding does linesOf
   reg-full k h i j = rw (h, i, j)
 
@@ -28,7 +28,7 @@ module _ (s : Store) where
   unfolding does linesOf accepted
   reg-known k h i = rw (h, i)
 
-  pub reg-new : (k : ℕ) → ltb LAST-KIND k ≡ false → isKind k s ≡ false → leb (s .kindCapacity) (length (s .kinds)) ≡ false → does (REG k) s ≡ accepts (withKinds s (s .kinds ++ (k ∷ []))) (1 ∷ [])
+  pub reg-new : (k : ℕ) → ltb LAST-KIND k ≡ false → isKind k s ≡ false → leb (s .settings .kindCapacity) (length (s .kinds)) ≡ false → does (REG k) s ≡ accepts (withKinds s (s .kinds ++ (k ∷ []))) (1 ∷ [])
   unfolding does linesOf accepted
   reg-new k h i j = rw (h, i, j)
 
@@ -70,11 +70,11 @@ module _ (s : Store) where
 
   -- ---- NEW
 
-  pub new-full : isFull (s .capacity) (s .entities) ≡ true → does NEW s ≡ refuses FULL
+  pub new-full : isFull (s .settings .capacity) (s .entities) ≡ true → does NEW s ≡ refuses FULL
   unfolding does linesOf
   new-full h = rw h
 
-  pub new-created : isFull (s .capacity) (s .entities) ≡ false → does NEW s ≡ accepts ((accepted NEW s) .store) ((accepted NEW s) .answer)
+  pub new-created : isFull (s .settings .capacity) (s .entities) ≡ false → does NEW s ≡ accepts ((accepted NEW s) .store) ((accepted NEW s) .answer)
   unfolding does linesOf
   new-created h = rw h
 
@@ -84,7 +84,7 @@ module _ (s : Store) where
   unfolding does linesOf
   put-dead e h = rw h
 
-  pub put-live : (e : Entity) → isLive e (s .entities) ≡ true → does (PUT e) s ≡ accepts (withStorage s (insertComponents e (s .control .staged) (s .storage)) (emptyStaged (s .control))) []
+  pub put-live : (e : Entity) → isLive e (s .entities) ≡ true → does (PUT e) s ≡ accepts (withControl (withStorage s (insertComponents e (s .control .staged) (s .storage))) (emptyStaged (s .control))) []
   unfolding does linesOf accepted
   put-live e h = rw h
 
@@ -92,7 +92,7 @@ module _ (s : Store) where
   unfolding does linesOf
   take-dead e h = rw h
 
-  pub take-live : (e : Entity) → isLive e (s .entities) ≡ true → does (TAKE e) s ≡ accepts (withStorage s (remove e (stagedKinds s) (s .storage)) (emptyStaged (s .control))) (heldBytes e (stagedKinds s) (s .storage))
+  pub take-live : (e : Entity) → isLive e (s .entities) ≡ true → does (TAKE e) s ≡ accepts (withControl (withStorage s (remove e (stagedKinds s) (s .storage))) (emptyStaged (s .control))) (heldBytes e (stagedKinds s) (s .storage))
   unfolding does linesOf accepted
   take-live e h = rw h
 
@@ -100,7 +100,7 @@ module _ (s : Store) where
   unfolding does linesOf
   drop-dead e h = rw h
 
-  pub drop-live : (e : Entity) → isLive e (s .entities) ≡ true → does (DROP e) s ≡ accepts (withStorage s (remove e (stagedKinds s) (s .storage)) (emptyStaged (s .control))) []
+  pub drop-live : (e : Entity) → isLive e (s .entities) ≡ true → does (DROP e) s ≡ accepts (withControl (withStorage s (remove e (stagedKinds s) (s .storage))) (emptyStaged (s .control))) []
   unfolding does linesOf accepted
   drop-live e h = rw h
 
@@ -130,7 +130,7 @@ module _ (s : Store) where
   unfolding does linesOf accepted
   empty-does = refl
 
-  pub tally-does : does TALLY s ≡ accepts s (bytesOf 4 (s .control .refusals))
+  pub tally-does : does TALLY s ≡ accepts s (bytesOf 4 (s .control .counts .refusals))
   unfolding does linesOf accepted
   tally-does = refl
 

@@ -12,7 +12,7 @@ use lib.ListN.{length, take, drop, getD, length-take, length-drop}
 use Rattle.model.specs.Numbers.{LAST-KIND, LIST-CAPACITY, MAX-GROUP-ARITY, MAX-GROUP-COUNT}
 use Rattle.model.specs.Model.{Created, isLive, addsNothing, joins, withGroup, groupsOf, create}
 pub use Rattle.model.specs.Store.{Bytes}
-use Rattle.model.specs.Store.{Store, empty, number, stagedKinds, isKind, withControl, withAll, counted, emptyStaged, emptyBoth}
+use Rattle.model.specs.Store.{Store, empty, number, stagedKinds, isKind, withControl, withEntities, counted, emptyStaged, emptyBoth}
 use Rattle.model.specs.Commands.{Command, REG, HOLD, NEW, PUT, TAKE, DROP, KILL, WIPE, GROUP, APPLY, BAR, RANGE, EMPTY, TALLY, Done, accepted, widths, width, entityOfBytes, commandAt}
 use Rattle.model.specs.Refusals.{firstLine, linesOf, beforeLines}
 use Rattle.model.specs.Run.{Outcome, refuses, accepts, does, Step, stops, goes, stepOf, stepIf, step, Ran, halt, more, runFor, run}
@@ -68,12 +68,12 @@ accepted-sound : (c : Command) (s : Store) → Fits c → StoreSound s → NoneH
 unfolding accepted linesOf
 accepted-sound (REG k) s f S n =
     cond-case (λ (d : Done). StoreSound (d .store)) (isKind k s) _ _ (λ t. S)
-    (λ t. register-sound s S k (omega (arith, ltb-false LAST-KIND k (n .0))) t (omega (arith, leb-false (s .kindCapacity) (length (s .kinds)) (not-and (isKind k s) (leb (s .kindCapacity) (length (s .kinds))) (n .1 .0) t))))
+    (λ t. register-sound s S k (omega (arith, ltb-false LAST-KIND k (n .0))) t (omega (arith, leb-false (s .settings .kindCapacity) (length (s .kinds)) (not-and (isKind k s) (leb (s .settings .kindCapacity) (length (s .kinds))) (n .1 .0) t))))
 accepted-sound (HOLD k v) s f S n = control-sound s S _ (stage-sound (s .kinds) (s .control) (control-of s S) k v (known-kind k s (n .0)) (n .1 .0) (omega (arith, leb-false LIST-CAPACITY (length (s .control .staged)) (n .1 .1 .0))) f)
 accepted-sound NEW s f S n =
     let c : Created = create (s .entities) in
-    let A : StoreSound (withAll s (c .entities) (s .storage) (s .control)) = create-sound s S (n .0) in
-    let B = insert-sound (withAll s (c .entities) (s .storage) (s .control)) A (c .entity) (s .control .staged) (create-is-live (s .entities)) (S .staged) in
+    let A : StoreSound (withEntities s (c .entities)) = create-sound s S (n .0) in
+    let B = insert-sound (withEntities s (c .entities)) A (c .entity) (s .control .staged) (create-is-live (s .entities)) (S .staged) in
     emptied _ B
 accepted-sound (PUT e) s f S n = emptied _ (insert-sound s S e (s .control .staged) (not-false (isLive e (s .entities)) (n .0)) (S .staged))
 accepted-sound (TAKE e) s f S n = emptied _ (remove-sound s S e (stagedKinds s))

@@ -98,23 +98,23 @@ accepted NEW s =
     let c = create (s .entities) in
     done (withAll s (c .entities) (insertComponents (c .entity) (s .control .staged) (s .storage)) (emptyStaged (s .control))) (bytesOf 4 (c .entity .index) ++ bytesOf 4 (c .entity .version))
 -- "insert the hand"
-accepted (PUT e) s = done (withStorage s (insertComponents e (s .control .staged) (s .storage)) (emptyStaged (s .control))) []
+accepted (PUT e) s = done (withControl (withStorage s (insertComponents e (s .control .staged) (s .storage))) (emptyStaged (s .control))) []
 -- "remove the hand's kinds; for each in hand order 1 byte held, value 8 (zeros if not held)"
-accepted (TAKE e) s = done (withStorage s (remove e (stagedKinds s) (s .storage)) (emptyStaged (s .control))) (heldBytes e (stagedKinds s) (s .storage))
+accepted (TAKE e) s = done (withControl (withStorage s (remove e (stagedKinds s) (s .storage))) (emptyStaged (s .control))) (heldBytes e (stagedKinds s) (s .storage))
 -- "remove, no values"
-accepted (DROP e) s = done (withStorage s (remove e (stagedKinds s) (s .storage)) (emptyStaged (s .control))) []
+accepted (DROP e) s = done (withControl (withStorage s (remove e (stagedKinds s) (s .storage))) (emptyStaged (s .control))) []
 -- "destroy"; "A destroyed card leaves all groups this way, highest first." Here the families come first to last, and in each its largest group first:
 -- families have no kind in common, so that their order changes nothing.
 accepted (KILL e) s = done (withAll s (destroy e (s .entities)) (remove e (s .kinds) (s .storage)) (s .control)) []
 -- "all parts go, cards live on"
-accepted WIPE s = done (withStorage s (clearAll (s .storage)) (s .control)) []
+accepted WIPE s = done (withStorage s (clearAll (s .storage))) []
 -- "the hand's kinds into the draft; 1 added or 0 nothing added"
 accepted GROUP s =
     let nothing-added = done (withControl s (emptyStaged (s .control))) (0 ∷ []) in
     let group-added = done (withControl s (withDraft (emptyStaged (s .control)) (withGroup (stagedKinds s) (s .control .draft)))) (1 ∷ []) in
     cond (addsNothing (stagedKinds s) (s .control .draft)) nothing-added group-added
 -- "draft becomes layout, draft emptied"
-accepted APPLY s = done (withStorage s (setLayout (s .entities .live) (s .control .draft) (s .storage)) (withDraft (s .control) [])) []
+accepted APPLY s = done (withControl (withStorage s (setLayout (s .entities .live) (s .control .draft) (s .storage))) (withDraft (s .control) [])) []
 -- "into the bar"
 accepted (BAR k) s = done (withControl s (withExcluded (s .control) (s .control .excluded ++ (k ∷ [])))) []
 -- "1 byte found, start 4, end 4 (zeros if none)"
@@ -122,4 +122,4 @@ accepted RANGE s = done (withControl s (emptyBoth (s .control))) (rangeBytes (ra
 -- "empties hand and bar"
 accepted EMPTY s = done (withControl s (emptyBoth (s .control))) []
 -- "4 bytes"
-accepted TALLY s = done s (bytesOf 4 (s .control .refusals))
+accepted TALLY s = done s (bytesOf 4 (s .control .counts .refusals))

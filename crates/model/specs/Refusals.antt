@@ -123,7 +123,7 @@ linesOf (REG k) =
     -- "above 127"
     line KIND (λ s. ltb LAST-KIND k)
     -- "new, and K are registered"
-    ∷ line KINDS (λ s. not (isKind k s) && leb (s .kindCapacity) (length (s .kinds)))
+    ∷ line KINDS (λ s. not (isKind k s) && leb (s .settings .kindCapacity) (length (s .kinds)))
     ∷ []
 linesOf (HOLD k v) =
     line KIND (unknownKind k)
@@ -143,7 +143,7 @@ linesOf (DROP e) = deadLine e ∷ []
 linesOf (KILL e) = deadLine e ∷ []
 linesOf NEW =
     -- "none waiting, N issued"
-    line FULL (λ s. isFull (s .capacity) (s .entities))
+    line FULL (λ s. isFull (s .settings .capacity) (s .entities))
     ∷ []
 -- "GROUP answers "nothing added" for a small hand before 13 and for an equal group before 14."
 linesOf GROUP =
@@ -180,8 +180,7 @@ columnLines =
 
 -- "change no other word": all but the refusal count is as it was
 pub record Unchanged (s t : Store) : Type 0 where
-  pub capacity : t .capacity ≡ s .capacity
-  pub kindCapacity : t .kindCapacity ≡ s .kindCapacity
+  pub settings : t .settings ≡ s .settings
   pub kinds : t .kinds ≡ s .kinds
   pub entities : t .entities ≡ s .entities
   pub storage : t .storage ≡ s .storage

@@ -163,9 +163,9 @@ AllRight sets live (f ∷ fs) = RightFrom sets live [] f × AllRight sets live f
 
 -- "A sound store", but for the three clauses of words
 pub record StoreSound (s : Store) : Type 0 where
-  pub limits : Limits (s .capacity) (s .kindCapacity)
-  pub kinds : KindsSound (s .kindCapacity) (s .kinds)
-  pub entities : EntitiesSound (s .capacity) (s .entities)
+  pub limits : Limits (s .settings .capacity) (s .settings .kindCapacity)
+  pub kinds : KindsSound (s .settings .kindCapacity) (s .kinds)
+  pub entities : EntitiesSound (s .settings .capacity) (s .entities)
   pub sets : SetsSound (s .kinds) (s .entities .live) (s .storage .sets)
   pub staged : StagedSound (s .kinds) (s .control .staged)
   pub excluded : ExcludedSound (s .kinds) (s .control .excluded)
@@ -174,7 +174,7 @@ pub record StoreSound (s : Store) : Type 0 where
   pub layout : Buildable (s .kinds) (s .storage .layout)
   pub groups : AllRight (s .storage .sets) (s .entities .live) (s .storage .layout)
   -- "a tally of refused commands that stays at 4,294,967,295"
-  pub refusals : s .control .refusals ≤ MAX-REFUSALS
+  pub refusals : s .control .counts .refusals ≤ MAX-REFUSALS
 
 -- ---- demand 3 of a store, for the theorems on runs
 

@@ -3,9 +3,9 @@ use mathlib.Core.Bool.{Bool, cond}
 use mathlib.Core.List.{List, [], _∷_, map}
 use Prim.Native.Nat.{ℕ, zero, suc, _+_, _*_, _/_, _%_, _<_}
 use lib.Dec.{ltb}
-use lib.ListN.{replicate}
+use lib.ListN.{replicate, set}
 use Rattle.model.specs.Numbers.{ENTITY-LEN, HEADER-LEN, MAX-KINDS, MAX-REFUSALS, columnLen}
-use Rattle.model.specs.Model.{Family, Component, Storage, Entities, noEntities, mem, kindOf}
+use Rattle.model.specs.Model.{SparseSet, Family, Component, Storage, Entities, noEntities, mem, setOf, kindOf}
 
 -- ---- bytes: "numbers in bytes are little-endian"
 
@@ -26,17 +26,25 @@ Bytes (b ∷ bs) = (b < 256) × Bytes bs
 
 -- ---- the store
 
+-- what is counted: "a tally of refused commands"
+pub record Counts : Type 0 where
+  pub refusals : ℕ
+
 -- "It also holds a hand (up to 16 distinct kinds with values), a bar (up to 16 distinct kinds), a draft layout and a tally of refused commands"
 pub record Control : Type 0 where
   pub staged : List Component
   pub excluded : List ℕ
   pub draft : List Family
-  pub refusals : ℕ
+  pub counts : Counts
 
--- "A store .. has capacity N (cards) and K (kinds)"; kinds are those registered, in the order of their registration
-pub record Store : Type 0 where
+-- "A store .. has capacity N (cards) and K (kinds)": what a start is told, and nothing changes
+pub record Settings : Type 0 where
   pub capacity : ℕ
   pub kindCapacity : ℕ
+
+-- kinds are those registered, in the order of their registration
+pub record Store : Type 0 where
+  pub settings : Settings
   pub kinds : List ℕ
   pub entities : Entities
   pub storage : Storage
@@ -46,12 +54,11 @@ pub record Store : Type 0 where
 unfoldable pub empty : ℕ → ℕ → Store
 empty n k =
     record {
-      capacity = n;
-      kindCapacity = k;
+      settings = record { capacity = n; kindCapacity = k };
       kinds = [];
       entities = noEntities;
       storage = record { sets = replicate MAX-KINDS []; layout = [] };
-      control = record { staged = []; excluded = []; draft = []; refusals = 0 };
+      control = record { staged = []; excluded = []; draft = []; counts = record { refusals = 0 } };
     }
 
 -- a store "needs 1,024 + 16 × N + K × (8 + 6 × N) words"
@@ -66,35 +73,56 @@ stagedKinds s = map kindOf (s .control .staged)
 abbrev pub isKind : ℕ → Store → Bool
 isKind k s = mem k (s .kinds)
 
--- ---- the store with a part of it replaced
-
-abbrev pub withControl : Store → Control → Store
-withControl s d = record { capacity = s .capacity; kindCapacity = s .kindCapacity; kinds = s .kinds; entities = s .entities; storage = s .storage; control = d }
-
-abbrev pub withStorage : Store → Storage → Control → Store
-withStorage s p d = record { capacity = s .capacity; kindCapacity = s .kindCapacity; kinds = s .kinds; entities = s .entities; storage = p; control = d }
-
-abbrev pub withAll : Store → Entities → Storage → Control → Store
-withAll s c p d = record { capacity = s .capacity; kindCapacity = s .kindCapacity; kinds = s .kinds; entities = c; storage = p; control = d }
-
-abbrev pub withKinds : Store → List ℕ → Store
-withKinds s ks = record { capacity = s .capacity; kindCapacity = s .kindCapacity; kinds = ks; entities = s .entities; storage = s .storage; control = s .control }
-
-abbrev pub emptyStaged : Control → Control
-emptyStaged d = record { staged = []; excluded = d .excluded; draft = d .draft; refusals = d .refusals }
-
-abbrev pub emptyBoth : Control → Control
-emptyBoth d = record { staged = []; excluded = []; draft = d .draft; refusals = d .refusals }
+-- ---- the control with one field replaced
 
 abbrev pub withStaged : Control → List Component → Control
-withStaged d h = record { staged = h; excluded = d .excluded; draft = d .draft; refusals = d .refusals }
+withStaged d h = record { staged = h; excluded = d .excluded; draft = d .draft; counts = d .counts }
 
 abbrev pub withExcluded : Control → List ℕ → Control
-withExcluded d b = record { staged = d .staged; excluded = b; draft = d .draft; refusals = d .refusals }
+withExcluded d b = record { staged = d .staged; excluded = b; draft = d .draft; counts = d .counts }
 
 abbrev pub withDraft : Control → List Family → Control
-withDraft d f = record { staged = d .staged; excluded = d .excluded; draft = f; refusals = d .refusals }
+withDraft d f = record { staged = d .staged; excluded = d .excluded; draft = f; counts = d .counts }
+
+abbrev pub withCounts : Control → Counts → Control
+withCounts d c = record { staged = d .staged; excluded = d .excluded; draft = d .draft; counts = c }
+
+abbrev pub emptyStaged : Control → Control
+emptyStaged d = withStaged d []
+
+abbrev pub emptyBoth : Control → Control
+emptyBoth d = withExcluded (withStaged d []) []
 
 -- "a tally of refused commands that stays at 4,294,967,295": a refusal more
 abbrev pub counted : Control → Control
-counted d = record { staged = d .staged; excluded = d .excluded; draft = d .draft; refusals = cond (ltb (d .refusals) MAX-REFUSALS) (suc (d .refusals)) (d .refusals) }
+counted d = let n = d .counts .refusals in withCounts d (record { refusals = cond (ltb n MAX-REFUSALS) (suc n) n })
+
+-- ---- the store with one field replaced
+
+abbrev pub withKinds : Store → List ℕ → Store
+withKinds s ks = record { settings = s .settings; kinds = ks; entities = s .entities; storage = s .storage; control = s .control }
+
+abbrev pub withEntities : Store → Entities → Store
+withEntities s c = record { settings = s .settings; kinds = s .kinds; entities = c; storage = s .storage; control = s .control }
+
+abbrev pub withStorage : Store → Storage → Store
+withStorage s p = record { settings = s .settings; kinds = s .kinds; entities = s .entities; storage = p; control = s .control }
+
+abbrev pub withControl : Store → Control → Store
+withControl s d = record { settings = s .settings; kinds = s .kinds; entities = s .entities; storage = s .storage; control = d }
+
+abbrev pub withAll : Store → Entities → Storage → Control → Store
+withAll s c p d = withControl (withStorage (withEntities s c) p) d
+
+-- the storage has become f of what it was
+abbrev pub onStorage : (Storage → Storage) → Store → Store
+onStorage f s = withStorage s (f (s .storage))
+
+-- ---- the storage with one part replaced
+
+abbrev pub withLayout : Storage → List Family → Storage
+withLayout p fs = record { sets = p .sets; layout = fs }
+
+-- kind k's sparse set has become f of what it was
+abbrev pub onSet : ℕ → (SparseSet → SparseSet) → Storage → Storage
+onSet k f p = record { sets = set (p .sets) k (f (setOf (p .sets) k)); layout = p .layout }

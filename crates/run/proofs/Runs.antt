@@ -12,7 +12,7 @@ use Rattle.model.proofs.Lengths.{Stepped as Lengths, step-lengths}
 use Rattle.layout.proofs.Scan.{drop-step}
 use Rattle.memory.specs.Meaning.{meaning}
 use Rattle.memory.specs.Arranged.{Sound, Becomes}
-use Rattle.command.proofs.Acts.{SameSize, stays, becomes-next}
+use Rattle.command.proofs.Acts.{SameSettings, stays, becomes-next}
 use Rattle.run_command.specs.Given.{commandIn}
 use Rattle.run.specs.Run.{stepAt, resultOf, Refused, Stepped, Traced, Completed}
 use Rattle.run.specs.declared.Went.the-variants.{Done, Stop}
@@ -77,7 +77,7 @@ step-size s t at room k a s′ h e =
     let z : Lengths (getD t at 0) (drop (at + 1) t) room s k a = rw e at (step-lengths (getD t at 0) (drop (at + 1) t) room s) in
     (omega (arith, z .read), omega (arith, z .whole, length-drop (at + 1) t))
 
-step-kept : (s : Store) (t : List ℕ) (at room k : ℕ) (a : List ℕ) (s′ : Store) → stepAt s t at room ≡ goes k a s′ → SameSize s s′
+step-kept : (s : Store) (t : List ℕ) (at room k : ℕ) (a : List ℕ) (s′ : Store) → stepAt s t at room ≡ goes k a s′ → SameSettings s s′
 step-kept s t at room k a s′ e = rw e at (step-same (getD t at 0) (drop (at + 1) t) room s)
 
 -- ---- the bytes
@@ -98,7 +98,7 @@ drop-sets o p a h =
 pub record Going (w₀ t o₀ w o : List ℕ) (at p k : ℕ) : Type 0 where
   pub sound : Sound w
   pub becomes : Becomes w₀ w (meaning w)
-  pub same : SameSize (meaning w₀) (meaning w)
+  pub same : SameSettings (meaning w₀) (meaning w)
   pub same-out : length o ≡ length o₀
   pub read : at ≤ length t
   pub within : p ≤ length o
@@ -113,7 +113,7 @@ start {w} {t} {o} S =
     record {
       sound = S;
       becomes = stays (S .arranged);
-      same = record { capacity = refl; kindCapacity = refl };
+      same = refl;
       same-out = refl;
       read = omega arith;
       within = omega arith;
@@ -175,7 +175,7 @@ module _ {w₀ t o₀ w o w₁ o₁ : List ℕ} {at p k : ℕ} (g : Going w₀ t
       let B : Becomes w w₁ s′ = rw is at (s .becomes) in
       let m : meaning w₁ ≡ s′ = B .means in
       let z = step-size (meaning w) t at (length o - p) n l s′ h is in
-      let v : SameSize (meaning w) s′ = step-kept (meaning w) t at (length o - p) n l s′ is in
+      let v : SameSettings (meaning w) s′ = step-kept (meaning w) t at (length o - p) n l s′ is in
       let r : runFor (length t - k) (drop at t) (length o - p) (meaning w) ≡ more n l (runFor (length t - (k + 1)) (drop n (drop at t)) (length o - p - length l) s′) =
       unrolled g h ∙ rw is in
       let u : length o - (p + length l) ≡ length o - p - length l = omega arith in
@@ -185,7 +185,7 @@ module _ {w₀ t o₀ w o w₁ o₁ : List ℕ} {at p k : ℕ} (g : Going w₀ t
       (record {
         sound = s .sound;
         becomes = becomes-next (meaning w) (λ (x : Store). meaning w₁) (g .becomes) (g .same) C;
-        same = rw m (record { capacity = v .capacity ∙ g .same .capacity; kindCapacity = v .kindCapacity ∙ g .same .kindCapacity });
+        same = rw m (v ∙ g .same);
         same-out = length-sets o p l ∙ g .same-out;
         read = z .1;
         within = rw (length-sets o p l) f;

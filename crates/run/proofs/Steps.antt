@@ -19,7 +19,7 @@ use Rattle.model.proofs.Sound.{After, bytes-drop, tape-fits}
 use Rattle.memory.specs.Meaning.{meaning}
 use Rattle.memory.specs.Arranged.{Sound}
 use Rattle.command.specs.Acted.{Acted}
-use Rattle.command.proofs.Acts.{SameSize, stays, acted-sound}
+use Rattle.command.proofs.Acts.{SameSettings, stays, acted-sound}
 use Rattle.run_command.specs.Given.{commandIn, Given}
 use Rattle.run.specs.Run.{StepReady, stepAt, Stepped}
 use Rattle.run.specs.declared.Went.the-variants.{Done as Goes, Stop}
@@ -62,34 +62,34 @@ answer-fits c s (accepts s′ a) e = omega (arith, answer-length c s s′ a e)
 
 -- ---- commands keep N and K
 
-accepted-size : (c : Command) (s : Store) → SameSize s ((accepted c s) .store)
+accepted-size : (c : Command) (s : Store) → SameSettings s ((accepted c s) .store)
 unfolding accepted
-accepted-size (REG k) s = cond-case (λ (d : Done). SameSize s (d .store)) (isKind k s) _ _ (λ t. record { capacity = refl; kindCapacity = refl }) (λ t. record { capacity = refl; kindCapacity = refl })
-accepted-size (HOLD k v) s = record { capacity = refl; kindCapacity = refl }
-accepted-size NEW s = record { capacity = refl; kindCapacity = refl }
-accepted-size (PUT e) s = record { capacity = refl; kindCapacity = refl }
-accepted-size (TAKE e) s = record { capacity = refl; kindCapacity = refl }
-accepted-size (DROP e) s = record { capacity = refl; kindCapacity = refl }
-accepted-size (KILL e) s = record { capacity = refl; kindCapacity = refl }
-accepted-size WIPE s = record { capacity = refl; kindCapacity = refl }
-accepted-size GROUP s = cond-case (λ (d : Done). SameSize s (d .store)) (addsNothing (stagedKinds s) (s .control .draft)) _ _ (λ t. record { capacity = refl; kindCapacity = refl }) (λ t. record { capacity = refl; kindCapacity = refl })
-accepted-size APPLY s = record { capacity = refl; kindCapacity = refl }
-accepted-size (BAR k) s = record { capacity = refl; kindCapacity = refl }
-accepted-size RANGE s = record { capacity = refl; kindCapacity = refl }
-accepted-size EMPTY s = record { capacity = refl; kindCapacity = refl }
-accepted-size TALLY s = record { capacity = refl; kindCapacity = refl }
+accepted-size (REG k) s = cond-case (λ (d : Done). SameSettings s (d .store)) (isKind k s) _ _ (λ t. refl) (λ t. refl)
+accepted-size (HOLD k v) s = refl
+accepted-size NEW s = refl
+accepted-size (PUT e) s = refl
+accepted-size (TAKE e) s = refl
+accepted-size (DROP e) s = refl
+accepted-size (KILL e) s = refl
+accepted-size WIPE s = refl
+accepted-size GROUP s = cond-case (λ (d : Done). SameSettings s (d .store)) (addsNothing (stagedKinds s) (s .control .draft)) _ _ (λ t. refl) (λ t. refl)
+accepted-size APPLY s = refl
+accepted-size (BAR k) s = refl
+accepted-size RANGE s = refl
+accepted-size EMPTY s = refl
+accepted-size TALLY s = refl
 
-after-size : (c : Command) (s : Store) (x : Outcome) → does c s ≡ x → SameSize s (storeAfter s x)
-after-size c s (refuses n) e = record { capacity = refl; kindCapacity = refl }
+after-size : (c : Command) (s : Store) (x : Outcome) → does c s ≡ x → SameSettings s (storeAfter s x)
+after-size c s (refuses n) e = refl
 after-size c s (accepts s′ a) e = rw (accepted-exact c s s′ a .0 e .1) at (accepted-size c s)
 
-size-by : (k : ℕ) (c : Command) (s : Store) (x : Outcome) → does c s ≡ x → After (SameSize s) (stepOf k s x)
+size-by : (k : ℕ) (c : Command) (s : Store) (x : Outcome) → does c s ≡ x → After (SameSettings s) (stepOf k s x)
 size-by k c s (refuses n) e = after-size c s (refuses n) e
 size-by k c s (accepts s′ a) e = after-size c s (accepts s′ a) e
 
-pub step-same : (b : ℕ) (t : List ℕ) (room : ℕ) (s : Store) → After (SameSize s) (step b t room s)
+pub step-same : (b : ℕ) (t : List ℕ) (room : ℕ) (s : Store) → After (SameSettings s) (step b t room s)
 step-same b t room s =
-    step-case (After (SameSize s)) b t room s (λ n. tt)
+    step-case (After (SameSettings s)) b t room s (λ n. tt)
     (λ h. size-by (suc (width b)) (commandAt b (take (width b) t)) s (does (commandAt b (take (width b) t)) s) refl)
 
 -- ---- the code's step

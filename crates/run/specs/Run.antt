@@ -42,7 +42,7 @@ resultOf at p (goes k a s) = Done (at + k) (p + length a)
 
 -- "7 to 15 in a run .. add to the tally, change no other word": of the words themselves
 abbrev pub Refused : List ℕ → List ℕ → Command → Type 0
-Refused w w′ c = (n : ℕ) → does c (meaning w) ≡ refuses n → w′ ≡ set w 16 (counted (meaning w .control) .refusals)
+Refused w w′ c = (n : ℕ) → does c (meaning w) ≡ refuses n → w′ ≡ set w 16 (counted (meaning w .control) .counts .refusals)
 
 -- a stop before the command c changes no word, and its refusal only the one
 abbrev pub Kept : List ℕ → List ℕ → Command → Step → Type 0

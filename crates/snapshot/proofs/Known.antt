@@ -27,14 +27,14 @@ module _ (w : List ℕ) (A : Arranged w) where
   unfolding meaning
   no-rows k h f = set-in w A k h ∙ by-eq (slotOf w k) UNREGISTERED (no-slot k) (λ ne. absurd (false≢true (sym f ∙ slot-known w A k h ne)))
 
-  pub capacity-most : meaning w .capacity ≤ MAX-ENTITIES
+  pub capacity-most : meaning w .settings .capacity ≤ MAX-ENTITIES
   unfolding meaning
   capacity-most = A .limits .most
 
-  pub issued-most : meaning w .entities .issued ≤ meaning w .capacity
+  pub issued-most : meaning w .entities .issued ≤ meaning w .settings .capacity
   unfolding meaning
   issued-most = issued-few (capacityOf w) (entityPart (capacityOf w) w) (A .entities)
 
-  pub live-most : length (meaning w .entities .live) ≤ meaning w .capacity
+  pub live-most : length (meaning w .entities .live) ≤ meaning w .settings .capacity
   unfolding meaning
   live-most = live-few (capacityOf w) (entityPart (capacityOf w) w) (A .entities)

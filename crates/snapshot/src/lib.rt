@@ -135,7 +135,7 @@ fn write_entity(
 fn write_index(words: &[u32], list: &[u8], index: usize, out: &mut [u8], at: usize) -> usize
     requires { ⌜ Arranged (now words) ⌝ }
     requires { ⌜ now list ≡ risingKinds (meaning (now words) .kinds) ⌝ }
-    requires { ⌜ index < meaning (now words) .capacity ⌝ }
+    requires { ⌜ index < meaning (now words) .settings .capacity ⌝ }
     requires { ⌜ at + length (indexBytes (now words) index) ≤ length (now out) ⌝ }
     ensures { λ r. ⌜ WrittenUntil (now (out .entry)) (now (out .exit)) at r (indexBytes (now (words .entry)) index) ⌝ }
 {

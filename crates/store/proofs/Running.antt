@@ -14,7 +14,7 @@ use Rattle.run.specs.declared.Ran.{Ran}
 use Rattle.store.specs.Entries.{Runs}
 
 -- the words needed, of the store and of the header
-pub needed-of : (w : List ℕ) → wordsNeeded (meaning w .capacity) (meaning w .kindCapacity) ≡ wordsNeeded (capacityOf w) (kindCapacityOf w)
+pub needed-of : (w : List ℕ) → wordsNeeded (meaning w .settings .capacity) (meaning w .settings .kindCapacity) ≡ wordsNeeded (capacityOf w) (kindCapacityOf w)
 unfolding meaning
 needed-of w = refl
 

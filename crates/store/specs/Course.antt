@@ -22,7 +22,7 @@ commandOn b t = commandAt b (take (width b) t)
 
 -- "add to the tally, change no other word"
 abbrev pub tallied : List ℕ → List ℕ
-tallied w = set w REFUSALS (counted (meaning w .control) .refusals)
+tallied w = set w REFUSALS (counted (meaning w .control) .counts .refusals)
 
 -- from the words w, the tape and so many free bytes to the words w′, with stop number, commands done, tape bytes read, and answer bytes
 pub data Course : List ℕ → List ℕ → ℕ → List ℕ → ℕ → ℕ → ℕ → List ℕ → Type 0 where

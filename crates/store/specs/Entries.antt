@@ -131,7 +131,7 @@ pub record Runs (w w′ t o o′ : List ℕ) (r : Ran) : Type 0 where
   pub leaves : RunLeaves sound t (length o) w w′
   pub size : length w′ ≡ length w
   -- "Words past the needed ones never change."
-  pub past : drop (wordsNeeded (meaning w .capacity) (meaning w .kindCapacity)) w′ ≡ drop (wordsNeeded (meaning w .capacity) (meaning w .kindCapacity)) w
+  pub past : drop (wordsNeeded (meaning w .settings .capacity) (meaning w .settings .kindCapacity)) w′ ≡ drop (wordsNeeded (meaning w .settings .capacity) (meaning w .settings .kindCapacity)) w
   -- a tape is of bytes, as its type says
   pub tape : Bytes t
 

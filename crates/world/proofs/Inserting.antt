@@ -10,14 +10,13 @@ use lib.Dec.{eqb}
 use lib.ListN.{length, getD, set, take, length-set, length-append, List·getD-append}
 use lib.Seq.{getD-set-same, getD-set-other, set-out, take-all, take-suc, getD-at}
 use Rattle.model.specs.Model.{Entity, Row, Component, SparseSet, Storage, noRow, setOf, at, held, kindOf, insertRow, insertAll}
-use Rattle.model.specs.Store.{Store, stagedKinds}
+use Rattle.model.specs.Store.{Store, stagedKinds, onStorage}
 use Rattle.model.specs.Sound.{In, noComponent}
 use Rattle.model.proofs.SparseSets.{cond-case}
 use Rattle.model.proofs.Walk.{or-true}
 use Rattle.words.specs.Table.{by-eq}
 use Rattle.component.specs.SparseSet.{Current, entity}
 use Rattle.memory.specs.Meaning.{meaning}
-use Rattle.memory.specs.Change.{onStorage}
 use Rattle.memory.specs.Arranged.{Becomes}
 use Rattle.memory.proofs.Becomes.{stays}
 use Rattle.world.specs.Insert.{Insertable, insertOne, inserted}

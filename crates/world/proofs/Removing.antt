@@ -11,7 +11,7 @@ use lib.ListN.{length, getD, set, take, length-map, List·getD-map}
 use lib.Seq.{take-all, take-suc, getD-set-other}
 use Rattle.model.specs.Numbers.{MAX-KINDS}
 use Rattle.model.specs.Model.{Entity, Component, SparseSet, Storage, mem, kindOf, setOf, onKinds, removeRow}
-use Rattle.model.specs.Store.{Store, stagedKinds}
+use Rattle.model.specs.Store.{Store, stagedKinds, onSet, onStorage}
 use Rattle.model.specs.Sound.{In, Distinct, noComponent}
 use Rattle.model.proofs.Walk.{or-false}
 use Rattle.model.proofs.Families.{or-false-right}
@@ -21,7 +21,6 @@ use Rattle.component.specs.Columns.{Only, Lent}
 use Rattle.component.proofs.Parts.{lent}
 use Rattle.memory.specs.Header.{capacityOf, kindCapacityOf, registeredOf}
 use Rattle.memory.specs.Meaning.{kindAt, kindsIn, meaning}
-use Rattle.memory.specs.Change.{onSet, onStorage}
 use Rattle.memory.specs.Arranged.{Arranged, Becomes}
 use Rattle.memory.proofs.Becomes.{one-becomes, stays, sets-wide, kinds-count}
 use Rattle.kinds.proofs.Slot.{known-small}

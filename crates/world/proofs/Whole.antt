@@ -6,7 +6,7 @@ use Prim.Native.Nat.{ℕ, _+_, _<_}
 use native.Mathlib.Omega.{arith}
 use lib.ListN.{length}
 use Rattle.model.specs.Model.{Entity, Family, Storage, kindsOf, meets, groupsOf, isLive, insertComponents, remove}
-use Rattle.model.specs.Store.{Store, stagedKinds}
+use Rattle.model.specs.Store.{Store, stagedKinds, onStorage}
 use Rattle.model.specs.Sound.{Distinct}
 use Rattle.model.proofs.Families.{Kinds}
 use Rattle.model.proofs.Invariant.{Fit}
@@ -16,7 +16,6 @@ use Rattle.model.proofs.Held.{kinds-of}
 use Rattle.masks.specs.Masks.{bitsOf, has, upFrom}
 use Rattle.component.specs.SparseSet.{entity}
 use Rattle.memory.specs.Meaning.{meaning}
-use Rattle.memory.specs.Change.{onStorage}
 use Rattle.memory.specs.Arranged.{Sound, Becomes}
 use Rattle.memory.proofs.Becomes.{capacity-means}
 use Rattle.group.specs.Flat.{insertPositions, deletePositions, walkUp, walkDown}

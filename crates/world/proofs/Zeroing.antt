@@ -9,9 +9,8 @@ use native.Mathlib.Decide.{decLt}
 use borrow.Author.Tests.{lt-ltb, le-ltb}
 use lib.ListN.{length}
 use Rattle.model.specs.Model.{Family, Storage, groupsOf, zeroCount, clearAll}
-use Rattle.model.specs.Store.{Store}
+use Rattle.model.specs.Store.{Store, onStorage, withLayout}
 use Rattle.memory.specs.Meaning.{meaning}
-use Rattle.memory.specs.Change.{onStorage, withLayout}
 use Rattle.memory.specs.Arranged.{Arranged, Becomes}
 use Rattle.memory.proofs.Becomes.{stays}
 use Rattle.kinds.specs.Kinds.{emptied}

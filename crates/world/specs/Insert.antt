@@ -2,13 +2,12 @@
 use mathlib.Core.List.{List}
 use Prim.Native.Nat.{ℕ, _≤_, _<_}
 use Rattle.model.specs.Model.{Entity, Component, Storage, insertRow, insertAll}
-use Rattle.model.specs.Store.{stagedKinds}
+use Rattle.model.specs.Store.{stagedKinds, onSet}
 use Rattle.model.specs.Sound.{In}
 use Rattle.component.specs.SparseSet.{Current}
 use Rattle.kinds.specs.Kinds.{kindSet}
 use Rattle.memory.specs.Header.{capacityOf}
 use Rattle.memory.specs.Meaning.{meaning}
-use Rattle.memory.specs.Change.{onSet}
 use Rattle.memory.specs.Arranged.{Arranged}
 
 -- the staged components can go into the entity x, v: no sparse set holds another version of x, and the staged kinds are registered

@@ -16,7 +16,7 @@ ghost use Rattle.world.specs.World.{NewEntity, killed};
 // A new entity with the staged components. The caller has seen that there is a number left.
 pub fn create(words: &mut [u32]) -> Entity
     requires { ⌜ Sound (now words) ⌝ }
-    requires { ⌜ isFull (meaning (now words) .capacity) (meaning (now words) .entities) ≡ false ⌝ }
+    requires { ⌜ isFull (meaning (now words) .settings .capacity) (meaning (now words) .entities) ≡ false ⌝ }
     ensures { λ r. ⌜ NewEntity (now (words .entry)) (now (words .exit)) r ⌝ }
 {
     let e = control::entities::create(words);

@@ -26,7 +26,7 @@ returns-2 c =
     let e = entity (a .index) (a .version) in
     let s = meaning (a .words .now) in
     let live = found-live e (s .entities) _ (sym (c .before .before .before .before .before .before .before .before .before .before .before .before .before .before .before .before .before .before .before .get .ensures) ∙ c .before .before .before .before .before .before .before .before .before .before .before .before .before .before .before .before .before .enum-told .given .1) .0 in
-    accepted-by (take-live s e live) (emptied _ (c .before .before .before .before .before .before .before .before .take-out .ensures .becomes) (record { capacity = refl; kindCapacity = refl }) (c .before .before .clear-staged .ensures)) (taken-written (a .out .now) _ _ (a .at) _ e s live (c .before .before .before .before .before .before .before .before .before .before .before .before .before .ack .ensures .bytes) (c .before .before .before .before .before .before .before .before .take-out .ensures .bytes) (c .before .before .before .before .before .before .before .before .before .before .before .before .before .before .before .staged-len .ensures .is))
+    accepted-by (take-live s e live) (emptied _ (c .before .before .before .before .before .before .before .before .take-out .ensures .becomes) refl (c .before .before .clear-staged .ensures)) (taken-written (a .out .now) _ _ (a .at) _ e s live (c .before .before .before .before .before .before .before .before .before .before .before .before .before .ack .ensures .bytes) (c .before .before .before .before .before .before .before .before .take-out .ensures .bytes) (c .before .before .before .before .before .before .before .before .before .before .before .before .before .before .before .staged-len .ensures .is))
 
 pub take-spec : {M : Type 1} → statement M
 take-spec =

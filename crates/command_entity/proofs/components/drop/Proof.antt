@@ -24,7 +24,7 @@ returns-2 c =
     let a = c .before .before .before .before .before .before .before .before .before .before .before .before .before .before .before .before .before .before .args in
     let e = entity (a .index) (a .version) in
     let s = meaning (a .words .now) in
-    accepted-by (drop-live s e (found-live e (s .entities) _ (sym (c .before .before .before .before .before .before .before .before .before .before .before .before .before .before .get .ensures) ∙ c .before .before .before .before .before .before .before .before .before .before .before .before .enum-told .given .1) .0)) (emptied _ (c .before .before .before .before .before .before .before .before .before .before .delete .ensures) (record { capacity = refl; kindCapacity = refl }) (c .before .before .before .before .before .before .clear-staged .ensures)) (c .before .before .ack .ensures)
+    accepted-by (drop-live s e (found-live e (s .entities) _ (sym (c .before .before .before .before .before .before .before .before .before .before .before .before .before .before .get .ensures) ∙ c .before .before .before .before .before .before .before .before .before .before .before .before .enum-told .given .1) .0)) (emptied _ (c .before .before .before .before .before .before .before .before .before .before .delete .ensures) refl (c .before .before .before .before .before .before .clear-staged .ensures)) (c .before .before .ack .ensures)
 
 pub drop-spec : {M : Type 1} → statement M
 drop-spec =

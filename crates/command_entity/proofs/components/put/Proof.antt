@@ -29,7 +29,7 @@ returns-2 c =
     let a = c .before .before .before .before .before .before .before .before .before .before .before .before .before .before .before .before .before .before .args in
     let e = entity (a .index) (a .version) in
     let s = meaning (a .words .now) in
-    accepted-by (put-live s e (found-live e (s .entities) _ (sym (c .before .before .before .before .before .before .before .before .before .before .before .before .before .before .get .ensures) ∙ c .before .before .before .before .before .before .before .before .before .before .before .before .enum-told .given .1) .0)) (emptied _ (c .before .before .before .before .before .before .before .before .before .before .insert .ensures) (record { capacity = refl; kindCapacity = refl }) (c .before .before .before .before .before .before .clear-staged .ensures)) (c .before .before .ack .ensures)
+    accepted-by (put-live s e (found-live e (s .entities) _ (sym (c .before .before .before .before .before .before .before .before .before .before .before .before .before .before .get .ensures) ∙ c .before .before .before .before .before .before .before .before .before .before .before .before .enum-told .given .1) .0)) (emptied _ (c .before .before .before .before .before .before .before .before .before .before .insert .ensures) refl (c .before .before .before .before .before .before .clear-staged .ensures)) (c .before .before .ack .ensures)
 
 pub put-spec : {M : Type 1} → statement M
 put-spec =

@@ -16,7 +16,7 @@ create-requires c κs = (c .before .before .before .before .before .before .pre 
 returns-2 : tie.Need-returns-2
 returns-2 c =
     let made = c .before .before .before .before .before .before .before .before .before .before .create in
-    accepted-by (new-made (meaning (c .before .before .before .before .before .before .before .before .before .before .before .before .before .before .before .before .before .args .words .now)) (sym (c .before .before .before .before .before .before .before .before .before .before .before .before .before .is-full .ensures) ∙ c .before .before .before .before .before .before .before .before .before .before .before .before .if1 .left)) (emptied _ (made .ensures .becomes) (record { capacity = refl; kindCapacity = refl }) (c .before .before .before .before .before .before .clear-staged .ensures)) (told (made .result .index) (made .result .version) (made .ensures .entity) (c .before .before .ack-entity .ensures))
+    accepted-by (new-made (meaning (c .before .before .before .before .before .before .before .before .before .before .before .before .before .before .before .before .before .args .words .now)) (sym (c .before .before .before .before .before .before .before .before .before .before .before .before .before .is-full .ensures) ∙ c .before .before .before .before .before .before .before .before .before .before .before .before .if1 .left)) (emptied _ (made .ensures .becomes) refl (c .before .before .before .before .before .before .clear-staged .ensures)) (told (made .result .index) (made .result .version) (made .ensures .entity) (c .before .before .ack-entity .ensures))
 
 pub new-spec : {M : Type 1} → statement M
 new-spec =

@@ -1,9 +1,9 @@
 use mathlib.Core.Path.{ap, subst}
 use borrow.Author.Needs.{needs}
 use Rattle.model.specs.Model.{Component}
+use Rattle.model.specs.Store.{onStorage}
 use Rattle.component.specs.SparseSet.{entity}
 use Rattle.memory.specs.Meaning.{meaning}
-use Rattle.memory.specs.Change.{onStorage}
 use Rattle.memory.specs.Arranged.{Becomes}
 use Rattle.world.specs.Insert.{insertOne}
 use Rattle.world.proofs.Inserting.{staged-known}

@@ -6,7 +6,7 @@ use borrow.Author.Count.{falls}
 use lib.ListN.{length, take}
 use Rattle.component.specs.SparseSet.{entity}
 use Rattle.memory.specs.Meaning.{meaning}
-use Rattle.memory.specs.Change.{onStorage}
+use Rattle.model.specs.Store.{onStorage}
 use Rattle.memory.specs.Arranged.{Becomes}
 use Rattle.world.specs.Insert.{inserted}
 use Rattle.world.proofs.Inserting.{insert-none, insert-all, insert-ask, insert-count, insert-turn}
