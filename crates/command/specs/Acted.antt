@@ -2,12 +2,11 @@
 use mathlib.Core.Path.{_≡_}
 use mathlib.Core.List.{List}
 use Prim.Native.Nat.{ℕ, _+_, _≤_}
-use lib.ListN.{length, set}
+use lib.ListN.{length}
 use lib.Seq.{sets}
-use Rattle.model.specs.Store.{counted}
 use Rattle.model.specs.Commands.{Command, answerLength}
 use Rattle.model.specs.Run.{Outcome, refuses, storeAfter, answerOf}
-use Rattle.memory.specs.Meaning.{meaning}
+use Rattle.memory.specs.Meaning.{meaning, withRefusal}
 use Rattle.memory.specs.Arranged.{Sound, Becomes}
 
 -- the command may be done: the words w are sound, and the bytes o have room at `at` for its accepted answer
@@ -25,4 +24,4 @@ pub record Acted (w w′ o o′ : List ℕ) (at r : ℕ) (x : Outcome) : Type 0 
   pub becomes : Becomes w w′ (storeAfter (meaning w) x)
   pub written : Written o o′ at r (answerOf x)
   -- "add to the tally, change no other word": of the words themselves
-  pub refused : (n : ℕ) → x ≡ refuses n → w′ ≡ set w 16 (counted (meaning w .control) .counts .refusals)
+  pub refused : (n : ℕ) → x ≡ refuses n → w′ ≡ withRefusal w

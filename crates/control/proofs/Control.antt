@@ -18,7 +18,7 @@ use Rattle.words.specs.Part.{between}
 use Rattle.component.specs.SparseSet.{valueOf}
 use Rattle.layout.specs.Layout.{WellFormed, groupCount, familiesOf}
 use Rattle.memory.specs.Header.{stagedLen, excludedLen, refusalsOf, stagedKindAt, excludedAt}
-use Rattle.memory.specs.Meaning.{draftArrays, draftIn, stagedAt, stagedIn, excludedIn, countsIn, controlIn, meaning}
+use Rattle.memory.specs.Meaning.{draftArrays, draftIn, stagedAt, stagedIn, excludedIn, countsIn, controlIn, meaning, withRefusal}
 use Rattle.memory.specs.Arranged.{Arranged, Becomes}
 use Rattle.memory.proofs.Frames.{draft-arrays-same, staged-same, excluded-same, counts-kept, long}
 use Rattle.memory.proofs.Becomes.{Static, control-becomes}
@@ -258,7 +258,7 @@ module _ (w : List ℕ) (A : Arranged w) where
       (excluded-same w (set w REFUSALS r) (length-stores w rs) (A .excluded) (miss w rs EXCLUDED-LEN (omega arith)) (λ i a b. miss w rs i (omega arith)))
       (λ i. record { refusals = q i })
 
-  counts : (w′ : List ℕ) → w′ ≡ set w REFUSALS (counted (meaning w .control) .counts .refusals) → CountsRefusal w w′
+  counts : (w′ : List ℕ) → w′ ≡ withRefusal w → CountsRefusal w w′
   counts w′ e =
       record {
         becomes = subst (λ (u : List ℕ). Becomes w u (withControl (meaning w) (counted (meaning w .control)))) (sym e) (refusal-becomes (counted (meaning w .control) .counts .refusals));

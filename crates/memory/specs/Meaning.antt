@@ -3,11 +3,11 @@ use mathlib.Core.Bool.{cond}
 use mathlib.Core.List.{List, []}
 use Prim.Native.Nat.{ℕ}
 use lib.Dec.{ltb}
-use lib.ListN.{getD}
+use lib.ListN.{getD, set}
 use Rattle.model.specs.Numbers.{MAX-KINDS}
-use Rattle.words.specs.Offsets.{COLUMN-KIND, DRAFT, ENTITIES, GROUP-COUNTS, GROUP-FAMILIES, LAYOUT, OWN-GROUP, PLACE-IN-FAMILY}
+use Rattle.words.specs.Offsets.{COLUMN-KIND, DRAFT, ENTITIES, GROUP-COUNTS, GROUP-FAMILIES, LAYOUT, OWN-GROUP, PLACE-IN-FAMILY, REFUSALS}
 use Rattle.model.specs.Model.{Component, SparseSet, Family, Storage}
-use Rattle.model.specs.Store.{Counts, Control, Settings, Store}
+use Rattle.model.specs.Store.{Counts, Control, Settings, Store, counted}
 use Rattle.words.specs.Table.{table}
 use Rattle.words.specs.Part.{between}
 use Rattle.component.specs.SparseSet.{valueOf}
@@ -89,3 +89,8 @@ meaning w =
       storage = storageIn w;
       control = controlIn w;
     }
+
+-- ---- "7 to 15 in a run .. add to the tally, change no other word": the words with a refusal more
+
+abbrev pub withRefusal : List ℕ → List ℕ
+withRefusal w = set w REFUSALS (counted (meaning w .control) .counts .refusals)

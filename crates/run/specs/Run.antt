@@ -2,13 +2,13 @@
 use mathlib.Core.Path.{_≡_}
 use mathlib.Core.List.{List, [], _∷_, _++_}
 use Prim.Native.Nat.{ℕ, zero, suc, _+_, _-_, _≤_, _<_}
-use lib.ListN.{length, getD, set, take, drop}
+use lib.ListN.{length, getD, take, drop}
 use lib.Seq.{sets}
-use Rattle.model.specs.Store.{Store, counted}
+use Rattle.model.specs.Store.{Store}
 use Rattle.model.specs.Commands.{Command, width, commandAt}
 use Rattle.model.specs.Run.{refuses, does, Step, stops, goes, step}
 use Rattle.model.specs.Run as model
-use Rattle.memory.specs.Meaning.{meaning}
+use Rattle.memory.specs.Meaning.{meaning, withRefusal}
 use Rattle.memory.specs.Arranged.{Sound, Becomes}
 use Rattle.run_command.specs.Given.{commandIn}
 use Rattle.run.specs.declared.Went.{Went}
@@ -42,7 +42,7 @@ resultOf at p (goes k a s) = Done (at + k) (p + length a)
 
 -- "7 to 15 in a run .. add to the tally, change no other word": of the words themselves
 abbrev pub Refused : List ℕ → List ℕ → Command → Type 0
-Refused w w′ c = (n : ℕ) → does c (meaning w) ≡ refuses n → w′ ≡ set w 16 (counted (meaning w .control) .counts .refusals)
+Refused w w′ c = (n : ℕ) → does c (meaning w) ≡ refuses n → w′ ≡ withRefusal w
 
 -- a stop before the command c changes no word, and its refusal only the one
 abbrev pub Kept : List ℕ → List ℕ → Command → Step → Type 0

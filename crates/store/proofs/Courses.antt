@@ -12,10 +12,10 @@ use Rattle.model.specs.Run.{Outcome, refuses, accepts, does, Step, stops, goes,
 use Rattle.model.specs.Sound as model
 use Rattle.model.proofs.Lines.{none-to, refusal-exact, accepted-exact, stop-exact}
 use Rattle.model.proofs.Sound.{bytes-drop, step-sound}
-use Rattle.memory.specs.Meaning.{meaning}
+use Rattle.memory.specs.Meaning.{meaning, withRefusal}
 use Rattle.memory.specs.Arranged.{Sound}
 use Rattle.run.specs.Run.{Leaves, GoesOn, Traced}
-use Rattle.store.specs.Course.{commandOn, tallied, Course, ended, stopped, refused, done}
+use Rattle.store.specs.Course.{commandOn, Course, ended, stopped, refused, done}
 
 -- ---- a step that goes on: which line refused its command, or that none did
 
@@ -70,7 +70,7 @@ module _ (fuel : ℕ) (w′ : List ℕ) (rest : Rest fuel w′) (b : ℕ) (t : L
         | by-line n f d ek ea ↦
             let tail : Traced fuel (drop (width b) t) (room - 1) w₁ w′ = rw (ek, ea) at (L .rest) in
             let more-of : CourseOf w₁ (drop (width b) t) (room - 1) w′ (runFor fuel (drop (width b) t) (room - 1) (meaning w₁)) = rest (drop (width b) t) (room - 1) w₁ shorter (bytes-drop (width b) t bytes) sound tail in
-            let is : w₁ ≡ tallied w = L .refused n d in
+            let is : w₁ ≡ withRefusal w = L .refused n d in
             rw (ek, ea)
             (refused w (G .passed) f (rw (← is) sound)
             (subst (λ (v : List ℕ). CourseOf v (drop (width b) t) (room - 1) w′ (runFor fuel (drop (width b) t) (room - 1) s)) is

@@ -27,13 +27,13 @@ use Rattle.model.proofs.Ranges.{range-shows}
 use Rattle.model.proofs.Retired.{Balanced, run-balanced}
 use Rattle.model.proofs.Snapshots.{snapshots-of-sound}
 use Rattle.words.specs.Decides.{Decides}
-use Rattle.memory.specs.Meaning.{meaning}
+use Rattle.memory.specs.Meaning.{meaning, withRefusal}
 use Rattle.memory.specs.Arranged.{Sound}
 use Rattle.run.specs.declared.Ran.{Ran}
 use Rattle.snapshot.proofs.Rolled.{roll-fits}
 use Rattle.store.specs.declared.Rolled.{Rolled}
 use Rattle.store.specs.Entries.{startNumber, StartLeaves, Starts, columnRefused, ColumnNumbered, columnWords, partPlace, ColumnPart, ranOf, RunLeaves, Runs, rolledOf, rollNumber, rollBytes, Rolls}
-use Rattle.store.specs.Course.{tallied, Course, ended, stopped, refused, done, AfterEach, Reached, started, ran}
+use Rattle.store.specs.Course.{Course, ended, stopped, refused, done, AfterEach, Reached, started, ran}
 use Rattle.store.proofs.Starting.{start-number}
 use Rattle.store.proofs.Tables.{Tabled, tabled, Judged, judged, start-tabled, roll-tabled}
 use Rattle.store.proofs.Columns.{column-within}
@@ -165,7 +165,7 @@ sound-groups w S =
 after-each : (P : List ℕ → Type 0) → ((w : List ℕ) → Sound w → P w) → {w t w′ bytes : List ℕ} {room stop commands read : ℕ} (c : Course w t room w′ stop commands read bytes) → AfterEach P c
 after-each P f ended = tt
 after-each P f (stopped g) = tt
-after-each P f (refused w h g s c) = (f (tallied w) s, after-each P f c)
+after-each P f (refused w h g s c) = (f (withRefusal w) s, after-each P f c)
 after-each P f (done w w₁ h n b s c) = (f w₁ s, after-each P f c)
 
 pub groups-after-each-command : (w w′ t o o′ : List ℕ) (r : Ran) (R : Runs w w′ t o o′ r) (S : Sound w) → AfterEach (λ v. GroupsHold (meaning v)) (run-course w w′ t o o′ r R S)

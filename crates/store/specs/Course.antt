@@ -2,12 +2,10 @@
 -- theorems of proofs/Demands.antt: every run has such a course. Assumes nothing.
 use mathlib.Core.List.{List, [], _∷_, _++_}
 use Prim.Native.Nat.{ℕ, suc, _+_, _-_}
-use lib.ListN.{length, set, take, drop}
-use Rattle.words.specs.Offsets.{REFUSALS}
-use Rattle.model.specs.Store.{counted}
+use lib.ListN.{length, take, drop}
 use Rattle.model.specs.Commands.{Command, width, commandAt, accepted}
 use Rattle.model.specs.Refusals.{NoneHolds, First, BeforeCommand, beforeLines, linesOf}
-use Rattle.memory.specs.Meaning.{meaning}
+use Rattle.memory.specs.Meaning.{meaning, withRefusal}
 use Rattle.memory.specs.Arranged.{Sound, Becomes}
 use Rattle.run.specs.declared.Ran.{Ran}
 use Rattle.store.specs.Entries.{Starts, Runs}
@@ -20,10 +18,6 @@ before w b t room = record { byte = b; rest = t; room = room; store = meaning w 
 abbrev pub commandOn : ℕ → List ℕ → Command
 commandOn b t = commandAt b (take (width b) t)
 
--- "add to the tally, change no other word"
-abbrev pub tallied : List ℕ → List ℕ
-tallied w = set w REFUSALS (counted (meaning w .control) .counts .refusals)
-
 -- from the words w, the tape and so many free bytes to the words w′, with stop number, commands done, tape bytes read, and answer bytes
 pub data Course : List ℕ → List ℕ → ℕ → List ℕ → ℕ → ℕ → ℕ → List ℕ → Type 0 where
   -- "0 at the tape's end"
@@ -33,7 +27,7 @@ pub data Course : List ℕ → List ℕ → ℕ → List ℕ → ℕ → ℕ →
   -- "7 to 15 in a run write their number as one byte, add to the tally, change no other word, and the run goes on": a line of the command holds, and
   -- no line above it does
   refused : (w : List ℕ) {w′ t bytes : List ℕ} {b room n stop commands read : ℕ} → NoneHolds beforeLines (before w b t room) → First (linesOf (commandOn b t)) (meaning w) n
-      → Sound (tallied w) → Course (tallied w) (drop (width b) t) (room - 1) w′ stop commands read bytes → Course w (b ∷ t) room w′ stop (suc commands) (suc (width b) + read) (n ∷ bytes)
+      → Sound (withRefusal w) → Course (withRefusal w) (drop (width b) t) (room - 1) w′ stop commands read bytes → Course w (b ∷ t) room w′ stop (suc commands) (suc (width b) + read) (n ∷ bytes)
   -- no line holds: "effect; answer after a 0 byte"
   done : (w w₁ : List ℕ) {w′ t bytes : List ℕ} {b room stop commands read : ℕ} → NoneHolds beforeLines (before w b t room) → NoneHolds (linesOf (commandOn b t)) (meaning w)
       → Becomes w w₁ (accepted (commandOn b t) (meaning w) .store) → Sound w₁
@@ -44,7 +38,7 @@ pub data Course : List ℕ → List ℕ → ℕ → List ℕ → ℕ → ℕ →
 abbrev pub AfterEach : (P : List ℕ → Type 0) {w t w′ bytes : List ℕ} {room stop commands read : ℕ} → Course w t room w′ stop commands read bytes → Type 0
 AfterEach P ended = Unit {0}
 AfterEach P (stopped f) = Unit {0}
-AfterEach P (refused w h f s c) = P (tallied w) × AfterEach P c
+AfterEach P (refused w h f s c) = P (withRefusal w) × AfterEach P c
 AfterEach P (done w w₁ h n b s c) = P w₁ × AfterEach P c
 
 -- the words that an accepted start and then any runs leave
