@@ -13,7 +13,7 @@ use Rattle.model.specs.Numbers.{LAST-KIND, LIST-CAPACITY, MAX-GROUP-ARIT
 use Rattle.model.specs.Model.{Created, isLive, addsNothing, joins, withGroup, groupsOf, create}
 pub use Rattle.model.specs.Store.{Bytes}
 use Rattle.model.specs.Store.{Store, empty, number, stagedKinds, isKind, withControl, withEntities, counted, emptyStaged, emptyBoth}
-use Rattle.model.specs.Commands.{Command, REG, HOLD, NEW, PUT, TAKE, DROP, KILL, WIPE, GROUP, APPLY, BAR, RANGE, EMPTY, TALLY, Done, accepted, widths, width, entityOfBytes, commandAt}
+use Rattle.model.specs.Commands.{Command, REG, HOLD, NEW, PUT, TAKE, DROP, KILL, WIPE, GROUP, APPLY, BAR, RANGE, EMPTY, TALLY, Done, accepted, widths, width, commands, commandAt}
 use Rattle.model.specs.Refusals.{firstLine, linesOf, beforeLines}
 use Rattle.model.specs.Run.{Outcome, refuses, accepts, does, Step, stops, goes, stepOf, stepIf, step, Ran, halt, more, runFor, run}
 use Rattle.model.specs.History.{trailFor, trail}
@@ -140,7 +140,7 @@ fit-at (c ∷ cs) h (suc j) = fit-at cs (h .1) j
 -- the operands of a command read off a tape are of their widths
 pub command-fits : (b : ℕ) (ops : List ℕ) → Bytes ops → length ops ≤ 9 → Fits (commandAt b ops)
 command-fits b ops h le =
-    fit-at (TALLY ∷ REG (getD ops 0 0) ∷ HOLD (getD ops 0 0) (number (drop 1 ops)) ∷ NEW ∷ PUT (entityOfBytes ops) ∷ TAKE (entityOfBytes ops) ∷ DROP (entityOfBytes ops) ∷ KILL (entityOfBytes ops) ∷ WIPE ∷ GROUP ∷ APPLY ∷ BAR (getD ops 0 0) ∷ RANGE ∷ EMPTY ∷ TALLY ∷ [])
+    fit-at (commands ops)
     (tt, (tt, (number-lt 8 (drop 1 ops) (bytes-drop 1 ops h) (rw (length-drop 1 ops) (omega arith)), (tt, (tt, (tt, (tt, (tt, (tt, (tt, (tt, (tt, (tt, (tt, (tt, tt)))))))))))))))
     b
 

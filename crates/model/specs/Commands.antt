@@ -19,7 +19,11 @@ pub data Command : Type 0 where
 
 -- ---- reading a command off the tape: "One command byte, then operands"
 
--- "Operand widths: a constant table by command byte", from byte 0; only 1 to 14 (0E) are commands
+-- the last command byte, 0E
+abbrev pub LAST_COMMAND : ℕ
+LAST_COMMAND = 14
+
+-- "Operand widths: a constant table by command byte", from byte 0, which is no command
 abbrev pub widths : List ℕ
 widths = 0 ∷ 1 ∷ 9 ∷ 0 ∷ 8 ∷ 8 ∷ 8 ∷ 8 ∷ 0 ∷ 0 ∷ 0 ∷ 1 ∷ 0 ∷ 0 ∷ 0 ∷ []
 
@@ -28,16 +32,35 @@ width b = getD widths b 0
 
 -- "byte not 01 to 0E" is UNKNOWN
 abbrev pub isCommand : ℕ → Bool
-isCommand b = leb 1 b && leb b 14
+isCommand b = leb 1 b && leb b LAST_COMMAND
 
 -- "index 4, version 4"
 abbrev pub entityOfBytes : List ℕ → Entity
 entityOfBytes bs = record { index = number (take 4 bs); version = number (drop 4 bs) }
 
--- the command of a byte from 1 to 14 with its operand bytes, in the order of 01's table
+-- the commands by byte, in the order of 01's table, with their operand bytes; from byte 0
+abbrev pub commands : List ℕ → List Command
+commands ops =
+    TALLY
+    ∷ REG (getD ops 0 0)
+    ∷ HOLD (getD ops 0 0) (number (drop 1 ops))
+    ∷ NEW
+    ∷ PUT (entityOfBytes ops)
+    ∷ TAKE (entityOfBytes ops)
+    ∷ DROP (entityOfBytes ops)
+    ∷ KILL (entityOfBytes ops)
+    ∷ WIPE
+    ∷ GROUP
+    ∷ APPLY
+    ∷ BAR (getD ops 0 0)
+    ∷ RANGE
+    ∷ EMPTY
+    ∷ TALLY
+    ∷ []
+
+-- the command of a byte from 1 to LAST_COMMAND
 abbrev pub commandAt : ℕ → List ℕ → Command
-commandAt b ops =
-    getD (TALLY ∷ REG (getD ops 0 0) ∷ HOLD (getD ops 0 0) (number (drop 1 ops)) ∷ NEW ∷ PUT (entityOfBytes ops) ∷ TAKE (entityOfBytes ops) ∷ DROP (entityOfBytes ops) ∷ KILL (entityOfBytes ops) ∷ WIPE ∷ GROUP ∷ APPLY ∷ BAR (getD ops 0 0) ∷ RANGE ∷ EMPTY ∷ TALLY ∷ []) b TALLY
+commandAt b ops = getD (commands ops) b TALLY
 
 -- ---- answers
 

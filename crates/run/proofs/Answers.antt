@@ -6,8 +6,8 @@ use Prim.Native.Nat.{ℕ, zero, suc, _+_, _*_, _≤_, _<_}
 use native.Mathlib.Omega.{arith}
 use lib.ListN.{length, getD, set, drop, List·getD-map}
 use lib.Seq.{getD-set-other}
-use Rattle.model.specs.Store.{Store, number}
-use Rattle.model.specs.Commands.{Command, REG, HOLD, NEW, PUT, TAKE, DROP, KILL, WIPE, GROUP, APPLY, BAR, RANGE, EMPTY, TALLY, entityOfBytes, commandAt, answerLength}
+use Rattle.model.specs.Store.{Store}
+use Rattle.model.specs.Commands.{Command, TALLY, LAST_COMMAND, commands, commandAt, answerLength}
 
 default-any : (l : List ℕ) (i d e : ℕ) → i < length l → getD l i d ≡ getD l i e
 default-any [] i d e h = absurd (omega arith)
@@ -33,11 +33,10 @@ answers-small b = small answers (omega arith) b
 module _ (s : Store) (ops : List ℕ) where
   by-byte : (b : ℕ) → answerLength (commandAt b ops) s ≡ getD (set answers 5 (1 + 9 * length (s .control .staged))) b 5
   by-byte b =
-      sym (List·getD-map (λ (c : Command). answerLength c s)
-      (TALLY ∷ REG (getD ops 0 0) ∷ HOLD (getD ops 0 0) (number (drop 1 ops)) ∷ NEW ∷ PUT (entityOfBytes ops) ∷ TAKE (entityOfBytes ops) ∷ DROP (entityOfBytes ops) ∷ KILL (entityOfBytes ops) ∷ WIPE ∷ GROUP ∷ APPLY ∷ BAR (getD ops 0 0) ∷ RANGE ∷ EMPTY ∷ TALLY ∷ []) b TALLY)
+      sym (List·getD-map (λ (c : Command). answerLength c s) (commands ops) b TALLY)
 
   pub take-answer : (b n : ℕ) → b ≡ 5 → n ≡ length (s .control .staged) → getD answers b 0 + 9 * n ≡ answerLength (commandAt b ops) s
   take-answer b n e f = rw (e, f)
 
-  pub fixed-answer : (b : ℕ) → b ≢ 5 → b < 15 → getD answers b 0 ≡ answerLength (commandAt b ops) s
-  fixed-answer b ne h = default-any answers b 0 5 h ∙ sym (getD-set-other answers 5 b (1 + 9 * length (s .control .staged)) 5 ne) ∙ sym (by-byte b)
+  pub fixed-answer : (b : ℕ) → b ≢ 5 → b ≤ LAST_COMMAND → getD answers b 0 ≡ answerLength (commandAt b ops) s
+  fixed-answer b ne h = default-any answers b 0 5 (omega arith) ∙ sym (getD-set-other answers 5 b (1 + 9 * length (s .control .staged)) 5 ne) ∙ sym (by-byte b)

@@ -1,4 +1,5 @@
 // A run: command after command off a tape, up to its end or a stop.
+use model::LAST_COMMAND;
 use model::commands::TAKE;
 use model::refusals::CUT;
 use model::refusals::NOROOM;
@@ -7,16 +8,18 @@ ghost use mathlib.Core.Path.{_≡_};
 ghost use mathlib.Core.List.{List};
 ghost use Prim.Native.Nat.{ℕ, _-_, _<_, _≤_};
 ghost use lib.ListN.{length};
-ghost use Rattle.model.specs.Commands.{width, commandAt, answerLength};
+ghost use Rattle.model.specs.Commands.{LAST_COMMAND, width, commandAt, answerLength};
 ghost use Rattle.model.specs.Run.{run};
 ghost use Rattle.memory.specs.Meaning.{meaning};
 ghost use Rattle.memory.specs.Arranged.{Arranged, Sound};
 ghost use Rattle.run.specs.Run.{StepReady, stepAt, Stepped, Completed};
 
+// How many bytes there are up to the last command's.
+const BYTES: usize = LAST_COMMAND as usize + 1;
 // Operand bytes by command byte.
-const WIDTHS: [u8; 15] = [0, 1, 9, 0, 8, 8, 8, 8, 0, 0, 0, 1, 0, 0, 0];
+const WIDTHS: [u8; BYTES] = [0, 1, 9, 0, 8, 8, 8, 8, 0, 0, 0, 1, 0, 0, 0];
 // Bytes of the accepted answer by command byte. TAKE has nine more for each staged component.
-const ANSWERS: [u8; 15] = [5, 2, 1, 9, 1, 1, 1, 1, 1, 2, 1, 1, 10, 1, 5];
+const ANSWERS: [u8; BYTES] = [5, 2, 1, 9, 1, 1, 1, 1, 1, 2, 1, 1, 10, 1, 5];
 
 // One command is done, and the tape goes on at the first number, the answers at the second; or the run stops.
 pub enum Went {
@@ -33,7 +36,7 @@ pub struct Ran {
 }
 
 fn operand_bytes(op: u8) -> usize
-    requires { ⌜ op < 15 ⌝ }
+    requires { ⌜ op ≤ LAST_COMMAND ⌝ }
     ensures { λ r. ⌜ (r ≡ width op) × (r ≤ 9) ⌝ }
 {
     let i = op as usize;
@@ -43,7 +46,7 @@ fn operand_bytes(op: u8) -> usize
 // Bytes that the accepted answer takes, whatever the operands are.
 fn answer_bytes(words: &[u32], op: u8) -> usize
     requires { ⌜ Arranged (now words) ⌝ }
-    requires { ⌜ op < 15 ⌝ }
+    requires { ⌜ op ≤ LAST_COMMAND ⌝ }
     ensures { λ r. ⌜ ((ops : List ℕ) → r ≡ answerLength (commandAt op ops) (meaning (now (words .entry)))) ⌝ }
 {
     let i = op as usize;
@@ -63,7 +66,7 @@ pub fn step(words: &mut [u32], tape: &[u8], at: usize, out: &mut [u8], to: usize
     if op == 0 {
         return Went::Stop(UNKNOWN);
     }
-    if 14 < op {
+    if LAST_COMMAND < op {
         return Went::Stop(UNKNOWN);
     }
     let read = 1 + operand_bytes(op);

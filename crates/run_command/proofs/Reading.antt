@@ -9,7 +9,7 @@ use lib.Seq.{getD-take, getD-drop, length-take-le, take-take, take-add, drop-dro
 use Rattle.model.specs.Model.{Entity}
 use Rattle.words.specs.Table.{by-eq}
 use Rattle.model.specs.Store.{number}
-use Rattle.model.specs.Commands.{Command, entityOfBytes}
+use Rattle.model.specs.Commands.{Command, LAST_COMMAND, entityOfBytes}
 use Rattle.component.specs.SparseSet.{entity, valueOf}
 use Rattle.model.specs.Run.{does}
 use Rattle.memory.specs.Meaning.{meaning}
@@ -57,7 +57,7 @@ pub given-as : {w t o : List ℕ} {op at p : ℕ} (k : ℕ) → op ≡ k → Giv
 given-as k e g = rw e at g
 
 pub acts-as : {w w′ o o′ : List ℕ} {p r : ℕ} (op k : ℕ) → op ≡ k → (t : List ℕ) (at : ℕ) → Acted w w′ o o′ p r (does (commandIn k t at) (meaning w)) → Acted w w′ o o′ p r (does (commandIn op t at) (meaning w))
-acts-as op k e t at a = rw e a
+acts-as {w} {w′} {o} {o′} {p} {r} op k e t at a = subst (λ (b : ℕ). Acted w w′ o o′ p r (does (commandIn b t at) (meaning w))) (sym e) a
 
 -- the commands on an entity, whose index i and version v were read
 module _ (f : Entity → Command) (t : List ℕ) (at : ℕ) where
@@ -98,6 +98,6 @@ on-entity b h l n =
     let m = n .0 .0 .0 .0 .0 .0 in
     (up 3 (up 2 (up 1 h (m .0 .0 .1)) (m .0 .1)) (m .1), omega arith)
 
-pub is-tally : (b : ℕ) → 8 ≤ b → b < 15 → Passed b → b ≡ 14
+pub is-tally : (b : ℕ) → 8 ≤ b → b ≤ LAST_COMMAND → Passed b → b ≡ LAST_COMMAND
 is-tally b h l n =
     omega (arith, up 13 (up 12 (up 11 (up 10 (up 9 (up 8 h (n .0 .0 .0 .0 .0 .1)) (n .0 .0 .0 .0 .1)) (n .0 .0 .0 .1)) (n .0 .0 .1)) (n .0 .1)) (n .1))

@@ -2,6 +2,7 @@ use mathlib.Core.Path.{_≡_}
 use mathlib.Core.Logic.{⊎-elim}
 use native.Mathlib.Omega.{arith}
 use borrow.Author.Needs.{needs}
+use Rattle.model.specs.Commands.{LAST_COMMAND}
 use Rattle.run_command.proofs.Reading.{given-as, acts-as, on-entity, is-tally}
 use Rattle.run_command.proofs.act.Statement.{statement}
 use Rattle.run_command.proofs.act.Tie as tie
@@ -36,14 +37,14 @@ empty-requires c κs = given-as 13 (c .before .before .match .keys9) (c .before 
 on-entity-requires : tie.Need-on-entity-requires
 on-entity-requires c κs = let s = c .before .before .before .before .before .before .before .before in (on-entity (s .args .op) (c .before .before .before .if1 .left) (c .before .before .if2 .taken) (c .before .before .before .before .match .rest), s .pre .1)
 
--- the last byte, 14, in the arm that is left
-last-arm : (c : tie.Joined1) → c .before .before .before .before .before .args .op ≡ 14
+-- the last byte, in the arm that is left
+last-arm : (c : tie.Joined1) → c .before .before .before .before .before .args .op ≡ LAST_COMMAND
 last-arm c =
     let s = c .before .before .before .before .before in
     ⊎-elim (λ l. absurd (omega (arith, l .taken, s .pre .0))) (λ l. is-tally (s .args .op) (l .1 .left) (s .pre .0 .1) (c .before .match .rest)) (c .if1 .came)
 
 tally-requires : tie.Need-tally-requires
-tally-requires c κs = given-as 14 (last-arm (c .before .before)) (c .before .before .before .before .before .before .before .pre .1) .ready
+tally-requires c κs = given-as LAST_COMMAND (last-arm (c .before .before)) (c .before .before .before .before .before .before .before .pre .1) .ready
 
 returns : tie.Need-returns
 returns c = let s = c .before .before .before .before .before .before .before .before .before .before .before .args in acts-as (s .op) 1 (c .before .before .before .before .before .before .before .match .keys1) (s .tape .now) (s .at) (c .before .before .before .before .reg .ensures)
@@ -73,7 +74,7 @@ returns-9 : tie.Need-returns-9
 returns-9 c = let s = c .before .before .before .before .before .before .before .before .before .before .before .args in acts-as (s .op) 13 (c .before .before .before .before .before .before .before .match .keys9) (s .tape .now) (s .at) (c .before .before .before .before .empty .ensures)
 
 returns-11 : tie.Need-returns-11
-returns-11 c = let s = c .before .before .before .before .before .before .before .before .before .before .args in acts-as (s .op) 14 (last-arm (c .before .before .before .before .before)) (s .tape .now) (s .at) (c .before .before .tally .ensures)
+returns-11 c = let s = c .before .before .before .before .before .before .before .before .before .before .args in acts-as (s .op) LAST_COMMAND (last-arm (c .before .before .before .before .before)) (s .tape .now) (s .at) (c .before .before .tally .ensures)
 
 pub act-spec : {M : Type 1} → statement M
 act-spec =
