@@ -90,11 +90,14 @@ module _ (e : Entity) (staged : List Component) (p : Storage) (lt : Kinds (lengt
   inserted =
       groupFamily-all-good e (map kindOf staged) (insertAll e staged (p .sets)) (p .layout) (f .apart) (pending e (map kindOf staged) (key (p .sets)) (key (insertAll e staged (p .sets))) (put-all e staged (p .sets) lt) (p .layout) (f .fams)) .same
 
+  pub insert-walked : (x : Entity) (k : ℕ) → cnt x (key ((insertComponents e staged p) .sets) k) ≡ cnt x (key (insertAll e staged (p .sets)) k)
+  insert-walked x k = inserted .entities x k
+
   pub insert-others : (x : Entity) → But e x → (k : ℕ) → cnt x (key ((insertComponents e staged p) .sets) k) ≡ cnt x (key (p .sets) k)
-  insert-others x ne k = inserted .entities x k ∙ put-all e staged (p .sets) lt .counts x ne k
+  insert-others x ne k = insert-walked x k ∙ put-all e staged (p .sets) lt .counts x ne k
 
   pub insert-kinds : (x : Entity) (k : ℕ) → mem k (map kindOf staged) ≡ false → cnt x (key ((insertComponents e staged p) .sets) k) ≡ cnt x (key (p .sets) k)
-  insert-kinds x k n = inserted .entities x k ∙ ap (cnt x) (put-all e staged (p .sets) lt .other k n)
+  insert-kinds x k n = insert-walked x k ∙ ap (cnt x) (put-all e staged (p .sets) lt .other k n)
 
 -- ---- what a right group's count is
 

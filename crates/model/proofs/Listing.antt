@@ -115,10 +115,10 @@ abbrev pub LiveOk : List Entity → Type 0
 LiveOk [] = Unit {0}
 LiveOk (e ∷ es) = (1 ≤ e .version) × (liveVersion (e .index) es ≡ 0) × LiveOk es
 
-abbrev isVersion : Entity → ℕ → ℕ
+abbrev pub isVersion : Entity → ℕ → ℕ
 isVersion x v = one (ltb 0 (x .version) && eqb (x .version) v)
 
-version-zero : (x : Entity) → isVersion x 0 ≡ 0
+pub version-zero : (x : Entity) → isVersion x 0 ≡ 0
 version-zero x = go (x .version)
   where
     go : (n : ℕ) → one (ltb 0 n && eqb n 0) ≡ 0
@@ -136,7 +136,7 @@ version-of x v h = go (ltb 0 (x .version)) (eqb (x .version) v) refl refl h
 is-version : (i v : ℕ) → 1 ≤ v → 1 ≤ isVersion (entityAt i v) v
 is-version i v h = rw (lt-ltb 0 v h, eq-eqb v v refl) (omega arith)
 
-live-count : (live : List Entity) → LiveOk live → (x : Entity) → countOf sameEntity x live ≡ isVersion x (liveVersion (x .index) live)
+pub live-count : (live : List Entity) → LiveOk live → (x : Entity) → countOf sameEntity x live ≡ isVersion x (liveVersion (x .index) live)
 live-count [] ok x = sym (version-zero x)
 live-count (e ∷ es) ok x = go (ℕ-discrete (x .index) (e .index)) (live-count es (ok .2) x)
   where

@@ -9,7 +9,7 @@ use lib.Dec.{ltb, leb, eqb, lit<}
 use lib.ListN.{length, getD, replicate, length-append, length-replicate}
 use Rattle.model.specs.Numbers.{LIST-CAPACITY, MAX-KINDS, MAX-REFUSALS}
 use Rattle.model.specs.Lists.{one, place-count, count-place}
-use Rattle.model.specs.Model.{Entity, Entities, SparseSet, Family, Component, sameEntity, mem, setOf, keys, kindOf, isLive, insertComponents, remove, clearAll, setLayout, create, createWith, destroy}
+use Rattle.model.specs.Model.{Entity, Entities, SparseSet, Family, Component, sameEntity, mem, setOf, keys, kindOf, isLive, insertComponents, remove, clearAll, setLayout, create, createWith, destroy, Row, noRow}
 use Rattle.model.specs.Store.{Control, Store, empty, withKinds, withEntities, withStorage, withControl, withAll, emptyStaged, emptyBoth, withStaged, withExcluded, withDraft, counted}
 use Rattle.model.specs.Sound.{Eight, noComponent, Limits, KindsSound, StagedSound, ExcludedSound, Buildable, StoreSound}
 use Rattle.model.proofs.SparseSets.{entity-same, cond-case, key}
@@ -24,6 +24,13 @@ use Rattle.model.proofs.Held.{Held, insert-held, remove-held, destroy-h
 
 pub eight0 : Eight 0
 eight0 = lit< tt
+
+-- a row's value fits eight bytes
+abbrev pub EightRow : ℕ → Row → Type 0
+EightRow k r = Eight (r .value)
+
+pub no-row : (k : ℕ) → EightRow k noRow
+no-row k = eight0
 
 -- ---- the two forms of soundness
 
@@ -58,7 +65,7 @@ pub control-of : (s : Store) → StoreSound s → ControlSound (s .kinds) (s .co
 control-of s S = record { staged = S .staged; excluded = S .excluded; draft = record { buildable = S .draft; uncounted = S .uncounted }; refusals = S .refusals }
 
 -- a store whose parts are sound
-make : (s : Store) → Limits (s .settings .capacity) (s .settings .kindCapacity) → KindsSound (s .settings .kindCapacity) (s .kinds) → s .entities .issued ≤ s .settings .capacity → Held (s .entities) (s .kinds) (s .storage) → ColsOk Eight eight0 (s .storage .sets) → Buildable (s .kinds) (s .storage .layout) → ControlSound (s .kinds) (s .control) → StoreSound s
+make : (s : Store) → Limits (s .settings .capacity) (s .settings .kindCapacity) → KindsSound (s .settings .kindCapacity) (s .kinds) → s .entities .issued ≤ s .settings .capacity → Held (s .entities) (s .kinds) (s .storage) → ColsOk EightRow no-row (s .storage .sets) → Buildable (s .kinds) (s .storage .layout) → ControlSound (s .kinds) (s .control) → StoreSound s
 make s limits kinds few H values layout C =
     record {
       limits = limits;
@@ -88,9 +95,9 @@ create-is-live c = count-live ((create c) .entity) ((create c) .entities) (omega
 
 -- ---- hand, bar, draft, refusal count
 
-staged-ok : (l : List Component) → ((j : ℕ) → Eight (getD l j noComponent .value)) → StagedOk Eight eight0 l
-staged-ok [] h = tt
-staged-ok (p ∷ ps) h = (h 0, staged-ok ps (λ j. h (suc j)))
+staged-ok : (e : Entity) (l : List Component) → ((j : ℕ) → Eight (getD l j noComponent .value)) → StagedOk EightRow no-row e l
+staged-ok e [] h = tt
+staged-ok e (p ∷ ps) h = (h 0, staged-ok e ps (λ j. h (suc j)))
 
 pub map-snoc : (l : List Component) (p : Component) → map kindOf (l ++ (p ∷ [])) ≡ map kindOf l ++ (p .kind ∷ [])
 map-snoc [] p = refl
@@ -247,19 +254,19 @@ module _ (s : Store) (S : StoreSound s) where
   insert-sound e staged live h =
       make (withStorage s (insertComponents e staged (s .storage))) (S .limits) (S .kinds) (S .entities .few)
       (insert-held (s .entities) (s .kinds) (s .storage) H (s .entities) (H .numbers) (λ x i. i) e staged (h .known) (live-count e (s .entities) live))
-      (insert-ok Eight eight0 e staged (s .storage) (staged-ok staged (h .values)) (S .sets .values))
+      (insert-ok EightRow no-row e staged (s .storage) (staged-ok e staged (h .values)) (S .sets .values))
       (buildable-plain (s .kinds) (s .storage .layout) ((insertComponents e staged (s .storage)) .layout) (insert-plain e staged (s .storage)) (S .layout)) C
 
   -- components of some kinds go; the entity need not be live
   pub remove-sound : (e : Entity) (gone : List ℕ) → StoreSound (withStorage s (remove e gone (s .storage)))
   remove-sound e gone =
       make (withStorage s (remove e gone (s .storage))) (S .limits) (S .kinds) (S .entities .few) (remove-held (s .entities) (s .kinds) (s .storage) H e gone)
-      (remove-ok Eight eight0 e gone (s .storage) (S .sets .values))
+      (remove-ok EightRow no-row e gone (s .storage) (S .sets .values))
       (buildable-plain (s .kinds) (s .storage .layout) ((remove e gone (s .storage)) .layout) (remove-plain e gone (s .storage)) (S .layout)) C
 
   pub clearAll-sound : StoreSound (withStorage s (clearAll (s .storage)))
   clearAll-sound =
-      make (withStorage s (clearAll (s .storage))) (S .limits) (S .kinds) (S .entities .few) (clearAll-held (s .entities) (s .kinds) (s .storage) H) (clearAll-ok Eight eight0 (s .storage))
+      make (withStorage s (clearAll (s .storage))) (S .limits) (S .kinds) (S .entities .few) (clearAll-held (s .entities) (s .kinds) (s .storage) H) (clearAll-ok EightRow no-row (s .storage))
       (buildable-plain (s .kinds) (s .storage .layout) ((clearAll (s .storage)) .layout) (clearAll-plain (s .storage)) (S .layout)) C
 
   -- a layout is applied
@@ -267,7 +274,7 @@ module _ (s : Store) (S : StoreSound s) where
   setLayout-sound fs D =
       make (withStorage s (setLayout (s .entities .live) fs (s .storage))) (S .limits) (S .kinds) (S .entities .few)
       (apply-held (s .entities) (s .kinds) (s .storage) H fs (buildable-fresh fs (D .buildable .families) (D .uncounted)) (distinct-families fs (D .buildable .once)))
-      (setLayout-ok Eight eight0 (s .entities .live) fs (s .storage) (S .sets .values))
+      (setLayout-ok EightRow no-row (s .entities .live) fs (s .storage) (S .sets .values))
       (buildable-plain (s .kinds) fs ((setLayout (s .entities .live) fs (s .storage)) .layout) (setLayout-plain (s .entities .live) fs (s .storage)) (D .buildable)) C
 
 -- a live entity is stripped of all its components and destroyed

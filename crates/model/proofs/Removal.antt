@@ -240,3 +240,11 @@ module _ (e : Entity) (gone : List ℕ) where
     pub remove-lost : (k : ℕ) → In gone k → cnt e (key ((remove e gone p) .sets) k) ≡ 0
     unfolding remove
     remove-lost k i = removed e gone ((ungroup e gone (p .sets) (p .layout)) .sets) .lost k i (rw (walked .same .entities e k) (f .once e k))
+
+    pub remove-others : (x : Entity) → But e x → (k : ℕ) → cnt x (key ((remove e gone p) .sets) k) ≡ cnt x (key (p .sets) k)
+    unfolding remove
+    remove-others x ne k = removed e gone ((ungroup e gone (p .sets) (p .layout)) .sets) .counts x ne k ∙ walked .same .entities x k
+
+    pub remove-kinds : (x : Entity) (k : ℕ) → mem k gone ≡ false → cnt x (key ((remove e gone p) .sets) k) ≡ cnt x (key (p .sets) k)
+    unfolding remove
+    remove-kinds x k n = ap (cnt x) (removed e gone ((ungroup e gone (p .sets) (p .layout)) .sets) .other k n) ∙ walked .same .entities x k

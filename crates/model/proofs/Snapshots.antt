@@ -15,13 +15,13 @@ use Rattle.model.specs.Model.{Entity, SparseSet, sameEntity, noRow, at, 
 use Rattle.model.specs.Store.{Store, empty}
 use Rattle.model.specs.Run.{run}
 use Rattle.model.specs.Snapshot.{addComponent, componentsOf, liveVersion, entryOf, entries, snapshot}
-use Rattle.model.specs.Sound.{Eight, Limits, StoreSound}
+use Rattle.model.specs.Sound.{Limits, StoreSound}
 use Rattle.model.proofs.SparseSets.{entity-same}
 use Rattle.model.proofs.Groups.{cnt}
 use Rattle.model.proofs.Walk.{bool-cases}
 use Rattle.model.proofs.Numbers.{EntitiesOk, num, live-few, zero-of}
 use Rattle.model.proofs.Values.{ColsOk}
-use Rattle.model.proofs.Operations.{eight0, sound-held}
+use Rattle.model.proofs.Operations.{EightRow, no-row, sound-held}
 use Rattle.model.proofs.Sound.{Bytes, run-sound}
 use Rattle.model.proofs.Encoding.{FitComponents, FitEntries}
 use Rattle.model.proofs.Listing.{LiveOk, Listable, Same, snapshot-iff}
@@ -50,7 +50,7 @@ version-in i v (c ∷ cs) e =
     same-entity : eqb i (c .index) ≡ true → c .version ≡ suc v → 1 ≤ one (sameEntity (record { index = i; version = suc v }) c)
     same-entity t q = rw (t, eq-eqb (suc v) (c .version) (sym q)) (omega arith)
 
-components-fit : (e : Entity) (k : ℕ) (sets : List SparseSet) → ColsOk Eight eight0 sets → FitComponents (componentsOf e k sets)
+components-fit : (e : Entity) (k : ℕ) (sets : List SparseSet) → ColsOk EightRow no-row sets → FitComponents (componentsOf e k sets)
 components-fit e k [] h = tt
 components-fit e k (c ∷ cs) h = go (held e c) (components-fit e (suc k) cs (λ j. h (suc j)))
   where
@@ -58,7 +58,7 @@ components-fit e k (c ∷ cs) h = go (held e c) (components-fit e (suc k) cs (λ
     go true r = (h 0 (at e c), r)
     go false r = r
 
-module _ (live : List Entity) (sets : List SparseSet) (h : ColsOk Eight eight0 sets) (vs : (x : Entity) → 1 ≤ cnt x live → x .version ≤ lastVersion) where
+module _ (live : List Entity) (sets : List SparseSet) (h : ColsOk EightRow no-row sets) (vs : (x : Entity) → 1 ≤ cnt x live → x .version ≤ lastVersion) where
   entries-fit : (n i : ℕ) → i + n ≤ MAX-ENTITIES → FitEntries (entries i n live sets)
   entries-fit zero i le = tt
   entries-fit (suc n) i le = go (liveVersion i live) refl (entries-fit n (suc i) (omega arith))

@@ -1,9 +1,13 @@
--- What holds of every row's value, as that it fits eight bytes, holds after every operation, if it holds of the staged ones. Assumes nothing.
+-- What holds of every row of a kind's sparse set, as that its value fits eight bytes, holds after every operation, if it holds of the rows of the
+-- staged components. Assumes nothing.
 use mathlib.Core.Path.{_≡_, refl}
 use mathlib.Core.List.{List, [], _∷_, _++_, map}
-use Prim.Native.Nat.{ℕ, zero, suc, _-_}
+use Prim.Native.Nat.{ℕ, zero, suc, _-_, _<_}
+use native.Mathlib.Omega.{arith}
 use native.Mathlib.Nat.{zero-add}
+use native.Mathlib.Decide.{ℕ-discrete, decLt}
 use lib.ListN.{length, take, getD, set}
+use lib.Seq.{getD-set-same, getD-set-other, set-out}
 use Rattle.model.specs.Model.{Entity, Row, SparseSet, Group, Family, Component, Storage, Walked, GroupStep, noRow, mem, meets, setOf, at, held, allHeld, isGrouped, swapTo, insertRow, removeRow, onKinds, insertAll, kindOf, kindsOf, groupComponents, ungroupComponents, groupFamily, ungroupFamily, groupTouched, ungroup, groupAll, regroup, setLayout, insertComponents, remove, clearAll}
 use Rattle.model.proofs.SparseSets.{cond-case, setOf-mapOn}
 
@@ -30,41 +34,46 @@ module _ {A : Type 0} (P : A → Type 0) (d : A) (pd : P d) where
   all-snoc (x ∷ l) a pa h zero = h zero
   all-snoc (x ∷ l) a pa h (suc j) = all-snoc l a pa (λ m. h (suc m)) j
 
--- q holds of each row's value
-module _ (q : ℕ → Type 0) (q0 : q 0) where
-  abbrev pub RowOk : Row → Type 0
-  RowOk r = q (r .value)
-
-  abbrev pub ColOk : SparseSet → Type 0
-  ColOk c = AllOf RowOk noRow q0 c
+-- Q k holds of each row of kind k's sparse set
+module _ (Q : ℕ → Row → Type 0) (Q0 : (k : ℕ) → Q k noRow) where
+  abbrev pub ColOk : ℕ → SparseSet → Type 0
+  ColOk k c = AllOf (Q k) noRow (Q0 k) c
 
   abbrev pub ColsOk : List SparseSet → Type 0
-  ColsOk sets = (k : ℕ) → ColOk (setOf sets k)
+  ColsOk sets = (k : ℕ) → ColOk k (setOf sets k)
 
-  abbrev pub StagedOk : List Component → Type 0
-  StagedOk [] = Unit {0}
-  StagedOk (p ∷ ps) = q (p .value) × StagedOk ps
+  abbrev pub StagedOk : Entity → List Component → Type 0
+  StagedOk e [] = Unit {0}
+  StagedOk e (p ∷ ps) = Q (p .kind) (record { entity = e; value = p .value }) × StagedOk e ps
 
-  swap-ok : (e : Entity) (c : ℕ) (rows : SparseSet) → ColOk rows → ColOk (swapTo e c rows)
-  swap-ok e c rows h = all-set RowOk noRow q0 (set rows (at e rows) (getD rows c noRow)) c (getD rows (at e rows) noRow) (h (at e rows)) (all-set RowOk noRow q0 rows (at e rows) (getD rows c noRow) (h c) h)
+  swap-ok : (e : Entity) (c k : ℕ) (rows : SparseSet) → ColOk k rows → ColOk k (swapTo e c rows)
+  swap-ok e c k rows h = all-set (Q k) noRow (Q0 k) (set rows (at e rows) (getD rows c noRow)) c (getD rows (at e rows) noRow) (h (at e rows)) (all-set (Q k) noRow (Q0 k) rows (at e rows) (getD rows c noRow) (h c) h)
 
-  put-ok : (e : Entity) (v : ℕ) (rows : SparseSet) → q v → ColOk rows → ColOk (insertRow e v rows)
-  put-ok e v rows qv h =
-      cond-case ColOk (held e rows) _ _ (λ t. all-set RowOk noRow q0 rows (at e rows) (record { entity = e; value = v }) qv h) (λ t. all-snoc RowOk noRow q0 rows (record { entity = e; value = v }) qv h)
+  put-ok : (e : Entity) (v k : ℕ) (rows : SparseSet) → Q k (record { entity = e; value = v }) → ColOk k rows → ColOk k (insertRow e v rows)
+  put-ok e v k rows qv h =
+      cond-case (ColOk k) (held e rows) _ _ (λ t. all-set (Q k) noRow (Q0 k) rows (at e rows) (record { entity = e; value = v }) qv h) (λ t. all-snoc (Q k) noRow (Q0 k) rows (record { entity = e; value = v }) qv h)
 
-  take-ok : (e : Entity) (rows : SparseSet) → ColOk rows → ColOk (removeRow e rows)
-  take-ok e rows h =
-      cond-case ColOk (held e rows) _ _ (λ t. all-take RowOk noRow q0 (length rows - 1) (set rows (at e rows) (getD rows (length rows - 1) noRow)) (all-set RowOk noRow q0 rows (at e rows) (getD rows (length rows - 1) noRow) (h (length rows - 1)) h)) (λ t. h)
+  take-ok : (e : Entity) (k : ℕ) (rows : SparseSet) → ColOk k rows → ColOk k (removeRow e rows)
+  take-ok e k rows h =
+      cond-case (ColOk k) (held e rows) _ _ (λ t. all-take (Q k) noRow (Q0 k) (length rows - 1) (set rows (at e rows) (getD rows (length rows - 1) noRow)) (all-set (Q k) noRow (Q0 k) rows (at e rows) (getD rows (length rows - 1) noRow) (h (length rows - 1)) h)) (λ t. h)
 
-  on-ok : (ks : List ℕ) (f : SparseSet → SparseSet) → f [] ≡ [] → ((c : SparseSet) → ColOk c → ColOk (f c)) → (sets : List SparseSet) → ColsOk sets → ColsOk (onKinds ks f sets)
+  on-ok : (ks : List ℕ) (f : SparseSet → SparseSet) → f [] ≡ [] → ((k : ℕ) (c : SparseSet) → ColOk k c → ColOk k (f c)) → (sets : List SparseSet) → ColsOk sets → ColsOk (onKinds ks f sets)
   on-ok ks f z g sets h k =
-      rw (setOf-mapOn ks f z 0 sets k, zero-add k) (cond-case ColOk (mem k ks) _ _ (λ t. g (setOf sets k) (h k)) (λ t. h k))
+      rw (setOf-mapOn ks f z 0 sets k, zero-add k) (cond-case (ColOk k) (mem k ks) _ _ (λ t. g k (setOf sets k) (h k)) (λ t. h k))
 
-  put-all-ok : (e : Entity) (staged : List Component) (sets : List SparseSet) → StagedOk staged → ColsOk sets → ColsOk (insertAll e staged sets)
+  cols-set : (sets : List SparseSet) (i : ℕ) (new : SparseSet) → ColOk i new → ColsOk sets → ColsOk (set sets i new)
+  cols-set sets i new o h k = go (ℕ-discrete k i) (decLt i (length sets))
+    where
+      go : Dec (k ≡ i) → Dec (i < length sets) → ColOk k (setOf (set sets i new) k)
+      go (yes q) (yes l) = rw (q, getD-set-same sets i new [] l) o
+      go (yes q) (no l) = rw (set-out sets i new (omega arith)) (h k)
+      go (no q) l = rw (getD-set-other sets i k new [] q) (h k)
+
+  put-all-ok : (e : Entity) (staged : List Component) (sets : List SparseSet) → StagedOk e staged → ColsOk sets → ColsOk (insertAll e staged sets)
   put-all-ok e [] sets hh h = h
   put-all-ok e (p ∷ ps) sets hh h =
       put-all-ok e ps (set sets (p .kind) (insertRow e (p .value) (setOf sets (p .kind)))) (hh .1)
-      (all-set ColOk [] (λ j. q0) sets (p .kind) (insertRow e (p .value) (setOf sets (p .kind))) (put-ok e (p .value) (setOf sets (p .kind)) (hh .0) (h (p .kind))) h)
+      (cols-set sets (p .kind) (insertRow e (p .value) (setOf sets (p .kind))) (put-ok e (p .value) (p .kind) (setOf sets (p .kind)) (hh .0) (h (p .kind))) h)
 
   groupComponents-ok : (e : Entity) (ks : List ℕ) (r : Group) (sets : List SparseSet) → ColsOk sets → ColsOk ((groupComponents e ks r sets) .sets)
   unfolding groupComponents
@@ -89,7 +98,7 @@ module _ (q : ℕ → Type 0) (q0 : q 0) where
       (λ t. ungroupComponents-ok e (acc ++ r .newKinds) r ((ungroupFamily e gone (acc ++ r .newKinds) sets rs) .sets) (ungroupFamily-ok e gone (acc ++ r .newKinds) sets rs h))
       (λ t. ungroupFamily-ok e gone (acc ++ r .newKinds) sets rs h)
 
-  groupFamily-all-ok : (e : Entity) (ks : List ℕ) (sets : List SparseSet) (fs : List Family) → ColsOk sets → ColsOk ((groupTouched e ks sets fs) .sets)
+  pub groupFamily-all-ok : (e : Entity) (ks : List ℕ) (sets : List SparseSet) (fs : List Family) → ColsOk sets → ColsOk ((groupTouched e ks sets fs) .sets)
   unfolding groupTouched
   groupFamily-all-ok e ks sets [] h = h
   groupFamily-all-ok e ks sets (f ∷ fs) h =
@@ -105,7 +114,7 @@ module _ (q : ℕ → Type 0) (q0 : q 0) where
   groupFamily-every-ok e sets [] h = h
   groupFamily-every-ok e sets (f ∷ fs) h = groupFamily-every-ok e ((groupFamily e [] sets f) .sets) fs (groupFamily-ok e [] sets f h)
 
-  pub insert-ok : (e : Entity) (staged : List Component) (p : Storage) → StagedOk staged → ColsOk (p .sets) → ColsOk ((insertComponents e staged p) .sets)
+  pub insert-ok : (e : Entity) (staged : List Component) (p : Storage) → StagedOk e staged → ColsOk (p .sets) → ColsOk ((insertComponents e staged p) .sets)
   unfolding insertComponents
   insert-ok e staged p hh h = groupFamily-all-ok e (map kindOf staged) (insertAll e staged (p .sets)) (p .layout) (put-all-ok e staged (p .sets) hh h)
 
@@ -129,4 +138,4 @@ module _ (q : ℕ → Type 0) (q0 : q 0) where
 
   pub clearAll-ok : (p : Storage) → ColsOk ((clearAll p) .sets)
   unfolding clearAll
-  clearAll-ok p k = rw (setOf-wiped (p .sets) k) (λ j. q0)
+  clearAll-ok p k = rw (setOf-wiped (p .sets) k) (λ j. Q0 k)
