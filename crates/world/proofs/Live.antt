@@ -1,4 +1,4 @@
--- A live entity is the only version of its index in every sparse set. Assumes nothing.
+-- A live entity is the only version of its index in every sparse set, so that components can go into it. Assumes nothing.
 use mathlib.Core.Path.{_≡_, ap, sym, _∙_, subst}
 use mathlib.Core.Bool.{true, false, false≢true}
 use mathlib.Core.List.{List, [], _∷_}
@@ -10,12 +10,17 @@ use lib.Dec.{eqb}
 use lib.ListN.{length, getD}
 use Rattle.model.specs.Lists.{one}
 use Rattle.model.specs.Model.{Entity, SparseSet, sameEntity, noRow, setOf, keys, isLive}
-use Rattle.model.specs.Store.{Store}
-use Rattle.model.specs.Sound.{cnt, num, StoreSound}
+use Rattle.model.specs.Store.{Store, stagedKinds}
+use Rattle.model.specs.Sound.{cnt, num, key, In, EntitiesSound, StoreSound}
 use Rattle.model.proofs.SparseSets.{entity-eq, entity-same}
 use Rattle.model.proofs.Walk.{bool-cases}
+use Rattle.model.proofs.Numbers.{cnt-num}
 use Rattle.model.proofs.Operations.{live-count}
-use Rattle.component.specs.SparseSet.{Current}
+use Rattle.component.specs.SparseSet.{Current, entity}
+use Rattle.memory.specs.Meaning.{meaning}
+use Rattle.memory.specs.Arranged.{Arranged}
+use Rattle.memory.proofs.Becomes.{capacity-means}
+use Rattle.world.specs.Insert.{Insertable}
 
 -- one of the index at most
 once-index : (x y z : Entity) → x .index ≡ y .index → sameEntity x y ≡ false → one (sameEntity x z) + one (sameEntity y z) ≤ one (eqb (x .index) (z .index))
@@ -44,10 +49,33 @@ row-count [] i h = absurd (not-suc-le-zero h)
 row-count (r ∷ rows) zero h = omega (arith, ap one (entity-same (r .entity)))
 row-count (r ∷ rows) (suc i) h = omega (arith, row-count rows i (le-of-suc-le-suc h))
 
-pub current : (s : Store) → StoreSound s → (e : Entity) → isLive e (s .entities) ≡ true → (k : ℕ) → Current (e .index) (e .version) (setOf (s .storage .sets) k)
-current s S e live k i h q =
+-- of soundness, what insertion into a live entity rests on: numbers by which an index is live once, and sparse sets that hold live entities only. The
+-- groups have no part in it: they need not be right
+pub record OnlyLive (s : Store) : Type 0 where
+  pub entities : EntitiesSound (s .capacity) (s .entities)
+  pub alive : (x : Entity) (k : ℕ) → 1 ≤ cnt x (key (s .storage .sets) k) → 1 ≤ cnt x (s .entities .live)
+
+pub sound-live : (s : Store) → StoreSound s → OnlyLive s
+sound-live s S = record { entities = S .entities; alive = S .sets .alive }
+
+pub current : (s : Store) → OnlyLive s → (e : Entity) → isLive e (s .entities) ≡ true → (k : ℕ) → Current (e .index) (e .version) (setOf (s .storage .sets) k)
+current s L e live k i h q =
     let y : Entity = getD (setOf (s .storage .sets) k) i noRow .entity in
-    let alive : 1 ≤ cnt y (s .entities .live) = S .sets .alive y k (row-count (setOf (s .storage .sets) k) i h) in
+    let alive : 1 ≤ cnt y (s .entities .live) = L .alive y k (row-count (setOf (s .storage .sets) k) i h) in
     bool-cases (sameEntity y e)
     (λ t. ap (λ (x : Entity). x .version) (entity-eq y e t))
-    (λ t. absurd (omega (arith, alive, live-count e (s .entities) live, two-live y e (s .entities .live) q t, S .entities .single (y .index))))
+    (λ t. absurd (omega (arith, alive, live-count e (s .entities) live, two-live y e (s .entities .live) q t, L .entities .single (y .index))))
+
+-- the staged components can go into a live entity
+pub live-insertable : (w : List ℕ) → Arranged w → OnlyLive (meaning w) → ((k : ℕ) → In (stagedKinds (meaning w)) k → In (meaning w .kinds) k)
+    → (x v : ℕ) → isLive (entity x v) (meaning w .entities) ≡ true → Insertable w x v
+live-insertable w A L known x v live =
+    let n = live-count (entity x v) (meaning w .entities) live in
+    let i : x < meaning w .entities .issued = L .entities .below x (omega (arith, n, cnt-num (entity x v) (meaning w .entities .live))) in
+    record {
+      arranged = A;
+      below = omega (arith, i, L .entities .few, capacity-means w);
+      version = L .entities .positive (entity x v) (omega (arith, n));
+      current = current (meaning w) L (entity x v) live;
+      known = known;
+    }

@@ -10,14 +10,12 @@ use Rattle.model.specs.Store.{Store, stagedKinds, onStorage}
 use Rattle.model.specs.Sound.{Distinct}
 use Rattle.model.proofs.Families.{Kinds}
 use Rattle.model.proofs.Invariant.{Fit}
-use Rattle.model.proofs.Numbers.{cnt-num}
-use Rattle.model.proofs.Operations.{sound-held, live-count}
+use Rattle.model.proofs.Operations.{sound-held}
 use Rattle.model.proofs.Held.{kinds-of}
 use Rattle.masks.specs.Masks.{bitsOf, has, upFrom}
 use Rattle.component.specs.SparseSet.{entity}
 use Rattle.memory.specs.Meaning.{meaning}
 use Rattle.memory.specs.Arranged.{Sound, Becomes}
-use Rattle.memory.proofs.Becomes.{capacity-means}
 use Rattle.group.specs.Flat.{insertPositions, deletePositions, walkUp, walkDown}
 use Rattle.group.specs.Ready.{ReadyUp, ReadyDown}
 use Rattle.group.specs.Steps.{Below}
@@ -30,7 +28,7 @@ use Rattle.world.specs.Insert.{Insertable, inserted}
 use Rattle.world.specs.Remove.{Staged, ungrouped, removed}
 use Rattle.group.proofs.Storing.{becomes-then, storage-becomes}
 use Rattle.world.proofs.Removing.{staged-kept}
-use Rattle.world.proofs.Live.{current}
+use Rattle.world.proofs.Live.{sound-live, live-insertable}
 
 module _ (w : List ℕ) (S : Sound w) where
   abbrev m : Store
@@ -46,16 +44,7 @@ module _ (w : List ℕ) (S : Sound w) where
   staged-kinds = kinds-of (meaning w .control .staged) (length (meaning w .storage .sets)) (λ k i. omega (arith, S .means .kinds .small k (S .means .staged .known k i), S .means .sets .wide))
 
   pub insertable : (x v : ℕ) → isLive (entity x v) (meaning w .entities) ≡ true → Insertable w x v
-  insertable x v live =
-      let n = live-count (entity x v) (meaning w .entities) live in
-      let i : x < meaning w .entities .issued = S .means .entities .below x (omega (arith, n, cnt-num (entity x v) (meaning w .entities .live))) in
-      record {
-        arranged = S .arranged;
-        below = omega (arith, i, S .means .entities .few, capacity-means w);
-        version = S .means .entities .positive (entity x v) (omega (arith, n));
-        current = current (meaning w) (S .means) (entity x v) live;
-        known = S .means .staged .known;
-      }
+  insertable = live-insertable w (S .arranged) (sound-live (meaning w) (S .means)) (S .means .staged .known)
 
   -- ---- insertion: all components are in, then the walk upward
 
