@@ -32,6 +32,18 @@ pub fn find_in(words: &[u32], n: usize, slot: usize, index: u32, version: u32) -
     sparse_vec::find(&words[base..end], n, index, version)
 }
 
+// Whether the slot's rows have the entity.
+pub fn holds_in(words: &[u32], n: usize, slot: usize, index: u32, version: u32) -> bool
+    requires { ⌜ Lent n slot (now words) ⌝ }
+    ensures { λ r. ⌜ r ≡ held (entity index version) (rowsOf n slot (now (words .entry))) ⌝ }
+{
+    let found = find_in(words, n, slot, index, version);
+    let Found::At(_) = found else {
+        return false;
+    };
+    true
+}
+
 pub fn value_in(words: &[u32], n: usize, slot: usize, place: usize) -> Value
     requires { ⌜ Lent n slot (now words) ⌝ }
     requires { ⌜ place < length (rowsOf n slot (now words)) ⌝ }

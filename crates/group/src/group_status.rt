@@ -5,9 +5,7 @@ use crate::group_metadata::kind_at;
 use component::Found;
 ghost use mathlib.Core.Path.{_≡_};
 ghost use Prim.Native.Nat.{_<_};
-ghost use lib.ListN.{length, getD};
-ghost use Rattle.model.specs.Model.{setOf, held, allHeld, groupsOf};
-ghost use Rattle.model.specs.Sound.{In};
+ghost use Rattle.model.specs.Model.{allHeld, groupsOf};
 ghost use Rattle.words.specs.Part.{between};
 ghost use Rattle.component.specs.SparseSet.{entity};
 ghost use Rattle.memory.specs.Meaning.{meaning};
@@ -22,22 +20,7 @@ pub enum GroupStatus {
     Grouped,
 }
 
-// Does the entity hold the kind at a place among the layout's?
-fn holds(words: &[u32], place: usize, index: u32, version: u32) -> bool
-    requires { ⌜ Arranged (now words) ⌝ }
-    requires { ⌜ place < length (orderOf (meaning (now words))) ⌝ }
-    requires { ⌜ In (meaning (now words) .kinds) (getD (orderOf (meaning (now words))) place 0) ⌝ }
-    ensures { λ r. ⌜ r ≡ held (entity index version) (setOf (meaning (now (words .entry)) .storage .sets) (getD (orderOf (meaning (now (words .entry)))) place 0)) ⌝ }
-{
-    let kind = kind_at(words, place);
-    let found = kinds::find(words, kind, index, version);
-    let Found::At(_) = found else {
-        return false;
-    };
-    true
-}
-
-// Does it hold each of them, from start to end?
+// Does the entity hold each of the layout's kinds from start to end?
 fn holds_all(words: &[u32], start: usize, end: usize, index: u32, version: u32) -> bool
     requires { ⌜ Arranged (now words) ⌝ }
     requires { ⌜ PlacesKnown (meaning (now words)) start end ⌝ }
@@ -45,7 +28,8 @@ fn holds_all(words: &[u32], start: usize, end: usize, index: u32, version: u32) 
 {
     let mut place = start;
     while place < end {
-        if !holds(words, place, index, version) {
+        let kind = kind_at(words, place);
+        if !kinds::holds(words, kind, index, version) {
             return false;
         }
         place += 1;

@@ -71,6 +71,17 @@ pub fn find(words: &[u32], kind: usize, index: u32, version: u32) -> Found
     component::slots::find_in(words, n, slot, index, version)
 }
 
+// Whether the entity holds the kind.
+pub fn holds(words: &[u32], kind: usize, index: u32, version: u32) -> bool
+    requires { ⌜ Arranged (now words) ⌝ }
+    requires { ⌜ In (meaning (now words) .kinds) kind ⌝ }
+    ensures { λ r. ⌜ r ≡ held (entity index version) (kindSet (now (words .entry)) kind) ⌝ }
+{
+    let n = words::word(words, words::CAPACITY);
+    let slot = slot_of(words, kind);
+    component::slots::holds_in(words, n, slot, index, version)
+}
+
 // Exchanges the entity's row with the one at place.
 pub fn swap_to(words: &mut [u32], kind: usize, index: u32, version: u32, place: usize)
     requires { ⌜ Arranged (now words) ⌝ }

@@ -1,13 +1,10 @@
 // The groups' counts: a group's first places hold the same entities in each of its columns, and past them each lacks a kind.
 use crate::heads::prior_in;
 use crate::heads::span_of;
-use component::Found;
-ghost use mathlib.Core.Path.{_≡_};
 ghost use Prim.Native.Nat.{_+_, _*_, _<_, _≤_};
 ghost use lib.ListN.{length};
 ghost use Rattle.model.specs.Numbers.{MAX-GROUP-COUNT};
 ghost use Rattle.words.specs.Offsets.{GROUP-PLACES, LAYOUT-ARITIES};
-ghost use Rattle.model.specs.Model.{held};
 ghost use Rattle.component.specs.SparseSet.{entity};
 ghost use Rattle.words.specs.Decides.{Decides, Each};
 ghost use Rattle.component.specs.Columns.{Lent, rowsOf};
@@ -15,7 +12,7 @@ ghost use Rattle.memory.specs.Header.{groupFamilyAt};
 ghost use Rattle.sound_columns.specs.Slots.{Over};
 ghost use Rattle.sound_groups.specs.Spans.{KindAt, KindsAt, Force, GroupOf};
 ghost use Rattle.sound_columns.specs.Rows.{keyAt};
-ghost use Rattle.sound_groups.specs.Counts.{SameWord, rowsAt, EvenOk, Holds, CountOk, GroupCounted, CountedOk};
+ghost use Rattle.sound_groups.specs.Counts.{SameWord, EvenOk, Holds, CountOk, GroupCounted, CountedOk};
 
 // Are c entities from two words on the same?
 fn same_rows(words: &[u32], a: usize, b: usize, c: usize) -> bool
@@ -68,21 +65,7 @@ fn span_even(words: &[u32], n: usize, h: usize, c: usize, from: usize, to: usize
     true
 }
 
-// Has the entity the kind at word j?
-fn holds(words: &[u32], n: usize, index: u32, version: u32, j: usize) -> bool
-    requires { ⌜ (LAYOUT-ARITIES ≤ length (now words)) × (j < LAYOUT-ARITIES) ⌝ }
-    requires { ⌜ KindAt n (now words) j ⌝ }
-    ensures { λ r. ⌜ r ≡ held (entity index version) (rowsAt n (now (words .entry)) j) ⌝ }
-{
-    let kind = words[j] as usize;
-    let s = words[words::TABLE + kind] as usize;
-    let found = component::slots::find_in(words, n, s, index, version);
-    let Found::At(_) = found else {
-        return false;
-    };
-    true
-}
-
+// Has the entity the kinds at the words from `from` on, below `to`?
 fn holds_all(words: &[u32], n: usize, index: u32, version: u32, from: usize, to: usize) -> bool
     requires { ⌜ LAYOUT-ARITIES ≤ length (now words) ⌝ }
     requires { ⌜ KindsAt n (now words) from to ⌝ }
@@ -90,7 +73,9 @@ fn holds_all(words: &[u32], n: usize, index: u32, version: u32, from: usize, to:
 {
     let mut j = from;
     while j < to {
-        if !holds(words, n, index, version, j) {
+        let kind = words[j] as usize;
+        let s = words[words::TABLE + kind] as usize;
+        if !component::slots::holds_in(words, n, s, index, version) {
             return false;
         }
         j += 1;

@@ -1,5 +1,7 @@
-use Prim.Native.Nat.{ℕ, _-_, _≤_}
+use Prim.Native.Nat.{ℕ, _+_, _-_, _≤_}
 use native.Mathlib.Omega.{arith}
+use lib.ListN.{getD}
+use Rattle.words.specs.Offsets.{TABLE}
 use Rattle.sound_columns.specs.Slots.{Over}
 use Rattle.sound_columns.proofs.SlotLaws.{over-more}
 use mathlib.Core.Path.{_≡_, sym, _∙_}
@@ -20,23 +22,42 @@ abbrev μ-loop : tie.MeasureT-loop
 loop-holds : tie.Need-loop-holds Inv-loop μ-loop
 loop-holds c = (omega arith, λ j l h. absurd (omega arith))
 
-holds-requires : tie.Need-holds-requires Inv-loop μ-loop
-holds-requires c κs =
-    let a = c .before .before .before .args in
-    let l = c .before .loop in
-    ((omega arith, omega (arith, c .before .before .before .pre .1 .inside)), c .before .before .before .pre .1 .kinds (l .j) (l .inv .0) (omega arith))
+mul-kind : tie.Need-mul-kind Inv-loop μ-loop
+mul-kind c = omega (arith, c .before .before .before .pre .1 .inside, c .loop-test .taken)
+
+read-kind : tie.Need-shared-slice-read-kind Inv-loop μ-loop
+read-kind c = omega (arith, c .before .before .before .before .pre .0, c .before .before .before .before .pre .1 .inside, c .before .loop-test .taken)
+
+cast-kind : tie.Need-cast-kind Inv-loop μ-loop
+cast-kind c = omega (arith, c .before .before .before .before .pre .1 .kinds (c .before .before .loop .j) (c .before .before .loop .inv .0) (c .before .loop-test .taken) .small)
+
+add-s : tie.Need-add-s Inv-loop μ-loop
+add-s c = omega (arith, c .before .before .before .before .pre .1 .kinds (c .before .before .loop .j) (c .before .before .loop .inv .0) (c .before .loop-test .taken) .small)
+
+mul-s : tie.Need-mul-s Inv-loop μ-loop
+mul-s c = omega (arith, c .before .before .before .before .pre .1 .kinds (c .before .before .loop .j) (c .before .before .loop .inv .0) (c .before .loop-test .taken) .small)
+
+read-s : tie.Need-shared-slice-read-s Inv-loop μ-loop
+read-s c = omega (arith, c .before .before .before .before .before .pre .0, c .before .before .before .before .before .pre .1 .kinds (c .before .before .before .loop .j) (c .before .before .before .loop .inv .0) (c .before .before .loop-test .taken) .small)
+
+cast-s : tie.Need-cast-s Inv-loop μ-loop
+cast-s c = omega (arith, c .before .before .before .before .shared-slice-known .given (TABLE + getD (c .before .before .before .before .before .args .words .now) (c .before .before .before .loop .j) 0))
+
+holds-in-requires : tie.Need-holds-in-requires Inv-loop μ-loop
+holds-in-requires c κs =
+    let l = c .before .before .before .loop in
+    c .before .before .before .before .before .pre .1 .kinds (l .j) (l .inv .0) (c .before .before .loop-test .taken) .lent
 
 returns : tie.Need-returns Inv-loop μ-loop
 returns c =
-    let a = c .before .before .before .before .before .args in
-    let l = c .before .before .before .loop in
-    λ e. let z : _≡_ {A = Bool} true false = sym (e (l .j) (l .inv .0) (omega arith)) ∙ sym (c .before .holds .ensures) ∙ not-true _ (c .if1 .taken) in true≢false z
+    let l = c .before .before .before .before .before .loop in
+    λ e. let z : _≡_ {A = Bool} true false = sym (e (l .j) (l .inv .0) (c .before .before .before .before .loop-test .taken)) ∙ sym (c .before .holds-in .ensures) ∙ not-true _ (c .if1 .taken) in true≢false z
 
 loop-again : tie.Need-loop-again Inv-loop μ-loop
 loop-again c =
-    let a = c .before .before .before .before .before .args in
-    let l = c .before .before .before .loop in
-    let o = sym (c .before .holds .ensures) ∙ not-false _ (c .if1 .left) in
+    let a = c .before .before .before .before .before .before .before .args in
+    let l = c .before .before .before .before .before .loop in
+    let o = sym (c .before .holds-in .ensures) ∙ not-false _ (c .if1 .left) in
     (omega arith, over-more (λ (j : ℕ). held (entity (a .index) (a .version)) (rowsAt (a .n) (a .words .now) j) ≡ true) (a .from) (l .j) (l .inv .1) o)
 
 returns-2 : tie.Need-returns-2 Inv-loop μ-loop
@@ -49,7 +70,14 @@ holds-all-spec =
     Inv-loop
     μ-loop
     loop-holds
-    holds-requires
+    mul-kind
+    read-kind
+    cast-kind
+    add-s
+    mul-s
+    read-s
+    cast-s
+    holds-in-requires
     returns
     (λ c. omega arith)
     (λ c. omega arith)

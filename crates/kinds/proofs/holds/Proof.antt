@@ -1,0 +1,21 @@
+use borrow.Author.Needs.{needs}
+use native.Mathlib.Omega.{arith}
+use Rattle.kinds.proofs.Slot.{header-long, lent-at, rows-at}
+use Rattle.kinds.proofs.holds.Statement.{statement}
+use Rattle.kinds.proofs.holds.Tie as tie
+
+word-requires : tie.Need-word-requires
+word-requires c κs = let s = c .before in header-long (s .args .words .now) (s .pre .0) 0 (omega arith)
+
+holds-in-requires : tie.Need-holds-in-requires
+holds-in-requires c κs =
+    let a = c .before .before .before .args in
+    lent-at (a .words .now) (c .before .word .result) (a .kind) (c .slot-of .result) (c .before .word .ensures .is) (c .slot-of .ensures)
+
+returns : tie.Need-returns
+returns c =
+    let a = c .before .before .before .before .args in
+    rw (rows-at (a .words .now) (c .before .before .word .result) (a .kind) (c .before .slot-of .result) (c .before .before .word .ensures .is) (c .before .slot-of .ensures)) at (c .holds-in .ensures)
+
+pub holds-spec : {M : Type 1} → statement M
+holds-spec = tie.close (tie.spec word-requires (λ c κs. search needs) holds-in-requires returns)
