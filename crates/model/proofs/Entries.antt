@@ -15,12 +15,13 @@ use Rattle.model.specs.Model.{Entity, SparseSet, setOf, keys, entityOf}
 use Rattle.model.specs.Store.{Store, empty, wordsNeeded, isKind}
 use Rattle.model.specs.Snapshot.{snapshot}
 use Rattle.model.specs.Refusals.{firstLine, NoneHolds, First, startLines, rollLines, columnLines}
-use Rattle.model.specs.Entries.{refusesStart, makes, startedBy, start, entityWords, valueWords, valueOf, part, partWords, columnRefusal, column, refusesRoll, writes, rolledBy, roll}
+use Rattle.model.specs.Entries.{refusesStart, makes, startedBy, start, entityWords, valueWords, valueOf, part, partWords, columnRefusal, column, refusesEmit, writes, roll}
 use Rattle.model.specs.Sound.{Limits, StoreSound}
 use Rattle.model.proofs.Walk.{or-false}
 use Rattle.model.proofs.Families.{or-false-right}
 use Rattle.model.proofs.Operations.{empty-sound}
 use Rattle.model.proofs.Lines.{none-to, first-exact}
+use Rattle.model.proofs.Emitting.{emitted-exact, emitted-writes}
 
 -- ---- start
 
@@ -126,26 +127,14 @@ column-accepted which k a e s p =
 
 -- ---- roll
 
-rolled-refused : (r : Option ℕ) (b : List ℕ) (n : ℕ) → rolledBy r b ≡ refusesRoll n → r ≡ some n
-rolled-refused (some m) b n e = let p : m ≡ n = cc in ap {B = Option ℕ} some p
-rolled-refused none b n e = let z : _≡_ {A = ℕ} 0 1 = cc in absurd (omega arith)
-
-rolled-written : (r : Option ℕ) (b c : List ℕ) → rolledBy r b ≡ writes c → (r ≡ none) × (c ≡ b)
-rolled-written (some m) b c e = let z : _≡_ {A = ℕ} 0 1 = cc in absurd (omega arith)
-rolled-written none b c e = (refl, cc)
-
 -- roll is refused by a number exactly where the table gives it
-pub roll-exact : (room : ℕ) (s : Store) (n : ℕ) → (roll room s ≡ refusesRoll n) ↔ First rollLines (record { room = room; store = s }) n
+pub roll-exact : (room : ℕ) (s : Store) (n : ℕ) → (roll room s ≡ refusesEmit n) ↔ First rollLines (record { room = room; store = s }) n
 unfolding roll
-roll-exact room s n = (
-  (λ e. first-exact rollLines (record { room = room; store = s }) n .0 (rolled-refused (firstLine rollLines (record { room = room; store = s })) (snapshot s) n e)),
-  (λ f. ap (λ (r : Option ℕ). rolledBy r (snapshot s)) (first-exact rollLines (record { room = room; store = s }) n .1 f)),
-)
+roll-exact room s n = emitted-exact rollLines (record { room = room; store = s }) (snapshot s) n
 
 -- an accepted one is the snapshot, for which there is room
 pub roll-writes : (room : ℕ) (s : Store) (b : List ℕ) → roll room s ≡ writes b → (b ≡ snapshot s) × (length b ≤ room)
 unfolding roll
 roll-writes room s b e =
-    let p = rolled-written (firstLine rollLines (record { room = room; store = s })) (snapshot s) b e in
-    let h : NoneHolds rollLines (record { room = room; store = s }) = none-to rollLines (record { room = room; store = s }) (p .0) in
-    (p .1, rw (p .1) (ltb-false room (length (snapshot s)) (h .0)))
+    let p = emitted-writes rollLines (record { room = room; store = s }) (snapshot s) b .0 e in
+    (p .1, rw (p .1) (ltb-false room (length (snapshot s)) (p .0 .0)))

@@ -16,6 +16,7 @@ pub mod Held
 pub mod Operations
 pub mod Lines
 pub mod Outcomes
+pub mod Emitting
 pub mod Entries
 pub mod Sound
 pub mod Demand

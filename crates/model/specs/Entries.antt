@@ -1,14 +1,15 @@
 -- The other entries: *start*, *column*, *roll*. Each gives its number, and zeros beside it where it is refused. Refusal 3 is of the words and is judged
 -- before these (otherLines). Assumes nothing.
+use mathlib.Core.Path.{_≡_}
 use mathlib.Core.Bool.{Bool, true, false}
 use mathlib.Core.Option.{Option, some, none}
-use mathlib.Core.List.{List, [], _∷_, map}
+use mathlib.Core.List.{List, [], _∷_, _++_, map}
 use Prim.Native.Nat.{ℕ, _/_, _%_}
-use lib.ListN.{take, drop}
+use lib.ListN.{length, take, drop}
 use Rattle.model.specs.Model.{Entity, Row, SparseSet, setOf, keys}
 use Rattle.model.specs.Store.{Store, empty}
 use Rattle.model.specs.Snapshot.{snapshot}
-use Rattle.model.specs.Refusals.{firstLine, startLines, rollLines, columnLines}
+use Rattle.model.specs.Refusals.{Line, firstLine, startLines, rollLines, columnLines}
 
 -- ---- start: "whatever the words held, makes an empty store"
 
@@ -64,18 +65,41 @@ columnBy none w = w
 unfoldable pub column : Bool → ℕ → ℕ → ℕ → Store → List ℕ
 column which k a e s = columnBy (columnRefusal k a e s) (partWords which a e (setOf (s .storage .sets) k))
 
--- ---- roll: the snapshot, if it has room
+-- ---- an entry that writes bytes
 
--- what roll gives: a refusal's number, or the bytes written
-pub data Rolled : Type 0 where
-  refusesRoll : ℕ → Rolled
-  writes : List ℕ → Rolled
+-- what it gives: a refusal's number, or the bytes written
+pub data Emitted : Type 0 where
+  refusesEmit : ℕ → Emitted
+  writes : List ℕ → Emitted
 
 -- by the first line of its table that holds
-abbrev pub rolledBy : Option ℕ → List ℕ → Rolled
-rolledBy (some n) b = refusesRoll n
-rolledBy none b = writes b
+abbrev pub emittedBy : Option ℕ → List ℕ → Emitted
+emittedBy (some n) b = refusesEmit n
+emittedBy none b = writes b
+
+-- by its lines, what its place is given, and the bytes b that it writes where no line holds
+abbrev pub emitted : {A : Type 0} → List (Line A) → A → List ℕ → Emitted
+emitted ls a b = emittedBy (firstLine ls a) b
+
+-- "An accepted entry gives number 0"
+abbrev pub emittedNumber : Emitted → ℕ
+emittedNumber (refusesEmit n) = n
+emittedNumber (writes b) = 0
+
+-- "every refusal outside a run, change no lent memory, with zeros"
+abbrev pub emittedBytes : Emitted → List ℕ
+emittedBytes (refusesEmit n) = []
+emittedBytes (writes b) = b
+
+-- it gives the number n and the count k of bytes written, from the front of the bytes o, which it leaves as o′
+pub record Emits (o o′ : List ℕ) (n k : ℕ) (x : Emitted) : Type 0 where
+  pub number : n ≡ emittedNumber x
+  pub written : k ≡ length (emittedBytes x)
+  -- "the bytes past those written .. stay"
+  pub bytes : o′ ≡ emittedBytes x ++ drop (length (emittedBytes x)) o
+
+-- ---- roll: the snapshot, if it has room
 
 -- refused where there are "fewer free bytes than .. the roll, takes"
-unfoldable pub roll : ℕ → Store → Rolled
-roll room s = rolledBy (firstLine rollLines (record { room = room; store = s })) (snapshot s)
+unfoldable pub roll : ℕ → Store → Emitted
+roll room s = emitted rollLines (record { room = room; store = s }) (snapshot s)

@@ -1,11 +1,10 @@
 -- Why a part that is said to agree does: from what the store's entries promise and what the comparisons decide. Assumes nothing.
 use mathlib.Core.Path.{_≡_, refl, ap, sym, subst, _∙_}
-use mathlib.Core.Bool.{Bool, true, false, false≢true, cond, _&&_}
-use mathlib.Core.Option.{some, none}
+use mathlib.Core.Bool.{Bool, true, false, false≢true, _&&_}
 use mathlib.Core.List.{List, _++_, append-assoc}
 use Prim.Native.Nat.{ℕ, _+_, _-_, _*_, _≤_}
 use native.Mathlib.Omega.{arith}
-use lib.Dec.{eqb, ltb}
+use lib.Dec.{eqb}
 use mir.Val.{boolByte}
 use borrow.Author.Tests.{eqb-true}
 use lib.ListN.{length, getD, take, drop, length-append}
@@ -13,17 +12,18 @@ use lib.Seq.{length-take-le, take-at}
 use denote.Ref.{RefT}
 use Rattle.model.specs.Store.{Store, empty}
 use Rattle.model.specs.Run as model
-use Rattle.model.specs.Snapshot.{snapshot}
-use Rattle.model.specs.Entries.{Started, refusesStart, makes, start, writes, rolledBy, roll}
+use Rattle.model.specs.Entries.{Started, refusesStart, makes, start, roll}
 use Rattle.model.proofs.Entries.{start-makes}
+use Rattle.model.proofs.Emitting.{emits-few}
 use Rattle.model.proofs.SparseSets.{and-left, and-right}
 use Rattle.words.specs.Decides.{Decides, yes-of}
 use Rattle.memory.specs.Meaning.{meaning}
 use Rattle.memory.specs.Arranged.{Sound}
 use Rattle.run.specs.declared.Ran.{Ran}
 use Rattle.store.specs.declared.Rolled.{Rolled}
-use Rattle.store.specs.Entries.{startNumber, Starts, StartLeaves, ColumnNumbered, ColumnPart, ranOf, Answered, RunLeaves, Runs, rolledOf, rollNumber, rollBytes, Rolls}
+use Rattle.store.specs.Entries.{startNumber, Starts, StartLeaves, ColumnNumbered, ColumnPart, ranOf, Answered, RunLeaves, Runs, emittedOver, Rolls}
 use Rattle.store.proofs.Starting.{start-number}
+use Rattle.store.proofs.Demands.{rolled-snapshot}
 use Rattle.replay.specs.declared.recorded.Step.{Step}
 use Rattle.replay.specs.declared.Tally.{Tally}
 use Rattle.replay.specs.Recorded.{short, tapeAt, numbersAt, RunRecorded, runAt, RunAgrees, RunsAgree, noRuns, moreRuns, RollAgrees, SameWords, SameColumn, ColumnAgrees, ColumnsAgree, noColumns, moreColumns, CaseAgrees, CasesAgree, noCases, moreCases}
@@ -118,27 +118,9 @@ module _ (f w w′ o o₁ : List ℕ) (at n m : ℕ) (q : Ran) (r : Step) (tape 
 
 -- ---- the roll
 
-rolled-zero : (b : Bool) (l : List ℕ) → rollNumber (rolledBy (cond b (some 6) none) l) ≡ 0 → rolledBy (cond b (some 6) none) l ≡ writes l
-rolled-zero true l z = absurd (omega arith)
-rolled-zero false l z = refl
-
-roll-zero : (room : ℕ) (s : Store) → rollNumber (roll room s) ≡ 0 → roll room s ≡ writes (snapshot s)
-unfolding roll
-roll-zero room s z = rolled-zero (ltb room (length (snapshot s))) (snapshot s) z
-
 -- no more bytes than there are
 pub rolled-few : (w o o₁ : List ℕ) (q : Rolled) → Rolls w o o₁ q → q .written ≤ length o₁
-rolled-few w o o₁ q h =
-    let b = rollBytes (rolledOf (h .sound) (length o) (meaning w)) in
-    omega (arith, h .written, ap length (h .bytes) ∙ length-append b (drop (length b) o))
-
-rolled-bytes : (w o o₁ : List ℕ) (q : Rolled) → Sound w → Rolls w o o₁ q → q .number ≡ 0 → take (q .written) o₁ ≡ snapshot (meaning w)
-rolled-bytes w o o₁ q S h z =
-    let s : h .sound ≡ true = holds (h .sound) (h .decides) S in
-    let e : roll (length o) (meaning w) ≡ writes (snapshot (meaning w)) = roll-zero (length o) (meaning w) (sym (rw s at (h .number)) ∙ z) in
-    let b : o₁ ≡ snapshot (meaning w) ++ drop (length (snapshot (meaning w))) o = rw e at (rw s at (h .bytes)) in
-    let n : q .written ≡ length (snapshot (meaning w)) = rw e at (rw s at (h .written)) in
-    ap (take (q .written)) b ∙ take-at (snapshot (meaning w)) (drop (length (snapshot (meaning w))) o) (q .written) (sym n)
+rolled-few w o o₁ q h = emits-few o o₁ (q .number) (q .written) (emittedOver (h .sound) (roll (length o) (meaning w))) (h .emits)
 
 pub roll-agrees : (f w o o₁ : List ℕ) (at n : ℕ) (q : Rolled) (b : Bool) → n ≡ short f at → at + 2 + n ≤ length f → Rolls w o o₁ q
     → Decides b (RolledSame (take (at + 2 + n - (at + 2)) (drop (at + 2) f)) q o₁) → StepAgrees f w w (record { at = at + 2 + n; agrees = b }) (λ e. RollAgrees f at (meaning w) e)
@@ -148,7 +130,7 @@ roll-agrees f w o o₁ at n q b size fits h d =
       agreed = λ a S. let g = yes-of b d a in (
         S,
         record {
-          bytes = sym (rolled-bytes w o o₁ q S h (g .number)) ∙ sym (g .bytes) ∙ part-size f (at + 2) n ∙ ap (λ (k : ℕ). take k (drop (at + 2) f)) size;
+          bytes = sym (rolled-snapshot w o o₁ q h (g .number) .1) ∙ sym (g .bytes) ∙ part-size f (at + 2) n ∙ ap (λ (k : ℕ). take k (drop (at + 2) f)) size;
           end = ap (λ (k : ℕ). at + 2 + k) size;
         },
       );

@@ -6,9 +6,9 @@ use lib.ListN.{length}
 use Rattle.model.specs.Store.{Store}
 use Rattle.model.specs.Snapshot.{snapshot}
 use Rattle.model.specs.Refusals.{NOROOM}
-use Rattle.model.specs.Entries.{refusesRoll, writes, roll}
+use Rattle.model.specs.Entries.{refusesEmit, writes, roll}
 
-pub roll-short : (room : ℕ) (s : Store) → room < length (snapshot s) → roll room s ≡ refusesRoll NOROOM
+pub roll-short : (room : ℕ) (s : Store) → room < length (snapshot s) → roll room s ≡ refusesEmit NOROOM
 unfolding roll
 roll-short room s h = rw (lt-ltb room (length (snapshot s)) h)
 

@@ -15,13 +15,11 @@ use Rattle.model.specs.Refusals.{numberOf, startLines, rollLines, columnLines}
 use Rattle.model.specs.Run.{halt, run}
 use Rattle.model.specs.Snapshot.{snapshot, Same}
 use Rattle.model.specs.History.{retired}
-use Rattle.model.specs.Entries.{Started, refusesStart, makes, start, entityWords, part, columnRefusal, column, refusesRoll, writes, roll}
-use Rattle.model.specs.Entries as entries
+use Rattle.model.specs.Entries.{Started, refusesStart, makes, start, entityWords, part, columnRefusal, column, roll}
 use Rattle.model.specs.Sound.{In, key, GroupsRight, GroupsBetween}
 use Rattle.model.specs.Shown.{Showing}
 use Rattle.model.proofs.Demand.{all-between}
-use Rattle.model.proofs.Lines.{first-exact, first-number}
-use Rattle.model.proofs.Entries.{start-makes, column-refused, column-accepted, roll-exact, roll-writes}
+use Rattle.model.proofs.Entries.{start-makes, column-refused, column-accepted}
 use Rattle.model.proofs.Lengths.{run-fits}
 use Rattle.model.proofs.Ranges.{range-shows}
 use Rattle.model.proofs.Retired.{Balanced, run-balanced}
@@ -32,27 +30,29 @@ use Rattle.memory.specs.Arranged.{Sound}
 use Rattle.run.specs.declared.Ran.{Ran}
 use Rattle.snapshot.proofs.Rolled.{roll-fits}
 use Rattle.store.specs.declared.Rolled.{Rolled}
-use Rattle.store.specs.Entries.{startNumber, StartLeaves, Starts, columnRefused, ColumnNumbered, columnWords, partPlace, ColumnPart, ranOf, RunLeaves, Runs, rolledOf, rollNumber, rollBytes, Rolls}
+use Rattle.store.specs.Entries.{startNumber, StartLeaves, Starts, columnRefused, ColumnNumbered, columnWords, partPlace, ColumnPart, ranOf, RunLeaves, Runs, Rolls}
 use Rattle.store.specs.Course.{Course, ended, stopped, refused, done, AfterEach, Reached, started, ran}
 use Rattle.store.proofs.Starting.{start-number}
-use Rattle.store.proofs.Tables.{Tabled, tabled, Judged, judged, start-tabled, roll-tabled}
+use Rattle.store.proofs.Tables.{Tabled, tabled, Judged, judged, start-tabled}
+use Rattle.store.proofs.Emitting.{over-refused, over-accepted, over-refusals, over-written}
 use Rattle.store.proofs.Columns.{column-within}
 use Rattle.store.proofs.Courses.{course-of}
-use Rattle.store.proofs.Determined.{decided, answer-bytes, snapshot-bytes}
+use Rattle.store.proofs.Determined.{decided, answer-bytes}
 
 -- ---- Demand 1: "A refusal comes when its line holds and no line above does, else never". Each entry's number is that of the first line of its table
 -- that holds, and 0 where none does; run, column and roll give 3 exactly where the store is not sound.
 
 pub start-refusals : (n k : ℕ) (w w′ : List ℕ) (r : ℕ) → Starts n k w w′ r → Tabled startLines (record { capacity = n; kindCapacity = k; words = length w }) r
-start-refusals n k w w′ r S = tabled startLines (record { capacity = n; kindCapacity = k; words = length w }) (omega arith) r (S .number ∙ start-tabled n k (length w))
+start-refusals n k w w′ r S = tabled startLines (record { capacity = n; kindCapacity = k; words = length w }) 1 2 (omega arith) (omega arith) r (S .number ∙ start-tabled n k (length w))
 
 pub column-refusals : (w : List ℕ) (k a e r : ℕ) → ColumnNumbered w k a e r → Judged w columnLines (record { kind = k; start = a; end = e; store = meaning w }) r
 unfolding columnRefusal
-column-refusals w k a e r C = judged w columnLines (record { kind = k; start = a; end = e; store = meaning w }) r (C .sound) (omega arith) (omega arith) (C .decides) (C .number)
+column-refusals w k a e r C = judged w columnLines (record { kind = k; start = a; end = e; store = meaning w }) r (C .sound) 7 16 (omega arith) (omega arith) (C .decides) (C .number)
 
 pub roll-refusals : (w o o′ : List ℕ) (r : Rolled) → Rolls w o o′ r → Judged w rollLines (record { room = length o; store = meaning w }) (r .number)
+unfolding roll
 roll-refusals w o o′ r R =
-    judged w rollLines (record { room = length o; store = meaning w }) (r .number) (R .sound) (omega arith) (omega arith) (R .decides) (R .number ∙ roll-tabled (R .sound) (length o) (meaning w))
+    over-refusals rollLines (record { room = length o; store = meaning w }) (snapshot (meaning w)) 6 6 (omega arith) w o o′ (r .number) (r .written) (omega arith) R
 
 pub run-unsound : (w w′ t o o′ : List ℕ) (r : Ran) → Runs w w′ t o o′ r → (r .stop ≡ 3) ↔ (Sound w → ⊥)
 run-unsound w w′ t o o′ r R = go (R .sound) (R .decides) (R .answered .stop)
@@ -104,11 +104,7 @@ unsound-run-changes-nothing w w′ t o o′ r R h = go (R .sound) (R .decides) (
         )
 
 pub refused-roll-changes-nothing : (w o o′ : List ℕ) (r : Rolled) → Rolls w o o′ r → 1 ≤ r .number → (o′ ≡ o) × (r .written ≡ 0)
-refused-roll-changes-nothing w o o′ r R h = go (rolledOf (R .sound) (length o) (meaning w)) (R .number) (R .written) (R .bytes)
-  where
-    go : (x : entries.Rolled) → r .number ≡ rollNumber x → r .written ≡ length (rollBytes x) → o′ ≡ rollBytes x ++ drop (length (rollBytes x)) o → (o′ ≡ o) × (r .written ≡ 0)
-    go (refusesRoll n) e a b = (b, a)
-    go (writes l) e a b = absurd (omega (arith, e, h))
+refused-roll-changes-nothing w o o′ r R h = over-refused w o o′ (r .number) (r .written) (roll (length o) (meaning w)) R h
 
 -- "A refused column is the empty part at the front"
 pub refused-column-is-empty : (v r : RefT (List ℕ)) (values : Bool) (k a e n : ℕ) → ColumnPart v r values k a e → ColumnNumbered (v .now) k a e n → 1 ≤ n → (r .now ≡ []) × (r .ptr ≡ v .ptr)
@@ -179,17 +175,10 @@ groups-reached {w} c = sound-groups w (reached-sound c)
 
 -- what an accepted roll wrote
 pub rolled-snapshot : (w o o′ : List ℕ) (r : Rolled) → Rolls w o o′ r → r .number ≡ 0 → Sound w × (take (r .written) o′ ≡ snapshot (meaning w))
-rolled-snapshot w o o′ r R z = go (R .sound) (R .decides) (R .number) (R .written) (R .bytes)
-  where
-    snapped : (x : entries.Rolled) → roll (length o) (meaning w) ≡ x → r .number ≡ rollNumber x → rollBytes x ≡ snapshot (meaning w)
-    snapped (refusesRoll n) p e =
-        absurd (omega (arith, e, z, first-number rollLines (record { room = length o; store = meaning w }) 6 6 n (omega arith) (first-exact rollLines (record { room = length o; store = meaning w }) n .1 (roll-exact (length o) (meaning w) n .0 p)) .0))
-    snapped (writes b) p e = roll-writes (length o) (meaning w) b p .0
-
-    go : (b : Bool) → Decides b (Sound w) → r .number ≡ rollNumber (rolledOf b (length o) (meaning w)) → r .written ≡ length (rollBytes (rolledOf b (length o) (meaning w)))
-        → o′ ≡ rollBytes (rolledOf b (length o) (meaning w)) ++ drop (length (rollBytes (rolledOf b (length o) (meaning w)))) o → Sound w × (take (r .written) o′ ≡ snapshot (meaning w))
-    go false d e a b = absurd (omega (arith, e, z))
-    go true d e a b = (d, snapshot-bytes o o′ (r .written) (roll (length o) (meaning w)) a b ∙ snapped (roll (length o) (meaning w)) refl e)
+unfolding roll
+rolled-snapshot w o o′ r R z =
+    let a = over-written rollLines (record { room = length o; store = meaning w }) (snapshot (meaning w)) 6 6 (omega arith) w o o′ (r .number) (r .written) (omega arith) R z in
+    (a .0, a .2)
 
 pub rolls-equal : (w v o p o′ p′ : List ℕ) (r q : Rolled) → Rolls w o o′ r → Rolls v p p′ q → r .number ≡ 0 → q .number ≡ 0 → (take (r .written) o′ ≡ take (q .written) p′) ↔ Same (meaning w) (meaning v)
 rolls-equal w v o p o′ p′ r q R Q zr zq =
@@ -200,11 +189,8 @@ rolls-equal w v o p o′ p′ r q R Q zr zq =
 
 -- from a start, after any runs, a roll that has room for the snapshot is accepted
 pub reached-rolls : {w : List ℕ} (o o′ : List ℕ) (r : Rolled) → Reached w → length (snapshot (meaning w)) ≤ length o → Rolls w o o′ r → r .number ≡ 0
-reached-rolls {w} o o′ r c h R = go (R .sound) (R .decides) (R .number)
-  where
-    go : (b : Bool) → Decides b (Sound w) → r .number ≡ rollNumber (rolledOf b (length o) (meaning w)) → r .number ≡ 0
-    go false d e = absurd (d (reached-sound c))
-    go true d e = e ∙ ap rollNumber (roll-fits (length o) (meaning w) h)
+reached-rolls {w} o o′ r c h R =
+    over-accepted w o o′ (snapshot (meaning w)) (r .number) (r .written) (roll (length o) (meaning w)) (reached-sound c) (roll-fits (length o) (meaning w) h) R .0
 
 -- ---- RANGE and column: the entities that hand h and bar b describe stand in the column of each kind of the hand, from start to end of the range
 

@@ -11,15 +11,15 @@ use lib.Seq.{take-at}
 use denote.Ref.{RefT}
 use Rattle.model.specs.Refusals.{numberOf}
 use Rattle.model.specs.Run as model
-use Rattle.model.specs.Entries.{Started, refusesStart, makes, start}
-use Rattle.model.specs.Entries as entries
+use Rattle.model.specs.Entries.{Started, refusesStart, makes, start, Emitted, roll}
 use Rattle.model.specs.Sound.{Limits}
+use Rattle.model.proofs.Emitting.{SameEmitted, emits-determined}
 use Rattle.words.specs.Decides.{Decides}
 use Rattle.memory.specs.Meaning.{meaning}
 use Rattle.memory.specs.Arranged.{Sound}
 use Rattle.run.specs.declared.Ran.{Ran}
 use Rattle.store.specs.declared.Rolled.{Rolled}
-use Rattle.store.specs.Entries.{Needs, startNumber, StartLeaves, Starts, columnRefused, ColumnNumbered, columnWords, partPlace, ColumnPart, ranOf, Answered, RunLeaves, Runs, rolledOf, rollNumber, rollBytes, Rolls}
+use Rattle.store.specs.Entries.{Needs, startNumber, StartLeaves, Starts, columnRefused, ColumnNumbered, columnWords, partPlace, ColumnPart, ranOf, Answered, RunLeaves, Runs, emittedOver, EmitsOver, Rolls}
 use Rattle.store.proofs.Starting.{start-number}
 
 -- ---- words that no entry tells apart
@@ -123,34 +123,23 @@ run-determined w v w′ v′ t o p o′ p′ r q A e R Q =
     left true false z l k = absurd (true≢false z)
     left false true z l k = absurd (false≢true z)
 
--- ---- roll
+-- ---- an entry that writes bytes: over words alike, and equal lengths of the buffers
 
-pub snapshot-bytes : (o o′ : List ℕ) (n : ℕ) (x : entries.Rolled) → n ≡ length (rollBytes x) → o′ ≡ rollBytes x ++ drop (length (rollBytes x)) o → take n o′ ≡ rollBytes x
-snapshot-bytes o o′ n x a b = ap (λ (m : ℕ). take m o′) a ∙ ap (take (length (rollBytes x))) b ∙ take-at (rollBytes x) (drop (length (rollBytes x)) o) (length (rollBytes x)) refl
-
-pub record SameRoll (o p o′ p′ : List ℕ) (r q : Rolled) : Type 0 where
+pub record SameWritten (o p o′ p′ : List ℕ) (r q : Rolled) : Type 0 where
   pub result : r ≡ q
   pub answers : take (r .written) o′ ≡ take (q .written) p′
+  -- bytes that were equal stay equal
   pub bytes : o ≡ p → o′ ≡ p′
 
-pub roll-determined : (w v o p o′ p′ : List ℕ) (r q : Rolled) → Alike w v → length o ≡ length p → Rolls w o o′ r → Rolls v p p′ q → SameRoll o p o′ p′ r q
-roll-determined w v o p o′ p′ r q A e R Q =
-    record {
-      result =
-          λ i.
-          record {
-            number = (R .number ∙ (λ j. rollNumber (same j)) ∙ sym (Q .number)) i;
-            written = (R .written ∙ (λ j. length (rollBytes (same j))) ∙ sym (Q .written)) i;
-          };
-      answers =
-          snapshot-bytes o o′ (r .written) (rolledOf (R .sound) (length o) (meaning w)) (R .written) (R .bytes)
-          ∙ (λ j. rollBytes (same j))
-          ∙ sym (snapshot-bytes p p′ (q .written) (rolledOf (Q .sound) (length p) (meaning v)) (Q .written) (Q .bytes));
-      bytes = λ z. R .bytes ∙ (λ j. rollBytes (same j) ++ drop (length (rollBytes (same j))) (z j)) ∙ sym (Q .bytes);
-    }
-  where
-    both : R .sound ≡ Q .sound
-    both = decided (R .sound) (Q .sound) (R .decides) (Q .decides) (A .sound)
+pub same-written : (o p o′ p′ : List ℕ) (r q : Rolled) → SameEmitted o p o′ p′ (r .number) (r .written) (q .number) (q .written) → SameWritten o p o′ p′ r q
+same-written o p o′ p′ r q E = record { result = λ i. record { number = E .number i; written = E .written i }; answers = E .answers; bytes = E .bytes }
 
-    same : rolledOf (R .sound) (length o) (meaning w) ≡ rolledOf (Q .sound) (length p) (meaning v)
-    same j = rolledOf (both j) (e j) (A .means j)
+pub over-determined : (w v o p o′ p′ : List ℕ) (r q : Rolled) (x y : Emitted) → Alike w v → x ≡ y → EmitsOver w o o′ (r .number) (r .written) x → EmitsOver v p p′ (q .number) (q .written) y
+    → SameWritten o p o′ p′ r q
+over-determined w v o p o′ p′ r q x y A e R Q =
+    let b : R .sound ≡ Q .sound = decided (R .sound) (Q .sound) (R .decides) (Q .decides) (A .sound) in
+    same-written o p o′ p′ r q
+    (emits-determined o p o′ p′ (r .number) (r .written) (q .number) (q .written) (emittedOver (R .sound) x) (emittedOver (Q .sound) y) (λ i. emittedOver (b i) (e i)) (R .emits) (Q .emits))
+
+pub roll-determined : (w v o p o′ p′ : List ℕ) (r q : Rolled) → Alike w v → length o ≡ length p → Rolls w o o′ r → Rolls v p p′ q → SameWritten o p o′ p′ r q
+roll-determined w v o p o′ p′ r q A e R Q = over-determined w v o p o′ p′ r q (roll (length o) (meaning w)) (roll (length p) (meaning v)) A (λ i. roll (e i) (A .means i)) R Q

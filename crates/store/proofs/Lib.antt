@@ -5,6 +5,7 @@ pub mod Columns
 pub mod Rolling
 pub mod Linking
 pub mod Tables
+pub mod Emitting
 pub mod Courses
 pub mod Determined
 pub mod Demands

@@ -9,9 +9,7 @@ use denote.Ref.{RefT}
 use Rattle.model.specs.Store.{Store, Bytes, wordsNeeded}
 use Rattle.model.specs.Refusals.{numberOf, firstLine, otherLines, UNSOUND}
 use Rattle.model.specs.Run.{halt, run}
-use Rattle.model.specs.Run as model
-use Rattle.model.specs.Entries.{Started, refusesStart, makes, start, columnRefusal, column, refusesRoll, writes, roll}
-use Rattle.model.specs.Entries as entries
+use Rattle.model.specs.Entries.{Started, refusesStart, makes, start, columnRefusal, column, roll, Emitted, refusesEmit, Emits}
 use Rattle.model.specs.Sound.{Limits}
 use Rattle.words.specs.Offsets.{columnStart, ROWS}
 use Rattle.words.specs.Decides.{Decides}
@@ -21,6 +19,7 @@ use Rattle.memory.specs.Arranged.{Sound}
 use Rattle.run.specs.Run.{Traced}
 use Rattle.run.specs.declared.Ran.{Ran}
 use Rattle.store.specs.declared.Rolled.{Rolled}
+use Rattle.model.specs.Run as model
 
 -- ---- how many words to lend
 
@@ -135,26 +134,21 @@ pub record Runs (w w′ t o o′ : List ℕ) (r : Ran) : Type 0 where
   -- a tape is of bytes, as its type says
   pub tape : Bytes t
 
--- ---- roll
+-- ---- an entry that writes bytes, over words lent to be read
 
--- the model's roll of sound words; of others "3 UNSOUND"
-abbrev pub rolledOf : Bool → ℕ → Store → entries.Rolled
-rolledOf true room s = roll room s
-rolledOf false room s = refusesRoll UNSOUND
+-- the model's over sound words; over others "3 UNSOUND"
+abbrev pub emittedOver : Bool → Emitted → Emitted
+emittedOver true x = x
+emittedOver false x = refusesEmit UNSOUND
 
--- its number, and the bytes that it writes: "An accepted entry gives number 0"; "every refusal outside a run, change no lent memory, with zeros"
-abbrev pub rollNumber : entries.Rolled → ℕ
-rollNumber (refusesRoll n) = n
-rollNumber (writes b) = 0
-
-abbrev pub rollBytes : entries.Rolled → List ℕ
-rollBytes (refusesRoll n) = []
-rollBytes (writes b) = b
-
--- the snapshot of the words w in the bytes o, which it leaves as o′
-pub record Rolls (w o o′ : List ℕ) (r : Rolled) : Type 0 where
+-- over the words w, into the bytes o, which it leaves as o′, with number n and count k
+pub record EmitsOver (w o o′ : List ℕ) (n k : ℕ) (x : Emitted) : Type 0 where
   pub sound : Bool
   pub decides : Decides sound (Sound w)
-  pub number : r .number ≡ rollNumber (rolledOf sound (length o) (meaning w))
-  pub written : r .written ≡ length (rollBytes (rolledOf sound (length o) (meaning w)))
-  pub bytes : o′ ≡ rollBytes (rolledOf sound (length o) (meaning w)) ++ drop (length (rollBytes (rolledOf sound (length o) (meaning w)))) o
+  pub emits : Emits o o′ n k (emittedOver sound x)
+
+-- ---- roll
+
+-- the snapshot of the words w in the bytes o, which it leaves as o′
+abbrev pub Rolls : List ℕ → List ℕ → List ℕ → Rolled → Type 0
+Rolls w o o′ r = EmitsOver w o o′ (r .number) (r .written) (roll (length o) (meaning w))
