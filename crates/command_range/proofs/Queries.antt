@@ -7,7 +7,8 @@ use lib.ListN.{length, getD}
 use Rattle.words.specs.Offsets.{ARITIES, ENTITIES, EXCLUDED-KINDS, GROUP-COUNTS, GROUP-FAMILIES, KIND-ENDS, LAYOUT, LAYOUT-ARITIES, LAYOUT-KIND-ENDS, STAGED-KINDS}
 use Rattle.model.specs.Model.{none, rangeFor}
 use Rattle.model.specs.Sound.{In}
-use Rattle.words.specs.Part.{between, length-between}
+use Rattle.words.specs.Part.{between}
+use Rattle.words.proofs.Part.{length-between}
 use Rattle.layout.specs.Layout.{Arrays}
 use Rattle.layout.proofs.Family.{between-none}
 use Rattle.memory.specs.Header.{stagedLen, excludedLen}

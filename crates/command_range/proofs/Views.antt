@@ -11,7 +11,8 @@ use Rattle.words.specs.Offsets.{ENTITIES, GROUP-COUNTS, GROUP-PLACES}
 use Rattle.model.specs.Model.{mem, groupsOf}
 use Rattle.model.specs.Sound.{In}
 use Rattle.model.proofs.KindLists.{not-true, at-in}
-use Rattle.words.specs.Part.{between, getD-between}
+use Rattle.words.specs.Part.{between}
+use Rattle.words.proofs.Part.{getD-between}
 use Rattle.layout.specs.Layout.{Arrays, startOf, widthOf, kindsAt, aritiesAt, familiesOf, WellFormed}
 use Rattle.layout.proofs.Arrays.{kinds-inside, kinds-length, arities-length, family-rising}
 use Rattle.layout.proofs.Family.{rising-at}

@@ -8,7 +8,8 @@ use native.Mathlib.Nat.{le-of-suc-le-suc, not-suc-le-zero, zero-add}
 use borrow.Author.Tests.{ltb-true, lt-ltb}
 use lib.ListN.{length, getD, set, length-map}
 use lib.Seq.{getD-set-same, lt-length-set}
-use Rattle.model.specs.Lists.{one, length-swap, count-swap}
+use Rattle.model.specs.Lists.{one}
+use Rattle.model.proofs.ListLaws.{length-swap, count-swap}
 use Rattle.model.specs.Model.{Entity, Row, SparseSet, Storage, sameEntity, noEntity, noRow, mem, setOf, keys, entityOf, at, held, swapTo, ungroup}
 use Rattle.model.specs.Commands.{takenBytes, heldBytes}
 use Rattle.model.specs.Sound.{cnt, key}

@@ -7,9 +7,10 @@ use native.Mathlib.Omega.{arith}
 use lib.ListN.{length, getD, set, take, drop, length-set}
 use lib.Seq.{take-set-le, take-set-lt, drop-set-lt, drop-set-add, getD-set-same, getD-set-other}
 use Rattle.model.specs.Numbers.{columnLen}
-use Rattle.words.specs.Table.{by-eq}
-use Rattle.words.specs.Part.{between-rest}
-use Rattle.words.specs.Offsets.{columnStart, columnStart-mono}
+use Rattle.model.proofs.BoolLaws.{by-eq}
+use Rattle.words.proofs.Part.{between-rest}
+use Rattle.words.specs.Offsets.{columnStart}
+use Rattle.words.proofs.Offsets.{columnStart-mono}
 use Rattle.component.specs.SparseSet.{rows}
 use Rattle.component.proofs.Meaning.{head-sound, head-rows}
 use Rattle.component.specs.Columns.{columnOf, rowsOf, Columns}

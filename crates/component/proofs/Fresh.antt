@@ -6,8 +6,9 @@ use native.Mathlib.Omega.{arith}
 use native.Mathlib.Nat.{add-zero}
 use lib.ListN.{length, getD}
 use Rattle.model.specs.Numbers.{MAX-ENTITIES, MAX-KINDS, columnLen}
-use Rattle.words.specs.Part.{length-between}
-use Rattle.words.specs.Offsets.{columnStart, columnStart-apart, ROWS}
+use Rattle.words.proofs.Part.{length-between}
+use Rattle.words.specs.Offsets.{columnStart, ROWS}
+use Rattle.words.proofs.Offsets.{columnStart-apart}
 use Rattle.component.proofs.Meaning.{empty-rows, fresh-sound}
 use Rattle.component.specs.Columns.{columnOf, rowsOf, Columns}
 use Rattle.component.proofs.Parts.{getD-column}

@@ -7,9 +7,10 @@ use native.Mathlib.Omega.{arith}
 use native.Mathlib.Decide.{ℕ-discrete}
 use lib.ListN.{length, getD}
 use Rattle.model.specs.Model.{Row, noRow}
-use Rattle.words.specs.Table.{table, length-table, getD-table, table-same}
-use Rattle.words.specs.Links.{apart, linked-same}
-use Rattle.words.specs.Pigeon.{pigeon-free}
+use Rattle.words.specs.Table.{table}
+use Rattle.words.proofs.Tables.{length-table, getD-table, table-same}
+use Rattle.words.proofs.Links.{apart, linked-same}
+use Rattle.words.proofs.Pigeon.{pigeon-free}
 use Rattle.component.specs.SparseSet.{lengthOf, indexAt, versionAt, lowAt, highAt, placeOf, heldOf, row, rowAt, rows, Sized, ColumnSound}
 use Rattle.component.specs.Stored.{Absent}
 

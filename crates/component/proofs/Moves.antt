@@ -9,9 +9,11 @@ use lib.Seq.{take-all, take-take, length-take-le, take-set-le}
 use Rattle.words.specs.Offsets.{ROWS}
 use Rattle.model.specs.Lists.{cutAt}
 use Rattle.model.specs.Model.{Row, SparseSet, noRow}
-use Rattle.words.specs.Table.{by-eq, table-swap, table-set, table-snoc, table-removed}
-use Rattle.words.specs.Stores.{stores, miss, hit, length-stores}
-use Rattle.words.specs.Links.{linked-exchanged, linked-appended, linked-removed, linked-same}
+use Rattle.model.proofs.BoolLaws.{by-eq}
+use Rattle.words.proofs.Tables.{table-swap, table-set, table-snoc, table-removed}
+use Rattle.words.specs.Stores.{stores}
+use Rattle.words.proofs.Stores.{miss, hit, length-stores}
+use Rattle.words.proofs.Links.{linked-exchanged, linked-appended, linked-removed, linked-same}
 use Rattle.component.specs.declared.component_sparse_set.RowWords.{RowWords}
 use Rattle.component.specs.SparseSet.{lengthOf, indexAt, versionAt, placeOf, heldOf, valueOf, row, rowAt, rows, ColumnSound, Changed, swapRows}
 use Rattle.component.specs.Stored.{wordsAt, rowStores, lookupStores, Absent, valued, popped}

@@ -9,9 +9,11 @@ use lib.ListN.{length, getD, take, drop}
 use lib.Seq.{take-take, drop-drop}
 use Rattle.model.specs.Numbers.{columnLen}
 use Rattle.model.specs.Model.{SparseSet}
-use Rattle.words.specs.Table.{by-eq}
-use Rattle.words.specs.Part.{between, patch, getD-between, between-front, between-rest, patch-front, patch-between, patch-rest, patch-length}
-use Rattle.words.specs.Offsets.{columnStart, columnStart-apart, columnStart-mono}
+use Rattle.model.proofs.BoolLaws.{by-eq}
+use Rattle.words.specs.Part.{between}
+use Rattle.words.proofs.Part.{patch, getD-between, between-front, between-rest, patch-front, patch-between, patch-rest, patch-length}
+use Rattle.words.specs.Offsets.{columnStart}
+use Rattle.words.proofs.Offsets.{columnStart-apart, columnStart-mono}
 use Rattle.component.specs.SparseSet.{rows, ColumnSound, Changed}
 use Rattle.component.specs.Columns.{columnOf, Columns, Lent, Only}
 

@@ -9,7 +9,8 @@ use native.Mathlib.Nat.{not-suc-le-zero, le-of-suc-le-suc}
 use native.Mathlib.Decide.{decLt}
 use borrow.Author.Tests.{ltb-true, lt-ltb, le-ltb}
 use lib.ListN.{length, getD, length-map, List·getD-map}
-use Rattle.model.specs.Lists.{after, getD-place, cutAt}
+use Rattle.model.specs.Lists.{after, cutAt}
+use Rattle.model.proofs.ListLaws.{getD-place}
 use Rattle.model.specs.Model.{Entity, SparseSet, sameEntity, noEntity, noRow, keys, entityOf, at, held, insertRow, removeRow, swapTo}
 use Rattle.model.proofs.SparseSets.{entity-eq, entity-same}
 use Rattle.component.specs.declared.Found.the-variants as found

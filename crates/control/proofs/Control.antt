@@ -12,8 +12,10 @@ use Rattle.words.specs.Offsets.{DRAFT, ENTITIES, EXCLUDED-KINDS, EXCLUDED-LEN, 
 use Rattle.model.specs.Model.{Component, Family, kindOf}
 use Rattle.model.specs.Sound.{noComponent}
 use Rattle.model.specs.Store.{Counts, Control, stagedKinds, withControl, withCounts, emptyStaged, emptyBoth, counted}
-use Rattle.words.specs.Table.{table, length-table, getD-table, table-snoc}
-use Rattle.words.specs.Stores.{stores, Misses, length-stores, miss, hit}
+use Rattle.words.specs.Table.{table}
+use Rattle.words.proofs.Tables.{length-table, getD-table, table-snoc}
+use Rattle.words.specs.Stores.{stores}
+use Rattle.words.proofs.Stores.{Misses, length-stores, miss, hit}
 use Rattle.words.specs.Part.{between}
 use Rattle.component.specs.SparseSet.{valueOf}
 use Rattle.layout.specs.Layout.{WellFormed, groupCount, familiesOf}

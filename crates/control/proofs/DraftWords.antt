@@ -8,8 +8,10 @@ use Rattle.words.specs.Offsets.{DRAFT, ENTITIES, EXCLUDED-LEN, LAYOUT, STAGED-L
 use Rattle.model.specs.Model.{Family}
 use Rattle.model.specs.Store.{withControl, withDraft}
 use Rattle.words.specs.Table.{table}
-use Rattle.words.specs.Stores.{stores, length-stores, miss, hit}
-use Rattle.words.specs.Part.{between, patch, length-between, patch-front, patch-between, patch-rest, patch-length}
+use Rattle.words.specs.Stores.{stores}
+use Rattle.words.proofs.Stores.{length-stores, miss, hit}
+use Rattle.words.specs.Part.{between}
+use Rattle.words.proofs.Part.{patch, length-between, patch-front, patch-between, patch-rest, patch-length}
 use Rattle.layout.specs.declared.group_layout.Layout.{Layout}
 use Rattle.layout.specs.Layout.{arraysOf, blockArrays, WellFormed, groupCount, familiesOf}
 use Rattle.layout_block.specs.Blocks.{BlockFormed, ReadFrom, WrittenTo}

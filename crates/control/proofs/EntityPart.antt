@@ -7,11 +7,12 @@ use native.Mathlib.Omega.{arith}
 use borrow.Author.Tests.{lt-ltb, ltb-true}
 use lib.Dec.{ltb}
 use lib.ListN.{length}
-use Rattle.model.specs.Lists.{one, place, count-place, count-append, getD-place}
+use Rattle.model.specs.Lists.{one, place}
+use Rattle.model.proofs.ListLaws.{count-place, count-append, getD-place}
 use Rattle.model.specs.Model.{Entity, Entities, noEntity, sameEntity, isLive, create, createWith}
 use Rattle.model.specs.Store.{withEntities}
 use Rattle.model.proofs.SparseSets.{entity-eq, entity-same}
-use Rattle.words.specs.Offsets.{columnStart-mono}
+use Rattle.words.proofs.Offsets.{columnStart-mono}
 use Rattle.entity.specs.declared.Entity.{Entity as Answer}
 use Rattle.entity.specs.Meaning.{EntityPartSound, entityAt, entitiesOf, lenOf}
 use Rattle.entity.specs.Change.{SoundIn, entityPart, entitiesIn, EntityChange}

@@ -10,8 +10,10 @@ use lib.Dec.{eqb}
 use lib.ListN.{length, getD, drop}
 use lib.Seq.{drop-cons, drop-length}
 use Rattle.model.specs.Model.{mem}
-use Rattle.words.specs.Table.{table, is-table}
-use Rattle.words.specs.Part.{between, length-between, getD-between}
+use Rattle.words.specs.Table.{table}
+use Rattle.words.proofs.Tables.{is-table}
+use Rattle.words.specs.Part.{between}
+use Rattle.words.proofs.Part.{length-between, getD-between}
 
 -- k words from a on, as a part
 pub words-table : (w : List ℕ) (a k : ℕ) → a + k ≤ length w → table k (λ (i : ℕ). getD w (a + i) 0) ≡ between a (a + k) w

@@ -7,7 +7,7 @@ use lib.ListN.{length}
 use Rattle.model.specs.Numbers.{ENTITY-LEN}
 use Rattle.words.specs.Offsets.{ENTITIES}
 use Rattle.model.specs.Model.{Entities}
-use Rattle.words.specs.Part.{patch, patch-front, patch-rest, patch-between, patch-length}
+use Rattle.words.proofs.Part.{patch, patch-front, patch-rest, patch-between, patch-length}
 use Rattle.entity.specs.Change.{Changed, SoundIn, EntityChange, entityPart}
 
 -- the part, changed where it lies

@@ -5,8 +5,10 @@ use Prim.Native.Nat.{ℕ, _≤_, _<_}
 use native.Mathlib.Omega.{arith}
 use Rattle.model.proofs.Numbers.{zero-of}
 use Rattle.model.specs.Model.{Entity, Entities, noEntity}
-use Rattle.words.specs.Table.{table, table-same}
-use Rattle.words.specs.Links.{Linked, linked-same}
+use Rattle.words.specs.Table.{table}
+use Rattle.words.proofs.Tables.{table-same}
+use Rattle.words.specs.Links.{Linked}
+use Rattle.words.proofs.Links.{linked-same}
 use Rattle.entity.specs.Queue.{Queue}
 use Rattle.entity.specs.Meaning.{EntityPartSound, entityAt, waitingAt, lenOf, issuedOf, headOf, recycledLen, liveIndexAt, liveVersionAt, placeOf, heldOf, queueIndex, queueVersion, queueSlot}
 use Rattle.entity.proofs.QueueLaws.{wrapped-below, listed-free, queue-same}

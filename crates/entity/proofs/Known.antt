@@ -7,7 +7,8 @@ use native.Mathlib.Omega.{arith}
 use borrow.Author.Tests.{ltb-true}
 use lib.ListN.{length, getD, length-append}
 use lib.Seq.{getD-append-seam}
-use Rattle.model.specs.Lists.{place, getD-place}
+use Rattle.model.specs.Lists.{place}
+use Rattle.model.proofs.ListLaws.{getD-place}
 use Rattle.model.specs.Model.{Entity, noEntity, sameEntity, isLive, create}
 use Rattle.model.proofs.SparseSets.{entity-eq}
 use Rattle.entity.specs.Meaning.{EntityPartSound, entitiesOf, lenOf}

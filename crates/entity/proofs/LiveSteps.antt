@@ -5,10 +5,12 @@ use mathlib.Core.List.{List, [], _∷_, _++_}
 use Prim.Native.Nat.{ℕ, _+_, _*_, _-_, _≤_, _<_}
 use native.Mathlib.Omega.{arith}
 use Rattle.model.specs.Model.{noEntity}
-use Rattle.words.specs.Table.{by-eq, table-snoc, table-removed}
-use Rattle.words.specs.Stores.{stores, miss, hit, length-stores}
-use Rattle.words.specs.Links.{apart, linked-appended, linked-removed}
-use Rattle.words.specs.Pigeon.{pigeon-free}
+use Rattle.model.proofs.BoolLaws.{by-eq}
+use Rattle.words.proofs.Tables.{table-snoc, table-removed}
+use Rattle.words.specs.Stores.{stores}
+use Rattle.words.proofs.Stores.{miss, hit, length-stores}
+use Rattle.words.proofs.Links.{apart, linked-appended, linked-removed}
+use Rattle.words.proofs.Pigeon.{pigeon-free}
 use Rattle.entity.specs.Meaning.{EntityPartSound, Idle, entity, entitiesOf, entityAt, lenOf, issuedOf, liveIndexAt, liveVersionAt, placeOf, heldOf, queueSlot}
 use Rattle.entity.specs.Change.{Changed, joined, left}
 use Rattle.entity.specs.Stored.{putStores}

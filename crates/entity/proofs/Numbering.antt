@@ -9,13 +9,14 @@ use native.Mathlib.Decide.{decLe}
 use borrow.Author.Tests.{eqb-true}
 use lib.Dec.{eqb}
 use lib.ListN.{length, getD, length-map, List·getD-map}
-use Rattle.model.specs.Lists.{one, place, count-place, getD-place}
+use Rattle.model.specs.Lists.{one, place}
+use Rattle.model.proofs.ListLaws.{count-place, getD-place}
 use Rattle.model.specs.Model.{Entity, noEntity, sameEntity, lastVersion}
 use Rattle.model.proofs.SparseSets.{entity-eq}
 use Rattle.model.proofs.Groups.{cnt, plc}
 use Rattle.model.proofs.Walk.{bool-cases}
 use Rattle.model.proofs.Numbers.{EntitiesOk, num, indexOf}
-use Rattle.words.specs.Links.{apart}
+use Rattle.words.proofs.Links.{apart}
 use Rattle.entity.specs.Queue.{wrapped}
 use Rattle.entity.specs.Meaning.{EntityPartSound, entitiesOf, lenOf, issuedOf, headOf, recycledLen, liveIndexAt, liveVersionAt, placeOf, heldOf, queueIndex, queueVersion, queueSlot}
 use Rattle.entity.proofs.QueueLaws.{queue-apart}

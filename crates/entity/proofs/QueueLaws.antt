@@ -5,8 +5,8 @@ use Prim.Native.Nat.{ℕ, suc, _+_, _-_, _≤_, _<_}
 use native.Mathlib.Omega.{arith}
 use native.Mathlib.Decide.{decLt}
 use borrow.Author.Tests.{lt-ltb, le-ltb, le-leb, lt-leb}
-use Rattle.words.specs.Table.{by-eq}
-use Rattle.words.specs.Pigeon.{pigeon-free}
+use Rattle.model.proofs.BoolLaws.{by-eq}
+use Rattle.words.proofs.Pigeon.{pigeon-free}
 use Rattle.entity.specs.Queue.{wrapped, since, Waits, Queued, Queue}
 
 -- by cases on an order

@@ -10,8 +10,10 @@ use lib.ListN.{getD, drop, length-drop}
 use lib.Seq.{getD-drop}
 use Rattle.model.proofs.Numbers.{zero-of}
 use Rattle.model.specs.Model.{noEntity}
-use Rattle.words.specs.Table.{table, is-table, length-table, getD-table, table-snoc}
-use Rattle.words.specs.Stores.{stores, miss, hit, length-stores}
+use Rattle.words.specs.Table.{table}
+use Rattle.words.proofs.Tables.{is-table, length-table, getD-table, table-snoc}
+use Rattle.words.specs.Stores.{stores}
+use Rattle.words.proofs.Stores.{miss, hit, length-stores}
 use Rattle.entity.specs.Queue.{wrapped, Waits}
 use Rattle.entity.specs.Meaning.{EntityPartSound, Idle, entity, entitiesOf, waitingAt, issuedOf, headOf, recycledLen, placeOf, heldOf, queueIndex, queueVersion, queueSlot}
 use Rattle.entity.specs.Change.{Changed, queued, unqueued, numbered}

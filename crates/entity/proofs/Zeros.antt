@@ -6,7 +6,8 @@ use native.Mathlib.Omega.{arith}
 use native.Mathlib.Nat.{not-suc-le-zero}
 use lib.ListN.{length, getD}
 use Rattle.model.specs.Numbers.{ENTITY-LEN}
-use Rattle.words.specs.Table.{table, is-table}
+use Rattle.words.specs.Table.{table}
+use Rattle.words.proofs.Tables.{is-table}
 use Rattle.model.specs.Model.{Entity, noEntity}
 use Rattle.entity.specs.Meaning.{Sized, entitiesOf, lenOf, issuedOf, headOf, recycledLen, heldOf, queueSlot}
 use Rattle.entity.specs.Change.{Changed, noEntities}

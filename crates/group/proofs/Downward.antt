@@ -6,7 +6,7 @@ use Prim.Native.Nat.{ℕ, suc, _+_, _-_, _≤_, _<_}
 use native.Mathlib.Omega.{arith}
 use borrow.Author.Tests.{ltb-true}
 use lib.ListN.{length, length-map}
-use Rattle.model.specs.Lists.{place-count-take, count-take-le}
+use Rattle.model.proofs.ListLaws.{place-count-take, count-take-le}
 use Rattle.model.specs.Model.{Entity, SparseSet, Group, Family, Storage, Walked, GroupStep, sameEntity, meets, setOf, keys, entityOf, at, held, onKinds, swapTo, allHeld, isGrouped, headKind, kindsOf, ungroupComponents, ungroupFamily, ungroup}
 use Rattle.model.proofs.SparseSets.{cond-case, key}
 use Rattle.model.proofs.Groups.{cnt, plc, In, Even, SameEntities}

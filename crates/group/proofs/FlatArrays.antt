@@ -10,8 +10,10 @@ use lib.ListN.{length, getD, set, take, drop, List·getD-append}
 use lib.Seq.{getD-append-add, getD-set-same, getD-set-other, take-add, take-take, drop-drop}
 use Rattle.model.specs.Model.{Family}
 use Rattle.model.specs.Sound.{layoutKinds}
-use Rattle.words.specs.Part.{between, between-front, getD-between}
-use Rattle.words.specs.Table.{table, table-set}
+use Rattle.words.specs.Part.{between}
+use Rattle.words.proofs.Part.{between-front, getD-between}
+use Rattle.words.specs.Table.{table}
+use Rattle.words.proofs.Tables.{table-set}
 use Rattle.layout.specs.Layout.{Arrays, Sized, startOf, widthOf, kindsAt, aritiesAt, groupsFrom, familyAt, familiesOf, Rising, WellFormed}
 use Rattle.layout.proofs.Family.{between-join, rising-le}
 use Rattle.layout.proofs.Arrays.{ends-rise, kind-order, group-order, kinds-inside, arities-length, kinds-length, family-rising, groups-length, layout-kinds}

@@ -14,7 +14,8 @@ use Rattle.model.specs.Model.{Family, Storage, groupsOf}
 use Rattle.model.specs.Store.{onStorage, withLayout}
 use Rattle.model.specs.Sound.{In, Distinct, layoutKinds}
 use Rattle.model.proofs.Walk.{bool-cases}
-use Rattle.words.specs.Part.{between, length-between, getD-between}
+use Rattle.words.specs.Part.{between}
+use Rattle.words.proofs.Part.{length-between, getD-between}
 use Rattle.layout.specs.Layout.{Arrays, startOf, widthOf, aritiesAt, familiesOf, KindSet, WellFormed}
 use Rattle.layout.proofs.KindSets.{set-between}
 use Rattle.layout.proofs.Arrays.{kinds-inside, groups-inside, groups-of, layout-kinds}

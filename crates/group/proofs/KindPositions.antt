@@ -9,7 +9,7 @@ use native.Mathlib.Decide.{decLt}
 use lib.Dec.{eqb}
 use lib.ListN.{length, getD, List·getD-append}
 use lib.Seq.{getD-append-add}
-use Rattle.model.specs.Lists.{count-append}
+use Rattle.model.proofs.ListLaws.{count-append}
 use Rattle.model.specs.Model.{Family, mem, anyOf, meets, headKind, kindsOf, groupsOf}
 use Rattle.model.specs.Sound.{In, Distinct, layoutKinds}
 use Rattle.model.proofs.Walk.{bool-cases, or-true, or-false, mem-append, in-left, in-right}

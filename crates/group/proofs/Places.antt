@@ -8,7 +8,8 @@ use lib.ListN.{length, getD, take, drop, length-drop}
 use lib.Seq.{take-suc, drop-cons, getD-drop}
 use Rattle.model.specs.Sound.{In}
 use Rattle.model.proofs.KindLists.{at-in}
-use Rattle.words.specs.Part.{between, length-between, getD-between}
+use Rattle.words.specs.Part.{between}
+use Rattle.words.proofs.Part.{length-between, getD-between}
 
 -- a part with one place more, and one with one place less in front
 pub between-more : (a p : ℕ) (l : List ℕ) → a ≤ p → p < length l → between a (p + 1) l ≡ between a p l ++ (getD l p 0 ∷ [])

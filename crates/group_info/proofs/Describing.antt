@@ -13,7 +13,7 @@ use lib.ListN.{length, getD, take, length-append}
 use Rattle.model.specs.Model.{Storage, mem, within}
 use Rattle.model.proofs.Walk.{mem-append, or-cases, or-true, all-in}
 use Rattle.model.proofs.KindLists.{not-true}
-use Rattle.words.specs.Table.{by-eq}
+use Rattle.model.proofs.BoolLaws.{by-eq}
 use Rattle.masks.specs.Masks.{has, bitsOf}
 use Rattle.masks.proofs.Lists.{has-union}
 use Rattle.layout.specs.Layout.{Arrays, Sized, startOf, kindsAt, aritiesAt, KindSet, WellFormed}

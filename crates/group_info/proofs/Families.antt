@@ -10,7 +10,8 @@ use native.Mathlib.Omega.{arith}
 use lib.Dec.{eqb}
 use lib.ListN.{length, getD, take, drop, drop-of-length-le}
 use lib.Seq.{drop-cons}
-use Rattle.model.specs.Lists.{countOf, count-append}
+use Rattle.model.specs.Lists.{countOf}
+use Rattle.model.proofs.ListLaws.{count-append}
 use Rattle.model.specs.Model.{Family, Range, none, found, mem, within, sameSet, kindsOf, firstRange, rangeAt, rangeIn, rangeAll}
 use Rattle.model.proofs.Walk.{mem-append, in-left, all-in}
 use Rattle.model.proofs.KindLists.{not-true, in-count}

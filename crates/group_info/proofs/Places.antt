@@ -9,11 +9,13 @@ use borrow.Author.Tests.{eq-eqb, eqb-true, lt-ltb, le-ltb}
 use lib.Dec.{eqb, ltb}
 use lib.ListN.{length, getD}
 use Rattle.model.specs.Numbers.{MAX-GROUP-ARITY}
-use Rattle.model.specs.Lists.{one, countOf, place, count-place, getD-place}
+use Rattle.model.specs.Lists.{one, countOf, place}
+use Rattle.model.proofs.ListLaws.{count-place, getD-place}
 use Rattle.model.specs.Model.{mem, within, sameSet}
 use Rattle.model.proofs.Walk.{bool-cases, all-in}
 use Rattle.model.proofs.KindLists.{in-count, all-true, at-count, at-in}
-use Rattle.words.specs.Part.{between, getD-between, length-between}
+use Rattle.words.specs.Part.{between}
+use Rattle.words.proofs.Part.{getD-between, length-between}
 use Rattle.masks.specs.Masks
 use Rattle.masks.proofs.Lists.{between-in, between-low, between-high, between-parts, has-up, keep-between, and-parts}
 use Rattle.masks.proofs.Bits.{bits-members}

@@ -11,12 +11,13 @@ use Rattle.model.specs.Numbers.{ENTITY-LEN, MAX-KINDS, columnLen}
 use Rattle.model.specs.Model.{SparseSet, Storage}
 use Rattle.model.specs.Store.{onStorage}
 use Rattle.model.proofs.Walk.{bool-cases}
-use Rattle.words.specs.Offsets.{columnStart, columnStart-mono, ENTITIES, EXCLUDED-LEN, STAGED-LEN}
-use Rattle.words.specs.Part.{between-rest}
-use Rattle.words.specs.Table.{table, is-table, length-table, getD-table}
+use Rattle.words.specs.Offsets.{columnStart, ENTITIES, EXCLUDED-LEN, STAGED-LEN}
+use Rattle.words.proofs.Offsets.{columnStart-mono}
+use Rattle.words.proofs.Part.{between-rest}
+use Rattle.words.specs.Table.{table}
+use Rattle.words.proofs.Tables.{is-table, length-table, getD-table}
 use Rattle.component.specs.SparseSet.{rows, ColumnSound}
 use Rattle.component.specs.Columns.{columnOf, rowsOf, Columns, HeadKept, Changes}
-use Rattle.entity.specs.Meaning as entity
 use Rattle.entity.specs.Change.{entityPart, entitiesIn}
 use Rattle.memory.specs.Header.{capacityOf, kindCapacityOf, registeredOf, slotOf}
 use Rattle.memory.specs.Meaning.{setAt, setsIn, meaning}
@@ -24,6 +25,7 @@ use Rattle.memory.specs.Arranged.{Arranged, Becomes}
 use Rattle.memory.proofs.Kept.{Kept, capacity-kept, kinds-kept, arranged-kept}
 use Rattle.memory.proofs.Frames.{word-front, start-header, drop-later, part-same, control-same, layout-same, header-kept, draft-formed, reads-means}
 use Rattle.kinds.specs.Kinds.{emptied}
+use Rattle.entity.specs.Meaning as entity
 
 -- ---- a change of the first r slots that would not change the others
 

@@ -15,7 +15,8 @@ use Rattle.model.specs.Sound.{In}
 use Rattle.model.proofs.Walk.{or-cases}
 use Rattle.model.proofs.KindLists.{not-true, at-in}
 use Rattle.words.specs.Offsets.{columnStart, ENTITIES, ROWS, UNREGISTERED}
-use Rattle.words.specs.Table.{table, length-table, getD-table}
+use Rattle.words.specs.Table.{table}
+use Rattle.words.proofs.Tables.{length-table, getD-table}
 use Rattle.component.specs.Columns.{Lent, Only, rowsOf}
 use Rattle.component.proofs.Parts.{lent, getD-column}
 use Rattle.memory.specs.Header.{capacityOf, kindCapacityOf, registeredOf, slotOf}

@@ -10,12 +10,15 @@ use lib.Dec.{eqb}
 use lib.ListN.{length, getD, take, set}
 use lib.Seq.{getD-set-same, getD-set-other}
 use Rattle.model.specs.Numbers.{MAX-GROUP-COUNT}
-use Rattle.model.specs.Lists.{countOf, count-append}
+use Rattle.model.specs.Lists.{countOf}
+use Rattle.model.proofs.ListLaws.{count-append}
 use Rattle.model.specs.Model.{Family, newGroup, grown, mem, meets, within, without, sameSet, kindsOf, groupsOf}
 use Rattle.model.proofs.Walk.{bool-cases}
 use Rattle.model.proofs.KindLists.{out-count}
 use Rattle.words.specs.Part.{between}
-use Rattle.words.specs.Table.{table, table-snoc, table-set, by-eq}
+use Rattle.words.specs.Table.{table}
+use Rattle.words.proofs.Tables.{table-snoc, table-set}
+use Rattle.model.proofs.BoolLaws.{by-eq}
 use Rattle.layout.specs.Layout.{Arrays, arraysOf, Sized, startOf, widthOf, groupCount, kindsAt, aritiesAt, groupsFrom, familyAt, meaning, KindSet, FamilyFormed, WellFormed, Formed}
 use Rattle.layout.specs.Grow.{LooseAt, widened, Extends, Extended, openedOf, GroupKinds, FreshAsk, FreshDone, OntoAsk, OntoDone}
 use Rattle.layout.specs.Add.{Fitting}

@@ -9,7 +9,7 @@ use native.Mathlib.Omega.{arith}
 use lib.ListN.{length, getD, take, drop, set, length-set, length-append, length-drop}
 use lib.Seq.{take-suc-set, take-suc, length-take-le, drop-length, getD-set-same, getD-set-other}
 use Rattle.model.specs.Model.{mem, without}
-use Rattle.words.specs.Table.{by-eq}
+use Rattle.model.proofs.BoolLaws.{by-eq}
 use Rattle.layout.specs.Grow.{Appended, Spread, Raised}
 use Rattle.layout.proofs.Scan.{drop-step}
 

@@ -9,11 +9,15 @@ use lib.ListN.{length, getD, take, drop, drop-of-length-le}
 use lib.Seq.{take-take}
 use Rattle.model.specs.Numbers.{MAX-GROUP-COUNT, MAX-KINDS}
 use Rattle.words.specs.Offsets.{ARITIES, BLOCK-LEN, ENDS, KIND-ENDS}
-use Rattle.model.specs.Lists.{countOf, count-append}
+use Rattle.model.specs.Lists.{countOf}
+use Rattle.model.proofs.ListLaws.{count-append}
 use Rattle.model.specs.Model.{Family, kindsOf, groupsOf}
 use Rattle.model.specs.Sound.{layoutKinds}
-use Rattle.words.specs.Part.{between, length-between, between-front}
-use Rattle.words.specs.Table.{table, length-table, getD-table, table-snoc, by-eq}
+use Rattle.words.specs.Part.{between}
+use Rattle.words.proofs.Part.{length-between, between-front}
+use Rattle.words.specs.Table.{table}
+use Rattle.words.proofs.Tables.{length-table, getD-table, table-snoc}
+use Rattle.model.proofs.BoolLaws.{by-eq}
 use Rattle.layout.specs.Layout.{Arrays, Sized, startOf, widthOf, groupCount, kindsAt, aritiesAt, groupsFrom, familyAt, familiesOf, KindSet, Rising, WellFormed, blockArrays}
 use Rattle.layout.specs.Fit.{partOf, joinFit, fitFrom, FamilyAsk}
 use Rattle.layout.specs.declared.group_layout.Fit.{Fit}

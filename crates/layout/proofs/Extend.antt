@@ -9,8 +9,9 @@ use native.Mathlib.Omega.{arith}
 use lib.ListN.{length, getD, take, drop, length-append}
 use lib.Seq.{take-nil, take-take, take-at, drop-drop, drop-append-le, drop-append-add, length-take-le}
 use Rattle.model.specs.Numbers.{MAX-GROUP-ARITY, MAX-KINDS}
-use Rattle.words.specs.Part.{between, between-front, length-between}
-use Rattle.words.specs.Table.{by-eq}
+use Rattle.words.specs.Part.{between}
+use Rattle.words.proofs.Part.{between-front, length-between}
+use Rattle.model.proofs.BoolLaws.{by-eq}
 use Rattle.layout.specs.Layout.{Arrays, Sized, arraysIn, startOf, widthOf, groupCount, kindsAt, aritiesAt, groupsFrom, familyAt, KindSet, Rising, FamilyFormed, WellFormed}
 use Rattle.layout.specs.Grow.{Spread, Raised, LooseAt, widened}
 use Rattle.layout.proofs.Family.{no-counts}

@@ -9,7 +9,8 @@ use native.Mathlib.Omega.{arith}
 use lib.ListN.{length, getD, take, drop, take-append-drop}
 use lib.Seq.{take-add, drop-drop, drop-length, take-append-le, drop-append-seam, take-length}
 use Rattle.model.specs.Model.{Family, kindsOf, isGroup, sameSet, newGroup}
-use Rattle.words.specs.Part.{between, between-front}
+use Rattle.words.specs.Part.{between}
+use Rattle.words.proofs.Part.{between-front}
 use Rattle.layout.specs.Layout.{startOf, groupsFrom, Rising}
 use Rattle.layout.proofs.Scan.{drop-step}
 

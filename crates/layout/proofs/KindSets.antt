@@ -9,12 +9,13 @@ use borrow.Author.Tests.{eq-eqb, ne-eqb, eqb-true}
 use lib.Dec.{eqb}
 use lib.ListN.{length, take, drop, take-append-drop, length-append}
 use Rattle.model.specs.Numbers.{MAX-KINDS}
-use Rattle.model.specs.Lists.{one, countOf, count-append, count-length-le, count-length}
+use Rattle.model.specs.Lists.{one, countOf}
+use Rattle.model.proofs.ListLaws.{count-append, count-length-le, count-length}
 use Rattle.model.specs.Model.{mem, anyOf, within, meets, sameSet, without}
 use Rattle.model.proofs.Walk.{bool-cases, or-cases, all-in}
 use Rattle.model.proofs.KindLists.{in-count, out-count, count-in, all-true}
 use Rattle.words.specs.Part.{between}
-use Rattle.words.specs.Table.{by-eq}
+use Rattle.model.proofs.BoolLaws.{by-eq}
 use Rattle.layout.specs.Layout.{KindSet}
 
 -- ---- tests of all and of some

@@ -13,8 +13,8 @@ use lib.Seq.{getD-take, length-take-le}
 use Rattle.model.specs.Lists.{one, countOf}
 use Rattle.model.specs.Sound.{In}
 use Rattle.model.proofs.KindLists.{at-count, at-in}
-use Rattle.words.specs.Table.{by-eq}
-use Rattle.words.specs.Part.{getD-between}
+use Rattle.model.proofs.BoolLaws.{by-eq}
+use Rattle.words.proofs.Part.{getD-between}
 use Rattle.layout.specs.Layout.{Arrays, Sized, startOf, widthOf, aritiesAt, Rising, WellFormed}
 use Rattle.layout.proofs.Arrays.{ends-rise, kind-order, kinds-inside, arities-length}
 use Rattle.memory.specs.Arranged.{priorArity}

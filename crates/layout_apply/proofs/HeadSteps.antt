@@ -8,8 +8,9 @@ use native.Mathlib.Omega.{arith}
 use lib.ListN.{length, getD, set, take}
 use Rattle.model.specs.Sound.{In}
 use Rattle.words.specs.Offsets.{columnStart, CAPACITY, COLUMN-KIND, ENTITIES, GROUP-FAMILIES, KIND-CAPACITY, LAYOUT, LAYOUT-FAMILIES, OWN-GROUP, PLACE-IN-FAMILY, REGISTERED, TABLE}
-use Rattle.words.specs.Part.{between, length-between}
-use Rattle.words.specs.Table.{by-eq}
+use Rattle.words.specs.Part.{between}
+use Rattle.words.proofs.Part.{length-between}
+use Rattle.model.proofs.BoolLaws.{by-eq}
 use Rattle.component.specs.Columns.{columnOf, Columns}
 use Rattle.component.proofs.Frames.{headed}
 use Rattle.layout.specs.Layout.{Arrays, Sized, WellFormed, widthOf}

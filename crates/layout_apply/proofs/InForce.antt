@@ -13,13 +13,15 @@ use Rattle.model.specs.Numbers.{ENTITY-LEN, MAX-KINDS}
 use Rattle.model.specs.Model.{Family}
 use Rattle.model.specs.Sound.{In, StoreSound}
 use Rattle.model.proofs.Walk.{bool-cases}
-use Rattle.words.specs.Offsets.{columnStart, columnStart-mono, BLOCK-LEN, CAPACITY, COLUMN-KIND, DRAFT, DRAFT-FAMILIES, DRAFT-GROUPS, ENTITIES, EXCLUDED-LEN, GROUP-COUNTS, GROUP-FAMILIES, GROUP-PLACES, KIND-CAPACITY, LAYOUT, LAYOUT-FAMILIES, LAYOUT-GROUPS, REGISTERED, STAGED-LEN, TABLE, UNREGISTERED}
-use Rattle.words.specs.Part.{between, between-front, between-rest, length-between, getD-between}
-use Rattle.words.specs.Table.{table, table-same}
+use Rattle.words.specs.Offsets.{columnStart, BLOCK-LEN, CAPACITY, COLUMN-KIND, DRAFT, DRAFT-FAMILIES, DRAFT-GROUPS, ENTITIES, EXCLUDED-LEN, GROUP-COUNTS, GROUP-FAMILIES, GROUP-PLACES, KIND-CAPACITY, LAYOUT, LAYOUT-FAMILIES, LAYOUT-GROUPS, REGISTERED, STAGED-LEN, TABLE, UNREGISTERED}
+use Rattle.words.proofs.Offsets.{columnStart-mono}
+use Rattle.words.specs.Part.{between}
+use Rattle.words.proofs.Part.{between-front, between-rest, length-between, getD-between}
+use Rattle.words.specs.Table.{table}
+use Rattle.words.proofs.Tables.{table-same}
 use Rattle.component.specs.SparseSet.{rows}
 use Rattle.component.specs.Columns.{columnOf, rowsOf, Columns}
 use Rattle.component.proofs.Frames.{front-column, front-columns}
-use Rattle.entity.specs.Meaning as entity
 use Rattle.entity.specs.Change.{entityPart, entitiesIn}
 use Rattle.layout.specs.Layout.{Arrays, blockArrays, Sized, WellFormed, startOf, widthOf, groupCount, kindsAt, aritiesAt, groupsFrom, familyAt, familiesOf}
 use Rattle.layout.proofs.Arrays.{none-formed, table-none, layout-kinds, block-sized}
@@ -33,6 +35,7 @@ use Rattle.layout_apply.specs.Steps.{installed, Prepared}
 use Rattle.layout_apply.specs.Heads.{Reheaded, Heads, ClearsHeads, Slotted, HeadsReady, InFamily, placeNo, Upto, Headed}
 use Rattle.layout_apply.proofs.Arities.{kind-among, place-in}
 use Rattle.layout_apply.proofs.HeadSteps.{word-same, registered-same, arrays-same, head-same, ready-kept, heads-then, upto-none}
+use Rattle.entity.specs.Meaning as entity
 
 -- ---- layouts without counts, and without families
 

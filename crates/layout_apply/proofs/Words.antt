@@ -7,9 +7,10 @@ use lib.ListN.{length, getD, set, drop, length-set, length-drop}
 use lib.Seq.{getD-set-same, getD-set-other, getD-drop, ext-getD}
 use Rattle.model.specs.Numbers.{MAX-GROUP-COUNT}
 use Rattle.words.specs.Offsets.{BLOCK-LEN, DRAFT, DRAFT-FAMILIES, DRAFT-GROUPS, ENDS, ENTITIES, GROUP-COUNTS, GROUP-FAMILIES, GROUP-PLACES, LAYOUT, LAYOUT-ENDS, LAYOUT-FAMILIES, LAYOUT-GROUPS}
-use Rattle.words.specs.Table.{by-eq}
-use Rattle.words.specs.Part.{between, getD-between}
-use Rattle.words.specs.Stores.{length-stores, miss, hit}
+use Rattle.model.proofs.BoolLaws.{by-eq}
+use Rattle.words.specs.Part.{between}
+use Rattle.words.proofs.Part.{getD-between}
+use Rattle.words.proofs.Stores.{length-stores, miss, hit}
 use Rattle.layout.specs.Layout.{startOf}
 use Rattle.layout.proofs.Arrays.{group-order, groups-inside}
 use Rattle.memory.specs.Header.{draftFamilies}

@@ -5,8 +5,9 @@ use Prim.Native.Nat.{ℕ, zero, suc, _+_, _-_, _≤_, _<_}
 use native.Mathlib.Omega.{arith}
 use lib.ListN.{length, getD, take}
 use lib.Seq.{ext-getD, length-take-le, getD-take}
-use Rattle.words.specs.Part.{between, length-between, getD-between}
-use Rattle.words.specs.Table.{table-same}
+use Rattle.words.specs.Part.{between}
+use Rattle.words.proofs.Part.{length-between, getD-between}
+use Rattle.words.proofs.Tables.{table-same}
 use Rattle.layout.specs.Layout.{Arrays, arraysIn, Sized, startOf, kindsAt, aritiesAt, groupsFrom, familyAt, familiesOf, FamilyFormed, WellFormed}
 use Rattle.layout.proofs.Arrays.{kinds-inside, groups-inside}
 

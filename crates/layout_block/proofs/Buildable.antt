@@ -13,7 +13,8 @@ use Rattle.model.specs.Model.{Family, kindsOf}
 use Rattle.model.specs.Sound.{In, BuildableFamily, BuildableFamilies, Buildable, Uncounted, AllUncounted}
 use Rattle.model.specs.Sound as sound
 use Rattle.model.proofs.KindLists.{in-count}
-use Rattle.words.specs.Part.{between, length-between}
+use Rattle.words.specs.Part.{between}
+use Rattle.words.proofs.Part.{length-between}
 use Rattle.words.specs.Table.{table}
 use Rattle.layout.specs.Layout.{Arrays, blockArrays, Sized, startOf, widthOf, kindsAt, aritiesAt, groupsFrom, familyAt, familiesOf, Rising, WellFormed}
 use Rattle.layout.proofs.Family.{rising-le, kinds-from}

@@ -10,9 +10,10 @@ use lib.ListN.{length, getD, take, drop, set, length-set, replicate, take-append
 use lib.Seq.{take-suc, take-take, drop-length, getD-set-same, getD-set-other}
 use Rattle.model.specs.Numbers.{MAX-GROUP-COUNT, MAX-KINDS}
 use Rattle.words.specs.Offsets.{ARITIES, BLOCK-LEN, ENDS, KIND-ENDS, UNREGISTERED}
-use Rattle.model.specs.Lists.{one, countOf, count-append}
+use Rattle.model.specs.Lists.{one, countOf}
+use Rattle.model.proofs.ListLaws.{count-append}
 use Rattle.words.specs.Part.{between}
-use Rattle.words.specs.Table.{by-eq}
+use Rattle.model.proofs.BoolLaws.{by-eq}
 use Rattle.layout.specs.Layout.{Arrays, arraysIn, blockArrays, startOf, Rising, FamilyFormed, WellFormed}
 use Rattle.layout.proofs.Scan.{drop-step}
 use Rattle.layout.proofs.Family.{start-next, rising-head}

@@ -10,15 +10,17 @@ use lib.ListN.{length, getD, set, drop, length-set}
 use lib.Seq.{getD-set-same, getD-set-other, drop-set-lt, ext-getD}
 use Rattle.model.specs.Numbers.{ENTITY-LEN, LIST-CAPACITY, MAX-KINDS, columnLen}
 use Rattle.model.specs.Model.{Entities, SparseSet, Storage, setOf}
-use Rattle.model.specs.Store.{onSet, withEntities, onStorage, withLayout}
-use Rattle.model.specs.Store.{Settings, Store, wordsNeeded, withEntities, withControl, onStorage, withLayout, onSet}
+use Rattle.model.specs.Store.{onSet, withEntities, onStorage, withLayout, Settings, Store, wordsNeeded, withEntities, withControl, onStorage, withLayout, onSet}
 use Rattle.model.proofs.Walk.{bool-cases}
-use Rattle.words.specs.Offsets.{columnStart, columnStart-mono, DRAFT-FAMILIES, DRAFT-GROUPS, ENTITIES, EXCLUDED-LEN, GROUP-COUNTS, GROUP-FAMILIES, GROUP-PLACES, LAYOUT, STAGED-KINDS, STAGED-LEN, TABLE, UNREGISTERED}
-use Rattle.words.specs.Part.{between, between-rest, length-between, getD-between}
-use Rattle.words.specs.Table.{table, table-same, table-set, getD-table, by-eq, length-table}
+use Rattle.words.specs.Offsets.{columnStart, DRAFT-FAMILIES, DRAFT-GROUPS, ENTITIES, EXCLUDED-LEN, GROUP-COUNTS, GROUP-FAMILIES, GROUP-PLACES, LAYOUT, STAGED-KINDS, STAGED-LEN, TABLE, UNREGISTERED}
+use Rattle.words.proofs.Offsets.{columnStart-mono}
+use Rattle.words.specs.Part.{between}
+use Rattle.words.proofs.Part.{between-rest, length-between, getD-between}
+use Rattle.words.specs.Table.{table}
+use Rattle.words.proofs.Tables.{table-same, table-set, getD-table, length-table}
+use Rattle.model.proofs.BoolLaws.{by-eq}
 use Rattle.component.specs.SparseSet.{rows, ColumnSound}
 use Rattle.component.specs.Columns.{columnOf, rowsOf, Columns, One}
-use Rattle.entity.specs.Meaning as entity
 use Rattle.entity.specs.Change.{entityPart, entitiesIn, EntityChange}
 use Rattle.layout.specs.Layout.{WellFormed, groupCount, familiesOf}
 use Rattle.memory.specs.Header.{capacityOf, kindCapacityOf, registeredOf, stagedLen, excludedLen, draftGroups, slotOf}
@@ -26,6 +28,7 @@ use Rattle.memory.specs.Meaning.{kindAt, setAt, setsIn, draftArrays, lay
 use Rattle.memory.specs.Arranged.{Arranged, Becomes}
 use Rattle.memory.proofs.Kept.{Kept, capacity-kept, kinds-kept, arranged-kept}
 use Rattle.memory.proofs.Frames.{word-front, start-header, drop-later, part-same, draft-arrays-same, layout-arrays-same, long, control-parts, control-same, layout-same, header-kept, draft-formed, settings-kept, reads-means}
+use Rattle.entity.specs.Meaning as entity
 
 -- ---- reading a registered kind's sparse set
 

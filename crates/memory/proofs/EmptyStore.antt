@@ -9,12 +9,14 @@ use Rattle.model.specs.Numbers.{ENTITY-LEN, MAX-KINDS, columnLen}
 use Rattle.model.specs.Model.{Entities, SparseSet}
 use Rattle.model.specs.Store.{empty}
 use Rattle.model.specs.Sound.{Limits}
-use Rattle.words.specs.Offsets.{columnStart, columnStart-mono, columnStart-apart, CAPACITY, DRAFT, DRAFT-FAMILIES, DRAFT-GROUPS, ENTITIES, EXCLUDED-LEN, GROUP-COUNTS, GROUP-FAMILIES, KIND-CAPACITY, LAYOUT, LAYOUT-FAMILIES, LAYOUT-GROUPS, REFUSALS, REGISTERED, ROWS, STAGED-KINDS, STAGED-LEN, TABLE, UNREGISTERED}
-use Rattle.words.specs.Part.{between, length-between, getD-between}
-use Rattle.words.specs.Table.{table, is-table}
+use Rattle.words.specs.Offsets.{columnStart, CAPACITY, DRAFT, DRAFT-FAMILIES, DRAFT-GROUPS, ENTITIES, EXCLUDED-LEN, GROUP-COUNTS, GROUP-FAMILIES, KIND-CAPACITY, LAYOUT, LAYOUT-FAMILIES, LAYOUT-GROUPS, REFUSALS, REGISTERED, ROWS, STAGED-KINDS, STAGED-LEN, TABLE, UNREGISTERED}
+use Rattle.words.proofs.Offsets.{columnStart-mono, columnStart-apart}
+use Rattle.words.specs.Part.{between}
+use Rattle.words.proofs.Part.{length-between, getD-between}
+use Rattle.words.specs.Table.{table}
+use Rattle.words.proofs.Tables.{is-table}
 use Rattle.component.specs.Columns.{Columns}
 use Rattle.component.proofs.Fresh.{fresh-columns, fresh-rows}
-use Rattle.entity.specs.Meaning as entity
 use Rattle.entity.specs.Change.{Changed, entityPart, noEntities}
 use Rattle.entity.proofs.Zeros.{zeros-changed}
 use Rattle.layout.specs.Layout.{blockArrays, WellFormed, groupCount, familiesOf}
@@ -24,6 +26,7 @@ use Rattle.memory.specs.Meaning.{kindAt, kindsIn, setAt, setsIn, draftIn
 use Rattle.memory.specs.Arranged.{TableSound, LayoutSound, Arranged}
 use Rattle.memory.proofs.Frames.{start-header, drop-later, word-rest, reads-means}
 use Rattle.memory.specs.Fresh.{Cleared, TableCleared, Made}
+use Rattle.entity.specs.Meaning as entity
 
 table-none : {A : Type 0} (k : ℕ) (f : ℕ → A) → k ≡ 0 → table k f ≡ []
 unfolding table

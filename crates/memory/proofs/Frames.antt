@@ -7,9 +7,12 @@ use lib.ListN.{length, getD, take, drop}
 use lib.Seq.{getD-take, ext-getD, getD-drop}
 use Rattle.model.specs.Numbers.{ENTITY-LEN, LIST-CAPACITY}
 use Rattle.model.specs.Store.{Store}
-use Rattle.words.specs.Offsets.{columnStart, columnStart-needed, columnStart-mono, BLOCK-LEN, CAPACITY, DRAFT, DRAFT-FAMILIES, DRAFT-GROUPS, ENTITIES, EXCLUDED-KINDS, EXCLUDED-LEN, GROUP-COUNTS, GROUP-FAMILIES, LAYOUT, LAYOUT-FAMILIES, LAYOUT-GROUPS, REFUSALS, REGISTERED, ROWS, STAGED-KINDS, STAGED-LEN, STAGED-VALUES, TABLE}
-use Rattle.words.specs.Part.{between, length-between, getD-between}
-use Rattle.words.specs.Table.{table, table-same}
+use Rattle.words.specs.Offsets.{columnStart, BLOCK-LEN, CAPACITY, DRAFT, DRAFT-FAMILIES, DRAFT-GROUPS, ENTITIES, EXCLUDED-KINDS, EXCLUDED-LEN, GROUP-COUNTS, GROUP-FAMILIES, LAYOUT, LAYOUT-FAMILIES, LAYOUT-GROUPS, REFUSALS, REGISTERED, ROWS, STAGED-KINDS, STAGED-LEN, STAGED-VALUES, TABLE}
+use Rattle.words.proofs.Offsets.{columnStart-needed, columnStart-mono}
+use Rattle.words.specs.Part.{between}
+use Rattle.words.proofs.Part.{length-between, getD-between}
+use Rattle.words.specs.Table.{table}
+use Rattle.words.proofs.Tables.{table-same}
 use Rattle.component.specs.Columns.{columnOf}
 pub use Rattle.component.proofs.Parts.{drop-later}
 use Rattle.entity.specs.Change.{entitiesIn}

@@ -7,15 +7,16 @@ use native.Mathlib.Omega.{arith}
 use lib.ListN.{length, getD, take}
 use Rattle.model.specs.Numbers.{LIST-CAPACITY, MAX-KINDS}
 use Rattle.words.specs.Offsets.{CAPACITY, GROUP-PLACES, ROWS, UNREGISTERED}
-use Rattle.words.specs.Table.{table, table-same}
+use Rattle.words.specs.Table.{table}
+use Rattle.words.proofs.Tables.{table-same}
 use Rattle.component.specs.Columns.{columnOf, rowsOf, Columns}
-use Rattle.entity.specs.Meaning as entity
 use Rattle.entity.specs.Change.{entityPart}
 use Rattle.layout.specs.Layout.{Arrays, WellFormed, widthOf, groupCount}
 use Rattle.model.specs.Sound.{In}
 use Rattle.memory.specs.Header.{capacityOf, kindCapacityOf, registeredOf, stagedLen, excludedLen, draftGroups, layoutGroups, slotOf, groupFamilyAt}
 use Rattle.memory.specs.Meaning.{kindAt, ownAt, localAt, kindsIn, draftArrays, layoutArrays, settingsOf}
 use Rattle.memory.specs.Arranged.{TableSound, Registered, memberAt, GroupSound, LayoutSound, Arranged}
+use Rattle.entity.specs.Meaning as entity
 
 pub record Kept (w w′ : List ℕ) : Type 0 where
   pub size : length w′ ≡ length w

@@ -6,7 +6,7 @@ use native.Mathlib.Omega.{arith}
 use lib.ListN.{length, set, length-set}
 use lib.Seq.{getD-set-same, getD-set-other, drop-set-lt}
 use Rattle.words.specs.Offsets.{TABLE, UNREGISTERED}
-use Rattle.words.specs.Table.{by-eq}
+use Rattle.model.proofs.BoolLaws.{by-eq}
 use Rattle.memory.proofs.Frames.{drop-later}
 use Rattle.memory.specs.Fresh.{Cleared, TableCleared}
 

@@ -6,7 +6,8 @@ use native.Mathlib.Omega.{arith}
 use borrow.Author.Tests.{eqb-true, eq-eqb}
 use lib.Dec.{eqb}
 use lib.ListN.{length, length-map, length-append}
-use Rattle.model.specs.Lists.{countOf, count-append, count-length-le}
+use Rattle.model.specs.Lists.{countOf}
+use Rattle.model.proofs.ListLaws.{count-append, count-length-le}
 use Rattle.model.specs.Model.{Entity, Entities, SparseSet, Family, found, sameEntity, setOf, entityOf, allHeld, rangeFor}
 use Rattle.model.specs.Store.{Store}
 use Rattle.model.specs.Sound.{cnt, num, indexOf, key, holders, EntitiesSound, RightFrom, AllRight, StoreSound}

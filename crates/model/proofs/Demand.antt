@@ -5,7 +5,7 @@ use Prim.Native.Nat.{ℕ, zero, suc, _+_, _-_, _≤_}
 use native.Mathlib.Omega.{arith}
 use lib.ListN.{length, take, drop, take-append-drop}
 use lib.Seq.{take-take}
-use Rattle.model.specs.Lists.{count-append}
+use Rattle.model.proofs.ListLaws.{count-append}
 use Rattle.model.specs.Model.{Entity, SparseSet, Family, sameEntity}
 use Rattle.model.specs.Store.{Store, empty}
 use Rattle.model.specs.Run.{Step, stops, goes, step, Ran, halt, more, runFor, run}

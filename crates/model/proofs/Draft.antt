@@ -8,7 +8,8 @@ use borrow.Author.Tests.{ltb-false, leb-false, eqb-true, eq-eqb}
 use lib.Dec.{ltb, leb, eqb}
 use lib.ListN.{length, length-append}
 use Rattle.model.specs.Numbers.{MAX-GROUP-ARITY, MAX-GROUP-COUNT}
-use Rattle.model.specs.Lists.{countOf, count-append, count-length-le}
+use Rattle.model.specs.Lists.{countOf}
+use Rattle.model.proofs.ListLaws.{count-append, count-length-le}
 use Rattle.model.specs.Model.{Group, Family, Added, nothing, added, refused, mem, meets, within, sameSet, without, kindsOf, groupsOf, isGroup, present, touched, covers, newGroup, grown, addGroup, addsNothing, joins, withGroup}
 use Rattle.model.specs.Sound.{Distinct, layoutKinds, Rising, BuildableFamily, BuildableFamilies, Buildable, Uncounted, AllUncounted}
 use Rattle.model.proofs.SparseSets.{cond-case, and-left, and-right}

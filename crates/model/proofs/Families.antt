@@ -9,7 +9,7 @@ use native.Mathlib.Decide.{ℕ-discrete}
 use borrow.Author.Tests.{ltb-true, eq-eqb}
 use lib.ListN.{length, take, set, length-map, length-append, length-set}
 use lib.Seq.{take-append-le, set-getD, getD-set-same, getD-set-other}
-use Rattle.model.specs.Lists.{count-append, getD-place}
+use Rattle.model.proofs.ListLaws.{count-append, getD-place}
 use Rattle.model.specs.Model.{Entity, Row, SparseSet, Family, Component, Storage, Walked, sameEntity, noEntity, mem, meets, setOf, keys, entityOf, at, held, kindsOf, kindOf, insertRow, insertAll, groupFamily, groupTouched}
 use Rattle.model.proofs.SparseSets.{entity-eq, entity-same, cond-case, key, map-set}
 use Rattle.model.proofs.Groups.{cnt, plc, In, SameEntities}

@@ -8,7 +8,8 @@ use borrow.Author.Tests.{eq-eqb}
 use lib.Dec.{eqb}
 use lib.ListN.{length, take}
 use Rattle.model.specs.Numbers.{MAX-KINDS}
-use Rattle.model.specs.Lists.{one, count-take-le}
+use Rattle.model.specs.Lists.{one}
+use Rattle.model.proofs.ListLaws.{count-take-le}
 use Rattle.model.specs.Model.{Entity, Entities, SparseSet, Group, Family, Component, Storage, sameEntity, mem, allOf, setOf, held, allHeld, kindOf, kindsOf, headKind, insertComponents, remove, clearAll, setLayout, destroy}
 use Rattle.model.specs.Sound.{Distinct, layoutKinds, Rising, BuildableFamilies, Uncounted, AllUncounted, Right, RightFrom, AllRight}
 use Rattle.model.proofs.SparseSets.{entity-eq, cond-case, key, and-left}

@@ -10,7 +10,8 @@ use lib.Dec.{eqb}
 use lib.ListN.{length, take, set, length-set}
 use lib.Seq.{length-take-le}
 use Rattle.model.specs.Numbers.{MAX-KINDS}
-use Rattle.model.specs.Lists.{one, count-take-le, count-length}
+use Rattle.model.specs.Lists.{one}
+use Rattle.model.proofs.ListLaws.{count-take-le, count-length}
 use Rattle.model.specs.Model.{Entity, SparseSet, Group, Family, Component, Storage, Walked, GroupStep, sameEntity, mem, anyOf, meets, setOf, held, allHeld, kindsOf, kindOf, insertRow, insertAll, mapOn, swapTo, isGrouped, groupComponents, groupFamily, groupTouched, insertComponents}
 pub use Rattle.model.specs.Sound.{holders}
 use Rattle.model.proofs.SparseSets.{entity-eq, entity-same, cond-case, key}

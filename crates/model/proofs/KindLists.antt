@@ -9,7 +9,8 @@ use borrow.Author.Tests.{eqb-true, eq-eqb}
 use lib.Dec.{eqb}
 use lib.ListN.{length, getD, take, drop, take-append-drop}
 use lib.Seq.{drop-cons}
-use Rattle.model.specs.Lists.{one, countOf, count-append}
+use Rattle.model.specs.Lists.{one, countOf}
+use Rattle.model.proofs.ListLaws.{count-append}
 use Rattle.model.specs.Model.{mem, allOf, without, headKind}
 use Rattle.model.specs.Sound.{In, Distinct}
 use Rattle.model.proofs.Walk.{bool-cases, or-cases, or-true, or-false}

@@ -1,3 +1,5 @@
+pub mod BoolLaws
+pub mod ListLaws
 pub mod Faults
 pub mod SparseSets
 pub mod Groups

@@ -12,7 +12,8 @@ use native.Mathlib.Decide.{ℕ-discrete, decLt}
 use lib.Dec.{eqb, ltb, eqb·suc-zero}
 use lib.ListN.{length, getD}
 use Rattle.model.specs.Numbers.{MAX-KINDS}
-use Rattle.model.specs.Lists.{countOf, one, count-length}
+use Rattle.model.specs.Lists.{countOf, one}
+use Rattle.model.proofs.ListLaws.{count-length}
 use Rattle.model.specs.Model.{sameEntity, Entity, SparseSet, Component, setOf}
 use Rattle.model.specs.Store.{Store, bytesOf}
 pub use Rattle.model.specs.Snapshot.{Same}

@@ -9,7 +9,8 @@ use native.Mathlib.Decide.{ℕ-discrete}
 use borrow.Author.Tests.{ltb-true, eqb-true, eq-eqb, ne-eqb}
 use lib.Dec.{ltb, eqb}
 use lib.ListN.{length, getD, List·getD-map, length-map}
-use Rattle.model.specs.Lists.{one, countOf, count-append, count-place, getD-place, count-cutAt, map-cutAt, count-length-le}
+use Rattle.model.specs.Lists.{one, countOf}
+use Rattle.model.proofs.ListLaws.{count-append, count-place, getD-place, count-cutAt, map-cutAt, count-length-le}
 use Rattle.model.specs.Model.{Entity, Entities, sameEntity, noEntity, create, createWith, destroy, lastVersion}
 pub use Rattle.model.specs.Sound.{indexOf, num}
 use Rattle.model.specs.Sound.{EntitiesSound}

@@ -8,7 +8,8 @@ use borrow.Author.Tests.{ltb-true, leb-false, lt-ltb, eqb-true}
 use lib.Dec.{ltb, leb, eqb, lit<}
 use lib.ListN.{length, getD, replicate, length-append, length-replicate}
 use Rattle.model.specs.Numbers.{LIST-CAPACITY, MAX-KINDS, MAX-REFUSALS}
-use Rattle.model.specs.Lists.{one, place-count, count-place}
+use Rattle.model.specs.Lists.{one}
+use Rattle.model.proofs.ListLaws.{place-count, count-place}
 use Rattle.model.specs.Model.{Entity, Entities, SparseSet, Family, Component, sameEntity, mem, setOf, keys, kindOf, isLive, insertComponents, remove, clearAll, setLayout, create, createWith, destroy, Row, noRow}
 use Rattle.model.specs.Store.{Control, Store, empty, withKinds, withEntities, withStorage, withControl, withAll, emptyStaged, emptyBoth, withStaged, withExcluded, withDraft, counted}
 use Rattle.model.specs.Sound.{Eight, noComponent, Limits, KindsSound, StagedSound, ExcludedSound, Buildable, StoreSound}

@@ -10,7 +10,8 @@ use borrow.Author.Tests.{eqb-true, eq-eqb}
 use lib.Dec.{eqb}
 use lib.ListN.{length, take, drop, getD, length-drop, length-map, take-append-drop}
 use lib.Seq.{length-take-le, take-all, drop-cons}
-use Rattle.model.specs.Lists.{one, countOf, count-append, count-length}
+use Rattle.model.specs.Lists.{one, countOf}
+use Rattle.model.proofs.ListLaws.{count-append, count-length}
 use Rattle.model.specs.Model.{Entity, SparseSet, Group, Family, Range, none, found, sameEntity, mem, allOf, within, sameSet, setOf, entityOf, held, allHeld, headKind, kindsOf, newGroup, firstRange, rangeAt, rangeIn, rangeAll, single, rangeFor}
 use Rattle.model.specs.Store.{Store}
 use Rattle.model.specs.Sound.{cnt, In, key, holders, Distinct, layoutKinds, Rising, BuildableFamilies, Right, RightFrom, AllRight, Between, StoreSound}

@@ -8,7 +8,7 @@ use native.Mathlib.Omega.{arith}
 use borrow.Author.Tests.{ltb-true, ltb-false, eqb-true, eq-eqb, lt-ltb}
 use lib.Dec.{eqb}
 use lib.ListN.{length, take, length-map}
-use Rattle.model.specs.Lists.{place-count, place-count-take, count-take-place, count-place}
+use Rattle.model.proofs.ListLaws.{place-count, place-count-take, count-take-place, count-place}
 use Rattle.model.specs.Model.{Entity, SparseSet, Group, Family, Walked, GroupStep, sameEntity, mem, allOf, setOf, entityOf, at, held, headKind, isGrouped, allHeld, swapTo, onKinds, groupComponents, groupFamily, kindsOf}
 use Rattle.model.proofs.SparseSets.{entity-eq, cond-case, key, key-swapped, key-kept, and-left, and-right}
 pub use mathlib.Core.Bool.{or-true}

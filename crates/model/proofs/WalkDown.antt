@@ -6,7 +6,7 @@ use Prim.Native.Nat.{ℕ, suc, _-_, _≤_, _<_}
 use native.Mathlib.Omega.{arith}
 use borrow.Author.Tests.{ltb-true, ltb-false}
 use lib.ListN.{length, take}
-use Rattle.model.specs.Lists.{place-count-take, count-take-place, count-take-le}
+use Rattle.model.proofs.ListLaws.{place-count-take, count-take-place, count-take-le}
 use Rattle.model.specs.Model.{Entity, SparseSet, Group, Family, Walked, GroupStep, sameEntity, mem, anyOf, meets, headKind, isGrouped, swapTo, onKinds, ungroupComponents, ungroupFamily, kindsOf}
 use Rattle.model.proofs.SparseSets.{cond-case, key, key-swapped, key-kept}
 use Rattle.model.proofs.Groups.{cnt, plc, In, Even, Full, Inside, Swapped, SameEntities, even-kept, full-kept, same-entities, low, inner-even, inner-count, shrunk-even, shrunk-full, shrunk-out}

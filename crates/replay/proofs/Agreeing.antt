@@ -11,12 +11,12 @@ use lib.ListN.{length, getD, take, drop, length-append}
 use lib.Seq.{length-take-le, take-at}
 use denote.Ref.{RefT}
 use Rattle.model.specs.Store.{Store, empty}
-use Rattle.model.specs.Run as model
 use Rattle.model.specs.Entries.{Started, refusesStart, makes, start, roll}
 use Rattle.model.proofs.Entries.{start-makes}
 use Rattle.model.proofs.Emitting.{emits-few}
 use Rattle.model.proofs.SparseSets.{and-left, and-right}
-use Rattle.words.specs.Decides.{Decides, yes-of}
+use Rattle.words.specs.Decides.{Decides}
+use Rattle.words.proofs.Decides.{yes-of}
 use Rattle.memory.specs.Meaning.{meaning}
 use Rattle.memory.specs.Arranged.{Sound}
 use Rattle.run.specs.declared.Ran.{Ran}
@@ -29,6 +29,7 @@ use Rattle.replay.specs.declared.Tally.{Tally}
 use Rattle.replay.specs.Recorded.{short, tapeAt, numbersAt, RunRecorded, runAt, RunAgrees, RunsAgree, noRuns, moreRuns, RollAgrees, SameWords, SameColumn, ColumnAgrees, ColumnsAgree, noColumns, moreColumns, CaseAgrees, CasesAgree, noCases, moreCases}
 use Rattle.replay.specs.Agreement.{GaveSame, Compared, RolledSame, StepAgrees, CaseStepped, Counted, Replayed}
 use Rattle.replay.proofs.Comparing.{part-size}
+use Rattle.model.specs.Run as model
 
 -- what is decided of what holds is true
 holds : {P : Type 0} (b : Bool) → Decides b P → P → b ≡ true

@@ -7,7 +7,7 @@ use native.Mathlib.Nat.{add-zero}
 use lib.ListN.{length, getD, take, drop, length-drop}
 use lib.Seq.{getD-take, getD-drop, length-take-le, take-take, take-add, drop-drop, drop-at}
 use Rattle.model.specs.Model.{Entity}
-use Rattle.words.specs.Table.{by-eq}
+use Rattle.model.proofs.BoolLaws.{by-eq}
 use Rattle.model.specs.Store.{number}
 use Rattle.model.specs.Commands.{Command, LAST_COMMAND, entityOfBytes}
 use Rattle.component.specs.SparseSet.{entity, valueOf}

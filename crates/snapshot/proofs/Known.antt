@@ -9,7 +9,7 @@ use lib.ListN.{length}
 use Rattle.model.specs.Numbers.{MAX-ENTITIES, MAX-KINDS}
 use Rattle.words.specs.Offsets.{UNREGISTERED}
 use Rattle.model.specs.Model.{mem}
-use Rattle.words.specs.Table.{by-eq}
+use Rattle.model.proofs.BoolLaws.{by-eq}
 use Rattle.entity.specs.Change.{entityPart}
 use Rattle.entity.proofs.Known.{live-few, issued-few}
 use Rattle.memory.specs.Header.{capacityOf, registeredOf, slotOf}

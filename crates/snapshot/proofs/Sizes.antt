@@ -10,7 +10,8 @@ use native.Mathlib.Numerals.{add-one}
 use borrow.Author.Tests.{eq-eqb, ne-eqb}
 use lib.ListN.{length, getD, drop, drop-of-length-le, length-append, length-map}
 use lib.Seq.{drop-cons}
-use Rattle.model.specs.Lists.{one, count-length}
+use Rattle.model.specs.Lists.{one}
+use Rattle.model.proofs.ListLaws.{count-length}
 use Rattle.model.specs.Model.{Entity, SparseSet, sameEntity, entityOf, noRow, at, held, setOf}
 use Rattle.model.specs.Store.{Store}
 use Rattle.model.specs.Snapshot.{Entry, addComponent, componentsOf, liveVersion, entryOf, entries, entryBytes, flat, snapshot}
@@ -22,7 +23,7 @@ use Rattle.model.proofs.Numbers.{cnt-num}
 use Rattle.model.proofs.Invariant.{holders-count}
 use Rattle.model.proofs.Listing.{LiveOk}
 use Rattle.model.proofs.Snapshots.{listed}
-use Rattle.words.specs.Table.{by-eq}
+use Rattle.model.proofs.BoolLaws.{by-eq}
 use Rattle.snapshot.specs.Rising.{rowsIn}
 use Rattle.snapshot.proofs.Parts.{entry-length, flat-append, snapshot-length}
 

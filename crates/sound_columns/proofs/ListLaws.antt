@@ -10,11 +10,12 @@ use lib.Dec.{eqb}
 use lib.ListN.{length, take, getD, set, replicate, getD-replicate}
 use lib.Seq.{take-suc, take-length, getD-set-same, getD-set-other}
 use Rattle.model.specs.Numbers.{MAX-KINDS}
-use Rattle.model.specs.Lists.{place, count-place, getD-place}
+use Rattle.model.specs.Lists.{place}
+use Rattle.model.proofs.ListLaws.{count-place, getD-place}
 use Rattle.model.specs.Model.{mem}
 use Rattle.model.specs.Sound.{In, Distinct}
 use Rattle.model.proofs.Walk.{or-true, mem-append}
-use Rattle.words.specs.Table.{by-eq}
+use Rattle.model.proofs.BoolLaws.{by-eq}
 use Rattle.words.specs.Decides.{Each}
 use Rattle.model.proofs.KindLists.{in-count, distinct-snoc}
 

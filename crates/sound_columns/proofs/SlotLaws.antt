@@ -5,8 +5,9 @@ use Prim.Native.Nat.{ℕ, _+_, _*_, _≤_, _<_}
 use native.Mathlib.Omega.{arith}
 use lib.ListN.{length, getD, List·getD-map}
 use Rattle.model.specs.Model.{Row, noRow, entityOf}
-use Rattle.words.specs.Offsets.{columnStart, columnStart-apart, columnStart-mono, ENTITIES, ROWS}
-use Rattle.words.specs.Table.{by-eq}
+use Rattle.words.specs.Offsets.{columnStart, ENTITIES, ROWS}
+use Rattle.words.proofs.Offsets.{columnStart-apart, columnStart-mono}
+use Rattle.model.proofs.BoolLaws.{by-eq}
 use Rattle.component.specs.SparseSet.{lengthOf, indexAt, versionAt}
 use Rattle.component.proofs.Meaning.{length-rows, getD-rows}
 use Rattle.component.specs.Columns.{columnOf, rowsOf, Lent}

@@ -10,7 +10,7 @@ use lib.ListN.{length, getD}
 use Rattle.model.specs.Numbers.{MAX-KINDS}
 use Rattle.model.specs.Model.{Entity}
 use Rattle.words.specs.Offsets.{columnStart, COLUMN-KIND, GROUP-COUNTS, LAYOUT-ENDS, ROWS}
-use Rattle.words.specs.Table.{by-eq}
+use Rattle.model.proofs.BoolLaws.{by-eq}
 use Rattle.words.specs.Decides.{Decides, Each}
 use Rattle.component.specs.Columns.{rowsOf, Lent}
 use Rattle.sound_columns.specs.Rows.{entityIn}

@@ -8,7 +8,8 @@ use native.Mathlib.Omega.{arith}
 use lib.ListN.{length, take, drop, getD, length-map, List·getD-map, List·getD-eq-default}
 use lib.Seq.{getD-drop}
 use Rattle.words.specs.Offsets.{ROWS}
-use Rattle.model.specs.Lists.{one, place, count-place, getD-place}
+use Rattle.model.specs.Lists.{one, place}
+use Rattle.model.proofs.ListLaws.{count-place, getD-place}
 use Rattle.model.specs.Model.{Entity, sameEntity, noEntity, noRow, entityOf, keys}
 use Rattle.model.specs.Sound.{cnt, Eight}
 use Rattle.model.proofs.SparseSets.{entity-eq}

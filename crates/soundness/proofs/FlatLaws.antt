@@ -9,8 +9,10 @@ use borrow.Author.Tests.{lt-ltb, le-ltb}
 use lib.ListN.{length, getD}
 use Rattle.model.specs.Model.{SparseSet, Family, headKind, kindsOf}
 use Rattle.model.specs.Sound.{key}
-use Rattle.words.specs.Part.{between, getD-between}
-use Rattle.words.specs.Table.{table, by-eq}
+use Rattle.words.specs.Part.{between}
+use Rattle.words.proofs.Part.{getD-between}
+use Rattle.words.specs.Table.{table}
+use Rattle.model.proofs.BoolLaws.{by-eq}
 use Rattle.layout.specs.Layout.{Arrays, Sized, startOf, groupCount, kindsAt, aritiesAt, groupsFrom, familyAt, familiesOf, WellFormed}
 use Rattle.layout.proofs.Arrays.{ends-rise, group-order, groups-inside, arities-length, family-kindsOf}
 use Rattle.memory.specs.Arranged.{priorArity, memberAt}

@@ -12,7 +12,8 @@ use Rattle.model.specs.Model.{Entity, SparseSet, noEntity, setOf, keys, entityO
 use Rattle.model.specs.Sound.{key}
 use Rattle.model.proofs.Walk.{all-in}
 use Rattle.model.proofs.KindLists.{not-true, all-true}
-use Rattle.words.specs.Part.{between, getD-between}
+use Rattle.words.specs.Part.{between}
+use Rattle.words.proofs.Part.{getD-between}
 use Rattle.component.specs.Columns.{rowsOf, Columns}
 use Rattle.component.proofs.Parts.{lent}
 use Rattle.layout.specs.Layout.{Arrays, startOf, widthOf, WellFormed}

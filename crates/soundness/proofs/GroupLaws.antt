@@ -9,7 +9,8 @@ use native.Mathlib.Omega.{arith}
 use borrow.Author.Tests.{eq-eqb}
 use lib.ListN.{length, take, drop, getD, take-append-drop, length-drop}
 use lib.Seq.{length-take-le, getD-take, getD-drop, ext-getD}
-use Rattle.model.specs.Lists.{one, place, count-append, count-place, count-take-le, place-count-take, getD-place, count-length}
+use Rattle.model.specs.Lists.{one, place}
+use Rattle.model.proofs.ListLaws.{count-append, count-place, count-take-le, place-count-take, getD-place, count-length}
 use Rattle.model.specs.Model.{Entity, SparseSet, Family, sameEntity, noEntity, setOf, held, headKind, kindsOf, allHeld}
 use Rattle.model.specs.Sound.{cnt, In, key, SetsSound, BuildableFamily, BuildableFamilies, holders, Right, RightFrom, AllRight}
 use Rattle.model.proofs.SparseSets.{entity-eq, entity-same, and-left}

@@ -8,8 +8,10 @@ use lib.ListN.{length, getD, List·getD-eq-default}
 use Rattle.model.specs.Numbers.{LIST-CAPACITY}
 use Rattle.model.specs.Model.{Component, kindOf}
 use Rattle.model.specs.Sound.{In, Distinct, Eight, noComponent, StagedSound}
-use Rattle.words.specs.Part.{between, getD-between, length-between}
-use Rattle.words.specs.Table.{table, length-table, getD-table, is-table}
+use Rattle.words.specs.Part.{between}
+use Rattle.words.proofs.Part.{getD-between, length-between}
+use Rattle.words.specs.Table.{table}
+use Rattle.words.proofs.Tables.{length-table, getD-table, is-table}
 
 pub map-table : {A B : Type 0} (f : A → B) (n : ℕ) (g : ℕ → A) → map f (table n g) ≡ table n (λ i. f (g i))
 unfolding table

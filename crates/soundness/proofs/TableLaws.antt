@@ -13,11 +13,14 @@ use lib.ListN.{length, take, getD, length-map, List·getD-map, List·getD-eq-def
 use lib.Seq.{getD-take, length-take-le}
 use Rattle.model.specs.Numbers.{MAX-KINDS}
 use Rattle.words.specs.Offsets.{UNREGISTERED}
-use Rattle.model.specs.Lists.{place, count-place, getD-place}
+use Rattle.model.specs.Lists.{place}
+use Rattle.model.proofs.ListLaws.{count-place, getD-place}
 use Rattle.model.specs.Model.{Entity, SparseSet, sameEntity, noEntity, noRow, mem, setOf, entityOf, keys}
 use Rattle.model.specs.Sound.{cnt, In, Distinct, Eight, KindsSound, SetsSound}
 use Rattle.model.proofs.SparseSets.{entity-eq}
-use Rattle.words.specs.Table.{by-eq, table, length-table, getD-table}
+use Rattle.words.specs.Table.{table}
+use Rattle.model.proofs.BoolLaws.{by-eq}
+use Rattle.words.proofs.Tables.{length-table, getD-table}
 use Rattle.model.proofs.KindLists.{not-true, at-in}
 use Rattle.soundness.proofs.GroupLaws.{count-at}
 use Rattle.sound_columns.proofs.ListLaws.{in-at, new-distinct}

@@ -11,14 +11,17 @@ use lib.Dec.{eqb}
 use lib.ListN.{length, getD, take, List·getD-map}
 use lib.Seq.{getD-take, length-take-le}
 use Rattle.model.specs.Numbers.{ENTITY-LEN, LIST-CAPACITY, MAX-GROUP-COUNT, MAX-KINDS, columnLen}
-use Rattle.model.specs.Lists.{countOf, count-place, place-count}
+use Rattle.model.specs.Lists.{countOf}
+use Rattle.model.proofs.ListLaws.{count-place, place-count}
 use Rattle.model.specs.Model.{Entity, sameEntity, noRow, kindOf, entityOf, isLive}
 use Rattle.model.specs.Sound.{cnt, In, Distinct, KindsSound, EntitiesSound, SetsSound, StagedSound, ExcludedSound, Buildable, AllRight}
 use Rattle.model.specs.Sound as modelSound
 use Rattle.model.proofs.Numbers.{cnt-num}
 use Rattle.model.proofs.KindLists.{in-count, count-in, at-in}
-use Rattle.words.specs.Offsets.{columnStart, columnStart-mono, BLOCK-LEN, COLUMN-KIND, DRAFT, ENTITIES, EXCLUDED-KINDS, GROUP-COUNTS, GROUP-FAMILIES, LAYOUT, LAYOUT-ARITIES, LAYOUT-KIND-ENDS, REFUSALS, ROWS, STAGED-KINDS, STAGED-VALUES, TABLE, UNREGISTERED}
-use Rattle.words.specs.Part.{between, getD-between, length-between}
+use Rattle.words.specs.Offsets.{columnStart, BLOCK-LEN, COLUMN-KIND, DRAFT, ENTITIES, EXCLUDED-KINDS, GROUP-COUNTS, GROUP-FAMILIES, LAYOUT, LAYOUT-ARITIES, LAYOUT-KIND-ENDS, REFUSALS, ROWS, STAGED-KINDS, STAGED-VALUES, TABLE, UNREGISTERED}
+use Rattle.words.proofs.Offsets.{columnStart-mono}
+use Rattle.words.specs.Part.{between}
+use Rattle.words.proofs.Part.{getD-between, length-between}
 use Rattle.words.specs.Table.{table}
 use Rattle.component.specs.SparseSet.{ColumnSound, lengthOf}
 use Rattle.words.specs.Decides.{Each}

@@ -12,7 +12,8 @@ use Rattle.model.specs.Numbers.{MAX-GROUP-COUNT, MAX-KINDS}
 use Rattle.words.specs.Offsets.{ARITIES, BLOCK-LEN, ENDS, ENTITIES, GROUP-COUNTS, GROUP-FAMILIES, GROUP-PLACES, KIND-ENDS, LAYOUT, LAYOUT-ARITIES, LAYOUT-ENDS, LAYOUT-FAMILIES, LAYOUT-KIND-ENDS}
 use Rattle.model.specs.Sound.{In}
 use Rattle.model.proofs.KindLists.{at-in}
-use Rattle.words.specs.Part.{between, getD-between, length-between}
+use Rattle.words.specs.Part.{between}
+use Rattle.words.proofs.Part.{getD-between, length-between}
 use Rattle.layout.specs.Layout.{Arrays, Sized, startOf, widthOf, kindsAt, aritiesAt, WellFormed}
 use Rattle.layout.proofs.Family.{rising-at}
 use Rattle.layout.proofs.Arrays.{bounds, kinds-inside, kinds-length, arities-length, block-sized}

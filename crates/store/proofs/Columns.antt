@@ -19,7 +19,8 @@ use Rattle.model.specs.Entries as model
 use Rattle.model.specs.Sound.{In}
 use Rattle.model.proofs.Lines.{first-number}
 use Rattle.model.proofs.Entries.{Columned, column-accepted, column-refused}
-use Rattle.words.specs.Offsets.{columnStart, columnStart-fits, ROWS}
+use Rattle.words.specs.Offsets.{columnStart, ROWS}
+use Rattle.words.proofs.Offsets.{columnStart-fits}
 use Rattle.component.specs.SparseSet.{lengthOf, rowAt, valueOf, rows}
 use Rattle.component.proofs.Meaning.{length-rows, getD-rows}
 use Rattle.words.specs.Decides.{Decides}

@@ -2,7 +2,6 @@ pub mod Table
 pub mod Stores
 pub mod Links
 pub mod Part
-pub mod Pigeon
 pub mod Offsets
 pub mod Decides
 pub mod Word

@@ -14,7 +14,7 @@ use Rattle.model.specs.Store.{Store, stagedKinds, onStorage}
 use Rattle.model.specs.Sound.{In, noComponent}
 use Rattle.model.proofs.SparseSets.{cond-case}
 use Rattle.model.proofs.Walk.{or-true}
-use Rattle.words.specs.Table.{by-eq}
+use Rattle.model.proofs.BoolLaws.{by-eq}
 use Rattle.component.specs.SparseSet.{Current, entity}
 use Rattle.memory.specs.Meaning.{meaning}
 use Rattle.memory.specs.Arranged.{Becomes}

@@ -16,7 +16,7 @@ use Rattle.model.specs.Sound.{In, Distinct, noComponent}
 use Rattle.model.proofs.Walk.{or-false}
 use Rattle.model.proofs.Families.{or-false-right}
 use Rattle.model.proofs.KindLists.{at-in, distinct-new}
-use Rattle.words.specs.Table.{getD-table}
+use Rattle.words.proofs.Tables.{getD-table}
 use Rattle.component.specs.Columns.{Only, Lent}
 use Rattle.component.proofs.Parts.{lent}
 use Rattle.memory.specs.Header.{capacityOf, kindCapacityOf, registeredOf}

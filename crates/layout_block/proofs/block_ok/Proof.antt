@@ -1,6 +1,6 @@
 use mathlib.Core.Path.{_∙_, sym}
 use Prim.Native.Nat.{_-_}
-use Rattle.words.specs.Decides.{granted, denied}
+use Rattle.words.proofs.Decides.{granted, denied}
 use lib.Seq.{length-take-le}
 use Rattle.layout_block.proofs.Checking.{families-of, block-sound, block-kinds}
 use native.Mathlib.Omega.{arith}

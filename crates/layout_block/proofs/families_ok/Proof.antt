@@ -1,6 +1,6 @@
 use Prim.Native.Nat.{_-_}
 use mathlib.Core.List.{[]}
-use Rattle.words.specs.Decides.{granted, denied}
+use Rattle.words.proofs.Decides.{granted, denied}
 use Rattle.layout.specs.Layout.{arraysIn}
 use Rattle.layout_block.proofs.Checking.{FormedSoFar, formed-none, formed-more, formed-stop, formed-done}
 use native.Mathlib.Omega.{arith}

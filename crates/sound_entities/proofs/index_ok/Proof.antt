@@ -1,6 +1,6 @@
 use Prim.Native.Nat.{_-_}
 use borrow.Author.Needs.{needs}
-use Rattle.words.specs.Decides.{granted, denied}
+use Rattle.words.proofs.Decides.{granted, denied}
 use Rattle.sound_entities.specs.Checks.{LookupOk, ListedOk}
 use Rattle.sound_entities.proofs.index_ok.Statement.{statement}
 use Rattle.sound_entities.proofs.index_ok.Tie as tie

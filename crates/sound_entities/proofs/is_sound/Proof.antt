@@ -1,7 +1,8 @@
 use Prim.Native.Nat.{_-_}
 use native.Mathlib.Omega.{arith}
 use borrow.Author.Needs.{needs}
-use Rattle.words.specs.Decides.{granted, denied, Each}
+use Rattle.words.specs.Decides.{Each}
+use Rattle.words.proofs.Decides.{granted, denied}
 use Rattle.sound_entities.proofs.Checking.{counts-of, live-of, indexes-of, sound-of}
 use Rattle.sound_entities.specs.Checks.{Counts, LiveOk, WaitsOk, IndexOk}
 use Rattle.entity.specs.Meaning.{lenOf, recycledLen}

@@ -1,7 +1,8 @@
 use Prim.Native.Nat.{_≤_, _-_}
 use native.Mathlib.Omega.{arith}
 use borrow.Author.Needs.{needs}
-use Rattle.words.specs.Decides.{granted, denied, Each}
+use Rattle.words.specs.Decides.{Each}
+use Rattle.words.proofs.Decides.{granted, denied}
 use Rattle.sound_entities.specs.Checks.{WaitsOk}
 use borrow.Author.Count.{below-none, below-more}
 use Rattle.sound_entities.proofs.ring_ok.Statement.{statement}

@@ -2,7 +2,7 @@ use Prim.Native.Nat.{_-_}
 use native.Mathlib.Omega.{arith}
 use borrow.Author.Needs.{needs}
 use Rattle.words.specs.Offsets.{DRAFT, EXCLUDED-KINDS, LAYOUT, STAGED-KINDS, TABLE}
-use Rattle.words.specs.Decides.{granted, denied}
+use Rattle.words.proofs.Decides.{granted, denied}
 use Rattle.words.specs.Part.{between}
 use Rattle.layout_block.specs.Checks.{BlockSound}
 use Rattle.memory.specs.Header.{stagedLen, excludedLen, draftFamilies, draftGroups}

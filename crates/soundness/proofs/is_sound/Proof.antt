@@ -1,7 +1,7 @@
 use Prim.Native.Nat.{_-_}
 use native.Mathlib.Omega.{arith}
 use borrow.Author.Needs.{needs}
-use Rattle.words.specs.Decides.{granted, denied}
+use Rattle.words.proofs.Decides.{granted, denied}
 use Rattle.memory.specs.Header.{capacityOf, kindCapacityOf}
 use Rattle.soundness.specs.Parts.{SizeOk, PartsOk, ListsOk, LayoutOk, CountsOk}
 use Rattle.soundness.proofs.Whole.{size-long, size-of, parts-of, lists-of, layout-of, counts-of, sound-of}

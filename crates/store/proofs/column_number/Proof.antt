@@ -8,7 +8,7 @@ use Rattle.model.specs.Numbers.{BEYOND, KIND}
 use Rattle.model.specs.Store.{isKind}
 use Rattle.memory.specs.Meaning.{meaning}
 use Rattle.memory.specs.Arranged.{Sound}
-use Rattle.words.specs.Decides.{granted, denied}
+use Rattle.words.proofs.Decides.{granted, denied}
 use Rattle.store.proofs.Columns.{column-large, column-unknown, column-turned, column-beyond, column-within, unsound-number, sound-number}
 use Rattle.store.proofs.column_number.Statement.{statement}
 use Rattle.store.proofs.column_number.Tie as tie

@@ -1,7 +1,7 @@
 use native.Mathlib.Omega.{arith}
 use borrow.Author.Needs.{needs}
 use Rattle.memory.specs.Arranged.{Sound}
-use Rattle.words.specs.Decides.{granted, denied}
+use Rattle.words.proofs.Decides.{granted, denied}
 use Rattle.store.proofs.Rolling.{refused-roll, short-roll, written-roll}
 use Rattle.store.proofs.roll.Statement.{statement}
 use Rattle.store.proofs.roll.Tie as tie

@@ -1,7 +1,8 @@
 use Prim.Native.Nat.{_+_}
 use native.Mathlib.Omega.{arith}
 use borrow.Author.Needs.{needs}
-use Rattle.words.specs.Offsets.{columnStart-fits, TABLE}
+use Rattle.words.specs.Offsets.{TABLE}
+use Rattle.words.proofs.Offsets.{columnStart-fits}
 use Rattle.kinds.proofs.Slot.{known-small, known-slot, header-long}
 use Rattle.store.proofs.Columns.{rows-few, row-start-small, value-place, entity-place}
 use Rattle.store.proofs.row_start.Statement.{statement}

@@ -1,7 +1,7 @@
 use native.Mathlib.Omega.{arith}
 use borrow.Author.Needs.{needs}
 use Rattle.memory.specs.Arranged.{Sound}
-use Rattle.words.specs.Decides.{granted, denied}
+use Rattle.words.proofs.Decides.{granted, denied}
 use Rattle.run.proofs.Steps.{bytes-all}
 use Rattle.store.proofs.Running.{refused-run, completed-run}
 use Rattle.store.proofs.run.Statement.{statement}

@@ -3,7 +3,7 @@ use mathlib.Core.Path.{ap}
 use Prim.Native.Nat.{_-_}
 use native.Mathlib.Omega.{arith}
 use Rattle.model.specs.Model.{noRow}
-use Rattle.words.specs.Table.{swap-equal}
+use Rattle.model.proofs.ListLaws.{swap-equal}
 use Rattle.component.specs.declared.component_sparse_set.RowWords.{RowWords}
 use Rattle.component.specs.SparseSet.{rows, swapRows}
 use Rattle.component.proofs.Meaning.{length-rows, sized}

@@ -1,5 +1,5 @@
 use borrow.Author.Needs.{needs}
-use Rattle.words.specs.Decides.{yes-of, no-of}
+use Rattle.words.proofs.Decides.{yes-of, no-of}
 use Rattle.flips.proofs.Counting.{tried-refused}
 use Rattle.flips.proofs.trial.try_store.Statement.{statement}
 use Rattle.flips.proofs.trial.try_store.Tie as tie

@@ -3,7 +3,7 @@ use Prim.Native.Nat.{ℕ}
 use native.Mathlib.Omega.{arith}
 use borrow.Author.Needs.{needs}
 use lib.ListN.{length-set}
-use Rattle.words.specs.Offsets.{columnStart-mono}
+use Rattle.words.proofs.Offsets.{columnStart-mono}
 use Rattle.memory.proofs.Frames.{start-header}
 use Rattle.memory.specs.Fresh.{Cleared}
 use Rattle.memory.proofs.EmptyStore.{made}

@@ -1,6 +1,6 @@
 use Rattle.replay.proofs.Agreeing.{same-column}
 use mathlib.Core.Bool.{false≢true}
-use Rattle.words.specs.Decides.{yes-of}
+use Rattle.words.proofs.Decides.{yes-of}
 use borrow.Author.Needs.{needs}
 use Rattle.replay.proofs.compare.is_same_column.Statement.{statement}
 use Rattle.replay.proofs.compare.is_same_column.Tie as tie

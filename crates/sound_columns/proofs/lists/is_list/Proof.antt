@@ -1,7 +1,7 @@
 use Prim.Native.Nat.{_+_, _-_}
 use native.Mathlib.Omega.{arith}
 use Rattle.words.specs.Offsets.{STAGED-KINDS, TABLE}
-use Rattle.words.specs.Decides.{granted, denied}
+use Rattle.words.proofs.Decides.{granted, denied}
 use Rattle.words.specs.Part.{between}
 use Rattle.layout_block.specs.Checks.{KindsOk}
 use borrow.Author.Needs.{needs}

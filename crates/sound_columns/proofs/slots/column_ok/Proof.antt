@@ -4,7 +4,8 @@ use native.Mathlib.Omega.{arith}
 use lib.ListN.{getD}
 use Rattle.model.specs.Numbers.{columnLen}
 use Rattle.words.specs.Offsets.{ROWS}
-use Rattle.words.specs.Decides.{granted, denied, Each}
+use Rattle.words.specs.Decides.{Each}
+use Rattle.words.proofs.Decides.{granted, denied}
 use Rattle.sound_columns.proofs.SlotLaws.{length-read}
 use Rattle.words.specs.Part.{between}
 use Rattle.component.specs.SparseSet.{ColumnSound}

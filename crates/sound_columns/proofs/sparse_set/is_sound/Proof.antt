@@ -3,7 +3,8 @@ use Prim.Native.Nat.{_-_}
 use native.Mathlib.Omega.{arith}
 use Rattle.component.specs.SparseSet.{lengthOf}
 use Rattle.sound_columns.specs.Checks.{RowOk, LookupOk}
-use Rattle.words.specs.Decides.{granted, denied, Each}
+use Rattle.words.specs.Decides.{Each}
+use Rattle.words.proofs.Decides.{granted, denied}
 use Rattle.sound_columns.proofs.Checking.{sound-of, lookups-of}
 use Rattle.sound_columns.proofs.sparse_set.is_sound.Statement.{statement}
 use Rattle.sound_columns.proofs.sparse_set.is_sound.Tie as tie

@@ -1,7 +1,8 @@
 use Prim.Native.Nat.{_-_}
 use native.Mathlib.Omega.{arith}
 use Rattle.model.specs.Numbers.{MAX-KINDS}
-use Rattle.words.specs.Decides.{granted, denied, Each}
+use Rattle.words.specs.Decides.{Each}
+use Rattle.words.proofs.Decides.{granted, denied}
 use Rattle.sound_columns.proofs.SlotLaws.{room-long, room-less}
 use Rattle.memory.specs.Header.{registeredOf}
 use Rattle.sound_columns.specs.Table.{KindOk, SlotOk}

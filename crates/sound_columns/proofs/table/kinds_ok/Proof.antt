@@ -2,7 +2,8 @@ use Prim.Native.Nat.{_-_, _≤_}
 use native.Mathlib.Omega.{arith}
 use borrow.Author.Count.{below-more}
 use Rattle.model.specs.Numbers.{MAX-KINDS}
-use Rattle.words.specs.Decides.{granted, denied, Each}
+use Rattle.words.specs.Decides.{Each}
+use Rattle.words.proofs.Decides.{granted, denied}
 use Rattle.sound_columns.specs.Table.{KindOk}
 use Rattle.sound_columns.proofs.table.kinds_ok.Statement.{statement}
 use Rattle.sound_columns.proofs.table.kinds_ok.Tie as tie

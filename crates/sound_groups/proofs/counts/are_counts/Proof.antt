@@ -1,7 +1,8 @@
 use Prim.Native.Nat.{_+_, _-_, _≤_}
 use native.Mathlib.Omega.{arith}
 use Rattle.words.specs.Offsets.{GROUP-FAMILIES}
-use Rattle.words.specs.Decides.{granted, denied, Each}
+use Rattle.words.specs.Decides.{Each}
+use Rattle.words.proofs.Decides.{granted, denied}
 use borrow.Author.Count.{below-more}
 use Rattle.sound_groups.specs.Counts.{CountedOk}
 use Rattle.sound_groups.proofs.counts.are_counts.Statement.{statement}

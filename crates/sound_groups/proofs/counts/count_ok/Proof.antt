@@ -1,7 +1,7 @@
 use Prim.Native.Nat.{ℕ, _-_}
 use native.Mathlib.Omega.{arith}
 use borrow.Author.Needs.{needs}
-use Rattle.words.specs.Decides.{granted, denied}
+use Rattle.words.proofs.Decides.{granted, denied}
 use Rattle.sound_columns.specs.Slots.{Over}
 use Rattle.sound_columns.specs.Rows.{keyAt}
 use Rattle.sound_groups.specs.Counts.{EvenOk, Holds}

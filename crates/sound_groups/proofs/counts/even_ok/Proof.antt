@@ -3,7 +3,8 @@ use native.Mathlib.Omega.{arith}
 use lib.ListN.{length, getD}
 use borrow.Author.Needs.{needs}
 use Rattle.words.specs.Offsets.{ROWS}
-use Rattle.words.specs.Decides.{granted, denied, Each}
+use Rattle.words.specs.Decides.{Each}
+use Rattle.words.proofs.Decides.{granted, denied}
 use Rattle.sound_columns.proofs.SlotLaws.{rows-most}
 use Rattle.sound_groups.proofs.CountLaws.{even-words, words-even}
 use Rattle.component.specs.Columns.{rowsOf}

@@ -3,7 +3,7 @@ use Prim.Native.Nat.{ℕ, _+_, _*_, _-_}
 use native.Mathlib.Omega.{arith}
 use Rattle.words.specs.Offsets.{ROWS}
 use Rattle.sound_columns.proofs.SlotLaws.{rows-most, key-word}
-use Rattle.words.specs.Decides.{yes-of, no-of}
+use Rattle.words.proofs.Decides.{yes-of, no-of}
 use Rattle.sound_columns.specs.Rows.{entityIn}
 use Rattle.sound_columns.specs.Rows.{keyAt}
 use Rattle.sound_groups.specs.Counts.{Holds}

@@ -1,7 +1,7 @@
 use Prim.Native.Nat.{_-_, _≤_}
 use native.Mathlib.Omega.{arith}
 use Rattle.sound_columns.specs.Slots.{Over}
-use Rattle.words.specs.Decides.{granted, denied}
+use Rattle.words.proofs.Decides.{granted, denied}
 use Rattle.sound_columns.proofs.SlotLaws.{over-more}
 use Rattle.sound_groups.specs.Counts.{EvenOk}
 use Rattle.sound_groups.proofs.counts.span_even.Statement.{statement}

@@ -3,7 +3,8 @@ use native.Mathlib.Omega.{arith}
 use borrow.Author.Needs.{needs}
 use Rattle.words.specs.Offsets.{LAYOUT}
 use Rattle.sound_groups.proofs.CountLaws.{seen-own}
-use Rattle.words.specs.Part.{between, getD-between, length-between}
+use Rattle.words.specs.Part.{between}
+use Rattle.words.proofs.Part.{getD-between, length-between}
 use Rattle.sound_groups.proofs.heads.are_own.Statement.{statement}
 use Rattle.sound_groups.proofs.heads.are_own.Tie as tie
 

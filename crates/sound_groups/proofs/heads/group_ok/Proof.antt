@@ -1,7 +1,7 @@
 use Prim.Native.Nat.{_+_, _-_}
 use native.Mathlib.Omega.{arith}
 use Rattle.words.specs.Offsets.{GROUP-FAMILIES}
-use Rattle.words.specs.Decides.{granted, denied}
+use Rattle.words.proofs.Decides.{granted, denied}
 use Rattle.memory.specs.Header.{groupFamilyAt}
 use Rattle.sound_groups.specs.Spans.{GroupOf, NewOk}
 use borrow.Author.Needs.{needs}

@@ -1,7 +1,8 @@
 use Prim.Native.Nat.{_-_, _≤_}
 use native.Mathlib.Omega.{arith}
 use borrow.Author.Count.{below-more}
-use Rattle.words.specs.Decides.{granted, denied, Each}
+use Rattle.words.specs.Decides.{Each}
+use Rattle.words.proofs.Decides.{granted, denied}
 use Rattle.sound_groups.specs.Spans.{SeenOk}
 use Rattle.sound_columns.proofs.SlotLaws.{slot-of}
 use Rattle.sound_groups.proofs.heads.own_all_ok.Statement.{statement}
