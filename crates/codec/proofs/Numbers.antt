@@ -1,12 +1,11 @@
 -- Numbers in bytes, one after another: written, and read back. Assumes nothing.
-use mathlib.Core.Path.{_≡_, ap, ap₂, sym, _∙_}
+use mathlib.Core.Path.{_≡_, ap, ap₂}
 use mathlib.Core.List.{List, [], _∷_, _++_}
 use Prim.Native.Nat.{ℕ, zero, suc, _+_, _*_, _/_, _%_, _^_, _≤_, _<_}
 use native.Mathlib.Omega.{arith}
-use native.Mathlib.Nat.{div-lt-iff-lt-mul, pow-suc, mul-assoc, mul-comm, add-mul-mod-self-left, add-mul-div-left, suc-add, add-suc, zero-add, add-zero}
+use native.Mathlib.Nat.{div-lt-iff-lt-mul, pow-suc, mul-assoc, mul-comm, add-mul-mod-self-left, add-mul-div-left, suc-add, zero-add}
 use lib.Dec.{lit<}
-use lib.ListN.{length, set, take, drop}
-use lib.Seq.{sets}
+use lib.ListN.{length, take, drop}
 use Rattle.model.specs.Store.{bytesOf, number}
 
 -- the bytes of x, which has no more than n, and then those of y
@@ -23,13 +22,6 @@ bytesOf-join (suc n) m x y h =
 -- a value from its two words
 pub bytesOf-value : (l h : ℕ) → l < 4294967296 → bytesOf 8 (l + 4294967296 * h) ≡ bytesOf 4 l ++ bytesOf 4 h
 bytesOf-value l h b = bytesOf-join 4 4 l h b
-
--- bytes written one run after another
-pub sets-join : (l : List ℕ) (i : ℕ) (a b : List ℕ) → sets (sets l i a) (i + length a) b ≡ sets l i (a ++ b)
-sets-join l i [] b = ap (λ (k : ℕ). sets l k b) (add-zero i)
-sets-join l i (x ∷ a) b =
-    ap (λ (k : ℕ). sets (sets (set l i x) (suc i) a) k b) (add-suc i (length a) ∙ sym (suc-add i (length a)))
-    ∙ sets-join (set l i x) (suc i) a b
 
 -- the number of a + 4 bytes and those after
 pub number-join : (n : ℕ) (t : List ℕ) → n ≤ length t → number t ≡ number (take n t) + 256 ^ n * number (drop n t)

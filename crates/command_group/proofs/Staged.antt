@@ -9,7 +9,7 @@ use lib.Seq.{take-suc-set, take-suc, take-all}
 use Rattle.model.specs.Model.{kindOf, mem}
 use Rattle.model.specs.Sound.{noComponent, StoreSound}
 use Rattle.model.specs.Store.{Store, stagedKinds}
-use Rattle.model.proofs.Walk.{bool-cases}
+use Rattle.model.proofs.BoolLaws.{bool-cases}
 use Rattle.model.proofs.KindLists.{out-count}
 use Rattle.layout.specs.Layout.{KindSet}
 use Rattle.layout_block.proofs.Transfer.{kind-small}

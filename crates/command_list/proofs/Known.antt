@@ -10,7 +10,7 @@ use lib.ListN.{length}
 use Rattle.model.specs.Numbers.{LAST-KIND, MAX-KINDS}
 use Rattle.model.specs.Store.{Store, isKind}
 use Rattle.model.specs.Refusals.{unknownKind}
-use Rattle.model.proofs.Walk.{or-false}
+use Rattle.model.proofs.BoolLaws.{or-false}
 use Rattle.memory.specs.Header.{kindCapacityOf, registeredOf}
 use Rattle.memory.specs.Meaning.{meaning}
 use Rattle.memory.proofs.Becomes.{kinds-count}

@@ -11,7 +11,7 @@ use Rattle.model.specs.Commands.{RANGE, rangeBytes, accepted}
 use Rattle.model.specs.Run.{accepts, does}
 use Rattle.model.proofs.Bounds.{range-bounded}
 use Rattle.model.proofs.Outcomes.{range-does}
-use Rattle.codec.proofs.Numbers.{sets-join}
+use Rattle.model.proofs.ListLaws.{sets-join}
 
 -- the model's range of the hand without the bar
 abbrev pub rangeTold : Store → Range

@@ -10,7 +10,8 @@ use lib.Seq.{getD-take, length-take-le}
 use Rattle.words.specs.Offsets.{ENTITIES, GROUP-COUNTS, GROUP-PLACES}
 use Rattle.model.specs.Model.{mem, groupsOf}
 use Rattle.model.specs.Sound.{In}
-use Rattle.model.proofs.KindLists.{not-true, at-in}
+use Rattle.model.proofs.KindLists.{at-in}
+use Rattle.model.proofs.BoolLaws.{not-true}
 use Rattle.words.specs.Part.{between}
 use Rattle.words.proofs.Part.{getD-between}
 use Rattle.layout.specs.Layout.{Arrays, startOf, widthOf, kindsAt, aritiesAt, familiesOf, WellFormed}

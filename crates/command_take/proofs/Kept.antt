@@ -13,8 +13,8 @@ use Rattle.model.proofs.ListLaws.{length-swap, count-swap}
 use Rattle.model.specs.Model.{Entity, Row, SparseSet, Storage, sameEntity, noEntity, noRow, mem, setOf, keys, entityOf, at, held, swapTo, ungroup}
 use Rattle.model.specs.Commands.{takenBytes, heldBytes}
 use Rattle.model.specs.Sound.{cnt, key}
-use Rattle.model.proofs.SparseSets.{cond-case, keys-swap, setOf-mapOn, entity-same}
-use Rattle.model.proofs.Walk.{bool-cases}
+use Rattle.model.proofs.SparseSets.{keys-swap, setOf-mapOn, entity-same}
+use Rattle.model.proofs.BoolLaws.{cond-case, bool-cases}
 use Rattle.model.proofs.Invariant.{Fit}
 use Rattle.component.proofs.Places.{at-entity}
 use Rattle.group.specs.declared.group_status.GroupStatus.{GroupStatus}

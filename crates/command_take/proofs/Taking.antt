@@ -11,7 +11,7 @@ use Rattle.model.specs.Model.{Entity, SparseSet, Storage, noRow, setOf, at, hel
 use Rattle.model.specs.Store.{Store, stagedKinds, bytesOf}
 use Rattle.model.specs.Commands.{takenBytes, heldBytes}
 use Rattle.model.proofs.Lengths.{held-length}
-use Rattle.codec.proofs.Numbers.{sets-join}
+use Rattle.model.proofs.ListLaws.{sets-join}
 use Rattle.memory.specs.Meaning.{meaning}
 use Rattle.world.specs.Remove.{Staged}
 use Rattle.command_take.specs.Take.{TakesKind, TakesStaged}

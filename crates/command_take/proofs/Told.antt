@@ -10,7 +10,7 @@ use Rattle.model.specs.Store.{Store, stagedKinds}
 use Rattle.model.specs.Commands.{TAKE, heldBytes}
 use Rattle.model.proofs.Outcomes.{take-live}
 use Rattle.model.proofs.Lengths.{answer-length}
-use Rattle.codec.proofs.Numbers.{sets-join}
+use Rattle.model.proofs.ListLaws.{sets-join}
 use Rattle.command.specs.Acted.{Written}
 
 -- TAKE: the bytes after the 0 byte, and how many they are

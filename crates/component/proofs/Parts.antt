@@ -1,15 +1,15 @@
 -- One slot's part lent on and back: what that leaves of the words. Assumes nothing.
-use mathlib.Core.Path.{_≡_, sym, ap, _∙_}
+use mathlib.Core.Path.{_≡_, ap, _∙_}
 use mathlib.Core.Logic.{_≢_}
 use mathlib.Core.List.{List}
 use Prim.Native.Nat.{ℕ, _+_, _*_, _-_, _≤_, _<_}
 use native.Mathlib.Omega.{arith}
 use native.Mathlib.Decide.{decLt}
 use lib.ListN.{length, getD, take, drop}
-use lib.Seq.{take-take, drop-drop}
 use Rattle.model.specs.Numbers.{columnLen}
 use Rattle.model.specs.Model.{SparseSet}
 use Rattle.model.proofs.BoolLaws.{by-eq}
+use Rattle.model.proofs.ListLaws.{take-less, drop-later}
 use Rattle.words.specs.Part.{between}
 use Rattle.words.proofs.Part.{patch, getD-between, between-front, between-rest, patch-front, patch-between, patch-rest, patch-length}
 use Rattle.words.specs.Offsets.{columnStart}
@@ -32,15 +32,6 @@ unfolding columnOf
 getD-column n s i w h = getD-between (columnStart n s) (columnStart n s + (columnLen n)) i w 0 (omega arith)
 
 -- ---- words that agree up to b agree up to a ≤ b, and those that agree from e on agree from c ≥ e on
-
-take-less : (a b : ℕ) (w v : List ℕ) → a ≤ b → take b v ≡ take b w → take a v ≡ take a w
-take-less a b w v h e = sym (take-take a b v h) ∙ ap (take a) e ∙ take-take a b w h
-
-pub drop-later : (e c : ℕ) (w v : List ℕ) → e ≤ c → drop e v ≡ drop e w → drop c v ≡ drop c w
-drop-later e c w v h q = from v ∙ ap (drop (c - e)) q ∙ sym (from w)
-  where
-    from : (u : List ℕ) → drop c u ≡ drop (c - e) (drop e u)
-    from u = let k : c ≡ e + (c - e) = omega arith in ap (λ (i : ℕ). drop i u) k ∙ sym (drop-drop (c - e) e u)
 
 -- words that agree before slot s and after it have the same other slots
 pub others-kept : (n s : ℕ) (w w′ : List ℕ) → take (columnStart n s) w′ ≡ take (columnStart n s) w

@@ -13,7 +13,7 @@ use Rattle.model.specs.Model.{Component, Family, kindOf}
 use Rattle.model.specs.Sound.{noComponent}
 use Rattle.model.specs.Store.{Counts, Control, stagedKinds, withControl, withCounts, emptyStaged, emptyBoth, counted}
 use Rattle.words.specs.Table.{table}
-use Rattle.words.proofs.Tables.{length-table, getD-table, table-snoc}
+use Rattle.words.proofs.Tables.{length-table, getD-table, table-snoc, words-table, map-table}
 use Rattle.words.specs.Stores.{stores}
 use Rattle.words.proofs.Stores.{Misses, length-stores, miss, hit}
 use Rattle.words.specs.Part.{between}
@@ -26,7 +26,6 @@ use Rattle.memory.proofs.Frames.{draft-arrays-same, staged-same, excluded-same,
 use Rattle.memory.proofs.Becomes.{Static, control-becomes}
 use Rattle.control.specs.Lists.{staging, excluding}
 use Rattle.control.specs.Refusals.{CountsRefusal}
-use Rattle.control.proofs.KindWords.{words-table, map-table}
 
 -- ---- what is read
 

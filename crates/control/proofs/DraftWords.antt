@@ -19,7 +19,8 @@ use Rattle.memory.specs.Header.{draftFamilies, draftGroups}
 use Rattle.words.specs.Word.{Word}
 use Rattle.memory.specs.Meaning.{draftArrays, draftIn, stagedIn, excludedIn, controlIn, meaning}
 use Rattle.memory.specs.Arranged.{Arranged, Becomes}
-use Rattle.memory.proofs.Frames.{word-front, drop-later, staged-same, excluded-same, counts-kept, long, word-rest}
+use Rattle.memory.proofs.Frames.{staged-same, excluded-same, counts-kept, long}
+use Rattle.model.proofs.ListLaws.{drop-later, word-front, word-rest}
 use Rattle.memory.proofs.Becomes.{Static, control-becomes}
 use Rattle.control.specs.Draft.{IsDraft, drafting}
 use Rattle.control.proofs.Control.{drop-stores}

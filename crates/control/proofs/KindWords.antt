@@ -1,30 +1,14 @@
 -- Kinds one after another in the words: membership, as a loop finds it. Assumes nothing.
-use mathlib.Core.Path.{_≡_, refl, sym, ap, _∙_}
+use mathlib.Core.Path.{_≡_, sym, ap, _∙_}
 use mathlib.Core.Bool.{Bool, true, false, _||_}
-use mathlib.Core.List.{List, _∷_, map}
-use Prim.Native.Nat.{ℕ, zero, suc, _+_, _-_, _≤_, _<_}
+use mathlib.Core.List.{List}
+use Prim.Native.Nat.{ℕ, suc, _+_, _-_, _<_}
 use native.Mathlib.Numerals.{add-one}
-use native.Mathlib.Omega.{arith}
 use borrow.Author.Tests.{eq-eqb, ne-eqb}
 use lib.Dec.{eqb}
 use lib.ListN.{length, getD, drop}
 use lib.Seq.{drop-cons, drop-length}
 use Rattle.model.specs.Model.{mem}
-use Rattle.words.specs.Table.{table}
-use Rattle.words.proofs.Tables.{is-table}
-use Rattle.words.specs.Part.{between}
-use Rattle.words.proofs.Part.{length-between, getD-between}
-
--- k words from a on, as a part
-pub words-table : (w : List ℕ) (a k : ℕ) → a + k ≤ length w → table k (λ (i : ℕ). getD w (a + i) 0) ≡ between a (a + k) w
-words-table w a k fits =
-    is-table 0 k (λ (i : ℕ). getD w (a + i) 0) (between a (a + k) w) (length-between a (a + k) w fits ∙ omega arith)
-    (λ i h. sym (getD-between a (a + k) i w 0 (omega arith)))
-
-pub map-table : {A B : Type 0} (f : A → B) (k : ℕ) (g : ℕ → A) → map f (table k g) ≡ table k (λ (i : ℕ). f (g i))
-unfolding table
-map-table f zero g = refl
-map-table {B} f (suc k) g = ap {B = List B} (λ r. f (g zero) ∷ r) (map-table f k (λ i. g (suc i)))
 
 -- ---- the loop: what it has not passed decides
 

@@ -14,7 +14,7 @@ use Rattle.model.proofs.ListLaws.{getD-place}
 use Rattle.model.specs.Model.{Entity, Entities, noEntity, sameEntity, isLive}
 use Rattle.model.specs.Snapshot.{liveVersion as versionIn}
 use Rattle.model.proofs.SparseSets.{entity-eq, entity-same}
-use Rattle.model.proofs.Walk.{bool-cases}
+use Rattle.model.proofs.BoolLaws.{bool-cases}
 use Rattle.words.proofs.Tables.{length-table, getD-table}
 use Rattle.entity.specs.declared.Found.the-variants.{At, Nothing}
 use Rattle.entity.specs.Meaning.{EntityPartSound, entity, entitiesOf, entityAt, waitingAt, lenOf, issuedOf, recycledLen, liveIndexAt, liveVersionAt, placeOf, heldOf}

@@ -14,7 +14,7 @@ use Rattle.model.proofs.ListLaws.{count-place, getD-place}
 use Rattle.model.specs.Model.{Entity, noEntity, sameEntity, lastVersion}
 use Rattle.model.proofs.SparseSets.{entity-eq}
 use Rattle.model.proofs.Groups.{cnt, plc}
-use Rattle.model.proofs.Walk.{bool-cases}
+use Rattle.model.proofs.BoolLaws.{bool-cases}
 use Rattle.model.proofs.Numbers.{EntitiesOk, num, indexOf}
 use Rattle.words.proofs.Links.{apart}
 use Rattle.entity.specs.Queue.{wrapped}

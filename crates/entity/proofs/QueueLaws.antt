@@ -3,15 +3,10 @@ use mathlib.Core.Path.{_≡_, sym, ap, _∙_}
 use mathlib.Core.Logic.{_≢_}
 use Prim.Native.Nat.{ℕ, suc, _+_, _-_, _≤_, _<_}
 use native.Mathlib.Omega.{arith}
-use native.Mathlib.Decide.{decLt}
 use borrow.Author.Tests.{lt-ltb, le-ltb, le-leb, lt-leb}
-use Rattle.model.proofs.BoolLaws.{by-eq}
+use Rattle.model.proofs.BoolLaws.{by-eq, by-lt}
 use Rattle.words.proofs.Pigeon.{pigeon-free}
 use Rattle.entity.specs.Queue.{wrapped, since, Waits, Queued, Queue}
-
--- by cases on an order
-pub by-lt : {C : Type 0} (a b : ℕ) → (a < b → C) → (b ≤ a → C) → C
-by-lt a b f g = elim (decLt a b) [ yes h ↦ f h | no h ↦ g (omega arith) ]
 
 pub wrapped-low : (n k : ℕ) → k < n → wrapped n k ≡ k
 unfolding wrapped

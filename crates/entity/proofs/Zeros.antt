@@ -1,14 +1,11 @@
 -- A part of zeros holds no entity. Assumes nothing.
-use mathlib.Core.Path.{_≡_, refl, _∙_}
-use mathlib.Core.List.{List, []}
+use mathlib.Core.Path.{_≡_, _∙_}
+use mathlib.Core.List.{List}
 use Prim.Native.Nat.{ℕ, _+_, _*_, _<_}
 use native.Mathlib.Omega.{arith}
-use native.Mathlib.Nat.{not-suc-le-zero}
 use lib.ListN.{length, getD}
 use Rattle.model.specs.Numbers.{ENTITY-LEN}
-use Rattle.words.specs.Table.{table}
-use Rattle.words.proofs.Tables.{is-table}
-use Rattle.model.specs.Model.{Entity, noEntity}
+use Rattle.words.proofs.Tables.{table-none}
 use Rattle.entity.specs.Meaning.{Sized, entitiesOf, lenOf, issuedOf, headOf, recycledLen, heldOf, queueSlot}
 use Rattle.entity.specs.Change.{Changed, noEntities}
 use Rattle.entity.proofs.Kept.{entities-path}
@@ -16,9 +13,6 @@ use Rattle.entity.proofs.Kept.{entities-path}
 -- the first i words are zeros
 abbrev pub ZerosTo : List ℕ → ℕ → Type 0
 ZerosTo w i = (k : ℕ) → k < i → getD w k 0 ≡ 0
-
-table-none : (k : ℕ) (f : ℕ → Entity) → k ≡ 0 → table k f ≡ []
-table-none k f e = rw e (is-table noEntity 0 f [] refl (λ i h. absurd (not-suc-le-zero h)))
 
 pub zeros-changed : (n : ℕ) (w₀ w : List ℕ) → Sized n w₀ → length w ≡ length w₀ → ZerosTo w (length w) → Changed n (λ s. noEntities) w₀ w
 unfolding entitiesOf

@@ -8,10 +8,11 @@ use lib.Dec.{ltb}
 use lib.ListN.{length}
 use lib.Seq.{ext-getD}
 use Rattle.model.specs.Model.{Entity, SparseSet, Group, Family, Storage, Walked, mem, meets, setOf, at, swapTo, isGrouped, headKind, kindsOf, ungroupComponents, ungroupFamily, ungroup}
-use Rattle.model.proofs.SparseSets.{cond-case, cond-same, setOf-mapOn}
+use Rattle.model.proofs.SparseSets.{setOf-mapOn}
+use Rattle.model.proofs.BoolLaws.{cond-case, cond-same, or-false, or-false-right, bool-cases}
 use Rattle.model.proofs.Groups.{In}
-use Rattle.model.proofs.Walk.{bool-cases, mem-append, in-left, in-right, or-false, Chain, Every}
-use Rattle.model.proofs.Families.{Fams, Apart, allKinds, famKinds, or-false-right, not-both}
+use Rattle.model.proofs.Walk.{mem-append, in-left, in-right, Chain, Every}
+use Rattle.model.proofs.Families.{Fams, Apart, allKinds, famKinds, not-both}
 use Rattle.model.proofs.Removal.{length-ungroupFamily, length-ungroupFamily-all}
 use Rattle.group.specs.Flat.{withCount}
 

@@ -8,9 +8,10 @@ use borrow.Author.Tests.{ltb-true}
 use lib.ListN.{length, length-map}
 use Rattle.model.proofs.ListLaws.{place-count-take, count-take-le}
 use Rattle.model.specs.Model.{Entity, SparseSet, Group, Family, Storage, Walked, GroupStep, sameEntity, meets, setOf, keys, entityOf, at, held, onKinds, swapTo, allHeld, isGrouped, headKind, kindsOf, ungroupComponents, ungroupFamily, ungroup}
-use Rattle.model.proofs.SparseSets.{cond-case, key}
+use Rattle.model.proofs.SparseSets.{key}
+use Rattle.model.proofs.BoolLaws.{cond-case, bool-cases}
 use Rattle.model.proofs.Groups.{cnt, plc, In, Even, SameEntities}
-use Rattle.model.proofs.Walk.{bool-cases, in-right, Chain, Every, Missing, all-missing, count-held}
+use Rattle.model.proofs.Walk.{in-right, Chain, Every, Missing, all-missing, count-held}
 use Rattle.model.proofs.WalkDown.{Held, Down, ungroupFamily-good}
 use Rattle.model.proofs.Families.{Fams, Apart, famKinds, chain-other}
 use Rattle.model.proofs.Invariant.{Fit}

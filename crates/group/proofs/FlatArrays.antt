@@ -1,41 +1,26 @@
 -- The groups that a layout's arrays list, by position: each group's kinds stand in a row among the layout's, and its count is its number's. Assumes nothing.
 use mathlib.Core.Path.{_≡_, refl, ap, ap₂, sym, _∙_}
 use mathlib.Core.Logic.{_≢_}
-use mathlib.Core.List.{List, [], _∷_, _++_}
+use mathlib.Core.List.{List, [], _∷_}
 use Prim.Native.Nat.{ℕ, zero, suc, _+_, _-_, _≤_, _<_}
 use native.Mathlib.Omega.{arith}
 use native.Mathlib.Decide.{decLt}
 use native.Mathlib.Nat.{le-of-suc-le-suc, not-suc-le-zero, sub-zero}
-use lib.ListN.{length, getD, set, take, drop, List·getD-append}
-use lib.Seq.{getD-append-add, getD-set-same, getD-set-other, take-add, take-take, drop-drop}
+use lib.ListN.{length, getD, set, take, List·getD-append}
+use lib.Seq.{getD-append-add, getD-set-same, getD-set-other, take-take}
 use Rattle.model.specs.Model.{Family}
 use Rattle.model.specs.Sound.{layoutKinds}
 use Rattle.words.specs.Part.{between}
-use Rattle.words.proofs.Part.{between-front, getD-between}
+use Rattle.words.proofs.Part.{between-front, getD-between, between-part, between-join}
 use Rattle.words.specs.Table.{table}
 use Rattle.words.proofs.Tables.{table-set}
 use Rattle.layout.specs.Layout.{Arrays, Sized, startOf, widthOf, kindsAt, aritiesAt, groupsFrom, familyAt, familiesOf, Rising, WellFormed}
-use Rattle.layout.proofs.Family.{between-join, rising-le}
+use Rattle.layout.proofs.Family.{rising-le}
 use Rattle.layout.proofs.Arrays.{ends-rise, kind-order, group-order, kinds-inside, arities-length, kinds-length, family-rising, groups-length, layout-kinds}
 use Rattle.group.specs.Flat.{nowhere, flattenFamily, flatten, located, setIn, setCount}
 use Rattle.group.proofs.Fronts.{length-flattenFamily, set-here, set-later}
 
 -- ---- parts of a list
-
-pub between-split : (a b c : ℕ) (l : List ℕ) → a ≤ b → b ≤ c → between a b l ++ between b c l ≡ between a c l
-between-split a b c l h k =
-    let e : a + (b - a) ≡ b = omega arith in
-    let d : drop b l ≡ drop (b - a) (drop a l) = ap (λ (n : ℕ). drop n l) (sym e) ∙ sym (drop-drop (b - a) a l) in
-    let n : (b - a) + (c - b) ≡ c - a = omega arith in
-    ap (λ (r : List ℕ). between a b l ++ take (c - b) r) d ∙ sym (take-add (b - a) (c - b) (drop a l)) ∙ ap (λ (m : ℕ). take m (drop a l)) n
-
--- a part of a part
-pub between-part : (x y s e : ℕ) (l : List ℕ) → s + y ≤ e → between x y (between s e l) ≡ between (s + x) (s + y) l
-between-part x y s e l h =
-    let n : y - x ≡ s + y - (s + x) = omega arith in
-    between-front (e - s) x y (drop s l) (between s e l) (omega arith) (take-take (e - s) (e - s) (drop s l) (omega arith))
-    ∙ ap (take (y - x)) (drop-drop x s l)
-    ∙ ap (λ (m : ℕ). take m (drop (s + x) l)) n
 
 -- ---- a family's groups: ks are its kinds, ars the groups' arities from here on, b the arity before
 

@@ -13,7 +13,7 @@ use Rattle.words.specs.Offsets.{ARITIES, BLOCK-LEN, ENDS, ENTITIES, GROUP-COUNT
 use Rattle.model.specs.Model.{Family, Storage, groupsOf}
 use Rattle.model.specs.Store.{onStorage, withLayout}
 use Rattle.model.specs.Sound.{In, Distinct, layoutKinds}
-use Rattle.model.proofs.Walk.{bool-cases}
+use Rattle.model.proofs.BoolLaws.{bool-cases}
 use Rattle.words.specs.Part.{between}
 use Rattle.words.proofs.Part.{length-between, getD-between}
 use Rattle.layout.specs.Layout.{Arrays, startOf, widthOf, aritiesAt, familiesOf, KindSet, WellFormed}

@@ -12,10 +12,10 @@ use lib.Seq.{getD-append-add}
 use Rattle.model.proofs.ListLaws.{count-append}
 use Rattle.model.specs.Model.{Family, mem, anyOf, meets, headKind, kindsOf, groupsOf}
 use Rattle.model.specs.Sound.{In, Distinct, layoutKinds}
-use Rattle.model.proofs.Walk.{bool-cases, or-true, or-false, mem-append, in-left, in-right}
-use Rattle.model.proofs.Families.{or-false-right}
+use Rattle.model.proofs.Walk.{or-true, mem-append, in-left, in-right}
+use Rattle.model.proofs.BoolLaws.{bool-cases, or-false, or-false-right, not-true, or-exchange}
 use Rattle.model.proofs.Invariant.{any-in}
-use Rattle.model.proofs.KindLists.{not-true, in-count, distinct-left, distinct-right, distinct-apart}
+use Rattle.model.proofs.KindLists.{in-count, distinct-left, distinct-right, distinct-apart}
 use Rattle.masks.specs.Masks.{upFrom, has, keep, unionOf}
 use Rattle.masks.proofs.Lists.{has-append, has-union, has-keep, has-up, up-split, between-high}
 use Rattle.group.specs.Flat.{Located, nowhere, flattenFamily, flatten, located, familyPositions, insertPositions, deleteFamily, deleteFrom, deletePositions}
@@ -104,18 +104,13 @@ has-deleteFamily i a b p acc (r ∷ rs) =
     R : List ℕ → List ℕ
     R ks = deleteFamily ks (suc p) (acc ++ r .newKinds) rs
 
-four : (a b c d : Bool) → ((a || b) || (c || d)) ≡ ((a || c) || (b || d))
-four true b c d = refl
-four false true c d = sym (or-true c)
-four false false c d = refl
-
 has-delete : (i : ℕ) (a b : List ℕ) (p : ℕ) (fs : List Family) → has i (deleteFrom (a ++ b) p fs) ≡ (has i (deleteFrom a p fs) || has i (deleteFrom b p fs))
 unfolding deleteFrom has
 has-delete i a b p [] = refl
 has-delete i a b p (f ∷ fs) =
     has-append i (deleteFamily (a ++ b) p [] f) (deleteFrom (a ++ b) (p + length f) fs)
     ∙ ap₂ _||_ (has-deleteFamily i a b p [] f) (has-delete i a b (p + length f) fs)
-    ∙ four (has i (deleteFamily a p [] f)) (has i (deleteFamily b p [] f)) (has i (deleteFrom a (p + length f) fs)) (has i (deleteFrom b (p + length f) fs))
+    ∙ or-exchange (has i (deleteFamily a p [] f)) (has i (deleteFamily b p [] f)) (has i (deleteFrom a (p + length f) fs)) (has i (deleteFrom b (p + length f) fs))
     ∙ sym (ap₂ _||_ (has-append i (deleteFamily a p [] f) (deleteFrom a (p + length f) fs)) (has-append i (deleteFamily b p [] f) (deleteFrom b (p + length f) fs)))
 
 pub delete-union : (w : ℕ) (ks js : List ℕ) (fs : List Family) → groupsOf fs ≤ w → deletePositions (ks ++ js) fs ≡ unionOf w (deletePositions ks fs) (deletePositions js fs)

@@ -8,7 +8,7 @@ use native.Mathlib.Decide.{decLt}
 use borrow.Author.Tests.{le-leb, lt-leb, leb-true, leb-false, eqb-true}
 use lib.Dec.{leb, eqb}
 use Rattle.model.specs.Model.{Entity, Storage}
-use Rattle.model.proofs.Walk.{bool-cases, or-cases}
+use Rattle.model.proofs.BoolLaws.{bool-cases, or-cases}
 use Rattle.masks.specs.Masks.{putIf, positions, bitsOf, has, keep, between, commonOf, skipping}
 use Rattle.masks.specs.Walk.{LowStep, HighStep}
 use Rattle.masks.proofs.Lists.{keep-same, keep-all, skip-common, between-in, between-high}

@@ -9,9 +9,8 @@ use borrow.Author.Tests.{ne-eqb, eqb-true}
 use lib.Dec.{eqb}
 use lib.ListN.{length}
 use Rattle.model.specs.Model.{Family, meets, groupsOf}
-use Rattle.model.proofs.SparseSets.{cond-case}
-use Rattle.model.proofs.Walk.{bool-cases, or-cases, or-true}
-use Rattle.model.proofs.KindLists.{not-true}
+use Rattle.model.proofs.BoolLaws.{cond-case, or-cases, not-true, bool-cases}
+use Rattle.model.proofs.Walk.{or-true}
 use Rattle.masks.specs.Masks.{upFrom, has}
 use Rattle.masks.proofs.Lists.{has-append, has-here, has-up, between-parts}
 use Rattle.group.specs.Flat.{familyPositions, deleteFamily, deleteFrom}

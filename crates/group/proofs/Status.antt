@@ -8,16 +8,15 @@ use lib.ListN.{length, getD}
 use Rattle.model.specs.Run.{Store}
 use Rattle.model.specs.Model.{Entity, SparseSet, setOf, at, held, allHeld}
 use Rattle.model.specs.Sound.{In}
-use Rattle.model.proofs.Walk.{bool-cases, in-right}
+use Rattle.model.proofs.Walk.{in-right}
+use Rattle.model.proofs.BoolLaws.{bool-cases}
 use Rattle.words.specs.Part.{between}
-use Rattle.layout.proofs.Family.{between-none}
+use Rattle.words.proofs.Part.{between-none, between-split, between-step}
 use Rattle.group.specs.declared.group_metadata.GroupMetadata.{GroupMetadata}
 use Rattle.group.specs.declared.group_status.GroupStatus.the-variants.{Incomplete, Ungrouped, Grouped}
 use Rattle.group.specs.Flat.{statusAt}
 use Rattle.group.specs.Metadata.{orderOf, PlacesKnown, Stands}
 use Rattle.group.specs.Steps.{statusIn}
-use Rattle.group.proofs.FlatArrays.{between-split}
-use Rattle.group.proofs.Places.{between-step}
 
 -- ---- all of the kinds from p to end
 

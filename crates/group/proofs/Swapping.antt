@@ -12,7 +12,7 @@ use Rattle.model.specs.Store.{onSet, onStorage}
 use Rattle.model.specs.Sound.{In, Distinct}
 use Rattle.model.proofs.Walk.{in-left}
 use Rattle.words.specs.Part.{between}
-use Rattle.layout.proofs.Family.{between-none}
+use Rattle.words.proofs.Part.{between-none, between-split, between-more}
 use Rattle.memory.specs.Meaning.{meaning}
 use Rattle.memory.specs.Arranged.{Arranged, Becomes}
 use Rattle.memory.proofs.Becomes.{stays, sets-wide}
@@ -22,8 +22,7 @@ use Rattle.group.specs.Metadata.{orderOf, PlacesKnown}
 use Rattle.group.specs.Steps.{swapKinds}
 use Rattle.group.proofs.KindPositions.{not-left}
 use Rattle.group.proofs.EachKind.{eachKind, each-append, setOf-each, each-kinds}
-use Rattle.group.proofs.FlatArrays.{between-split}
-use Rattle.group.proofs.Places.{between-more, between-in}
+use Rattle.group.proofs.Places.{between-in}
 use Rattle.group.proofs.Storing.{becomes-then}
 use Rattle.group.proofs.InWords.{order-part-once}
 

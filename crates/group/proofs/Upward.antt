@@ -8,8 +8,7 @@ use native.Mathlib.Numerals.{add-one}
 use borrow.Author.Tests.{lt-ltb, le-ltb}
 use lib.ListN.{length}
 use Rattle.model.specs.Model.{Entity, SparseSet, Group, Family, Storage, Walked, GroupStep, meets, onKinds, swapTo, allHeld, isGrouped, kindsOf, groupComponents, groupFamily, groupTouched, groupAll}
-use Rattle.model.proofs.SparseSets.{cond-case}
-use Rattle.model.proofs.Walk.{bool-cases}
+use Rattle.model.proofs.BoolLaws.{cond-case, bool-cases}
 use Rattle.masks.specs.Masks.{upFrom}
 use Rattle.group.specs.declared.group_status.GroupStatus.{GroupStatus}
 use Rattle.group.specs.declared.group_status.GroupStatus.the-variants.{Incomplete, Ungrouped, Grouped}

@@ -8,7 +8,8 @@ use borrow.Author.Tests.{eq-eqb, ne-eqb}
 use lib.Dec.{eqb}
 use lib.ListN.{length, length-append}
 use Rattle.model.specs.Model.{Storage, none, found, mem, within, setOf, rangeAll, single, rangeFor}
-use Rattle.model.proofs.Walk.{bool-cases, or-true}
+use Rattle.model.proofs.Walk.{or-true}
+use Rattle.model.proofs.BoolLaws.{bool-cases}
 use Rattle.layout.specs.Layout.{Arrays, Sized, kindsAt, familiesOf, WellFormed}
 use Rattle.group_info.specs.Info.{infoOf, ExcludedSays, IncludedSays, RangeBy}
 use Rattle.group_info.specs.Describes.{GroupedKinds, InfoOfKind, Describes, Scattered, rangeOf, RangeSays}

@@ -11,9 +11,8 @@ use borrow.Author.Tests.{eq-eqb, ne-eqb, eqb-true, lt-ltb, le-ltb}
 use lib.Dec.{eqb, ltb}
 use lib.ListN.{length, getD, take, length-append}
 use Rattle.model.specs.Model.{Storage, mem, within}
-use Rattle.model.proofs.Walk.{mem-append, or-cases, or-true, all-in}
-use Rattle.model.proofs.KindLists.{not-true}
-use Rattle.model.proofs.BoolLaws.{by-eq}
+use Rattle.model.proofs.Walk.{mem-append, or-true, all-in}
+use Rattle.model.proofs.BoolLaws.{or-cases, not-true, by-eq}
 use Rattle.masks.specs.Masks.{has, bitsOf}
 use Rattle.masks.proofs.Lists.{has-union}
 use Rattle.layout.specs.Layout.{Arrays, Sized, startOf, kindsAt, aritiesAt, KindSet, WellFormed}

@@ -1,7 +1,7 @@
 -- RANGE over the families that the arrays list. Assumes nothing.
 use mathlib.Core.Path.{_≡_, refl, sym, ap, ap₂, _∙_}
 use mathlib.Core.Logic.{_≢_}
-use mathlib.Core.Bool.{Bool, true, false, cond, _||_, true≢false}
+use mathlib.Core.Bool.{Bool, true, false, cond, true≢false}
 use mathlib.Core.List.{List, [], _∷_, _++_, append-assoc}
 use Prim.Native.Nat.{ℕ, zero, suc, _+_, _-_, _≤_, _<_}
 use native.Mathlib.Nat.{add-zero, add-suc, suc-add, sub-zero}
@@ -14,10 +14,12 @@ use Rattle.model.specs.Lists.{countOf}
 use Rattle.model.proofs.ListLaws.{count-append}
 use Rattle.model.specs.Model.{Family, Range, none, found, mem, within, sameSet, kindsOf, firstRange, rangeAt, rangeIn, rangeAll}
 use Rattle.model.proofs.Walk.{mem-append, in-left, all-in}
-use Rattle.model.proofs.KindLists.{not-true, in-count}
+use Rattle.model.proofs.KindLists.{in-count}
+use Rattle.model.proofs.BoolLaws.{not-true, or-false, or-false-right}
 use Rattle.words.specs.Part.{between}
+use Rattle.words.proofs.Part.{count-part, between-join}
 use Rattle.layout.specs.Layout.{Arrays, startOf, widthOf, kindsAt, groupsFrom, KindSet, Rising, WellFormed}
-use Rattle.layout.proofs.Family.{between-join, rising-le, rising-head}
+use Rattle.layout.proofs.Family.{rising-le, rising-head}
 use Rattle.layout.proofs.Arrays.{kind-order, kinds-inside, ends-rise}
 use Rattle.masks.proofs.Lists.{and-parts}
 use Rattle.group_info.proofs.Places.{part-mem, place-at, mem-part}
@@ -31,12 +33,10 @@ differ-left hs js k h j = not-true (sameSet hs js) (λ t. true≢false (sym (all
 pub differ-right : (hs js : List ℕ) (k : ℕ) → mem k js ≡ true → mem k hs ≡ false → sameSet hs js ≡ false
 differ-right hs js k j h = not-true (sameSet hs js) (λ t. true≢false (sym (all-in (λ x. mem x hs) js (and-parts (within hs js) (within js hs) t .1) k j) ∙ h))
 
-or-parts : (a b : Bool) → (a || b) ≡ false → (a ≡ false) × (b ≡ false)
-or-parts true b e = absurd (true≢false e)
-or-parts false b e = (refl, e)
-
 pub not-in-parts : (k : ℕ) (a b : List ℕ) → mem k (a ++ b) ≡ false → (mem k a ≡ false) × (mem k b ≡ false)
-not-in-parts k a b e = or-parts (mem k a) (mem k b) (sym (mem-append k a b) ∙ e)
+not-in-parts k a b e =
+    let h = sym (mem-append k a b) ∙ e in
+    (or-false (mem k a) (mem k b) h, or-false-right (mem k a) (mem k b) h)
 
 -- ---- a family that lacks one of the kinds
 
@@ -80,14 +80,6 @@ only-one hs bs (x ∷ fs) (suc f) h o = rw (o 0 (omega arith) (omega arith)) (on
     suc-same i f e = omega arith
 
 -- ---- the families have no kind in common
-
-count-part : (k : ℕ) (ks : List ℕ) (s e n : ℕ) → s ≤ e → e ≤ n → countOf eqb k (between s e ks) ≤ countOf eqb k (take n ks)
-count-part k ks s e n h l =
-    let a = count-append eqb k (take s ks) (between s e ks) in
-    let b = ap (countOf eqb k) (between-join ks s e h) in
-    let c = count-append eqb k (take e ks) (between e n ks) in
-    let d = ap (countOf eqb k) (between-join ks e n l) in
-    omega arith
 
 pub apart : (a : Arrays) → WellFormed a → (k i j : ℕ) → i < j → j < a .families → countOf eqb k (kindsAt a i) + countOf eqb k (kindsAt a j) ≤ 1
 apart a good k i j h l =

@@ -1,19 +1,20 @@
 -- Places of kinds in a list that has each once: a mask of places is a run of positions exactly where the kinds are that part. Assumes nothing.
 use mathlib.Core.Path.{_≡_, refl, sym, ap, _∙_}
 use mathlib.Core.Bool.{true, false, _&&_}
-use mathlib.Core.List.{List, [], _∷_}
-use Prim.Native.Nat.{ℕ, zero, suc, _+_, _-_, _≤_, _<_}
+use mathlib.Core.List.{List}
+use Prim.Native.Nat.{ℕ, _+_, _-_, _≤_, _<_}
 use native.Mathlib.Decide.{decLt, decLe}
 use native.Mathlib.Omega.{arith}
-use borrow.Author.Tests.{eq-eqb, eqb-true, lt-ltb, le-ltb}
+use borrow.Author.Tests.{eqb-true, lt-ltb, le-ltb}
 use lib.Dec.{eqb, ltb}
 use lib.ListN.{length, getD}
 use Rattle.model.specs.Numbers.{MAX-GROUP-ARITY}
-use Rattle.model.specs.Lists.{one, countOf, place}
-use Rattle.model.proofs.ListLaws.{count-place, getD-place}
+use Rattle.model.specs.Lists.{one, place}
+use Rattle.model.proofs.ListLaws.{count-place, getD-place, once-place}
 use Rattle.model.specs.Model.{mem, within, sameSet}
-use Rattle.model.proofs.Walk.{bool-cases, all-in}
-use Rattle.model.proofs.KindLists.{in-count, all-true, at-count, at-in}
+use Rattle.model.proofs.Walk.{all-in}
+use Rattle.model.proofs.BoolLaws.{bool-cases}
+use Rattle.model.proofs.KindLists.{in-count, all-true, at-in}
 use Rattle.words.specs.Part.{between}
 use Rattle.words.proofs.Part.{getD-between, length-between}
 use Rattle.masks.specs.Masks
@@ -33,15 +34,6 @@ place-inside k l m = count-place eqb k l (in-count l k m)
 pub at-place : (k : ℕ) (l : List ℕ) → mem k l ≡ true → getD l (placeOf k l) 0 ≡ k
 unfolding placeOf
 at-place k l m = getD-place eqb eqb-true k 0 l (count-place eqb k l (in-count l k m))
-
--- the list has each once
-once-place : (l : List ℕ) → ((k : ℕ) → countOf eqb k l ≤ 1) → (i : ℕ) → i < length l → place eqb (getD l i 0) l ≡ i
-once-place [] s i h = absurd (omega arith)
-once-place (x ∷ l) s zero h = rw (eq-eqb x x refl)
-once-place (x ∷ l) s (suc i) h =
-    let y = getD l i 0 in
-    let ne : eqb y x ≡ false = bool-cases (eqb y x) (λ t. absurd (omega (arith, s y, ap one t, at-count l i (omega arith)))) (λ t. t) in
-    rw ne (ap suc (once-place l (λ k. omega (arith, s k)) i (omega arith)))
 
 pub place-at : (l : List ℕ) → KindSet l → (i : ℕ) → i < length l → placeOf (getD l i 0) l ≡ i
 unfolding placeOf

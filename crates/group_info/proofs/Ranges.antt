@@ -10,11 +10,10 @@ use native.Mathlib.Omega.{arith}
 use lib.ListN.{length, getD, take, drop, take-append-drop}
 use Rattle.model.specs.Numbers.{MAX-GROUP-ARITY}
 use Rattle.model.specs.Model.{Family, none, found, mem, within, sameSet, kindsOf, rangeAt, rangeIn, rangeAll}
-use Rattle.model.proofs.Walk.{bool-cases, in-left, all-in}
-use Rattle.model.proofs.KindLists.{not-true}
+use Rattle.model.proofs.Walk.{in-left, all-in}
+use Rattle.model.proofs.BoolLaws.{bool-cases, not-true, by-eq}
 use Rattle.words.specs.Part.{between}
 use Rattle.words.proofs.Part.{getD-between}
-use Rattle.model.proofs.BoolLaws.{by-eq}
 use Rattle.masks.specs.Masks.{upFrom}
 use Rattle.masks.proofs.Lists.{and-parts}
 use Rattle.layout.specs.Layout.{Arrays, Sized, startOf, kindsAt, aritiesAt, groupsFrom, familiesOf, KindSet, Rising, WellFormed}

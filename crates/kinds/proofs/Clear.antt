@@ -9,8 +9,8 @@ use lib.Dec.{ltb}
 use lib.ListN.{length, getD, length-map, List·getD-map}
 use Rattle.model.specs.Numbers.{ENTITY-LEN, MAX-KINDS, columnLen}
 use Rattle.model.specs.Model.{SparseSet, Storage}
+use Rattle.model.proofs.BoolLaws.{bool-cases}
 use Rattle.model.specs.Store.{onStorage}
-use Rattle.model.proofs.Walk.{bool-cases}
 use Rattle.words.specs.Offsets.{columnStart, ENTITIES, EXCLUDED-LEN, STAGED-LEN}
 use Rattle.words.proofs.Offsets.{columnStart-mono}
 use Rattle.words.proofs.Part.{between-rest}
@@ -23,7 +23,8 @@ use Rattle.memory.specs.Header.{capacityOf, kindCapacityOf, registeredOf, slotO
 use Rattle.memory.specs.Meaning.{setAt, setsIn, meaning}
 use Rattle.memory.specs.Arranged.{Arranged, Becomes}
 use Rattle.memory.proofs.Kept.{Kept, capacity-kept, kinds-kept, arranged-kept}
-use Rattle.memory.proofs.Frames.{word-front, start-header, drop-later, part-same, control-same, layout-same, header-kept, draft-formed, reads-means}
+use Rattle.memory.proofs.Frames.{start-header, part-same, control-same, layout-same, header-kept, draft-formed, reads-means}
+use Rattle.model.proofs.ListLaws.{drop-later, word-front}
 use Rattle.kinds.specs.Kinds.{emptied}
 use Rattle.entity.specs.Meaning as entity
 

@@ -11,7 +11,7 @@ use lib.ListN.{length, getD, take}
 use lib.Seq.{getD-take, length-take-le}
 use Rattle.model.specs.Model.{mem}
 use Rattle.model.specs.Sound.{In}
-use Rattle.model.proofs.KindLists.{not-true}
+use Rattle.model.proofs.BoolLaws.{not-true}
 use Rattle.words.proofs.Part.{getD-between}
 use Rattle.layout.specs.Layout.{Arrays, startOf, widthOf, kindsAt, aritiesAt, Rising, WellFormed}
 use Rattle.layout.proofs.Arrays.{end-inside, group-order, groups-inside, kinds-length, arities-length, family-rising}

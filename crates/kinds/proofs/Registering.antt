@@ -28,7 +28,8 @@ use Rattle.layout.specs.Layout.{Arrays, WellFormed, widthOf, groupCount, famili
 use Rattle.memory.specs.Header.{capacityOf, kindCapacityOf, registeredOf, layoutGroups, slotOf, groupFamilyAt}
 use Rattle.memory.specs.Meaning.{kindAt, ownAt, kindsIn, setAt, setsIn, draftArrays, layoutArrays, draftIn, layoutIn, controlIn, meaning}
 use Rattle.memory.specs.Arranged.{TableSound, Registered, memberAt, GroupSound, LayoutSound, Arranged, Becomes}
-use Rattle.memory.proofs.Frames.{word-front, start-header, drop-later, part-same, draft-arrays-same, layout-arrays-same, counts-same, staged-same, excluded-same, settings-kept, counts-kept, long, reads-means}
+use Rattle.memory.proofs.Frames.{start-header, part-same, draft-arrays-same, layout-arrays-same, counts-same, staged-same, excluded-same, settings-kept, counts-kept, long, reads-means}
+use Rattle.model.proofs.ListLaws.{drop-later, word-front}
 use Rattle.kinds.specs.Steps.{withHead}
 use Rattle.kinds.proofs.Slot.{slot-known}
 use Rattle.entity.specs.Meaning as entity

@@ -12,8 +12,8 @@ use Rattle.model.specs.Numbers.{MAX-KINDS}
 use Rattle.model.specs.Model.{SparseSet, mem}
 use Rattle.model.specs.Store.{onSet, onStorage}
 use Rattle.model.specs.Sound.{In}
-use Rattle.model.proofs.Walk.{or-cases}
-use Rattle.model.proofs.KindLists.{not-true, at-in}
+use Rattle.model.proofs.BoolLaws.{or-cases, not-true}
+use Rattle.model.proofs.KindLists.{at-in}
 use Rattle.words.specs.Offsets.{columnStart, ENTITIES, ROWS, UNREGISTERED}
 use Rattle.words.specs.Table.{table}
 use Rattle.words.proofs.Tables.{length-table, getD-table}

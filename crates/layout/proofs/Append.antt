@@ -3,28 +3,14 @@ use mathlib.Core.Path.{_≡_, refl, sym, ap, _∙_}
 use mathlib.Core.Bool.{true, false}
 use mathlib.Core.List.{List, [], _∷_, _++_, append-assoc, append-nil}
 use Prim.Native.Nat.{ℕ, _+_, _-_, _≤_, _<_}
-use native.Mathlib.Nat.{add-suc, add-zero}
 use native.Mathlib.Numerals.{add-one}
 use native.Mathlib.Omega.{arith}
 use lib.ListN.{length, getD, take, drop, set, length-set, length-append, length-drop}
-use lib.Seq.{take-suc-set, take-suc, length-take-le, drop-length, getD-set-same, getD-set-other}
+use lib.Seq.{take-suc-set, length-take-le, drop-length, getD-set-same, getD-set-other}
 use Rattle.model.specs.Model.{mem, without}
 use Rattle.model.proofs.BoolLaws.{by-eq}
 use Rattle.layout.specs.Grow.{Appended, Spread, Raised}
-use Rattle.layout.proofs.Scan.{drop-step}
-
--- a turn of the loop that appends
-pub append-step : (d d₀ s : List ℕ) (at i : ℕ) → at + i < length d → i < length s → take (at + i) d ≡ take at d₀ ++ take i s
-    → take (at + (i + 1)) (set d (at + i) (getD s i 0)) ≡ take at d₀ ++ take (i + 1) s
-append-step d d₀ s at i hd hs e =
-    ap (λ (k : ℕ). take k (set d (at + i) (getD s i 0))) (ap (λ (k : ℕ). at + k) (add-one i) ∙ add-suc at i)
-    ∙ take-suc-set d (at + i) (getD s i 0) hd
-    ∙ ap (λ (l : List ℕ). l ++ (getD s i 0 ∷ [])) e
-    ∙ append-assoc (take at d₀) (take i s) (getD s i 0 ∷ [])
-    ∙ ap (λ (l : List ℕ). take at d₀ ++ l) (sym (take-suc s i 0 hs) ∙ ap (λ (k : ℕ). take k s) (sym (add-one i)))
-
-pub append-none : (d₀ : List ℕ) (at : ℕ) (s : List ℕ) → take (at + 0) d₀ ≡ take at d₀ ++ take 0 s
-append-none d₀ at s = ap (λ (k : ℕ). take k d₀) (add-zero at) ∙ sym (append-nil (take at d₀))
+use Rattle.model.proofs.ListLaws.{drop-step}
 
 -- two in a row append the two together
 pub append-two : (d₀ d₁ d₂ s t : List ℕ) (at r₁ r₂ : ℕ) → Appended d₀ at s d₁ r₁ → Appended d₁ r₁ t d₂ r₂ → Appended d₀ at (s ++ t) d₂ r₂

@@ -10,20 +10,19 @@ use lib.Seq.{take-take}
 use Rattle.model.specs.Numbers.{MAX-GROUP-COUNT, MAX-KINDS}
 use Rattle.words.specs.Offsets.{ARITIES, BLOCK-LEN, ENDS, KIND-ENDS}
 use Rattle.model.specs.Lists.{countOf}
-use Rattle.model.proofs.ListLaws.{count-append}
+use Rattle.model.proofs.ListLaws.{count-append, drop-step}
 use Rattle.model.specs.Model.{Family, kindsOf, groupsOf}
 use Rattle.model.specs.Sound.{layoutKinds}
 use Rattle.words.specs.Part.{between}
-use Rattle.words.proofs.Part.{length-between, between-front}
+use Rattle.words.proofs.Part.{length-between, between-front, between-join}
 use Rattle.words.specs.Table.{table}
-use Rattle.words.proofs.Tables.{length-table, getD-table, table-snoc}
+use Rattle.words.proofs.Tables.{length-table, getD-table, table-snoc, table-none}
 use Rattle.model.proofs.BoolLaws.{by-eq}
 use Rattle.layout.specs.Layout.{Arrays, Sized, startOf, widthOf, groupCount, kindsAt, aritiesAt, groupsFrom, familyAt, familiesOf, KindSet, Rising, WellFormed, blockArrays}
 use Rattle.layout.specs.Fit.{partOf, joinFit, fitFrom, FamilyAsk}
 use Rattle.layout.specs.declared.group_layout.Fit.{Fit}
-use Rattle.layout.proofs.Scan.{drop-step}
 use Rattle.layout.proofs.KindSets.{set-between}
-use Rattle.layout.proofs.Family.{between-join, rising-zero, kinds-from, no-counts}
+use Rattle.layout.proofs.Family.{rising-zero, kinds-from, no-counts}
 
 pub block-sized : (w : List ℕ) (n : ℕ) → length w ≡ BLOCK-LEN → Sized (blockArrays w n)
 block-sized w n e =
@@ -143,10 +142,6 @@ families-step counts a f h =
 
 -- ---- no families
 
-pub table-none : {A : Type 0} (f : ℕ → A) → table 0 f ≡ []
-unfolding table
-table-none f = refl
-
 pub none-formed : (b : List ℕ) → WellFormed (blockArrays b 0)
 none-formed b =
     record {
@@ -170,7 +165,7 @@ groups-append (x ∷ xs) ys = omega (arith, groups-append xs ys)
 
 groups-table : (n : ℕ) (F : ℕ → Family) (es : List ℕ) → ((i : ℕ) → i < n → startOf es i ≤ getD es i 0)
     → ((i : ℕ) → i < n → length (F i) ≡ getD es i 0 - startOf es i) → groupsOf (table n F) ≡ startOf es n
-groups-table zero F es o h = ap groupsOf (table-none F)
+groups-table zero F es o h = ap groupsOf (table-none 0 F refl)
 groups-table (suc n) F es o h =
     ap (λ (m : ℕ). groupsOf (table m F)) (sym (add-one n)) ∙ ap groupsOf (table-snoc [] (F n) n F F refl (λ i l. refl))
     ∙ groups-append (table n F) (F n ∷ [])
@@ -189,7 +184,7 @@ kinds-append (x ∷ xs) ys = ap (λ (l : List ℕ). kindsOf x ++ l) (kinds-appen
 
 kinds-table : (n : ℕ) (F : ℕ → Family) (es ks : List ℕ) → ((i : ℕ) → i < n → startOf es i ≤ getD es i 0) → ((i : ℕ) → i < n → kindsOf (F i) ≡ between (startOf es i) (getD es i 0) ks)
     → layoutKinds (table n F) ≡ take (startOf es n) ks
-kinds-table zero F es ks o h = ap layoutKinds (table-none F)
+kinds-table zero F es ks o h = ap layoutKinds (table-none 0 F refl)
 kinds-table (suc n) F es ks o h =
     ap (λ (m : ℕ). layoutKinds (table m F)) (sym (add-one n)) ∙ ap layoutKinds (table-snoc [] (F n) n F F refl (λ i l. refl))
     ∙ kinds-append (table n F) (F n ∷ [])

@@ -3,14 +3,13 @@ use mathlib.Core.Path.{_≡_, refl, sym, ap, ap₂, _∙_}
 use mathlib.Core.Logic.{_≢_}
 use mathlib.Core.List.{List, [], _∷_, _++_, append-assoc}
 use Prim.Native.Nat.{ℕ, zero, suc, _+_, _-_, _≤_, _<_}
-use native.Mathlib.Nat.{sub-zero, suc-sub-suc}
 use native.Mathlib.Decide.{decLt}
 use native.Mathlib.Omega.{arith}
 use lib.ListN.{length, getD, take, drop, length-append}
-use lib.Seq.{take-nil, take-take, take-at, drop-drop, drop-append-le, drop-append-add, length-take-le}
+use lib.Seq.{take-take, take-at, drop-drop, drop-append-le, drop-append-add, length-take-le}
 use Rattle.model.specs.Numbers.{MAX-GROUP-ARITY, MAX-KINDS}
 use Rattle.words.specs.Part.{between}
-use Rattle.words.proofs.Part.{between-front, length-between}
+use Rattle.words.proofs.Part.{between-front, length-between, drop-take}
 use Rattle.model.proofs.BoolLaws.{by-eq}
 use Rattle.layout.specs.Layout.{Arrays, Sized, arraysIn, startOf, widthOf, groupCount, kindsAt, aritiesAt, groupsFrom, familyAt, KindSet, Rising, FamilyFormed, WellFormed}
 use Rattle.layout.specs.Grow.{Spread, Raised, LooseAt, widened}
@@ -19,12 +18,6 @@ use Rattle.layout.proofs.Arrays.{ends-rise, end-inside}
 use Rattle.layout.proofs.KindSets.{pigeon}
 
 -- ---- parts of a list with more put in at k
-
-pub drop-take : (l : List ℕ) (k e : ℕ) → k ≤ e → between k e l ≡ drop k (take e l)
-drop-take l zero e h = ap (λ (n : ℕ). take n l) (sub-zero e)
-drop-take [] (suc k) e h = take-nil (e - suc k) ∙ sym (ap (drop (suc k)) (take-nil e))
-drop-take (x ∷ l) (suc k) zero h = absurd (omega arith)
-drop-take (x ∷ l) (suc k) (suc e) h = ap (λ (n : ℕ). take n (drop k l)) (suc-sub-suc e k) ∙ drop-take l k e (omega arith)
 
 module _ (xs ys more : List ℕ) (k w : ℕ) (kw : k ≤ w) (fits : w ≤ length xs) (front : take (w + length more) ys ≡ widened xs k more w) where
   part-before : (s e : ℕ) → e ≤ k → between s e ys ≡ between s e xs

@@ -2,33 +2,22 @@
 use mathlib.Core.Path.{_≡_, refl, sym, ap, ap₂, _∙_}
 use mathlib.Core.Bool.{false, _||_}
 use mathlib.Core.List.{List, [], _∷_, _++_}
-use Prim.Native.Nat.{ℕ, zero, suc, _+_, _-_, _≤_, _<_}
+use Prim.Native.Nat.{ℕ, zero, suc, _+_, _≤_, _<_}
 use native.Mathlib.Nat.{sub-zero}
 use native.Mathlib.Numerals.{add-one}
 use native.Mathlib.Omega.{arith}
-use lib.ListN.{length, getD, take, drop, take-append-drop}
-use lib.Seq.{take-add, drop-drop, drop-length, take-append-le, drop-append-seam, take-length}
+use lib.ListN.{length, getD, take, drop}
+use lib.Seq.{drop-length, take-length}
 use Rattle.model.specs.Model.{Family, kindsOf, isGroup, sameSet, newGroup}
 use Rattle.words.specs.Part.{between}
-use Rattle.words.proofs.Part.{between-front}
+use Rattle.words.proofs.Part.{between-join, between-drop, same-front, last-part}
 use Rattle.layout.specs.Layout.{startOf, groupsFrom, Rising}
-use Rattle.layout.proofs.Scan.{drop-step}
+use Rattle.model.proofs.ListLaws.{drop-step}
 
 pub start-next : (es : List ℕ) (f : ℕ) → startOf es (f + 1) ≡ getD es f 0
 start-next es f = ap (startOf es) (add-one f)
 
 -- ---- parts
-
-pub between-none : (a : ℕ) (l : List ℕ) → between a a l ≡ []
-between-none a l = let z : a - a ≡ 0 = omega arith in rw z
-
-pub between-join : (ks : List ℕ) (b a : ℕ) → b ≤ a → take b ks ++ between b a ks ≡ take a ks
-between-join ks b a h = let e : b + (a - b) ≡ a = omega arith in sym (take-add b (a - b) ks) ∙ ap (λ (n : ℕ). take n ks) e
-
-pub between-drop : (ks : List ℕ) (b a : ℕ) → b ≤ a → between b a ks ++ drop a ks ≡ drop b ks
-between-drop ks b a h =
-    let e : b + (a - b) ≡ a = omega arith in
-    ap (λ (l : List ℕ). between b a ks ++ l) (ap (λ (n : ℕ). drop n ks) (sym e) ∙ sym (drop-drop (a - b) b ks)) ∙ take-append-drop (a - b) (drop b ks)
 
 -- ---- arities
 
@@ -127,15 +116,6 @@ unfolding groupsFrom
 no-groups hs ks ars b = rw drop-length
 
 -- ---- a family that grows
-
-same-front : (ks more : List ℕ) (b a : ℕ) → a ≤ length ks → between b a (ks ++ more) ≡ between b a ks
-same-front ks more b a h =
-    between-front (length ks) b a ks (ks ++ more) h (take-append-le (length ks) ks more (omega arith))
-
-last-part : (ks more : List ℕ) → between (length ks) (length ks + length more) (ks ++ more) ≡ more
-last-part ks more =
-    let e : length ks + length more - length ks ≡ length more = omega arith in
-    ap₂ (λ (n : ℕ) (l : List ℕ). take n l) e (drop-append-seam ks more) ∙ take-length more
 
 pub from-snoc : (g : ℕ) (ks more : List ℕ) (b : ℕ) (ars : List ℕ) → Rising b (length ks) ars
     → groupsFrom [] g (ks ++ more) b (ars ++ ((length ks + length more) ∷ [])) ≡ groupsFrom [] g ks b ars ++ (newGroup more ∷ [])

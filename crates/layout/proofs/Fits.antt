@@ -1,7 +1,7 @@
 -- How staged kinds stand to the families is what the model's rule for a new group asks. Assumes nothing.
 use mathlib.Core.Path.{_≡_, refl, sym, ap, _∙_, subst}
 use mathlib.Core.Logic.{_≢_}
-use mathlib.Core.Bool.{Bool, true, false, cond, not, _&&_, _||_, true≢false, false≢true, and-false}
+use mathlib.Core.Bool.{Bool, true, false, cond, not, _&&_, _||_, true≢false, and-false}
 use mathlib.Core.List.{List, [], _∷_, _++_, append-assoc, append-nil}
 use Prim.Native.Nat.{ℕ, zero, suc, _+_, _-_, _≤_, _<_}
 use native.Mathlib.Nat.{add-zero, add-suc, suc-add}
@@ -12,9 +12,7 @@ use lib.Dec.{eqb, eqb·suc-zero, eqb·suc-suc}
 use lib.ListN.{length, getD, set}
 use Rattle.model.specs.Numbers.{CLASH, MANY, MAX-GROUP-ARITY, MAX-GROUP-COUNT, WIDE}
 use Rattle.model.specs.Model.{Family, nothing, added, refused, meets, within, sameSet, without, kindsOf, groupsOf, isGroup, present, touched, covers, newGroup, grown, addGroup}
-use Rattle.model.proofs.Walk.{bool-cases, or-false}
-use Rattle.model.proofs.SparseSets.{and-right}
-use Rattle.model.proofs.Families.{or-false-right}
+use Rattle.model.proofs.BoolLaws.{bool-cases, or-false, and-right, or-false-right, not-or, and-left}
 use Rattle.model.proofs.Draft.{grown-same}
 use Rattle.layout.specs.Fit.{pickPart, partOf, joinFit, fitFrom}
 use Rattle.layout.specs.declared.group_layout.Part.{Part}
@@ -205,14 +203,6 @@ pub record Target (ks : List ℕ) (fs : List Family) (f : ℕ) : Type 0 where
   pub others : (i : ℕ) → i < length fs → i ≢ f → meets ks (kindsOf (getD fs i [])) ≡ false
   pub grows : grown ks fs ≡ set fs f (extend ks (getD fs f []))
 
-held-here : (m w c : Bool) → ((not m || w) && c) ≡ true → m ≡ true → w ≡ true
-held-here true w c e t = go w e
-  where
-    go : (w : Bool) → (w && c) ≡ true → w ≡ true
-    go true e = refl
-    go false e = absurd (false≢true e)
-held-here false w c e t = absurd (false≢true t)
-
 pub target : (ks : List ℕ) (fs : List Family) → touched ks fs ≡ 1 → covers ks fs ≡ true → present ks fs ≡ false → Target ks fs (firstTouched ks fs)
 target ks [] o c p = absurd (omega arith)
 target ks (x ∷ xs) o c p =
@@ -226,7 +216,7 @@ target ks (x ∷ xs) o c p =
         (record {
           inside = omega arith;
           meets-it = m;
-          holds = held-here (meets ks (kindsOf x)) (within (kindsOf x) ks) (covers ks xs) c m;
+          holds = not-or (meets ks (kindsOf x)) (within (kindsOf x) ks) (and-left (not (meets ks (kindsOf x)) || within (kindsOf x) ks) (covers ks xs) c) m;
           other = or-false (isGroup ks [] x) (present ks xs) p;
           others = λ i h n. past z i h n;
           grows = rw (m, grown-same ks xs z);

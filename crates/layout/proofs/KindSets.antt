@@ -10,12 +10,12 @@ use lib.Dec.{eqb}
 use lib.ListN.{length, take, drop, take-append-drop, length-append}
 use Rattle.model.specs.Numbers.{MAX-KINDS}
 use Rattle.model.specs.Lists.{one, countOf}
-use Rattle.model.proofs.ListLaws.{count-append, count-length-le, count-length}
+use Rattle.model.proofs.ListLaws.{count-append, below-counts, shorter, as-long}
 use Rattle.model.specs.Model.{mem, anyOf, within, meets, sameSet, without}
-use Rattle.model.proofs.Walk.{bool-cases, or-cases, all-in}
+use Rattle.model.proofs.Walk.{all-in}
+use Rattle.model.proofs.BoolLaws.{bool-cases, or-cases, by-eq}
 use Rattle.model.proofs.KindLists.{in-count, out-count, count-in, all-true}
 use Rattle.words.specs.Part.{between}
-use Rattle.model.proofs.BoolLaws.{by-eq}
 use Rattle.layout.specs.Layout.{KindSet}
 
 -- ---- tests of all and of some
@@ -33,9 +33,6 @@ pub unmet : (ks js : List ℕ) (x : ℕ) → meets ks js ≡ false → 1 ≤ cou
 unmet ks js x m h = out-count js x (any-none (λ k. mem k js) ks x m (count-in ks x h))
 
 -- ---- once each
-
-below-counts : (x : ℕ) (s t : List ℕ) (l : List ℕ) → s ++ t ≡ l → (countOf eqb x s ≤ countOf eqb x l) × (countOf eqb x t ≤ countOf eqb x l)
-below-counts x s t l e = let c = sym (count-append eqb x s t) ∙ ap (countOf eqb x) e in (omega arith, omega arith)
 
 pub set-take : (n : ℕ) (l : List ℕ) → KindSet l → KindSet (take n l)
 set-take n l s =
@@ -68,12 +65,6 @@ sum-once x zero hx hy h = omega arith
 sum-once x (suc y) hx hy h = omega (arith, h (omega arith))
 
 -- ---- lengths
-
-pub shorter : (l m : List ℕ) → ((x : ℕ) → countOf eqb x l ≤ countOf eqb x m) → length l ≤ length m
-shorter l m h = count-length-le eqb eqb-true (λ x. eq-eqb x x refl) l m h
-
-pub as-long : (l m : List ℕ) → ((x : ℕ) → countOf eqb x l ≡ countOf eqb x m) → length l ≡ length m
-as-long l m h = count-length eqb eqb-true (λ x. eq-eqb x x refl) l m h
 
 downFrom : ℕ → List ℕ
 downFrom zero = []

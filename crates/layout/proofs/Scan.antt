@@ -1,16 +1,12 @@
 -- A turn of a loop over a slice: what is left is `drop i l`. Assumes nothing.
-use mathlib.Core.Path.{_≡_, sym, ap, _∙_}
+use mathlib.Core.Path.{_≡_}
 use mathlib.Core.Bool.{Bool, true, false}
-use mathlib.Core.List.{List, _∷_}
+use mathlib.Core.List.{List}
 use Prim.Native.Nat.{ℕ, _+_, _<_}
-use native.Mathlib.Numerals.{add-one}
 use borrow.Author.Tests.{eq-eqb, ne-eqb}
 use lib.ListN.{length, getD, drop}
-use lib.Seq.{drop-cons}
 use Rattle.model.specs.Model.{mem, allOf, anyOf}
-
-pub drop-step : {A : Type 0} (l : List A) (i : ℕ) (d : A) → i < length l → drop i l ≡ getD l i d ∷ drop (i + 1) l
-drop-step {A} l i d h = drop-cons l i d h ∙ ap (λ (k : ℕ). getD l i d ∷ drop k l) (sym (add-one i))
+use Rattle.model.proofs.ListLaws.{drop-step}
 
 pub mem-hit : (x : ℕ) (l : List ℕ) (i : ℕ) → i < length l → x ≡ getD l i 0 → mem x (drop i l) ≡ true
 mem-hit x l i h e = rw (drop-step l i 0 h, eq-eqb x (getD l i 0) e)

@@ -12,7 +12,8 @@ use lib.ListN.{length, getD, take}
 use lib.Seq.{getD-take, length-take-le}
 use Rattle.model.specs.Lists.{one, countOf}
 use Rattle.model.specs.Sound.{In}
-use Rattle.model.proofs.KindLists.{at-count, at-in}
+use Rattle.model.proofs.KindLists.{at-in}
+use Rattle.model.proofs.ListLaws.{at-count}
 use Rattle.model.proofs.BoolLaws.{by-eq}
 use Rattle.words.proofs.Part.{getD-between}
 use Rattle.layout.specs.Layout.{Arrays, Sized, startOf, widthOf, aritiesAt, Rising, WellFormed}

@@ -17,7 +17,8 @@ use Rattle.layout.specs.Layout.{Arrays, Sized, WellFormed, widthOf}
 use Rattle.layout.proofs.Arrays.{block-sized}
 use Rattle.memory.specs.Header.{capacityOf, kindCapacityOf, registeredOf, slotOf}
 use Rattle.memory.specs.Meaning.{kindAt, ownAt, localAt, layoutArrays}
-use Rattle.memory.proofs.Frames.{word-front, start-header, layout-arrays-same}
+use Rattle.memory.proofs.Frames.{start-header, layout-arrays-same}
+use Rattle.model.proofs.ListLaws.{word-front}
 use Rattle.layout_apply.specs.Heads.{withOwn, Reheaded, Heads, Groupless, Slotted, kindNo, slotNo, HeadsReady, NewAt, placeNo, HeadIs, Upto, Headed}
 use Rattle.layout_apply.proofs.Arities.{kinds-apart, kind-among, same-place, place-below}
 

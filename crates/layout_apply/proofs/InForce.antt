@@ -12,23 +12,24 @@ use lib.Seq.{ext-getD}
 use Rattle.model.specs.Numbers.{ENTITY-LEN, MAX-KINDS}
 use Rattle.model.specs.Model.{Family}
 use Rattle.model.specs.Sound.{In, StoreSound}
-use Rattle.model.proofs.Walk.{bool-cases}
+use Rattle.model.proofs.BoolLaws.{bool-cases}
 use Rattle.words.specs.Offsets.{columnStart, BLOCK-LEN, CAPACITY, COLUMN-KIND, DRAFT, DRAFT-FAMILIES, DRAFT-GROUPS, ENTITIES, EXCLUDED-LEN, GROUP-COUNTS, GROUP-FAMILIES, GROUP-PLACES, KIND-CAPACITY, LAYOUT, LAYOUT-FAMILIES, LAYOUT-GROUPS, REGISTERED, STAGED-LEN, TABLE, UNREGISTERED}
 use Rattle.words.proofs.Offsets.{columnStart-mono}
 use Rattle.words.specs.Part.{between}
 use Rattle.words.proofs.Part.{between-front, between-rest, length-between, getD-between}
 use Rattle.words.specs.Table.{table}
-use Rattle.words.proofs.Tables.{table-same}
+use Rattle.words.proofs.Tables.{table-same, table-none}
 use Rattle.component.specs.SparseSet.{rows}
 use Rattle.component.specs.Columns.{columnOf, rowsOf, Columns}
 use Rattle.component.proofs.Frames.{front-column, front-columns}
 use Rattle.entity.specs.Change.{entityPart, entitiesIn}
 use Rattle.layout.specs.Layout.{Arrays, blockArrays, Sized, WellFormed, startOf, widthOf, groupCount, kindsAt, aritiesAt, groupsFrom, familyAt, familiesOf}
-use Rattle.layout.proofs.Arrays.{none-formed, table-none, layout-kinds, block-sized}
+use Rattle.layout.proofs.Arrays.{none-formed, layout-kinds, block-sized}
 use Rattle.memory.specs.Header.{capacityOf, kindCapacityOf, registeredOf, layoutGroups, slotOf, groupFamilyAt}
 use Rattle.memory.specs.Meaning.{kindAt, kindsIn, setAt, setsIn, draftArrays, layoutArrays, draftIn, layoutIn, meaning}
 use Rattle.memory.specs.Arranged.{TableSound, GroupSound, LayoutSound, Arranged, Becomes}
-use Rattle.memory.proofs.Frames.{start-header, drop-later, staged-same, excluded-same, settings-kept, counts-kept, long, reads-means}
+use Rattle.memory.proofs.Frames.{start-header, staged-same, excluded-same, settings-kept, counts-kept, long, reads-means}
+use Rattle.model.proofs.ListLaws.{drop-later}
 use Rattle.kinds.proofs.Slot.{known-slot, known-small}
 use Rattle.kinds.proofs.Clear.{fewer}
 use Rattle.layout_apply.specs.Steps.{installed, Prepared}
@@ -313,7 +314,7 @@ module _ (w₀ w₁ : List ℕ) (A : Arranged w₀) (M : StoreSound (meaning w�
 
     draft-is : draftIn w ≡ []
     unfolding draftIn
-    draft-is = ap (λ (m : ℕ). familiesOf [] (blockArrays (between DRAFT LAYOUT w) m)) no-draft ∙ table-none (familyAt [] (blockArrays (between DRAFT LAYOUT w) 0))
+    draft-is = ap (λ (m : ℕ). familiesOf [] (blockArrays (between DRAFT LAYOUT w) m)) no-draft ∙ table-none 0 (familyAt [] (blockArrays (between DRAFT LAYOUT w) 0)) refl
 
     pub installed-becomes : Becomes w₀ w (installed (meaning w₀))
     unfolding meaning

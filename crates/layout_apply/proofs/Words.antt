@@ -1,13 +1,14 @@
 -- The header while the draft becomes the layout. Assumes nothing.
 use mathlib.Core.Path.{_≡_, refl, sym, ap, _∙_}
 use mathlib.Core.List.{List, [], _∷_}
-use Prim.Native.Nat.{ℕ, zero, suc, _+_, _-_, _≤_, _<_}
+use Prim.Native.Nat.{ℕ, zero, suc, _+_, _≤_, _<_}
 use native.Mathlib.Omega.{arith}
-use lib.ListN.{length, getD, set, drop, length-set, length-drop}
-use lib.Seq.{getD-set-same, getD-set-other, getD-drop, ext-getD}
+use lib.ListN.{length, getD, set, drop, length-set}
+use lib.Seq.{getD-set-same, getD-set-other, getD-drop}
 use Rattle.model.specs.Numbers.{MAX-GROUP-COUNT}
 use Rattle.words.specs.Offsets.{BLOCK-LEN, DRAFT, DRAFT-FAMILIES, DRAFT-GROUPS, ENDS, ENTITIES, GROUP-COUNTS, GROUP-FAMILIES, GROUP-PLACES, LAYOUT, LAYOUT-ENDS, LAYOUT-FAMILIES, LAYOUT-GROUPS}
 use Rattle.model.proofs.BoolLaws.{by-eq}
+use Rattle.model.proofs.ListLaws.{drop-same}
 use Rattle.words.specs.Part.{between}
 use Rattle.words.proofs.Part.{getD-between}
 use Rattle.words.proofs.Stores.{length-stores, miss, hit}
@@ -18,12 +19,6 @@ use Rattle.memory.specs.Meaning.{draftArrays}
 use Rattle.memory.specs.Arranged.{Arranged}
 use Rattle.memory.proofs.Frames.{long}
 use Rattle.layout_apply.specs.Steps.{Filled, Copied, EndsAsk, Numbered, switched, Prepared}
-
--- words that agree from m on
-pub drop-same : (m : ℕ) (w w′ : List ℕ) → length w′ ≡ length w → ((i : ℕ) → m ≤ i → getD w′ i 0 ≡ getD w i 0) → drop m w′ ≡ drop m w
-drop-same m w w′ size same =
-    ext-getD 0 (drop m w′) (drop m w) (length-drop m w′ ∙ ap (λ (l : ℕ). l - m) size ∙ sym (length-drop m w))
-    (λ i h. getD-drop m w′ i 0 ∙ same (m + i) (omega arith) ∙ sym (getD-drop m w i 0))
 
 -- ---- the loops
 

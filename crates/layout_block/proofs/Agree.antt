@@ -1,25 +1,15 @@
 -- Arrays that agree on their used parts mean the same, and one is well formed where the other is. Assumes nothing.
 use mathlib.Core.Path.{_≡_, refl, sym, ap, ap₂, _∙_}
 use mathlib.Core.List.{List, []}
-use Prim.Native.Nat.{ℕ, zero, suc, _+_, _-_, _≤_, _<_}
+use Prim.Native.Nat.{ℕ, zero, suc, _-_, _≤_, _<_}
 use native.Mathlib.Omega.{arith}
-use lib.ListN.{length, getD, take}
-use lib.Seq.{ext-getD, length-take-le, getD-take}
+use lib.ListN.{getD}
+use Rattle.model.proofs.ListLaws.{front-agree}
 use Rattle.words.specs.Part.{between}
-use Rattle.words.proofs.Part.{length-between, getD-between}
 use Rattle.words.proofs.Tables.{table-same}
+use Rattle.words.proofs.Part.{between-same}
 use Rattle.layout.specs.Layout.{Arrays, arraysIn, Sized, startOf, kindsAt, aritiesAt, groupsFrom, familyAt, familiesOf, FamilyFormed, WellFormed}
 use Rattle.layout.proofs.Arrays.{kinds-inside, groups-inside}
-
-part-agree : (xs ys : List ℕ) (s e : ℕ) → e ≤ length xs → e ≤ length ys → ((i : ℕ) → i < e → getD xs i 0 ≡ getD ys i 0) → between s e ys ≡ between s e xs
-part-agree xs ys s e hx hy h =
-    ext-getD 0 (between s e ys) (between s e xs) (length-between s e ys hy ∙ sym (length-between s e xs hx))
-    (λ i l. let b : s + i < e = omega (arith, length-between s e ys hy) in getD-between s e i ys 0 b ∙ sym (h (s + i) b) ∙ sym (getD-between s e i xs 0 b))
-
-front-agree : (xs ys : List ℕ) (e : ℕ) → e ≤ length xs → e ≤ length ys → ((i : ℕ) → i < e → getD xs i 0 ≡ getD ys i 0) → take e ys ≡ take e xs
-front-agree xs ys e hx hy h =
-    ext-getD 0 (take e ys) (take e xs) (length-take-le e ys hy ∙ sym (length-take-le e xs hx))
-    (λ i l. let b : i < e = omega (arith, length-take-le e ys hy) in getD-take e ys i 0 b ∙ sym (h i b) ∙ sym (getD-take e xs i 0 b))
 
 module _ (n : ℕ) (ks ars kes ges ks′ ars′ kes′ ges′ : List ℕ) (good : WellFormed (arraysIn ks ars kes ges n)) (sized : Sized (arraysIn ks ars kes ges n)) (sized′ : Sized (arraysIn ks′ ars′ kes′ ges′ n))
     (kindEnds : (i : ℕ) → i < n → getD kes i 0 ≡ getD kes′ i 0) (ends : (i : ℕ) → i < n → getD ges i 0 ≡ getD ges′ i 0)
@@ -41,14 +31,14 @@ module _ (n : ℕ) (ks ars kes ges ks′ ars′ kes′ ges′ : List ℕ) (good 
   same-kinds : (i : ℕ) → i < n → kindsAt a′ i ≡ kindsAt a i
   same-kinds i h =
       ap₂ (λ (s e : ℕ). between s e ks′) (start-kinds i (omega arith)) (sym (kindEnds i h))
-      ∙ part-agree ks ks′ (startOf kes i) (getD kes i 0) (omega (arith, kinds-inside a good i h, good .wide, sized .kinds)) (omega (arith, kinds-inside a good i h, good .wide, sized′ .kinds))
-      (λ j l. kinds j (omega (arith, kinds-inside a good i h)))
+      ∙ between-same (startOf kes i) (getD kes i 0) ks ks′ (omega (arith, kinds-inside a good i h, good .wide, sized .kinds)) (omega (arith, kinds-inside a good i h, good .wide, sized′ .kinds))
+      (λ j m l. sym (kinds j (omega (arith, kinds-inside a good i h))))
 
   same-arities : (i : ℕ) → i < n → aritiesAt a′ i ≡ aritiesAt a i
   same-arities i h =
       ap₂ (λ (s e : ℕ). between s e ars′) (start-groups i (omega arith)) (sym (ends i h))
-      ∙ part-agree ars ars′ (startOf ges i) (getD ges i 0) (omega (arith, groups-inside a good i h, good .many, sized .arities)) (omega (arith, groups-inside a good i h, good .many, sized′ .arities))
-      (λ j l. arities j (omega (arith, groups-inside a good i h)))
+      ∙ between-same (startOf ges i) (getD ges i 0) ars ars′ (omega (arith, groups-inside a good i h, good .many, sized .arities)) (omega (arith, groups-inside a good i h, good .many, sized′ .arities))
+      (λ j m l. sym (arities j (omega (arith, groups-inside a good i h))))
 
   pub agree-means : (counts : List ℕ) → familiesOf counts a′ ≡ familiesOf counts a
   agree-means counts =

@@ -1,21 +1,19 @@
 -- What the loops of the check know, and why a refused block is not sound. Assumes nothing.
 use mathlib.Core.Path.{_≡_, refl, sym, ap, _∙_, subst}
-use mathlib.Core.List.{List, [], _∷_, _++_}
+use mathlib.Core.List.{List, [], _∷_}
 use Prim.Native.Nat.{ℕ, _+_, _-_, _≤_, _<_}
-use native.Mathlib.Numerals.{add-one}
 use native.Mathlib.Omega.{arith}
 use borrow.Author.Tests.{eq-eqb, ne-eqb}
 use lib.Dec.{eqb}
-use lib.ListN.{length, getD, take, drop, set, length-set, replicate, take-append-drop, getD-replicate}
-use lib.Seq.{take-suc, take-take, drop-length, getD-set-same, getD-set-other}
+use lib.ListN.{length, getD, take, drop, set, length-set, replicate, getD-replicate}
+use lib.Seq.{take-take, drop-length, getD-set-same, getD-set-other}
 use Rattle.model.specs.Numbers.{MAX-GROUP-COUNT, MAX-KINDS}
 use Rattle.words.specs.Offsets.{ARITIES, BLOCK-LEN, ENDS, KIND-ENDS, UNREGISTERED}
 use Rattle.model.specs.Lists.{one, countOf}
-use Rattle.model.proofs.ListLaws.{count-append}
+use Rattle.model.proofs.ListLaws.{count-next, drop-step}
 use Rattle.words.specs.Part.{between}
 use Rattle.model.proofs.BoolLaws.{by-eq}
 use Rattle.layout.specs.Layout.{Arrays, arraysIn, blockArrays, startOf, Rising, FamilyFormed, WellFormed}
-use Rattle.layout.proofs.Scan.{drop-step}
 use Rattle.layout.proofs.Family.{start-next, rising-head}
 use Rattle.layout.proofs.Arrays.{end-inside}
 use Rattle.layout_block.specs.Checks.{BlockSound, KindsOk, FamilyInside, FamiliesFormed}
@@ -118,21 +116,6 @@ formed-done a k g f h s =
     }
 
 -- ---- kinds
-
-take-next : (l : List ℕ) (i : ℕ) → i < length l → take (i + 1) l ≡ take i l ++ (getD l i 0 ∷ [])
-take-next l i h = ap (λ (n : ℕ). take n l) (add-one i) ∙ take-suc l i 0 h
-
-count-next : (k : ℕ) (l : List ℕ) (i : ℕ) → i < length l → countOf eqb k (take (i + 1) l) ≡ countOf eqb k (take i l) + one (eqb k (getD l i 0))
-count-next k l i h = ap (countOf eqb k) (take-next l i h) ∙ count-append eqb k (take i l) (getD l i 0 ∷ []) ∙ omega arith
-
-count-front : (k : ℕ) (l : List ℕ) (i : ℕ) → countOf eqb k (take i l) ≤ countOf eqb k l
-count-front k l i = omega (arith, count-append eqb k (take i l) (drop i l), ap (countOf eqb k) (take-append-drop i l))
-
--- the kind at i, and how often it stood before
-pub kind-counts : (l : List ℕ) (i : ℕ) → i < length l → countOf eqb (getD l i 0) (take i l) + 1 ≤ countOf eqb (getD l i 0) l
-kind-counts l i h =
-    let k = getD l i 0 in
-    omega (arith, count-front k l (i + 1), count-next k l i h, ap one (eq-eqb k k refl))
 
 -- the kinds before i are sound, and the table marks them
 pub record SeenSoFar (table l seen : List ℕ) (i : ℕ) : Type 0 where

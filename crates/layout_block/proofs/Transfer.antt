@@ -16,7 +16,7 @@ use Rattle.layout.proofs.Family.{rising-at}
 use Rattle.layout.proofs.Arrays.{kinds-inside, groups-inside, arities-length, block-sized}
 use Rattle.layout_block.specs.Blocks.{BlockFormed, ReadFrom, WrittenTo, FetchAsk, Fetched, PutAt}
 use Rattle.layout_block.proofs.Agree.{agree-means, agree-formed, agree-width, agree-groups}
-use Rattle.layout_block.proofs.Checking.{kind-counts}
+use Rattle.model.proofs.ListLaws.{item-counts}
 
 -- ---- what stands in the used parts is small
 
@@ -38,7 +38,7 @@ kind-small ks s i h = go (decLt (getD ks i 0) MAX-KINDS)
   where
     go : Dec (getD ks i 0 < MAX-KINDS) → getD ks i 0 < MAX-KINDS
     go (yes q) = q
-    go (no q) = absurd (omega (arith, kind-counts ks i h, s .known (getD ks i 0) (omega arith)))
+    go (no q) = absurd (omega (arith, item-counts ks i h, s .known (getD ks i 0) (omega arith)))
 
 -- ---- reading
 

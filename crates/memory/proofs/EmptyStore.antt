@@ -14,7 +14,7 @@ use Rattle.words.proofs.Offsets.{columnStart-mono, columnStart-apart}
 use Rattle.words.specs.Part.{between}
 use Rattle.words.proofs.Part.{length-between, getD-between}
 use Rattle.words.specs.Table.{table}
-use Rattle.words.proofs.Tables.{is-table}
+use Rattle.words.proofs.Tables.{is-table, table-none}
 use Rattle.component.specs.Columns.{Columns}
 use Rattle.component.proofs.Fresh.{fresh-columns, fresh-rows}
 use Rattle.entity.specs.Change.{Changed, entityPart, noEntities}
@@ -24,13 +24,10 @@ use Rattle.layout.proofs.Arrays.{none-formed}
 use Rattle.memory.specs.Header.{capacityOf, kindCapacityOf, registeredOf, slotOf}
 use Rattle.memory.specs.Meaning.{kindAt, kindsIn, setAt, setsIn, draftIn, layoutIn, stagedAt, stagedIn, excludedIn, meaning}
 use Rattle.memory.specs.Arranged.{TableSound, LayoutSound, Arranged}
-use Rattle.memory.proofs.Frames.{start-header, drop-later, word-rest, reads-means}
+use Rattle.memory.proofs.Frames.{start-header, reads-means}
+use Rattle.model.proofs.ListLaws.{drop-later, word-rest}
 use Rattle.memory.specs.Fresh.{Cleared, TableCleared, Made}
 use Rattle.entity.specs.Meaning as entity
-
-table-none : {A : Type 0} (k : ℕ) (f : ℕ → A) → k ≡ 0 → table k f ≡ []
-unfolding table
-table-none k f e = rw e
 
 formed : (b : List ℕ) (n : ℕ) → n ≡ 0 → WellFormed (blockArrays b n)
 formed b n e = subst (λ (k : ℕ). WellFormed (blockArrays b k)) (sym e) (none-formed b)

@@ -1,20 +1,18 @@
 -- What a change of one column, of the entity part, or of the header does to the meaning. Assumes nothing.
 use mathlib.Core.Path.{_≡_, sym, ap, _∙_, subst}
 use mathlib.Core.List.{List, []}
-use Prim.Native.Nat.{ℕ, _+_, _*_, _-_, _≤_, _<_}
+use Prim.Native.Nat.{ℕ, _+_, _*_, _≤_, _<_}
 use native.Mathlib.Omega.{arith}
-use lib.ListN.{length, getD, take, drop}
-use lib.Seq.{getD-take, ext-getD, getD-drop}
+use lib.ListN.{length, getD}
 use Rattle.model.specs.Numbers.{ENTITY-LEN, LIST-CAPACITY}
 use Rattle.model.specs.Store.{Store}
 use Rattle.words.specs.Offsets.{columnStart, BLOCK-LEN, CAPACITY, DRAFT, DRAFT-FAMILIES, DRAFT-GROUPS, ENTITIES, EXCLUDED-KINDS, EXCLUDED-LEN, GROUP-COUNTS, GROUP-FAMILIES, LAYOUT, LAYOUT-FAMILIES, LAYOUT-GROUPS, REFUSALS, REGISTERED, ROWS, STAGED-KINDS, STAGED-LEN, STAGED-VALUES, TABLE}
 use Rattle.words.proofs.Offsets.{columnStart-needed, columnStart-mono}
 use Rattle.words.specs.Part.{between}
-use Rattle.words.proofs.Part.{length-between, getD-between}
+use Rattle.words.proofs.Part.{length-between, between-same}
 use Rattle.words.specs.Table.{table}
 use Rattle.words.proofs.Tables.{table-same}
 use Rattle.component.specs.Columns.{columnOf}
-pub use Rattle.component.proofs.Parts.{drop-later}
 use Rattle.entity.specs.Change.{entitiesIn}
 use Rattle.layout.specs.Layout.{blockArrays, WellFormed, groupCount, familiesOf, Sized}
 use Rattle.layout.proofs.Arrays.{block-sized}
@@ -25,27 +23,14 @@ use Rattle.memory.proofs.Kept.{Kept}
 
 -- ---- words that agree up to a place, or from one on
 
-pub word-front : (m : ℕ) (w w′ : List ℕ) → take m w′ ≡ take m w → (i : ℕ) → i < m → getD w′ i 0 ≡ getD w i 0
-word-front m w w′ e i h = sym (getD-take m w′ i 0 h) ∙ ap (λ (l : List ℕ). getD l i 0) e ∙ getD-take m w i 0 h
-
 pub start-header : (n : ℕ) → columnStart n 0 ≡ ENTITIES + ENTITY-LEN * n
 start-header n = columnStart-needed n 0 ∙ omega arith
-
-pub word-rest : (m : ℕ) (w w′ : List ℕ) → drop m w′ ≡ drop m w → (i : ℕ) → m ≤ i → getD w′ i 0 ≡ getD w i 0
-word-rest m w w′ e i h = from w′ ∙ ap (λ (l : List ℕ). getD l (i - m) 0) e ∙ sym (from w)
-  where
-    from : (u : List ℕ) → getD u i 0 ≡ getD (drop m u) (i - m) 0
-    from u = let k : i ≡ m + (i - m) = omega arith in ap (λ (j : ℕ). getD u j 0) k ∙ sym (getD-drop m u (i - m) 0)
 
 -- ---- parts of the meaning, from the words that they are read from
 
 module _ (w w′ : List ℕ) (size : length w′ ≡ length w) where
   pub part-same : (a e : ℕ) → e ≤ length w → ((i : ℕ) → a ≤ i → i < e → getD w′ i 0 ≡ getD w i 0) → between a e w′ ≡ between a e w
-  part-same a e le same =
-      ext-getD 0 (between a e w′) (between a e w) (length-between a e w′ (omega arith) ∙ sym (length-between a e w le))
-      (λ i h.
-      let q : i < e - a = omega (arith, length-between a e w′ (omega arith)) in
-      getD-between a e i w′ 0 (omega arith) ∙ same (a + i) (omega arith) (omega arith) ∙ sym (getD-between a e i w 0 (omega arith)))
+  part-same a e le same = between-same a e w w′ le (omega arith) same
 
   block-same : (a f : ℕ) → a + BLOCK-LEN ≤ length w → getD w′ f 0 ≡ getD w f 0 → ((i : ℕ) → a ≤ i → i < a + BLOCK-LEN → getD w′ i 0 ≡ getD w i 0)
       → blockArrays (between a (a + BLOCK-LEN) w′) (getD w′ f 0) ≡ blockArrays (between a (a + BLOCK-LEN) w) (getD w f 0)

@@ -7,7 +7,7 @@ use lib.ListN.{length, set, length-set}
 use lib.Seq.{getD-set-same, getD-set-other, drop-set-lt}
 use Rattle.words.specs.Offsets.{TABLE, UNREGISTERED}
 use Rattle.model.proofs.BoolLaws.{by-eq}
-use Rattle.memory.proofs.Frames.{drop-later}
+use Rattle.model.proofs.ListLaws.{drop-later}
 use Rattle.memory.specs.Fresh.{Cleared, TableCleared}
 
 pub cleared-none : (w : List ℕ) → Cleared w 0 w

@@ -1,9 +1,84 @@
 -- Laws on Bools, and cases on two numbers. Assumes nothing.
-use mathlib.Core.Path.{_≡_}
+use mathlib.Core.Path.{_≡_, refl, sym, _∙_}
 use mathlib.Core.Logic.{_≢_}
-use Prim.Native.Nat.{ℕ}
-use native.Mathlib.Decide.{ℕ-discrete}
+use Prim.Native.Nat.{ℕ, _≤_, _<_}
+use native.Mathlib.Decide.{ℕ-discrete, decLt}
+use native.Mathlib.Omega.{arith}
+use mathlib.Core.Bool.{Bool, true, false, cond, _&&_, _||_, true≢false, not, false≢true, or-true}
+use borrow.Author.Tests.{not-false}
 
 -- by cases on two numbers being equal
 pub by-eq {ℓ} : {C : Type ℓ} (i j : ℕ) → (i ≡ j → C) → (i ≢ j → C) → C
 by-eq i j f g = elim (ℕ-discrete i j) [ yes e ↦ f e | no h ↦ g h ]
+
+-- by cases on an order
+pub by-lt : {C : Type 0} (a b : ℕ) → (a < b → C) → (b ≤ a → C) → C
+by-lt a b f g = elim (decLt a b) [ yes h ↦ f h | no h ↦ g (omega arith) ]
+
+pub bool-cases : {P : Type 0} (b : Bool) → (b ≡ true → P) → (b ≡ false → P) → P
+bool-cases true f g = f refl
+bool-cases false f g = g refl
+
+-- a property of a choice, from its two cases
+pub cond-case : {A : Type 0} (P : A → Type 0) (b : Bool) (x y : A) → (b ≡ true → P x) → (b ≡ false → P y) → P (cond b x y)
+cond-case P true x y f g = f refl
+cond-case P false x y f g = g refl
+
+pub cond-same : {A : Type 0} (b : Bool) (x : A) → cond b x x ≡ x
+cond-same true x = refl
+cond-same false x = refl
+
+pub and-left : (a b : Bool) → (a && b) ≡ true → a ≡ true
+and-left true b h = refl
+and-left false b h = h
+
+pub and-right : (a b : Bool) → (a && b) ≡ true → b ≡ true
+and-right true b h = h
+and-right false b h = cc
+
+pub or-cases : {P : Type 0} (a b : Bool) → (a || b) ≡ true → (a ≡ true → P) → (b ≡ true → P) → P
+or-cases true b h f g = f refl
+or-cases false b h f g = g h
+
+pub or-false : (a b : Bool) → (a || b) ≡ false → a ≡ false
+or-false true b h = h
+or-false false b h = refl
+
+pub or-false-right : (a b : Bool) → (a || b) ≡ false → b ≡ false
+or-false-right true b h = absurd (true≢false h)
+or-false-right false b h = h
+
+pub not-true : (b : Bool) → (b ≡ true → ⊥) → b ≡ false
+not-true true f = absurd (f refl)
+not-true false f = refl
+
+pub and-false-left : (a b : Bool) → (a && b) ≡ false → b ≡ true → a ≡ false
+and-false-left true b h t = absurd (true≢false (sym t ∙ h))
+and-false-left false b h t = refl
+
+pub not-or : (a b : Bool) → (not a || b) ≡ true → a ≡ true → b ≡ true
+not-or true b h t = h
+not-or false b h t = absurd (false≢true t)
+
+pub or-right : (a b : Bool) → (a || b) ≡ true → a ≡ false → b ≡ true
+or-right true b h n = absurd (true≢false n)
+or-right false b h n = h
+
+pub not-and : (a b : Bool) → (not a && b) ≡ false → a ≡ false → b ≡ false
+not-and true b h e = absurd (true≢false e)
+not-and false b h e = h
+
+pub not-not : (a b : Bool) → (not a && not b) ≡ false → a ≡ false → b ≡ true
+not-not a b h e = not-false b (not-and a (not b) h e)
+
+pub or-exchange : (a b c d : Bool) → ((a || b) || (c || d)) ≡ ((a || c) || (b || d))
+or-exchange true b c d = refl
+or-exchange false true c d = sym (or-true c)
+or-exchange false false c d = refl
+
+pub and-false-of : (a b : Bool) → a ≡ false → (a && b) ≡ false
+and-false-of a b e = rw e
+
+pub and-false-right : (a b : Bool) → b ≡ false → (a && b) ≡ false
+and-false-right true b e = e
+and-false-right false b e = refl

@@ -11,7 +11,8 @@ use Rattle.model.proofs.ListLaws.{count-append, count-length-le}
 use Rattle.model.specs.Model.{Entity, Entities, SparseSet, Family, found, sameEntity, setOf, entityOf, allHeld, rangeFor}
 use Rattle.model.specs.Store.{Store}
 use Rattle.model.specs.Sound.{cnt, num, indexOf, key, holders, EntitiesSound, RightFrom, AllRight, StoreSound}
-use Rattle.model.proofs.SparseSets.{entity-eq, entity-same, cond-case}
+use Rattle.model.proofs.SparseSets.{entity-eq, entity-same}
+use Rattle.model.proofs.BoolLaws.{cond-case}
 use Rattle.model.proofs.Numbers.{upTo, length-upTo, in-upTo}
 use Rattle.model.proofs.Ranges.{range-shows}
 

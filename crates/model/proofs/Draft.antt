@@ -1,6 +1,6 @@
 -- Adding a group keeps the draft a layout that commands can build, with all counts 0. Assumes nothing.
 use mathlib.Core.Path.{_≡_, refl, ap, sym, _∙_, subst}
-use mathlib.Core.Bool.{Bool, true, false, not, _&&_, _||_, true≢false, false≢true}
+use mathlib.Core.Bool.{true, false, not, _&&_, _||_, true≢false, false≢true}
 use mathlib.Core.List.{List, [], _∷_, _++_, append-assoc, append-nil}
 use Prim.Native.Nat.{ℕ, _+_, _≤_, _<_}
 use native.Mathlib.Omega.{arith}
@@ -12,12 +12,11 @@ use Rattle.model.specs.Lists.{countOf}
 use Rattle.model.proofs.ListLaws.{count-append, count-length-le}
 use Rattle.model.specs.Model.{Group, Family, Added, nothing, added, refused, mem, meets, within, sameSet, without, kindsOf, groupsOf, isGroup, present, touched, covers, newGroup, grown, addGroup, addsNothing, joins, withGroup}
 use Rattle.model.specs.Sound.{Distinct, layoutKinds, Rising, BuildableFamily, BuildableFamilies, Buildable, Uncounted, AllUncounted}
-use Rattle.model.proofs.SparseSets.{cond-case, and-left, and-right}
+use Rattle.model.proofs.BoolLaws.{cond-case, and-left, and-right, or-false, or-cases, or-false-right, not-true, and-false-left, not-or, or-right, bool-cases}
 use Rattle.model.proofs.Groups.{In}
-use Rattle.model.proofs.Walk.{bool-cases, in-cases, or-false, or-true, or-cases, Missing, all-missing, all-in}
-use Rattle.model.proofs.Families.{or-false-right}
+use Rattle.model.proofs.Walk.{in-cases, or-true, Missing, all-missing, all-in}
 use Rattle.model.proofs.Invariant.{any-in}
-use Rattle.model.proofs.KindLists.{not-true, in-count, out-count, count-in, count-without, distinct-right, in-length}
+use Rattle.model.proofs.KindLists.{in-count, out-count, count-in, count-without, distinct-right, in-length}
 
 pub record DraftSound (kinds : List ℕ) (fs : List Family) : Type 0 where
   pub buildable : Buildable kinds fs
@@ -84,10 +83,6 @@ is-group-all ks acc r (s ∷ rs) h =
     subst (λ (l : List ℕ). sameSet ks l ≡ false) (append-assoc acc (r .newKinds) (kindsOf (s ∷ rs)))
     (is-group-all ks (acc ++ r .newKinds) s rs (or-false-right (sameSet ks (acc ++ r .newKinds)) (isGroup ks (acc ++ r .newKinds) (s ∷ rs)) h))
 
-and-false-left : (a b : Bool) → (a && b) ≡ false → b ≡ true → a ≡ false
-and-false-left true b h t = absurd (true≢false (sym t ∙ h))
-and-false-left false b h t = refl
-
 meets-none : (ks : List ℕ) → meets ks [] ≡ false
 meets-none [] = refl
 meets-none (k ∷ ks) = meets-none ks
@@ -109,10 +104,6 @@ joined-length ks js d w = count-length-le eqb (λ x y. eqb-true x y) (λ x. eq-e
         bool-cases (mem z js)
         (λ t. omega (arith, count-append eqb z js (without ks js), rw t at (count-without ks js z), d z, in-count ks z (all-in (λ k. mem k ks) js w z t)))
         (λ t. omega (arith, count-append eqb z js (without ks js), rw t at (count-without ks js z), out-count js z t))
-
-not-or : (a b : Bool) → (not a || b) ≡ true → a ≡ true → b ≡ true
-not-or true b h t = h
-not-or false b h t = absurd (false≢true t)
 
 -- ---- what the grown layout's kinds are
 
@@ -202,10 +193,6 @@ own-groups ks [] = refl
 own-groups ks (f ∷ fs) = omega (arith, own-groups ks fs)
 
 -- ---- the draft with the group
-
-or-right : (a b : Bool) → (a || b) ≡ true → a ≡ false → b ≡ true
-or-right true b h n = absurd (true≢false n)
-or-right false b h n = h
 
 module _ (kinds ks : List ℕ) (fs : List Family) (d : Distinct ks) (known : (k : ℕ) → In ks k → In kinds k) (narrow : length ks ≤ MAX-GROUP-ARITY) (few : groupsOf fs < MAX-GROUP-COUNT) (D : DraftSound kinds fs) where
   own-sound : 2 ≤ length ks → touched ks fs ≡ 0 → DraftSound kinds (fs ++ ((newGroup ks ∷ []) ∷ []))

@@ -9,6 +9,7 @@ use native.Mathlib.Nat.{zero-add}
 use native.Mathlib.Omega.{arith}
 use lib.ListN.{length, take, drop, length-append}
 use lib.Seq.{take-at, sets, sets-eq}
+use Rattle.model.proofs.ListLaws.{front-sets}
 use Rattle.model.specs.Refusals.{Line, firstLine, NoneHolds, First, numberOf}
 use Rattle.model.specs.Entries.{Emitted, refusesEmit, writes, emittedBy, emitted, emittedNumber, emittedBytes, Emits}
 use Rattle.model.proofs.Lines.{first-exact, none-exact, NumbersIn, first-number}
@@ -87,10 +88,6 @@ emits-determined o p o′ p′ n k m j x y e E F =
 
 pub refused-emits : (o : List ℕ) (n : ℕ) (x : Emitted) → x ≡ refusesEmit n → Emits o o n 0 x
 refused-emits o n x e = record { number = rw e; written = rw e; bytes = rw e }
-
--- what is stored from the front on stands before the rest
-front-sets : (o a : List ℕ) → length a ≤ length o → sets o 0 a ≡ a ++ drop (length a) o
-front-sets o a h = sets-eq a o 0 (omega arith) ∙ ap (λ (n : ℕ). a ++ drop n o) (zero-add (length a))
 
 pub written-emits : (o o′ b : List ℕ) (k : ℕ) (x : Emitted) → x ≡ writes b → length b ≤ length o → o′ ≡ sets o 0 b → k ≡ length b → Emits o o′ 0 k x
 written-emits o o′ b k x e h s c = record { number = rw e; written = rw e c; bytes = rw e (s ∙ front-sets o b h) }

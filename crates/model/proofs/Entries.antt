@@ -17,8 +17,7 @@ use Rattle.model.specs.Snapshot.{snapshot}
 use Rattle.model.specs.Refusals.{firstLine, NoneHolds, First, startLines, rollLines, columnLines}
 use Rattle.model.specs.Entries.{refusesStart, makes, startedBy, start, entityWords, valueWords, valueOf, part, partWords, columnRefusal, column, refusesEmit, writes, roll}
 use Rattle.model.specs.Sound.{Limits, StoreSound}
-use Rattle.model.proofs.Walk.{or-false}
-use Rattle.model.proofs.Families.{or-false-right}
+use Rattle.model.proofs.BoolLaws.{or-false, or-false-right}
 use Rattle.model.proofs.Operations.{empty-sound}
 use Rattle.model.proofs.Lines.{none-to, first-exact}
 use Rattle.model.proofs.Emitting.{emitted-exact, emitted-writes}

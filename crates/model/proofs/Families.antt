@@ -1,7 +1,7 @@
 -- Insertion over all families: every group of the layout is right after it. Assumes nothing.
 use mathlib.Core.Path.{_≡_, refl, ap, ap₂, sym, _∙_}
 use mathlib.Core.Logic.{_⊎_, inl, inr, ⊎-elim}
-use mathlib.Core.Bool.{Bool, true, false, cond, _||_, true≢false, false≢true}
+use mathlib.Core.Bool.{Bool, true, false, cond, true≢false, false≢true}
 use mathlib.Core.List.{List, [], _∷_, _++_, map, append-assoc}
 use Prim.Native.Nat.{ℕ, _≤_, _<_}
 use native.Mathlib.Omega.{arith}
@@ -9,15 +9,12 @@ use native.Mathlib.Decide.{ℕ-discrete}
 use borrow.Author.Tests.{ltb-true, eq-eqb}
 use lib.ListN.{length, take, set, length-map, length-append, length-set}
 use lib.Seq.{take-append-le, set-getD, getD-set-same, getD-set-other}
-use Rattle.model.proofs.ListLaws.{count-append, getD-place}
+use Rattle.model.proofs.ListLaws.{count-append, getD-place, map-set}
 use Rattle.model.specs.Model.{Entity, Row, SparseSet, Family, Component, Storage, Walked, sameEntity, noEntity, mem, meets, setOf, keys, entityOf, at, held, kindsOf, kindOf, insertRow, insertAll, groupFamily, groupTouched}
-use Rattle.model.proofs.SparseSets.{entity-eq, entity-same, cond-case, key, map-set}
+use Rattle.model.proofs.SparseSets.{entity-eq, entity-same, key}
+use Rattle.model.proofs.BoolLaws.{cond-case, or-false, or-false-right, bool-cases}
 use Rattle.model.proofs.Groups.{cnt, plc, In, SameEntities}
-use Rattle.model.proofs.Walk.{Chain, Every, But, Plus, Up, groupFamily-good, chain-weaken, either, bool-cases, in-left, in-right, or-false, mem-append, lacks-count}
-
-pub or-false-right : (a b : Bool) → (a || b) ≡ false → b ≡ false
-or-false-right true b h = absurd (true≢false h)
-or-false-right false b h = h
+use Rattle.model.proofs.Walk.{Chain, Every, But, Plus, Up, groupFamily-good, chain-weaken, either, in-left, in-right, mem-append, lacks-count}
 
 -- ---- families
 

@@ -1,6 +1,6 @@
 -- One group's swap, over any family of sparse sets: `key k` are the entities of kind k's sparse set, in order. Assumes nothing.
-use mathlib.Core.Path.{_≡_, refl, ap, sym, _∙_}
-use mathlib.Core.Bool.{Bool, true, false}
+use mathlib.Core.Path.{_≡_, ap, sym, _∙_}
+use mathlib.Core.Bool.{false}
 use mathlib.Core.List.{List, [], _∷_, _++_}
 use Prim.Native.Nat.{ℕ, suc, _+_, _≤_, _<_}
 use native.Mathlib.Omega.{arith}
@@ -11,6 +11,7 @@ use Rattle.model.proofs.ListLaws.{length-swap, take-swap-lt, take-swap-
 use Rattle.model.specs.Model.{Entity, sameEntity, noEntity, mem}
 pub use Rattle.model.specs.Sound.{cnt, In}
 use Rattle.model.proofs.SparseSets.{entity-eq, entity-same}
+use Rattle.model.proofs.BoolLaws.{bool-cases}
 
 abbrev pub plc : Entity → List Entity → ℕ
 plc x l = place sameEntity x l
@@ -47,10 +48,6 @@ module _ {key new : ℕ → List Entity} (ks : List ℕ) (h : ℕ) where
 
   pub full-kept : (x : Entity) → SameEntities key new → ((k : ℕ) → In ks k → cnt x (take h (new k)) ≡ cnt x (take h (key k))) → Full key ks h x → Full new ks h x
   full-kept x s t f all k i = rw (t k i) (f (λ k′ i′. rw (s .entities x k′) at (all k′ i′)) k i)
-
-pub bool-cases : {P : Type 0} (b : Bool) → (b ≡ true → P) → (b ≡ false → P) → P
-bool-cases true f g = f refl
-bool-cases false f g = g refl
 
 -- a swap to place q, at or below which each sparse set of g goes on
 module _ {e : Entity} {g : List ℕ} {q : ℕ} {key new : ℕ → List Entity}

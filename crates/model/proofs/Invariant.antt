@@ -14,9 +14,10 @@ use Rattle.model.specs.Lists.{one}
 use Rattle.model.proofs.ListLaws.{count-take-le, count-length}
 use Rattle.model.specs.Model.{Entity, SparseSet, Group, Family, Component, Storage, Walked, GroupStep, sameEntity, mem, anyOf, meets, setOf, held, allHeld, kindsOf, kindOf, insertRow, insertAll, mapOn, swapTo, isGrouped, groupComponents, groupFamily, groupTouched, insertComponents}
 pub use Rattle.model.specs.Sound.{holders}
-use Rattle.model.proofs.SparseSets.{entity-eq, entity-same, cond-case, key}
+use Rattle.model.proofs.SparseSets.{entity-eq, entity-same, key}
+use Rattle.model.proofs.BoolLaws.{cond-case, or-cases, bool-cases}
 use Rattle.model.proofs.Groups.{cnt, In, SameEntities}
-use Rattle.model.proofs.Walk.{Every, But, GroupRight, bool-cases, or-cases, or-true, all-in, Missing, all-missing, held-count, lacks-count}
+use Rattle.model.proofs.Walk.{Every, But, GroupRight, or-true, all-in, Missing, all-missing, held-count, lacks-count}
 use Rattle.model.proofs.Families.{Fams, Apart, famKinds, chain-other, Put, Kinds, put-all, chain-put, Pending, UpAll, groupFamily-all-good}
 
 pub record Fit (p : Storage) : Type 0 where

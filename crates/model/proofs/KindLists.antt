@@ -2,23 +2,19 @@
 use mathlib.Core.Path.{_≡_, refl, ap, _∙_}
 use mathlib.Core.Bool.{Bool, true, false, cond, false≢true, _&&_}
 use mathlib.Core.List.{List, [], _∷_, _++_}
-use Prim.Native.Nat.{ℕ, zero, suc, _+_, _≤_, _<_}
+use Prim.Native.Nat.{ℕ, _+_, _≤_, _<_}
 use native.Mathlib.Omega.{arith}
-use native.Mathlib.Nat.{zero-add, le-of-suc-le-suc, not-suc-le-zero}
+use native.Mathlib.Nat.{zero-add}
 use borrow.Author.Tests.{eqb-true, eq-eqb}
 use lib.Dec.{eqb}
 use lib.ListN.{length, getD, take, drop, take-append-drop}
 use lib.Seq.{drop-cons}
 use Rattle.model.specs.Lists.{one, countOf}
-use Rattle.model.proofs.ListLaws.{count-append}
+use Rattle.model.proofs.ListLaws.{count-append, self-count, at-count}
 use Rattle.model.specs.Model.{mem, allOf, without, headKind}
 use Rattle.model.specs.Sound.{In, Distinct}
-use Rattle.model.proofs.Walk.{bool-cases, or-cases, or-true, or-false}
-use Rattle.model.proofs.Families.{or-false-right}
-
-pub not-true : (b : Bool) → (b ≡ true → ⊥) → b ≡ false
-not-true true f = absurd (f refl)
-not-true false f = refl
+use Rattle.model.proofs.Walk.{or-true}
+use Rattle.model.proofs.BoolLaws.{bool-cases, or-cases, or-false, or-false-right, not-true}
 
 pub in-count : (l : List ℕ) (k : ℕ) → In l k → 1 ≤ countOf eqb k l
 in-count [] k i = absurd (false≢true i)
@@ -33,9 +29,6 @@ count-in l k h = bool-cases (mem k l) (λ t. t) (λ t. absurd (omega (arith, out
 
 pub count-out : (l : List ℕ) (k : ℕ) → countOf eqb k l ≡ 0 → mem k l ≡ false
 count-out l k z = not-true (mem k l) (λ t. omega (arith, in-count l k t))
-
-pub self-count : (k : ℕ) → one (eqb k k) ≡ 1
-self-count k = ap one (eq-eqb k k refl)
 
 -- ---- lists joined
 
@@ -87,11 +80,6 @@ all-joined p [] b = refl
 all-joined p (k ∷ a) b = bool-cases (p k) (λ t. rw t (all-joined p a b)) (λ t. rw t)
 
 -- ---- the kind at a place
-
-pub at-count : (l : List ℕ) (i : ℕ) → i < length l → 1 ≤ countOf eqb (getD l i 0) l
-at-count [] i h = absurd (not-suc-le-zero h)
-at-count (k ∷ l) zero h = omega (arith, self-count k)
-at-count (k ∷ l) (suc i) h = omega (arith, at-count l i (le-of-suc-le-suc h))
 
 pub at-in : (l : List ℕ) (i : ℕ) → i < length l → In l (getD l i 0)
 at-in l i h = count-in l (getD l i 0) (at-count l i h)

@@ -14,7 +14,7 @@ use Rattle.model.specs.Store.{Store, bytesOf, stagedKinds, isKind}
 use Rattle.model.specs.Commands.{Command, REG, HOLD, NEW, PUT, TAKE, DROP, KILL, WIPE, GROUP, APPLY, BAR, RANGE, EMPTY, TALLY, Done, accepted, answerLength, takenBytes, heldBytes, rangeBytes, width, commandAt}
 use Rattle.model.specs.Refusals.{firstLine, NoneHolds, beforeLines}
 use Rattle.model.specs.Run.{Outcome, refuses, accepts, does, Step, stops, goes, stepOf, stepIf, step, Ran, halt, more, runFor, run}
-use Rattle.model.proofs.SparseSets.{cond-case}
+use Rattle.model.proofs.BoolLaws.{cond-case}
 use Rattle.model.proofs.Lines.{none-to, accepted-exact, stop-number}
 
 -- ---- answers

@@ -14,7 +14,7 @@ pub use Rattle.model.specs.Refusals.{Unchanged}
 use Rattle.model.specs.Commands.{Command, REG, HOLD, NEW, PUT, TAKE, DROP, KILL, WIPE, GROUP, APPLY, BAR, RANGE, EMPTY, TALLY, Done, accepted, width, commandAt}
 use Rattle.model.specs.Refusals.{Line, firstLine, NoneHolds, First, linesOf, beforeLines}
 use Rattle.model.specs.Run.{Outcome, refuses, accepts, outcome, does, Step, stops, goes, storeAfter, stepOf, stepIf, step}
-use Rattle.model.proofs.Walk.{bool-cases}
+use Rattle.model.proofs.BoolLaws.{bool-cases}
 
 -- ---- the first line that holds
 

@@ -1,14 +1,18 @@
--- Laws on lists that speak of nothing else: counts, places and swaps. Assumes nothing.
+-- Laws on lists that speak of nothing else: counts, places and swaps; what a list has in front and behind; bytes stored. Assumes nothing.
 use mathlib.Core.Path.{_≡_, refl, ap, ap₂, sym, _∙_}
 use mathlib.Core.Bool.{Bool, true, false, cond}
-use mathlib.Core.List.{List, [], _∷_, _++_, map}
+use mathlib.Core.List.{List, [], _∷_, _++_, map, append-assoc, append-nil}
 use Prim.Native.Nat.{ℕ, zero, suc, _+_, _-_, _≤_, _<_, zero-le, suc-le-suc}
 use native.Mathlib.Omega.{arith}
-use native.Mathlib.Nat.{le-of-suc-le-suc, not-suc-le-zero}
+use native.Mathlib.Nat.{le-of-suc-le-suc, not-suc-le-zero, suc-add, add-suc, add-zero, zero-add}
 use native.Mathlib.Decide.{ℕ-discrete}
-use lib.ListN.{length, take, drop, getD, set, length-set, take-append-drop, length-map, List·getD-map}
-use lib.Seq.{set-set, take-set-lt, take-set-le, getD-take, getD-set-same, getD-set-other, take-suc, take-suc-set, set-getD, lt-length-set, length-take-le, take-all}
+use lib.ListN.{length, take, drop, getD, set, length-set, take-append-drop, length-map, List·getD-map, length-drop, length-append}
+use lib.Seq.{set-set, take-set-lt, take-set-le, getD-take, getD-set-same, getD-set-other, take-suc, take-suc-set, set-getD, lt-length-set, length-take-le, take-all, sets, take-take, drop-drop, drop-cons, getD-drop, ext-getD, sets-eq, take-at, drop-at, take-add, set-comm, paste, paste-suc, take-length}
+use borrow.Author.Tests.{eq-eqb, eqb-true}
+use lib.Dec.{eqb}
+use native.Mathlib.Numerals.{add-one}
 use Rattle.model.specs.Lists.{swap, one, after, countOf, place, cutAt}
+use Rattle.model.proofs.BoolLaws.{bool-cases}
 
 module _ {A : Type 0} where
   pub length-swap : (d : A) (i j : ℕ) (l : List A) → length (swap d i j l) ≡ length l
@@ -177,3 +181,147 @@ pub map-cutAt : {A B : Type 0} (f : A → B) (d : A) (p : ℕ) (l : List A) → 
 map-cutAt f d p l =
     map-take f (length l - 1) (set l p (getD l (length l - 1) d))
     ∙ rw (map-set f l p (getD l (length l - 1) d), length-map l f, List·getD-map f l (length l - 1) d)
+
+pub self-count : (k : ℕ) → one (eqb k k) ≡ 1
+self-count k = ap one (eq-eqb k k refl)
+
+pub at-count : (l : List ℕ) (i : ℕ) → i < length l → 1 ≤ countOf eqb (getD l i 0) l
+at-count [] i h = absurd (not-suc-le-zero h)
+at-count (k ∷ l) zero h = omega (arith, self-count k)
+at-count (k ∷ l) (suc i) h = omega (arith, at-count l i (le-of-suc-le-suc h))
+
+pub length-zero : (b : List ℕ) → length b ≡ 0 → b ≡ []
+length-zero [] e = refl
+length-zero (k ∷ b) e = absurd (omega arith)
+
+-- bytes written one run after another
+pub sets-join : (l : List ℕ) (i : ℕ) (a b : List ℕ) → sets (sets l i a) (i + length a) b ≡ sets l i (a ++ b)
+sets-join l i [] b = ap (λ (k : ℕ). sets l k b) (add-zero i)
+sets-join l i (x ∷ a) b =
+    ap (λ (k : ℕ). sets (sets (set l i x) (suc i) a) k b) (add-suc i (length a) ∙ sym (suc-add i (length a)))
+    ∙ sets-join (set l i x) (suc i) a b
+
+pub take-less : (a b : ℕ) (w v : List ℕ) → a ≤ b → take b v ≡ take b w → take a v ≡ take a w
+take-less a b w v h e = sym (take-take a b v h) ∙ ap (take a) e ∙ take-take a b w h
+
+pub drop-later : (e c : ℕ) (w v : List ℕ) → e ≤ c → drop e v ≡ drop e w → drop c v ≡ drop c w
+drop-later e c w v h q = from v ∙ ap (drop (c - e)) q ∙ sym (from w)
+  where
+    from : (u : List ℕ) → drop c u ≡ drop (c - e) (drop e u)
+    from u = let k : c ≡ e + (c - e) = omega arith in ap (λ (i : ℕ). drop i u) k ∙ sym (drop-drop (c - e) e u)
+
+-- a turn of the loop that appends
+pub append-step : (d d₀ s : List ℕ) (at i : ℕ) → at + i < length d → i < length s → take (at + i) d ≡ take at d₀ ++ take i s
+    → take (at + (i + 1)) (set d (at + i) (getD s i 0)) ≡ take at d₀ ++ take (i + 1) s
+append-step d d₀ s at i hd hs e =
+    ap (λ (k : ℕ). take k (set d (at + i) (getD s i 0))) (ap (λ (k : ℕ). at + k) (add-one i) ∙ add-suc at i)
+    ∙ take-suc-set d (at + i) (getD s i 0) hd
+    ∙ ap (λ (l : List ℕ). l ++ (getD s i 0 ∷ [])) e
+    ∙ append-assoc (take at d₀) (take i s) (getD s i 0 ∷ [])
+    ∙ ap (λ (l : List ℕ). take at d₀ ++ l) (sym (take-suc s i 0 hs) ∙ ap (λ (k : ℕ). take k s) (sym (add-one i)))
+
+pub append-none : (d₀ : List ℕ) (at : ℕ) (s : List ℕ) → take (at + 0) d₀ ≡ take at d₀ ++ take 0 s
+append-none d₀ at s = ap (λ (k : ℕ). take k d₀) (add-zero at) ∙ sym (append-nil (take at d₀))
+
+pub below-counts : (x : ℕ) (s t : List ℕ) (l : List ℕ) → s ++ t ≡ l → (countOf eqb x s ≤ countOf eqb x l) × (countOf eqb x t ≤ countOf eqb x l)
+below-counts x s t l e = let c = sym (count-append eqb x s t) ∙ ap (countOf eqb x) e in (omega arith, omega arith)
+
+pub shorter : (l m : List ℕ) → ((x : ℕ) → countOf eqb x l ≤ countOf eqb x m) → length l ≤ length m
+shorter l m h = count-length-le eqb eqb-true (λ x. eq-eqb x x refl) l m h
+
+pub as-long : (l m : List ℕ) → ((x : ℕ) → countOf eqb x l ≡ countOf eqb x m) → length l ≡ length m
+as-long l m h = count-length eqb eqb-true (λ x. eq-eqb x x refl) l m h
+
+pub drop-step : {A : Type 0} (l : List A) (i : ℕ) (d : A) → i < length l → drop i l ≡ getD l i d ∷ drop (i + 1) l
+drop-step {A} l i d h = drop-cons l i d h ∙ ap (λ (k : ℕ). getD l i d ∷ drop k l) (sym (add-one i))
+
+-- words that agree from m on
+pub drop-same : (m : ℕ) (w w′ : List ℕ) → length w′ ≡ length w → ((i : ℕ) → m ≤ i → getD w′ i 0 ≡ getD w i 0) → drop m w′ ≡ drop m w
+drop-same m w w′ size same =
+    ext-getD 0 (drop m w′) (drop m w) (length-drop m w′ ∙ ap (λ (l : ℕ). l - m) size ∙ sym (length-drop m w))
+    (λ i h. getD-drop m w′ i 0 ∙ same (m + i) (omega arith) ∙ sym (getD-drop m w i 0))
+
+pub take-next : (l : List ℕ) (i : ℕ) → i < length l → take (i + 1) l ≡ take i l ++ (getD l i 0 ∷ [])
+take-next l i h = ap (λ (n : ℕ). take n l) (add-one i) ∙ take-suc l i 0 h
+
+pub count-next : (k : ℕ) (l : List ℕ) (i : ℕ) → i < length l → countOf eqb k (take (i + 1) l) ≡ countOf eqb k (take i l) + one (eqb k (getD l i 0))
+count-next k l i h = ap (countOf eqb k) (take-next l i h) ∙ count-append eqb k (take i l) (getD l i 0 ∷ []) ∙ omega arith
+
+-- the item at i, and how often it stood before
+pub item-counts : (l : List ℕ) (i : ℕ) → i < length l → countOf eqb (getD l i 0) (take i l) + 1 ≤ countOf eqb (getD l i 0) l
+item-counts l i h =
+    let k = getD l i 0 in
+    omega (arith, count-take-le eqb k (i + 1) l, count-next k l i h, ap one (eq-eqb k k refl))
+
+pub front-agree : (xs ys : List ℕ) (e : ℕ) → e ≤ length xs → e ≤ length ys → ((i : ℕ) → i < e → getD xs i 0 ≡ getD ys i 0) → take e ys ≡ take e xs
+front-agree xs ys e hx hy h =
+    ext-getD 0 (take e ys) (take e xs) (length-take-le e ys hy ∙ sym (length-take-le e xs hx))
+    (λ i l. let b : i < e = omega (arith, length-take-le e ys hy) in getD-take e ys i 0 b ∙ sym (h i b) ∙ sym (getD-take e xs i 0 b))
+
+pub word-front : (m : ℕ) (w w′ : List ℕ) → take m w′ ≡ take m w → (i : ℕ) → i < m → getD w′ i 0 ≡ getD w i 0
+word-front m w w′ e i h = sym (getD-take m w′ i 0 h) ∙ ap (λ (l : List ℕ). getD l i 0) e ∙ getD-take m w i 0 h
+
+pub word-rest : (m : ℕ) (w w′ : List ℕ) → drop m w′ ≡ drop m w → (i : ℕ) → m ≤ i → getD w′ i 0 ≡ getD w i 0
+word-rest m w w′ e i h = from w′ ∙ ap (λ (l : List ℕ). getD l (i - m) 0) e ∙ sym (from w)
+  where
+    from : (u : List ℕ) → getD u i 0 ≡ getD (drop m u) (i - m) 0
+    from u = let k : i ≡ m + (i - m) = omega arith in ap (λ (j : ℕ). getD u j 0) k ∙ sym (getD-drop m u (i - m) 0)
+
+pub default-any : (l : List ℕ) (i d e : ℕ) → i < length l → getD l i d ≡ getD l i e
+default-any [] i d e h = absurd (omega arith)
+default-any (x ∷ l) zero d e h = refl
+default-any (x ∷ l) (suc i) d e h = default-any l i d e (omega arith)
+
+-- after a list is stored at p, what stands before its end is what stood before p, and the list
+pub take-sets : (o : List ℕ) (p : ℕ) (a : List ℕ) → p + length a ≤ length o → take (p + length a) (sets o p a) ≡ take p o ++ a
+take-sets o p a h =
+    let l : length (take p o ++ a) ≡ p + length a = length-append (take p o) a ∙ ap (λ (n : ℕ). n + length a) (length-take-le p o (omega arith)) in
+    rw (sets-eq a o p h) (take-at (take p o ++ a) (drop (p + length a) o) (p + length a) l)
+
+pub drop-sets : (o : List ℕ) (p : ℕ) (a : List ℕ) → p + length a ≤ length o → drop (p + length a) (sets o p a) ≡ drop (p + length a) o
+drop-sets o p a h =
+    let l : length (take p o ++ a) ≡ p + length a = length-append (take p o) a ∙ ap (λ (n : ℕ). n + length a) (length-take-le p o (omega arith)) in
+    rw (sets-eq a o p h) (drop-at (take p o ++ a) (drop (p + length a) o) (p + length a) l)
+
+-- the second part of n + m bytes
+pub halves : (t : List ℕ) (at n m : ℕ) → at + (n + m) ≤ length t → drop n (take (n + m) (drop at t)) ≡ take m (drop (at + n) t)
+halves t at n m h =
+    let s : n ≤ length (drop at t) = rw (length-drop at t) (omega arith) in
+    ap (drop n) (take-add n m (drop at t))
+    ∙ drop-at (take n (drop at t)) (take m (drop n (drop at t))) n (length-take-le n (drop at t) s)
+    ∙ ap (take m) (drop-drop n at t)
+
+-- a byte before a run, stored after it
+pub set-before : (b l : List ℕ) (i j x : ℕ) → i < j → set (sets l j b) i x ≡ sets (set l i x) j b
+set-before [] l i j x h = refl
+set-before (a ∷ b) l i j x h = set-before b (set l j a) i (suc j) x (omega arith) ∙ ap (λ (m : List ℕ). sets m (suc j) b) (set-comm l j i a x (omega arith))
+
+pub take-below : (b n : ℕ) (l : List ℕ) → 1 ≤ b → ((i : ℕ) → getD l i 0 < b) → (i : ℕ) → getD (take n l) i 0 < b
+take-below b zero l h f i = h
+take-below b (suc n) [] h f i = h
+take-below b (suc n) (x ∷ l) h f zero = f 0
+take-below b (suc n) (x ∷ l) h f (suc i) = take-below b n l h (λ j. f (suc j)) i
+
+-- the loop that copies: a turn, and the end
+pub copy-turn : (d s : List ℕ) (j : ℕ) → j < length d → j < length s → set (paste d 0 s j) j (getD s j 0) ≡ paste d 0 s (j + 1)
+copy-turn d s j hd hs =
+    ap (λ (n : ℕ). set (paste d 0 s j) n (getD s j 0)) (sym (zero-add j))
+    ∙ paste-suc d 0 s j 0 (rw (zero-add j) hd) hs
+    ∙ ap (λ (n : ℕ). paste d 0 s n) (sym (add-one j))
+
+pub copy-end : (d s : List ℕ) (j : ℕ) → j ≡ length s → paste d 0 s j ≡ s ++ drop (length s) d
+copy-end d s j e =
+    ap (λ (n : ℕ). paste d 0 s n) e ∙ (λ i. take-length s i ++ drop (zero-add (length s) i) d)
+
+-- what is stored from the front on stands before the rest
+pub front-sets : (o a : List ℕ) → length a ≤ length o → sets o 0 a ≡ a ++ drop (length a) o
+front-sets o a h = sets-eq a o 0 (omega arith) ∙ ap (λ (n : ℕ). a ++ drop n o) (zero-add (length a))
+
+-- the list has each once
+pub once-place : (l : List ℕ) → ((k : ℕ) → countOf eqb k l ≤ 1) → (i : ℕ) → i < length l → place eqb (getD l i 0) l ≡ i
+once-place [] s i h = absurd (omega arith)
+once-place (x ∷ l) s zero h = rw (eq-eqb x x refl)
+once-place (x ∷ l) s (suc i) h =
+    let y = getD l i 0 in
+    let ne : eqb y x ≡ false = bool-cases (eqb y x) (λ t. absurd (omega (arith, s y, ap one t, at-count l i (omega arith)))) (λ t. t) in
+    rw ne (ap suc (once-place l (λ k. omega (arith, s k)) i (omega arith)))

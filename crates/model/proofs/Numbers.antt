@@ -14,9 +14,9 @@ use Rattle.model.proofs.ListLaws.{count-append, count-place, getD-place
 use Rattle.model.specs.Model.{Entity, Entities, sameEntity, noEntity, create, createWith, destroy, lastVersion}
 pub use Rattle.model.specs.Sound.{indexOf, num}
 use Rattle.model.specs.Sound.{EntitiesSound}
-use Rattle.model.proofs.SparseSets.{entity-eq, cond-case}
+use Rattle.model.proofs.SparseSets.{entity-eq}
+use Rattle.model.proofs.BoolLaws.{cond-case, bool-cases}
 use Rattle.model.proofs.Groups.{cnt, plc}
-use Rattle.model.proofs.Walk.{bool-cases}
 
 -- sound, whatever the capacity
 abbrev pub EntitiesOk : Entities → Type 0

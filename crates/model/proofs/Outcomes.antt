@@ -11,7 +11,7 @@ use Rattle.model.specs.Store.{Store, bytesOf, stagedKinds, isKind, withC
 use Rattle.model.specs.Commands.{REG, HOLD, NEW, PUT, TAKE, DROP, KILL, WIPE, GROUP, APPLY, BAR, RANGE, EMPTY, TALLY, heldBytes, accepted}
 use Rattle.model.specs.Refusals.{linesOf, unknownKind}
 use Rattle.model.specs.Run.{Outcome, refuses, accepts, does}
-use Rattle.model.proofs.Walk.{bool-cases}
+use Rattle.model.proofs.BoolLaws.{bool-cases}
 
 module _ (s : Store) where
   -- ---- REG

@@ -11,16 +11,17 @@ use lib.Dec.{eqb}
 use lib.ListN.{length, take, drop, getD, length-drop, length-map, take-append-drop}
 use lib.Seq.{length-take-le, take-all, drop-cons}
 use Rattle.model.specs.Lists.{one, countOf}
-use Rattle.model.proofs.ListLaws.{count-append, count-length}
+use Rattle.model.proofs.ListLaws.{count-append, count-length, length-zero}
 use Rattle.model.specs.Model.{Entity, SparseSet, Group, Family, Range, none, found, sameEntity, mem, allOf, within, sameSet, setOf, entityOf, held, allHeld, headKind, kindsOf, newGroup, firstRange, rangeAt, rangeIn, rangeAll, single, rangeFor}
 use Rattle.model.specs.Store.{Store}
 use Rattle.model.specs.Sound.{cnt, In, key, holders, Distinct, layoutKinds, Rising, BuildableFamilies, Right, RightFrom, AllRight, Between, StoreSound}
 use Rattle.model.specs.Shown.{lacking, described, Showing, EqualGroup, EqualNewKinds, Shows, oneKind, aGroup, twoGroups}
-use Rattle.model.proofs.SparseSets.{entity-eq, entity-same, cond-case, and-left, and-right}
-use Rattle.model.proofs.Walk.{bool-cases, in-left, in-right, or-cases, all-in, held-count, lacks-count}
+use Rattle.model.proofs.SparseSets.{entity-eq, entity-same}
+use Rattle.model.proofs.BoolLaws.{cond-case, and-left, and-right, or-cases, not-true, bool-cases}
+use Rattle.model.proofs.Walk.{in-left, in-right, all-in, held-count, lacks-count}
 use Rattle.model.proofs.Invariant.{holders-count}
 use Rattle.model.proofs.Numbers.{cnt-num}
-use Rattle.model.proofs.KindLists.{not-true, all-true, head-in, distinct-left, distinct-right, distinct-apart, all-joined}
+use Rattle.model.proofs.KindLists.{all-true, head-in, distinct-left, distinct-right, distinct-apart, all-joined}
 use Rattle.model.proofs.Demand.{between}
 
 -- ---- equal sets
@@ -169,10 +170,6 @@ length-one : (h : List ℕ) → length h ≡ 1 → h ≡ headKind h ∷ []
 length-one [] e = absurd (omega arith)
 length-one (k ∷ []) e = refl
 length-one (k ∷ j ∷ h) e = absurd (omega arith)
-
-length-zero : (b : List ℕ) → length b ≡ 0 → b ≡ []
-length-zero [] e = refl
-length-zero (k ∷ b) e = absurd (omega arith)
 
 module _ (s : Store) (S : StoreSound s) (h b : List ℕ) where
   abbrev C : List SparseSet

@@ -13,11 +13,12 @@ use lib.Seq.{length-take-le, take-take, take-set-le}
 use Rattle.model.specs.Lists.{one, countOf, cutAt}
 use Rattle.model.proofs.ListLaws.{count-cutAt, map-cutAt, count-place, place-le, getD-place}
 use Rattle.model.specs.Model.{Entity, SparseSet, Group, Family, Storage, Walked, GroupStep, sameEntity, noEntity, noRow, mem, anyOf, meets, setOf, keys, entityOf, at, held, kindsOf, onKinds, swapTo, removeRow, isGrouped, ungroupComponents, ungroupFamily, ungroup, remove}
-use Rattle.model.proofs.SparseSets.{entity-eq, entity-same, cond-case, key, setOf-mapOn}
+use Rattle.model.proofs.SparseSets.{entity-eq, entity-same, key, setOf-mapOn}
+use Rattle.model.proofs.BoolLaws.{cond-case, or-cases, or-false, or-false-right, bool-cases}
 use Rattle.model.proofs.Groups.{cnt, plc, In, Full, SameEntities}
-use Rattle.model.proofs.Walk.{Chain, Every, But, GroupRight, bool-cases, or-cases, or-true, or-false, in-left, in-right, mem-append, full-lacks, either, held-count, lacks-count}
+use Rattle.model.proofs.Walk.{Chain, Every, But, GroupRight, or-true, in-left, in-right, mem-append, full-lacks, either, held-count, lacks-count}
 use Rattle.model.proofs.WalkDown.{Left, LeftChain, Down, ungroupFamily-good, out-place}
-use Rattle.model.proofs.Families.{Fams, Apart, allKinds, famKinds, chain-other, or-false-right, not-both}
+use Rattle.model.proofs.Families.{Fams, Apart, allKinds, famKinds, chain-other, not-both}
 use Rattle.model.proofs.Invariant.{Fit, any-in, length-mapOn}
 
 -- ---- a row goes, and the last takes its place

@@ -16,8 +16,7 @@ use Rattle.model.specs.Commands.{Command, REG, HOLD, NEW, PUT, TAKE, DRO
 use Rattle.model.specs.Refusals.{NoneHolds, linesOf}
 use Rattle.model.specs.Run.{Outcome, refuses, accepts, does, Step, stops, goes, stepOf, step, Ran, halt, more, runFor, run}
 use Rattle.model.specs.History.{retires, retiredFor, retired}
-use Rattle.model.proofs.SparseSets.{cond-case}
-use Rattle.model.proofs.Walk.{bool-cases}
+use Rattle.model.proofs.BoolLaws.{cond-case, bool-cases}
 use Rattle.model.proofs.Lines.{accepted-exact}
 use Rattle.model.proofs.Lengths.{Going, step-case, clash}
 

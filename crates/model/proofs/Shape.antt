@@ -5,7 +5,7 @@ use Prim.Native.Nat.{ℕ, _+_}
 use lib.ListN.{length-map}
 use Rattle.model.specs.Model.{Entity, SparseSet, Group, Family, Component, Storage, Walked, GroupStep, zeroCount, meets, allHeld, isGrouped, kindOf, kindsOf, groupsOf, insertAll, groupComponents, ungroupComponents, groupFamily, ungroupFamily, groupTouched, ungroup, groupAll, regroup, setLayout, insertComponents, remove, clearAll}
 use Rattle.model.specs.Sound.{layoutKinds, Rising, BuildableFamilies, Buildable}
-use Rattle.model.proofs.SparseSets.{cond-case}
+use Rattle.model.proofs.BoolLaws.{cond-case}
 use Rattle.model.proofs.Regroup.{zero-kinds}
 
 -- the layout with every count 0

@@ -1,6 +1,6 @@
 -- Every command keeps a sound store sound, so every run does, and so does every step of it. Assumes nothing.
 use mathlib.Core.Path.{_≡_}
-use mathlib.Core.Bool.{Bool, true, false, not, _&&_, _||_, true≢false}
+use mathlib.Core.Bool.{true, false, not, _||_}
 use mathlib.Core.Option.{Option, some, none}
 use mathlib.Core.List.{List, [], _∷_}
 use Prim.Native.Nat.{ℕ, zero, suc, _-_, _^_, _≤_, _<_}
@@ -14,16 +14,14 @@ use Rattle.model.specs.Model.{Created, isLive, addsNothing, joins, withG
 pub use Rattle.model.specs.Store.{Bytes}
 use Rattle.model.specs.Store.{Store, empty, number, stagedKinds, isKind, withControl, withEntities, counted, emptyStaged, emptyBoth}
 use Rattle.model.specs.Commands.{Command, REG, HOLD, NEW, PUT, TAKE, DROP, KILL, WIPE, GROUP, APPLY, BAR, RANGE, EMPTY, TALLY, Done, accepted, widths, width, commands, commandAt}
-use Rattle.model.specs.Refusals.{firstLine, linesOf, beforeLines}
+use Rattle.model.specs.Refusals.{firstLine, linesOf, beforeLines, NoneHolds}
 use Rattle.model.specs.Run.{Outcome, refuses, accepts, does, Step, stops, goes, stepOf, stepIf, step, Ran, halt, more, runFor, run}
 use Rattle.model.specs.History.{trailFor, trail}
 pub use Rattle.model.specs.History.{EachStore}
 use Rattle.model.specs.Sound.{Eight, Limits, StoreSound}
-use Rattle.model.proofs.SparseSets.{cond-case}
-use Rattle.model.proofs.Families.{or-false-right}
+use Rattle.model.proofs.BoolLaws.{cond-case, or-false-right, not-and, not-not}
 use Rattle.model.proofs.Draft.{DraftSound, withGroup-sound}
 use Rattle.model.proofs.Operations.{control-of, control-sound, register-sound, create-sound, create-is-live, insert-sound, remove-sound, kill-sound, clearAll-sound, setLayout-sound, stage-sound, exclude-sound, draft-sound, emptyStaged-sound, emptyBoth-sound, counted-sound, no-draft, empty-sound}
-use Rattle.model.specs.Refusals.{NoneHolds}
 use Rattle.model.proofs.Lines.{none-to, outcome-case}
 
 -- ---- a command's operands are of their widths: a value is of eight bytes
@@ -45,13 +43,6 @@ Fits EMPTY = Unit {0}
 Fits TALLY = Unit {0}
 
 -- ---- accepted commands
-
-not-and : (a b : Bool) → (not a && b) ≡ false → a ≡ false → b ≡ false
-not-and true b h e = absurd (true≢false e)
-not-and false b h e = h
-
-not-not : (a b : Bool) → (not a && not b) ≡ false → a ≡ false → b ≡ true
-not-not a b h e = not-false b (not-and a (not b) h e)
 
 known-kind : (k : ℕ) (s : Store) → (ltb LAST-KIND k || not (isKind k s)) ≡ false → isKind k s ≡ true
 known-kind k s h = not-false (isKind k s) (or-false-right (ltb LAST-KIND k) (not (isKind k s)) h)

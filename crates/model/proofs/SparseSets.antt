@@ -1,6 +1,6 @@
 -- Sparse sets read by kind: what a walk's swap does to the entities of each. Assumes nothing.
 use mathlib.Core.Path.{_≡_, refl, ap, sym, _∙_}
-use mathlib.Core.Bool.{Bool, true, false, cond, _&&_}
+use mathlib.Core.Bool.{true, false, cond}
 use mathlib.Core.List.{List, [], _∷_}
 use Prim.Native.Nat.{ℕ, zero, suc, _+_}
 use native.Mathlib.Nat.{zero-add, add-zero, suc-add, add-suc}
@@ -8,26 +8,10 @@ use borrow.Author.Tests.{eqb-true, eq-eqb}
 use lib.Dec.{eqb}
 use lib.ListN.{getD, set, List·getD-map}
 use Rattle.model.specs.Lists.{swap, place}
-pub use Rattle.model.proofs.ListLaws.{map-set}
 pub use Rattle.model.specs.Sound.{key}
 use Rattle.model.specs.Model.{Entity, SparseSet, sameEntity, noEntity, noRow, mem, setOf, keys, entityOf, at, swapTo, mapOn, onKinds}
-
--- a property of a choice, from its two cases
-pub cond-case : {A : Type 0} (P : A → Type 0) (b : Bool) (x y : A) → (b ≡ true → P x) → (b ≡ false → P y) → P (cond b x y)
-cond-case P true x y f g = f refl
-cond-case P false x y f g = g refl
-
-pub cond-same : {A : Type 0} (b : Bool) (x : A) → cond b x x ≡ x
-cond-same true x = refl
-cond-same false x = refl
-
-pub and-left : (a b : Bool) → (a && b) ≡ true → a ≡ true
-and-left true b h = refl
-and-left false b h = h
-
-pub and-right : (a b : Bool) → (a && b) ≡ true → b ≡ true
-and-right true b h = h
-and-right false b h = cc
+use Rattle.model.proofs.BoolLaws.{cond-same, and-left, and-right}
+use Rattle.model.proofs.ListLaws.{map-set}
 
 pub entity-eq : (a b : Entity) → sameEntity a b ≡ true → a ≡ b
 entity-eq a b h =

@@ -9,7 +9,8 @@ use native.Mathlib.Decide.{ℕ-discrete, decLt}
 use lib.ListN.{length, take, getD, set}
 use lib.Seq.{getD-set-same, getD-set-other, set-out}
 use Rattle.model.specs.Model.{Entity, Row, SparseSet, Group, Family, Component, Storage, Walked, GroupStep, noRow, mem, meets, setOf, at, held, allHeld, isGrouped, swapTo, insertRow, removeRow, onKinds, insertAll, kindOf, kindsOf, groupComponents, ungroupComponents, groupFamily, ungroupFamily, groupTouched, ungroup, groupAll, regroup, setLayout, insertComponents, remove, clearAll}
-use Rattle.model.proofs.SparseSets.{cond-case, setOf-mapOn}
+use Rattle.model.proofs.SparseSets.{setOf-mapOn}
+use Rattle.model.proofs.BoolLaws.{cond-case}
 
 module _ {A : Type 0} (P : A → Type 0) (d : A) (pd : P d) where
   abbrev pub AllOf : List A → Type 0

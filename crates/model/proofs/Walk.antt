@@ -10,9 +10,9 @@ use lib.Dec.{eqb}
 use lib.ListN.{length, take, length-map}
 use Rattle.model.proofs.ListLaws.{place-count, place-count-take, count-take-place, count-place}
 use Rattle.model.specs.Model.{Entity, SparseSet, Group, Family, Walked, GroupStep, sameEntity, mem, allOf, setOf, entityOf, at, held, headKind, isGrouped, allHeld, swapTo, onKinds, groupComponents, groupFamily, kindsOf}
-use Rattle.model.proofs.SparseSets.{entity-eq, cond-case, key, key-swapped, key-kept, and-left, and-right}
+use Rattle.model.proofs.SparseSets.{entity-eq, key, key-swapped, key-kept}
+use Rattle.model.proofs.BoolLaws.{cond-case, and-left, and-right, or-cases, or-false, bool-cases}
 pub use mathlib.Core.Bool.{or-true}
-pub use Rattle.model.proofs.Groups.{bool-cases}
 use Rattle.model.proofs.Groups.{cnt, plc, In, Even, Full, Inside, Swapped, SameEntities, even-kept, full-kept, same-entities, low, inner-even, inner-full, inner-isGrouped, grown-even, grown-full, grown-isGrouped}
 
 -- ---- membership
@@ -26,14 +26,6 @@ in-left a b k h = rw (mem-append k a b, h)
 
 pub in-right : (a b : List ℕ) (k : ℕ) → In b k → In (a ++ b) k
 in-right a b k h = rw (mem-append k a b, h) (or-true (mem k a))
-
-pub or-cases : {P : Type 0} (a b : Bool) → (a || b) ≡ true → (a ≡ true → P) → (b ≡ true → P) → P
-or-cases true b h f g = f refl
-or-cases false b h f g = g h
-
-pub or-false : (a b : Bool) → (a || b) ≡ false → a ≡ false
-or-false true b h = h
-or-false false b h = refl
 
 pub in-cases : {P : Type 0} (a b : List ℕ) (k : ℕ) → In (a ++ b) k → (In a k → P) → (In b k → P) → P
 in-cases a b k h = or-cases (mem k a) (mem k b) (sym (mem-append k a b) ∙ h)

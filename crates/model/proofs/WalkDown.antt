@@ -8,9 +8,10 @@ use borrow.Author.Tests.{ltb-true, ltb-false}
 use lib.ListN.{length, take}
 use Rattle.model.proofs.ListLaws.{place-count-take, count-take-place, count-take-le}
 use Rattle.model.specs.Model.{Entity, SparseSet, Group, Family, Walked, GroupStep, sameEntity, mem, anyOf, meets, headKind, isGrouped, swapTo, onKinds, ungroupComponents, ungroupFamily, kindsOf}
-use Rattle.model.proofs.SparseSets.{cond-case, key, key-swapped, key-kept}
+use Rattle.model.proofs.SparseSets.{key, key-swapped, key-kept}
+use Rattle.model.proofs.BoolLaws.{cond-case, or-false, or-cases}
 use Rattle.model.proofs.Groups.{cnt, plc, In, Even, Full, Inside, Swapped, SameEntities, even-kept, full-kept, same-entities, low, inner-even, inner-count, shrunk-even, shrunk-full, shrunk-out}
-use Rattle.model.proofs.Walk.{Below, Chain, Every, But, below-le, in-left, in-right, or-false, or-true, or-cases, mem-append}
+use Rattle.model.proofs.Walk.{Below, Chain, Every, But, below-le, in-left, in-right, or-true, mem-append}
 
 any-more : (p q : ℕ → Bool) → ((k : ℕ) → p k ≡ true → q k ≡ true) → (ks : List ℕ) → anyOf p ks ≡ true → anyOf q ks ≡ true
 any-more p q f [] h = h

@@ -13,10 +13,10 @@ use denote.Ref.{RefT}
 use Rattle.model.specs.Store.{Store, empty}
 use Rattle.model.specs.Entries.{Started, refusesStart, makes, start, roll}
 use Rattle.model.proofs.Entries.{start-makes}
+use Rattle.model.proofs.BoolLaws.{and-left, and-right}
 use Rattle.model.proofs.Emitting.{emits-few}
-use Rattle.model.proofs.SparseSets.{and-left, and-right}
 use Rattle.words.specs.Decides.{Decides}
-use Rattle.words.proofs.Decides.{yes-of}
+use Rattle.words.proofs.Decides.{yes-of, decides-true}
 use Rattle.memory.specs.Meaning.{meaning}
 use Rattle.memory.specs.Arranged.{Sound}
 use Rattle.run.specs.declared.Ran.{Ran}
@@ -28,13 +28,8 @@ use Rattle.replay.specs.declared.recorded.Step.{Step}
 use Rattle.replay.specs.declared.Tally.{Tally}
 use Rattle.replay.specs.Recorded.{short, tapeAt, numbersAt, RunRecorded, runAt, RunAgrees, RunsAgree, noRuns, moreRuns, RollAgrees, SameWords, SameColumn, ColumnAgrees, ColumnsAgree, noColumns, moreColumns, CaseAgrees, CasesAgree, noCases, moreCases}
 use Rattle.replay.specs.Agreement.{GaveSame, Compared, RolledSame, StepAgrees, CaseStepped, Counted, Replayed}
-use Rattle.replay.proofs.Comparing.{part-size}
+use Rattle.words.proofs.Part.{part-size}
 use Rattle.model.specs.Run as model
-
--- what is decided of what holds is true
-holds : {P : Type 0} (b : Bool) → Decides b P → P → b ≡ true
-holds true d p = refl
-holds false d p = absurd (d p)
 
 -- ---- a file that ends too soon
 
@@ -76,12 +71,12 @@ module _ (f w w′ o o₁ : List ℕ) (at n m : ℕ) (q : Ran) (r : Step) (tape 
   answered S h =
       let t : take (at + 4 + n - (at + 4)) (drop (at + 4) f) ≡ tapeAt f at = part-size f (at + 4) n ∙ ap (λ (k : ℕ). take k (drop (at + 4) f)) tape in
       let k : length (take m o) ≡ short f (at + 2) = length-take-le m o lent ∙ room in
-      rw (← t, ← k) (rw (holds (h .sound) (h .decides) S) at (h .answered))
+      rw (← t, ← k) (rw (decides-true (h .sound) (h .decides) S) at (h .answered))
 
   left : Sound w → Runs w w′ (take (at + 4 + n - (at + 4)) (drop (at + 4) f)) (take m o) o₁ q → Sound w′
   left S h =
       let l : RunLeaves true (take (at + 4 + n - (at + 4)) (drop (at + 4) f)) (length (take m o)) w w′ =
-      subst (λ (b : Bool). RunLeaves b (take (at + 4 + n - (at + 4)) (drop (at + 4) f)) (length (take m o)) w w′) (holds (h .sound) (h .decides) S) (h .leaves) in
+      subst (λ (b : Bool). RunLeaves b (take (at + 4 + n - (at + 4)) (drop (at + 4) f)) (length (take m o)) w w′) (decides-true (h .sound) (h .decides) S) (h .leaves) in
       l .0
 
   stored : Sound w → Runs w w′ (take (at + 4 + n - (at + 4)) (drop (at + 4) f)) (take m o) o₁ q → meaning w′ ≡ runAt f at (meaning w) .store
@@ -89,7 +84,7 @@ module _ (f w w′ o o₁ : List ℕ) (at n m : ℕ) (q : Ran) (r : Step) (tape 
   stored S h =
       let t : take (at + 4 + n - (at + 4)) (drop (at + 4) f) ≡ tapeAt f at = part-size f (at + 4) n ∙ ap (λ (k : ℕ). take k (drop (at + 4) f)) tape in
       let k : length (take m o) ≡ short f (at + 2) = length-take-le m o lent ∙ room in
-      rw (← t, ← k) (rw (holds (h .sound) (h .decides) S) at (h .means))
+      rw (← t, ← k) (rw (decides-true (h .sound) (h .decides) S) at (h .means))
 
   same-run : (x : model.Ran) (e : ℕ) → Answered (take m o) o₁ q x → GaveSame f e q (o₁ ++ drop m o) → RunRecorded f e x
   same-run x e a g =
@@ -143,9 +138,9 @@ pub same-column : (v r : RefT (List ℕ)) (k n p q : ℕ) (values : Bool) (b : L
     → ColumnNumbered (v .now) k 0 (n + 1) q → q ≡ 16 → ColumnPart v r values k 0 n → SameWords (r .now) b → SameColumn (meaning (v .now)) k values n b
 same-column v r k n p q values b S h p0 l q16 c s =
     record {
-      known = sym (rw (holds (h .sound) (h .decides) S) at (h .number)) ∙ p0;
-      last = sym (rw (holds (l .sound) (l .decides) S) at (l .number)) ∙ q16;
-      words = subst (λ (x : List ℕ). SameWords x b) (rw (holds (c .sound) (c .decides) S) at (c .words)) s;
+      known = sym (rw (decides-true (h .sound) (h .decides) S) at (h .number)) ∙ p0;
+      last = sym (rw (decides-true (l .sound) (l .decides) S) at (l .number)) ∙ q16;
+      words = subst (λ (x : List ℕ). SameWords x b) (rw (decides-true (c .sound) (c .decides) S) at (c .words)) s;
     }
 
 pub column-agrees : (f w : List ℕ) (at n : ℕ) (a b : Bool) → n ≡ short f (at + 1) → at + 3 + 8 * n + 8 * n ≤ length f

@@ -1,5 +1,5 @@
 -- How many bytes a command's accepted answer takes. Assumes nothing.
-use mathlib.Core.Path.{_≡_, refl, sym, _∙_}
+use mathlib.Core.Path.{_≡_, sym, _∙_}
 use mathlib.Core.Logic.{_≢_}
 use mathlib.Core.List.{List, [], _∷_}
 use Prim.Native.Nat.{ℕ, zero, suc, _+_, _*_, _≤_, _<_}
@@ -8,11 +8,7 @@ use lib.ListN.{length, getD, set, drop, List·getD-map}
 use lib.Seq.{getD-set-other}
 use Rattle.model.specs.Store.{Store}
 use Rattle.model.specs.Commands.{Command, TALLY, LAST_COMMAND, commands, commandAt, answerLength}
-
-default-any : (l : List ℕ) (i d e : ℕ) → i < length l → getD l i d ≡ getD l i e
-default-any [] i d e h = absurd (omega arith)
-default-any (x ∷ l) zero d e h = refl
-default-any (x ∷ l) (suc i) d e h = default-any l i d e (omega arith)
+use Rattle.model.proofs.ListLaws.{default-any}
 
 -- by command byte; TAKE's is for no staged component
 abbrev pub answers : List ℕ

@@ -4,12 +4,12 @@ use mathlib.Core.List.{List, [], _∷_, _++_, append-assoc, append-nil}
 use Prim.Native.Nat.{ℕ, zero, suc, _+_, _-_, _≤_, _<_}
 use native.Mathlib.Omega.{arith}
 use native.Mathlib.Nat.{zero-add, add-assoc, sub-zero}
-use lib.ListN.{length, getD, take, drop, length-drop, length-append, drop-of-length-le, take-append-drop}
-use lib.Seq.{sets, sets-eq, length-sets, drop-drop, take-at, drop-at, length-take-le}
+use lib.ListN.{length, getD, take, drop, length-drop, drop-of-length-le, take-append-drop}
+use lib.Seq.{sets, length-sets, drop-drop, length-take-le}
 use Rattle.model.specs.Store.{Store}
 use Rattle.model.specs.Run.{Step, stops, goes, step, Ran, halt, more, runFor, run}
 use Rattle.model.proofs.Lengths.{Stepped as Lengths, step-lengths}
-use Rattle.layout.proofs.Scan.{drop-step}
+use Rattle.model.proofs.ListLaws.{take-sets, drop-sets, drop-step}
 use Rattle.memory.specs.Meaning.{meaning}
 use Rattle.memory.specs.Arranged.{Sound, Becomes}
 use Rattle.command.proofs.Acts.{SameSettings, stays, becomes-next}
@@ -81,17 +81,6 @@ step-kept : (s : Store) (t : List ℕ) (at room k : ℕ) (a : List ℕ) (s′ : 
 step-kept s t at room k a s′ e = rw e at (step-same (getD t at 0) (drop (at + 1) t) room s)
 
 -- ---- the bytes
-
--- after a list is stored at p, what stands before its end is what stood before p, and the list
-take-sets : (o : List ℕ) (p : ℕ) (a : List ℕ) → p + length a ≤ length o → take (p + length a) (sets o p a) ≡ take p o ++ a
-take-sets o p a h =
-    let l : length (take p o ++ a) ≡ p + length a = length-append (take p o) a ∙ ap (λ (n : ℕ). n + length a) (length-take-le p o (omega arith)) in
-    rw (sets-eq a o p h) (take-at (take p o ++ a) (drop (p + length a) o) (p + length a) l)
-
-drop-sets : (o : List ℕ) (p : ℕ) (a : List ℕ) → p + length a ≤ length o → drop (p + length a) (sets o p a) ≡ drop (p + length a) o
-drop-sets o p a h =
-    let l : length (take p o ++ a) ≡ p + length a = length-append (take p o) a ∙ ap (λ (n : ℕ). n + length a) (length-take-le p o (omega arith)) in
-    rw (sets-eq a o p h) (drop-at (take p o ++ a) (drop (p + length a) o) (p + length a) l)
 
 -- ---- between two commands: k are done, the tape is read up to `at`, the answers stand before p
 

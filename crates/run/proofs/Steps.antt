@@ -12,7 +12,7 @@ use Rattle.model.specs.Model.{addsNothing}
 use Rattle.model.specs.Store.{Store, Bytes, isKind, stagedKinds}
 use Rattle.model.specs.Commands.{Command, REG, HOLD, NEW, PUT, TAKE, DROP, KILL, WIPE, GROUP, APPLY, BAR, RANGE, EMPTY, TALLY, LAST_COMMAND, Done, accepted, width, commandAt, answerLength}
 use Rattle.model.specs.Run.{Outcome, refuses, accepts, does, Step, stops, goes, stepOf, step, storeAfter, answerOf}
-use Rattle.model.proofs.SparseSets.{cond-case}
+use Rattle.model.proofs.BoolLaws.{cond-case}
 use Rattle.model.proofs.Lines.{accepted-exact}
 use Rattle.model.proofs.Lengths.{answer-length, answer-positive, step-case}
 use Rattle.model.proofs.Sound.{After, bytes-drop, tape-fits}
@@ -101,9 +101,6 @@ stopped S h e = rw e (record { sound = S; becomes = stays (S .arranged); kept = 
 pub bytes-all : (l : List ℕ) → ((i : ℕ) → getD l i 0 < 256) → Bytes l
 bytes-all [] h = tt
 bytes-all (b ∷ l) h = (h 0, bytes-all l (λ i. h (suc i)))
-
-pub positive : (n : ℕ) → (n ≡ 0 → ⊥) → 1 ≤ n
-positive n h = omega arith
 
 -- what a command is given, once the run does not stop before it
 pub given : {w t o : List ℕ} {at p : ℕ} (b n need : ℕ) → StepReady w t at o p → n ≡ width b → 1 + n ≤ length t - at → need ≡ answerLength (commandIn b t (at + 1)) (meaning w) → need ≤ length o - p → Given w b t (at + 1) o p

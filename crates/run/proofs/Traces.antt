@@ -6,7 +6,7 @@ use lib.ListN.{length, getD, take, drop, drop-of-length-le}
 use Rattle.model.specs.Store.{Store}
 use Rattle.model.specs.Commands.{Command, width, commandAt}
 use Rattle.model.specs.Run.{Step, stops, goes, step}
-use Rattle.layout.proofs.Scan.{drop-step}
+use Rattle.model.proofs.ListLaws.{drop-step}
 use Rattle.memory.specs.Meaning.{meaning}
 use Rattle.memory.specs.Arranged.{Becomes}
 use Rattle.run_command.specs.Given.{commandIn}

@@ -5,27 +5,20 @@ use Prim.Native.Nat.{ℕ, zero, suc, _+_, _≤_, _<_}
 use native.Mathlib.Omega.{arith}
 use native.Mathlib.Nat.{add-zero}
 use lib.ListN.{length, getD, take, drop, length-drop}
-use lib.Seq.{getD-take, getD-drop, length-take-le, take-take, take-add, drop-drop, drop-at}
+use lib.Seq.{getD-take, getD-drop, length-take-le, take-take}
 use Rattle.model.specs.Model.{Entity}
 use Rattle.model.proofs.BoolLaws.{by-eq}
 use Rattle.model.specs.Store.{number}
 use Rattle.model.specs.Commands.{Command, LAST_COMMAND, entityOfBytes}
 use Rattle.component.specs.SparseSet.{entity, valueOf}
 use Rattle.model.specs.Run.{does}
+use Rattle.model.proofs.ListLaws.{halves}
 use Rattle.memory.specs.Meaning.{meaning}
 use Rattle.command.specs.Acted.{Ready, Acted}
 use Rattle.run_command.specs.Given.{commandIn, Given}
 use Rattle.codec.proofs.Numbers.{number-join}
 
 -- ---- operands
-
--- the second part of n + m bytes
-halves : (t : List ℕ) (at n m : ℕ) → at + (n + m) ≤ length t → drop n (take (n + m) (drop at t)) ≡ take m (drop (at + n) t)
-halves t at n m h =
-    let s : n ≤ length (drop at t) = rw (length-drop at t) (omega arith) in
-    ap (drop n) (take-add n m (drop at t))
-    ∙ drop-at (take n (drop at t)) (take m (drop n (drop at t))) n (length-take-le n (drop at t) s)
-    ∙ ap (take m) (drop-drop n at t)
 
 module _ (t : List ℕ) (at : ℕ) where
   pub kind-operand : (n : ℕ) → 0 < n → getD (take n (drop at t)) 0 0 ≡ getD t at 0

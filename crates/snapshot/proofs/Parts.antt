@@ -5,11 +5,12 @@ use Prim.Native.Nat.{ℕ, zero, suc, _+_, _*_, _-_, _/_, _≤_, _<_}
 use native.Mathlib.Omega.{arith}
 use native.Mathlib.Numerals.{add-one}
 use lib.ListN.{length, set, length-append}
-use lib.Seq.{sets, set-comm}
+use lib.Seq.{sets}
 use Rattle.model.specs.Model.{SparseSet, Component}
 use Rattle.model.specs.Store.{Store, bytesOf}
 use Rattle.model.specs.Snapshot.{Entry, componentsOf, liveVersion, entryOf, entries, componentBytes, entryBytes, flat, listing, snapshot}
 use Rattle.model.proofs.Lengths.{bytesOf-length}
+use Rattle.model.proofs.ListLaws.{set-before}
 use Rattle.component.specs.SparseSet.{entity}
 use Rattle.memory.specs.Meaning.{meaning}
 use Rattle.snapshot.specs.Wrote.{entryFor, indexBytes, WrittenUntil}
@@ -38,11 +39,6 @@ entry-room t p n h = (omega (arith, entry-length t), omega (arith, entry-length 
 -- the number of components, from the place after their bytes
 pub entry-count : {o o′ : List ℕ} {p r : ℕ} (ps : List Component) → WrittenUntil o o′ p r (componentBytes ps) → (r - p) / 9 ≡ length ps
 entry-count ps w = omega (arith, w .next, bytes-length ps)
-
--- a byte before a run, stored after it
-set-before : (b l : List ℕ) (i j x : ℕ) → i < j → set (sets l j b) i x ≡ sets (set l i x) j b
-set-before [] l i j x h = refl
-set-before (a ∷ b) l i j x h = set-before b (set l j a) i (suc j) x (omega arith) ∙ ap (λ (m : List ℕ). sets m (suc j) b) (set-comm l j i a x (omega arith))
 
 -- the count is stored last
 pub entry-written : {o o₁ o₂ o₃ o₄ : List ℕ} {p r n : ℕ} (t : Entry) → o₁ ≡ sets o p (bytesOf 4 (t .entity .index)) → o₂ ≡ sets o₁ (p + 4) (bytesOf 4 (t .entity .version))

@@ -17,13 +17,12 @@ use Rattle.model.specs.Store.{Store}
 use Rattle.model.specs.Snapshot.{Entry, addComponent, componentsOf, liveVersion, entryOf, entries, entryBytes, flat, snapshot}
 use Rattle.model.specs.Sound.{cnt, key, holders, StoreSound}
 use Rattle.model.proofs.SparseSets.{entity-eq, entity-same}
-use Rattle.model.proofs.Groups.{bool-cases}
+use Rattle.model.proofs.BoolLaws.{bool-cases, by-eq}
 use Rattle.model.proofs.Walk.{held-count, lacks-count}
 use Rattle.model.proofs.Numbers.{cnt-num}
 use Rattle.model.proofs.Invariant.{holders-count}
 use Rattle.model.proofs.Listing.{LiveOk}
 use Rattle.model.proofs.Snapshots.{listed}
-use Rattle.model.proofs.BoolLaws.{by-eq}
 use Rattle.snapshot.specs.Rising.{rowsIn}
 use Rattle.snapshot.proofs.Parts.{entry-length, flat-append, snapshot-length}
 

@@ -1,20 +1,18 @@
 -- The rows of a sound column: an entity once, and values of eight bytes. Assumes nothing.
-use mathlib.Core.Path.{_≡_, ap, sym, _∙_, subst}
+use mathlib.Core.Path.{_≡_, ap, sym, _∙_}
 use mathlib.Core.Logic.{_≢_}
 use mathlib.Core.List.{List, [], _∷_}
-use Prim.Native.Nat.{ℕ, zero, suc, _+_, _*_, _-_, _≤_, _<_}
+use Prim.Native.Nat.{ℕ, suc, _+_, _*_, _≤_, _<_}
 use native.Mathlib.Decide.{decLe}
 use native.Mathlib.Omega.{arith}
-use lib.ListN.{length, take, drop, getD, length-map, List·getD-map, List·getD-eq-default}
-use lib.Seq.{getD-drop}
+use lib.ListN.{length, getD, length-map, List·getD-map, List·getD-eq-default}
 use Rattle.words.specs.Offsets.{ROWS}
 use Rattle.model.specs.Lists.{one, place}
 use Rattle.model.proofs.ListLaws.{count-place, getD-place}
 use Rattle.model.specs.Model.{Entity, sameEntity, noEntity, noRow, entityOf, keys}
 use Rattle.model.specs.Sound.{cnt, Eight}
 use Rattle.model.proofs.SparseSets.{entity-eq}
-use Rattle.model.proofs.Walk.{bool-cases}
-use Rattle.words.specs.Part.{between}
+use Rattle.model.proofs.BoolLaws.{bool-cases}
 use Rattle.component.specs.SparseSet.{lengthOf, indexAt, lowAt, highAt, valueOf, rows, ColumnSound}
 use Rattle.component.proofs.Meaning.{length-rows, getD-rows, index-rows, rows-apart}
 
@@ -54,12 +52,3 @@ module _ (n : ℕ) (w : List ℕ) where
       ]
 
 -- ---- the words of a part are words
-
-take-below : (b n : ℕ) (l : List ℕ) → 1 ≤ b → ((i : ℕ) → getD l i 0 < b) → (i : ℕ) → getD (take n l) i 0 < b
-take-below b zero l h f i = h
-take-below b (suc n) [] h f i = h
-take-below b (suc n) (x ∷ l) h f zero = f 0
-take-below b (suc n) (x ∷ l) h f (suc i) = take-below b n l h (λ j. f (suc j)) i
-
-pub between-below : (b a e : ℕ) (w : List ℕ) → 1 ≤ b → ((i : ℕ) → getD w i 0 < b) → (i : ℕ) → getD (between a e w) i 0 < b
-between-below b a e w h f = take-below b (e - a) (drop a w) h (λ i. subst (λ (x : ℕ). x < b) (sym (getD-drop a w i 0)) (f (a + i)))

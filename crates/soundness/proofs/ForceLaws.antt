@@ -11,7 +11,8 @@ use Rattle.words.specs.Offsets.{ENTITIES, GROUP-COUNTS, LAYOUT, LAYOUT-ENDS}
 use Rattle.model.specs.Model.{Entity, SparseSet, noEntity, setOf, keys, entityOf, held, allHeld}
 use Rattle.model.specs.Sound.{key}
 use Rattle.model.proofs.Walk.{all-in}
-use Rattle.model.proofs.KindLists.{not-true, all-true}
+use Rattle.model.proofs.KindLists.{all-true}
+use Rattle.model.proofs.BoolLaws.{not-true}
 use Rattle.words.specs.Part.{between}
 use Rattle.words.proofs.Part.{getD-between}
 use Rattle.component.specs.Columns.{rowsOf, Columns}

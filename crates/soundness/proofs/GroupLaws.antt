@@ -1,6 +1,6 @@
 -- The groups' clause as the check tells it is the model's. Assumes nothing.
 use mathlib.Core.Path.{_≡_, refl, ap, sym, _∙_, subst}
-use mathlib.Core.Bool.{Bool, true, false, _&&_, true≢false, false≢true}
+use mathlib.Core.Bool.{true, false, _&&_, true≢false, false≢true}
 use mathlib.Core.List.{List, [], _∷_, _++_}
 use Prim.Native.Nat.{ℕ, zero, suc, _+_, _-_, _≤_, _<_}
 use native.Mathlib.Nat.{le-of-suc-le-suc, not-suc-le-zero}
@@ -13,9 +13,10 @@ use Rattle.model.specs.Lists.{one, place}
 use Rattle.model.proofs.ListLaws.{count-append, count-place, count-take-le, place-count-take, getD-place, count-length}
 use Rattle.model.specs.Model.{Entity, SparseSet, Family, sameEntity, noEntity, setOf, held, headKind, kindsOf, allHeld}
 use Rattle.model.specs.Sound.{cnt, In, key, SetsSound, BuildableFamily, BuildableFamilies, holders, Right, RightFrom, AllRight}
-use Rattle.model.proofs.SparseSets.{entity-eq, entity-same, and-left}
+use Rattle.model.proofs.SparseSets.{entity-eq, entity-same}
+use Rattle.model.proofs.BoolLaws.{and-left, and-false-of, and-false-right, bool-cases}
 use Rattle.model.proofs.Invariant.{holders-count}
-use Rattle.model.proofs.Walk.{bool-cases, in-left, in-right, in-cases, all-in, Missing, all-missing, held-count, lacks-count, count-held}
+use Rattle.model.proofs.Walk.{in-left, in-right, in-cases, all-in, Missing, all-missing, held-count, lacks-count, count-held}
 use Rattle.model.proofs.KindLists.{all-true, all-joined}
 use Rattle.soundness.specs.Groups.{GroupOk, GroupsOk, FamilyOk, FamiliesOk}
 
@@ -28,13 +29,6 @@ count-at (y ∷ l) (suc i) h = omega (arith, count-at l i (le-of-suc-le-suc h))
 
 held-at : (sets : List SparseSet) (k i : ℕ) → i < length (key sets k) → held (getD (key sets k) i noEntity) (setOf sets k) ≡ true
 held-at sets k i h = count-held (getD (key sets k) i noEntity) sets k (count-at (key sets k) i h)
-
-and-false : (a b : Bool) → a ≡ false → (a && b) ≡ false
-and-false a b e = rw e
-
-and-false-right : (a b : Bool) → b ≡ false → (a && b) ≡ false
-and-false-right true b e = e
-and-false-right false b e = refl
 
 -- ---- a group beside the family's first kind
 
@@ -70,7 +64,7 @@ module _ (sets : List SparseSet) (h : ℕ) where
               let e = getD (key sets h) i noEntity in
               held-both e
               ∙ elim (decLe b i) [
-                | yes q ↦ and-false (allHeld e acc sets) (allHeld e new sets) (B .past i q z)
+                | yes q ↦ and-false-of (allHeld e acc sets) (allHeld e new sets) (B .past i q z)
                 | no q ↦ and-false-right (allHeld e acc sets) (allHeld e new sets) (G .past i a (omega arith))
               ];
         }

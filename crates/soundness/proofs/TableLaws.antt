@@ -19,9 +19,9 @@ use Rattle.model.specs.Model.{Entity, SparseSet, sameEntity, noEntity, noRow, m
 use Rattle.model.specs.Sound.{cnt, In, Distinct, Eight, KindsSound, SetsSound}
 use Rattle.model.proofs.SparseSets.{entity-eq}
 use Rattle.words.specs.Table.{table}
-use Rattle.model.proofs.BoolLaws.{by-eq}
+use Rattle.model.proofs.BoolLaws.{by-eq, not-true}
 use Rattle.words.proofs.Tables.{length-table, getD-table}
-use Rattle.model.proofs.KindLists.{not-true, at-in}
+use Rattle.model.proofs.KindLists.{at-in}
 use Rattle.soundness.proofs.GroupLaws.{count-at}
 use Rattle.sound_columns.proofs.ListLaws.{in-at, new-distinct}
 

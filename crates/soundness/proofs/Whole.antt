@@ -21,7 +21,7 @@ use Rattle.model.proofs.KindLists.{in-count, count-in, at-in}
 use Rattle.words.specs.Offsets.{columnStart, BLOCK-LEN, COLUMN-KIND, DRAFT, ENTITIES, EXCLUDED-KINDS, GROUP-COUNTS, GROUP-FAMILIES, LAYOUT, LAYOUT-ARITIES, LAYOUT-KIND-ENDS, REFUSALS, ROWS, STAGED-KINDS, STAGED-VALUES, TABLE, UNREGISTERED}
 use Rattle.words.proofs.Offsets.{columnStart-mono}
 use Rattle.words.specs.Part.{between}
-use Rattle.words.proofs.Part.{getD-between, length-between}
+use Rattle.words.proofs.Part.{getD-between, length-between, between-below}
 use Rattle.words.specs.Table.{table}
 use Rattle.component.specs.SparseSet.{ColumnSound, lengthOf}
 use Rattle.words.specs.Decides.{Each}
@@ -48,8 +48,9 @@ use Rattle.sound_groups.specs.Spans.{startIn, Force, HeadsOk, OwnOk}
 use Rattle.sound_columns.proofs.SlotLaws.{room-long, room-less, key-word}
 use Rattle.soundness.specs.Parts.{SizeOk, PartsOk, ListsOk, LayoutOk, CountsOk}
 use Rattle.soundness.proofs.TableLaws.{TableLinks, registered-slot, registered-small, slot-registered, kinds-sound, sets-sound, sets-alive}
-use Rattle.soundness.proofs.ColumnLaws.{rows-once, rows-values, value-eight, between-below}
-use Rattle.soundness.proofs.StagedLaws.{map-table, table-between, staged-sound}
+use Rattle.soundness.proofs.ColumnLaws.{rows-once, rows-values, value-eight}
+use Rattle.soundness.proofs.StagedLaws.{staged-sound}
+use Rattle.words.proofs.Tables.{map-table, words-table}
 use Rattle.soundness.proofs.GroupLaws.{families-right, right-families}
 use Rattle.soundness.proofs.FlatLaws.{Within, families-each, each-families, prior-fits}
 use Rattle.soundness.proofs.WordLaws.{Reads, layout-reads, kind-start, layout-words}
@@ -144,7 +145,7 @@ module _ (w : List ℕ) where
         slots-in j h (L .registered j c)
 
     staged-words : stagedLen w ≤ LIST-CAPACITY → ENTITIES ≤ length w → table (stagedLen w) (λ i. kindOf (stagedAt w i)) ≡ between STAGED-KINDS (STAGED-KINDS + stagedLen w) w
-    staged-words few long = table-between STAGED-KINDS (stagedLen w) w (omega arith)
+    staged-words few long = words-table w STAGED-KINDS (stagedLen w) (omega arith)
 
     staged-are : Bits w → ENTITIES ≤ length w → ListOk w STAGED-KINDS (stagedLen w) → StagedSound (kindsIn w) (stagedIn w)
     unfolding stagedIn
@@ -166,7 +167,7 @@ module _ (w : List ℕ) where
 
     excluded-words : excludedLen w ≤ LIST-CAPACITY → ENTITIES ≤ length w → excludedIn w ≡ between EXCLUDED-KINDS (EXCLUDED-KINDS + excludedLen w) w
     unfolding excludedIn
-    excluded-words few long = table-between EXCLUDED-KINDS (excludedLen w) w (omega arith)
+    excluded-words few long = words-table w EXCLUDED-KINDS (excludedLen w) (omega arith)
 
     excluded-are : ENTITIES ≤ length w → ListOk w EXCLUDED-KINDS (excludedLen w) → ExcludedSound (kindsIn w) (excludedIn w)
     excluded-are long L =

@@ -13,7 +13,7 @@ use Rattle.words.specs.Offsets.{ARITIES, BLOCK-LEN, ENDS, ENTITIES, GROUP-COUNT
 use Rattle.model.specs.Sound.{In}
 use Rattle.model.proofs.KindLists.{at-in}
 use Rattle.words.specs.Part.{between}
-use Rattle.words.proofs.Part.{getD-between, length-between}
+use Rattle.words.proofs.Part.{getD-between, length-between, getD-inner}
 use Rattle.layout.specs.Layout.{Arrays, Sized, startOf, widthOf, kindsAt, aritiesAt, WellFormed}
 use Rattle.layout.proofs.Family.{rising-at}
 use Rattle.layout.proofs.Arrays.{bounds, kinds-inside, kinds-length, arities-length, block-sized}
@@ -24,10 +24,6 @@ use Rattle.sound_columns.proofs.ListLaws.{in-at}
 use Rattle.soundness.specs.ByNumber.{newAt, priorCount}
 
 -- ---- a block's arrays
-
--- a part of a part is a part
-inner : (a c d e i : ℕ) (w : List ℕ) → c + i < d → a + d ≤ e → getD (between c d (between a e w)) i 0 ≡ getD w (a + c + i) 0
-inner a c d e i w h k = getD-between c d i (between a e w) 0 h ∙ getD-between a e (c + i) w 0 (omega arith) ∙ ap (λ (x : ℕ). getD w x 0) (omega arith)
 
 -- the arrays are those of the words
 pub record Reads (w : List ℕ) (a : Arrays) : Type 0 where
@@ -43,10 +39,10 @@ layout-reads w long =
     record {
       long = long;
       sized = block-sized (between LAYOUT GROUP-FAMILIES w) (getD w LAYOUT-FAMILIES 0) (length-between LAYOUT GROUP-FAMILIES w (omega arith));
-      kinds = λ i h. inner LAYOUT 0 ARITIES GROUP-FAMILIES i w (omega arith) (omega arith);
-      arities = λ g h. inner LAYOUT ARITIES KIND-ENDS GROUP-FAMILIES g w (omega arith) (omega arith);
-      kindEnds = λ f h. inner LAYOUT KIND-ENDS ENDS GROUP-FAMILIES f w (omega arith) (omega arith);
-      ends = λ f h. inner LAYOUT ENDS BLOCK-LEN GROUP-FAMILIES f w (omega arith) (omega arith);
+      kinds = λ i h. getD-inner LAYOUT 0 ARITIES GROUP-FAMILIES i w (omega arith) (omega arith);
+      arities = λ g h. getD-inner LAYOUT ARITIES KIND-ENDS GROUP-FAMILIES g w (omega arith) (omega arith);
+      kindEnds = λ f h. getD-inner LAYOUT KIND-ENDS ENDS GROUP-FAMILIES f w (omega arith) (omega arith);
+      ends = λ f h. getD-inner LAYOUT ENDS BLOCK-LEN GROUP-FAMILIES f w (omega arith) (omega arith);
     }
 
 -- ---- arities that rise

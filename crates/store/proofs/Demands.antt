@@ -37,7 +37,8 @@ use Rattle.store.proofs.Tables.{Tabled, tabled, Judged, judged, start-t
 use Rattle.store.proofs.Emitting.{over-refused, over-accepted, over-refusals, over-written}
 use Rattle.store.proofs.Columns.{column-within}
 use Rattle.store.proofs.Courses.{course-of}
-use Rattle.store.proofs.Determined.{decided, answer-bytes}
+use Rattle.store.proofs.Determined.{answer-bytes}
+use Rattle.words.proofs.Decides.{decides-same}
 
 -- ---- Demand 1: "A refusal comes when its line holds and no line above does, else never". Each entry's number is that of the first line of its table
 -- that holds, and 0 where none does; run, column and roll give 3 exactly where the store is not sound.
@@ -109,7 +110,7 @@ refused-roll-changes-nothing w o o′ r R h = over-refused w o o′ (r .number) 
 -- "A refused column is the empty part at the front"
 pub refused-column-is-empty : (v r : RefT (List ℕ)) (values : Bool) (k a e n : ℕ) → ColumnPart v r values k a e → ColumnNumbered (v .now) k a e n → 1 ≤ n → (r .now ≡ []) × (r .ptr ≡ v .ptr)
 refused-column-is-empty v r values k a e n P C h =
-    let both : C .sound ≡ P .sound = decided (C .sound) (P .sound) (C .decides) (P .decides) ((λ S. S), (λ S. S)) in
+    let both : C .sound ≡ P .sound = decides-same (C .sound) (P .sound) (C .decides) (P .decides) ((λ S. S), (λ S. S)) in
     let at = go (P .sound) (P .words) (P .part .offset) (C .number ∙ (λ i. numberOf (columnRefused (both i) k a e s))) in
     (at .0, λ i. (P .part .block i, at .1 i))
   where

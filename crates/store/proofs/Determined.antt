@@ -10,17 +10,18 @@ use lib.ListN.{length, take, drop}
 use lib.Seq.{take-at}
 use denote.Ref.{RefT}
 use Rattle.model.specs.Refusals.{numberOf}
-use Rattle.model.specs.Run as model
 use Rattle.model.specs.Entries.{Started, refusesStart, makes, start, Emitted, roll}
 use Rattle.model.specs.Sound.{Limits}
 use Rattle.model.proofs.Emitting.{SameEmitted, emits-determined}
 use Rattle.words.specs.Decides.{Decides}
+use Rattle.words.proofs.Decides.{decides-same}
 use Rattle.memory.specs.Meaning.{meaning}
 use Rattle.memory.specs.Arranged.{Sound}
 use Rattle.run.specs.declared.Ran.{Ran}
 use Rattle.store.specs.declared.Rolled.{Rolled}
 use Rattle.store.specs.Entries.{Needs, startNumber, StartLeaves, Starts, columnRefused, ColumnNumbered, columnWords, partPlace, ColumnPart, ranOf, Answered, RunLeaves, Runs, emittedOver, EmitsOver, Rolls}
 use Rattle.store.proofs.Starting.{start-number}
+use Rattle.model.specs.Run as model
 
 -- ---- words that no entry tells apart
 
@@ -30,12 +31,6 @@ pub record Alike (w v : List ℕ) : Type 0 where
 
 pub alike-same : (w v : List ℕ) → w ≡ v → Alike w v
 alike-same w v e = record { means = ap meaning e; sound = ((λ S. subst Sound e S), (λ S. subst Sound (sym e) S)) }
-
-pub decided : {P Q : Type 0} (b c : Bool) → Decides b P → Decides c Q → P ↔ Q → b ≡ c
-decided true true p q e = refl
-decided true false p q e = absurd (q (e .0 p))
-decided false true p q e = absurd (p (e .1 q))
-decided false false p q e = refl
 
 -- ---- words needed
 
@@ -64,18 +59,18 @@ start-determined n k w v w′ v′ r q e R Q =
 
 pub column-number-determined : (w v : List ℕ) (k a e r q : ℕ) → Alike w v → ColumnNumbered w k a e r → ColumnNumbered v k a e q → r ≡ q
 column-number-determined w v k a e r q A R Q =
-    let b : R .sound ≡ Q .sound = decided (R .sound) (Q .sound) (R .decides) (Q .decides) (A .sound) in
+    let b : R .sound ≡ Q .sound = decides-same (R .sound) (Q .sound) (R .decides) (Q .decides) (A .sound) in
     R .number ∙ (λ i. numberOf (columnRefused (b i) k a e (A .means i))) ∙ sym (Q .number)
 
 -- the same words, and of one store the same part of it
 pub column-determined : (u v r q : RefT (List ℕ)) (values : Bool) (k a e : ℕ) → Alike (u .now) (v .now) → ColumnPart u r values k a e → ColumnPart v q values k a e → r .now ≡ q .now
 column-determined u v r q values k a e A R Q =
-    let b : R .sound ≡ Q .sound = decided (R .sound) (Q .sound) (R .decides) (Q .decides) (A .sound) in
+    let b : R .sound ≡ Q .sound = decides-same (R .sound) (Q .sound) (R .decides) (Q .decides) (A .sound) in
     R .words ∙ (λ i. columnWords (b i) values k a e (A .means i)) ∙ sym (Q .words)
 
 pub column-place-determined : (v r q : RefT (List ℕ)) (values : Bool) (k a e : ℕ) → ColumnPart v r values k a e → ColumnPart v q values k a e → r .ptr ≡ q .ptr
 column-place-determined v r q values k a e R Q =
-    let b : R .sound ≡ Q .sound = decided (R .sound) (Q .sound) (R .decides) (Q .decides) (alike-same (v .now) (v .now) refl .sound) in
+    let b : R .sound ≡ Q .sound = decides-same (R .sound) (Q .sound) (R .decides) (Q .decides) (alike-same (v .now) (v .now) refl .sound) in
     let block : r .ptr .0 ≡ q .ptr .0 = R .part .block ∙ sym (Q .part .block) in
     let offset : r .ptr .1 ≡ q .ptr .1 =
     R .part .offset ∙ (λ i. partPlace (columnRefused (b i) k a e (meaning (v .now))) values (v .now) k a * 4 + v .ptr .1) ∙ sym (Q .part .offset) in
@@ -112,7 +107,7 @@ run-determined w v w′ v′ t o p o′ p′ r q A e R Q =
     }
   where
     both : R .sound ≡ Q .sound
-    both = decided (R .sound) (Q .sound) (R .decides) (Q .decides) (A .sound)
+    both = decides-same (R .sound) (Q .sound) (R .decides) (Q .decides) (A .sound)
 
     same : ranOf (R .sound) t (length o) (meaning w) ≡ ranOf (Q .sound) t (length p) (meaning v)
     same j = ranOf (both j) t (e j) (A .means j)
@@ -137,7 +132,7 @@ same-written o p o′ p′ r q E = record { result = λ i. record { number = E .
 pub over-determined : (w v o p o′ p′ : List ℕ) (r q : Rolled) (x y : Emitted) → Alike w v → x ≡ y → EmitsOver w o o′ (r .number) (r .written) x → EmitsOver v p p′ (q .number) (q .written) y
     → SameWritten o p o′ p′ r q
 over-determined w v o p o′ p′ r q x y A e R Q =
-    let b : R .sound ≡ Q .sound = decided (R .sound) (Q .sound) (R .decides) (Q .decides) (A .sound) in
+    let b : R .sound ≡ Q .sound = decides-same (R .sound) (Q .sound) (R .decides) (Q .decides) (A .sound) in
     same-written o p o′ p′ r q
     (emits-determined o p o′ p′ (r .number) (r .written) (q .number) (q .written) (emittedOver (R .sound) x) (emittedOver (Q .sound) y) (λ i. emittedOver (b i) (e i)) (R .emits) (Q .emits))
 

@@ -1,14 +1,11 @@
 -- What the exported forms of *column* promise, from what their branches show. Assumes nothing.
-use mathlib.Core.Path.{_≡_, refl, sym, ap, _∙_, subst}
+use mathlib.Core.Path.{_≡_, refl, sym, _∙_, subst}
 use mathlib.Core.Bool.{Bool, true, false}
 use mathlib.Core.Option.{Option, some, none}
 use mathlib.Core.List.{List, [], _++_}
-use Prim.Native.Nat.{ℕ, _+_, _*_, _-_, _≤_, _<_}
-use native.Mathlib.Nat.{zero-add}
-use native.Mathlib.Numerals.{add-one}
+use Prim.Native.Nat.{ℕ, _*_, _-_, _≤_, _<_}
 use native.Mathlib.Omega.{arith}
-use lib.ListN.{length, getD, set, take, drop}
-use lib.Seq.{paste, paste-suc, take-length}
+use lib.ListN.{length, getD, take, drop}
 use denote.Ref.{RefT}
 use Rattle.model.specs.Refusals.{numberOf}
 use Rattle.model.specs.Entries.{columnRefusal, column}
@@ -57,14 +54,3 @@ whole-copy x o o′ n h e b = record { fits = λ g. (e, b); short = λ g. absurd
 pub column-copied : (v r : RefT (List ℕ)) (o o′ : List ℕ) (values : Bool) (k a e n : ℕ) → ColumnPart v r values k a e → CopiedTo (r .now) o o′ n → ColumnCopied (v .now) o o′ values k a e n
 column-copied v r o o′ values k a e n P C =
     record { sound = P .sound; decides = P .decides; copied = subst (λ (x : List ℕ). CopiedTo x o o′ n) (P .words) C }
-
--- the loop that copies: a turn, and the end
-pub copy-turn : (d s : List ℕ) (j : ℕ) → j < length d → j < length s → set (paste d 0 s j) j (getD s j 0) ≡ paste d 0 s (j + 1)
-copy-turn d s j hd hs =
-    ap (λ (n : ℕ). set (paste d 0 s j) n (getD s j 0)) (sym (zero-add j))
-    ∙ paste-suc d 0 s j 0 (rw (zero-add j) hd) hs
-    ∙ ap (λ (n : ℕ). paste d 0 s n) (sym (add-one j))
-
-pub copy-end : (d s : List ℕ) (j : ℕ) → j ≡ length s → paste d 0 s j ≡ s ++ drop (length s) d
-copy-end d s j e =
-    ap (λ (n : ℕ). paste d 0 s n) e ∙ (λ i. take-length s i ++ drop (zero-add (length s) i) d)

@@ -12,7 +12,7 @@ use Rattle.model.specs.Store.{empty, wordsNeeded}
 use Rattle.model.specs.Refusals.{startLines}
 use Rattle.model.specs.Entries.{refusesStart, makes, start}
 use Rattle.model.specs.Sound.{Limits}
-use Rattle.model.proofs.Walk.{bool-cases}
+use Rattle.model.proofs.BoolLaws.{bool-cases}
 use Rattle.model.proofs.Operations.{empty-sound}
 use Rattle.model.proofs.Lines.{first-exact, first-number}
 use Rattle.model.proofs.Entries.{start-exact, start-makes}

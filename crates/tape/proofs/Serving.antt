@@ -11,7 +11,7 @@ use Rattle.model.specs.Run.{run}
 use Rattle.model.specs.Examples.{sample, answer, stream-example}
 use Rattle.model.specs.Entries.{makes, start}
 use Rattle.model.proofs.Lengths.{run-fits}
-use Rattle.codec.proofs.Numbers.{sets-join}
+use Rattle.model.proofs.ListLaws.{sets-join}
 use Rattle.memory.specs.Meaning.{meaning}
 use Rattle.memory.specs.Arranged.{Sound}
 use Rattle.words.specs.Decides.{Decides}

@@ -2,8 +2,8 @@
 -- Assumes nothing.
 use mathlib.Core.Path.{_≡_, refl, sym, ap, _∙_}
 use mathlib.Core.Logic.{_≢_}
-use mathlib.Core.List.{List, [], _∷_, _++_}
-use Prim.Native.Nat.{ℕ, zero, suc, _+_, _-_, _<_}
+use mathlib.Core.List.{List, [], _∷_, _++_, map}
+use Prim.Native.Nat.{ℕ, zero, suc, _+_, _-_, _<_, _≤_}
 use native.Mathlib.Nat.{le-of-suc-le-suc, not-suc-le-zero}
 use native.Mathlib.Omega.{arith}
 use lib.ListN.{length, getD, set, take, length-set, length-append, List·getD-append}
@@ -11,6 +11,8 @@ use lib.Seq.{ext-getD, getD-set-same, getD-set-other, getD-at, getD-take, length
 use Rattle.model.specs.Lists.{swap, cutAt}
 use Rattle.model.proofs.BoolLaws.{by-eq}
 use Rattle.words.specs.Table.{table}
+use Rattle.words.specs.Part.{between}
+use Rattle.words.proofs.Part.{length-between, getD-between}
 
 module _ {A : Type 0} where
   pub length-table : (k : ℕ) (f : ℕ → A) → length (table k f) ≡ k
@@ -81,3 +83,18 @@ module _ {A : Type 0} where
       (e (omega arith) ∙ sym (getD-table k f (k - 1) d (omega arith)) ∙ ap (λ (m : ℕ). getD xs m d) (omega arith)
       ∙ sym (getD-set-same xs p v d (omega arith)))))
       (λ np. rw t (o i q np ∙ sym (getD-table k f i d (omega arith)) ∙ sym (getD-set-other xs p i v d np))))
+
+-- k words from a on, as a part
+pub words-table : (w : List ℕ) (a k : ℕ) → a + k ≤ length w → table k (λ (i : ℕ). getD w (a + i) 0) ≡ between a (a + k) w
+words-table w a k fits =
+    is-table 0 k (λ (i : ℕ). getD w (a + i) 0) (between a (a + k) w) (length-between a (a + k) w fits ∙ omega arith)
+    (λ i h. sym (getD-between a (a + k) i w 0 (omega arith)))
+
+pub map-table : {A B : Type 0} (f : A → B) (k : ℕ) (g : ℕ → A) → map f (table k g) ≡ table k (λ (i : ℕ). f (g i))
+unfolding table
+map-table f zero g = refl
+map-table {B} f (suc k) g = ap {B = List B} (λ r. f (g zero) ∷ r) (map-table f k (λ i. g (suc i)))
+
+pub table-none : {A : Type 0} (k : ℕ) (f : ℕ → A) → k ≡ 0 → table k f ≡ []
+unfolding table
+table-none k f e = rw e

@@ -12,9 +12,8 @@ use lib.Seq.{getD-set-same, getD-set-other, set-out, take-all, take-suc, getD-at
 use Rattle.model.specs.Model.{Entity, Row, Component, SparseSet, Storage, noRow, setOf, at, held, kindOf, insertRow, insertAll}
 use Rattle.model.specs.Store.{Store, stagedKinds, onStorage}
 use Rattle.model.specs.Sound.{In, noComponent}
-use Rattle.model.proofs.SparseSets.{cond-case}
 use Rattle.model.proofs.Walk.{or-true}
-use Rattle.model.proofs.BoolLaws.{by-eq}
+use Rattle.model.proofs.BoolLaws.{by-eq, cond-case}
 use Rattle.component.specs.SparseSet.{Current, entity}
 use Rattle.memory.specs.Meaning.{meaning}
 use Rattle.memory.specs.Arranged.{Becomes}

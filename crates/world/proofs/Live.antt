@@ -13,7 +13,7 @@ use Rattle.model.specs.Model.{Entity, SparseSet, sameEntity, noRow, setOf, keys
 use Rattle.model.specs.Store.{Store, stagedKinds}
 use Rattle.model.specs.Sound.{cnt, num, key, In, EntitiesSound, StoreSound}
 use Rattle.model.proofs.SparseSets.{entity-eq, entity-same}
-use Rattle.model.proofs.Walk.{bool-cases}
+use Rattle.model.proofs.BoolLaws.{bool-cases}
 use Rattle.model.proofs.Numbers.{cnt-num}
 use Rattle.model.proofs.Operations.{live-count}
 use Rattle.component.specs.SparseSet.{Current, entity}

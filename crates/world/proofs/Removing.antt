@@ -13,8 +13,7 @@ use Rattle.model.specs.Numbers.{MAX-KINDS}
 use Rattle.model.specs.Model.{Entity, Component, SparseSet, Storage, mem, kindOf, setOf, onKinds, removeRow}
 use Rattle.model.specs.Store.{Store, stagedKinds, onSet, onStorage}
 use Rattle.model.specs.Sound.{In, Distinct, noComponent}
-use Rattle.model.proofs.Walk.{or-false}
-use Rattle.model.proofs.Families.{or-false-right}
+use Rattle.model.proofs.BoolLaws.{or-false, or-false-right}
 use Rattle.model.proofs.KindLists.{at-in, distinct-new}
 use Rattle.words.proofs.Tables.{getD-table}
 use Rattle.component.specs.Columns.{Only, Lent}

@@ -4,7 +4,8 @@ use Prim.Native.Nat.{ℕ, _+_}
 use borrow.Author.Needs.{needs}
 use lib.Seq.{sets}
 use Rattle.model.specs.Store.{bytesOf}
-use Rattle.codec.proofs.Numbers.{bytesOf-value, sets-join}
+use Rattle.codec.proofs.Numbers.{bytesOf-value}
+use Rattle.model.proofs.ListLaws.{sets-join}
 use Rattle.codec.proofs.put_value.Statement.{statement}
 use Rattle.codec.proofs.put_value.Tie as tie
 

@@ -3,7 +3,8 @@ use mathlib.Core.Path.{_≡_, _∙_, ap, subst}
 use lib.ListN.{length, getD, take}
 use lib.Seq.{take-length}
 use Rattle.layout_block.specs.Checks.{KindsOk}
-use Rattle.layout_block.proofs.Checking.{SeenSoFar, seen-none, seen-more, kind-counts}
+use Rattle.layout_block.proofs.Checking.{SeenSoFar, seen-none, seen-more}
+use Rattle.model.proofs.ListLaws.{item-counts}
 use native.Mathlib.Omega.{arith}
 use Rattle.layout_block.proofs.kinds_ok.Statement.{statement}
 use Rattle.layout_block.proofs.kinds_ok.Tie as tie
@@ -21,13 +22,13 @@ cast-k : tie.Need-cast-k Inv-loop μ-loop
 cast-k c = omega (arith, c .shared-slice-known .given (c .before .before .loop .i))
 
 returns : tie.Need-returns Inv-loop μ-loop
-returns c s = let a = c .before .before .before .before .args in let l = c .before .before .before .loop in omega (arith, kind-counts (a .kinds .now) (l .i) (omega arith), s .once .known (getD (a .kinds .now) (l .i) 0) (c .if1 .taken))
+returns c s = let a = c .before .before .before .before .args in let l = c .before .before .before .loop in omega (arith, item-counts (a .kinds .now) (l .i) (omega arith), s .once .known (getD (a .kinds .now) (l .i) 0) (c .if1 .taken))
 
 array-read-if2 : tie.Need-array-read-if2 Inv-loop μ-loop
 array-read-if2 c = omega (arith, c .before .before .before .loop .inv .size, c .if1 .left)
 
 returns-2 : tie.Need-returns-2 Inv-loop μ-loop
-returns-2 c s = let a = c .before .before .before .before .before .args in let l = c .before .before .before .before .loop in let k = getD (a .kinds .now) (l .i) 0 in omega (arith, kind-counts (a .kinds .now) (l .i) (omega arith), s .once .once k, l .inv .marks k (c .before .if1 .left), c .if2 .taken)
+returns-2 c s = let a = c .before .before .before .before .before .args in let l = c .before .before .before .before .loop in let k = getD (a .kinds .now) (l .i) 0 in omega (arith, item-counts (a .kinds .now) (l .i) (omega arith), s .once .once k, l .inv .marks k (c .before .if1 .left), c .if2 .taken)
 
 mul-if3 : tie.Need-mul-if3 Inv-loop μ-loop
 mul-if3 c = omega (arith, c .before .if1 .left)
@@ -36,7 +37,7 @@ shared-slice-read-if3 : tie.Need-shared-slice-read-if3 Inv-loop μ-loop
 shared-slice-read-if3 c = omega (arith, c .before .before .before .before .before .before .pre, c .before .before .if1 .left)
 
 returns-3 : tie.Need-returns-3 Inv-loop μ-loop
-returns-3 c s = let a = c .before .before .before .before .before .before .before .args in let l = c .before .before .before .before .before .before .loop in s .registered (getD (a .kinds .now) (l .i) 0) (omega (arith, kind-counts (a .kinds .now) (l .i) (omega arith))) (c .if3 .taken)
+returns-3 c s = let a = c .before .before .before .before .before .before .before .args in let l = c .before .before .before .before .before .before .loop in s .registered (getD (a .kinds .now) (l .i) 0) (omega (arith, item-counts (a .kinds .now) (l .i) (omega arith))) (c .if3 .taken)
 
 array-write-seen : tie.Need-array-write-seen Inv-loop μ-loop
 array-write-seen c = omega (arith, c .before .before .before .before .before .before .loop .inv .size, c .before .before .before .if1 .left)

@@ -1,4 +1,5 @@
-use Rattle.run.proofs.Steps.{step-zero, step-high, step-cut, step-room, step-did, positive, stopped, given, acted-within, bytes-all, stepped}
+use native.Mathlib.Nat.{pos-of-ne-zero}
+use Rattle.run.proofs.Steps.{step-zero, step-high, step-cut, step-room, step-did, stopped, given, acted-within, bytes-all, stepped}
 use Rattle.memory.specs.Meaning.{meaning}
 use Rattle.model.specs.Commands.{width}
 use lib.ListN.{getD, take, drop}
@@ -17,26 +18,26 @@ returns c =
 returns-2 : tie.Need-returns-2
 returns-2 c =
     let s = c .before .before .before .before .before .before in
-    stopped (s .pre .sound) (s .pre .within) (step-high (meaning (s .args .words .now)) (s .args .tape .now) (s .args .at) _ (positive _ (c .before .if1 .left)) (c .if2 .taken))
+    stopped (s .pre .sound) (s .pre .within) (step-high (meaning (s .args .words .now)) (s .args .tape .now) (s .args .at) _ (pos-of-ne-zero (c .before .if1 .left)) (c .if2 .taken))
 
 returns-3 : tie.Need-returns-3
 returns-3 c =
     let s = c .before .before .before .before .before .before .before .before in
-    stopped (s .pre .sound) (s .pre .within) (step-cut (meaning (s .args .words .now)) (s .args .tape .now) (s .args .at) _ (positive _ (c .before .before .before .if1 .left)) (c .before .before .if2 .left) (s .pre .more) (omega (arith, c .if3 .taken, c .before .operand-bytes .ensures .0)))
+    stopped (s .pre .sound) (s .pre .within) (step-cut (meaning (s .args .words .now)) (s .args .tape .now) (s .args .at) _ (pos-of-ne-zero (c .before .before .before .if1 .left)) (c .before .before .if2 .left) (s .pre .more) (omega (arith, c .if3 .taken, c .before .operand-bytes .ensures .0)))
 
 returns-4 : tie.Need-returns-4
 returns-4 c =
     let s = c .before .before .before .before .before .before .before .before .before .before .before in
     let t = s .args .tape .now in
     let b = getD t (s .args .at) 0 in
-    stopped (s .pre .sound) (s .pre .within) (step-room (meaning (s .args .words .now)) t (s .args .at) _ (positive b (c .before .before .before .before .before .before .if1 .left)) (c .before .before .before .before .before .if2 .left) (omega (arith, c .before .before .before .if3 .left, c .before .before .before .before .operand-bytes .ensures .0)) (omega (arith, c .if4 .taken, c .before .answer-bytes .ensures (take (width b) (drop (s .args .at + 1) t)))))
+    stopped (s .pre .sound) (s .pre .within) (step-room (meaning (s .args .words .now)) t (s .args .at) _ (pos-of-ne-zero (c .before .before .before .before .before .before .if1 .left)) (c .before .before .before .before .before .if2 .left) (omega (arith, c .before .before .before .if3 .left, c .before .before .before .before .operand-bytes .ensures .0)) (omega (arith, c .if4 .taken, c .before .answer-bytes .ensures (take (width b) (drop (s .args .at + 1) t)))))
 
 act-requires : tie.Need-act-requires
 act-requires c κs =
     let s = c .before .before .before .before .before .before .before .before .before .before .before .before .before in
     let t = s .args .tape .now in
     let b = getD t (s .args .at) 0 in
-    ((positive b (c .before .before .before .before .before .before .before .before .if1 .left), omega (arith, c .before .before .before .before .before .before .before .if2 .left)), (given b (c .before .before .before .before .before .before .operand-bytes .result) (c .before .before .before .answer-bytes .result) (s .pre) (c .before .before .before .before .before .before .operand-bytes .ensures .0) (c .before .before .before .before .before .if3 .left) (c .before .before .before .answer-bytes .ensures (take (width b) (drop (s .args .at + 1) t))) (c .before .before .if4 .left)))
+    ((pos-of-ne-zero (c .before .before .before .before .before .before .before .before .if1 .left), omega (arith, c .before .before .before .before .before .before .before .if2 .left)), (given b (c .before .before .before .before .before .before .operand-bytes .result) (c .before .before .before .answer-bytes .result) (s .pre) (c .before .before .before .before .before .before .operand-bytes .ensures .0) (c .before .before .before .before .before .if3 .left) (c .before .before .before .answer-bytes .ensures (take (width b) (drop (s .args .at + 1) t))) (c .before .before .if4 .left)))
 
 add-t13 : tie.Need-add-t13
 add-t13 c =
@@ -52,7 +53,7 @@ returns-5 c =
     let b = getD t (s .args .at) 0 in
     let n = d .before .before .before .before .before .before .before .operand-bytes .ensures .0 in
     stepped b refl
-    (step-did (meaning (s .args .words .now)) t (s .args .at) _ (positive b (d .before .before .before .before .before .before .before .before .before .if1 .left)) (d .before .before .before .before .before .before .before .before .if2 .left) (omega (arith, d .before .before .before .before .before .before .if3 .left, n)) (omega (arith, d .before .before .before .if4 .left, d .before .before .before .before .answer-bytes .ensures (take (width b) (drop (s .args .at + 1) t)))))
+    (step-did (meaning (s .args .words .now)) t (s .args .at) _ (pos-of-ne-zero (d .before .before .before .before .before .before .before .before .before .if1 .left)) (d .before .before .before .before .before .before .before .before .if2 .left) (omega (arith, d .before .before .before .before .before .before .if3 .left, n)) (omega (arith, d .before .before .before .if4 .left, d .before .before .before .before .answer-bytes .ensures (take (width b) (drop (s .args .at + 1) t)))))
     n (bytes-all t (λ i. omega (arith, d .before .before .before .before .before .before .before .before .before .before .before .before .shared-slice-known .given i))) (act-requires (d .before) (d .act .lifetimes) .1) (d .act .ensures)
 
 pub step-spec : {M : Type 1} → statement M

@@ -3,7 +3,7 @@ use mathlib.Core.List.{List, _∷_}
 use Prim.Native.Nat.{ℕ, _+_}
 use lib.Seq.{sets}
 use Rattle.model.specs.Store.{bytesOf}
-use Rattle.codec.proofs.Numbers.{sets-join}
+use Rattle.model.proofs.ListLaws.{sets-join}
 use borrow.Author.Needs.{needs}
 use Rattle.command_entity.proofs.entities.ack_entity.Statement.{statement}
 use Rattle.command_entity.proofs.entities.ack_entity.Tie as tie

@@ -3,7 +3,7 @@ use mathlib.Core.List.{List, _++_}
 use Prim.Native.Nat.{ℕ, _+_, _≤_, _-_}
 use lib.ListN.{length, take, length-set}
 use lib.Seq.{take-length}
-use Rattle.layout.proofs.Append.{append-step, append-none}
+use Rattle.model.proofs.ListLaws.{append-step, append-none}
 use native.Mathlib.Omega.{arith}
 use Rattle.layout.proofs.group_layout.append.Statement.{statement}
 use Rattle.layout.proofs.group_layout.append.Tie as tie

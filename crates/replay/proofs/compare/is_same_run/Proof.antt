@@ -2,7 +2,8 @@ use mathlib.Core.Path.{sym, _∙_}
 use Prim.Native.Nat.{_+_}
 use borrow.Author.Needs.{needs}
 use lib.Seq.{length-take-le}
-use Rattle.replay.proofs.Comparing.{decided, part-size}
+use Rattle.words.proofs.Decides.{decides-equal}
+use Rattle.words.proofs.Part.{part-size}
 use Rattle.replay.proofs.compare.is_same_run.Statement.{statement}
 use Rattle.replay.proofs.compare.is_same_run.Tie as tie
 
@@ -13,7 +14,7 @@ returns-5 : tie.Need-returns-5
 returns-5 c =
     let a = c .before .before .before .before .before .before .before .before .before .before .before .before .before .before .before .before .args in
     let e = part-size (a .file .now) (a .at + 7) (a .ran .written) in
-    decided _ _ _ (c .same .result) (c .same .ensures)
+    decides-equal _ _ _ (c .same .result) (c .same .ensures)
     (λ q. record {
       stop = search needs;
       commands = search needs;

@@ -5,7 +5,7 @@ use native.Mathlib.Omega.{arith}
 use borrow.Author.Needs.{needs}
 use lib.ListN.{length, getD, set, length-set}
 use lib.Seq.{paste, paste-zero}
-use Rattle.store.proofs.Linking.{copy-turn, copy-end}
+use Rattle.model.proofs.ListLaws.{copy-turn, copy-end}
 use Rattle.store.proofs.exports.copy.Statement.{statement}
 use Rattle.store.proofs.exports.copy.Tie as tie
 
