@@ -5,3 +5,4 @@ pub mod Part
 pub mod Pigeon
 pub mod Offsets
 pub mod Decides
+pub mod Passes
