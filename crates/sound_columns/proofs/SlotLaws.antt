@@ -7,17 +7,13 @@ use lib.ListN.{length, getD, List·getD-map}
 use Rattle.model.specs.Model.{Row, noRow, entityOf}
 use Rattle.words.specs.Offsets.{columnStart, ENTITIES, ROWS}
 use Rattle.words.proofs.Offsets.{columnStart-apart, columnStart-mono}
-use Rattle.model.proofs.BoolLaws.{by-eq}
 use Rattle.component.specs.SparseSet.{lengthOf, indexAt, versionAt}
 use Rattle.component.proofs.Meaning.{length-rows, getD-rows}
 use Rattle.component.specs.Columns.{columnOf, rowsOf, Lent}
 use Rattle.component.proofs.Parts.{getD-column}
 use Rattle.memory.proofs.Frames.{start-header}
-use Rattle.sound_columns.specs.Slots.{Slot, Room, headAt, Over}
+use Rattle.sound_columns.specs.Slots.{Slot, Room, headAt}
 use Rattle.sound_columns.specs.Rows.{entityIn, keyAt}
-
-pub over-more : (P : ℕ → Type 0) (a j : ℕ) → Over a j P → P j → Over a (j + 1) P
-over-more P a j o p i l h = by-eq i j (λ q. rw q p) (λ ne. o i l (omega arith))
 
 -- ---- slots
 

@@ -1,38 +1,16 @@
-use Prim.Native.Nat.{_-_, _≤_}
+use Prim.Native.Nat.{_-_}
 use native.Mathlib.Omega.{arith}
-use native.Mathlib.Nat.{not-suc-le-zero}
 use Rattle.sound_columns.specs.Checks.{RowOk}
-use Rattle.words.specs.Decides.{Each}
-use Rattle.words.proofs.Decides.{granted, denied}
-use borrow.Author.Count.{below-more}
+use Rattle.words.proofs.Passes.{Passed, starts, stops-each, goes, ends-each}
 use borrow.Author.Needs.{needs}
 use Rattle.sound_columns.proofs.sparse_set.rows_ok.Statement.{statement}
 use Rattle.sound_columns.proofs.sparse_set.rows_ok.Tie as tie
 
 abbrev Inv-loop : tie.InvT-loop
-Inv-loop part n k i₀ i = (i ≤ k) × Each i (RowOk n part)
+Inv-loop part n k i₀ i = Passed (RowOk n part) 0 i
 
 abbrev μ-loop : tie.MeasureT-loop
 μ-loop part n k i₀ i = k - i
-
-loop-holds : tie.Need-loop-holds Inv-loop μ-loop
-loop-holds c = (omega arith, λ j h. absurd (not-suc-le-zero h))
-
-returns : tie.Need-returns Inv-loop μ-loop
-returns c =
-    let a = c .before .before .before .before .before .args in
-    let l = c .before .before .before .loop in
-    λ e. denied {P = RowOk (a .n) (a .part .now) (l .i)} (c .before .row-ok .result) (c .before .row-ok .ensures) (c .if1 .taken) (e (l .i) (omega arith))
-
-loop-again : tie.Need-loop-again Inv-loop μ-loop
-loop-again c =
-    let a = c .before .before .before .before .before .args in
-    let l = c .before .before .before .loop in
-    let o = granted {P = RowOk (a .n) (a .part .now) (l .i)} (c .before .row-ok .result) (c .before .row-ok .ensures) (c .if1 .left) in
-    (omega arith, below-more (RowOk (a .n) (a .part .now)) (l .i) (l .inv .1) o)
-
-returns-2 : tie.Need-returns-2 Inv-loop μ-loop
-returns-2 c = λ j h. c .before .loop .inv .1 j (omega arith)
 
 pub rows-ok-spec : {M : Type 1} → statement M
 rows-ok-spec =
@@ -40,10 +18,10 @@ rows-ok-spec =
     (tie.spec
     Inv-loop
     μ-loop
-    loop-holds
+    (λ c. starts _)
     (λ c κs. search needs)
-    returns
+    (λ c. stops-each (c .before .before .before .loop .inv) (c .before .before .loop-test .taken) (c .before .row-ok .result) (c .before .row-ok .ensures) (c .if1 .taken))
     (λ c. omega arith)
     (λ c. omega arith)
-    loop-again
-    returns-2)
+    (λ c. goes (c .before .before .before .loop .inv) (c .before .row-ok .result) (c .before .row-ok .ensures) (c .if1 .left))
+    (λ c. ends-each (c .before .loop .inv) (c .loop-test .left)))
