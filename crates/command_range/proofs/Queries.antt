@@ -8,7 +8,7 @@ use Rattle.words.specs.Offsets.{ARITIES, ENTITIES, EXCLUDED-KINDS, GROUP-COUNTS
 use Rattle.model.specs.Model.{none, rangeFor}
 use Rattle.model.specs.Sound.{In}
 use Rattle.words.specs.Part.{between}
-use Rattle.words.proofs.Part.{length-between, between-none, between-part, between-more}
+use Rattle.words.proofs.Part.{length-between, between-none, between-part, between-more, between-in}
 use Rattle.layout.specs.Layout.{Arrays}
 use Rattle.memory.specs.Header.{stagedLen, excludedLen}
 use Rattle.memory.specs.Meaning.{layoutArrays, meaning}
@@ -16,7 +16,6 @@ use Rattle.memory.specs.Arranged.{Arranged, Sound}
 use Rattle.memory.proofs.Frames.{long, layout-sized}
 use Rattle.control.proofs.Control.{staged-kinds, excluded-kinds}
 use Rattle.group.proofs.InWords.{layout-means}
-use Rattle.group.proofs.Places.{between-in}
 use Rattle.group_info.specs.Info.{ViewAdded, InsideFound, infoOf, Tables}
 use Rattle.group_info.specs.Describes.{ViewOf, Describes, Scattered, rangeOf, RangeSays}
 use Rattle.group_info.specs.declared.ViewGroupInfo.{ViewGroupInfo}

@@ -11,8 +11,9 @@ use Rattle.model.specs.Model.{Entity, SparseSet, Group, Family, Storage, Walked
 use Rattle.model.proofs.SparseSets.{setOf-mapOn}
 use Rattle.model.proofs.BoolLaws.{cond-case, cond-same, or-false, or-false-right, bool-cases}
 use Rattle.model.proofs.Groups.{In}
-use Rattle.model.proofs.Walk.{mem-append, in-left, in-right, Chain, Every}
-use Rattle.model.proofs.Families.{Fams, Apart, allKinds, famKinds, not-both}
+use Rattle.model.proofs.Walk.{Chain, Every}
+use Rattle.model.proofs.KindLists.{mem-append, in-left, in-right, not-both}
+use Rattle.model.proofs.Families.{Fams, Apart, allKinds, famKinds}
 use Rattle.model.proofs.Removal.{length-ungroupFamily, length-ungroupFamily-all}
 use Rattle.group.specs.Flat.{withCount}
 

@@ -1,6 +1,6 @@
 -- A change of the sparse sets of some kinds, made one kind after another. Assumes nothing.
 use mathlib.Core.Path.{_≡_, refl, ap, sym, _∙_}
-use mathlib.Core.Bool.{false, cond, _||_}
+use mathlib.Core.Bool.{false, cond, _||_, or-true}
 use mathlib.Core.List.{List, [], _∷_, _++_}
 use Prim.Native.Nat.{ℕ, _+_, _<_}
 use native.Mathlib.Omega.{arith}
@@ -13,7 +13,6 @@ use lib.Seq.{ext-getD, getD-set-same, getD-set-other}
 use Rattle.model.specs.Model.{SparseSet, mem, setOf, onKinds}
 use Rattle.model.specs.Sound.{In, Distinct}
 use Rattle.model.proofs.SparseSets.{setOf-mapOn}
-use Rattle.model.proofs.Walk.{or-true}
 use Rattle.model.proofs.Invariant.{length-mapOn}
 use Rattle.model.proofs.KindLists.{distinct-apart}
 

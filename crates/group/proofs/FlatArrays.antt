@@ -20,8 +20,6 @@ use Rattle.layout.proofs.Arrays.{ends-rise, kind-order, group-order, kinds-insi
 use Rattle.group.specs.Flat.{nowhere, flattenFamily, flatten, located, setIn, setCount}
 use Rattle.group.proofs.Fronts.{length-flattenFamily, set-here, set-later}
 
--- ---- parts of a list
-
 -- ---- a family's groups: ks are its kinds, ars the groups' arities from here on, b the arity before
 
 family-group : (counts : List ℕ) (first top g : ℕ) (ks : List ℕ) (b n : ℕ) (ars : List ℕ) → Rising b n ars → (i : ℕ) → i < length ars

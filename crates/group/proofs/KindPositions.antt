@@ -1,6 +1,6 @@
 -- The positions of several kinds are the union of each kind's, and each kind's are a run from its own group or its family's first. Assumes nothing.
 use mathlib.Core.Path.{_≡_, refl, ap, ap₂, sym, _∙_, subst}
-use mathlib.Core.Bool.{Bool, true, false, cond, _&&_, _||_, or-assoc, or-false as or-none}
+use mathlib.Core.Bool.{Bool, true, false, cond, _&&_, _||_, or-true}
 use mathlib.Core.List.{List, [], _∷_, _++_, append-nil, append-assoc}
 use Prim.Native.Nat.{ℕ, zero, suc, _+_, _-_, _≤_, _<_}
 use native.Mathlib.Omega.{arith}
@@ -10,12 +10,10 @@ use lib.Dec.{eqb}
 use lib.ListN.{length, getD, List·getD-append}
 use lib.Seq.{getD-append-add}
 use Rattle.model.proofs.ListLaws.{count-append}
-use Rattle.model.specs.Model.{Family, mem, anyOf, meets, headKind, kindsOf, groupsOf}
+use Rattle.model.specs.Model.{Family, mem, meets, headKind, kindsOf, groupsOf}
 use Rattle.model.specs.Sound.{In, Distinct, layoutKinds}
-use Rattle.model.proofs.Walk.{or-true, mem-append, in-left, in-right}
+use Rattle.model.proofs.KindLists.{mem-append, in-left, in-right, any-in, in-count, distinct-left, distinct-right, distinct-apart, any-append, meets-one}
 use Rattle.model.proofs.BoolLaws.{bool-cases, or-false, or-false-right, not-true, or-exchange}
-use Rattle.model.proofs.Invariant.{any-in}
-use Rattle.model.proofs.KindLists.{in-count, distinct-left, distinct-right, distinct-apart}
 use Rattle.masks.specs.Masks.{upFrom, has, keep, unionOf}
 use Rattle.masks.proofs.Lists.{has-append, has-union, has-keep, has-up, up-split, between-high}
 use Rattle.group.specs.Flat.{Located, nowhere, flattenFamily, flatten, located, familyPositions, insertPositions, deleteFamily, deleteFrom, deletePositions}
@@ -50,10 +48,6 @@ union-of w l xs ys a h low =
         ∙ sym (has-keep i (λ j. has j xs || has j ys) (upFrom 0 w) ∙ rw (has-up i 0 w, between-high 0 (0 + w) i (omega arith)))
 
 -- ---- several kinds
-
-any-append : (p : ℕ → Bool) (a b : List ℕ) → anyOf p (a ++ b) ≡ (anyOf p a || anyOf p b)
-any-append p [] b = refl
-any-append p (k ∷ a) b = rw (any-append p a b) (sym (or-assoc (p k) (anyOf p a) (anyOf p b)))
 
 -- a run taken where t or where u
 either : (t u r a b : Bool) → (((t || u) && r) || (a || b)) ≡ (((t && r) || a) || ((u && r) || b))
@@ -135,9 +129,6 @@ delete-no-kinds p [] = refl
 delete-no-kinds p (f ∷ fs) = rw (delete-no-kinds-in p [] f) (delete-no-kinds (p + length f) fs)
 
 -- ---- one kind
-
-meets-one : (k : ℕ) (ks : List ℕ) → meets (k ∷ []) ks ≡ mem k ks
-meets-one k ks = or-none (mem k ks)
 
 -- a kind that stands once among two lists' kinds
 pub not-left : (a b : List ℕ) (k : ℕ) → Distinct (a ++ b) → In b k → mem k a ≡ false

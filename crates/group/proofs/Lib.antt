@@ -11,7 +11,6 @@ pub mod EachKind
 pub mod AllGroups
 pub mod FlatArrays
 pub mod InWords
-pub mod Places
 pub mod Storing
 pub mod Swapping
 pub mod Status

@@ -1,6 +1,6 @@
 -- The positions of a walk: of one kind they are a run, of several kinds the union of theirs. Assumes nothing.
 use mathlib.Core.Path.{_≡_, refl, ap₂, sym, _∙_}
-use mathlib.Core.Bool.{Bool, true, false, true≢false, false≢true}
+use mathlib.Core.Bool.{Bool, true, false, true≢false, false≢true, or-true}
 use mathlib.Core.List.{List, [], _∷_, _++_}
 use Prim.Native.Nat.{ℕ, zero, suc, _+_, _-_, _≤_, _<_}
 use native.Mathlib.Omega.{arith}
@@ -10,7 +10,6 @@ use lib.Dec.{eqb}
 use lib.ListN.{length}
 use Rattle.model.specs.Model.{Family, meets, groupsOf}
 use Rattle.model.proofs.BoolLaws.{cond-case, or-cases, not-true, bool-cases}
-use Rattle.model.proofs.Walk.{or-true}
 use Rattle.masks.specs.Masks.{upFrom, has}
 use Rattle.masks.proofs.Lists.{has-append, has-here, has-up, between-parts}
 use Rattle.group.specs.Flat.{familyPositions, deleteFamily, deleteFrom}

@@ -8,7 +8,7 @@ use lib.ListN.{length, getD}
 use Rattle.model.specs.Run.{Store}
 use Rattle.model.specs.Model.{Entity, SparseSet, setOf, at, held, allHeld}
 use Rattle.model.specs.Sound.{In}
-use Rattle.model.proofs.Walk.{in-right}
+use Rattle.model.proofs.KindLists.{in-right}
 use Rattle.model.proofs.BoolLaws.{bool-cases}
 use Rattle.words.specs.Part.{between}
 use Rattle.words.proofs.Part.{between-none, between-split, between-step}

@@ -25,7 +25,7 @@ use Rattle.group.specs.Ready.{Swappable, ReadyIn, ReadyOut}
 use Rattle.group.specs.Metadata.{orderOf, Describes, Stands}
 use Rattle.group.specs.Steps.{swapKinds, leftAfter, StepsUp}
 use Rattle.group.proofs.Counts.{placed}
-use Rattle.group.proofs.Places.{between-in}
+use Rattle.words.proofs.Part.{between-in}
 use Rattle.group.proofs.Storing.{becomes-then, storage-becomes}
 
 -- a sparse set has no more rows than the store has room for

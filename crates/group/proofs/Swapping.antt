@@ -10,9 +10,9 @@ use Rattle.model.specs.Run.{Store}
 use Rattle.model.specs.Model.{Entity, SparseSet, Storage, mem, setOf, held, swapTo}
 use Rattle.model.specs.Store.{onSet, onStorage}
 use Rattle.model.specs.Sound.{In, Distinct}
-use Rattle.model.proofs.Walk.{in-left}
+use Rattle.model.proofs.KindLists.{in-left}
 use Rattle.words.specs.Part.{between}
-use Rattle.words.proofs.Part.{between-none, between-split, between-more}
+use Rattle.words.proofs.Part.{between-none, between-split, between-more, between-in}
 use Rattle.memory.specs.Meaning.{meaning}
 use Rattle.memory.specs.Arranged.{Arranged, Becomes}
 use Rattle.memory.proofs.Becomes.{stays, sets-wide}
@@ -22,7 +22,6 @@ use Rattle.group.specs.Metadata.{orderOf, PlacesKnown}
 use Rattle.group.specs.Steps.{swapKinds}
 use Rattle.group.proofs.KindPositions.{not-left}
 use Rattle.group.proofs.EachKind.{eachKind, each-append, setOf-each, each-kinds}
-use Rattle.group.proofs.Places.{between-in}
 use Rattle.group.proofs.Storing.{becomes-then}
 use Rattle.group.proofs.InWords.{order-part-once}
 

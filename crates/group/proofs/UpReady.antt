@@ -9,9 +9,10 @@ use lib.ListN.{length, length-map}
 use Rattle.model.specs.Model.{Entity, SparseSet, Group, Family, Component, Storage, Walked, meets, setOf, entityOf, held, onKinds, swapTo, allHeld, isGrouped, headKind, kindsOf, kindOf, insertAll, groupFamily, groupAll}
 use Rattle.model.proofs.SparseSets.{key}
 use Rattle.model.proofs.Groups.{cnt, In}
-use Rattle.model.proofs.Walk.{in-left, in-right, in-cases, all-in, held-count, GroupRight, Chain, But, Plus, Entered, groupComponents-good, chain-low, Up, groupFamily-good, count-held}
+use Rattle.model.proofs.Walk.{held-count, GroupRight, Chain, But, Plus, Entered, groupComponents-good, chain-low, Up, groupFamily-good, count-held}
+use Rattle.model.proofs.KindLists.{in-left, in-right, in-cases, all-in, not-both}
 use Rattle.model.proofs.BoolLaws.{bool-cases}
-use Rattle.model.proofs.Families.{Fams, Apart, allKinds, famKinds, chain-other, Put, put-all, chain-put, Kinds, not-both}
+use Rattle.model.proofs.Families.{Fams, Apart, allKinds, famKinds, chain-other, Put, put-all, chain-put, Kinds}
 use Rattle.model.proofs.Regroup.{FreshAll, FamsFor, None, UpEvery, groupFamily-every-good, fams-fresh}
 use Rattle.model.proofs.Invariant.{Fit}
 use Rattle.masks.specs.Masks.{upFrom}

@@ -1,6 +1,6 @@
 -- The range of a query is the model's, by the cases of its two infos; and none where the kinds are scattered. Assumes nothing.
 use mathlib.Core.Path.{_≡_, refl, sym, ap, _∙_, subst}
-use mathlib.Core.Bool.{true, false, true≢false, and-false}
+use mathlib.Core.Bool.{true, false, true≢false, and-false, or-true}
 use mathlib.Core.List.{List, [], _∷_, _++_}
 use Prim.Native.Nat.{ℕ, _+_, _-_, _≤_}
 use native.Mathlib.Omega.{arith}
@@ -8,7 +8,6 @@ use borrow.Author.Tests.{eq-eqb, ne-eqb}
 use lib.Dec.{eqb}
 use lib.ListN.{length, length-append}
 use Rattle.model.specs.Model.{Storage, none, found, mem, within, setOf, rangeAll, single, rangeFor}
-use Rattle.model.proofs.Walk.{or-true}
 use Rattle.model.proofs.BoolLaws.{bool-cases}
 use Rattle.layout.specs.Layout.{Arrays, Sized, kindsAt, familiesOf, WellFormed}
 use Rattle.group_info.specs.Info.{infoOf, ExcludedSays, IncludedSays, RangeBy}

@@ -1,17 +1,17 @@
 -- What the infos describe: of one kind, of two together, of a query with one kind more; and that their groups stand in the arrays. Assumes nothing.
 use mathlib.Core.Path.{_≡_, refl, sym, ap, ap₂, _∙_, subst}
 use mathlib.Core.Logic.{_≢_}
-use mathlib.Core.Bool.{Bool, true, false, _&&_, _||_, true≢false, or-false}
+use mathlib.Core.Bool.{Bool, true, false, _&&_, _||_, true≢false, or-false, or-true}
 use mathlib.Core.List.{List, [], _∷_, _++_}
 use Prim.Native.Nat.{ℕ, _+_, _-_, _≤_, _<_}
 use native.Mathlib.Nat.{sub-zero}
 use native.Mathlib.Decide.{decLt, decLe}
 use native.Mathlib.Omega.{arith}
-use borrow.Author.Tests.{eq-eqb, ne-eqb, eqb-true, lt-ltb, le-ltb}
+use borrow.Author.Tests.{eq-eqb, ne-eqb, lt-ltb, le-ltb}
 use lib.Dec.{eqb, ltb}
 use lib.ListN.{length, getD, take, length-append}
 use Rattle.model.specs.Model.{Storage, mem, within}
-use Rattle.model.proofs.Walk.{mem-append, or-true, all-in}
+use Rattle.model.proofs.KindLists.{mem-append, all-in, mem-take-le, in-one}
 use Rattle.model.proofs.BoolLaws.{or-cases, not-true, by-eq}
 use Rattle.masks.specs.Masks.{has, bitsOf}
 use Rattle.masks.proofs.Lists.{has-union}
@@ -29,11 +29,8 @@ use Rattle.group_info.specs.declared.QueryGroupInfo.the-variants as quer
 use Rattle.group_info.specs.declared.FoundQuery.{FoundQuery}
 use Rattle.group_info.specs.declared.FoundQuery.the-variants as added
 use Rattle.group_info.proofs.Places.{placeOf, place-at, part-mem, mem-part}
-use Rattle.group_info.proofs.Families.{elsewhere, mem-take-le}
+use Rattle.group_info.proofs.Families.{elsewhere}
 use Rattle.group_info.proofs.Ranges.{same-family, arity-at, in-kinds, few-kinds}
-
-single-mem : (x k : ℕ) → mem x (k ∷ []) ≡ true → x ≡ k
-single-mem x k m = eqb-true x k (sym (or-false (eqb x k)) ∙ m)
 
 one-bit : (q p : ℕ) → has q (p ∷ []) ≡ eqb q p
 unfolding has
@@ -51,7 +48,7 @@ module _ (a : Arrays) (good : WellFormed a) (sized : Sized a) where
         group = p .group;
         first = i .first;
         last = i .last;
-        below = λ x m. rw (single-mem x k m) (ap (λ (y : ℕ). mem y (take hi ks)) (sym (p .kind)) ∙ ap (λ (n : ℕ). mem (getD ks place 0) (take n ks)) (sym (sub-zero hi)) ∙ part-mem ks s 0 hi (omega arith) in-ks place (omega arith) (p .below));
+        below = λ x m. rw (in-one x k m) (ap (λ (y : ℕ). mem y (take hi ks)) (sym (p .kind)) ∙ ap (λ (n : ℕ). mem (getD ks place 0) (take n ks)) (sym (sub-zero hi)) ∙ part-mem ks s 0 hi (omega arith) in-ks place (omega arith) (p .below));
         topIn = rw (eq-eqb k k refl);
         topNew = not-true (mem k (take lo ks)) new;
         places = at;
@@ -90,7 +87,7 @@ module _ (a : Arrays) (good : WellFormed a) (sized : Sized a) where
           other ne =
               ne-eqb q place ne
               ∙ sym (elim (decLt q (length (kindsAt a f))) [
-                | yes l ↦ rw (lt-ltb q (length (kindsAt a f)) l) (not-true (mem (getD (kindsAt a f) q 0) (k ∷ [])) (λ t. ne (sym (place-at (kindsAt a f) s q l) ∙ ap (λ (y : ℕ). placeOf y (kindsAt a f)) (single-mem (getD (kindsAt a f) q 0) k t) ∙ own-place)))
+                | yes l ↦ rw (lt-ltb q (length (kindsAt a f)) l) (not-true (mem (getD (kindsAt a f) q 0) (k ∷ [])) (λ t. ne (sym (place-at (kindsAt a f) s q l) ∙ ap (λ (y : ℕ). placeOf y (kindsAt a f)) (in-one (getD (kindsAt a f) q 0) k t) ∙ own-place)))
                 | no l ↦ rw (le-ltb q (length (kindsAt a f)) (omega arith))
               ])
 

@@ -13,9 +13,8 @@ use lib.Seq.{drop-cons}
 use Rattle.model.specs.Lists.{countOf}
 use Rattle.model.proofs.ListLaws.{count-append}
 use Rattle.model.specs.Model.{Family, Range, none, found, mem, within, sameSet, kindsOf, firstRange, rangeAt, rangeIn, rangeAll}
-use Rattle.model.proofs.Walk.{mem-append, in-left, all-in}
-use Rattle.model.proofs.KindLists.{in-count}
-use Rattle.model.proofs.BoolLaws.{not-true, or-false, or-false-right}
+use Rattle.model.proofs.KindLists.{all-in, in-count, not-in-parts, mem-take-le, not-in-take}
+use Rattle.model.proofs.BoolLaws.{not-true}
 use Rattle.words.specs.Part.{between}
 use Rattle.words.proofs.Part.{count-part, between-join}
 use Rattle.layout.specs.Layout.{Arrays, startOf, widthOf, kindsAt, groupsFrom, KindSet, Rising, WellFormed}
@@ -32,11 +31,6 @@ differ-left hs js k h j = not-true (sameSet hs js) (λ t. true≢false (sym (all
 
 pub differ-right : (hs js : List ℕ) (k : ℕ) → mem k js ≡ true → mem k hs ≡ false → sameSet hs js ≡ false
 differ-right hs js k j h = not-true (sameSet hs js) (λ t. true≢false (sym (all-in (λ x. mem x hs) js (and-parts (within hs js) (within js hs) t .1) k j) ∙ h))
-
-pub not-in-parts : (k : ℕ) (a b : List ℕ) → mem k (a ++ b) ≡ false → (mem k a ≡ false) × (mem k b ≡ false)
-not-in-parts k a b e =
-    let h = sym (mem-append k a b) ∙ e in
-    (or-false (mem k a) (mem k b) h, or-false-right (mem k a) (mem k b) h)
 
 -- ---- a family that lacks one of the kinds
 
@@ -120,12 +114,6 @@ next-kind ks s b a h l =
       ap (mem (getD ks b 0)) (sym up) ∙ part-mem ks s 0 a (omega arith) l b (omega arith) h,
       ap (mem (getD ks b 0)) (sym lo) ∙ not-true (mem (getD ks b 0) (between 0 b ks)) (λ t. let x = mem-part ks s 0 b (omega arith) (omega arith) (getD ks b 0) t in omega (arith, x .high, place-at ks s b (omega arith))),
     )
-
-pub mem-take-le : (k : ℕ) (ks : List ℕ) (m n : ℕ) → m ≤ n → mem k (take m ks) ≡ true → mem k (take n ks) ≡ true
-mem-take-le k ks m n h t = ap (mem k) (sym (between-join ks m n h)) ∙ in-left (take m ks) (between m n ks) k t
-
-pub not-in-take : (k : ℕ) (ks : List ℕ) (m n : ℕ) → m ≤ n → mem k (take n ks) ≡ false → mem k (take m ks) ≡ false
-not-in-take k ks m n h t = not-true (mem k (take m ks)) (λ u. true≢false (sym (mem-take-le k ks m n h u) ∙ t))
 
 module _ (hs bs counts ks : List ℕ) (s : KindSet ks) where
   in-step : (g b a : ℕ) (ars : List ℕ) → b ≤ a

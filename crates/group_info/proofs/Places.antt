@@ -12,9 +12,8 @@ use Rattle.model.specs.Numbers.{MAX-GROUP-ARITY}
 use Rattle.model.specs.Lists.{one, place}
 use Rattle.model.proofs.ListLaws.{count-place, getD-place, once-place}
 use Rattle.model.specs.Model.{mem, within, sameSet}
-use Rattle.model.proofs.Walk.{all-in}
+use Rattle.model.proofs.KindLists.{all-in, in-count, all-true, at-in}
 use Rattle.model.proofs.BoolLaws.{bool-cases}
-use Rattle.model.proofs.KindLists.{in-count, all-true, at-in}
 use Rattle.words.specs.Part.{between}
 use Rattle.words.proofs.Part.{getD-between, length-between}
 use Rattle.masks.specs.Masks

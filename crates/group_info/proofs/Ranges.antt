@@ -7,10 +7,10 @@ use Prim.Native.Nat.{ℕ, zero, suc, _+_, _-_, _≤_, _<_, max}
 use native.Mathlib.Nat.{sub-zero}
 use native.Mathlib.Decide.{decLt}
 use native.Mathlib.Omega.{arith}
-use lib.ListN.{length, getD, take, drop, take-append-drop}
+use lib.ListN.{length, getD, take, drop}
 use Rattle.model.specs.Numbers.{MAX-GROUP-ARITY}
 use Rattle.model.specs.Model.{Family, none, found, mem, within, sameSet, kindsOf, rangeAt, rangeIn, rangeAll}
-use Rattle.model.proofs.Walk.{in-left, all-in}
+use Rattle.model.proofs.KindLists.{all-in, mem-take, mem-take-le, not-in-take}
 use Rattle.model.proofs.BoolLaws.{bool-cases, not-true, by-eq}
 use Rattle.words.specs.Part.{between}
 use Rattle.words.proofs.Part.{getD-between}
@@ -25,10 +25,7 @@ use Rattle.group_info.specs.declared.GroupInfo.{GroupInfo}
 use Rattle.group_info.specs.declared.GroupRange.{GroupRange}
 use Rattle.group_info.specs.declared.GroupRange.the-variants as ranged
 use Rattle.group_info.proofs.Places.{placeOf, part-mem, mem-part, places-of-part, part-of-places}
-use Rattle.group_info.proofs.Families.{lacks-staged, lacks-excluded, all-none, only-one, elsewhere, start-zero, next-kind, mem-take-le, not-in-take, at-group, empty-none, next-new-kinds, no-next}
-
-pub mem-take : (k n : ℕ) (l : List ℕ) → mem k (take n l) ≡ true → mem k l ≡ true
-mem-take k n l m = ap (mem k) (sym (take-append-drop n l)) ∙ in-left (take n l) (drop n l) k m
+use Rattle.group_info.proofs.Families.{lacks-staged, lacks-excluded, all-none, only-one, elsewhere, start-zero, next-kind, at-group, empty-none, next-new-kinds, no-next}
 
 -- ---- one family: which group its own is
 

@@ -13,10 +13,9 @@ use Rattle.model.specs.Model.{SparseSet, mem}
 use Rattle.model.specs.Store.{onSet, onStorage}
 use Rattle.model.specs.Sound.{In}
 use Rattle.model.proofs.BoolLaws.{or-cases, not-true}
-use Rattle.model.proofs.KindLists.{at-in}
 use Rattle.words.specs.Offsets.{columnStart, ENTITIES, ROWS, UNREGISTERED}
 use Rattle.words.specs.Table.{table}
-use Rattle.words.proofs.Tables.{length-table, getD-table}
+use Rattle.words.proofs.Tables.{length-table, getD-table, table-in}
 use Rattle.component.specs.Columns.{Lent, Only, rowsOf}
 use Rattle.component.proofs.Parts.{lent, getD-column}
 use Rattle.memory.specs.Header.{capacityOf, kindCapacityOf, registeredOf, slotOf}
@@ -46,9 +45,6 @@ in-table m f k i =
     let r = in-list (table m f) k i in
     let h : r .place < m = omega (arith, r .below, length-table m f) in
     record { place = r .place; below = h; is = sym (getD-table m f (r .place) 0 h) ∙ r .is }
-
-table-in : (m : ℕ) (f : ℕ → ℕ) (k i : ℕ) → i < m → f i ≡ k → In (table m f) k
-table-in m f k i h e = subst (In (table m f)) (getD-table m f i 0 h ∙ e) (at-in (table m f) i (omega (arith, length-table m f)))
 
 -- ---- the table of kinds
 

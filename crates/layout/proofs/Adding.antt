@@ -14,7 +14,7 @@ use Rattle.model.specs.Lists.{countOf}
 use Rattle.model.proofs.ListLaws.{count-append, shorter}
 use Rattle.model.specs.Model.{Family, newGroup, grown, mem, meets, within, without, sameSet, kindsOf, groupsOf}
 use Rattle.model.proofs.BoolLaws.{bool-cases, by-eq}
-use Rattle.model.proofs.KindLists.{out-count}
+use Rattle.model.proofs.KindLists.{out-count, unmet}
 use Rattle.words.specs.Part.{between}
 use Rattle.words.specs.Table.{table}
 use Rattle.words.proofs.Tables.{table-snoc, table-set}
@@ -23,7 +23,7 @@ use Rattle.layout.specs.Grow.{LooseAt, widened, Extends, Extended, opene
 use Rattle.layout.specs.Add.{Fitting}
 use Rattle.layout.specs.declared.group_layout.Fit.{Fit}
 use Rattle.layout.specs.declared.group_layout.Layout.{Layout}
-use Rattle.layout.proofs.KindSets.{sum-once, unmet, within-counts, same-set, without-held, without-le, without-length}
+use Rattle.layout.proofs.KindSets.{sum-once, within-counts, same-set, without-held, without-le, without-length}
 use Rattle.layout.proofs.Family.{rising-snoc, rising-alone, from-snoc, from-alone, no-counts, start-next}
 use Rattle.words.proofs.Part.{between-join, between-none}
 use Rattle.layout.proofs.Fits.{IsFresh, IsOnto, Target, target, not-all, untouched-at}

@@ -17,8 +17,6 @@ use Rattle.model.proofs.ListLaws.{drop-step}
 pub start-next : (es : List ℕ) (f : ℕ) → startOf es (f + 1) ≡ getD es f 0
 start-next es f = ap (startOf es) (add-one f)
 
--- ---- parts
-
 -- ---- arities
 
 pub rising-le : (b n : ℕ) (ars : List ℕ) → Rising b n ars → b ≤ n

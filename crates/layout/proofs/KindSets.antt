@@ -1,36 +1,21 @@
 -- Sets of kinds as lists that have each kind once: what the tests on them decide, and how long they are. Assumes nothing.
 use mathlib.Core.Path.{_≡_, refl, sym, ap, _∙_}
-use mathlib.Core.Bool.{Bool, true, false, _&&_, _||_, true≢false, false≢true, and-false}
+use mathlib.Core.Bool.{true, false, _&&_, true≢false, and-false}
 use mathlib.Core.List.{List, [], _∷_, _++_}
 use Prim.Native.Nat.{ℕ, zero, suc, _+_, _-_, _≤_, _<_}
 use native.Mathlib.Omega.{arith}
 use native.Mathlib.Decide.{decLt}
-use borrow.Author.Tests.{eq-eqb, ne-eqb, eqb-true}
+use borrow.Author.Tests.{eq-eqb, ne-eqb}
 use lib.Dec.{eqb}
 use lib.ListN.{length, take, drop, take-append-drop, length-append}
 use Rattle.model.specs.Numbers.{MAX-KINDS}
 use Rattle.model.specs.Lists.{one, countOf}
 use Rattle.model.proofs.ListLaws.{count-append, below-counts, shorter, as-long}
-use Rattle.model.specs.Model.{mem, anyOf, within, meets, sameSet, without}
-use Rattle.model.proofs.Walk.{all-in}
-use Rattle.model.proofs.BoolLaws.{bool-cases, or-cases, by-eq}
-use Rattle.model.proofs.KindLists.{in-count, out-count, count-in, all-true}
+use Rattle.model.specs.Model.{mem, within, sameSet, without}
+use Rattle.model.proofs.KindLists.{all-in, in-count, out-count, count-in, all-true}
+use Rattle.model.proofs.BoolLaws.{bool-cases, by-eq}
 use Rattle.words.specs.Part.{between}
 use Rattle.layout.specs.Layout.{KindSet}
-
--- ---- tests of all and of some
-
-pub any-none : (p : ℕ → Bool) (l : List ℕ) (x : ℕ) → anyOf p l ≡ false → mem x l ≡ true → p x ≡ false
-any-none p [] x h m = absurd (false≢true m)
-any-none p (y ∷ l) x h m = go (p y) refl h (any-none p l x)
-  where
-    go : (b : Bool) → p y ≡ b → (b || anyOf p l) ≡ false → (anyOf p l ≡ false → mem x l ≡ true → p x ≡ false) → p x ≡ false
-    go true e h r = absurd (true≢false h)
-    go false e h r = or-cases (eqb x y) (mem x l) m (λ t. ap p (eqb-true x y t) ∙ e) (λ t. r h t)
-
--- no kind in common
-pub unmet : (ks js : List ℕ) (x : ℕ) → meets ks js ≡ false → 1 ≤ countOf eqb x ks → countOf eqb x js ≡ 0
-unmet ks js x m h = out-count js x (any-none (λ k. mem k js) ks x m (count-in ks x h))
 
 -- ---- once each
 

@@ -1,4 +1,3 @@
-pub mod Scan
 pub mod KindSets
 pub mod Append
 pub mod Family

@@ -11,7 +11,7 @@ use Rattle.model.specs.Store.{Store, empty}
 use Rattle.model.specs.Run.{Step, stops, goes, step, Ran, halt, more, runFor, run}
 use Rattle.model.specs.History.{trailFor, trail}
 use Rattle.model.specs.Sound.{cnt, In, key, holders, Limits, Right, RightFrom, AllRight, Between, BetweenFrom, AllBetween, GroupsRight, GroupsBetween, StoreSound}
-use Rattle.model.proofs.Walk.{in-left}
+use Rattle.model.proofs.KindLists.{in-left}
 use Rattle.model.proofs.Held.{holders-fewer}
 use Rattle.model.proofs.Sound.{Bytes, EachStore, run-sound, trail-sound}
 

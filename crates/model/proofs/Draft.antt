@@ -1,6 +1,6 @@
 -- Adding a group keeps the draft a layout that commands can build, with all counts 0. Assumes nothing.
 use mathlib.Core.Path.{_≡_, refl, ap, sym, _∙_, subst}
-use mathlib.Core.Bool.{true, false, not, _&&_, _||_, true≢false, false≢true}
+use mathlib.Core.Bool.{true, false, not, _&&_, _||_, true≢false, false≢true, or-true}
 use mathlib.Core.List.{List, [], _∷_, _++_, append-assoc, append-nil}
 use Prim.Native.Nat.{ℕ, _+_, _≤_, _<_}
 use native.Mathlib.Omega.{arith}
@@ -14,9 +14,8 @@ use Rattle.model.specs.Model.{Group, Family, Added, nothing, added, refu
 use Rattle.model.specs.Sound.{Distinct, layoutKinds, Rising, BuildableFamily, BuildableFamilies, Buildable, Uncounted, AllUncounted}
 use Rattle.model.proofs.BoolLaws.{cond-case, and-left, and-right, or-false, or-cases, or-false-right, not-true, and-false-left, not-or, or-right, bool-cases}
 use Rattle.model.proofs.Groups.{In}
-use Rattle.model.proofs.Walk.{in-cases, or-true, Missing, all-missing, all-in}
-use Rattle.model.proofs.Invariant.{any-in}
-use Rattle.model.proofs.KindLists.{in-count, out-count, count-in, count-without, distinct-right, in-length}
+use Rattle.model.proofs.Walk.{Missing, all-missing}
+use Rattle.model.proofs.KindLists.{in-cases, all-in, in-count, out-count, count-in, count-without, distinct-right, in-length, unmet-in, meets-none}
 
 pub record DraftSound (kinds : List ℕ) (fs : List Family) : Type 0 where
   pub buildable : Buildable kinds fs
@@ -38,9 +37,6 @@ without-sub (j ∷ ks) js k i =
     (λ t. rw (without-sub ks js k (rw t at i)) (or-true (eqb k j)))
     (λ t. or-cases (eqb k j) (mem k (without ks js)) (rw t at i) (λ u. rw u) (λ u. rw (without-sub ks js k u) (or-true (eqb k j))))
 
-unmet : (ks js : List ℕ) → meets ks js ≡ false → (k : ℕ) → In js k → mem k ks ≡ false
-unmet ks js m k i = not-true (mem k ks) (λ t. true≢false (sym (any-in (λ y. mem y js) ks k t i) ∙ m))
-
 -- ---- a family with no kind of ks
 
 untouched : (ks : List ℕ) (fs : List Family) → touched ks fs ≡ 0 → (k : ℕ) → In (layoutKinds fs) k → mem k ks ≡ false
@@ -48,7 +44,7 @@ untouched ks [] z k i = absurd (false≢true i)
 untouched ks (f ∷ fs) z k i =
     bool-cases (meets ks (kindsOf f))
     (λ t. absurd (omega (arith, rw t at z)))
-    (λ t. in-cases (kindsOf f) (layoutKinds fs) k i (λ j. unmet ks (kindsOf f) t k j) (λ j. untouched ks fs (rw t at z) k j))
+    (λ t. in-cases (kindsOf f) (layoutKinds fs) k i (λ j. unmet-in ks (kindsOf f) t k j) (λ j. untouched ks fs (rw t at z) k j))
 
 pub grown-same : (ks : List ℕ) (fs : List Family) → touched ks fs ≡ 0 → grown ks fs ≡ fs
 grown-same ks [] z = refl
@@ -82,10 +78,6 @@ is-group-all ks acc r [] h = rw (append-nil (r .newKinds)) (or-false (sameSet ks
 is-group-all ks acc r (s ∷ rs) h =
     subst (λ (l : List ℕ). sameSet ks l ≡ false) (append-assoc acc (r .newKinds) (kindsOf (s ∷ rs)))
     (is-group-all ks (acc ++ r .newKinds) s rs (or-false-right (sameSet ks (acc ++ r .newKinds)) (isGroup ks (acc ++ r .newKinds) (s ∷ rs)) h))
-
-meets-none : (ks : List ℕ) → meets ks [] ≡ false
-meets-none [] = refl
-meets-none (k ∷ ks) = meets-none ks
 
 -- a hand that holds the family's kinds, and is none of its groups, has a kind more
 more-kinds : (ks : List ℕ) (f : Family) → meets ks (kindsOf f) ≡ true → within (kindsOf f) ks ≡ true → isGroup ks [] f ≡ false → 1 ≤ length (without ks (kindsOf f))
@@ -139,7 +131,7 @@ grown-once ks (f ∷ fs) t d o = bool-cases (meets ks (kindsOf f)) here (λ m. l
     later m r z =
         rw m
         (bool-cases (mem z ks)
-        (λ v. omega (arith, count-append eqb z (kindsOf f) (layoutKinds (grown ks fs)), r z, out-count (kindsOf f) z (not-true (mem z (kindsOf f)) (λ i. true≢false (sym v ∙ unmet ks (kindsOf f) m z i)))))
+        (λ v. omega (arith, count-append eqb z (kindsOf f) (layoutKinds (grown ks fs)), r z, out-count (kindsOf f) z (not-true (mem z (kindsOf f)) (λ i. true≢false (sym v ∙ unmet-in ks (kindsOf f) m z i)))))
         (λ v. omega (arith, count-append eqb z (kindsOf f) (layoutKinds (grown ks fs)), grown-out ks fs z v, o z, count-append eqb z (kindsOf f) (layoutKinds fs))))
 
 grown-in : (ks : List ℕ) (fs : List Family) (k : ℕ) → In (layoutKinds (grown ks fs)) k → mem k ks ≡ false → In (layoutKinds fs) k

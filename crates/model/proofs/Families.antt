@@ -14,7 +14,8 @@ use Rattle.model.specs.Model.{Entity, Row, SparseSet, Family, Component,
 use Rattle.model.proofs.SparseSets.{entity-eq, entity-same, key}
 use Rattle.model.proofs.BoolLaws.{cond-case, or-false, or-false-right, bool-cases}
 use Rattle.model.proofs.Groups.{cnt, plc, In, SameEntities}
-use Rattle.model.proofs.Walk.{Chain, Every, But, Plus, Up, groupFamily-good, chain-weaken, either, in-left, in-right, mem-append, lacks-count}
+use Rattle.model.proofs.Walk.{Chain, Every, But, Plus, Up, groupFamily-good, chain-weaken, either, lacks-count}
+use Rattle.model.proofs.KindLists.{in-left, in-right, mem-append, not-both}
 
 -- ---- families
 
@@ -176,9 +177,6 @@ pending-other e ks key new (f ∷ fs) s p =
       (λ m. chain-other key new Every [] f s₁ (p .1 m)),
       pending-other e ks key new fs (λ k i. s k (in-right (kindsOf f) (allKinds (famKinds fs)) k i)) (p .2),
     )
-
-pub not-both : (a b : List ℕ) (k : ℕ) → (In a k → mem k b ≡ false) → In b k → mem k a ≡ false
-not-both a b k h i = bool-cases (mem k a) (λ t. absurd (true≢false (sym i ∙ h t))) (λ t. t)
 
 module _ (e : Entity) (ks : List ℕ) where
   pub groupFamily-all-good : (sets : List SparseSet) (fs : List Family) → Apart (famKinds fs) → Pending e ks (key sets) fs → UpAll sets fs (groupTouched e ks sets fs)

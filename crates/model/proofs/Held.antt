@@ -1,6 +1,6 @@
 -- What the operations keep, as entities, kinds and components together; it is equivalent to the soundness of those. Assumes nothing.
 use mathlib.Core.Path.{_≡_, refl, ap, sym, _∙_, subst}
-use mathlib.Core.Bool.{true, false, true≢false}
+use mathlib.Core.Bool.{true, false, true≢false, or-true}
 use mathlib.Core.List.{List, [], _∷_, _++_, map}
 use Prim.Native.Nat.{ℕ, _≤_, _<_}
 use native.Mathlib.Omega.{arith}
@@ -15,13 +15,13 @@ use Rattle.model.specs.Sound.{Distinct, layoutKinds, Rising, BuildableFa
 use Rattle.model.proofs.SparseSets.{entity-eq, key}
 use Rattle.model.proofs.BoolLaws.{cond-case, and-left, not-true, bool-cases}
 use Rattle.model.proofs.Groups.{cnt, In}
-use Rattle.model.proofs.Walk.{in-right, or-true, Chain, Every, Below, GroupRight, count-held}
+use Rattle.model.proofs.Walk.{Chain, Every, Below, GroupRight, count-held}
+use Rattle.model.proofs.KindLists.{in-right, all-true, head-in, distinct-right, distinct-apart, all-joined}
 use Rattle.model.proofs.Families.{Fams, Kinds, Apart, allKinds, famKinds}
 use Rattle.model.proofs.Invariant.{Fit, holders, holders-count, count-is, count-number, insert-fit, insert-others, insert-kinds}
 use Rattle.model.proofs.Removal.{remove-fit, remove-fewer, remove-lost}
 use Rattle.model.proofs.Regroup.{Fresh, FreshAll, setLayout-fit, setLayout-entities, clearAll-fit, clearAll-entities}
 use Rattle.model.proofs.Numbers.{EntitiesOk, destroy-ok, cnt-cut, cnt-num}
-use Rattle.model.proofs.KindLists.{all-true, head-in, distinct-right, distinct-apart, all-joined}
 
 -- entities, kinds and components together
 pub record Held (entities : Entities) (kinds : List ℕ) (storage : Storage) : Type 0 where

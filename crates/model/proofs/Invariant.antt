@@ -1,23 +1,22 @@
 -- The invariant of the components, and that insertion keeps it; a group's count is the number of live entities that hold all its kinds. Assumes nothing.
 use mathlib.Core.Path.{_≡_, refl, ap, sym, _∙_}
-use mathlib.Core.Bool.{Bool, true, false, cond, true≢false}
+use mathlib.Core.Bool.{false, cond, true≢false}
 use mathlib.Core.List.{List, [], _∷_, _++_, map}
 use Prim.Native.Nat.{ℕ, suc, _+_, _≤_}
 use native.Mathlib.Omega.{arith}
 use native.Mathlib.Nat.{zero-add}
-use borrow.Author.Tests.{eqb-true}
-use lib.Dec.{eqb}
 use lib.ListN.{length, take, set, length-set}
 use lib.Seq.{length-take-le}
 use Rattle.model.specs.Numbers.{MAX-KINDS}
 use Rattle.model.specs.Lists.{one}
 use Rattle.model.proofs.ListLaws.{count-take-le, count-length}
-use Rattle.model.specs.Model.{Entity, SparseSet, Group, Family, Component, Storage, Walked, GroupStep, sameEntity, mem, anyOf, meets, setOf, held, allHeld, kindsOf, kindOf, insertRow, insertAll, mapOn, swapTo, isGrouped, groupComponents, groupFamily, groupTouched, insertComponents}
+use Rattle.model.specs.Model.{Entity, SparseSet, Group, Family, Component, Storage, Walked, GroupStep, sameEntity, mem, meets, setOf, held, allHeld, kindsOf, kindOf, insertRow, insertAll, mapOn, swapTo, isGrouped, groupComponents, groupFamily, groupTouched, insertComponents}
 pub use Rattle.model.specs.Sound.{holders}
 use Rattle.model.proofs.SparseSets.{entity-eq, entity-same, key}
-use Rattle.model.proofs.BoolLaws.{cond-case, or-cases, bool-cases}
+use Rattle.model.proofs.BoolLaws.{cond-case, bool-cases}
 use Rattle.model.proofs.Groups.{cnt, In, SameEntities}
-use Rattle.model.proofs.Walk.{Every, But, GroupRight, or-true, all-in, Missing, all-missing, held-count, lacks-count}
+use Rattle.model.proofs.Walk.{Every, But, GroupRight, Missing, all-missing, held-count, lacks-count}
+use Rattle.model.proofs.KindLists.{all-in, any-in}
 use Rattle.model.proofs.Families.{Fams, Apart, famKinds, chain-other, Put, Kinds, put-all, chain-put, Pending, UpAll, groupFamily-all-good}
 
 pub record Fit (p : Storage) : Type 0 where
@@ -57,13 +56,6 @@ length-put e [] sets = refl
 length-put e (p ∷ ps) sets = length-put e ps (set sets (p .kind) (insertRow e (p .value) (setOf sets (p .kind)))) ∙ length-set sets (p .kind) (insertRow e (p .value) (setOf sets (p .kind)))
 
 -- ---- insertion
-
-pub any-in : (p : ℕ → Bool) (ks : List ℕ) (k : ℕ) → In ks k → p k ≡ true → anyOf p ks ≡ true
-any-in p [] k i t = i
-any-in p (j ∷ ks) k i t =
-    or-cases (eqb k j) (mem k ks) i
-    (λ u. rw (ap p (sym (eqb-true k j u)), t))
-    (λ u. rw (any-in p ks k u t) (or-true (p j)))
 
 pending : (e : Entity) (ks : List ℕ) (key new : ℕ → List Entity) → Put e ks key new → (fs : List Family) → Fams key fs → Pending e ks new fs
 pending e ks key new p [] fm = tt

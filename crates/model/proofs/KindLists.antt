@@ -1,20 +1,19 @@
--- Lists of kinds: membership and counts. Assumes nothing.
-use mathlib.Core.Path.{_≡_, refl, ap, _∙_}
-use mathlib.Core.Bool.{Bool, true, false, cond, false≢true, _&&_}
+-- Lists of kinds: membership, counts, tests of all and of some. Assumes nothing.
+use mathlib.Core.Path.{_≡_, refl, ap, _∙_, sym}
+use mathlib.Core.Bool.{Bool, true, false, cond, false≢true, _&&_, or-true, _||_, or-assoc, true≢false, or-false as or-none}
 use mathlib.Core.List.{List, [], _∷_, _++_}
 use Prim.Native.Nat.{ℕ, _+_, _≤_, _<_}
 use native.Mathlib.Omega.{arith}
 use native.Mathlib.Nat.{zero-add}
-use borrow.Author.Tests.{eqb-true, eq-eqb}
+use borrow.Author.Tests.{eqb-true, eq-eqb, ne-eqb}
 use lib.Dec.{eqb}
 use lib.ListN.{length, getD, take, drop, take-append-drop}
-use lib.Seq.{drop-cons}
-use Rattle.model.specs.Lists.{one, countOf}
-use Rattle.model.proofs.ListLaws.{count-append, self-count, at-count}
-use Rattle.model.specs.Model.{mem, allOf, without, headKind}
+use lib.Seq.{drop-cons, take-take}
+use Rattle.model.specs.Lists.{one, countOf, place}
+use Rattle.model.proofs.ListLaws.{count-append, self-count, at-count, count-place, getD-place, drop-step}
+use Rattle.model.specs.Model.{mem, allOf, without, headKind, anyOf, meets}
 use Rattle.model.specs.Sound.{In, Distinct}
-use Rattle.model.proofs.Walk.{or-true}
-use Rattle.model.proofs.BoolLaws.{bool-cases, or-cases, or-false, or-false-right, not-true}
+use Rattle.model.proofs.BoolLaws.{bool-cases, or-cases, or-false, or-false-right, not-true, and-left, and-right}
 
 pub in-count : (l : List ℕ) (k : ℕ) → In l k → 1 ≤ countOf eqb k l
 in-count [] k i = absurd (false≢true i)
@@ -91,3 +90,111 @@ distinct-new l d i h =
     let e = ap (countOf eqb k) (take-append-drop i l) in
     let c = ap (countOf eqb k) (drop-cons l i 0 h) in
     not-true (mem k (take i l)) (λ t. omega (arith, d k, in-count (take i l) k t, count-append eqb k (take i l) (drop i l), self-count k))
+
+-- ---- membership in lists joined, and in a part in front
+
+pub mem-append : (k : ℕ) (a b : List ℕ) → mem k (a ++ b) ≡ (mem k a || mem k b)
+mem-append k [] b = refl
+mem-append k (j ∷ a) b = rw (mem-append k a b) (sym (or-assoc (eqb k j) (mem k a) (mem k b)))
+
+pub in-left : (a b : List ℕ) (k : ℕ) → In a k → In (a ++ b) k
+in-left a b k h = rw (mem-append k a b, h)
+
+pub in-right : (a b : List ℕ) (k : ℕ) → In b k → In (a ++ b) k
+in-right a b k h = rw (mem-append k a b, h) (or-true (mem k a))
+
+pub in-cases : {P : Type 0} (a b : List ℕ) (k : ℕ) → In (a ++ b) k → (In a k → P) → (In b k → P) → P
+in-cases a b k h = or-cases (mem k a) (mem k b) (sym (mem-append k a b) ∙ h)
+
+pub not-in-parts : (k : ℕ) (a b : List ℕ) → mem k (a ++ b) ≡ false → (mem k a ≡ false) × (mem k b ≡ false)
+not-in-parts k a b e =
+    let h = sym (mem-append k a b) ∙ e in
+    (or-false (mem k a) (mem k b) h, or-false-right (mem k a) (mem k b) h)
+
+pub mem-take : (k n : ℕ) (l : List ℕ) → mem k (take n l) ≡ true → mem k l ≡ true
+mem-take k n l m = ap (mem k) (sym (take-append-drop n l)) ∙ in-left (take n l) (drop n l) k m
+
+pub mem-take-le : (k : ℕ) (ks : List ℕ) (m n : ℕ) → m ≤ n → mem k (take m ks) ≡ true → mem k (take n ks) ≡ true
+mem-take-le k ks m n h t = mem-take k m (take n ks) (ap (mem k) (take-take m n ks h) ∙ t)
+
+pub not-in-take : (k : ℕ) (ks : List ℕ) (m n : ℕ) → m ≤ n → mem k (take n ks) ≡ false → mem k (take m ks) ≡ false
+not-in-take k ks m n h t = not-true (mem k (take m ks)) (λ u. true≢false (sym (mem-take-le k ks m n h u) ∙ t))
+
+pub in-one : (k j : ℕ) → In (j ∷ []) k → k ≡ j
+in-one k j i = or-cases (eqb k j) false i (λ t. eqb-true k j t) (λ t. absurd (false≢true t))
+
+pub known-snoc : (kinds l : List ℕ) (k : ℕ) → In kinds k → ((j : ℕ) → In l j → In kinds j) → (j : ℕ) → In (l ++ (k ∷ [])) j → In kinds j
+known-snoc kinds l k known h j i = in-cases l (k ∷ []) j i (h j) (λ u. rw (in-one j k u) known)
+
+pub not-both : (a b : List ℕ) (k : ℕ) → (In a k → mem k b ≡ false) → In b k → mem k a ≡ false
+not-both a b k h i = bool-cases (mem k a) (λ t. absurd (true≢false (sym i ∙ h t))) (λ t. t)
+
+pub in-at : (l : List ℕ) (k : ℕ) → In l k → (i : ℕ) × (i < length l) × (getD l i 0 ≡ k)
+in-at l k t = let p = count-place eqb k l (in-count l k t) in (place eqb k l, p, getD-place eqb eqb-true k 0 l p)
+
+-- ---- tests of all and of some
+
+pub all-in : (p : ℕ → Bool) (ks : List ℕ) → allOf p ks ≡ true → (k : ℕ) → In ks k → p k ≡ true
+all-in p [] t k i = cc
+all-in p (j ∷ ks) t k i =
+    or-cases (eqb k j) (mem k ks) i
+    (λ u. rw (eqb-true k j u) (and-left (p j) (allOf p ks) t))
+    (λ u. all-in p ks (and-right (p j) (allOf p ks) t) k u)
+
+pub any-in : (p : ℕ → Bool) (ks : List ℕ) (k : ℕ) → In ks k → p k ≡ true → anyOf p ks ≡ true
+any-in p [] k i t = i
+any-in p (j ∷ ks) k i t =
+    or-cases (eqb k j) (mem k ks) i
+    (λ u. rw (ap p (sym (eqb-true k j u)), t))
+    (λ u. rw (any-in p ks k u t) (or-true (p j)))
+
+pub any-more : (p q : ℕ → Bool) → ((k : ℕ) → p k ≡ true → q k ≡ true) → (ks : List ℕ) → anyOf p ks ≡ true → anyOf q ks ≡ true
+any-more p q f [] h = h
+any-more p q f (k ∷ ks) h =
+    or-cases (p k) (anyOf p ks) h (λ t. rw (f k t)) (λ t. rw (any-more p q f ks t) (or-true (q k)))
+
+pub any-none : (p : ℕ → Bool) (l : List ℕ) (x : ℕ) → anyOf p l ≡ false → mem x l ≡ true → p x ≡ false
+any-none p [] x h m = absurd (false≢true m)
+any-none p (y ∷ l) x h m = go (p y) refl h (any-none p l x)
+  where
+    go : (b : Bool) → p y ≡ b → (b || anyOf p l) ≡ false → (anyOf p l ≡ false → mem x l ≡ true → p x ≡ false) → p x ≡ false
+    go true e h r = absurd (true≢false h)
+    go false e h r = or-cases (eqb x y) (mem x l) m (λ t. ap p (eqb-true x y t) ∙ e) (λ t. r h t)
+
+pub any-append : (p : ℕ → Bool) (a b : List ℕ) → anyOf p (a ++ b) ≡ (anyOf p a || anyOf p b)
+any-append p [] b = refl
+any-append p (k ∷ a) b = rw (any-append p a b) (sym (or-assoc (p k) (anyOf p a) (anyOf p b)))
+
+pub meets-none : (ks : List ℕ) → meets ks [] ≡ false
+meets-none [] = refl
+meets-none (k ∷ ks) = meets-none ks
+
+pub meets-one : (k : ℕ) (ks : List ℕ) → meets (k ∷ []) ks ≡ mem k ks
+meets-one k ks = or-none (mem k ks)
+
+-- no kind in common
+pub unmet : (ks js : List ℕ) (x : ℕ) → meets ks js ≡ false → 1 ≤ countOf eqb x ks → countOf eqb x js ≡ 0
+unmet ks js x m h = out-count js x (any-none (λ k. mem k js) ks x m (count-in ks x h))
+
+pub unmet-in : (ks js : List ℕ) → meets ks js ≡ false → (k : ℕ) → In js k → mem k ks ≡ false
+unmet-in ks js m k i = not-true (mem k ks) (λ t. true≢false (sym (any-in (λ y. mem y js) ks k t i) ∙ m))
+
+-- ---- a turn of a loop over a slice: what is left is `drop i l`
+
+pub mem-hit : (x : ℕ) (l : List ℕ) (i : ℕ) → i < length l → x ≡ getD l i 0 → mem x (drop i l) ≡ true
+mem-hit x l i h e = rw (drop-step l i 0 h, eq-eqb x (getD l i 0) e)
+
+pub mem-miss : (x : ℕ) (l : List ℕ) (i : ℕ) → i < length l → (x ≡ getD l i 0 → ⊥) → mem x (drop i l) ≡ mem x (drop (i + 1) l)
+mem-miss x l i h e = rw (drop-step l i 0 h, ne-eqb x (getD l i 0) e)
+
+pub all-hit : (p : ℕ → Bool) (l : List ℕ) (i : ℕ) → i < length l → p (getD l i 0) ≡ true → allOf p (drop i l) ≡ allOf p (drop (i + 1) l)
+all-hit p l i h e = rw (drop-step l i 0 h, e)
+
+pub all-miss : (p : ℕ → Bool) (l : List ℕ) (i : ℕ) → i < length l → p (getD l i 0) ≡ false → allOf p (drop i l) ≡ false
+all-miss p l i h e = rw (drop-step l i 0 h, e)
+
+pub any-hit : (p : ℕ → Bool) (l : List ℕ) (i : ℕ) → i < length l → p (getD l i 0) ≡ true → anyOf p (drop i l) ≡ true
+any-hit p l i h e = rw (drop-step l i 0 h, e)
+
+pub any-miss : (p : ℕ → Bool) (l : List ℕ) (i : ℕ) → i < length l → p (getD l i 0) ≡ false → anyOf p (drop i l) ≡ anyOf p (drop (i + 1) l)
+any-miss p l i h e = rw (drop-step l i 0 h, e)

@@ -4,7 +4,7 @@ use mathlib.Core.Bool.{true, false, _&&_, false≢true}
 use mathlib.Core.List.{List, [], _∷_, _++_, map}
 use Prim.Native.Nat.{ℕ, zero, suc, _≤_, _<_}
 use native.Mathlib.Omega.{arith}
-use borrow.Author.Tests.{ltb-true, leb-false, lt-ltb, eqb-true}
+use borrow.Author.Tests.{ltb-true, leb-false, lt-ltb}
 use lib.Dec.{ltb, leb, eqb, lit<}
 use lib.ListN.{length, getD, replicate, length-append, length-replicate}
 use Rattle.model.specs.Numbers.{LIST-CAPACITY, MAX-KINDS, MAX-REFUSALS}
@@ -14,12 +14,11 @@ use Rattle.model.specs.Model.{Entity, Entities, SparseSet, Family, Compo
 use Rattle.model.specs.Store.{Control, Store, empty, withKinds, withEntities, withStorage, withControl, withAll, emptyStaged, emptyBoth, withStaged, withExcluded, withDraft, counted}
 use Rattle.model.specs.Sound.{Eight, noComponent, Limits, KindsSound, StagedSound, ExcludedSound, Buildable, StoreSound}
 use Rattle.model.proofs.SparseSets.{entity-same, key}
-use Rattle.model.proofs.BoolLaws.{cond-case, or-cases, or-false}
+use Rattle.model.proofs.BoolLaws.{cond-case, or-false}
 use Rattle.model.proofs.Groups.{cnt, In}
-use Rattle.model.proofs.Walk.{in-cases, in-left, mem-append}
 use Rattle.model.proofs.Numbers.{create-ok, create-live}
 use Rattle.model.proofs.Values.{ColsOk, StagedOk, insert-ok, remove-ok, setLayout-ok, clearAll-ok}
-use Rattle.model.proofs.KindLists.{distinct-snoc}
+use Rattle.model.proofs.KindLists.{distinct-snoc, in-cases, in-left, mem-append, in-one, known-snoc}
 use Rattle.model.proofs.Shape.{buildable-plain, insert-plain, remove-plain, setLayout-plain, clearAll-plain}
 use Rattle.model.proofs.Draft.{DraftSound}
 use Rattle.model.proofs.Held.{Held, insert-held, remove-held, destroy-held, removed-none, clearAll-held, apply-held, held-right, right-fams, distinct-families, buildable-fresh}
@@ -110,12 +109,6 @@ values-snoc [] p v h zero = v
 values-snoc [] p v h (suc j) = eight0
 values-snoc (q ∷ l) p v h zero = h 0
 values-snoc (q ∷ l) p v h (suc j) = values-snoc l p v (λ i. h (suc i)) j
-
-pub in-one : (k j : ℕ) → In (j ∷ []) k → k ≡ j
-in-one k j i = or-cases (eqb k j) false i (λ t. eqb-true k j t) (λ t. absurd (false≢true t))
-
-known-snoc : (kinds l : List ℕ) (k : ℕ) → In kinds k → ((j : ℕ) → In l j → In kinds j) → (j : ℕ) → In (l ++ (k ∷ [])) j → In kinds j
-known-snoc kinds l k known h j i = in-cases l (k ∷ []) j i (h j) (λ u. rw (in-one j k u) known)
 
 pub no-staged : (kinds : List ℕ) → StagedSound kinds []
 no-staged kinds = record { few = omega arith; once = λ k. omega arith; known = λ k i. absurd (false≢true i); values = λ j. eight0 }

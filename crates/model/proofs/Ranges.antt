@@ -18,10 +18,10 @@ use Rattle.model.specs.Sound.{cnt, In, key, holders, Distinct, layoutKin
 use Rattle.model.specs.Shown.{lacking, described, Showing, EqualGroup, EqualNewKinds, Shows, oneKind, aGroup, twoGroups}
 use Rattle.model.proofs.SparseSets.{entity-eq, entity-same}
 use Rattle.model.proofs.BoolLaws.{cond-case, and-left, and-right, or-cases, not-true, bool-cases}
-use Rattle.model.proofs.Walk.{in-left, in-right, all-in, held-count, lacks-count}
+use Rattle.model.proofs.Walk.{held-count, lacks-count}
+use Rattle.model.proofs.KindLists.{in-left, in-right, all-in, all-true, head-in, distinct-left, distinct-right, distinct-apart, all-joined}
 use Rattle.model.proofs.Invariant.{holders-count}
 use Rattle.model.proofs.Numbers.{cnt-num}
-use Rattle.model.proofs.KindLists.{all-true, head-in, distinct-left, distinct-right, distinct-apart, all-joined}
 use Rattle.model.proofs.Demand.{between}
 
 -- ---- equal sets

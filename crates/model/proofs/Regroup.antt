@@ -9,9 +9,10 @@ use lib.ListN.{length, length-map}
 use Rattle.model.specs.Model.{Entity, SparseSet, Family, Storage, Walked, sameEntity, mem, headKind, kindsOf, groupFamily, groupAll, regroup, setLayout, clearAll, zeroCount}
 use Rattle.model.proofs.SparseSets.{key}
 use Rattle.model.proofs.Groups.{cnt, In, SameEntities}
-use Rattle.model.proofs.Walk.{Below, Chain, Every, Plus, Up, groupFamily-good, in-left, in-right, mem-append, chain-weaken}
+use Rattle.model.proofs.Walk.{Below, Chain, Every, Plus, Up, groupFamily-good, chain-weaken}
+use Rattle.model.proofs.KindLists.{in-left, in-right, mem-append, not-both}
 use Rattle.model.proofs.BoolLaws.{bool-cases, or-false, or-false-right}
-use Rattle.model.proofs.Families.{Fams, Apart, allKinds, famKinds, chain-other, not-both}
+use Rattle.model.proofs.Families.{Fams, Apart, allKinds, famKinds, chain-other}
 use Rattle.model.proofs.Invariant.{Fit, length-groupFamily}
 
 -- ---- families that are right for the entities of W

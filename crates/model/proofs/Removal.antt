@@ -1,7 +1,7 @@
 -- Removal keeps the invariant: the entity leaves its groups, and then its rows go. Assumes nothing.
 use mathlib.Core.Path.{_≡_, refl, ap, ap₂, sym, _∙_, subst}
 use mathlib.Core.Logic.{_⊎_, inl, inr, ⊎-elim}
-use mathlib.Core.Bool.{Bool, true, false, cond, true≢false, false≢true}
+use mathlib.Core.Bool.{Bool, true, false, cond, true≢false, false≢true, or-true}
 use mathlib.Core.List.{List, [], _∷_, _++_, append-assoc}
 use Prim.Native.Nat.{ℕ, _+_, _-_, _≤_, _<_}
 use native.Mathlib.Omega.{arith}
@@ -16,10 +16,11 @@ use Rattle.model.specs.Model.{Entity, SparseSet, Group, Family, Storage,
 use Rattle.model.proofs.SparseSets.{entity-eq, entity-same, key, setOf-mapOn}
 use Rattle.model.proofs.BoolLaws.{cond-case, or-cases, or-false, or-false-right, bool-cases}
 use Rattle.model.proofs.Groups.{cnt, plc, In, Full, SameEntities}
-use Rattle.model.proofs.Walk.{Chain, Every, But, GroupRight, or-true, in-left, in-right, mem-append, full-lacks, either, held-count, lacks-count}
+use Rattle.model.proofs.Walk.{Chain, Every, But, GroupRight, full-lacks, either, held-count, lacks-count}
+use Rattle.model.proofs.KindLists.{in-left, in-right, mem-append, not-both, any-in}
 use Rattle.model.proofs.WalkDown.{Left, LeftChain, Down, ungroupFamily-good, out-place}
-use Rattle.model.proofs.Families.{Fams, Apart, allKinds, famKinds, chain-other, not-both}
-use Rattle.model.proofs.Invariant.{Fit, any-in, length-mapOn}
+use Rattle.model.proofs.Families.{Fams, Apart, allKinds, famKinds, chain-other}
+use Rattle.model.proofs.Invariant.{Fit, length-mapOn}
 
 -- ---- a row goes, and the last takes its place
 

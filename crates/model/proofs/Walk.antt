@@ -1,34 +1,19 @@
 -- The upward walk over a family: every group is right after it, if all but one entity were right before. Assumes nothing.
 use mathlib.Core.Path.{_≡_, refl, ap, ap₂, sym, _∙_, subst}
 use mathlib.Core.Logic.{_⊎_, inl, inr, ⊎-elim}
-use mathlib.Core.Bool.{Bool, true, false, _&&_, _||_, or-assoc, true≢false}
+use mathlib.Core.Bool.{Bool, true, false, _&&_, true≢false, or-true}
 use mathlib.Core.List.{List, [], _∷_, _++_, append-assoc}
 use Prim.Native.Nat.{ℕ, suc, _≤_, _<_}
 use native.Mathlib.Omega.{arith}
-use borrow.Author.Tests.{ltb-true, ltb-false, eqb-true, eq-eqb, lt-ltb}
+use borrow.Author.Tests.{ltb-true, ltb-false, eq-eqb, lt-ltb}
 use lib.Dec.{eqb}
 use lib.ListN.{length, take, length-map}
 use Rattle.model.proofs.ListLaws.{place-count, place-count-take, count-take-place, count-place}
 use Rattle.model.specs.Model.{Entity, SparseSet, Group, Family, Walked, GroupStep, sameEntity, mem, allOf, setOf, entityOf, at, held, headKind, isGrouped, allHeld, swapTo, onKinds, groupComponents, groupFamily, kindsOf}
 use Rattle.model.proofs.SparseSets.{entity-eq, key, key-swapped, key-kept}
-use Rattle.model.proofs.BoolLaws.{cond-case, and-left, and-right, or-cases, or-false, bool-cases}
-pub use mathlib.Core.Bool.{or-true}
+use Rattle.model.proofs.BoolLaws.{cond-case, or-false, bool-cases}
 use Rattle.model.proofs.Groups.{cnt, plc, In, Even, Full, Inside, Swapped, SameEntities, even-kept, full-kept, same-entities, low, inner-even, inner-full, inner-isGrouped, grown-even, grown-full, grown-isGrouped}
-
--- ---- membership
-
-pub mem-append : (k : ℕ) (a b : List ℕ) → mem k (a ++ b) ≡ (mem k a || mem k b)
-mem-append k [] b = refl
-mem-append k (j ∷ a) b = rw (mem-append k a b) (sym (or-assoc (eqb k j) (mem k a) (mem k b)))
-
-pub in-left : (a b : List ℕ) (k : ℕ) → In a k → In (a ++ b) k
-in-left a b k h = rw (mem-append k a b, h)
-
-pub in-right : (a b : List ℕ) (k : ℕ) → In b k → In (a ++ b) k
-in-right a b k h = rw (mem-append k a b, h) (or-true (mem k a))
-
-pub in-cases : {P : Type 0} (a b : List ℕ) (k : ℕ) → In (a ++ b) k → (In a k → P) → (In b k → P) → P
-in-cases a b k h = or-cases (mem k a) (mem k b) (sym (mem-append k a b) ∙ h)
+use Rattle.model.proofs.KindLists.{mem-append, in-left, in-right, in-cases, all-in}
 
 -- ---- a family whose groups are right for each entity of W
 
@@ -110,13 +95,6 @@ pub record Entered (W : Entity → Type 0) (e : Entity) (acc g : List ℕ) (r : 
   pub smaller : (ks : List ℕ) (h : ℕ) → ((k : ℕ) → In ks k → In g k) → Even (key sets) ks h → Inside (key sets) ks h e → Kept (key sets) (key (s .sets)) ks h e
   pub other : (k : ℕ) → mem k g ≡ false → key (s .sets) k ≡ key sets k
   pub first : (m k : ℕ) → In g k → plc e (key sets k) < m → r .count ≤ m → s .group .count ≤ m
-
-pub all-in : (p : ℕ → Bool) (ks : List ℕ) → allOf p ks ≡ true → (k : ℕ) → In ks k → p k ≡ true
-all-in p [] t k i = cc
-all-in p (j ∷ ks) t k i =
-    or-cases (eqb k j) (mem k ks) i
-    (λ u. rw (eqb-true k j u) (and-left (p j) (allOf p ks) t))
-    (λ u. all-in p ks (and-right (p j) (allOf p ks) t) k u)
 
 pub record Missing (p : ℕ → Bool) (ks : List ℕ) : Type 0 where
   pub kind : ℕ

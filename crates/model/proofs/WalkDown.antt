@@ -1,22 +1,18 @@
 -- The downward walk over a family: the entity is out of each group that has a kind of gone, and every group is right for the other entities. Assumes nothing.
 use mathlib.Core.Path.{_≡_, refl, ap, ap₂, sym, _∙_}
-use mathlib.Core.Bool.{Bool, true, false, true≢false}
+use mathlib.Core.Bool.{true, false, true≢false}
 use mathlib.Core.List.{List, [], _∷_, _++_, append-assoc}
 use Prim.Native.Nat.{ℕ, suc, _-_, _≤_, _<_}
 use native.Mathlib.Omega.{arith}
 use borrow.Author.Tests.{ltb-true, ltb-false}
 use lib.ListN.{length, take}
 use Rattle.model.proofs.ListLaws.{place-count-take, count-take-place, count-take-le}
-use Rattle.model.specs.Model.{Entity, SparseSet, Group, Family, Walked, GroupStep, sameEntity, mem, anyOf, meets, headKind, isGrouped, swapTo, onKinds, ungroupComponents, ungroupFamily, kindsOf}
+use Rattle.model.specs.Model.{Entity, SparseSet, Group, Family, Walked, GroupStep, sameEntity, mem, meets, headKind, isGrouped, swapTo, onKinds, ungroupComponents, ungroupFamily, kindsOf}
 use Rattle.model.proofs.SparseSets.{key, key-swapped, key-kept}
-use Rattle.model.proofs.BoolLaws.{cond-case, or-false, or-cases}
+use Rattle.model.proofs.BoolLaws.{cond-case, or-false}
 use Rattle.model.proofs.Groups.{cnt, plc, In, Even, Full, Inside, Swapped, SameEntities, even-kept, full-kept, same-entities, low, inner-even, inner-count, shrunk-even, shrunk-full, shrunk-out}
-use Rattle.model.proofs.Walk.{Below, Chain, Every, But, below-le, in-left, in-right, or-true, mem-append}
-
-any-more : (p q : ℕ → Bool) → ((k : ℕ) → p k ≡ true → q k ≡ true) → (ks : List ℕ) → anyOf p ks ≡ true → anyOf q ks ≡ true
-any-more p q f [] h = h
-any-more p q f (k ∷ ks) h =
-    or-cases (p k) (anyOf p ks) h (λ t. rw (f k t)) (λ t. rw (any-more p q f ks t) (or-true (q k)))
+use Rattle.model.proofs.Walk.{Below, Chain, Every, But, below-le}
+use Rattle.model.proofs.KindLists.{in-left, in-right, mem-append, any-more}
 
 -- what a walk leaves of a smaller group
 pub record Held (key new : ℕ → List Entity) (ks : List ℕ) (h : ℕ) : Type 0 where

@@ -80,8 +80,6 @@ step-size s t at room k a s′ h e =
 step-kept : (s : Store) (t : List ℕ) (at room k : ℕ) (a : List ℕ) (s′ : Store) → stepAt s t at room ≡ goes k a s′ → SameSettings s s′
 step-kept s t at room k a s′ e = rw e at (step-same (getD t at 0) (drop (at + 1) t) room s)
 
--- ---- the bytes
-
 -- ---- between two commands: k are done, the tape is read up to `at`, the answers stand before p
 
 pub record Going (w₀ t o₀ w o : List ℕ) (at p k : ℕ) : Type 0 where

@@ -1,28 +1,20 @@
--- Lists of kinds told place by place: once each, by a table of what was seen; and where a kind of the list stands. Assumes nothing.
+-- Lists of kinds told place by place: once each, by a table of what was seen. Assumes nothing.
 use mathlib.Core.Path.{_≡_, ap, sym, _∙_, subst}
-use mathlib.Core.Bool.{false, _||_, or-false}
+use mathlib.Core.Bool.{false, _||_, or-false, or-true}
 use mathlib.Core.List.{List, [], _∷_}
 use Prim.Native.Nat.{ℕ, zero, suc, _+_, _≤_, _<_}
 use native.Mathlib.Numerals.{add-one}
 use native.Mathlib.Omega.{arith}
-use borrow.Author.Tests.{eqb-true, eq-eqb, ne-eqb}
+use borrow.Author.Tests.{eq-eqb, ne-eqb}
 use lib.Dec.{eqb}
 use lib.ListN.{length, take, getD, set, replicate, getD-replicate}
 use lib.Seq.{take-suc, take-length, getD-set-same, getD-set-other}
 use Rattle.model.specs.Numbers.{MAX-KINDS}
-use Rattle.model.specs.Lists.{place}
-use Rattle.model.proofs.ListLaws.{count-place, getD-place}
 use Rattle.model.specs.Model.{mem}
-use Rattle.model.specs.Sound.{In, Distinct}
-use Rattle.model.proofs.Walk.{or-true, mem-append}
+use Rattle.model.specs.Sound.{Distinct}
+use Rattle.model.proofs.KindLists.{mem-append, distinct-snoc}
 use Rattle.model.proofs.BoolLaws.{by-eq}
 use Rattle.words.specs.Decides.{Each}
-use Rattle.model.proofs.KindLists.{in-count, distinct-snoc}
-
--- ---- where a kind stands
-
-pub in-at : (l : List ℕ) (k : ℕ) → In l k → (i : ℕ) × (i < length l) × (getD l i 0 ≡ k)
-in-at l k t = let p = count-place eqb k l (in-count l k t) in (place eqb k l, p, getD-place eqb eqb-true k 0 l p)
 
 -- ---- once each, place by place
 

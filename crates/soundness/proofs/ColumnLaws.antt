@@ -50,5 +50,3 @@ module _ (n : ℕ) (w : List ℕ) where
         | yes h ↦ rw (List·getD-eq-default (rows n w) noRow {n = i} (omega (arith, length-rows n w))) (omega arith)
         | no h ↦ rw (getD-rows n w i (omega arith)) (value-eight (lowAt n w i) (highAt n w i) (bits (ROWS + 2 * n + 2 * i)) (bits (ROWS + 2 * n + 2 * i + 1)))
       ]
-
--- ---- the words of a part are words

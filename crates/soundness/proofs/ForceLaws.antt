@@ -10,8 +10,7 @@ use Rattle.model.specs.Numbers.{MAX-KINDS}
 use Rattle.words.specs.Offsets.{ENTITIES, GROUP-COUNTS, LAYOUT, LAYOUT-ENDS}
 use Rattle.model.specs.Model.{Entity, SparseSet, noEntity, setOf, keys, entityOf, held, allHeld}
 use Rattle.model.specs.Sound.{key}
-use Rattle.model.proofs.Walk.{all-in}
-use Rattle.model.proofs.KindLists.{all-true}
+use Rattle.model.proofs.KindLists.{all-in, all-true}
 use Rattle.model.proofs.BoolLaws.{not-true}
 use Rattle.words.specs.Part.{between}
 use Rattle.words.proofs.Part.{getD-between}

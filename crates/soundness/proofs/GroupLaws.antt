@@ -16,8 +16,8 @@ use Rattle.model.specs.Sound.{cnt, In, key, SetsSound, BuildableFamily, Buildab
 use Rattle.model.proofs.SparseSets.{entity-eq, entity-same}
 use Rattle.model.proofs.BoolLaws.{and-left, and-false-of, and-false-right, bool-cases}
 use Rattle.model.proofs.Invariant.{holders-count}
-use Rattle.model.proofs.Walk.{in-left, in-right, in-cases, all-in, Missing, all-missing, held-count, lacks-count, count-held}
-use Rattle.model.proofs.KindLists.{all-true, all-joined}
+use Rattle.model.proofs.Walk.{Missing, all-missing, held-count, lacks-count, count-held}
+use Rattle.model.proofs.KindLists.{in-left, in-right, in-cases, all-in, all-true, all-joined}
 use Rattle.soundness.specs.Groups.{GroupOk, GroupsOk, FamilyOk, FamiliesOk}
 
 -- ---- what stands at a place is held

@@ -21,9 +21,9 @@ use Rattle.model.proofs.SparseSets.{entity-eq}
 use Rattle.words.specs.Table.{table}
 use Rattle.model.proofs.BoolLaws.{by-eq, not-true}
 use Rattle.words.proofs.Tables.{length-table, getD-table}
-use Rattle.model.proofs.KindLists.{at-in}
+use Rattle.model.proofs.KindLists.{at-in, in-at}
 use Rattle.soundness.proofs.GroupLaws.{count-at}
-use Rattle.sound_columns.proofs.ListLaws.{in-at, new-distinct}
+use Rattle.sound_columns.proofs.ListLaws.{new-distinct}
 
 -- the table and the columns' heads point to each other; there are fewer columns than 255
 pub record TableLinks (reg : ℕ) (kindAt slotOf : ℕ → ℕ) : Type 0 where

@@ -11,7 +11,7 @@ use lib.Seq.{ext-getD, getD-take, length-take-le}
 use Rattle.model.specs.Numbers.{MAX-GROUP-COUNT, MAX-KINDS}
 use Rattle.words.specs.Offsets.{ARITIES, BLOCK-LEN, ENDS, ENTITIES, GROUP-COUNTS, GROUP-FAMILIES, GROUP-PLACES, KIND-ENDS, LAYOUT, LAYOUT-ARITIES, LAYOUT-ENDS, LAYOUT-FAMILIES, LAYOUT-KIND-ENDS}
 use Rattle.model.specs.Sound.{In}
-use Rattle.model.proofs.KindLists.{at-in}
+use Rattle.model.proofs.KindLists.{at-in, in-at}
 use Rattle.words.specs.Part.{between}
 use Rattle.words.proofs.Part.{getD-between, length-between, getD-inner}
 use Rattle.layout.specs.Layout.{Arrays, Sized, startOf, widthOf, kindsAt, aritiesAt, WellFormed}
@@ -20,7 +20,6 @@ use Rattle.layout.proofs.Arrays.{bounds, kinds-inside, kinds-length, arities-le
 use Rattle.memory.specs.Meaning.{layoutArrays}
 use Rattle.memory.specs.Arranged.{priorArity, memberAt}
 use Rattle.sound_groups.specs.Spans.{startIn, priorIn, firstAt, fromAt, toAt}
-use Rattle.sound_columns.proofs.ListLaws.{in-at}
 use Rattle.soundness.specs.ByNumber.{newAt, priorCount}
 
 -- ---- a block's arrays
@@ -44,8 +43,6 @@ layout-reads w long =
       kindEnds = λ f h. getD-inner LAYOUT KIND-ENDS ENDS GROUP-FAMILIES f w (omega arith) (omega arith);
       ends = λ f h. getD-inner LAYOUT ENDS BLOCK-LEN GROUP-FAMILIES f w (omega arith) (omega arith);
     }
-
--- ---- arities that rise
 
 -- ---- starts and what stands before
 

@@ -11,6 +11,8 @@ use native.Mathlib.Numerals.{add-one}
 use lib.Dec.{eqb}
 use Rattle.model.specs.Lists.{countOf}
 use Rattle.model.proofs.ListLaws.{count-append, take-below}
+use Rattle.model.specs.Sound.{In}
+use Rattle.model.proofs.KindLists.{at-in}
 use Rattle.words.specs.Part.{between}
 
 module _ {A : Type 0} where
@@ -160,3 +162,9 @@ between-same a e w v hw hv same =
     (λ i l.
     let b : a + i < e = omega (arith, length-between a e v hv) in
     getD-between a e i v 0 b ∙ same (a + i) (omega arith) b ∙ sym (getD-between a e i w 0 b))
+
+pub between-in : (a e p : ℕ) (l : List ℕ) → a ≤ p → p < e → e ≤ length l → In (between a e l) (getD l p 0)
+between-in a e p l h k n =
+    let q : a + (p - a) ≡ p = omega arith in
+    subst (In (between a e l)) (getD-between a e (p - a) l 0 (omega arith) ∙ ap (λ (m : ℕ). getD l m 0) q)
+    (at-in (between a e l) (p - a) (omega (arith, length-between a e l n)))

@@ -1,6 +1,6 @@
 -- A list given by a function of the place: its length, its elements, and what it becomes where the function changes at one place.
 -- Assumes nothing.
-use mathlib.Core.Path.{_≡_, refl, sym, ap, _∙_}
+use mathlib.Core.Path.{_≡_, refl, sym, ap, _∙_, subst}
 use mathlib.Core.Logic.{_≢_}
 use mathlib.Core.List.{List, [], _∷_, _++_, map}
 use Prim.Native.Nat.{ℕ, zero, suc, _+_, _-_, _<_, _≤_}
@@ -10,6 +10,8 @@ use lib.ListN.{length, getD, set, take, length-set, length-append, List·getD-ap
 use lib.Seq.{ext-getD, getD-set-same, getD-set-other, getD-at, getD-take, length-take-le}
 use Rattle.model.specs.Lists.{swap, cutAt}
 use Rattle.model.proofs.BoolLaws.{by-eq}
+use Rattle.model.specs.Sound.{In}
+use Rattle.model.proofs.KindLists.{at-in}
 use Rattle.words.specs.Table.{table}
 use Rattle.words.specs.Part.{between}
 use Rattle.words.proofs.Part.{length-between, getD-between}
@@ -98,3 +100,6 @@ map-table {B} f (suc k) g = ap {B = List B} (λ r. f (g zero) ∷ r) (map-table 
 pub table-none : {A : Type 0} (k : ℕ) (f : ℕ → A) → k ≡ 0 → table k f ≡ []
 unfolding table
 table-none k f e = rw e
+
+pub table-in : (m : ℕ) (f : ℕ → ℕ) (k i : ℕ) → i < m → f i ≡ k → In (table m f) k
+table-in m f k i h e = subst (In (table m f)) (getD-table m f i 0 h ∙ e) (at-in (table m f) i (omega (arith, length-table m f)))

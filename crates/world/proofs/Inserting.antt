@@ -9,10 +9,10 @@ use borrow.Author.Tests.{ltb-true, eq-eqb}
 use lib.Dec.{eqb}
 use lib.ListN.{length, getD, set, take, length-set, length-append, List·getD-append}
 use lib.Seq.{getD-set-same, getD-set-other, set-out, take-all, take-suc, getD-at}
+use mathlib.Core.Bool.{or-true}
 use Rattle.model.specs.Model.{Entity, Row, Component, SparseSet, Storage, noRow, setOf, at, held, kindOf, insertRow, insertAll}
 use Rattle.model.specs.Store.{Store, stagedKinds, onStorage}
 use Rattle.model.specs.Sound.{In, noComponent}
-use Rattle.model.proofs.Walk.{or-true}
 use Rattle.model.proofs.BoolLaws.{by-eq, cond-case}
 use Rattle.component.specs.SparseSet.{Current, entity}
 use Rattle.memory.specs.Meaning.{meaning}

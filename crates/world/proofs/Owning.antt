@@ -23,7 +23,7 @@ use Rattle.group.specs.Flat.{Located, located}
 use Rattle.group.specs.Metadata.{orderOf, Describes}
 use Rattle.group.proofs.FlatArrays.{arity-rises, located-is}
 use Rattle.group.proofs.InWords.{layout-means, groups-are, order-is, order-length, order-part-once}
-use Rattle.group.proofs.Places.{between-in}
+use Rattle.words.proofs.Part.{between-in}
 use Rattle.group.proofs.Counts.{placed}
 use Rattle.group.proofs.KindPositions.{insert-none, delete-none, insert-run, delete-run}
 use Rattle.world.specs.declared.mask.Walk.{Walk}

@@ -14,7 +14,7 @@ use Rattle.memory.specs.Header.{capacityOf}
 use Rattle.memory.specs.Meaning.{meaning}
 use Rattle.kinds.specs.Kinds.{kindSet}
 use Rattle.group.specs.Metadata.{orderOf}
-use Rattle.group.proofs.Places.{between-in}
+use Rattle.words.proofs.Part.{between-in}
 use Rattle.group.proofs.Status.{status-first, status-others, status-in, status-out, listed-later}
 use Rattle.group.proofs.group_status.get_group_status.Statement.{statement}
 use Rattle.group.proofs.group_status.get_group_status.Tie as tie

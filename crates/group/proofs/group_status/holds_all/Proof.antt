@@ -10,7 +10,7 @@ use Rattle.words.specs.Part.{between}
 use Rattle.component.specs.SparseSet.{entity}
 use Rattle.memory.specs.Meaning.{meaning}
 use Rattle.group.specs.Metadata.{orderOf}
-use Rattle.group.proofs.Places.{between-in}
+use Rattle.words.proofs.Part.{between-in}
 use Rattle.group.proofs.Status.{all-miss, all-hit, all-end}
 use Rattle.group.proofs.group_status.holds_all.Statement.{statement}
 use Rattle.group.proofs.group_status.holds_all.Tie as tie

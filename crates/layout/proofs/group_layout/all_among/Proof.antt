@@ -4,7 +4,7 @@ use borrow.Author.Tests.{not-true, not-false}
 use lib.ListN.{length, drop}
 use lib.Seq.{drop-length}
 use Rattle.model.specs.Model.{mem, allOf, within}
-use Rattle.layout.proofs.Scan.{all-hit, all-miss}
+use Rattle.model.proofs.KindLists.{all-hit, all-miss}
 use native.Mathlib.Omega.{arith}
 use borrow.Author.Needs.{needs}
 use Rattle.layout.proofs.group_layout.all_among.Statement.{statement}

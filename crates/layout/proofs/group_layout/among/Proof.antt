@@ -4,7 +4,7 @@ use native.Mathlib.Omega.{arith}
 use lib.ListN.{length, drop}
 use lib.Seq.{drop-length}
 use Rattle.model.specs.Model.{mem}
-use Rattle.layout.proofs.Scan.{mem-hit, mem-miss}
+use Rattle.model.proofs.KindLists.{mem-hit, mem-miss}
 use Rattle.layout.proofs.group_layout.among.Statement.{statement}
 use Rattle.layout.proofs.group_layout.among.Tie as tie
 

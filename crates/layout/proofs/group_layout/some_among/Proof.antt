@@ -3,7 +3,7 @@ use Prim.Native.Nat.{ℕ, _≤_, _-_}
 use lib.ListN.{length, drop}
 use lib.Seq.{drop-length}
 use Rattle.model.specs.Model.{mem, anyOf, meets}
-use Rattle.layout.proofs.Scan.{any-hit, any-miss}
+use Rattle.model.proofs.KindLists.{any-hit, any-miss}
 use native.Mathlib.Omega.{arith}
 use borrow.Author.Needs.{needs}
 use Rattle.layout.proofs.group_layout.some_among.Statement.{statement}
