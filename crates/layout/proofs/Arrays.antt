@@ -2,6 +2,7 @@
 use mathlib.Core.Path.{_≡_, refl, sym, ap, _∙_, subst, ap₂}
 use mathlib.Core.List.{List, [], _∷_, _++_, append-nil, append-assoc}
 use Prim.Native.Nat.{ℕ, zero, suc, _+_, _-_, _≤_, _<_}
+use native.Mathlib.Nat.{add-assoc}
 use native.Mathlib.Numerals.{add-one}
 use native.Mathlib.Omega.{arith}
 use lib.Dec.{eqb}
@@ -13,7 +14,7 @@ use Rattle.model.specs.Lists.{countOf}
 use Rattle.model.proofs.ListLaws.{count-append, drop-step}
 use Rattle.model.specs.Model.{Family, kindsOf, groupsOf}
 use Rattle.model.specs.Sound.{layoutKinds}
-use Rattle.words.specs.Part.{between}
+use Rattle.words.specs.Part.{between, getD-between}
 use Rattle.words.proofs.Part.{length-between, between-front, between-join}
 use Rattle.words.specs.Table.{table}
 use Rattle.words.proofs.Tables.{length-table, getD-table, table-snoc, table-none}
@@ -32,6 +33,11 @@ block-sized w n e =
       kindEnds = length-between KIND-ENDS ENDS w (omega arith);
       ends = length-between ENDS BLOCK-LEN w (omega arith);
     }
+
+-- element i of the array from o to e, of the block at b
+pub block-at : (b : ℕ) (w : List ℕ) (o e i : ℕ) → o + i < e → e ≤ BLOCK-LEN → getD (between o e (between b (b + BLOCK-LEN) w)) i 0 ≡ getD w (b + o + i) 0
+block-at b w o e i h l =
+    getD-between o e i (between b (b + BLOCK-LEN) w) 0 h ∙ getD-between b (b + BLOCK-LEN) (o + i) w 0 (omega arith) ∙ ap (λ (n : ℕ). getD w n 0) (sym (add-assoc b o i))
 
 -- ---- ends that rise
 

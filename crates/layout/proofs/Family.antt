@@ -7,7 +7,7 @@ use native.Mathlib.Nat.{sub-zero}
 use native.Mathlib.Numerals.{add-one}
 use native.Mathlib.Omega.{arith}
 use lib.ListN.{length, getD, take, drop}
-use lib.Seq.{drop-length, take-length}
+use lib.Seq.{drop-length, take-length, take-take}
 use Rattle.model.specs.Model.{Family, kindsOf, isGroup, sameSet, newGroup}
 use Rattle.words.specs.Part.{between}
 use Rattle.words.proofs.Part.{between-join, between-drop, same-front, last-part}
@@ -16,6 +16,10 @@ use Rattle.model.proofs.ListLaws.{drop-step}
 
 pub start-next : (es : List ℕ) (f : ℕ) → startOf es (f + 1) ≡ getD es f 0
 start-next es f = ap (startOf es) (add-one f)
+
+pub start-prior : (es : List ℕ) (f : ℕ) → startOf es f ≡ getD (0 ∷ es) f 0
+start-prior es zero = refl
+start-prior es (suc f) = refl
 
 -- ---- arities
 
@@ -47,6 +51,18 @@ rising-at b n [] j r h = absurd (omega arith)
 rising-at b n (a ∷ ars) zero r h = rising-le a n ars (r .1)
 rising-at b n (a ∷ ars) (suc j) r h = rising-at a n ars j (r .1) (omega arith)
 
+pub rising-step : (b n : ℕ) (ars : List ℕ) (j : ℕ) → Rising b n ars → j < length ars → getD (b ∷ ars) j 0 < getD ars j 0
+unfolding Rising
+rising-step b n [] j r h = absurd (omega arith)
+rising-step b n (a ∷ ars) zero r h = r .0
+rising-step b n (a ∷ ars) (suc j) r h = rising-step a n ars j (r .1) (omega arith)
+
+-- the last is all
+pub rising-last : (b n : ℕ) (ars : List ℕ) → Rising b n ars → getD (b ∷ ars) (length ars) 0 ≡ n
+unfolding Rising
+rising-last b n [] r = r
+rising-last b n (a ∷ ars) r = rising-last a n ars (r .1)
+
 pub rising-above : (b n : ℕ) (ars : List ℕ) (j : ℕ) → Rising b n ars → j < length ars → b < getD ars j 0
 unfolding Rising
 rising-above b n [] j r h = absurd (omega arith)
@@ -67,6 +83,14 @@ pub no-counts : (g h : ℕ) (ks : List ℕ) (b : ℕ) (ars : List ℕ) → group
 unfolding groupsFrom
 no-counts g h ks b [] = refl
 no-counts g h ks b (a ∷ ars) = ap (λ (r : Family). newGroup (between b a ks) ∷ r) (no-counts (suc g) (suc h) ks a ars)
+
+-- the counts of other groups do not matter
+pub groups-same : (cs cs′ : List ℕ) (g : ℕ) (ks : List ℕ) (b : ℕ) (ars : List ℕ) → ((j : ℕ) → g ≤ j → j < g + length ars → getD cs′ j 0 ≡ getD cs j 0) → groupsFrom cs′ g ks b ars ≡ groupsFrom cs g ks b ars
+unfolding groupsFrom
+groups-same cs cs′ g ks b [] e = refl
+groups-same cs cs′ g ks b (a ∷ ars) e =
+    ap₂ (λ (c : ℕ) (rs : Family). record { newKinds = between b a ks; count = c } ∷ rs) (e g (omega arith) (omega arith))
+    (groups-same cs cs′ (suc g) ks a ars (λ j l h. e j (omega arith) (omega arith)))
 
 -- the kinds of the groups from arity b on
 pub kinds-from : (counts : List ℕ) (g : ℕ) (ks : List ℕ) (b : ℕ) (ars : List ℕ) → Rising b (length ks) ars → kindsOf (groupsFrom counts g ks b ars) ≡ drop b ks

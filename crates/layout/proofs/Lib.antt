@@ -3,5 +3,6 @@ pub mod Append
 pub mod Family
 pub mod Fits
 pub mod Arrays
+pub mod Groups
 pub mod Extend
 pub mod Adding

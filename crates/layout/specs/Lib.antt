@@ -1,4 +1,5 @@
 pub mod Layout
+pub mod Group
 pub mod Fit
 pub mod Grow
 pub mod Add

@@ -1,2 +1,3 @@
 // The layout of groups: families of nested groups, by value.
 pub mod group_layout;
+pub mod starts;

@@ -8,7 +8,7 @@ use lib.ListN.{length, getD, take, drop, length-drop, drop-of-length-le, take-ap
 use lib.Seq.{sets, length-sets, drop-drop, length-take-le}
 use Rattle.model.specs.Store.{Store}
 use Rattle.model.specs.Run.{Step, stops, goes, step, Ran, halt, more, runFor, run}
-use Rattle.model.proofs.Lengths.{Stepped as Lengths, step-lengths}
+use Rattle.model.proofs.Lengths.{StepFits as Lengths, step-lengths}
 use Rattle.model.proofs.ListLaws.{take-sets, drop-sets, drop-step}
 use Rattle.memory.specs.Meaning.{meaning}
 use Rattle.memory.specs.Arranged.{Sound, Becomes}
