@@ -10,6 +10,7 @@ use Rattle.model.specs.Sound.{In}
 use Rattle.words.specs.Part.{between}
 use Rattle.words.proofs.Part.{length-between, between-none, between-part, between-more, between-in}
 use Rattle.layout.specs.Layout.{Arrays}
+use Rattle.layout.proofs.Family.{between-part}
 use Rattle.memory.specs.Header.{stagedLen, excludedLen}
 use Rattle.memory.specs.Meaning.{layoutArrays, meaning}
 use Rattle.memory.specs.Arranged.{Arranged, Sound}
@@ -20,13 +21,13 @@ use Rattle.group_info.specs.Info.{ViewAdded, InsideFound, infoOf, Tables}
 use Rattle.group_info.specs.Describes.{ViewOf, Describes, Scattered, rangeOf, RangeSays}
 use Rattle.group_info.specs.declared.ViewGroupInfo.{ViewGroupInfo}
 use Rattle.group_info.specs.declared.QueryGroupInfo.{QueryGroupInfo}
-use Rattle.group_info.specs.declared.QueryGroupInfo.the-variants as query
 use Rattle.group_info.specs.declared.FoundQuery.{FoundQuery}
-use Rattle.group_info.specs.declared.FoundQuery.the-variants as added
 use Rattle.group_info.specs.declared.GroupRange.{GroupRange}
 use Rattle.group_info.proofs.Describing.{describes-more, describes-inside}
 use Rattle.group_info.proofs.Answers.{scattered-staged, scattered-excluded, scattered-more}
 use Rattle.command_range.specs.Query.{QueryOf, KindAdded, Kinds}
+use Rattle.group_info.specs.declared.QueryGroupInfo.the-variants as query
+use Rattle.group_info.specs.declared.FoundQuery.the-variants as added
 
 module _ (w : List ℕ) (A : Arranged w) where
   abbrev a : Arrays

@@ -1,10 +1,9 @@
 -- The groups that a layout's arrays list, by position: each group's kinds stand in a row among the layout's, and its count is its number's. Assumes nothing.
-use mathlib.Core.Path.{_≡_, refl, ap, ap₂, sym, _∙_}
+use mathlib.Core.Path.{_≡_, ap, ap₂, sym, _∙_, subst}
 use mathlib.Core.Logic.{_≢_}
 use mathlib.Core.List.{List, [], _∷_}
 use Prim.Native.Nat.{ℕ, zero, suc, _+_, _-_, _≤_, _<_}
 use native.Mathlib.Omega.{arith}
-use native.Mathlib.Decide.{decLt}
 use native.Mathlib.Nat.{le-of-suc-le-suc, not-suc-le-zero, sub-zero}
 use lib.ListN.{length, getD, set, take, List·getD-append}
 use lib.Seq.{getD-append-add, getD-set-same, getD-set-other, take-take}
@@ -15,8 +14,10 @@ use Rattle.words.proofs.Part.{between-front, getD-between, between-part, betwee
 use Rattle.words.specs.Table.{table}
 use Rattle.words.proofs.Tables.{table-set}
 use Rattle.layout.specs.Layout.{Arrays, Sized, startOf, widthOf, kindsAt, aritiesAt, groupsFrom, familyAt, familiesOf, Rising, WellFormed}
-use Rattle.layout.proofs.Family.{rising-le}
-use Rattle.layout.proofs.Arrays.{ends-rise, kind-order, group-order, kinds-inside, arities-length, kinds-length, family-rising, groups-length, layout-kinds}
+use Rattle.layout.specs.Group.{InFamily, arityOf, priorArity}
+use Rattle.layout.proofs.Family.{between-part, groups-same}
+use Rattle.layout.proofs.Arrays.{group-order, kinds-inside, arities-length, family-rising, groups-length, layout-kinds}
+use Rattle.layout.proofs.Groups.{same-family, place-is, place-inside, arity-is, prior-is, arity-inside}
 use Rattle.group.specs.Flat.{nowhere, flattenFamily, flatten, located, setIn, setCount}
 use Rattle.group.proofs.Fronts.{length-flattenFamily, set-here, set-later}
 
@@ -37,21 +38,7 @@ family-group counts first top g ks b n (a ∷ ars) r (suc i) h =
     ∙ family-group counts first top (suc g) ks a n ars (r .1) i (le-of-suc-le-suc h)
     ∙ ap (λ (m : ℕ). record { kinds = take (getD ars i 0) ks; newKinds = between (getD (a ∷ ars) i 0) (getD ars i 0) ks; count = getD counts m 0; first = first; top = top }) e
 
--- arities rise, up to n
-pub rising-at : (b n : ℕ) (ars : List ℕ) → Rising b n ars → (i : ℕ) → i < length ars → (getD (b ∷ ars) i 0 < getD ars i 0) × (getD ars i 0 ≤ n)
-unfolding Rising
-rising-at b n [] r i h = absurd (not-suc-le-zero h)
-rising-at b n (a ∷ ars) r zero h = (r .0, rising-le a n ars (r .1))
-rising-at b n (a ∷ ars) r (suc i) h = rising-at a n ars (r .1) i (le-of-suc-le-suc h)
-
--- the counts of other groups do not matter
-group-same : (cs cs′ : List ℕ) (g : ℕ) (ks : List ℕ) (b : ℕ) (ars : List ℕ) → ((j : ℕ) → g ≤ j → j < g + length ars → getD cs′ j 0 ≡ getD cs j 0) → groupsFrom cs′ g ks b ars ≡ groupsFrom cs g ks b ars
-unfolding groupsFrom
-group-same cs cs′ g ks b [] e = refl
-group-same cs cs′ g ks b (a ∷ ars) e =
-    ap₂ (λ (c : ℕ) (rs : Family). record { newKinds = between b a ks; count = c } ∷ rs) (e g (omega arith) (omega arith))
-    (group-same cs cs′ (suc g) ks a ars (λ j l h. e j (omega arith) (omega arith)))
-
+-- another count
 group-set : (counts : List ℕ) (c g : ℕ) (ks : List ℕ) (b : ℕ) (ars : List ℕ) (i : ℕ) → i < length ars → g + i < length counts
     → groupsFrom (set counts (g + i) c) g ks b ars ≡ setIn i c (groupsFrom counts g ks b ars)
 unfolding groupsFrom
@@ -60,7 +47,7 @@ group-set counts c g ks b (a ∷ ars) zero h l =
     let e : g ≡ g + 0 = omega arith in
     ap₂ (λ (c : ℕ) (rs : Family). record { newKinds = between b a ks; count = c } ∷ rs)
     (ap (λ (n : ℕ). getD (set counts (g + 0) c) n 0) e ∙ getD-set-same counts (g + 0) c 0 l)
-    (group-same counts (set counts (g + 0) c) (suc g) ks a ars (λ j lo hi. getD-set-other counts (g + 0) j c 0 (omega arith)))
+    (groups-same counts (set counts (g + 0) c) (suc g) ks a ars (λ j lo hi. getD-set-other counts (g + 0) j c 0 (omega arith)))
 group-set counts c g ks b (a ∷ ars) (suc i) h l =
     let e : g + suc i ≡ suc g + i = omega arith in
     ap₂ (λ (c : ℕ) (rs : Family). record { newKinds = between b a ks; count = c } ∷ rs)
@@ -135,64 +122,52 @@ module _ (counts : List ℕ) (a : Arrays) (good : WellFormed a) (sized : Sized a
       ∙ between-front w (s + x) (s + y) (take w (a .kinds)) (a .kinds) (omega (arith, kinds-inside a good f h)) (sym (take-take w w (a .kinds) (omega arith)))
       ∙ ap (between (s + x) (s + y)) (sym (layout-kinds counts a good sized))
 
-  module _ (f i : ℕ) (hf : f < a .families) (hi : startOf (a .ends) f + i < getD (a .ends) f 0) where
-    abbrev g : ℕ
-    g = startOf (a .ends) f + i
-
+  module _ (f g : ℕ) (G : InFamily a f g) where
     abbrev start : ℕ
     start = startOf (a .kindEnds) f
 
-    abbrev arity : ℕ
-    arity = getD (a .arities) g 0
-
-    abbrev prior : ℕ
-    prior = getD (0 ∷ aritiesAt a f) i 0
-
-    inside : i < length (aritiesAt a f)
-    inside = omega (arith, arities-length a good sized f hf)
-
-    arity-at : getD (aritiesAt a f) i 0 ≡ arity
-    arity-at = getD-between (startOf (a .ends) f) (getD (a .ends) f 0) i (a .arities) 0 hi
-
-    pub arity-rises : (prior < arity) × (start + arity ≤ getD (a .kindEnds) f 0)
-    arity-rises =
-        let r = rising-at 0 (length (kindsAt a f)) (aritiesAt a f) (family-rising a good sized f hf) i inside in
-        (omega (arith, r .0, arity-at), omega (arith, r .1, arity-at, kinds-length a good sized f hf, kind-order a good f hf))
+    abbrev i : ℕ
+    i = g - startOf (a .ends) f
 
     -- what stands at position g
     pub located-is : located (familiesOf counts a) g ≡ record {
-      kinds = between start (start + arity) (layoutKinds (familiesOf counts a));
-      newKinds = between (start + prior) (start + arity) (layoutKinds (familiesOf counts a));
+      kinds = between (startOf (a .kindEnds) f) (startOf (a .kindEnds) f + arityOf a g) (layoutKinds (familiesOf counts a));
+      newKinds = between (startOf (a .kindEnds) f + priorArity a f g) (startOf (a .kindEnds) f + arityOf a g) (layoutKinds (familiesOf counts a));
       count = getD counts g 0;
       first = startOf (a .ends) f;
       top = getD (a .ends) f 0;
     }
     located-is =
-        let r : start + arity ≤ getD (a .kindEnds) f 0 = arity-rises .1 in
+        let arity = arityOf a g in
+        let r : start + arity ≤ getD (a .kindEnds) f 0 = arity-inside a good sized f g G in
         let z : start + 0 ≡ start = omega arith in
         let all : take arity (kindsAt a f) ≡ between start (start + arity) (layoutKinds (familiesOf counts a)) =
-        ap (λ (n : ℕ). take n (kindsAt a f)) (sym (sub-zero arity)) ∙ kinds-in f 0 arity hf r ∙ ap (λ (n : ℕ). between n (start + arity) (layoutKinds (familiesOf counts a))) z in
-        let new = kinds-in f prior arity hf r in
-        flatten-at (a .families) (familyAt counts a) (startOf (a .ends)) steps f hf i g (omega (arith, family-size f hf)) (omega arith)
-        ∙ family-group counts (startOf (a .ends) f) (getD (a .ends) f 0) (startOf (a .ends) f) (kindsAt a f) 0 (length (kindsAt a f)) (aritiesAt a f) (family-rising a good sized f hf) i inside
-        ∙ ap (λ (n : ℕ). record { kinds = take n (kindsAt a f); newKinds = between prior n (kindsAt a f); count = getD counts g 0; first = startOf (a .ends) f; top = getD (a .ends) f 0 }) arity-at
+        ap (λ (n : ℕ). take n (kindsAt a f)) (sym (sub-zero arity)) ∙ kinds-in f 0 arity (G .family) r ∙ ap (λ (n : ℕ). between n (start + arity) (layoutKinds (familiesOf counts a))) z in
+        let new = kinds-in f (priorArity a f g) arity (G .family) r in
+        flatten-at (a .families) (familyAt counts a) (startOf (a .ends)) steps f (G .family) i g (omega (arith, family-size f (G .family), G .low, G .high)) (omega (arith, G .low))
+        ∙ family-group counts (startOf (a .ends) f) (getD (a .ends) f 0) (startOf (a .ends) f) (kindsAt a f) 0 (length (kindsAt a f)) (aritiesAt a f) (family-rising a good sized f (G .family)) i (place-inside a good sized f g G)
+        ∙ (λ j. record {
+          kinds = take (arity-is a good sized f g G j) (kindsAt a f);
+          newKinds = between (prior-is a good sized f g G j) (arity-is a good sized f g G j) (kindsAt a f);
+          count = getD counts (place-is a good sized f g G j) 0;
+          first = startOf (a .ends) f;
+          top = getD (a .ends) f 0;
+        })
         ∙ (λ j. record { kinds = all j; newKinds = new j; count = getD counts g 0; first = startOf (a .ends) f; top = getD (a .ends) f 0 })
 
     -- another count at position g
     pub counts-are : (c : ℕ) → g < length counts → familiesOf (set counts g c) a ≡ setCount g c (familiesOf counts a)
     counts-are c l =
-        let here : familyAt (set counts g c) a f ≡ setIn i c (familyAt counts a f) = group-set counts c (startOf (a .ends) f) (kindsAt a f) 0 (aritiesAt a f) i inside l in
-        table-set [] (setIn i c (familyAt counts a f)) (a .families) (familyAt counts a) (familyAt (set counts g c) a) f hf here
+        let at = place-is a good sized f g G in
+        let here : familyAt (set counts g c) a f ≡ setIn i c (familyAt counts a f) =
+        ap (λ (m : ℕ). familyAt (set counts m c) a f) (sym at) ∙ group-set counts c (startOf (a .ends) f) (kindsAt a f) 0 (aritiesAt a f) i (place-inside a good sized f g G) (omega (arith, at)) in
+        table-set [] (setIn i c (familyAt counts a f)) (a .families) (familyAt counts a) (familyAt (set counts g c) a) f (G .family) here
         (λ m h ne.
-        group-same counts (set counts g c) (startOf (a .ends) m) (kindsAt a m) 0 (aritiesAt a m)
+        groups-same counts (set counts g c) (startOf (a .ends) m) (kindsAt a m) 0 (aritiesAt a m)
         (λ j lo up. getD-set-other counts g j c 0 (apart m h ne j lo up)))
-        ∙ sym (set-at (a .families) (familyAt counts a) (startOf (a .ends)) steps c f hf i g (omega (arith, family-size f hf)) (omega arith))
+        ∙ sym (set-at (a .families) (familyAt counts a) (startOf (a .ends)) steps c f (G .family) i g (omega (arith, family-size f (G .family), G .low, G .high)) (omega (arith, G .low)))
       where
-        -- another family's groups are before, or after
+        -- another family's groups are others
         apart : (m : ℕ) → m < a .families → m ≢ f → (j : ℕ) → startOf (a .ends) m ≤ j → j < startOf (a .ends) m + length (aritiesAt a m) → j ≢ g
-        apart m h ne j lo up =
-            let n : j < getD (a .ends) m 0 = omega (arith, arities-length a good sized m h, group-order a good m h) in
-            elim (decLt m f) [
-              | yes q ↦ omega (arith, ends-rise (a .ends) f (λ k l. group-order a good k (omega arith)) (suc m) q)
-              | no q ↦ omega (arith, ends-rise (a .ends) m (λ k l. group-order a good k (omega arith)) (suc f) (omega arith))
-            ]
+        apart m h ne j lo up e =
+            ne (same-family a good m f j (record { family = h; low = lo; high = omega (arith, arities-length a good sized m h, group-order a good m h) }) (subst (InFamily a f) (sym e) G))

@@ -1,16 +1,14 @@
 // A group of the layout in force: its place among the layout's kinds, its family's groups, its count (group.rs).
+use layout::starts::prior_of;
+use layout::starts::start_of;
 use words::LAYOUT_ARITIES;
 use words::LAYOUT_ENDS;
 use words::LAYOUT_KIND_ENDS;
 ghost use mathlib.Core.Path.{_≡_};
-ghost use mathlib.Core.Bool.{cond};
-ghost use Prim.Native.Nat.{_+_, _<_, _≤_};
-ghost use lib.Dec.{ltb};
-ghost use lib.ListN.{length, getD, drop};
-ghost use Rattle.words.specs.Offsets.{ENTITIES, GROUP-PLACES};
+ghost use Prim.Native.Nat.{_<_};
+ghost use lib.ListN.{length, getD};
 ghost use Rattle.model.specs.Model.{Storage, groupsOf};
 ghost use Rattle.model.specs.Store.{onStorage, withLayout};
-ghost use Rattle.layout.specs.Layout.{startOf};
 ghost use Rattle.memory.specs.Meaning.{meaning};
 ghost use Rattle.memory.specs.Arranged.{Arranged, Becomes};
 ghost use Rattle.group.specs.Flat.{located, setCount};
@@ -27,28 +25,6 @@ pub struct GroupMetadata {
     pub top: usize,
 }
 
-// Where number f starts, of the ends that stand from `ends` on: where the one before ends.
-pub fn start_of(words: &[u32], ends: usize, f: usize) -> usize
-    requires { ⌜ ends + f ≤ length (now words) ⌝ }
-    ensures { λ r. ⌜ r ≡ startOf (drop ends (now (words .entry))) f ⌝ }
-{
-    if f == 0 {
-        return 0;
-    }
-    words::word(words, ends + (f - 1))
-}
-
-// The size of the group before g in its family, 0 where g is the first. Group g's stands at 576 + 128 + g (docs/WORDS.md).
-fn prior_arity(words: &[u32], first: usize, g: usize) -> usize
-    requires { ⌜ ((g < GROUP-PLACES) × (ENTITIES ≤ length (now words))) ⌝ }
-    ensures { λ r. ⌜ r ≡ cond (ltb first g) (getD (now (words .entry)) (703 + g) 0) 0 ⌝ }
-{
-    if first < g {
-        return words::word(words, LAYOUT_ARITIES + (g - 1));
-    }
-    0
-}
-
 pub fn metadata(words: &[u32], g: usize) -> GroupMetadata
     requires { ⌜ Arranged (now words) ⌝ }
     requires { ⌜ g < groupsOf (meaning (now words) .storage .layout) ⌝ }
@@ -59,7 +35,7 @@ pub fn metadata(words: &[u32], g: usize) -> GroupMetadata
     let first = start_of(words, LAYOUT_ENDS, f);
     let top = words::word(words, LAYOUT_ENDS + f);
     let arity = words::word(words, LAYOUT_ARITIES + g);
-    let prior = prior_arity(words, first, g);
+    let prior = prior_of(words, LAYOUT_ARITIES, first, g, 0);
     GroupMetadata {
         storage_start: start,
         new_storage_start: start + prior,

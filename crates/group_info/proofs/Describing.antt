@@ -19,18 +19,18 @@ use Rattle.layout.specs.Layout.{Arrays, Sized, startOf, kindsAt, aritiesAt, Kin
 use Rattle.layout.proofs.Family.{rising-at, rising-less}
 use Rattle.layout.proofs.Arrays.{groups-inside, family-kinds, family-rising, arities-length}
 use Rattle.group_info.specs.Info.{placesOf, infoOf, KindInfo, Joined, Both, BothAdded, ViewAdded, Inside, InsideFound}
-use Rattle.group_info.specs.Describes.{Placed, InFamily, GroupedKinds, Ungrouped, InfoOfKind, ViewOf, Describes, Scattered}
+use Rattle.group_info.specs.Describes.{Placed, GroupedKinds, Ungrouped, InfoOfKind, ViewOf, Describes, Scattered, InfoOfKinds}
 use Rattle.group_info.specs.declared.GroupInfo.{GroupInfo}
 use Rattle.group_info.specs.declared.FoundInfo.{FoundInfo}
-use Rattle.group_info.specs.declared.FoundInfo.the-variants as info
 use Rattle.group_info.specs.declared.ViewGroupInfo.{ViewGroupInfo}
 use Rattle.group_info.specs.declared.QueryGroupInfo.{QueryGroupInfo}
-use Rattle.group_info.specs.declared.QueryGroupInfo.the-variants as query
 use Rattle.group_info.specs.declared.FoundQuery.{FoundQuery}
-use Rattle.group_info.specs.declared.FoundQuery.the-variants as added
 use Rattle.group_info.proofs.Places.{placeOf, place-at, part-mem, mem-part}
 use Rattle.group_info.proofs.Families.{elsewhere}
-use Rattle.group_info.proofs.Ranges.{same-family, arity-at, in-kinds, few-kinds}
+use Rattle.group_info.proofs.Ranges.{same-family, in-kinds, few-kinds, arity-of}
+use Rattle.group_info.specs.declared.FoundInfo.the-variants as info
+use Rattle.group_info.specs.declared.QueryGroupInfo.the-variants as query
+use Rattle.group_info.specs.declared.FoundQuery.the-variants as added
 
 one-bit : (q p : ℕ) → has q (p ∷ []) ≡ eqb q p
 unfolding has
@@ -39,7 +39,7 @@ one-bit q p = or-false (eqb q p)
 module _ (a : Arrays) (good : WellFormed a) (sized : Sized a) where
   -- ---- one kind
 
-  pub of-kind : (k f own place : ℕ) (r : GroupInfo) → Placed a k f own place → KindInfo (startOf (a .ends) f) (startOf (a .ends) f + own) place r → InFamily a f (k ∷ []) r
+  pub of-kind : (k f own place : ℕ) (r : GroupInfo) → Placed a k f own place → KindInfo (startOf (a .ends) f) (startOf (a .ends) f + own) place r → InfoOfKinds a f (k ∷ []) r
   of-kind k f own place r p i =
       record {
         own = own;
@@ -101,7 +101,7 @@ module _ (a : Arrays) (good : WellFormed a) (sized : Sized a) where
   arity-le f i j h l b =
       by-eq i j (λ e. rw e (omega arith)) (λ ne. omega (arith, rising-less 0 (length (kindsAt a f)) (aritiesAt a f) i j (family-rising a good sized f h) (omega arith) b))
 
-  pub joined-kinds : (f : ℕ) (hs js : List ℕ) (i j r : GroupInfo) → InFamily a f hs i → InFamily a f js j → Joined i j r → InFamily a f (hs ++ js) r
+  pub joined-kinds : (f : ℕ) (hs js : List ℕ) (i j r : GroupInfo) → InfoOfKinds a f hs i → InfoOfKinds a f js j → Joined i j r → InfoOfKinds a f (hs ++ js) r
   joined-kinds f hs js i j r x y w = elim (decLe (x .own) (y .own)) [ yes l ↦ later l | no l ↦ earlier (omega arith) ]
     where
       places : (p : ℕ) → p < 16 → has p (placesOf r) ≡ (ltb p (length (kindsAt a f)) && mem (getD (kindsAt a f) p 0) (hs ++ js))
@@ -116,7 +116,7 @@ module _ (a : Arrays) (good : WellFormed a) (sized : Sized a) where
           (λ u. mem-take-le k (kindsAt a f) (getD (aritiesAt a f) (x .own) 0) (getD (aritiesAt a f) m 0) (arity-le f (x .own) m (x .inside) p b) (x .below k u))
           (λ u. mem-take-le k (kindsAt a f) (getD (aritiesAt a f) (y .own) 0) (getD (aritiesAt a f) m 0) (arity-le f (y .own) m (x .inside) q b) (y .below k u))
 
-      later : x .own ≤ y .own → InFamily a f (hs ++ js) r
+      later : x .own ≤ y .own → InfoOfKinds a f (hs ++ js) r
       later l =
           record {
             own = y .own;
@@ -131,7 +131,7 @@ module _ (a : Arrays) (good : WellFormed a) (sized : Sized a) where
             places = places;
           }
 
-      earlier : y .own ≤ x .own → InFamily a f (hs ++ js) r
+      earlier : y .own ≤ x .own → InfoOfKinds a f (hs ++ js) r
       earlier l =
           record {
             own = x .own;
@@ -181,7 +181,7 @@ module _ (a : Arrays) (good : WellFormed a) (sized : Sized a) where
       let x′ : GroupedKinds a hs (w .left) = subst (Holds hs) (w .isLeft) x in
       let y′ : GroupedKinds a js (w .right) = subst (Holds js) (w .isRight) y in
       let same : y′ .family ≡ x′ .family = same-family a good sized (y′ .family) (x′ .family) (y′ .kinds .inside) (x′ .kinds .inside) (sym (y′ .kinds .first) ∙ sym (w .joined .same) ∙ x′ .kinds .first) in
-      record { family = x′ .family; kinds = joined-kinds (x′ .family) hs js (w .left) (w .right) r (x′ .kinds) (subst (λ (f : ℕ). InFamily a f js (w .right)) same (y′ .kinds)) (w .joined) }
+      record { family = x′ .family; kinds = joined-kinds (x′ .family) hs js (w .left) (w .right) r (x′ .kinds) (subst (λ (f : ℕ). InfoOfKinds a f js (w .right)) same (y′ .kinds)) (w .joined) }
 
   of-view : (k : ℕ) (x : FoundInfo) → InfoOfKind a k x → Holds (k ∷ []) x
   of-view k (info.Info i) g = g
@@ -211,7 +211,7 @@ module _ (a : Arrays) (good : WellFormed a) (sized : Sized a) where
 
     -- ---- its groups stand in the arrays
 
-    inside : (f : ℕ) (hs : List ℕ) (i : GroupInfo) → InFamily a f hs i → Inside (a .arities) i
+    inside : (f : ℕ) (hs : List ℕ) (i : GroupInfo) → InfoOfKinds a f hs i → Inside (a .arities) i
     inside f hs i x =
         let len = arities-length a good sized f (x .inside) in
         let top = groups-inside a good f (x .inside) in
@@ -233,7 +233,7 @@ module _ (a : Arrays) (good : WellFormed a) (sized : Sized a) where
         at : (g : ℕ) → i .«group_start» ≤ g → g < i .«group_end» → getD (a .arities) g 0 ≡ getD (aritiesAt a f) (g - startOf (a .ends) f) 0
         at g l h =
             let e : startOf (a .ends) f + (g - startOf (a .ends) f) ≡ g = omega (arith, x .first) in
-            ap (λ (m : ℕ). getD (a .arities) m 0) (sym e) ∙ arity-at a good sized f (g - startOf (a .ends) f) (x .inside) (local g l h)
+            ap (λ (m : ℕ). getD (a .arities) m 0) (sym e) ∙ arity-of a good sized f (g - startOf (a .ends) f) (x .inside) (local g l h)
 
     inside-kind : (k : ℕ) (x : FoundInfo) → InfoOfKind a k x → InsideFound (a .arities) x
     inside-kind k (info.Info i) g = inside (g .family) (k ∷ []) i (g .kinds)

@@ -97,15 +97,6 @@ elsewhere a good k f i hf hi ne m =
 
 -- ---- one family's groups
 
--- where the group at j starts among the kinds
-abbrev startFrom : ℕ → List ℕ → ℕ → ℕ
-startFrom b ars zero = b
-startFrom b ars (suc j) = getD ars j 0
-
-pub start-zero : (ars : List ℕ) (j : ℕ) → startFrom 0 ars j ≡ startOf ars j
-start-zero ars zero = refl
-start-zero ars (suc j) = refl
-
 -- the first place past those before b is none of theirs
 pub next-kind : (ks : List ℕ) → KindSet ks → (b a : ℕ) → b < a → a ≤ length ks → (mem (getD ks b 0) (take a ks) ≡ true) × (mem (getD ks b 0) (take b ks) ≡ false)
 next-kind ks s b a h l =
@@ -138,7 +129,7 @@ module _ (hs bs counts ks : List ℕ) (s : KindSet ks) where
 
   -- kinds up to the group at j, one of them new there: they equal that group or none
   pub at-group : (g b : ℕ) (ars : List ℕ) (j top : ℕ) → Rising b (length ks) ars → j < length ars
-      → ((k : ℕ) → mem k hs ≡ true → mem k (take (getD ars j 0) ks) ≡ true) → mem top hs ≡ true → mem top (take (startFrom b ars j) ks) ≡ false
+      → ((k : ℕ) → mem k hs ≡ true → mem k (take (getD ars j 0) ks) ≡ true) → mem top hs ≡ true → mem top (take (getD (b ∷ ars) j 0) ks) ≡ false
       → rangeIn hs bs (take b ks) (groupsFrom counts g ks b ars)
       ≡ cond (sameSet hs (take (getD ars j 0) ks)) (rangeAt bs (getD counts (g + j) 0) (groupsFrom counts (suc (g + j)) ks (getD ars j 0) (drop (suc j) ars))) none
   at-group g b [] j top r h below m n = absurd (omega arith)
@@ -151,16 +142,12 @@ module _ (hs bs counts ks : List ℕ) (s : KindSet ks) where
       let out : mem top (take a ks) ≡ false = not-in-take top ks a (getD (a ∷ ars) j 0) (first a ars j (p .1) (omega arith)) n in
       in-step g b a ars (omega (arith, p .0))
       ∙ rw (differ-left hs (take a ks) top m out)
-      (at-group (suc g) a ars j top (p .1) (omega arith) below m (shift j n) ∙ ap (λ (i : ℕ). cond (sameSet hs (take (getD ars j 0) ks)) (rangeAt bs (getD counts i 0) (groupsFrom counts (suc i) ks (getD ars j 0) (drop (suc j) ars))) none) (suc-add g j ∙ sym (add-suc g j)))
+      (at-group (suc g) a ars j top (p .1) (omega arith) below m n ∙ ap (λ (i : ℕ). cond (sameSet hs (take (getD ars j 0) ks)) (rangeAt bs (getD counts i 0) (groupsFrom counts (suc i) ks (getD ars j 0) (drop (suc j) ars))) none) (suc-add g j ∙ sym (add-suc g j)))
     where
       first : (a : ℕ) (ars : List ℕ) (j : ℕ) → Rising a (length ks) ars → j < suc (length ars) → a ≤ getD (a ∷ ars) j 0
       first a ars zero r h = omega arith
       first a [] (suc j) r h = absurd (omega arith)
       first a (c ∷ ars) (suc j) r h = let q = rising-head a (length ks) c ars r in omega (arith, q .0, first c ars j (q .1) (omega arith))
-
-      shift : (j : ℕ) → mem top (take (getD (a ∷ ars) j 0) ks) ≡ false → mem top (take (startFrom a ars j) ks) ≡ false
-      shift zero n = n
-      shift (suc j) n = n
 
   -- no kinds equal no group
   pub empty-none : (g b : ℕ) (ars : List ℕ) → Rising b (length ks) ars → ((k : ℕ) → mem k hs ≡ false) → rangeIn hs bs (take b ks) (groupsFrom counts g ks b ars) ≡ none

@@ -17,22 +17,23 @@ use Rattle.words.proofs.Part.{getD-between}
 use Rattle.masks.specs.Masks.{upFrom}
 use Rattle.masks.proofs.Lists.{and-parts}
 use Rattle.layout.specs.Layout.{Arrays, Sized, startOf, kindsAt, aritiesAt, groupsFrom, familiesOf, KindSet, Rising, WellFormed}
-use Rattle.layout.proofs.Family.{rising-at, rising-above, rising-less}
-use Rattle.layout.proofs.Arrays.{group-order, ends-rise, families-length, families-at, family-kindsOf, family-kinds, family-rising, kinds-length, arities-length}
+use Rattle.layout.specs.Group.{arityOf}
+use Rattle.layout.proofs.Family.{rising-at, rising-less, start-prior, rising-step}
+use Rattle.layout.proofs.Arrays.{families-length, families-at, family-kindsOf, family-kinds, family-rising, kinds-length, arities-length}
 use Rattle.group_info.specs.Info.{placesOf, IncludeSays, topOf, NextGroup, NextGroupRange, ExcludeSays}
-use Rattle.group_info.specs.Describes.{InFamily, rangeOf}
+use Rattle.group_info.specs.Describes.{rangeOf, InfoOfKinds}
 use Rattle.group_info.specs.declared.GroupInfo.{GroupInfo}
 use Rattle.group_info.specs.declared.GroupRange.{GroupRange}
-use Rattle.group_info.specs.declared.GroupRange.the-variants as ranged
 use Rattle.group_info.proofs.Places.{placeOf, part-mem, mem-part, places-of-part, part-of-places}
-use Rattle.group_info.proofs.Families.{lacks-staged, lacks-excluded, all-none, only-one, elsewhere, start-zero, next-kind, at-group, empty-none, next-new-kinds, no-next}
+use Rattle.group_info.proofs.Families.{lacks-staged, lacks-excluded, all-none, only-one, elsewhere, next-kind, at-group, empty-none, next-new-kinds, no-next}
+use Rattle.layout.proofs.Groups as groups
+use Rattle.group_info.specs.declared.GroupRange.the-variants as ranged
 
 -- ---- one family: which group its own is
 
 module _ (ks ars : List ℕ) (s : KindSet ks) (r : Rising 0 (length ks) ars) where
   start-below : (j : ℕ) → j < length ars → startOf ars j < getD ars j 0
-  start-below zero h = rising-above 0 (length ks) ars 0 r h
-  start-below (suc j) h = rising-less 0 (length ks) ars j (suc j) r (omega arith) h
+  start-below j h = omega (arith, rising-step 0 (length ks) ars j r h, start-prior ars j)
 
   -- a smaller group's kinds are all before a larger group's new ones
   before-start : (i j : ℕ) → i < j → j < length ars → getD ars i 0 ≤ startOf ars j
@@ -92,19 +93,14 @@ module _ (a : Arrays) (good : WellFormed a) (sized : Sized a) where
   -- two families that start at one group are one
   pub same-family : (f g : ℕ) → f < a .families → g < a .families → startOf (a .ends) f ≡ startOf (a .ends) g → f ≡ g
   same-family f g hf hg e =
-      elim (decLt f g) [
-        | yes l ↦ absurd (omega (arith, good .family f hf .some, ends-rise (a .ends) g (λ i u. group-order a good i (omega arith)) (suc f) l))
-        | no l ↦ elim (decLt g f) [
-          | yes q ↦ absurd (omega (arith, good .family g hg .some, ends-rise (a .ends) f (λ i u. group-order a good i (omega arith)) (suc g) q))
-          | no q ↦ omega arith
-        ]
-      ]
+      groups.same-family a good f g (startOf (a .ends) f) (record { family = hf; low = omega arith; high = good .family f hf .some })
+      (record { family = hg; low = omega arith; high = omega (arith, good .family g hg .some) })
 
   -- an arity of a family stands in the array of all arities
-  pub arity-at : (f j : ℕ) → f < a .families → j < length (aritiesAt a f) → getD (a .arities) (startOf (a .ends) f + j) 0 ≡ getD (aritiesAt a f) j 0
-  arity-at f j h l = sym (getD-between (startOf (a .ends) f) (getD (a .ends) f 0) j (a .arities) 0 (omega (arith, arities-length a good sized f h)))
+  pub arity-of : (f j : ℕ) → f < a .families → j < length (aritiesAt a f) → arityOf a (startOf (a .ends) f + j) ≡ getD (aritiesAt a f) j 0
+  arity-of f j h l = sym (groups.arity-at a f j (omega (arith, arities-length a good sized f h)))
 
-  module _ (f : ℕ) (hs : List ℕ) (i : GroupInfo) (x : InFamily a f hs i) where
+  module _ (f : ℕ) (hs : List ℕ) (i : GroupInfo) (x : InfoOfKinds a f hs i) where
     pub in-kinds : (k : ℕ) → mem k hs ≡ true → mem k (kindsAt a f) ≡ true
     in-kinds k m = mem-take k (getD (aritiesAt a f) (x .own) 0) (kindsAt a f) (x .below k m)
 
@@ -171,7 +167,7 @@ module _ (a : Arrays) (good : WellFormed a) (sized : Sized a) where
         (λ i l. let h : i < a .families = omega (arith, families-length counts a) in
         ap (rangeIn [] bs []) (families-at counts a i h) ∙ empty-none [] bs counts (kindsAt a i) (family-kinds a good i h) (startOf (a .ends) i) 0 (aritiesAt a i) (family-rising a good sized i h) (λ k. refl))
 
-    module _ (f : ℕ) (hs bs : List ℕ) (i : GroupInfo) (x : InFamily a f hs i) where
+    module _ (f : ℕ) (hs bs : List ℕ) (i : GroupInfo) (x : InfoOfKinds a f hs i) where
       abbrev ks : List ℕ
       ks = kindsAt a f
 
@@ -188,15 +184,15 @@ module _ (a : Arrays) (good : WellFormed a) (sized : Sized a) where
           (λ j l ne. lacks-staged hs bs [] (getD fs j []) (x .top) (x .topIn) (ap (mem (x .top)) (family-kinds-of j l) ∙ elsewhere a good (x .top) f j (x .inside) (omega (arith, families-length counts a)) ne (in-kinds f hs i x (x .top) (x .topIn))))
           ∙ ap (rangeIn hs bs []) (families-at counts a f (x .inside))
           ∙ at-group hs bs counts ks (family-kinds a good f (x .inside)) (startOf (a .ends) f) 0 ars (x .own) (x .top) (family-rising a good sized f (x .inside)) (x .group) (x .below) (x .topIn)
-          (ap (λ (n : ℕ). mem (x .top) (take n ks)) (start-zero ars (x .own)) ∙ x .topNew)
+          (ap (λ (n : ℕ). mem (x .top) (take n ks)) (sym (start-prior ars (x .own))) ∙ x .topNew)
 
     -- no bar
-    module _ (f : ℕ) (hs : List ℕ) (i : GroupInfo) (x : InFamily a f hs i) where
+    module _ (f : ℕ) (hs : List ℕ) (i : GroupInfo) (x : InfoOfKinds a f hs i) where
       last-group : i .«group_end» - 1 ≡ startOf (a .ends) f + x .own
       last-group = omega (arith, x .last)
 
       last-arity : getD (a .arities) (i .«group_end» - 1) 0 ≡ getD (aritiesAt a f) (x .own) 0
-      last-arity = ap (λ (j : ℕ). getD (a .arities) j 0) last-group ∙ arity-at f (x .own) (x .inside) (x .group)
+      last-arity = ap (λ (j : ℕ). getD (a .arities) j 0) last-group ∙ arity-of f (x .own) (x .inside) (x .group)
 
       pub include-range : (r : GroupRange) → IncludeSays (a .arities) counts i r → rangeOf r ≡ rangeAll hs [] fs
       include-range (ranged.Found p q) w =
@@ -207,12 +203,12 @@ module _ (a : Arrays) (good : WellFormed a) (sized : Sized a) where
           sym (family-range f hs [] i x ∙ rw e)
 
     -- a bar
-    module _ (f h : ℕ) (hs : List ℕ) (b : ℕ) (bs : List ℕ) (i e : GroupInfo) (x : InFamily a f hs i) (y : InFamily a h (b ∷ bs) e) where
-      own-top : (y′ : InFamily a f (b ∷ bs) e) → topOf i e ≡ startOf (a .ends) f + max (x .own) (y′ .own)
+    module _ (f h : ℕ) (hs : List ℕ) (b : ℕ) (bs : List ℕ) (i e : GroupInfo) (x : InfoOfKinds a f hs i) (y : InfoOfKinds a h (b ∷ bs) e) where
+      own-top : (y′ : InfoOfKinds a f (b ∷ bs) e) → topOf i e ≡ startOf (a .ends) f + max (x .own) (y′ .own)
       own-top y′ = omega (arith, x .last, y′ .last)
 
       -- the ring is there: both are of family f, and the bar's own group follows the hand's
-      next-found : (y′ : InFamily a f (b ∷ bs) e) → (p q : ℕ) → NextGroupRange (a .arities) counts i e p q → found p q ≡ rangeAll hs (b ∷ bs) fs
+      next-found : (y′ : InfoOfKinds a f (b ∷ bs) e) → (p q : ℕ) → NextGroupRange (a .arities) counts i e p q → found p q ≡ rangeAll hs (b ∷ bs) fs
       next-found y′ p q w =
           let m = max (x .own) (y′ .own) in
           let ars = aritiesAt a f in
@@ -221,8 +217,8 @@ module _ (a : Arrays) (good : WellFormed a) (sized : Sized a) where
           let t = own-top y′ in
           let later : 1 ≤ m = omega (arith, w .next .later, x .first) in
           let pred : suc (m - 1) ≡ m = omega arith in
-          let before : getD (a .arities) (topOf i e - 1) 0 ≡ getD ars (m - 1) 0 = ap (λ (j : ℕ). getD (a .arities) j 0) (omega arith) ∙ arity-at f (m - 1) (x .inside) (omega arith) in
-          let at : getD (a .arities) (topOf i e) 0 ≡ getD ars m 0 = ap (λ (j : ℕ). getD (a .arities) j 0) t ∙ arity-at f m (x .inside) inM in
+          let before : getD (a .arities) (topOf i e - 1) 0 ≡ getD ars (m - 1) 0 = ap (λ (j : ℕ). getD (a .arities) j 0) (omega arith) ∙ arity-of f (m - 1) (x .inside) (omega arith) in
+          let at : getD (a .arities) (topOf i e) 0 ≡ getD ars m 0 = ap (λ (j : ℕ). getD (a .arities) j 0) t ∙ arity-of f m (x .inside) inM in
           let start : startOf ars m ≡ getD ars (m - 1) 0 = ap (startOf ars) (sym pred) in
           let equal = places-group f hs i x (m - 1) (omega arith) (w .next .included ∙ ap (upFrom 0) before) in
           let own : x .own ≡ m - 1 = is-group f hs i x (m - 1) (omega arith) equal in
@@ -252,11 +248,11 @@ module _ (a : Arrays) (good : WellFormed a) (sized : Sized a) where
               let topHere : mem (y .top) ks ≡ true =
               ap (λ (k : ℕ). mem k ks) (sym (topAt .there)) ∙ mem-take (getD ks (placeOf (y .top) ks) 0) (getD ars m 0) ks (ap (λ (u : ℕ). mem (getD ks (placeOf (y .top) ks) 0) (take u ks)) (sym (sub-zero (getD ars m 0))) ∙ part-mem ks sets 0 (getD ars m 0) (omega arith) (arity-inside f hs i x m inM) (placeOf (y .top) ks) (omega arith) (topAt .high)) in
               let same : h ≡ f = family topHere in
-              let y′ = subst (λ (z : ℕ). InFamily a z (b ∷ bs) e) same y in
+              let y′ = subst (λ (z : ℕ). InfoOfKinds a z (b ∷ bs) e) same y in
               let own : y′ .own ≡ m = is-new-kinds f (b ∷ bs) e y′ m inM t in
               let t₁ = own-top y′ in
-              let before : getD (a .arities) (topOf i e - 1) 0 ≡ getD ars (x .own) 0 = ap (λ (j : ℕ). getD (a .arities) j 0) (omega arith) ∙ arity-at f (x .own) (x .inside) (x .group) in
-              let at : getD (a .arities) (topOf i e) 0 ≡ getD ars m 0 = ap (λ (j : ℕ). getD (a .arities) j 0) (omega arith) ∙ arity-at f m (x .inside) inM in
+              let before : getD (a .arities) (topOf i e - 1) 0 ≡ getD ars (x .own) 0 = ap (λ (j : ℕ). getD (a .arities) j 0) (omega arith) ∙ arity-of f (x .own) (x .inside) (x .group) in
+              let at : getD (a .arities) (topOf i e) 0 ≡ getD ars m 0 = ap (λ (j : ℕ). getD (a .arities) j 0) (omega arith) ∙ arity-of f m (x .inside) inM in
               n (record {
                 same = x .first ∙ sym (y′ .first);
                 later = omega (arith, x .first);
@@ -272,7 +268,7 @@ module _ (a : Arrays) (good : WellFormed a) (sized : Sized a) where
       pub exclude-range : (r : GroupRange) → ExcludeSays (a .arities) counts i e r → rangeOf r ≡ rangeAll hs (b ∷ bs) fs
       exclude-range (ranged.Found p q) w =
           let same : h ≡ f = same-family h f (y .inside) (x .inside) (sym (y .first) ∙ sym (w .next .same) ∙ x .first) in
-          next-found (subst (λ (z : ℕ). InFamily a z (b ∷ bs) e) same y) p q w
+          next-found (subst (λ (z : ℕ). InfoOfKinds a z (b ∷ bs) e) same y) p q w
       exclude-range ranged.Nothing w =
           sym (family-range f hs (b ∷ bs) i x
           ∙ bool-cases (sameSet hs (take (getD (aritiesAt a f) (x .own) 0) (kindsAt a f)))

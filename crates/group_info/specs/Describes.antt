@@ -27,7 +27,7 @@ pub record Placed (a : Arrays) (k f own place : ℕ) : Type 0 where
   pub kind : getD (kindsAt a f) place 0 ≡ k
 
 -- the info of kinds of family f: own is the largest of their own groups, counted in the family, and top a kind of that group
-pub record InFamily (a : Arrays) (f : ℕ) (hs : List ℕ) (i : GroupInfo) : Type 0 where
+pub record InfoOfKinds (a : Arrays) (f : ℕ) (hs : List ℕ) (i : GroupInfo) : Type 0 where
   pub own : ℕ
   pub top : ℕ
   pub inside : f < a .families
@@ -41,7 +41,7 @@ pub record InFamily (a : Arrays) (f : ℕ) (hs : List ℕ) (i : GroupInfo) : Typ
 
 pub record GroupedKinds (a : Arrays) (hs : List ℕ) (i : GroupInfo) : Type 0 where
   pub family : ℕ
-  pub kinds : InFamily a family hs i
+  pub kinds : InfoOfKinds a family hs i
 
 -- no family has the kind
 abbrev pub Ungrouped : Arrays → ℕ → Type 0

@@ -1,12 +1,10 @@
 -- What the head of a kind's column says of the layout in force: the group whose new kinds have the kind, and its place in the family. Assumes nothing.
 use mathlib.Core.Path.{_≡_, sym, ap, _∙_, subst}
-use mathlib.Core.Bool.{false, cond}
+use mathlib.Core.Bool.{false}
 use mathlib.Core.List.{List, [], _∷_}
-use Prim.Native.Nat.{ℕ, zero, suc, _+_, _-_, _≤_, _<_}
+use Prim.Native.Nat.{ℕ, suc, _+_, _-_, _≤_, _<_}
 use native.Mathlib.Omega.{arith}
 use native.Mathlib.Decide.{decLt}
-use borrow.Author.Tests.{lt-ltb, le-ltb}
-use lib.Dec.{ltb}
 use lib.ListN.{length, getD, take}
 use lib.Seq.{getD-take, length-take-le}
 use Rattle.model.specs.Model.{mem}
@@ -14,41 +12,16 @@ use Rattle.model.specs.Sound.{In}
 use Rattle.model.proofs.BoolLaws.{not-true}
 use Rattle.words.proofs.Part.{getD-between}
 use Rattle.layout.specs.Layout.{Arrays, startOf, widthOf, kindsAt, aritiesAt, Rising, WellFormed}
-use Rattle.layout.proofs.Arrays.{end-inside, group-order, groups-inside, kinds-length, arities-length, family-rising}
+use Rattle.layout.specs.Group.{InFamily, arityOf, priorArity, memberAt}
+use Rattle.layout.proofs.Arrays.{groups-inside, kinds-length, arities-length, family-rising}
+use Rattle.layout.proofs.Groups.{spot, same-family, prior-at, arity-at}
 use Rattle.memory.specs.Header.{layoutGroups, slotOf, groupFamilyAt}
 use Rattle.memory.specs.Meaning.{ownAt, localAt, layoutArrays, meaning}
-use Rattle.memory.specs.Arranged.{priorArity, memberAt, Arranged}
+use Rattle.memory.specs.Arranged.{Arranged}
 use Rattle.memory.proofs.Frames.{layout-sized}
 use Rattle.kinds.proofs.Slot.{in-list, known-slot}
 
--- ---- the family and the group that have a place
-
--- number `number` has place j, of n whose ends are es
-pub record Spot (es : List ℕ) (n j : ℕ) : Type 0 where
-  pub number : ℕ
-  pub below : number < n
-  pub low : startOf es number ≤ j
-  pub high : j < getD es number 0
-
-spot : (es : List ℕ) (n j : ℕ) → j < startOf es n → Spot es n j
-spot es zero j h = absurd (omega arith)
-spot es (suc n) j h =
-    elim (decLt j (startOf es n)) [
-      | yes l ↦ let r = spot es n j l in record { number = r .number; below = omega (arith, r .below); low = r .low; high = r .high }
-      | no l ↦ record { number = n; below = omega arith; low = omega arith; high = h }
-    ]
-
-spot-once : (es : List ℕ) (n : ℕ) → ((i : ℕ) → i < n → startOf es i ≤ getD es i 0) → (f f′ j : ℕ) → f < n → f′ < n
-    → startOf es f ≤ j → j < getD es f 0 → startOf es f′ ≤ j → j < getD es f′ 0 → f′ ≡ f
-spot-once es n o f f′ j hf hf′ l h l′ h′ =
-    elim (decLt f f′) [
-      | yes q ↦ absurd (omega (arith, end-inside es f′ (λ i b. o i (omega arith)) f q))
-      | no q ↦
-          elim (decLt f′ f) [
-            | yes p ↦ absurd (omega (arith, end-inside es f (λ i b. o i (omega arith)) f′ p))
-            | no p ↦ omega arith
-          ]
-    ]
+-- ---- the group that has a place
 
 -- the first of the arities, which rise from b, that is above j
 pub record Level (b : ℕ) (ars : List ℕ) (j : ℕ) : Type 0 where
@@ -68,26 +41,13 @@ level b n (a ∷ rest) j r l h =
           record { number = suc (t .number); below = omega (arith, t .below); low = t .low; high = t .high }
     ]
 
-prior-is : (a : Arrays) (f g : ℕ) → priorArity a f g ≡ cond (ltb (startOf (a .ends) f) g) (getD (a .arities) (g - 1) 0) 0
-prior-is a f zero = rw (le-ltb (startOf (a .ends) f) 0 (omega arith))
-prior-is a f (suc g) = let e : suc g - 1 ≡ g = omega arith in rw e
-
--- the arity before that of the family's group i
-pub prior-at : (a : Arrays) (f i : ℕ) → startOf (a .ends) f + i < getD (a .ends) f 0 → priorArity a f (startOf (a .ends) f + i) ≡ getD (0 ∷ aritiesAt a f) i 0
-prior-at a f zero h = prior-is a f (startOf (a .ends) f + 0) ∙ rw (le-ltb (startOf (a .ends) f) (startOf (a .ends) f + 0) (omega arith))
-prior-at a f (suc i) h =
-    let s = startOf (a .ends) f in
-    let e : s + suc i - 1 ≡ s + i = omega arith in
-    prior-is a f (s + suc i)
-    ∙ rw (lt-ltb s (s + suc i) (omega arith)) (ap (λ (g : ℕ). getD (a .arities) g 0) e ∙ sym (getD-between s (getD (a .ends) f 0) i (a .arities) 0 (omega arith)))
-
 -- ---- the layout in force
 
 -- kind k is a new kind of group g, and the head of its column has its place
 pub record Owned (w : List ℕ) (k g : ℕ) : Type 0 where
   pub group : g < layoutGroups w
   pub low : priorArity (layoutArrays w) (groupFamilyAt w g) g ≤ localAt w (slotOf w k)
-  pub high : localAt w (slotOf w k) < getD (layoutArrays w .arities) g 0
+  pub high : localAt w (slotOf w k) < arityOf (layoutArrays w) g
   pub member : memberAt (layoutArrays w) (groupFamilyAt w g) (localAt w (slotOf w k)) ≡ k
 
 -- place j of the layout's kinds is place `local` of the family of group `group`, among the group's new kinds
@@ -97,7 +57,7 @@ pub record Placed (w : List ℕ) (j : ℕ) : Type 0 where
   pub real : group < layoutGroups w
   pub place : startOf (layoutArrays w .kindEnds) (groupFamilyAt w group) + local ≡ j
   pub low : priorArity (layoutArrays w) (groupFamilyAt w group) group ≤ local
-  pub high : local < getD (layoutArrays w .arities) group 0
+  pub high : local < arityOf (layoutArrays w) group
 
 pub record InGroup (w : List ℕ) (k : ℕ) : Type 0 where
   pub group : ℕ
@@ -116,17 +76,17 @@ module _ (w : List ℕ) (A : Arranged w) where
       → getD (0 ∷ aritiesAt a f) i 0 ≤ j - startOf (a .kindEnds) f → j - startOf (a .kindEnds) f < getD (aritiesAt a f) i 0 → Placed w j
   placed-in j f i hf le hi low high =
       let inside : startOf (a .ends) f + i < getD (a .ends) f 0 = omega (arith, arities-length a good (layout-sized w A) f hf) in
+      let here : InFamily a f (startOf (a .ends) f + i) = record { family = hf; low = omega arith; high = inside } in
       let real : startOf (a .ends) f + i < layoutGroups w = omega (arith, groups-inside a good f hf, A .layout .count) in
-      let G = A .layout .groups (startOf (a .ends) f + i) real in
       let same : groupFamilyAt w (startOf (a .ends) f + i) ≡ f =
-      spot-once (a .ends) (a .families) (group-order a good) f (groupFamilyAt w (startOf (a .ends) f + i)) (startOf (a .ends) f + i) hf (G .family) (omega arith) inside (G .low) (G .high) in
+      same-family a good (groupFamilyAt w (startOf (a .ends) f + i)) f (startOf (a .ends) f + i) (A .layout .groups (startOf (a .ends) f + i) real .group) here in
       record {
         group = startOf (a .ends) f + i;
         local = j - startOf (a .kindEnds) f;
         real = real;
         place = ap (λ (x : ℕ). startOf (a .kindEnds) x + (j - startOf (a .kindEnds) f)) same ∙ omega arith;
-        low = rw (same, prior-at a f i inside) low;
-        high = rw (getD-between (startOf (a .ends) f) (getD (a .ends) f 0) i (a .arities) 0 inside) at high;
+        low = rw (same, prior-at (a .arities) (startOf (a .ends) f) (getD (a .ends) f 0) i 0 (omega (arith, inside))) low;
+        high = rw (arity-at a f i inside) at high;
       }
 
   placed : (j : ℕ) → j < widthOf a → Placed w j

@@ -25,9 +25,10 @@ use Rattle.component.proofs.Parts.{lent}
 use Rattle.component.proofs.Frames.{headed, front-column, front-columns}
 use Rattle.entity.specs.Change.{entityPart, entitiesIn}
 use Rattle.layout.specs.Layout.{Arrays, WellFormed, widthOf, groupCount, familiesOf}
+use Rattle.layout.specs.Group.{memberAt}
 use Rattle.memory.specs.Header.{capacityOf, kindCapacityOf, registeredOf, layoutGroups, slotOf, groupFamilyAt}
 use Rattle.memory.specs.Meaning.{kindAt, ownAt, kindsIn, setAt, setsIn, draftArrays, layoutArrays, draftIn, layoutIn, controlIn, meaning}
-use Rattle.memory.specs.Arranged.{TableSound, Registered, memberAt, GroupSound, LayoutSound, Arranged, Becomes}
+use Rattle.memory.specs.Arranged.{TableSound, Registered, GroupSound, LayoutSound, Arranged, Becomes}
 use Rattle.memory.proofs.Frames.{start-header, part-same, draft-arrays-same, layout-arrays-same, counts-same, staged-same, excluded-same, settings-kept, counts-kept, long, reads-means}
 use Rattle.model.proofs.ListLaws.{drop-later, word-front}
 use Rattle.kinds.specs.Steps.{withHead}
@@ -175,9 +176,7 @@ module _ (w w′ : List ℕ) (A : Arranged w) (k : ℕ) (hk : k < MAX-KINDS) (ne
   group-new : (a : Arrays) (g f : ℕ) → GroupSound w a g f → GroupSound w′ a g f
   group-new a g f G =
       record {
-        family = G .family;
-        low = G .low;
-        high = G .high;
+        group = G .group;
         known = λ j h. registered-new (memberAt a f j) (G .known j h);
         own = λ j l h. head-member (memberAt a f j) (G .known j h) 2 ∙ G .own j l h;
         local = λ j l h. head-member (memberAt a f j) (G .known j h) 3 ∙ G .local j l h;

@@ -1,8 +1,8 @@
--- The kinds and arities of a well-formed layout: no two new kinds of groups have the same place. Assumes nothing.
+-- The kinds of a well-formed layout: no two new kinds of groups have the same place. Assumes nothing.
 use mathlib.Core.Path.{_≡_, sym, ap, _∙_, subst}
 use mathlib.Core.Logic.{_≢_}
 use mathlib.Core.List.{List, [], _∷_}
-use Prim.Native.Nat.{ℕ, zero, suc, _+_, _-_, _≤_, _<_}
+use Prim.Native.Nat.{ℕ, zero, suc, _≤_, _<_}
 use native.Mathlib.Nat.{le-of-suc-le-suc, not-suc-le-zero}
 use native.Mathlib.Omega.{arith}
 use native.Mathlib.Decide.{decLt}
@@ -16,12 +16,11 @@ use Rattle.model.proofs.KindLists.{at-in}
 use Rattle.model.proofs.ListLaws.{at-count}
 use Rattle.model.proofs.BoolLaws.{by-eq}
 use Rattle.words.proofs.Part.{getD-between}
-use Rattle.layout.specs.Layout.{Arrays, Sized, startOf, widthOf, aritiesAt, Rising, WellFormed}
-use Rattle.layout.proofs.Arrays.{ends-rise, kind-order, kinds-inside, arities-length}
-use Rattle.memory.specs.Arranged.{priorArity}
-use Rattle.memory.proofs.Prior.{prior-low, prior-next}
-use Rattle.group.proofs.FlatArrays.{rising-at}
-use Rattle.layout_apply.specs.Heads.{InFamily, NewAt, placeNo}
+use Rattle.layout.specs.Layout.{Arrays, Sized, startOf, widthOf, WellFormed}
+use Rattle.layout.specs.Group.{InFamily, arityOf}
+use Rattle.layout.proofs.Arrays.{ends-rise, kind-order, kinds-inside}
+use Rattle.layout.proofs.Groups.{arity-inside, arity-order}
+use Rattle.layout_apply.specs.Heads.{NewAt, placeNo}
 
 -- ---- kinds once each
 
@@ -57,96 +56,17 @@ module _ (a : Arrays) (good : WellFormed a) (sized : Sized a) where
   kinds-apart p q hp hq ne e =
       distinct-at used (good .kinds .once) p q (omega (arith, used-length)) (omega (arith, used-length)) ne (used-at p hp ∙ e ∙ sym (used-at q hq))
 
--- ---- a list of arities that rise
-
--- the last is all
-rising-last : (b n : ℕ) (ars : List ℕ) → Rising b n ars → getD (b ∷ ars) (length ars) 0 ≡ n
-unfolding Rising
-rising-last b n [] r = r
-rising-last b n (a ∷ ars) r = rising-last a n ars (r .1)
-
-rising-order : (b n : ℕ) (ars : List ℕ) → Rising b n ars → (i j : ℕ) → i < j → j ≤ length ars → getD ars i 0 ≤ getD (b ∷ ars) j 0
-rising-order b n ars r i zero h l = absurd (omega arith)
-rising-order b n ars r i (suc j) h l =
-    by-eq i j (λ e. rw e (omega arith)) (λ ne. omega (arith, rising-order b n ars r i j (omega arith) (omega arith), rising-at b n ars r j (omega arith) .0))
-
--- ---- a family's groups
-
-module _ (a : Arrays) (good : WellFormed a) (sized : Sized a) (f : ℕ) (hf : f < a .families) where
-  abbrev first : ℕ
-  first = startOf (a .ends) f
-
-  abbrev end : ℕ
-  end = getD (a .ends) f 0
-
-  abbrev size : ℕ
-  size = getD (a .kindEnds) f 0 - startOf (a .kindEnds) f
-
-  rising : Rising 1 size (aritiesAt a f)
-  rising = good .family f hf .rising
-
-  long : length (aritiesAt a f) ≡ end - first
-  long = arities-length a good sized f hf
-
-  arity-at : (i : ℕ) → first + i < end → getD (aritiesAt a f) i 0 ≡ getD (a .arities) (first + i) 0
-  arity-at i h = getD-between first end i (a .arities) 0 h
-
-  -- what stands before place i, but for the first
-  prior-at : (i : ℕ) → first + i ≤ end → (1 ≤ i → priorArity a f (first + i) ≡ getD (1 ∷ aritiesAt a f) i 0)
-  prior-at zero h k = absurd (omega arith)
-  prior-at (suc i) h k =
-      let e : first + suc i ≡ suc (first + i) = omega arith in
-      ap (priorArity a f) e ∙ prior-next a f (first + i) (omega arith) ∙ sym (arity-at i (omega arith))
-
-  module _ (g : ℕ) (low : first ≤ g) (high : g < end) where
-    abbrev i : ℕ
-    i = g - first
-
-    here : first + i ≡ g
-    here = omega arith
-
-    arity : getD (aritiesAt a f) i 0 ≡ getD (a .arities) g 0
-    arity = arity-at i (omega arith) ∙ ap (λ (k : ℕ). getD (a .arities) k 0) here
-
-    pub arity-inside : getD (a .arities) g 0 ≤ size
-    arity-inside = omega (arith, rising-at 1 size (aritiesAt a f) rising i (omega (arith, long)) .1, arity)
-
-    pub prior-less : priorArity a f g < getD (a .arities) g 0
-    prior-less =
-        by-eq g first
-        (λ e. omega (arith, prior-low a f g (omega arith), rising-at 1 size (aritiesAt a f) rising i (omega (arith, long)) .0, arity, zeroth e))
-        (λ ne. omega (arith, ap (priorArity a f) here, prior-at i (omega arith) (omega arith), rising-at 1 size (aritiesAt a f) rising i (omega (arith, long)) .0, arity))
-      where
-        zeroth : g ≡ first → getD (1 ∷ aritiesAt a f) i 0 ≡ 1
-        zeroth e = let z : i ≡ 0 = omega arith in ap (λ (k : ℕ). getD (1 ∷ aritiesAt a f) k 0) z
-
-    -- a later group's new kinds come after
-    pub arity-order : (h : ℕ) → g < h → h ≤ end → getD (a .arities) g 0 ≤ priorArity a f h
-    arity-order h lt le =
-        let j = h - first in
-        let e : first + j ≡ h = omega arith in
-        omega (arith, rising-order 1 size (aritiesAt a f) rising i j (omega arith) (omega (arith, long)), prior-at j (omega arith) (omega arith), ap (priorArity a f) e, arity)
-
-  -- past the last group are all kinds
-  pub prior-end : priorArity a f end ≡ size
-  prior-end =
-      let s : first < end = good .family f hf .some in
-      let j = end - first in
-      let e : first + j ≡ end = omega arith in
-      sym (ap (priorArity a f) e) ∙ prior-at j (omega arith) (omega arith)
-      ∙ ap (λ (k : ℕ). getD (1 ∷ aritiesAt a f) k 0) (sym long) ∙ rising-last 1 size (aritiesAt a f) rising
-
 -- ---- places among all kinds
 
 module _ (a : Arrays) (good : WellFormed a) (sized : Sized a) where
   kind-starts : (f h : ℕ) → f < h → h < a .families → getD (a .kindEnds) f 0 ≤ startOf (a .kindEnds) h
   kind-starts f h l k = ends-rise (a .kindEnds) h (λ i q. kind-order a good i (omega arith)) (suc f) l
 
-  place-inside : (f g : ℕ) → InFamily a f g → (j : ℕ) → j < getD (a .arities) g 0 → placeNo a f j < getD (a .kindEnds) f 0
+  place-inside : (f g : ℕ) → InFamily a f g → (j : ℕ) → j < arityOf a g → placeNo a f j < getD (a .kindEnds) f 0
   place-inside f g G j h =
-      omega (arith, arity-inside a good sized f (G .family) g (G .low) (G .high), kind-order a good f (G .family))
+      omega (arith, arity-inside a good sized f g G)
 
-  pub place-in : (f g : ℕ) → InFamily a f g → (j : ℕ) → j < getD (a .arities) g 0 → placeNo a f j < widthOf a
+  pub place-in : (f g : ℕ) → InFamily a f g → (j : ℕ) → j < arityOf a g → placeNo a f j < widthOf a
   place-in f g G j h = omega (arith, place-inside f g G j h, kinds-inside a good f (G .family))
 
   pub place-below : (f g j : ℕ) → NewAt a f g j → placeNo a f j < widthOf a
@@ -157,8 +77,7 @@ module _ (a : Arrays) (good : WellFormed a) (sized : Sized a) where
 
   same-group : (f g j g′ : ℕ) → NewAt a f g j → NewAt a f g′ j → g < g′ → ⊥
   same-group f g j g′ N N′ l =
-      let G = N .group in
-      omega (arith, arity-order a good sized f (G .family) g (G .low) (G .high) g′ l (omega (arith, N′ .group .high)), N .to, N′ .from)
+      omega (arith, arity-order a good sized f g (N .group) g′ l (omega (arith, N′ .group .high)), N .to, N′ .from)
 
   pub record Same (g j g′ j′ : ℕ) : Type 0 where
     pub group : g ≡ g′

@@ -5,39 +5,22 @@ use Prim.Native.Nat.{ℕ, _+_, _-_, _≤_, _<_}
 use native.Mathlib.Nat.{add-zero}
 use native.Mathlib.Numerals.{add-one}
 use native.Mathlib.Omega.{arith}
-use lib.ListN.{getD, drop}
+use lib.ListN.{getD}
 use Rattle.model.specs.Numbers.{MAX-GROUP-ARITY, MAX-GROUP-COUNT, MAX-KINDS}
-use Rattle.words.specs.Offsets.{ARITIES, BLOCK-LEN, ENDS, GROUP-PLACES, KIND-ENDS, LAYOUT, LAYOUT-ARITIES, LAYOUT-ENDS, LAYOUT-KIND-ENDS, TABLE}
+use Rattle.words.specs.Offsets.{GROUP-PLACES, LAYOUT, LAYOUT-ARITIES, LAYOUT-KIND-ENDS, TABLE}
 use Rattle.component.specs.Columns.{Lent}
 use Rattle.component.proofs.Parts.{lent}
 use Rattle.layout.specs.Layout.{Arrays, startOf, widthOf}
-use Rattle.layout.proofs.Arrays.{kind-order, groups-inside}
+use Rattle.layout.specs.Group.{InFamily, arityOf, priorArity, ReadStart}
+use Rattle.layout.proofs.Arrays.{kind-order}
+use Rattle.layout.proofs.Groups as groups
 use Rattle.layout.proofs.Family.{start-next}
 use Rattle.memory.specs.Header.{capacityOf, kindCapacityOf, slotOf}
 use Rattle.memory.specs.Meaning.{layoutArrays}
-use Rattle.memory.specs.Arranged.{priorArity}
-use Rattle.memory.proofs.Prior.{prior-low, prior-next}
-use Rattle.layout_apply.specs.Heads.{withOwn, Heads, kindNo, slotNo, HeadsReady, InFamily, NewAt, placeNo, Upto, Headed, HeadsGroup}
-use Rattle.layout_apply.proofs.Words.{block-at, block-start}
-use Rattle.layout_apply.proofs.Arities.{prior-end, prior-less, arity-inside, place-below}
+use Rattle.memory.proofs.LayoutWords.{kind-word, arity-word, kind-start-word}
+use Rattle.layout_apply.specs.Heads.{withOwn, Heads, slotNo, HeadsReady, NewAt, placeNo, Upto, Headed, HeadsGroup}
+use Rattle.layout_apply.proofs.Arities.{place-below}
 use Rattle.layout_apply.proofs.HeadSteps.{sized, heads-none, heads-then, ready-kept, capacity-same, arrays-same, slot-small, upto-more}
-
--- ---- what the code reads of the layout's block
-
-pub kind-word : (w : List ℕ) (p : ℕ) → p < MAX-KINDS → kindNo w p ≡ getD w (LAYOUT + p) 0
-kind-word w p h = block-at LAYOUT w 0 MAX-KINDS p (omega arith) (omega arith) ∙ ap (λ (i : ℕ). getD w i 0) (omega arith)
-
-pub arity-word : (w : List ℕ) (g : ℕ) → g < GROUP-PLACES → getD (layoutArrays w .arities) g 0 ≡ getD w (LAYOUT-ARITIES + g) 0
-arity-word w g h = block-at LAYOUT w ARITIES KIND-ENDS g (omega arith) (omega arith) ∙ ap (λ (i : ℕ). getD w i 0) (omega arith)
-
-pub kind-start-word : (w : List ℕ) (f : ℕ) → f ≤ GROUP-PLACES → startOf (layoutArrays w .kindEnds) f ≡ startOf (drop LAYOUT-KIND-ENDS w) f
-kind-start-word w f h = block-start LAYOUT w KIND-ENDS ENDS f (omega arith) (omega arith)
-
-pub start-word : (w : List ℕ) (f : ℕ) → f ≤ GROUP-PLACES → startOf (layoutArrays w .ends) f ≡ startOf (drop LAYOUT-ENDS w) f
-start-word w f h = block-start LAYOUT w ENDS BLOCK-LEN f (omega arith) (omega arith)
-
-pub end-word : (w : List ℕ) (f : ℕ) → f < GROUP-PLACES → getD (layoutArrays w .ends) f 0 ≡ getD w (LAYOUT-ENDS + f) 0
-end-word w f h = block-at LAYOUT w ENDS BLOCK-LEN f (omega arith) (omega arith) ∙ ap (λ (i : ℕ). getD w i 0) (omega arith)
 
 -- ---- one kind's column
 
@@ -59,17 +42,16 @@ module _ (w : List ℕ) (R : HeadsReady w) (p : ℕ) (h : p < widthOf (layoutArr
 
 module _ (w : List ℕ) (R : HeadsReady w) (f g : ℕ) (G : InFamily (layoutArrays w) f g) where
   pub group-few : g < MAX-GROUP-COUNT
-  group-few = omega (arith, groups-inside (layoutArrays w) (R .formed) f (G .family), R .formed .many, G .high)
+  group-few = groups.group-few (layoutArrays w) (R .formed) (sized w (R .long)) f g G
 
   pub family-few : f < MAX-GROUP-COUNT
-  family-few = omega (arith, G .family, R .formed .few)
+  family-few = groups.family-few (layoutArrays w) (R .formed) (sized w (R .long)) f g G
 
-  arity-few : getD (layoutArrays w .arities) g 0 ≤ MAX-GROUP-ARITY
-  arity-few =
-      omega (arith, arity-inside (layoutArrays w) (R .formed) (sized w (R .long)) f (G .family) g (G .low) (G .high), R .formed .family f (G .family) .most)
+  arity-few : arityOf (layoutArrays w) g ≤ MAX-GROUP-ARITY
+  arity-few = omega (arith, groups.arity-inside (layoutArrays w) (R .formed) (sized w (R .long)) f g G, R .formed .family f (G .family) .most)
 
-  prior-few : priorArity (layoutArrays w) f g ≤ getD (layoutArrays w .arities) g 0
-  prior-few = omega (arith, prior-less (layoutArrays w) (R .formed) (sized w (R .long)) f (G .family) g (G .low) (G .high))
+  prior-few : priorArity (layoutArrays w) f g ≤ arityOf (layoutArrays w) g
+  prior-few = omega (arith, groups.prior-less (layoutArrays w) (R .formed) (sized w (R .long)) f g G)
 
 -- w₀ are the words before group g's new kinds; the heads are set up to place j of family f
 pub record Groupwise (w₀ : List ℕ) (n f g start arity : ℕ) (w : List ℕ) (j : ℕ) : Type 0 where
@@ -77,20 +59,20 @@ pub record Groupwise (w₀ : List ℕ) (n f g start arity : ℕ) (w : List ℕ) 
   pub group : InFamily (layoutArrays w₀) f g
   pub capacity : n ≡ capacityOf w₀
   pub starts : start ≡ startOf (layoutArrays w₀ .kindEnds) f
-  pub ends : arity ≡ getD (layoutArrays w₀ .arities) g 0
+  pub ends : arity ≡ arityOf (layoutArrays w₀) g
   pub low : priorArity (layoutArrays w₀) f g ≤ j
   pub high : j ≤ arity
   pub headed : Headed w₀ w (placeNo (layoutArrays w₀) f j)
 
 pub group-none : (w : List ℕ) (n f g prior start arity : ℕ) → HeadsReady w → n ≡ capacityOf w → InFamily (layoutArrays w) f g → prior ≡ priorArity (layoutArrays w) f g
-    → Upto w (placeNo (layoutArrays w) f prior) → start ≡ startOf (drop LAYOUT-KIND-ENDS w) f → arity ≡ getD w (LAYOUT-ARITIES + g) 0 → Groupwise w n f g start arity w prior
+    → Upto w (placeNo (layoutArrays w) f prior) → ReadStart w LAYOUT-KIND-ENDS f start → arity ≡ getD w (LAYOUT-ARITIES + g) 0 → Groupwise w n f g start arity w prior
 group-none w n f g prior start arity R en G ep U es ea =
-    let q : arity ≡ getD (layoutArrays w .arities) g 0 = ea ∙ sym (arity-word w g (omega (arith, group-few w R f g G))) in
+    let q : arity ≡ arityOf (layoutArrays w) g = ea ∙ sym (arity-word w g (omega (arith, group-few w R f g G))) in
     record {
       ready = R;
       group = G;
       capacity = en;
-      starts = es ∙ sym (kind-start-word w f (omega (arith, family-few w R f g G)));
+      starts = es .is ∙ sym (kind-start-word w f (omega (arith, family-few w R f g G)));
       ends = q;
       low = omega arith;
       high = omega (arith, prior-few w R f g G);
@@ -178,7 +160,7 @@ module _ (w₀ : List ℕ) (R : HeadsReady w₀) (f : ℕ) (hf : f < layoutArray
       record {
         low = omega arith;
         high = omega (arith, R .formed .family f hf .some);
-        before = sym (prior-low (layoutArrays w₀) f g (omega arith));
+        before = sym (groups.prior-first (layoutArrays w₀ .arities) (startOf (layoutArrays w₀ .ends) f) g 0 (omega arith));
         headed = record { heads = heads-none w₀ R; upto = subst (Upto w₀) (sym (add-zero (startOf (layoutArrays w₀ .kindEnds) f))) U };
       }
 
@@ -201,7 +183,7 @@ module _ (w₀ : List ℕ) (R : HeadsReady w₀) (f : ℕ) (hf : f < layoutArray
           low = omega (arith, F .low);
           high = omega arith;
           before =
-              M .arity ∙ ap (λ (b : Arrays). getD (b .arities) g 0) (sym q) ∙ sym (prior-next (layoutArrays w₀) f g (F .low))
+              M .arity ∙ ap (λ (b : Arrays). arityOf b g) (sym q) ∙ sym (groups.prior-next (layoutArrays w₀ .arities) (startOf (layoutArrays w₀ .ends) f) g 0 (F .low))
               ∙ ap (priorArity (layoutArrays w₀) f) (sym (add-one g));
           headed =
               record {
@@ -214,7 +196,7 @@ module _ (w₀ : List ℕ) (R : HeadsReady w₀) (f : ℕ) (hf : f < layoutArray
   family-done w g prior F h =
       let e : g ≡ getD (layoutArrays w₀ .ends) f 0 = omega (arith, F .high) in
       let p : prior ≡ getD (layoutArrays w₀ .kindEnds) f 0 - startOf (layoutArrays w₀ .kindEnds) f =
-      F .before ∙ ap (priorArity (layoutArrays w₀) f) e ∙ prior-end (layoutArrays w₀) (R .formed) (sized w₀ (R .long)) f hf in
+      F .before ∙ ap (priorArity (layoutArrays w₀) f) e ∙ groups.prior-end (layoutArrays w₀) (R .formed) (sized w₀ (R .long)) f hf in
       let t : placeNo (layoutArrays w₀) f prior ≡ getD (layoutArrays w₀ .kindEnds) f 0 = omega (arith, kind-order (layoutArrays w₀) (R .formed) f hf) in
       record { heads = F .headed .heads; upto = subst (Upto w) t (F .headed .upto) }
 

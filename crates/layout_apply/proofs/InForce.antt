@@ -1,8 +1,8 @@
 -- The words as the steps leave them are well arranged, and mean the store with the draft in force. Assumes nothing.
-use mathlib.Core.Path.{_≡_, refl, sym, ap, ap₂, _∙_, subst}
+use mathlib.Core.Path.{_≡_, sym, ap, _∙_, subst}
 use mathlib.Core.Logic.{_≢_}
-use mathlib.Core.List.{List, [], _∷_}
-use Prim.Native.Nat.{ℕ, zero, suc, _+_, _*_, _≤_, _<_}
+use mathlib.Core.List.{List, []}
+use Prim.Native.Nat.{ℕ, _+_, _*_, _≤_, _<_}
 use native.Mathlib.Omega.{arith}
 use native.Mathlib.Decide.{decLt}
 use borrow.Author.Tests.{ltb-true}
@@ -10,7 +10,6 @@ use lib.Dec.{ltb}
 use lib.ListN.{length, getD, drop, List·getD-eq-default}
 use lib.Seq.{ext-getD}
 use Rattle.model.specs.Numbers.{ENTITY-LEN, MAX-KINDS}
-use Rattle.model.specs.Model.{Family}
 use Rattle.model.specs.Sound.{In, StoreSound}
 use Rattle.model.proofs.BoolLaws.{bool-cases}
 use Rattle.words.specs.Offsets.{columnStart, BLOCK-LEN, CAPACITY, COLUMN-KIND, DRAFT, DRAFT-FAMILIES, DRAFT-GROUPS, ENTITIES, EXCLUDED-LEN, GROUP-COUNTS, GROUP-FAMILIES, GROUP-PLACES, KIND-CAPACITY, LAYOUT, LAYOUT-FAMILIES, LAYOUT-GROUPS, REGISTERED, STAGED-LEN, TABLE, UNREGISTERED}
@@ -23,8 +22,11 @@ use Rattle.component.specs.SparseSet.{rows}
 use Rattle.component.specs.Columns.{columnOf, rowsOf, Columns}
 use Rattle.component.proofs.Frames.{front-column, front-columns}
 use Rattle.entity.specs.Change.{entityPart, entitiesIn}
-use Rattle.layout.specs.Layout.{Arrays, blockArrays, Sized, WellFormed, startOf, widthOf, groupCount, kindsAt, aritiesAt, groupsFrom, familyAt, familiesOf}
+use Rattle.layout.specs.Layout.{Arrays, blockArrays, Sized, WellFormed, startOf, widthOf, groupCount, kindsAt, aritiesAt, familyAt, familiesOf}
+use Rattle.layout.specs.Group.{InFamily, arityOf}
 use Rattle.layout.proofs.Arrays.{none-formed, layout-kinds, block-sized}
+use Rattle.layout.proofs.Family.{groups-same}
+use Rattle.layout.proofs.Groups.{spot}
 use Rattle.memory.specs.Header.{capacityOf, kindCapacityOf, registeredOf, layoutGroups, slotOf, groupFamilyAt}
 use Rattle.memory.specs.Meaning.{kindAt, kindsIn, setAt, setsIn, draftArrays, layoutArrays, draftIn, layoutIn, meaning}
 use Rattle.memory.specs.Arranged.{TableSound, GroupSound, LayoutSound, Arranged, Becomes}
@@ -33,38 +35,16 @@ use Rattle.model.proofs.ListLaws.{drop-later}
 use Rattle.kinds.proofs.Slot.{known-slot, known-small}
 use Rattle.kinds.proofs.Clear.{fewer}
 use Rattle.layout_apply.specs.Steps.{installed, Prepared}
-use Rattle.layout_apply.specs.Heads.{Reheaded, Heads, ClearsHeads, Slotted, HeadsReady, InFamily, placeNo, Upto, Headed}
+use Rattle.layout_apply.specs.Heads.{Reheaded, Heads, ClearsHeads, Slotted, HeadsReady, placeNo, Upto, Headed}
 use Rattle.layout_apply.proofs.Arities.{kind-among, place-in}
 use Rattle.layout_apply.proofs.HeadSteps.{word-same, registered-same, arrays-same, head-same, ready-kept, heads-then, upto-none}
 use Rattle.entity.specs.Meaning as entity
 
 -- ---- layouts without counts, and without families
 
-groups-uncounted : (counts : List ℕ) → ((g : ℕ) → getD counts g 0 ≡ 0) → (g : ℕ) (ks : List ℕ) (b : ℕ) (ars : List ℕ) → groupsFrom counts g ks b ars ≡ groupsFrom [] g ks b ars
-unfolding groupsFrom
-groups-uncounted counts z g ks b [] = refl
-groups-uncounted counts z g ks b (a ∷ ars) =
-    ap₂ (λ (c : ℕ) (rs : Family). record { newKinds = between b a ks; count = c } ∷ rs) (z g) (groups-uncounted counts z (suc g) ks a ars)
-
 uncounted : (counts : List ℕ) (a : Arrays) → ((g : ℕ) → getD counts g 0 ≡ 0) → familiesOf counts a ≡ familiesOf [] a
 uncounted counts a z =
-    table-same [] (a .families) (familyAt [] a) (familyAt counts a) (λ f h. groups-uncounted counts z (startOf (a .ends) f) (kindsAt a f) 0 (aritiesAt a f))
-
--- ---- the family of a group
-
-pub record FamilyOf (es : List ℕ) (n g : ℕ) : Type 0 where
-  pub f : ℕ
-  pub below : f < n
-  pub low : startOf es f ≤ g
-  pub high : g < getD es f 0
-
-family-of : (es : List ℕ) (n g : ℕ) → g < startOf es n → FamilyOf es n g
-family-of es zero g h = absurd (omega arith)
-family-of es (suc n) g h =
-    elim (decLt g (startOf es n)) [
-      | yes q ↦ let r = family-of es n g q in record { f = r .f; below = omega (arith, r .below); low = r .low; high = r .high }
-      | no q ↦ record { f = n; below = omega arith; low = omega arith; high = h }
-    ]
+    table-same [] (a .families) (familyAt [] a) (familyAt counts a) (λ f h. groups-same [] counts (startOf (a .ends) f) (kindsAt a f) 0 (aritiesAt a f) (λ g l u. z g))
 
 -- ---- the header done
 
@@ -229,11 +209,9 @@ module _ (w₀ w₁ : List ℕ) (A : Arranged w₀) (M : StoreSound (meaning w�
     group-sound : (f g : ℕ) → InFamily (layoutArrays w) f g → GroupSound w (layoutArrays w) g f
     group-sound f g G =
         let a = layoutArrays w in
-        let inside : (j : ℕ) → j < getD (a .arities) g 0 → placeNo a f j < widthOf a = λ j h. place-in a (ready .formed) sized f g G j h in
+        let inside : (j : ℕ) → j < arityOf a g → placeNo a f j < widthOf a = λ j h. place-in a (ready .formed) sized f g G j h in
         record {
-          family = G .family;
-          low = G .low;
-          high = G .high;
+          group = G;
           known = λ j h. let S = ready .known (placeNo a f j) (inside j h) in record { small = S .small; slot = S .slot };
           own = λ j l h. U .right f g j (record { group = G; from = l; to = h }) (inside j h) .own;
           local = λ j l h. U .right f g j (record { group = G; from = l; to = h }) (inside j h) .local;
@@ -245,13 +223,11 @@ module _ (w₀ w₁ : List ℕ) (A : Arranged w₀) (M : StoreSound (meaning w�
     groups : (g : ℕ) → g < layoutGroups w → GroupSound w (layoutArrays w) g (groupFamilyAt w g)
     groups g h =
         let a = layoutArrays w in
-        let F = family-of (a .ends) (a .families) g (omega (arith, count)) in
+        let F = spot (a .ends) (a .families) g (omega (arith, count)) in
+        let G : InFamily a (F .number) g = record { family = F .below; low = F .low; high = F .high } in
         let few : g < GROUP-PLACES = omega (arith, count, ready .formed .many) in
-        let e : groupFamilyAt w g ≡ F .f =
-        same (GROUP-FAMILIES + g) (omega arith)
-        ∙ P .family (F .f) g (subst (λ (b : Arrays). F .f < b .families) arrays (F .below)) (subst (λ (b : Arrays). startOf (b .ends) (F .f) ≤ g) arrays (F .low))
-        (subst (λ (b : Arrays). g < getD (b .ends) (F .f) 0) arrays (F .high)) in
-        subst (GroupSound w a g) (sym e) (group-sound (F .f) g (record { family = F .below; low = F .low; high = F .high }))
+        let e : groupFamilyAt w g ≡ F .number = same (GROUP-FAMILIES + g) (omega arith) ∙ P .family (F .number) g (subst (λ (b : Arrays). InFamily b (F .number) g) arrays G) in
+        subst (GroupSound w a g) (sym e) (group-sound (F .number) g G)
 
     layout-sound : LayoutSound w
     layout-sound = record { formed = ready .formed; count = count; groups = groups; none = U .none }

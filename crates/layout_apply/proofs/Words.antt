@@ -9,16 +9,16 @@ use Rattle.model.specs.Numbers.{MAX-GROUP-COUNT}
 use Rattle.words.specs.Offsets.{BLOCK-LEN, DRAFT, DRAFT-FAMILIES, DRAFT-GROUPS, ENDS, ENTITIES, GROUP-COUNTS, GROUP-FAMILIES, GROUP-PLACES, LAYOUT, LAYOUT-ENDS, LAYOUT-FAMILIES, LAYOUT-GROUPS}
 use Rattle.model.proofs.BoolLaws.{by-eq}
 use Rattle.model.proofs.ListLaws.{drop-same}
-use Rattle.words.specs.Part.{between}
 use Rattle.words.proofs.Part.{getD-between}
 use Rattle.words.proofs.Stores.{length-stores, miss, hit}
 use Rattle.layout.specs.Layout.{startOf}
-use Rattle.layout.proofs.Arrays.{group-order, groups-inside}
+use Rattle.layout.proofs.Arrays.{group-order, groups-inside, block-at}
 use Rattle.memory.specs.Header.{draftFamilies}
 use Rattle.memory.specs.Meaning.{draftArrays}
 use Rattle.memory.specs.Arranged.{Arranged}
 use Rattle.memory.proofs.Frames.{long}
 use Rattle.layout_apply.specs.Steps.{Filled, Copied, EndsAsk, Numbered, switched, Prepared}
+use Rattle.layout.proofs.Groups as groups
 
 -- ---- the loops
 
@@ -64,8 +64,8 @@ earlier w n A (suc f) e h l =
 
 -- the ends stay, so a family's start is read as it was
 start-same : (w₀ w : List ℕ) → ((i : ℕ) → i < GROUP-FAMILIES → getD w i 0 ≡ getD w₀ i 0) → (f : ℕ) → f ≤ GROUP-PLACES → startOf (drop LAYOUT-ENDS w) f ≡ startOf (drop LAYOUT-ENDS w₀) f
-start-same w₀ w same zero h = refl
-start-same w₀ w same (suc f) h = getD-drop LAYOUT-ENDS w f 0 ∙ same (LAYOUT-ENDS + f) (omega arith) ∙ sym (getD-drop LAYOUT-ENDS w₀ f 0)
+start-same w₀ w same =
+    groups.start-same (drop LAYOUT-ENDS w) (drop LAYOUT-ENDS w₀) GROUP-PLACES (λ i h. getD-drop LAYOUT-ENDS w i 0 ∙ same (LAYOUT-ENDS + i) (omega arith) ∙ sym (getD-drop LAYOUT-ENDS w₀ i 0))
 
 -- where family f's groups start and end
 pub record Spans (w₀ w : List ℕ) (f s e : ℕ) : Type 0 where
@@ -98,28 +98,17 @@ number-more w₀ w w′ n f s e A h N S F =
       after = λ i hi. F .after i (omega (arith, S .most)) ∙ N .after i hi;
     }
 
--- ---- the words of a block that stands at b
-
-pub block-at : (b : ℕ) (w : List ℕ) (o e i : ℕ) → o + i < e → e ≤ BLOCK-LEN → getD (between o e (between b (b + BLOCK-LEN) w)) i 0 ≡ getD w (b + (o + i)) 0
-block-at b w o e i h l = getD-between o e i (between b (b + BLOCK-LEN) w) 0 h ∙ getD-between b (b + BLOCK-LEN) (o + i) w 0 (omega arith)
-
-pub block-start : (b : ℕ) (w : List ℕ) (o e f : ℕ) → o + f ≤ e → e ≤ BLOCK-LEN → startOf (between o e (between b (b + BLOCK-LEN) w)) f ≡ startOf (drop (b + o) w) f
-block-start b w o e zero h l = refl
-block-start b w o e (suc f) h l =
-    let n : b + (o + f) ≡ b + o + f = omega arith in
-    block-at b w o e f (omega arith) l ∙ ap (λ (i : ℕ). getD w i 0) n ∙ sym (getD-drop (b + o) w f 0)
-
 -- ---- the draft in the place of the layout
 
 module _ (w : List ℕ) (A : Arranged w) (w₁ : List ℕ) (C : Copied w BLOCK-LEN w₁) where
   end-at : (f : ℕ) → f < GROUP-PLACES → getD (draftArrays w .ends) f 0 ≡ getD w₁ (LAYOUT-ENDS + f) 0
   end-at f h =
+      let n : 512 + f ≡ DRAFT + (ENDS + f) = omega arith in
       let k : LAYOUT + (ENDS + f) ≡ LAYOUT-ENDS + f = omega arith in
-      block-at DRAFT w ENDS BLOCK-LEN f (omega arith) (omega arith) ∙ sym (C .here (ENDS + f) (omega arith)) ∙ ap (λ (i : ℕ). getD w₁ i 0) k
+      block-at DRAFT w ENDS BLOCK-LEN f (omega arith) (omega arith) ∙ ap (λ (i : ℕ). getD w i 0) n ∙ sym (C .here (ENDS + f) (omega arith)) ∙ ap (λ (i : ℕ). getD w₁ i 0) k
 
   start-at : (f : ℕ) → f ≤ GROUP-PLACES → startOf (draftArrays w .ends) f ≡ startOf (drop LAYOUT-ENDS w₁) f
-  start-at zero h = refl
-  start-at (suc f) h = end-at f (omega arith) ∙ sym (getD-drop LAYOUT-ENDS w₁ f 0)
+  start-at = groups.start-same (draftArrays w .ends) (drop LAYOUT-ENDS w₁) GROUP-PLACES (λ i h. end-at i h ∙ sym (getD-drop LAYOUT-ENDS w₁ i 0))
 
   families-few : draftFamilies w ≤ MAX-GROUP-COUNT
   families-few = A .draft .few
@@ -150,11 +139,12 @@ module _ (w : List ℕ) (A : Arranged w) (w₁ : List ℕ) (C : Copied w BLOCK-L
         families = hit w₃ ss 0 LAYOUT-FAMILIES (getD w₃ DRAFT-FAMILIES 0) (omega arith) (omega arith) ∙ low₃ DRAFT-FAMILIES (omega arith);
         groups = hit w₃ ss 1 LAYOUT-GROUPS (getD w₃ DRAFT-GROUPS 0) (omega arith) (omega arith) ∙ low₃ DRAFT-GROUPS (omega arith);
         family =
-            λ f g h lo hi.
-            let u : f < GROUP-PLACES = omega (arith, families-few) in
-            let v : getD (draftArrays w .ends) f 0 ≤ MAX-GROUP-COUNT = omega (arith, groups-inside (draftArrays w) (A .draft) f h, A .draft .many) in
+            λ f g G.
+            let u : f < GROUP-PLACES = omega (arith, families-few, G .family) in
+            let v : getD (draftArrays w .ends) f 0 ≤ MAX-GROUP-COUNT = omega (arith, groups-inside (draftArrays w) (A .draft) f (G .family), A .draft .many) in
+            let z : g < MAX-GROUP-COUNT = omega (arith, G .high) in
             other (GROUP-FAMILIES + g) (omega arith) ∙ F .before (GROUP-FAMILIES + g) (omega arith)
-            ∙ N .here f g (omega arith) (omega (arith, start-at f (omega arith))) (omega (arith, end-at f u));
+            ∙ N .here f g (omega (arith, G .family)) (omega (arith, G .low, start-at f (omega arith))) (omega (arith, G .high, end-at f u));
         counts = λ g h. other (GROUP-COUNTS + g) (omega arith) ∙ F .here (GROUP-COUNTS + g) (omega arith) (omega arith);
         none = hit w₃ ss 2 5 0 (omega arith) (omega arith);
         noGroups = hit w₃ ss 3 6 0 (omega arith) (omega arith);

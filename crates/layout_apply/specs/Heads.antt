@@ -8,9 +8,9 @@ use Rattle.model.specs.Sound.{In}
 use Rattle.words.specs.Offsets.{columnStart, COLUMN-KIND, ENTITIES, OWN-GROUP}
 use Rattle.component.specs.Columns.{columnOf, rowsOf, Columns}
 use Rattle.layout.specs.Layout.{Arrays, WellFormed, startOf, widthOf}
+use Rattle.layout.specs.Group.{InFamily, arityOf, priorArity}
 use Rattle.memory.specs.Header.{capacityOf, kindCapacityOf, registeredOf, slotOf}
 use Rattle.memory.specs.Meaning.{kindAt, ownAt, localAt, layoutArrays}
-use Rattle.memory.specs.Arranged.{priorArity}
 
 -- words 2 and 3 of the head of slot s's column
 abbrev pub withOwn : ℕ → ℕ → ℕ → ℕ → List ℕ → List ℕ
@@ -58,17 +58,11 @@ pub record HeadsReady (w : List ℕ) : Type 0 where
   pub formed : WellFormed (layoutArrays w)
   pub known : (p : ℕ) → p < widthOf (layoutArrays w) → Slotted w (kindNo w p)
 
--- group g is one of family f
-pub record InFamily (a : Arrays) (f g : ℕ) : Type 0 where
-  pub family : f < a .families
-  pub low : startOf (a .ends) f ≤ g
-  pub high : g < getD (a .ends) f 0
-
 -- place j of family f is that of a new kind of group g
 pub record NewAt (a : Arrays) (f g j : ℕ) : Type 0 where
   pub group : InFamily a f g
   pub from : priorArity a f g ≤ j
-  pub to : j < getD (a .arities) g 0
+  pub to : j < arityOf a g
 
 -- where place j of family f is among all kinds
 abbrev pub placeNo : Arrays → ℕ → ℕ → ℕ
@@ -91,5 +85,5 @@ pub record Headed (w w′ : List ℕ) (p : ℕ) : Type 0 where
 
 -- those of group g, whose arity is the answer
 pub record HeadsGroup (w w′ : List ℕ) (f g r : ℕ) : Type 0 where
-  pub arity : r ≡ getD (layoutArrays w .arities) g 0
+  pub arity : r ≡ arityOf (layoutArrays w) g
   pub headed : Headed w w′ (placeNo (layoutArrays w) f r)

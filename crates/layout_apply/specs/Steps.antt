@@ -8,6 +8,7 @@ use Rattle.model.specs.Model.{setLayout}
 use Rattle.model.specs.Store.{Store, withDraft, withStorage, withControl, withLayout}
 use Rattle.words.specs.Stores.{stores}
 use Rattle.layout.specs.Layout.{startOf}
+use Rattle.layout.specs.Group.{InFamily}
 use Rattle.memory.specs.Header.{draftFamilies, draftGroups, layoutFamilies, layoutGroups, groupFamilyAt, countAt}
 use Rattle.memory.specs.Meaning.{draftArrays}
 
@@ -59,7 +60,7 @@ pub record Prepared (w w′ : List ℕ) : Type 0 where
   pub block : (i : ℕ) → i < BLOCK-LEN → getD w′ (LAYOUT + i) 0 ≡ getD w (DRAFT + i) 0
   pub families : layoutFamilies w′ ≡ draftFamilies w
   pub groups : layoutGroups w′ ≡ draftGroups w
-  pub family : (f g : ℕ) → f < draftFamilies w → startOf (draftArrays w .ends) f ≤ g → g < getD (draftArrays w .ends) f 0 → groupFamilyAt w′ g ≡ f
+  pub family : (f g : ℕ) → InFamily (draftArrays w) f g → groupFamilyAt w′ g ≡ f
   pub counts : (g : ℕ) → g < GROUP-PLACES → countAt w′ g ≡ 0
   pub none : draftFamilies w′ ≡ 0
   pub noGroups : draftGroups w′ ≡ 0

@@ -1,4 +1,5 @@
 // A layout put in force (component_storage.rs, set_layout).
+use layout::starts::start_of;
 use masks::group_mask::GroupMask;
 use words::LAYOUT_ARITIES;
 use words::LAYOUT_ENDS;
@@ -13,12 +14,13 @@ ghost use Rattle.model.specs.Store.{onStorage};
 ghost use Rattle.model.specs.Sound.{StoreSound};
 ghost use Rattle.component.specs.Columns.{Columns, Lent};
 ghost use Rattle.layout.specs.Layout.{startOf, widthOf};
+ghost use Rattle.layout.specs.Group.{InFamily, priorArity};
 ghost use Rattle.memory.specs.Header.{capacityOf};
 ghost use Rattle.memory.specs.Meaning.{layoutArrays, meaning};
-ghost use Rattle.memory.specs.Arranged.{Arranged, Becomes, priorArity};
+ghost use Rattle.memory.specs.Arranged.{Arranged, Becomes};
 ghost use Rattle.group.specs.Ready.{ReadyEach};
 ghost use Rattle.layout_apply.specs.Steps.{installed, applied, Filled, Copied, EndsAsk, Numbered, switched, Prepared};
-ghost use Rattle.layout_apply.specs.Heads.{withOwn, ClearsHeads, slotNo, HeadsReady, InFamily, placeNo, Upto, Headed, HeadsGroup};
+ghost use Rattle.layout_apply.specs.Heads.{withOwn, ClearsHeads, slotNo, HeadsReady, placeNo, Upto, Headed, HeadsGroup};
 
 // One value from start to end.
 fn fill(words: &mut [u32], start: usize, end: usize, value: usize)
@@ -52,7 +54,7 @@ fn number_groups(words: &mut [u32], families: usize)
 {
     let mut f = 0;
     while f < families {
-        let start = group::group_metadata::start_of(words, LAYOUT_ENDS, f);
+        let start = start_of(words, LAYOUT_ENDS, f);
         let end = words::word(words, LAYOUT_ENDS + f);
         fill(
             words,
@@ -132,7 +134,7 @@ fn put_group(words: &mut [u32], n: usize, f: usize, g: usize, prior: usize) -> u
     requires { ⌜ Upto (now words) (placeNo (layoutArrays (now words)) f prior) ⌝ }
     ensures { λ r. ⌜ HeadsGroup (now (words .entry)) (now (words .exit)) f g r ⌝ }
 {
-    let start = group::group_metadata::start_of(words, LAYOUT_KIND_ENDS, f);
+    let start = start_of(words, LAYOUT_KIND_ENDS, f);
     let arity = words::word(words, LAYOUT_ARITIES + g);
     let mut j = prior;
     while j < arity {
@@ -151,7 +153,7 @@ fn put_family(words: &mut [u32], n: usize, f: usize)
     ensures { λ _. ⌜ Headed (now (words .entry)) (now (words .exit)) (getD (layoutArrays (now (words .entry)) .kindEnds) f 0) ⌝ }
 {
     let mut prior = 0;
-    let mut g = group::group_metadata::start_of(words, LAYOUT_ENDS, f);
+    let mut g = start_of(words, LAYOUT_ENDS, f);
     let end = words::word(words, LAYOUT_ENDS + f);
     while g < end {
         prior = put_group(words, n, f, g, prior);

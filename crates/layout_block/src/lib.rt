@@ -6,26 +6,15 @@ ghost use lib.ListN.{length};
 ghost use Rattle.model.specs.Numbers.{MAX-KINDS};
 ghost use Rattle.words.specs.Offsets.{BLOCK-LEN, GROUP-PLACES};
 ghost use Rattle.words.specs.Decides.{Decides};
-ghost use Rattle.layout.specs.Layout.{Formed, Rising, startOf, arraysIn};
+ghost use Rattle.layout.specs.Layout.{Formed, Rising, arraysIn};
 ghost use Rattle.layout_block.specs.Blocks.{BlockFormed, ReadFrom, WrittenTo, FetchAsk, Fetched, PutAt};
 ghost use Rattle.layout_block.specs.Checks.{BlockSound, KindsOk, FamilyInside, FamiliesFormed, EndsAsk};
 use layout::group_layout::Layout;
+use layout::starts::start_of;
 use words::ARITIES;
 use words::BLOCK_LEN;
 use words::ENDS;
 use words::KIND_ENDS;
-
-// Where number f starts: where the one before ends.
-fn start_of(ends: &[u32], f: usize) -> usize
-    requires { ⌜ f ≤ length (now ends) ⌝ }
-    ensures { λ r. ⌜ r ≡ startOf (now (ends .entry)) f ⌝ }
-{
-    if f == 0 {
-        return 0;
-    }
-    let before = f - 1;
-    ends[before] as usize
-}
 
 // Copies words that are bytes to the front of an array.
 fn fetch(dst: &mut [u8], src: &[u32])
@@ -52,7 +41,7 @@ pub fn read_layout(block: &[u32], families: usize, groups: usize) -> Layout
     requires { ⌜ BlockFormed (now block) families groups ⌝ }
     ensures { λ r. ⌜ ReadFrom (now (block .entry)) families groups r ⌝ }
 {
-    let width = start_of(&block[KIND_ENDS..ENDS], families);
+    let width = start_of(&block[KIND_ENDS..ENDS], 0, families);
     let mut kinds = [0u8; 128];
     fetch(&mut kinds, &block[..width]);
     let groups_end = ARITIES + groups;
@@ -199,11 +188,11 @@ pub fn block_ok(block: &[u32], families: usize, groups: usize, table: &[u32]) ->
     ) {
         return false;
     }
-    let count = start_of(&block[ENDS..BLOCK_LEN], families);
+    let count = start_of(&block[ENDS..BLOCK_LEN], 0, families);
     if count != groups {
         return false;
     }
-    let width = start_of(&block[KIND_ENDS..ENDS], families);
+    let width = start_of(&block[KIND_ENDS..ENDS], 0, families);
     if !kinds_ok(&block[..width], table) {
         return false;
     }

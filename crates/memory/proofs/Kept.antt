@@ -12,10 +12,11 @@ use Rattle.words.proofs.Tables.{table-same}
 use Rattle.component.specs.Columns.{columnOf, rowsOf, Columns}
 use Rattle.entity.specs.Change.{entityPart}
 use Rattle.layout.specs.Layout.{Arrays, WellFormed, widthOf, groupCount}
+use Rattle.layout.specs.Group.{memberAt}
 use Rattle.model.specs.Sound.{In}
 use Rattle.memory.specs.Header.{capacityOf, kindCapacityOf, registeredOf, stagedLen, excludedLen, draftGroups, layoutGroups, slotOf, groupFamilyAt}
 use Rattle.memory.specs.Meaning.{kindAt, ownAt, localAt, kindsIn, draftArrays, layoutArrays, settingsOf}
-use Rattle.memory.specs.Arranged.{TableSound, Registered, memberAt, GroupSound, LayoutSound, Arranged}
+use Rattle.memory.specs.Arranged.{TableSound, Registered, GroupSound, LayoutSound, Arranged}
 use Rattle.entity.specs.Meaning as entity
 
 pub record Kept (w w′ : List ℕ) : Type 0 where
@@ -78,9 +79,7 @@ module _ {w w′ : List ℕ} (A : Arranged w) (K : Kept w w′) where
   group-kept : (a : Arrays) (g f : ℕ) → GroupSound w a g f → GroupSound w′ a g f
   group-kept a g f G =
       record {
-        family = G .family;
-        low = G .low;
-        high = G .high;
+        group = G .group;
         known = λ j h. registered-kept (memberAt a f j) (G .known j h);
         own =
             λ j l h.

@@ -1,6 +1,6 @@
 pub mod Kept
 pub mod Frames
 pub mod Becomes
-pub mod Prior
+pub mod LayoutWords
 pub mod Steps
 pub mod EmptyStore

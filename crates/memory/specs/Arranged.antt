@@ -2,10 +2,8 @@
 use mathlib.Core.Path.{_≡_}
 use mathlib.Core.Logic.{_≢_}
 use mathlib.Core.List.{List, []}
-use Prim.Native.Nat.{ℕ, zero, suc, _+_, _≤_, _<_}
-use mathlib.Core.Bool.{cond}
-use lib.Dec.{ltb}
-use lib.ListN.{length, getD, take, drop}
+use Prim.Native.Nat.{ℕ, suc, _≤_, _<_}
+use lib.ListN.{length, take, drop}
 use Rattle.model.specs.Numbers.{LIST-CAPACITY, MAX-KINDS}
 use Rattle.words.specs.Offsets.{UNREGISTERED}
 use Rattle.model.specs.Store.{Store, wordsNeeded}
@@ -14,7 +12,8 @@ use Rattle.model.specs.Sound as modelSound
 use Rattle.component.specs.Columns.{Columns, rowsOf}
 use Rattle.entity.specs.Meaning as entity
 use Rattle.entity.specs.Change.{entityPart}
-use Rattle.layout.specs.Layout.{Arrays, WellFormed, startOf, widthOf, groupCount}
+use Rattle.layout.specs.Layout.{Arrays, WellFormed, widthOf, groupCount}
+use Rattle.layout.specs.Group.{InFamily, arityOf, priorArity, memberAt}
 use Rattle.memory.specs.Header.{capacityOf, kindCapacityOf, registeredOf, stagedLen, excludedLen, draftGroups, layoutGroups, slotOf, groupFamilyAt}
 use Rattle.memory.specs.Meaning.{kindAt, ownAt, localAt, draftArrays, layoutArrays, meaning}
 
@@ -26,28 +25,17 @@ pub record TableSound (w : List ℕ) : Type 0 where
   pub small : (s : ℕ) → s < registeredOf w → kindAt w s < MAX-KINDS
   pub own : (s : ℕ) → s < registeredOf w → slotOf w (kindAt w s) ≡ s
 
--- the arity of the group before g in its family f, 0 where g is the family's smallest
-abbrev pub priorArity : Arrays → ℕ → ℕ → ℕ
-priorArity a f zero = 0
-priorArity a f (suc g) = cond (ltb (startOf (a .ends) f) (suc g)) (getD (a .arities) g 0) 0
-
 -- kind k is registered: it has a slot of its own
 pub record Registered (w : List ℕ) (k : ℕ) : Type 0 where
   pub small : k < MAX-KINDS
   pub slot : slotOf w k < registeredOf w
 
--- the kind at place j of family f
-abbrev pub memberAt : Arrays → ℕ → ℕ → ℕ
-memberAt a f j = getD (a .kinds) (startOf (a .kindEnds) f + j) 0
-
 -- group g is of family f, its kinds are registered, and the heads of its new kinds' columns say so
 pub record GroupSound (w : List ℕ) (a : Arrays) (g f : ℕ) : Type 0 where
-  pub family : f < a .families
-  pub low : startOf (a .ends) f ≤ g
-  pub high : g < getD (a .ends) f 0
-  pub known : (j : ℕ) → j < getD (a .arities) g 0 → Registered w (memberAt a f j)
-  pub own : (j : ℕ) → priorArity a f g ≤ j → j < getD (a .arities) g 0 → ownAt w (slotOf w (memberAt a f j)) ≡ suc g
-  pub local : (j : ℕ) → priorArity a f g ≤ j → j < getD (a .arities) g 0 → localAt w (slotOf w (memberAt a f j)) ≡ j
+  pub group : InFamily a f g
+  pub known : (j : ℕ) → j < arityOf a g → Registered w (memberAt a f j)
+  pub own : (j : ℕ) → priorArity a f g ≤ j → j < arityOf a g → ownAt w (slotOf w (memberAt a f j)) ≡ suc g
+  pub local : (j : ℕ) → priorArity a f g ≤ j → j < arityOf a g → localAt w (slotOf w (memberAt a f j)) ≡ j
 
 -- the layout in force: its block, the family of each group, and the columns' own groups
 pub record LayoutSound (w : List ℕ) : Type 0 where

@@ -1,50 +1,55 @@
--- The first rows of two columns, word by word and entity by entity; numbers before a number. Assumes nothing.
-use mathlib.Core.Path.{_≡_, refl, sym, ap, ap₂, _∙_}
-use mathlib.Core.Logic.{_≢_}
+-- A group's numbers as they were read; the first rows of two columns, word by word and entity by entity. Assumes nothing.
+use mathlib.Core.Path.{_≡_, sym, ap, ap₂, _∙_}
 use mathlib.Core.Bool.{Bool, true, false}
 use mathlib.Core.List.{List}
-use Prim.Native.Nat.{ℕ, zero, suc, _+_, _*_, _-_, _/_, _%_, _≤_, _<_}
+use Prim.Native.Nat.{ℕ, _+_, _*_, _/_, _%_, _≤_, _<_}
 use native.Mathlib.Omega.{arith}
-use borrow.Author.Tests.{lt-ltb, le-ltb, eqb-true, eq-eqb}
-use lib.ListN.{length, getD}
+use borrow.Author.Tests.{eqb-true, eq-eqb}
+use lib.ListN.{length, getD, drop}
 use Rattle.model.specs.Numbers.{MAX-KINDS}
 use Rattle.model.specs.Model.{Entity}
-use Rattle.words.specs.Offsets.{columnStart, COLUMN-KIND, GROUP-COUNTS, LAYOUT-ENDS, ROWS}
+use Rattle.words.specs.Offsets.{columnStart, COLUMN-KIND, GROUP-COUNTS, LAYOUT-ENDS, ROWS, ENTITIES, GROUP-PLACES, LAYOUT, LAYOUT-ARITIES, LAYOUT-KIND-ENDS}
+use Rattle.words.specs.Part.{between}
 use Rattle.model.proofs.BoolLaws.{by-eq}
 use Rattle.words.specs.Decides.{Decides, Each}
 use Rattle.component.specs.Columns.{rowsOf, Lent}
-use Rattle.sound_columns.specs.Rows.{entityIn}
+use Rattle.sound_columns.specs.Rows.{entityIn, keyAt}
+use Rattle.layout.specs.Layout.{startOf}
+use Rattle.layout.specs.Group.{priorOf, priorArity, ReadStart, ReadPrior}
 use Rattle.memory.specs.Header.{slotOf, countAt}
+use Rattle.memory.specs.Meaning.{layoutArrays}
+use Rattle.memory.proofs.LayoutWords.{arity-word, kind-start-word, start-word, prior-word, prior-count-word}
 use Rattle.sound_groups.specs.declared.heads.Span.{Span}
 use Rattle.sound_columns.specs.Slots.{headAt, Over}
-use Rattle.sound_groups.specs.Spans.{startIn, priorIn, firstAt, ReadSpan, HeadOk, NewOk, OwnOk, Marked, SeenOk}
-use Rattle.sound_columns.specs.Rows.{keyAt}
+use Rattle.sound_groups.specs.Spans.{firstAt, ReadSpan, HeadOk, NewOk, OwnOk, Marked, SeenOk}
 use Rattle.sound_groups.specs.Counts.{SameWord, rowsAt, CountOk, GroupCounted}
 use Rattle.sound_columns.proofs.SlotLaws.{key-word}
-
--- ---- numbers before a number
-
-pub start-in : (w : List ℕ) (a f : ℕ) → f ≢ 0 → getD w (a + (f - 1)) 0 ≡ startIn w a f
-start-in w a zero h = absurd (h refl)
-start-in w a (suc f) h = ap (λ (i : ℕ). getD w (a + i) 0) (omega arith)
-
-pub prior-some : (w : List ℕ) (a start g whole : ℕ) → start < g → getD w (a + (g - 1)) 0 ≡ priorIn w a start g whole
-prior-some w a start g whole h = rw (lt-ltb start g h)
-
-pub prior-whole : (w : List ℕ) (a start g whole : ℕ) → g ≤ start → whole ≡ priorIn w a start g whole
-prior-whole w a start g whole h = rw (le-ltb start g h)
 
 -- ---- a group's numbers, as they were read
 
 pub new-moved : (n : ℕ) (w : List ℕ) (g f : ℕ) (p : Span) → ReadSpan w f g p → (b : Bool) → Decides b (Over (p .from) (p .to) (HeadOk n w g (p .first))) → Decides b (NewOk n w f g)
 new-moved n w g f p R b d = rw (R .from, R .to, R .first) at d
 
-pub count-moved : (n : ℕ) (w : List ℕ) (g f : ℕ) (p : Span) (whole prior : ℕ) → ReadSpan w f g p → length (rowsAt n w (p .first)) ≡ whole
-    → prior ≡ priorIn w GROUP-COUNTS (p .start) g whole → (b : Bool)
+pub span-read : (w : List ℕ) (f g s t p : ℕ) → f < GROUP-PLACES → g < GROUP-PLACES → ReadStart w LAYOUT-ENDS f s → ReadStart w LAYOUT-KIND-ENDS f t → ReadPrior w LAYOUT-ARITIES s g 0 p
+    → ReadSpan w f g (record { start = s; first = LAYOUT + t; from = LAYOUT + t + p; to = LAYOUT + t + getD w (LAYOUT-ARITIES + g) 0 })
+span-read w f g s t p hf hg S T P =
+    let es : s ≡ startOf (layoutArrays w .ends) f = S .is ∙ sym (start-word w f (omega arith)) in
+    let et : t ≡ startOf (layoutArrays w .kindEnds) f = T .is ∙ sym (kind-start-word w f (omega arith)) in
+    let ep : p ≡ priorArity (layoutArrays w) f g = P .is ∙ ap (λ (x : ℕ). priorOf (drop LAYOUT-ARITIES w) x g 0) es ∙ sym (prior-word w f g hg) in
+    record {
+      start = es;
+      first = ap (λ (x : ℕ). LAYOUT + x) et;
+      from = ap₂ (λ (x y : ℕ). LAYOUT + x + y) et ep;
+      to = ap₂ (λ (x y : ℕ). LAYOUT + x + y) et (sym (arity-word w g hg));
+    }
+
+pub count-moved : (n : ℕ) (w : List ℕ) (g f : ℕ) (p : Span) (whole prior : ℕ) → g < GROUP-PLACES → ReadSpan w f g p → length (rowsAt n w (p .first)) ≡ whole
+    → ReadPrior w GROUP-COUNTS (p .start) g whole prior → (b : Bool)
     → Decides b (CountOk n w (slotOf w (getD w (p .first) 0)) (p .from) (p .to) prior (countAt w g)) → Decides b (GroupCounted n w f g)
-count-moved n w g f p whole prior R e q b d =
-    let o : prior ≡ priorIn w GROUP-COUNTS (startIn w LAYOUT-ENDS f) g (length (rowsAt n w (firstAt w f))) =
-    q ∙ ap₂ (λ (s x : ℕ). priorIn w GROUP-COUNTS s g x) (R .start) (sym e ∙ ap (λ (i : ℕ). length (rowsAt n w i)) (R .first)) in
+count-moved n w g f p whole prior h R e q b d =
+    let o : prior ≡ priorOf (between GROUP-COUNTS ENTITIES w) (startOf (layoutArrays w .ends) f) g (length (rowsAt n w (firstAt w f))) =
+    q .is ∙ sym (prior-count-word w (p .start) g whole h)
+    ∙ ap₂ (λ (s x : ℕ). priorOf (between GROUP-COUNTS ENTITIES w) s g x) (R .start) (sym e ∙ ap (λ (i : ℕ). length (rowsAt n w i)) (R .first)) in
     rw (o, R .from, R .to, R .first) at d
 
 -- ---- entities and their words

@@ -5,14 +5,18 @@ use mathlib.Core.Bool.{true}
 use mathlib.Core.List.{List}
 use Prim.Native.Nat.{ℕ, _+_, _≤_}
 use lib.ListN.{length, getD}
-use Rattle.words.specs.Offsets.{GROUP-COUNTS, LAYOUT-ENDS}
+use Rattle.words.specs.Offsets.{ENTITIES, GROUP-COUNTS}
 use Rattle.model.specs.Model.{Entity, SparseSet, held}
+use Rattle.words.specs.Part.{between}
 use Rattle.words.specs.Decides.{Each}
 use Rattle.component.specs.Columns.{rowsOf}
+use Rattle.layout.specs.Layout.{startOf}
+use Rattle.layout.specs.Group.{priorOf}
 use Rattle.memory.specs.Header.{slotOf, groupFamilyAt, countAt}
+use Rattle.memory.specs.Meaning.{layoutArrays}
 use Rattle.sound_columns.specs.Slots.{Over}
 use Rattle.sound_columns.specs.Rows.{keyAt}
-use Rattle.sound_groups.specs.Spans.{startIn, priorIn, firstAt, fromAt, toAt}
+use Rattle.sound_groups.specs.Spans.{firstAt, fromAt, toAt}
 
 -- the words at i from a and from b on are equal
 abbrev pub SameWord : List ℕ → ℕ → ℕ → ℕ → Type 0
@@ -42,7 +46,7 @@ pub record CountOk (n : ℕ) (w : List ℕ) (h a e b c : ℕ) : Type 0 where
 abbrev pub GroupCounted : ℕ → List ℕ → ℕ → ℕ → Type 0
 GroupCounted n w f g =
     CountOk n w (slotOf w (getD w (firstAt w f) 0)) (fromAt w f g) (toAt w f g)
-    (priorIn w GROUP-COUNTS (startIn w LAYOUT-ENDS f) g (length (rowsAt n w (firstAt w f))))
+    (priorOf (between GROUP-COUNTS ENTITIES w) (startOf (layoutArrays w .ends) f) g (length (rowsAt n w (firstAt w f))))
     (countAt w g)
 
 abbrev pub CountedOk : ℕ → List ℕ → ℕ → Type 0

@@ -1,50 +1,34 @@
 -- The layout in force as words (docs/WORDS.md): where a group's new kinds stand among them, and what the columns' heads say. Assumes nothing.
 use mathlib.Core.Path.{_≡_}
-use mathlib.Core.Bool.{cond}
 use mathlib.Core.List.{List}
-use Prim.Native.Nat.{ℕ, zero, suc, _+_, _-_, _≤_, _<_}
-use lib.Dec.{ltb, eqb}
+use Prim.Native.Nat.{ℕ, suc, _+_, _-_, _≤_, _<_}
+use lib.Dec.{eqb}
 use lib.ListN.{length, getD}
 use Rattle.model.specs.Numbers.{MAX-GROUP-COUNT, MAX-KINDS}
-use Rattle.words.specs.Offsets.{COLUMN-KIND, ENTITIES, LAYOUT, LAYOUT-ARITIES, LAYOUT-ENDS, LAYOUT-KIND-ENDS, OWN-GROUP}
+use Rattle.words.specs.Offsets.{COLUMN-KIND, ENTITIES, LAYOUT, LAYOUT-ARITIES, OWN-GROUP}
 use Rattle.model.specs.Model.{mem}
 use Rattle.model.specs.Sound.{In}
 use Rattle.component.specs.Columns.{Lent}
-use Rattle.memory.specs.Header.{slotOf, groupFamilyAt}
+use Rattle.layout.specs.Layout.{startOf}
+use Rattle.layout.specs.Group.{InFamily, arityOf, priorArity}
+use Rattle.memory.specs.Header.{layoutFamilies, slotOf, groupFamilyAt}
+use Rattle.memory.specs.Meaning.{layoutArrays}
 use Rattle.sound_columns.specs.Slots.{headAt, Over}
 use Rattle.sound_groups.specs.declared.heads.Span.{Span}
 
--- where number f starts, its ends standing from word a on: where the one before ends
-abbrev pub startIn : List ℕ → ℕ → ℕ → ℕ
-startIn w a zero = 0
-startIn w a (suc f) = getD w (a + f) 0
-
--- the number of the group before g, such numbers standing from word a on; `whole` where g is the first of its family, which starts at group `start`
-abbrev pub priorIn : List ℕ → ℕ → ℕ → ℕ → ℕ → ℕ
-priorIn w a start g whole = cond (ltb start g) (getD w (a + (g - 1)) 0) whole
-
--- such numbers read; they are words
-pub record ReadStart (w : List ℕ) (a f r : ℕ) : Type 0 where
-  pub is : r ≡ startIn w a f
-  pub small : r < 4294967296
-
-pub record ReadPrior (w : List ℕ) (a start g whole r : ℕ) : Type 0 where
-  pub is : r ≡ priorIn w a start g whole
-  pub small : r < 4294967296
-
 -- the words of family f's first kind, of the first of group g's new kinds, and past the last of them
 abbrev pub firstAt : List ℕ → ℕ → ℕ
-firstAt w f = LAYOUT + startIn w LAYOUT-KIND-ENDS f
+firstAt w f = LAYOUT + startOf (layoutArrays w .kindEnds) f
 
 abbrev pub fromAt : List ℕ → ℕ → ℕ → ℕ
-fromAt w f g = firstAt w f + priorIn w LAYOUT-ARITIES (startIn w LAYOUT-ENDS f) g 0
+fromAt w f g = firstAt w f + priorArity (layoutArrays w) f g
 
 abbrev pub toAt : List ℕ → ℕ → ℕ → ℕ
-toAt w f g = firstAt w f + getD w (LAYOUT-ARITIES + g) 0
+toAt w f g = firstAt w f + arityOf (layoutArrays w) g
 
--- those read
+-- those read, and the number of the family's smallest group
 pub record ReadSpan (w : List ℕ) (f g : ℕ) (r : Span) : Type 0 where
-  pub start : r .start ≡ startIn w LAYOUT-ENDS f
+  pub start : r .start ≡ startOf (layoutArrays w .ends) f
   pub first : r .first ≡ firstAt w f
   pub from : r .from ≡ fromAt w f g
   pub to : r .to ≡ toAt w f g
@@ -69,7 +53,8 @@ pub record SpanOk (n : ℕ) (w : List ℕ) (f g : ℕ) : Type 0 where
 pub record Force (n families : ℕ) (w : List ℕ) : Type 0 where
   pub long : ENTITIES ≤ length w
   pub few : families ≤ MAX-GROUP-COUNT
-  pub spans : (f g : ℕ) → f < families → startIn w LAYOUT-ENDS f ≤ g → g < getD w (LAYOUT-ENDS + f) 0 → SpanOk n w f g
+  pub is : families ≡ layoutFamilies w
+  pub spans : (f g : ℕ) → InFamily (layoutArrays w) f g → SpanOk n w f g
 
 -- the head of the column of the kind at word j says its own group and its place in its family
 pub record HeadOk (n : ℕ) (w : List ℕ) (g first j : ℕ) : Type 0 where
@@ -80,15 +65,9 @@ pub record HeadOk (n : ℕ) (w : List ℕ) (g first j : ℕ) : Type 0 where
 abbrev pub NewOk : ℕ → List ℕ → ℕ → ℕ → Type 0
 NewOk n w f g = Over (fromAt w f g) (toAt w f g) (HeadOk n w g (firstAt w f))
 
--- group g is of family f
-pub record GroupOf (w : List ℕ) (families g f : ℕ) : Type 0 where
-  pub family : f < families
-  pub low : startIn w LAYOUT-ENDS f ≤ g
-  pub high : g < getD w (LAYOUT-ENDS + f) 0
-
 -- group g is of the family that is said to have it, and the heads of its new kinds' columns say so
-pub record HeadsOk (n families : ℕ) (w : List ℕ) (g : ℕ) : Type 0 where
-  pub of : GroupOf w families g (groupFamilyAt w g)
+pub record HeadsOk (n : ℕ) (w : List ℕ) (g : ℕ) : Type 0 where
+  pub of : InFamily (layoutArrays w) (groupFamilyAt w g) g
   pub heads : NewOk n w (groupFamilyAt w g) g
 
 -- a column that says a group has one of these kinds

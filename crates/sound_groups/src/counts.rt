@@ -1,6 +1,6 @@
 // The groups' counts: a group's first places hold the same entities in each of its columns, and past them each lacks a kind.
-use crate::heads::prior_in;
 use crate::heads::span_of;
+use layout::starts::prior_of;
 ghost use Prim.Native.Nat.{_+_, _*_, _<_, _≤_};
 ghost use lib.ListN.{length};
 ghost use Rattle.model.specs.Numbers.{MAX-GROUP-COUNT};
@@ -8,9 +8,11 @@ ghost use Rattle.words.specs.Offsets.{GROUP-PLACES, LAYOUT-ARITIES};
 ghost use Rattle.component.specs.SparseSet.{entity};
 ghost use Rattle.words.specs.Decides.{Decides, Each};
 ghost use Rattle.component.specs.Columns.{Lent, rowsOf};
+ghost use Rattle.layout.specs.Group.{InFamily};
 ghost use Rattle.memory.specs.Header.{groupFamilyAt};
+ghost use Rattle.memory.specs.Meaning.{layoutArrays};
 ghost use Rattle.sound_columns.specs.Slots.{Over};
-ghost use Rattle.sound_groups.specs.Spans.{KindAt, KindsAt, Force, GroupOf};
+ghost use Rattle.sound_groups.specs.Spans.{KindAt, KindsAt, Force};
 ghost use Rattle.sound_columns.specs.Rows.{keyAt};
 ghost use Rattle.sound_groups.specs.Counts.{SameWord, EvenOk, Holds, CountOk, GroupCounted, CountedOk};
 
@@ -136,7 +138,7 @@ fn count_ok(words: &[u32], n: usize, h: usize, from: usize, to: usize, b: usize,
 
 fn group_counted(words: &[u32], n: usize, families: usize, g: usize, f: usize) -> bool
     requires { ⌜ Force n families (now words) ⌝ }
-    requires { ⌜ (g < GROUP-PLACES) × GroupOf (now words) families g f ⌝ }
+    requires { ⌜ (g < GROUP-PLACES) × InFamily (layoutArrays (now words)) f g ⌝ }
     ensures { λ r. ⌜ Decides r (GroupCounted n (now (words .entry)) f g) ⌝ }
 {
     let p = span_of(words, g, f);
@@ -144,7 +146,7 @@ fn group_counted(words: &[u32], n: usize, families: usize, g: usize, f: usize) -
     let kind = words[first] as usize;
     let h = words[words::TABLE + kind] as usize;
     let whole = component::slots::len_in(words, n, h);
-    let b = prior_in(words, words::GROUP_COUNTS, p.start, g, whole);
+    let b = prior_of(words, words::GROUP_COUNTS, p.start, g, whole);
     count_ok(
         words,
         n,
@@ -159,7 +161,7 @@ fn group_counted(words: &[u32], n: usize, families: usize, g: usize, f: usize) -
 // Are all groups' counts right?
 pub fn are_counts(words: &[u32], n: usize, families: usize, groups: usize) -> bool
     requires { ⌜ Force n families (now words) ⌝ }
-    requires { ⌜ (groups ≤ MAX-GROUP-COUNT) × Each groups (λ g. GroupOf (now words) families g (groupFamilyAt (now words) g)) ⌝ }
+    requires { ⌜ (groups ≤ MAX-GROUP-COUNT) × Each groups (λ g. InFamily (layoutArrays (now words)) (groupFamilyAt (now words) g) g) ⌝ }
     ensures { λ r. ⌜ Decides r (Each groups (CountedOk n (now (words .entry)))) ⌝ }
 {
     let mut g = 0;

@@ -1,37 +1,19 @@
 // The layout in force and the columns' heads: which group is a kind's own, and the kind's place in its family.
+use layout::starts::prior_of;
+use layout::starts::start_of;
 use sound_columns::table::head;
+ghost use mathlib.Core.Path.{_≡_};
 ghost use Prim.Native.Nat.{ℕ, _+_, _<_, _≤_};
 ghost use lib.ListN.{length, getD};
 ghost use Rattle.model.specs.Numbers.{MAX-GROUP-COUNT, MAX-KINDS};
 ghost use Rattle.words.specs.Offsets.{COLUMN-KIND, ENTITIES, GROUP-PLACES, LAYOUT, LAYOUT-ARITIES};
 ghost use Rattle.words.specs.Part.{between};
 ghost use Rattle.words.specs.Decides.{Decides, Each};
+ghost use Rattle.layout.specs.Group.{InFamily};
+ghost use Rattle.memory.specs.Header.{layoutFamilies};
+ghost use Rattle.memory.specs.Meaning.{layoutArrays};
 ghost use Rattle.sound_columns.specs.Slots.{Slot, Room, headAt, Over};
-ghost use Rattle.sound_groups.specs.Spans.{ReadStart, ReadPrior, ReadSpan, KindAt, KindsAt, Force, HeadOk, NewOk, GroupOf, HeadsOk, OwnOk, Marked, SeenOk};
-
-// Where number f starts, its ends standing from a word on.
-pub fn start_in(words: &[u32], at: usize, f: usize) -> usize
-    requires { ⌜ at + f ≤ length (now words) ⌝ }
-    ensures { λ r. ⌜ ReadStart (now (words .entry)) at f r ⌝ }
-{
-    if f == 0 {
-        return 0;
-    }
-    let before = f - 1;
-    words[at + before] as usize
-}
-
-// What an array has for the group before g in its family, which starts at group `start`: an arity, or a count.
-pub fn prior_in(words: &[u32], at: usize, start: usize, g: usize, whole: usize) -> usize
-    requires { ⌜ (at + g ≤ length (now words)) × (whole < 4294967296) ⌝ }
-    ensures { λ r. ⌜ ReadPrior (now (words .entry)) at start g whole r ⌝ }
-{
-    if start < g {
-        let before = g - 1;
-        return words[at + before] as usize;
-    }
-    whole
-}
+ghost use Rattle.sound_groups.specs.Spans.{ReadSpan, KindAt, KindsAt, Force, HeadOk, NewOk, HeadsOk, OwnOk, Marked, SeenOk};
 
 // The head of the column of the kind at word j says its own group and its place in its family.
 fn head_ok(words: &[u32], n: usize, g: usize, first: usize, j: usize) -> bool
@@ -78,9 +60,9 @@ pub fn span_of(words: &[u32], g: usize, f: usize) -> Span
     requires { ⌜ (ENTITIES ≤ length (now words)) × (g < GROUP-PLACES) × (f < GROUP-PLACES) ⌝ }
     ensures { λ r. ⌜ ReadSpan (now (words .entry)) f g r ⌝ }
 {
-    let start = start_in(words, words::LAYOUT_ENDS, f);
-    let first = words::LAYOUT + start_in(words, words::LAYOUT_KIND_ENDS, f);
-    let from = first + prior_in(words, words::LAYOUT_ARITIES, start, g, 0);
+    let start = start_of(words, words::LAYOUT_ENDS, f);
+    let first = words::LAYOUT + start_of(words, words::LAYOUT_KIND_ENDS, f);
+    let from = first + prior_of(words, words::LAYOUT_ARITIES, start, g, 0);
     let to = first + words[words::LAYOUT_ARITIES + g] as usize;
     Span {
         start,
@@ -93,7 +75,7 @@ pub fn span_of(words: &[u32], g: usize, f: usize) -> Span
 // The heads of the new kinds of group g of family f.
 fn new_ok(words: &[u32], n: usize, families: usize, g: usize, f: usize) -> bool
     requires { ⌜ Force n families (now words) ⌝ }
-    requires { ⌜ (g < GROUP-PLACES) × GroupOf (now words) families g f ⌝ }
+    requires { ⌜ (g < GROUP-PLACES) × InFamily (layoutArrays (now words)) f g ⌝ }
     ensures { λ r. ⌜ Decides r (NewOk n (now (words .entry)) f g) ⌝ }
 {
     let p = span_of(words, g, f);
@@ -102,13 +84,13 @@ fn new_ok(words: &[u32], n: usize, families: usize, g: usize, f: usize) -> bool
 
 // Group g is of the family that is said to have it.
 fn family_ok(words: &[u32], families: usize, g: usize, f: usize) -> bool
-    requires { ⌜ (ENTITIES ≤ length (now words)) × (families ≤ MAX-GROUP-COUNT) ⌝ }
-    ensures { λ r. ⌜ Decides r (GroupOf (now (words .entry)) families g f) ⌝ }
+    requires { ⌜ (ENTITIES ≤ length (now words)) × (families ≤ MAX-GROUP-COUNT) × (families ≡ layoutFamilies (now words)) ⌝ }
+    ensures { λ r. ⌜ Decides r (InFamily (layoutArrays (now (words .entry))) f g) ⌝ }
 {
     if families <= f {
         return false;
     }
-    let start = start_in(words, words::LAYOUT_ENDS, f);
+    let start = start_of(words, words::LAYOUT_ENDS, f);
     if g < start {
         return false;
     }
@@ -122,7 +104,7 @@ fn family_ok(words: &[u32], families: usize, g: usize, f: usize) -> bool
 fn group_ok(words: &[u32], n: usize, families: usize, g: usize) -> bool
     requires { ⌜ Force n families (now words) ⌝ }
     requires { ⌜ g < GROUP-PLACES ⌝ }
-    ensures { λ r. ⌜ Decides r (HeadsOk n families (now (words .entry)) g) ⌝ }
+    ensures { λ r. ⌜ Decides r (HeadsOk n (now (words .entry)) g) ⌝ }
 {
     let f = words[words::GROUP_FAMILIES + g] as usize;
     if !family_ok(words, families, g, f) {
@@ -138,7 +120,7 @@ fn group_ok(words: &[u32], n: usize, families: usize, g: usize) -> bool
 pub fn are_heads(words: &[u32], n: usize, families: usize, groups: usize) -> bool
     requires { ⌜ Force n families (now words) ⌝ }
     requires { ⌜ groups ≤ MAX-GROUP-COUNT ⌝ }
-    ensures { λ r. ⌜ Decides r (Each groups (HeadsOk n families (now (words .entry)))) ⌝ }
+    ensures { λ r. ⌜ Decides r (Each groups (HeadsOk n (now (words .entry)))) ⌝ }
 {
     let mut g = 0;
     while g < groups {

@@ -15,7 +15,6 @@ use Rattle.model.specs.Lists.{countOf}
 use Rattle.model.proofs.ListLaws.{count-place, place-count}
 use Rattle.model.specs.Model.{Entity, sameEntity, noRow, kindOf, entityOf, isLive}
 use Rattle.model.specs.Sound.{cnt, In, Distinct, KindsSound, EntitiesSound, SetsSound, StagedSound, ExcludedSound, Buildable, AllRight}
-use Rattle.model.specs.Sound as modelSound
 use Rattle.model.proofs.Numbers.{cnt-num}
 use Rattle.model.proofs.KindLists.{in-count, count-in, at-in}
 use Rattle.words.specs.Offsets.{columnStart, BLOCK-LEN, COLUMN-KIND, DRAFT, ENTITIES, EXCLUDED-KINDS, GROUP-COUNTS, GROUP-FAMILIES, LAYOUT, LAYOUT-ARITIES, LAYOUT-KIND-ENDS, REFUSALS, ROWS, STAGED-KINDS, STAGED-VALUES, TABLE, UNREGISTERED}
@@ -28,11 +27,11 @@ use Rattle.words.specs.Decides.{Each}
 use Rattle.component.proofs.Meaning.{length-rows, empty-rows}
 use Rattle.component.specs.Columns.{columnOf, rowsOf, Columns, Lent}
 use Rattle.component.proofs.Parts.{lent}
-use Rattle.entity.specs.Meaning as entity
 use Rattle.entity.specs.Change.{entityPart, entitiesIn}
 use Rattle.entity.proofs.Lookups.{issued-is}
 use Rattle.entity.proofs.Numbering.{entities-ok}
 use Rattle.layout.specs.Layout.{Arrays, blockArrays, widthOf, groupCount, familiesOf, WellFormed}
+use Rattle.layout.specs.Group.{InFamily, ReadStart}
 use Rattle.layout.proofs.Arrays.{layout-kinds, block-sized}
 use Rattle.layout_block.specs.Checks.{BlockSound, KindsOk}
 use Rattle.layout_block.proofs.Buildable.{block-buildable, uncounted}
@@ -40,11 +39,12 @@ use Rattle.memory.specs.Header.{capacityOf, kindCapacityOf, registeredOf, stage
 use Rattle.memory.specs.Meaning.{kindAt, kindsIn, setsIn, draftArrays, layoutArrays, draftIn, layoutIn, stagedAt, stagedIn, excludedIn, meaning}
 use Rattle.memory.specs.Arranged.{TableSound, Registered, LayoutSound, Arranged, Sound as StoreSound}
 use Rattle.memory.proofs.Frames.{start-header}
+use Rattle.memory.proofs.LayoutWords.{kind-word, kind-start-word}
 use Rattle.sound_columns.specs.Slots.{Room, headAt}
 use Rattle.sound_columns.specs.Table.{TableOk}
 use Rattle.sound_columns.specs.Rows.{entityIn, RowLive, ColumnOk}
 use Rattle.sound_columns.specs.Listed.{ListOk}
-use Rattle.sound_groups.specs.Spans.{startIn, Force, HeadsOk, OwnOk}
+use Rattle.sound_groups.specs.Spans.{Force, HeadsOk, OwnOk}
 use Rattle.sound_columns.proofs.SlotLaws.{room-long, room-less, key-word}
 use Rattle.soundness.specs.Parts.{SizeOk, PartsOk, ListsOk, LayoutOk, CountsOk}
 use Rattle.soundness.proofs.TableLaws.{TableLinks, registered-slot, registered-small, slot-registered, kinds-sound, sets-sound, sets-alive}
@@ -52,9 +52,11 @@ use Rattle.soundness.proofs.ColumnLaws.{rows-once, rows-values, value-e
 use Rattle.soundness.proofs.StagedLaws.{staged-sound}
 use Rattle.words.proofs.Tables.{map-table, words-table}
 use Rattle.soundness.proofs.GroupLaws.{families-right, right-families}
-use Rattle.soundness.proofs.FlatLaws.{Within, families-each, each-families, prior-fits}
-use Rattle.soundness.proofs.WordLaws.{Reads, layout-reads, kind-start, layout-words}
-use Rattle.soundness.proofs.ForceLaws.{force, group-of, low-of, high-of, heads-group, group-heads, counted-at, at-counted}
+use Rattle.soundness.proofs.FlatLaws.{families-each, each-families, prior-fits}
+use Rattle.soundness.proofs.WordLaws.{layout-words, sized}
+use Rattle.soundness.proofs.ForceLaws.{force, heads-group, group-heads, counted-at, at-counted}
+use Rattle.model.specs.Sound as modelSound
+use Rattle.entity.specs.Meaning as entity
 
 -- ---- the table of kinds
 
@@ -214,11 +216,10 @@ module _ (w : List ℕ) where
   layout-known T most long B i h =
       let a = layoutArrays w in
       let wide : widthOf a ≤ MAX-KINDS = B .formed .good .wide in
-      let R = layout-reads w long in
       let l = take (widthOf a) (a .kinds) in
-      let z : length (a .kinds) ≡ MAX-KINDS = R .sized .kinds in
+      let z : length (a .kinds) ≡ MAX-KINDS = sized w long .kinds in
       let m : length l ≡ widthOf a = length-take-le (widthOf a) (a .kinds) (omega arith) in
-      let e : getD l i 0 ≡ getD w (LAYOUT + i) 0 = getD-take (widthOf a) (a .kinds) i 0 h ∙ R .kinds i (omega arith) in
+      let e : getD l i 0 ≡ getD w (LAYOUT + i) 0 = getD-take (widthOf a) (a .kinds) i 0 h ∙ kind-word w i (omega arith) in
       subst (Registered w) e (block-known T most (between LAYOUT GROUP-FAMILIES w) (layoutFamilies w) (layoutGroups w) B (getD l i 0) (at-in l i (omega arith)))
 
   -- ---- columns
@@ -286,74 +287,50 @@ module _ (w : List ℕ) where
   a = layoutArrays w
 
   module _ (long : ENTITIES ≤ length w) where
-    abbrev R : Reads w a
-    R = layout-reads w long
-
-    -- the kinds of the layout in force, as a part of the words
-    own-words : WellFormed a → take (widthOf a) (a .kinds) ≡ between LAYOUT (LAYOUT + startIn w LAYOUT-KIND-ENDS (layoutFamilies w)) w
-    own-words good =
-        layout-words w a R good ∙ ap (λ (x : ℕ). between LAYOUT (LAYOUT + x) w) (kind-start w a R (layoutFamilies w) (omega (arith, good .few)))
-
     module _ (good : WellFormed a) (known : (i : ℕ) → i < widthOf a → Registered w (getD w (LAYOUT + i) 0)) where
       layout-are : LayoutOk n w → LayoutSound w
       layout-are Y =
           record {
             formed = good;
             count = Y .block .formed .groups;
-            groups = λ g h.
-                let H = Y .heads g h in
-                let f = groupFamilyAt w g in
-                heads-group w a R good known f g (H .of .family) (low-of w a R good known g f (H .of)) (high-of w a R good known g f (H .of)) (H .heads);
-            none = λ s h o. subst (λ (l : List ℕ). In l (kindAt w s)) (sym (own-words good)) (Y .own s h o);
+            groups = λ g h. let H = Y .heads g h in heads-group w long good known (groupFamilyAt w g) g (H .of) (H .heads);
+            none = λ s h o. subst (λ (l : List ℕ). In l (kindAt w s)) (sym (layout-words w long good)) (Y .own s h o);
           }
 
-      are-heads : LayoutSound w → Each (layoutGroups w) (HeadsOk n (layoutFamilies w) w)
+      are-heads : LayoutSound w → Each (layoutGroups w) (HeadsOk n w)
       are-heads Y g h =
           let G = Y .groups g h in
-          let f = groupFamilyAt w g in
-          record {
-            of = group-of w a R good known g f (G .family) (G .low) (G .high);
-            heads = group-heads w a R good known f g (G .family) (G .low) (G .high) G;
-          }
+          record { of = G .group; heads = group-heads w long good known (groupFamilyAt w g) g (G .group) G }
 
-      are-own : LayoutSound w → Each (registeredOf w) (OwnOk n w (between LAYOUT (LAYOUT + startIn w LAYOUT-KIND-ENDS (layoutFamilies w)) w))
-      are-own Y s h o = subst (λ (l : List ℕ). In l (kindAt w s)) (own-words good) (Y .none s h o)
+      are-own : LayoutSound w → Each (registeredOf w) (OwnOk n w (between LAYOUT (LAYOUT + widthOf (layoutArrays w)) w))
+      are-own Y s h o = subst (λ (l : List ℕ). In l (kindAt w s)) (layout-words w long good) (Y .none s h o)
 
       -- ---- the counts
 
-      within : Each (layoutGroups w) (HeadsOk n (layoutFamilies w) w) → layoutGroups w ≡ groupCount a → (g : ℕ) → g < groupCount a → Within a g (groupFamilyAt w g)
-      within H e g lt =
-          let o = H g (omega arith) .of in
-          let f = groupFamilyAt w g in
-          record { family = o .family; low = low-of w a R good known g f o; high = high-of w a R good known g f o }
-
-      module _ (A : Arranged w) (H : Each (layoutGroups w) (HeadsOk n (layoutFamilies w) w)) (S : SetsSound (kindsIn w) live (setsIn w)) (once : (x : Entity) → cnt x live ≤ 1) (B : Buildable (kindsIn w) (layoutIn w)) where
+      module _ (A : Arranged w) (S : SetsSound (kindsIn w) live (setsIn w)) (once : (x : Entity) → cnt x live ≤ 1) (B : Buildable (kindsIn w) (layoutIn w)) where
         abbrev of : ℕ → ℕ
         of g = groupFamilyAt w g
 
         abbrev counts : List ℕ
         counts = between GROUP-COUNTS ENTITIES w
 
-        inside : (g : ℕ) → g < groupCount a → Within a g (of g)
-        inside = within H (A .layout .count)
+        inside : (g : ℕ) → g < groupCount a → InFamily a (of g) g
+        inside g lt = A .layout .groups g (omega (arith, A .layout .count)) .group
 
         groups-are : CountsOk n w → AllRight (setsIn w) live (layoutIn w)
         unfolding layoutIn
         groups-are K =
             families-right (kindsIn w) live (setsIn w) S once (familiesOf counts a) (B .families)
-            (each-families (setsIn w) counts a good (R .sized) of inside
-            (λ g lt.
-            let i = inside g lt in
-            counted-at w a R good known (of g) g (i .family) (i .low) (i .high) A (K g (omega (arith, A .layout .count)))))
+            (each-families (setsIn w) counts a good (sized w long) of inside
+            (λ g lt. counted-at w long good known (of g) g (inside g lt) A (K g (omega (arith, A .layout .count)))))
 
         are-groups : AllRight (setsIn w) live (layoutIn w) → CountsOk n w
         unfolding layoutIn
         are-groups G g h =
             let F = right-families (kindsIn w) live (setsIn w) S once (familiesOf counts a) (B .families) G in
-            let each = families-each (setsIn w) counts a good (R .sized) of inside F in
+            let each = families-each (setsIn w) counts a good (sized w long) of inside F in
             let lt : g < groupCount a = omega (arith, A .layout .count) in
-            let i = inside g lt in
-            at-counted w a R good known (of g) g (i .family) (i .low) (i .high) A (each g lt) (prior-fits (setsIn w) counts a good (R .sized) of inside each g lt)
+            at-counted w long good known (of g) g (inside g lt) A (each g lt) (prior-fits (setsIn w) counts a good (sized w long) of inside each g lt)
 
   -- ---- from the clauses
 
@@ -364,15 +341,15 @@ module _ (w : List ℕ) where
     pub forced : (block : BlockSound (between LAYOUT GROUP-FAMILIES w) slots (layoutFamilies w) (layoutGroups w)) → Force n (layoutFamilies w) w
     forced block =
         let l = size-long n k w Z in
-        force w a (layout-reads w l) (block .formed .good) (layout-known T (Z .limits .mostKinds) l block) n k (columns-are Z (P .columns)) (P .table .few)
+        force w l (block .formed .good) (layout-known T (Z .limits .mostKinds) l block) n k (columns-are Z (P .columns)) (P .table .few)
 
     -- what the check of the columns' own groups asks, with the layout's width read
-    module _ (block : BlockSound (between LAYOUT GROUP-FAMILIES w) slots (layoutFamilies w) (layoutGroups w)) (width : ℕ) (e : width ≡ startIn w LAYOUT-KIND-ENDS (layoutFamilies w)) where
+    module _ (block : BlockSound (between LAYOUT GROUP-FAMILIES w) slots (layoutFamilies w) (layoutGroups w)) (width : ℕ) (e : ReadStart w LAYOUT-KIND-ENDS (layoutFamilies w) width) where
       abbrev reach : ENTITIES ≤ length w
       reach = size-long n k w Z
 
-      width-is : width ≡ widthOf a
-      width-is = e ∙ sym (kind-start w a (layout-reads w reach) (layoutFamilies w) (omega (arith, block .formed .good .few)))
+      pub width-is : width ≡ widthOf a
+      width-is = e .is ∙ sym (kind-start-word w (layoutFamilies w) (omega (arith, block .formed .good .few)))
 
       pub own-room : Room n reg w
       own-room = room-less n k w (size-room n k w Z) reg (P .table .few)
@@ -447,7 +424,7 @@ module _ (w : List ℕ) where
               draft = draft-are;
               uncounted = uncounted-are;
               layout = layout-build;
-              groups = groups-are long (Y .block .formed .good) (layout-known T most long (Y .block)) arranged-of (Y .heads) S (live-once E) layout-build K;
+              groups = groups-are long (Y .block .formed .good) (layout-known T most long (Y .block)) arranged-of S (live-once E) layout-build K;
               refusals = omega (arith, bits REFUSALS);
             }
 
@@ -536,4 +513,4 @@ module _ (w : List ℕ) where
 
     pub counts-of : CountsOk n w
     counts-of =
-        are-groups far (A .layout .formed) kinds-known A (layout-of .heads) (M .sets) (live-once (M .entities)) (M .layout) (M .groups)
+        are-groups far (A .layout .formed) kinds-known A (M .sets) (live-once (M .entities)) (M .layout) (M .groups)

@@ -4,17 +4,19 @@ use mathlib.Core.List.{List}
 use Prim.Native.Nat.{ℕ, _+_, _≤_}
 use lib.ListN.{length}
 use Rattle.model.specs.Sound.{Limits}
-use Rattle.words.specs.Offsets.{columnStart, DRAFT, EXCLUDED-KINDS, GROUP-FAMILIES, LAYOUT, LAYOUT-KIND-ENDS, STAGED-KINDS, TABLE}
+use Rattle.words.specs.Offsets.{columnStart, DRAFT, EXCLUDED-KINDS, GROUP-FAMILIES, LAYOUT, STAGED-KINDS, TABLE}
 use Rattle.words.specs.Part.{between}
 use Rattle.words.specs.Decides.{Each}
 use Rattle.entity.specs.Meaning as entity
 use Rattle.entity.specs.Change.{entityPart}
+use Rattle.layout.specs.Layout.{widthOf}
 use Rattle.layout_block.specs.Checks.{BlockSound}
 use Rattle.memory.specs.Header.{capacityOf, kindCapacityOf, registeredOf, stagedLen, excludedLen, draftFamilies, draftGroups, layoutFamilies, layoutGroups}
+use Rattle.memory.specs.Meaning.{layoutArrays}
 use Rattle.sound_columns.specs.Table.{TableOk}
 use Rattle.sound_columns.specs.Rows.{ColumnOk}
 use Rattle.sound_columns.specs.Listed.{ListOk}
-use Rattle.sound_groups.specs.Spans.{startIn, HeadsOk, OwnOk}
+use Rattle.sound_groups.specs.Spans.{HeadsOk, OwnOk}
 use Rattle.sound_groups.specs.Counts.{CountedOk}
 
 -- "N and K within the limits of refusal 1, enough words for them"
@@ -42,8 +44,8 @@ pub record Ground (w : List ℕ) : Type 0 where
 -- "layout of registered kinds, such as commands can build", and the heads of the columns that it names
 pub record LayoutOk (n : ℕ) (w : List ℕ) : Type 0 where
   pub block : BlockSound (between LAYOUT GROUP-FAMILIES w) (between TABLE STAGED-KINDS w) (layoutFamilies w) (layoutGroups w)
-  pub heads : Each (layoutGroups w) (HeadsOk n (layoutFamilies w) w)
-  pub own : Each (registeredOf w) (OwnOk n w (between LAYOUT (LAYOUT + startIn w LAYOUT-KIND-ENDS (layoutFamilies w)) w))
+  pub heads : Each (layoutGroups w) (HeadsOk n w)
+  pub own : Each (registeredOf w) (OwnOk n w (between LAYOUT (LAYOUT + widthOf (layoutArrays w)) w))
 
 -- "groups as demand 3 says"
 abbrev pub CountsOk : ℕ → List ℕ → Type 0

@@ -1,4 +1,5 @@
 // Whether lent words are a sound store (01), in time linear in the words.
+use layout::starts::start_of;
 use layout_block::block_ok;
 use sound_columns::lists::is_list;
 use sound_columns::slots::are_columns;
@@ -6,7 +7,6 @@ use sound_columns::table::is_table;
 use sound_groups::counts::are_counts;
 use sound_groups::heads::are_heads;
 use sound_groups::heads::are_own;
-use sound_groups::heads::start_in;
 use words::CAPACITY;
 use words::DRAFT;
 use words::DRAFT_FAMILIES;
@@ -114,7 +114,7 @@ fn has_layout(words: &[u32]) -> bool
     if !are_heads(words, n, families, groups) {
         return false;
     }
-    let width = start_in(words, LAYOUT_KIND_ENDS, families);
+    let width = start_of(words, LAYOUT_KIND_ENDS, families);
     if !are_own(words, n, words[REGISTERED] as usize, width) {
         return false;
     }

@@ -6,23 +6,20 @@ use Prim.Native.Nat.{ℕ, _+_, _-_, _≤_, _<_}
 use native.Mathlib.Omega.{arith}
 use lib.ListN.{length, getD}
 use lib.Seq.{getD-take, take-all}
-use Rattle.words.specs.Offsets.{ENTITIES, GROUP-COUNTS}
 use Rattle.model.specs.Model.{mem, groupsOf}
 use Rattle.model.specs.Sound.{In, Distinct, layoutKinds}
 use Rattle.masks.specs.Masks.{bitsOf, upFrom, Ordered}
 use Rattle.words.specs.Part.{between}
-use Rattle.layout.specs.Layout.{Arrays, startOf, widthOf, aritiesAt, familiesOf}
-use Rattle.layout.proofs.Arrays.{kinds-inside}
+use Rattle.layout.specs.Layout.{startOf, widthOf}
+use Rattle.layout.specs.Group.{arityOf, priorArity}
 use Rattle.memory.specs.Header.{slotOf, groupFamilyAt}
 use Rattle.memory.specs.Meaning.{ownAt, localAt, layoutArrays, meaning}
-use Rattle.memory.specs.Arranged.{Arranged, priorArity}
-use Rattle.memory.proofs.Frames.{layout-sized}
-use Rattle.kinds.proofs.Owned.{Owned, no-group, prior-at}
+use Rattle.memory.specs.Arranged.{Arranged}
+use Rattle.kinds.proofs.Owned.{Owned, no-group}
 use Rattle.group.specs.declared.group_metadata.GroupMetadata.{GroupMetadata}
 use Rattle.group.specs.Flat.{Located, located}
 use Rattle.group.specs.Metadata.{orderOf, Describes}
-use Rattle.group.proofs.FlatArrays.{arity-rises, located-is}
-use Rattle.group.proofs.InWords.{layout-means, groups-are, order-is, order-length, order-part-once}
+use Rattle.group.proofs.InWords.{groups-are, order-is, order-length, order-part-once, group-rises, located-words}
 use Rattle.words.proofs.Part.{between-in}
 use Rattle.group.proofs.Counts.{placed}
 use Rattle.group.proofs.KindPositions.{insert-none, delete-none, insert-run, delete-run}
@@ -31,9 +28,6 @@ use Rattle.world.specs.declared.mask.Walk.the-variants.{Insert, Delete}
 use Rattle.world.specs.Walked.{lowestOf, walkPositions}
 
 module _ (w : List ℕ) (A : Arranged w) where
-  abbrev a : Arrays
-  a = layoutArrays w
-
   pub order-once : Distinct (layoutKinds (meaning w .storage .layout))
   order-once = subst Distinct (take-all (length (orderOf (meaning w)) - 0) (orderOf (meaning w)) (omega arith)) (order-part-once w A 0 (length (orderOf (meaning w))))
 
@@ -43,28 +37,16 @@ module _ (w : List ℕ) (A : Arranged w) where
 
     own-new : In (located (meaning w .storage .layout) g .newKinds) k
     own-new =
-        let G = A .layout .groups g (O .group) in
         let f : ℕ = groupFamilyAt w g in
-        let s : ℕ = startOf (layoutArrays w .kindEnds) (groupFamilyAt w g) in
+        let s : ℕ = startOf (layoutArrays w .kindEnds) f in
         let j : ℕ = localAt w (slotOf w k) in
-        let i : ℕ = g - startOf (layoutArrays w .ends) (groupFamilyAt w g) in
-        let at : startOf (layoutArrays w .ends) (groupFamilyAt w g) + (g - startOf (layoutArrays w .ends) (groupFamilyAt w g)) ≡ g = omega (arith, G .low) in
-        let inside : startOf (layoutArrays w .ends) (groupFamilyAt w g) + (g - startOf (layoutArrays w .ends) (groupFamilyAt w g)) < getD (layoutArrays w .ends) (groupFamilyAt w g) 0 = omega (arith, G .low, G .high) in
-        let r = arity-rises (between GROUP-COUNTS ENTITIES w) (layoutArrays w) (A .layout .formed) (layout-sized w A) f i (G .family) inside in
-        let arity : getD (layoutArrays w .arities) (startOf (layoutArrays w .ends) f + i) 0 ≡ getD (layoutArrays w .arities) g 0 = ap (λ (m : ℕ). getD (layoutArrays w .arities) m 0) at in
-        let prior : getD (0 ∷ aritiesAt (layoutArrays w) f) i 0 ≡ priorArity (layoutArrays w) f g = sym (prior-at (layoutArrays w) f i inside) ∙ ap (priorArity (layoutArrays w) f) at in
-        let order : layoutKinds (familiesOf (between GROUP-COUNTS ENTITIES w) (layoutArrays w)) ≡ orderOf (meaning w) = sym (ap layoutKinds (layout-means w A)) in
-        let width : s + getD (layoutArrays w .arities) g 0 ≤ length (orderOf (meaning w)) = omega (arith, r .1, arity, order-length w A, kinds-inside (layoutArrays w) (A .layout .formed) f (G .family)) in
+        let width : s + arityOf (layoutArrays w) g ≤ length (orderOf (meaning w)) = group-rises w A g own-below .1 in
         let here : getD (orderOf (meaning w)) (s + j) 0 ≡ k =
         ap (λ (l : List ℕ). getD l (s + j) 0) (order-is w A) ∙ getD-take (widthOf (layoutArrays w)) (layoutArrays w .kinds) (s + j) 0 (omega (arith, O .high, width, order-length w A)) ∙ O .member in
-        let news : located (meaning w .storage .layout) g .newKinds ≡ between (s + priorArity (layoutArrays w) f g) (s + getD (layoutArrays w .arities) g 0) (orderOf (meaning w)) =
-        ap (λ (fs : _). located fs g .newKinds) (layout-means w A)
-        ∙ ap (λ (m : ℕ). located (familiesOf (between GROUP-COUNTS ENTITIES w) (layoutArrays w)) m .newKinds) (sym at)
-        ∙ ap (λ (l : Located). l .newKinds) (located-is (between GROUP-COUNTS ENTITIES w) (layoutArrays w) (A .layout .formed) (layout-sized w A) f i (G .family) inside)
-        ∙ (λ t. between (s + prior t) (s + arity t) (order t)) in
-        subst (λ (l : List ℕ). In l k) (sym news)
-        (subst (In (between (s + priorArity (layoutArrays w) f g) (s + getD (layoutArrays w .arities) g 0) (orderOf (meaning w)))) here
-        (between-in (s + priorArity (layoutArrays w) f g) (s + getD (layoutArrays w .arities) g 0) (s + j) (orderOf (meaning w)) (omega (arith, O .low)) (omega (arith, O .high)) width))
+        let from : ℕ = s + priorArity (layoutArrays w) f g in
+        let to : ℕ = s + arityOf (layoutArrays w) g in
+        subst (λ (l : List ℕ). In l k) (sym (ap (λ (l : Located). l .newKinds) (located-words w A g own-below)))
+        (subst (In (between from to (orderOf (meaning w)))) here (between-in from to (s + j) (orderOf (meaning w)) (omega (arith, O .low)) (omega (arith, O .high)) width))
 
     module _ (d : GroupMetadata) (D : Describes (meaning w) g d) where
       pub mask-ordered : (walk : Walk) → Ordered 64 (lowestOf walk (d .first) g) (d .top)

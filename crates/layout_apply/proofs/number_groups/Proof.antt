@@ -25,19 +25,19 @@ word-requires : tie.Need-word-requires Inv-loop μ-loop
 word-requires c κs = omega (arith, c .before .before .before .before .before .before .pre .long, c .before .before .before .before .before .before .pre .few, c .before .before .before .before .loop .inv .1 .size)
 
 add-fill : tie.Need-add-fill Inv-loop μ-loop
-add-fill c = let S = spans (c .before .before .before .before .before .before .before .before .args .words .now) (c .before .before .before .before .before .before .loop .words) (c .before .before .before .before .before .before .before .before .args .families) (c .before .before .before .before .before .before .loop .f) (c .before .before .before .start-of .result) (c .before .word .result) (c .before .before .before .before .before .before .before .before .pre) (c .before .before .before .before .before .loop-test .taken) (c .before .before .before .before .before .before .loop .inv .1) (c .before .before .before .start-of .ensures) (c .before .word .ensures .is) in omega (arith, S .order, S .most)
+add-fill c = let S = spans (c .before .before .before .before .before .before .before .before .args .words .now) (c .before .before .before .before .before .before .loop .words) (c .before .before .before .before .before .before .before .before .args .families) (c .before .before .before .before .before .before .loop .f) (c .before .before .before .start-of .result) (c .before .word .result) (c .before .before .before .before .before .before .before .before .pre) (c .before .before .before .before .before .loop-test .taken) (c .before .before .before .before .before .before .loop .inv .1) (c .before .before .before .start-of .ensures .is) (c .before .word .ensures .is) in omega (arith, S .order, S .most)
 
 add-fill-2 : tie.Need-add-fill-2 Inv-loop μ-loop
-add-fill-2 c = let S = spans (c .before .before .before .before .before .before .before .before .args .words .now) (c .before .before .before .before .before .before .loop .words) (c .before .before .before .before .before .before .before .before .args .families) (c .before .before .before .before .before .before .loop .f) (c .before .before .before .start-of .result) (c .before .word .result) (c .before .before .before .before .before .before .before .before .pre) (c .before .before .before .before .before .loop-test .taken) (c .before .before .before .before .before .before .loop .inv .1) (c .before .before .before .start-of .ensures) (c .before .word .ensures .is) in omega (arith, S .most)
+add-fill-2 c = let S = spans (c .before .before .before .before .before .before .before .before .args .words .now) (c .before .before .before .before .before .before .loop .words) (c .before .before .before .before .before .before .before .before .args .families) (c .before .before .before .before .before .before .loop .f) (c .before .before .before .start-of .result) (c .before .word .result) (c .before .before .before .before .before .before .before .before .pre) (c .before .before .before .before .before .loop-test .taken) (c .before .before .before .before .before .before .loop .inv .1) (c .before .before .before .start-of .ensures .is) (c .before .word .ensures .is) in omega (arith, S .most)
 
 fill-requires : tie.Need-fill-requires Inv-loop μ-loop
 fill-requires c κs =
-    let S = spans (c .before .before .before .before .before .before .before .before .args .words .now) (c .before .before .before .before .before .before .loop .words) (c .before .before .before .before .before .before .before .before .args .families) (c .before .before .before .before .before .before .loop .f) (c .before .before .before .start-of .result) (c .before .word .result) (c .before .before .before .before .before .before .before .before .pre) (c .before .before .before .before .before .loop-test .taken) (c .before .before .before .before .before .before .loop .inv .1) (c .before .before .before .start-of .ensures) (c .before .word .ensures .is) in
+    let S = spans (c .before .before .before .before .before .before .before .before .args .words .now) (c .before .before .before .before .before .before .loop .words) (c .before .before .before .before .before .before .before .before .args .families) (c .before .before .before .before .before .before .loop .f) (c .before .before .before .start-of .result) (c .before .word .result) (c .before .before .before .before .before .before .before .before .pre) (c .before .before .before .before .before .loop-test .taken) (c .before .before .before .before .before .before .loop .inv .1) (c .before .before .before .start-of .ensures .is) (c .before .word .ensures .is) in
     ((omega (arith, S .order), omega (arith, S .most, S .long)), omega (arith, c .before .before .before .before .before .before .before .before .pre .few))
 
 loop-again : tie.Need-loop-again Inv-loop μ-loop
 loop-again c =
-    let S = spans (c .before .before .before .before .before .before .before .before .before .before .before .args .words .now) (c .before .before .before .before .before .before .before .before .before .loop .words) (c .before .before .before .before .before .before .before .before .before .before .before .args .families) (c .before .before .before .before .before .before .before .before .before .loop .f) (c .before .before .before .before .before .before .start-of .result) (c .before .before .before .before .word .result) (c .before .before .before .before .before .before .before .before .before .before .before .pre) (c .before .before .before .before .before .before .before .before .loop-test .taken) (c .before .before .before .before .before .before .before .before .before .loop .inv .1) (c .before .before .before .before .before .before .start-of .ensures) (c .before .before .before .before .word .ensures .is) in
+    let S = spans (c .before .before .before .before .before .before .before .before .before .before .before .args .words .now) (c .before .before .before .before .before .before .before .before .before .loop .words) (c .before .before .before .before .before .before .before .before .before .before .before .args .families) (c .before .before .before .before .before .before .before .before .before .loop .f) (c .before .before .before .before .before .before .start-of .result) (c .before .before .before .before .word .result) (c .before .before .before .before .before .before .before .before .before .before .before .pre) (c .before .before .before .before .before .before .before .before .loop-test .taken) (c .before .before .before .before .before .before .before .before .before .loop .inv .1) (c .before .before .before .before .before .before .start-of .ensures .is) (c .before .before .before .before .word .ensures .is) in
     (omega arith, number-more (c .before .before .before .before .before .before .before .before .before .before .before .args .words .now) (c .before .before .before .before .before .before .before .before .before .loop .words) (c .before .before .fill .last .0) (c .before .before .before .before .before .before .before .before .before .before .before .args .families) (c .before .before .before .before .before .before .before .before .before .loop .f) (c .before .before .before .before .before .before .start-of .result) (c .before .before .before .before .word .result) (c .before .before .before .before .before .before .before .before .before .before .before .pre) (c .before .before .before .before .before .before .before .before .loop-test .taken) (c .before .before .before .before .before .before .before .before .before .loop .inv .1) S (c .before .before .fill .ensures))
 
 same-length : tie.Need-same-length Inv-loop μ-loop

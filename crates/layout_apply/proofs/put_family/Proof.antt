@@ -3,8 +3,9 @@ use Prim.Native.Nat.{_-_, _<_}
 use native.Mathlib.Omega.{arith}
 use lib.ListN.{getD}
 use Rattle.memory.specs.Meaning.{layoutArrays}
+use Rattle.memory.proofs.LayoutWords.{start-word, end-word}
 use Rattle.layout_apply.proofs.HeadSteps.{ready-kept, capacity-same}
-use Rattle.layout_apply.proofs.HeadLoops.{start-word, end-word, Familywise, family-none, family-group, family-prior, family-upto, family-more, family-done}
+use Rattle.layout_apply.proofs.HeadLoops.{Familywise, family-none, family-group, family-prior, family-upto, family-more, family-done}
 use Rattle.layout_apply.proofs.put_family.Statement.{statement}
 use Rattle.layout_apply.proofs.put_family.Tie as tie
 
@@ -27,7 +28,7 @@ loop-holds : tie.Need-loop-holds Inv-loop μ-loop
 loop-holds c =
     let s = c .before .before .before .before .before in
     let w = s .args .words .now in
-    family-none w (s .pre .0) (s .args .f) (s .pre .1 .1 .0) (c .before .before .start-of .result) (c .before .before .start-of .ensures ∙ sym (start-word w (s .args .f) (omega (arith, s .pre .0 .formed .few, s .pre .1 .1 .0)))) (s .pre .1 .1 .1)
+    family-none w (s .pre .0) (s .args .f) (s .pre .1 .1 .0) (c .before .before .start-of .result) (c .before .before .start-of .ensures .is ∙ sym (start-word w (s .args .f) (omega (arith, s .pre .0 .formed .few, s .pre .1 .1 .0)))) (s .pre .1 .1 .1)
 
 put-group-requires : tie.Need-put-group-requires Inv-loop μ-loop
 put-group-requires c κs =

@@ -9,7 +9,7 @@ use Rattle.words.specs.Part.{between}
 use Rattle.layout_block.specs.Checks.{BlockSound}
 use Rattle.memory.specs.Header.{capacityOf, kindCapacityOf, registeredOf, layoutFamilies, layoutGroups}
 use Rattle.sound_groups.specs.Spans.{HeadsOk, OwnOk}
-use Rattle.soundness.proofs.Whole.{size-long, forced, groups-few, own-room, own-heads, own-width, own-kinds}
+use Rattle.soundness.proofs.Whole.{size-long, forced, groups-few, own-room, own-heads, own-width, own-kinds, width-is}
 use Rattle.soundness.proofs.has_layout.Statement.{statement}
 use Rattle.soundness.proofs.has_layout.Tie as tie
 
@@ -44,10 +44,10 @@ are-heads-requires : tie.Need-are-heads-requires
 are-heads-requires c κs = let a = c .before .before .before .before .before .before .before .before .args in let B : BlockSound (between LAYOUT GROUP-FAMILIES (a .words .now)) (between TABLE STAGED-KINDS (a .words .now)) (layoutFamilies (a .words .now)) (layoutGroups (a .words .now)) = granted {P = BlockSound (between LAYOUT GROUP-FAMILIES (a .words .now)) (between TABLE STAGED-KINDS (a .words .now)) (layoutFamilies (a .words .now)) (layoutGroups (a .words .now))} (c .before .block-ok .result) (c .before .block-ok .ensures) (c .if1 .left) in (forced (a .words .now) (c .before .before .before .before .before .before .before .before .pre .size) (c .before .before .before .before .before .before .before .before .pre .parts) B, groups-few (a .words .now) (c .before .before .before .before .before .before .before .before .pre .size) (c .before .before .before .before .before .before .before .before .pre .parts) B)
 
 returns-2 : tie.Need-returns-2
-returns-2 c = let a = c .before .before .before .before .before .before .before .before .before .before .args in λ T. denied {P = Each (layoutGroups (a .words .now)) (HeadsOk (capacityOf (a .words .now)) (layoutFamilies (a .words .now)) (a .words .now))} (c .before .are-heads .result) (c .before .are-heads .ensures) (c .if2 .taken) (T .heads)
+returns-2 c = let a = c .before .before .before .before .before .before .before .before .before .before .args in λ T. denied {P = Each (layoutGroups (a .words .now)) (HeadsOk (capacityOf (a .words .now)) (a .words .now))} (c .before .are-heads .result) (c .before .are-heads .ensures) (c .if2 .taken) (T .heads)
 
-start-in-requires : tie.Need-start-in-requires
-start-in-requires c κs = let a = c .before .before .before .before .before .before .before .before .before .before .args in let B : BlockSound (between LAYOUT GROUP-FAMILIES (a .words .now)) (between TABLE STAGED-KINDS (a .words .now)) (layoutFamilies (a .words .now)) (layoutGroups (a .words .now)) = granted {P = BlockSound (between LAYOUT GROUP-FAMILIES (a .words .now)) (between TABLE STAGED-KINDS (a .words .now)) (layoutFamilies (a .words .now)) (layoutGroups (a .words .now))} (c .before .before .before .block-ok .result) (c .before .before .before .block-ok .ensures) (c .before .before .if1 .left) in omega (arith, size-long (capacityOf (a .words .now)) (kindCapacityOf (a .words .now)) (a .words .now) (c .before .before .before .before .before .before .before .before .before .before .pre .size), B .formed .good .few)
+start-of-requires : tie.Need-start-of-requires
+start-of-requires c κs = let a = c .before .before .before .before .before .before .before .before .before .before .args in let B : BlockSound (between LAYOUT GROUP-FAMILIES (a .words .now)) (between TABLE STAGED-KINDS (a .words .now)) (layoutFamilies (a .words .now)) (layoutGroups (a .words .now)) = granted {P = BlockSound (between LAYOUT GROUP-FAMILIES (a .words .now)) (between TABLE STAGED-KINDS (a .words .now)) (layoutFamilies (a .words .now)) (layoutGroups (a .words .now))} (c .before .before .before .block-ok .result) (c .before .before .before .block-ok .ensures) (c .before .before .if1 .left) in omega (arith, size-long (capacityOf (a .words .now)) (kindCapacityOf (a .words .now)) (a .words .now) (c .before .before .before .before .before .before .before .before .before .before .pre .size), B .formed .good .few)
 
 shared-slice-read-are-own : tie.Need-shared-slice-read-are-own
 shared-slice-read-are-own c = let a = c .before .before .before .before .before .before .before .before .before .before .before .before .args in omega (arith, size-long (capacityOf (a .words .now)) (kindCapacityOf (a .words .now)) (a .words .now) (c .before .before .before .before .before .before .before .before .before .before .before .before .pre .size))
@@ -56,13 +56,27 @@ cast-are-own : tie.Need-cast-are-own
 cast-are-own c = omega (arith, c .before .before .before .before .before .before .before .before .before .before .before .shared-slice-known .given 2)
 
 are-own-requires : tie.Need-are-own-requires
-are-own-requires c κs = let a = c .before .before .before .before .before .before .before .before .before .before .before .before .args in let B : BlockSound (between LAYOUT GROUP-FAMILIES (a .words .now)) (between TABLE STAGED-KINDS (a .words .now)) (layoutFamilies (a .words .now)) (layoutGroups (a .words .now)) = granted {P = BlockSound (between LAYOUT GROUP-FAMILIES (a .words .now)) (between TABLE STAGED-KINDS (a .words .now)) (layoutFamilies (a .words .now)) (layoutGroups (a .words .now))} (c .before .before .before .before .before .block-ok .result) (c .before .before .before .before .before .block-ok .ensures) (c .before .before .before .before .if1 .left) in (own-room (a .words .now) (c .before .before .before .before .before .before .before .before .before .before .before .before .pre .size) (c .before .before .before .before .before .before .before .before .before .before .before .before .pre .parts) B (c .before .start-in .result) (c .before .start-in .ensures .is), (own-heads (a .words .now) (c .before .before .before .before .before .before .before .before .before .before .before .before .pre .size) (c .before .before .before .before .before .before .before .before .before .before .before .before .pre .parts) B (c .before .start-in .result) (c .before .start-in .ensures .is), (own-width (a .words .now) (c .before .before .before .before .before .before .before .before .before .before .before .before .pre .size) (c .before .before .before .before .before .before .before .before .before .before .before .before .pre .parts) B (c .before .start-in .result) (c .before .start-in .ensures .is), own-kinds (a .words .now) (c .before .before .before .before .before .before .before .before .before .before .before .before .pre .size) (c .before .before .before .before .before .before .before .before .before .before .before .before .pre .parts) B (c .before .start-in .result) (c .before .start-in .ensures .is))))
+are-own-requires c κs = let a = c .before .before .before .before .before .before .before .before .before .before .before .before .args in let B : BlockSound (between LAYOUT GROUP-FAMILIES (a .words .now)) (between TABLE STAGED-KINDS (a .words .now)) (layoutFamilies (a .words .now)) (layoutGroups (a .words .now)) = granted {P = BlockSound (between LAYOUT GROUP-FAMILIES (a .words .now)) (between TABLE STAGED-KINDS (a .words .now)) (layoutFamilies (a .words .now)) (layoutGroups (a .words .now))} (c .before .before .before .before .before .block-ok .result) (c .before .before .before .before .before .block-ok .ensures) (c .before .before .before .before .if1 .left) in (own-room (a .words .now) (c .before .before .before .before .before .before .before .before .before .before .before .before .pre .size) (c .before .before .before .before .before .before .before .before .before .before .before .before .pre .parts) B (c .before .start-of .result) (c .before .start-of .ensures), (own-heads (a .words .now) (c .before .before .before .before .before .before .before .before .before .before .before .before .pre .size) (c .before .before .before .before .before .before .before .before .before .before .before .before .pre .parts) B (c .before .start-of .result) (c .before .start-of .ensures), (own-width (a .words .now) (c .before .before .before .before .before .before .before .before .before .before .before .before .pre .size) (c .before .before .before .before .before .before .before .before .before .before .before .before .pre .parts) B (c .before .start-of .result) (c .before .start-of .ensures), own-kinds (a .words .now) (c .before .before .before .before .before .before .before .before .before .before .before .before .pre .size) (c .before .before .before .before .before .before .before .before .before .before .before .before .pre .parts) B (c .before .start-of .result) (c .before .start-of .ensures))))
 
 returns-3 : tie.Need-returns-3
-returns-3 c = let a = c .before .before .before .before .before .before .before .before .before .before .before .before .before .before .args in λ T. denied {P = Each (registeredOf (a .words .now)) (OwnOk (capacityOf (a .words .now)) (a .words .now) (between LAYOUT (LAYOUT + c .before .before .before .start-in .result) (a .words .now)))} (c .before .are-own .result) (c .before .are-own .ensures) (c .if3 .taken) (subst (λ (x : ℕ). Each (registeredOf (a .words .now)) (OwnOk (capacityOf (a .words .now)) (a .words .now) (between LAYOUT (LAYOUT + x) (a .words .now)))) (sym (c .before .before .before .start-in .ensures .is)) (T .own))
+returns-3 c =
+    let s = c .before .before .before .before .before .before .before .before .before .before .before .before .before .before in
+    let w = s .args .words .now in
+    let B : BlockSound (between LAYOUT GROUP-FAMILIES w) (between TABLE STAGED-KINDS w) (layoutFamilies w) (layoutGroups w) = granted {P = BlockSound (between LAYOUT GROUP-FAMILIES w) (between TABLE STAGED-KINDS w) (layoutFamilies w) (layoutGroups w)} (c .before .before .before .before .before .before .before .block-ok .result) (c .before .before .before .before .before .before .before .block-ok .ensures) (c .before .before .before .before .before .before .if1 .left) in
+    let e = width-is w (s .pre .size) (s .pre .parts) B (c .before .before .before .start-of .result) (c .before .before .before .start-of .ensures) in
+    λ T. denied {P = Each (registeredOf w) (OwnOk (capacityOf w) w (between LAYOUT (LAYOUT + c .before .before .before .start-of .result) w))} (c .before .are-own .result) (c .before .are-own .ensures) (c .if3 .taken) (subst (λ (x : ℕ). Each (registeredOf w) (OwnOk (capacityOf w) w (between LAYOUT (LAYOUT + x) w))) (sym e) (T .own))
 
 returns-4 : tie.Need-returns-4
-returns-4 c = let a = c .before .before .before .before .before .before .before .before .before .before .before .before .before .before .args in let B : BlockSound (between LAYOUT GROUP-FAMILIES (a .words .now)) (between TABLE STAGED-KINDS (a .words .now)) (layoutFamilies (a .words .now)) (layoutGroups (a .words .now)) = granted {P = BlockSound (between LAYOUT GROUP-FAMILIES (a .words .now)) (between TABLE STAGED-KINDS (a .words .now)) (layoutFamilies (a .words .now)) (layoutGroups (a .words .now))} (c .before .before .before .before .before .before .before .block-ok .result) (c .before .before .before .before .before .before .before .block-ok .ensures) (c .before .before .before .before .before .before .if1 .left) in record { block = B; heads = granted {P = Each (layoutGroups (a .words .now)) (HeadsOk (capacityOf (a .words .now)) (layoutFamilies (a .words .now)) (a .words .now))} (c .before .before .before .before .before .are-heads .result) (c .before .before .before .before .before .are-heads .ensures) (c .before .before .before .before .if2 .left); own = subst (λ (x : ℕ). Each (registeredOf (a .words .now)) (OwnOk (capacityOf (a .words .now)) (a .words .now) (between LAYOUT (LAYOUT + x) (a .words .now)))) (c .before .before .before .start-in .ensures .is) (granted {P = Each (registeredOf (a .words .now)) (OwnOk (capacityOf (a .words .now)) (a .words .now) (between LAYOUT (LAYOUT + c .before .before .before .start-in .result) (a .words .now)))} (c .before .are-own .result) (c .before .are-own .ensures) (c .if3 .left)) }
+returns-4 c =
+    let s = c .before .before .before .before .before .before .before .before .before .before .before .before .before .before in
+    let w = s .args .words .now in
+    let B : BlockSound (between LAYOUT GROUP-FAMILIES w) (between TABLE STAGED-KINDS w) (layoutFamilies w) (layoutGroups w) = granted {P = BlockSound (between LAYOUT GROUP-FAMILIES w) (between TABLE STAGED-KINDS w) (layoutFamilies w) (layoutGroups w)} (c .before .before .before .before .before .before .before .block-ok .result) (c .before .before .before .before .before .before .before .block-ok .ensures) (c .before .before .before .before .before .before .if1 .left) in
+    let e = width-is w (s .pre .size) (s .pre .parts) B (c .before .before .before .start-of .result) (c .before .before .before .start-of .ensures) in
+    record {
+      block = B;
+      heads = granted {P = Each (layoutGroups w) (HeadsOk (capacityOf w) w)} (c .before .before .before .before .before .are-heads .result) (c .before .before .before .before .before .are-heads .ensures) (c .before .before .before .before .if2 .left);
+      own = subst (λ (x : ℕ). Each (registeredOf w) (OwnOk (capacityOf w) w (between LAYOUT (LAYOUT + x) w))) e (granted {P = Each (registeredOf w) (OwnOk (capacityOf w) w (between LAYOUT (LAYOUT + c .before .before .before .start-of .result) w))} (c .before .are-own .result) (c .before .are-own .ensures) (c .if3 .left));
+    }
 
 pub has-layout-spec : {M : Type 1} → statement M
 has-layout-spec =
@@ -84,7 +98,7 @@ has-layout-spec =
     returns
     are-heads-requires
     returns-2
-    start-in-requires
+    start-of-requires
     shared-slice-read-are-own
     cast-are-own
     are-own-requires

@@ -35,18 +35,18 @@ add-word-3 c = let s = c .before .before .before .before .before in omega (arith
 word-requires-3 : tie.Need-word-requires-3
 word-requires-3 c κs = let s = c .before .before .before .before .before in header-long (s .args .words .now) (s .pre .0) (LAYOUT-ARITIES + s .args .g) (omega (arith, group-few (s .args .words .now) (s .pre .0) (s .args .g) (s .pre .1)))
 
-prior-arity-requires : tie.Need-prior-arity-requires
-prior-arity-requires c κs =
+prior-of-requires : tie.Need-prior-of-requires
+prior-of-requires c κs =
     let s = c .before .before .before .before .before .before in
-    (omega (arith, group-few (s .args .words .now) (s .pre .0) (s .args .g) (s .pre .1)), omega (arith, header-long (s .args .words .now) (s .pre .0) 1023 (omega arith)))
+    (omega (arith, group-few (s .args .words .now) (s .pre .0) (s .args .g) (s .pre .1), header-long (s .args .words .now) (s .pre .0) 1023 (omega arith)), omega arith)
 
 -- sums of what was read
-small : (c : tie.After-prior-arity) → (c .before .before .before .before .start-of .result + c .before .word3 .result ≤ MAX-KINDS) × (c .prior-arity .result < c .before .word3 .result)
+small : (c : tie.After-prior-of) → (c .before .before .before .before .start-of .result + c .before .word3 .result ≤ MAX-KINDS) × (c .prior-of .result < c .before .word3 .result)
 small c =
     let s = c .before .before .before .before .before .before .before in
     read-small (s .args .words .now) (s .pre .0) (s .args .g) (s .pre .1)
-    (c .before .before .before .before .before .word .result) (c .before .before .before .before .start-of .result) (c .before .before .before .start-of2 .result) (c .before .before .word2 .result) (c .before .word3 .result) (c .prior-arity .result)
-    (c .before .before .before .before .before .word .ensures) (c .before .before .before .before .start-of .ensures) (c .before .before .before .start-of2 .ensures) (c .before .before .word2 .ensures) (c .before .word3 .ensures) (c .prior-arity .ensures)
+    (c .before .before .before .before .before .word .result) (c .before .before .before .before .start-of .result) (c .before .before .before .start-of2 .result) (c .before .before .word2 .result) (c .before .word3 .result) (c .prior-of .result)
+    (c .before .before .before .before .before .word .ensures) (c .before .before .before .before .start-of .ensures) (c .before .before .before .start-of2 .ensures) (c .before .before .word2 .ensures) (c .before .word3 .ensures) (c .prior-of .ensures)
 
 add-t9 : tie.Need-add-t9
 add-t9 c = omega (arith, small c .0, small c .1)
@@ -58,8 +58,8 @@ returns : tie.Need-returns
 returns c =
     let s = c .before .before .before .before .before .before .before in
     read-describes (s .args .words .now) (s .pre .0) (s .args .g) (s .pre .1)
-    (c .before .before .before .before .before .word .result) (c .before .before .before .before .start-of .result) (c .before .before .before .start-of2 .result) (c .before .before .word2 .result) (c .before .word3 .result) (c .prior-arity .result)
-    (c .before .before .before .before .before .word .ensures) (c .before .before .before .before .start-of .ensures) (c .before .before .before .start-of2 .ensures) (c .before .before .word2 .ensures) (c .before .word3 .ensures) (c .prior-arity .ensures)
+    (c .before .before .before .before .before .word .result) (c .before .before .before .before .start-of .result) (c .before .before .before .start-of2 .result) (c .before .before .word2 .result) (c .before .word3 .result) (c .prior-of .result)
+    (c .before .before .before .before .before .word .ensures) (c .before .before .before .before .start-of .ensures) (c .before .before .before .start-of2 .ensures) (c .before .before .word2 .ensures) (c .before .word3 .ensures) (c .prior-of .ensures)
 
 pub metadata-spec : {M : Type 1} → statement M
 metadata-spec =
@@ -73,7 +73,7 @@ metadata-spec =
     word-requires-2
     add-word-3
     word-requires-3
-    prior-arity-requires
+    prior-of-requires
     add-t9
     add-t10
     returns)

@@ -6,7 +6,7 @@ use Rattle.sound_groups.proofs.heads.are_heads.Statement.{statement}
 use Rattle.sound_groups.proofs.heads.are_heads.Tie as tie
 
 abbrev Inv-loop : tie.InvT-loop
-Inv-loop words n families groups g₀ g = Passed (HeadsOk n families words) 0 g
+Inv-loop words n families groups g₀ g = Passed (HeadsOk n words) 0 g
 
 abbrev μ-loop : tie.MeasureT-loop
 μ-loop words n families groups g₀ g = groups - g

@@ -1,0 +1,44 @@
+-- The arrays of the layout in force as the words have them (docs/WORDS.md). Assumes nothing.
+use mathlib.Core.Path.{_≡_, sym, _∙_}
+use mathlib.Core.List.{List}
+use Prim.Native.Nat.{ℕ, _+_, _≤_, _<_}
+use native.Mathlib.Omega.{arith}
+use lib.ListN.{getD, drop}
+use lib.Seq.{getD-drop}
+use Rattle.model.specs.Numbers.{MAX-KINDS}
+use Rattle.words.specs.Offsets.{ARITIES, BLOCK-LEN, ENDS, ENTITIES, GROUP-COUNTS, GROUP-PLACES, KIND-ENDS, LAYOUT, LAYOUT-ARITIES, LAYOUT-ENDS, LAYOUT-KIND-ENDS}
+use Rattle.words.specs.Part.{between, getD-between}
+use Rattle.layout.specs.Layout.{startOf}
+use Rattle.layout.specs.Group.{arityOf, priorOf, priorArity}
+use Rattle.layout.proofs.Arrays.{block-at}
+use Rattle.layout.proofs.Groups.{start-same, prior-same}
+use Rattle.memory.specs.Meaning.{layoutArrays}
+
+module _ (w : List ℕ) where
+  pub kind-word : (i : ℕ) → i < MAX-KINDS → getD (layoutArrays w .kinds) i 0 ≡ getD w (LAYOUT + i) 0
+  kind-word i h = block-at LAYOUT w 0 MAX-KINDS i (omega arith) (omega arith)
+
+  pub arity-word : (g : ℕ) → g < GROUP-PLACES → arityOf (layoutArrays w) g ≡ getD w (LAYOUT-ARITIES + g) 0
+  arity-word g h = block-at LAYOUT w ARITIES KIND-ENDS g (omega arith) (omega arith)
+
+  pub kind-end-word : (f : ℕ) → f < GROUP-PLACES → getD (layoutArrays w .kindEnds) f 0 ≡ getD w (LAYOUT-KIND-ENDS + f) 0
+  kind-end-word f h = block-at LAYOUT w KIND-ENDS ENDS f (omega arith) (omega arith)
+
+  pub end-word : (f : ℕ) → f < GROUP-PLACES → getD (layoutArrays w .ends) f 0 ≡ getD w (LAYOUT-ENDS + f) 0
+  end-word f h = block-at LAYOUT w ENDS BLOCK-LEN f (omega arith) (omega arith)
+
+  -- where family f's kinds and groups start
+  pub kind-start-word : (f : ℕ) → f ≤ GROUP-PLACES → startOf (layoutArrays w .kindEnds) f ≡ startOf (drop LAYOUT-KIND-ENDS w) f
+  kind-start-word = start-same (layoutArrays w .kindEnds) (drop LAYOUT-KIND-ENDS w) GROUP-PLACES (λ i h. kind-end-word i h ∙ sym (getD-drop LAYOUT-KIND-ENDS w i 0))
+
+  pub start-word : (f : ℕ) → f ≤ GROUP-PLACES → startOf (layoutArrays w .ends) f ≡ startOf (drop LAYOUT-ENDS w) f
+  start-word = start-same (layoutArrays w .ends) (drop LAYOUT-ENDS w) GROUP-PLACES (λ i h. end-word i h ∙ sym (getD-drop LAYOUT-ENDS w i 0))
+
+  -- the arity and the count before group g of family f
+  pub prior-word : (f g : ℕ) → g < GROUP-PLACES → priorArity (layoutArrays w) f g ≡ priorOf (drop LAYOUT-ARITIES w) (startOf (layoutArrays w .ends) f) g 0
+  prior-word f g h =
+      prior-same (layoutArrays w .arities) (drop LAYOUT-ARITIES w) GROUP-PLACES (λ i l. arity-word i l ∙ sym (getD-drop LAYOUT-ARITIES w i 0)) (startOf (layoutArrays w .ends) f) g 0 (omega arith)
+
+  pub prior-count-word : (start g none : ℕ) → g < GROUP-PLACES → priorOf (between GROUP-COUNTS ENTITIES w) start g none ≡ priorOf (drop GROUP-COUNTS w) start g none
+  prior-count-word start g none h =
+      prior-same (between GROUP-COUNTS ENTITIES w) (drop GROUP-COUNTS w) GROUP-PLACES (λ i l. getD-between GROUP-COUNTS ENTITIES i w 0 (omega arith) ∙ sym (getD-drop GROUP-COUNTS w i 0)) start g none (omega arith)
