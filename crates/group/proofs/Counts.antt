@@ -1,5 +1,5 @@
 -- A count is set: the other groups, and all but the count of this one, are as before. Where a group's family begins and ends. Assumes nothing.
-use mathlib.Core.Path.{_≡_, refl, ap, ap₂, sym, _∙_}
+use mathlib.Core.Path.{_≡_, refl, ap, sym, _∙_, subst}
 use mathlib.Core.Bool.{Bool, true, false, cond}
 use mathlib.Core.List.{List, [], _∷_, _++_}
 use Prim.Native.Nat.{ℕ, zero, suc, _+_, _-_, _≤_, _<_}
@@ -20,13 +20,27 @@ pub set-append-right : {A : Type 0} (xs ys : List A) (i : ℕ) (a : A) → set (
 set-append-right [] ys i a = let z : 0 + i ≡ i = omega arith in ap (λ (n : ℕ). set ys n a) z
 set-append-right {A} (x ∷ xs) ys i a = rw (suc-add (length xs) i) (ap {B = List A} (λ r. x ∷ r) (set-append-right xs ys i a))
 
--- a position is in the first family, or so far past it
-pub record Past (n g : ℕ) : Type 0 where
-  pub rest : ℕ
-  pub is : g ≡ n + rest
+-- what holds of a group in the first family, and of one past it
+pub by-family : (P : Located → ℕ → Type 0) (p : ℕ) (f : Family) (fs : List Family) (i : ℕ)
+    → (i < length f → P (getD (flattenFamily p (p + length f) [] f) i nowhere) i)
+    → ((j : ℕ) → i ≡ length f + j → P (getD (flatten (p + length f) fs) j nowhere) i)
+    → P (getD (flatten p (f ∷ fs)) i nowhere) i
+by-family P p f fs i here later = go (decLt i (length f))
+  where
+    A : List Located
+    A = flattenFamily p (p + length f) [] f
 
-pub past-of : (n g : ℕ) → n ≤ g → Past n g
-past-of n g h = record { rest = g - n; is = omega arith }
+    B : List Located
+    B = flatten (p + length f) fs
+
+    n : length A ≡ length f
+    n = length-flattenFamily p (p + length f) [] f
+
+    go : Dec (i < length f) → P (getD (A ++ B) i nowhere) i
+    go (yes q) = rw (List·getD-append A B nowhere i (omega (arith, n))) (here q)
+    go (no q) =
+        let e : i ≡ length A + (i - length f) = omega (arith, n) in
+        subst (λ (l : Located). P l i) (sym (ap (λ (m : ℕ). getD (A ++ B) m nowhere) e ∙ getD-append-add A B (i - length f) nowhere)) (later (i - length f) (omega arith))
 
 -- ---- a count is set
 
@@ -52,7 +66,18 @@ flattenFamily-set first top acc (suc g) c (r ∷ rs) =
 
 pub flatten-set : (p g c : ℕ) (fs : List Family) → flatten p (setCount g c fs) ≡ set (flatten p fs) g (recount c (getD (flatten p fs) g nowhere))
 flatten-set p g c [] = refl
-flatten-set p g c (f ∷ fs) = go (decLt g (length f)) (λ i. flatten-set (p + length f) i c fs)
+flatten-set p g c (f ∷ fs) =
+    by-family (λ l g. flatten p (setCount g c (f ∷ fs)) ≡ set (flatten p (f ∷ fs)) g (recount c l)) p f fs g
+    (λ h.
+    ap (flatten p) (set-here g c f fs h)
+    ∙ ap (λ (m : ℕ). flattenFamily p (p + m) [] (setIn g c f) ++ flatten (p + m) fs) (length-setIn g c f)
+    ∙ ap (λ (l : List Located). l ++ B) (flattenFamily-set p (p + length f) [] g c f)
+    ∙ sym (set-append-left A B g (recount c (getD A g nowhere)) (omega (arith, n))))
+    (λ i e.
+    let q : g ≡ length A + i = e ∙ ap (λ (m : ℕ). m + i) (sym n) in
+    ap (flatten p) (ap (λ (m : ℕ). setCount m c (f ∷ fs)) e ∙ set-later i c f fs)
+    ∙ ap (λ (l : List Located). A ++ l) (flatten-set (p + length f) i c fs)
+    ∙ sym (ap (λ (m : ℕ). set (A ++ B) m (recount c (getD B i nowhere))) q ∙ set-append-right A B i (recount c (getD B i nowhere))))
   where
     A : List Located
     A = flattenFamily p (p + length f) [] f
@@ -62,22 +87,6 @@ flatten-set p g c (f ∷ fs) = go (decLt g (length f)) (λ i. flatten-set (p + l
 
     n : length A ≡ length f
     n = length-flattenFamily p (p + length f) [] f
-
-    later : (i : ℕ) → g ≡ length f + i → flatten (p + length f) (setCount i c fs) ≡ set B i (recount c (getD B i nowhere)) → flatten p (setCount g c (f ∷ fs)) ≡ set (A ++ B) g (recount c (getD (A ++ B) g nowhere))
-    later i e r =
-        let q : g ≡ length A + i = e ∙ ap (λ (m : ℕ). m + i) (sym n) in
-        ap (flatten p) (ap (λ (m : ℕ). setCount m c (f ∷ fs)) e ∙ set-later i c f fs)
-        ∙ ap (λ (l : List Located). A ++ l) r
-        ∙ sym (ap₂ (λ (m : ℕ) (l : Located). set (A ++ B) m (recount c l)) q (ap (λ (m : ℕ). getD (A ++ B) m nowhere) q ∙ getD-append-add A B i nowhere) ∙ set-append-right A B i (recount c (getD B i nowhere)))
-
-    go : Dec (g < length f) → ((i : ℕ) → flatten (p + length f) (setCount i c fs) ≡ set B i (recount c (getD B i nowhere))) → flatten p (setCount g c (f ∷ fs)) ≡ set (A ++ B) g (recount c (getD (A ++ B) g nowhere))
-    go (yes h) r =
-        let h′ : g < length A = omega (arith, n) in
-        ap (flatten p) (set-here g c f fs h)
-        ∙ ap (λ (m : ℕ). flattenFamily p (p + m) [] (setIn g c f) ++ flatten (p + m) fs) (length-setIn g c f)
-        ∙ ap (λ (l : List Located). l ++ B) (flattenFamily-set p (p + length f) [] g c f)
-        ∙ sym (ap (λ (l : Located). set (A ++ B) g (recount c l)) (List·getD-append A B nowhere g h′) ∙ set-append-left A B g (recount c (getD A g nowhere)) h′)
-    go (no h) r = let t : Past (length f) g = past-of (length f) g (omega arith) in later (t .rest) (t .is) (r (t .rest))
 
 pub groups-set : (g c : ℕ) (fs : List Family) → groupsOf (setCount g c fs) ≡ groupsOf fs
 groups-set g c fs =
@@ -106,28 +115,14 @@ family-at first top acc (r ∷ rs) (suc i) h = family-at first top (acc ++ r .ne
 
 placed-from : (p : ℕ) (fs : List Family) (i : ℕ) → i < groupsOf fs → Placed p (groupsOf fs) i (getD (flatten p fs) i nowhere)
 placed-from p [] i h = absurd (not-suc-le-zero h)
-placed-from p (f ∷ fs) i h = go (decLt i (length f)) (λ j. placed-from (p + length f) fs j)
-  where
-    A : List Located
-    A = flattenFamily p (p + length f) [] f
-
-    B : List Located
-    B = flatten (p + length f) fs
-
-    n : length A ≡ length f
-    n = length-flattenFamily p (p + length f) [] f
-
-    go : Dec (i < length f) → ((j : ℕ) → j < groupsOf fs → Placed (p + length f) (groupsOf fs) j (getD B j nowhere)) → Placed p (length f + groupsOf fs) i (getD (A ++ B) i nowhere)
-    go (yes q) r =
-        let t = family-at p (p + length f) [] f i q in
-        rw (List·getD-append A B nowhere i (omega (arith, n)))
-        (record { starts = omega (arith, t .0); begun = omega (arith, t .0); within = omega (arith, t .1); ends = omega (arith, t .1) })
-    go (no q) r =
-        let t : Past (length f) i = past-of (length f) i (omega arith) in
-        let e : i ≡ length A + t .rest = t .is ∙ ap (λ (m : ℕ). m + t .rest) (sym n) in
-        let P : Placed (p + length f) (groupsOf fs) (t .rest) (getD B (t .rest) nowhere) = r (t .rest) (omega (arith, t .is)) in
-        rw (ap (λ (m : ℕ). getD (A ++ B) m nowhere) e ∙ getD-append-add A B (t .rest) nowhere)
-        (record { starts = omega (arith, P .starts); begun = omega (arith, P .begun, t .is); within = omega (arith, P .within, t .is); ends = omega (arith, P .ends) })
+placed-from p (f ∷ fs) i h =
+    by-family (λ l i. Placed p (length f + groupsOf fs) i l) p f fs i
+    (λ q.
+    let t = family-at p (p + length f) [] f i q in
+    record { starts = omega (arith, t .0); begun = omega (arith, t .0); within = omega (arith, t .1); ends = omega (arith, t .1) })
+    (λ j e.
+    let P : Placed (p + length f) (groupsOf fs) j (getD (flatten (p + length f) fs) j nowhere) = placed-from (p + length f) fs j (omega arith) in
+    record { starts = omega (arith, P .starts); begun = omega (arith, P .begun); within = omega (arith, P .within); ends = omega (arith, P .ends) })
 
 pub placed : (fs : List Family) (g : ℕ) → g < groupsOf fs → (located fs g .first ≤ g) × (g < located fs g .top) × (located fs g .top ≤ groupsOf fs)
 placed fs g h =

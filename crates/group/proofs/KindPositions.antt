@@ -7,8 +7,7 @@ use native.Mathlib.Omega.{arith}
 use native.Mathlib.Nat.{le-of-suc-le-suc, not-suc-le-zero}
 use native.Mathlib.Decide.{decLt}
 use lib.Dec.{eqb}
-use lib.ListN.{length, getD, List·getD-append}
-use lib.Seq.{getD-append-add}
+use lib.ListN.{length, getD}
 use Rattle.model.proofs.ListLaws.{count-append}
 use Rattle.model.specs.Model.{Family, mem, meets, headKind, kindsOf, groupsOf}
 use Rattle.model.specs.Sound.{In, Distinct, layoutKinds}
@@ -16,9 +15,8 @@ use Rattle.model.proofs.KindLists.{mem-append, in-left, in-right, any-in, in-co
 use Rattle.model.proofs.BoolLaws.{bool-cases, or-false, or-false-right, not-true, or-exchange}
 use Rattle.masks.specs.Masks.{upFrom, has, keep, unionOf}
 use Rattle.masks.proofs.Lists.{has-append, has-union, has-keep, has-up, up-split, between-high}
-use Rattle.group.specs.Flat.{Located, nowhere, flattenFamily, flatten, located, familyPositions, insertPositions, deleteFamily, deleteFrom, deletePositions}
-use Rattle.group.proofs.Fronts.{length-flattenFamily}
-use Rattle.group.proofs.Counts.{Past, past-of, family-at}
+use Rattle.group.specs.Flat.{nowhere, flattenFamily, flatten, located, familyPositions, insertPositions, deleteFamily, deleteFrom, deletePositions}
+use Rattle.group.proofs.Counts.{family-at, by-family}
 use Rattle.group.proofs.Upward.{From}
 use Rattle.group.proofs.Commute.{Headed, HeadedAll}
 use Rattle.group.proofs.MaskWalk.{Ascending}
@@ -139,29 +137,6 @@ family-has : (first top : ℕ) (acc : List ℕ) (rs : Family) (i k : ℕ) → i 
 family-has first top acc [] i k h n = absurd (not-suc-le-zero h)
 family-has first top acc (r ∷ rs) zero k h n = in-left (r .newKinds) (kindsOf rs) k n
 family-has first top acc (r ∷ rs) (suc i) k h n = in-right (r .newKinds) (kindsOf rs) k (family-has first top (acc ++ r .newKinds) rs i k (le-of-suc-le-suc h) n)
-
--- what holds of a group in the first family, and of one past it
-by-family : (P : Located → ℕ → Type 0) (p : ℕ) (f : Family) (fs : List Family) (i : ℕ)
-    → (i < length f → P (getD (flattenFamily p (p + length f) [] f) i nowhere) i)
-    → ((j : ℕ) → i ≡ length f + j → P (getD (flatten (p + length f) fs) j nowhere) i)
-    → P (getD (flatten p (f ∷ fs)) i nowhere) i
-by-family P p f fs i here later = go (decLt i (length f))
-  where
-    A : List Located
-    A = flattenFamily p (p + length f) [] f
-
-    B : List Located
-    B = flatten (p + length f) fs
-
-    n : length A ≡ length f
-    n = length-flattenFamily p (p + length f) [] f
-
-    go : Dec (i < length f) → P (getD (A ++ B) i nowhere) i
-    go (yes q) = rw (List·getD-append A B nowhere i (omega (arith, n))) (here q)
-    go (no q) =
-        let t : Past (length f) i = past-of (length f) i (omega arith) in
-        let e : i ≡ length A + t .rest = t .is ∙ ap (λ (m : ℕ). m + t .rest) (sym n) in
-        subst (λ (l : Located). P l i) (sym (ap (λ (m : ℕ). getD (A ++ B) m nowhere) e ∙ getD-append-add A B (t .rest) nowhere)) (later (t .rest) (t .is))
 
 layout-has : (p : ℕ) (fs : List Family) (i k : ℕ) → i < groupsOf fs → In (getD (flatten p fs) i nowhere .newKinds) k → In (layoutKinds fs) k
 layout-has p [] i k h = absurd (not-suc-le-zero h)

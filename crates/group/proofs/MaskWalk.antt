@@ -14,11 +14,11 @@ use Rattle.masks.specs.Walk.{LowStep, HighStep}
 use Rattle.masks.proofs.Lists.{keep-same, keep-all, skip-common, between-in, between-high}
 use Rattle.masks.proofs.Bits.{bits-below}
 use Rattle.group.specs.declared.group_status.GroupStatus.{GroupStatus}
-use Rattle.group.specs.declared.group_status.GroupStatus.the-variants.{Incomplete, Ungrouped, Grouped}
-use Rattle.group.specs.Flat.{located, statusAt, groupAt, stepUp, skipAfter, walkUp, stepDown, walkDown}
-use Rattle.group.specs.Ready.{Swappable, ReadyIn, ReadyUp, ReadyOut, ReadyDown}
-use Rattle.group.proofs.Upward.{From, from-le, walk-pass, walk-on, walk-from}
-use Rattle.group.proofs.UpReady.{ready-pass, ready-on, ready-from}
+use Rattle.group.specs.declared.group_status.GroupStatus.the-variants.{Incomplete}
+use Rattle.group.specs.Flat.{located, statusAt, stepUp, skipAfter, walkUp, stepDown, walkDown}
+use Rattle.group.specs.Ready.{ReadyIn, ReadyUp, ReadyOut, ReadyDown}
+use Rattle.group.proofs.Upward.{From, from-le, Stepwise, up-from, walk-steps}
+use Rattle.group.proofs.UpReady.{Asked, ready-steps}
 use Rattle.group.proofs.Downward.{down-on, down-ready-on}
 
 -- ---- rising lists
@@ -62,28 +62,17 @@ keep-miss : (t g : ℕ) (ps : List ℕ) → g < t → keep (leb t) (g ∷ ps) �
 unfolding keep
 keep-miss t g ps h = rw (lt-leb t g h)
 
-module _ (e : Entity) where
-  pub walk-keep : (t : ℕ) (ps : List ℕ) (s : Storage) → Ascending ps → walkUp e t ps s ≡ walkUp e 0 (keep (leb t) ps) s
-  unfolding walkUp keep
-  walk-keep t [] s a = refl
-  walk-keep t (g ∷ ps) s a = go (decLt g t) (walk-keep t ps s (a .1))
-    where
-      go : Dec (g < t) → walkUp e t ps s ≡ walkUp e 0 (keep (leb t) ps) s → walkUp e t (g ∷ ps) s ≡ walkUp e 0 (keep (leb t) (g ∷ ps)) s
-      go (yes h) r = walk-pass e t g ps s h ∙ r ∙ ap (λ (l : List ℕ). walkUp e 0 l s) (sym (keep-miss t g ps h))
-      go (no h) r =
-          let f : From t (g ∷ ps) = (omega arith, from-le t (suc g) (omega arith) ps (a .0)) in
-          walk-from e t (g ∷ ps) s f ∙ ap (λ (l : List ℕ). walkUp e 0 l s) (sym (keep-from t (g ∷ ps) f))
-
-  pub ready-keep : (t : ℕ) (ps : List ℕ) (s : Storage) → Ascending ps → ReadyUp e t ps s ≡ ReadyUp e 0 (keep (leb t) ps) s
-  unfolding ReadyUp keep
-  ready-keep t [] s a = refl
-  ready-keep t (g ∷ ps) s a = go (decLt g t) (ready-keep t ps s (a .1))
-    where
-      go : Dec (g < t) → ReadyUp e t ps s ≡ ReadyUp e 0 (keep (leb t) ps) s → ReadyUp e t (g ∷ ps) s ≡ ReadyUp e 0 (keep (leb t) (g ∷ ps)) s
-      go (yes h) r = ready-pass e t g ps s h ∙ r ∙ ap (λ (l : List ℕ). ReadyUp e 0 l s) (sym (keep-miss t g ps h))
-      go (no h) r =
-          let f : From t (g ∷ ps) = (omega arith, from-le t (suc g) (omega arith) ps (a .0)) in
-          ready-from e t (g ∷ ps) s f ∙ ap (λ (l : List ℕ). ReadyUp e 0 l s) (sym (keep-from t (g ∷ ps) f))
+up-keep {ℓ} : (X : Type ℓ) (e : Entity) (step : GroupStatus → ℕ → Storage → X → X) (walk : ℕ → List ℕ → Storage → X) → Stepwise X e step walk
+    → (t : ℕ) (ps : List ℕ) (s : Storage) → Ascending ps → walk t ps s ≡ walk 0 (keep (leb t) ps) s
+unfolding keep
+up-keep X e step walk W t [] s a = W .none t s
+up-keep X e step walk W t (g ∷ ps) s a = go (decLt g t) (up-keep X e step walk W t ps s (a .1))
+  where
+    go : Dec (g < t) → walk t ps s ≡ walk 0 (keep (leb t) ps) s → walk t (g ∷ ps) s ≡ walk 0 (keep (leb t) (g ∷ ps)) s
+    go (yes h) r = W .pass t g ps s h ∙ r ∙ ap (λ (l : List ℕ). walk 0 l s) (sym (keep-miss t g ps h))
+    go (no h) r =
+        let f : From t (g ∷ ps) = (omega arith, from-le t (suc g) (omega arith) ps (a .0)) in
+        up-from X e step walk W t (g ∷ ps) s f ∙ ap (λ (l : List ℕ). walk 0 l s) (sym (keep-from t (g ∷ ps) f))
 
 -- the mask without the bits from g to top - 1, where all its bits are past g
 skip-rest : (w g top : ℕ) (ps : List ℕ) → From (suc g) ps → ((i : ℕ) → has i ps ≡ true → i < w) → commonOf ps (skipping w g top) ≡ keep (leb top) ps
@@ -106,11 +95,11 @@ module _ (e : Entity) (s : Storage) (m g rest : ℕ) (L : LowStep m g rest) wher
     abbrev next : ℕ
     next = skipAfter t (located (s .layout) g .top) 0
 
-    walks : walkUp e 0 (bitsOf 64 m) s ≡ walkUp e next (bitsOf 64 rest) (stepUp t e g s)
-    walks = ap (λ (l : List ℕ). walkUp e 0 l s) (L .bits) ∙ walk-on e 0 g (bitsOf 64 rest) s (omega arith) t q
+    pub walks : walkUp e 0 (bitsOf 64 m) s ≡ walkUp e next (bitsOf 64 rest) (stepUp t e g s)
+    walks = ap (λ (l : List ℕ). walkUp e 0 l s) (L .bits) ∙ walk-steps e .on 0 g (bitsOf 64 rest) s (omega arith) t q
 
     pub readies : ReadyUp e 0 (bitsOf 64 m) s ≡ (ReadyIn t e (located (s .layout) g) (s .sets) × ReadyUp e next (bitsOf 64 rest) (stepUp t e g s))
-    readies = ap (λ (l : List ℕ). ReadyUp e 0 l s) (L .bits) ∙ ready-on e 0 g (bitsOf 64 rest) s (omega arith) t q
+    readies = ap (λ (l : List ℕ). ReadyUp e 0 l s) (L .bits) ∙ ready-steps e .on 0 g (bitsOf 64 rest) s (omega arith) t q
 
   -- a new kind is missing: the rest of the family goes out of the mask
   module _ (q : statusAt e g s ≡ Incomplete) (skipped : ℕ) (b : bitsOf 64 skipped ≡ commonOf (bitsOf 64 rest) (skipping 64 g (located (s .layout) g .top))) where
@@ -118,26 +107,12 @@ module _ (e : Entity) (s : Storage) (m g rest : ℕ) (L : LowStep m g rest) wher
     left-out = b ∙ skip-rest 64 g (located (s .layout) g .top) (bitsOf 64 rest) (rising .0) (λ i h. bits-below 64 rest i h)
 
     pub walk-incomplete : walkUp e 0 (bitsOf 64 m) s ≡ walkUp e 0 (bitsOf 64 skipped) s
-    walk-incomplete = walks Incomplete q ∙ walk-keep e (located (s .layout) g .top) (bitsOf 64 rest) s (rising .1) ∙ ap (λ (l : List ℕ). walkUp e 0 l s) (sym left-out)
+    walk-incomplete = walks Incomplete q ∙ up-keep Storage e (λ t g s x. x) (walkUp e) (walk-steps e) (located (s .layout) g .top) (bitsOf 64 rest) s (rising .1) ∙ ap (λ (l : List ℕ). walkUp e 0 l s) (sym left-out)
 
     pub ready-incomplete : ReadyUp e 0 (bitsOf 64 m) s → ReadyUp e 0 (bitsOf 64 skipped) s
     ready-incomplete r =
         let r′ : ReadyIn Incomplete e (located (s .layout) g) (s .sets) × ReadyUp e (located (s .layout) g .top) (bitsOf 64 rest) s = rw (readies Incomplete q) at r in
-        rw (left-out, ← ready-keep e (located (s .layout) g .top) (bitsOf 64 rest) s (rising .1)) (r′ .1)
-
-  module _ (q : statusAt e g s ≡ Ungrouped) where
-    pub walk-ungrouped : walkUp e 0 (bitsOf 64 m) s ≡ walkUp e 0 (bitsOf 64 rest) (groupAt e g s)
-    walk-ungrouped = walks Ungrouped q
-
-    pub ready-ungrouped : ReadyUp e 0 (bitsOf 64 m) s → Swappable e (located (s .layout) g .kinds) (located (s .layout) g .count) (s .sets) × ReadyUp e 0 (bitsOf 64 rest) (groupAt e g s)
-    ready-ungrouped r = rw (readies Ungrouped q) at r
-
-  module _ (q : statusAt e g s ≡ Grouped) where
-    pub walk-grouped : walkUp e 0 (bitsOf 64 m) s ≡ walkUp e 0 (bitsOf 64 rest) s
-    walk-grouped = walks Grouped q
-
-    pub ready-grouped : ReadyUp e 0 (bitsOf 64 m) s → ReadyUp e 0 (bitsOf 64 rest) s
-    ready-grouped r = (rw (readies Grouped q) at r) .1
+        rw (left-out, ← up-keep (Type 0) e (Asked e) (ReadyUp e) (ready-steps e) (located (s .layout) g .top) (bitsOf 64 rest) s (rising .1)) (r′ .1)
 
 pub walk-none : (e : Entity) (s : Storage) → walkUp e 0 [] s ≡ s
 unfolding walkUp

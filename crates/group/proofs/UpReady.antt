@@ -1,8 +1,8 @@
 -- What the steps of the walk upward need holds, for insertion and for each entity when a layout is applied. Assumes nothing.
-use mathlib.Core.Path.{_≡_, refl, ap, sym, _∙_, subst}
+use mathlib.Core.Path.{_≡_, refl, subst}
 use mathlib.Core.Bool.{Bool, true, false, false≢true}
 use mathlib.Core.List.{List, [], _∷_, _++_, map}
-use Prim.Native.Nat.{ℕ, zero, suc, _+_, _-_, _≤_, _<_}
+use Prim.Native.Nat.{ℕ, suc, _+_, _-_, _≤_}
 use native.Mathlib.Omega.{arith}
 use borrow.Author.Tests.{lt-ltb, le-ltb}
 use lib.ListN.{length, length-map}
@@ -18,43 +18,22 @@ use Rattle.model.proofs.Invariant.{Fit}
 use Rattle.masks.specs.Masks.{upFrom}
 use Rattle.group.specs.declared.group_status.GroupStatus.{GroupStatus}
 use Rattle.group.specs.declared.group_status.GroupStatus.the-variants.{Incomplete, Ungrouped, Grouped}
-use Rattle.group.specs.Flat.{located, withCount, statusAt, groupAt, stepUp, skipAfter, familyPositions, insertPositions}
+use Rattle.group.specs.Flat.{located, withCount, familyPositions, insertPositions}
 use Rattle.group.specs.Ready.{Swappable, ReadyIn, ReadyUp, ReadyEach}
 use Rattle.group.proofs.Fronts.{Front, whole, past, Hole, opened, next, here}
-use Rattle.group.proofs.Upward.{From, from-le, from-families, top-here, incomplete-here, grouped-here, ungrouped-here, group-here, goes-on, stays, moves, stop, atHole, atFront, length-up}
+use Rattle.group.proofs.Upward.{From, from-le, from-families, top-here, incomplete-here, grouped-here, ungrouped-here, group-here, goes-on, stays, moves, stop, atHole, atFront, length-up, Stepwise, up-from, up-past}
 
--- ---- one step
+abbrev pub Asked : Entity → GroupStatus → ℕ → Storage → Type 0 → Type 0
+Asked e t g s A = ReadyIn t e (located (s .layout) g) (s .sets) × A
 
-module _ (e : Entity) (skip g : ℕ) (ps : List ℕ) (s : Storage) where
-  pub ready-pass : g < skip → ReadyUp e skip (g ∷ ps) s ≡ ReadyUp e skip ps s
-  unfolding ReadyUp
-  ready-pass h = rw (lt-ltb g skip h)
-
-  pub ready-on : skip ≤ g → (t : GroupStatus) → statusAt e g s ≡ t
-      → ReadyUp e skip (g ∷ ps) s ≡ (ReadyIn t e (located (s .layout) g) (s .sets) × ReadyUp e (skipAfter t (located (s .layout) g .top) skip) ps (stepUp t e g s))
-  unfolding ReadyUp
-  ready-on h t q = rw (le-ltb g skip h, q)
-
-pub ready-from : (e : Entity) (skip : ℕ) (ps : List ℕ) (s : Storage) → From skip ps → ReadyUp e skip ps s ≡ ReadyUp e 0 ps s
+pub ready-steps : (e : Entity) → Stepwise (Type 0) e (Asked e) (ReadyUp e)
 unfolding ReadyUp
-ready-from e skip [] s f = refl
-ready-from e skip (g ∷ ps) s f =
-    ready-on e skip g ps s (f .0) (statusAt e g s) refl
-    ∙ ap (λ (A : Type 0). ReadyIn (statusAt e g s) e (located (s .layout) g) (s .sets) × A) (same (statusAt e g s) (λ s′. ready-from e skip ps s′ (f .1)))
-    ∙ sym (ready-on e 0 g ps s (omega arith) (statusAt e g s) refl)
-  where
-    top : ℕ
-    top = located (s .layout) g .top
-
-    same : (t : GroupStatus) → ((s′ : Storage) → ReadyUp e skip ps s′ ≡ ReadyUp e 0 ps s′) → ReadyUp e (skipAfter t top skip) ps (stepUp t e g s) ≡ ReadyUp e (skipAfter t top 0) ps (stepUp t e g s)
-    same Incomplete r = refl
-    same Ungrouped r = r (groupAt e g s)
-    same Grouped r = r s
-
-ready-past : (e : Entity) (skip p n : ℕ) (ps : List ℕ) (s : Storage) → p + n ≤ skip → ReadyUp e skip (upFrom p n ++ ps) s ≡ ReadyUp e skip ps s
-unfolding upFrom
-ready-past e skip p zero ps s h = refl
-ready-past e skip p (suc n) ps s h = ready-pass e skip p (upFrom (suc p) n ++ ps) s (omega arith) ∙ ready-past e skip (suc p) n ps s (omega arith)
+ready-steps e =
+    record {
+      none = λ skip s. refl;
+      pass = λ skip g ps s h. rw (lt-ltb g skip h);
+      on = λ skip g ps s h t q. rw (le-ltb g skip h, q);
+    }
 
 -- ---- a family whose groups hold the same entities in their first places
 
@@ -83,7 +62,7 @@ module _ (W : Entity → Type 0) (e : Entity) where
       → ((k : ℕ) → In acc k → 1 ≤ cnt e (key sets k)) → Chain (key sets) W acc rs
       → ReadyUp e 0 ps (atHole H (groupFamily e acc sets rs)) → ReadyUp e skip (upFrom p (length rs) ++ ps) (record { sets = sets; layout = H .build rs })
   unfolding upFrom groupFamily
-  family-ready {acc} {first} {top} {p} H sets [] skip ps fits le f has ch after = rw (ready-from e skip ps (record { sets = sets; layout = H .build [] }) (from-le skip top (omega arith) ps f)) after
+  family-ready {acc} {first} {top} {p} H sets [] skip ps fits le f has ch after = rw (up-from (Type 0) e (Asked e) (ReadyUp e) (ready-steps e) skip ps (record { sets = sets; layout = H .build [] }) (from-le skip top (omega arith) ps f)) after
   family-ready {acc} {first} {top} {p} H sets (r ∷ rs) skip ps fits le f has ch after =
       bool-cases (allHeld e (r .newKinds) sets)
       (λ a.
@@ -92,12 +71,12 @@ module _ (W : Entity → Type 0) (e : Entity) where
       bool-cases (isGrouped e r sets)
       (λ b.
       let w = goes-on e acc sets r rs (record { sets = sets; group = r }) a (stays e (acc ++ r .newKinds) r sets b) in
-      rw (ready-on e skip p rest S le Grouped (grouped-here e H sets r rs fits a b))
+      rw (ready-steps e .on skip p rest S le Grouped (grouped-here e H sets r rs fits a b))
       (tt, family-ready (next H r) sets rs skip ps (omega arith) (omega arith) f hasg (ch .2) (subst (λ (w : Walked). ReadyUp e 0 ps (atHole H w)) w after)))
       (λ b.
       let E = enters acc r sets hasg (ch .0) b in
       let w = goes-on e acc sets r rs (record { sets = M; group = withCount (suc (r .count)) r }) a (moves e (acc ++ r .newKinds) r sets b) in
-      rw (ready-on e skip p rest S le Ungrouped (ungrouped-here e H sets r rs fits a b), group-here e H sets r rs fits, here H r rs fits) (
+      rw (ready-steps e .on skip p rest S le Ungrouped (ungrouped-here e H sets r rs fits a b), group-here e H sets r rs fits, here H r rs fits) (
         swappable acc r sets hasg (ch .0) b,
         family-ready (next H (withCount (suc (r .count)) r)) M rs skip ps (omega arith) (omega arith) f
             (λ k i. rw (E .same .entities e k) (hasg k i))
@@ -105,7 +84,7 @@ module _ (W : Entity → Type 0) (e : Entity) where
             (subst (λ (w : Walked). ReadyUp e 0 ps (atHole H w)) w after),
       )))
       (λ a.
-      rw (ready-on e skip p rest S le Incomplete (incomplete-here e H sets r rs fits a), top-here e H sets r rs fits, ready-past e top (suc p) (length rs) ps S (omega arith), ready-from e top ps S f)
+      rw (ready-steps e .on skip p rest S le Incomplete (incomplete-here e H sets r rs fits a), top-here e H sets r rs fits, up-past (Type 0) e (Asked e) (ReadyUp e) (ready-steps e) top (suc p) (length rs) ps S (omega arith), up-from (Type 0) e (Asked e) (ReadyUp e) (ready-steps e) top ps S f)
       (tt, subst (λ (w : Walked). ReadyUp e 0 ps (atHole H w)) (stop e acc sets r rs a) after))
     where
       S : Storage

@@ -15,17 +15,6 @@ use Rattle.group.specs.declared.group_status.GroupStatus.the-variants.{I
 use Rattle.group.specs.Flat.{Located, located, withCount, setCount, statusOf, statusAt, groupAt, stepUp, skipAfter, walkUp, familyPositions, insertPositions, allPositions}
 use Rattle.group.proofs.Fronts.{Front, whole, past, Hole, opened, next, Here, here, put-here}
 
--- ---- one step of the walk
-
-module _ (e : Entity) (skip g : ℕ) (ps : List ℕ) (s : Storage) where
-  pub walk-pass : g < skip → walkUp e skip (g ∷ ps) s ≡ walkUp e skip ps s
-  unfolding walkUp
-  walk-pass h = rw (lt-ltb g skip h)
-
-  pub walk-on : skip ≤ g → (t : GroupStatus) → statusAt e g s ≡ t → walkUp e skip (g ∷ ps) s ≡ walkUp e (skipAfter t (located (s .layout) g .top) skip) ps (stepUp t e g s)
-  unfolding walkUp
-  walk-on h t q = rw (le-ltb g skip h, q)
-
 -- ---- positions at t or past it
 
 abbrev pub From : ℕ → List ℕ → Type 0
@@ -36,28 +25,46 @@ pub from-le : (t u : ℕ) → t ≤ u → (ps : List ℕ) → From u ps → From
 from-le t u h [] f = tt
 from-le t u h (g ∷ ps) f = (omega (arith, f .0), from-le t u h ps (f .1))
 
+-- ---- a walk upward step by step: what it leaves, or what its steps need
+
+pub record Stepwise {ℓ} (X : Type ℓ) (e : Entity) (step : GroupStatus → ℕ → Storage → X → X) (walk : ℕ → List ℕ → Storage → X) : Type ℓ where
+  pub none : (skip : ℕ) (s : Storage) → walk skip [] s ≡ walk 0 [] s
+  pub pass : (skip g : ℕ) (ps : List ℕ) (s : Storage) → g < skip → walk skip (g ∷ ps) s ≡ walk skip ps s
+  pub on : (skip g : ℕ) (ps : List ℕ) (s : Storage) → skip ≤ g → (t : GroupStatus) → statusAt e g s ≡ t
+      → walk skip (g ∷ ps) s ≡ step t g s (walk (skipAfter t (located (s .layout) g .top) skip) ps (stepUp t e g s))
+
 -- what all positions are past need not be skipped
-pub walk-from : (e : Entity) (skip : ℕ) (ps : List ℕ) (s : Storage) → From skip ps → walkUp e skip ps s ≡ walkUp e 0 ps s
-unfolding walkUp
-walk-from e skip [] s f = refl
-walk-from e skip (g ∷ ps) s f =
-    walk-on e skip g ps s (f .0) (statusAt e g s) refl
-    ∙ same (statusAt e g s) (λ s′. walk-from e skip ps s′ (f .1))
-    ∙ sym (walk-on e 0 g ps s (omega arith) (statusAt e g s) refl)
+pub up-from {ℓ} : (X : Type ℓ) (e : Entity) (step : GroupStatus → ℕ → Storage → X → X) (walk : ℕ → List ℕ → Storage → X) → Stepwise X e step walk
+    → (skip : ℕ) (ps : List ℕ) (s : Storage) → From skip ps → walk skip ps s ≡ walk 0 ps s
+up-from X e step walk W skip [] s f = W .none skip s
+up-from X e step walk W skip (g ∷ ps) s f =
+    W .on skip g ps s (f .0) (statusAt e g s) refl
+    ∙ ap (step (statusAt e g s) g s) (same (statusAt e g s) (λ s′. up-from X e step walk W skip ps s′ (f .1)))
+    ∙ sym (W .on 0 g ps s (omega arith) (statusAt e g s) refl)
   where
     top : ℕ
     top = located (s .layout) g .top
 
-    same : (t : GroupStatus) → ((s′ : Storage) → walkUp e skip ps s′ ≡ walkUp e 0 ps s′) → walkUp e (skipAfter t top skip) ps (stepUp t e g s) ≡ walkUp e (skipAfter t top 0) ps (stepUp t e g s)
+    same : (t : GroupStatus) → ((s′ : Storage) → walk skip ps s′ ≡ walk 0 ps s′) → walk (skipAfter t top skip) ps (stepUp t e g s) ≡ walk (skipAfter t top 0) ps (stepUp t e g s)
     same Incomplete r = refl
     same Ungrouped r = r (groupAt e g s)
     same Grouped r = r s
 
 -- a run of positions below skip is passed over
-pub walk-past : (e : Entity) (skip p n : ℕ) (ps : List ℕ) (s : Storage) → p + n ≤ skip → walkUp e skip (upFrom p n ++ ps) s ≡ walkUp e skip ps s
+pub up-past {ℓ} : (X : Type ℓ) (e : Entity) (step : GroupStatus → ℕ → Storage → X → X) (walk : ℕ → List ℕ → Storage → X) → Stepwise X e step walk
+    → (skip p n : ℕ) (ps : List ℕ) (s : Storage) → p + n ≤ skip → walk skip (upFrom p n ++ ps) s ≡ walk skip ps s
 unfolding upFrom
-walk-past e skip p zero ps s h = refl
-walk-past e skip p (suc n) ps s h = walk-pass e skip p (upFrom (suc p) n ++ ps) s (omega arith) ∙ walk-past e skip (suc p) n ps s (omega arith)
+up-past X e step walk W skip p zero ps s h = refl
+up-past X e step walk W skip p (suc n) ps s h = W .pass skip p (upFrom (suc p) n ++ ps) s (omega arith) ∙ up-past X e step walk W skip (suc p) n ps s (omega arith)
+
+pub walk-steps : (e : Entity) → Stepwise Storage e (λ t g s x. x) (walkUp e)
+unfolding walkUp
+walk-steps e =
+    record {
+      none = λ skip s. refl;
+      pass = λ skip g ps s h. rw (lt-ltb g skip h);
+      on = λ skip g ps s h t q. rw (le-ltb g skip h, q);
+    }
 
 -- ---- a group of a family
 
@@ -118,24 +125,24 @@ atHole H w = record { sets = w .sets; layout = H .build (w .groups) }
 pub family-up : (e : Entity) {acc : List ℕ} {first top p : ℕ} (H : Hole acc first top p) (sets : List SparseSet) (rs : Family) (skip : ℕ) (ps : List ℕ) → p + length rs ≡ top → skip ≤ p → From top ps
     → walkUp e skip (upFrom p (length rs) ++ ps) (record { sets = sets; layout = H .build rs }) ≡ walkUp e 0 ps (atHole H (groupFamily e acc sets rs))
 unfolding upFrom groupFamily
-family-up e {acc} {first} {top} {p} H sets [] skip ps fits le f = walk-from e skip ps _ (from-le skip top (omega arith) ps f)
+family-up e {acc} {first} {top} {p} H sets [] skip ps fits le f = up-from Storage e (λ t g s x. x) (walkUp e) (walk-steps e) skip ps _ (from-le skip top (omega arith) ps f)
 family-up e {acc} {first} {top} {p} H sets (r ∷ rs) skip ps fits le f =
     bool-cases (allHeld e (r .newKinds) sets)
     (λ a. bool-cases (isGrouped e r sets)
     (λ b.
-    walk-on e skip p rest S le Grouped (grouped-here e H sets r rs fits a b)
+    walk-steps e .on skip p rest S le Grouped (grouped-here e H sets r rs fits a b)
     ∙ family-up e (next H r) sets rs skip ps (omega arith) (omega arith) f
     ∙ ap (λ (w : Walked). walkUp e 0 ps (atHole H w)) (sym (goes-on e acc sets r rs (record { sets = sets; group = r }) a (stays e (acc ++ r .newKinds) r sets b))))
     (λ b.
-    walk-on e skip p rest S le Ungrouped (ungrouped-here e H sets r rs fits a b)
+    walk-steps e .on skip p rest S le Ungrouped (ungrouped-here e H sets r rs fits a b)
     ∙ ap (walkUp e skip rest) (group-here e H sets r rs fits)
     ∙ family-up e (next H (withCount (suc (r .count)) r)) (Moved e H sets r rs fits) rs skip ps (omega arith) (omega arith) f
     ∙ ap (λ (w : Walked). walkUp e 0 ps (atHole H w)) (sym (goes-on e acc sets r rs _ a (moves e (acc ++ r .newKinds) r sets b)))))
     (λ a.
-    walk-on e skip p rest S le Incomplete (incomplete-here e H sets r rs fits a)
+    walk-steps e .on skip p rest S le Incomplete (incomplete-here e H sets r rs fits a)
     ∙ ap (λ (t : ℕ). walkUp e t rest S) (top-here e H sets r rs fits)
-    ∙ walk-past e top (suc p) (length rs) ps S (omega arith)
-    ∙ walk-from e top ps S f
+    ∙ up-past Storage e (λ t g s x. x) (walkUp e) (walk-steps e) top (suc p) (length rs) ps S (omega arith)
+    ∙ up-from Storage e (λ t g s x. x) (walkUp e) (walk-steps e) top ps S f
     ∙ ap (λ (w : Walked). walkUp e 0 ps (atHole H w)) (sym (stop e acc sets r rs a)))
   where
     S : Storage

@@ -22,7 +22,7 @@ use Rattle.group.specs.Steps.{Below, leftAfter, StepsUp}
 use Rattle.group.proofs.Counts.{groups-set}
 use Rattle.group.proofs.Downward.{down-on, down-ready-on}
 use Rattle.group.proofs.AllGroups.{highest-first}
-use Rattle.group.proofs.MaskWalk.{readies, walk-incomplete, ready-incomplete, walk-ungrouped, ready-ungrouped, walk-grouped, ready-grouped, walk-none, down-step, down-ready, down-none}
+use Rattle.group.proofs.MaskWalk.{readies, walk-incomplete, ready-incomplete, walk-none, down-step, down-ready, down-none, walks}
 use Rattle.group.proofs.Storing.{becomes-then}
 
 -- ---- the invariant of the three loops: of the positions ps₀, those of ps are left
@@ -95,13 +95,13 @@ module _ (e : Entity) (s : Storage) (m g rest : ℕ) (L : LowStep m g rest) wher
   module _ (left : ℕ) where
     up-walk : (t : GroupStatus) → statusAt e g s ≡ t → bitsOf 64 left ≡ leftAfter t g (located (s .layout) g .top) (bitsOf 64 rest) → walkUp e 0 (bitsOf 64 left) (stepUp t e g s) ≡ walkUp e 0 (bitsOf 64 m) s
     up-walk Incomplete q b = sym (walk-incomplete e s m g rest L q left b)
-    up-walk Ungrouped q b = ap (λ (ps : List ℕ). walkUp e 0 ps (groupAt e g s)) b ∙ sym (walk-ungrouped e s m g rest L q)
-    up-walk Grouped q b = ap (λ (ps : List ℕ). walkUp e 0 ps s) b ∙ sym (walk-grouped e s m g rest L q)
+    up-walk Ungrouped q b = ap (λ (ps : List ℕ). walkUp e 0 ps (groupAt e g s)) b ∙ sym (walks e s m g rest L Ungrouped q)
+    up-walk Grouped q b = ap (λ (ps : List ℕ). walkUp e 0 ps s) b ∙ sym (walks e s m g rest L Grouped q)
 
     up-ready : (t : GroupStatus) → statusAt e g s ≡ t → bitsOf 64 left ≡ leftAfter t g (located (s .layout) g .top) (bitsOf 64 rest) → ReadyUp e 0 (bitsOf 64 m) s → ReadyUp e 0 (bitsOf 64 left) (stepUp t e g s)
     up-ready Incomplete q b r = ready-incomplete e s m g rest L q left b r
-    up-ready Ungrouped q b r = subst (λ (ps : List ℕ). ReadyUp e 0 ps (groupAt e g s)) (sym b) (ready-ungrouped e s m g rest L q r .1)
-    up-ready Grouped q b r = subst (λ (ps : List ℕ). ReadyUp e 0 ps s) (sym b) (ready-grouped e s m g rest L q r)
+    up-ready Ungrouped q b r = subst (λ (ps : List ℕ). ReadyUp e 0 ps (groupAt e g s)) (sym b) ((rw (readies e s m g rest L Ungrouped q) at r) .1)
+    up-ready Grouped q b r = subst (λ (ps : List ℕ). ReadyUp e 0 ps s) (sym b) ((rw (readies e s m g rest L Grouped q) at r) .1)
 
 module _ (e : Entity) (w₀ : List ℕ) (m₀ : ℕ) (w : List ℕ) (m : ℕ) (W : Walking (walkUp e 0) (ReadyUp e 0) w₀ (bitsOf 64 m₀) w (bitsOf 64 m)) (B : Below (bitsOf 64 m) (meaning w .storage)) (g rest : ℕ) (L : LowStep m g rest) where
   low-has : has g (bitsOf 64 m) ≡ true
