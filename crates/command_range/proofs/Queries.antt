@@ -10,7 +10,6 @@ use Rattle.model.specs.Sound.{In}
 use Rattle.words.specs.Part.{between}
 use Rattle.words.proofs.Part.{length-between, between-none, between-part, between-more, between-in}
 use Rattle.layout.specs.Layout.{Arrays}
-use Rattle.layout.proofs.Family.{between-part}
 use Rattle.memory.specs.Header.{stagedLen, excludedLen}
 use Rattle.memory.specs.Meaning.{layoutArrays, meaning}
 use Rattle.memory.specs.Arranged.{Arranged, Sound}

@@ -1,25 +1,6 @@
 // Commands of the tape, one run each.
+use model::commands::HOLD;
 ghost use Rattle.flips.specs.Trial.{Keeps};
-
-pub const NEW: u8 = 3;
-
-pub const PUT: u8 = 4;
-
-pub const TAKE: u8 = 5;
-
-pub const KILL: u8 = 7;
-
-pub const WIPE: u8 = 8;
-
-pub const GROUP: u8 = 9;
-
-pub const APPLY: u8 = 10;
-
-pub const RANGE: u8 = 12;
-
-pub const EMPTY: u8 = 13;
-
-const HOLD: u8 = 2;
 
 // Whether the tape was served to its end. Sound words stay sound.
 pub fn feed(words: &mut [u32], tape: &[u8]) -> bool

@@ -11,7 +11,7 @@ use trial::add;
 use trial::flip_part;
 
 // Where the entities, the columns and the words beyond the store begin.
-const ENTITIES: usize = 1024;
+const ENTITIES: usize = words::ENTITIES;
 
 const COLUMNS: usize = 1120;
 
@@ -26,12 +26,12 @@ fn print(number: u32, what: &[u8]) {
 fn describe(words: &[u32; WORDS]) {
     print(words[2], b" kinds, ");
     print(words[8], b" groups, ");
-    print(words[1024], b" live entities, ");
+    print(words[ENTITIES], b" live entities, ");
     print(words[1027], b" recycled, ");
     print(words[3], b" kinds staged, ");
     print(words[4], b" excluded, ");
     print(words[6], b" groups in the draft, ");
-    print(words[16], b" refusal\n");
+    print(words[words::REFUSALS], b" refusal\n");
 }
 
 fn report(part: &[u8], counts: Counts) {

@@ -1,14 +1,14 @@
 // A store that has something of everything.
 ghost use Rattle.flips.specs.Trial.{Keeps};
-use crate::feed::APPLY;
-use crate::feed::GROUP;
-use crate::feed::KILL;
-use crate::feed::NEW;
 use crate::feed::command;
 use crate::feed::command_on;
 use crate::feed::command_with;
 use crate::feed::feed;
 use crate::feed::hold;
+use model::commands::APPLY;
+use model::commands::GROUP;
+use model::commands::KILL;
+use model::commands::NEW;
 
 // Five kinds, nested groups {1, 2} and {1, 2, 3}, and {4, 9} beside them.
 fn lay_out(words: &mut [u32])

@@ -2,18 +2,18 @@
 ghost use Prim.Native.Nat.{_*_, _-_, _≤_, _<_};
 ghost use Rattle.memory.specs.Arranged.{Sound};
 ghost use Rattle.flips.specs.Trial.{Keeps, Most, Tried, Added};
-use crate::feed::APPLY;
-use crate::feed::EMPTY;
-use crate::feed::KILL;
-use crate::feed::NEW;
-use crate::feed::PUT;
-use crate::feed::RANGE;
-use crate::feed::TAKE;
-use crate::feed::WIPE;
 use crate::feed::command;
 use crate::feed::command_on;
 use crate::feed::command_with;
 use crate::feed::hold;
+use model::commands::APPLY;
+use model::commands::EMPTY;
+use model::commands::KILL;
+use model::commands::NEW;
+use model::commands::PUT;
+use model::commands::RANGE;
+use model::commands::TAKE;
+use model::commands::WIPE;
 
 // 1,024 + 16 × 6 + 5 × (8 + 6 × 6), and four words that are lent beyond the store.
 pub const WORDS: usize = 1344;

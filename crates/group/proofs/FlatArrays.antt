@@ -15,7 +15,7 @@ use Rattle.words.specs.Table.{table}
 use Rattle.words.proofs.Tables.{table-set}
 use Rattle.layout.specs.Layout.{Arrays, Sized, startOf, widthOf, kindsAt, aritiesAt, groupsFrom, familyAt, familiesOf, Rising, WellFormed}
 use Rattle.layout.specs.Group.{InFamily, arityOf, priorArity}
-use Rattle.layout.proofs.Family.{between-part, groups-same}
+use Rattle.layout.proofs.Family.{groups-same}
 use Rattle.layout.proofs.Arrays.{group-order, kinds-inside, arities-length, family-rising, groups-length, layout-kinds}
 use Rattle.layout.proofs.Groups.{same-family, place-is, place-inside, arity-is, prior-is, arity-inside}
 use Rattle.group.specs.Flat.{nowhere, flattenFamily, flatten, located, setIn, setCount}

@@ -11,7 +11,6 @@ use Rattle.model.specs.Sound.{In}
 use Rattle.model.proofs.KindLists.{in-right}
 use Rattle.model.proofs.BoolLaws.{bool-cases}
 use Rattle.words.specs.Part.{between}
-use Rattle.layout.proofs.Family.{between-split}
 use Rattle.words.proofs.Part.{between-none, between-split, between-step}
 use Rattle.group.specs.declared.group_metadata.GroupMetadata.{GroupMetadata}
 use Rattle.group.specs.declared.group_status.GroupStatus.the-variants.{Incomplete, Ungrouped, Grouped}

@@ -12,7 +12,6 @@ use Rattle.model.specs.Store.{onSet, onStorage}
 use Rattle.model.specs.Sound.{In, Distinct}
 use Rattle.model.proofs.KindLists.{in-left}
 use Rattle.words.specs.Part.{between}
-use Rattle.layout.proofs.Family.{between-split}
 use Rattle.words.proofs.Part.{between-none, between-split, between-more, between-in}
 use Rattle.memory.specs.Meaning.{meaning}
 use Rattle.memory.specs.Arranged.{Arranged, Becomes}

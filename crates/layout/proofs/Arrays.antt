@@ -14,8 +14,8 @@ use Rattle.model.specs.Lists.{countOf}
 use Rattle.model.proofs.ListLaws.{count-append, drop-step}
 use Rattle.model.specs.Model.{Family, kindsOf, groupsOf}
 use Rattle.model.specs.Sound.{layoutKinds}
-use Rattle.words.specs.Part.{between, getD-between}
-use Rattle.words.proofs.Part.{length-between, between-front, between-join}
+use Rattle.words.specs.Part.{between}
+use Rattle.words.proofs.Part.{length-between, between-front, between-join, getD-between}
 use Rattle.words.specs.Table.{table}
 use Rattle.words.proofs.Tables.{length-table, getD-table, table-snoc, table-none}
 use Rattle.model.proofs.BoolLaws.{by-eq}

@@ -9,13 +9,13 @@ use borrow.Author.Tests.{lt-ltb, le-ltb, ltb-true}
 use lib.Dec.{ltb}
 use lib.ListN.{length, getD}
 use Rattle.model.specs.Numbers.{MAX-GROUP-COUNT, MAX-KINDS}
-use Rattle.model.proofs.Walk.{bool-cases}
-use Rattle.words.specs.Part.{between, getD-between}
-use Rattle.words.specs.Table.{by-eq}
+use Rattle.words.specs.Part.{between}
 use Rattle.layout.specs.Layout.{Arrays, Sized, startOf, kindsAt, aritiesAt, Rising, WellFormed}
 use Rattle.layout.specs.Group.{InFamily, arityOf, priorOf, priorArity}
 use Rattle.layout.proofs.Family.{rising-at, rising-step, rising-last}
 use Rattle.layout.proofs.Arrays.{end-inside, group-order, groups-inside, kind-order, kinds-inside, kinds-length, arities-length, family-rising}
+use Rattle.model.proofs.BoolLaws.{bool-cases, by-eq}
+use Rattle.words.proofs.Part.{getD-between}
 
 -- ---- what stands before
 

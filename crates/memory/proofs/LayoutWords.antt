@@ -7,12 +7,13 @@ use lib.ListN.{getD, drop}
 use lib.Seq.{getD-drop}
 use Rattle.model.specs.Numbers.{MAX-KINDS}
 use Rattle.words.specs.Offsets.{ARITIES, BLOCK-LEN, ENDS, ENTITIES, GROUP-COUNTS, GROUP-PLACES, KIND-ENDS, LAYOUT, LAYOUT-ARITIES, LAYOUT-ENDS, LAYOUT-KIND-ENDS}
-use Rattle.words.specs.Part.{between, getD-between}
+use Rattle.words.specs.Part.{between}
 use Rattle.layout.specs.Layout.{startOf}
 use Rattle.layout.specs.Group.{arityOf, priorOf, priorArity}
 use Rattle.layout.proofs.Arrays.{block-at}
 use Rattle.layout.proofs.Groups.{start-same, prior-same}
 use Rattle.memory.specs.Meaning.{layoutArrays}
+use Rattle.words.proofs.Part.{getD-between}
 
 module _ (w : List ℕ) where
   pub kind-word : (i : ℕ) → i < MAX-KINDS → getD (layoutArrays w .kinds) i 0 ≡ getD w (LAYOUT + i) 0

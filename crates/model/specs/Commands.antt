@@ -4,6 +4,7 @@ use mathlib.Core.List.{List, [], _∷_, _++_}
 use Prim.Native.Nat.{ℕ, _+_, _*_}
 use lib.Dec.{leb}
 use lib.ListN.{length, take, drop, getD}
+use Rattle.model.specs.Numbers.{LAST-COMMAND}
 use Rattle.model.specs.Model.{Entity, SparseSet, Storage, Range, none, found, noRow, setOf, at, held, insertComponents, remove, clearAll, setLayout, rangeFor, addsNothing, withGroup, create, destroy}
 use Rattle.model.specs.Store.{Store, bytesOf, number, stagedKinds, isKind, withControl, withStorage, withAll, withKinds, emptyStaged, emptyBoth, withStaged, withExcluded, withDraft}
 
@@ -19,10 +20,6 @@ pub data Command : Type 0 where
 
 -- ---- reading a command off the tape: "One command byte, then operands"
 
--- the last command byte, 0E
-abbrev pub LAST_COMMAND : ℕ
-LAST_COMMAND = 14
-
 -- "Operand widths: a constant table by command byte", from byte 0, which is no command
 abbrev pub widths : List ℕ
 widths = 0 ∷ 1 ∷ 9 ∷ 0 ∷ 8 ∷ 8 ∷ 8 ∷ 8 ∷ 0 ∷ 0 ∷ 0 ∷ 1 ∷ 0 ∷ 0 ∷ 0 ∷ []
@@ -32,7 +29,7 @@ width b = getD widths b 0
 
 -- "byte not 01 to 0E" is UNKNOWN
 abbrev pub isCommand : ℕ → Bool
-isCommand b = leb 1 b && leb b LAST_COMMAND
+isCommand b = leb 1 b && leb b LAST-COMMAND
 
 -- "index 4, version 4"
 abbrev pub entityOfBytes : List ℕ → Entity
@@ -58,7 +55,7 @@ commands ops =
     ∷ TALLY
     ∷ []
 
--- the command of a byte from 1 to LAST_COMMAND
+-- the command of a byte from 1 to LAST-COMMAND
 abbrev pub commandAt : ℕ → List ℕ → Command
 commandAt b ops = getD (commands ops) b TALLY
 

@@ -1,5 +1,5 @@
--- The numbers of the papers, by name: the limits, the words that things take, the refusals. The code has the same names (src/lib.rt,
--- src/refusals.rt); a name's underscores are hyphens here. Assumes nothing.
+-- The numbers of the papers, by name: the limits, the words that things take, the commands, the refusals. The code has the same names (src/lib.rt,
+-- src/commands.rt, src/refusals.rt), with underscores for hyphens; a command's byte is `REG-BYTE` here, since `REG` is the command. Assumes nothing.
 use Prim.Native.Nat.{ℕ, _+_, _*_}
 
 -- ---- limits
@@ -50,6 +50,54 @@ ROW-LEN = 6
 -- the words of a column in a store of capacity n
 abbrev pub columnLen : ℕ → ℕ
 columnLen n = COLUMN-HEAD + ROW-LEN * n
+
+-- ---- commands by their byte
+
+abbrev pub REG-BYTE : ℕ
+REG-BYTE = 1
+
+abbrev pub HOLD-BYTE : ℕ
+HOLD-BYTE = 2
+
+abbrev pub NEW-BYTE : ℕ
+NEW-BYTE = 3
+
+abbrev pub PUT-BYTE : ℕ
+PUT-BYTE = 4
+
+abbrev pub TAKE-BYTE : ℕ
+TAKE-BYTE = 5
+
+abbrev pub DROP-BYTE : ℕ
+DROP-BYTE = 6
+
+abbrev pub KILL-BYTE : ℕ
+KILL-BYTE = 7
+
+abbrev pub WIPE-BYTE : ℕ
+WIPE-BYTE = 8
+
+abbrev pub GROUP-BYTE : ℕ
+GROUP-BYTE = 9
+
+abbrev pub APPLY-BYTE : ℕ
+APPLY-BYTE = 10
+
+abbrev pub BAR-BYTE : ℕ
+BAR-BYTE = 11
+
+abbrev pub RANGE-BYTE : ℕ
+RANGE-BYTE = 12
+
+abbrev pub EMPTY-BYTE : ℕ
+EMPTY-BYTE = 13
+
+abbrev pub TALLY-BYTE : ℕ
+TALLY-BYTE = 14
+
+-- "byte not 01 to 0E" is UNKNOWN
+abbrev pub LAST-COMMAND : ℕ
+LAST-COMMAND = TALLY-BYTE
 
 -- ---- "Refusals by place": their numbers
 

@@ -26,3 +26,5 @@ pub const RANGE: u8 = 12;
 pub const EMPTY: u8 = 13;
 
 pub const TALLY: u8 = 14;
+// The last of them.
+pub const LAST_COMMAND: u8 = TALLY;

@@ -7,8 +7,9 @@ use native.Mathlib.Omega.{arith}
 use lib.ListN.{length, getD, set, drop, List·getD-map}
 use lib.Seq.{getD-set-other}
 use Rattle.model.specs.Store.{Store}
-use Rattle.model.specs.Commands.{Command, TALLY, LAST_COMMAND, commands, commandAt, answerLength}
+use Rattle.model.specs.Commands.{Command, TALLY, commands, commandAt, answerLength}
 use Rattle.model.proofs.ListLaws.{default-any}
+use Rattle.model.specs.Numbers.{LAST-COMMAND}
 
 -- by command byte; TAKE's is for no staged component
 abbrev pub answers : List ℕ
@@ -34,5 +35,5 @@ module _ (s : Store) (ops : List ℕ) where
   pub take-answer : (b n : ℕ) → b ≡ 5 → n ≡ length (s .control .staged) → getD answers b 0 + 9 * n ≡ answerLength (commandAt b ops) s
   take-answer b n e f = rw (e, f)
 
-  pub fixed-answer : (b : ℕ) → b ≢ 5 → b ≤ LAST_COMMAND → getD answers b 0 ≡ answerLength (commandAt b ops) s
+  pub fixed-answer : (b : ℕ) → b ≢ 5 → b ≤ LAST-COMMAND → getD answers b 0 ≡ answerLength (commandAt b ops) s
   fixed-answer b ne h = default-any answers b 0 5 (omega arith) ∙ sym (getD-set-other answers 5 b (1 + 9 * length (s .control .staged)) 5 ne) ∙ sym (by-byte b)

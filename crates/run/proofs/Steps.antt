@@ -7,10 +7,10 @@ use native.Mathlib.Omega.{arith}
 use borrow.Author.Tests.{lt-ltb, le-ltb, le-leb, lt-leb}
 use lib.Dec.{ltb}
 use lib.ListN.{length, getD, take, drop, length-drop}
-use Rattle.model.specs.Numbers.{CUT, NOROOM, UNKNOWN}
+use Rattle.model.specs.Numbers.{CUT, NOROOM, UNKNOWN, LAST-COMMAND}
 use Rattle.model.specs.Model.{addsNothing}
 use Rattle.model.specs.Store.{Store, Bytes, isKind, stagedKinds}
-use Rattle.model.specs.Commands.{Command, REG, HOLD, NEW, PUT, TAKE, DROP, KILL, WIPE, GROUP, APPLY, BAR, RANGE, EMPTY, TALLY, LAST_COMMAND, Done, accepted, width, commandAt, answerLength}
+use Rattle.model.specs.Commands.{Command, REG, HOLD, NEW, PUT, TAKE, DROP, KILL, WIPE, GROUP, APPLY, BAR, RANGE, EMPTY, TALLY, Done, accepted, width, commandAt, answerLength}
 use Rattle.model.specs.Run.{Outcome, refuses, accepts, does, Step, stops, goes, stepOf, step, storeAfter, answerOf}
 use Rattle.model.proofs.BoolLaws.{cond-case}
 use Rattle.model.proofs.Lines.{accepted-exact}
@@ -32,16 +32,16 @@ module _ (s : Store) (t : List ℕ) (at room : ℕ) where
   step-zero h = rw h
 
   module _ (low : 1 ≤ getD t at 0) where
-    pub step-high : LAST_COMMAND < getD t at 0 → stepAt s t at room ≡ stops UNKNOWN
+    pub step-high : LAST-COMMAND < getD t at 0 → stepAt s t at room ≡ stops UNKNOWN
     unfolding step
-    step-high h = rw (le-leb 1 (getD t at 0) low, lt-leb (getD t at 0) LAST_COMMAND h)
+    step-high h = rw (le-leb 1 (getD t at 0) low, lt-leb (getD t at 0) LAST-COMMAND h)
 
-    module _ (high : getD t at 0 ≤ LAST_COMMAND) where
+    module _ (high : getD t at 0 ≤ LAST-COMMAND) where
       pub step-cut : at < length t → length t - at < 1 + width (getD t at 0) → stepAt s t at room ≡ stops CUT
       unfolding step
       step-cut more h =
           let e : ltb (length (drop (at + 1) t)) (width (getD t at 0)) ≡ true = lt-ltb (length (drop (at + 1) t)) (width (getD t at 0)) (rw (length-drop (at + 1) t) (omega arith)) in
-          rw (le-leb 1 (getD t at 0) low, le-leb (getD t at 0) LAST_COMMAND high, e)
+          rw (le-leb 1 (getD t at 0) low, le-leb (getD t at 0) LAST-COMMAND high, e)
 
       module _ (whole : 1 + width (getD t at 0) ≤ length t - at) where
         fits : ltb (length (drop (at + 1) t)) (width (getD t at 0)) ≡ false
@@ -49,11 +49,11 @@ module _ (s : Store) (t : List ℕ) (at room : ℕ) where
 
         pub step-room : room < answerLength (commandIn (getD t at 0) t (at + 1)) s → stepAt s t at room ≡ stops NOROOM
         unfolding step
-        step-room h = rw (le-leb 1 (getD t at 0) low, le-leb (getD t at 0) LAST_COMMAND high, fits, lt-ltb room (answerLength (commandIn (getD t at 0) t (at + 1)) s) h)
+        step-room h = rw (le-leb 1 (getD t at 0) low, le-leb (getD t at 0) LAST-COMMAND high, fits, lt-ltb room (answerLength (commandIn (getD t at 0) t (at + 1)) s) h)
 
         pub step-did : answerLength (commandIn (getD t at 0) t (at + 1)) s ≤ room → stepAt s t at room ≡ stepOf (suc (width (getD t at 0))) s (does (commandIn (getD t at 0) t (at + 1)) s)
         unfolding step
-        step-did h = rw (le-leb 1 (getD t at 0) low, le-leb (getD t at 0) LAST_COMMAND high, fits, le-ltb room (answerLength (commandIn (getD t at 0) t (at + 1)) s) h)
+        step-did h = rw (le-leb 1 (getD t at 0) low, le-leb (getD t at 0) LAST-COMMAND high, fits, le-ltb room (answerLength (commandIn (getD t at 0) t (at + 1)) s) h)
 
 -- the answer takes no more than the accepted one
 answer-fits : (c : Command) (s : Store) (x : Outcome) → does c s ≡ x → length (answerOf x) ≤ answerLength c s

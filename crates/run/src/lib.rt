@@ -1,5 +1,5 @@
 // A run: command after command off a tape, up to its end or a stop.
-use model::LAST_COMMAND;
+use model::commands::LAST_COMMAND;
 use model::commands::TAKE;
 use model::refusals::CUT;
 use model::refusals::NOROOM;
@@ -8,11 +8,12 @@ ghost use mathlib.Core.Path.{_≡_};
 ghost use mathlib.Core.List.{List};
 ghost use Prim.Native.Nat.{ℕ, _-_, _<_, _≤_};
 ghost use lib.ListN.{length};
-ghost use Rattle.model.specs.Commands.{LAST_COMMAND, width, commandAt, answerLength};
+ghost use Rattle.model.specs.Commands.{width, commandAt, answerLength};
 ghost use Rattle.model.specs.Run.{run};
 ghost use Rattle.memory.specs.Meaning.{meaning};
 ghost use Rattle.memory.specs.Arranged.{Arranged, Sound};
 ghost use Rattle.run.specs.Run.{StepReady, stepAt, Stepped, Completed};
+ghost use Rattle.model.specs.Numbers.{LAST-COMMAND};
 
 // How many bytes there are up to the last command's.
 const BYTES: usize = LAST_COMMAND as usize + 1;
@@ -36,7 +37,7 @@ pub struct Ran {
 }
 
 fn operand_bytes(op: u8) -> usize
-    requires { ⌜ op ≤ LAST_COMMAND ⌝ }
+    requires { ⌜ op ≤ LAST-COMMAND ⌝ }
     ensures { λ r. ⌜ (r ≡ width op) × (r ≤ 9) ⌝ }
 {
     let i = op as usize;
@@ -46,7 +47,7 @@ fn operand_bytes(op: u8) -> usize
 // Bytes that the accepted answer takes, whatever the operands are.
 fn answer_bytes(words: &[u32], op: u8) -> usize
     requires { ⌜ Arranged (now words) ⌝ }
-    requires { ⌜ op ≤ LAST_COMMAND ⌝ }
+    requires { ⌜ op ≤ LAST-COMMAND ⌝ }
     ensures { λ r. ⌜ ((ops : List ℕ) → r ≡ answerLength (commandAt op ops) (meaning (now (words .entry)))) ⌝ }
 {
     let i = op as usize;

@@ -9,7 +9,7 @@ use lib.Seq.{getD-take, getD-drop, length-take-le, take-take}
 use Rattle.model.specs.Model.{Entity}
 use Rattle.model.proofs.BoolLaws.{by-eq}
 use Rattle.model.specs.Store.{number}
-use Rattle.model.specs.Commands.{Command, LAST_COMMAND, entityOfBytes}
+use Rattle.model.specs.Commands.{Command, entityOfBytes}
 use Rattle.component.specs.SparseSet.{entity, valueOf}
 use Rattle.model.specs.Run.{does}
 use Rattle.model.proofs.ListLaws.{halves}
@@ -17,6 +17,7 @@ use Rattle.memory.specs.Meaning.{meaning}
 use Rattle.command.specs.Acted.{Ready, Acted}
 use Rattle.run_command.specs.Given.{commandIn, Given}
 use Rattle.codec.proofs.Numbers.{number-join}
+use Rattle.model.specs.Numbers.{LAST-COMMAND}
 
 -- ---- operands
 
@@ -91,6 +92,6 @@ on-entity b h l n =
     let m = n .0 .0 .0 .0 .0 .0 in
     (up 3 (up 2 (up 1 h (m .0 .0 .1)) (m .0 .1)) (m .1), omega arith)
 
-pub is-tally : (b : ℕ) → 8 ≤ b → b ≤ LAST_COMMAND → Passed b → b ≡ LAST_COMMAND
+pub is-tally : (b : ℕ) → 8 ≤ b → b ≤ LAST-COMMAND → Passed b → b ≡ LAST-COMMAND
 is-tally b h l n =
     omega (arith, up 13 (up 12 (up 11 (up 10 (up 9 (up 8 h (n .0 .0 .0 .0 .0 .1)) (n .0 .0 .0 .0 .1)) (n .0 .0 .0 .1)) (n .0 .0 .1)) (n .0 .1)) (n .1))

@@ -2,49 +2,49 @@ use mathlib.Core.Path.{_≡_}
 use mathlib.Core.Logic.{⊎-elim}
 use native.Mathlib.Omega.{arith}
 use borrow.Author.Needs.{needs}
-use Rattle.model.specs.Commands.{LAST_COMMAND}
+use Rattle.model.specs.Numbers.{LAST-COMMAND, REG-BYTE, HOLD-BYTE, NEW-BYTE, WIPE-BYTE, GROUP-BYTE, APPLY-BYTE, BAR-BYTE, RANGE-BYTE, EMPTY-BYTE}
 use Rattle.run_command.proofs.Reading.{given-as, acts-as, on-entity, is-tally}
 use Rattle.run_command.proofs.act.Statement.{statement}
 use Rattle.run_command.proofs.act.Tie as tie
 
 reg-requires : tie.Need-reg-requires
-reg-requires c κs = given-as 1 (c .before .before .match .keys1) (c .before .before .before .before .before .before .pre .1)
+reg-requires c κs = given-as REG-BYTE (c .before .before .match .keys1) (c .before .before .before .before .before .before .pre .1)
 
 hold-requires : tie.Need-hold-requires
-hold-requires c κs = given-as 2 (c .before .before .match .keys2) (c .before .before .before .before .before .before .pre .1)
+hold-requires c κs = given-as HOLD-BYTE (c .before .before .match .keys2) (c .before .before .before .before .before .before .pre .1)
 
 new-requires : tie.Need-new-requires
-new-requires c κs = given-as 3 (c .before .before .match .keys3) (c .before .before .before .before .before .before .pre .1) .ready
+new-requires c κs = given-as NEW-BYTE (c .before .before .match .keys3) (c .before .before .before .before .before .before .pre .1) .ready
 
 wipe-requires : tie.Need-wipe-requires
-wipe-requires c κs = given-as 8 (c .before .before .match .keys4) (c .before .before .before .before .before .before .pre .1) .ready
+wipe-requires c κs = given-as WIPE-BYTE (c .before .before .match .keys4) (c .before .before .before .before .before .before .pre .1) .ready
 
 group-requires : tie.Need-group-requires
-group-requires c κs = given-as 9 (c .before .before .match .keys5) (c .before .before .before .before .before .before .pre .1) .ready
+group-requires c κs = given-as GROUP-BYTE (c .before .before .match .keys5) (c .before .before .before .before .before .before .pre .1) .ready
 
 apply-requires : tie.Need-apply-requires
-apply-requires c κs = given-as 10 (c .before .before .match .keys6) (c .before .before .before .before .before .before .pre .1) .ready
+apply-requires c κs = given-as APPLY-BYTE (c .before .before .match .keys6) (c .before .before .before .before .before .before .pre .1) .ready
 
 bar-requires : tie.Need-bar-requires
-bar-requires c κs = given-as 11 (c .before .before .match .keys7) (c .before .before .before .before .before .before .pre .1)
+bar-requires c κs = given-as BAR-BYTE (c .before .before .match .keys7) (c .before .before .before .before .before .before .pre .1)
 
 range-requires : tie.Need-range-requires
-range-requires c κs = given-as 12 (c .before .before .match .keys8) (c .before .before .before .before .before .before .pre .1) .ready
+range-requires c κs = given-as RANGE-BYTE (c .before .before .match .keys8) (c .before .before .before .before .before .before .pre .1) .ready
 
 empty-requires : tie.Need-empty-requires
-empty-requires c κs = given-as 13 (c .before .before .match .keys9) (c .before .before .before .before .before .before .pre .1) .ready
+empty-requires c κs = given-as EMPTY-BYTE (c .before .before .match .keys9) (c .before .before .before .before .before .before .pre .1) .ready
 
 on-entity-requires : tie.Need-on-entity-requires
 on-entity-requires c κs = let s = c .before .before .before .before .before .before .before .before in (on-entity (s .args .op) (c .before .before .before .if1 .left) (c .before .before .if2 .taken) (c .before .before .before .before .match .rest), s .pre .1)
 
 -- the last byte, in the arm that is left
-last-arm : (c : tie.Joined1) → c .before .before .before .before .before .args .op ≡ LAST_COMMAND
+last-arm : (c : tie.Joined1) → c .before .before .before .before .before .args .op ≡ LAST-COMMAND
 last-arm c =
     let s = c .before .before .before .before .before in
     ⊎-elim (λ l. absurd (omega (arith, l .taken, s .pre .0))) (λ l. is-tally (s .args .op) (l .1 .left) (s .pre .0 .1) (c .before .match .rest)) (c .if1 .came)
 
 tally-requires : tie.Need-tally-requires
-tally-requires c κs = given-as LAST_COMMAND (last-arm (c .before .before)) (c .before .before .before .before .before .before .before .pre .1) .ready
+tally-requires c κs = given-as LAST-COMMAND (last-arm (c .before .before)) (c .before .before .before .before .before .before .before .pre .1) .ready
 
 returns : tie.Need-returns
 returns c = let s = c .before .before .before .before .before .before .before .before .before .before .before .args in acts-as (s .op) 1 (c .before .before .before .before .before .before .before .match .keys1) (s .tape .now) (s .at) (c .before .before .before .before .reg .ensures)
@@ -74,7 +74,7 @@ returns-9 : tie.Need-returns-9
 returns-9 c = let s = c .before .before .before .before .before .before .before .before .before .before .before .args in acts-as (s .op) 13 (c .before .before .before .before .before .before .before .match .keys9) (s .tape .now) (s .at) (c .before .before .before .before .empty .ensures)
 
 returns-11 : tie.Need-returns-11
-returns-11 c = let s = c .before .before .before .before .before .before .before .before .before .before .args in acts-as (s .op) LAST_COMMAND (last-arm (c .before .before .before .before .before)) (s .tape .now) (s .at) (c .before .before .tally .ensures)
+returns-11 c = let s = c .before .before .before .before .before .before .before .before .before .before .args in acts-as (s .op) LAST-COMMAND (last-arm (c .before .before .before .before .before)) (s .tape .now) (s .at) (c .before .before .tally .ensures)
 
 pub act-spec : {M : Type 1} → statement M
 act-spec =
