@@ -9,7 +9,7 @@ use Rattle.model.proofs.Outcomes.{grouped, group-does}
 use Rattle.layout.specs.declared.group_layout.Answer.{Answer}
 use Rattle.layout.specs.declared.group_layout.Layout.{Layout}
 use Rattle.layout.specs.declared.group_layout.Outcome.{Outcome}
-use Rattle.layout.specs.Layout as layout
+use Rattle.layout.specs.ByValue as layout
 use Rattle.layout.specs.Add.{modelOf}
 use Rattle.memory.specs.Meaning.{meaning}
 use Rattle.memory.specs.Arranged.{Becomes}

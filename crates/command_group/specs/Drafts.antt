@@ -4,11 +4,11 @@ use mathlib.Core.List.{List}
 use Prim.Native.Nat.{ℕ, _≤_}
 use lib.ListN.{take}
 use Rattle.model.specs.Numbers.{LIST-CAPACITY}
-use Rattle.model.specs.Model.{addGroup}
+use Rattle.model.specs.Adding.{addGroup}
 use Rattle.model.specs.Store.{Store, stagedKinds}
 use Rattle.layout.specs.declared.group_layout.Answer.{Answer}
-use Rattle.layout.specs.Layout.{Formed}
-use Rattle.layout.specs.Layout as layout
+use Rattle.layout.specs.ByValue.{Formed}
+use Rattle.layout.specs.ByValue as layout
 use Rattle.layout.specs.Add.{modelOf}
 
 -- 01, GROUP: "the hand's kinds", in its order; they are the first n bytes

@@ -11,8 +11,8 @@ use Rattle.words.specs.Table.{table}
 use Rattle.words.proofs.Tables.{length-table, getD-table, table-same}
 use Rattle.words.proofs.Links.{apart, linked-same}
 use Rattle.words.proofs.Pigeon.{pigeon-free}
-use Rattle.component.specs.SparseSet.{lengthOf, indexAt, versionAt, lowAt, highAt, placeOf, heldOf, row, rowAt, rows, Sized, ColumnSound}
-use Rattle.component.specs.Stored.{Absent}
+use Rattle.component.specs.SparseSet.{lengthOf, indexAt, versionAt, lowAt, highAt, placeOf, heldOf, row, rowAt, rows, ColumnSound}
+use Rattle.component.specs.Stored.{Sized, Absent}
 
 pub length-rows : (n : ℕ) (w : List ℕ) → length (rows n w) ≡ lengthOf w
 unfolding rows

@@ -15,8 +15,8 @@ use Rattle.words.specs.Stores.{stores}
 use Rattle.words.proofs.Stores.{miss, hit, length-stores}
 use Rattle.words.proofs.Links.{linked-exchanged, linked-appended, linked-removed, linked-same}
 use Rattle.component.specs.declared.component_sparse_set.RowWords.{RowWords}
-use Rattle.component.specs.SparseSet.{lengthOf, indexAt, versionAt, placeOf, heldOf, valueOf, row, rowAt, rows, ColumnSound, Changed, swapRows}
-use Rattle.component.specs.Stored.{wordsAt, rowStores, lookupStores, Absent, valued, popped}
+use Rattle.component.specs.SparseSet.{lengthOf, indexAt, versionAt, placeOf, heldOf, valueOf, row, rowAt, rows, ColumnSound}
+use Rattle.component.specs.Stored.{Changed, swapRows, wordsAt, rowStores, lookupStores, Absent, valued, popped}
 use Rattle.component.proofs.Meaning.{length-rows, getD-rows, row-is, rows-apart, absent-free, absent-room}
 
 -- ---- no change, and a change under another name

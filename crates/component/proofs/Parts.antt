@@ -14,8 +14,10 @@ use Rattle.words.specs.Part.{between}
 use Rattle.words.proofs.Part.{patch, getD-between, between-front, between-rest, patch-front, patch-between, patch-rest, patch-length}
 use Rattle.words.specs.Offsets.{columnStart}
 use Rattle.words.proofs.Offsets.{columnStart-apart, columnStart-mono}
-use Rattle.component.specs.SparseSet.{rows, ColumnSound, Changed}
-use Rattle.component.specs.Columns.{columnOf, Columns, Lent, Only}
+use Rattle.component.specs.SparseSet.{rows, ColumnSound}
+use Rattle.component.specs.Stored.{Changed}
+use Rattle.component.specs.Columns.{columnOf, Columns}
+use Rattle.component.specs.Changes.{Lent, Only}
 
 pub lent : (n m s : ℕ) (w : List ℕ) → Columns n m w → s < m → Lent n s w
 lent n m s w c h =

@@ -14,9 +14,9 @@ use Rattle.model.proofs.ListLaws.{getD-place}
 use Rattle.model.specs.Model.{Entity, SparseSet, sameEntity, noEntity, noRow, keys, entityOf, at, held, insertRow, removeRow, swapTo}
 use Rattle.model.proofs.SparseSets.{entity-eq, entity-same}
 use Rattle.component.specs.declared.Found.the-variants as found
-use Rattle.component.specs.SparseSet.{lengthOf, indexAt, versionAt, placeOf, heldOf, entity, rows, ColumnSound, Current, swapRows}
+use Rattle.component.specs.SparseSet.{lengthOf, indexAt, versionAt, placeOf, heldOf, entity, rows, ColumnSound}
+use Rattle.component.specs.Stored.{Current, swapRows, Absent, valued}
 use Rattle.component.specs.Answers.{HeldAt, Finds}
-use Rattle.component.specs.Stored.{Absent, valued}
 use Rattle.component.proofs.Meaning.{length-rows, getD-rows, rows-apart}
 
 -- ---- the model's place of an entity

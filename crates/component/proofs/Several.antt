@@ -12,7 +12,8 @@ use lib.ListN.{getD}
 use Rattle.model.specs.Model.{SparseSet}
 use Rattle.model.proofs.BoolLaws.{by-eq}
 use Rattle.component.specs.SparseSet.{rows}
-use Rattle.component.specs.Columns.{rowsOf, Columns, One, Changes}
+use Rattle.component.specs.Columns.{rowsOf, Columns}
+use Rattle.component.specs.Changes.{One, Changes}
 
 -- nothing changed, where the change is none; and a change under another name
 pub changes-none : (n m : ℕ) (w : List ℕ) → Columns n m w → Changes n m (λ (s : ℕ) (rs : SparseSet). rs) w w

@@ -9,7 +9,8 @@ use Rattle.component.specs.declared.Found.{Found}
 use Rattle.component.specs.declared.Found.the-variants as found
 use Rattle.component.specs.declared.Removed.{Removed}
 use Rattle.component.specs.declared.Removed.the-variants as removed
-use Rattle.component.specs.SparseSet.{valueOf, rows, Changed}
+use Rattle.component.specs.SparseSet.{valueOf, rows}
+use Rattle.component.specs.Stored.{Changed}
 
 -- the entity is held, at p
 pub record HeldAt (n : ℕ) (e : Entity) (rs : SparseSet) (p : ℕ) : Type 0 where

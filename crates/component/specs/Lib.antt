@@ -2,3 +2,4 @@ pub mod SparseSet
 pub mod Answers
 pub mod Stored
 pub mod Columns
+pub mod Changes

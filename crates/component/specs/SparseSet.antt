@@ -4,12 +4,11 @@
 -- Assumes nothing.
 use mathlib.Core.Path.{_≡_}
 use mathlib.Core.List.{List}
-use Prim.Native.Nat.{ℕ, _+_, _*_, _≤_, _<_}
+use Prim.Native.Nat.{ℕ, _+_, _*_, _≤_}
 use lib.ListN.{length, getD}
 use Rattle.model.specs.Numbers.{MAX-ENTITIES, columnLen}
 use Rattle.words.specs.Offsets.{ROWS}
-use Rattle.model.specs.Lists.{swap}
-use Rattle.model.specs.Model.{Entity, Row, SparseSet, noRow}
+use Rattle.model.specs.Model.{Entity, Row, SparseSet}
 use Rattle.words.specs.Table.{table}
 use Rattle.words.specs.Links.{Linked}
 
@@ -60,11 +59,6 @@ rows n w = table (lengthOf w) (rowAt n w)
 
 -- ---- soundness
 
--- the words of a part of capacity n, whatever they hold
-pub record Sized (n : ℕ) (w : List ℕ) : Type 0 where
-  pub size : length w ≡ columnLen n
-  pub small : n ≤ MAX-ENTITIES
-
 -- 01, a sound store: "each column with its own lookups" agrees
 pub record ColumnSound (n : ℕ) (w : List ℕ) : Type 0 where
   pub size : length w ≡ columnLen n
@@ -72,18 +66,3 @@ pub record ColumnSound (n : ℕ) (w : List ℕ) : Type 0 where
   pub linked : Linked n (lengthOf w) (indexAt w) (versionAt w) (placeOf n w) (heldOf n w)
 
 -- ---- changes
-
--- a sound part whose rows have become f of what they were; words 1 to 7 are as they were
-pub record Changed (n : ℕ) (f : SparseSet → SparseSet) (w w′ : List ℕ) : Type 0 where
-  pub sound : ColumnSound n w′
-  pub size : length w′ ≡ length w
-  pub becomes : rows n w′ ≡ f (rows n w)
-  pub kept : (i : ℕ) → 1 ≤ i → i < 8 → getD w′ i 0 ≡ getD w i 0
-
--- the model's swap, on rows
-abbrev pub swapRows : ℕ → ℕ → SparseSet → SparseSet
-swapRows a b rs = swap noRow a b rs
-
--- a row of the index x has the version v: no two versions of an index live at once
-abbrev pub Current : ℕ → ℕ → SparseSet → Type 0
-Current x v rs = (i : ℕ) → i < length rs → getD rs i noRow .entity .index ≡ x → getD rs i noRow .entity .version ≡ v

@@ -1,12 +1,14 @@
 -- What the private steps of a change store, and what they do to the rows. Assumes nothing.
 use mathlib.Core.Path.{_≡_}
 use mathlib.Core.List.{List, [], _∷_}
-use Prim.Native.Nat.{ℕ, _+_, _*_, _-_, _<_}
+use Prim.Native.Nat.{ℕ, _+_, _*_, _-_, _<_, _≤_}
 use lib.ListN.{length, getD, set, take}
 use Rattle.words.specs.Offsets.{ROWS}
 use Rattle.model.specs.Model.{SparseSet, noRow}
 use Rattle.component.specs.declared.component_sparse_set.RowWords.{RowWords}
-use Rattle.component.specs.SparseSet.{indexAt, versionAt, lowAt, highAt}
+use Rattle.component.specs.SparseSet.{indexAt, versionAt, lowAt, highAt, rows, ColumnSound}
+use Rattle.model.specs.Numbers.{MAX-ENTITIES, columnLen}
+use Rattle.model.specs.Lists.{swap}
 
 -- the four words of row i
 abbrev pub wordsAt : ℕ → List ℕ → ℕ → RowWords
@@ -31,3 +33,23 @@ valued p v rs = set rs p (record { entity = getD rs p noRow .entity; value = v }
 -- the last row gone
 abbrev pub popped : SparseSet → SparseSet
 popped rs = take (length rs - 1) rs
+
+-- the words of a part of capacity n, whatever they hold
+pub record Sized (n : ℕ) (w : List ℕ) : Type 0 where
+  pub size : length w ≡ columnLen n
+  pub small : n ≤ MAX-ENTITIES
+
+-- a sound part whose rows have become f of what they were; words 1 to 7 are as they were
+pub record Changed (n : ℕ) (f : SparseSet → SparseSet) (w w′ : List ℕ) : Type 0 where
+  pub sound : ColumnSound n w′
+  pub size : length w′ ≡ length w
+  pub becomes : rows n w′ ≡ f (rows n w)
+  pub kept : (i : ℕ) → 1 ≤ i → i < 8 → getD w′ i 0 ≡ getD w i 0
+
+-- the model's swap, on rows
+abbrev pub swapRows : ℕ → ℕ → SparseSet → SparseSet
+swapRows a b rs = swap noRow a b rs
+
+-- a row of the index x has the version v: no two versions of an index live at once
+abbrev pub Current : ℕ → ℕ → SparseSet → Type 0
+Current x v rs = (i : ℕ) → i < length rs → getD rs i noRow .entity .index ≡ x → getD rs i noRow .entity .version ≡ v

@@ -13,9 +13,9 @@ ghost use lib.ListN.{length, getD};
 ghost use Rattle.model.specs.Lists.{cutAt};
 ghost use Rattle.model.specs.Model.{SparseSet, noRow, held, insertRow, swapTo};
 ghost use Rattle.words.specs.Stores.{stores};
-ghost use Rattle.component.specs.SparseSet.{lengthOf, entity, valueOf, row, rows, Sized, ColumnSound, Changed, swapRows, Current};
+ghost use Rattle.component.specs.SparseSet.{lengthOf, entity, valueOf, row, rows, ColumnSound};
+ghost use Rattle.component.specs.Stored.{Sized, Changed, swapRows, Current, wordsAt, rowStores, Absent, valued, popped};
 ghost use Rattle.component.specs.Answers.{Removes};
-ghost use Rattle.component.specs.Stored.{wordsAt, rowStores, Absent, valued, popped};
 
 // The words of a row.
 struct RowWords {

@@ -10,9 +10,11 @@ ghost use mathlib.Core.List.{[]};
 ghost use Prim.Native.Nat.{ℕ, _<_, _≤_};
 ghost use lib.ListN.{length, getD};
 ghost use Rattle.model.specs.Model.{SparseSet, noRow, held, insertRow, swapTo};
-ghost use Rattle.component.specs.SparseSet.{entity, valueOf, Current};
+ghost use Rattle.component.specs.SparseSet.{entity, valueOf};
+ghost use Rattle.component.specs.Stored.{Current};
 ghost use Rattle.component.specs.Answers.{Finds};
-ghost use Rattle.component.specs.Columns.{rowsOf, Columns, Lent, Only, RemovesIn, Changes};
+ghost use Rattle.component.specs.Columns.{rowsOf, Columns};
+ghost use Rattle.component.specs.Changes.{Lent, Only, RemovesIn, Changes};
 
 pub fn len_in(words: &[u32], n: usize, slot: usize) -> usize
     requires { ⌜ Lent n slot (now words) ⌝ }

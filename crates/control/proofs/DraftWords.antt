@@ -13,7 +13,8 @@ use Rattle.words.proofs.Stores.{length-stores, miss, hit}
 use Rattle.words.specs.Part.{between}
 use Rattle.words.proofs.Part.{patch, length-between, patch-front, patch-between, patch-rest, patch-length}
 use Rattle.layout.specs.declared.group_layout.Layout.{Layout}
-use Rattle.layout.specs.Layout.{arraysOf, blockArrays, WellFormed, groupCount, familiesOf}
+use Rattle.layout.specs.Layout.{blockArrays, WellFormed, groupCount, familiesOf}
+use Rattle.layout.specs.ByValue.{arraysOf}
 use Rattle.layout_block.specs.Blocks.{BlockFormed, ReadFrom, WrittenTo}
 use Rattle.memory.specs.Header.{draftFamilies, draftGroups}
 use Rattle.words.specs.Word.{Word}

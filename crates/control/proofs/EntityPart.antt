@@ -14,8 +14,8 @@ use Rattle.model.specs.Store.{withEntities}
 use Rattle.model.proofs.SparseSets.{entity-eq, entity-same}
 use Rattle.words.proofs.Offsets.{columnStart-mono}
 use Rattle.entity.specs.declared.Entity.{Entity as Answer}
-use Rattle.entity.specs.Meaning.{EntityPartSound, entityAt, entitiesOf, lenOf}
-use Rattle.entity.specs.Change.{SoundIn, entityPart, entitiesIn, EntityChange}
+use Rattle.entity.specs.Meaning.{EntityPartSound, entityAt, entitiesOf, lenOf, entityPart, entitiesIn}
+use Rattle.entity.specs.Change.{SoundIn, EntityChange}
 use Rattle.entity.specs.Answers.{entityOf, created, CreatedIn}
 use Rattle.entity.proofs.Lookups.{length-live, getD-live}
 use Rattle.memory.specs.Header.{capacityOf, kindCapacityOf}

@@ -4,8 +4,8 @@ use mathlib.Core.List.{List}
 use Prim.Native.Nat.{ℕ}
 use Rattle.model.specs.Store.{Store, withControl, withDraft}
 use Rattle.layout.specs.declared.group_layout.Layout.{Layout}
-use Rattle.layout.specs.Layout.{Formed}
-use Rattle.layout.specs.Layout as layout
+use Rattle.layout.specs.ByValue.{Formed}
+use Rattle.layout.specs.ByValue as layout
 use Rattle.memory.specs.Meaning.{meaning}
 
 -- the struct is the store's draft

@@ -4,7 +4,7 @@ use words::DRAFT;
 use words::DRAFT_FAMILIES;
 use words::DRAFT_GROUPS;
 use words::LAYOUT;
-ghost use Rattle.layout.specs.Layout.{Formed};
+ghost use Rattle.layout.specs.ByValue.{Formed};
 ghost use Rattle.memory.specs.Meaning.{meaning};
 ghost use Rattle.memory.specs.Arranged.{Arranged, Becomes};
 ghost use Rattle.control.specs.Draft.{IsDraft, drafting};

@@ -8,7 +8,8 @@ use Rattle.model.specs.Numbers.{ENTITY-LEN}
 use Rattle.words.specs.Offsets.{ENTITIES}
 use Rattle.model.specs.Model.{Entities}
 use Rattle.words.proofs.Part.{patch, patch-front, patch-rest, patch-between, patch-length}
-use Rattle.entity.specs.Change.{Changed, SoundIn, EntityChange, entityPart}
+use Rattle.entity.specs.Change.{Changed, SoundIn, EntityChange}
+use Rattle.entity.specs.Meaning.{entityPart}
 
 -- the part, changed where it lies
 pub changed-in : (n : ℕ) (f : Entities → Entities) (w ys : List ℕ) → ENTITIES + ENTITY-LEN * n ≤ length w → Changed n f (entityPart n w) ys → EntityChange n f w (patch ENTITIES (ENTITIES + ENTITY-LEN * n) w ys)

@@ -11,8 +11,8 @@ use Rattle.words.specs.Stores.{stores}
 use Rattle.words.proofs.Stores.{miss, hit, length-stores}
 use Rattle.words.proofs.Links.{apart, linked-appended, linked-removed}
 use Rattle.words.proofs.Pigeon.{pigeon-free}
-use Rattle.entity.specs.Meaning.{EntityPartSound, Idle, entity, entitiesOf, entityAt, lenOf, issuedOf, liveIndexAt, liveVersionAt, placeOf, heldOf, queueSlot}
-use Rattle.entity.specs.Change.{Changed, joined, left}
+use Rattle.entity.specs.Meaning.{EntityPartSound, entity, entitiesOf, entityAt, lenOf, issuedOf, liveIndexAt, liveVersionAt, placeOf, heldOf, queueSlot}
+use Rattle.entity.specs.Change.{Idle, Changed, joined, left}
 use Rattle.entity.specs.Stored.{putStores}
 use Rattle.entity.proofs.Kept.{entity-path, entities-path, kept-queue, live-unlisted}
 

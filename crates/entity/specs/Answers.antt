@@ -9,8 +9,8 @@ use Rattle.model.specs.Model.{Entity, Entities, noEntity, sameEntity, isLive, c
 use Rattle.entity.specs.declared.Entity.{Entity as Answer}
 use Rattle.entity.specs.declared.Found.{Found}
 use Rattle.entity.specs.declared.Found.the-variants.{At, Nothing}
-use Rattle.entity.specs.Meaning.{entity, entitiesOf, Idle}
-use Rattle.entity.specs.Change.{Changed, EntityChange, unqueued, numbered, allocated, entitiesIn}
+use Rattle.entity.specs.Meaning.{entity, entitiesOf, entitiesIn}
+use Rattle.entity.specs.Change.{Idle, Changed, EntityChange, unqueued, numbered, allocated}
 
 -- the answered entity, as the model has it
 abbrev pub entityOf : Answer → Entity

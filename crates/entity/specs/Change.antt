@@ -2,7 +2,7 @@
 use mathlib.Core.Path.{_≡_}
 use mathlib.Core.Bool.{cond}
 use mathlib.Core.List.{List, [], _∷_, _++_}
-use Prim.Native.Nat.{ℕ, suc, _+_, _*_, _≤_}
+use Prim.Native.Nat.{ℕ, suc, _+_, _*_, _≤_, _<_}
 use lib.Dec.{ltb}
 use lib.ListN.{length, take, drop}
 use Rattle.model.specs.Numbers.{ENTITY-LEN}
@@ -10,8 +10,7 @@ use Rattle.words.specs.Offsets.{ENTITIES}
 use Rattle.model.specs.Lists.{cutAt}
 use Rattle.model.specs.Model.{Entity, Entities, noEntity, lastVersion}
 pub use Rattle.model.specs.Model.{isFull, noEntities}
-use Rattle.words.specs.Part.{between}
-use Rattle.entity.specs.Meaning.{EntityPartSound, entitiesOf, entity}
+use Rattle.entity.specs.Meaning.{EntityPartSound, entitiesOf, entity, issuedOf, heldOf, queueSlot, entityPart, entitiesIn}
 
 -- ---- the steps of create and destroy
 
@@ -59,13 +58,6 @@ pub record Changed (n : ℕ) (f : Entities → Entities) (w w′ : List ℕ) : T
 
 -- ---- the whole words
 
--- the part of the words that holds the entities
-abbrev pub entityPart : ℕ → List ℕ → List ℕ
-entityPart n w = between ENTITIES (ENTITIES + ENTITY-LEN * n) w
-
-abbrev pub entitiesIn : ℕ → List ℕ → Entities
-entitiesIn n w = entitiesOf n (entityPart n w)
-
 -- the words have a sound entity part
 pub record SoundIn (n : ℕ) (w : List ℕ) : Type 0 where
   pub fits : ENTITIES + ENTITY-LEN * n ≤ length w
@@ -78,3 +70,9 @@ pub record EntityChange (n : ℕ) (f : Entities → Entities) (w w′ : List ℕ
   pub becomes : entitiesIn n w′ ≡ f (entitiesIn n w)
   pub front : take ENTITIES w′ ≡ take ENTITIES w
   pub rest : drop (ENTITIES + ENTITY-LEN * n) w′ ≡ drop (ENTITIES + ENTITY-LEN * n) w
+
+-- index x is issued, and neither live nor waiting: retired, or between the two
+pub record Idle (n : ℕ) (w : List ℕ) (x : ℕ) : Type 0 where
+  pub below : x < issuedOf w
+  pub free : heldOf n w x ≡ 0
+  pub unlisted : queueSlot n w x ≡ 0

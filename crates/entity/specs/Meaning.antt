@@ -11,6 +11,8 @@ use Rattle.model.specs.Model.{Entity, Entities}
 use Rattle.words.specs.Table.{table}
 use Rattle.words.specs.Links.{Linked}
 use Rattle.entity.specs.Queue.{Queue, wrapped}
+use Rattle.words.specs.Offsets.{ENTITIES}
+use Rattle.words.specs.Part.{between}
 
 abbrev pub lenOf : List ℕ → ℕ
 lenOf w = getD w 0 0
@@ -83,8 +85,9 @@ pub record EntityPartSound (n : ℕ) (w : List ℕ) : Type 0 where
   pub known : (i : ℕ) → i < lenOf w → liveIndexAt w i < issuedOf w
   pub queue : Queue n (issuedOf w) (headOf w) (recycledLen w) (queueIndex n w) (queueVersion n w) (queueSlot n w) (heldOf n w)
 
--- index x is issued, and neither live nor waiting: retired, or between the two
-pub record Idle (n : ℕ) (w : List ℕ) (x : ℕ) : Type 0 where
-  pub below : x < issuedOf w
-  pub free : heldOf n w x ≡ 0
-  pub unlisted : queueSlot n w x ≡ 0
+-- the part of the words that holds the entities
+abbrev pub entityPart : ℕ → List ℕ → List ℕ
+entityPart n w = between ENTITIES (ENTITIES + ENTITY-LEN * n) w
+
+abbrev pub entitiesIn : ℕ → List ℕ → Entities
+entitiesIn n w = entitiesOf n (entityPart n w)

@@ -4,8 +4,8 @@ ghost use mathlib.Core.Path.{_≡_};
 ghost use mathlib.Core.Bool.{false};
 ghost use Prim.Native.Nat.{_≤_, _<_, _+_};
 ghost use Rattle.entity.specs.Queue.{wrapped};
-ghost use Rattle.entity.specs.Meaning.{EntityPartSound, Idle, entity, entitiesOf, recycledLen, issuedOf};
-ghost use Rattle.entity.specs.Change.{Changed, isFull, queued, recycledAs};
+ghost use Rattle.entity.specs.Meaning.{EntityPartSound, entity, entitiesOf, recycledLen, issuedOf};
+ghost use Rattle.entity.specs.Change.{Idle, Changed, isFull, queued, recycledAs};
 ghost use Rattle.entity.specs.Answers.{Allocated, Unqueued, Issued};
 
 // How many numbers are issued.

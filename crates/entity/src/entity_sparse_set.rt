@@ -5,8 +5,8 @@ ghost use Prim.Native.Nat.{_≤_, _<_};
 ghost use lib.ListN.{length, getD};
 ghost use Rattle.model.specs.Model.{noEntity};
 ghost use Rattle.words.specs.Stores.{stores};
-ghost use Rattle.entity.specs.Meaning.{Sized, EntityPartSound, Idle, entity, entitiesOf, lenOf, liveIndexAt};
-ghost use Rattle.entity.specs.Change.{Changed, joined, left};
+ghost use Rattle.entity.specs.Meaning.{Sized, EntityPartSound, entity, entitiesOf, lenOf, liveIndexAt};
+ghost use Rattle.entity.specs.Change.{Idle, Changed, joined, left};
 ghost use Rattle.entity.specs.Answers.{entityOf};
 ghost use Rattle.entity.specs.Stored.{putStores};
 

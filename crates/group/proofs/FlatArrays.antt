@@ -13,7 +13,8 @@ use Rattle.words.specs.Part.{between}
 use Rattle.words.proofs.Part.{between-front, getD-between, between-part, between-join}
 use Rattle.words.specs.Table.{table}
 use Rattle.words.proofs.Tables.{table-set}
-use Rattle.layout.specs.Layout.{Arrays, Sized, startOf, widthOf, kindsAt, aritiesAt, groupsFrom, familyAt, familiesOf, Rising, WellFormed}
+use Rattle.layout.specs.Layout.{Arrays, startOf, widthOf, kindsAt, aritiesAt, groupsFrom, familyAt, familiesOf, Rising, WellFormed}
+use Rattle.layout.specs.ByValue.{Sized}
 use Rattle.layout.specs.Group.{InFamily, arityOf, priorArity}
 use Rattle.layout.proofs.Family.{groups-same}
 use Rattle.layout.proofs.Arrays.{group-order, kinds-inside, arities-length, family-rising, groups-length, layout-kinds}

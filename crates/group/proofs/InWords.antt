@@ -14,7 +14,8 @@ use Rattle.model.proofs.BoolLaws.{bool-cases}
 use Rattle.words.specs.Part.{between}
 use Rattle.words.proofs.Part.{length-between, getD-between}
 use Rattle.layout.specs.Layout.{startOf, widthOf, familiesOf, KindSet, WellFormed}
-use Rattle.layout.specs.Group.{InFamily, arityOf, priorOf, priorArity, memberAt, ReadStart, ReadPrior}
+use Rattle.layout.specs.Group.{InFamily, arityOf, priorOf, priorArity, memberAt}
+use Rattle.layout.specs.Reading.{ReadStart, ReadPrior}
 use Rattle.layout.proofs.KindSets.{set-between}
 use Rattle.layout.proofs.Arrays.{kinds-inside, groups-inside, groups-of, layout-kinds}
 use Rattle.layout.proofs.Groups.{prior-less, arity-inside}

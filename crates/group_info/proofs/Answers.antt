@@ -9,7 +9,8 @@ use lib.Dec.{eqb}
 use lib.ListN.{length, length-append}
 use Rattle.model.specs.Model.{Storage, none, found, mem, within, setOf, rangeAll, single, rangeFor}
 use Rattle.model.proofs.BoolLaws.{bool-cases}
-use Rattle.layout.specs.Layout.{Arrays, Sized, kindsAt, familiesOf, WellFormed}
+use Rattle.layout.specs.Layout.{Arrays, kindsAt, familiesOf, WellFormed}
+use Rattle.layout.specs.ByValue.{Sized}
 use Rattle.group_info.specs.Info.{infoOf, ExcludedSays, IncludedSays, RangeBy}
 use Rattle.group_info.specs.Describes.{GroupedKinds, InfoOfKind, Describes, Scattered, rangeOf, RangeSays}
 use Rattle.group_info.specs.declared.FoundInfo.{FoundInfo}

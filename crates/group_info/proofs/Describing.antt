@@ -15,7 +15,8 @@ use Rattle.model.proofs.KindLists.{mem-append, all-in, mem-take-le, in-one}
 use Rattle.model.proofs.BoolLaws.{or-cases, not-true, by-eq}
 use Rattle.masks.specs.Masks.{has, bitsOf}
 use Rattle.masks.proofs.Lists.{has-union}
-use Rattle.layout.specs.Layout.{Arrays, Sized, startOf, kindsAt, aritiesAt, KindSet, WellFormed}
+use Rattle.layout.specs.Layout.{Arrays, startOf, kindsAt, aritiesAt, KindSet, WellFormed}
+use Rattle.layout.specs.ByValue.{Sized}
 use Rattle.layout.proofs.Family.{rising-at, rising-less}
 use Rattle.layout.proofs.Arrays.{groups-inside, family-kinds, family-rising, arities-length}
 use Rattle.group_info.specs.Info.{placesOf, infoOf, KindInfo, Joined, Both, BothAdded, ViewAdded, Inside, InsideFound}

@@ -16,7 +16,8 @@ use Rattle.words.specs.Part.{between}
 use Rattle.words.proofs.Part.{getD-between}
 use Rattle.masks.specs.Masks.{upFrom}
 use Rattle.masks.proofs.Lists.{and-parts}
-use Rattle.layout.specs.Layout.{Arrays, Sized, startOf, kindsAt, aritiesAt, groupsFrom, familiesOf, KindSet, Rising, WellFormed}
+use Rattle.layout.specs.Layout.{Arrays, startOf, kindsAt, aritiesAt, groupsFrom, familiesOf, KindSet, Rising, WellFormed}
+use Rattle.layout.specs.ByValue.{Sized}
 use Rattle.layout.specs.Group.{arityOf}
 use Rattle.layout.proofs.Family.{rising-at, rising-less, start-prior, rising-step}
 use Rattle.layout.proofs.Arrays.{families-length, families-at, family-kindsOf, family-kinds, family-rising, kinds-length, arities-length}

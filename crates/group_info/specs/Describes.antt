@@ -7,7 +7,8 @@ use lib.Dec.{ltb}
 use lib.ListN.{length, getD, take}
 use Rattle.model.specs.Model.{Storage, Range, none, found, mem, within, setOf, rangeFor}
 use Rattle.masks.specs.Masks.{has}
-use Rattle.layout.specs.Layout.{Arrays, Sized, startOf, kindsAt, aritiesAt, familiesOf, WellFormed}
+use Rattle.layout.specs.Layout.{Arrays, startOf, kindsAt, aritiesAt, familiesOf, WellFormed}
+use Rattle.layout.specs.ByValue.{Sized}
 use Rattle.group_info.specs.declared.GroupInfo.{GroupInfo}
 use Rattle.group_info.specs.declared.FoundInfo.{FoundInfo}
 use Rattle.group_info.specs.declared.FoundInfo.the-variants as info

@@ -17,8 +17,9 @@ use Rattle.words.proofs.Part.{between-rest}
 use Rattle.words.specs.Table.{table}
 use Rattle.words.proofs.Tables.{is-table, length-table, getD-table}
 use Rattle.component.specs.SparseSet.{rows, ColumnSound}
-use Rattle.component.specs.Columns.{columnOf, rowsOf, Columns, HeadKept, Changes}
-use Rattle.entity.specs.Change.{entityPart, entitiesIn}
+use Rattle.component.specs.Columns.{columnOf, rowsOf, Columns}
+use Rattle.component.specs.Changes.{HeadKept, Changes}
+use Rattle.entity.specs.Meaning.{entityPart, entitiesIn}
 use Rattle.memory.specs.Header.{capacityOf, kindCapacityOf, registeredOf, slotOf}
 use Rattle.memory.specs.Meaning.{setAt, setsIn, meaning}
 use Rattle.memory.specs.Arranged.{Arranged, Becomes}

@@ -20,10 +20,11 @@ use Rattle.words.specs.Table.{table}
 use Rattle.words.proofs.Tables.{table-same, table-snoc, length-table}
 use Rattle.model.proofs.BoolLaws.{by-eq}
 use Rattle.component.specs.SparseSet.{rows}
-use Rattle.component.specs.Columns.{columnOf, rowsOf, Columns, Lent}
+use Rattle.component.specs.Columns.{columnOf, rowsOf, Columns}
+use Rattle.component.specs.Changes.{Lent}
 use Rattle.component.proofs.Parts.{lent}
 use Rattle.component.proofs.Frames.{headed, front-column, front-columns}
-use Rattle.entity.specs.Change.{entityPart, entitiesIn}
+use Rattle.entity.specs.Meaning.{entityPart, entitiesIn}
 use Rattle.layout.specs.Layout.{Arrays, WellFormed, widthOf, groupCount, familiesOf}
 use Rattle.layout.specs.Group.{memberAt}
 use Rattle.memory.specs.Header.{capacityOf, kindCapacityOf, registeredOf, layoutGroups, slotOf, groupFamilyAt}

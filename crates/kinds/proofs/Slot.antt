@@ -16,7 +16,8 @@ use Rattle.model.proofs.BoolLaws.{or-cases, not-true}
 use Rattle.words.specs.Offsets.{columnStart, ENTITIES, ROWS, UNREGISTERED}
 use Rattle.words.specs.Table.{table}
 use Rattle.words.proofs.Tables.{length-table, getD-table, table-in}
-use Rattle.component.specs.Columns.{Lent, Only, rowsOf}
+use Rattle.component.specs.Columns.{rowsOf}
+use Rattle.component.specs.Changes.{Lent, Only}
 use Rattle.component.proofs.Parts.{lent, getD-column}
 use Rattle.memory.specs.Header.{capacityOf, kindCapacityOf, registeredOf, slotOf}
 use Rattle.memory.specs.Meaning.{kindAt, kindsIn, setAt, meaning}

@@ -4,7 +4,8 @@ use mathlib.Core.List.{List}
 use Prim.Native.Nat.{ℕ, _+_, _<_}
 use lib.ListN.{getD, set}
 use Rattle.words.specs.Offsets.{columnStart}
-use Rattle.component.specs.Columns.{columnOf, Lent, rowsOf}
+use Rattle.component.specs.Columns.{columnOf, rowsOf}
+use Rattle.component.specs.Changes.{Lent}
 use Rattle.memory.specs.Header.{capacityOf, registeredOf, slotOf}
 use Rattle.memory.specs.Meaning.{kindAt}
 use Rattle.kinds.specs.Kinds.{kindSet}

@@ -18,7 +18,8 @@ use Rattle.model.proofs.KindLists.{out-count, unmet}
 use Rattle.words.specs.Part.{between}
 use Rattle.words.specs.Table.{table}
 use Rattle.words.proofs.Tables.{table-snoc, table-set}
-use Rattle.layout.specs.Layout.{Arrays, arraysOf, Sized, startOf, widthOf, groupCount, kindsAt, aritiesAt, groupsFrom, familyAt, meaning, KindSet, FamilyFormed, WellFormed, Formed}
+use Rattle.layout.specs.Layout.{Arrays, startOf, widthOf, groupCount, kindsAt, aritiesAt, groupsFrom, familyAt, KindSet, FamilyFormed, WellFormed}
+use Rattle.layout.specs.ByValue.{arraysOf, Sized, meaning, Formed}
 use Rattle.layout.specs.Grow.{LooseAt, widened, Extends, Extended, openedOf, GroupKinds, FreshAsk, FreshDone, OntoAsk, OntoDone}
 use Rattle.layout.specs.Add.{Fitting}
 use Rattle.layout.specs.declared.group_layout.Fit.{Fit}

@@ -19,7 +19,8 @@ use Rattle.words.proofs.Part.{length-between, between-front, between-join, getD
 use Rattle.words.specs.Table.{table}
 use Rattle.words.proofs.Tables.{length-table, getD-table, table-snoc, table-none}
 use Rattle.model.proofs.BoolLaws.{by-eq}
-use Rattle.layout.specs.Layout.{Arrays, Sized, startOf, widthOf, groupCount, kindsAt, aritiesAt, groupsFrom, familyAt, familiesOf, KindSet, Rising, WellFormed, blockArrays}
+use Rattle.layout.specs.Layout.{Arrays, startOf, widthOf, groupCount, kindsAt, aritiesAt, groupsFrom, familyAt, familiesOf, KindSet, Rising, WellFormed, blockArrays}
+use Rattle.layout.specs.ByValue.{Sized}
 use Rattle.layout.specs.Fit.{partOf, joinFit, fitFrom, FamilyAsk}
 use Rattle.layout.specs.declared.group_layout.Fit.{Fit}
 use Rattle.layout.proofs.KindSets.{set-between}

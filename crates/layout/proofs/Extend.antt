@@ -11,7 +11,8 @@ use Rattle.model.specs.Numbers.{MAX-GROUP-ARITY, MAX-KINDS}
 use Rattle.words.specs.Part.{between}
 use Rattle.words.proofs.Part.{between-front, length-between, drop-take}
 use Rattle.model.proofs.BoolLaws.{by-eq}
-use Rattle.layout.specs.Layout.{Arrays, Sized, arraysIn, startOf, widthOf, groupCount, kindsAt, aritiesAt, groupsFrom, familyAt, KindSet, Rising, FamilyFormed, WellFormed}
+use Rattle.layout.specs.Layout.{Arrays, arraysIn, startOf, widthOf, groupCount, kindsAt, aritiesAt, groupsFrom, familyAt, KindSet, Rising, FamilyFormed, WellFormed}
+use Rattle.layout.specs.ByValue.{Sized}
 use Rattle.layout.specs.Grow.{Spread, Raised, LooseAt, widened}
 use Rattle.layout.proofs.Family.{no-counts}
 use Rattle.layout.proofs.Arrays.{ends-rise, end-inside}

@@ -11,7 +11,8 @@ use borrow.Author.Tests.{eqb-true, lt-ltb, le-ltb, le-leb, lt-leb}
 use lib.Dec.{eqb, eqb·suc-zero, eqb·suc-suc}
 use lib.ListN.{length, getD, set}
 use Rattle.model.specs.Numbers.{CLASH, MANY, MAX-GROUP-ARITY, MAX-GROUP-COUNT, WIDE}
-use Rattle.model.specs.Model.{Family, nothing, added, refused, meets, within, sameSet, without, kindsOf, groupsOf, isGroup, present, touched, covers, newGroup, grown, addGroup}
+use Rattle.model.specs.Model.{Family, meets, within, sameSet, without, kindsOf, groupsOf, isGroup, present, touched, covers, newGroup, grown}
+use Rattle.model.specs.Adding.{nothing, added, refused, addGroup}
 use Rattle.model.proofs.BoolLaws.{bool-cases, or-false, and-right, or-false-right, not-or, and-left}
 use Rattle.model.proofs.Draft.{grown-same}
 use Rattle.layout.specs.Fit.{pickPart, partOf, joinFit, fitFrom}

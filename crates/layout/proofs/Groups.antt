@@ -10,7 +10,8 @@ use lib.Dec.{ltb}
 use lib.ListN.{length, getD}
 use Rattle.model.specs.Numbers.{MAX-GROUP-COUNT, MAX-KINDS}
 use Rattle.words.specs.Part.{between}
-use Rattle.layout.specs.Layout.{Arrays, Sized, startOf, kindsAt, aritiesAt, Rising, WellFormed}
+use Rattle.layout.specs.Layout.{Arrays, startOf, kindsAt, aritiesAt, Rising, WellFormed}
+use Rattle.layout.specs.ByValue.{Sized}
 use Rattle.layout.specs.Group.{InFamily, arityOf, priorOf, priorArity}
 use Rattle.layout.proofs.Family.{rising-at, rising-step, rising-last}
 use Rattle.layout.proofs.Arrays.{end-inside, group-order, groups-inside, kind-order, kinds-inside, kinds-length, arities-length, family-rising}

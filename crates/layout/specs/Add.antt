@@ -4,8 +4,10 @@ use mathlib.Core.List.{List}
 use Prim.Native.Nat.{ℕ, _≤_, _<_}
 use lib.ListN.{length}
 use Rattle.model.specs.Numbers.{BEYOND, CLASH, MANY, MAX-GROUP-ARITY, WIDE}
-use Rattle.model.specs.Model.{Family, Added, nothing, added, refused, addGroup}
-use Rattle.layout.specs.Layout.{Formed, KindSet, meaning}
+use Rattle.model.specs.Model.{Family}
+use Rattle.model.specs.Adding.{Added, nothing, added, refused, addGroup}
+use Rattle.layout.specs.Layout.{KindSet}
+use Rattle.layout.specs.ByValue.{Formed, meaning}
 use Rattle.layout.specs.Fit.{fitFrom}
 use Rattle.layout.specs.declared.group_layout.Fit.{Fit}
 use Rattle.layout.specs.declared.group_layout.Fit.the-variants.{Fresh}

@@ -4,7 +4,8 @@ use mathlib.Core.List.{List, [], _∷_}
 use Prim.Native.Nat.{ℕ, _+_, _≤_}
 use lib.ListN.{length}
 use Rattle.model.specs.Model.{Family, meets, within, kindsOf, isGroup}
-use Rattle.layout.specs.Layout.{Arrays, Sized, WellFormed, KindSet, Rising}
+use Rattle.layout.specs.Layout.{Arrays, WellFormed, KindSet, Rising}
+use Rattle.layout.specs.ByValue.{Sized}
 use Rattle.layout.specs.declared.group_layout.Part.{Part}
 use Rattle.layout.specs.declared.group_layout.Part.the-variants.{Apart, Same, Whole, Cross}
 use Rattle.layout.specs.declared.group_layout.Fit.{Fit}

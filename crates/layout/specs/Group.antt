@@ -1,13 +1,11 @@
 -- A group of a layout by its number g, its place among all groups: its family f, its arity, what stands before it in its family, its new kinds.
 -- Assumes nothing.
-use mathlib.Core.Path.{_≡_}
 use mathlib.Core.Bool.{cond}
 use mathlib.Core.List.{List}
 use Prim.Native.Nat.{ℕ, _+_, _-_, _≤_, _<_}
 use lib.Dec.{ltb}
-use lib.ListN.{getD, drop}
-use Rattle.words.specs.Part.{between}
-use Rattle.layout.specs.Layout.{Arrays, startOf, kindsAt}
+use lib.ListN.{getD}
+use Rattle.layout.specs.Layout.{Arrays, startOf}
 
 -- group g is one of family f
 pub record InFamily (a : Arrays) (f g : ℕ) : Type 0 where
@@ -31,16 +29,4 @@ priorArity a f g = priorOf (a .arities) (startOf (a .ends) f) g 0
 abbrev pub memberAt : Arrays → ℕ → ℕ → ℕ
 memberAt a f j = getD (a .kinds) (startOf (a .kindEnds) f + j) 0
 
--- the new kinds of group g of family f (01: its ring): the family's kinds from the arity before to its own
-abbrev pub newAt : Arrays → ℕ → ℕ → List ℕ
-newAt a f g = between (priorArity a f g) (arityOf a g) (kindsAt a f)
-
 -- ---- as they are read from words, which have the numbers from a word on
-
-pub record ReadStart (w : List ℕ) (at f r : ℕ) : Type 0 where
-  pub is : r ≡ startOf (drop at w) f
-  pub small : r < 4294967296
-
-pub record ReadPrior (w : List ℕ) (at start g none r : ℕ) : Type 0 where
-  pub is : r ≡ priorOf (drop at w) start g none
-  pub small : r < 4294967296

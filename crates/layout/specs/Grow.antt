@@ -10,7 +10,8 @@ use Rattle.model.specs.Numbers.{MAX-GROUP-ARITY, MAX-GROUP-COUNT, MAX-KINDS}
 use Rattle.model.specs.Lists.{countOf}
 use Rattle.model.specs.Model.{newGroup, within, without}
 use Rattle.words.specs.Part.{between}
-use Rattle.layout.specs.Layout.{Arrays, arraysOf, startOf, widthOf, groupCount, kindsAt, aritiesAt, groupsFrom, familyAt, meaning, KindSet, Rising, FamilyFormed, Formed}
+use Rattle.layout.specs.Layout.{Arrays, startOf, widthOf, groupCount, kindsAt, aritiesAt, groupsFrom, familyAt, KindSet, Rising, FamilyFormed}
+use Rattle.layout.specs.ByValue.{arraysOf, meaning, Formed}
 use Rattle.layout.specs.declared.group_layout.Layout.{Layout}
 
 -- ---- arrays

@@ -3,14 +3,13 @@ use mathlib.Core.Path.{_≡_}
 use mathlib.Core.List.{List, [], _∷_}
 use Prim.Native.Nat.{ℕ, zero, suc, _+_, _-_, _≤_, _<_}
 use lib.Dec.{eqb}
-use lib.ListN.{length, getD, take}
+use lib.ListN.{getD, take}
 use Rattle.model.specs.Numbers.{MAX-GROUP-ARITY, MAX-GROUP-COUNT, MAX-KINDS}
-use Rattle.words.specs.Offsets.{ARITIES, BLOCK-LEN, ENDS, GROUP-PLACES, KIND-ENDS}
+use Rattle.words.specs.Offsets.{ARITIES, BLOCK-LEN, ENDS, KIND-ENDS}
 use Rattle.model.specs.Lists.{countOf}
 use Rattle.model.specs.Model.{Family}
 use Rattle.words.specs.Part.{between}
 use Rattle.words.specs.Table.{table}
-use Rattle.layout.specs.declared.group_layout.Layout.{Layout}
 
 -- the families one after another: their kinds in order, their groups' arities, and where each family's kinds and groups end
 pub record Arrays : Type 0 where
@@ -23,18 +22,9 @@ pub record Arrays : Type 0 where
 abbrev pub arraysIn : List ℕ → List ℕ → List ℕ → List ℕ → ℕ → Arrays
 arraysIn ks ars kes ges n = record { kinds = ks; arities = ars; kindEnds = kes; ends = ges; families = n }
 
-abbrev pub arraysOf : Layout → Arrays
-arraysOf l = arraysIn (l .kinds) (l .arities) (l .«kind_ends») (l .ends) (l .families)
-
 -- a block of 320 words
 abbrev pub blockArrays : List ℕ → ℕ → Arrays
 blockArrays w n = arraysIn (between 0 ARITIES w) (between ARITIES KIND-ENDS w) (between KIND-ENDS ENDS w) (between ENDS BLOCK-LEN w) n
-
-pub record Sized (a : Arrays) : Type 0 where
-  pub kinds : length (a .kinds) ≡ MAX-KINDS
-  pub arities : length (a .arities) ≡ GROUP-PLACES
-  pub kindEnds : length (a .kindEnds) ≡ GROUP-PLACES
-  pub ends : length (a .ends) ≡ GROUP-PLACES
 
 -- ---- the meaning
 
@@ -69,12 +59,6 @@ familyAt counts a f = groupsFrom counts (startOf (a .ends) f) (kindsAt a f) 0 (a
 abbrev pub familiesOf : List ℕ → Arrays → List Family
 familiesOf counts a = table (a .families) (familyAt counts a)
 
-abbrev pub meaning : Layout → List Family
-meaning l = familiesOf [] (arraysOf l)
-
-abbrev pub blockMeaning : List ℕ → ℕ → List Family
-blockMeaning w n = familiesOf [] (blockArrays w n)
-
 -- ---- well formed: such as commands can build (01, "sound")
 
 -- kinds, once each, all below 128
@@ -100,9 +84,3 @@ pub record WellFormed (a : Arrays) : Type 0 where
   pub many : groupCount a ≤ MAX-GROUP-COUNT
   pub kinds : KindSet (take (widthOf a) (a .kinds))
   pub family : (f : ℕ) → f < a .families → FamilyFormed a f
-
--- the struct also has the two numbers beside the arrays
-pub record Formed (l : Layout) : Type 0 where
-  pub good : WellFormed (arraysOf l)
-  pub width : l .width ≡ widthOf (arraysOf l)
-  pub groups : l .groups ≡ groupCount (arraysOf l)

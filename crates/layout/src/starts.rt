@@ -1,7 +1,7 @@
 // Where a family's kinds or groups start, and what stands for the group before a group, in words that have such numbers from a word on.
 ghost use Prim.Native.Nat.{_+_, _≤_, _<_};
 ghost use lib.ListN.{length};
-ghost use Rattle.layout.specs.Group.{ReadStart, ReadPrior};
+ghost use Rattle.layout.specs.Reading.{ReadStart, ReadPrior};
 
 // Where number f starts, of the ends that stand from `at` on: where the one before ends.
 pub fn start_of(words: &[u32], at: usize, f: usize) -> usize

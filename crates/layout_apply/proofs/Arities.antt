@@ -16,7 +16,8 @@ use Rattle.model.proofs.KindLists.{at-in}
 use Rattle.model.proofs.ListLaws.{at-count}
 use Rattle.model.proofs.BoolLaws.{by-eq}
 use Rattle.words.proofs.Part.{getD-between}
-use Rattle.layout.specs.Layout.{Arrays, Sized, startOf, widthOf, WellFormed}
+use Rattle.layout.specs.Layout.{Arrays, startOf, widthOf, WellFormed}
+use Rattle.layout.specs.ByValue.{Sized}
 use Rattle.layout.specs.Group.{InFamily, arityOf}
 use Rattle.layout.proofs.Arrays.{ends-rise, kind-order, kinds-inside}
 use Rattle.layout.proofs.Groups.{arity-inside, arity-order}

@@ -8,10 +8,11 @@ use native.Mathlib.Omega.{arith}
 use lib.ListN.{getD}
 use Rattle.model.specs.Numbers.{MAX-GROUP-ARITY, MAX-GROUP-COUNT, MAX-KINDS}
 use Rattle.words.specs.Offsets.{GROUP-PLACES, LAYOUT, LAYOUT-ARITIES, LAYOUT-KIND-ENDS, TABLE}
-use Rattle.component.specs.Columns.{Lent}
+use Rattle.component.specs.Changes.{Lent}
 use Rattle.component.proofs.Parts.{lent}
 use Rattle.layout.specs.Layout.{Arrays, startOf, widthOf}
-use Rattle.layout.specs.Group.{InFamily, arityOf, priorArity, ReadStart}
+use Rattle.layout.specs.Group.{InFamily, arityOf, priorArity}
+use Rattle.layout.specs.Reading.{ReadStart}
 use Rattle.layout.proofs.Arrays.{kind-order}
 use Rattle.layout.proofs.Groups as groups
 use Rattle.layout.proofs.Family.{start-next}

@@ -13,7 +13,8 @@ use Rattle.words.proofs.Part.{length-between}
 use Rattle.model.proofs.BoolLaws.{by-eq}
 use Rattle.component.specs.Columns.{columnOf, Columns}
 use Rattle.component.proofs.Frames.{headed}
-use Rattle.layout.specs.Layout.{Arrays, Sized, WellFormed, widthOf}
+use Rattle.layout.specs.Layout.{Arrays, WellFormed, widthOf}
+use Rattle.layout.specs.ByValue.{Sized}
 use Rattle.layout.proofs.Arrays.{block-sized}
 use Rattle.memory.specs.Header.{capacityOf, kindCapacityOf, registeredOf, slotOf}
 use Rattle.memory.specs.Meaning.{kindAt, ownAt, localAt, layoutArrays}

@@ -1,5 +1,5 @@
 -- The words as the steps leave them are well arranged, and mean the store with the draft in force. Assumes nothing.
-use mathlib.Core.Path.{_≡_, sym, ap, _∙_, subst}
+use mathlib.Core.Path.{_≡_, refl, sym, ap, _∙_, subst}
 use mathlib.Core.Logic.{_≢_}
 use mathlib.Core.List.{List, []}
 use Prim.Native.Nat.{ℕ, _+_, _*_, _≤_, _<_}
@@ -21,8 +21,9 @@ use Rattle.words.proofs.Tables.{table-same, table-none}
 use Rattle.component.specs.SparseSet.{rows}
 use Rattle.component.specs.Columns.{columnOf, rowsOf, Columns}
 use Rattle.component.proofs.Frames.{front-column, front-columns}
-use Rattle.entity.specs.Change.{entityPart, entitiesIn}
-use Rattle.layout.specs.Layout.{Arrays, blockArrays, Sized, WellFormed, startOf, widthOf, groupCount, kindsAt, aritiesAt, familyAt, familiesOf}
+use Rattle.entity.specs.Meaning.{entityPart, entitiesIn}
+use Rattle.layout.specs.Layout.{Arrays, blockArrays, WellFormed, startOf, widthOf, groupCount, kindsAt, aritiesAt, familyAt, familiesOf}
+use Rattle.layout.specs.ByValue.{Sized}
 use Rattle.layout.specs.Group.{InFamily, arityOf}
 use Rattle.layout.proofs.Arrays.{none-formed, layout-kinds, block-sized}
 use Rattle.layout.proofs.Family.{groups-same}

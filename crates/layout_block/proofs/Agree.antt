@@ -8,7 +8,8 @@ use Rattle.model.proofs.ListLaws.{front-agree}
 use Rattle.words.specs.Part.{between}
 use Rattle.words.proofs.Tables.{table-same}
 use Rattle.words.proofs.Part.{between-same}
-use Rattle.layout.specs.Layout.{Arrays, arraysIn, Sized, startOf, kindsAt, aritiesAt, groupsFrom, familyAt, familiesOf, FamilyFormed, WellFormed}
+use Rattle.layout.specs.Layout.{Arrays, arraysIn, startOf, kindsAt, aritiesAt, groupsFrom, familyAt, familiesOf, FamilyFormed, WellFormed}
+use Rattle.layout.specs.ByValue.{Sized}
 use Rattle.layout.proofs.Arrays.{kinds-inside, groups-inside}
 
 module _ (n : ℕ) (ks ars kes ges ks′ ars′ kes′ ges′ : List ℕ) (good : WellFormed (arraysIn ks ars kes ges n)) (sized : Sized (arraysIn ks ars kes ges n)) (sized′ : Sized (arraysIn ks′ ars′ kes′ ges′ n))

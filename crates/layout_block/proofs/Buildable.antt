@@ -16,7 +16,8 @@ use Rattle.model.proofs.KindLists.{in-count}
 use Rattle.words.specs.Part.{between}
 use Rattle.words.proofs.Part.{length-between}
 use Rattle.words.specs.Table.{table}
-use Rattle.layout.specs.Layout.{Arrays, blockArrays, Sized, startOf, widthOf, kindsAt, aritiesAt, groupsFrom, familyAt, familiesOf, Rising, WellFormed}
+use Rattle.layout.specs.Layout.{Arrays, blockArrays, startOf, widthOf, kindsAt, aritiesAt, groupsFrom, familyAt, familiesOf, Rising, WellFormed}
+use Rattle.layout.specs.ByValue.{Sized}
 use Rattle.layout.proofs.Family.{rising-le, kinds-from}
 use Rattle.layout.proofs.Arrays.{kinds-length, groups-of, layout-kinds, block-sized}
 use Rattle.layout_block.specs.Checks.{BlockSound}

@@ -10,7 +10,8 @@ use Rattle.model.specs.Numbers.{MAX-GROUP-ARITY, MAX-GROUP-COUNT, MAX-KINDS}
 use Rattle.words.specs.Offsets.{ARITIES, BLOCK-LEN, ENDS, GROUP-PLACES, KIND-ENDS}
 use Rattle.words.specs.Part.{between}
 use Rattle.words.proofs.Part.{length-between, getD-between}
-use Rattle.layout.specs.Layout.{Arrays, arraysIn, arraysOf, blockArrays, Sized, startOf, widthOf, groupCount, aritiesAt, meaning, blockMeaning, KindSet, WellFormed, Formed}
+use Rattle.layout.specs.Layout.{Arrays, arraysIn, blockArrays, startOf, widthOf, groupCount, aritiesAt, KindSet, WellFormed}
+use Rattle.layout.specs.ByValue.{arraysOf, Sized, meaning, blockMeaning, Formed}
 use Rattle.layout.specs.declared.group_layout.Layout.{Layout}
 use Rattle.layout.proofs.Family.{rising-at}
 use Rattle.layout.proofs.Arrays.{kinds-inside, groups-inside, arities-length, block-sized}

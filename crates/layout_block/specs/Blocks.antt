@@ -5,7 +5,8 @@ use mathlib.Core.List.{List}
 use Prim.Native.Nat.{ℕ, _+_, _≤_, _<_}
 use lib.ListN.{length, getD}
 use Rattle.words.specs.Offsets.{BLOCK-LEN}
-use Rattle.layout.specs.Layout.{blockArrays, arraysOf, groupCount, familiesOf, WellFormed, Formed}
+use Rattle.layout.specs.Layout.{blockArrays, groupCount, familiesOf, WellFormed}
+use Rattle.layout.specs.ByValue.{arraysOf, Formed}
 use Rattle.layout.specs.declared.group_layout.Layout.{Layout}
 
 -- the block is such as commands can build (01, "sound"), for n families and g groups

@@ -19,8 +19,10 @@ use Rattle.words.specs.Table.{table}
 use Rattle.words.proofs.Tables.{table-same, table-set, getD-table, length-table}
 use Rattle.model.proofs.BoolLaws.{by-eq, bool-cases}
 use Rattle.component.specs.SparseSet.{rows, ColumnSound}
-use Rattle.component.specs.Columns.{columnOf, rowsOf, Columns, One}
-use Rattle.entity.specs.Change.{entityPart, entitiesIn, EntityChange}
+use Rattle.component.specs.Columns.{columnOf, rowsOf, Columns}
+use Rattle.component.specs.Changes.{One}
+use Rattle.entity.specs.Change.{EntityChange}
+use Rattle.entity.specs.Meaning.{entityPart, entitiesIn}
 use Rattle.layout.specs.Layout.{WellFormed, groupCount, familiesOf}
 use Rattle.memory.specs.Header.{capacityOf, kindCapacityOf, registeredOf, stagedLen, excludedLen, draftGroups, slotOf}
 use Rattle.memory.specs.Meaning.{kindAt, setAt, setsIn, draftArrays, layoutArrays, layoutIn, controlIn, settingsOf, meaning, kindsIn}

@@ -17,7 +17,8 @@ use Rattle.words.specs.Table.{table}
 use Rattle.words.proofs.Tables.{is-table, table-none}
 use Rattle.component.specs.Columns.{Columns}
 use Rattle.component.proofs.Fresh.{fresh-columns, fresh-rows}
-use Rattle.entity.specs.Change.{Changed, entityPart, noEntities}
+use Rattle.entity.specs.Change.{Changed, noEntities}
+use Rattle.entity.specs.Meaning.{entityPart}
 use Rattle.entity.proofs.Zeros.{zeros-changed}
 use Rattle.layout.specs.Layout.{blockArrays, WellFormed, groupCount, familiesOf}
 use Rattle.layout.proofs.Arrays.{none-formed}

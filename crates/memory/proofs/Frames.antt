@@ -13,8 +13,9 @@ use Rattle.words.proofs.Part.{length-between, between-same}
 use Rattle.words.specs.Table.{table}
 use Rattle.words.proofs.Tables.{table-same}
 use Rattle.component.specs.Columns.{columnOf}
-use Rattle.entity.specs.Change.{entitiesIn}
-use Rattle.layout.specs.Layout.{blockArrays, WellFormed, groupCount, familiesOf, Sized}
+use Rattle.entity.specs.Meaning.{entitiesIn}
+use Rattle.layout.specs.Layout.{blockArrays, WellFormed, groupCount, familiesOf}
+use Rattle.layout.specs.ByValue.{Sized}
 use Rattle.layout.proofs.Arrays.{block-sized}
 use Rattle.memory.specs.Header.{capacityOf, kindCapacityOf, stagedLen, excludedLen, draftGroups, excludedAt}
 use Rattle.memory.specs.Meaning.{kindsIn, setsIn, draftArrays, layoutArrays, draftIn, layoutIn, stagedAt, stagedIn, excludedIn, countsIn, controlIn, settingsOf, meaning}

@@ -10,7 +10,7 @@ use Rattle.words.specs.Offsets.{CAPACITY, GROUP-PLACES, ROWS, UNREGISTERED}
 use Rattle.words.specs.Table.{table}
 use Rattle.words.proofs.Tables.{table-same}
 use Rattle.component.specs.Columns.{columnOf, rowsOf, Columns}
-use Rattle.entity.specs.Change.{entityPart}
+use Rattle.entity.specs.Meaning.{entityPart}
 use Rattle.layout.specs.Layout.{Arrays, WellFormed, widthOf, groupCount}
 use Rattle.layout.specs.Group.{memberAt}
 use Rattle.model.specs.Sound.{In}

@@ -11,7 +11,7 @@ use Rattle.model.specs.Sound.{In, Limits}
 use Rattle.model.specs.Sound as modelSound
 use Rattle.component.specs.Columns.{Columns, rowsOf}
 use Rattle.entity.specs.Meaning as entity
-use Rattle.entity.specs.Change.{entityPart}
+use Rattle.entity.specs.Meaning.{entityPart}
 use Rattle.layout.specs.Layout.{Arrays, WellFormed, widthOf, groupCount}
 use Rattle.layout.specs.Group.{InFamily, arityOf, priorArity, memberAt}
 use Rattle.memory.specs.Header.{capacityOf, kindCapacityOf, registeredOf, stagedLen, excludedLen, draftGroups, layoutGroups, slotOf, groupFamilyAt}

@@ -12,7 +12,7 @@ use Rattle.words.specs.Table.{table}
 use Rattle.words.specs.Part.{between}
 use Rattle.component.specs.SparseSet.{valueOf}
 use Rattle.component.specs.Columns.{columnOf, rowsOf}
-use Rattle.entity.specs.Change.{entitiesIn}
+use Rattle.entity.specs.Meaning.{entitiesIn}
 use Rattle.layout.specs.Layout.{Arrays, blockArrays, familiesOf}
 use Rattle.memory.specs.Header.{capacityOf, kindCapacityOf, registeredOf, stagedLen, excludedLen, draftFamilies, layoutFamilies, refusalsOf, slotOf, stagedKindAt, stagedLowAt, stagedHighAt, excludedAt}
 

@@ -10,7 +10,8 @@ use lib.ListN.{length, length-append}
 use Rattle.model.specs.Numbers.{MAX-GROUP-ARITY, MAX-GROUP-COUNT}
 use Rattle.model.specs.Lists.{countOf}
 use Rattle.model.proofs.ListLaws.{count-append, count-length-le}
-use Rattle.model.specs.Model.{Group, Family, Added, nothing, added, refused, mem, meets, within, sameSet, without, kindsOf, groupsOf, isGroup, present, touched, covers, newGroup, grown, addGroup, addsNothing, joins, withGroup}
+use Rattle.model.specs.Model.{Group, Family, mem, meets, within, sameSet, without, kindsOf, groupsOf, isGroup, present, touched, covers, newGroup, grown, addsNothing, joins, withGroup}
+use Rattle.model.specs.Adding.{Added, nothing, added, refused, addGroup}
 use Rattle.model.specs.Sound.{Distinct, layoutKinds, Rising, BuildableFamily, BuildableFamilies, Buildable, Uncounted, AllUncounted}
 use Rattle.model.proofs.BoolLaws.{cond-case, and-left, and-right, or-false, or-cases, or-false-right, not-true, and-false-left, not-or, or-right, bool-cases}
 use Rattle.model.proofs.Groups.{In}

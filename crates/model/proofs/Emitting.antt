@@ -5,14 +5,14 @@ use mathlib.Core.Logic.{_↔_}
 use mathlib.Core.Option.{Option, some, none}
 use mathlib.Core.List.{List, _++_}
 use Prim.Native.Nat.{ℕ, _≤_}
-use native.Mathlib.Nat.{zero-add}
 use native.Mathlib.Omega.{arith}
 use lib.ListN.{length, take, drop, length-append}
-use lib.Seq.{take-at, sets, sets-eq}
+use lib.Seq.{take-at, sets}
 use Rattle.model.proofs.ListLaws.{front-sets}
 use Rattle.model.specs.Refusals.{Line, firstLine, NoneHolds, First, numberOf}
 use Rattle.model.specs.Entries.{Emitted, refusesEmit, writes, emittedBy, emitted, emittedNumber, emittedBytes, Emits}
 use Rattle.model.proofs.Lines.{first-exact, none-exact, NumbersIn, first-number}
+use Rattle.model.specs.Theorems.{SameEmitted}
 
 -- ---- by its table
 
@@ -67,13 +67,6 @@ emits-few o o′ n k x E = omega (arith, E .written, ap length (E .bytes) ∙ le
 pub emits-refused : (o o′ : List ℕ) (n k : ℕ) (x : Emitted) → Emits o o′ n k x → 1 ≤ n → (o′ ≡ o) × (k ≡ 0)
 emits-refused o o′ n k (refusesEmit m) E h = (E .bytes, E .written)
 emits-refused o o′ n k (writes b) E h = absurd (omega (arith, E .number, h))
-
--- the same of both: number, count and what was written; bytes that were equal stay equal
-pub record SameEmitted (o p o′ p′ : List ℕ) (n k m j : ℕ) : Type 0 where
-  pub number : n ≡ m
-  pub written : k ≡ j
-  pub answers : take k o′ ≡ take j p′
-  pub bytes : o ≡ p → o′ ≡ p′
 
 pub emits-determined : (o p o′ p′ : List ℕ) (n k m j : ℕ) (x y : Emitted) → x ≡ y → Emits o o′ n k x → Emits p p′ m j y → SameEmitted o p o′ p′ n k m j
 emits-determined o p o′ p′ n k m j x y e E F =

@@ -21,6 +21,7 @@ use Rattle.model.proofs.BoolLaws.{or-false, or-false-right}
 use Rattle.model.proofs.Operations.{empty-sound}
 use Rattle.model.proofs.Lines.{none-to, first-exact}
 use Rattle.model.proofs.Emitting.{emitted-exact, emitted-writes}
+use Rattle.model.specs.Theorems.{Makes, Columned}
 
 -- ---- start
 
@@ -57,13 +58,6 @@ within-limits n k h =
     positive zero f = absurd (f refl)
     positive (suc n) f = omega arith
 
--- what an accepted start makes: the empty store, which is sound and for which the words are enough
-pub record Makes (n k words : ℕ) (s : Store) : Type 0 where
-  pub store : s ≡ empty n k
-  pub limits : Limits n k
-  pub words-enough : wordsNeeded n k ≤ words
-  pub sound : StoreSound s
-
 pub start-makes : (n k words : ℕ) (s : Store) → start n k words ≡ makes s → Makes n k words s
 unfolding start
 start-makes n k words s e =
@@ -95,15 +89,6 @@ value-words (v ∷ l) = omega (arith, value-words l)
 
 part-length : {A : Type 0} (a e : ℕ) (l : List A) → e ≤ length l → length (part a e l) ≡ e - a
 part-length a e l h = length-drop a (take e l) ∙ ap (λ (n : ℕ). n - a) (length-take-le e l h)
-
--- an accepted one is the rows from start to end, two words each
-pub record Columned (which : Bool) (k a e : ℕ) (s : Store) : Type 0 where
-  pub known : isKind k s ≡ true
-  pub small : k ≤ LAST-KIND
-  pub order : a ≤ e
-  pub inside : e ≤ length (setOf (s .storage .sets) k)
-  pub words : column which k a e s ≡ partWords which a e (setOf (s .storage .sets) k)
-  pub size : length (column which k a e s) ≡ 2 * (e - a)
 
 pub column-accepted : (which : Bool) (k a e : ℕ) (s : Store) → columnRefusal k a e s ≡ none → Columned which k a e s
 unfolding columnRefusal column

@@ -1,6 +1,6 @@
 -- Answers have their accepted lengths, refusals are one byte; a run writes no more than its room, and stops with 0 only at the tape's end. Assumes nothing.
 use mathlib.Core.Path.{_≡_, refl, ap, ap₂, sym, _∙_}
-use mathlib.Core.Logic.{_⊎_, inl, inr}
+use mathlib.Core.Logic.{inl, inr}
 use mathlib.Core.Bool.{false}
 use mathlib.Core.Option.{Option, some, none}
 use mathlib.Core.List.{List, [], _∷_, _++_}
@@ -16,6 +16,7 @@ use Rattle.model.specs.Refusals.{firstLine, NoneHolds, beforeLines}
 use Rattle.model.specs.Run.{Outcome, refuses, accepts, does, Step, stops, goes, stepOf, stepIf, step, Ran, halt, more, runFor, run}
 use Rattle.model.proofs.BoolLaws.{cond-case}
 use Rattle.model.proofs.Lines.{none-to, accepted-exact, stop-number}
+use Rattle.model.specs.Theorems.{RunFits}
 
 -- ---- answers
 
@@ -110,14 +111,6 @@ step-lengths b t room s = step-case (Going (λ w a s′. StepFits b t room s w a
         }
 
 -- ---- a run
-
--- it writes no more than its room, reads no more than the tape, and stops with 0 only where it has read all of it
-pub record RunFits (t : List ℕ) (room : ℕ) (r : Ran) : Type 0 where
-  pub bytes : length (r .bytes) ≤ room
-  pub tape : r .read ≤ length t
-  pub commands : r .commands ≤ r .read
-  pub stop : (r .stop ≡ 0) ⊎ ((4 ≤ r .stop) × (r .stop ≤ 6))
-  pub end : r .stop ≡ 0 → r .read ≡ length t
 
 run-fits-for : (fuel : ℕ) (t : List ℕ) (room : ℕ) (s : Store) → length t ≤ fuel → RunFits t room (runFor fuel t room s)
 unfolding runFor

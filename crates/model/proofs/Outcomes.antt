@@ -6,7 +6,8 @@ use Prim.Native.Nat.{ℕ}
 use lib.Dec.{leb, ltb}
 use lib.ListN.{length}
 use Rattle.model.specs.Numbers.{AGAIN, DEAD, FULL, HANDFUL, KIND, KINDS, LAST-KIND, LIST-CAPACITY, MAX-GROUP-ARITY, MAX-GROUP-COUNT}
-use Rattle.model.specs.Model.{Entity, Added, nothing, added, refused, mem, isFull, isLive, groupsOf, addGroup, addsNothing, joins, destroy, insertComponents, remove}
+use Rattle.model.specs.Model.{Entity, mem, isFull, isLive, groupsOf, addsNothing, joins, destroy, insertComponents, remove}
+use Rattle.model.specs.Adding.{Added, nothing, added, refused, addGroup}
 use Rattle.model.specs.Store.{Store, bytesOf, stagedKinds, isKind, withControl, withStorage, withAll, withKinds, withStaged, withExcluded, withDraft, emptyStaged, emptyBoth}
 use Rattle.model.specs.Commands.{REG, HOLD, NEW, PUT, TAKE, DROP, KILL, WIPE, GROUP, APPLY, BAR, RANGE, EMPTY, TALLY, heldBytes, accepted}
 use Rattle.model.specs.Refusals.{linesOf, unknownKind}

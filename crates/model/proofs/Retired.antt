@@ -19,10 +19,7 @@ use Rattle.model.specs.History.{retires, retiredFor, retired}
 use Rattle.model.proofs.BoolLaws.{cond-case, bool-cases}
 use Rattle.model.proofs.Lines.{accepted-exact}
 use Rattle.model.proofs.Lengths.{Going, step-case, clash}
-
--- the numbers issued are live, waiting, or among the r retired
-abbrev pub Balanced : Entities → ℕ → Type 0
-Balanced c r = c .issued ≡ length (c .live) + length (c .recycled) + r
+use Rattle.model.specs.Theorems.{Balanced}
 
 -- ---- creation and destruction
 

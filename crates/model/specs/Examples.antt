@@ -4,12 +4,12 @@ use mathlib.Core.List.{List, [], _∷_, _++_, map}
 use Prim.Native.Nat.{ℕ}
 use lib.ListN.{length, replicate}
 use Rattle.model.specs.Numbers.{MAX-KINDS}
-use Rattle.model.specs.Model.{Entity, Component, Storage, Group, Family, Entities, Created, Range, none, found, Added, nothing, added, refused}
+use Rattle.model.specs.Model.{Entity, Component, Storage, Group, Family, Entities, Created, Range, none, found, groupAll, clearAll, groupComponents, ungroupComponents, groupFamily, ungroupFamily, groupTouched, ungroup, insertComponents, remove, rangeFor, setLayout, regroup, create, destroy}
+use Rattle.model.specs.Adding.{Added, nothing, added, refused, addGroup}
 use Rattle.model.specs.Store.{empty, bytesOf}
 use Rattle.model.specs.Commands.{accepted}
 use Rattle.model.specs.Refusals.{linesOf}
 use Rattle.model.specs.Run.{Ran, run, runFor, step, does}
-use Rattle.model.specs.Model.{groupAll, clearAll, groupComponents, ungroupComponents, groupFamily, ungroupFamily, groupTouched, ungroup, insertComponents, remove, rangeFor, addGroup, setLayout, regroup, create, destroy}
 
 -- what the model gives, and what 01 says
 pub record Example : Type 0 where

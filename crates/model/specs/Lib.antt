@@ -1,6 +1,7 @@
 pub mod Numbers
 pub mod Lists
 pub mod Model
+pub mod Adding
 pub mod Store
 pub mod Commands
 pub mod Snapshot
@@ -11,3 +12,4 @@ pub mod History
 pub mod Sound
 pub mod Shown
 pub mod Examples
+pub mod Theorems

@@ -5,7 +5,6 @@ use mathlib.Core.List.{List, [], _∷_, _++_, map}
 use Prim.Native.Nat.{ℕ, suc, _+_, _-_}
 use lib.Dec.{eqb, leb, ltb}
 use lib.ListN.{length, getD, set}
-use Rattle.model.specs.Numbers.{CLASH, MANY, MAX-GROUP-ARITY, MAX-GROUP-COUNT, WIDE}
 use Rattle.model.specs.Lists.{swap, place, cutAt}
 
 -- ---- entities, rows, components, groups
@@ -312,12 +311,6 @@ rangeFor staged excluded s =
 
 -- ---- GROUP: the draft layout
 
--- "1 added or 0 nothing added", or a refusal
-pub data Added : Type 0 where
-  nothing : Added
-  added : List Family → Added
-  refused : ℕ → Added
-
 -- how many groups the layout has
 abbrev pub groupsOf : List Family → ℕ
 groupsOf [] = 0
@@ -367,14 +360,6 @@ withGroup ks fs =
     let fresh = fs ++ ((newGroup ks ∷ []) ∷ []) in
     let wider = grown ks fs in
     cond (eqb (touched ks fs) 0) fresh wider
-
--- the rule whole, in the table's order: 13 WIDE, 14 CLASH, 15 MANY
-unfoldable pub addGroup : List ℕ → List Family → Added
-addGroup ks fs =
-    let room = cond (leb MAX-GROUP-COUNT (groupsOf fs)) (refused MANY) (added (withGroup ks fs)) in
-    let fits = cond (joins ks fs) room (refused CLASH) in
-    let new = cond (addsNothing ks fs) nothing fits in
-    cond (ltb MAX-GROUP-ARITY (length ks)) (refused WIDE) new
 
 -- ---- entities
 

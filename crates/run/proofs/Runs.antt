@@ -14,7 +14,8 @@ use Rattle.memory.specs.Meaning.{meaning}
 use Rattle.memory.specs.Arranged.{Sound, Becomes}
 use Rattle.command.proofs.Acts.{SameSettings, stays, becomes-next}
 use Rattle.run_command.specs.Given.{commandIn}
-use Rattle.run.specs.Run.{stepAt, resultOf, Refused, Stepped, Traced, Completed}
+use Rattle.run.specs.Run.{Refused, Traced}
+use Rattle.run.specs.Stepping.{stepAt, resultOf, Stepped, Completed}
 use Rattle.run.specs.declared.Went.the-variants.{Done, Stop}
 use Rattle.run.proofs.Steps.{step-same}
 use Rattle.run.proofs.Traces.{traced-end, traced-stop, traced-more}

@@ -21,7 +21,7 @@ use Rattle.memory.specs.Arranged.{Sound}
 use Rattle.command.specs.Acted.{Acted}
 use Rattle.command.proofs.Acts.{SameSettings, stays, acted-sound}
 use Rattle.run_command.specs.Given.{commandIn, Given}
-use Rattle.run.specs.Run.{StepReady, stepAt, Stepped}
+use Rattle.run.specs.Stepping.{StepReady, stepAt, Stepped}
 use Rattle.run.specs.declared.Went.the-variants.{Done as Goes, Stop}
 
 -- ---- the model's step

@@ -10,7 +10,8 @@ use Rattle.model.proofs.ListLaws.{drop-step}
 use Rattle.memory.specs.Meaning.{meaning}
 use Rattle.memory.specs.Arranged.{Becomes}
 use Rattle.run_command.specs.Given.{commandIn}
-use Rattle.run.specs.Run.{stepAt, Refused, GoesOn, Traced}
+use Rattle.run.specs.Run.{Refused, GoesOn, Traced}
+use Rattle.run.specs.Stepping.{stepAt}
 
 traced-none : (m room : ℕ) (w : List ℕ) → Traced m [] room w w
 unfolding Traced

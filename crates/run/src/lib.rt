@@ -12,7 +12,7 @@ ghost use Rattle.model.specs.Commands.{width, commandAt, answerLength};
 ghost use Rattle.model.specs.Run.{run};
 ghost use Rattle.memory.specs.Meaning.{meaning};
 ghost use Rattle.memory.specs.Arranged.{Arranged, Sound};
-ghost use Rattle.run.specs.Run.{StepReady, stepAt, Stepped, Completed};
+ghost use Rattle.run.specs.Stepping.{StepReady, stepAt, Stepped, Completed};
 ghost use Rattle.model.specs.Numbers.{LAST-COMMAND};
 
 // How many bytes there are up to the last command's.

@@ -10,7 +10,7 @@ use Rattle.model.specs.Numbers.{MAX-ENTITIES, MAX-KINDS}
 use Rattle.words.specs.Offsets.{UNREGISTERED}
 use Rattle.model.specs.Model.{mem}
 use Rattle.model.proofs.BoolLaws.{by-eq}
-use Rattle.entity.specs.Change.{entityPart}
+use Rattle.entity.specs.Meaning.{entityPart}
 use Rattle.entity.proofs.Known.{live-few, issued-few}
 use Rattle.memory.specs.Header.{capacityOf, registeredOf, slotOf}
 use Rattle.memory.specs.Meaning.{setAt, meaning}

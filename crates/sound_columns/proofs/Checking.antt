@@ -1,7 +1,8 @@
 -- A sparse set's soundness from its parts. Assumes nothing.
 use mathlib.Core.List.{List}
 use Prim.Native.Nat.{ℕ, _≤_}
-use Rattle.component.specs.SparseSet.{lengthOf, Sized, ColumnSound}
+use Rattle.component.specs.SparseSet.{lengthOf, ColumnSound}
+use Rattle.component.specs.Stored.{Sized}
 use Rattle.sound_columns.specs.Checks.{RowOk, LookupOk}
 use Rattle.words.specs.Decides.{Each}
 

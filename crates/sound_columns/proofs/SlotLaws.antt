@@ -9,7 +9,8 @@ use Rattle.words.specs.Offsets.{columnStart, ENTITIES, ROWS}
 use Rattle.words.proofs.Offsets.{columnStart-apart, columnStart-mono}
 use Rattle.component.specs.SparseSet.{lengthOf, indexAt, versionAt}
 use Rattle.component.proofs.Meaning.{length-rows, getD-rows}
-use Rattle.component.specs.Columns.{columnOf, rowsOf, Lent}
+use Rattle.component.specs.Columns.{columnOf, rowsOf}
+use Rattle.component.specs.Changes.{Lent}
 use Rattle.component.proofs.Parts.{getD-column}
 use Rattle.memory.proofs.Frames.{start-header}
 use Rattle.sound_columns.specs.Slots.{Slot, Room, headAt}

@@ -9,7 +9,7 @@ use Rattle.words.specs.Offsets.{columnStart, ROWS}
 use Rattle.component.specs.SparseSet.{ColumnSound, lengthOf, entity}
 use Rattle.words.specs.Decides.{Each}
 use Rattle.component.specs.Columns.{columnOf, rowsOf}
-use Rattle.entity.specs.Change.{entitiesIn}
+use Rattle.entity.specs.Meaning.{entitiesIn}
 
 -- the entity whose index is the word at a
 abbrev pub entityIn : List ℕ → ℕ → Entity

@@ -4,7 +4,8 @@ ghost use Prim.Native.Nat.{_+_, _*_, _<_, _≤_};
 ghost use lib.ListN.{length};
 ghost use Rattle.model.specs.Model.{isLive};
 ghost use Rattle.words.specs.Decides.{Decides, Each};
-ghost use Rattle.entity.specs.Change.{SoundIn, entitiesIn};
+ghost use Rattle.entity.specs.Change.{SoundIn};
+ghost use Rattle.entity.specs.Meaning.{entitiesIn};
 ghost use Rattle.sound_columns.specs.Slots.{Slot, Room};
 ghost use Rattle.sound_columns.specs.Rows.{entityIn, RowLive, ColumnOk};
 

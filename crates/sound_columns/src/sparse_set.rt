@@ -1,6 +1,7 @@
 // Whether a part is a sound sparse set, in time linear in its words.
 ghost use Prim.Native.Nat.{_+_, _*_, _<_, _≤_};
-ghost use Rattle.component.specs.SparseSet.{ColumnSound, Sized, lengthOf};
+ghost use Rattle.component.specs.SparseSet.{ColumnSound, lengthOf};
+ghost use Rattle.component.specs.Stored.{Sized};
 ghost use Rattle.words.specs.Decides.{Decides, Each};
 ghost use Rattle.sound_columns.specs.Checks.{RowOk, LookupOk};
 

@@ -7,8 +7,7 @@ ghost use Rattle.model.specs.Numbers.{ENTITY-LEN, MAX-ENTITIES};
 ghost use Rattle.words.specs.Offsets.{ENTITIES};
 ghost use Rattle.words.specs.Decides.{Decides, Each};
 ghost use Rattle.entity.specs.Queue.{since};
-ghost use Rattle.entity.specs.Change.{entityPart};
-ghost use Rattle.entity.specs.Meaning.{Sized, EntityPartSound, lenOf, recycledLen};
+ghost use Rattle.entity.specs.Meaning.{entityPart, Sized, EntityPartSound, lenOf, recycledLen};
 ghost use Rattle.sound_entities.specs.Checks.{Counts, LiveOk, LookupOk, WaitsOk, ListedOk, IndexOk};
 
 // The counts are within the capacity.

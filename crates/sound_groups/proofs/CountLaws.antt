@@ -12,10 +12,12 @@ use Rattle.words.specs.Offsets.{columnStart, COLUMN-KIND, GROUP-COUNTS, LAYOUT-
 use Rattle.words.specs.Part.{between}
 use Rattle.model.proofs.BoolLaws.{by-eq}
 use Rattle.words.specs.Decides.{Decides, Each}
-use Rattle.component.specs.Columns.{rowsOf, Lent}
+use Rattle.component.specs.Columns.{rowsOf}
+use Rattle.component.specs.Changes.{Lent}
 use Rattle.sound_columns.specs.Rows.{entityIn, keyAt}
 use Rattle.layout.specs.Layout.{startOf}
-use Rattle.layout.specs.Group.{priorOf, priorArity, ReadStart, ReadPrior}
+use Rattle.layout.specs.Group.{priorOf, priorArity}
+use Rattle.layout.specs.Reading.{ReadStart, ReadPrior}
 use Rattle.memory.specs.Header.{slotOf, countAt}
 use Rattle.memory.specs.Meaning.{layoutArrays}
 use Rattle.memory.proofs.LayoutWords.{arity-word, kind-start-word, start-word, prior-word, prior-count-word}

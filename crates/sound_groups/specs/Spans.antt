@@ -8,7 +8,7 @@ use Rattle.model.specs.Numbers.{MAX-GROUP-COUNT, MAX-KINDS}
 use Rattle.words.specs.Offsets.{COLUMN-KIND, ENTITIES, LAYOUT, LAYOUT-ARITIES, OWN-GROUP}
 use Rattle.model.specs.Model.{mem}
 use Rattle.model.specs.Sound.{In}
-use Rattle.component.specs.Columns.{Lent}
+use Rattle.component.specs.Changes.{Lent}
 use Rattle.layout.specs.Layout.{startOf}
 use Rattle.layout.specs.Group.{InFamily, arityOf, priorArity}
 use Rattle.memory.specs.Header.{layoutFamilies, slotOf, groupFamilyAt}

@@ -12,7 +12,8 @@ use Rattle.words.specs.Part.{between}
 use Rattle.words.proofs.Part.{getD-between}
 use Rattle.words.specs.Table.{table}
 use Rattle.model.proofs.BoolLaws.{by-eq}
-use Rattle.layout.specs.Layout.{Arrays, Sized, startOf, groupCount, kindsAt, aritiesAt, groupsFrom, familyAt, familiesOf, WellFormed}
+use Rattle.layout.specs.Layout.{Arrays, startOf, groupCount, kindsAt, aritiesAt, groupsFrom, familyAt, familiesOf, WellFormed}
+use Rattle.layout.specs.ByValue.{Sized}
 use Rattle.layout.specs.Group.{InFamily, priorOf, memberAt}
 use Rattle.layout.proofs.Arrays.{groups-inside, arities-length, family-kindsOf}
 use Rattle.layout.proofs.Groups.{prior-first, prior-next, prior-at, arity-at, same-family, place-is, place-inside}

@@ -17,7 +17,8 @@ use Rattle.words.proofs.Part.{getD-between}
 use Rattle.component.specs.Columns.{rowsOf, Columns}
 use Rattle.component.proofs.Parts.{lent}
 use Rattle.layout.specs.Layout.{Arrays, startOf, widthOf, WellFormed}
-use Rattle.layout.specs.Group.{InFamily, arityOf, priorOf, priorArity, memberAt, newAt}
+use Rattle.layout.specs.Group.{InFamily, arityOf, priorOf, priorArity, memberAt}
+use Rattle.layout.specs.Reading.{newAt}
 use Rattle.layout.proofs.Arrays.{kinds-inside}
 use Rattle.layout.proofs.Groups.{group-few, prior-less, arity-inside}
 use Rattle.memory.specs.Header.{capacityOf, registeredOf, slotOf, countAt, layoutFamilies}

@@ -25,13 +25,15 @@ use Rattle.words.specs.Table.{table}
 use Rattle.component.specs.SparseSet.{ColumnSound, lengthOf}
 use Rattle.words.specs.Decides.{Each}
 use Rattle.component.proofs.Meaning.{length-rows, empty-rows}
-use Rattle.component.specs.Columns.{columnOf, rowsOf, Columns, Lent}
+use Rattle.component.specs.Columns.{columnOf, rowsOf, Columns}
+use Rattle.component.specs.Changes.{Lent}
 use Rattle.component.proofs.Parts.{lent}
-use Rattle.entity.specs.Change.{entityPart, entitiesIn}
+use Rattle.entity.specs.Meaning.{entityPart, entitiesIn}
 use Rattle.entity.proofs.Lookups.{issued-is}
 use Rattle.entity.proofs.Numbering.{entities-ok}
 use Rattle.layout.specs.Layout.{Arrays, blockArrays, widthOf, groupCount, familiesOf, WellFormed}
-use Rattle.layout.specs.Group.{InFamily, ReadStart}
+use Rattle.layout.specs.Group.{InFamily}
+use Rattle.layout.specs.Reading.{ReadStart}
 use Rattle.layout.proofs.Arrays.{layout-kinds, block-sized}
 use Rattle.layout_block.specs.Checks.{BlockSound, KindsOk}
 use Rattle.layout_block.proofs.Buildable.{block-buildable, uncounted}

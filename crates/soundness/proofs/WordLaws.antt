@@ -11,8 +11,10 @@ use Rattle.model.specs.Sound.{In}
 use Rattle.model.proofs.KindLists.{at-in, in-at}
 use Rattle.words.specs.Part.{between}
 use Rattle.words.proofs.Part.{getD-between, length-between, getD-inner, between-part}
-use Rattle.layout.specs.Layout.{Arrays, Sized, startOf, widthOf, WellFormed}
-use Rattle.layout.specs.Group.{InFamily, arityOf, priorArity, newAt}
+use Rattle.layout.specs.Layout.{Arrays, startOf, widthOf, WellFormed}
+use Rattle.layout.specs.ByValue.{Sized}
+use Rattle.layout.specs.Group.{InFamily, arityOf, priorArity}
+use Rattle.layout.specs.Reading.{newAt}
 use Rattle.layout.proofs.Arrays.{block-sized}
 use Rattle.layout.proofs.Groups.{arity-inside, arity-wide}
 use Rattle.memory.specs.Meaning.{layoutArrays}

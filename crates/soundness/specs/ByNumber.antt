@@ -5,7 +5,8 @@ use lib.ListN.{length, getD}
 use Rattle.model.specs.Model.{SparseSet}
 use Rattle.model.specs.Sound.{key}
 use Rattle.layout.specs.Layout.{Arrays, startOf}
-use Rattle.layout.specs.Group.{priorOf, memberAt, newAt}
+use Rattle.layout.specs.Group.{priorOf, memberAt}
+use Rattle.layout.specs.Reading.{newAt}
 use Rattle.soundness.specs.Groups.{GroupOk}
 
 -- group g of family f; the smallest group's next smaller one is the whole column of the family's first kind

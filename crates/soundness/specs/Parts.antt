@@ -8,7 +8,7 @@ use Rattle.words.specs.Offsets.{columnStart, DRAFT, EXCLUDED-KINDS, GROUP-FAMIL
 use Rattle.words.specs.Part.{between}
 use Rattle.words.specs.Decides.{Each}
 use Rattle.entity.specs.Meaning as entity
-use Rattle.entity.specs.Change.{entityPart}
+use Rattle.entity.specs.Meaning.{entityPart}
 use Rattle.layout.specs.Layout.{widthOf}
 use Rattle.layout_block.specs.Checks.{BlockSound}
 use Rattle.memory.specs.Header.{capacityOf, kindCapacityOf, registeredOf, stagedLen, excludedLen, draftFamilies, draftGroups, layoutFamilies, layoutGroups}

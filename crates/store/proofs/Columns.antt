@@ -18,7 +18,8 @@ use Rattle.model.specs.Entries.{columnRefusal, column, partWords}
 use Rattle.model.specs.Entries as model
 use Rattle.model.specs.Sound.{In}
 use Rattle.model.proofs.Lines.{first-number}
-use Rattle.model.proofs.Entries.{Columned, column-accepted, column-refused}
+use Rattle.model.proofs.Entries.{column-accepted, column-refused}
+use Rattle.model.specs.Theorems.{Columned}
 use Rattle.words.specs.Offsets.{columnStart, ROWS}
 use Rattle.words.proofs.Offsets.{columnStart-fits}
 use Rattle.component.specs.SparseSet.{lengthOf, rowAt, valueOf, rows}

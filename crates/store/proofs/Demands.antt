@@ -16,13 +16,14 @@ use Rattle.model.specs.Run.{halt, run}
 use Rattle.model.specs.Snapshot.{snapshot, Same}
 use Rattle.model.specs.History.{retired}
 use Rattle.model.specs.Entries.{Started, refusesStart, makes, start, entityWords, part, columnRefusal, column, roll}
-use Rattle.model.specs.Sound.{In, key, GroupsRight, GroupsBetween}
+use Rattle.model.specs.Sound.{In, key}
 use Rattle.model.specs.Shown.{Showing}
 use Rattle.model.proofs.Demand.{all-between}
 use Rattle.model.proofs.Entries.{start-makes, column-refused, column-accepted}
 use Rattle.model.proofs.Lengths.{run-fits}
 use Rattle.model.proofs.Ranges.{range-shows}
-use Rattle.model.proofs.Retired.{Balanced, run-balanced}
+use Rattle.model.proofs.Retired.{run-balanced}
+use Rattle.model.specs.Theorems.{Balanced}
 use Rattle.model.proofs.Snapshots.{snapshots-of-sound}
 use Rattle.words.specs.Decides.{Decides}
 use Rattle.memory.specs.Meaning.{meaning, withRefusal}
@@ -33,7 +34,8 @@ use Rattle.store.specs.declared.Rolled.{Rolled}
 use Rattle.store.specs.Entries.{startNumber, StartLeaves, Starts, columnRefused, ColumnNumbered, columnWords, partPlace, ColumnPart, ranOf, RunLeaves, Runs, Rolls}
 use Rattle.store.specs.Course.{Course, ended, stopped, refused, done, AfterEach, Reached, started, ran}
 use Rattle.store.proofs.Starting.{start-number}
-use Rattle.store.proofs.Tables.{Tabled, tabled, Judged, judged, start-tabled}
+use Rattle.store.proofs.Tables.{tabled, judged, start-tabled}
+use Rattle.store.specs.Theorems.{Tabled, Judged, GroupsHold}
 use Rattle.store.proofs.Emitting.{over-refused, over-accepted, over-refusals, over-written}
 use Rattle.store.proofs.Columns.{column-within}
 use Rattle.store.proofs.Courses.{course-of}
@@ -149,10 +151,6 @@ reached-sound (ran {w} {w′} {t} {o} {o′} {r} c R) = run-keeps-sound w w′ t
 -- ---- Demand 3: after each command each group's count is the number of live entities holding all its kinds, and the first that many places of each of
 -- its columns hold exactly those, once each, the same at the same place; between a group and the next larger stand exactly those with all kinds of the
 -- smaller that lack one or more of the larger
-
-pub record GroupsHold (s : Store) : Type 0 where
-  pub right : GroupsRight s
-  pub between : GroupsBetween s
 
 pub sound-groups : (w : List ℕ) → Sound w → GroupsHold (meaning w)
 sound-groups w S =

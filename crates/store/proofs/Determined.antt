@@ -4,7 +4,7 @@ use mathlib.Core.Path.{_≡_, refl, sym, ap, _∙_, subst}
 use mathlib.Core.Logic.{_↔_}
 use mathlib.Core.Bool.{Bool, true, false, true≢false, false≢true}
 use mathlib.Core.List.{List, _++_}
-use Prim.Native.Nat.{ℕ, _+_, _*_, _≤_}
+use Prim.Native.Nat.{ℕ, _+_, _*_}
 use native.Mathlib.Omega.{arith}
 use lib.ListN.{length, take, drop}
 use lib.Seq.{take-at}
@@ -12,7 +12,8 @@ use denote.Ref.{RefT}
 use Rattle.model.specs.Refusals.{numberOf}
 use Rattle.model.specs.Entries.{Started, refusesStart, makes, start, Emitted, roll}
 use Rattle.model.specs.Sound.{Limits}
-use Rattle.model.proofs.Emitting.{SameEmitted, emits-determined}
+use Rattle.model.proofs.Emitting.{emits-determined}
+use Rattle.model.specs.Theorems.{SameEmitted}
 use Rattle.words.specs.Decides.{Decides}
 use Rattle.words.proofs.Decides.{decides-same}
 use Rattle.memory.specs.Meaning.{meaning}
@@ -22,12 +23,9 @@ use Rattle.store.specs.declared.Rolled.{Rolled}
 use Rattle.store.specs.Entries.{Needs, startNumber, StartLeaves, Starts, columnRefused, ColumnNumbered, columnWords, partPlace, ColumnPart, ranOf, Answered, RunLeaves, Runs, emittedOver, EmitsOver, Rolls}
 use Rattle.store.proofs.Starting.{start-number}
 use Rattle.model.specs.Run as model
+use Rattle.store.specs.Theorems.{Alike, SameStart, SameRun, SameWritten}
 
 -- ---- words that no entry tells apart
-
-pub record Alike (w v : List ℕ) : Type 0 where
-  pub means : meaning w ≡ meaning v
-  pub sound : Sound w ↔ Sound v
 
 pub alike-same : (w v : List ℕ) → w ≡ v → Alike w v
 alike-same w v e = record { means = ap meaning e; sound = ((λ S. subst Sound e S), (λ S. subst Sound (sym e) S)) }
@@ -39,11 +37,6 @@ needs-determined n k r q true d R Q = R .within d ∙ sym (Q .within d)
 needs-determined n k r q false d R Q = R .outside d ∙ sym (Q .outside d)
 
 -- ---- start: over as many words the same number, whatever they held; and where it is 0, the same store
-
-pub record SameStart (w v w′ v′ : List ℕ) (r q : ℕ) : Type 0 where
-  pub number : r ≡ q
-  pub made : r ≡ 0 → meaning w′ ≡ meaning v′
-  pub refused : 1 ≤ r → (w′ ≡ w) × (v′ ≡ v)
 
 pub start-determined : (n k : ℕ) (w v w′ v′ : List ℕ) (r q : ℕ) → length w ≡ length v → Starts n k w w′ r → Starts n k v v′ q → SameStart w v w′ v′ r q
 start-determined n k w v w′ v′ r q e R Q =
@@ -83,13 +76,6 @@ pub answer-bytes : (o o′ : List ℕ) (r : Ran) (x : model.Ran) → Answered o 
 answer-bytes o o′ r x A =
     ap (λ (n : ℕ). take n o′) (A .written) ∙ ap (take (length (x .bytes))) (A .bytes) ∙ take-at (x .bytes) (drop (length (x .bytes)) o) (length (x .bytes)) refl
 
-pub record SameRun (o p w′ v′ o′ p′ : List ℕ) (r q : Ran) : Type 0 where
-  pub result : r ≡ q
-  pub alike : Alike w′ v′
-  pub answers : take (r .written) o′ ≡ take (q .written) p′
-  -- bytes that were equal stay equal
-  pub bytes : o ≡ p → o′ ≡ p′
-
 pub run-determined : (w v w′ v′ t o p o′ p′ : List ℕ) (r q : Ran) → Alike w v → length o ≡ length p → Runs w w′ t o o′ r → Runs v v′ t p p′ q → SameRun o p w′ v′ o′ p′ r q
 run-determined w v w′ v′ t o p o′ p′ r q A e R Q =
     record {
@@ -119,12 +105,6 @@ run-determined w v w′ v′ t o p o′ p′ r q A e R Q =
     left false true z l k = absurd (false≢true z)
 
 -- ---- an entry that writes bytes: over words alike, and equal lengths of the buffers
-
-pub record SameWritten (o p o′ p′ : List ℕ) (r q : Rolled) : Type 0 where
-  pub result : r ≡ q
-  pub answers : take (r .written) o′ ≡ take (q .written) p′
-  -- bytes that were equal stay equal
-  pub bytes : o ≡ p → o′ ≡ p′
 
 pub same-written : (o p o′ p′ : List ℕ) (r q : Rolled) → SameEmitted o p o′ p′ (r .number) (r .written) (q .number) (q .written) → SameWritten o p o′ p′ r q
 same-written o p o′ p′ r q E = record { result = λ i. record { number = E .number i; written = E .written i }; answers = E .answers; bytes = E .bytes }

@@ -15,7 +15,8 @@ use Rattle.words.specs.Decides.{Decides}
 use Rattle.memory.specs.Arranged.{Sound}
 use Rattle.snapshot.specs.Wrote.{WrittenUntil}
 use Rattle.store.specs.Entries.{firstRefusal, emittedOver, EmitsOver}
-use Rattle.store.proofs.Tables.{Tabled, tabled, Judged, judged}
+use Rattle.store.proofs.Tables.{tabled, judged}
+use Rattle.store.specs.Theorems.{Tabled, Judged}
 
 -- ---- what it promises, from what its branches show
 

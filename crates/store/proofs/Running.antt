@@ -9,7 +9,7 @@ use Rattle.model.specs.Run.{run}
 use Rattle.memory.specs.Header.{capacityOf, kindCapacityOf}
 use Rattle.memory.specs.Meaning.{meaning}
 use Rattle.memory.specs.Arranged.{Sound}
-use Rattle.run.specs.Run.{Completed}
+use Rattle.run.specs.Stepping.{Completed}
 use Rattle.run.specs.declared.Ran.{Ran}
 use Rattle.store.specs.Entries.{Runs}
 

@@ -1,23 +1,18 @@
 -- An entry's number by its table: the lines of soundness first, then the entry's own. Assumes nothing.
 use mathlib.Core.Path.{_≡_, refl, sym, ap, _∙_}
-use mathlib.Core.Logic.{_↔_}
 use mathlib.Core.Bool.{Bool, true, false}
 use mathlib.Core.Option.{Option, some, none}
 use mathlib.Core.List.{List}
 use Prim.Native.Nat.{ℕ, suc, _≤_}
 use native.Mathlib.Omega.{arith}
 use Rattle.model.specs.Store.{Store, empty}
-use Rattle.model.specs.Refusals.{Line, firstLine, NoneHolds, First, numberOf, startLines, otherLines}
+use Rattle.model.specs.Refusals.{Line, firstLine, numberOf, startLines, otherLines}
 use Rattle.model.specs.Entries.{startedBy, start}
 use Rattle.model.proofs.Lines.{first-exact, none-exact, NumbersIn, first-number}
 use Rattle.words.specs.Decides.{Decides}
 use Rattle.memory.specs.Arranged.{Sound}
 use Rattle.store.specs.Entries.{startNumber, firstRefusal}
-
--- r is the number of the first line that holds, 0 where none does
-pub record Tabled {A : Type 0} (ls : List (Line A)) (x : A) (r : ℕ) : Type 0 where
-  pub refused : (m : ℕ) → (r ≡ suc m) ↔ First ls x (suc m)
-  pub accepted : (r ≡ 0) ↔ NoneHolds ls x
+use Rattle.store.specs.Theorems.{Tabled, Judged}
 
 module _ {A : Type 0} (ls : List (Line A)) (x : A) where
   number-some : (o : Option ℕ) (m : ℕ) → numberOf o ≡ suc m → o ≡ some (suc m)
@@ -35,11 +30,6 @@ module _ {A : Type 0} (ls : List (Line A)) (x : A) where
       number-none : (o : Option ℕ) → firstLine ls x ≡ o → numberOf o ≡ 0 → firstLine ls x ≡ none
       number-none none p z = p
       number-none (some n) p z = absurd (omega (arith, l, z, first-number ls x lo hi n h p .0))
-
--- the same of an entry that is told words: 3 exactly where they are not sound, which no line of its own has
-pub record Judged {A : Type 0} (w : List ℕ) (ls : List (Line A)) (x : A) (r : ℕ) : Type 0 where
-  pub unsound : (r ≡ 3) ↔ (Sound w → ⊥)
-  pub sound : Sound w → Tabled ls x r
 
 pub judged : {A : Type 0} (w : List ℕ) (ls : List (Line A)) (x : A) (r : ℕ) (b : Bool) (lo hi : ℕ) → 4 ≤ lo → NumbersIn lo hi ls → Decides b (Sound w) → r ≡ numberOf (firstRefusal (firstLine otherLines b) (firstLine ls x)) → Judged w ls x r
 judged w ls x r false lo hi l h d e = record { unsound = ((λ q. d), (λ n. e)); sound = λ S. absurd (d S) }

@@ -1,3 +1,4 @@
 pub mod Entries
 pub mod Course
 pub mod Linked
+pub mod Theorems

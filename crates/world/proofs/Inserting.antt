@@ -14,7 +14,8 @@ use Rattle.model.specs.Model.{Entity, Row, Component, SparseSet, Storage, noRow
 use Rattle.model.specs.Store.{Store, stagedKinds, onStorage}
 use Rattle.model.specs.Sound.{In, noComponent}
 use Rattle.model.proofs.BoolLaws.{by-eq, cond-case}
-use Rattle.component.specs.SparseSet.{Current, entity}
+use Rattle.component.specs.SparseSet.{entity}
+use Rattle.component.specs.Stored.{Current}
 use Rattle.memory.specs.Meaning.{meaning}
 use Rattle.memory.specs.Arranged.{Becomes}
 use Rattle.memory.proofs.Becomes.{stays}

@@ -16,7 +16,8 @@ use Rattle.model.proofs.SparseSets.{entity-eq, entity-same}
 use Rattle.model.proofs.BoolLaws.{bool-cases}
 use Rattle.model.proofs.Numbers.{cnt-num}
 use Rattle.model.proofs.Operations.{live-count}
-use Rattle.component.specs.SparseSet.{Current, entity}
+use Rattle.component.specs.SparseSet.{entity}
+use Rattle.component.specs.Stored.{Current}
 use Rattle.memory.specs.Meaning.{meaning}
 use Rattle.memory.specs.Arranged.{Arranged}
 use Rattle.memory.proofs.Becomes.{capacity-means}
@@ -52,7 +53,7 @@ row-count (r ∷ rows) (suc i) h = omega (arith, row-count rows i (le-of-suc-le-
 -- of soundness, what insertion into a live entity rests on: numbers by which an index is live once, and sparse sets that hold live entities only. The
 -- groups have no part in it: they need not be right
 pub record OnlyLive (s : Store) : Type 0 where
-  pub entities : EntitiesSound (s .capacity) (s .entities)
+  pub entities : EntitiesSound (s .settings .capacity) (s .entities)
   pub alive : (x : Entity) (k : ℕ) → 1 ≤ cnt x (key (s .storage .sets) k) → 1 ≤ cnt x (s .entities .live)
 
 pub sound-live : (s : Store) → StoreSound s → OnlyLive s

@@ -16,7 +16,7 @@ use Rattle.model.specs.Sound.{In, Distinct, noComponent}
 use Rattle.model.proofs.BoolLaws.{or-false, or-false-right}
 use Rattle.model.proofs.KindLists.{at-in, distinct-new}
 use Rattle.words.proofs.Tables.{getD-table}
-use Rattle.component.specs.Columns.{Only, Lent}
+use Rattle.component.specs.Changes.{Only, Lent}
 use Rattle.component.proofs.Parts.{lent}
 use Rattle.memory.specs.Header.{capacityOf, kindCapacityOf, registeredOf}
 use Rattle.memory.specs.Meaning.{kindAt, kindsIn, meaning}

@@ -4,7 +4,7 @@ use Prim.Native.Nat.{ℕ, _≤_, _<_}
 use Rattle.model.specs.Model.{Entity, Component, Storage, insertRow, insertAll}
 use Rattle.model.specs.Store.{stagedKinds, onSet}
 use Rattle.model.specs.Sound.{In}
-use Rattle.component.specs.SparseSet.{Current}
+use Rattle.component.specs.Stored.{Current}
 use Rattle.kinds.specs.Kinds.{kindSet}
 use Rattle.memory.specs.Header.{capacityOf}
 use Rattle.memory.specs.Meaning.{meaning}

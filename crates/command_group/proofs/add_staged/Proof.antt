@@ -5,7 +5,7 @@ use borrow.Author.Needs.{needs}
 use lib.ListN.{length}
 use lib.Seq.{length-take-le}
 use Rattle.model.specs.Numbers.{LIST-CAPACITY}
-use Rattle.model.specs.Model.{addGroup}
+use Rattle.model.specs.Adding.{addGroup}
 use Rattle.model.specs.Store.{stagedKinds}
 use Rattle.memory.specs.Meaning.{meaning}
 use Rattle.command_group.proofs.Staged.{staged-set, staged-width}

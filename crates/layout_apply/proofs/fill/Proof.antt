@@ -1,7 +1,6 @@
-use Prim.Native.Nat.{_≤_, _-_}
+use Prim.Native.Nat.{_≤_, _-_, ℕ}
 use mathlib.Core.Path.{_≡_, subst}
 use native.Mathlib.Omega.{arith}
-use Prim.Native.Nat.{ℕ}
 use Rattle.layout_apply.specs.Steps.{Filled}
 use Rattle.layout_apply.proofs.Words.{fill-none, fill-more}
 use Rattle.layout_apply.proofs.fill.Statement.{statement}

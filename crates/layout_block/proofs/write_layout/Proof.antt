@@ -1,7 +1,7 @@
 use Prim.Native.Nat.{_-_}
 use mathlib.Core.Path.{_≡_, sym}
 use Rattle.layout_block.proofs.Transfer
-use Rattle.layout.specs.Layout.{arraysOf, Sized}
+use Rattle.layout.specs.ByValue.{arraysOf, Sized}
 use lib.ListN.{length, take}
 use lib.Seq.{length-take-le}
 use native.Mathlib.Omega.{arith}

@@ -3,7 +3,7 @@ use native.Mathlib.Omega.{arith}
 use Rattle.words.specs.Decides.{Each}
 use Rattle.words.proofs.Decides.{granted, denied}
 use Rattle.entity.specs.Meaning as entity
-use Rattle.entity.specs.Change.{entityPart}
+use Rattle.entity.specs.Meaning.{entityPart}
 use Rattle.memory.specs.Header.{registeredOf}
 use Rattle.sound_columns.specs.Table.{TableOk}
 use Rattle.sound_columns.specs.Rows.{ColumnOk}

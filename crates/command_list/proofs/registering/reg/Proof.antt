@@ -1,11 +1,10 @@
-use mathlib.Core.Path.{refl}
+use mathlib.Core.Path.{refl, sym, _∙_}
 use Rattle.model.specs.Numbers.{LAST-KIND}
 use Rattle.command.proofs.Acts.{refused-by, accepted-by, stays}
 use Rattle.memory.specs.Meaning.{meaning}
 use Rattle.model.proofs.Outcomes.{reg-above, reg-full, reg-known, reg-new}
 use borrow.Author.Tests.{lt-ltb, le-ltb, leb-false}
 use native.Mathlib.Omega.{arith}
-use mathlib.Core.Path.{sym, _∙_}
 use borrow.Author.Needs.{needs}
 use Rattle.command_list.proofs.registering.reg.Statement.{statement}
 use Rattle.command_list.proofs.registering.reg.Tie as tie

@@ -4,7 +4,8 @@ use native.Mathlib.Omega.{arith}
 use lib.ListN.{take}
 use mathlib.Core.List.{[]}
 use Rattle.model.specs.Model.{SparseSet}
-use Rattle.component.specs.SparseSet.{lengthOf, rows, Changed}
+use Rattle.component.specs.SparseSet.{lengthOf, rows}
+use Rattle.component.specs.Stored.{Changed}
 use Rattle.component.proofs.Moves.{changed-as, clear-none, clear-more, clear-left}
 use borrow.Author.Needs.{needs}
 use Rattle.component.proofs.component_sparse_set.clear.Statement.{statement}

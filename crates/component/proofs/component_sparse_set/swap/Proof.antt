@@ -5,7 +5,8 @@ use native.Mathlib.Omega.{arith}
 use Rattle.model.specs.Model.{noRow}
 use Rattle.model.proofs.ListLaws.{swap-equal}
 use Rattle.component.specs.declared.component_sparse_set.RowWords.{RowWords}
-use Rattle.component.specs.SparseSet.{rows, swapRows}
+use Rattle.component.specs.SparseSet.{rows}
+use Rattle.component.specs.Stored.{swapRows}
 use Rattle.component.proofs.Meaning.{length-rows, sized}
 use Rattle.component.proofs.Moves.{changed-none, swapped-by}
 use Rattle.component.proofs.component_sparse_set.swap.Statement.{statement}

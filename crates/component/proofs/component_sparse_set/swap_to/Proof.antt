@@ -5,7 +5,8 @@ use mathlib.Core.Bool.{true≢false}
 use Rattle.model.specs.Model.{swapTo}
 use Rattle.component.specs.declared.Found.{Found}
 use Rattle.component.specs.Answers.{Finds}
-use Rattle.component.specs.SparseSet.{entity, rows, swapRows}
+use Rattle.component.specs.SparseSet.{entity, rows}
+use Rattle.component.specs.Stored.{swapRows}
 use Rattle.component.proofs.Moves.{changed-as}
 use Rattle.component.proofs.Places.{swap-held}
 use Rattle.component.proofs.component_sparse_set.swap_to.Statement.{statement}

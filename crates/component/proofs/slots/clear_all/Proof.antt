@@ -3,7 +3,7 @@ use mathlib.Core.List.{[]}
 use Prim.Native.Nat.{_-_, _<_, _≤_}
 use native.Mathlib.Omega.{arith}
 use Rattle.model.specs.Model.{SparseSet}
-use Rattle.component.specs.Columns.{Changes}
+use Rattle.component.specs.Changes.{Changes}
 use Rattle.component.proofs.Parts.{lent}
 use Rattle.component.proofs.Several.{upTo, upTo-none, upTo-more, upTo-all}
 use Rattle.component.proofs.slots.clear_all.Statement.{statement}

@@ -1,8 +1,8 @@
 use mathlib.Core.Path.{refl, _∙_, sym, ap}
 use native.Mathlib.Omega.{arith}
 use borrow.Author.Needs.{needs}
-use Rattle.model.specs.Model.{added}
-use Rattle.layout.specs.Layout.{arraysOf, Sized, meaning}
+use Rattle.model.specs.Adding.{added}
+use Rattle.layout.specs.ByValue.{arraysOf, Sized, meaning}
 use Rattle.layout.proofs.Fits.{fit-says, fresh-many, fresh-added}
 use Rattle.layout.proofs.Adding.{group-kinds, counted-groups, fresh-ask}
 use Rattle.layout.proofs.group_layout.add_fresh.Statement.{statement}

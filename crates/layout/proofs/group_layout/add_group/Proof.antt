@@ -1,6 +1,6 @@
 use mathlib.Core.Path.{_≡_, refl, _∙_, sym}
 use borrow.Author.Needs.{needs}
-use Rattle.layout.specs.Layout.{arraysOf, Sized, meaning}
+use Rattle.layout.specs.ByValue.{arraysOf, Sized, meaning}
 use Rattle.layout.specs.declared.group_layout.Fit.{Fit}
 use Rattle.layout.proofs.Fits.{Says, fit-says, add-small, add-wide, add-present, add-clash}
 use Rattle.layout.proofs.group_layout.add_group.Statement.{statement}

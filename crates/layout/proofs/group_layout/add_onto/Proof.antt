@@ -1,8 +1,8 @@
 use mathlib.Core.Path.{refl, _∙_, sym, ap}
 use native.Mathlib.Omega.{arith}
 use borrow.Author.Needs.{needs}
-use Rattle.model.specs.Model.{added}
-use Rattle.layout.specs.Layout.{arraysOf, Sized, meaning}
+use Rattle.model.specs.Adding.{added}
+use Rattle.layout.specs.ByValue.{arraysOf, Sized, meaning}
 use Rattle.layout.proofs.Fits.{fit-says, onto-many, onto-added}
 use Rattle.layout.proofs.Adding.{group-kinds, counted-groups, onto-ask, onto-means, onto-target}
 use Rattle.layout.proofs.group_layout.add_onto.Statement.{statement}

@@ -3,7 +3,8 @@ use Prim.Native.Nat.{ℕ, _+_, _-_}
 use mathlib.Core.List.{[], _∷_}
 use lib.ListN.{length, getD, take}
 use lib.Seq.{length-take-le}
-use Rattle.layout.specs.Layout.{arraysOf, Sized, widthOf}
+use Rattle.layout.specs.Layout.{widthOf}
+use Rattle.layout.specs.ByValue.{arraysOf, Sized}
 use Rattle.layout.proofs.Arrays.{end-inside}
 use Rattle.layout.proofs.Extend.{kind-inside, group-inside, kind-room, spread-front, family-other, family-here, width-after, groups-after, well-formed-after}
 use native.Mathlib.Omega.{arith}

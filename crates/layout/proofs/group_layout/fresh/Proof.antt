@@ -1,7 +1,7 @@
 use mathlib.Core.Path.{sym, subst}
 use Prim.Native.Nat.{_-_}
 use lib.ListN.{length}
-use Rattle.layout.specs.Layout.{arraysOf, Sized}
+use Rattle.layout.specs.ByValue.{arraysOf, Sized}
 use Rattle.layout.specs.Grow.{Extends, Extended}
 use Rattle.layout.specs.declared.group_layout.Layout.{Layout}
 use Rattle.layout.proofs.Adding.{few, fresh-extends, fresh-done}

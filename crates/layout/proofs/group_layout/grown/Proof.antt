@@ -5,7 +5,7 @@ use lib.ListN.{length, getD}
 use lib.Seq.{length-take-le}
 use Rattle.model.specs.Numbers.{LIST-CAPACITY}
 use Rattle.words.specs.Part.{between}
-use Rattle.layout.specs.Layout.{arraysOf, Sized}
+use Rattle.layout.specs.ByValue.{arraysOf, Sized}
 use Rattle.model.specs.Model.{without}
 use Rattle.layout.specs.Grow.{Extends, Extended}
 use Rattle.layout.proofs.Arrays.{bounds}

@@ -4,8 +4,7 @@ use native.Mathlib.Omega.{arith}
 use Rattle.words.specs.Offsets.{ROWS}
 use Rattle.sound_columns.proofs.SlotLaws.{rows-most, key-word}
 use Rattle.words.proofs.Decides.{yes-of, no-of}
-use Rattle.sound_columns.specs.Rows.{entityIn}
-use Rattle.sound_columns.specs.Rows.{keyAt}
+use Rattle.sound_columns.specs.Rows.{entityIn, keyAt}
 use Rattle.sound_groups.specs.Counts.{Holds}
 use borrow.Author.Needs.{needs}
 use Rattle.sound_groups.proofs.counts.lacks.Statement.{statement}

@@ -1,0 +1,54 @@
+-- What the theorems on the entries say of an answer: by its table, of two answers to the same call, of a store that is reached. Assumes nothing.
+use mathlib.Core.Path.{_≡_}
+use mathlib.Core.Logic.{_↔_}
+use mathlib.Core.List.{List}
+use Prim.Native.Nat.{ℕ, suc, _≤_}
+use Rattle.model.specs.Refusals.{UNSOUND, Line, NoneHolds, First}
+use Rattle.memory.specs.Arranged.{Sound}
+use lib.ListN.{take}
+use Rattle.memory.specs.Meaning.{meaning}
+use Rattle.run.specs.declared.Ran.{Ran}
+use Rattle.store.specs.declared.Rolled.{Rolled}
+use Rattle.model.specs.Store.{Store}
+use Rattle.model.specs.Sound.{GroupsRight, GroupsBetween}
+
+-- r is the number of the first line that holds, 0 where none does
+pub record Tabled {A : Type 0} (ls : List (Line A)) (x : A) (r : ℕ) : Type 0 where
+  pub refused : (m : ℕ) → (r ≡ suc m) ↔ First ls x (suc m)
+  pub accepted : (r ≡ 0) ↔ NoneHolds ls x
+
+-- the same of an entry that is told words: 3 exactly where they are not sound, which no line of its own has
+pub record Judged {A : Type 0} (w : List ℕ) (ls : List (Line A)) (x : A) (r : ℕ) : Type 0 where
+  pub unsound : (r ≡ UNSOUND) ↔ (Sound w → ⊥)
+  pub sound : Sound w → Tabled ls x r
+
+-- words that no entry tells apart
+pub record Alike (w v : List ℕ) : Type 0 where
+  pub means : meaning w ≡ meaning v
+  pub sound : Sound w ↔ Sound v
+
+-- two starts over as many words: the same number, and where it is 0 the same store; refused, nothing changed
+pub record SameStart (w v w′ v′ : List ℕ) (r q : ℕ) : Type 0 where
+  pub number : r ≡ q
+  pub made : r ≡ 0 → meaning w′ ≡ meaning v′
+  pub refused : 1 ≤ r → (w′ ≡ w) × (v′ ≡ v)
+
+-- two runs of one tape: the same result, the same answers, words that no entry tells apart
+pub record SameRun (o p w′ v′ o′ p′ : List ℕ) (r q : Ran) : Type 0 where
+  pub result : r ≡ q
+  pub alike : Alike w′ v′
+  pub answers : take (r .written) o′ ≡ take (q .written) p′
+  -- bytes that were equal stay equal
+  pub bytes : o ≡ p → o′ ≡ p′
+
+-- two entries that wrote: the same result and the same bytes
+pub record SameWritten (o p o′ p′ : List ℕ) (r q : Rolled) : Type 0 where
+  pub result : r ≡ q
+  pub answers : take (r .written) o′ ≡ take (q .written) p′
+  -- bytes that were equal stay equal
+  pub bytes : o ≡ p → o′ ≡ p′
+
+-- demand 3 of the groups: each right, and what stands between two neighbours
+pub record GroupsHold (s : Store) : Type 0 where
+  pub right : GroupsRight s
+  pub between : GroupsBetween s
