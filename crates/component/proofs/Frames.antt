@@ -22,7 +22,7 @@ module _ (n : ℕ) (w w′ : List ℕ) (same : drop (columnStart n 0) w′ ≡ d
   pub front-column : (s : ℕ) → columnOf n s w′ ≡ columnOf n s w
   unfolding columnOf
   front-column s =
-      between-rest (columnStart n 0) (columnStart n s) (columnStart n s + (columnLen n)) w w′ (columnStart-mono n 0 s (omega arith)) same
+      between-rest (columnStart n 0) (columnStart n s) (columnStart n s + columnLen n) w w′ (columnStart-mono n 0 s (omega arith)) same
 
   pub front-columns : (m : ℕ) → length w′ ≡ length w → Columns n m w → Columns n m w′
   front-columns m size c =
@@ -44,7 +44,7 @@ set-column : (n s i v : ℕ) (w : List ℕ) → i < 8 → columnOf n s (set w (c
 unfolding columnOf
 set-column n s i v w h =
     let b = columnStart n s in
-    ap (take (b + (columnLen n) - b)) (drop-set-add b w i v) ∙ take-set-lt (b + (columnLen n) - b) (drop b w) i v (omega arith)
+    ap (take (b + columnLen n - b)) (drop-set-add b w i v) ∙ take-set-lt (b + columnLen n - b) (drop b w) i v (omega arith)
 
 pub headed : (n m s i v : ℕ) (w : List ℕ) → Columns n m w → s < m → 1 ≤ i → i < 8 → Headed n m s i v w (set w (columnStart n s + i) v)
 headed n m s i v w c h lo hi =
@@ -56,7 +56,7 @@ headed n m s i v w c h lo hi =
     let later : (k : ℕ) → 8 ≤ k → getD (set q i v) k 0 ≡ getD q k 0 = λ k hk. getD-set-other q i k v 0 (omega arith) in
     let size : length w′ ≡ length w = length-set w (b + i) v in
     let front : take b w′ ≡ take b w = take-set-le b w (b + i) v (omega arith) in
-    let rest : drop (b + (columnLen n)) w′ ≡ drop (b + (columnLen n)) w = drop-set-lt (b + (columnLen n)) w (b + i) v (omega arith) in
+    let rest : drop (b + columnLen n) w′ ≡ drop (b + columnLen n) w = drop-set-lt (b + columnLen n) w (b + i) v (omega arith) in
     let others : (j : ℕ) → j < m → j ≢ s → columnOf n j w′ ≡ columnOf n j w = λ j hj ne. others-kept n s w w′ front rest j ne in
     let sound = head-sound n q (set q i v) (c .columns s h) (length-set q i v) at later in
     let same = head-rows n q (set q i v) (c .columns s h) (length-set q i v) at later in

@@ -13,9 +13,9 @@ use Rattle.component.proofs.Meaning.{empty-rows, fresh-sound}
 use Rattle.component.specs.Columns.{columnOf, rowsOf, Columns}
 use Rattle.component.proofs.Parts.{getD-column}
 
-pub length-column : (n s : ℕ) (w : List ℕ) → columnStart n s + (columnLen n) ≤ length w → length (columnOf n s w) ≡ columnLen n
+pub length-column : (n s : ℕ) (w : List ℕ) → columnStart n s + columnLen n ≤ length w → length (columnOf n s w) ≡ columnLen n
 unfolding columnOf
-length-column n s w h = omega (arith, length-between (columnStart n s) (columnStart n s + (columnLen n)) w h)
+length-column n s w h = omega (arith, length-between (columnStart n s) (columnStart n s + columnLen n) w h)
 
 fresh-length : (n s : ℕ) (w : List ℕ) → getD w (columnStart n s) 0 ≡ 0 → getD (columnOf n s w) 0 0 ≡ 0
 fresh-length n s w e = getD-column n s 0 w (omega arith) ∙ ap (λ (i : ℕ). getD w i 0) (add-zero (columnStart n s)) ∙ e

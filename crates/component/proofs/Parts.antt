@@ -31,27 +31,27 @@ lent n m s w c h =
 -- a word of slot s, among all words
 pub getD-column : (n s i : ℕ) (w : List ℕ) → i < columnLen n → getD (columnOf n s w) i 0 ≡ getD w (columnStart n s + i) 0
 unfolding columnOf
-getD-column n s i w h = getD-between (columnStart n s) (columnStart n s + (columnLen n)) i w 0 (omega arith)
+getD-column n s i w h = getD-between (columnStart n s) (columnStart n s + columnLen n) i w 0 (omega arith)
 
 -- ---- words that agree up to b agree up to a ≤ b, and those that agree from e on agree from c ≥ e on
 
 -- words that agree before slot s and after it have the same other slots
 pub others-kept : (n s : ℕ) (w w′ : List ℕ) → take (columnStart n s) w′ ≡ take (columnStart n s) w
-    → drop (columnStart n s + (columnLen n)) w′ ≡ drop (columnStart n s + (columnLen n)) w → (j : ℕ) → j ≢ s → columnOf n j w′ ≡ columnOf n j w
+    → drop (columnStart n s + columnLen n) w′ ≡ drop (columnStart n s + columnLen n) w → (j : ℕ) → j ≢ s → columnOf n j w′ ≡ columnOf n j w
 unfolding columnOf
 others-kept n s w w′ front rest j ne =
     elim (decLt j s) [
-      | yes q ↦ between-front (columnStart n s) (columnStart n j) (columnStart n j + (columnLen n)) w w′ (columnStart-apart n j s q) front
-      | no q ↦ between-rest (columnStart n s + (columnLen n)) (columnStart n j) (columnStart n j + (columnLen n)) w w′ (columnStart-apart n s j (omega arith)) rest
+      | yes q ↦ between-front (columnStart n s) (columnStart n j) (columnStart n j + columnLen n) w w′ (columnStart-apart n j s q) front
+      | no q ↦ between-rest (columnStart n s + columnLen n) (columnStart n j) (columnStart n j + columnLen n) w w′ (columnStart-apart n s j (omega arith)) rest
     ]
 
 -- so they agree before all slots and past m of them
 pub front-kept : (n s : ℕ) (w w′ : List ℕ) → take (columnStart n s) w′ ≡ take (columnStart n s) w → take (columnStart n 0) w′ ≡ take (columnStart n 0) w
 front-kept n s w w′ front = take-less (columnStart n 0) (columnStart n s) w w′ (columnStart-mono n 0 s (omega arith)) front
 
-pub past-kept : (n m s : ℕ) (w w′ : List ℕ) → s < m → drop (columnStart n s + (columnLen n)) w′ ≡ drop (columnStart n s + (columnLen n)) w
+pub past-kept : (n m s : ℕ) (w w′ : List ℕ) → s < m → drop (columnStart n s + columnLen n) w′ ≡ drop (columnStart n s + columnLen n) w
     → drop (columnStart n m) w′ ≡ drop (columnStart n m) w
-past-kept n m s w w′ h rest = drop-later (columnStart n s + (columnLen n)) (columnStart n m) w w′ (columnStart-apart n s m h) rest
+past-kept n m s w w′ h rest = drop-later (columnStart n s + columnLen n) (columnStart n m) w w′ (columnStart-apart n s m h) rest
 
 -- the slots are sound where slot s is and the others are as they were
 pub columns-kept : (n m s : ℕ) (w w′ : List ℕ) → Columns n m w → length w′ ≡ length w → ColumnSound n (columnOf n s w′)
@@ -67,11 +67,11 @@ columns-kept n m s w w′ c size sound others =
 -- ---- a part changed where it lies
 
 module _ (n s : ℕ) (f : SparseSet → SparseSet) (w ys : List ℕ) (l : Lent n s w) (c : Changed n f (columnOf n s w) ys) where
-  pub only : Only n s f w (patch (columnStart n s) (columnStart n s + (columnLen n)) w ys)
+  pub only : Only n s f w (patch (columnStart n s) (columnStart n s + columnLen n) w ys)
   unfolding columnOf
   only m hs k =
       let b = columnStart n s in
-      let e = columnStart n s + (columnLen n) in
+      let e = columnStart n s + columnLen n in
       let w′ = patch b e w ys in
       let h : b ≤ e = omega arith in
       let z : length ys ≡ e - b = omega (arith, c .sound .size) in
@@ -91,10 +91,10 @@ module _ (n s : ℕ) (f : SparseSet → SparseSet) (w ys : List ℕ) (l : Lent n
       }
 
 -- the same, from where the code says that the slot starts
-pub part-is : (n s b : ℕ) (w : List ℕ) → b ≡ columnStart n s → between b (b + (columnLen n)) w ≡ columnOf n s w
+pub part-is : (n s b : ℕ) (w : List ℕ) → b ≡ columnStart n s → between b (b + columnLen n) w ≡ columnOf n s w
 unfolding columnOf
 part-is n s b w q = rw q
 
 pub only-at : (n s b : ℕ) (f : SparseSet → SparseSet) (w ys : List ℕ) → b ≡ columnStart n s → Lent n s w
-    → Changed n f (between b (b + (columnLen n)) w) ys → Only n s f w (patch b (b + (columnLen n)) w ys)
+    → Changed n f (between b (b + columnLen n) w) ys → Only n s f w (patch b (b + columnLen n) w ys)
 only-at n s b f w ys q l c = rw q (only n s f w ys l (rw (part-is n s b w q) at c))

@@ -16,7 +16,7 @@ use Rattle.component.specs.Columns.{columnOf, rowsOf, Columns}
 pub record Lent (n s : ℕ) (w : List ℕ) : Type 0 where
   pub small : n ≤ MAX-ENTITIES
   pub few : s < MAX-KINDS
-  pub size : columnStart n s + (columnLen n) ≤ length w
+  pub size : columnStart n s + columnLen n ≤ length w
   pub sound : ColumnSound n (columnOf n s w)
 
 -- words 1 to 7 of slot s, which are the storage's, are as they were

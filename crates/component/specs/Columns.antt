@@ -11,7 +11,7 @@ use Rattle.component.specs.SparseSet.{rows, ColumnSound}
 
 -- the part of slot s in a store of capacity n
 unfoldable pub columnOf : ℕ → ℕ → List ℕ → List ℕ
-columnOf n s w = between (columnStart n s) (columnStart n s + (columnLen n)) w
+columnOf n s w = between (columnStart n s) (columnStart n s + columnLen n) w
 
 -- its rows
 abbrev pub rowsOf : ℕ → ℕ → List ℕ → SparseSet

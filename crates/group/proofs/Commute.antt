@@ -83,12 +83,12 @@ module _ (e : Entity) where
         (λ m. stepped-other (acc ++ r .newKinds) r ((ungroupFamily e gone (acc ++ r .newKinds) sets rs) .sets) k n₂ ∙ rest)
         (λ m. rest)
 
-    pub record Alike (js : List ℕ) (w v : Walked) : Type 0 where
+    pub record AlikeOn (js : List ℕ) (w v : Walked) : Type 0 where
       pub groups : w .groups ≡ v .groups
       pub same : Same js (w .sets) (v .sets)
 
     pub family-local : (js acc : List ℕ) (a b : List SparseSet) (rs : Family) → ((k : ℕ) → In (acc ++ kindsOf rs) k → In js k) → Headed rs → Same js a b
-        → Alike js (ungroupFamily e gone acc a rs) (ungroupFamily e gone acc b rs)
+        → AlikeOn js (ungroupFamily e gone acc a rs) (ungroupFamily e gone acc b rs)
     unfolding ungroupFamily
     family-local js acc a b [] sub hd s = record { groups = refl; same = s }
     family-local js acc a b (r ∷ rs) sub hd s =
@@ -107,7 +107,7 @@ module _ (e : Entity) where
         kept : Walked → Walked
         kept w = record { sets = w .sets; groups = r ∷ w .groups }
 
-        go : (m : Bool) → Alike js (ungroupFamily e gone g a rs) (ungroupFamily e gone g b rs) → Alike js (cond m (left (ungroupFamily e gone g a rs)) (kept (ungroupFamily e gone g a rs))) (cond m (left (ungroupFamily e gone g b rs)) (kept (ungroupFamily e gone g b rs)))
+        go : (m : Bool) → AlikeOn js (ungroupFamily e gone g a rs) (ungroupFamily e gone g b rs) → AlikeOn js (cond m (left (ungroupFamily e gone g a rs)) (kept (ungroupFamily e gone g a rs))) (cond m (left (ungroupFamily e gone g b rs)) (kept (ungroupFamily e gone g b rs)))
         go true A = record { groups = ap₂ {C = Family} (λ x xs. x ∷ xs) (stepped-count g js r _ _ head (A .same)) (A .groups); same = stepped-same g js r _ _ head (A .same) }
         go false A = record { groups = ap (λ (xs : Family). r ∷ xs) (A .groups); same = A .same }
 
@@ -158,7 +158,7 @@ module _ (e : Entity) where
       abbrev w′ : Walked
       w′ = ungroupFamily e gone [] (p′ .sets) f
 
-      F : Alike (kindsOf f) w′ w
+      F : AlikeOn (kindsOf f) w′ w
       F = family-local (kindsOf f) [] (p′ .sets) sets f (λ k i. i) (hd .0) (λ k i. ungroup-other sets fs k (apart .0 k i))
 
       U : AlikeAll K p′ p

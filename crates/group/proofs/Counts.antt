@@ -11,8 +11,8 @@ use lib.ListN.{length, getD, set, length-set, List·getD-append}
 use lib.Seq.{getD-append-add, set-append-left}
 use Rattle.model.specs.Model.{Family, kindsOf, groupsOf}
 use Rattle.model.proofs.Families.{famKinds}
-use Rattle.group.specs.Flat.{Located, nowhere, flattenFamily, flatten, located, setIn, setCount}
-use Rattle.group.proofs.Fronts.{length-flattenFamily, length-flatten, set-here, set-later}
+use Rattle.group.specs.Flat.{Located, nowhere, familyGroups, groupList, located, setIn, setCount}
+use Rattle.group.proofs.Fronts.{length-flattenFamily, length-groupList, set-here, set-later}
 
 -- ---- a list of two parts
 
@@ -22,16 +22,16 @@ set-append-right {A} (x ∷ xs) ys i a = rw (suc-add (length xs) i) (ap {B = Lis
 
 -- what holds of a group in the first family, and of one past it
 pub by-family : (P : Located → ℕ → Type 0) (p : ℕ) (f : Family) (fs : List Family) (i : ℕ)
-    → (i < length f → P (getD (flattenFamily p (p + length f) [] f) i nowhere) i)
-    → ((j : ℕ) → i ≡ length f + j → P (getD (flatten (p + length f) fs) j nowhere) i)
-    → P (getD (flatten p (f ∷ fs)) i nowhere) i
+    → (i < length f → P (getD (familyGroups p (p + length f) [] f) i nowhere) i)
+    → ((j : ℕ) → i ≡ length f + j → P (getD (groupList (p + length f) fs) j nowhere) i)
+    → P (getD (groupList p (f ∷ fs)) i nowhere) i
 by-family P p f fs i here later = go (decLt i (length f))
   where
     A : List Located
-    A = flattenFamily p (p + length f) [] f
+    A = familyGroups p (p + length f) [] f
 
     B : List Located
-    B = flatten (p + length f) fs
+    B = groupList (p + length f) fs
 
     n : length A ≡ length f
     n = length-flattenFamily p (p + length f) [] f
@@ -58,39 +58,39 @@ kinds-setIn zero c (r ∷ rs) = refl
 kinds-setIn (suc g) c (r ∷ rs) = ap (λ (l : List ℕ). r .newKinds ++ l) (kinds-setIn g c rs)
 
 pub flattenFamily-set : (first top : ℕ) (acc : List ℕ) (g c : ℕ) (f : Family)
-    → flattenFamily first top acc (setIn g c f) ≡ set (flattenFamily first top acc f) g (recount c (getD (flattenFamily first top acc f) g nowhere))
+    → familyGroups first top acc (setIn g c f) ≡ set (familyGroups first top acc f) g (recount c (getD (familyGroups first top acc f) g nowhere))
 flattenFamily-set first top acc g c [] = refl
 flattenFamily-set first top acc zero c (r ∷ rs) = refl
 flattenFamily-set first top acc (suc g) c (r ∷ rs) =
     ap {B = List Located} (λ l. record { kinds = acc ++ r .newKinds; newKinds = r .newKinds; count = r .count; first = first; top = top } ∷ l) (flattenFamily-set first top (acc ++ r .newKinds) g c rs)
 
-pub flatten-set : (p g c : ℕ) (fs : List Family) → flatten p (setCount g c fs) ≡ set (flatten p fs) g (recount c (getD (flatten p fs) g nowhere))
-flatten-set p g c [] = refl
-flatten-set p g c (f ∷ fs) =
-    by-family (λ l g. flatten p (setCount g c (f ∷ fs)) ≡ set (flatten p (f ∷ fs)) g (recount c l)) p f fs g
+pub groupList-set : (p g c : ℕ) (fs : List Family) → groupList p (setCount g c fs) ≡ set (groupList p fs) g (recount c (getD (groupList p fs) g nowhere))
+groupList-set p g c [] = refl
+groupList-set p g c (f ∷ fs) =
+    by-family (λ l g. groupList p (setCount g c (f ∷ fs)) ≡ set (groupList p (f ∷ fs)) g (recount c l)) p f fs g
     (λ h.
-    ap (flatten p) (set-here g c f fs h)
-    ∙ ap (λ (m : ℕ). flattenFamily p (p + m) [] (setIn g c f) ++ flatten (p + m) fs) (length-setIn g c f)
+    ap (groupList p) (set-here g c f fs h)
+    ∙ ap (λ (m : ℕ). familyGroups p (p + m) [] (setIn g c f) ++ groupList (p + m) fs) (length-setIn g c f)
     ∙ ap (λ (l : List Located). l ++ B) (flattenFamily-set p (p + length f) [] g c f)
     ∙ sym (set-append-left A B g (recount c (getD A g nowhere)) (omega (arith, n))))
     (λ i e.
     let q : g ≡ length A + i = e ∙ ap (λ (m : ℕ). m + i) (sym n) in
-    ap (flatten p) (ap (λ (m : ℕ). setCount m c (f ∷ fs)) e ∙ set-later i c f fs)
-    ∙ ap (λ (l : List Located). A ++ l) (flatten-set (p + length f) i c fs)
+    ap (groupList p) (ap (λ (m : ℕ). setCount m c (f ∷ fs)) e ∙ set-later i c f fs)
+    ∙ ap (λ (l : List Located). A ++ l) (groupList-set (p + length f) i c fs)
     ∙ sym (ap (λ (m : ℕ). set (A ++ B) m (recount c (getD B i nowhere))) q ∙ set-append-right A B i (recount c (getD B i nowhere))))
   where
     A : List Located
-    A = flattenFamily p (p + length f) [] f
+    A = familyGroups p (p + length f) [] f
 
     B : List Located
-    B = flatten (p + length f) fs
+    B = groupList (p + length f) fs
 
     n : length A ≡ length f
     n = length-flattenFamily p (p + length f) [] f
 
 pub groups-set : (g c : ℕ) (fs : List Family) → groupsOf (setCount g c fs) ≡ groupsOf fs
 groups-set g c fs =
-    sym (length-flatten 0 (setCount g c fs)) ∙ ap length (flatten-set 0 g c fs) ∙ length-set (flatten 0 fs) g (recount c (located fs g)) ∙ length-flatten 0 fs
+    sym (length-groupList 0 (setCount g c fs)) ∙ ap length (groupList-set 0 g c fs) ∙ length-set (groupList 0 fs) g (recount c (located fs g)) ∙ length-groupList 0 fs
 
 pub kinds-set : (g c : ℕ) (fs : List Family) → famKinds (setCount g c fs) ≡ famKinds fs
 kinds-set g c [] = refl
@@ -108,12 +108,12 @@ pub record Placed (p n i : ℕ) (l : Located) : Type 0 where
   pub within : p + i < l .top
   pub ends : l .top ≤ p + n
 
-pub family-at : (first top : ℕ) (acc : List ℕ) (f : Family) (i : ℕ) → i < length f → ((getD (flattenFamily first top acc f) i nowhere) .first ≡ first) × ((getD (flattenFamily first top acc f) i nowhere) .top ≡ top)
+pub family-at : (first top : ℕ) (acc : List ℕ) (f : Family) (i : ℕ) → i < length f → ((getD (familyGroups first top acc f) i nowhere) .first ≡ first) × ((getD (familyGroups first top acc f) i nowhere) .top ≡ top)
 family-at first top acc [] i h = absurd (not-suc-le-zero h)
 family-at first top acc (r ∷ rs) zero h = (refl, refl)
 family-at first top acc (r ∷ rs) (suc i) h = family-at first top (acc ++ r .newKinds) rs i (le-of-suc-le-suc h)
 
-placed-from : (p : ℕ) (fs : List Family) (i : ℕ) → i < groupsOf fs → Placed p (groupsOf fs) i (getD (flatten p fs) i nowhere)
+placed-from : (p : ℕ) (fs : List Family) (i : ℕ) → i < groupsOf fs → Placed p (groupsOf fs) i (getD (groupList p fs) i nowhere)
 placed-from p [] i h = absurd (not-suc-le-zero h)
 placed-from p (f ∷ fs) i h =
     by-family (λ l i. Placed p (length f + groupsOf fs) i l) p f fs i
@@ -121,7 +121,7 @@ placed-from p (f ∷ fs) i h =
     let t = family-at p (p + length f) [] f i q in
     record { starts = omega (arith, t .0); begun = omega (arith, t .0); within = omega (arith, t .1); ends = omega (arith, t .1) })
     (λ j e.
-    let P : Placed (p + length f) (groupsOf fs) j (getD (flatten (p + length f) fs) j nowhere) = placed-from (p + length f) fs j (omega arith) in
+    let P : Placed (p + length f) (groupsOf fs) j (getD (groupList (p + length f) fs) j nowhere) = placed-from (p + length f) fs j (omega arith) in
     record { starts = omega (arith, P .starts); begun = omega (arith, P .begun); within = omega (arith, P .within); ends = omega (arith, P .ends) })
 
 pub placed : (fs : List Family) (g : ℕ) → g < groupsOf fs → (located fs g .first ≤ g) × (g < located fs g .top) × (located fs g .top ≤ groupsOf fs)

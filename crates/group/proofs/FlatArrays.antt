@@ -10,7 +10,7 @@ use lib.Seq.{getD-append-add, getD-set-same, getD-set-other, take-take}
 use Rattle.model.specs.Model.{Family}
 use Rattle.model.specs.Sound.{layoutKinds}
 use Rattle.words.specs.Part.{between}
-use Rattle.words.proofs.Part.{between-front, getD-between, between-part, between-join}
+use Rattle.words.proofs.Part.{between-front, between-part, between-join}
 use Rattle.words.specs.Table.{table}
 use Rattle.words.proofs.Tables.{table-set}
 use Rattle.layout.specs.Layout.{Arrays, startOf, widthOf, kindsAt, aritiesAt, groupsFrom, familyAt, familiesOf, Rising, WellFormed}
@@ -19,13 +19,13 @@ use Rattle.layout.specs.Group.{InFamily, arityOf, priorArity}
 use Rattle.layout.proofs.Family.{groups-same}
 use Rattle.layout.proofs.Arrays.{group-order, kinds-inside, arities-length, family-rising, groups-length, layout-kinds}
 use Rattle.layout.proofs.Groups.{same-family, place-is, place-inside, arity-is, prior-is, arity-inside}
-use Rattle.group.specs.Flat.{nowhere, flattenFamily, flatten, located, setIn, setCount}
+use Rattle.group.specs.Flat.{nowhere, familyGroups, groupList, located, setIn, setCount}
 use Rattle.group.proofs.Fronts.{length-flattenFamily, set-here, set-later}
 
 -- ---- a family's groups: ks are its kinds, ars the groups' arities from here on, b the arity before
 
 family-group : (counts : List ℕ) (first top g : ℕ) (ks : List ℕ) (b n : ℕ) (ars : List ℕ) → Rising b n ars → (i : ℕ) → i < length ars
-    → getD (flattenFamily first top (take b ks) (groupsFrom counts g ks b ars)) i nowhere
+    → getD (familyGroups first top (take b ks) (groupsFrom counts g ks b ars)) i nowhere
     ≡ record { kinds = take (getD ars i 0) ks; newKinds = between (getD (b ∷ ars) i 0) (getD ars i 0) ks; count = getD counts (g + i) 0; first = first; top = top }
 unfolding groupsFrom Rising
 family-group counts first top g ks b n [] r i h = absurd (not-suc-le-zero h)
@@ -35,7 +35,7 @@ family-group counts first top g ks b n (a ∷ ars) r zero h =
     λ j. record { kinds = joined j; newKinds = between b a ks; count = getD counts (e j) 0; first = first; top = top }
 family-group counts first top g ks b n (a ∷ ars) r (suc i) h =
     let e : suc g + i ≡ g + suc i = omega arith in
-    ap (λ (acc : List ℕ). getD (flattenFamily first top acc (groupsFrom counts (suc g) ks a ars)) i nowhere) (between-join ks b a (omega (arith, r .0)))
+    ap (λ (acc : List ℕ). getD (familyGroups first top acc (groupsFrom counts (suc g) ks a ars)) i nowhere) (between-join ks b a (omega (arith, r .0)))
     ∙ family-group counts first top (suc g) ks a n ars (r .1) i (le-of-suc-le-suc h)
     ∙ ap (λ (m : ℕ). record { kinds = take (getD ars i 0) ks; newKinds = between (getD (a ∷ ars) i 0) (getD ars i 0) ks; count = getD counts m 0; first = first; top = top }) e
 
@@ -73,23 +73,23 @@ later n F s e f i j h q =
     let one : s 1 ≡ s 0 + length (F 0) = e 0 (omega arith) in
     record { rest = j - length (F 0); is = omega arith; at = omega arith }
 
-flatten-at : (n : ℕ) (F : ℕ → Family) (s : ℕ → ℕ) → ((f : ℕ) → f < n → s (suc f) ≡ s f + length (F f)) → (f : ℕ) → f < n → (i j : ℕ) → i < length (F f) → s f + i ≡ s 0 + j
-    → getD (flatten (s 0) (table n F)) j nowhere ≡ getD (flattenFamily (s f) (s (suc f)) [] (F f)) i nowhere
+groupList-at : (n : ℕ) (F : ℕ → Family) (s : ℕ → ℕ) → ((f : ℕ) → f < n → s (suc f) ≡ s f + length (F f)) → (f : ℕ) → f < n → (i j : ℕ) → i < length (F f) → s f + i ≡ s 0 + j
+    → getD (groupList (s 0) (table n F)) j nowhere ≡ getD (familyGroups (s f) (s (suc f)) [] (F f)) i nowhere
 unfolding table
-flatten-at zero F s e f h i j l q = absurd (not-suc-le-zero h)
-flatten-at (suc n) F s e zero h i j l q =
+groupList-at zero F s e f h i j l q = absurd (not-suc-le-zero h)
+groupList-at (suc n) F s e zero h i j l q =
     let k : j ≡ i = omega arith in
-    let inside : i < length (flattenFamily (s 0) (s 0 + length (F 0)) [] (F 0)) = omega (arith, length-flattenFamily (s 0) (s 0 + length (F 0)) [] (F 0)) in
-    ap (λ (m : ℕ). getD (flatten (s 0) (table (suc n) F)) m nowhere) k
-    ∙ List·getD-append (flattenFamily (s 0) (s 0 + length (F 0)) [] (F 0)) (flatten (s 0 + length (F 0)) (table n (λ m. F (suc m)))) nowhere i inside
-    ∙ ap (λ (t : ℕ). getD (flattenFamily (s 0) t [] (F 0)) i nowhere) (sym (e 0 (omega arith)))
-flatten-at (suc n) F s e (suc f) h i j l q =
+    let inside : i < length (familyGroups (s 0) (s 0 + length (F 0)) [] (F 0)) = omega (arith, length-flattenFamily (s 0) (s 0 + length (F 0)) [] (F 0)) in
+    ap (λ (m : ℕ). getD (groupList (s 0) (table (suc n) F)) m nowhere) k
+    ∙ List·getD-append (familyGroups (s 0) (s 0 + length (F 0)) [] (F 0)) (groupList (s 0 + length (F 0)) (table n (λ m. F (suc m)))) nowhere i inside
+    ∙ ap (λ (t : ℕ). getD (familyGroups (s 0) t [] (F 0)) i nowhere) (sym (e 0 (omega arith)))
+groupList-at (suc n) F s e (suc f) h i j l q =
     let L : Later n F s f i j = later n F s e f i j (omega arith) q in
-    let k : j ≡ length (flattenFamily (s 0) (s 0 + length (F 0)) [] (F 0)) + L .rest = L .is ∙ ap (λ (m : ℕ). m + L .rest) (sym (length-flattenFamily (s 0) (s 0 + length (F 0)) [] (F 0))) in
-    ap (λ (m : ℕ). getD (flatten (s 0) (table (suc n) F)) m nowhere) k
-    ∙ getD-append-add (flattenFamily (s 0) (s 0 + length (F 0)) [] (F 0)) (flatten (s 0 + length (F 0)) (table n (λ m. F (suc m)))) (L .rest) nowhere
-    ∙ ap (λ (p : ℕ). getD (flatten p (table n (λ m. F (suc m)))) (L .rest) nowhere) (sym (e 0 (omega arith)))
-    ∙ flatten-at n (λ m. F (suc m)) (λ m. s (suc m)) (λ m l. e (suc m) (omega arith)) f (omega arith) i (L .rest) l (L .at)
+    let k : j ≡ length (familyGroups (s 0) (s 0 + length (F 0)) [] (F 0)) + L .rest = L .is ∙ ap (λ (m : ℕ). m + L .rest) (sym (length-flattenFamily (s 0) (s 0 + length (F 0)) [] (F 0))) in
+    ap (λ (m : ℕ). getD (groupList (s 0) (table (suc n) F)) m nowhere) k
+    ∙ getD-append-add (familyGroups (s 0) (s 0 + length (F 0)) [] (F 0)) (groupList (s 0 + length (F 0)) (table n (λ m. F (suc m)))) (L .rest) nowhere
+    ∙ ap (λ (p : ℕ). getD (groupList p (table n (λ m. F (suc m)))) (L .rest) nowhere) (sym (e 0 (omega arith)))
+    ∙ groupList-at n (λ m. F (suc m)) (λ m. s (suc m)) (λ m l. e (suc m) (omega arith)) f (omega arith) i (L .rest) l (L .at)
 
 set-at : (n : ℕ) (F : ℕ → Family) (s : ℕ → ℕ) → ((f : ℕ) → f < n → s (suc f) ≡ s f + length (F f)) → (c f : ℕ) → f < n → (i j : ℕ) → i < length (F f) → s f + i ≡ s 0 + j
     → setCount j c (table n F) ≡ set (table n F) f (setIn i c (F f))
@@ -145,7 +145,7 @@ module _ (counts : List ℕ) (a : Arrays) (good : WellFormed a) (sized : Sized a
         let all : take arity (kindsAt a f) ≡ between start (start + arity) (layoutKinds (familiesOf counts a)) =
         ap (λ (n : ℕ). take n (kindsAt a f)) (sym (sub-zero arity)) ∙ kinds-in f 0 arity (G .family) r ∙ ap (λ (n : ℕ). between n (start + arity) (layoutKinds (familiesOf counts a))) z in
         let new = kinds-in f (priorArity a f g) arity (G .family) r in
-        flatten-at (a .families) (familyAt counts a) (startOf (a .ends)) steps f (G .family) i g (omega (arith, family-size f (G .family), G .low, G .high)) (omega (arith, G .low))
+        groupList-at (a .families) (familyAt counts a) (startOf (a .ends)) steps f (G .family) i g (omega (arith, family-size f (G .family), G .low, G .high)) (omega (arith, G .low))
         ∙ family-group counts (startOf (a .ends) f) (getD (a .ends) f 0) (startOf (a .ends) f) (kindsAt a f) 0 (length (kindsAt a f)) (aritiesAt a f) (family-rising a good sized f (G .family)) i (place-inside a good sized f g G)
         ∙ (λ j. record {
           kinds = take (arity-is a good sized f g G j) (kindsAt a f);

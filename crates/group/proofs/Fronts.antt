@@ -9,17 +9,17 @@ use borrow.Author.Tests.{lt-ltb, le-ltb}
 use lib.ListN.{length, getD, length-append, List·getD-append}
 use lib.Seq.{getD-append-add}
 use Rattle.model.specs.Model.{Group, Family, groupsOf}
-use Rattle.group.specs.Flat.{Located, nowhere, flattenFamily, flatten, located, withCount, setIn, setCount}
+use Rattle.group.specs.Flat.{Located, nowhere, familyGroups, groupList, located, withCount, setIn, setCount}
 
-pub length-flattenFamily : (first top : ℕ) (acc : List ℕ) (f : Family) → length (flattenFamily first top acc f) ≡ length f
+pub length-flattenFamily : (first top : ℕ) (acc : List ℕ) (f : Family) → length (familyGroups first top acc f) ≡ length f
 length-flattenFamily first top acc [] = refl
 length-flattenFamily first top acc (r ∷ rs) = ap suc (length-flattenFamily first top (acc ++ r .newKinds) rs)
 
-pub length-flatten : (p : ℕ) (fs : List Family) → length (flatten p fs) ≡ groupsOf fs
-length-flatten p [] = refl
-length-flatten p (f ∷ fs) =
-    length-append (flattenFamily p (p + length f) [] f) (flatten (p + length f) fs)
-    ∙ ap₂ _+_ (length-flattenFamily p (p + length f) [] f) (length-flatten (p + length f) fs)
+pub length-groupList : (p : ℕ) (fs : List Family) → length (groupList p fs) ≡ groupsOf fs
+length-groupList p [] = refl
+length-groupList p (f ∷ fs) =
+    length-append (familyGroups p (p + length f) [] f) (groupList (p + length f) fs)
+    ∙ ap₂ _+_ (length-flattenFamily p (p + length f) [] f) (length-groupList (p + length f) fs)
 
 -- ---- a count is set in the first family, or in a later one
 
@@ -35,7 +35,7 @@ set-later g c f fs =
 
 pub record Front (p : ℕ) : Type 0 where
   pub build : List Family → List Family
-  pub locate : (fs : List Family) (i : ℕ) → i < groupsOf fs → located (build fs) (p + i) ≡ getD (flatten p fs) i nowhere
+  pub locate : (fs : List Family) (i : ℕ) → i < groupsOf fs → located (build fs) (p + i) ≡ getD (groupList p fs) i nowhere
   pub put : (fs : List Family) (i c : ℕ) → i < groupsOf fs → setCount (p + i) c (build fs) ≡ build (setCount i c fs)
 
 abbrev pub whole : Front 0
@@ -54,8 +54,8 @@ past {p} F f =
       locate = λ fs i h.
           ap (located (F .build (f ∷ fs))) (add-assoc p (length f) i)
           ∙ F .locate (f ∷ fs) (length f + i) (omega arith)
-          ∙ ap (λ (n : ℕ). getD (flattenFamily p (p + length f) [] f ++ flatten (p + length f) fs) (n + i) nowhere) (sym (length-flattenFamily p (p + length f) [] f))
-          ∙ getD-append-add (flattenFamily p (p + length f) [] f) (flatten (p + length f) fs) i nowhere;
+          ∙ ap (λ (n : ℕ). getD (familyGroups p (p + length f) [] f ++ groupList (p + length f) fs) (n + i) nowhere) (sym (length-flattenFamily p (p + length f) [] f))
+          ∙ getD-append-add (familyGroups p (p + length f) [] f) (groupList (p + length f) fs) i nowhere;
       put = λ fs i c h.
           ap (λ (n : ℕ). setCount n c (F .build (f ∷ fs))) (add-assoc p (length f) i)
           ∙ F .put (f ∷ fs) (length f + i) c (omega arith)
@@ -66,7 +66,7 @@ past {p} F f =
 
 pub record Hole (acc : List ℕ) (first top p : ℕ) : Type 0 where
   pub build : Family → List Family
-  pub locate : (rs : Family) → p + length rs ≡ top → (i : ℕ) → i < length rs → located (build rs) (p + i) ≡ getD (flattenFamily first top acc rs) i nowhere
+  pub locate : (rs : Family) → p + length rs ≡ top → (i : ℕ) → i < length rs → located (build rs) (p + i) ≡ getD (familyGroups first top acc rs) i nowhere
   pub put : (rs : Family) (i c : ℕ) → i < length rs → setCount (p + i) c (build rs) ≡ build (setIn i c rs)
 
 abbrev pub opened : {p : ℕ} → Front p → (top : ℕ) (fs : List Family) → Hole [] p top p
@@ -74,10 +74,10 @@ opened {p} F top fs =
     record {
       build = λ rs. F .build (rs ∷ fs);
       locate = λ rs e i h.
-          let h′ : i < length (flattenFamily p top [] rs) = rw (length-flattenFamily p top [] rs) h in
+          let h′ : i < length (familyGroups p top [] rs) = rw (length-flattenFamily p top [] rs) h in
           F .locate (rs ∷ fs) i (omega arith)
-          ∙ ap (λ (t : ℕ). getD (flattenFamily p t [] rs ++ flatten (p + length rs) fs) i nowhere) e
-          ∙ List·getD-append (flattenFamily p top [] rs) (flatten (p + length rs) fs) nowhere i h′;
+          ∙ ap (λ (t : ℕ). getD (familyGroups p t [] rs ++ groupList (p + length rs) fs) i nowhere) e
+          ∙ List·getD-append (familyGroups p top [] rs) (groupList (p + length rs) fs) nowhere i h′;
       put = λ rs i c h. F .put (rs ∷ fs) i c (omega arith) ∙ ap (F .build) (set-here i c rs fs h);
     }
 

@@ -10,7 +10,6 @@ use Rattle.words.specs.Offsets.{ENTITIES, GROUP-COUNTS, GROUP-FAMILIES, GROUP-P
 use Rattle.model.specs.Model.{Family, Storage, groupsOf}
 use Rattle.model.specs.Store.{onStorage, withLayout}
 use Rattle.model.specs.Sound.{In, Distinct, layoutKinds}
-use Rattle.model.proofs.BoolLaws.{bool-cases}
 use Rattle.words.specs.Part.{between}
 use Rattle.words.proofs.Part.{length-between, getD-between}
 use Rattle.layout.specs.Layout.{startOf, widthOf, familiesOf, KindSet, WellFormed}

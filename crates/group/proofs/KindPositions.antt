@@ -15,7 +15,7 @@ use Rattle.model.proofs.KindLists.{mem-append, in-left, in-right, any-in, in-co
 use Rattle.model.proofs.BoolLaws.{bool-cases, or-false, or-false-right, not-true, or-exchange}
 use Rattle.masks.specs.Masks.{upFrom, has, keep, unionOf}
 use Rattle.masks.proofs.Lists.{has-append, has-union, has-keep, has-up, up-split, between-high}
-use Rattle.group.specs.Flat.{nowhere, flattenFamily, flatten, located, familyPositions, insertPositions, deleteFamily, deleteFrom, deletePositions}
+use Rattle.group.specs.Flat.{nowhere, familyGroups, groupList, located, familyPositions, insertPositions, deleteFamily, deleteFrom, deletePositions}
 use Rattle.group.proofs.Counts.{family-at, by-family}
 use Rattle.group.proofs.Upward.{From}
 use Rattle.group.proofs.Commute.{Headed, HeadedAll}
@@ -133,12 +133,12 @@ pub not-left : (a b : List ℕ) (k : ℕ) → Distinct (a ++ b) → In b k → m
 not-left a b k d i = not-true (mem k a) (λ h. omega (arith, d k, count-append eqb k a b, in-count a k h, in-count b k i))
 
 -- a group's new kinds are its family's, and the layout's
-family-has : (first top : ℕ) (acc : List ℕ) (rs : Family) (i k : ℕ) → i < length rs → In (getD (flattenFamily first top acc rs) i nowhere .newKinds) k → In (kindsOf rs) k
+family-has : (first top : ℕ) (acc : List ℕ) (rs : Family) (i k : ℕ) → i < length rs → In (getD (familyGroups first top acc rs) i nowhere .newKinds) k → In (kindsOf rs) k
 family-has first top acc [] i k h n = absurd (not-suc-le-zero h)
 family-has first top acc (r ∷ rs) zero k h n = in-left (r .newKinds) (kindsOf rs) k n
 family-has first top acc (r ∷ rs) (suc i) k h n = in-right (r .newKinds) (kindsOf rs) k (family-has first top (acc ++ r .newKinds) rs i k (le-of-suc-le-suc h) n)
 
-layout-has : (p : ℕ) (fs : List Family) (i k : ℕ) → i < groupsOf fs → In (getD (flatten p fs) i nowhere .newKinds) k → In (layoutKinds fs) k
+layout-has : (p : ℕ) (fs : List Family) (i k : ℕ) → i < groupsOf fs → In (getD (groupList p fs) i nowhere .newKinds) k → In (layoutKinds fs) k
 layout-has p [] i k h = absurd (not-suc-le-zero h)
 layout-has p (f ∷ fs) i k h =
     by-family (λ l i. In (l .newKinds) k → In (layoutKinds (f ∷ fs)) k) p f fs i
@@ -155,8 +155,8 @@ insert-none k p (f ∷ fs) n =
     (insert-none k (p + length f) fs (or-false-right (mem k (kindsOf f)) (mem k (layoutKinds fs)) n′))
 
 -- "the touched families' groups": of a kind whose own group is at g, all groups of its family
-insert-own : (k p : ℕ) (fs : List Family) (i : ℕ) → Distinct (layoutKinds fs) → i < groupsOf fs → In (getD (flatten p fs) i nowhere .newKinds) k
-    → familyPositions (λ f. meets (k ∷ []) (kindsOf f)) p fs ≡ upFrom (getD (flatten p fs) i nowhere .first) (getD (flatten p fs) i nowhere .top - getD (flatten p fs) i nowhere .first)
+insert-own : (k p : ℕ) (fs : List Family) (i : ℕ) → Distinct (layoutKinds fs) → i < groupsOf fs → In (getD (groupList p fs) i nowhere .newKinds) k
+    → familyPositions (λ f. meets (k ∷ []) (kindsOf f)) p fs ≡ upFrom (getD (groupList p fs) i nowhere .first) (getD (groupList p fs) i nowhere .top - getD (groupList p fs) i nowhere .first)
 unfolding familyPositions
 insert-own k p [] i d h = absurd (not-suc-le-zero h)
 insert-own k p (f ∷ fs) i d h =
@@ -199,7 +199,7 @@ delete-above k p acc (r ∷ rs) i =
     let m : mem k (acc ++ r .newKinds) ≡ true = in-left acc (r .newKinds) k i in
     rw (meets-one k (acc ++ r .newKinds), m) (ap {B = List ℕ} (λ l. p ∷ l) (delete-above k (suc p) (acc ++ r .newKinds) rs m))
 
-delete-own-in : (k first top p : ℕ) (acc : List ℕ) (rs : Family) (i : ℕ) → mem k acc ≡ false → Distinct (kindsOf rs) → i < length rs → In (getD (flattenFamily first top acc rs) i nowhere .newKinds) k
+delete-own-in : (k first top p : ℕ) (acc : List ℕ) (rs : Family) (i : ℕ) → mem k acc ≡ false → Distinct (kindsOf rs) → i < length rs → In (getD (familyGroups first top acc rs) i nowhere .newKinds) k
     → deleteFamily (k ∷ []) p acc rs ≡ upFrom (p + i) (length rs - i)
 unfolding deleteFamily upFrom
 delete-own-in k first top p acc [] i a d h n = absurd (not-suc-le-zero h)
@@ -215,8 +215,8 @@ delete-own-in k first top p acc (r ∷ rs) (suc i) a d h n =
     let l : suc (length rs) - suc i ≡ length rs - i = omega arith in
     rw (meets-one k (acc ++ r .newKinds), m, z, l) (delete-own-in k first top (suc p) (acc ++ r .newKinds) rs i m (distinct-right (r .newKinds) (kindsOf rs) d) (le-of-suc-le-suc h) n)
 
-delete-own : (k p : ℕ) (fs : List Family) (i : ℕ) → Distinct (layoutKinds fs) → i < groupsOf fs → In (getD (flatten p fs) i nowhere .newKinds) k
-    → deleteFrom (k ∷ []) p fs ≡ upFrom (p + i) (getD (flatten p fs) i nowhere .top - (p + i))
+delete-own : (k p : ℕ) (fs : List Family) (i : ℕ) → Distinct (layoutKinds fs) → i < groupsOf fs → In (getD (groupList p fs) i nowhere .newKinds) k
+    → deleteFrom (k ∷ []) p fs ≡ upFrom (p + i) (getD (groupList p fs) i nowhere .top - (p + i))
 unfolding deleteFrom
 delete-own k p [] i d h = absurd (not-suc-le-zero h)
 delete-own k p (f ∷ fs) i d h =
@@ -270,36 +270,36 @@ delete-all gone p (f ∷ fs) hd sub =
 -- ---- a group's kinds
 
 -- its new kinds are among its kinds, which are its family's and the layout's
-family-kinds : (first top : ℕ) (acc : List ℕ) (rs : Family) (i k : ℕ) → i < length rs → In (getD (flattenFamily first top acc rs) i nowhere .kinds) k → In (acc ++ kindsOf rs) k
+family-kinds : (first top : ℕ) (acc : List ℕ) (rs : Family) (i k : ℕ) → i < length rs → In (getD (familyGroups first top acc rs) i nowhere .kinds) k → In (acc ++ kindsOf rs) k
 family-kinds first top acc [] i k h n = absurd (not-suc-le-zero h)
 family-kinds first top acc (r ∷ rs) zero k h n = subst (λ (l : List ℕ). In l k) (append-assoc acc (r .newKinds) (kindsOf rs)) (in-left (acc ++ r .newKinds) (kindsOf rs) k n)
 family-kinds first top acc (r ∷ rs) (suc i) k h n = subst (λ (l : List ℕ). In l k) (append-assoc acc (r .newKinds) (kindsOf rs)) (family-kinds first top (acc ++ r .newKinds) rs i k (le-of-suc-le-suc h) n)
 
-family-once : (first top : ℕ) (acc : List ℕ) (rs : Family) (i : ℕ) → i < length rs → Distinct (acc ++ kindsOf rs) → Distinct (getD (flattenFamily first top acc rs) i nowhere .kinds)
+family-once : (first top : ℕ) (acc : List ℕ) (rs : Family) (i : ℕ) → i < length rs → Distinct (acc ++ kindsOf rs) → Distinct (getD (familyGroups first top acc rs) i nowhere .kinds)
 family-once first top acc [] i h d = absurd (not-suc-le-zero h)
 family-once first top acc (r ∷ rs) zero h d = distinct-left (acc ++ r .newKinds) (kindsOf rs) (subst Distinct (sym (append-assoc acc (r .newKinds) (kindsOf rs))) d)
 family-once first top acc (r ∷ rs) (suc i) h d = family-once first top (acc ++ r .newKinds) rs i (le-of-suc-le-suc h) (subst Distinct (sym (append-assoc acc (r .newKinds) (kindsOf rs))) d)
 
-pub kinds-known : (p : ℕ) (fs : List Family) (i k : ℕ) → i < groupsOf fs → In (getD (flatten p fs) i nowhere .kinds) k → In (layoutKinds fs) k
+pub kinds-known : (p : ℕ) (fs : List Family) (i k : ℕ) → i < groupsOf fs → In (getD (groupList p fs) i nowhere .kinds) k → In (layoutKinds fs) k
 kinds-known p [] i k h = absurd (not-suc-le-zero h)
 kinds-known p (f ∷ fs) i k h =
     by-family (λ l i. In (l .kinds) k → In (layoutKinds (f ∷ fs)) k) p f fs i
     (λ q n. in-left (kindsOf f) (layoutKinds fs) k (family-kinds p (p + length f) [] f i k q n))
     (λ j e n. in-right (kindsOf f) (layoutKinds fs) k (kinds-known (p + length f) fs j k (omega arith) n))
 
-pub kinds-once : (p : ℕ) (fs : List Family) (i : ℕ) → i < groupsOf fs → Distinct (layoutKinds fs) → Distinct (getD (flatten p fs) i nowhere .kinds)
+pub kinds-once : (p : ℕ) (fs : List Family) (i : ℕ) → i < groupsOf fs → Distinct (layoutKinds fs) → Distinct (getD (groupList p fs) i nowhere .kinds)
 kinds-once p [] i h = absurd (not-suc-le-zero h)
 kinds-once p (f ∷ fs) i h =
     by-family (λ l i. Distinct (layoutKinds (f ∷ fs)) → Distinct (l .kinds)) p f fs i
     (λ q d. family-once p (p + length f) [] f i q (distinct-left (kindsOf f) (layoutKinds fs) d))
     (λ j e d. kinds-once (p + length f) fs j (omega arith) (distinct-right (kindsOf f) (layoutKinds fs) d))
 
-family-headed : (first top : ℕ) (acc : List ℕ) (rs : Family) (i : ℕ) → i < length rs → Headed rs → In (getD (flattenFamily first top acc rs) i nowhere .newKinds) (headKind (getD (flattenFamily first top acc rs) i nowhere .newKinds))
+family-headed : (first top : ℕ) (acc : List ℕ) (rs : Family) (i : ℕ) → i < length rs → Headed rs → In (getD (familyGroups first top acc rs) i nowhere .newKinds) (headKind (getD (familyGroups first top acc rs) i nowhere .newKinds))
 family-headed first top acc [] i h hd = absurd (not-suc-le-zero h)
 family-headed first top acc (r ∷ rs) zero h hd = hd .0
 family-headed first top acc (r ∷ rs) (suc i) h hd = family-headed first top (acc ++ r .newKinds) rs i (le-of-suc-le-suc h) (hd .1)
 
-pub located-headed : (p : ℕ) (fs : List Family) (i : ℕ) → i < groupsOf fs → HeadedAll fs → In (getD (flatten p fs) i nowhere .newKinds) (headKind (getD (flatten p fs) i nowhere .newKinds))
+pub located-headed : (p : ℕ) (fs : List Family) (i : ℕ) → i < groupsOf fs → HeadedAll fs → In (getD (groupList p fs) i nowhere .newKinds) (headKind (getD (groupList p fs) i nowhere .newKinds))
 located-headed p [] i h = absurd (not-suc-le-zero h)
 located-headed p (f ∷ fs) i h =
     by-family (λ l i. HeadedAll (f ∷ fs) → In (l .newKinds) (headKind (l .newKinds))) p f fs i

@@ -24,19 +24,19 @@ abbrev pub nowhere : Located
 nowhere = record { kinds = []; newKinds = []; count = 0; first = 0; top = 0 }
 
 -- a family's groups, smallest first; acc are the kinds of the group before
-abbrev pub flattenFamily : ℕ → ℕ → List ℕ → Family → List Located
-flattenFamily first top acc [] = []
-flattenFamily first top acc (r ∷ rs) =
+abbrev pub familyGroups : ℕ → ℕ → List ℕ → Family → List Located
+familyGroups first top acc [] = []
+familyGroups first top acc (r ∷ rs) =
     record { kinds = acc ++ r .newKinds; newKinds = r .newKinds; count = r .count; first = first; top = top }
-    ∷ flattenFamily first top (acc ++ r .newKinds) rs
+    ∷ familyGroups first top (acc ++ r .newKinds) rs
 
 -- the groups of the families, one family after another, numbered from p
-abbrev pub flatten : ℕ → List Family → List Located
-flatten p [] = []
-flatten p (f ∷ fs) = flattenFamily p (p + length f) [] f ++ flatten (p + length f) fs
+abbrev pub groupList : ℕ → List Family → List Located
+groupList p [] = []
+groupList p (f ∷ fs) = familyGroups p (p + length f) [] f ++ groupList (p + length f) fs
 
 abbrev pub located : List Family → ℕ → Located
-located fs g = getD (flatten 0 fs) g nowhere
+located fs g = getD (groupList 0 fs) g nowhere
 
 abbrev pub withCount : ℕ → Group → Group
 withCount c r = record { newKinds = r .newKinds; count = c }

@@ -9,7 +9,7 @@ use borrow.Author.Tests.{eqb-true, lt-ltb, le-ltb}
 use lib.Dec.{eqb, ltb}
 use lib.ListN.{length, getD}
 use Rattle.model.specs.Numbers.{MAX-GROUP-ARITY}
-use Rattle.model.specs.Lists.{one, place}
+use Rattle.model.specs.Lists.{place}
 use Rattle.model.proofs.ListLaws.{count-place, getD-place, once-place}
 use Rattle.model.specs.Model.{mem, within, sameSet}
 use Rattle.model.proofs.KindLists.{all-in, in-count, all-true, at-in}

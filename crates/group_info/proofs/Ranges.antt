@@ -13,7 +13,6 @@ use Rattle.model.specs.Model.{Family, none, found, mem, within, sameSet, kindsO
 use Rattle.model.proofs.KindLists.{all-in, mem-take, mem-take-le, not-in-take}
 use Rattle.model.proofs.BoolLaws.{bool-cases, not-true, by-eq}
 use Rattle.words.specs.Part.{between}
-use Rattle.words.proofs.Part.{getD-between}
 use Rattle.masks.specs.Masks.{upFrom}
 use Rattle.masks.proofs.Lists.{and-parts}
 use Rattle.layout.specs.Layout.{Arrays, startOf, kindsAt, aritiesAt, groupsFrom, familiesOf, KindSet, Rising, WellFormed}

@@ -19,7 +19,7 @@ use Rattle.words.proofs.Tables.{is-table, length-table, getD-table}
 use Rattle.component.specs.SparseSet.{rows, ColumnSound}
 use Rattle.component.specs.Columns.{columnOf, rowsOf, Columns}
 use Rattle.component.specs.Changes.{HeadKept, Changes}
-use Rattle.entity.specs.Meaning.{entityPart, entitiesIn}
+use Rattle.entity.specs.Meaning.{entityPart}
 use Rattle.memory.specs.Header.{capacityOf, kindCapacityOf, registeredOf, slotOf}
 use Rattle.memory.specs.Meaning.{setAt, setsIn, meaning}
 use Rattle.memory.specs.Arranged.{Arranged, Becomes}
@@ -44,7 +44,7 @@ module _ (n r m : ℕ) (h : r ≤ m) (w w′ : List ℕ) (all : Columns n m w) w
   module _ (f : SparseSet → SparseSet) (c : Changes n r (λ (s : ℕ). f) w w′) where
     past-column : (s : ℕ) → r ≤ s → columnOf n s w′ ≡ columnOf n s w
     unfolding columnOf
-    past-column s l = between-rest (columnStart n r) (columnStart n s) (columnStart n s + (columnLen n)) w w′ (columnStart-mono n r s l) (c .past)
+    past-column s l = between-rest (columnStart n r) (columnStart n s) (columnStart n s + columnLen n) w w′ (columnStart-mono n r s l) (c .past)
 
     wide-sound : (s : ℕ) → s < m → ColumnSound n (columnOf n s w′)
     wide-sound s l =

@@ -10,7 +10,6 @@ use lib.Seq.{getD-take, length-take-le}
 use Rattle.model.specs.Model.{mem}
 use Rattle.model.specs.Sound.{In}
 use Rattle.model.proofs.BoolLaws.{not-true}
-use Rattle.words.proofs.Part.{getD-between}
 use Rattle.layout.specs.Layout.{Arrays, startOf, widthOf, kindsAt, aritiesAt, Rising, WellFormed}
 use Rattle.layout.specs.Group.{InFamily, arityOf, priorArity, memberAt}
 use Rattle.layout.proofs.Arrays.{groups-inside, kinds-length, arities-length, family-rising}

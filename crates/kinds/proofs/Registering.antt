@@ -24,7 +24,7 @@ use Rattle.component.specs.Columns.{columnOf, rowsOf, Columns}
 use Rattle.component.specs.Changes.{Lent}
 use Rattle.component.proofs.Parts.{lent}
 use Rattle.component.proofs.Frames.{headed, front-column, front-columns}
-use Rattle.entity.specs.Meaning.{entityPart, entitiesIn}
+use Rattle.entity.specs.Meaning.{entityPart}
 use Rattle.layout.specs.Layout.{Arrays, WellFormed, widthOf, groupCount, familiesOf}
 use Rattle.layout.specs.Group.{memberAt}
 use Rattle.memory.specs.Header.{capacityOf, kindCapacityOf, registeredOf, layoutGroups, slotOf, groupFamilyAt}

@@ -7,7 +7,7 @@ use native.Mathlib.Nat.{sub-zero}
 use native.Mathlib.Numerals.{add-one}
 use native.Mathlib.Omega.{arith}
 use lib.ListN.{length, getD, take, drop}
-use lib.Seq.{drop-length, take-length, take-take}
+use lib.Seq.{drop-length, take-length}
 use Rattle.model.specs.Model.{Family, kindsOf, isGroup, sameSet, newGroup}
 use Rattle.words.specs.Part.{between}
 use Rattle.words.proofs.Part.{between-join, between-drop, same-front, last-part}

@@ -15,7 +15,6 @@ use Rattle.model.specs.Sound.{In}
 use Rattle.model.proofs.KindLists.{at-in}
 use Rattle.model.proofs.ListLaws.{at-count}
 use Rattle.model.proofs.BoolLaws.{by-eq}
-use Rattle.words.proofs.Part.{getD-between}
 use Rattle.layout.specs.Layout.{Arrays, startOf, widthOf, WellFormed}
 use Rattle.layout.specs.ByValue.{Sized}
 use Rattle.layout.specs.Group.{InFamily, arityOf}

@@ -21,7 +21,7 @@ use Rattle.words.proofs.Tables.{table-same, table-none}
 use Rattle.component.specs.SparseSet.{rows}
 use Rattle.component.specs.Columns.{columnOf, rowsOf, Columns}
 use Rattle.component.proofs.Frames.{front-column, front-columns}
-use Rattle.entity.specs.Meaning.{entityPart, entitiesIn}
+use Rattle.entity.specs.Meaning.{entityPart}
 use Rattle.layout.specs.Layout.{Arrays, blockArrays, WellFormed, startOf, widthOf, groupCount, kindsAt, aritiesAt, familyAt, familiesOf}
 use Rattle.layout.specs.ByValue.{Sized}
 use Rattle.layout.specs.Group.{InFamily, arityOf}

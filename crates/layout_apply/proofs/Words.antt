@@ -9,7 +9,6 @@ use Rattle.model.specs.Numbers.{MAX-GROUP-COUNT}
 use Rattle.words.specs.Offsets.{BLOCK-LEN, DRAFT, DRAFT-FAMILIES, DRAFT-GROUPS, ENDS, ENTITIES, GROUP-COUNTS, GROUP-FAMILIES, GROUP-PLACES, LAYOUT, LAYOUT-ENDS, LAYOUT-FAMILIES, LAYOUT-GROUPS}
 use Rattle.model.proofs.BoolLaws.{by-eq}
 use Rattle.model.proofs.ListLaws.{drop-same}
-use Rattle.words.proofs.Part.{getD-between}
 use Rattle.words.proofs.Stores.{length-stores, miss, hit}
 use Rattle.layout.specs.Layout.{startOf}
 use Rattle.layout.proofs.Arrays.{group-order, groups-inside, block-at}

@@ -22,7 +22,7 @@ use Rattle.component.specs.SparseSet.{rows, ColumnSound}
 use Rattle.component.specs.Columns.{columnOf, rowsOf, Columns}
 use Rattle.component.specs.Changes.{One}
 use Rattle.entity.specs.Change.{EntityChange}
-use Rattle.entity.specs.Meaning.{entityPart, entitiesIn}
+use Rattle.entity.specs.Meaning.{entityPart}
 use Rattle.layout.specs.Layout.{WellFormed, groupCount, familiesOf}
 use Rattle.memory.specs.Header.{capacityOf, kindCapacityOf, registeredOf, stagedLen, excludedLen, draftGroups, slotOf}
 use Rattle.memory.specs.Meaning.{kindAt, setAt, setsIn, draftArrays, layoutArrays, layoutIn, controlIn, settingsOf, meaning, kindsIn}
@@ -133,7 +133,7 @@ module _ (w w′ : List ℕ) (A : Arranged w) (size : length w′ ≡ length w) 
   pub column-rest : (s : ℕ) → columnOf (capacityOf w) s w′ ≡ columnOf (capacityOf w) s w
   unfolding columnOf
   column-rest s =
-      between-rest m (columnStart (capacityOf w) s) (columnStart (capacityOf w) s + (columnLen (capacityOf w))) w w′
+      between-rest m (columnStart (capacityOf w) s) (columnStart (capacityOf w) s + columnLen (capacityOf w)) w w′
       (omega (arith, start-header (capacityOf w), columnStart-mono (capacityOf w) 0 s (omega arith))) rest
 
   rows-rest : (s : ℕ) → rowsOf (capacityOf w) s w′ ≡ rowsOf (capacityOf w) s w

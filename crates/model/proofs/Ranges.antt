@@ -10,7 +10,7 @@ use borrow.Author.Tests.{eqb-true, eq-eqb}
 use lib.Dec.{eqb}
 use lib.ListN.{length, take, drop, getD, length-drop, length-map, take-append-drop}
 use lib.Seq.{length-take-le, take-all, drop-cons}
-use Rattle.model.specs.Lists.{one, countOf}
+use Rattle.model.specs.Lists.{one}
 use Rattle.model.proofs.ListLaws.{count-append, count-length, length-zero}
 use Rattle.model.specs.Model.{Entity, SparseSet, Group, Family, Range, none, found, sameEntity, mem, allOf, within, sameSet, setOf, entityOf, held, allHeld, headKind, kindsOf, newGroup, firstRange, rangeAt, rangeIn, rangeAll, single, rangeFor}
 use Rattle.model.specs.Store.{Store}

@@ -10,7 +10,7 @@ use borrow.Author.Tests.{eq-eqb}
 use lib.Dec.{eqb}
 use lib.ListN.{length, take, getD, set, length-set}
 use lib.Seq.{length-take-le, take-take, take-set-le}
-use Rattle.model.specs.Lists.{one, countOf, cutAt}
+use Rattle.model.specs.Lists.{one, cutAt}
 use Rattle.model.proofs.ListLaws.{count-cutAt, map-cutAt, count-place, place-le, getD-place}
 use Rattle.model.specs.Model.{Entity, SparseSet, Group, Family, Storage, Walked, GroupStep, sameEntity, noEntity, noRow, mem, anyOf, meets, setOf, keys, entityOf, at, held, kindsOf, onKinds, swapTo, removeRow, isGrouped, ungroupComponents, ungroupFamily, ungroup, remove}
 use Rattle.model.proofs.SparseSets.{entity-eq, entity-same, key, setOf-mapOn}

@@ -63,7 +63,7 @@ empty n k =
 
 -- a store "needs 1,024 + 16 × N + K × (8 + 6 × N) words"
 unfoldable pub wordsNeeded : ℕ → ℕ → ℕ
-wordsNeeded n k = HEADER-LEN + ENTITY-LEN * n + k * (columnLen n)
+wordsNeeded n k = HEADER-LEN + ENTITY-LEN * n + k * columnLen n
 
 -- the hand's kinds, in its order
 abbrev pub stagedKinds : Store → List ℕ

@@ -4,12 +4,12 @@ use mathlib.Core.Logic.{_≢_}
 use mathlib.Core.List.{List, [], _∷_}
 use Prim.Native.Nat.{ℕ, zero, suc, _+_, _*_, _≤_, _<_}
 use native.Mathlib.Omega.{arith}
-use lib.ListN.{length, getD, set, drop, List·getD-map}
+use lib.ListN.{length, getD, set, List·getD-map}
 use lib.Seq.{getD-set-other}
 use Rattle.model.specs.Store.{Store}
 use Rattle.model.specs.Commands.{Command, TALLY, commands, commandAt, answerLength}
 use Rattle.model.proofs.ListLaws.{default-any}
-use Rattle.model.specs.Numbers.{LAST-COMMAND}
+use Rattle.model.specs.Numbers.{TAKE-BYTE, LAST-COMMAND}
 
 -- by command byte; TAKE's is for no staged component
 abbrev pub answers : List ℕ
@@ -28,12 +28,12 @@ answers-small b = small answers (omega arith) b
     small (w ∷ ws) h (suc j) = small ws (h .1) j
 
 module _ (s : Store) (ops : List ℕ) where
-  by-byte : (b : ℕ) → answerLength (commandAt b ops) s ≡ getD (set answers 5 (1 + 9 * length (s .control .staged))) b 5
+  by-byte : (b : ℕ) → answerLength (commandAt b ops) s ≡ getD (set answers TAKE-BYTE (1 + 9 * length (s .control .staged))) b 5
   by-byte b =
       sym (List·getD-map (λ (c : Command). answerLength c s) (commands ops) b TALLY)
 
-  pub take-answer : (b n : ℕ) → b ≡ 5 → n ≡ length (s .control .staged) → getD answers b 0 + 9 * n ≡ answerLength (commandAt b ops) s
+  pub take-answer : (b n : ℕ) → b ≡ TAKE-BYTE → n ≡ length (s .control .staged) → getD answers b 0 + 9 * n ≡ answerLength (commandAt b ops) s
   take-answer b n e f = rw (e, f)
 
-  pub fixed-answer : (b : ℕ) → b ≢ 5 → b ≤ LAST-COMMAND → getD answers b 0 ≡ answerLength (commandAt b ops) s
-  fixed-answer b ne h = default-any answers b 0 5 (omega arith) ∙ sym (getD-set-other answers 5 b (1 + 9 * length (s .control .staged)) 5 ne) ∙ sym (by-byte b)
+  pub fixed-answer : (b : ℕ) → b ≢ TAKE-BYTE → b ≤ LAST-COMMAND → getD answers b 0 ≡ answerLength (commandAt b ops) s
+  fixed-answer b ne h = default-any answers b 0 5 (omega arith) ∙ sym (getD-set-other answers TAKE-BYTE b (1 + 9 * length (s .control .staged)) 5 ne) ∙ sym (by-byte b)

@@ -1,7 +1,7 @@
 -- Operands off the tape, and commands by their bytes. Assumes nothing.
 use mathlib.Core.Path.{_≡_, ap, ap₂, sym, _∙_, subst}
 use mathlib.Core.List.{List}
-use Prim.Native.Nat.{ℕ, zero, suc, _+_, _≤_, _<_}
+use Prim.Native.Nat.{ℕ, suc, _+_, _≤_, _<_}
 use native.Mathlib.Omega.{arith}
 use native.Mathlib.Nat.{add-zero}
 use lib.ListN.{length, getD, take, drop, length-drop}
@@ -17,7 +17,7 @@ use Rattle.memory.specs.Meaning.{meaning}
 use Rattle.command.specs.Acted.{Ready, Acted}
 use Rattle.run_command.specs.Given.{commandIn, Given}
 use Rattle.codec.proofs.Numbers.{number-join}
-use Rattle.model.specs.Numbers.{LAST-COMMAND}
+use Rattle.model.specs.Numbers.{LAST-COMMAND, REG-BYTE, HOLD-BYTE, NEW-BYTE, PUT-BYTE, TAKE-BYTE, DROP-BYTE, KILL-BYTE, WIPE-BYTE, GROUP-BYTE, APPLY-BYTE, BAR-BYTE, RANGE-BYTE, EMPTY-BYTE}
 
 -- ---- operands
 
@@ -67,31 +67,31 @@ module _ (f : Entity → Command) (t : List ℕ) (at : ℕ) where
 up : {b : ℕ} (k : ℕ) → k ≤ b → (b ≡ k → ⊥) → suc k ≤ b
 up k h n = omega arith
 
--- none of 4, 5 and 6
+-- none of PUT, TAKE and DROP
 abbrev pub OnEntity : ℕ → Type 0
-OnEntity b = ((Unit {0} × (b ≡ 4 → ⊥)) × (b ≡ 5 → ⊥)) × (b ≡ 6 → ⊥)
+OnEntity b = ((Unit {0} × (b ≡ PUT-BYTE → ⊥)) × (b ≡ TAKE-BYTE → ⊥)) × (b ≡ DROP-BYTE → ⊥)
 
-pub is-kill : (b : ℕ) → (4 ≤ b) × (b ≤ 7) → OnEntity b → b ≡ 7
-is-kill b h n = omega (arith, h .1, up 6 (up 5 (up 4 (h .0) (n .0 .0 .1)) (n .0 .1)) (n .1))
+pub is-kill : (b : ℕ) → (PUT-BYTE ≤ b) × (b ≤ KILL-BYTE) → OnEntity b → b ≡ KILL-BYTE
+is-kill b h n = omega (arith, h .1, up DROP-BYTE (up TAKE-BYTE (up PUT-BYTE (h .0) (n .0 .0 .1)) (n .0 .1)) (n .1))
 
 -- each of the four has eight operand bytes
-pub entity-whole : {w t o : List ℕ} {at p : ℕ} (b : ℕ) → (4 ≤ b) × (b ≤ 7) → Given w b t at o p → at + 8 ≤ length t
+pub entity-whole : {w t o : List ℕ} {at p : ℕ} (b : ℕ) → (PUT-BYTE ≤ b) × (b ≤ KILL-BYTE) → Given w b t at o p → at + 8 ≤ length t
 entity-whole {t = t} {at = at} b h g =
-    by-eq b 4 (λ e. given-as 4 e g .whole)
-    (λ n4. by-eq b 5 (λ e. given-as 5 e g .whole)
-    (λ n5. by-eq b 6 (λ e. given-as 6 e g .whole)
-    (λ n6. given-as 7 (is-kill b h (((tt, n4), n5), n6)) g .whole)))
+    by-eq b PUT-BYTE (λ e. given-as PUT-BYTE e g .whole)
+    (λ n4. by-eq b TAKE-BYTE (λ e. given-as TAKE-BYTE e g .whole)
+    (λ n5. by-eq b DROP-BYTE (λ e. given-as DROP-BYTE e g .whole)
+    (λ n6. given-as KILL-BYTE (is-kill b h (((tt, n4), n5), n6)) g .whole)))
 
--- none of 1 to 3, and none of 8 to 13
-abbrev pub Passed : ℕ → Type 0
-Passed b =
-    ((((((((Unit {0} × (b ≡ 1 → ⊥)) × (b ≡ 2 → ⊥)) × (b ≡ 3 → ⊥)) × (b ≡ 8 → ⊥)) × (b ≡ 9 → ⊥)) × (b ≡ 10 → ⊥)) × (b ≡ 11 → ⊥)) × (b ≡ 12 → ⊥)) × (b ≡ 13 → ⊥)
+-- none of REG, HOLD and NEW, and none of WIPE to EMPTY
+abbrev pub NoArm : ℕ → Type 0
+NoArm b =
+    ((((((((Unit {0} × (b ≡ REG-BYTE → ⊥)) × (b ≡ HOLD-BYTE → ⊥)) × (b ≡ NEW-BYTE → ⊥)) × (b ≡ WIPE-BYTE → ⊥)) × (b ≡ GROUP-BYTE → ⊥)) × (b ≡ APPLY-BYTE → ⊥)) × (b ≡ BAR-BYTE → ⊥)) × (b ≡ RANGE-BYTE → ⊥)) × (b ≡ EMPTY-BYTE → ⊥)
 
-pub on-entity : (b : ℕ) → 1 ≤ b → b < 8 → Passed b → (4 ≤ b) × (b ≤ 7)
+pub on-entity : (b : ℕ) → REG-BYTE ≤ b → b < WIPE-BYTE → NoArm b → (PUT-BYTE ≤ b) × (b ≤ KILL-BYTE)
 on-entity b h l n =
     let m = n .0 .0 .0 .0 .0 .0 in
-    (up 3 (up 2 (up 1 h (m .0 .0 .1)) (m .0 .1)) (m .1), omega arith)
+    (up NEW-BYTE (up HOLD-BYTE (up REG-BYTE h (m .0 .0 .1)) (m .0 .1)) (m .1), omega arith)
 
-pub is-tally : (b : ℕ) → 8 ≤ b → b ≤ LAST-COMMAND → Passed b → b ≡ LAST-COMMAND
+pub is-tally : (b : ℕ) → WIPE-BYTE ≤ b → b ≤ LAST-COMMAND → NoArm b → b ≡ LAST-COMMAND
 is-tally b h l n =
-    omega (arith, up 13 (up 12 (up 11 (up 10 (up 9 (up 8 h (n .0 .0 .0 .0 .0 .1)) (n .0 .0 .0 .0 .1)) (n .0 .0 .0 .1)) (n .0 .0 .1)) (n .0 .1)) (n .1))
+    omega (arith, up EMPTY-BYTE (up RANGE-BYTE (up BAR-BYTE (up APPLY-BYTE (up GROUP-BYTE (up WIPE-BYTE h (n .0 .0 .0 .0 .0 .1)) (n .0 .0 .0 .0 .1)) (n .0 .0 .0 .1)) (n .0 .0 .1)) (n .0 .1)) (n .1))

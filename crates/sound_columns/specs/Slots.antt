@@ -10,7 +10,7 @@ use Rattle.component.specs.Columns.{columnOf}
 pub record Slot (n s : ℕ) (w : List ℕ) : Type 0 where
   pub small : n ≤ MAX-ENTITIES
   pub few : s < MAX-KINDS
-  pub size : columnStart n s + (columnLen n) ≤ length w
+  pub size : columnStart n s + columnLen n ≤ length w
 
 -- and so are k columns
 pub record Room (n k : ℕ) (w : List ℕ) : Type 0 where

@@ -107,7 +107,7 @@ fn waits_ok(part: &[u32], n: usize, j: usize) -> bool
     true
 }
 
-fn ring_ok(part: &[u32], n: usize) -> bool
+fn queue_ok(part: &[u32], n: usize) -> bool
     requires { ⌜ Sized n (now part) ⌝ }
     requires { ⌜ Counts n (now part) ⌝ }
     ensures { λ r. ⌜ Decides r (Each (recycledLen (now (part .entry))) (WaitsOk n (now (part .entry)))) ⌝ }
@@ -229,7 +229,7 @@ pub fn is_sound(part: &[u32], n: usize) -> bool
     if !live_list_ok(part, n) {
         return false;
     }
-    if !ring_ok(part, n) {
+    if !queue_ok(part, n) {
         return false;
     }
     if !indexes_ok(part, n) {

@@ -22,7 +22,7 @@ use Rattle.words.proofs.Offsets.{columnStart-mono}
 use Rattle.words.specs.Part.{between}
 use Rattle.words.proofs.Part.{getD-between, length-between, between-below}
 use Rattle.words.specs.Table.{table}
-use Rattle.component.specs.SparseSet.{ColumnSound, lengthOf}
+use Rattle.component.specs.SparseSet.{lengthOf}
 use Rattle.words.specs.Decides.{Each}
 use Rattle.component.proofs.Meaning.{length-rows, empty-rows}
 use Rattle.component.specs.Columns.{columnOf, rowsOf, Columns}
@@ -244,7 +244,7 @@ module _ (w : List ℕ) where
 
   column-bits : Bits w → (s : ℕ) → Bits (columnOf n s w)
   unfolding columnOf
-  column-bits bits s = between-below 4294967296 (columnStart n s) (columnStart n s + (columnLen n)) w (omega arith) bits
+  column-bits bits s = between-below 4294967296 (columnStart n s) (columnStart n s + columnLen n) w (omega arith) bits
 
   sets-are : TableSound w → k ≤ MAX-KINDS → Bits w → Columns n k w → Each k (ColumnOk n reg w) → SetsSound (kindsIn w) live (setsIn w)
   unfolding kindsIn setsIn

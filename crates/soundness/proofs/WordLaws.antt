@@ -10,7 +10,7 @@ use Rattle.words.specs.Offsets.{ENTITIES, GROUP-FAMILIES, LAYOUT, LAYOUT-FAMILI
 use Rattle.model.specs.Sound.{In}
 use Rattle.model.proofs.KindLists.{at-in, in-at}
 use Rattle.words.specs.Part.{between}
-use Rattle.words.proofs.Part.{getD-between, length-between, getD-inner, between-part}
+use Rattle.words.proofs.Part.{getD-between, length-between, between-part}
 use Rattle.layout.specs.Layout.{Arrays, startOf, widthOf, WellFormed}
 use Rattle.layout.specs.ByValue.{Sized}
 use Rattle.layout.specs.Group.{InFamily, arityOf, priorArity}

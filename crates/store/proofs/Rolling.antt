@@ -3,7 +3,6 @@ use mathlib.Core.List.{List}
 use Prim.Native.Nat.{ℕ, _≤_, _<_}
 use lib.ListN.{length}
 use Rattle.model.specs.Snapshot.{snapshot}
-use Rattle.model.proofs.ListLaws.{front-sets}
 use Rattle.model.specs.Refusals.{UNSOUND, NOROOM}
 use Rattle.model.specs.Entries.{roll}
 use Rattle.memory.specs.Meaning.{meaning}

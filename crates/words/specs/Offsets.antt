@@ -1,6 +1,6 @@
 -- Where things stand in the lent words (docs/WORDS.md): the header, the entity part, and a column for each slot. Assumes nothing.
 use Prim.Native.Nat.{ℕ, _+_}
-use Rattle.model.specs.Numbers.{MAX-ENTITIES, MAX-KINDS, HEADER-LEN, ENTITY-LEN, COLUMN-HEAD, columnLen}
+use Rattle.model.specs.Numbers.{HEADER-LEN, COLUMN-HEAD}
 use Rattle.model.specs.Store.{wordsNeeded}
 
 -- ---- the header, word by word

@@ -8,7 +8,7 @@ use Rattle.model.specs.Store.{wordsNeeded}
 use Rattle.model.proofs.words_needed.Statement.{statement}
 use Rattle.model.proofs.words_needed.Tie as tie
 
-fits : (n k : ℕ) → n ≤ MAX-ENTITIES → k ≤ MAX-KINDS → k * (columnLen n) ≤ MAX-KINDS * 24584
+fits : (n k : ℕ) → n ≤ MAX-ENTITIES → k ≤ MAX-KINDS → k * columnLen n ≤ MAX-KINDS * 24584
 fits n k hn hk = let m : columnLen n ≤ 24584 = omega arith in mul-le-mul hk m
 
 mul-result-3 : tie.Need-mul-result-3

@@ -27,8 +27,8 @@ returns-4 c =
     let w = c .before .before .before .before .before .before .before .args .part .now in
     λ s. denied {P = Each (lenOf w) (LiveOk n w)} (c .before .live-list-ok .result) (c .before .live-list-ok .ensures) (c .if4 .taken) (live-of n w s)
 
-ring-ok-requires : tie.Need-ring-ok-requires
-ring-ok-requires c κs =
+queue-ok-requires : tie.Need-queue-ok-requires
+queue-ok-requires c κs =
     let n = c .before .before .before .before .before .before .before .args .n in
     let w = c .before .before .before .before .before .before .before .args .part .now in
     (search needs, granted {P = Counts n w} (c .before .before .before .counts-ok .result) (c .before .before .before .counts-ok .ensures) (c .before .before .if3 .left))
@@ -37,7 +37,7 @@ returns-5 : tie.Need-returns-5
 returns-5 c =
     let n = c .before .before .before .before .before .before .before .before .before .args .n in
     let w = c .before .before .before .before .before .before .before .before .before .args .part .now in
-    λ s. denied {P = Each (recycledLen w) (WaitsOk n w)} (c .before .ring-ok .result) (c .before .ring-ok .ensures) (c .if5 .taken) (s .queue .waits)
+    λ s. denied {P = Each (recycledLen w) (WaitsOk n w)} (c .before .queue-ok .result) (c .before .queue-ok .ensures) (c .if5 .taken) (s .queue .waits)
 
 indexes-ok-requires : tie.Need-indexes-ok-requires
 indexes-ok-requires c κs =
@@ -58,7 +58,7 @@ returns-7 c =
     sound-of n w (record { size = omega arith; some = omega arith; small = c .before .before .before .before .before .before .before .before .before .before .before .pre })
     (granted {P = Counts n w} (c .before .before .before .before .before .before .before .counts-ok .result) (c .before .before .before .before .before .before .before .counts-ok .ensures) (c .before .before .before .before .before .before .if3 .left))
     (granted {P = Each (lenOf w) (LiveOk n w)} (c .before .before .before .before .before .live-list-ok .result) (c .before .before .before .before .before .live-list-ok .ensures) (c .before .before .before .before .if4 .left))
-    (granted {P = Each (recycledLen w) (WaitsOk n w)} (c .before .before .before .ring-ok .result) (c .before .before .before .ring-ok .ensures) (c .before .before .if5 .left))
+    (granted {P = Each (recycledLen w) (WaitsOk n w)} (c .before .before .before .queue-ok .result) (c .before .before .before .queue-ok .ensures) (c .before .before .if5 .left))
     (granted {P = Each n (IndexOk n w)} (c .before .indexes-ok .result) (c .before .indexes-ok .ensures) (c .if6 .left))
 
 pub is-sound-spec : {M : Type 1} → statement M
@@ -72,7 +72,7 @@ is-sound-spec =
     returns-3
     live-list-ok-requires
     returns-4
-    ring-ok-requires
+    queue-ok-requires
     returns-5
     indexes-ok-requires
     returns-6

@@ -3,8 +3,8 @@ use native.Mathlib.Omega.{arith}
 use borrow.Author.Needs.{needs}
 use Rattle.words.proofs.Passes.{Passed, starts, stops-each, goes, ends-each}
 use Rattle.sound_entities.specs.Checks.{WaitsOk}
-use Rattle.sound_entities.proofs.ring_ok.Statement.{statement}
-use Rattle.sound_entities.proofs.ring_ok.Tie as tie
+use Rattle.sound_entities.proofs.queue_ok.Statement.{statement}
+use Rattle.sound_entities.proofs.queue_ok.Tie as tie
 
 abbrev Inv-loop : tie.InvT-loop
 Inv-loop part n k j₀ j = Passed (WaitsOk n part) 0 j
@@ -12,8 +12,8 @@ Inv-loop part n k j₀ j = Passed (WaitsOk n part) 0 j
 abbrev μ-loop : tie.MeasureT-loop
 μ-loop part n k j₀ j = k - j
 
-pub ring-ok-spec : {M : Type 1} → statement M
-ring-ok-spec =
+pub queue-ok-spec : {M : Type 1} → statement M
+queue-ok-spec =
     tie.close
     (tie.spec
     Inv-loop
