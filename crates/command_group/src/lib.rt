@@ -38,7 +38,7 @@ fn add_staged(words: &[u32]) -> Answer
     requires { ⌜ Sound (now words) ⌝ }
     ensures { λ r. ⌜ Drafts (meaning (now (words .entry))) r ⌝ }
 {
-    let mut kinds = [0u8; 16];
+    let mut kinds = [0u8; model::LIST_CAPACITY];
     let n = staged_kinds(words, &mut kinds);
     let draft = control::draft::draft(words);
     layout::group_layout::add_group(draft, &kinds[..n])

@@ -18,7 +18,7 @@ pub fn count_refusal(words: &mut [u32])
     ensures { λ _. ⌜ CountsRefusal (now (words .entry)) (now (words .exit)) ⌝ }
 {
     let count = words[REFUSALS];
-    if count < 4294967295 {
+    if count < model::MAX_REFUSALS {
         words[REFUSALS] = count + 1;
     }
 }

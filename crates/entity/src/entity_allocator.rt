@@ -104,7 +104,7 @@ pub fn recycle(part: &mut [u32], n: usize, index: u32, version: u32)
     requires { ⌜ Idle n (now part) index ⌝ }
     ensures { λ _. ⌜ Changed n (recycledAs (entity index version)) (now (part .entry)) (now (part .exit)) ⌝ }
 {
-    if version < 4294967295 {
+    if version < model::LAST_VERSION {
         push_back(part, n, index, version + 1);
     }
 }

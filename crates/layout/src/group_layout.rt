@@ -14,10 +14,10 @@ ghost use Rattle.layout.specs.Add.{Fitting, AddsGroup};
 // The families one after another: their kinds in order, their groups' arities, and where each family's kinds and groups end.
 // The group of arity a is the first a kinds of its family.
 pub struct Layout {
-    pub kinds: [u8; 128],
-    pub arities: [u8; 64],
-    pub kind_ends: [u8; 64],
-    pub ends: [u8; 64],
+    pub kinds: [u8; model::MAX_KINDS],
+    pub arities: [u8; words::GROUP_PLACES],
+    pub kind_ends: [u8; words::GROUP_PLACES],
+    pub ends: [u8; words::GROUP_PLACES],
     pub families: usize,
     // How many kinds and groups there are.
     pub width: usize,
@@ -214,7 +214,7 @@ fn raise(ends: &mut [u8], from: usize, to: usize, by: u8)
 
 // Kinds in the front of an array.
 struct Kinds16 {
-    kinds: [u8; 16],
+    kinds: [u8; model::LIST_CAPACITY],
     count: usize,
 }
 
@@ -223,7 +223,7 @@ fn missing(ks: &[u8], staged: &[u8]) -> Kinds16
     requires { ⌜ length (now staged) ≤ LIST-CAPACITY ⌝ }
     ensures { λ r. ⌜ (take (r .count) (r .kinds) ≡ without (now (staged .entry)) (now (ks .entry))) × (r .count ≤ length (now (staged .entry))) ⌝ }
 {
-    let mut kinds = [0u8; 16];
+    let mut kinds = [0u8; model::LIST_CAPACITY];
     let mut n: usize = 0;
     for i in 0..staged.len() {
         let kind = staged[i];
@@ -283,11 +283,11 @@ fn extended(l: Layout, f: usize, more: &[u8], arity: u8) -> Layout
     let ke = kind_ends[f] as usize;
     let ge = ends[f] as usize;
     let old = l.kinds;
-    let mut kinds = [0u8; 128];
+    let mut kinds = [0u8; model::MAX_KINDS];
     spread(&mut kinds, &old[..width], ke, more);
     let sizes = l.arities;
     let one = [arity; 1];
-    let mut arities = [0u8; 64];
+    let mut arities = [0u8; words::GROUP_PLACES];
     spread(&mut arities, &sizes[..groups], ge, &one);
     raise(&mut kind_ends, f, families, more.len() as u8);
     raise(&mut ends, f, families, 1);

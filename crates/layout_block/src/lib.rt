@@ -43,16 +43,16 @@ pub fn read_layout(block: &[u32], families: usize, groups: usize) -> Layout
     ensures { λ r. ⌜ ReadFrom (now (block .entry)) families groups r ⌝ }
 {
     let width = start_of(&block[KIND_ENDS..ENDS], 0, families);
-    let mut kinds = [0u8; 128];
+    let mut kinds = [0u8; model::MAX_KINDS];
     fetch(&mut kinds, &block[..width]);
     let groups_end = ARITIES + groups;
-    let mut arities = [0u8; 64];
+    let mut arities = [0u8; words::GROUP_PLACES];
     fetch(&mut arities, &block[ARITIES..groups_end]);
     let kinds_end = KIND_ENDS + families;
-    let mut kind_ends = [0u8; 64];
+    let mut kind_ends = [0u8; words::GROUP_PLACES];
     fetch(&mut kind_ends, &block[KIND_ENDS..kinds_end]);
     let ends_end = ENDS + families;
-    let mut ends = [0u8; 64];
+    let mut ends = [0u8; words::GROUP_PLACES];
     fetch(&mut ends, &block[ENDS..ends_end]);
     Layout {
         kinds,
@@ -156,7 +156,7 @@ pub fn kinds_ok(kinds: &[u32], table: &[u32]) -> bool
     requires { ⌜ length (now table) ≡ MAX-KINDS ⌝ }
     ensures { λ r. ⌜ Decides r (KindsOk (now (table .entry)) (now (kinds .entry))) ⌝ }
 {
-    let mut seen = [0u8; 128];
+    let mut seen = [0u8; model::MAX_KINDS];
     for i in 0..kinds.len() {
         let k = kinds[i] as usize;
         if model::MAX_KINDS <= k {

@@ -1,21 +1,23 @@
 // Commands with operands: they are read off the tape, at `at`.
+use model::commands;
 ghost use Prim.Native.Nat.{_≤_};
+ghost use Rattle.model.specs.Numbers.{REG-BYTE, HOLD-BYTE, BAR-BYTE};
 ghost use Rattle.model.specs.Run.{does};
 ghost use Rattle.memory.specs.Meaning.{meaning};
 ghost use Rattle.command.specs.Acted.{Acted};
 ghost use Rattle.run_command.specs.Given.{commandIn, Given};
 
 pub fn reg(words: &mut [u32], tape: &[u8], at: usize, out: &mut [u8], to: usize) -> usize
-    requires { ⌜ Given (now words) 1 (now tape) at (now out) to ⌝ }
-    ensures { λ r. ⌜ Acted (now (words .entry)) (now (words .exit)) (now (out .entry)) (now (out .exit)) to r (does (commandIn 1 (now (tape .entry)) at) (meaning (now (words .entry)))) ⌝ }
+    requires { ⌜ Given (now words) REG-BYTE (now tape) at (now out) to ⌝ }
+    ensures { λ r. ⌜ Acted (now (words .entry)) (now (words .exit)) (now (out .entry)) (now (out .exit)) to r (does (commandIn REG-BYTE (now (tape .entry)) at) (meaning (now (words .entry)))) ⌝ }
 {
     let kind = tape[at];
     command_list::registering::reg(words, kind, out, to)
 }
 
 pub fn hold(words: &mut [u32], tape: &[u8], at: usize, out: &mut [u8], to: usize) -> usize
-    requires { ⌜ Given (now words) 2 (now tape) at (now out) to ⌝ }
-    ensures { λ r. ⌜ Acted (now (words .entry)) (now (words .exit)) (now (out .entry)) (now (out .exit)) to r (does (commandIn 2 (now (tape .entry)) at) (meaning (now (words .entry)))) ⌝ }
+    requires { ⌜ Given (now words) HOLD-BYTE (now tape) at (now out) to ⌝ }
+    ensures { λ r. ⌜ Acted (now (words .entry)) (now (words .exit)) (now (out .entry)) (now (out .exit)) to r (does (commandIn HOLD-BYTE (now (tape .entry)) at) (meaning (now (words .entry)))) ⌝ }
 {
     let kind = tape[at];
     let low = codec::get_u32(tape, at + 1);
@@ -39,16 +41,16 @@ pub fn on_entity(
     let index = codec::get_u32(tape, at);
     let version = codec::get_u32(tape, at + 4);
     match op {
-        4 => command_entity::components::put(words, index, version, out, to),
-        5 => command_take::take(words, index, version, out, to),
-        6 => command_entity::components::drop(words, index, version, out, to),
+        commands::PUT => command_entity::components::put(words, index, version, out, to),
+        commands::TAKE => command_take::take(words, index, version, out, to),
+        commands::DROP => command_entity::components::drop(words, index, version, out, to),
         _ => command_entity::entities::kill(words, index, version, out, to),
     }
 }
 
 pub fn bar(words: &mut [u32], tape: &[u8], at: usize, out: &mut [u8], to: usize) -> usize
-    requires { ⌜ Given (now words) 11 (now tape) at (now out) to ⌝ }
-    ensures { λ r. ⌜ Acted (now (words .entry)) (now (words .exit)) (now (out .entry)) (now (out .exit)) to r (does (commandIn 11 (now (tape .entry)) at) (meaning (now (words .entry)))) ⌝ }
+    requires { ⌜ Given (now words) BAR-BYTE (now tape) at (now out) to ⌝ }
+    ensures { λ r. ⌜ Acted (now (words .entry)) (now (words .exit)) (now (out .entry)) (now (out .exit)) to r (does (commandIn BAR-BYTE (now (tape .entry)) at) (meaning (now (words .entry)))) ⌝ }
 {
     let kind = tape[at];
     command_list::lists::bar(words, kind, out, to)

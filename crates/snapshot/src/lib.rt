@@ -167,7 +167,7 @@ pub fn write_snapshot(words: &[u32], out: &mut [u8]) -> usize
     requires { ⌜ length (snapshot (meaning (now words))) ≤ length (now out) ⌝ }
     ensures { λ r. ⌜ WrittenUntil (now (out .entry)) (now (out .exit)) 0 r (snapshot (meaning (now (words .entry)))) ⌝ }
 {
-    let mut list = [0u8; 128];
+    let mut list = [0u8; model::MAX_KINDS];
     let count = rising_kinds(words, &mut list);
     let live = control::entities::live_len(words);
     codec::put_u32(out, 0, live as u32);

@@ -133,11 +133,11 @@ pub fn are_heads(words: &[u32], n: usize, families: usize, groups: usize) -> boo
 }
 
 // A table of the kinds that stand in the list.
-fn mark(kinds: &[u32]) -> [u8; 128]
+fn mark(kinds: &[u32]) -> [u8; model::MAX_KINDS]
     requires { ⌜ ((i : ℕ) → i < length (now kinds) → getD (now kinds) i 0 < MAX-KINDS) ⌝ }
     ensures { λ r. ⌜ Marked r (now (kinds .entry)) ⌝ }
 {
-    let mut seen = [0u8; 128];
+    let mut seen = [0u8; model::MAX_KINDS];
     for i in 0..kinds.len() {
         let k = kinds[i] as usize;
         seen[k] = 1;
@@ -146,7 +146,7 @@ fn mark(kinds: &[u32]) -> [u8; 128]
 }
 
 // A column that says a group has a kind that was seen.
-fn own_ok(words: &[u32], n: usize, seen: &[u8; 128], s: usize) -> bool
+fn own_ok(words: &[u32], n: usize, seen: &[u8; model::MAX_KINDS], s: usize) -> bool
     requires { ⌜ Slot n s (now words) ⌝ }
     requires { ⌜ headAt n (now words) s COLUMN-KIND < MAX-KINDS ⌝ }
     ensures { λ r. ⌜ Decides r (SeenOk n (now (words .entry)) (now (seen .entry)) s) ⌝ }
@@ -161,7 +161,7 @@ fn own_ok(words: &[u32], n: usize, seen: &[u8; 128], s: usize) -> bool
     true
 }
 
-fn own_all_ok(words: &[u32], n: usize, seen: &[u8; 128], registered: usize) -> bool
+fn own_all_ok(words: &[u32], n: usize, seen: &[u8; model::MAX_KINDS], registered: usize) -> bool
     requires { ⌜ Room n registered (now words) ⌝ }
     requires { ⌜ ((s : ℕ) → s < registered → headAt n (now words) s COLUMN-KIND < MAX-KINDS) ⌝ }
     ensures { λ r. ⌜ Decides r (Each registered (SeenOk n (now (words .entry)) (now (seen .entry)))) ⌝ }

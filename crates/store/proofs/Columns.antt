@@ -10,7 +10,7 @@ use borrow.Author.Tests.{lt-ltb, le-ltb}
 use lib.ListN.{length, getD, take, drop, length-map, length-drop, List·getD-map}
 use lib.Seq.{length-take-le}
 use denote.Ref.{RefT}
-use Rattle.model.specs.Numbers.{LAST-KIND, MAX-ENTITIES, columnLen}
+use Rattle.model.specs.Numbers.{LAST-KIND, MAX-ENTITIES, columnLen, KIND, BEYOND}
 use Rattle.model.specs.Model.{Row, SparseSet, setOf, keys, entityOf, noRow}
 use Rattle.model.specs.Store.{Store, isKind}
 use Rattle.model.specs.Refusals.{numberOf, columnLines}
@@ -39,21 +39,21 @@ use Rattle.store.proofs.Pairs.{pairs-part, indexOf, versionOf, lowOf, h
 -- ---- the lines of column
 
 module _ (k a e : ℕ) (s : Store) where
-  pub column-large : LAST-KIND < k → columnRefusal k a e s ≡ some 7
+  pub column-large : LAST-KIND < k → columnRefusal k a e s ≡ some KIND
   unfolding columnRefusal
   column-large h = rw (lt-ltb LAST-KIND k h)
 
   module _ (h : k ≤ LAST-KIND) where
-    pub column-unknown : isKind k s ≡ false → columnRefusal k a e s ≡ some 7
+    pub column-unknown : isKind k s ≡ false → columnRefusal k a e s ≡ some KIND
     unfolding columnRefusal
     column-unknown u = rw (le-ltb LAST-KIND k h, u)
 
     module _ (u : isKind k s ≡ true) where
-      pub column-turned : e < a → columnRefusal k a e s ≡ some 16
+      pub column-turned : e < a → columnRefusal k a e s ≡ some BEYOND
       unfolding columnRefusal
       column-turned t = rw (le-ltb LAST-KIND k h, u, lt-ltb e a t)
 
-      pub column-beyond : a ≤ e → length (setOf (s .storage .sets) k) < e → columnRefusal k a e s ≡ some 16
+      pub column-beyond : a ≤ e → length (setOf (s .storage .sets) k) < e → columnRefusal k a e s ≡ some BEYOND
       unfolding columnRefusal
       column-beyond o t = rw (le-ltb LAST-KIND k h, u, le-ltb e a o, lt-ltb (length (setOf (s .storage .sets) k)) e t)
 

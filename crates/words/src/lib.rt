@@ -49,6 +49,8 @@ pub const KIND_ENDS: usize = 192;
 pub const ENDS: usize = 256;
 
 pub const BLOCK_LEN: usize = 320;
+// How many groups a block has places for.
+pub const GROUP_PLACES: usize = 64;
 // The same three of the layout in force.
 pub const LAYOUT_ARITIES: usize = LAYOUT + ARITIES;
 

@@ -47,31 +47,31 @@ tally-requires : tie.Need-tally-requires
 tally-requires c κs = given-as LAST-COMMAND (last-arm (c .before .before)) (c .before .before .before .before .before .before .before .pre .1) .ready
 
 returns : tie.Need-returns
-returns c = let s = c .before .before .before .before .before .before .before .before .before .before .before .args in acts-as (s .op) 1 (c .before .before .before .before .before .before .before .match .keys1) (s .tape .now) (s .at) (c .before .before .before .before .reg .ensures)
+returns c = let s = c .before .before .before .before .before .before .before .before .before .before .before .args in acts-as (s .op) REG-BYTE (c .before .before .before .before .before .before .before .match .keys1) (s .tape .now) (s .at) (c .before .before .before .before .reg .ensures)
 
 returns-2 : tie.Need-returns-2
-returns-2 c = let s = c .before .before .before .before .before .before .before .before .before .before .before .args in acts-as (s .op) 2 (c .before .before .before .before .before .before .before .match .keys2) (s .tape .now) (s .at) (c .before .before .before .before .hold .ensures)
+returns-2 c = let s = c .before .before .before .before .before .before .before .before .before .before .before .args in acts-as (s .op) HOLD-BYTE (c .before .before .before .before .before .before .before .match .keys2) (s .tape .now) (s .at) (c .before .before .before .before .hold .ensures)
 
 returns-3 : tie.Need-returns-3
-returns-3 c = let s = c .before .before .before .before .before .before .before .before .before .before .before .args in acts-as (s .op) 3 (c .before .before .before .before .before .before .before .match .keys3) (s .tape .now) (s .at) (c .before .before .before .before .new .ensures)
+returns-3 c = let s = c .before .before .before .before .before .before .before .before .before .before .before .args in acts-as (s .op) NEW-BYTE (c .before .before .before .before .before .before .before .match .keys3) (s .tape .now) (s .at) (c .before .before .before .before .new .ensures)
 
 returns-4 : tie.Need-returns-4
-returns-4 c = let s = c .before .before .before .before .before .before .before .before .before .before .before .args in acts-as (s .op) 8 (c .before .before .before .before .before .before .before .match .keys4) (s .tape .now) (s .at) (c .before .before .before .before .wipe .ensures)
+returns-4 c = let s = c .before .before .before .before .before .before .before .before .before .before .before .args in acts-as (s .op) WIPE-BYTE (c .before .before .before .before .before .before .before .match .keys4) (s .tape .now) (s .at) (c .before .before .before .before .wipe .ensures)
 
 returns-5 : tie.Need-returns-5
-returns-5 c = let s = c .before .before .before .before .before .before .before .before .before .before .before .args in acts-as (s .op) 9 (c .before .before .before .before .before .before .before .match .keys5) (s .tape .now) (s .at) (c .before .before .before .before .group .ensures)
+returns-5 c = let s = c .before .before .before .before .before .before .before .before .before .before .before .args in acts-as (s .op) GROUP-BYTE (c .before .before .before .before .before .before .before .match .keys5) (s .tape .now) (s .at) (c .before .before .before .before .group .ensures)
 
 returns-6 : tie.Need-returns-6
-returns-6 c = let s = c .before .before .before .before .before .before .before .before .before .before .before .args in acts-as (s .op) 10 (c .before .before .before .before .before .before .before .match .keys6) (s .tape .now) (s .at) (c .before .before .before .before .apply .ensures)
+returns-6 c = let s = c .before .before .before .before .before .before .before .before .before .before .before .args in acts-as (s .op) APPLY-BYTE (c .before .before .before .before .before .before .before .match .keys6) (s .tape .now) (s .at) (c .before .before .before .before .apply .ensures)
 
 returns-7 : tie.Need-returns-7
-returns-7 c = let s = c .before .before .before .before .before .before .before .before .before .before .before .args in acts-as (s .op) 11 (c .before .before .before .before .before .before .before .match .keys7) (s .tape .now) (s .at) (c .before .before .before .before .bar .ensures)
+returns-7 c = let s = c .before .before .before .before .before .before .before .before .before .before .before .args in acts-as (s .op) BAR-BYTE (c .before .before .before .before .before .before .before .match .keys7) (s .tape .now) (s .at) (c .before .before .before .before .bar .ensures)
 
 returns-8 : tie.Need-returns-8
-returns-8 c = let s = c .before .before .before .before .before .before .before .before .before .before .before .args in acts-as (s .op) 12 (c .before .before .before .before .before .before .before .match .keys8) (s .tape .now) (s .at) (c .before .before .before .before .range .ensures)
+returns-8 c = let s = c .before .before .before .before .before .before .before .before .before .before .before .args in acts-as (s .op) RANGE-BYTE (c .before .before .before .before .before .before .before .match .keys8) (s .tape .now) (s .at) (c .before .before .before .before .range .ensures)
 
 returns-9 : tie.Need-returns-9
-returns-9 c = let s = c .before .before .before .before .before .before .before .before .before .before .before .args in acts-as (s .op) 13 (c .before .before .before .before .before .before .before .match .keys9) (s .tape .now) (s .at) (c .before .before .before .before .empty .ensures)
+returns-9 c = let s = c .before .before .before .before .before .before .before .before .before .before .before .args in acts-as (s .op) EMPTY-BYTE (c .before .before .before .before .before .before .before .match .keys9) (s .tape .now) (s .at) (c .before .before .before .before .empty .ensures)
 
 returns-11 : tie.Need-returns-11
 returns-11 c = let s = c .before .before .before .before .before .before .before .before .before .before .args in acts-as (s .op) LAST-COMMAND (last-arm (c .before .before .before .before .before)) (s .tape .now) (s .at) (c .before .before .tally .ensures)
