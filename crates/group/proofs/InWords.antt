@@ -3,18 +3,19 @@ use mathlib.Core.Path.{_≡_, refl, ap, sym, _∙_, subst}
 use mathlib.Core.List.{List}
 use Prim.Native.Nat.{ℕ, _+_, _≤_, _<_}
 use native.Mathlib.Omega.{arith}
-use lib.ListN.{length, getD, set, take, drop}
+use lib.ListN.{length, getD, set, take}
 use lib.Seq.{getD-take, length-take-le}
 use Rattle.model.specs.Numbers.{MAX-GROUP-COUNT, MAX-KINDS}
-use Rattle.words.specs.Offsets.{ENTITIES, GROUP-COUNTS, GROUP-FAMILIES, GROUP-PLACES, LAYOUT, LAYOUT-ARITIES, LAYOUT-ENDS, LAYOUT-KIND-ENDS}
+use Rattle.words.specs.Offsets.{ENTITIES, GROUP-COUNTS, GROUP-FAMILIES, GROUP-PLACES, LAYOUT}
 use Rattle.model.specs.Model.{Family, Storage, groupsOf}
 use Rattle.model.specs.Store.{onStorage, withLayout}
 use Rattle.model.specs.Sound.{In, Distinct, layoutKinds}
 use Rattle.words.specs.Part.{between}
 use Rattle.words.proofs.Part.{length-between, getD-between}
 use Rattle.layout.specs.Layout.{startOf, widthOf, familiesOf, KindSet, WellFormed}
-use Rattle.layout.specs.Group.{InFamily, arityOf, priorOf, priorArity, memberAt}
-use Rattle.layout.specs.Reading.{ReadStart, ReadPrior}
+use Rattle.layout.specs.Group.{InFamily, arityOf, priorArity, memberAt}
+use Rattle.layout.specs.Reading.{wordArrays, ReadMetadata}
+use Rattle.layout.specs.declared.group_metadata.GroupMetadata.{GroupMetadata}
 use Rattle.layout.proofs.KindSets.{set-between}
 use Rattle.layout.proofs.Arrays.{kinds-inside, groups-inside, groups-of, layout-kinds}
 use Rattle.layout.proofs.Groups.{prior-less, arity-inside}
@@ -23,7 +24,7 @@ use Rattle.words.specs.Word.{Word}
 use Rattle.memory.specs.Meaning.{layoutArrays, layoutIn, meaning}
 use Rattle.memory.specs.Arranged.{Arranged, GroupSound, Becomes}
 use Rattle.memory.proofs.Frames.{long, layout-sized}
-use Rattle.memory.proofs.LayoutWords.{kind-word, arity-word, kind-start-word, start-word, end-word, prior-word}
+use Rattle.memory.proofs.LayoutWords.{kind-word, metadata-words}
 use Rattle.memory.proofs.Becomes.{count-becomes, slot-real}
 use Rattle.kinds.proofs.Slot.{slot-known, in-list}
 use Rattle.group.specs.Flat.{Located, located, setCount}
@@ -153,35 +154,13 @@ module _ (w : List ℕ) (A : Arranged w) where
           few = group-rises .2;
         }
 
-    -- the words that were read
-    module _ (fam s h t k p : ℕ) (f-read : Word w (GROUP-FAMILIES + g) fam) (s-read : ReadStart w LAYOUT-KIND-ENDS fam s) (h-read : ReadStart w LAYOUT-ENDS fam h) (t-read : Word w (LAYOUT-ENDS + fam) t) (k-read : Word w (LAYOUT-ARITIES + g) k)
-        (p-read : ReadPrior w LAYOUT-ARITIES h g 0 p) where
-      s-is : s ≡ start
-      s-is = s-read .is ∙ ap (startOf (drop LAYOUT-KIND-ENDS w)) (f-read .is) ∙ sym (kind-start-word w f (omega (arith, family-few)))
-
-      h-is : h ≡ first
-      h-is = h-read .is ∙ ap (startOf (drop LAYOUT-ENDS w)) (f-read .is) ∙ sym (start-word w f (omega (arith, family-few)))
-
-      t-is : t ≡ top
-      t-is = t-read .is ∙ ap (λ (m : ℕ). getD w (LAYOUT-ENDS + m) 0) (f-read .is) ∙ sym (end-word w f (omega (arith, family-few)))
-
-      k-is : k ≡ arity
-      k-is = k-read .is ∙ sym (arity-word w g (omega (arith, group-few)))
-
-      p-is : p ≡ prior
-      p-is = p-read .is ∙ ap (λ (m : ℕ). priorOf (drop LAYOUT-ARITIES w) m g 0) h-is ∙ sym (prior-word w f g (omega (arith, group-few)))
-
-      pub read-small : (s + k ≤ MAX-KINDS) × (p < k)
-      read-small = (
-        omega (arith, s-is, k-is, group-rises .1, order-wide),
-        omega (arith, p-is, k-is, group-rises .0),
-      )
-
-      pub read-describes : Describes (meaning w) g (record { «storage_start» = s; «new_storage_start» = s + p; «storage_end» = s + k; first = h; top = t })
-      read-describes =
-          subst (Describes (meaning w) g)
-          (λ j. record { «storage_start» = sym s-is j; «new_storage_start» = sym s-is j + sym p-is j; «storage_end» = sym s-is j + sym k-is j; first = sym h-is j; top = sym t-is j })
-          described
+    -- the metadata that was read
+    pub read-describes : (fam : ℕ) (d : GroupMetadata) → Word w (GROUP-FAMILIES + g) fam → ReadMetadata (wordArrays w) fam g d → Describes (meaning w) g d
+    read-describes fam d F R =
+        let M = metadata-words w f g d (omega (arith, family-few)) (omega (arith, group-few)) (subst (λ (m : ℕ). ReadMetadata (wordArrays w) m g d) (F .is) R) in
+        subst (Describes (meaning w) g)
+        (λ j. record { «storage_start» = sym (M .start) j; «new_storage_start» = sym (M .new) j; «storage_end» = sym (M .end) j; first = sym (M .first) j; top = sym (M .top) j })
+        described
 
     pub count-words : countAt w g ≡ located (meaning w .storage .layout) g .count
     count-words = sym (ap (λ (l : Located). l .count) located-words)

@@ -12,7 +12,7 @@ use Rattle.model.proofs.KindLists.{in-right}
 use Rattle.model.proofs.BoolLaws.{bool-cases}
 use Rattle.words.specs.Part.{between}
 use Rattle.words.proofs.Part.{between-none, between-split, between-step}
-use Rattle.group.specs.declared.group_metadata.GroupMetadata.{GroupMetadata}
+use Rattle.layout.specs.declared.group_metadata.GroupMetadata.{GroupMetadata}
 use Rattle.group.specs.declared.group_status.GroupStatus.the-variants.{Incomplete, Ungrouped, Grouped}
 use Rattle.group.specs.Flat.{statusAt}
 use Rattle.group.specs.Metadata.{orderOf, PlacesKnown, Stands}

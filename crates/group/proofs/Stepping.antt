@@ -18,7 +18,7 @@ use Rattle.memory.specs.Header.{capacityOf, slotOf}
 use Rattle.memory.specs.Meaning.{meaning}
 use Rattle.memory.specs.Arranged.{Arranged, Becomes}
 use Rattle.kinds.proofs.Slot.{known-slot}
-use Rattle.group.specs.declared.group_metadata.GroupMetadata.{GroupMetadata}
+use Rattle.layout.specs.declared.group_metadata.GroupMetadata.{GroupMetadata}
 use Rattle.group.specs.declared.group_status.GroupStatus.{GroupStatus}
 use Rattle.group.specs.Flat.{located, setCount, statusAt, groupAt, ungroupAt, stepUp, stepDown}
 use Rattle.group.specs.Ready.{Swappable, ReadyIn, ReadyOut}

@@ -8,7 +8,7 @@ use Rattle.model.specs.Run.{Store}
 use Rattle.model.specs.Model.{groupsOf}
 use Rattle.model.specs.Sound.{In, layoutKinds}
 use Rattle.words.specs.Part.{between}
-use Rattle.group.specs.declared.group_metadata.GroupMetadata.{GroupMetadata}
+use Rattle.layout.specs.declared.group_metadata.GroupMetadata.{GroupMetadata}
 use Rattle.group.specs.Flat.{located}
 
 -- the kinds of the layout in force, one family after another: the places of a group's metadata count in it

@@ -1,9 +1,5 @@
 // A group of the layout in force: its place among the layout's kinds, its family's groups, its count (group.rs).
-use layout::starts::prior_of;
-use layout::starts::start_of;
-use words::LAYOUT_ARITIES;
-use words::LAYOUT_ENDS;
-use words::LAYOUT_KIND_ENDS;
+use layout::group_metadata::GroupMetadata;
 ghost use mathlib.Core.Path.{_≡_};
 ghost use Prim.Native.Nat.{_<_};
 ghost use lib.ListN.{length, getD};
@@ -14,35 +10,13 @@ ghost use Rattle.memory.specs.Arranged.{Arranged, Becomes};
 ghost use Rattle.group.specs.Flat.{located, setCount};
 ghost use Rattle.group.specs.Metadata.{orderOf, Describes};
 
-// Say a family is made of two groups, (A, B) and (A, B, C, D). The larger has the kinds A B C D, which are new from C on:
-// storage_start is A's place among the layout's kinds, new_storage_start C's, storage_end the one past D's. The family's groups are
-// numbered from first to top - 1.
-pub struct GroupMetadata {
-    pub storage_start: usize,
-    pub new_storage_start: usize,
-    pub storage_end: usize,
-    pub first: usize,
-    pub top: usize,
-}
-
 pub fn metadata(words: &[u32], g: usize) -> GroupMetadata
     requires { ⌜ Arranged (now words) ⌝ }
     requires { ⌜ g < groupsOf (meaning (now words) .storage .layout) ⌝ }
     ensures { λ r. ⌜ Describes (meaning (now (words .entry))) g r ⌝ }
 {
     let f = words::word(words, words::GROUP_FAMILIES + g);
-    let start = start_of(words, LAYOUT_KIND_ENDS, f);
-    let first = start_of(words, LAYOUT_ENDS, f);
-    let top = words::word(words, LAYOUT_ENDS + f);
-    let arity = words::word(words, LAYOUT_ARITIES + g);
-    let prior = prior_of(words, LAYOUT_ARITIES, first, g, 0);
-    GroupMetadata {
-        storage_start: start,
-        new_storage_start: start + prior,
-        storage_end: start + arity,
-        first,
-        top,
-    }
+    layout::group_metadata::read(words, g, f)
 }
 
 // The kind at a place among the layout's.

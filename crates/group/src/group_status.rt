@@ -1,8 +1,8 @@
 // Whether an entity holds a group's kinds, and whether it is inside the group (group.rs).
-use crate::group_metadata::GroupMetadata;
 use crate::group_metadata::count;
 use crate::group_metadata::kind_at;
 use component::Found;
+use layout::group_metadata::GroupMetadata;
 ghost use mathlib.Core.Path.{_≡_};
 ghost use Prim.Native.Nat.{_<_};
 ghost use Rattle.model.specs.Model.{allHeld, groupsOf};

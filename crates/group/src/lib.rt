@@ -2,7 +2,6 @@
 pub mod group_metadata;
 pub mod group_status;
 
-use crate::group_metadata::GroupMetadata;
 use crate::group_metadata::count;
 use crate::group_metadata::group_count;
 use crate::group_metadata::kind_at;
@@ -10,6 +9,7 @@ use crate::group_metadata::metadata;
 use crate::group_metadata::set_count;
 use crate::group_status::GroupStatus;
 use crate::group_status::status_in;
+use layout::group_metadata::GroupMetadata;
 use masks::group_mask::GroupMask;
 use masks::group_mask::NextBit;
 ghost use mathlib.Core.List.{reverse};

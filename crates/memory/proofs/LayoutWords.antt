@@ -1,5 +1,5 @@
 -- The arrays of the layout in force as the words have them (docs/WORDS.md). Assumes nothing.
-use mathlib.Core.Path.{_≡_, sym, _∙_}
+use mathlib.Core.Path.{_≡_, ap, ap₂, sym, _∙_}
 use mathlib.Core.List.{List}
 use Prim.Native.Nat.{ℕ, _+_, _≤_, _<_}
 use native.Mathlib.Omega.{arith}
@@ -10,6 +10,8 @@ use Rattle.words.specs.Offsets.{ARITIES, BLOCK-LEN, ENDS, ENTITIES, GROUP-COUNT
 use Rattle.words.specs.Part.{between}
 use Rattle.layout.specs.Layout.{startOf}
 use Rattle.layout.specs.Group.{arityOf, priorOf, priorArity}
+use Rattle.layout.specs.Reading.{wordArrays, ReadMetadata}
+use Rattle.layout.specs.declared.group_metadata.GroupMetadata.{GroupMetadata}
 use Rattle.layout.proofs.Arrays.{block-at}
 use Rattle.layout.proofs.Groups.{start-same, prior-same}
 use Rattle.memory.specs.Meaning.{layoutArrays}
@@ -43,3 +45,17 @@ module _ (w : List ℕ) where
   pub prior-count-word : (start g none : ℕ) → g < GROUP-PLACES → priorOf (between GROUP-COUNTS ENTITIES w) start g none ≡ priorOf (drop GROUP-COUNTS w) start g none
   prior-count-word start g none h =
       prior-same (between GROUP-COUNTS ENTITIES w) (drop GROUP-COUNTS w) GROUP-PLACES (λ i l. getD-between GROUP-COUNTS ENTITIES i w 0 (omega arith) ∙ sym (getD-drop GROUP-COUNTS w i 0)) start g none (omega arith)
+
+  -- a group's numbers as they were read
+  pub metadata-words : (f g : ℕ) (r : GroupMetadata) → f < GROUP-PLACES → g < GROUP-PLACES → ReadMetadata (wordArrays w) f g r → ReadMetadata (layoutArrays w) f g r
+  metadata-words f g r hf hg R =
+      let k : startOf (drop LAYOUT-KIND-ENDS w) f ≡ startOf (layoutArrays w .kindEnds) f = sym (kind-start-word f (omega arith)) in
+      let s : startOf (drop LAYOUT-ENDS w) f ≡ startOf (layoutArrays w .ends) f = sym (start-word f (omega arith)) in
+      record {
+        start = R .start ∙ k;
+        new = R .new ∙ ap₂ (λ (x y : ℕ). x + y) k (ap (λ (x : ℕ). priorOf (drop LAYOUT-ARITIES w) x g 0) s ∙ sym (prior-word f g hg));
+        end = R .end ∙ ap₂ (λ (x y : ℕ). x + y) k (getD-drop LAYOUT-ARITIES w g 0 ∙ sym (arity-word g hg));
+        first = R .first ∙ s;
+        top = R .top ∙ getD-drop LAYOUT-ENDS w f 0 ∙ sym (end-word f hf);
+        small = R .small;
+      }

@@ -5,10 +5,10 @@ use mathlib.Core.List.{List}
 use Prim.Native.Nat.{ℕ, _+_, _*_, _/_, _%_, _≤_, _<_}
 use native.Mathlib.Omega.{arith}
 use borrow.Author.Tests.{eqb-true, eq-eqb}
-use lib.ListN.{length, getD, drop}
+use lib.ListN.{length, getD}
 use Rattle.model.specs.Numbers.{MAX-KINDS}
 use Rattle.model.specs.Model.{Entity}
-use Rattle.words.specs.Offsets.{columnStart, COLUMN-KIND, GROUP-COUNTS, LAYOUT-ENDS, ROWS, ENTITIES, GROUP-PLACES, LAYOUT, LAYOUT-ARITIES, LAYOUT-KIND-ENDS}
+use Rattle.words.specs.Offsets.{columnStart, COLUMN-KIND, GROUP-COUNTS, ROWS, ENTITIES, GROUP-PLACES, LAYOUT}
 use Rattle.words.specs.Part.{between}
 use Rattle.model.proofs.BoolLaws.{by-eq}
 use Rattle.words.specs.Decides.{Decides, Each}
@@ -16,43 +16,31 @@ use Rattle.component.specs.Columns.{rowsOf}
 use Rattle.component.specs.Changes.{Lent}
 use Rattle.sound_columns.specs.Rows.{entityIn, keyAt}
 use Rattle.layout.specs.Layout.{startOf}
-use Rattle.layout.specs.Group.{priorOf, priorArity}
-use Rattle.layout.specs.Reading.{ReadStart, ReadPrior}
+use Rattle.layout.specs.Group.{priorOf}
+use Rattle.layout.specs.Reading.{ReadPrior, ReadMetadata}
+use Rattle.layout.specs.declared.group_metadata.GroupMetadata.{GroupMetadata}
 use Rattle.memory.specs.Header.{slotOf, countAt}
 use Rattle.memory.specs.Meaning.{layoutArrays}
-use Rattle.memory.proofs.LayoutWords.{arity-word, kind-start-word, start-word, prior-word, prior-count-word}
-use Rattle.sound_groups.specs.declared.heads.Span.{Span}
+use Rattle.memory.proofs.LayoutWords.{prior-count-word}
 use Rattle.sound_columns.specs.Slots.{headAt, Over}
-use Rattle.sound_groups.specs.Spans.{firstAt, ReadSpan, HeadOk, NewOk, OwnOk, Marked, SeenOk}
+use Rattle.sound_groups.specs.Spans.{firstAt, HeadOk, NewOk, OwnOk, Marked, SeenOk}
 use Rattle.sound_groups.specs.Counts.{SameWord, rowsAt, CountOk, GroupCounted}
 use Rattle.sound_columns.proofs.SlotLaws.{key-word}
 
 -- ---- a group's numbers, as they were read
 
-pub new-moved : (n : ℕ) (w : List ℕ) (g f : ℕ) (p : Span) → ReadSpan w f g p → (b : Bool) → Decides b (Over (p .from) (p .to) (HeadOk n w g (p .first))) → Decides b (NewOk n w f g)
-new-moved n w g f p R b d = rw (R .from, R .to, R .first) at d
+pub new-moved : (n : ℕ) (w : List ℕ) (g f : ℕ) (r : GroupMetadata) → ReadMetadata (layoutArrays w) f g r → (b : Bool)
+    → Decides b (Over (LAYOUT + r .«new_storage_start») (LAYOUT + r .«storage_end») (HeadOk n w g (LAYOUT + r .«storage_start»))) → Decides b (NewOk n w f g)
+new-moved n w g f r R b d = rw (R .new, R .end, R .start) at d
 
-pub span-read : (w : List ℕ) (f g s t p : ℕ) → f < GROUP-PLACES → g < GROUP-PLACES → ReadStart w LAYOUT-ENDS f s → ReadStart w LAYOUT-KIND-ENDS f t → ReadPrior w LAYOUT-ARITIES s g 0 p
-    → ReadSpan w f g (record { start = s; first = LAYOUT + t; from = LAYOUT + t + p; to = LAYOUT + t + getD w (LAYOUT-ARITIES + g) 0 })
-span-read w f g s t p hf hg S T P =
-    let es : s ≡ startOf (layoutArrays w .ends) f = S .is ∙ sym (start-word w f (omega arith)) in
-    let et : t ≡ startOf (layoutArrays w .kindEnds) f = T .is ∙ sym (kind-start-word w f (omega arith)) in
-    let ep : p ≡ priorArity (layoutArrays w) f g = P .is ∙ ap (λ (x : ℕ). priorOf (drop LAYOUT-ARITIES w) x g 0) es ∙ sym (prior-word w f g hg) in
-    record {
-      start = es;
-      first = ap (λ (x : ℕ). LAYOUT + x) et;
-      from = ap₂ (λ (x y : ℕ). LAYOUT + x + y) et ep;
-      to = ap₂ (λ (x y : ℕ). LAYOUT + x + y) et (sym (arity-word w g hg));
-    }
-
-pub count-moved : (n : ℕ) (w : List ℕ) (g f : ℕ) (p : Span) (whole prior : ℕ) → g < GROUP-PLACES → ReadSpan w f g p → length (rowsAt n w (p .first)) ≡ whole
-    → ReadPrior w GROUP-COUNTS (p .start) g whole prior → (b : Bool)
-    → Decides b (CountOk n w (slotOf w (getD w (p .first) 0)) (p .from) (p .to) prior (countAt w g)) → Decides b (GroupCounted n w f g)
-count-moved n w g f p whole prior h R e q b d =
+pub count-moved : (n : ℕ) (w : List ℕ) (g f : ℕ) (r : GroupMetadata) (whole prior : ℕ) → g < GROUP-PLACES → ReadMetadata (layoutArrays w) f g r → length (rowsAt n w (LAYOUT + r .«storage_start»)) ≡ whole
+    → ReadPrior w GROUP-COUNTS (r .first) g whole prior → (b : Bool)
+    → Decides b (CountOk n w (slotOf w (getD w (LAYOUT + r .«storage_start») 0)) (LAYOUT + r .«new_storage_start») (LAYOUT + r .«storage_end») prior (countAt w g)) → Decides b (GroupCounted n w f g)
+count-moved n w g f r whole prior h R e q b d =
     let o : prior ≡ priorOf (between GROUP-COUNTS ENTITIES w) (startOf (layoutArrays w .ends) f) g (length (rowsAt n w (firstAt w f))) =
-    q .is ∙ sym (prior-count-word w (p .start) g whole h)
-    ∙ ap₂ (λ (s x : ℕ). priorOf (between GROUP-COUNTS ENTITIES w) s g x) (R .start) (sym e ∙ ap (λ (i : ℕ). length (rowsAt n w i)) (R .first)) in
-    rw (o, R .from, R .to, R .first) at d
+    q .is ∙ sym (prior-count-word w (r .first) g whole h)
+    ∙ ap₂ (λ (s x : ℕ). priorOf (between GROUP-COUNTS ENTITIES w) s g x) (R .first) (sym e ∙ ap (λ (i : ℕ). length (rowsAt n w (LAYOUT + i))) (R .start)) in
+    rw (o, R .new, R .end, R .start) at d
 
 -- ---- entities and their words
 

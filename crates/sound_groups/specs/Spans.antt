@@ -14,24 +14,16 @@ use Rattle.layout.specs.Group.{InFamily, arityOf, priorArity}
 use Rattle.memory.specs.Header.{layoutFamilies, slotOf, groupFamilyAt}
 use Rattle.memory.specs.Meaning.{layoutArrays}
 use Rattle.sound_columns.specs.Slots.{headAt, Over}
-use Rattle.sound_groups.specs.declared.heads.Span.{Span}
 
 -- the words of family f's first kind, of the first of group g's new kinds, and past the last of them
 abbrev pub firstAt : List ℕ → ℕ → ℕ
 firstAt w f = LAYOUT + startOf (layoutArrays w .kindEnds) f
 
 abbrev pub fromAt : List ℕ → ℕ → ℕ → ℕ
-fromAt w f g = firstAt w f + priorArity (layoutArrays w) f g
+fromAt w f g = LAYOUT + (startOf (layoutArrays w .kindEnds) f + priorArity (layoutArrays w) f g)
 
 abbrev pub toAt : List ℕ → ℕ → ℕ → ℕ
-toAt w f g = firstAt w f + arityOf (layoutArrays w) g
-
--- those read, and the number of the family's smallest group
-pub record ReadSpan (w : List ℕ) (f g : ℕ) (r : Span) : Type 0 where
-  pub start : r .start ≡ startOf (layoutArrays w .ends) f
-  pub first : r .first ≡ firstAt w f
-  pub from : r .from ≡ fromAt w f g
-  pub to : r .to ≡ toAt w f g
+toAt w f g = LAYOUT + (startOf (layoutArrays w .kindEnds) f + arityOf (layoutArrays w) g)
 
 -- the word at j is a kind that has a column
 pub record KindAt (n : ℕ) (w : List ℕ) (j : ℕ) : Type 0 where

@@ -1,5 +1,4 @@
 // The groups' counts: a group's first places hold the same entities in each of its columns, and past them each lacks a kind.
-use crate::heads::span_of;
 use layout::starts::prior_of;
 ghost use Prim.Native.Nat.{_+_, _*_, _<_, _≤_};
 ghost use lib.ListN.{length};
@@ -142,18 +141,18 @@ fn group_counted(words: &[u32], n: usize, families: usize, g: usize, f: usize) -
     requires { ⌜ (g < GROUP-PLACES) × InFamily (layoutArrays (now words)) f g ⌝ }
     ensures { λ r. ⌜ Decides r (GroupCounted n (now (words .entry)) f g) ⌝ }
 {
-    let p = span_of(words, g, f);
-    let first = p.first;
+    let metadata = layout::group_metadata::read(words, g, f);
+    let first = words::LAYOUT + metadata.storage_start;
     let kind = words[first] as usize;
     let h = words[words::TABLE + kind] as usize;
     let whole = component::slots::len_in(words, n, h);
-    let b = prior_of(words, words::GROUP_COUNTS, p.start, g, whole);
+    let b = prior_of(words, words::GROUP_COUNTS, metadata.first, g, whole);
     count_ok(
         words,
         n,
         h,
-        p.from,
-        p.to,
+        words::LAYOUT + metadata.new_storage_start,
+        words::LAYOUT + metadata.storage_end,
         b,
         words[words::GROUP_COUNTS + g] as usize,
     )

@@ -1,5 +1,4 @@
 // The layout in force and the columns' heads: which group is a kind's own, and the kind's place in its family.
-use layout::starts::prior_of;
 use layout::starts::start_of;
 use sound_columns::table::head;
 ghost use mathlib.Core.Path.{_≡_};
@@ -13,7 +12,7 @@ ghost use Rattle.layout.specs.Group.{InFamily};
 ghost use Rattle.memory.specs.Header.{layoutFamilies};
 ghost use Rattle.memory.specs.Meaning.{layoutArrays};
 ghost use Rattle.sound_columns.specs.Slots.{Slot, Room, headAt, Over};
-ghost use Rattle.sound_groups.specs.Spans.{ReadSpan, KindAt, KindsAt, Force, HeadOk, NewOk, HeadsOk, OwnOk, Marked, SeenOk};
+ghost use Rattle.sound_groups.specs.Spans.{KindAt, KindsAt, Force, HeadOk, NewOk, HeadsOk, OwnOk, Marked, SeenOk};
 
 // The head of the column of the kind at word j says its own group and its place in its family.
 fn head_ok(words: &[u32], n: usize, g: usize, first: usize, j: usize) -> bool
@@ -47,39 +46,21 @@ fn span_ok(words: &[u32], n: usize, g: usize, first: usize, from: usize, to: usi
     true
 }
 
-// Where a family's groups start, and the words of its first kind and of a group's new kinds.
-pub struct Span {
-    pub start: usize,
-    pub first: usize,
-    pub from: usize,
-    pub to: usize,
-}
-
-// Those of group g of family f.
-pub fn span_of(words: &[u32], g: usize, f: usize) -> Span
-    requires { ⌜ (ENTITIES ≤ length (now words)) × (g < GROUP-PLACES) × (f < GROUP-PLACES) ⌝ }
-    ensures { λ r. ⌜ ReadSpan (now (words .entry)) f g r ⌝ }
-{
-    let start = start_of(words, words::LAYOUT_ENDS, f);
-    let first = words::LAYOUT + start_of(words, words::LAYOUT_KIND_ENDS, f);
-    let from = first + prior_of(words, words::LAYOUT_ARITIES, start, g, 0);
-    let to = first + words[words::LAYOUT_ARITIES + g] as usize;
-    Span {
-        start,
-        first,
-        from,
-        to,
-    }
-}
-
 // The heads of the new kinds of group g of family f.
 fn new_ok(words: &[u32], n: usize, families: usize, g: usize, f: usize) -> bool
     requires { ⌜ Force n families (now words) ⌝ }
     requires { ⌜ (g < GROUP-PLACES) × InFamily (layoutArrays (now words)) f g ⌝ }
     ensures { λ r. ⌜ Decides r (NewOk n (now (words .entry)) f g) ⌝ }
 {
-    let p = span_of(words, g, f);
-    span_ok(words, n, g, p.first, p.from, p.to)
+    let metadata = layout::group_metadata::read(words, g, f);
+    span_ok(
+        words,
+        n,
+        g,
+        words::LAYOUT + metadata.storage_start,
+        words::LAYOUT + metadata.new_storage_start,
+        words::LAYOUT + metadata.storage_end,
+    )
 }
 
 // Group g is of the family that is said to have it.

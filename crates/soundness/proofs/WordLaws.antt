@@ -47,10 +47,7 @@ module _ (w : List ℕ) (long : ENTITIES ≤ length w) where
           let s = startOf (a .kindEnds) f in
           let p = priorArity a f g in
           let r = arityOf a g in
-          let from : LAYOUT + (s + p) ≡ fromAt w f g = omega arith in
-          let to : LAYOUT + (s + r) ≡ toAt w f g = omega arith in
           between-part p r s (getD (a .kindEnds) f 0) (a .kinds) (arity-inside a good sized f g G) ∙ kinds-part (s + p) (s + r) (arity-wide a good sized f g G)
-          ∙ ap₂ (λ (i j : ℕ). between i j w) from to
 
       to-long : toAt w f g ≤ length w
       to-long = omega (arith, arity-wide a good sized f g G)

@@ -16,7 +16,7 @@ use Rattle.memory.specs.Header.{slotOf, groupFamilyAt}
 use Rattle.memory.specs.Meaning.{ownAt, localAt, layoutArrays, meaning}
 use Rattle.memory.specs.Arranged.{Arranged}
 use Rattle.kinds.proofs.Owned.{Owned, no-group}
-use Rattle.group.specs.declared.group_metadata.GroupMetadata.{GroupMetadata}
+use Rattle.layout.specs.declared.group_metadata.GroupMetadata.{GroupMetadata}
 use Rattle.group.specs.Flat.{Located, located}
 use Rattle.group.specs.Metadata.{orderOf, Describes}
 use Rattle.group.proofs.InWords.{groups-are, order-is, order-length, order-part-once, group-rises, located-words}
