@@ -9,7 +9,7 @@ use lib.Seq.{take-set-le, take-set-lt, drop-set-lt, drop-set-add, getD-set-same,
 use Rattle.model.specs.Numbers.{columnLen}
 use Rattle.model.proofs.BoolLaws.{by-eq}
 use Rattle.words.proofs.Part.{between-rest}
-use Rattle.words.specs.Offsets.{columnStart}
+use Rattle.words.specs.Offsets.{columnStart, ROWS}
 use Rattle.words.proofs.Offsets.{columnStart-mono}
 use Rattle.component.specs.SparseSet.{rows}
 use Rattle.component.proofs.Meaning.{head-sound, head-rows}
@@ -40,13 +40,13 @@ pub record Headed (n m s i v : ℕ) (w w′ : List ℕ) : Type 0 where
   pub front : take (columnStart n 0) w′ ≡ take (columnStart n 0) w
   pub past : drop (columnStart n m) w′ ≡ drop (columnStart n m) w
 
-set-column : (n s i v : ℕ) (w : List ℕ) → i < 8 → columnOf n s (set w (columnStart n s + i) v) ≡ set (columnOf n s w) i v
+set-column : (n s i v : ℕ) (w : List ℕ) → i < ROWS → columnOf n s (set w (columnStart n s + i) v) ≡ set (columnOf n s w) i v
 unfolding columnOf
 set-column n s i v w h =
     let b = columnStart n s in
     ap (take (b + columnLen n - b)) (drop-set-add b w i v) ∙ take-set-lt (b + columnLen n - b) (drop b w) i v (omega arith)
 
-pub headed : (n m s i v : ℕ) (w : List ℕ) → Columns n m w → s < m → 1 ≤ i → i < 8 → Headed n m s i v w (set w (columnStart n s + i) v)
+pub headed : (n m s i v : ℕ) (w : List ℕ) → Columns n m w → s < m → 1 ≤ i → i < ROWS → Headed n m s i v w (set w (columnStart n s + i) v)
 headed n m s i v w c h lo hi =
     let b = columnStart n s in
     let w′ = set w (b + i) v in

@@ -6,7 +6,7 @@ use Prim.Native.Nat.{ℕ, _+_, _≤_, _<_}
 use lib.ListN.{length, getD, take, drop}
 use Rattle.model.specs.Numbers.{MAX-ENTITIES, MAX-KINDS, columnLen}
 use Rattle.model.specs.Model.{Entity, SparseSet, removeRow}
-use Rattle.words.specs.Offsets.{columnStart}
+use Rattle.words.specs.Offsets.{columnStart, ROWS}
 use Rattle.component.specs.SparseSet.{ColumnSound}
 use Rattle.component.specs.Answers.{Gives}
 use Rattle.component.specs.declared.Removed.{Removed}
@@ -21,7 +21,7 @@ pub record Lent (n s : ℕ) (w : List ℕ) : Type 0 where
 
 -- words 1 to 7 of slot s, which are the storage's, are as they were
 abbrev pub HeadKept : ℕ → ℕ → List ℕ → List ℕ → Type 0
-HeadKept n s w w′ = (i : ℕ) → 1 ≤ i → i < 8 → getD (columnOf n s w′) i 0 ≡ getD (columnOf n s w) i 0
+HeadKept n s w w′ = (i : ℕ) → 1 ≤ i → i < ROWS → getD (columnOf n s w′) i 0 ≡ getD (columnOf n s w) i 0
 
 -- slot s's rows have become f of what they were, and nothing else has changed: not its words 1 to 7, not the other slots, not the words
 -- before the columns (header and entities), not the words past them

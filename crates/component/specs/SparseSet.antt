@@ -64,5 +64,3 @@ pub record ColumnSound (n : ℕ) (w : List ℕ) : Type 0 where
   pub size : length w ≡ columnLen n
   pub small : n ≤ MAX-ENTITIES
   pub linked : Linked n (lengthOf w) (indexAt w) (versionAt w) (placeOf n w) (heldOf n w)
-
--- ---- changes

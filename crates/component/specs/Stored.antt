@@ -44,7 +44,7 @@ pub record Changed (n : ℕ) (f : SparseSet → SparseSet) (w w′ : List ℕ) :
   pub sound : ColumnSound n w′
   pub size : length w′ ≡ length w
   pub becomes : rows n w′ ≡ f (rows n w)
-  pub kept : (i : ℕ) → 1 ≤ i → i < 8 → getD w′ i 0 ≡ getD w i 0
+  pub kept : (i : ℕ) → 1 ≤ i → i < ROWS → getD w′ i 0 ≡ getD w i 0
 
 -- the model's swap, on rows
 abbrev pub swapRows : ℕ → ℕ → SparseSet → SparseSet

@@ -63,7 +63,7 @@ pub record ListsOnly (w w′ : List ℕ) : Type 0 where
   pub size : length w′ ≡ length w
   pub limits : (i : ℕ) → i < 3 → getD w′ i 0 ≡ getD w i 0
   pub layouts : (i : ℕ) → 5 ≤ i → i < 9 → getD w′ i 0 ≡ getD w i 0
-  pub told : (i : ℕ) → 10 ≤ i → i < LIST-CAPACITY → getD w′ i 0 ≡ getD w i 0
+  pub told : (i : ℕ) → 10 ≤ i → i < REFUSALS → getD w′ i 0 ≡ getD w i 0
   pub table : (i : ℕ) → TABLE ≤ i → i < STAGED-KINDS → getD w′ i 0 ≡ getD w i 0
   pub blocks : (i : ℕ) → DRAFT ≤ i → i < ENTITIES → getD w′ i 0 ≡ getD w i 0
   pub rest : drop ENTITIES w′ ≡ drop ENTITIES w
@@ -77,7 +77,7 @@ pub drop-stores : (k : ℕ) (w : List ℕ) (ss : List (ℕ × ℕ)) → Below k 
 drop-stores k w [] b = refl
 drop-stores k w (s ∷ ss) b = drop-stores k (set w (s .0) (s .1)) ss (b .1) ∙ drop-set-lt k w (s .0) (s .1) (b .0)
 
-stores-listed : (w : List ℕ) (ss : List (ℕ × ℕ)) → ((i : ℕ) → i < 3 → Misses ss i) → ((i : ℕ) → 5 ≤ i → i < 9 → Misses ss i) → ((i : ℕ) → 10 ≤ i → i < LIST-CAPACITY → Misses ss i) → ((i : ℕ) → TABLE ≤ i → i < STAGED-KINDS → Misses ss i)
+stores-listed : (w : List ℕ) (ss : List (ℕ × ℕ)) → ((i : ℕ) → i < 3 → Misses ss i) → ((i : ℕ) → 5 ≤ i → i < 9 → Misses ss i) → ((i : ℕ) → 10 ≤ i → i < REFUSALS → Misses ss i) → ((i : ℕ) → TABLE ≤ i → i < STAGED-KINDS → Misses ss i)
     → ((i : ℕ) → DRAFT ≤ i → i < ENTITIES → Misses ss i) → Below ENTITIES ss → ListsOnly w (stores w ss)
 stores-listed w ss a b t c d below =
     record {

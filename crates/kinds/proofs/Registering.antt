@@ -94,8 +94,8 @@ module _ (w : List ℕ) (A : Arranged w) (k : ℕ) (hk : k < MAX-KINDS) (room : 
             getD-set-other w₄ REGISTERED i (s + 1) 0 two ∙ getD-set-other w₃ (TABLE + k) i s 0 ne ∙ word-front (columnStart n 0) w w₃ f i (omega arith);
         columns = front-columns n w₃ w₅ d m (z₅ ∙ sym z₃) (h₃ .columns);
         same = λ j h. ap (rows n) (c j) ∙ h₃ .same j h ∙ h₂ .same j h ∙ h₁ .same j h;
-        kind = ap (λ (u : List ℕ). getD u COLUMN-KIND 0) (c s) ∙ h₃ .words 1 (omega arith) ∙ h₂ .words 1 (omega arith) ∙ h₁ .word;
-        own = ap (λ (u : List ℕ). getD u OWN-GROUP 0) (c s) ∙ h₃ .words 2 (omega arith) ∙ h₂ .word;
+        kind = ap (λ (u : List ℕ). getD u COLUMN-KIND 0) (c s) ∙ h₃ .words COLUMN-KIND (omega arith) ∙ h₂ .words COLUMN-KIND (omega arith) ∙ h₁ .word;
+        own = ap (λ (u : List ℕ). getD u OWN-GROUP 0) (c s) ∙ h₃ .words OWN-GROUP (omega arith) ∙ h₂ .word;
         others = λ j h ne. c j ∙ h₃ .others j h ne ∙ h₂ .others j h ne ∙ h₁ .others j h ne;
         past = drop-later (columnStart n 0) (columnStart n m) w₃ w₅ (columnStart-mono n 0 m (omega arith)) d ∙ h₃ .past ∙ h₂ .past ∙ h₁ .past;
       }
@@ -154,11 +154,11 @@ module _ (w w′ : List ℕ) (A : Arranged w) (k : ℕ) (hk : k < MAX-KINDS) (ne
             (λ d.
             let ne₀ : slotOf w j ≢ UNREGISTERED = λ e. ne (slot-other j h d ∙ e) in
             ap (kindAt w′) (slot-other j h d) ∙ head-other (slotOf w j) (T .slot j h ne₀) 1 ∙ T .back j h ne₀);
-        small = λ t h. each-slot (λ (t : ℕ). kindAt w′ t < MAX-KINDS) t h (λ l. rw (head-other t l 1) (T .small t l)) (rw kind-new hk);
+        small = λ t h. each-slot (λ (t : ℕ). kindAt w′ t < MAX-KINDS) t h (λ l. rw (head-other t l COLUMN-KIND) (T .small t l)) (rw kind-new hk);
         own =
             λ t h.
             each-slot (λ (t : ℕ). slotOf w′ (kindAt w′ t) ≡ t) t h
-            (λ l. ap (slotOf w′) (head-other t l 1) ∙ slot-other (kindAt w t) (T .small t l) (kind-ne t l) ∙ T .own t l)
+            (λ l. ap (slotOf w′) (head-other t l COLUMN-KIND) ∙ slot-other (kindAt w t) (T .small t l) (kind-ne t l) ∙ T .own t l)
             (ap (slotOf w′) kind-new ∙ R .slot);
       }
 
@@ -201,8 +201,8 @@ module _ (w w′ : List ℕ) (A : Arranged w) (k : ℕ) (hk : k < MAX-KINDS) (ne
             λ t h.
             each-slot (λ (t : ℕ). 1 ≤ ownAt w′ t → In (take (widthOf (layoutArrays w′)) (layoutArrays w′ .kinds)) (kindAt w′ t)) t h
             (λ l o.
-            let o₀ : 1 ≤ ownAt w t = rw (head-other t l 2) at o in
-            rw (head-other t l 1) (subst (λ (a : Arrays). In (take (widthOf a) (a .kinds)) (kindAt w t)) (sym arrays) (L .none t l o₀)))
+            let o₀ : 1 ≤ ownAt w t = rw (head-other t l OWN-GROUP) at o in
+            rw (head-other t l COLUMN-KIND) (subst (λ (a : Arrays). In (take (widthOf a) (a .kinds)) (kindAt w t)) (sym arrays) (L .none t l o₀)))
             (λ o. absurd (omega (arith, own-new)));
       }
 
@@ -212,7 +212,7 @@ module _ (w w′ : List ℕ) (A : Arranged w) (k : ℕ) (hk : k < MAX-KINDS) (ne
   unfolding kindsIn
   kinds-new =
       ap (λ (c : ℕ). table c (kindAt w′)) (R .count)
-      ∙ table-snoc 0 k (registeredOf w) (kindAt w) (kindAt w′) kind-new (λ t h. head-other t h 1)
+      ∙ table-snoc 0 k (registeredOf w) (kindAt w) (kindAt w′) kind-new (λ t h. head-other t h COLUMN-KIND)
 
   set-new : (j : ℕ) → j < MAX-KINDS → setAt w′ j ≡ setAt w j
   set-new j h =

@@ -9,15 +9,18 @@ use Rattle.model.specs.Model.{Family}
 use Rattle.layout.specs.declared.group_layout.Layout.{Layout}
 use Rattle.layout.specs.Layout.{Arrays, arraysIn, blockArrays, widthOf, groupCount, familiesOf, WellFormed}
 
+-- its arrays
 abbrev pub arraysOf : Layout → Arrays
 arraysOf l = arraysIn (l .kinds) (l .arities) (l .«kind_ends») (l .ends) (l .families)
 
+-- arrays as long as the struct's
 pub record Sized (a : Arrays) : Type 0 where
   pub kinds : length (a .kinds) ≡ MAX-KINDS
   pub arities : length (a .arities) ≡ GROUP-PLACES
   pub kindEnds : length (a .kindEnds) ≡ GROUP-PLACES
   pub ends : length (a .ends) ≡ GROUP-PLACES
 
+-- the families that it means, and those that a block does; neither counts
 abbrev pub meaning : Layout → List Family
 meaning l = familiesOf [] (arraysOf l)
 

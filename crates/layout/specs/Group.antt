@@ -28,5 +28,3 @@ priorArity a f g = priorOf (a .arities) (startOf (a .ends) f) g 0
 -- the kind at place j of family f
 abbrev pub memberAt : Arrays → ℕ → ℕ → ℕ
 memberAt a f j = getD (a .kinds) (startOf (a .kindEnds) f + j) 0
-
--- ---- as they are read from words, which have the numbers from a word on

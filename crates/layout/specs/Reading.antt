@@ -13,6 +13,7 @@ use Rattle.layout.specs.declared.group_metadata.GroupMetadata.{GroupMeta
 abbrev pub newAt : Arrays → ℕ → ℕ → List ℕ
 newAt a f g = between (priorArity a f g) (arityOf a g) (kindsAt a f)
 
+-- where number f starts, and what stands before group g, of the numbers that the words have from `at` on
 pub record ReadStart (w : List ℕ) (at f r : ℕ) : Type 0 where
   pub is : r ≡ startOf (drop at w) f
   pub small : r < 4294967296

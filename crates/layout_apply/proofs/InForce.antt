@@ -265,7 +265,7 @@ module _ (w₀ w₁ : List ℕ) (A : Arranged w₀) (M : StoreSound (meaning w�
 
     kinds-same : kindsIn w ≡ kindsIn w₀
     unfolding kindsIn
-    kinds-same = ap (λ (m : ℕ). table m (kindAt w)) reg ∙ table-same CAPACITY (registeredOf w₀) (kindAt w₀) (kindAt w) kind
+    kinds-same = ap (λ (m : ℕ). table m (kindAt w)) reg ∙ table-same 0 (registeredOf w₀) (kindAt w₀) (kindAt w) kind
 
     set-same : (j : ℕ) → j < MAX-KINDS → setAt w j ≡ setAt w₀ j
     set-same j h =

@@ -102,7 +102,7 @@ number-more w₀ w w′ n f s e A h N S F =
 module _ (w : List ℕ) (A : Arranged w) (w₁ : List ℕ) (C : Copied w BLOCK-LEN w₁) where
   end-at : (f : ℕ) → f < GROUP-PLACES → getD (draftArrays w .ends) f 0 ≡ getD w₁ (LAYOUT-ENDS + f) 0
   end-at f h =
-      let n : 512 + f ≡ DRAFT + (ENDS + f) = omega arith in
+      let n : DRAFT + ENDS + f ≡ DRAFT + (ENDS + f) = omega arith in
       let k : LAYOUT + (ENDS + f) ≡ LAYOUT-ENDS + f = omega arith in
       block-at DRAFT w ENDS BLOCK-LEN f (omega arith) (omega arith) ∙ ap (λ (i : ℕ). getD w i 0) n ∙ sym (C .here (ENDS + f) (omega arith)) ∙ ap (λ (i : ℕ). getD w₁ i 0) k
 

@@ -11,7 +11,7 @@ use lib.Seq.{getD-set-same, getD-set-other, drop-set-lt, ext-getD}
 use Rattle.model.specs.Numbers.{ENTITY-LEN, LIST-CAPACITY, MAX-KINDS, columnLen}
 use Rattle.model.specs.Model.{Entities, SparseSet, Storage, setOf}
 use Rattle.model.specs.Store.{onSet, withEntities, onStorage, withLayout, Settings, Store, wordsNeeded, withEntities, withControl, onStorage, withLayout, onSet}
-use Rattle.words.specs.Offsets.{columnStart, DRAFT-FAMILIES, DRAFT-GROUPS, ENTITIES, EXCLUDED-LEN, GROUP-COUNTS, GROUP-FAMILIES, GROUP-PLACES, LAYOUT, STAGED-KINDS, STAGED-LEN, TABLE, UNREGISTERED}
+use Rattle.words.specs.Offsets.{columnStart, DRAFT-FAMILIES, DRAFT-GROUPS, ENTITIES, EXCLUDED-LEN, GROUP-COUNTS, GROUP-FAMILIES, GROUP-PLACES, LAYOUT, STAGED-KINDS, STAGED-LEN, TABLE, UNREGISTERED, REFUSALS}
 use Rattle.words.proofs.Offsets.{columnStart-mono}
 use Rattle.words.specs.Part.{between}
 use Rattle.words.proofs.Part.{between-rest, length-between, getD-between}
@@ -194,7 +194,7 @@ pub record Static (w w′ : List ℕ) : Type 0 where
   pub size : length w′ ≡ length w
   pub limits : (i : ℕ) → i < 3 → getD w′ i 0 ≡ getD w i 0
   pub force : (i : ℕ) → 7 ≤ i → i < 9 → getD w′ i 0 ≡ getD w i 0
-  pub told : (i : ℕ) → 10 ≤ i → i < LIST-CAPACITY → getD w′ i 0 ≡ getD w i 0
+  pub told : (i : ℕ) → 10 ≤ i → i < REFUSALS → getD w′ i 0 ≡ getD w i 0
   pub table : (i : ℕ) → TABLE ≤ i → i < STAGED-KINDS → getD w′ i 0 ≡ getD w i 0
   pub layout : (i : ℕ) → LAYOUT ≤ i → i < GROUP-COUNTS → getD w′ i 0 ≡ getD w i 0
   pub rest : drop ENTITIES w′ ≡ drop ENTITIES w

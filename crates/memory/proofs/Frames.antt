@@ -6,7 +6,7 @@ use native.Mathlib.Omega.{arith}
 use lib.ListN.{length, getD}
 use Rattle.model.specs.Numbers.{ENTITY-LEN, LIST-CAPACITY}
 use Rattle.model.specs.Store.{Store}
-use Rattle.words.specs.Offsets.{columnStart, BLOCK-LEN, CAPACITY, DRAFT, DRAFT-FAMILIES, DRAFT-GROUPS, ENTITIES, EXCLUDED-KINDS, EXCLUDED-LEN, GROUP-COUNTS, GROUP-FAMILIES, LAYOUT, LAYOUT-FAMILIES, LAYOUT-GROUPS, REFUSALS, REGISTERED, ROWS, STAGED-KINDS, STAGED-LEN, STAGED-VALUES, TABLE}
+use Rattle.words.specs.Offsets.{columnStart, BLOCK-LEN, DRAFT, DRAFT-FAMILIES, DRAFT-GROUPS, ENTITIES, EXCLUDED-KINDS, EXCLUDED-LEN, GROUP-COUNTS, GROUP-FAMILIES, LAYOUT, LAYOUT-FAMILIES, LAYOUT-GROUPS, REFUSALS, REGISTERED, ROWS, STAGED-KINDS, STAGED-LEN, STAGED-VALUES, TABLE}
 use Rattle.words.proofs.Offsets.{columnStart-needed, columnStart-mono}
 use Rattle.words.specs.Part.{between}
 use Rattle.words.proofs.Part.{length-between, between-same}
@@ -58,10 +58,10 @@ module _ (w w′ : List ℕ) (size : length w′ ≡ length w) where
   unfolding excludedIn
   excluded-same few e same =
       ap (λ (n : ℕ). table n (excludedAt w′)) e
-      ∙ table-same CAPACITY (excludedLen w) (excludedAt w) (excludedAt w′) (λ i h. same (EXCLUDED-KINDS + i) (omega arith) (omega arith))
+      ∙ table-same 0 (excludedLen w) (excludedAt w) (excludedAt w′) (λ i h. same (EXCLUDED-KINDS + i) (omega arith) (omega arith))
 
 -- the settings stay if words 0 and 1 do, and words 10 to 15, which are for more of them
-pub settings-kept : (w w′ : List ℕ) → ((i : ℕ) → i < 2 → getD w′ i 0 ≡ getD w i 0) → ((i : ℕ) → 10 ≤ i → i < LIST-CAPACITY → getD w′ i 0 ≡ getD w i 0) → settingsOf w′ ≡ settingsOf w
+pub settings-kept : (w w′ : List ℕ) → ((i : ℕ) → i < 2 → getD w′ i 0 ≡ getD w i 0) → ((i : ℕ) → 10 ≤ i → i < REFUSALS → getD w′ i 0 ≡ getD w i 0) → settingsOf w′ ≡ settingsOf w
 settings-kept w w′ size more = λ j. record { capacity = size 0 (omega arith) j; kindCapacity = size 1 (omega arith) j }
 
 -- the counts stay if words 9 to 31 do

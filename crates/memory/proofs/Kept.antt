@@ -6,7 +6,7 @@ use Prim.Native.Nat.{ℕ, _-_, _≤_, _<_}
 use native.Mathlib.Omega.{arith}
 use lib.ListN.{length, getD, take}
 use Rattle.model.specs.Numbers.{LIST-CAPACITY, MAX-KINDS}
-use Rattle.words.specs.Offsets.{CAPACITY, GROUP-PLACES, ROWS, UNREGISTERED}
+use Rattle.words.specs.Offsets.{GROUP-PLACES, ROWS, UNREGISTERED}
 use Rattle.words.specs.Table.{table}
 use Rattle.words.proofs.Tables.{table-same}
 use Rattle.component.specs.Columns.{columnOf, rowsOf, Columns}
@@ -54,7 +54,7 @@ module _ {w w′ : List ℕ} (A : Arranged w) (K : Kept w w′) where
 
   pub kinds-kept : kindsIn w′ ≡ kindsIn w
   unfolding kindsIn
-  kinds-kept = ap (λ (n : ℕ). table n (kindAt w′)) (K .registered) ∙ table-same CAPACITY (registeredOf w) (kindAt w) (kindAt w′) kind-kept
+  kinds-kept = ap (λ (n : ℕ). table n (kindAt w′)) (K .registered) ∙ table-same 0 (registeredOf w) (kindAt w) (kindAt w′) kind-kept
 
   pub table-kept : TableSound w′
   table-kept =

@@ -19,7 +19,7 @@ use Rattle.words.proofs.Part.{getD-between}
 
 module _ (w : List ℕ) where
   pub kind-word : (i : ℕ) → i < MAX-KINDS → getD (layoutArrays w .kinds) i 0 ≡ getD w (LAYOUT + i) 0
-  kind-word i h = block-at LAYOUT w 0 MAX-KINDS i (omega arith) (omega arith)
+  kind-word i h = block-at LAYOUT w 0 ARITIES i (omega arith) (omega arith)
 
   pub arity-word : (g : ℕ) → g < GROUP-PLACES → arityOf (layoutArrays w) g ≡ getD w (LAYOUT-ARITIES + g) 0
   arity-word g h = block-at LAYOUT w ARITIES KIND-ENDS g (omega arith) (omega arith)

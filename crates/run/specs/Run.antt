@@ -31,5 +31,3 @@ Traced zero t room w w′ = w′ ≡ w
 Traced (suc fuel) [] room w w′ = w′ ≡ w
 Traced (suc fuel) (b ∷ t) room w w′ =
     GoesOn (step b t room (meaning w)) w w′ (commandAt b (take (width b) t)) (λ k a w₁. Traced fuel (drop k (b ∷ t)) (room - length a) w₁ w′)
-
--- ---- a run

@@ -6,7 +6,7 @@ use native.Mathlib.Nat.{sub-zero}
 use native.Mathlib.Omega.{arith}
 use lib.ListN.{length, getD, take}
 use Rattle.model.specs.Numbers.{MAX-KINDS}
-use Rattle.words.specs.Offsets.{ENTITIES, GROUP-FAMILIES, LAYOUT, LAYOUT-FAMILIES}
+use Rattle.words.specs.Offsets.{ENTITIES, GROUP-FAMILIES, LAYOUT, LAYOUT-FAMILIES, ARITIES}
 use Rattle.model.specs.Sound.{In}
 use Rattle.model.proofs.KindLists.{at-in, in-at}
 use Rattle.words.specs.Part.{between}
@@ -29,7 +29,7 @@ module _ (w : List ℕ) (long : ENTITIES ≤ length w) where
   kinds-part x y h =
       let ex : 0 + x ≡ x = omega arith in
       let ey : 0 + y ≡ y = omega arith in
-      between-part x y 0 MAX-KINDS (between LAYOUT GROUP-FAMILIES w) (omega arith) ∙ ap₂ (λ (i j : ℕ). between i j (between LAYOUT GROUP-FAMILIES w)) ex ey ∙ between-part x y LAYOUT GROUP-FAMILIES w (omega arith)
+      between-part x y 0 ARITIES (between LAYOUT GROUP-FAMILIES w) (omega arith) ∙ ap₂ (λ (i j : ℕ). between i j (between LAYOUT GROUP-FAMILIES w)) ex ey ∙ between-part x y LAYOUT GROUP-FAMILIES w (omega arith)
 
   module _ (good : WellFormed (layoutArrays w)) where
     -- the kinds of all families, in order
