@@ -7,7 +7,8 @@ use Rattle.model.specs.Store.{Store, withControl, emptyStaged}
 use Rattle.model.specs.Sound as modelSound
 use Rattle.model.specs.Commands.{Command}
 use Rattle.model.specs.Run.{Outcome, refuses, accepts, does, storeAfter}
-use Rattle.model.proofs.Sound.{Fits, OutSound, does-sound, refused-sound}
+use Rattle.model.proofs.Sound.{does-sound, refused-sound}
+use Rattle.model.specs.Theorems.{Fits, OutSound}
 use Rattle.memory.specs.Meaning.{meaning}
 use Rattle.memory.specs.Arranged.{Sound, Becomes}
 use Rattle.command.specs.Acted.{Written, Acted}

@@ -5,7 +5,8 @@ use Prim.Native.Nat.{ℕ}
 use Rattle.model.specs.Store.{Store, withControl, withDraft, emptyStaged}
 use Rattle.model.specs.Commands.{GROUP}
 use Rattle.model.specs.Run.{does}
-use Rattle.model.proofs.Outcomes.{grouped, group-does}
+use Rattle.model.proofs.Outcomes.{group-does}
+use Rattle.model.specs.Theorems.{grouped}
 use Rattle.layout.specs.declared.group_layout.Answer.{Answer}
 use Rattle.layout.specs.declared.group_layout.Layout.{Layout}
 use Rattle.layout.specs.declared.group_layout.Outcome.{Outcome}

@@ -43,9 +43,9 @@ unfolding fitFrom
 fit-present ks f [] = refl
 fit-present ks f (x ∷ xs) = rw (join-present f (partOf ks x)) (fit-present ks (f + 1) xs)
 
--- the family at hand, by its three tests
-abbrev handPart : Bool → Bool → Bool → Part
-handPart p m w = pickPart p Same (pickPart m (pickPart w Whole Cross) Apart)
+-- what a family is to the new group, by its three tests
+abbrev testedPart : Bool → Bool → Bool → Part
+testedPart p m w = pickPart p Same (pickPart m (pickPart w Whole Cross) Apart)
 
 fit-clash : (ks : List ℕ) (f : ℕ) (fs : List Family) → fitFrom ks f Clash fs ≡ pickFit (present ks fs) Present Clash
 unfolding fitFrom
@@ -53,7 +53,7 @@ fit-clash ks f [] = refl
 fit-clash ks f (x ∷ xs) = go (isGroup ks [] x) (meets ks (kindsOf x)) (within (kindsOf x) ks) (fit-clash ks (f + 1) xs)
   where
     go : (p m w : Bool) → fitFrom ks (f + 1) Clash xs ≡ pickFit (present ks xs) Present Clash
-        → fitFrom ks (f + 1) (joinFit Clash f (handPart p m w)) xs ≡ pickFit (p || present ks xs) Present Clash
+        → fitFrom ks (f + 1) (joinFit Clash f (testedPart p m w)) xs ≡ pickFit (p || present ks xs) Present Clash
     go true m w r = fit-present ks (f + 1) xs
     go false true true r = r
     go false true false r = r
@@ -68,7 +68,7 @@ fit-onto ks f g (x ∷ xs) = go (isGroup ks [] x) (meets ks (kindsOf x)) (within
     clashes = fit-clash ks (f + 1) xs ∙ ap (λ (b : Bool). pickFit (present ks xs) Present (pickFit b (Onto g) Clash)) (sym (eqb·suc-zero (touched ks xs)))
 
     go : (p m w : Bool) → fitFrom ks (f + 1) (Onto g) xs ≡ pickFit (present ks xs) Present (pickFit (eqb (touched ks xs) 0) (Onto g) Clash)
-        → fitFrom ks (f + 1) (joinFit (Onto g) f (handPart p m w)) xs
+        → fitFrom ks (f + 1) (joinFit (Onto g) f (testedPart p m w)) xs
         ≡ pickFit (p || present ks xs) Present (pickFit (eqb (cond m (suc (touched ks xs)) (touched ks xs)) 0) (Onto g) Clash)
     go true m w r = fit-present ks (f + 1) xs
     go false true true r = clashes
@@ -99,7 +99,7 @@ fit-fresh ks f (x ∷ xs) = go (isGroup ks [] x) (meets ks (kindsOf x)) (within 
     one-more false e c d = refl
 
     go : (p m w : Bool) → fitFrom ks (f + 1) Fresh xs ≡ stands ks (f + 1) xs
-        → fitFrom ks (f + 1) (joinFit Fresh f (handPart p m w)) xs
+        → fitFrom ks (f + 1) (joinFit Fresh f (testedPart p m w)) xs
         ≡ pickFit (p || present ks xs) Present
         (pickFit (eqb (cond m (suc t) t) 0) Fresh
         (pickFit (eqb (cond m (suc t) t) 1 && ((not m || w) && covers ks xs)) (Onto (f + cond m 0 (suc (firstTouched ks xs)))) Clash))

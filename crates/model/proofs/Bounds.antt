@@ -15,6 +15,7 @@ use Rattle.model.proofs.SparseSets.{entity-eq, entity-same}
 use Rattle.model.proofs.BoolLaws.{cond-case}
 use Rattle.model.proofs.Numbers.{upTo, length-upTo, in-upTo}
 use Rattle.model.proofs.Ranges.{range-shows}
+use Rattle.model.specs.Theorems.{AllCountsTo, CountsTo}
 
 -- ---- numbers
 
@@ -43,15 +44,6 @@ numbers-few n c E =
 pub holders-few : (g : List ℕ) (sets : List SparseSet) (l : List Entity) → length (holders g sets l) ≤ length l
 holders-few g sets [] = omega arith
 holders-few g sets (e ∷ l) = cond-case (λ (m : List Entity). length m ≤ suc (length l)) (allHeld e g sets) _ _ (λ t. omega (arith, holders-few g sets l)) (λ t. omega (arith, holders-few g sets l))
-
--- a group's count is at most n
-abbrev pub CountsTo : ℕ → Family → Type 0
-CountsTo n [] = Unit {0}
-CountsTo n (r ∷ rs) = (r .count ≤ n) × CountsTo n rs
-
-abbrev pub AllCountsTo : ℕ → List Family → Type 0
-AllCountsTo n [] = Unit {0}
-AllCountsTo n (f ∷ fs) = CountsTo n f × AllCountsTo n fs
 
 module _ (s : Store) (S : StoreSound s) where
   pub live-bounded : length (s .entities .live) ≤ s .settings .capacity

@@ -14,16 +14,9 @@ use Rattle.model.specs.Sound.{cnt, In, key, holders, Limits, Right, Righ
 use Rattle.model.proofs.KindLists.{in-left}
 use Rattle.model.proofs.Held.{holders-fewer}
 use Rattle.model.proofs.Sound.{Bytes, EachStore, run-sound, trail-sound}
+use Rattle.model.specs.Theorems.{Passes}
 
 -- ---- the trail is what the run passes through: a store for each command, the last one the run's
-
-abbrev lastOf : Store → List Store → Store
-lastOf s [] = s
-lastOf s (t ∷ ts) = lastOf t ts
-
-pub record Passes (s : Store) (r : Ran) (ts : List Store) : Type 0 where
-  pub commands : length ts ≡ r .commands
-  pub last : lastOf s ts ≡ r .store
 
 passes-for : (fuel : ℕ) (t : List ℕ) (room : ℕ) (s : Store) → Passes s (runFor fuel t room s) (trailFor fuel t room s)
 unfolding runFor trailFor

@@ -11,16 +11,13 @@ use Rattle.model.specs.Numbers.{MAX-GROUP-ARITY, MAX-GROUP-COUNT}
 use Rattle.model.specs.Lists.{countOf}
 use Rattle.model.proofs.ListLaws.{count-append, count-length-le}
 use Rattle.model.specs.Model.{Group, Family, mem, meets, within, sameSet, without, kindsOf, groupsOf, isGroup, present, touched, covers, newGroup, grown, addsNothing, joins, withGroup}
-use Rattle.model.specs.Adding.{Added, nothing, added, refused, addGroup}
-use Rattle.model.specs.Sound.{Distinct, layoutKinds, Rising, BuildableFamily, BuildableFamilies, Buildable, Uncounted, AllUncounted}
+use Rattle.model.specs.Adding.{addGroup}
+use Rattle.model.specs.Sound.{Distinct, layoutKinds, Rising, BuildableFamily, BuildableFamilies, Uncounted, AllUncounted}
 use Rattle.model.proofs.BoolLaws.{cond-case, and-left, and-right, or-false, or-cases, or-false-right, not-true, and-false-left, not-or, or-right, bool-cases}
 use Rattle.model.proofs.Groups.{In}
 use Rattle.model.proofs.Walk.{Missing, all-missing}
 use Rattle.model.proofs.KindLists.{in-cases, all-in, in-count, out-count, count-in, count-without, distinct-right, in-length, unmet-in, meets-none}
-
-pub record DraftSound (kinds : List ℕ) (fs : List Family) : Type 0 where
-  pub buildable : Buildable kinds fs
-  pub uncounted : AllUncounted fs
+use Rattle.model.specs.Theorems.{AddedSound, DraftSound}
 
 -- ---- lists of kinds
 
@@ -225,11 +222,6 @@ module _ (kinds ks : List ℕ) (fs : List Family) (d : Distinct ks) (known : (k 
       grown-sound (eqb-true (touched ks fs) 1 (and-left (eqb (touched ks fs) 1) (covers ks fs) b)) (and-right (eqb (touched ks fs) 1) (covers ks fs) b) (or-false-right (ltb (length ks) 2) (present ks fs) n))
 
 -- ---- the same of addGroup
-
-abbrev pub AddedSound : List ℕ → Added → Type 0
-AddedSound kinds nothing = Unit {0}
-AddedSound kinds (added fs) = DraftSound kinds fs
-AddedSound kinds (refused n) = Unit {0}
 
 pub addGroup-sound : (kinds ks : List ℕ) (fs : List Family) → Distinct ks → ((k : ℕ) → In ks k → In kinds k) → DraftSound kinds fs → AddedSound kinds (addGroup ks fs)
 unfolding addGroup

@@ -16,7 +16,7 @@ use Rattle.model.specs.Refusals.{firstLine, NoneHolds, beforeLines}
 use Rattle.model.specs.Run.{Outcome, refuses, accepts, does, Step, stops, goes, stepOf, stepIf, step, Ran, halt, more, runFor, run}
 use Rattle.model.proofs.BoolLaws.{cond-case}
 use Rattle.model.proofs.Lines.{none-to, accepted-exact, stop-number}
-use Rattle.model.specs.Theorems.{RunFits}
+use Rattle.model.specs.Theorems.{IfGoes, RunFits, StepFits}
 
 -- ---- answers
 
@@ -64,10 +64,6 @@ answer-positive c s = omega (arith, accepted-length c s)
 
 -- ---- one step
 
-abbrev pub Going : (ℕ → List ℕ → Store → Type 0) → Step → Type 0
-Going Q (stops n) = Unit {0}
-Going Q (goes w a s) = Q w a s
-
 -- a property of a step that goes on, from that of what it does where no line before the command holds
 pub step-case : (P : Step → Type 0) (b : ℕ) (t : List ℕ) (room : ℕ) (s : Store) → ((n : ℕ) → P (stops n)) → (NoneHolds beforeLines (record { byte = b; rest = t; room = room; store = s }) → P (stepOf (suc (width b)) s (does (commandAt b (take (width b) t)) s))) → P (step b t room s)
 unfolding step
@@ -77,22 +73,14 @@ step-case P b t room s f g = go (firstLine beforeLines (record { byte = b; rest 
     go (some n) h = f n
     go none h = h refl
 
--- a step reads the command's bytes, all of which the tape has, and writes the accepted answer or one byte, for which there is room
-pub record StepFits (b : ℕ) (t : List ℕ) (room : ℕ) (s : Store) (w : ℕ) (a : List ℕ) : Type 0 where
-  pub read : w ≡ suc (width b)
-  pub whole : w ≤ suc (length t)
-  pub fits : length a ≤ room
-  pub refused : (n : ℕ) → does (commandAt b (take (width b) t)) s ≡ refuses n → length a ≡ 1
-  pub accepted : (s′ : Store) (x : List ℕ) → does (commandAt b (take (width b) t)) s ≡ accepts s′ x → length a ≡ answerLength (commandAt b (take (width b) t)) s
-
 -- no outcome is both
 pub clash : (o : Outcome) (n : ℕ) (s : Store) (a : List ℕ) → o ≡ refuses n → o ≡ accepts s a → ⊥
 clash o n s a p q = let z : _≡_ {A = ℕ} 0 1 = cc in omega arith
 
-pub step-lengths : (b : ℕ) (t : List ℕ) (room : ℕ) (s : Store) → Going (λ w a s′. StepFits b t room s w a) (step b t room s)
-step-lengths b t room s = step-case (Going (λ w a s′. StepFits b t room s w a)) b t room s (λ n. tt) (λ h. go (does (commandAt b (take (width b) t)) s) refl (h .1 .0) (h .1 .1 .0))
+pub step-lengths : (b : ℕ) (t : List ℕ) (room : ℕ) (s : Store) → IfGoes (λ w a s′. StepFits b t room s w a) (step b t room s)
+step-lengths b t room s = step-case (IfGoes (λ w a s′. StepFits b t room s w a)) b t room s (λ n. tt) (λ h. go (does (commandAt b (take (width b) t)) s) refl (h .1 .0) (h .1 .1 .0))
   where
-    go : (o : Outcome) → does (commandAt b (take (width b) t)) s ≡ o → ltb (length t) (width b) ≡ false → ltb room (answerLength (commandAt b (take (width b) t)) s) ≡ false → Going (λ w a s′. StepFits b t room s w a) (stepOf (suc (width b)) s o)
+    go : (o : Outcome) → does (commandAt b (take (width b) t)) s ≡ o → ltb (length t) (width b) ≡ false → ltb room (answerLength (commandAt b (take (width b) t)) s) ≡ false → IfGoes (λ w a s′. StepFits b t room s w a) (stepOf (suc (width b)) s o)
     go (refuses n) e v w =
         record {
           read = refl;
@@ -118,7 +106,7 @@ run-fits-for zero t room s bytesOf = record { bytes = omega arith; tape = omega 
 run-fits-for (suc fuel) [] room s bytesOf = record { bytes = omega arith; tape = omega arith; commands = omega arith; stop = inl refl; end = λ e. refl }
 run-fits-for (suc fuel) (b ∷ t) room s bytesOf = go (step b t room s) refl (step-lengths b t room s) (λ w r s′ h. run-fits-for fuel (drop w (b ∷ t)) r s′ h)
   where
-    go : (p : Step) → step b t room s ≡ p → Going (λ w a s′. StepFits b t room s w a) p → ((w r : ℕ) (s′ : Store) → length (drop w (b ∷ t)) ≤ fuel → RunFits (drop w (b ∷ t)) r (runFor fuel (drop w (b ∷ t)) r s′)) → RunFits (b ∷ t) room (elim p as (λ p. Ran) [ stops n ↦ halt n s | goes w a s′ ↦ more w a (runFor fuel (drop w (b ∷ t)) (room - length a) s′) ])
+    go : (p : Step) → step b t room s ≡ p → IfGoes (λ w a s′. StepFits b t room s w a) p → ((w r : ℕ) (s′ : Store) → length (drop w (b ∷ t)) ≤ fuel → RunFits (drop w (b ∷ t)) r (runFor fuel (drop w (b ∷ t)) r s′)) → RunFits (b ∷ t) room (elim p as (λ p. Ran) [ stops n ↦ halt n s | goes w a s′ ↦ more w a (runFor fuel (drop w (b ∷ t)) (room - length a) s′) ])
     go (stops n) e h rec = let q = stop-number b t room s n e in record { bytes = omega arith; tape = omega arith; commands = omega arith; stop = inr q; end = λ z. absurd (omega (arith, q .0, z)) }
     go (goes w a s′) e h rec =
         let d : length (drop w (b ∷ t)) ≡ suc (length t) - w = length-drop w (b ∷ t) in

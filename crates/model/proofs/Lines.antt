@@ -4,17 +4,18 @@ use mathlib.Core.Logic.{_↔_}
 use mathlib.Core.Bool.{true}
 use mathlib.Core.Option.{Option, some, none}
 use mathlib.Core.List.{List, [], _∷_, _++_}
-use Prim.Native.Nat.{ℕ, suc, _≤_, _<_}
+use Prim.Native.Nat.{ℕ, suc, _≤_}
 use native.Mathlib.Omega.{arith}
 use borrow.Author.Tests.{lt-ltb, le-ltb}
 use lib.ListN.{take}
-use Rattle.model.specs.Numbers.{MAX-REFUSALS}
+use Rattle.model.specs.Numbers.{KIND, MANY, MAX-REFUSALS, NOROOM, UNKNOWN}
 use Rattle.model.specs.Store.{Store}
 pub use Rattle.model.specs.Refusals.{Unchanged}
 use Rattle.model.specs.Commands.{Command, REG, HOLD, NEW, PUT, TAKE, DROP, KILL, WIPE, GROUP, APPLY, BAR, RANGE, EMPTY, TALLY, Done, accepted, width, commandAt}
 use Rattle.model.specs.Refusals.{Line, firstLine, NoneHolds, First, linesOf, beforeLines}
-use Rattle.model.specs.Run.{Outcome, refuses, accepts, outcome, does, Step, stops, goes, storeAfter, stepOf, stepIf, step}
+use Rattle.model.specs.Run.{Outcome, refuses, accepts, outcome, does, Step, stops, storeAfter, stepOf, stepIf, step}
 use Rattle.model.proofs.BoolLaws.{bool-cases}
+use Rattle.model.specs.Theorems.{RefusedStep}
 
 -- ---- the first line that holds
 
@@ -108,7 +109,7 @@ first-number (l ∷ ls) x a b n h e =
     (λ t. let p : l .number ≡ n = some-eq (rw t at e) in (omega (arith, h .0), omega (arith, h .1)))
     (λ t. first-number ls x a b n (h .2) (rw t at e))
 
-pub lines-numbers : (c : Command) → NumbersIn 7 15 (linesOf c)
+pub lines-numbers : (c : Command) → NumbersIn KIND MANY (linesOf c)
 unfolding linesOf
 lines-numbers (REG k) = omega arith
 lines-numbers (HOLD k v) = omega arith
@@ -126,21 +127,14 @@ lines-numbers EMPTY = tt
 lines-numbers TALLY = tt
 
 -- a command's refusal is one of 7 to 15
-pub refusal-number : (c : Command) (s : Store) (n : ℕ) → does c s ≡ refuses n → (7 ≤ n) × (n ≤ 15)
+pub refusal-number : (c : Command) (s : Store) (n : ℕ) → does c s ≡ refuses n → (KIND ≤ n) × (n ≤ MANY)
 unfolding does
-refusal-number c s n e = first-number (linesOf c) s 7 15 n (lines-numbers c) (outcome-refuses (firstLine (linesOf c) s) (accepted c s) n e)
+refusal-number c s n e = first-number (linesOf c) s KIND MANY n (lines-numbers c) (outcome-refuses (firstLine (linesOf c) s) (accepted c s) n e)
 
 -- ---- what a refused command changes: the refusal count alone, which saturates
 
-pub record Refused (n w : ℕ) (s : Store) (p : Step) : Type 0 where
-  pub after : Store
-  pub step : p ≡ goes w (n ∷ []) after
-  pub same : Unchanged s after
-  pub more : s .control .counts .refusals < MAX-REFUSALS → after .control .counts .refusals ≡ suc (s .control .counts .refusals)
-  pub full : MAX-REFUSALS ≤ s .control .counts .refusals → after .control .counts .refusals ≡ s .control .counts .refusals
-
 -- "7 to 15 in a run write their number as one byte, add to the tally, change no other word, and the run goes on."
-pub refused-step : (w : ℕ) (c : Command) (s : Store) (n : ℕ) → does c s ≡ refuses n → Refused n w s (stepOf w s (does c s))
+pub refused-step : (w : ℕ) (c : Command) (s : Store) (n : ℕ) → does c s ≡ refuses n → RefusedStep n w s (stepOf w s (does c s))
 refused-step w c s n e =
     record {
       after = storeAfter s (refuses n);
@@ -170,7 +164,7 @@ stop-exact b t room s n = (
   (λ f. ap (λ (r : Option ℕ). stepIf r (stepOf (suc (width b)) s (does (commandAt b (take (width b) t)) s))) (first-from beforeLines (record { byte = b; rest = t; room = room; store = s }) n f)),
 )
 
-pub stop-number : (b : ℕ) (t : List ℕ) (room : ℕ) (s : Store) (n : ℕ) → step b t room s ≡ stops n → (4 ≤ n) × (n ≤ 6)
+pub stop-number : (b : ℕ) (t : List ℕ) (room : ℕ) (s : Store) (n : ℕ) → step b t room s ≡ stops n → (UNKNOWN ≤ n) × (n ≤ NOROOM)
 stop-number b t room s n e =
     let f = stop-exact b t room s n .0 e in
-    first-number beforeLines (record { byte = b; rest = t; room = room; store = s }) 4 6 n (omega arith) (first-from beforeLines (record { byte = b; rest = t; room = room; store = s }) n f)
+    first-number beforeLines (record { byte = b; rest = t; room = room; store = s }) UNKNOWN NOROOM n (omega arith) (first-from beforeLines (record { byte = b; rest = t; room = room; store = s }) n f)

@@ -20,8 +20,8 @@ use Rattle.model.proofs.Numbers.{create-ok, create-live}
 use Rattle.model.proofs.Values.{ColsOk, StagedOk, insert-ok, remove-ok, setLayout-ok, clearAll-ok}
 use Rattle.model.proofs.KindLists.{distinct-snoc, in-cases, in-left, mem-append, in-one, known-snoc}
 use Rattle.model.proofs.Shape.{buildable-plain, insert-plain, remove-plain, setLayout-plain, clearAll-plain}
-use Rattle.model.proofs.Draft.{DraftSound}
 use Rattle.model.proofs.Held.{Held, insert-held, remove-held, destroy-held, removed-none, clearAll-held, apply-held, held-right, right-fams, distinct-families, buildable-fresh}
+use Rattle.model.specs.Theorems.{ControlSound, DraftSound}
 
 pub eight0 : Eight 0
 eight0 = lit< tt
@@ -54,13 +54,6 @@ sound-held s S =
       bare = λ k n x. ap (λ (c : SparseSet). cnt x (keys c)) (S .sets .bare k n);
       small = S .kinds .small;
     }
-
--- hand, bar, draft and refusal count
-pub record ControlSound (kinds : List ℕ) (d : Control) : Type 0 where
-  pub staged : StagedSound kinds (d .staged)
-  pub excluded : ExcludedSound kinds (d .excluded)
-  pub draft : DraftSound kinds (d .draft)
-  pub refusals : d .counts .refusals ≤ MAX-REFUSALS
 
 pub control-of : (s : Store) → StoreSound s → ControlSound (s .kinds) (s .control)
 control-of s S = record { staged = S .staged; excluded = S .excluded; draft = record { buildable = S .draft; uncounted = S .uncounted }; refusals = S .refusals }

@@ -7,12 +7,13 @@ use lib.Dec.{leb, ltb}
 use lib.ListN.{length}
 use Rattle.model.specs.Numbers.{AGAIN, DEAD, FULL, HANDFUL, KIND, KINDS, LAST-KIND, LIST-CAPACITY, MAX-GROUP-ARITY, MAX-GROUP-COUNT}
 use Rattle.model.specs.Model.{Entity, mem, isFull, isLive, groupsOf, addsNothing, joins, destroy, insertComponents, remove}
-use Rattle.model.specs.Adding.{Added, nothing, added, refused, addGroup}
-use Rattle.model.specs.Store.{Store, bytesOf, stagedKinds, isKind, withControl, withStorage, withAll, withKinds, withStaged, withExcluded, withDraft, emptyStaged, emptyBoth}
+use Rattle.model.specs.Adding.{addGroup}
+use Rattle.model.specs.Store.{Store, bytesOf, stagedKinds, isKind, withControl, withStorage, withAll, withKinds, withStaged, withExcluded, emptyStaged, emptyBoth}
 use Rattle.model.specs.Commands.{REG, HOLD, NEW, PUT, TAKE, DROP, KILL, WIPE, GROUP, APPLY, BAR, RANGE, EMPTY, TALLY, heldBytes, accepted}
 use Rattle.model.specs.Refusals.{linesOf, unknownKind}
-use Rattle.model.specs.Run.{Outcome, refuses, accepts, does}
+use Rattle.model.specs.Run.{refuses, accepts, does}
 use Rattle.model.proofs.BoolLaws.{bool-cases}
+use Rattle.model.specs.Theorems.{grouped}
 
 module _ (s : Store) where
   -- ---- REG
@@ -136,12 +137,6 @@ module _ (s : Store) where
   tally-does = refl
 
 -- ---- GROUP, by the layout's own addGroup
-
--- the hand's kinds added to the draft, nothing added, or a refusal
-abbrev pub grouped : Store → Added → Outcome
-grouped s nothing = accepts (withControl s (emptyStaged (s .control))) (0 ∷ [])
-grouped s (added fs) = accepts (withControl s (withDraft (emptyStaged (s .control)) fs)) (1 ∷ [])
-grouped s (refused n) = refuses n
 
 pub group-does : (s : Store) → does GROUP s ≡ grouped s (addGroup (stagedKinds s) (s .control .draft))
 unfolding does linesOf accepted addGroup

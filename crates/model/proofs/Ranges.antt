@@ -198,7 +198,7 @@ module _ (s : Store) (S : StoreSound s) (h b : List ℕ) where
 -- ---- a range is found only where 01 says so
 
 -- a group of the family rs that the hand is equal to, and the bar's part; acc are the kinds of the group before
-record InFamily (h b acc : List ℕ) (rs : Family) : Type 0 where
+record FoundInFamily (h b acc : List ℕ) (rs : Family) : Type 0 where
   pub group : ℕ
   pub there : group < length rs
   pub equal : sameSet h (acc ++ kindsOf (take (suc group) rs)) ≡ true
@@ -215,14 +215,14 @@ at-where (b₀ ∷ bs) c r (q ∷ qs) a e p =
     (λ t. inr (omega arith, record { there = omega arith; equal = t }))
     (λ t. absurd (none-found a e (rw t at p)))
 
-in-where : (h b acc : List ℕ) (rs : Family) (a e : ℕ) → rangeIn h b acc rs ≡ found a e → InFamily h b acc rs
+in-where : (h b acc : List ℕ) (rs : Family) (a e : ℕ) → rangeIn h b acc rs ≡ found a e → FoundInFamily h b acc rs
 in-where h b acc [] a e p = absurd (none-found a e p)
 in-where h b acc (r ∷ rs) a e p =
     bool-cases (sameSet h (acc ++ r .newKinds))
     (λ t. record { group = 0; there = omega arith; equal = rw (append-nil (r .newKinds)) t; newKinds = at-where b (r .count) r rs a e (rw t at p) })
     (λ t. further (in-where h b (acc ++ r .newKinds) rs a e (rw t at p)))
   where
-    further : InFamily h b (acc ++ r .newKinds) rs → InFamily h b acc (r ∷ rs)
+    further : FoundInFamily h b (acc ++ r .newKinds) rs → FoundInFamily h b acc (r ∷ rs)
     further f =
         record {
           group = suc (f .group);
@@ -231,23 +231,23 @@ in-where h b acc (r ∷ rs) a e p =
           newKinds = ⊎-elim (λ z. inl z) (λ z. inr (z .0, record { there = omega (arith, z .1 .there); equal = z .1 .equal })) (f .newKinds);
         }
 
-record InLayout (h b : List ℕ) (fs : List Family) : Type 0 where
+record FoundInLayout (h b : List ℕ) (fs : List Family) : Type 0 where
   pub family : ℕ
-  pub inside : InFamily h b [] (getD fs family [])
+  pub inside : FoundInFamily h b [] (getD fs family [])
 
 else-where : (P : Type 0) (p q : Range) → ((a e : ℕ) → p ≡ found a e → P) → ((a e : ℕ) → q ≡ found a e → P) → (a e : ℕ) → firstRange p q ≡ found a e → P
 else-where P none q f g a e x = g a e x
 else-where P (found c d) q f g a e x = f c d refl
 
-all-where : (h b : List ℕ) (fs : List Family) (a e : ℕ) → rangeAll h b fs ≡ found a e → InLayout h b fs
+all-where : (h b : List ℕ) (fs : List Family) (a e : ℕ) → rangeAll h b fs ≡ found a e → FoundInLayout h b fs
 all-where h b [] a e p = absurd (none-found a e p)
 all-where h b (f ∷ fs) a e p =
-    else-where (InLayout h b (f ∷ fs)) (rangeIn h b [] f) (rangeAll h b fs)
+    else-where (FoundInLayout h b (f ∷ fs)) (rangeIn h b [] f) (rangeAll h b fs)
     (λ c d x. record { family = 0; inside = in-where h b [] f c d x })
     (λ c d x. let r = all-where h b fs c d x in record { family = suc (r .family); inside = r .inside })
     a e p
 
-layout-shows : (h b : List ℕ) (fs : List Family) → InLayout h b fs → Shows h b fs
+layout-shows : (h b : List ℕ) (fs : List Family) → FoundInLayout h b fs → Shows h b fs
 layout-shows h b fs x =
     let g : EqualGroup h fs = record { family = x .family; group = x .inside .group; there = x .inside .there; equal = x .inside .equal } in
     ⊎-elim (λ z. aGroup z g) (λ z. twoGroups (z .0) g (z .1)) (x .inside .newKinds)

@@ -18,8 +18,8 @@ use Rattle.model.specs.Run.{Outcome, refuses, accepts, does, Step, stops
 use Rattle.model.specs.History.{retires, retiredFor, retired}
 use Rattle.model.proofs.BoolLaws.{cond-case, bool-cases}
 use Rattle.model.proofs.Lines.{accepted-exact}
-use Rattle.model.proofs.Lengths.{Going, step-case, clash}
-use Rattle.model.specs.Theorems.{Balanced}
+use Rattle.model.proofs.Lengths.{step-case, clash}
+use Rattle.model.specs.Theorems.{Balanced, IfGoes}
 
 -- ---- creation and destruction
 
@@ -83,10 +83,10 @@ refused-retires TALLY s f = refl
 
 -- ---- steps and runs
 
-step-balanced : (b : ℕ) (t : List ℕ) (room : ℕ) (s : Store) (r : ℕ) → Balanced (s .entities) r → Going (λ w a s′. Balanced (s′ .entities) (r + retires (commandAt b (take (width b) t)) s)) (step b t room s)
-step-balanced b t room s r h = step-case (Going (λ w a s′. Balanced (s′ .entities) (r + retires (commandAt b (take (width b) t)) s))) b t room s (λ n. tt) (λ q. go (does (commandAt b (take (width b) t)) s) refl)
+step-balanced : (b : ℕ) (t : List ℕ) (room : ℕ) (s : Store) (r : ℕ) → Balanced (s .entities) r → IfGoes (λ w a s′. Balanced (s′ .entities) (r + retires (commandAt b (take (width b) t)) s)) (step b t room s)
+step-balanced b t room s r h = step-case (IfGoes (λ w a s′. Balanced (s′ .entities) (r + retires (commandAt b (take (width b) t)) s))) b t room s (λ n. tt) (λ q. go (does (commandAt b (take (width b) t)) s) refl)
   where
-    go : (o : Outcome) → does (commandAt b (take (width b) t)) s ≡ o → Going (λ w a s′. Balanced (s′ .entities) (r + retires (commandAt b (take (width b) t)) s)) (stepOf (suc (width b)) s o)
+    go : (o : Outcome) → does (commandAt b (take (width b) t)) s ≡ o → IfGoes (λ w a s′. Balanced (s′ .entities) (r + retires (commandAt b (take (width b) t)) s)) (stepOf (suc (width b)) s o)
     go (refuses n) e = rw (refused-retires (commandAt b (take (width b) t)) s (λ nh. clash (does (commandAt b (take (width b) t)) s) n ((accepted (commandAt b (take (width b) t)) s) .store) ((accepted (commandAt b (take (width b) t)) s) .answer) e (accepted-exact (commandAt b (take (width b) t)) s _ _ .1 (nh, refl, refl)))) (kept (s .entities) r h)
     go (accepts s′ a) e =
         let x = accepted-exact (commandAt b (take (width b) t)) s s′ a .0 e in
@@ -101,7 +101,7 @@ run-balanced-for (suc fuel) (b ∷ t) room s r h = go (step b t room s) (step-ba
     k : ℕ
     k = retires (commandAt b (take (width b) t)) s
 
-    go : (p : Step) → Going (λ w a s′. Balanced (s′ .entities) (r + k)) p → ((w m : ℕ) (s′ : Store) (q : ℕ) → Balanced (s′ .entities) q → Balanced ((runFor fuel (drop w (b ∷ t)) m s′) .store .entities) (q + retiredFor fuel (drop w (b ∷ t)) m s′)) → Balanced ((elim p as (λ p. Ran) [ stops n ↦ halt n s | goes w a s′ ↦ more w a (runFor fuel (drop w (b ∷ t)) (room - length a) s′) ]) .store .entities) (r + elim p as (λ p. ℕ) [ stops n ↦ 0 | goes w a s′ ↦ k + retiredFor fuel (drop w (b ∷ t)) (room - length a) s′ ])
+    go : (p : Step) → IfGoes (λ w a s′. Balanced (s′ .entities) (r + k)) p → ((w m : ℕ) (s′ : Store) (q : ℕ) → Balanced (s′ .entities) q → Balanced ((runFor fuel (drop w (b ∷ t)) m s′) .store .entities) (q + retiredFor fuel (drop w (b ∷ t)) m s′)) → Balanced ((elim p as (λ p. Ran) [ stops n ↦ halt n s | goes w a s′ ↦ more w a (runFor fuel (drop w (b ∷ t)) (room - length a) s′) ]) .store .entities) (r + elim p as (λ p. ℕ) [ stops n ↦ 0 | goes w a s′ ↦ k + retiredFor fuel (drop w (b ∷ t)) (room - length a) s′ ])
     go (stops n) g rec = kept (s .entities) r h
     go (goes w a s′) g rec = omega (arith, rec w (room - length a) s′ (r + k) g)
 

@@ -18,29 +18,12 @@ use Rattle.model.specs.Refusals.{firstLine, linesOf, beforeLines, NoneHo
 use Rattle.model.specs.Run.{Outcome, refuses, accepts, does, Step, stops, goes, stepOf, stepIf, step, Ran, halt, more, runFor, run}
 use Rattle.model.specs.History.{trailFor, trail}
 pub use Rattle.model.specs.History.{EachStore}
-use Rattle.model.specs.Sound.{Eight, Limits, StoreSound}
+use Rattle.model.specs.Sound.{Limits, StoreSound}
 use Rattle.model.proofs.BoolLaws.{cond-case, or-false-right, not-and, not-not}
-use Rattle.model.proofs.Draft.{DraftSound, withGroup-sound}
+use Rattle.model.proofs.Draft.{withGroup-sound}
 use Rattle.model.proofs.Operations.{control-of, control-sound, register-sound, create-sound, create-is-live, insert-sound, remove-sound, kill-sound, clearAll-sound, setLayout-sound, stage-sound, exclude-sound, draft-sound, emptyStaged-sound, emptyBoth-sound, counted-sound, no-draft, empty-sound}
 use Rattle.model.proofs.Lines.{none-to, outcome-case}
-
--- ---- a command's operands are of their widths: a value is of eight bytes
-
-abbrev pub Fits : Command → Type 0
-Fits (REG k) = Unit {0}
-Fits (HOLD k v) = Eight v
-Fits NEW = Unit {0}
-Fits (PUT e) = Unit {0}
-Fits (TAKE e) = Unit {0}
-Fits (DROP e) = Unit {0}
-Fits (KILL e) = Unit {0}
-Fits WIPE = Unit {0}
-Fits GROUP = Unit {0}
-Fits APPLY = Unit {0}
-Fits (BAR k) = Unit {0}
-Fits RANGE = Unit {0}
-Fits EMPTY = Unit {0}
-Fits TALLY = Unit {0}
+use Rattle.model.specs.Theorems.{DraftSound, Fits, OutSound}
 
 -- ---- accepted commands
 
@@ -83,10 +66,6 @@ accepted-sound (BAR k) s f S n = control-sound s S _ (exclude-sound (s .kinds) (
 accepted-sound RANGE s f S n = both-emptied s S
 accepted-sound EMPTY s f S n = both-emptied s S
 accepted-sound TALLY s f S n = S
-
-abbrev pub OutSound : Outcome → Type 0
-OutSound (refuses n) = Unit {0}
-OutSound (accepts s a) = StoreSound s
 
 -- every command keeps a sound store sound
 pub does-sound : (c : Command) (s : Store) → Fits c → StoreSound s → OutSound (does c s)

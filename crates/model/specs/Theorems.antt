@@ -1,28 +1,127 @@
--- What the theorems on runs and entries say. Assumes nothing.
+-- What the theorems on commands, runs and entries say. Assumes nothing.
 use mathlib.Core.Path.{_≡_}
 use mathlib.Core.Logic.{_⊎_}
-use mathlib.Core.List.{List}
-use Prim.Native.Nat.{ℕ, _≤_, _+_, _-_, _*_}
-use lib.ListN.{length, take}
-use Rattle.model.specs.Run.{Ran}
-use Rattle.model.specs.Model.{Entities, setOf}
 use mathlib.Core.Bool.{Bool, true}
-use Rattle.model.specs.Numbers.{LAST-KIND}
-use Rattle.model.specs.Store.{Store, empty, wordsNeeded, isKind}
+use mathlib.Core.List.{List, [], _∷_}
+use Prim.Native.Nat.{ℕ, suc, _≤_, _<_, _+_, _-_, _*_}
+use lib.ListN.{length, take}
+use Rattle.model.specs.Numbers.{LAST-KIND, MAX-REFUSALS, NOROOM, UNKNOWN}
+use Rattle.model.specs.Model.{Family, Entities, setOf}
+use Rattle.model.specs.Adding.{Added, nothing, added, refused}
+use Rattle.model.specs.Store.{Control, Store, empty, wordsNeeded, isKind, withControl, withDraft, emptyStaged}
+use Rattle.model.specs.Commands.{Command, REG, HOLD, NEW, PUT, TAKE, DROP, KILL, WIPE, GROUP, APPLY, BAR, RANGE, EMPTY, TALLY, width, commandAt, answerLength}
+use Rattle.model.specs.Refusals.{Unchanged}
+use Rattle.model.specs.Run.{Outcome, refuses, accepts, does, Step, stops, goes, Ran}
 use Rattle.model.specs.Entries.{partWords, column}
-use Rattle.model.specs.Sound.{Limits, StoreSound}
+use Rattle.model.specs.Sound.{Eight, Limits, Buildable, AllUncounted, StagedSound, ExcludedSound, StoreSound}
+
+-- ---- parts of a sound store
+
+-- a draft that commands can build
+pub record DraftSound (kinds : List ℕ) (fs : List Family) : Type 0 where
+  pub buildable : Buildable kinds fs
+  pub uncounted : AllUncounted fs
+
+-- staged and excluded list, draft and refusal count
+pub record ControlSound (kinds : List ℕ) (d : Control) : Type 0 where
+  pub staged : StagedSound kinds (d .staged)
+  pub excluded : ExcludedSound kinds (d .excluded)
+  pub draft : DraftSound kinds (d .draft)
+  pub refusals : d .counts .refusals ≤ MAX-REFUSALS
+
+-- each group's count is at most n
+abbrev pub CountsTo : ℕ → Family → Type 0
+CountsTo n [] = Unit {0}
+CountsTo n (r ∷ rs) = (r .count ≤ n) × CountsTo n rs
+
+abbrev pub AllCountsTo : ℕ → List Family → Type 0
+AllCountsTo n [] = Unit {0}
+AllCountsTo n (f ∷ fs) = CountsTo n f × AllCountsTo n fs
+
+-- ---- one command
+
+-- its operands are of their widths: a value is of eight bytes
+abbrev pub Fits : Command → Type 0
+Fits (REG k) = Unit {0}
+Fits (HOLD k v) = Eight v
+Fits NEW = Unit {0}
+Fits (PUT e) = Unit {0}
+Fits (TAKE e) = Unit {0}
+Fits (DROP e) = Unit {0}
+Fits (KILL e) = Unit {0}
+Fits WIPE = Unit {0}
+Fits GROUP = Unit {0}
+Fits APPLY = Unit {0}
+Fits (BAR k) = Unit {0}
+Fits RANGE = Unit {0}
+Fits EMPTY = Unit {0}
+Fits TALLY = Unit {0}
+
+-- what an accepted one leaves is sound
+abbrev pub OutSound : Outcome → Type 0
+OutSound (refuses n) = Unit {0}
+OutSound (accepts s a) = StoreSound s
+
+-- what adding a group leaves is a draft that commands can build
+abbrev pub AddedSound : List ℕ → Added → Type 0
+AddedSound kinds nothing = Unit {0}
+AddedSound kinds (added fs) = DraftSound kinds fs
+AddedSound kinds (refused n) = Unit {0}
+
+-- GROUP by the layout's own addGroup: the staged kinds added to the draft, nothing added, or a refusal
+abbrev pub grouped : Store → Added → Outcome
+grouped s nothing = accepts (withControl s (emptyStaged (s .control))) (0 ∷ [])
+grouped s (added fs) = accepts (withControl s (withDraft (emptyStaged (s .control)) fs)) (1 ∷ [])
+grouped s (refused n) = refuses n
+
+-- ---- one step
+
+-- "7 to 15 in a run write their number as one byte, add to the tally, change no other word, and the run goes on": the refusal count alone is changed,
+-- "that stays at 4,294,967,295"
+pub record RefusedStep (n w : ℕ) (s : Store) (p : Step) : Type 0 where
+  pub after : Store
+  pub step : p ≡ goes w (n ∷ []) after
+  pub same : Unchanged s after
+  pub more : s .control .counts .refusals < MAX-REFUSALS → after .control .counts .refusals ≡ suc (s .control .counts .refusals)
+  pub full : MAX-REFUSALS ≤ s .control .counts .refusals → after .control .counts .refusals ≡ s .control .counts .refusals
+
+-- Q of a step that does not stop the run
+abbrev pub IfGoes : (ℕ → List ℕ → Store → Type 0) → Step → Type 0
+IfGoes Q (stops n) = Unit {0}
+IfGoes Q (goes w a s) = Q w a s
+
+-- a step reads the command's bytes, all of which the tape has, and writes the accepted answer or one byte, for which there is room
+pub record StepFits (b : ℕ) (t : List ℕ) (room : ℕ) (s : Store) (w : ℕ) (a : List ℕ) : Type 0 where
+  pub read : w ≡ suc (width b)
+  pub whole : w ≤ suc (length t)
+  pub fits : length a ≤ room
+  pub refused : (n : ℕ) → does (commandAt b (take (width b) t)) s ≡ refuses n → length a ≡ 1
+  pub accepted : (s′ : Store) (x : List ℕ) → does (commandAt b (take (width b) t)) s ≡ accepts s′ x → length a ≡ answerLength (commandAt b (take (width b) t)) s
+
+-- ---- a run
+
+-- the stores after each command: one for each, the last one the run's
+abbrev pub lastOf : Store → List Store → Store
+lastOf s [] = s
+lastOf s (t ∷ ts) = lastOf t ts
+
+pub record Passes (s : Store) (r : Ran) (ts : List Store) : Type 0 where
+  pub commands : length ts ≡ r .commands
+  pub last : lastOf s ts ≡ r .store
 
 -- it writes no more than its room, reads no more than the tape, and stops with 0 only where it has read all of it
 pub record RunFits (t : List ℕ) (room : ℕ) (r : Ran) : Type 0 where
   pub bytes : length (r .bytes) ≤ room
   pub tape : r .read ≤ length t
   pub commands : r .commands ≤ r .read
-  pub stop : (r .stop ≡ 0) ⊎ ((4 ≤ r .stop) × (r .stop ≤ 6))
+  pub stop : (r .stop ≡ 0) ⊎ ((UNKNOWN ≤ r .stop) × (r .stop ≤ NOROOM))
   pub end : r .stop ≡ 0 → r .read ≡ length t
 
 -- the numbers issued are live, waiting, or among the r retired
 abbrev pub Balanced : Entities → ℕ → Type 0
 Balanced c r = c .issued ≡ length (c .live) + length (c .recycled) + r
+
+-- ---- entries
 
 -- the same of both: number, count and what was written; bytes that were equal stay equal
 pub record SameEmitted (o p o′ p′ : List ℕ) (n k m j : ℕ) : Type 0 where

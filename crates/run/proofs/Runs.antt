@@ -8,7 +8,8 @@ use lib.ListN.{length, getD, take, drop, length-drop, drop-of-length-le, take-ap
 use lib.Seq.{sets, length-sets, drop-drop, length-take-le}
 use Rattle.model.specs.Store.{Store}
 use Rattle.model.specs.Run.{Step, stops, goes, step, Ran, halt, more, runFor, run}
-use Rattle.model.proofs.Lengths.{StepFits as Lengths, step-lengths}
+use Rattle.model.specs.Theorems.{StepFits}
+use Rattle.model.proofs.Lengths.{step-lengths}
 use Rattle.model.proofs.ListLaws.{take-sets, drop-sets, drop-step}
 use Rattle.memory.specs.Meaning.{meaning}
 use Rattle.memory.specs.Arranged.{Sound, Becomes}
@@ -75,7 +76,7 @@ was-stopped at p n (goes k l s) e = let z : _≡_ {A = ℕ} 0 1 = cc in absurd (
 -- a command reads at least its byte, and no more than is there
 step-size : (s : Store) (t : List ℕ) (at room k : ℕ) (a : List ℕ) (s′ : Store) → at < length t → stepAt s t at room ≡ goes k a s′ → (0 < k) × (at + k ≤ length t)
 step-size s t at room k a s′ h e =
-    let z : Lengths (getD t at 0) (drop (at + 1) t) room s k a = rw e at (step-lengths (getD t at 0) (drop (at + 1) t) room s) in
+    let z : StepFits (getD t at 0) (drop (at + 1) t) room s k a = rw e at (step-lengths (getD t at 0) (drop (at + 1) t) room s) in
     (omega (arith, z .read), omega (arith, z .whole, length-drop (at + 1) t))
 
 step-kept : (s : Store) (t : List ℕ) (at room k : ℕ) (a : List ℕ) (s′ : Store) → stepAt s t at room ≡ goes k a s′ → SameSettings s s′

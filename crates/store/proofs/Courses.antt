@@ -15,7 +15,7 @@ use Rattle.model.proofs.Sound.{bytes-drop, step-sound}
 use Rattle.memory.specs.Meaning.{meaning, withRefusal}
 use Rattle.memory.specs.Arranged.{Sound}
 use Rattle.run.specs.Run.{Leaves, GoesOn, Traced}
-use Rattle.store.specs.Course.{commandOn, Course, ended, stopped, refused, done}
+use Rattle.store.specs.Course.{commandOn, Course, CourseOf, ended, stopped, refused, done}
 
 -- ---- a step that goes on: which line refused its command, or that none did
 
@@ -48,9 +48,6 @@ step-goes b t room s k a s′ e = lines (firstLine beforeLines (record { byte = 
     lines none p q = record { passed = none-to beforeLines (record { byte = b; rest = t; room = room; store = s }) p; by = outcome (does (commandOn b t) s) refl q }
 
 -- ---- the course of a run
-
-abbrev pub CourseOf : List ℕ → List ℕ → ℕ → List ℕ → Ran → Type 0
-CourseOf w t room w′ x = Course w t room w′ (x .stop) (x .commands) (x .read) (x .bytes)
 
 -- what the rest of the run is asked for
 abbrev Rest : ℕ → List ℕ → Type 0

@@ -8,7 +8,7 @@ use Prim.Native.Nat.{ℕ, _+_, _*_, _≤_}
 use native.Mathlib.Omega.{arith}
 use lib.ListN.{length, take, drop, length-map}
 use denote.Ref.{RefT}
-use Rattle.model.specs.Numbers.{LAST-KIND}
+use Rattle.model.specs.Numbers.{BEYOND, KIND, LAST-KIND, NOROOM}
 use Rattle.model.specs.Model.{found, rangeFor, setOf, entityOf}
 use Rattle.model.specs.Store.{Store, empty}
 use Rattle.model.specs.Refusals.{numberOf, startLines, rollLines, columnLines}
@@ -32,7 +32,7 @@ use Rattle.run.specs.declared.Ran.{Ran}
 use Rattle.snapshot.proofs.Rolled.{roll-fits}
 use Rattle.store.specs.declared.Rolled.{Rolled}
 use Rattle.store.specs.Entries.{startNumber, StartLeaves, Starts, columnRefused, ColumnNumbered, columnWords, partPlace, ColumnPart, ranOf, RunLeaves, Runs, Rolls}
-use Rattle.store.specs.Course.{Course, ended, stopped, refused, done, AfterEach, Reached, started, ran}
+use Rattle.store.specs.Course.{Course, ended, stopped, refused, done, AfterEach, Reached, started, ran, retiredIn}
 use Rattle.store.proofs.Starting.{start-number}
 use Rattle.store.proofs.Tables.{tabled, judged, start-tabled}
 use Rattle.store.specs.Theorems.{Tabled, Judged, GroupsHold}
@@ -50,12 +50,12 @@ start-refusals n k w w′ r S = tabled startLines (record { capacity = n; kindCa
 
 pub column-refusals : (w : List ℕ) (k a e r : ℕ) → ColumnNumbered w k a e r → Judged w columnLines (record { kind = k; start = a; end = e; store = meaning w }) r
 unfolding columnRefusal
-column-refusals w k a e r C = judged w columnLines (record { kind = k; start = a; end = e; store = meaning w }) r (C .sound) 7 16 (omega arith) (omega arith) (C .decides) (C .number)
+column-refusals w k a e r C = judged w columnLines (record { kind = k; start = a; end = e; store = meaning w }) r (C .sound) KIND BEYOND (omega arith) (omega arith) (C .decides) (C .number)
 
 pub roll-refusals : (w o o′ : List ℕ) (r : Rolled) → Rolls w o o′ r → Judged w rollLines (record { room = length o; store = meaning w }) (r .number)
 unfolding roll
 roll-refusals w o o′ r R =
-    over-refusals rollLines (record { room = length o; store = meaning w }) (snapshot (meaning w)) 6 6 (omega arith) w o o′ (r .number) (r .written) (omega arith) R
+    over-refusals rollLines (record { room = length o; store = meaning w }) (snapshot (meaning w)) NOROOM NOROOM (omega arith) w o o′ (r .number) (r .written) (omega arith) R
 
 pub run-unsound : (w w′ t o o′ : List ℕ) (r : Ran) → Runs w w′ t o o′ r → (r .stop ≡ 3) ↔ (Sound w → ⊥)
 run-unsound w w′ t o o′ r R = go (R .sound) (R .decides) (R .answered .stop)
@@ -176,7 +176,7 @@ groups-reached {w} c = sound-groups w (reached-sound c)
 pub rolled-snapshot : (w o o′ : List ℕ) (r : Rolled) → Rolls w o o′ r → r .number ≡ 0 → Sound w × (take (r .written) o′ ≡ snapshot (meaning w))
 unfolding roll
 rolled-snapshot w o o′ r R z =
-    let a = over-written rollLines (record { room = length o; store = meaning w }) (snapshot (meaning w)) 6 6 (omega arith) w o o′ (r .number) (r .written) (omega arith) R z in
+    let a = over-written rollLines (record { room = length o; store = meaning w }) (snapshot (meaning w)) NOROOM NOROOM (omega arith) w o o′ (r .number) (r .written) (omega arith) R z in
     (a .0, a .2)
 
 pub rolls-equal : (w v o p o′ p′ : List ℕ) (r q : Rolled) → Rolls w o o′ r → Rolls v p p′ q → r .number ≡ 0 → q .number ≡ 0 → (take (r .written) o′ ≡ take (q .written) p′) ↔ Same (meaning w) (meaning v)
@@ -208,10 +208,6 @@ range-shown v r h b k a e S i known f P =
     go true d p t = p ∙ column-accepted false k a e (meaning (v .now)) t .words
 
 -- ---- "From an empty store, numbers issued = live + waiting + retired; retired counts past destructions at the last version": after any runs
-
-abbrev pub retiredIn : {w : List ℕ} → Reached w → ℕ
-retiredIn (started S) = 0
-retiredIn (ran {w} {w′} {t} {o} c R) = retiredIn c + retired t (length o) (meaning w)
 
 pub issued-reached : {w : List ℕ} (c : Reached w) → Balanced (meaning w .entities) (retiredIn c)
 unfolding empty

@@ -5,6 +5,8 @@ use Prim.Native.Nat.{ℕ, suc, _+_, _-_}
 use lib.ListN.{length, take, drop}
 use Rattle.model.specs.Commands.{Command, width, commandAt, accepted}
 use Rattle.model.specs.Refusals.{NoneHolds, First, BeforeCommand, beforeLines, linesOf}
+use Rattle.model.specs.Run as modelRun
+use Rattle.model.specs.History.{retired}
 use Rattle.memory.specs.Meaning.{meaning, withRefusal}
 use Rattle.memory.specs.Arranged.{Sound, Becomes}
 use Rattle.run.specs.declared.Ran.{Ran}
@@ -34,6 +36,10 @@ pub data Course : List ℕ → List ℕ → ℕ → List ℕ → ℕ → ℕ →
       → Course w₁ (drop (width b) t) (room - suc (length (accepted (commandOn b t) (meaning w) .answer))) w′ stop commands read bytes
       → Course w (b ∷ t) room w′ stop (suc commands) (suc (width b) + read) (0 ∷ accepted (commandOn b t) (meaning w) .answer ++ bytes)
 
+-- the same, with the model's answer for stop number, commands, bytes read and bytes
+abbrev pub CourseOf : List ℕ → List ℕ → ℕ → List ℕ → modelRun.Ran → Type 0
+CourseOf w t room w′ x = Course w t room w′ (x .stop) (x .commands) (x .read) (x .bytes)
+
 -- P of the words after each command
 abbrev pub AfterEach : (P : List ℕ → Type 0) {w t w′ bytes : List ℕ} {room stop commands read : ℕ} → Course w t room w′ stop commands read bytes → Type 0
 AfterEach P ended = Unit {0}
@@ -45,3 +51,8 @@ AfterEach P (done w w₁ h n b s c) = P w₁ × AfterEach P c
 pub data Reached : List ℕ → Type 0 where
   started : {n k : ℕ} {w w′ : List ℕ} → Starts n k w w′ 0 → Reached w′
   ran : {w w′ t o o′ : List ℕ} {r : Ran} → Reached w → Runs w w′ t o o′ r → Reached w′
+
+-- the numbers retired on the way: "retired counts past destructions at the last version"
+abbrev pub retiredIn : {w : List ℕ} → Reached w → ℕ
+retiredIn (started S) = 0
+retiredIn (ran {w} {w′} {t} {o} c R) = retiredIn c + retired t (length o) (meaning w)
