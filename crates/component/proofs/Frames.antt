@@ -9,7 +9,7 @@ use lib.Seq.{take-set-le, take-set-lt, drop-set-lt, drop-set-add, getD-set-same,
 use Rattle.model.specs.Numbers.{columnLen}
 use Rattle.model.proofs.BoolLaws.{by-eq}
 use Rattle.words.proofs.Part.{between-rest}
-use Rattle.words.specs.Offsets.{columnStart, ROWS}
+use Rattle.words.specs.Offsets.{columnStart, ROWS, ROWS-LEN}
 use Rattle.words.proofs.Offsets.{columnStart-mono}
 use Rattle.component.specs.SparseSet.{rows}
 use Rattle.component.proofs.Meaning.{head-sound, head-rows}
@@ -52,7 +52,7 @@ headed n m s i v w c h lo hi =
     let w′ = set w (b + i) v in
     let q = columnOf n s w in
     let mid : columnOf n s w′ ≡ set q i v = set-column n s i v w hi in
-    let at : getD (set q i v) 0 0 ≡ getD q 0 0 = getD-set-other q i 0 v 0 (omega arith) in
+    let at : getD (set q i v) ROWS-LEN 0 ≡ getD q ROWS-LEN 0 = getD-set-other q i ROWS-LEN v 0 (omega arith) in
     let later : (k : ℕ) → 8 ≤ k → getD (set q i v) k 0 ≡ getD q k 0 = λ k hk. getD-set-other q i k v 0 (omega arith) in
     let size : length w′ ≡ length w = length-set w (b + i) v in
     let front : take b w′ ≡ take b w = take-set-le b w (b + i) v (omega arith) in

@@ -6,7 +6,7 @@ use Prim.Native.Nat.{ℕ, _+_, _*_, _-_, _≤_, _<_}
 use native.Mathlib.Omega.{arith}
 use lib.ListN.{length, getD, set, take}
 use lib.Seq.{take-all, take-take, length-take-le, take-set-le}
-use Rattle.words.specs.Offsets.{ROWS}
+use Rattle.words.specs.Offsets.{ROWS, ROWS-LEN}
 use Rattle.model.specs.Lists.{cutAt}
 use Rattle.model.specs.Model.{Row, SparseSet, noRow}
 use Rattle.model.proofs.BoolLaws.{by-eq}
@@ -111,7 +111,7 @@ module _ (n : ℕ) (w : List ℕ) (s : ColumnSound n w) (a b : ℕ) (ha : a < le
 
 abbrev appendStores : ℕ → ℕ → ℕ → ℕ → ℕ → List ℕ → List (ℕ × ℕ)
 appendStores n x v l h w =
-    rowStores n (lengthOf w) (record { index = x; version = v; low = l; high = h }) ++ (lookupStores n x (lengthOf w) v ++ ((0, lengthOf w + 1) ∷ []))
+    rowStores n (lengthOf w) (record { index = x; version = v; low = l; high = h }) ++ (lookupStores n x (lengthOf w) v ++ ((ROWS-LEN, lengthOf w + 1) ∷ []))
 
 module _ (n : ℕ) (w : List ℕ) (s : ColumnSound n w) (x v l h : ℕ) (hx : x < n) (hv : 1 ≤ v) (f : Absent x (rows n w)) where
   appended-sound : ColumnSound n (stores w (appendStores n x v l h w))
@@ -206,7 +206,7 @@ module _ (n : ℕ) (w : List ℕ) (s : ColumnSound n w) (p l h : ℕ) (hp : p < 
 abbrev removeStores : ℕ → ℕ → List ℕ → List (ℕ × ℕ)
 removeStores n p w =
     rowStores n p (wordsAt n w (lengthOf w - 1))
-    ++ ((ROWS + 4 * n + 2 * indexAt w (lengthOf w - 1), p) ∷ (ROWS + 4 * n + 2 * indexAt w p + 1, 0) ∷ (0, lengthOf w - 1) ∷ [])
+    ++ ((ROWS + 4 * n + 2 * indexAt w (lengthOf w - 1), p) ∷ (ROWS + 4 * n + 2 * indexAt w p + 1, 0) ∷ (ROWS-LEN, lengthOf w - 1) ∷ [])
 
 module _ (n : ℕ) (w : List ℕ) (s : ColumnSound n w) (p : ℕ) (hp : p < lengthOf w) where
   removed-sound : ColumnSound n (stores w (removeStores n p w))
@@ -259,13 +259,13 @@ module _ (n : ℕ) (w : List ℕ) (s : ColumnSound n w) (p : ℕ) (hp : p < leng
 
   -- the steps, one after the other
   pub removed-by : (w₁ : List ℕ) (gone last : RowWords) → gone ≡ wordsAt n w p → last ≡ wordsAt n w (lengthOf w - 1) → w₁ ≡ stores w (rowStores n p last)
-      → Changed n (cutAt noRow p) w (stores w₁ ((ROWS + 4 * n + 2 * (last .index), p) ∷ (ROWS + 4 * n + 2 * (gone .index) + 1, 0) ∷ (0, lengthOf w - 1) ∷ []))
+      → Changed n (cutAt noRow p) w (stores w₁ ((ROWS + 4 * n + 2 * (last .index), p) ∷ (ROWS + 4 * n + 2 * (gone .index) + 1, 0) ∷ (ROWS-LEN, lengthOf w - 1) ∷ []))
   removed-by w₁ gone last eg el e = rw (e, eg, el) removed
 
 -- ---- pop
 
 abbrev popStores : ℕ → List ℕ → List (ℕ × ℕ)
-popStores n w = (ROWS + 4 * n + 2 * indexAt w (lengthOf w - 1) + 1, 0) ∷ (0, lengthOf w - 1) ∷ []
+popStores n w = (ROWS + 4 * n + 2 * indexAt w (lengthOf w - 1) + 1, 0) ∷ (ROWS-LEN, lengthOf w - 1) ∷ []
 
 module _ (n : ℕ) (w : List ℕ) (s : ColumnSound n w) (some : 1 ≤ lengthOf w) where
   popped-sound : ColumnSound n (stores w (popStores n w))
@@ -321,7 +321,7 @@ module _ (n : ℕ) (w : List ℕ) (s : ColumnSound n w) (some : 1 ≤ lengthOf w
       }
 
   pub popped-by : (last : RowWords) → last ≡ wordsAt n w (lengthOf w - 1)
-      → Changed n popped w (stores w ((ROWS + 4 * n + 2 * (last .index) + 1, 0) ∷ (0, lengthOf w - 1) ∷ []))
+      → Changed n popped w (stores w ((ROWS + 4 * n + 2 * (last .index) + 1, 0) ∷ (ROWS-LEN, lengthOf w - 1) ∷ []))
   popped-by last el = rw el popped-changed
 
 -- ---- clear: rows go one by one from the end

@@ -1,13 +1,13 @@
 -- A component sparse set (01: a column) over its part of the lent words: what the words mean, when they are sound, what a change keeps.
--- The part's 8 + 6 * n words (docs/WORDS.md): word 0 is the length, words 1 to 7 are the storage's; row i's entity (index, version) is at
--- 8 + 2 * i, its value (low, high) at 8 + 2 * n + 2 * i; index x's lookup (place, version) is at 8 + 4 * n + 2 * x, version 0 where x is not held.
+-- The part (docs/WORDS.md) has how many rows there are, then words that are the storage's (the rest of the head); then, in 2 * n words each, the
+-- rows' entities (index, version), their values (low, high), and the lookups by index (place, version; version 0 where the index is not held).
 -- Assumes nothing.
 use mathlib.Core.Path.{_≡_}
 use mathlib.Core.List.{List}
 use Prim.Native.Nat.{ℕ, _+_, _*_, _≤_}
 use lib.ListN.{length, getD}
 use Rattle.model.specs.Numbers.{MAX-ENTITIES, columnLen}
-use Rattle.words.specs.Offsets.{ROWS}
+use Rattle.words.specs.Offsets.{ROWS, ROWS-LEN}
 use Rattle.model.specs.Model.{Entity, Row, SparseSet}
 use Rattle.words.specs.Table.{table}
 use Rattle.words.specs.Links.{Linked}
@@ -15,7 +15,7 @@ use Rattle.words.specs.Links.{Linked}
 -- ---- the words of a part
 
 abbrev pub lengthOf : List ℕ → ℕ
-lengthOf w = getD w 0 0
+lengthOf w = getD w ROWS-LEN 0
 
 -- row i
 abbrev pub indexAt : List ℕ → ℕ → ℕ

@@ -56,7 +56,7 @@ pub fn len(part: &[u32]) -> usize
     requires { ⌜ 1 ≤ length (now part) ⌝ }
     ensures { λ r. ⌜ ((n : ℕ) → length (rows n (now (part .entry))) ≡ r) ⌝ }
 {
-    part[0] as usize
+    part[words::ROWS_LEN] as usize
 }
 
 // The value of the row at a place.
@@ -108,7 +108,7 @@ fn append(part: &mut [u32], n: usize, index: u32, version: u32, low: u32, high: 
     requires { ⌜ Absent index (rows n (now part)) ⌝ }
     ensures { λ _. ⌜ Changed n (λ (rs : SparseSet). rs ++ (row index version low high ∷ [])) (now (part .entry)) (now (part .exit)) ⌝ }
 {
-    let k = part[0];
+    let k = part[words::ROWS_LEN];
     let at = k as usize;
     put_row(
         part,
@@ -122,7 +122,7 @@ fn append(part: &mut [u32], n: usize, index: u32, version: u32, low: u32, high: 
         },
     );
     put_lookup(part, n, index, at, version);
-    part[0] = k + 1;
+    part[words::ROWS_LEN] = k + 1;
 }
 
 // Another value in the row at place.
@@ -157,7 +157,7 @@ fn remove_at(part: &mut [u32], n: usize, place: usize)
     requires { ⌜ place < lengthOf (now part) ⌝ }
     ensures { λ _. ⌜ Changed n (cutAt noRow place) (now (part .entry)) (now (part .exit)) ⌝ }
 {
-    let k = part[0] - 1;
+    let k = part[words::ROWS_LEN] - 1;
     let gone = read_row(part, n, place);
     let last = read_row(part, n, k as usize);
     put_row(part, n, place, last);
@@ -165,7 +165,7 @@ fn remove_at(part: &mut [u32], n: usize, place: usize)
     let sp = words::ROWS + 4 * n + 2 * (gone.index as usize);
     part[sl] = place as u32;
     part[sp + 1] = 0;
-    part[0] = k;
+    part[words::ROWS_LEN] = k;
 }
 
 // The entity's row goes, if it has one, and its value is handed back.
@@ -188,11 +188,11 @@ fn pop(part: &mut [u32], n: usize)
     requires { ⌜ 1 ≤ lengthOf (now part) ⌝ }
     ensures { λ _. ⌜ Changed n popped (now (part .entry)) (now (part .exit)) ⌝ }
 {
-    let k = part[0] - 1;
+    let k = part[words::ROWS_LEN] - 1;
     let last = read_row(part, n, k as usize);
     let s = words::ROWS + 4 * n + 2 * (last.index as usize);
     part[s + 1] = 0;
-    part[0] = k;
+    part[words::ROWS_LEN] = k;
 }
 
 // Every row goes, one by one from the end: the cost is that of the rows held.
@@ -200,7 +200,7 @@ pub fn clear(part: &mut [u32], n: usize)
     requires { ⌜ ColumnSound n (now part) ⌝ }
     ensures { λ _. ⌜ Changed n (λ (rs : SparseSet). []) (now (part .entry)) (now (part .exit)) ⌝ }
 {
-    let mut k = part[0];
+    let mut k = part[words::ROWS_LEN];
     while 0 < k {
         pop(part, n);
         k -= 1;

@@ -8,7 +8,7 @@ use borrow.Author.Tests.{lt-ltb, le-ltb}
 use lib.ListN.{length, getD, set, drop}
 use lib.Seq.{drop-set-lt, set-getD}
 use Rattle.model.specs.Numbers.{LIST-CAPACITY, MAX-REFUSALS}
-use Rattle.words.specs.Offsets.{DRAFT, ENTITIES, EXCLUDED-KINDS, EXCLUDED-LEN, REFUSALS, STAGED-KINDS, STAGED-LEN, STAGED-VALUES, TABLE}
+use Rattle.words.specs.Offsets.{CALLER, DRAFT, DRAFT-FAMILIES, DRAFT-GROUPS, ENTITIES, EXCLUDED-KINDS, EXCLUDED-LEN, MORE-SETTINGS, REFUSALS, STAGED-KINDS, STAGED-LEN, STAGED-VALUE-LEN, STAGED-VALUES, TABLE}
 use Rattle.model.specs.Model.{Component, Family, kindOf}
 use Rattle.model.specs.Sound.{noComponent}
 use Rattle.model.specs.Store.{Counts, Control, stagedKinds, withControl, withCounts, emptyStaged, emptyBoth, counted}
@@ -61,9 +61,9 @@ module _ (w : List ℕ) where
 
 pub record ListsOnly (w w′ : List ℕ) : Type 0 where
   pub size : length w′ ≡ length w
-  pub limits : (i : ℕ) → i < 3 → getD w′ i 0 ≡ getD w i 0
-  pub layouts : (i : ℕ) → 5 ≤ i → i < 9 → getD w′ i 0 ≡ getD w i 0
-  pub told : (i : ℕ) → 10 ≤ i → i < REFUSALS → getD w′ i 0 ≡ getD w i 0
+  pub limits : (i : ℕ) → i < STAGED-LEN → getD w′ i 0 ≡ getD w i 0
+  pub layouts : (i : ℕ) → DRAFT-FAMILIES ≤ i → i < CALLER → getD w′ i 0 ≡ getD w i 0
+  pub told : (i : ℕ) → MORE-SETTINGS ≤ i → i < REFUSALS → getD w′ i 0 ≡ getD w i 0
   pub table : (i : ℕ) → TABLE ≤ i → i < STAGED-KINDS → getD w′ i 0 ≡ getD w i 0
   pub blocks : (i : ℕ) → DRAFT ≤ i → i < ENTITIES → getD w′ i 0 ≡ getD w i 0
   pub rest : drop ENTITIES w′ ≡ drop ENTITIES w
@@ -77,7 +77,7 @@ pub drop-stores : (k : ℕ) (w : List ℕ) (ss : List (ℕ × ℕ)) → Below k 
 drop-stores k w [] b = refl
 drop-stores k w (s ∷ ss) b = drop-stores k (set w (s .0) (s .1)) ss (b .1) ∙ drop-set-lt k w (s .0) (s .1) (b .0)
 
-stores-listed : (w : List ℕ) (ss : List (ℕ × ℕ)) → ((i : ℕ) → i < 3 → Misses ss i) → ((i : ℕ) → 5 ≤ i → i < 9 → Misses ss i) → ((i : ℕ) → 10 ≤ i → i < REFUSALS → Misses ss i) → ((i : ℕ) → TABLE ≤ i → i < STAGED-KINDS → Misses ss i)
+stores-listed : (w : List ℕ) (ss : List (ℕ × ℕ)) → ((i : ℕ) → i < STAGED-LEN → Misses ss i) → ((i : ℕ) → DRAFT-FAMILIES ≤ i → i < CALLER → Misses ss i) → ((i : ℕ) → MORE-SETTINGS ≤ i → i < REFUSALS → Misses ss i) → ((i : ℕ) → TABLE ≤ i → i < STAGED-KINDS → Misses ss i)
     → ((i : ℕ) → DRAFT ≤ i → i < ENTITIES → Misses ss i) → Below ENTITIES ss → ListsOnly w (stores w ss)
 stores-listed w ss a b t c d below =
     record {
@@ -107,7 +107,7 @@ module _ (w w′ : List ℕ) (A : Arranged w) (L : ListsOnly w w′) where
       }
 
   arrays : draftArrays w′ ≡ draftArrays w
-  arrays = draft-arrays-same w w′ (L .size) (long w A) (L .layouts 5 (omega arith) (omega arith)) (λ i a b. L .blocks i a (omega arith))
+  arrays = draft-arrays-same w w′ (L .size) (long w A) (L .layouts DRAFT-FAMILIES (omega arith) (omega arith)) (λ i a b. L .blocks i a (omega arith))
 
   listed-becomes : (s : List Component) (e : List ℕ) (c : Counts) → stagedLen w′ ≤ LIST-CAPACITY → excludedLen w′ ≤ LIST-CAPACITY → stagedIn w′ ≡ s → excludedIn w′ ≡ e → countsIn w′ ≡ c
       → Becomes w w′ (withControl (meaning w) (control s e (meaning w .control .draft) c))
@@ -115,7 +115,7 @@ module _ (w w′ : List ℕ) (A : Arranged w) (L : ListsOnly w w′) where
   listed-becomes s e c st ex es ee ec =
       let B =
       control-becomes w w′ A static (λ i a b. L .blocks i (omega arith) b) st ex (subst WellFormed (sym arrays) (A .draft))
-      (L .layouts 6 (omega arith) (omega arith) ∙ A .draftCount ∙ sym (ap groupCount arrays)) in
+      (L .layouts DRAFT-GROUPS (omega arith) (omega arith) ∙ A .draftCount ∙ sym (ap groupCount arrays)) in
       let d : draftIn w′ ≡ draftIn w = ap (familiesOf []) arrays in
       let k : controlIn w′ ≡ control s e (draftIn w) c = λ i. record { staged = es i; excluded = ee i; draft = d i; counts = ec i } in
       record { arranged = B .arranged; means = B .means ∙ ap (withControl (meaning w)) k; size = B .size; past = B .past }
@@ -127,26 +127,26 @@ module _ (w : List ℕ) (A : Arranged w) (k l h : ℕ) (few : stagedLen w < LIST
   n = stagedLen w
 
   abbrev ss : List (ℕ × ℕ)
-  ss = (3, n + 1) ∷ (STAGED-KINDS + n, k) ∷ (STAGED-VALUES + 4 * n, l) ∷ (STAGED-VALUES + 4 * n + 1, h) ∷ []
+  ss = (STAGED-LEN, n + 1) ∷ (STAGED-KINDS + n, k) ∷ (STAGED-VALUES + STAGED-VALUE-LEN * n, l) ∷ (STAGED-VALUES + STAGED-VALUE-LEN * n + 1, h) ∷ []
 
   stage-listed : ListsOnly w (stores w ss)
   stage-listed = stores-listed w ss (λ i a. omega arith) (λ i a b. omega arith) (λ i a b. omega arith) (λ i a b. omega arith) (λ i a b. omega arith) (omega arith)
 
   stage-length : stagedLen (stores w ss) ≡ n + 1
-  stage-length = hit w ss 0 3 (n + 1) (omega arith) (omega (arith, long w A))
+  stage-length = hit w ss 0 STAGED-LEN (n + 1) (omega arith) (omega (arith, long w A))
 
   stage-last : stagedAt (stores w ss) n ≡ record { kind = k; value = valueOf l h }
   stage-last =
       let a : stagedKindAt (stores w ss) n ≡ k = hit w ss 1 (STAGED-KINDS + n) k (omega arith) (omega (arith, long w A)) in
-      let b : getD (stores w ss) (STAGED-VALUES + 4 * n) 0 ≡ l = hit w ss 2 (STAGED-VALUES + 4 * n) l (omega arith) (omega (arith, long w A)) in
-      let c : getD (stores w ss) (STAGED-VALUES + 4 * n + 1) 0 ≡ h = hit w ss 3 (STAGED-VALUES + 4 * n + 1) h (omega arith) (omega (arith, long w A)) in
+      let b : getD (stores w ss) (STAGED-VALUES + STAGED-VALUE-LEN * n) 0 ≡ l = hit w ss 2 (STAGED-VALUES + STAGED-VALUE-LEN * n) l (omega arith) (omega (arith, long w A)) in
+      let c : getD (stores w ss) (STAGED-VALUES + STAGED-VALUE-LEN * n + 1) 0 ≡ h = hit w ss 3 (STAGED-VALUES + STAGED-VALUE-LEN * n + 1) h (omega arith) (omega (arith, long w A)) in
       λ i. record { kind = a i; value = valueOf (b i) (c i) }
 
   stage-other : (i : ℕ) → i < n → stagedAt (stores w ss) i ≡ stagedAt w i
   stage-other i hi =
       let a : stagedKindAt (stores w ss) i ≡ stagedKindAt w i = miss w ss (STAGED-KINDS + i) (omega arith) in
-      let b : getD (stores w ss) (STAGED-VALUES + 4 * i) 0 ≡ getD w (STAGED-VALUES + 4 * i) 0 = miss w ss (STAGED-VALUES + 4 * i) (omega arith) in
-      let c : getD (stores w ss) (STAGED-VALUES + 4 * i + 1) 0 ≡ getD w (STAGED-VALUES + 4 * i + 1) 0 = miss w ss (STAGED-VALUES + 4 * i + 1) (omega arith) in
+      let b : getD (stores w ss) (STAGED-VALUES + STAGED-VALUE-LEN * i) 0 ≡ getD w (STAGED-VALUES + STAGED-VALUE-LEN * i) 0 = miss w ss (STAGED-VALUES + STAGED-VALUE-LEN * i) (omega arith) in
+      let c : getD (stores w ss) (STAGED-VALUES + STAGED-VALUE-LEN * i + 1) 0 ≡ getD w (STAGED-VALUES + STAGED-VALUE-LEN * i + 1) 0 = miss w ss (STAGED-VALUES + STAGED-VALUE-LEN * i + 1) (omega arith) in
       λ j. record { kind = a j; value = valueOf (b j) (c j) }
 
   stage-staged : stagedIn (stores w ss) ≡ stagedIn w ++ (record { kind = k; value = valueOf l h } ∷ [])
@@ -172,13 +172,13 @@ module _ (w : List ℕ) (A : Arranged w) (k : ℕ) (few : excludedLen w < LIST-C
   m = excludedLen w
 
   abbrev ts : List (ℕ × ℕ)
-  ts = (4, m + 1) ∷ (EXCLUDED-KINDS + m, k) ∷ []
+  ts = (EXCLUDED-LEN, m + 1) ∷ (EXCLUDED-KINDS + m, k) ∷ []
 
   exclude-listed : ListsOnly w (stores w ts)
   exclude-listed = stores-listed w ts (λ i a. omega arith) (λ i a b. omega arith) (λ i a b. omega arith) (λ i a b. omega arith) (λ i a b. omega arith) (omega arith)
 
   exclude-length : excludedLen (stores w ts) ≡ m + 1
-  exclude-length = hit w ts 0 4 (m + 1) (omega arith) (omega (arith, long w A))
+  exclude-length = hit w ts 0 EXCLUDED-LEN (m + 1) (omega arith) (omega (arith, long w A))
 
   exclude-excluded : excludedIn (stores w ts) ≡ excludedIn w ++ (k ∷ [])
   unfolding excludedIn
@@ -210,15 +210,15 @@ module _ (w : List ℕ) (A : Arranged w) where
   excluded-none ss e = ap (λ (m : ℕ). table m (excludedAt (stores w ss))) e
 
   abbrev us : List (ℕ × ℕ)
-  us = (3, 0) ∷ []
+  us = (STAGED-LEN, 0) ∷ []
 
   abbrev vs : List (ℕ × ℕ)
-  vs = (3, 0) ∷ (4, 0) ∷ []
+  vs = (STAGED-LEN, 0) ∷ (EXCLUDED-LEN, 0) ∷ []
 
   pub clear-staged-becomes : Becomes w (stores w us) (withControl (meaning w) (emptyStaged (meaning w .control)))
   unfolding meaning
   clear-staged-becomes =
-      let z : stagedLen (stores w us) ≡ 0 = hit w us 0 3 0 (omega arith) (omega (arith, long w A)) in
+      let z : stagedLen (stores w us) ≡ 0 = hit w us 0 STAGED-LEN 0 (omega arith) (omega (arith, long w A)) in
       listed-becomes w (stores w us) A
       (stores-listed w us (λ i a. omega arith) (λ i a b. omega arith) (λ i a b. omega arith) (λ i a b. omega arith) (λ i a b. omega arith) (omega arith))
       [] (excludedIn w) (countsIn w)
@@ -231,8 +231,8 @@ module _ (w : List ℕ) (A : Arranged w) where
   pub clear-lists-becomes : Becomes w (stores w vs) (withControl (meaning w) (emptyBoth (meaning w .control)))
   unfolding meaning
   clear-lists-becomes =
-      let z : stagedLen (stores w vs) ≡ 0 = hit w vs 0 3 0 (omega arith) (omega (arith, long w A)) in
-      let y : excludedLen (stores w vs) ≡ 0 = hit w vs 1 4 0 (omega arith) (omega (arith, long w A)) in
+      let z : stagedLen (stores w vs) ≡ 0 = hit w vs 0 STAGED-LEN 0 (omega arith) (omega (arith, long w A)) in
+      let y : excludedLen (stores w vs) ≡ 0 = hit w vs 1 EXCLUDED-LEN 0 (omega arith) (omega (arith, long w A)) in
       listed-becomes w (stores w vs) A
       (stores-listed w vs (λ i a. omega arith) (λ i a b. omega arith) (λ i a b. omega arith) (λ i a b. omega arith) (λ i a b. omega arith) (omega arith))
       [] [] (countsIn w)

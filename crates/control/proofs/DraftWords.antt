@@ -4,7 +4,7 @@ use mathlib.Core.List.{List, [], _∷_}
 use Prim.Native.Nat.{ℕ, _-_, _≤_, _<_}
 use native.Mathlib.Omega.{arith}
 use lib.ListN.{length, getD, drop}
-use Rattle.words.specs.Offsets.{DRAFT, ENTITIES, EXCLUDED-LEN, LAYOUT, STAGED-LEN}
+use Rattle.words.specs.Offsets.{DRAFT, DRAFT-FAMILIES, DRAFT-GROUPS, ENTITIES, EXCLUDED-LEN, LAYOUT, LAYOUT-FAMILIES, STAGED-LEN}
 use Rattle.model.specs.Model.{Family}
 use Rattle.model.specs.Store.{withControl, withDraft}
 use Rattle.words.specs.Table.{table}
@@ -28,7 +28,7 @@ use Rattle.control.proofs.Control.{drop-stores}
 
 -- ---- read
 
-pub draft-block : (w : List ℕ) → Arranged w → (f g : ℕ) → Word w 5 f → Word w 6 g → BlockFormed (between DRAFT LAYOUT w) f g
+pub draft-block : (w : List ℕ) → Arranged w → (f g : ℕ) → Word w DRAFT-FAMILIES f → Word w DRAFT-GROUPS g → BlockFormed (between DRAFT LAYOUT w) f g
 draft-block w A f g hf hg =
     record {
       size = length-between DRAFT LAYOUT w (omega (arith, long w A));
@@ -36,7 +36,7 @@ draft-block w A f g hf hg =
       groups = rw (hf .is, hg .is) (A .draftCount);
     }
 
-pub is-draft : (w : List ℕ) → (f g : ℕ) → Word w 5 f → (r : Layout) → ReadFrom (between DRAFT LAYOUT w) f g r → IsDraft w r
+pub is-draft : (w : List ℕ) → (f g : ℕ) → Word w DRAFT-FAMILIES f → (r : Layout) → ReadFrom (between DRAFT LAYOUT w) f g r → IsDraft w r
 unfolding meaning draftIn
 is-draft w f g hf r R = record { formed = R .formed; means = R .means [] ∙ ap (λ (n : ℕ). familiesOf [] (blockArrays (between DRAFT LAYOUT w) n)) (hf .is) }
 
@@ -44,8 +44,8 @@ is-draft w f g hf r R = record { formed = R .formed; means = R .means [] ∙ ap 
 
 record Drafted (w w′ : List ℕ) : Type 0 where
   pub size : length w′ ≡ length w
-  pub low : (i : ℕ) → i < 5 → getD w′ i 0 ≡ getD w i 0
-  pub middle : (i : ℕ) → 7 ≤ i → i < DRAFT → getD w′ i 0 ≡ getD w i 0
+  pub low : (i : ℕ) → i < DRAFT-FAMILIES → getD w′ i 0 ≡ getD w i 0
+  pub middle : (i : ℕ) → LAYOUT-FAMILIES ≤ i → i < DRAFT → getD w′ i 0 ≡ getD w i 0
   pub upper : (i : ℕ) → LAYOUT ≤ i → i < ENTITIES → getD w′ i 0 ≡ getD w i 0
   pub rest : drop ENTITIES w′ ≡ drop ENTITIES w
 
@@ -78,7 +78,7 @@ module _ (w w′ : List ℕ) (A : Arranged w) (D : Drafted w w′) where
 
 module _ (w : List ℕ) (A : Arranged w) (l : Layout) (ys : List ℕ) (W : WrittenTo l ys) where
   abbrev ss : List (ℕ × ℕ)
-  ss = (5, l .families) ∷ (6, l .groups) ∷ []
+  ss = (DRAFT-FAMILIES, l .families) ∷ (DRAFT-GROUPS, l .groups) ∷ []
 
   abbrev v : List ℕ
   v = stores w ss
@@ -108,10 +108,10 @@ module _ (w : List ℕ) (A : Arranged w) (l : Layout) (ys : List ℕ) (W : Writt
   arrays : draftArrays (patch DRAFT LAYOUT v ys) ≡ blockArrays ys (l .families)
   arrays =
       ap (λ (b : List ℕ). blockArrays b (draftFamilies (patch DRAFT LAYOUT v ys))) (patch-between DRAFT LAYOUT v ys (omega arith) fits sized)
-      ∙ ap (blockArrays ys) (front 5 (omega arith) ∙ hit w ss 0 5 (l .families) (omega arith) (omega (arith, long w A)))
+      ∙ ap (blockArrays ys) (front DRAFT-FAMILIES (omega arith) ∙ hit w ss 0 DRAFT-FAMILIES (l .families) (omega arith) (omega (arith, long w A)))
 
   groups : draftGroups (patch DRAFT LAYOUT v ys) ≡ l .groups
-  groups = front 6 (omega arith) ∙ hit w ss 1 6 (l .groups) (omega arith) (omega (arith, long w A))
+  groups = front DRAFT-GROUPS (omega arith) ∙ hit w ss 1 DRAFT-GROUPS (l .groups) (omega arith) (omega (arith, long w A))
 
   pub draft-becomes : Becomes w (patch DRAFT LAYOUT v ys) (drafting l (meaning w))
   draft-becomes =

@@ -12,6 +12,7 @@ use Rattle.model.proofs.ListLaws.{count-place, count-append, getD-place}
 use Rattle.model.specs.Model.{Entity, Entities, noEntity, sameEntity, isLive, create, createWith}
 use Rattle.model.specs.Store.{withEntities}
 use Rattle.model.proofs.SparseSets.{entity-eq, entity-same}
+use Rattle.words.specs.Offsets.{CAPACITY}
 use Rattle.words.proofs.Offsets.{columnStart-mono}
 use Rattle.entity.specs.declared.Entity.{Entity as Answer}
 use Rattle.entity.specs.Meaning.{EntityPartSound, entityAt, entitiesOf, lenOf, entityPart, entitiesIn}
@@ -26,7 +27,7 @@ use Rattle.memory.proofs.Frames.{start-header}
 use Rattle.memory.proofs.Becomes.{entities-become}
 use Rattle.control.specs.Entities.{Capacity, Creates}
 
-pub capacity-is : (w : List ℕ) → Arranged w → (n : ℕ) → Word w 0 n → Capacity w n
+pub capacity-is : (w : List ℕ) → Arranged w → (n : ℕ) → Word w CAPACITY n → Capacity w n
 unfolding meaning
 capacity-is w A n r =
     record {

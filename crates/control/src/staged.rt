@@ -3,6 +3,7 @@ use crate::lists;
 use words::EXCLUDED_LEN;
 use words::STAGED_KINDS;
 use words::STAGED_LEN;
+use words::STAGED_VALUE_LEN;
 use words::STAGED_VALUES;
 ghost use mathlib.Core.Path.{_≡_};
 ghost use Prim.Native.Nat.{_<_};
@@ -43,7 +44,7 @@ pub fn staged_at(words: &[u32], i: usize) -> Component
     requires { ⌜ i < length (meaning (now words) .control .staged) ⌝ }
     ensures { λ r. ⌜ componentOf r ≡ getD (meaning (now (words .entry)) .control .staged) i noComponent ⌝ }
 {
-    let at = STAGED_VALUES + 4 * i;
+    let at = STAGED_VALUES + STAGED_VALUE_LEN * i;
     Component {
         kind: words[STAGED_KINDS + i] as usize,
         low: words[at],
@@ -67,7 +68,7 @@ pub fn stage(words: &mut [u32], kind: usize, low: u32, high: u32)
     ensures { λ _. ⌜ Becomes (now (words .entry)) (now (words .exit)) (staging kind (valueOf low high) (meaning (now (words .entry)))) ⌝ }
 {
     let count = words[STAGED_LEN];
-    let at = STAGED_VALUES + 4 * (count as usize);
+    let at = STAGED_VALUES + STAGED_VALUE_LEN * (count as usize);
     words[STAGED_LEN] = count + 1;
     words[STAGED_KINDS + (count as usize)] = kind as u32;
     words[at] = low;

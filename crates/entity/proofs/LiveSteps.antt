@@ -6,6 +6,7 @@ use Prim.Native.Nat.{ℕ, _+_, _*_, _-_, _≤_, _<_}
 use native.Mathlib.Omega.{arith}
 use Rattle.model.specs.Model.{noEntity}
 use Rattle.model.proofs.BoolLaws.{by-eq}
+use Rattle.words.specs.Offsets.{ISSUED, LIVE-LEN, LIVE-LIST}
 use Rattle.words.proofs.Tables.{table-snoc, table-removed}
 use Rattle.words.specs.Stores.{stores}
 use Rattle.words.proofs.Stores.{miss, hit, length-stores}
@@ -19,7 +20,7 @@ use Rattle.entity.proofs.Kept.{entity-path, entities-path, kept-queue, 
 -- ---- an entity joins
 
 abbrev pub joinStores : ℕ → ℕ → ℕ → List ℕ → List (ℕ × ℕ)
-joinStores n x v w = putStores n (lenOf w) x v ++ ((0, lenOf w + 1) ∷ [])
+joinStores n x v w = putStores n (lenOf w) x v ++ ((LIVE-LEN, lenOf w + 1) ∷ [])
 
 module _ (n : ℕ) (w : List ℕ) (s : EntityPartSound n w) (x v : ℕ) (d : Idle n w x) (hv : 1 ≤ v) where
   -- where an issued index is not live, there is room for it
@@ -89,7 +90,7 @@ module _ (n : ℕ) (w : List ℕ) (s : EntityPartSound n w) (x v : ℕ) (d : Idl
 abbrev pub leaveStores : ℕ → ℕ → List ℕ → List (ℕ × ℕ)
 leaveStores n p w =
     putStores n p (liveIndexAt w (lenOf w - 1)) (liveVersionAt w (lenOf w - 1))
-    ++ ((8 + 2 * n + 2 * liveIndexAt w p + 1, 0) ∷ (0, lenOf w - 1) ∷ [])
+    ++ ((LIVE-LIST + 2 * n + 2 * liveIndexAt w p + 1, 0) ∷ (LIVE-LEN, lenOf w - 1) ∷ [])
 
 module _ (n : ℕ) (w : List ℕ) (s : EntityPartSound n w) (p : ℕ) (hp : p < lenOf w) where
   -- the index that left is neither live nor waiting
@@ -104,7 +105,7 @@ module _ (n : ℕ) (w : List ℕ) (s : EntityPartSound n w) (p : ℕ) (hp : p < 
       let size = s .sized .size in
       let room = L .room in
       record {
-        below = rw (miss w ss 1 (omega arith)) (s .known p hp);
+        below = rw (miss w ss ISSUED (omega arith)) (s .known p hp);
         free = hit w ss 4 _ _ (omega arith) (omega arith);
         unlisted = miss w ss _ (omega arith) ∙ live-unlisted n w s x (t .below) (omega (arith, t .agreed, t .issued));
       }

@@ -16,6 +16,7 @@ use Rattle.model.proofs.SparseSets.{entity-eq}
 use Rattle.model.proofs.Groups.{cnt, plc}
 use Rattle.model.proofs.BoolLaws.{bool-cases}
 use Rattle.model.proofs.Numbers.{EntitiesOk, num, indexOf}
+use Rattle.words.specs.Offsets.{LIVE-LIST}
 use Rattle.words.proofs.Links.{apart}
 use Rattle.entity.specs.Queue.{wrapped}
 use Rattle.entity.specs.Meaning.{EntityPartSound, entitiesOf, lenOf, issuedOf, headOf, recycledLen, liveIndexAt, liveVersionAt, placeOf, heldOf, queueIndex, queueVersion, queueSlot}
@@ -124,5 +125,5 @@ module _ (n : ℕ) (w : List ℕ) (s : EntityPartSound n w) where
               | no l ↦ let q = recycled-place x (omega arith) in omega (arith, q .2, s .queue .waits (q .0) (q .1) .below)
             ]);
         positive = versions (λ v. 1 ≤ v) (λ i hi. s .linked .tied i hi .issued) (λ j hj. s .queue .waits j hj .positive);
-        small = versions (λ v. v ≤ lastVersion) (λ i hi. omega (arith, bits (8 + 2 * i + 1))) (λ j hj. omega (arith, bits (8 + 4 * n + 2 * wrapped n (headOf w + j) + 1)));
+        small = versions (λ v. v ≤ lastVersion) (λ i hi. omega (arith, bits (LIVE-LIST + 2 * i + 1))) (λ j hj. omega (arith, bits (LIVE-LIST + 4 * n + 2 * wrapped n (headOf w + j) + 1)));
       }

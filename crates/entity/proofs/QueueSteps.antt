@@ -10,6 +10,7 @@ use lib.ListN.{getD, drop, length-drop}
 use lib.Seq.{getD-drop}
 use Rattle.model.proofs.Numbers.{zero-of}
 use Rattle.model.specs.Model.{noEntity}
+use Rattle.words.specs.Offsets.{ISSUED, LIVE-LIST, QUEUE-HEAD, RECYCLED-LEN}
 use Rattle.words.specs.Table.{table}
 use Rattle.words.proofs.Tables.{is-table, length-table, getD-table, table-snoc}
 use Rattle.words.specs.Stores.{stores}
@@ -24,10 +25,10 @@ use Rattle.entity.proofs.Kept.{entity-path, entities-path, kept-live, k
 
 abbrev pub pushStores : ℕ → ℕ → ℕ → List ℕ → List (ℕ × ℕ)
 pushStores n x v w =
-    (8 + 4 * n + 2 * wrapped n (headOf w + recycledLen w), x)
-    ∷ (8 + 4 * n + 2 * wrapped n (headOf w + recycledLen w) + 1, v)
-    ∷ (8 + 6 * n + x, wrapped n (headOf w + recycledLen w) + 1)
-    ∷ (3, recycledLen w + 1)
+    (LIVE-LIST + 4 * n + 2 * wrapped n (headOf w + recycledLen w), x)
+    ∷ (LIVE-LIST + 4 * n + 2 * wrapped n (headOf w + recycledLen w) + 1, v)
+    ∷ (LIVE-LIST + 6 * n + x, wrapped n (headOf w + recycledLen w) + 1)
+    ∷ (RECYCLED-LEN, recycledLen w + 1)
     ∷ []
 
 module _ (n : ℕ) (w : List ℕ) (s : EntityPartSound n w) (x v : ℕ) (d : Idle n w x) (hv : 1 ≤ v) where
@@ -98,9 +99,9 @@ module _ (n : ℕ) (w : List ℕ) (s : EntityPartSound n w) (x v : ℕ) (d : Idl
 
 abbrev pub popStores : ℕ → List ℕ → List (ℕ × ℕ)
 popStores n w =
-    (2, wrapped n (headOf w + 1))
-    ∷ (3, recycledLen w - 1)
-    ∷ (8 + 6 * n + queueIndex n w (headOf w), 0)
+    (QUEUE-HEAD, wrapped n (headOf w + 1))
+    ∷ (RECYCLED-LEN, recycledLen w - 1)
+    ∷ (LIVE-LIST + 6 * n + queueIndex n w (headOf w), 0)
     ∷ []
 
 module _ (n : ℕ) (w : List ℕ) (s : EntityPartSound n w) (hc : 1 ≤ recycledLen w) where
@@ -136,7 +137,7 @@ module _ (n : ℕ) (w : List ℕ) (s : EntityPartSound n w) (hc : 1 ≤ recycled
       let some = s .sized .some in
       let b = t .below in
       record {
-        below = rw (miss w ss 1 (omega arith)) (t .below);
+        below = rw (miss w ss ISSUED (omega arith)) (t .below);
         free = miss w ss _ (omega arith) ∙ t .free;
         unlisted = hit w ss 2 _ _ (omega arith) (omega arith);
       }
@@ -199,7 +200,7 @@ module _ (n : ℕ) (w : List ℕ) (s : EntityPartSound n w) (hc : 1 ≤ recycled
 -- ---- the next index is issued
 
 abbrev pub numberStores : List ℕ → List (ℕ × ℕ)
-numberStores w = (1, issuedOf w + 1) ∷ []
+numberStores w = (ISSUED, issuedOf w + 1) ∷ []
 
 module _ (n : ℕ) (w : List ℕ) (s : EntityPartSound n w) (hn : issuedOf w < n) where
   pub numbered-idle : Idle n (stores w (numberStores w)) (issuedOf w)
@@ -210,7 +211,7 @@ module _ (n : ℕ) (w : List ℕ) (s : EntityPartSound n w) (hn : issuedOf w < n
       let size = s .sized .size in
       let some = s .sized .some in
       record {
-        below = rw (hit w ss 0 1 (x + 1) (omega arith) (omega arith)) (omega arith);
+        below = rw (hit w ss 0 ISSUED (x + 1) (omega arith) (omega arith)) (omega arith);
         free =
             miss w ss _ (omega arith)
             ∙ zero-of (λ hh. let b = L .back x hn hh in omega (arith, s .known (placeOf n w x) (L .inside x hn hh)));

@@ -5,6 +5,7 @@ use Prim.Native.Nat.{ℕ, _+_, _*_, _<_}
 use native.Mathlib.Omega.{arith}
 use lib.ListN.{length, getD}
 use Rattle.model.specs.Numbers.{ENTITY-LEN}
+use Rattle.words.specs.Offsets.{LIVE-LIST}
 use Rattle.words.proofs.Tables.{table-none}
 use Rattle.entity.specs.Meaning.{Sized, entitiesOf, lenOf, issuedOf, headOf, recycledLen, heldOf, queueSlot}
 use Rattle.entity.specs.Change.{Changed, noEntities}
@@ -23,8 +24,8 @@ zeros-changed n w₀ w d l z =
     let e₁ : issuedOf w ≡ 0 = z 1 (omega arith) in
     let e₂ : headOf w ≡ 0 = z 2 (omega arith) in
     let e₃ : recycledLen w ≡ 0 = z 3 (omega arith) in
-    let held : (x : ℕ) → x < n → heldOf n w x ≡ 0 = λ x h. z (8 + 2 * n + 2 * x + 1) (omega arith) in
-    let slot : (x : ℕ) → x < n → queueSlot n w x ≡ 0 = λ x h. z (8 + 6 * n + x) (omega arith) in
+    let held : (x : ℕ) → x < n → heldOf n w x ≡ 0 = λ x h. z (LIVE-LIST + 2 * n + 2 * x + 1) (omega arith) in
+    let slot : (x : ℕ) → x < n → queueSlot n w x ≡ 0 = λ x h. z (LIVE-LIST + 6 * n + x) (omega arith) in
     record {
       sound =
           record {

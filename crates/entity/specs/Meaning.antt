@@ -1,7 +1,7 @@
--- What the entity part means, and when it is sound. A part of 16 * n words for a capacity of n (docs/WORDS.md): word 0 the live count,
--- 1 the numbers issued, 2 the queue's head, 3 the recycled count; then the live list (index, version) from 8, the lookups by index
--- (place, version; version 0: not live) from 8 + 2 * n, the queue of recycled numbers (index, version) from 8 + 4 * n, and from 8 + 6 * n
--- for each index its place in the queue plus one, 0 where it does not wait. Assumes nothing.
+-- What the entity part means, and when it is sound. For a capacity of n (docs/WORDS.md) it has how many are live, how many numbers are issued, the
+-- queue's head and how many are recycled; then, in 2 * n words each, the live list (index, version), the lookups by index (place, version; version
+-- 0: not live) and the queue of recycled numbers (index, version); then for each index its place in the queue plus one, 0 where it does not wait.
+-- Assumes nothing.
 use mathlib.Core.Path.{_≡_}
 use mathlib.Core.List.{List}
 use Prim.Native.Nat.{ℕ, _+_, _*_, _≤_, _<_}
@@ -11,45 +11,45 @@ use Rattle.model.specs.Model.{Entity, Entities}
 use Rattle.words.specs.Table.{table}
 use Rattle.words.specs.Links.{Linked}
 use Rattle.entity.specs.Queue.{Queue, wrapped}
-use Rattle.words.specs.Offsets.{ENTITIES}
+use Rattle.words.specs.Offsets.{ENTITIES, ISSUED, LIVE-LEN, LIVE-LIST, QUEUE-HEAD, RECYCLED-LEN}
 use Rattle.words.specs.Part.{between}
 
 abbrev pub lenOf : List ℕ → ℕ
-lenOf w = getD w 0 0
+lenOf w = getD w LIVE-LEN 0
 
 abbrev pub issuedOf : List ℕ → ℕ
-issuedOf w = getD w 1 0
+issuedOf w = getD w ISSUED 0
 
 abbrev pub headOf : List ℕ → ℕ
-headOf w = getD w 2 0
+headOf w = getD w QUEUE-HEAD 0
 
 abbrev pub recycledLen : List ℕ → ℕ
-recycledLen w = getD w 3 0
+recycledLen w = getD w RECYCLED-LEN 0
 
 -- the live list's entity at place i
 abbrev pub liveIndexAt : List ℕ → ℕ → ℕ
-liveIndexAt w i = getD w (8 + 2 * i) 0
+liveIndexAt w i = getD w (LIVE-LIST + 2 * i) 0
 
 abbrev pub liveVersionAt : List ℕ → ℕ → ℕ
-liveVersionAt w i = getD w (8 + 2 * i + 1) 0
+liveVersionAt w i = getD w (LIVE-LIST + 2 * i + 1) 0
 
 -- the lookup of index x: its place in the live list, and its version, 0 where it is not live
 abbrev pub placeOf : ℕ → List ℕ → ℕ → ℕ
-placeOf n w x = getD w (8 + 2 * n + 2 * x) 0
+placeOf n w x = getD w (LIVE-LIST + 2 * n + 2 * x) 0
 
 abbrev pub heldOf : ℕ → List ℕ → ℕ → ℕ
-heldOf n w x = getD w (8 + 2 * n + 2 * x + 1) 0
+heldOf n w x = getD w (LIVE-LIST + 2 * n + 2 * x + 1) 0
 
 -- the number at the queue's place p
 abbrev pub queueIndex : ℕ → List ℕ → ℕ → ℕ
-queueIndex n w p = getD w (8 + 4 * n + 2 * p) 0
+queueIndex n w p = getD w (LIVE-LIST + 4 * n + 2 * p) 0
 
 abbrev pub queueVersion : ℕ → List ℕ → ℕ → ℕ
-queueVersion n w p = getD w (8 + 4 * n + 2 * p + 1) 0
+queueVersion n w p = getD w (LIVE-LIST + 4 * n + 2 * p + 1) 0
 
 -- index x's place in the queue plus one
 abbrev pub queueSlot : ℕ → List ℕ → ℕ → ℕ
-queueSlot n w x = getD w (8 + 6 * n + x) 0
+queueSlot n w x = getD w (LIVE-LIST + 6 * n + x) 0
 
 abbrev pub entity : ℕ → ℕ → Entity
 entity x v = record { index = x; version = v }

@@ -13,7 +13,7 @@ pub fn issued(part: &[u32], n: usize) -> usize
     requires { ⌜ EntityPartSound n (now part) ⌝ }
     ensures { λ r. ⌜ r ≡ entitiesOf n (now (part .entry)) .issued ⌝ }
 {
-    part[1] as usize
+    part[words::ISSUED] as usize
 }
 
 // Whether no number is left: none waits, and n are issued.
@@ -21,10 +21,10 @@ pub fn is_full(part: &[u32], n: usize) -> bool
     requires { ⌜ EntityPartSound n (now part) ⌝ }
     ensures { λ r. ⌜ r ≡ isFull n (entitiesOf n (now (part .entry))) ⌝ }
 {
-    if part[3] != 0 {
+    if part[words::RECYCLED_LEN] != 0 {
         return false;
     }
-    let count = part[1] as usize;
+    let count = part[words::ISSUED] as usize;
     if count < n {
         return false;
     }
@@ -48,15 +48,15 @@ fn pop_front(part: &mut [u32], n: usize) -> Entity
     requires { ⌜ 1 ≤ recycledLen (now part) ⌝ }
     ensures { λ r. ⌜ Unqueued n (now (part .entry)) (now (part .exit)) r ⌝ }
 {
-    let head = part[2] as usize;
-    let rest = part[3] as usize - 1;
+    let head = part[words::QUEUE_HEAD] as usize;
+    let rest = part[words::RECYCLED_LEN] as usize - 1;
     let next = wrap(n, head + 1);
-    let at = 8 + 4 * n + 2 * head;
+    let at = words::LIVE_LIST + 4 * n + 2 * head;
     let index = part[at];
     let version = part[at + 1];
-    part[2] = next as u32;
-    part[3] = rest as u32;
-    part[8 + 6 * n + (index as usize)] = 0;
+    part[words::QUEUE_HEAD] = next as u32;
+    part[words::RECYCLED_LEN] = rest as u32;
+    part[words::LIVE_LIST + 6 * n + (index as usize)] = 0;
     Entity { index, version }
 }
 
@@ -66,13 +66,13 @@ fn push_back(part: &mut [u32], n: usize, index: u32, version: u32)
     requires { ⌜ Idle n (now part) index × (1 ≤ version) ⌝ }
     ensures { λ _. ⌜ Changed n (queued (entity index version)) (now (part .entry)) (now (part .exit)) ⌝ }
 {
-    let count = part[3];
-    let place = wrap(n, part[2] as usize + count as usize);
-    let at = 8 + 4 * n + 2 * place;
+    let count = part[words::RECYCLED_LEN];
+    let place = wrap(n, part[words::QUEUE_HEAD] as usize + count as usize);
+    let at = words::LIVE_LIST + 4 * n + 2 * place;
     part[at] = index;
     part[at + 1] = version;
-    part[8 + 6 * n + (index as usize)] = (place + 1) as u32;
-    part[3] = count + 1;
+    part[words::LIVE_LIST + 6 * n + (index as usize)] = (place + 1) as u32;
+    part[words::RECYCLED_LEN] = count + 1;
 }
 
 // The next index, at version 1.
@@ -81,8 +81,8 @@ fn issue(part: &mut [u32], n: usize) -> Entity
     requires { ⌜ issuedOf (now part) < n ⌝ }
     ensures { λ r. ⌜ Issued n (now (part .entry)) (now (part .exit)) r ⌝ }
 {
-    let index = part[1];
-    part[1] = index + 1;
+    let index = part[words::ISSUED];
+    part[words::ISSUED] = index + 1;
     Entity { index, version: 1 }
 }
 
@@ -92,7 +92,7 @@ pub fn allocate(part: &mut [u32], n: usize) -> Entity
     requires { ⌜ isFull n (entitiesOf n (now part)) ≡ false ⌝ }
     ensures { λ r. ⌜ Allocated n (now (part .entry)) (now (part .exit)) r ⌝ }
 {
-    if part[3] < 1 {
+    if part[words::RECYCLED_LEN] < 1 {
         return issue(part, n);
     }
     pop_front(part, n)

@@ -15,7 +15,7 @@ pub fn len(part: &[u32], n: usize) -> usize
     requires { ⌜ EntityPartSound n (now part) ⌝ }
     ensures { λ r. ⌜ r ≡ length (entitiesOf n (now (part .entry)) .live) ⌝ }
 {
-    part[0] as usize
+    part[words::LIVE_LEN] as usize
 }
 
 // The live list's entity at place.
@@ -24,7 +24,7 @@ pub fn live_at(part: &[u32], n: usize, place: usize) -> Entity
     requires { ⌜ place < length (entitiesOf n (now part) .live) ⌝ }
     ensures { λ r. ⌜ entityOf r ≡ getD (entitiesOf n (now (part .entry)) .live) place noEntity ⌝ }
 {
-    let at = 8 + 2 * place;
+    let at = words::LIVE_LIST + 2 * place;
     Entity {
         index: part[at],
         version: part[at + 1],
@@ -37,8 +37,8 @@ fn put(part: &mut [u32], n: usize, place: usize, index: u32, version: u32)
     requires { ⌜ (place < n) × (index < n) ⌝ }
     ensures { λ _. ⌜ now (part .exit) ≡ stores (now (part .entry)) (putStores n place index version) ⌝ }
 {
-    let at = 8 + 2 * place;
-    let slot = 8 + 2 * n + 2 * (index as usize);
+    let at = words::LIVE_LIST + 2 * place;
+    let slot = words::LIVE_LIST + 2 * n + 2 * (index as usize);
     part[at] = index;
     part[at + 1] = version;
     part[slot] = place as u32;
@@ -51,9 +51,9 @@ pub fn insert(part: &mut [u32], n: usize, index: u32, version: u32)
     requires { ⌜ Idle n (now part) index × (1 ≤ version) ⌝ }
     ensures { λ _. ⌜ Changed n (joined (entity index version)) (now (part .entry)) (now (part .exit)) ⌝ }
 {
-    let k = part[0];
+    let k = part[words::LIVE_LEN];
     put(part, n, k as usize, index, version);
-    part[0] = k + 1;
+    part[words::LIVE_LEN] = k + 1;
 }
 
 // The entity at place leaves the live list, and the list's last takes its place.
@@ -62,12 +62,12 @@ pub fn remove(part: &mut [u32], n: usize, place: usize)
     requires { ⌜ place < lenOf (now part) ⌝ }
     ensures { λ _. ⌜ Changed n (left place) (now (part .entry)) (now (part .exit)) × Idle n (now (part .exit)) (liveIndexAt (now (part .entry)) place) ⌝ }
 {
-    let k = part[0] - 1;
-    let last = 8 + 2 * (k as usize);
-    let gone = part[8 + 2 * place] as usize;
+    let k = part[words::LIVE_LEN] - 1;
+    let last = words::LIVE_LIST + 2 * (k as usize);
+    let gone = part[words::LIVE_LIST + 2 * place] as usize;
     let index = part[last];
     let version = part[last + 1];
     put(part, n, place, index, version);
-    part[8 + 2 * n + 2 * gone + 1] = 0;
-    part[0] = k;
+    part[words::LIVE_LIST + 2 * n + 2 * gone + 1] = 0;
+    part[words::LIVE_LEN] = k;
 }

@@ -18,7 +18,7 @@ pub fn get(part: &[u32], n: usize, index: u32, version: u32) -> Found
     if version < 1 {
         return Found::Nothing;
     }
-    let slot = 8 + 2 * n + 2 * x;
+    let slot = words::LIVE_LIST + 2 * n + 2 * x;
     let held = part[slot + 1];
     if held != version {
         return Found::Nothing;
@@ -32,5 +32,5 @@ pub fn version_at(part: &[u32], n: usize, index: usize) -> u32
     requires { ⌜ index < n ⌝ }
     ensures { λ r. ⌜ r ≡ liveVersion index (entitiesOf n (now (part .entry)) .live) ⌝ }
 {
-    part[8 + 2 * n + 2 * index + 1]
+    part[words::LIVE_LIST + 2 * n + 2 * index + 1]
 }

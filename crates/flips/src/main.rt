@@ -10,12 +10,20 @@ use trial::WORDS;
 use trial::add;
 use trial::flip_part;
 
+// The store has six entities and five kinds.
+const CAPACITY: usize = 6;
+
+const KIND_CAPACITY: usize = 5;
 // Where the entities, the columns and the words beyond the store begin.
 const ENTITIES: usize = words::ENTITIES;
 
-const COLUMNS: usize = 1120;
+const COLUMNS: usize = ENTITIES + model::ENTITY_LEN * CAPACITY;
 
-const BEYOND: usize = 1340;
+const BEYOND: usize = COLUMNS + KIND_CAPACITY * (model::COLUMN_HEAD + model::ROW_LEN * CAPACITY);
+// How many are live, and how many numbers are recycled.
+const LIVE_LEN: usize = ENTITIES + words::LIVE_LEN;
+
+const RECYCLED_LEN: usize = ENTITIES + words::RECYCLED_LEN;
 
 fn print(number: u32, what: &[u8]) {
     io::print_decimal(STDOUT_FILENO, number as u64);
@@ -24,13 +32,13 @@ fn print(number: u32, what: &[u8]) {
 
 // What the store has, by its counts (docs/WORDS.md).
 fn describe(words: &[u32; WORDS]) {
-    print(words[2], b" kinds, ");
-    print(words[8], b" groups, ");
-    print(words[ENTITIES], b" live entities, ");
-    print(words[1027], b" recycled, ");
-    print(words[3], b" kinds staged, ");
-    print(words[4], b" excluded, ");
-    print(words[6], b" groups in the draft, ");
+    print(words[words::REGISTERED], b" kinds, ");
+    print(words[words::LAYOUT_GROUPS], b" groups, ");
+    print(words[LIVE_LEN], b" live entities, ");
+    print(words[RECYCLED_LEN], b" recycled, ");
+    print(words[words::STAGED_LEN], b" kinds staged, ");
+    print(words[words::EXCLUDED_LEN], b" excluded, ");
+    print(words[words::DRAFT_GROUPS], b" groups in the draft, ");
     print(words[words::REFUSALS], b" refusal\n");
 }
 
@@ -44,7 +52,7 @@ fn report(part: &[u8], counts: Counts) {
 
 fn main() {
     let mut words = [0u32; WORDS];
-    store::start(&mut words, 6, 5);
+    store::start(&mut words, CAPACITY, KIND_CAPACITY);
     setup::set_up(&mut words);
     describe(&words);
     let header = flip_part(words, 0, ENTITIES);

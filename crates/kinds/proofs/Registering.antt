@@ -13,7 +13,7 @@ use Rattle.model.specs.Numbers.{ENTITY-LEN, MAX-KINDS}
 use Rattle.model.specs.Model.{mem}
 use Rattle.model.specs.Run.{withKinds}
 use Rattle.model.specs.Sound.{In}
-use Rattle.words.specs.Offsets.{columnStart, CAPACITY, COLUMN-KIND, DRAFT-FAMILIES, DRAFT-GROUPS, ENTITIES, EXCLUDED-LEN, GROUP-COUNTS, GROUP-FAMILIES, GROUP-PLACES, KIND-CAPACITY, LAYOUT-FAMILIES, LAYOUT-GROUPS, OWN-GROUP, REGISTERED, STAGED-LEN, TABLE, UNREGISTERED}
+use Rattle.words.specs.Offsets.{columnStart, CAPACITY, COLUMN-KIND, DRAFT-FAMILIES, DRAFT-GROUPS, ENTITIES, EXCLUDED-LEN, GROUP-COUNTS, GROUP-FAMILIES, GROUP-PLACES, KIND-CAPACITY, LAYOUT-FAMILIES, LAYOUT-GROUPS, OWN-GROUP, PLACE-IN-FAMILY, REGISTERED, STAGED-LEN, TABLE, UNREGISTERED}
 use Rattle.words.proofs.Offsets.{columnStart-mono}
 use Rattle.words.specs.Part.{between}
 use Rattle.words.specs.Table.{table}
@@ -40,7 +40,7 @@ use Rattle.entity.specs.Meaning as entity
 
 -- the table's word of kind k, and how many slots kinds have
 abbrev pub withSlot : ℕ → ℕ → List ℕ → List ℕ
-withSlot s k w = set (set w (TABLE + k) s) 2 (s + 1)
+withSlot s k w = set (set w (TABLE + k) s) REGISTERED (s + 1)
 
 -- what the stores leave: one kind more, k, whose slot is the first that no kind had
 pub record Registers (w w′ : List ℕ) (k : ℕ) : Type 0 where
@@ -69,13 +69,13 @@ module _ (w : List ℕ) (A : Arranged w) (k : ℕ) (hk : k < MAX-KINDS) (room : 
   registers =
       let b = columnStart n s in
       let w₁ = set w (b + 1) k in
-      let w₂ = set w₁ (b + 2) 0 in
+      let w₂ = set w₁ (b + OWN-GROUP) 0 in
       let w₃ = withHead n s k w in
       let w₄ = set w₃ (TABLE + k) s in
       let w₅ = set w₄ REGISTERED (s + 1) in
-      let h₁ = headed n m s 1 k w (A .columns) room (omega arith) (omega arith) in
-      let h₂ = headed n m s 2 0 w₁ (h₁ .columns) room (omega arith) (omega arith) in
-      let h₃ = headed n m s 3 0 w₂ (h₂ .columns) room (omega arith) (omega arith) in
+      let h₁ = headed n m s COLUMN-KIND k w (A .columns) room (omega arith) (omega arith) in
+      let h₂ = headed n m s OWN-GROUP 0 w₁ (h₁ .columns) room (omega arith) (omega arith) in
+      let h₃ = headed n m s PLACE-IN-FAMILY 0 w₂ (h₂ .columns) room (omega arith) (omega arith) in
       let z₃ : length w₃ ≡ length w = h₃ .size ∙ h₂ .size ∙ h₁ .size in
       let z₄ : length w₄ ≡ length w = length-set w₃ (TABLE + k) s ∙ z₃ in
       let z₅ : length w₅ ≡ length w = length-set w₄ REGISTERED (s + 1) ∙ z₄ in
@@ -83,7 +83,7 @@ module _ (w : List ℕ) (A : Arranged w) (k : ℕ) (hk : k < MAX-KINDS) (room : 
       let f : take (columnStart n 0) w₃ ≡ take (columnStart n 0) w = h₃ .front ∙ h₂ .front ∙ h₁ .front in
       let q = start-header n in
       let d : drop (columnStart n 0) w₅ ≡ drop (columnStart n 0) w₃ =
-      drop-set-lt (columnStart n 0) w₄ 2 (s + 1) (omega arith) ∙ drop-set-lt (columnStart n 0) w₃ (TABLE + k) s (omega arith) in
+      drop-set-lt (columnStart n 0) w₄ REGISTERED (s + 1) (omega arith) ∙ drop-set-lt (columnStart n 0) w₃ (TABLE + k) s (omega arith) in
       let c : (j : ℕ) → columnOf n j w₅ ≡ columnOf n j w₃ = front-column n w₃ w₅ d in
       record {
         size = z₅;
@@ -153,7 +153,7 @@ module _ (w w′ : List ℕ) (A : Arranged w) (k : ℕ) (hk : k < MAX-KINDS) (ne
             (λ e. ap (kindAt w′) (ap (slotOf w′) e ∙ R .slot) ∙ kind-new ∙ sym e)
             (λ d.
             let ne₀ : slotOf w j ≢ UNREGISTERED = λ e. ne (slot-other j h d ∙ e) in
-            ap (kindAt w′) (slot-other j h d) ∙ head-other (slotOf w j) (T .slot j h ne₀) 1 ∙ T .back j h ne₀);
+            ap (kindAt w′) (slot-other j h d) ∙ head-other (slotOf w j) (T .slot j h ne₀) COLUMN-KIND ∙ T .back j h ne₀);
         small = λ t h. each-slot (λ (t : ℕ). kindAt w′ t < MAX-KINDS) t h (λ l. rw (head-other t l COLUMN-KIND) (T .small t l)) (rw kind-new hk);
         own =
             λ t h.
@@ -179,8 +179,8 @@ module _ (w w′ : List ℕ) (A : Arranged w) (k : ℕ) (hk : k < MAX-KINDS) (ne
       record {
         group = G .group;
         known = λ j h. registered-new (memberAt a f j) (G .known j h);
-        own = λ j l h. head-member (memberAt a f j) (G .known j h) 2 ∙ G .own j l h;
-        local = λ j l h. head-member (memberAt a f j) (G .known j h) 3 ∙ G .local j l h;
+        own = λ j l h. head-member (memberAt a f j) (G .known j h) OWN-GROUP ∙ G .own j l h;
+        local = λ j l h. head-member (memberAt a f j) (G .known j h) PLACE-IN-FAMILY ∙ G .local j l h;
       }
 
   layout-new : LayoutSound w′

@@ -3,7 +3,7 @@ use mathlib.Core.Path.{_≡_}
 use mathlib.Core.List.{List}
 use Prim.Native.Nat.{ℕ, _+_, _<_}
 use lib.ListN.{getD, set}
-use Rattle.words.specs.Offsets.{columnStart}
+use Rattle.words.specs.Offsets.{columnStart, COLUMN-KIND, OWN-GROUP, PLACE-IN-FAMILY}
 use Rattle.component.specs.Columns.{columnOf, rowsOf}
 use Rattle.component.specs.Changes.{Lent}
 use Rattle.memory.specs.Header.{capacityOf, registeredOf, slotOf}
@@ -24,4 +24,4 @@ headOf w k i = getD (columnOf (capacityOf w) (slotOf w k) w) i 0
 
 -- the head of slot s's column: its kind k, in no group
 abbrev pub withHead : ℕ → ℕ → ℕ → List ℕ → List ℕ
-withHead n s k w = set (set (set w (columnStart n s + 1) k) (columnStart n s + 2) 0) (columnStart n s + 3) 0
+withHead n s k w = set (set (set w (columnStart n s + COLUMN-KIND) k) (columnStart n s + OWN-GROUP) 0) (columnStart n s + PLACE-IN-FAMILY) 0

@@ -49,9 +49,9 @@ pub record Owned (n k s o p : ℕ) (w w′ : List ℕ) : Type 0 where
 
 pub owned : (n k s own place : ℕ) (w : List ℕ) → Columns n k w → s < k → Owned n k s own place w (withOwn n s own place w)
 owned n k s own place w c h =
-    let w₁ = set w (columnStart n s + 2) own in
-    let a = headed n k s 2 own w c h (omega arith) (omega arith) in
-    let b = headed n k s 3 place w₁ (a .columns) h (omega arith) (omega arith) in
+    let w₁ = set w (columnStart n s + OWN-GROUP) own in
+    let a = headed n k s OWN-GROUP own w c h (omega arith) (omega arith) in
+    let b = headed n k s PLACE-IN-FAMILY place w₁ (a .columns) h (omega arith) (omega arith) in
     record {
       heads =
           record {
@@ -66,7 +66,7 @@ owned n k s own place w c h =
             front = b .front ∙ a .front;
             past = b .past ∙ a .past;
           };
-      own = b .words 2 (omega arith) ∙ a .word;
+      own = b .words OWN-GROUP (omega arith) ∙ a .word;
       local = b .word;
       others = λ j hj ne. b .others j hj ne ∙ a .others j hj ne;
     }
@@ -108,7 +108,7 @@ module _ (w w′ : List ℕ) (R : HeadsReady w) (H : Heads w w′) where
   head-same s i = ap (λ (c : ℕ). getD (columnOf c s w′) i 0) capacity-same
 
   pub kind-same : (s : ℕ) → s < registeredOf w → kindAt w′ s ≡ kindAt w s
-  kind-same s h = head-same s 1 ∙ H .kinds s (omega (arith, R .few))
+  kind-same s h = head-same s COLUMN-KIND ∙ H .kinds s (omega (arith, R .few))
 
   slotted-same : (k : ℕ) → Slotted w k → Slotted w′ k
   slotted-same k S =
@@ -190,16 +190,16 @@ module _ (w : List ℕ) (R : HeadsReady w) where
         let S = same-place a (R .formed) (sized w (R .long)) f g j f′ g′ j′ N N′ (sym e) in
         let t : slotNo w′ q ≡ s = slot-same q hq ∙ ap (slotNo w) e in
         record {
-          own = ap (ownAt w′) t ∙ head-same w w′ R (change .heads) s 2 ∙ change .own ∙ add-one g ∙ ap suc (S .group);
-          local = ap (localAt w′) t ∙ head-same w w′ R (change .heads) s 3 ∙ change .local ∙ S .place;
+          own = ap (ownAt w′) t ∙ head-same w w′ R (change .heads) s OWN-GROUP ∙ change .own ∙ add-one g ∙ ap suc (S .group);
+          local = ap (localAt w′) t ∙ head-same w w′ R (change .heads) s PLACE-IN-FAMILY ∙ change .local ∙ S .place;
         })
         (λ ne.
         let U′ = U .right f′ g′ j′ N′ (omega arith) in
         let t = slot-same q hq in
         let o = slots-apart q p hq below ne in
         record {
-          own = ap (ownAt w′) t ∙ head-other (slotNo w q) 2 (slot-small q hq) o ∙ U′ .own;
-          local = ap (localAt w′) t ∙ head-other (slotNo w q) 3 (slot-small q hq) o ∙ U′ .local;
+          own = ap (ownAt w′) t ∙ head-other (slotNo w q) OWN-GROUP (slot-small q hq) o ∙ U′ .own;
+          local = ap (localAt w′) t ∙ head-other (slotNo w q) PLACE-IN-FAMILY (slot-small q hq) o ∙ U′ .local;
         })
 
     none-more : Upto w p → (t : ℕ) → t < registeredOf w → 1 ≤ ownAt w′ t → In (take (widthOf a) (a .kinds)) (kindAt w′ t)
@@ -208,7 +208,7 @@ module _ (w : List ℕ) (R : HeadsReady w) where
         (λ e. subst (In (take (widthOf a) (a .kinds))) (sym (kind-same w w′ R (change .heads) t h ∙ ap (kindAt w) e ∙ R .known p below .back)) (kind-among a (R .formed) (sized w (R .long)) p below))
         (λ ne.
         subst (In (take (widthOf a) (a .kinds))) (sym (kind-same w w′ R (change .heads) t h))
-        (U .none t h (rw (head-other t 2 (omega (arith, R .few)) ne) at o)))
+        (U .none t h (rw (head-other t OWN-GROUP (omega (arith, R .few)) ne) at o)))
 
     pub upto-more : Upto w p → Headed w w′ (p + 1)
     upto-more U =

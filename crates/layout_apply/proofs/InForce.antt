@@ -12,7 +12,7 @@ use lib.Seq.{ext-getD}
 use Rattle.model.specs.Numbers.{ENTITY-LEN, MAX-KINDS}
 use Rattle.model.specs.Sound.{In, StoreSound}
 use Rattle.model.proofs.BoolLaws.{bool-cases}
-use Rattle.words.specs.Offsets.{columnStart, BLOCK-LEN, CAPACITY, COLUMN-KIND, DRAFT, DRAFT-FAMILIES, DRAFT-GROUPS, ENTITIES, EXCLUDED-LEN, GROUP-COUNTS, GROUP-FAMILIES, GROUP-PLACES, KIND-CAPACITY, LAYOUT, LAYOUT-FAMILIES, LAYOUT-GROUPS, REGISTERED, STAGED-LEN, TABLE, UNREGISTERED}
+use Rattle.words.specs.Offsets.{columnStart, BLOCK-LEN, CALLER, CAPACITY, COLUMN-KIND, DRAFT, DRAFT-FAMILIES, DRAFT-GROUPS, ENTITIES, EXCLUDED-LEN, GROUP-COUNTS, GROUP-FAMILIES, GROUP-PLACES, KIND-CAPACITY, LAYOUT, LAYOUT-FAMILIES, LAYOUT-GROUPS, OWN-GROUP, REGISTERED, STAGED-LEN, TABLE, UNREGISTERED}
 use Rattle.words.proofs.Offsets.{columnStart-mono}
 use Rattle.words.specs.Part.{between}
 use Rattle.words.proofs.Part.{between-front, between-rest, length-between, getD-between}
@@ -141,7 +141,7 @@ module _ (w₀ w₁ : List ℕ) (A : Arranged w₀) (M : StoreSound (meaning w�
     pub upto₂ : Upto w₂ 0
     upto₂ =
         upto-none w₂
-        (λ s h. head-same w₁ w₂ ready₁ heads₂ s 2 ∙ C (kindCapacityOf w₁) (ready₁ .few) (ready₁ .columns) .none s (rw (registered-same w₁ w₂ ready₁ heads₂) at h))
+        (λ s h. head-same w₁ w₂ ready₁ heads₂ s OWN-GROUP ∙ C (kindCapacityOf w₁) (ready₁ .few) (ready₁ .columns) .none s (rw (registered-same w₁ w₂ ready₁ heads₂) at h))
 
   -- ---- the heads set
 
@@ -155,10 +155,10 @@ module _ (w₀ w₁ : List ℕ) (A : Arranged w₀) (M : StoreSound (meaning w�
     same : (i : ℕ) → i < ENTITIES → getD w i 0 ≡ getD w₁ i 0
     same i h = word-same w₁ w ready₁ H i h
 
-    low : (i : ℕ) → i < 5 → getD w i 0 ≡ getD w₀ i 0
+    low : (i : ℕ) → i < DRAFT-FAMILIES → getD w i 0 ≡ getD w₀ i 0
     low i h = same i (omega arith) ∙ P .low i h
 
-    lists : (i : ℕ) → 9 ≤ i → i < LAYOUT → getD w i 0 ≡ getD w₀ i 0
+    lists : (i : ℕ) → CALLER ≤ i → i < LAYOUT → getD w i 0 ≡ getD w₀ i 0
     lists i a b = same i (omega arith) ∙ P .lists i a b
 
     size : length w ≡ length w₀

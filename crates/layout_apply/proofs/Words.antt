@@ -6,7 +6,7 @@ use native.Mathlib.Omega.{arith}
 use lib.ListN.{length, getD, set, drop, length-set}
 use lib.Seq.{getD-set-same, getD-set-other, getD-drop}
 use Rattle.model.specs.Numbers.{MAX-GROUP-COUNT}
-use Rattle.words.specs.Offsets.{BLOCK-LEN, DRAFT, DRAFT-FAMILIES, DRAFT-GROUPS, ENDS, ENTITIES, GROUP-COUNTS, GROUP-FAMILIES, GROUP-PLACES, LAYOUT, LAYOUT-ENDS, LAYOUT-FAMILIES, LAYOUT-GROUPS}
+use Rattle.words.specs.Offsets.{BLOCK-LEN, CALLER, DRAFT, DRAFT-FAMILIES, DRAFT-GROUPS, ENDS, ENTITIES, GROUP-COUNTS, GROUP-FAMILIES, GROUP-PLACES, LAYOUT, LAYOUT-ENDS, LAYOUT-FAMILIES, LAYOUT-GROUPS}
 use Rattle.model.proofs.BoolLaws.{by-eq}
 use Rattle.model.proofs.ListLaws.{drop-same}
 use Rattle.words.proofs.Stores.{length-stores, miss, hit}
@@ -114,7 +114,7 @@ module _ (w : List ℕ) (A : Arranged w) (w₁ : List ℕ) (C : Copied w BLOCK-L
 
   pub ends-ask : (n : ℕ) → n ≡ getD w₁ DRAFT-FAMILIES 0 → EndsAsk w₁ n
   ends-ask n e =
-      let k : n ≡ draftFamilies w = e ∙ C .before 5 (omega arith) in
+      let k : n ≡ draftFamilies w = e ∙ C .before DRAFT-FAMILIES (omega arith) in
       record {
         long = omega (arith, C .size, long w A);
         few = omega (arith, families-few);
@@ -124,12 +124,12 @@ module _ (w : List ℕ) (A : Arranged w) (w₁ : List ℕ) (C : Copied w BLOCK-L
 
   pub prepared : (n : ℕ) (w₂ w₃ w₄ : List ℕ) → n ≡ getD w₁ DRAFT-FAMILIES 0 → Numbered w₁ n w₂ → Filled w₂ GROUP-COUNTS ENTITIES 0 w₃ → w₄ ≡ switched w₃ → Prepared w w₄
   prepared n w₂ w₃ w₄ e N F q =
-      let k : n ≡ draftFamilies w = e ∙ C .before 5 (omega arith) in
+      let k : n ≡ draftFamilies w = e ∙ C .before DRAFT-FAMILIES (omega arith) in
       let size₃ : length w₃ ≡ length w = F .size ∙ N .size ∙ C .size in
       let l : ENTITIES ≤ length w₃ = omega (arith, long w A) in
       let ss : List (ℕ × ℕ) = (LAYOUT-FAMILIES, getD w₃ DRAFT-FAMILIES 0) ∷ (LAYOUT-GROUPS, getD w₃ DRAFT-GROUPS 0) ∷ (DRAFT-FAMILIES, 0) ∷ (DRAFT-GROUPS, 0) ∷ [] in
       let low₃ : (i : ℕ) → i < LAYOUT → getD w₃ i 0 ≡ getD w i 0 = λ i h. F .before i (omega arith) ∙ N .before i (omega arith) ∙ C .before i h in
-      let other : (i : ℕ) → 9 ≤ i → getD (switched w₃) i 0 ≡ getD w₃ i 0 = λ i h. miss w₃ ss i (omega arith) in
+      let other : (i : ℕ) → CALLER ≤ i → getD (switched w₃) i 0 ≡ getD w₃ i 0 = λ i h. miss w₃ ss i (omega arith) in
       let size₄ : length (switched w₃) ≡ length w = length-stores w₃ ss ∙ size₃ in
       rw q
       (record {
@@ -145,8 +145,8 @@ module _ (w : List ℕ) (A : Arranged w) (w₁ : List ℕ) (C : Copied w BLOCK-L
             other (GROUP-FAMILIES + g) (omega arith) ∙ F .before (GROUP-FAMILIES + g) (omega arith)
             ∙ N .here f g (omega (arith, G .family)) (omega (arith, G .low, start-at f (omega arith))) (omega (arith, G .high, end-at f u));
         counts = λ g h. other (GROUP-COUNTS + g) (omega arith) ∙ F .here (GROUP-COUNTS + g) (omega arith) (omega arith);
-        none = hit w₃ ss 2 5 0 (omega arith) (omega arith);
-        noGroups = hit w₃ ss 3 6 0 (omega arith) (omega arith);
+        none = hit w₃ ss 2 DRAFT-FAMILIES 0 (omega arith) (omega arith);
+        noGroups = hit w₃ ss 3 DRAFT-GROUPS 0 (omega arith) (omega arith);
         low = λ i h. miss w₃ ss i (omega arith) ∙ low₃ i (omega arith);
         lists = λ i a b. other i a ∙ low₃ i b;
         rest = drop-same ENTITIES w (switched w₃) size₄ (λ i h. other i (omega arith) ∙ F .after i h ∙ N .after i (omega arith) ∙ C .after i (omega arith));

@@ -5,7 +5,7 @@ use Prim.Native.Nat.{ℕ, suc, _+_, _≤_, _<_}
 use lib.ListN.{length, getD, set, take, drop}
 use Rattle.model.specs.Numbers.{MAX-KINDS}
 use Rattle.model.specs.Sound.{In}
-use Rattle.words.specs.Offsets.{columnStart, COLUMN-KIND, ENTITIES, OWN-GROUP}
+use Rattle.words.specs.Offsets.{columnStart, COLUMN-KIND, ENTITIES, OWN-GROUP, PLACE-IN-FAMILY}
 use Rattle.component.specs.Columns.{columnOf, rowsOf, Columns}
 use Rattle.layout.specs.Layout.{Arrays, WellFormed, startOf, widthOf}
 use Rattle.layout.specs.Group.{InFamily, arityOf, priorArity}
@@ -14,7 +14,7 @@ use Rattle.memory.specs.Meaning.{kindAt, ownAt, localAt, layoutArrays}
 
 -- words 2 and 3 of the head of slot s's column
 abbrev pub withOwn : ℕ → ℕ → ℕ → ℕ → List ℕ → List ℕ
-withOwn n s own place w = set (set w (columnStart n s + 2) own) (columnStart n s + 3) place
+withOwn n s own place w = set (set w (columnStart n s + OWN-GROUP) own) (columnStart n s + PLACE-IN-FAMILY) place
 
 -- nothing has changed but words 2 and 3 of the columns' heads, in k slots of capacity n
 pub record Reheaded (n k : ℕ) (w w′ : List ℕ) : Type 0 where

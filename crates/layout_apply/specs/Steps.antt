@@ -3,7 +3,7 @@ use mathlib.Core.Path.{_≡_}
 use mathlib.Core.List.{List, [], _∷_}
 use Prim.Native.Nat.{ℕ, _+_, _≤_, _<_}
 use lib.ListN.{length, getD, drop}
-use Rattle.words.specs.Offsets.{BLOCK-LEN, DRAFT, DRAFT-FAMILIES, DRAFT-GROUPS, ENTITIES, GROUP-COUNTS, GROUP-FAMILIES, GROUP-PLACES, LAYOUT, LAYOUT-ENDS, LAYOUT-FAMILIES, LAYOUT-GROUPS}
+use Rattle.words.specs.Offsets.{BLOCK-LEN, CALLER, DRAFT, DRAFT-FAMILIES, DRAFT-GROUPS, ENTITIES, GROUP-COUNTS, GROUP-FAMILIES, GROUP-PLACES, LAYOUT, LAYOUT-ENDS, LAYOUT-FAMILIES, LAYOUT-GROUPS}
 use Rattle.model.specs.Model.{setLayout}
 use Rattle.model.specs.Store.{Store, withDraft, withStorage, withControl, withLayout}
 use Rattle.words.specs.Stores.{stores}
@@ -64,6 +64,6 @@ pub record Prepared (w w′ : List ℕ) : Type 0 where
   pub counts : (g : ℕ) → g < GROUP-PLACES → countAt w′ g ≡ 0
   pub none : draftFamilies w′ ≡ 0
   pub noGroups : draftGroups w′ ≡ 0
-  pub low : (i : ℕ) → i < 5 → getD w′ i 0 ≡ getD w i 0
-  pub lists : (i : ℕ) → 9 ≤ i → i < LAYOUT → getD w′ i 0 ≡ getD w i 0
+  pub low : (i : ℕ) → i < DRAFT-FAMILIES → getD w′ i 0 ≡ getD w i 0
+  pub lists : (i : ℕ) → CALLER ≤ i → i < LAYOUT → getD w′ i 0 ≡ getD w i 0
   pub rest : drop ENTITIES w′ ≡ drop ENTITIES w

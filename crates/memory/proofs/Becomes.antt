@@ -11,7 +11,7 @@ use lib.Seq.{getD-set-same, getD-set-other, drop-set-lt, ext-getD}
 use Rattle.model.specs.Numbers.{ENTITY-LEN, LIST-CAPACITY, MAX-KINDS, columnLen}
 use Rattle.model.specs.Model.{Entities, SparseSet, Storage, setOf}
 use Rattle.model.specs.Store.{onSet, withEntities, onStorage, withLayout, Settings, Store, wordsNeeded, withEntities, withControl, onStorage, withLayout, onSet}
-use Rattle.words.specs.Offsets.{columnStart, DRAFT-FAMILIES, DRAFT-GROUPS, ENTITIES, EXCLUDED-LEN, GROUP-COUNTS, GROUP-FAMILIES, GROUP-PLACES, LAYOUT, STAGED-KINDS, STAGED-LEN, TABLE, UNREGISTERED, REFUSALS}
+use Rattle.words.specs.Offsets.{columnStart, CALLER, DRAFT-FAMILIES, DRAFT-GROUPS, ENTITIES, EXCLUDED-LEN, GROUP-COUNTS, GROUP-FAMILIES, GROUP-PLACES, LAYOUT, LAYOUT-FAMILIES, LAYOUT-GROUPS, MORE-SETTINGS, REFUSALS, REGISTERED, STAGED-KINDS, STAGED-LEN, TABLE, UNREGISTERED}
 use Rattle.words.proofs.Offsets.{columnStart-mono}
 use Rattle.words.specs.Part.{between}
 use Rattle.words.proofs.Part.{between-rest, length-between, getD-between}
@@ -172,7 +172,7 @@ module _ (w w′ : List ℕ) (A : Arranged w) (f : Entities → Entities) (o : E
       record {
         arranged =
             arranged-kept A K (o .sound) (columns-rest w w′ A (o .size) e le (o .rest)) (vacant-rest w w′ A (o .size) e le (o .rest))
-            (rw (entity-word 3 (omega arith)) (A .staged)) (rw (entity-word 4 (omega arith)) (A .excluded)) (D .0) (D .1);
+            (rw (entity-word STAGED-LEN (omega arith)) (A .staged)) (rw (entity-word EXCLUDED-LEN (omega arith)) (A .excluded)) (D .0) (D .1);
         means =
             reads-means
             (record {
@@ -192,9 +192,9 @@ module _ (w w′ : List ℕ) (A : Arranged w) (f : Entities → Entities) (o : E
 -- the settings, the tables, the layout in force and all past the header are as they were
 pub record Static (w w′ : List ℕ) : Type 0 where
   pub size : length w′ ≡ length w
-  pub limits : (i : ℕ) → i < 3 → getD w′ i 0 ≡ getD w i 0
-  pub force : (i : ℕ) → 7 ≤ i → i < 9 → getD w′ i 0 ≡ getD w i 0
-  pub told : (i : ℕ) → 10 ≤ i → i < REFUSALS → getD w′ i 0 ≡ getD w i 0
+  pub limits : (i : ℕ) → i < STAGED-LEN → getD w′ i 0 ≡ getD w i 0
+  pub force : (i : ℕ) → LAYOUT-FAMILIES ≤ i → i < CALLER → getD w′ i 0 ≡ getD w i 0
+  pub told : (i : ℕ) → MORE-SETTINGS ≤ i → i < REFUSALS → getD w′ i 0 ≡ getD w i 0
   pub table : (i : ℕ) → TABLE ≤ i → i < STAGED-KINDS → getD w′ i 0 ≡ getD w i 0
   pub layout : (i : ℕ) → LAYOUT ≤ i → i < GROUP-COUNTS → getD w′ i 0 ≡ getD w i 0
   pub rest : drop ENTITIES w′ ≡ drop ENTITIES w
@@ -208,11 +208,11 @@ module _ (w w′ : List ℕ) (A : Arranged w) (S : Static w w′) where
       record {
         size = S .size;
         settings = settings-kept w w′ (λ i h. S .limits i (omega arith)) (S .told);
-        registered = S .limits 2 (omega arith);
+        registered = S .limits REGISTERED (omega arith);
         slots = λ k h. S .table (TABLE + k) (omega arith) (omega arith);
         heads = λ s h i a b. ap (λ (u : List ℕ). getD u i 0) (column-rest w w′ A (S .size) ENTITIES static-le (S .rest) s);
-        layout = layout-arrays-same w w′ (S .size) (long w A) (S .force 7 (omega arith) (omega arith)) (λ i a b. S .layout i a (omega arith));
-        groups = S .force 8 (omega arith) (omega arith);
+        layout = layout-arrays-same w w′ (S .size) (long w A) (S .force LAYOUT-FAMILIES (omega arith) (omega arith)) (λ i a b. S .layout i a (omega arith));
+        groups = S .force LAYOUT-GROUPS (omega arith) (omega arith);
         families = λ g h. S .layout (GROUP-FAMILIES + g) (omega arith) (omega arith);
       }
 

@@ -52,10 +52,10 @@ module _ (n k : ℕ) (w w₁ w₂ : List ℕ) (L : Limits n k) (enough : columnS
   size : length w′ ≡ length w
   size = length-set (set w₂ CAPACITY n) KIND-CAPACITY k ∙ length-set w₂ CAPACITY n ∙ T .size ∙ C .size
 
-  other : (i : ℕ) → 2 ≤ i → getD w′ i 0 ≡ getD w₂ i 0
+  other : (i : ℕ) → REGISTERED ≤ i → getD w′ i 0 ≡ getD w₂ i 0
   other i h = getD-set-other (set w₂ CAPACITY n) KIND-CAPACITY i k 0 (omega arith) ∙ getD-set-other w₂ CAPACITY i n 0 (omega arith)
 
-  low : (i : ℕ) → 2 ≤ i → i < TABLE → getD w′ i 0 ≡ 0
+  low : (i : ℕ) → REGISTERED ≤ i → i < TABLE → getD w′ i 0 ≡ 0
   low i a b = other i a ∙ T .low i b ∙ C .zero i (omega (arith, past-header))
 
   high : (i : ℕ) → STAGED-KINDS ≤ i → i < end → getD w′ i 0 ≡ 0
@@ -65,7 +65,7 @@ module _ (n k : ℕ) (w w₁ w₂ : List ℕ) (L : Limits n k) (enough : columnS
   free j h = other (TABLE + j) (omega arith) ∙ T .free j h
 
   cap : capacityOf w′ ≡ n
-  cap = getD-set-other (set w₂ CAPACITY n) KIND-CAPACITY 0 k 0 (omega arith) ∙ getD-set-same w₂ CAPACITY n 0 (omega (arith, T .size, C .size, past-header, enough))
+  cap = getD-set-other (set w₂ CAPACITY n) KIND-CAPACITY CAPACITY k 0 (omega arith) ∙ getD-set-same w₂ CAPACITY n 0 (omega (arith, T .size, C .size, past-header, enough))
 
   kcap : kindCapacityOf w′ ≡ k
   kcap = getD-set-same (set w₂ CAPACITY n) KIND-CAPACITY k 0 (omega (arith, length-set w₂ CAPACITY n, T .size, C .size, past-header, enough))

@@ -6,7 +6,7 @@ use native.Mathlib.Omega.{arith}
 use lib.ListN.{length, getD}
 use Rattle.model.specs.Numbers.{ENTITY-LEN, LIST-CAPACITY}
 use Rattle.model.specs.Store.{Store}
-use Rattle.words.specs.Offsets.{columnStart, BLOCK-LEN, DRAFT, DRAFT-FAMILIES, DRAFT-GROUPS, ENTITIES, EXCLUDED-KINDS, EXCLUDED-LEN, GROUP-COUNTS, GROUP-FAMILIES, LAYOUT, LAYOUT-FAMILIES, LAYOUT-GROUPS, REFUSALS, REGISTERED, ROWS, STAGED-KINDS, STAGED-LEN, STAGED-VALUES, TABLE}
+use Rattle.words.specs.Offsets.{columnStart, BLOCK-LEN, CALLER, CAPACITY, DRAFT, DRAFT-FAMILIES, DRAFT-GROUPS, ENTITIES, EXCLUDED-KINDS, EXCLUDED-LEN, GROUP-COUNTS, GROUP-FAMILIES, KIND-CAPACITY, LAYOUT, LAYOUT-FAMILIES, LAYOUT-GROUPS, MORE-SETTINGS, REFUSALS, REGISTERED, ROWS, STAGED-KINDS, STAGED-LEN, STAGED-VALUE-LEN, STAGED-VALUES, TABLE}
 use Rattle.words.proofs.Offsets.{columnStart-needed, columnStart-mono}
 use Rattle.words.specs.Part.{between}
 use Rattle.words.proofs.Part.{length-between, between-same}
@@ -52,7 +52,7 @@ module _ (w w′ : List ℕ) (size : length w′ ≡ length w) where
   staged-same few e same =
       ap (λ (n : ℕ). table n (stagedAt w′)) e
       ∙ table-same (record { kind = 0; value = 0 }) (stagedLen w) (stagedAt w) (stagedAt w′)
-      (λ i h. rw (same (STAGED-KINDS + i) (omega arith) (omega arith), same (STAGED-VALUES + 4 * i) (omega arith) (omega arith), same (STAGED-VALUES + 4 * i + 1) (omega arith) (omega arith)))
+      (λ i h. rw (same (STAGED-KINDS + i) (omega arith) (omega arith), same (STAGED-VALUES + STAGED-VALUE-LEN * i) (omega arith) (omega arith), same (STAGED-VALUES + STAGED-VALUE-LEN * i + 1) (omega arith) (omega arith)))
 
   pub excluded-same : excludedLen w ≤ LIST-CAPACITY → getD w′ EXCLUDED-LEN 0 ≡ getD w EXCLUDED-LEN 0 → ((i : ℕ) → EXCLUDED-KINDS ≤ i → i < DRAFT → getD w′ i 0 ≡ getD w i 0) → excludedIn w′ ≡ excludedIn w
   unfolding excludedIn
@@ -60,12 +60,12 @@ module _ (w w′ : List ℕ) (size : length w′ ≡ length w) where
       ap (λ (n : ℕ). table n (excludedAt w′)) e
       ∙ table-same 0 (excludedLen w) (excludedAt w) (excludedAt w′) (λ i h. same (EXCLUDED-KINDS + i) (omega arith) (omega arith))
 
--- the settings stay if words 0 and 1 do, and words 10 to 15, which are for more of them
-pub settings-kept : (w w′ : List ℕ) → ((i : ℕ) → i < 2 → getD w′ i 0 ≡ getD w i 0) → ((i : ℕ) → 10 ≤ i → i < REFUSALS → getD w′ i 0 ≡ getD w i 0) → settingsOf w′ ≡ settingsOf w
-settings-kept w w′ size more = λ j. record { capacity = size 0 (omega arith) j; kindCapacity = size 1 (omega arith) j }
+-- the settings stay if their words do, and those that are kept for more of them
+pub settings-kept : (w w′ : List ℕ) → ((i : ℕ) → i < REGISTERED → getD w′ i 0 ≡ getD w i 0) → ((i : ℕ) → MORE-SETTINGS ≤ i → i < REFUSALS → getD w′ i 0 ≡ getD w i 0) → settingsOf w′ ≡ settingsOf w
+settings-kept w w′ size more = λ j. record { capacity = size CAPACITY (omega arith) j; kindCapacity = size KIND-CAPACITY (omega arith) j }
 
--- the counts stay if words 9 to 31 do
-pub counts-kept : (w w′ : List ℕ) → ((i : ℕ) → 9 ≤ i → i < TABLE → getD w′ i 0 ≡ getD w i 0) → countsIn w′ ≡ countsIn w
+-- the counts stay if the words from the caller to the table of kinds do
+pub counts-kept : (w w′ : List ℕ) → ((i : ℕ) → CALLER ≤ i → i < TABLE → getD w′ i 0 ≡ getD w i 0) → countsIn w′ ≡ countsIn w
 counts-kept w w′ same = λ j. record { refusals = same REFUSALS (omega arith) (omega arith) j }
 
 -- well-arranged words have a header

@@ -6,7 +6,7 @@ use Prim.Native.Nat.{ℕ, _-_, _≤_, _<_}
 use native.Mathlib.Omega.{arith}
 use lib.ListN.{length, getD, take}
 use Rattle.model.specs.Numbers.{LIST-CAPACITY, MAX-KINDS}
-use Rattle.words.specs.Offsets.{GROUP-PLACES, ROWS, UNREGISTERED}
+use Rattle.words.specs.Offsets.{COLUMN-KIND, GROUP-PLACES, OWN-GROUP, PLACE-IN-FAMILY, ROWS, UNREGISTERED}
 use Rattle.words.specs.Table.{table}
 use Rattle.words.proofs.Tables.{table-same}
 use Rattle.component.specs.Columns.{columnOf, rowsOf, Columns}
@@ -44,13 +44,13 @@ module _ {w w′ : List ℕ} (A : Arranged w) (K : Kept w w′) where
   registered-slot s h = omega (arith, A .table .few)
 
   pub kind-kept : (s : ℕ) → s < registeredOf w → kindAt w′ s ≡ kindAt w s
-  kind-kept s h = head-kept s (registered-slot s h) 1 (omega arith) (omega arith)
+  kind-kept s h = head-kept s (registered-slot s h) COLUMN-KIND (omega arith) (omega arith)
 
   own-kept : (s : ℕ) → s < registeredOf w → ownAt w′ s ≡ ownAt w s
-  own-kept s h = head-kept s (registered-slot s h) 2 (omega arith) (omega arith)
+  own-kept s h = head-kept s (registered-slot s h) OWN-GROUP (omega arith) (omega arith)
 
   local-kept : (s : ℕ) → s < registeredOf w → localAt w′ s ≡ localAt w s
-  local-kept s h = head-kept s (registered-slot s h) 3 (omega arith) (omega arith)
+  local-kept s h = head-kept s (registered-slot s h) PLACE-IN-FAMILY (omega arith) (omega arith)
 
   pub kinds-kept : kindsIn w′ ≡ kindsIn w
   unfolding kindsIn

@@ -2,7 +2,7 @@
 use mathlib.Core.List.{List}
 use Prim.Native.Nat.{ℕ, _+_, _*_}
 use lib.ListN.{getD}
-use Rattle.words.specs.Offsets.{CAPACITY, DRAFT-FAMILIES, DRAFT-GROUPS, EXCLUDED-KINDS, EXCLUDED-LEN, GROUP-COUNTS, GROUP-FAMILIES, KIND-CAPACITY, LAYOUT-FAMILIES, LAYOUT-GROUPS, REFUSALS, REGISTERED, STAGED-KINDS, STAGED-LEN, STAGED-VALUES, TABLE}
+use Rattle.words.specs.Offsets.{CAPACITY, DRAFT-FAMILIES, DRAFT-GROUPS, EXCLUDED-KINDS, EXCLUDED-LEN, GROUP-COUNTS, GROUP-FAMILIES, KIND-CAPACITY, LAYOUT-FAMILIES, LAYOUT-GROUPS, REFUSALS, REGISTERED, STAGED-KINDS, STAGED-LEN, STAGED-VALUE-LEN, STAGED-VALUES, TABLE}
 
 -- capacity N (entities) and K (kinds), and how many kinds are registered
 abbrev pub capacityOf : List ℕ → ℕ
@@ -45,10 +45,10 @@ abbrev pub stagedKindAt : List ℕ → ℕ → ℕ
 stagedKindAt w i = getD w (STAGED-KINDS + i) 0
 
 abbrev pub stagedLowAt : List ℕ → ℕ → ℕ
-stagedLowAt w i = getD w (STAGED-VALUES + 4 * i) 0
+stagedLowAt w i = getD w (STAGED-VALUES + STAGED-VALUE-LEN * i) 0
 
 abbrev pub stagedHighAt : List ℕ → ℕ → ℕ
-stagedHighAt w i = getD w (STAGED-VALUES + 4 * i + 1) 0
+stagedHighAt w i = getD w (STAGED-VALUES + STAGED-VALUE-LEN * i + 1) 0
 
 abbrev pub excludedAt : List ℕ → ℕ → ℕ
 excludedAt w i = getD w (EXCLUDED-KINDS + i) 0

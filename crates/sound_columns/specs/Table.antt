@@ -12,7 +12,7 @@ use Rattle.sound_columns.specs.Slots.{headAt}
 -- kind k, where it is registered, has a slot in use whose column says k
 pub record KindOk (n reg : ℕ) (w : List ℕ) (k : ℕ) : Type 0 where
   pub slot : slotOf w k ≢ UNREGISTERED → slotOf w k < reg
-  pub back : slotOf w k ≢ UNREGISTERED → headAt n w (slotOf w k) 1 ≡ k
+  pub back : slotOf w k ≢ UNREGISTERED → headAt n w (slotOf w k) COLUMN-KIND ≡ k
 
 -- the column in slot s says a kind, whose slot is s
 pub record SlotOk (n : ℕ) (w : List ℕ) (s : ℕ) : Type 0 where

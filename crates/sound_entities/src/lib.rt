@@ -15,19 +15,19 @@ fn counts_ok(part: &[u32], n: usize) -> bool
     requires { ⌜ Sized n (now part) ⌝ }
     ensures { λ r. ⌜ Decides r (Counts n (now (part .entry))) ⌝ }
 {
-    let issued = part[1] as usize;
+    let issued = part[words::ISSUED] as usize;
     if n < issued {
         return false;
     }
-    let live = part[0] as usize;
+    let live = part[words::LIVE_LEN] as usize;
     if n < live {
         return false;
     }
-    let head = part[2] as usize;
+    let head = part[words::QUEUE_HEAD] as usize;
     if n <= head {
         return false;
     }
-    let recycled = part[3] as usize;
+    let recycled = part[words::RECYCLED_LEN] as usize;
     if n < recycled {
         return false;
     }
@@ -39,19 +39,19 @@ fn live_ok(part: &[u32], n: usize, i: usize) -> bool
     requires { ⌜ Sized n (now part) × (i < n) ⌝ }
     ensures { λ r. ⌜ Decides r (LiveOk n (now (part .entry)) i) ⌝ }
 {
-    let index = part[8 + 2 * i] as usize;
-    let issued = part[1] as usize;
+    let index = part[words::LIVE_LIST + 2 * i] as usize;
+    let issued = part[words::ISSUED] as usize;
     if issued <= index {
         return false;
     }
     if n <= index {
         return false;
     }
-    let version = part[8 + 2 * i + 1];
+    let version = part[words::LIVE_LIST + 2 * i + 1];
     if version < 1 {
         return false;
     }
-    let slot = 8 + 2 * n + 2 * index;
+    let slot = words::LIVE_LIST + 2 * n + 2 * index;
     let place = part[slot] as usize;
     if place != i {
         return false;
@@ -68,7 +68,7 @@ fn live_list_ok(part: &[u32], n: usize) -> bool
     requires { ⌜ Counts n (now part) ⌝ }
     ensures { λ r. ⌜ Decides r (Each (lenOf (now (part .entry))) (LiveOk n (now (part .entry)))) ⌝ }
 {
-    let k = part[0] as usize;
+    let k = part[words::LIVE_LEN] as usize;
     let mut i = 0;
     while i < k {
         if !live_ok(part, n, i) {
@@ -85,10 +85,10 @@ fn waits_ok(part: &[u32], n: usize, j: usize) -> bool
     requires { ⌜ Counts n (now part) ⌝ }
     ensures { λ r. ⌜ Decides r (WaitsOk n (now (part .entry)) j) ⌝ }
 {
-    let place = wrap(n, part[2] as usize + j);
-    let at = 8 + 4 * n + 2 * place;
+    let place = wrap(n, part[words::QUEUE_HEAD] as usize + j);
+    let at = words::LIVE_LIST + 4 * n + 2 * place;
     let index = part[at] as usize;
-    let issued = part[1] as usize;
+    let issued = part[words::ISSUED] as usize;
     if issued <= index {
         return false;
     }
@@ -96,11 +96,11 @@ fn waits_ok(part: &[u32], n: usize, j: usize) -> bool
     if version < 1 {
         return false;
     }
-    let slot = part[8 + 6 * n + index] as usize;
+    let slot = part[words::LIVE_LIST + 6 * n + index] as usize;
     if slot != place + 1 {
         return false;
     }
-    let held = part[8 + 2 * n + 2 * index + 1];
+    let held = part[words::LIVE_LIST + 2 * n + 2 * index + 1];
     if held != 0 {
         return false;
     }
@@ -112,7 +112,7 @@ fn queue_ok(part: &[u32], n: usize) -> bool
     requires { ⌜ Counts n (now part) ⌝ }
     ensures { λ r. ⌜ Decides r (Each (recycledLen (now (part .entry))) (WaitsOk n (now (part .entry)))) ⌝ }
 {
-    let k = part[3] as usize;
+    let k = part[words::RECYCLED_LEN] as usize;
     let mut j = 0;
     while j < k {
         if !waits_ok(part, n, j) {
@@ -129,17 +129,17 @@ fn lookup_ok(part: &[u32], n: usize, x: usize) -> bool
     requires { ⌜ Counts n (now part) ⌝ }
     ensures { λ r. ⌜ Decides r (LookupOk n (now (part .entry)) x) ⌝ }
 {
-    let slot = 8 + 2 * n + 2 * x;
+    let slot = words::LIVE_LIST + 2 * n + 2 * x;
     let held = part[slot + 1];
     if held < 1 {
         return true;
     }
     let place = part[slot] as usize;
-    let k = part[0] as usize;
+    let k = part[words::LIVE_LEN] as usize;
     if k <= place {
         return false;
     }
-    let index = part[8 + 2 * place] as usize;
+    let index = part[words::LIVE_LIST + 2 * place] as usize;
     if index != x {
         return false;
     }
@@ -163,7 +163,7 @@ fn listed_ok(part: &[u32], n: usize, x: usize) -> bool
     requires { ⌜ Counts n (now part) ⌝ }
     ensures { λ r. ⌜ Decides r (ListedOk n (now (part .entry)) x) ⌝ }
 {
-    let slot = part[8 + 6 * n + x] as usize;
+    let slot = part[words::LIVE_LIST + 6 * n + x] as usize;
     if slot < 1 {
         return true;
     }
@@ -171,12 +171,12 @@ fn listed_ok(part: &[u32], n: usize, x: usize) -> bool
         return false;
     }
     let place = slot - 1;
-    let others = behind(n, part[2] as usize, place);
-    let k = part[3] as usize;
+    let others = behind(n, part[words::QUEUE_HEAD] as usize, place);
+    let k = part[words::RECYCLED_LEN] as usize;
     if k <= others {
         return false;
     }
-    let index = part[8 + 4 * n + 2 * place] as usize;
+    let index = part[words::LIVE_LIST + 4 * n + 2 * place] as usize;
     if index != x {
         return false;
     }

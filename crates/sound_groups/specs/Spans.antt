@@ -5,7 +5,7 @@ use Prim.Native.Nat.{ℕ, suc, _+_, _-_, _≤_, _<_}
 use lib.Dec.{eqb}
 use lib.ListN.{length, getD}
 use Rattle.model.specs.Numbers.{MAX-GROUP-COUNT, MAX-KINDS}
-use Rattle.words.specs.Offsets.{COLUMN-KIND, ENTITIES, LAYOUT, LAYOUT-ARITIES, OWN-GROUP}
+use Rattle.words.specs.Offsets.{COLUMN-KIND, ENTITIES, LAYOUT, LAYOUT-ARITIES, OWN-GROUP, PLACE-IN-FAMILY}
 use Rattle.model.specs.Model.{mem}
 use Rattle.model.specs.Sound.{In}
 use Rattle.component.specs.Changes.{Lent}
@@ -50,8 +50,8 @@ pub record Force (n families : ℕ) (w : List ℕ) : Type 0 where
 
 -- the head of the column of the kind at word j says its own group and its place in its family
 pub record HeadOk (n : ℕ) (w : List ℕ) (g first j : ℕ) : Type 0 where
-  pub own : headAt n w (slotOf w (getD w j 0)) 2 ≡ suc g
-  pub local : headAt n w (slotOf w (getD w j 0)) 3 ≡ j - first
+  pub own : headAt n w (slotOf w (getD w j 0)) OWN-GROUP ≡ suc g
+  pub local : headAt n w (slotOf w (getD w j 0)) PLACE-IN-FAMILY ≡ j - first
 
 -- so do the heads of all new kinds of group g of family f
 abbrev pub NewOk : ℕ → List ℕ → ℕ → ℕ → Type 0

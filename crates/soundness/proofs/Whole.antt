@@ -17,7 +17,7 @@ use Rattle.model.specs.Model.{Entity, sameEntity, noRow, kindOf, entityOf, isLi
 use Rattle.model.specs.Sound.{cnt, In, Distinct, KindsSound, EntitiesSound, SetsSound, StagedSound, ExcludedSound, Buildable, AllRight}
 use Rattle.model.proofs.Numbers.{cnt-num}
 use Rattle.model.proofs.KindLists.{in-count, count-in, at-in}
-use Rattle.words.specs.Offsets.{columnStart, BLOCK-LEN, COLUMN-KIND, DRAFT, ENTITIES, EXCLUDED-KINDS, GROUP-COUNTS, GROUP-FAMILIES, LAYOUT, LAYOUT-ARITIES, LAYOUT-KIND-ENDS, REFUSALS, ROWS, STAGED-KINDS, STAGED-VALUES, TABLE, UNREGISTERED}
+use Rattle.words.specs.Offsets.{columnStart, BLOCK-LEN, COLUMN-KIND, DRAFT, ENTITIES, EXCLUDED-KINDS, GROUP-COUNTS, GROUP-FAMILIES, LAYOUT, LAYOUT-ARITIES, LAYOUT-KIND-ENDS, REFUSALS, ROWS, STAGED-KINDS, STAGED-VALUE-LEN, STAGED-VALUES, TABLE, UNREGISTERED}
 use Rattle.words.proofs.Offsets.{columnStart-mono}
 use Rattle.words.specs.Part.{between}
 use Rattle.words.proofs.Part.{getD-between, length-between, between-below}
@@ -156,7 +156,7 @@ module _ (w : List ℕ) where
     staged-are bits long L =
         staged-sound (kindsIn w) (stagedLen w) (stagedAt w) (between STAGED-KINDS (STAGED-KINDS + stagedLen w) w) (staged-words (L .few) long) (L .few) (L .listed .once .once)
         (of-listed (between STAGED-KINDS (STAGED-KINDS + stagedLen w) w) (L .listed))
-        (λ i. value-eight n w (stagedLowAt w i) (stagedHighAt w i) (bits (STAGED-VALUES + 4 * i)) (bits (STAGED-VALUES + 4 * i + 1)))
+        (λ i. value-eight n w (stagedLowAt w i) (stagedHighAt w i) (bits (STAGED-VALUES + STAGED-VALUE-LEN * i)) (bits (STAGED-VALUES + STAGED-VALUE-LEN * i + 1)))
 
     are-staged : ENTITIES ≤ length w → stagedLen w ≤ LIST-CAPACITY → StagedSound (kindsIn w) (stagedIn w) → ListOk w STAGED-KINDS (stagedLen w)
     unfolding stagedIn

@@ -77,7 +77,7 @@ pub record Given (w : List ℕ) (k a e : ℕ) : Type 0 where
 none-of : (k a e : ℕ) (s : Store) (o : Option ℕ) → columnRefusal k a e s ≡ o → numberOf o ≡ 0 → columnRefusal k a e s ≡ none
 unfolding columnRefusal
 none-of k a e s none p z = p
-none-of k a e s (some n) p z = absurd (omega (arith, z, first-number columnLines (record { kind = k; start = a; end = e; store = s }) 7 16 n (omega arith) p .0))
+none-of k a e s (some n) p z = absurd (omega (arith, z, first-number columnLines (record { kind = k; start = a; end = e; store = s }) KIND BEYOND n (omega arith) p .0))
 
 pub given-of : (w : List ℕ) (k a e r : ℕ) → ColumnNumbered w k a e r → r ≡ 0 → Given w k a e
 given-of w k a e r C z = go (C .sound) (C .decides) (C .number)

@@ -3,7 +3,7 @@
 use mathlib.Core.Path.{_≡_, refl, sym, ap, _∙_}
 use mathlib.Core.Bool.{Bool, true, false}
 use mathlib.Core.List.{List}
-use Prim.Native.Nat.{ℕ, _≤_}
+use Prim.Native.Nat.{_<_, _≤_, ℕ}
 use native.Mathlib.Nat.{zero-add}
 use native.Mathlib.Omega.{arith}
 use lib.ListN.{length, take}
@@ -11,6 +11,7 @@ use Rattle.model.specs.Refusals.{Line, firstLine, NoneHolds, numberOf, otherLin
 use Rattle.model.specs.Entries.{Emitted, refusesEmit, writes, emitted, emittedNumber, emittedBytes, Emits}
 use Rattle.model.proofs.Lines.{NumbersIn}
 use Rattle.model.proofs.Emitting.{emitted-writes, emitted-number, emitted-zero, emits-bytes, emits-refused, refused-emits, written-emits}
+use Rattle.model.specs.Numbers.{UNSOUND}
 use Rattle.words.specs.Decides.{Decides}
 use Rattle.memory.specs.Arranged.{Sound}
 use Rattle.snapshot.specs.Wrote.{WrittenUntil}
@@ -59,7 +60,7 @@ module _ {A : Type 0} (ls : List (Line A)) (a : A) (b : List ℕ) (lo hi : ℕ) 
   over-number true = emitted-number ls a b
   over-number false = refl
 
-  pub over-refusals : (w o o′ : List ℕ) (n k : ℕ) → 4 ≤ lo → EmitsOver w o o′ n k (emitted ls a b) → Judged w ls a n
+  pub over-refusals : (w o o′ : List ℕ) (n k : ℕ) → UNSOUND < lo → EmitsOver w o o′ n k (emitted ls a b) → Judged w ls a n
   over-refusals w o o′ n k l E = judged w ls a n (E .sound) lo hi l h (E .decides) (E .emits .number ∙ over-number (E .sound))
 
   -- what an accepted one wrote

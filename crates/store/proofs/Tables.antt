@@ -3,12 +3,13 @@ use mathlib.Core.Path.{_≡_, refl, sym, ap, _∙_}
 use mathlib.Core.Bool.{Bool, true, false}
 use mathlib.Core.Option.{Option, some, none}
 use mathlib.Core.List.{List}
-use Prim.Native.Nat.{ℕ, suc, _≤_}
+use Prim.Native.Nat.{suc, _<_, _≤_, ℕ}
 use native.Mathlib.Omega.{arith}
 use Rattle.model.specs.Store.{Store, empty}
 use Rattle.model.specs.Refusals.{Line, firstLine, numberOf, startLines, otherLines}
 use Rattle.model.specs.Entries.{startedBy, start}
 use Rattle.model.proofs.Lines.{first-exact, none-exact, NumbersIn, first-number}
+use Rattle.model.specs.Numbers.{UNSOUND}
 use Rattle.words.specs.Decides.{Decides}
 use Rattle.memory.specs.Arranged.{Sound}
 use Rattle.store.specs.Entries.{startNumber, firstRefusal}
@@ -31,7 +32,7 @@ module _ {A : Type 0} (ls : List (Line A)) (x : A) where
       number-none none p z = p
       number-none (some n) p z = absurd (omega (arith, l, z, first-number ls x lo hi n h p .0))
 
-pub judged : {A : Type 0} (w : List ℕ) (ls : List (Line A)) (x : A) (r : ℕ) (b : Bool) (lo hi : ℕ) → 4 ≤ lo → NumbersIn lo hi ls → Decides b (Sound w) → r ≡ numberOf (firstRefusal (firstLine otherLines b) (firstLine ls x)) → Judged w ls x r
+pub judged : {A : Type 0} (w : List ℕ) (ls : List (Line A)) (x : A) (r : ℕ) (b : Bool) (lo hi : ℕ) → UNSOUND < lo → NumbersIn lo hi ls → Decides b (Sound w) → r ≡ numberOf (firstRefusal (firstLine otherLines b) (firstLine ls x)) → Judged w ls x r
 judged w ls x r false lo hi l h d e = record { unsound = ((λ q. d), (λ n. e)); sound = λ S. absurd (d S) }
 judged w ls x r true lo hi l h d e =
     record {

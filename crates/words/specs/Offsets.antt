@@ -35,6 +35,13 @@ LAYOUT-FAMILIES = 7
 abbrev pub LAYOUT-GROUPS : ℕ
 LAYOUT-GROUPS = 8
 
+-- kept: for a caller, and from the next word on, up to the refusal count, for what else a start is told. No code reads or writes them yet
+abbrev pub CALLER : ℕ
+CALLER = 9
+
+abbrev pub MORE-SETTINGS : ℕ
+MORE-SETTINGS = 10
+
 -- the refusal count
 abbrev pub REFUSALS : ℕ
 REFUSALS = 16
@@ -52,6 +59,9 @@ STAGED-KINDS = 160
 
 abbrev pub STAGED-VALUES : ℕ
 STAGED-VALUES = 176
+
+abbrev pub STAGED-VALUE-LEN : ℕ
+STAGED-VALUE-LEN = 4
 
 abbrev pub EXCLUDED-KINDS : ℕ
 EXCLUDED-KINDS = 240
@@ -100,7 +110,28 @@ GROUP-COUNTS = 960
 abbrev pub ENTITIES : ℕ
 ENTITIES = HEADER-LEN
 
--- ---- a column's head: its kind, the kind's own group plus one, the kind's place in its family; the rows follow the head
+-- ---- the entity part: how many are live, how many numbers are issued, where the queue of recycled numbers begins and how many it has; the live
+-- list follows
+
+abbrev pub LIVE-LEN : ℕ
+LIVE-LEN = 0
+
+abbrev pub ISSUED : ℕ
+ISSUED = 1
+
+abbrev pub QUEUE-HEAD : ℕ
+QUEUE-HEAD = 2
+
+abbrev pub RECYCLED-LEN : ℕ
+RECYCLED-LEN = 3
+
+abbrev pub LIVE-LIST : ℕ
+LIVE-LIST = 8
+
+-- ---- a column's head: how many rows it has, its kind, the kind's own group plus one, the kind's place in its family; the rows follow the head
+
+abbrev pub ROWS-LEN : ℕ
+ROWS-LEN = 0
 
 abbrev pub COLUMN-KIND : ℕ
 COLUMN-KIND = 1

@@ -1,5 +1,5 @@
-// The arrangement of the lent words (docs/WORDS.md): the offsets of the header, of a layout's block and of a column's head, and where the columns start.
-// The offsets inside the entity part and past a column's head are with the crates `entity` and `component`.
+// The arrangement of the lent words (docs/WORDS.md): the offsets of the header, of a layout's block, of the entity part and of a column, and where the
+// columns start.
 ghost use mathlib.Core.Path.{_≡_};
 ghost use Prim.Native.Nat.{_<_, _≤_};
 ghost use lib.ListN.{length};
@@ -36,6 +36,8 @@ pub const STAGED_KINDS: usize = 160;
 
 pub const STAGED_VALUES: usize = 176;
 
+pub const STAGED_VALUE_LEN: usize = 4;
+
 pub const EXCLUDED_KINDS: usize = 240;
 // Two blocks of 320 words: kinds in order, arities, kind ends, group ends.
 pub const DRAFT: usize = 256;
@@ -63,7 +65,19 @@ pub const GROUP_FAMILIES: usize = 896;
 pub const GROUP_COUNTS: usize = 960;
 // The entity part follows the header.
 pub const ENTITIES: usize = model::HEADER_LEN;
-// A column's head: its kind, the kind's own group plus one, the kind's place in its family. The rows follow the head.
+// The entity part: how many are live, how many numbers are issued, where the queue of recycled numbers begins and how many it has. The live list follows.
+pub const LIVE_LEN: usize = 0;
+
+pub const ISSUED: usize = 1;
+
+pub const QUEUE_HEAD: usize = 2;
+
+pub const RECYCLED_LEN: usize = 3;
+
+pub const LIVE_LIST: usize = 8;
+// A column's head: how many rows it has, its kind, the kind's own group plus one, the kind's place in its family. The rows follow the head.
+pub const ROWS_LEN: usize = 0;
+
 pub const COLUMN_KIND: usize = 1;
 
 pub const OWN_GROUP: usize = 2;

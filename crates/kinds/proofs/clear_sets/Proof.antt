@@ -1,15 +1,16 @@
 use borrow.Author.Needs.{needs}
 use native.Mathlib.Omega.{arith}
+use Rattle.words.specs.Offsets.{CAPACITY, REGISTERED}
 use Rattle.kinds.proofs.Slot.{header-long}
 use Rattle.kinds.proofs.Clear.{clears, cleared}
 use Rattle.kinds.proofs.clear_sets.Statement.{statement}
 use Rattle.kinds.proofs.clear_sets.Tie as tie
 
 word-requires : tie.Need-word-requires
-word-requires c κs = let s = c .before .before in header-long (s .args .words .now) (s .pre) 0 (omega arith)
+word-requires c κs = let s = c .before .before in header-long (s .args .words .now) (s .pre) CAPACITY (omega arith)
 
 word-requires-2 : tie.Need-word-requires-2
-word-requires-2 c κs = let s = c .before .before .before .before in header-long (s .args .words .now) (s .pre) 2 (omega arith)
+word-requires-2 c κs = let s = c .before .before .before .before in header-long (s .args .words .now) (s .pre) REGISTERED (omega arith)
 
 clear-all-requires : tie.Need-clear-all-requires
 clear-all-requires c κs =

@@ -2,6 +2,7 @@ use borrow.Author.Needs.{needs}
 use native.Mathlib.Omega.{arith}
 use Prim.Native.Nat.{ℕ}
 use mathlib.Core.Path.{subst}
+use Rattle.words.specs.Offsets.{CAPACITY}
 use Rattle.component.specs.SparseSet.{entity}
 use Rattle.component.specs.Answers.{Finds}
 use Rattle.kinds.specs.Kinds.{kindSet}
@@ -10,7 +11,7 @@ use Rattle.kinds.proofs.find.Statement.{statement}
 use Rattle.kinds.proofs.find.Tie as tie
 
 word-requires : tie.Need-word-requires
-word-requires c κs = let s = c .before in header-long (s .args .words .now) (s .pre .0) 0 (omega arith)
+word-requires c κs = let s = c .before in header-long (s .args .words .now) (s .pre .0) CAPACITY (omega arith)
 
 find-in-requires : tie.Need-find-in-requires
 find-in-requires c κs =

@@ -3,12 +3,13 @@ use Prim.Native.Nat.{ℕ, _+_}
 use borrow.Author.Needs.{needs}
 use native.Mathlib.Omega.{arith}
 use lib.ListN.{getD}
+use Rattle.words.specs.Offsets.{CAPACITY}
 use Rattle.kinds.proofs.Slot.{header-long, lent-at, head-at}
 use Rattle.kinds.proofs.head.Statement.{statement}
 use Rattle.kinds.proofs.head.Tie as tie
 
 word-requires : tie.Need-word-requires
-word-requires c κs = let s = c .before in header-long (s .args .words .now) (s .pre .0) 0 (omega arith)
+word-requires c κs = let s = c .before in header-long (s .args .words .now) (s .pre .0) CAPACITY (omega arith)
 
 column-start-requires : tie.Need-column-start-requires
 column-start-requires c κs =

@@ -1,11 +1,12 @@
 use borrow.Author.Needs.{needs}
 use native.Mathlib.Omega.{arith}
+use Rattle.words.specs.Offsets.{CAPACITY}
 use Rattle.kinds.proofs.Slot.{header-long, lent-at, rows-at}
 use Rattle.kinds.proofs.holds.Statement.{statement}
 use Rattle.kinds.proofs.holds.Tie as tie
 
 word-requires : tie.Need-word-requires
-word-requires c κs = let s = c .before in header-long (s .args .words .now) (s .pre .0) 0 (omega arith)
+word-requires c κs = let s = c .before in header-long (s .args .words .now) (s .pre .0) CAPACITY (omega arith)
 
 holds-in-requires : tie.Need-holds-in-requires
 holds-in-requires c κs =

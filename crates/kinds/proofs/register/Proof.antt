@@ -2,17 +2,17 @@ use Prim.Native.Nat.{_+_}
 use borrow.Author.Needs.{needs}
 use native.Mathlib.Omega.{arith}
 use lib.ListN.{length-set}
-use Rattle.words.specs.Offsets.{TABLE}
+use Rattle.words.specs.Offsets.{CAPACITY, REGISTERED, TABLE}
 use Rattle.kinds.proofs.Slot.{header-long}
 use Rattle.kinds.proofs.Registering.{vacancy, vacant-lent, registered}
 use Rattle.kinds.proofs.register.Statement.{statement}
 use Rattle.kinds.proofs.register.Tie as tie
 
 word-requires : tie.Need-word-requires
-word-requires c κs = let s = c .before .before in header-long (s .args .words .now) (s .pre .0) 0 (omega arith)
+word-requires c κs = let s = c .before .before in header-long (s .args .words .now) (s .pre .0) CAPACITY (omega arith)
 
 word-requires-2 : tie.Need-word-requires-2
-word-requires-2 c κs = let s = c .before .before .before .before in header-long (s .args .words .now) (s .pre .0) 2 (omega arith)
+word-requires-2 c κs = let s = c .before .before .before .before in header-long (s .args .words .now) (s .pre .0) REGISTERED (omega arith)
 
 put-head-requires : tie.Need-put-head-requires
 put-head-requires c κs =
@@ -28,7 +28,7 @@ slice-write-words c =
 slice-write-words-2 : tie.Need-slice-write-words-2
 slice-write-words-2 c =
     let s = c .before .before .before .before .before .before .before .before .before in
-    simp length-set (omega (arith, header-long (s .args .words .now) (s .pre .0) 2 (omega arith), c .before .before .put-head .kept .0))
+    simp length-set (omega (arith, header-long (s .args .words .now) (s .pre .0) REGISTERED (omega arith), c .before .before .put-head .kept .0))
 
 returns : tie.Need-returns
 returns c =

@@ -1,12 +1,13 @@
 use Prim.Native.Nat.{_-_, _+_, _*_}
 use native.Mathlib.Omega.{arith}
 use borrow.Author.Needs.{needs}
+use Rattle.words.specs.Offsets.{LIVE-LIST}
 use Rattle.entity.specs.Meaning.{queueIndex}
 use Rattle.sound_entities.proofs.waits_ok.Statement.{statement}
 use Rattle.sound_entities.proofs.waits_ok.Tie as tie
 
 cast-index : tie.Need-cast-index
-cast-index c = omega (arith, c .shared-slice-known3 .given (8 + 4 * c .before .before .before .before .args .n + 2 * c .before .wrap .result))
+cast-index c = omega (arith, c .shared-slice-known3 .given (LIVE-LIST + 4 * c .before .before .before .before .args .n + 2 * c .before .wrap .result))
 
 returns : tie.Need-returns
 returns c = rw (← c .before .before .before .wrap .ensures .0) (λ o. omega (arith, o .below))
@@ -15,7 +16,7 @@ returns-2 : tie.Need-returns-2
 returns-2 c = rw (← c .before .before .before .before .before .wrap .ensures .0) (λ o. omega (arith, o .positive))
 
 cast-slot : tie.Need-cast-slot
-cast-slot c = omega (arith, c .shared-slice-known6 .given (8 + 6 * c .before .before .before .before .before .before .before .before .before .args .n + queueIndex (c .before .before .before .before .before .before .before .before .before .args .n) (c .before .before .before .before .before .before .before .before .before .args .part .now) (c .before .before .before .before .before .before .wrap .result)))
+cast-slot c = omega (arith, c .shared-slice-known6 .given (LIVE-LIST + 6 * c .before .before .before .before .before .before .before .before .before .args .n + queueIndex (c .before .before .before .before .before .before .before .before .before .args .n) (c .before .before .before .before .before .before .before .before .before .args .part .now) (c .before .before .before .before .before .before .wrap .result)))
 
 returns-3 : tie.Need-returns-3
 returns-3 c = rw (← c .before .before .before .before .before .before .before .wrap .ensures .0) (λ o. c .if3 .taken (o .pointed))

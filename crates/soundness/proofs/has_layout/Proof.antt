@@ -2,7 +2,7 @@ use mathlib.Core.Path.{sym, subst}
 use Prim.Native.Nat.{ℕ, _+_, _-_}
 use native.Mathlib.Omega.{arith}
 use borrow.Author.Needs.{needs}
-use Rattle.words.specs.Offsets.{GROUP-FAMILIES, LAYOUT, STAGED-KINDS, TABLE}
+use Rattle.words.specs.Offsets.{CAPACITY, GROUP-FAMILIES, LAYOUT, LAYOUT-FAMILIES, LAYOUT-GROUPS, REGISTERED, STAGED-KINDS, TABLE}
 use Rattle.words.specs.Decides.{Each}
 use Rattle.words.proofs.Decides.{granted, denied}
 use Rattle.words.specs.Part.{between}
@@ -17,19 +17,19 @@ shared-slice-read-n : tie.Need-shared-slice-read-n
 shared-slice-read-n c = let a = c .before .before .args in omega (arith, size-long (capacityOf (a .words .now)) (kindCapacityOf (a .words .now)) (a .words .now) (c .before .before .pre .size))
 
 cast-n : tie.Need-cast-n
-cast-n c = omega (arith, c .before .shared-slice-known .given 0)
+cast-n c = omega (arith, c .before .shared-slice-known .given CAPACITY)
 
 shared-slice-read-families : tie.Need-shared-slice-read-families
 shared-slice-read-families c = let a = c .before .before .before .args in omega (arith, size-long (capacityOf (a .words .now)) (kindCapacityOf (a .words .now)) (a .words .now) (c .before .before .before .pre .size))
 
 cast-families : tie.Need-cast-families
-cast-families c = omega (arith, c .before .before .shared-slice-known .given 7)
+cast-families c = omega (arith, c .before .before .shared-slice-known .given LAYOUT-FAMILIES)
 
 shared-slice-read-groups : tie.Need-shared-slice-read-groups
 shared-slice-read-groups c = let a = c .before .before .before .before .args in omega (arith, size-long (capacityOf (a .words .now)) (kindCapacityOf (a .words .now)) (a .words .now) (c .before .before .before .before .pre .size))
 
 cast-groups : tie.Need-cast-groups
-cast-groups c = omega (arith, c .before .before .before .shared-slice-known .given 8)
+cast-groups c = omega (arith, c .before .before .before .shared-slice-known .given LAYOUT-GROUPS)
 
 part-block-ok-end : tie.Need-part-block-ok-end
 part-block-ok-end c = let a = c .before .before .before .before .args in omega (arith, size-long (capacityOf (a .words .now)) (kindCapacityOf (a .words .now)) (a .words .now) (c .before .before .before .before .pre .size))
@@ -53,7 +53,7 @@ shared-slice-read-are-own : tie.Need-shared-slice-read-are-own
 shared-slice-read-are-own c = let a = c .before .before .before .before .before .before .before .before .before .before .before .before .args in omega (arith, size-long (capacityOf (a .words .now)) (kindCapacityOf (a .words .now)) (a .words .now) (c .before .before .before .before .before .before .before .before .before .before .before .before .pre .size))
 
 cast-are-own : tie.Need-cast-are-own
-cast-are-own c = omega (arith, c .before .before .before .before .before .before .before .before .before .before .before .shared-slice-known .given 2)
+cast-are-own c = omega (arith, c .before .before .before .before .before .before .before .before .before .before .before .shared-slice-known .given REGISTERED)
 
 are-own-requires : tie.Need-are-own-requires
 are-own-requires c κs = let a = c .before .before .before .before .before .before .before .before .before .before .before .before .args in let B : BlockSound (between LAYOUT GROUP-FAMILIES (a .words .now)) (between TABLE STAGED-KINDS (a .words .now)) (layoutFamilies (a .words .now)) (layoutGroups (a .words .now)) = granted {P = BlockSound (between LAYOUT GROUP-FAMILIES (a .words .now)) (between TABLE STAGED-KINDS (a .words .now)) (layoutFamilies (a .words .now)) (layoutGroups (a .words .now))} (c .before .before .before .before .before .block-ok .result) (c .before .before .before .before .before .block-ok .ensures) (c .before .before .before .before .if1 .left) in (own-room (a .words .now) (c .before .before .before .before .before .before .before .before .before .before .before .before .pre .size) (c .before .before .before .before .before .before .before .before .before .before .before .before .pre .parts) B (c .before .start-of .result) (c .before .start-of .ensures), (own-heads (a .words .now) (c .before .before .before .before .before .before .before .before .before .before .before .before .pre .size) (c .before .before .before .before .before .before .before .before .before .before .before .before .pre .parts) B (c .before .start-of .result) (c .before .start-of .ensures), (own-width (a .words .now) (c .before .before .before .before .before .before .before .before .before .before .before .before .pre .size) (c .before .before .before .before .before .before .before .before .before .before .before .before .pre .parts) B (c .before .start-of .result) (c .before .start-of .ensures), own-kinds (a .words .now) (c .before .before .before .before .before .before .before .before .before .before .before .before .pre .size) (c .before .before .before .before .before .before .before .before .before .before .before .before .pre .parts) B (c .before .start-of .result) (c .before .start-of .ensures))))

@@ -1,7 +1,7 @@
 use Prim.Native.Nat.{_-_}
 use native.Mathlib.Omega.{arith}
 use borrow.Author.Needs.{needs}
-use Rattle.words.specs.Offsets.{DRAFT, EXCLUDED-KINDS, LAYOUT, STAGED-KINDS, TABLE}
+use Rattle.words.specs.Offsets.{DRAFT, DRAFT-FAMILIES, DRAFT-GROUPS, EXCLUDED-KINDS, EXCLUDED-LEN, LAYOUT, STAGED-KINDS, STAGED-LEN, TABLE}
 use Rattle.words.proofs.Decides.{granted, denied}
 use Rattle.words.specs.Part.{between}
 use Rattle.layout_block.specs.Checks.{BlockSound}
@@ -11,22 +11,22 @@ use Rattle.soundness.proofs.has_lists.Statement.{statement}
 use Rattle.soundness.proofs.has_lists.Tie as tie
 
 cast-is-list : tie.Need-cast-is-list
-cast-is-list c = omega (arith, c .before .shared-slice-known .given 3)
+cast-is-list c = omega (arith, c .before .shared-slice-known .given STAGED-LEN)
 
 returns : tie.Need-returns
 returns c = let a = c .before .before .before .before .args in λ T. denied {P = ListOk (a .words .now) STAGED-KINDS (stagedLen (a .words .now))} (c .before .is-list .result) (c .before .is-list .ensures) (c .if1 .taken) (T .staged)
 
 cast-is-list-2 : tie.Need-cast-is-list-2
-cast-is-list-2 c = omega (arith, c .before .before .before .before .shared-slice-known .given 4)
+cast-is-list-2 c = omega (arith, c .before .before .before .before .shared-slice-known .given EXCLUDED-LEN)
 
 returns-2 : tie.Need-returns-2
 returns-2 c = let a = c .before .before .before .before .before .before .before .args in λ T. denied {P = ListOk (a .words .now) EXCLUDED-KINDS (excludedLen (a .words .now))} (c .before .is-list2 .result) (c .before .is-list2 .ensures) (c .if2 .taken) (T .excluded)
 
 cast-families : tie.Need-cast-families
-cast-families c = omega (arith, c .before .before .before .before .before .before .before .shared-slice-known .given 5)
+cast-families c = omega (arith, c .before .before .before .before .before .before .before .shared-slice-known .given DRAFT-FAMILIES)
 
 cast-groups : tie.Need-cast-groups
-cast-groups c = omega (arith, c .before .before .before .before .before .before .before .before .shared-slice-known .given 6)
+cast-groups c = omega (arith, c .before .before .before .before .before .before .before .before .shared-slice-known .given DRAFT-GROUPS)
 
 returns-3 : tie.Need-returns-3
 returns-3 c = let a = c .before .before .before .before .before .before .before .before .before .before .before .before .before .args in λ T. denied {P = BlockSound (between DRAFT LAYOUT (a .words .now)) (between TABLE STAGED-KINDS (a .words .now)) (draftFamilies (a .words .now)) (draftGroups (a .words .now))} (c .before .block-ok .result) (c .before .block-ok .ensures) (c .if3 .taken) (T .draft)

@@ -1,5 +1,6 @@
 use Prim.Native.Nat.{_-_}
 use native.Mathlib.Omega.{arith}
+use Rattle.words.specs.Offsets.{REGISTERED}
 use Rattle.words.specs.Decides.{Each}
 use Rattle.words.proofs.Decides.{granted, denied}
 use Rattle.entity.specs.Meaning as entity
@@ -27,7 +28,7 @@ shared-slice-read-are-columns : tie.Need-shared-slice-read-are-columns
 shared-slice-read-are-columns c = let a = c .before .before .before .before .before .before .args in omega (arith, size-long (a .n) (a .k) (a .words .now) (c .before .before .before .before .before .before .pre))
 
 cast-are-columns : tie.Need-cast-are-columns
-cast-are-columns c = omega (arith, c .before .before .before .before .before .shared-slice-known .given 2)
+cast-are-columns c = omega (arith, c .before .before .before .before .before .shared-slice-known .given REGISTERED)
 
 are-columns-requires : tie.Need-are-columns-requires
 are-columns-requires c κs = let a = c .before .before .before .before .before .before .args in (size-room (a .n) (a .k) (a .words .now) (c .before .before .before .before .before .before .pre), record { fits = size-entities (a .n) (a .k) (a .words .now) (c .before .before .before .before .before .before .pre); sound = granted {P = entity.EntityPartSound (a .n) (entityPart (a .n) (a .words .now))} (c .before .before .is-sound-in .result) (c .before .before .is-sound-in .ensures) (c .before .if2 .left) })

@@ -1,6 +1,7 @@
 use Prim.Native.Nat.{_-_}
 use native.Mathlib.Omega.{arith}
 use borrow.Author.Needs.{needs}
+use Rattle.words.specs.Offsets.{CAPACITY, KIND-CAPACITY}
 use Rattle.words.proofs.Decides.{granted, denied}
 use Rattle.memory.specs.Header.{capacityOf, kindCapacityOf}
 use Rattle.soundness.specs.Parts.{SizeOk, PartsOk, ListsOk, LayoutOk, CountsOk}
@@ -12,10 +13,10 @@ returns : tie.Need-returns
 returns c = let a = c .before .before .args in λ X. omega (arith, size-long (capacityOf (a .words .now)) (kindCapacityOf (a .words .now)) (a .words .now) (size-of (a .words .now) X), c .if1 .taken)
 
 cast-n : tie.Need-cast-n
-cast-n c = omega (arith, c .before .before .shared-slice-known .given 0)
+cast-n c = omega (arith, c .before .before .shared-slice-known .given CAPACITY)
 
 cast-k : tie.Need-cast-k
-cast-k c = omega (arith, c .before .before .before .shared-slice-known .given 1)
+cast-k c = omega (arith, c .before .before .before .shared-slice-known .given KIND-CAPACITY)
 
 returns-2 : tie.Need-returns-2
 returns-2 c = let a = c .before .before .before .before .before .before .args in λ X. denied {P = SizeOk (capacityOf (a .words .now)) (kindCapacityOf (a .words .now)) (a .words .now)} (c .before .has-room .result) (c .before .has-room .ensures) (c .if2 .taken) (size-of (a .words .now) X)

@@ -1,7 +1,7 @@
 use Prim.Native.Nat.{_+_}
 use native.Mathlib.Omega.{arith}
 use borrow.Author.Needs.{needs}
-use Rattle.words.specs.Offsets.{TABLE}
+use Rattle.words.specs.Offsets.{CAPACITY, TABLE}
 use Rattle.words.proofs.Offsets.{columnStart-fits}
 use Rattle.kinds.proofs.Slot.{known-small, known-slot, header-long}
 use Rattle.store.proofs.Columns.{rows-few, row-start-small, value-place, entity-place}
@@ -9,7 +9,7 @@ use Rattle.store.proofs.row_start.Statement.{statement}
 use Rattle.store.proofs.row_start.Tie as tie
 
 word-requires : tie.Need-word-requires
-word-requires c κs = header-long (c .before .args .words .now) (c .before .pre .0) 0 (omega arith)
+word-requires c κs = header-long (c .before .args .words .now) (c .before .pre .0) CAPACITY (omega arith)
 
 add-word : tie.Need-add-word
 add-word c = let s = c .before .before in omega (arith, known-small (s .args .words .now) (s .pre .0) (s .args .kind) (s .pre .1 .0))

@@ -1,12 +1,13 @@
 use borrow.Author.Needs.{needs}
 use Prim.Native.Nat.{_-_}
 use native.Mathlib.Omega.{arith}
+use Rattle.words.specs.Offsets.{ROWS-LEN}
 use Rattle.component.proofs.Meaning.{length-rows}
 use Rattle.component.proofs.component_sparse_set.len.Statement.{statement}
 use Rattle.component.proofs.component_sparse_set.len.Tie as tie
 
 cast-result : tie.Need-cast-result
-cast-result c = omega (arith, c .shared-slice-known .given 0)
+cast-result c = omega (arith, c .shared-slice-known .given ROWS-LEN)
 
 returns : tie.Need-returns
 returns c = λ n. length-rows n (c .before .args .part .now)

@@ -2,13 +2,14 @@ use Prim.Native.Nat.{_-_, _+_, _*_}
 use native.Mathlib.Omega.{arith}
 use lib.ListN.{length-set}
 use borrow.Author.Needs.{needs}
+use Rattle.words.specs.Offsets.{LIVE-LIST}
 use Rattle.entity.proofs.LiveSteps.{left-changed, left-idle}
 use Rattle.entity.specs.Meaning.{lenOf}
 use Rattle.entity.proofs.entity_sparse_set.remove.Statement.{statement}
 use Rattle.entity.proofs.entity_sparse_set.remove.Tie as tie
 
 cast-gone : tie.Need-cast-gone
-cast-gone c = omega (arith, c .slice-known3 .given (8 + 2 * c .before .before .before .args .place))
+cast-gone c = omega (arith, c .slice-known3 .given (LIVE-LIST + 2 * c .before .before .before .args .place))
 
 put-requires : tie.Need-put-requires
 put-requires c κs =

@@ -1,6 +1,7 @@
 use Prim.Native.Nat.{_-_, _+_, _*_}
 use native.Mathlib.Omega.{arith}
 use borrow.Author.Needs.{needs}
+use Rattle.words.specs.Offsets.{LIVE-LIST}
 use Rattle.entity.proofs.Lookups.{found-at, found-nothing}
 use Rattle.entity.proofs.sparse_vec.get.Statement.{statement}
 use Rattle.entity.proofs.sparse_vec.get.Tie as tie
@@ -24,7 +25,7 @@ returns-3 c =
     found-nothing (a .n) (a .part .now) (s .pre) (a .index) (a .version) (λ hx hv e. c .if3 .taken e)
 
 cast-t11 : tie.Need-cast-t11
-cast-t11 c = omega (arith, c .shared-slice-known2 .given (8 + 2 * c .before .before .before .before .before .args .n + 2 * c .before .before .before .before .before .args .index))
+cast-t11 c = omega (arith, c .shared-slice-known2 .given (LIVE-LIST + 2 * c .before .before .before .before .before .args .n + 2 * c .before .before .before .before .before .args .index))
 
 returns-4 : tie.Need-returns-4
 returns-4 c =

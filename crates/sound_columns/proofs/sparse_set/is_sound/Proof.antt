@@ -1,6 +1,7 @@
 use borrow.Author.Needs.{needs}
 use Prim.Native.Nat.{_-_}
 use native.Mathlib.Omega.{arith}
+use Rattle.words.specs.Offsets.{ROWS-LEN}
 use Rattle.component.specs.SparseSet.{lengthOf}
 use Rattle.sound_columns.specs.Checks.{RowOk, LookupOk}
 use Rattle.words.specs.Decides.{Each}
@@ -10,7 +11,7 @@ use Rattle.sound_columns.proofs.sparse_set.is_sound.Statement.{statemen
 use Rattle.sound_columns.proofs.sparse_set.is_sound.Tie as tie
 
 cast-k : tie.Need-cast-k
-cast-k c = omega (arith, c .shared-slice-known2 .given 0)
+cast-k c = omega (arith, c .shared-slice-known2 .given ROWS-LEN)
 
 returns-4 : tie.Need-returns-4
 returns-4 c =

@@ -1,6 +1,7 @@
 use Prim.Native.Nat.{_-_}
 use native.Mathlib.Omega.{arith}
 use Rattle.model.specs.Numbers.{MAX-KINDS}
+use Rattle.words.specs.Offsets.{REGISTERED}
 use Rattle.words.specs.Decides.{Each}
 use Rattle.words.proofs.Decides.{granted, denied}
 use Rattle.sound_columns.proofs.SlotLaws.{room-long, room-less}
@@ -14,7 +15,7 @@ shared-slice-read-registered : tie.Need-shared-slice-read-registered
 shared-slice-read-registered c = let a = c .before .before .args in omega (arith, room-long (a .n) (a .k) (a .words .now) (c .before .before .pre))
 
 cast-registered : tie.Need-cast-registered
-cast-registered c = omega (arith, c .before .shared-slice-known .given 2)
+cast-registered c = omega (arith, c .before .shared-slice-known .given REGISTERED)
 
 kinds-ok-requires : tie.Need-kinds-ok-requires
 kinds-ok-requires c κs = let a = c .before .before .before .args in room-less (a .n) (a .k) (a .words .now) (c .before .before .before .pre) (registeredOf (a .words .now)) (omega arith)

@@ -5,6 +5,7 @@ use native.Mathlib.Numerals.{add-one-le}
 use borrow.Author.Count.{falls}
 use lib.ListN.{length, getD}
 use Rattle.model.specs.Store.{Store}
+use Rattle.words.specs.Offsets.{REGISTERED}
 use Rattle.component.specs.SparseSet.{entity}
 use Rattle.memory.specs.Meaning.{meaning}
 use Rattle.memory.proofs.Becomes.{kinds-count}
@@ -21,7 +22,7 @@ abbrev μ-loop : tie.MeasureT-loop
 μ-loop words₀ index version m slot₀ words slot = m - slot
 
 word-requires : tie.Need-word-requires Inv-loop μ-loop
-word-requires c κs = let s = c .before .before in header-long (s .args .words .now) (s .pre .0) 2 (omega arith)
+word-requires c κs = let s = c .before .before in header-long (s .args .words .now) (s .pre .0) REGISTERED (omega arith)
 
 loop-holds : tie.Need-loop-holds Inv-loop μ-loop
 loop-holds c =

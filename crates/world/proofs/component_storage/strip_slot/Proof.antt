@@ -1,6 +1,7 @@
 use native.Mathlib.Omega.{arith}
 use borrow.Author.Needs.{needs}
 use Rattle.model.specs.Model.{removeRow}
+use Rattle.words.specs.Offsets.{CAPACITY}
 use Rattle.component.specs.SparseSet.{entity}
 use Rattle.kinds.proofs.Slot.{header-long}
 use Rattle.world.proofs.Removing.{slot-lent, slot-becomes}
@@ -8,7 +9,7 @@ use Rattle.world.proofs.component_storage.strip_slot.Statement.{stateme
 use Rattle.world.proofs.component_storage.strip_slot.Tie as tie
 
 word-requires : tie.Need-word-requires
-word-requires c κs = let s = c .before .before in header-long (s .args .words .now) (s .pre .0) 0 (omega arith)
+word-requires c κs = let s = c .before .before in header-long (s .args .words .now) (s .pre .0) CAPACITY (omega arith)
 
 remove-in-requires : tie.Need-remove-in-requires
 remove-in-requires c κs = let s = c .before .before .before .before in slot-lent (s .args .words .now) (s .pre .0) (c .before .word .result) (s .args .slot) (c .before .word .ensures .is) (s .pre .1)
