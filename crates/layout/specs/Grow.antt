@@ -45,7 +45,7 @@ pub record LooseAt (a : Arrays) (f : ℕ) : Type 0 where
   pub few : a .families ≤ MAX-GROUP-COUNT
   pub inside : f < a .families
   pub wide : widthOf a ≤ MAX-KINDS
-  pub many : groupCount a ≤ 62
+  pub many : groupCount a < MAX-GROUP-COUNT
   pub kindOrder : (i : ℕ) → i < a .families → startOf (a .kindEnds) i ≤ getD (a .kindEnds) i 0
   pub order : (i : ℕ) → i < a .families → startOf (a .ends) i ≤ getD (a .ends) i 0
   pub others : (i : ℕ) → i < a .families → i ≢ f → FamilyFormed a i
@@ -90,7 +90,7 @@ openedOf l =
 -- kinds that may form a group in a layout that has room
 pub record GroupKinds (l : Layout) (hs : List ℕ) : Type 0 where
   pub formed : Formed l
-  pub room : l .groups ≤ 62
+  pub room : l .groups < MAX-GROUP-COUNT
   pub staged : KindSet hs
   pub least : 2 ≤ length hs
   pub most : length hs ≤ MAX-GROUP-ARITY

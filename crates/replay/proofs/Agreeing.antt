@@ -30,6 +30,7 @@ use Rattle.replay.specs.Recorded.{short, tapeAt, numbersAt, RunRecorded,
 use Rattle.replay.specs.Agreement.{GaveSame, Compared, RolledSame, StepAgrees, CaseStepped, Counted, Replayed}
 use Rattle.words.proofs.Part.{part-size}
 use Rattle.model.specs.Run as model
+use Rattle.model.specs.Numbers.{BEYOND}
 
 -- ---- a file that ends too soon
 
@@ -135,7 +136,7 @@ roll-agrees f w o o₁ at n q b size fits h d =
 -- ---- a column
 
 pub same-column : (v r : RefT (List ℕ)) (k n p q : ℕ) (values : Bool) (b : List ℕ) → Sound (v .now) → ColumnNumbered (v .now) k 0 n p → p ≡ 0
-    → ColumnNumbered (v .now) k 0 (n + 1) q → q ≡ 16 → ColumnPart v r values k 0 n → SameWords (r .now) b → SameColumn (meaning (v .now)) k values n b
+    → ColumnNumbered (v .now) k 0 (n + 1) q → q ≡ BEYOND → ColumnPart v r values k 0 n → SameWords (r .now) b → SameColumn (meaning (v .now)) k values n b
 same-column v r k n p q values b S h p0 l q16 c s =
     record {
       known = sym (rw (decides-true (h .sound) (h .decides) S) at (h .number)) ∙ p0;

@@ -10,6 +10,7 @@ use Rattle.model.specs.Refusals.{numberOf}
 use Rattle.model.specs.Run.{Ran, run}
 use Rattle.model.specs.Snapshot.{snapshot}
 use Rattle.model.specs.Entries.{makes, start, columnRefusal, column}
+use Rattle.model.specs.Numbers.{BEYOND}
 
 -- a number of two bytes, lowest first
 abbrev pub short : List ℕ → ℕ → ℕ
@@ -64,7 +65,7 @@ pub record SameWords (w b : List ℕ) : Type 0 where
 -- n rows of kind k: *column* hands back its entities or its values, which are the bytes b, and has no row more
 pub record SameColumn (s : Store) (k : ℕ) (values : Bool) (n : ℕ) (b : List ℕ) : Type 0 where
   pub known : numberOf (columnRefusal k 0 n s) ≡ 0
-  pub last : numberOf (columnRefusal k 0 (n + 1) s) ≡ 16
+  pub last : numberOf (columnRefusal k 0 (n + 1) s) ≡ BEYOND
   pub words : SameWords (column values k 0 n s) b
 
 -- kind 1, number of rows 2, their entities, their values
