@@ -2,7 +2,7 @@
 // One lookup for each live entity and registered kind: the length comes from the columns' lengths, an entity's count from the bytes of its components.
 use component::Found;
 ghost use mathlib.Core.Path.{_≡_};
-ghost use Prim.Native.Nat.{_+_, _<_, _≤_};
+ghost use Prim.Native.Nat.{_+_, _*_, _<_, _≤_};
 ghost use lib.ListN.{length};
 ghost use Rattle.model.specs.Numbers.{MAX-ENTITIES, MAX-KINDS};
 ghost use Rattle.model.specs.Sound.{In};
@@ -29,10 +29,10 @@ fn set_length(words: &[u32], kind: usize) -> usize
 // How many components there are.
 fn count_components(words: &[u32]) -> usize
     requires { ⌜ Sound (now words) ⌝ }
-    ensures { λ r. ⌜ Counted r (rowsIn (meaning (now (words .entry)) .storage .sets)) 524288 ⌝ }
+    ensures { λ r. ⌜ Counted r (rowsIn (meaning (now (words .entry)) .storage .sets)) (MAX-ENTITIES * MAX-KINDS) ⌝ }
 {
     let mut total = 0;
-    for kind in 0..128usize {
+    for kind in 0..model::MAX_KINDS {
         total += set_length(words, kind);
     }
     total
@@ -54,7 +54,7 @@ fn rising_kinds(words: &[u32], list: &mut [u8]) -> usize
     ensures { λ r. ⌜ Lists (now (list .exit)) r (meaning (now (words .entry)) .kinds) ⌝ }
 {
     let mut count = 0;
-    for kind in 0..128usize {
+    for kind in 0..model::MAX_KINDS {
         if kinds::is_registered(words, kind) {
             list[count] = kind as u8;
             count += 1;

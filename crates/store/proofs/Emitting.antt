@@ -7,7 +7,7 @@ use Prim.Native.Nat.{_<_, _≤_, ℕ}
 use native.Mathlib.Nat.{zero-add}
 use native.Mathlib.Omega.{arith}
 use lib.ListN.{length, take}
-use Rattle.model.specs.Refusals.{Line, firstLine, NoneHolds, numberOf, otherLines, UNSOUND}
+use Rattle.model.specs.Refusals.{Line, firstLine, NoneHolds, numberOf, otherLines}
 use Rattle.model.specs.Entries.{Emitted, refusesEmit, writes, emitted, emittedNumber, emittedBytes, Emits}
 use Rattle.model.proofs.Lines.{NumbersIn}
 use Rattle.model.proofs.Emitting.{emitted-writes, emitted-number, emitted-zero, emits-bytes, emits-refused, refused-emits, written-emits}

@@ -1,7 +1,7 @@
-use Prim.Native.Nat.{_≤_}
+use Prim.Native.Nat.{_≤_, _*_}
 use native.Mathlib.Omega.{arith}
 use borrow.Author.Needs.{needs}
-use Rattle.model.specs.Numbers.{MAX-ENTITIES}
+use Rattle.model.specs.Numbers.{MAX-ENTITIES, MAX-KINDS}
 use Rattle.memory.specs.Meaning.{meaning}
 use Rattle.snapshot.proofs.Known.{capacity-most, live-most}
 use Rattle.snapshot.proofs.Sizes.{snapshot-size}
@@ -9,7 +9,7 @@ use Rattle.snapshot.proofs.snapshot_length.Statement.{statement}
 use Rattle.snapshot.proofs.snapshot_length.Tie as tie
 
 -- few enough to count with
-few : (c : tie.After-count-components) → (c .before .live-len .result ≤ MAX-ENTITIES) × (c .count-components .result ≤ 524288)
+few : (c : tie.After-count-components) → (c .before .live-len .result ≤ MAX-ENTITIES) × (c .count-components .result ≤ MAX-ENTITIES * MAX-KINDS)
 few c =
     let s = c .before .before .before in
     let w = s .args .words .now in
