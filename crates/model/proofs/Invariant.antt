@@ -15,8 +15,8 @@ pub use Rattle.model.specs.Sound.{holders}
 use Rattle.model.proofs.SparseSets.{entity-eq, entity-same, key}
 use Rattle.model.proofs.BoolLaws.{cond-case, bool-cases}
 use Rattle.model.proofs.Groups.{cnt, In, SameEntities}
-use Rattle.model.proofs.Walk.{Every, But, GroupRight, Missing, all-missing, held-count, lacks-count}
-use Rattle.model.proofs.KindLists.{all-in, any-in}
+use Rattle.model.proofs.Walk.{Every, But, GroupRight, held-count, lacks-count}
+use Rattle.model.proofs.KindLists.{Missing, all-missing, all-in, any-in}
 use Rattle.model.proofs.Families.{Fams, Apart, famKinds, chain-other, Put, Kinds, put-all, chain-put, Pending, UpAll, groupFamily-all-good}
 
 pub record Fit (p : Storage) : Type 0 where

@@ -10,23 +10,13 @@ use Rattle.model.specs.Model.{Entity, SparseSet, Family, Storage, Walked
 use Rattle.model.proofs.SparseSets.{key}
 use Rattle.model.proofs.Groups.{cnt, In, SameEntities}
 use Rattle.model.proofs.Walk.{Below, Chain, Every, Plus, Up, groupFamily-good, chain-weaken}
-use Rattle.model.proofs.KindLists.{in-left, in-right, mem-append, not-both}
+use Rattle.model.proofs.KindLists.{in-right, mem-append, not-both}
 use Rattle.model.proofs.BoolLaws.{bool-cases, or-false, or-false-right}
-use Rattle.model.proofs.Families.{Fams, Apart, allKinds, famKinds, chain-other}
+use Rattle.model.proofs.Families.{Fams, Apart, allKinds, famKinds, chain-other, fams-other}
+pub use Rattle.model.proofs.Families.{FamsFor}
 use Rattle.model.proofs.Invariant.{Fit, length-groupFamily}
 
 -- ---- families that are right for the entities of W
-
-abbrev pub FamsFor : (ℕ → List Entity) → (Entity → Type 0) → List Family → Type 0
-FamsFor key W [] = Unit {0}
-FamsFor key W (f ∷ fs) = Chain key W [] f × FamsFor key W fs
-
-fams-other : (key new : ℕ → List Entity) (W : Entity → Type 0) (fs : List Family) → ((k : ℕ) → In (allKinds (famKinds fs)) k → new k ≡ key k) → FamsFor key W fs → FamsFor new W fs
-fams-other key new W [] s fm = tt
-fams-other key new W (f ∷ fs) s fm = (
-  chain-other key new W [] f (λ k i. s k (in-left (kindsOf f) (allKinds (famKinds fs)) k i)) (fm .0),
-  fams-other key new W fs (λ k i. s k (in-right (kindsOf f) (allKinds (famKinds fs)) k i)) (fm .1),
-)
 
 fams-weaken : (key : ℕ → List Entity) (Z W : Entity → Type 0) → ((x : Entity) → Z x → W x) → (fs : List Family) → FamsFor key W fs → FamsFor key Z fs
 fams-weaken key Z W f [] fm = tt
