@@ -15,7 +15,7 @@ use Rattle.model.specs.Adding.{Added, nothing, added, refused, addGroup}
 use Rattle.model.specs.Sound.{Distinct, layoutKinds, Rising, BuildableFamily, BuildableFamilies, Buildable, Uncounted, AllUncounted}
 use Rattle.model.proofs.BoolLaws.{cond-case, and-left, and-right, or-false, or-false-right, not-true, and-false-left, not-or, or-right, bool-cases}
 use Rattle.model.proofs.Groups.{In}
-use Rattle.model.proofs.KindLists.{Missing, all-missing, in-cases, in-count, out-count, count-in, count-without, in-without, without-length, distinct-left, distinct-right, in-length, unmet-in, meets-none}
+use Rattle.model.proofs.KindLists.{Missing, all-missing, in-cases, in-count, out-count, count-in, count-without, count-without-le, in-without, without-length, distinct-left, distinct-right, in-length, unmet-in, meets-none}
 
 pub record DraftSound (kinds : List ℕ) (fs : List Family) : Type 0 where
   pub buildable : Buildable kinds fs
@@ -84,7 +84,7 @@ grown-out ks (f ∷ fs) z n =
     (λ t. omega (arith, r, count-append eqb z (kindsOf f) (layoutKinds (grown ks fs)), count-append eqb z (kindsOf f) (layoutKinds fs)))
   where
     none : countOf eqb z (without ks (kindsOf f)) ≡ 0
-    none = count-without ks (kindsOf f) z ∙ bool-cases (mem z (kindsOf f)) (λ t. rw t) (λ t. rw t (out-count ks z n))
+    none = omega (arith, count-without-le ks (kindsOf f) z, out-count ks z n)
 
 grown-once : (ks : List ℕ) (fs : List Family) → touched ks fs ≡ 1 → Distinct ks → Distinct (layoutKinds fs) → Distinct (layoutKinds (grown ks fs))
 grown-once ks [] t d o = absurd (omega arith)

@@ -8,7 +8,7 @@ use native.Mathlib.Omega.{arith}
 use native.Mathlib.Nat.{le-of-suc-le-suc, not-suc-le-zero, suc-add, add-suc, add-zero, zero-add}
 use native.Mathlib.Decide.{ℕ-discrete}
 use lib.ListN.{length, take, drop, getD, set, length-set, take-append-drop, length-map, List·getD-map, length-drop, length-append}
-use lib.Seq.{set-set, take-set-lt, take-set-le, getD-take, getD-set-same, getD-set-other, take-suc, take-suc-set, set-getD, lt-length-set, length-take-le, take-all, sets, take-take, drop-drop, drop-cons, getD-drop, ext-getD, sets-eq, take-at, drop-at, take-add, set-comm, paste, paste-suc, take-length, append-snoc}
+use lib.Seq.{set-set, take-set-lt, take-set-le, getD-take, getD-set-same, getD-set-other, take-suc, take-suc-set, set-getD, lt-length-set, length-take-le, take-all, sets, take-take, drop-drop, drop-cons, getD-drop, ext-getD, sets-eq, take-at, drop-at, take-add, set-comm, paste, paste-suc, take-length, append-snoc, drop-append-le}
 use borrow.Author.Tests.{eq-eqb, eqb-true}
 use lib.Dec.{eqb}
 use native.Mathlib.Numerals.{add-one}
@@ -209,6 +209,37 @@ count-cutAt {A} same d p l h x =
     L : List A
     L = swap d p q l
 
+-- one e less, where it is e's place
+pub count-cut : {A : Type 0} (same : A → A → Bool) → ((x y : A) → same x y ≡ true → x ≡ y) → (d e : A) (l : List A) → 1 ≤ countOf same e l → (x : A) → countOf same x (cutAt d (place same e l) l) + one (same x e) ≡ countOf same x l
+count-cut same sound d e l h x = let p = count-place same e l h in rw (getD-place same sound e d l p) at (count-cutAt same d (place same e l) l p x)
+
+-- ---- what holds of each item, and past the end
+
+module _ {A : Type 0} (P : A → Type 0) (d : A) (pd : P d) where
+  abbrev pub AllOf : List A → Type 0
+  AllOf l = (j : ℕ) → P (getD l j d)
+
+  pub all-set : (l : List A) (i : ℕ) (a : A) → P a → AllOf l → AllOf (set l i a)
+  all-set [] i a pa h j = h j
+  all-set (x ∷ l) zero a pa h zero = pa
+  all-set (x ∷ l) zero a pa h (suc j) = h (suc j)
+  all-set (x ∷ l) (suc i) a pa h zero = h zero
+  all-set (x ∷ l) (suc i) a pa h (suc j) = all-set l i a pa (λ m. h (suc m)) j
+
+  pub all-take : (n : ℕ) (l : List A) → AllOf l → AllOf (take n l)
+  all-take zero l h j = pd
+  all-take (suc n) [] h j = pd
+  all-take (suc n) (x ∷ l) h zero = h zero
+  all-take (suc n) (x ∷ l) h (suc j) = all-take n l (λ m. h (suc m)) j
+
+  pub all-snoc : (l : List A) (a : A) → P a → AllOf l → AllOf (l ++ (a ∷ []))
+  all-snoc [] a pa h zero = pa
+  all-snoc [] a pa h (suc j) = pd
+  all-snoc (x ∷ l) a pa h zero = h zero
+  all-snoc (x ∷ l) a pa h (suc j) = all-snoc l a pa (λ m. h (suc m)) j
+
+-- ---- a function of each item
+
 pub map-take : {A B : Type 0} (f : A → B) (n : ℕ) (l : List A) → map f (take n l) ≡ take n (map f l)
 map-take f zero l = refl
 map-take f (suc n) [] = refl
@@ -227,6 +258,8 @@ map-cutAt f d p l =
 pub map-append : {A B : Type 0} (f : A → B) (a b : List A) → map f (a ++ b) ≡ map f a ++ map f b
 map-append f [] b = refl
 map-append {B} f (x ∷ a) b = ap {B = List B} (λ r. f x ∷ r) (map-append f a b)
+
+-- ---- lists of numbers
 
 pub self-count : (k : ℕ) → one (eqb k k) ≡ 1
 self-count k = ap one (eq-eqb k k refl)
@@ -359,12 +392,6 @@ pub set-before : (b l : List ℕ) (i j x : ℕ) → i < j → set (sets l j b) i
 set-before [] l i j x h = refl
 set-before (a ∷ b) l i j x h = set-before b (set l j a) i (suc j) x (omega arith) ∙ ap (λ (m : List ℕ). sets m (suc j) b) (set-comm l j i a x (omega arith))
 
-pub take-below : (b n : ℕ) (l : List ℕ) → 1 ≤ b → ((i : ℕ) → getD l i 0 < b) → (i : ℕ) → getD (take n l) i 0 < b
-take-below b zero l h f i = h
-take-below b (suc n) [] h f i = h
-take-below b (suc n) (x ∷ l) h f zero = f 0
-take-below b (suc n) (x ∷ l) h f (suc i) = take-below b n l h (λ j. f (suc j)) i
-
 -- the loop that copies: a turn, and the end
 pub copy-turn : (d s : List ℕ) (j : ℕ) → j < length d → j < length s → set (paste d 0 s j) j (getD s j 0) ≡ paste d 0 s (j + 1)
 copy-turn d s j hd hs =
@@ -379,6 +406,13 @@ copy-end d s j e =
 -- what is stored from the front on stands before the rest
 pub front-sets : (o a : List ℕ) → length a ≤ length o → sets o 0 a ≡ a ++ drop (length a) o
 front-sets o a h = sets-eq a o 0 (omega arith) ∙ ap (λ (n : ℕ). a ++ drop n o) (zero-add (length a))
+
+-- the front m of o, that begins with b when it is back
+pub front-back : (b o : List ℕ) (m : ℕ) → length b ≤ m → m ≤ length o → (b ++ drop (length b) (take m o)) ++ drop m o ≡ b ++ drop (length b) o
+front-back b o m h l =
+    let e : length b ≤ length (take m o) = rw (length-take-le m o l) h in
+    append-assoc b (drop (length b) (take m o)) (drop m o)
+    ∙ ap (λ (r : List ℕ). b ++ r) (sym (drop-append-le (length b) (take m o) (drop m o) e) ∙ ap (drop (length b)) (take-append-drop m o))
 
 -- what begins with b, by its length
 pub front-of : (b d o p : List ℕ) (n : ℕ) → o ≡ b ++ d → n ≡ length b → take n (o ++ p) ≡ b

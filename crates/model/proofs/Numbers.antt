@@ -8,7 +8,7 @@ use borrow.Author.Tests.{ltb-true, eq-eqb, ne-eqb}
 use lib.Dec.{ltb, eqb}
 use lib.ListN.{length, getD, List·getD-map, length-map}
 use Rattle.model.specs.Lists.{one, countOf}
-use Rattle.model.proofs.ListLaws.{count-append, count-place, getD-place, count-cutAt, map-cutAt, few-below}
+use Rattle.model.proofs.ListLaws.{count-append, count-place, getD-place, count-cut, count-cutAt, map-cutAt, few-below}
 use Rattle.model.specs.Model.{Entity, Entities, sameEntity, noEntity, create, createWith, destroy, lastVersion}
 pub use Rattle.model.specs.Sound.{indexOf, num}
 use Rattle.model.specs.Sound.{EntitiesSound}
@@ -90,7 +90,7 @@ module _ (e : Entity) (c : Entities) (alive : 1 ≤ cnt e (c .live)) where
 
   pub cnt-cut : (x : Entity) → cnt x ((destroy e c) .live) + one (sameEntity x e) ≡ cnt x (c .live)
   unfolding destroy
-  cnt-cut x = rw (getD-place sameEntity entity-eq e noEntity (c .live) at-place) at (count-cutAt sameEntity noEntity (plc e (c .live)) (c .live) at-place x)
+  cnt-cut x = count-cut sameEntity entity-eq noEntity e (c .live) alive x
 
   num-cut : (i : ℕ) → num i ((destroy e c) .live) + one (eqb i (e .index)) ≡ num i (c .live)
   unfolding destroy

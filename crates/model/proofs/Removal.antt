@@ -9,7 +9,7 @@ use native.Mathlib.Nat.{zero-add}
 use lib.ListN.{length, take, getD, set, length-set}
 use lib.Seq.{length-take-le, take-take, take-set-le}
 use Rattle.model.specs.Lists.{one, cutAt}
-use Rattle.model.proofs.ListLaws.{count-cutAt, map-cutAt, count-place, place-le, getD-place}
+use Rattle.model.proofs.ListLaws.{count-cut, map-cutAt, count-place, place-le}
 use Rattle.model.specs.Model.{Entity, SparseSet, Group, Family, Storage, Walked, GroupStep, sameEntity, noEntity, noRow, mem, meets, setOf, keys, entityOf, at, held, kindsOf, onKinds, swapTo, removeRow, isGrouped, ungroupComponents, ungroupFamily, ungroup, remove}
 use Rattle.model.proofs.SparseSets.{entity-eq, entity-same, key, setOf-mapOn}
 use Rattle.model.proofs.BoolLaws.{cond-case, or-false, or-false-right, bool-cases}
@@ -33,7 +33,7 @@ module _ (e : Entity) (l : List Entity) (has : 1 ≤ cnt e l) where
   at-place = count-place sameEntity e l has
 
   cut-count : (x : Entity) → cnt x (cut e l) + one (sameEntity x e) ≡ cnt x l
-  cut-count x = rw (getD-place sameEntity entity-eq e noEntity l at-place) at (count-cutAt sameEntity noEntity (plc e l) l at-place x)
+  cut-count x = count-cut sameEntity entity-eq noEntity e l has x
 
   cut-first : (h : ℕ) → h ≤ plc e l → take h (cut e l) ≡ take h l
   cut-first h le =
