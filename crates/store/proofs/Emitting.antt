@@ -15,8 +15,8 @@ use Rattle.words.specs.Decides.{Decides}
 use Rattle.memory.specs.Arranged.{Sound}
 use Rattle.snapshot.specs.Wrote.{WrittenUntil}
 use Rattle.store.specs.Entries.{firstRefusal, emittedOver, EmitsOver}
-use Rattle.store.proofs.Tables.{tabled, judged}
-use Rattle.store.specs.Theorems.{Tabled, Judged}
+use Rattle.store.proofs.Tables.{judged}
+use Rattle.store.specs.Theorems.{Judged}
 
 -- ---- what it promises, from what its branches show
 
@@ -46,9 +46,6 @@ over-accepted w o o′ b n k x S e E = go (E .sound) (E .decides) (E .emits)
 
 module _ {A : Type 0} (ls : List (Line A)) (a : A) (b : List ℕ) (lo hi : ℕ) (h : NumbersIn lo hi ls) where
   -- an entry that is told no words
-  pub emits-refusals : (o o′ : List ℕ) (n k : ℕ) → 1 ≤ lo → Emits o o′ n k (emitted ls a b) → Tabled ls a n
-  emits-refusals o o′ n k l E = tabled ls a lo hi l h n (E .number ∙ emitted-number ls a b)
-
   pub emits-written : (o o′ : List ℕ) (n k : ℕ) → 1 ≤ lo → Emits o o′ n k (emitted ls a b) → n ≡ 0 → NoneHolds ls a × (take k o′ ≡ b)
   emits-written o o′ n k l E z =
       let e : emitted ls a b ≡ writes b = emitted-zero ls a b lo hi l h (sym (E .number) ∙ z) in
