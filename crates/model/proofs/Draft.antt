@@ -151,9 +151,12 @@ own-uncounted : (ks : List ℕ) (fs : List Family) → AllUncounted fs → AllUn
 own-uncounted ks [] u = ((refl, tt), tt)
 own-uncounted ks (f ∷ fs) u = (u .0, own-uncounted ks fs (u .1))
 
+pub kinds-append : (fs gs : List Family) → layoutKinds (fs ++ gs) ≡ layoutKinds fs ++ layoutKinds gs
+kinds-append [] gs = refl
+kinds-append (f ∷ fs) gs = ap (λ (l : List ℕ). kindsOf f ++ l) (kinds-append fs gs) ∙ sym (append-assoc (kindsOf f) (layoutKinds fs) (layoutKinds gs))
+
 own-kinds : (ks : List ℕ) (fs : List Family) → layoutKinds (fs ++ ((newGroup ks ∷ []) ∷ [])) ≡ layoutKinds fs ++ ks
-own-kinds ks [] = append-nil (ks ++ []) ∙ append-nil ks
-own-kinds ks (f ∷ fs) = ap (λ (l : List ℕ). kindsOf f ++ l) (own-kinds ks fs) ∙ sym (append-assoc (kindsOf f) (layoutKinds fs) ks)
+own-kinds ks fs = kinds-append fs ((newGroup ks ∷ []) ∷ []) ∙ ap (λ (l : List ℕ). layoutKinds fs ++ l) (append-nil (ks ++ []) ∙ append-nil ks)
 
 own-groups : (ks : List ℕ) (fs : List Family) → groupsOf (fs ++ ((newGroup ks ∷ []) ∷ [])) ≡ groupsOf fs + 1
 own-groups ks [] = refl

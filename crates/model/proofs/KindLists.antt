@@ -1,19 +1,18 @@
 -- Lists of kinds: membership, counts, tests of all and of some, equal sets. Assumes nothing.
 use mathlib.Core.Path.{_≡_, refl, ap, _∙_, sym}
-use mathlib.Core.Bool.{Bool, true, false, cond, false≢true, _&&_, or-true, _||_, or-assoc, true≢false, or-false as or-none}
+use mathlib.Core.Bool.{Bool, true, false, cond, not, false≢true, _&&_, or-true, _||_, or-assoc, true≢false, or-false as or-none}
 use mathlib.Core.List.{List, [], _∷_, _++_, append-nil}
 use Prim.Native.Nat.{ℕ, zero, suc, _+_, _≤_, _<_, zero-le}
 use native.Mathlib.Omega.{arith}
-use native.Mathlib.Nat.{zero-add}
 use borrow.Author.Tests.{eqb-true, eq-eqb, ne-eqb, leb-true}
 use lib.Dec.{eqb, leb}
 use lib.ListN.{length, getD, take, drop, set, take-append-drop, length-append}
 use lib.Seq.{drop-cons, take-take, drop-length}
 use Rattle.model.specs.Lists.{one, countOf, place}
-use Rattle.model.proofs.ListLaws.{count-append, self-count, count-at, count-place, getD-place, as-long, drop-step, put-next}
+use Rattle.model.proofs.ListLaws.{count-append, count-kept, self-count, count-at, count-place, getD-place, as-long, drop-step, put-next}
 use Rattle.model.specs.Model.{mem, allOf, anyOf, within, meets, sameSet, without, headKind}
 use Rattle.model.specs.Sound.{In, Distinct}
-use Rattle.model.proofs.BoolLaws.{by-lt, bool-cases, or-cases, or-false, or-false-right, not-true, and-left, and-right}
+use Rattle.model.proofs.BoolLaws.{by-lt, bool-cases, cond-not, or-cases, or-false, or-false-right, not-true, and-left, and-right}
 
 pub in-count : (l : List ℕ) (k : ℕ) → In l k → 1 ≤ countOf eqb k l
 in-count [] k i = absurd (false≢true i)
@@ -47,15 +46,9 @@ distinct-snoc l k d n j =
 -- ---- the kinds of ks that js lacks
 
 pub count-without : (ks js : List ℕ) (k : ℕ) → countOf eqb k (without ks js) ≡ cond (mem k js) 0 (countOf eqb k ks)
-count-without [] js k = bool-cases (mem k js) (λ t. rw t) (λ t. rw t)
-count-without (j ∷ ks) js k = go (eqb k j) refl (count-without ks js k)
-  where
-    go : (b : Bool) → eqb k j ≡ b → countOf eqb k (without ks js) ≡ cond (mem k js) 0 (countOf eqb k ks) → countOf eqb k (without (j ∷ ks) js) ≡ cond (mem k js) 0 (one b + countOf eqb k ks)
-    go true t r =
-        bool-cases (mem j js)
-        (λ u. let v : mem k js ≡ true = ap (λ (i : ℕ). mem i js) (eqb-true k j t) ∙ u in rw (u, v) (rw v at r))
-        (λ u. let v : mem k js ≡ false = ap (λ (i : ℕ). mem i js) (eqb-true k j t) ∙ u in rw (u, v, t) (ap (λ (n : ℕ). 1 + n) (rw v at r)))
-    go false t r = bool-cases (mem j js) (λ u. rw (u, zero-add (countOf eqb k ks)) r) (λ u. rw (u, t, zero-add (countOf eqb k ks), zero-add (countOf eqb k (without ks js))) r)
+count-without ks js k =
+    count-kept eqb eqb-true (λ j. not (mem j js)) (λ l. without l js) refl (λ j l. cond-not (mem j js) (without l js) (j ∷ without l js)) ks k
+    ∙ sym (cond-not (mem k js) 0 (countOf eqb k ks))
 
 pub count-without-le : (ks js : List ℕ) (k : ℕ) → countOf eqb k (without ks js) ≤ countOf eqb k ks
 count-without-le ks js k = bool-cases (mem k js) (λ t. omega (arith, rw t at (count-without ks js k))) (λ t. omega (arith, rw t at (count-without ks js k)))

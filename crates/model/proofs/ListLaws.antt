@@ -13,7 +13,7 @@ use borrow.Author.Tests.{eq-eqb, eqb-true}
 use lib.Dec.{eqb}
 use native.Mathlib.Numerals.{add-one}
 use Rattle.model.specs.Lists.{swap, one, after, countOf, place, cutAt}
-use Rattle.model.proofs.BoolLaws.{bool-cases, by-eq, by-lt}
+use Rattle.model.proofs.BoolLaws.{bool-cases, by-eq, by-lt, cond-same}
 
 module _ {A : Type 0} where
   pub length-swap : (d : A) (i j : ℕ) (l : List A) → length (swap d i j l) ≡ length l
@@ -191,6 +191,19 @@ module _ {A : Type 0} (same : A → A → Bool) (sound : (x y : A) → same x y 
 
   pub count-length : (l m : List A) → ((z : A) → countOf same z l ≡ countOf same z m) → length l ≡ length m
   count-length l m h = omega (arith, count-length-le l m (λ z. omega (arith, h z)), count-length-le m l (λ z. omega (arith, h z)))
+
+-- ---- f leaves those of a list that pass the test p
+
+pub count-kept : {A : Type 0} (same : A → A → Bool) → ((x y : A) → same x y ≡ true → x ≡ y) → (p : A → Bool) (f : List A → List A) → f [] ≡ [] → ((y : A) (l : List A) → f (y ∷ l) ≡ cond (p y) (y ∷ f l) (f l))
+    → (l : List A) (x : A) → countOf same x (f l) ≡ cond (p x) (countOf same x l) 0
+count-kept same sound p f none more [] x = ap (countOf same x) none ∙ sym (cond-same (p x) 0)
+count-kept same sound p f none more (y ∷ l) x = ap (countOf same x) (more y l) ∙ go (same x y) refl (p y) refl (count-kept same sound p f none more l x)
+  where
+    go : (b : Bool) → same x y ≡ b → (c : Bool) → p y ≡ c → countOf same x (f l) ≡ cond (p x) (countOf same x l) 0 → countOf same x (cond c (y ∷ f l) (f l)) ≡ cond (p x) (one b + countOf same x l) 0
+    go true e true u r = let v : p x ≡ true = ap p (sound x y e) ∙ u in rw (v, e) (ap (λ (n : ℕ). 1 + n) (rw v at r))
+    go true e false u r = let v : p x ≡ false = ap p (sound x y e) ∙ u in rw v (rw v at r)
+    go false e true u r = rw (e, zero-add (countOf same x (f l)), zero-add (countOf same x l)) r
+    go false e false u r = rw (zero-add (countOf same x l)) r
 
 -- ---- the element at p goes, and the last takes its place
 

@@ -1,23 +1,21 @@
 -- What RANGE shows: exactly the entities that its hand and bar describe; and none exactly where 01 says none. Assumes nothing.
 use mathlib.Core.Path.{_≡_, refl, ap, ap₂, sym, _∙_, subst}
 use mathlib.Core.Logic.{_↔_, _⊎_, inl, inr, ⊎-elim}
-use mathlib.Core.Bool.{true, false, cond, _&&_}
+use mathlib.Core.Bool.{true, false, cond, not, _&&_}
 use mathlib.Core.List.{List, [], _∷_, _++_, append-assoc, append-nil}
 use Prim.Native.Nat.{ℕ, zero, suc, _+_, _-_, _≤_, _<_}
 use native.Mathlib.Omega.{arith}
-use native.Mathlib.Nat.{zero-add}
 use borrow.Author.Tests.{eqb-true, eq-eqb}
 use lib.Dec.{eqb}
 use lib.ListN.{length, take, drop, getD, length-drop, length-map, take-append-drop}
 use lib.Seq.{length-take-le, take-all, drop-cons}
-use Rattle.model.specs.Lists.{one}
-use Rattle.model.proofs.ListLaws.{count-append, count-length, length-zero}
+use Rattle.model.proofs.ListLaws.{count-append, count-kept, count-length, length-zero}
 use Rattle.model.specs.Model.{Entity, SparseSet, Group, Family, Range, none, found, sameEntity, sameSet, setOf, entityOf, held, allHeld, headKind, kindsOf, newGroup, firstRange, rangeAt, rangeIn, rangeAll, single, rangeFor}
 use Rattle.model.specs.Store.{Store}
 use Rattle.model.specs.Sound.{cnt, In, key, holders, Distinct, layoutKinds, Rising, BuildableFamilies, Right, RightFrom, AllRight, Between, StoreSound}
 use Rattle.model.specs.Shown.{lacking, described, Showing, EqualGroup, EqualNewKinds, Shows, oneKind, aGroup, twoGroups}
 use Rattle.model.proofs.SparseSets.{entity-eq, entity-same}
-use Rattle.model.proofs.BoolLaws.{cond-case, and-left, and-right, bool-cases}
+use Rattle.model.proofs.BoolLaws.{cond-case, cond-not, and-left, and-right, bool-cases}
 use Rattle.model.proofs.Walk.{held-count, lacks-count}
 use Rattle.model.proofs.KindLists.{in-left, in-right, in-one, not-both, all-same, same-to, same-from, differ-left, head-in, length-one, distinct-left, distinct-right, distinct-apart, all-joined}
 use Rattle.model.proofs.Invariant.{holders-count}
@@ -35,17 +33,9 @@ module _ (sets : List SparseSet) where
   holders-same h g s (e ∷ l) = rw (held-same e h g s, holders-same h g s l)
 
   lacking-count : (b : List ℕ) (l : List Entity) (x : Entity) → cnt x (lacking b sets l) ≡ cond (allHeld x b sets) 0 (cnt x l)
-  lacking-count b [] x = bool-cases (allHeld x b sets) (λ t. rw t) (λ t. rw t)
-  lacking-count b (e ∷ l) x = bool-cases (sameEntity x e) (λ t. rw (entity-eq x e t) (self (lacking-count b l e))) (λ t. rw t (other t (lacking-count b l x)))
-    where
-      R : List Entity
-      R = lacking b sets l
-
-      self : cnt e R ≡ cond (allHeld e b sets) 0 (cnt e l) → cnt e (cond (allHeld e b sets) R (e ∷ R)) ≡ cond (allHeld e b sets) 0 (one (sameEntity e e) + cnt e l)
-      self ih = bool-cases (allHeld e b sets) (λ u. rw u (rw u at ih)) (λ u. rw u (ap (λ (n : ℕ). one (sameEntity e e) + n) (rw u at ih)))
-
-      other : sameEntity x e ≡ false → cnt x R ≡ cond (allHeld x b sets) 0 (cnt x l) → cnt x (cond (allHeld e b sets) R (e ∷ R)) ≡ cond (allHeld x b sets) 0 (0 + cnt x l)
-      other t ih = rw (zero-add (cnt x l)) (bool-cases (allHeld e b sets) (λ u. rw u ih) (λ u. rw (u, t, zero-add (cnt x R)) ih))
+  lacking-count b l x =
+      count-kept sameEntity entity-eq (λ e. not (allHeld e b sets)) (lacking b sets) refl (λ e r. cond-not (allHeld e b sets) (lacking b sets r) (e ∷ lacking b sets r)) l x
+      ∙ sym (cond-not (allHeld x b sets) 0 (cnt x l))
 
 -- ---- a range that is right shows them
 

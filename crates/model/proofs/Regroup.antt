@@ -3,9 +3,9 @@ use mathlib.Core.Path.{_≡_, refl, ap, ap₂, sym, _∙_}
 use mathlib.Core.Logic.{_⊎_, inl, inr, ⊎-elim}
 use mathlib.Core.Bool.{false, false≢true}
 use mathlib.Core.List.{List, [], _∷_, _++_, map}
-use Prim.Native.Nat.{ℕ, zero, suc, _≤_}
+use Prim.Native.Nat.{ℕ, _≤_}
 use native.Mathlib.Omega.{arith}
-use lib.ListN.{length, length-map}
+use lib.ListN.{length, length-map, List·getD-map}
 use Rattle.model.specs.Model.{Entity, SparseSet, Family, Storage, Walked, sameEntity, mem, headKind, kindsOf, groupFamily, groupAll, regroup, setLayout, clearAll, zeroCount}
 use Rattle.model.proofs.SparseSets.{key}
 use Rattle.model.proofs.Groups.{cnt, In, SameEntities}
@@ -145,11 +145,6 @@ setLayout-entities live draft p fr a x k = rw (setLayout-is live draft p fr) (re
 
 -- ---- a wiped store
 
-key-wiped : (sets : List SparseSet) (k : ℕ) → key (map (λ (c : SparseSet). []) sets) k ≡ []
-key-wiped [] k = refl
-key-wiped (c ∷ cs) zero = refl
-key-wiped (c ∷ cs) (suc k) = key-wiped cs k
-
 pub zero-kinds : (f : Family) → kindsOf (map zeroCount f) ≡ kindsOf f
 zero-kinds [] = refl
 zero-kinds (r ∷ rs) = ap (λ (l : List ℕ). r .newKinds ++ l) (zero-kinds rs)
@@ -168,12 +163,12 @@ zero-fresh-all key (f ∷ fs) fm = (zero-fresh key Every [] f (fm .0), zero-fres
 
 pub clearAll-entities : (p : Storage) (x : Entity) (k : ℕ) → cnt x (key ((clearAll p) .sets) k) ≡ 0
 unfolding clearAll
-clearAll-entities p x k = rw (key-wiped (p .sets) k)
+clearAll-entities p x k = rw (List·getD-map {B = SparseSet} (λ c. []) (p .sets) k [])
 
 pub clearAll-fit : (p : Storage) → Fit p → Fit (clearAll p)
 unfolding clearAll
 clearAll-fit p f =
-    let no : (x : Entity) (k : ℕ) → cnt x (key (map (λ (c : SparseSet). []) (p .sets)) k) ≡ 0 = λ x k. rw (key-wiped (p .sets) k) in
+    let no : (x : Entity) (k : ℕ) → cnt x (key (map (λ (c : SparseSet). []) (p .sets)) k) ≡ 0 = λ x k. rw (List·getD-map {B = SparseSet} (λ c. []) (p .sets) k []) in
     record {
       once = λ x k. omega (arith, no x k);
       fams = fams-all (key (map (λ (c : SparseSet). []) (p .sets))) None (λ x k h. omega (arith, no x k)) (map (map zeroCount) (p .layout)) (fams-fresh (key (map (λ (c : SparseSet). []) (p .sets))) (map (map zeroCount) (p .layout)) (zero-fresh-all (key (p .sets)) (p .layout) (f .fams)));

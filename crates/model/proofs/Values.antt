@@ -2,11 +2,11 @@
 -- staged components. Assumes nothing.
 use mathlib.Core.Path.{_≡_, refl}
 use mathlib.Core.List.{List, [], _∷_, _++_, map}
-use Prim.Native.Nat.{ℕ, zero, suc, _-_, _<_}
+use Prim.Native.Nat.{ℕ, _-_, _<_}
 use native.Mathlib.Omega.{arith}
 use native.Mathlib.Nat.{zero-add}
 use native.Mathlib.Decide.{ℕ-discrete, decLt}
-use lib.ListN.{length, getD, set}
+use lib.ListN.{length, getD, set, List·getD-map}
 use lib.Seq.{getD-set-same, getD-set-other, set-out}
 use Rattle.model.specs.Model.{Entity, Row, SparseSet, Group, Family, Component, Storage, Walked, GroupStep, noRow, mem, meets, setOf, at, held, allHeld, isGrouped, swapTo, insertRow, removeRow, onKinds, insertAll, kindOf, kindsOf, groupComponents, ungroupComponents, groupFamily, ungroupFamily, groupTouched, ungroup, groupAll, regroup, setLayout, insertComponents, remove, clearAll}
 use Rattle.model.proofs.ListLaws.{AllOf, all-set, all-take, all-snoc}
@@ -110,11 +110,6 @@ module _ (Q : ℕ → Row → Type 0) (Q0 : (k : ℕ) → Q k noRow) where
   unfolding setLayout
   setLayout-ok live draft p h = regroup-ok live (record { sets = p .sets; layout = _ }) h
 
-  setOf-wiped : (sets : List SparseSet) (k : ℕ) → setOf (map (λ (c : SparseSet). []) sets) k ≡ []
-  setOf-wiped [] k = refl
-  setOf-wiped (c ∷ cs) zero = refl
-  setOf-wiped (c ∷ cs) (suc k) = setOf-wiped cs k
-
   pub clearAll-ok : (p : Storage) → ColsOk ((clearAll p) .sets)
   unfolding clearAll
-  clearAll-ok p k = rw (setOf-wiped (p .sets) k) (λ j. Q0 k)
+  clearAll-ok p k = rw (List·getD-map {B = SparseSet} (λ c. []) (p .sets) k []) (λ j. Q0 k)
