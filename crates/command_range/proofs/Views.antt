@@ -9,7 +9,7 @@ use lib.Seq.{getD-take, length-take-le}
 use Rattle.words.specs.Offsets.{GROUP-PLACES}
 use Rattle.model.specs.Model.{mem, groupsOf}
 use Rattle.model.specs.Sound.{In}
-use Rattle.model.proofs.KindLists.{at-in}
+use Rattle.model.proofs.KindLists.{at-in, in-at}
 use Rattle.model.proofs.BoolLaws.{not-true}
 use Rattle.words.proofs.Part.{getD-between}
 use Rattle.layout.specs.Layout.{Arrays, startOf, widthOf, kindsAt, aritiesAt, WellFormed}
@@ -22,7 +22,6 @@ use Rattle.memory.specs.Meaning.{localAt, layoutArrays, meaning}
 use Rattle.memory.specs.Arranged.{Arranged}
 use Rattle.memory.proofs.Frames.{layout-sized}
 use Rattle.kinds.proofs.Owned.{Owned}
-use Rattle.kinds.proofs.Slot.{in-list}
 use Rattle.group.specs.Flat.{Located, located}
 use Rattle.group.proofs.InWords.{groups-are, in-family, located-words}
 use Rattle.group_info.specs.Info.{KindInfo}
@@ -42,14 +41,14 @@ module _ (w : List ℕ) (A : Arranged w) where
     where
       there : mem k (kindsAt (layoutArrays w) f) ≡ true → ⊥
       there t =
-          let P = in-list (kindsAt a f) k t in
+          let P = in-at (kindsAt a f) k t in
           let s = startOf (a .kindEnds) f in
-          let low : s + P .place < getD (a .kindEnds) f 0 = omega (arith, P .below, kinds-length a good (layout-sized w A) f h) in
-          let lt : s + P .place < widthOf a = omega (arith, kinds-inside a good f h) in
+          let low : s + P .0 < getD (a .kindEnds) f 0 = omega (arith, P .1, kinds-length a good (layout-sized w A) f h) in
+          let lt : s + P .0 < widthOf a = omega (arith, kinds-inside a good f h) in
           let l : length (take (widthOf a) (a .kinds)) ≡ widthOf a = length-take-le (widthOf a) (a .kinds) (omega (arith, good .wide, layout-sized w A .kinds)) in
-          let e : getD (take (widthOf a) (a .kinds)) (s + P .place) 0 ≡ k =
-          getD-take (widthOf a) (a .kinds) (s + P .place) 0 lt ∙ sym (getD-between s (getD (a .kindEnds) f 0) (P .place) (a .kinds) 0 low) ∙ P .is in
-          true≢false (sym (subst (In (take (widthOf a) (a .kinds))) e (at-in (take (widthOf a) (a .kinds)) (s + P .place) (omega arith))) ∙ n)
+          let e : getD (take (widthOf a) (a .kinds)) (s + P .0) 0 ≡ k =
+          getD-take (widthOf a) (a .kinds) (s + P .0) 0 lt ∙ sym (getD-between s (getD (a .kindEnds) f 0) (P .0) (a .kinds) 0 low) ∙ P .2 in
+          true≢false (sym (subst (In (take (widthOf a) (a .kinds))) e (at-in (take (widthOf a) (a .kinds)) (s + P .0) (omega arith))) ∙ n)
 
   pub real : (k g : ℕ) → Owned w k g → g < groupsOf (meaning w .storage .layout)
   real k g o = omega (arith, o .group, groups-are w A)

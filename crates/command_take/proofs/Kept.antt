@@ -2,19 +2,18 @@
 use mathlib.Core.Path.{_≡_, refl, ap, ap₂, sym, _∙_, subst}
 use mathlib.Core.Bool.{true, cond}
 use mathlib.Core.List.{List, [], _∷_, _++_, reverse}
-use Prim.Native.Nat.{ℕ, zero, suc, _+_, _-_, _≤_, _<_}
+use Prim.Native.Nat.{ℕ, _+_, _-_, _≤_, _<_}
 use native.Mathlib.Omega.{arith}
-use native.Mathlib.Nat.{le-of-suc-le-suc, not-suc-le-zero, zero-add}
+use native.Mathlib.Nat.{zero-add}
 use borrow.Author.Tests.{ltb-true, lt-ltb}
-use lib.ListN.{length, getD, set, length-map}
+use lib.ListN.{length, getD, set, length-map, List·getD-map}
 use lib.Seq.{getD-set-same, lt-length-set}
-use Rattle.model.specs.Lists.{one}
-use Rattle.model.proofs.ListLaws.{length-swap, count-swap}
+use Rattle.model.proofs.ListLaws.{length-swap, count-swap, place-once}
 use Rattle.model.specs.Model.{Entity, Row, SparseSet, Storage, sameEntity, noEntity, noRow, mem, setOf, keys, entityOf, at, held, swapTo, ungroup}
 use Rattle.model.specs.Commands.{takenBytes, heldBytes}
 use Rattle.model.specs.Sound.{cnt, key}
 use Rattle.model.proofs.SparseSets.{keys-swap, setOf-mapOn, entity-same}
-use Rattle.model.proofs.BoolLaws.{cond-case, bool-cases}
+use Rattle.model.proofs.BoolLaws.{cond-case}
 use Rattle.model.proofs.Invariant.{Fit}
 use Rattle.component.proofs.Places.{at-entity}
 use Rattle.group.specs.declared.group_status.GroupStatus.{GroupStatus}
@@ -22,19 +21,12 @@ use Rattle.group.specs.declared.group_status.GroupStatus.the-variants.{Incomple
 use Rattle.group.specs.Flat.{located, statusAt, ungroupAt, stepDown, walkDown, deletePositions}
 use Rattle.group.specs.Ready.{ReadyOut, ReadyDown}
 use Rattle.group.proofs.Downward.{walk-ungroup, ready-remove}
-use Rattle.world.proofs.Live.{row-count}
 use Rattle.command_take.proofs.Taking.{bytes-held}
 
 module _ (e : Entity) where
   -- where the entity stands once, its place is that of its row
   once-at : (rs : SparseSet) (p : ℕ) → p < length rs → getD rs p noRow .entity ≡ e → cnt e (keys rs) ≤ 1 → at e rs ≡ p
-  once-at [] p h q n = absurd (not-suc-le-zero h)
-  once-at (r ∷ rs) zero h q n = rw (subst (λ (x : Entity). sameEntity e x ≡ true) (sym q) (entity-same e))
-  once-at (r ∷ rs) (suc p) h q n =
-      let m : 1 ≤ cnt e (keys rs) = subst (λ (x : Entity). 1 ≤ cnt x (keys rs)) q (row-count rs p (le-of-suc-le-suc h)) in
-      bool-cases (sameEntity e (r .entity))
-      (λ t. absurd (omega (arith, ap one t)))
-      (λ t. rw t (ap suc (once-at rs p (le-of-suc-le-suc h) q (omega (arith, ap one t)))))
+  once-at rs p h q n = place-once sameEntity entity-same noEntity e (keys rs) n p (rw (length-map rs entityOf) h) (List·getD-map entityOf rs p noRow ∙ q)
 
   -- the rows of a kind after a step: the entity is there once at most, with the value that it had
   record Keeps (rs rs′ : SparseSet) : Type 0 where

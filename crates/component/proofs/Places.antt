@@ -1,16 +1,15 @@
 -- Where the model finds an entity among rows, and what that says of a search, an insertion and a removal. Assumes nothing.
-use mathlib.Core.Path.{_≡_, sym, ap, _∙_, subst}
+use mathlib.Core.Path.{_≡_, sym, ap, _∙_}
 use mathlib.Core.Logic.{_≢_}
-use mathlib.Core.Bool.{Bool, true, false, true≢false}
+use mathlib.Core.Bool.{true, false, true≢false}
 use mathlib.Core.List.{List, [], _∷_, _++_}
-use Prim.Native.Nat.{ℕ, zero, suc, _+_, _-_, _≤_, _<_}
+use Prim.Native.Nat.{ℕ, _+_, _-_, _≤_, _<_}
 use native.Mathlib.Omega.{arith}
-use native.Mathlib.Nat.{not-suc-le-zero, le-of-suc-le-suc}
 use native.Mathlib.Decide.{decLt}
 use borrow.Author.Tests.{ltb-true, lt-ltb, le-ltb}
 use lib.ListN.{length, getD, length-map, List·getD-map}
-use Rattle.model.specs.Lists.{after, cutAt}
-use Rattle.model.proofs.ListLaws.{getD-place}
+use Rattle.model.specs.Lists.{cutAt}
+use Rattle.model.proofs.ListLaws.{getD-place, place-first}
 use Rattle.model.specs.Model.{Entity, SparseSet, sameEntity, noEntity, noRow, keys, entityOf, at, held, insertRow, removeRow, swapTo}
 use Rattle.model.proofs.SparseSets.{entity-eq, entity-same}
 use Rattle.component.specs.declared.Found.the-variants as found
@@ -22,13 +21,7 @@ use Rattle.component.proofs.Meaning.{length-rows, getD-rows, rows-apart
 -- ---- the model's place of an entity
 
 pub at-le : (e : Entity) (rs : SparseSet) (i : ℕ) → i < length rs → getD rs i noRow .entity ≡ e → at e rs ≤ i
-at-le e [] i h q = absurd (not-suc-le-zero h)
-at-le e (r ∷ rs) zero h q = rw (subst (λ (d : Entity). sameEntity e d ≡ true) (sym q) (entity-same e)) (omega arith)
-at-le e (r ∷ rs) (suc i) h q = go (sameEntity e (r .entity)) (at-le e rs i (le-of-suc-le-suc h) q)
-  where
-    go : (b : Bool) → at e rs ≤ i → after b (at e rs) ≤ suc i
-    go true k = omega arith
-    go false k = omega arith
+at-le e rs i h q = place-first sameEntity entity-same noEntity e (keys rs) i (rw (length-map rs entityOf) h) (List·getD-map entityOf rs i noRow ∙ q)
 
 pub at-entity : (e : Entity) (rs : SparseSet) → at e rs < length rs → getD rs (at e rs) noRow .entity ≡ e
 at-entity e rs h =

@@ -1,4 +1,3 @@
 pub mod EntityPart
 pub mod Control
-pub mod KindWords
 pub mod DraftWords

@@ -3,7 +3,7 @@ use mathlib.Core.Path.{_≡_}
 use mathlib.Core.List.{List}
 use Prim.Native.Nat.{ℕ, _≤_, _<_}
 use native.Mathlib.Omega.{arith}
-use Rattle.model.proofs.Numbers.{zero-of}
+use Rattle.model.proofs.BoolLaws.{zero-of}
 use Rattle.model.specs.Model.{Entity, Entities, noEntity}
 use Rattle.words.specs.Table.{table}
 use Rattle.words.proofs.Tables.{table-same}

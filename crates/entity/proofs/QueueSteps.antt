@@ -8,7 +8,7 @@ use native.Mathlib.Omega.{arith}
 use native.Mathlib.Numerals.{add-one}
 use lib.ListN.{getD, drop, length-drop}
 use lib.Seq.{getD-drop}
-use Rattle.model.proofs.Numbers.{zero-of}
+use Rattle.model.proofs.BoolLaws.{zero-of}
 use Rattle.model.specs.Model.{noEntity}
 use Rattle.words.specs.Offsets.{ISSUED, LIVE-LIST, QUEUE-HEAD, RECYCLED-LEN}
 use Rattle.words.specs.Table.{table}

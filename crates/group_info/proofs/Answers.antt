@@ -1,14 +1,15 @@
 -- The range of a query is the model's, by the cases of its two infos; and none where the kinds are scattered. Assumes nothing.
 use mathlib.Core.Path.{_≡_, refl, sym, ap, _∙_, subst}
-use mathlib.Core.Bool.{true, false, true≢false, and-false, or-true}
+use mathlib.Core.Bool.{false, and-false}
 use mathlib.Core.List.{List, [], _∷_, _++_}
 use Prim.Native.Nat.{ℕ, _+_, _-_, _≤_}
 use native.Mathlib.Omega.{arith}
-use borrow.Author.Tests.{eq-eqb, ne-eqb}
+use borrow.Author.Tests.{ne-eqb}
 use lib.Dec.{eqb}
 use lib.ListN.{length, length-append}
 use Rattle.model.specs.Model.{Storage, none, found, mem, within, setOf, rangeAll, single, rangeFor}
-use Rattle.model.proofs.BoolLaws.{bool-cases}
+use Rattle.model.proofs.BoolLaws.{and-false-of}
+use Rattle.model.proofs.KindLists.{head-in, all-missing, all-joined}
 use Rattle.layout.specs.Layout.{Arrays, kindsAt, familiesOf, WellFormed}
 use Rattle.layout.specs.ByValue.{Sized}
 use Rattle.group_info.specs.Info.{infoOf, ExcludedSays, IncludedSays, RangeBy}
@@ -39,9 +40,6 @@ one-kind k s = refl
 -- ---- the cases
 
 module _ (a : Arrays) (s : Storage) (counts : List ℕ) (good : WellFormed a) (sized : Sized a) (layout : s .layout ≡ familiesOf counts a) where
-  here : (k : ℕ) → mem k (k ∷ []) ≡ true
-  here k = rw (eq-eqb k k refl)
-
   -- what the hand's info says of the search
   abbrev Staged : List ℕ → FoundInfo → Type 0
   Staged hs (info.Info i) = GroupedKinds a hs i
@@ -54,11 +52,11 @@ module _ (a : Arrays) (s : Storage) (counts : List ℕ) (good : WellFormed a) (s
 
   staged-one : (k : ℕ) (x : FoundInfo) → InfoOfKind a k x → Staged (k ∷ []) x
   staged-one k (info.Info i) g = g
-  staged-one k info.Nothing u = λ bs. none-staged a good sized counts (k ∷ []) bs (λ f h. (k, here k, u f h))
+  staged-one k info.Nothing u = λ bs. none-staged a good sized counts (k ∷ []) bs (λ f h. (k, head-in (k ∷ []) (omega arith), u f h))
 
   excluded-one : (k : ℕ) (x : FoundInfo) → InfoOfKind a k x → Excludes k [] x
   excluded-one k (info.Info e) g = g
-  excluded-one k info.Nothing u = λ hs. none-excluded a good sized counts hs k [] (λ f h. (k, here k, u f h))
+  excluded-one k info.Nothing u = λ hs. none-excluded a good sized counts hs k [] (λ f h. (k, head-in (k ∷ []) (omega arith), u f h))
 
   staged : (hs : List ℕ) (q : QueryGroupInfo) → Describes a s hs q → Staged hs (infoOf q)
   staged hs query.Empty d = λ bs. ap (λ (l : List ℕ). rangeAll l bs (familiesOf counts a)) d ∙ none-empty a good sized counts bs
@@ -89,29 +87,21 @@ module _ (a : Arrays) (s : Storage) (counts : List ℕ) (good : WellFormed a) (s
 
   -- ---- kinds that no family holds
 
-  missing : (hs ks : List ℕ) → within hs ks ≡ false → (k : ℕ) × (mem k hs ≡ true) × (mem k ks ≡ false)
-  missing [] ks e = absurd (true≢false e)
-  missing (h ∷ hs) ks e =
-      bool-cases (mem h ks)
-      (λ t. let r = missing hs ks (rw t at e) in (r .0, rw (r .1) (or-true (eqb (r .0) h)), r .2))
-      (λ t. (h, rw (eq-eqb h h refl), t))
-
   -- scattered kinds in the hand, or in the bar: none
   pub scattered-staged : (hs bs : List ℕ) → Scattered a hs → rangeFor hs bs s ≡ none
-  scattered-staged hs bs x = several hs bs s (x .many) ∙ ap (rangeAll hs bs) layout ∙ none-staged a good sized counts hs bs (λ f h. missing hs (kindsAt a f) (x .nowhere f h))
+  scattered-staged hs bs x = several hs bs s (x .many) ∙ ap (rangeAll hs bs) layout ∙ none-staged a good sized counts hs bs (λ f h. let m = all-missing (λ k. mem k (kindsAt a f)) hs (x .nowhere f h) in (m .kind, m .isIn, m .fails))
 
   pub scattered-excluded : (hs bs : List ℕ) → Scattered a bs → rangeFor hs bs s ≡ none
   scattered-excluded hs [] x = absurd (omega (arith, x .many))
-  scattered-excluded hs (b ∷ bs) x = with-excluded hs b bs s ∙ ap (rangeAll hs (b ∷ bs)) layout ∙ none-excluded a good sized counts hs b bs (λ f h. missing (b ∷ bs) (kindsAt a f) (x .nowhere f h))
+  scattered-excluded hs (b ∷ bs) x = with-excluded hs b bs s ∙ ap (rangeAll hs (b ∷ bs)) layout ∙ none-excluded a good sized counts hs b bs (λ f h. let m = all-missing (λ k. mem k (kindsAt a f)) (b ∷ bs) (x .nowhere f h) in (m .kind, m .isIn, m .fails))
 
 -- a part of a list that is scattered scatters the whole
 pub scattered-more : (a : Arrays) (xs ys : List ℕ) → Scattered a xs → Scattered a (xs ++ ys)
 scattered-more a xs ys x =
-    record { many = omega (arith, x .many, length-append xs ys); nowhere = λ f h. wider (kindsAt a f) xs (x .nowhere f h) }
-  where
-    wider : (js l : List ℕ) → within l js ≡ false → within (l ++ ys) js ≡ false
-    wider js [] e = absurd (true≢false e)
-    wider js (k ∷ l) e = bool-cases (mem k js) (λ t. rw t (wider js l (rw t at e))) (λ t. rw t)
+    record {
+      many = omega (arith, x .many, length-append xs ys);
+      nowhere = λ f h. all-joined (λ k. mem k (kindsAt a f)) xs ys ∙ and-false-of (within xs (kindsAt a f)) (within ys (kindsAt a f)) (x .nowhere f h);
+    }
 
 pub range-law : (ars counts : List ℕ) (p q : QueryGroupInfo) (r : GroupRange) → RangeBy ars counts p q r → RangeSays ars counts p q r
 range-law ars counts p q r w x =

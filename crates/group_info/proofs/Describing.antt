@@ -1,7 +1,7 @@
 -- What the infos describe: of one kind, of two together, of a query with one kind more; and that their groups stand in the arrays. Assumes nothing.
 use mathlib.Core.Path.{_≡_, refl, sym, ap, ap₂, _∙_, subst}
 use mathlib.Core.Logic.{_≢_}
-use mathlib.Core.Bool.{Bool, true, false, _&&_, _||_, true≢false, or-false, or-true}
+use mathlib.Core.Bool.{Bool, true, false, _&&_, _||_, true≢false, or-true, and-or-distrib-left}
 use mathlib.Core.List.{List, [], _∷_, _++_}
 use Prim.Native.Nat.{ℕ, _+_, _-_, _≤_, _<_}
 use native.Mathlib.Nat.{sub-zero}
@@ -14,7 +14,8 @@ use Rattle.model.specs.Model.{Storage, mem, within}
 use Rattle.model.proofs.KindLists.{mem-append, all-in, mem-take-le, in-one}
 use Rattle.model.proofs.BoolLaws.{or-cases, not-true, by-eq}
 use Rattle.masks.specs.Masks.{has, bitsOf}
-use Rattle.masks.proofs.Lists.{has-union}
+use Rattle.words.proofs.Part.{between-in}
+use Rattle.masks.proofs.Lists.{has-union, has-one}
 use Rattle.layout.specs.Layout.{Arrays, startOf, kindsAt, aritiesAt, KindSet, WellFormed}
 use Rattle.layout.specs.ByValue.{Sized}
 use Rattle.layout.proofs.Family.{rising-at, rising-less}
@@ -26,16 +27,12 @@ use Rattle.group_info.specs.declared.FoundInfo.{FoundInfo}
 use Rattle.group_info.specs.declared.ViewGroupInfo.{ViewGroupInfo}
 use Rattle.group_info.specs.declared.QueryGroupInfo.{QueryGroupInfo}
 use Rattle.group_info.specs.declared.FoundQuery.{FoundQuery}
-use Rattle.group_info.proofs.Places.{placeOf, place-at, part-mem, mem-part}
+use Rattle.group_info.proofs.Places.{placeOf, place-at, mem-part}
 use Rattle.group_info.proofs.Families.{elsewhere}
 use Rattle.group_info.proofs.Ranges.{same-family, in-kinds, few-kinds, arity-of}
 use Rattle.group_info.specs.declared.FoundInfo.the-variants as info
 use Rattle.group_info.specs.declared.QueryGroupInfo.the-variants as query
 use Rattle.group_info.specs.declared.FoundQuery.the-variants as added
-
-one-bit : (q p : ℕ) → has q (p ∷ []) ≡ eqb q p
-unfolding has
-one-bit q p = or-false (eqb q p)
 
 module _ (a : Arrays) (good : WellFormed a) (sized : Sized a) where
   -- ---- one kind
@@ -49,7 +46,7 @@ module _ (a : Arrays) (good : WellFormed a) (sized : Sized a) where
         group = p .group;
         first = i .first;
         last = i .last;
-        below = λ x m. rw (in-one x k m) (ap (λ (y : ℕ). mem y (take hi ks)) (sym (p .kind)) ∙ ap (λ (n : ℕ). mem (getD ks place 0) (take n ks)) (sym (sub-zero hi)) ∙ part-mem ks s 0 hi (omega arith) in-ks place (omega arith) (p .below));
+        below = λ x m. rw (in-one x k m) (ap (λ (y : ℕ). mem y (take hi ks)) (sym (p .kind)) ∙ ap (λ (n : ℕ). mem (getD ks place 0) (take n ks)) (sym (sub-zero hi)) ∙ between-in 0 hi place ks (omega arith) (p .below) in-ks);
         topIn = rw (eq-eqb k k refl);
         topNew = not-true (mem k (take lo ks)) new;
         places = at;
@@ -79,7 +76,7 @@ module _ (a : Arrays) (good : WellFormed a) (sized : Sized a) where
           omega (arith, x .high, own-place, p .before)
 
       at : (q : ℕ) → q < 16 → has q (bitsOf 16 (r .«storage_mask» .0)) ≡ (ltb q (length (kindsAt a f)) && mem (getD (kindsAt a f) q 0) (k ∷ []))
-      at q h = ap (has q) (i .places) ∙ one-bit q place ∙ by-eq q place same other
+      at q h = ap (has q) (i .places) ∙ has-one q place ∙ by-eq q place same other
         where
           same : q ≡ place → eqb q place ≡ (ltb q (length (kindsAt a f)) && mem (getD (kindsAt a f) q 0) (k ∷ []))
           same e = rw (e, eq-eqb place place refl, lt-ltb place (length (kindsAt a f)) (omega (arith, p .below, in-ks)), p .kind, eq-eqb k k refl)
@@ -94,10 +91,6 @@ module _ (a : Arrays) (good : WellFormed a) (sized : Sized a) where
 
   -- ---- two together
 
-  both-parts : (l u v : Bool) → ((l && u) || (l && v)) ≡ (l && (u || v))
-  both-parts true u v = refl
-  both-parts false u v = refl
-
   arity-le : (f i j : ℕ) → f < a .families → i ≤ j → j < length (aritiesAt a f) → getD (aritiesAt a f) i 0 ≤ getD (aritiesAt a f) j 0
   arity-le f i j h l b =
       by-eq i j (λ e. rw e (omega arith)) (λ ne. omega (arith, rising-less 0 (length (kindsAt a f)) (aritiesAt a f) i j (family-rising a good sized f h) (omega arith) b))
@@ -108,7 +101,7 @@ module _ (a : Arrays) (good : WellFormed a) (sized : Sized a) where
       places : (p : ℕ) → p < 16 → has p (placesOf r) ≡ (ltb p (length (kindsAt a f)) && mem (getD (kindsAt a f) p 0) (hs ++ js))
       places p h =
           ap (has p) (w .places) ∙ has-union 16 p (placesOf i) (placesOf j) h ∙ ap₂ _||_ (x .places p h) (y .places p h)
-          ∙ both-parts (ltb p (length (kindsAt a f))) (mem (getD (kindsAt a f) p 0) hs) (mem (getD (kindsAt a f) p 0) js)
+          ∙ sym (and-or-distrib-left (ltb p (length (kindsAt a f))) (mem (getD (kindsAt a f) p 0) hs) (mem (getD (kindsAt a f) p 0) js))
           ∙ ap (λ (t : Bool). ltb p (length (kindsAt a f)) && t) (sym (mem-append (getD (kindsAt a f) p 0) hs js))
 
       below : (m : ℕ) → x .own ≤ m → y .own ≤ m → m < length (aritiesAt a f) → (k : ℕ) → mem k (hs ++ js) ≡ true → mem k (take (getD (aritiesAt a f) m 0) (kindsAt a f)) ≡ true
@@ -189,9 +182,6 @@ module _ (a : Arrays) (good : WellFormed a) (sized : Sized a) where
   of-view k info.Nothing u = (k, rw (eq-eqb k k refl), u)
 
   module _ (s : Storage) where
-    pub describes-none : Describes a s [] query.Empty
-    describes-none = refl
-
     -- what became of the query
     abbrev Next : List ℕ → FoundQuery → Type 0
     Next hs (added.Query q) = Describes a s hs q

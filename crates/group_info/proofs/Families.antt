@@ -1,7 +1,7 @@
 -- RANGE over the families that the arrays list. Assumes nothing.
 use mathlib.Core.Path.{_≡_, refl, sym, ap, ap₂, _∙_}
 use mathlib.Core.Logic.{_≢_}
-use mathlib.Core.Bool.{Bool, true, false, cond, true≢false}
+use mathlib.Core.Bool.{true, false, cond, true≢false}
 use mathlib.Core.List.{List, [], _∷_, _++_, append-assoc}
 use Prim.Native.Nat.{ℕ, zero, suc, _+_, _-_, _≤_, _<_}
 use native.Mathlib.Nat.{add-zero, add-suc, suc-add, sub-zero}
@@ -12,25 +12,15 @@ use lib.ListN.{length, getD, take, drop, drop-of-length-le}
 use lib.Seq.{drop-cons}
 use Rattle.model.specs.Lists.{countOf}
 use Rattle.model.proofs.ListLaws.{count-append}
-use Rattle.model.specs.Model.{Family, Range, none, found, mem, within, sameSet, kindsOf, firstRange, rangeAt, rangeIn, rangeAll}
-use Rattle.model.proofs.KindLists.{all-in, in-count, not-in-parts, mem-take-le, not-in-take}
-use Rattle.model.proofs.BoolLaws.{not-true}
+use Rattle.model.specs.Model.{Family, Range, none, found, mem, sameSet, kindsOf, firstRange, rangeAt, rangeIn, rangeAll}
+use Rattle.model.proofs.KindLists.{in-count, not-in-parts, mem-take-le, not-in-take, differ-left, differ-right}
+use Rattle.model.proofs.BoolLaws.{not-true, cond-same}
 use Rattle.words.specs.Part.{between}
-use Rattle.words.proofs.Part.{count-part, between-join}
+use Rattle.words.proofs.Part.{count-part, between-join, between-in}
 use Rattle.layout.specs.Layout.{Arrays, startOf, widthOf, kindsAt, groupsFrom, KindSet, Rising, WellFormed}
 use Rattle.layout.proofs.Family.{rising-le, rising-head}
 use Rattle.layout.proofs.Arrays.{kind-order, kinds-inside, ends-rise}
-use Rattle.masks.proofs.Lists.{and-parts}
-use Rattle.group_info.proofs.Places.{part-mem, place-at, mem-part}
-
--- ---- sets
-
--- a kind in one and not in the other
-pub differ-left : (hs js : List ℕ) (k : ℕ) → mem k hs ≡ true → mem k js ≡ false → sameSet hs js ≡ false
-differ-left hs js k h j = not-true (sameSet hs js) (λ t. true≢false (sym (all-in (λ x. mem x js) hs (and-parts (within hs js) (within js hs) t .0) k h) ∙ j))
-
-pub differ-right : (hs js : List ℕ) (k : ℕ) → mem k js ≡ true → mem k hs ≡ false → sameSet hs js ≡ false
-differ-right hs js k j h = not-true (sameSet hs js) (λ t. true≢false (sym (all-in (λ x. mem x hs) js (and-parts (within hs js) (within js hs) t .1) k j) ∙ h))
+use Rattle.group_info.proofs.Places.{place-at, mem-part}
 
 -- ---- a family that lacks one of the kinds
 
@@ -44,12 +34,8 @@ pub lacks-excluded : (hs : List ℕ) (b : ℕ) (bs acc : List ℕ) (rs : Family)
 lacks-excluded hs b bs acc [] k h n = refl
 lacks-excluded hs b bs acc (r ∷ rs) k h n =
     let n₂ = not-in-parts k (r .newKinds) (kindsOf rs) n .1 in
-    rw (next rs n₂, lacks-excluded hs b bs (acc ++ r .newKinds) rs k h n₂) (both (sameSet hs (acc ++ r .newKinds)))
+    rw (next rs n₂, lacks-excluded hs b bs (acc ++ r .newKinds) rs k h n₂) (cond-same (sameSet hs (acc ++ r .newKinds)) none)
   where
-    both : (t : Bool) → cond t none none ≡ none
-    both true = refl
-    both false = refl
-
     next : (rs : Family) → mem k (kindsOf rs) ≡ false → rangeAt (b ∷ bs) (r .count) rs ≡ none
     next [] n = refl
     next (q ∷ rs) n = rw (differ-left (b ∷ bs) (q .newKinds) k h (not-in-parts k (q .newKinds) (kindsOf rs) n .0)) refl
@@ -68,10 +54,7 @@ pub only-one : (hs bs : List ℕ) (fs : List Family) (f : ℕ) → f < length fs
     → rangeAll hs bs fs ≡ rangeIn hs bs [] (getD fs f [])
 only-one hs bs [] f h o = absurd (omega arith)
 only-one hs bs (x ∷ fs) zero h o = rw (all-none hs bs fs (λ i l. o (suc i) (omega arith) (omega arith))) (else-none (rangeIn hs bs [] x))
-only-one hs bs (x ∷ fs) (suc f) h o = rw (o 0 (omega arith) (omega arith)) (only-one hs bs fs f (omega arith) (λ i l n. o (suc i) (omega arith) (λ e. n (suc-same i f e))))
-  where
-    suc-same : (i f : ℕ) → suc i ≡ suc f → i ≡ f
-    suc-same i f e = omega arith
+only-one hs bs (x ∷ fs) (suc f) h o = rw (o 0 (omega arith) (omega arith)) (only-one hs bs fs f (omega arith) (λ i l n. o (suc i) (omega arith) (λ e. n (omega arith))))
 
 -- ---- the families have no kind in common
 
@@ -102,7 +85,7 @@ pub next-kind : (ks : List ℕ) → KindSet ks → (b a : ℕ) → b < a → a �
 next-kind ks s b a h l =
     let up : between 0 a ks ≡ take a ks = ap (λ (n : ℕ). take n ks) (sub-zero a) in
     let lo : between 0 b ks ≡ take b ks = ap (λ (n : ℕ). take n ks) (sub-zero b) in (
-      ap (mem (getD ks b 0)) (sym up) ∙ part-mem ks s 0 a (omega arith) l b (omega arith) h,
+      ap (mem (getD ks b 0)) (sym up) ∙ between-in 0 a b ks (omega arith) h l,
       ap (mem (getD ks b 0)) (sym lo) ∙ not-true (mem (getD ks b 0) (between 0 b ks)) (λ t. let x = mem-part ks s 0 b (omega arith) (omega arith) (getD ks b 0) t in omega (arith, x .high, place-at ks s b (omega arith))),
     )
 

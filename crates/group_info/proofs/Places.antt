@@ -11,13 +11,13 @@ use lib.ListN.{length, getD}
 use Rattle.model.specs.Numbers.{MAX-GROUP-ARITY}
 use Rattle.model.specs.Lists.{place}
 use Rattle.model.proofs.ListLaws.{count-place, getD-place, once-place}
-use Rattle.model.specs.Model.{mem, within, sameSet}
-use Rattle.model.proofs.KindLists.{all-in, in-count, all-true, at-in}
-use Rattle.model.proofs.BoolLaws.{bool-cases}
+use Rattle.model.specs.Model.{mem, sameSet}
+use Rattle.model.proofs.KindLists.{in-count, all-true, same-to, same-from}
+use Rattle.model.proofs.BoolLaws.{bool-cases, and-right}
 use Rattle.words.specs.Part.{between}
-use Rattle.words.proofs.Part.{getD-between, length-between}
+use Rattle.words.proofs.Part.{getD-between, length-between, between-in as part-in}
 use Rattle.masks.specs.Masks
-use Rattle.masks.proofs.Lists.{between-in, between-low, between-high, between-parts, has-up, keep-between, and-parts}
+use Rattle.masks.proofs.Lists.{between-in, between-low, between-high, between-parts, has-up, keep-between}
 use Rattle.masks.proofs.Bits.{bits-members}
 use Rattle.layout.specs.Layout.{KindSet}
 
@@ -39,12 +39,6 @@ unfolding placeOf
 place-at l s i h = once-place l (s .once) i h
 
 module _ (ks : List ℕ) (s : KindSet ks) (lo hi : ℕ) (ord : lo ≤ hi) (top : hi ≤ length ks) where
-  pub part-mem : (p : ℕ) → lo ≤ p → p < hi → mem (getD ks p 0) (between lo hi ks) ≡ true
-  part-mem p l h =
-      let e : lo + (p - lo) ≡ p = omega arith in
-      let g : getD (between lo hi ks) (p - lo) 0 ≡ getD ks p 0 = getD-between lo hi (p - lo) ks 0 (omega arith) ∙ ap (λ (i : ℕ). getD ks i 0) e in
-      ap (λ (k : ℕ). mem k (between lo hi ks)) (sym g) ∙ at-in (between lo hi ks) (p - lo) (omega (arith, length-between lo hi ks top))
-
   -- a member of the part is at one of its places
   pub record InPart (k : ℕ) : Type 0 where
     pub low : lo ≤ placeOf k ks
@@ -65,16 +59,10 @@ module _ (ks : List ℕ) (s : KindSet ks) (lo hi : ℕ) (ord : lo ≤ hi) (top :
     pub places-of-part : sameSet hs (between lo hi ks) ≡ true → Masks.bitsOf 16 m ≡ Masks.upFrom lo (hi - lo)
     places-of-part e = bits-members 16 m (Masks.between lo hi) (λ p h. places p h ∙ claim p) ∙ keep-between 16 lo hi ord (omega arith)
       where
-        left : within hs (between lo hi ks) ≡ true
-        left = and-parts (within hs (between lo hi ks)) (within (between lo hi ks) hs) e .0
-
-        right : within (between lo hi ks) hs ≡ true
-        right = and-parts (within hs (between lo hi ks)) (within (between lo hi ks) hs) e .1
-
         outside : (p : ℕ) → p < length ks → (lo ≤ p → p < hi → ⊥) → mem (getD ks p 0) hs ≡ false
         outside p h n =
             bool-cases (mem (getD ks p 0) hs)
-            (λ t. let x = mem-part (getD ks p 0) (all-in (λ k. mem k (between lo hi ks)) hs left (getD ks p 0) t) in let q = place-at ks s p h in absurd (n (omega (arith, x .low)) (omega (arith, x .high))))
+            (λ t. let x = mem-part (getD ks p 0) (same-to hs (between lo hi ks) e (getD ks p 0) t) in let q = place-at ks s p h in absurd (n (omega (arith, x .low)) (omega (arith, x .high))))
             (λ t. t)
 
         rest : (p : ℕ) → (lo ≤ p → p < hi → ⊥) → (ltb p (length ks) && mem (getD ks p 0) hs) ≡ false
@@ -88,7 +76,7 @@ module _ (ks : List ℕ) (s : KindSet ks) (lo hi : ℕ) (ord : lo ≤ hi) (top :
         claim p =
             elim (decLe lo p) [
               | yes l ↦ elim (decLt p hi) [
-                | yes h ↦ rw (lt-ltb p (length ks) (omega arith)) (all-in (λ k. mem k hs) (between lo hi ks) right (getD ks p 0) (part-mem p l h) ∙ sym (between-in lo hi p l h))
+                | yes h ↦ rw (lt-ltb p (length ks) (omega arith)) (same-from hs (between lo hi ks) e (getD ks p 0) (part-in lo hi p ks l h top) ∙ sym (between-in lo hi p l h))
                 | no h ↦ rest p (λ a b. h b) ∙ sym (between-high lo hi p (omega arith))
               ]
               | no l ↦ rest p (λ a b. l a) ∙ sym (between-low lo hi p (omega arith))
@@ -111,11 +99,11 @@ module _ (ks : List ℕ) (s : KindSet ks) (lo hi : ℕ) (ord : lo ≤ hi) (top :
             let g : getD ks p 0 ≡ k = at-place k ks m′ in
             let bit : Masks.between lo hi p ≡ true = sym (run p) ∙ places p (omega arith) ∙ rw (lt-ltb p (length ks) b, g, h) in
             let x = between-parts lo hi p bit in
-            ap (λ (y : ℕ). mem y (between lo hi ks)) (sym g) ∙ part-mem p (x .0) (x .1)
+            ap (λ (y : ℕ). mem y (between lo hi ks)) (sym g) ∙ part-in lo hi p ks (x .0) (x .1) top
 
         from : (k : ℕ) → mem k (between lo hi ks) ≡ true → mem k hs ≡ true
         from k h =
             let x = mem-part k h in
             let p = placeOf k ks in
             let bit : (ltb p (length ks) && mem (getD ks p 0) hs) ≡ true = sym (places p (omega (arith, x .high))) ∙ run p ∙ between-in lo hi p (x .low) (x .high) in
-            ap (λ (y : ℕ). mem y hs) (sym (x .there)) ∙ and-parts (ltb p (length ks)) (mem (getD ks p 0) hs) bit .1
+            ap (λ (y : ℕ). mem y hs) (sym (x .there)) ∙ and-right (ltb p (length ks)) (mem (getD ks p 0) hs) bit

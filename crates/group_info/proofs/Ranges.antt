@@ -9,12 +9,12 @@ use native.Mathlib.Decide.{decLt}
 use native.Mathlib.Omega.{arith}
 use lib.ListN.{length, getD, take, drop}
 use Rattle.model.specs.Numbers.{MAX-GROUP-ARITY}
-use Rattle.model.specs.Model.{Family, none, found, mem, within, sameSet, kindsOf, rangeAt, rangeIn, rangeAll}
-use Rattle.model.proofs.KindLists.{all-in, mem-take, mem-take-le, not-in-take}
+use Rattle.model.specs.Model.{Family, none, found, mem, sameSet, kindsOf, rangeAt, rangeIn, rangeAll}
+use Rattle.model.proofs.KindLists.{mem-take, mem-take-le, not-in-take, same-to, same-from}
 use Rattle.model.proofs.BoolLaws.{bool-cases, not-true, by-eq}
 use Rattle.words.specs.Part.{between}
+use Rattle.words.proofs.Part.{between-in}
 use Rattle.masks.specs.Masks.{upFrom}
-use Rattle.masks.proofs.Lists.{and-parts}
 use Rattle.layout.specs.Layout.{Arrays, startOf, kindsAt, aritiesAt, groupsFrom, familiesOf, KindSet, Rising, WellFormed}
 use Rattle.layout.specs.ByValue.{Sized}
 use Rattle.layout.specs.Group.{arityOf}
@@ -24,7 +24,7 @@ use Rattle.group_info.specs.Info.{placesOf, IncludeSays, topOf, NextGrou
 use Rattle.group_info.specs.Describes.{rangeOf, InfoOfKinds}
 use Rattle.group_info.specs.declared.GroupInfo.{GroupInfo}
 use Rattle.group_info.specs.declared.GroupRange.{GroupRange}
-use Rattle.group_info.proofs.Places.{placeOf, part-mem, mem-part, places-of-part, part-of-places}
+use Rattle.group_info.proofs.Places.{placeOf, mem-part, places-of-part, part-of-places}
 use Rattle.group_info.proofs.Families.{lacks-staged, lacks-excluded, all-none, only-one, elsewhere, next-kind, at-group, empty-none, next-new-kinds, no-next}
 use Rattle.layout.proofs.Groups as groups
 use Rattle.group_info.specs.declared.GroupRange.the-variants as ranged
@@ -51,13 +51,12 @@ module _ (ks ars : List ℕ) (s : KindSet ks) (r : Rising 0 (length ks) ars) whe
     -- kinds equal to the group at j have it for their own
     pub own-group : (j : ℕ) → j < length ars → sameSet hs (take (getD ars j 0) ks) ≡ true → own ≡ j
     own-group j h e =
-        let parts = and-parts (within hs (take (getD ars j 0) ks)) (within (take (getD ars j 0) ks) hs) e in
         elim (decLt own j) [
           | yes l ↦
               let x = next-kind ks s (startOf ars j) (getD ars j 0) (start-below j h) (rising-at 0 (length ks) ars j r h) in
-              absurd (true≢false (sym (not-before j l h (getD ks (startOf ars j) 0) (all-in (λ k. mem k hs) (take (getD ars j 0) ks) (parts .1) (getD ks (startOf ars j) 0) (x .0))) ∙ x .1))
+              absurd (true≢false (sym (not-before j l h (getD ks (startOf ars j) 0) (same-from hs (take (getD ars j 0) ks) e (getD ks (startOf ars j) 0) (x .0))) ∙ x .1))
           | no l ↦ elim (decLt j own) [
-            | yes q ↦ absurd (true≢false (sym (all-in (λ k. mem k (take (getD ars j 0) ks)) hs (parts .0) top topIn) ∙ not-after j q))
+            | yes q ↦ absurd (true≢false (sym (same-to hs (take (getD ars j 0) ks) e top topIn) ∙ not-after j q))
             | no q ↦ omega arith
           ]
         ]
@@ -69,16 +68,15 @@ module _ (ks ars : List ℕ) (s : KindSet ks) (r : Rising 0 (length ks) ars) whe
         let hi = getD ars j 0 in
         let in-ks = rising-at 0 (length ks) ars j r h in
         let ord : lo ≤ hi = omega (arith, start-below j h) in
-        let parts = and-parts (within hs (between lo hi ks)) (within (between lo hi ks) hs) e in
         elim (decLt own j) [
           | yes l ↦
               let x = next-kind ks s lo hi (start-below j h) in-ks in
-              let m = part-mem ks s lo hi ord in-ks lo (omega arith) (start-below j h) in
-              absurd (true≢false (sym (not-before j l h (getD ks lo 0) (all-in (λ k. mem k hs) (between lo hi ks) (parts .1) (getD ks lo 0) m)) ∙ x .1))
+              let m = between-in lo hi lo ks (omega arith) (start-below j h) in-ks in
+              absurd (true≢false (sym (not-before j l h (getD ks lo 0) (same-from hs (between lo hi ks) e (getD ks lo 0) m)) ∙ x .1))
           | no l ↦ elim (decLt j own) [
             | yes q ↦
-                let y = mem-part ks s lo hi ord in-ks top (all-in (λ k. mem k (between lo hi ks)) hs (parts .0) top topIn) in
-                let whole : mem top (between 0 hi ks) ≡ true = ap (λ (k : ℕ). mem k (between 0 hi ks)) (sym (y .there)) ∙ part-mem ks s 0 hi (omega arith) in-ks (placeOf top ks) (omega arith) (y .high) in
+                let y = mem-part ks s lo hi ord in-ks top (same-to hs (between lo hi ks) e top topIn) in
+                let whole : mem top (between 0 hi ks) ≡ true = ap (λ (k : ℕ). mem k (between 0 hi ks)) (sym (y .there)) ∙ between-in 0 hi (placeOf top ks) ks (omega arith) (y .high) in-ks in
                 absurd (true≢false (sym (ap (λ (n : ℕ). mem top (take n ks)) (sym (sub-zero hi)) ∙ whole) ∙ not-after j q))
             | no q ↦ omega arith
           ]
@@ -244,9 +242,9 @@ module _ (a : Arrays) (good : WellFormed a) (sized : Sized a) where
               let m = suc (x .own) in
               let sets = family-kinds a good f (x .inside) in
               let topAt = mem-part ks sets (startOf ars m) (getD ars m 0) (start-inside f hs i x m inM) (arity-inside f hs i x m inM) (y .top)
-              (all-in (λ k. mem k (between (startOf ars m) (getD ars m 0) ks)) (b ∷ bs) (and-parts (within (b ∷ bs) (between (startOf ars m) (getD ars m 0) ks)) (within (between (startOf ars m) (getD ars m 0) ks) (b ∷ bs)) t .0) (y .top) (y .topIn)) in
+              (same-to (b ∷ bs) (between (startOf ars m) (getD ars m 0) ks) t (y .top) (y .topIn)) in
               let topHere : mem (y .top) ks ≡ true =
-              ap (λ (k : ℕ). mem k ks) (sym (topAt .there)) ∙ mem-take (getD ks (placeOf (y .top) ks) 0) (getD ars m 0) ks (ap (λ (u : ℕ). mem (getD ks (placeOf (y .top) ks) 0) (take u ks)) (sym (sub-zero (getD ars m 0))) ∙ part-mem ks sets 0 (getD ars m 0) (omega arith) (arity-inside f hs i x m inM) (placeOf (y .top) ks) (omega arith) (topAt .high)) in
+              ap (λ (k : ℕ). mem k ks) (sym (topAt .there)) ∙ mem-take (getD ks (placeOf (y .top) ks) 0) (getD ars m 0) ks (ap (λ (u : ℕ). mem (getD ks (placeOf (y .top) ks) 0) (take u ks)) (sym (sub-zero (getD ars m 0))) ∙ between-in 0 (getD ars m 0) (placeOf (y .top) ks) ks (omega arith) (topAt .high) (arity-inside f hs i x m inM)) in
               let same : h ≡ f = family topHere in
               let y′ = subst (λ (z : ℕ). InfoOfKinds a z (b ∷ bs) e) same y in
               let own : y′ .own ≡ m = is-new-kinds f (b ∷ bs) e y′ m inM t in

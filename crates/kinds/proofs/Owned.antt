@@ -18,7 +18,8 @@ use Rattle.memory.specs.Header.{layoutGroups, slotOf, groupFamilyAt}
 use Rattle.memory.specs.Meaning.{ownAt, localAt, layoutArrays, meaning}
 use Rattle.memory.specs.Arranged.{Arranged}
 use Rattle.memory.proofs.Frames.{layout-sized}
-use Rattle.kinds.proofs.Slot.{in-list, known-slot}
+use Rattle.model.proofs.KindLists.{in-at}
+use Rattle.kinds.proofs.Slot.{known-slot}
 
 -- ---- the group that has a place
 
@@ -98,12 +99,12 @@ module _ (w : List ℕ) (A : Arranged w) where
 
   pub listed : (k : ℕ) → In (take (widthOf (layoutArrays w)) (layoutArrays w .kinds)) k → InGroup w k
   listed k i =
-      let P = in-list (take (widthOf a) (a .kinds)) k i in
-      let h : P .place < widthOf a = omega (arith, P .below, length-take-le (widthOf a) (a .kinds) (omega (arith, good .wide, (layout-sized w A) .kinds))) in
-      let T = placed (P .place) h in
+      let P = in-at (take (widthOf a) (a .kinds)) k i in
+      let h : P .0 < widthOf a = omega (arith, P .1, length-take-le (widthOf a) (a .kinds) (omega (arith, good .wide, (layout-sized w A) .kinds))) in
+      let T = placed (P .0) h in
       let G = A .layout .groups (T .group) (T .real) in
       let m : memberAt a (groupFamilyAt w (T .group)) (T .local) ≡ k =
-      ap (λ (x : ℕ). getD (a .kinds) x 0) (T .place) ∙ sym (getD-take (widthOf a) (a .kinds) (P .place) 0 h) ∙ P .is in
+      ap (λ (x : ℕ). getD (a .kinds) x 0) (T .place) ∙ sym (getD-take (widthOf a) (a .kinds) (P .0) 0 h) ∙ P .2 in
       let local : localAt w (slotOf w k) ≡ T .local = ap (λ (x : ℕ). localAt w (slotOf w x)) (sym m) ∙ G .local (T .local) (T .low) (T .high) in
       record {
         group = T .group;

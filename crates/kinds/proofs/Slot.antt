@@ -1,21 +1,20 @@
 -- A registered kind has a slot, whose column's rows are its sparse set; a change of that column is a change of the kind's sparse set. Assumes nothing.
 use mathlib.Core.Path.{_≡_, refl, sym, ap, _∙_, subst}
 use mathlib.Core.Logic.{_≢_}
-use mathlib.Core.Bool.{false, false≢true}
-use mathlib.Core.List.{List, [], _∷_}
-use Prim.Native.Nat.{ℕ, suc, _+_, _<_}
+use mathlib.Core.Bool.{false}
+use mathlib.Core.List.{List}
+use Prim.Native.Nat.{ℕ, _+_, _<_}
 use native.Mathlib.Omega.{arith}
-use borrow.Author.Tests.{eqb-true}
-use lib.Dec.{eqb}
 use lib.ListN.{length, getD}
 use Rattle.model.specs.Numbers.{MAX-KINDS}
 use Rattle.model.specs.Model.{SparseSet, mem}
 use Rattle.model.specs.Store.{onSet, onStorage}
 use Rattle.model.specs.Sound.{In}
-use Rattle.model.proofs.BoolLaws.{or-cases, not-true}
+use Rattle.model.proofs.BoolLaws.{not-true}
+use Rattle.model.proofs.KindLists.{in-at}
 use Rattle.words.specs.Offsets.{columnStart, ENTITIES, ROWS, UNREGISTERED}
 use Rattle.words.specs.Table.{table}
-use Rattle.words.proofs.Tables.{length-table, getD-table, table-in}
+use Rattle.words.proofs.Tables.{table-in, in-table}
 use Rattle.component.specs.Columns.{rowsOf}
 use Rattle.component.specs.Changes.{Lent, Only}
 use Rattle.component.proofs.Parts.{lent, getD-column}
@@ -27,7 +26,7 @@ use Rattle.memory.proofs.Becomes.{set-at, set-in, one-becomes}
 use Rattle.kinds.specs.Kinds.{kindSet}
 use Rattle.kinds.specs.Steps.{InSlot, headOf}
 
--- ---- a kind of a list, and of a table
+-- ---- a kind of a list
 
 pub record Somewhere (m : ℕ) (f : ℕ → ℕ) (k : ℕ) : Type 0 where
   pub place : ℕ
@@ -35,17 +34,7 @@ pub record Somewhere (m : ℕ) (f : ℕ → ℕ) (k : ℕ) : Type 0 where
   pub is : f place ≡ k
 
 pub in-list : (l : List ℕ) (k : ℕ) → In l k → Somewhere (length l) (λ i. getD l i 0) k
-in-list [] k i = absurd (false≢true i)
-in-list (j ∷ l) k i =
-    or-cases (eqb k j) (mem k l) i
-    (λ t. record { place = 0; below = omega arith; is = sym (eqb-true k j t) })
-    (λ t. let r = in-list l k t in record { place = suc (r .place); below = omega (arith, r .below); is = r .is })
-
-in-table : (m : ℕ) (f : ℕ → ℕ) (k : ℕ) → In (table m f) k → Somewhere m f k
-in-table m f k i =
-    let r = in-list (table m f) k i in
-    let h : r .place < m = omega (arith, r .below, length-table m f) in
-    record { place = r .place; below = h; is = sym (getD-table m f (r .place) 0 h) ∙ r .is }
+in-list l k i = let r = in-at l k i in record { place = r .0; below = r .1; is = r .2 }
 
 -- ---- the table of kinds
 
@@ -58,10 +47,10 @@ module _ (w : List ℕ) (A : Arranged w) where
   unfolding meaning kindsIn
   known-slot k i =
       let p = in-table (registeredOf w) (kindAt w) k i in
-      let e : slotOf w k ≡ p .place = ap (slotOf w) (sym (p .is)) ∙ A .table .own (p .place) (p .below) in
-      let small : k < MAX-KINDS = subst (λ (j : ℕ). j < MAX-KINDS) (p .is) (A .table .small (p .place) (p .below)) in
-      let real : slotOf w k < registeredOf w = rw e (p .below) in
-      let kind : kindAt w (slotOf w k) ≡ k = ap (kindAt w) e ∙ p .is in
+      let e : slotOf w k ≡ p .0 = ap (slotOf w) (sym (p .2)) ∙ A .table .own (p .0) (p .1) in
+      let small : k < MAX-KINDS = subst (λ (j : ℕ). j < MAX-KINDS) (p .2) (A .table .small (p .0) (p .1)) in
+      let real : slotOf w k < registeredOf w = rw e (p .1) in
+      let kind : kindAt w (slotOf w k) ≡ k = ap (kindAt w) e ∙ p .2 in
       record {
         is = refl;
         real = real;

@@ -13,8 +13,9 @@ use Rattle.model.specs.Numbers.{MAX-GROUP-COUNT}
 use Rattle.model.specs.Lists.{countOf}
 use Rattle.model.proofs.ListLaws.{count-append, shorter}
 use Rattle.model.specs.Model.{Family, newGroup, grown, mem, meets, within, without, sameSet, kindsOf, groupsOf}
-use Rattle.model.proofs.BoolLaws.{bool-cases, by-eq}
-use Rattle.model.proofs.KindLists.{out-count, unmet}
+use Rattle.model.proofs.BoolLaws.{bool-cases, by-eq, sum-once}
+use Rattle.model.proofs.KindLists.{out-count, unmet, count-without, count-without-le, within-counts, without-length}
+use Rattle.model.proofs.Draft.{not-all}
 use Rattle.words.specs.Part.{between}
 use Rattle.words.specs.Table.{table}
 use Rattle.words.proofs.Tables.{table-snoc, table-set}
@@ -24,10 +25,10 @@ use Rattle.layout.specs.Grow.{LooseAt, widened, Extends, Extended, opene
 use Rattle.layout.specs.Add.{Fitting}
 use Rattle.layout.specs.declared.group_layout.Fit.{Fit}
 use Rattle.layout.specs.declared.group_layout.Layout.{Layout}
-use Rattle.layout.proofs.KindSets.{sum-once, within-counts, same-set, without-held, without-le, without-length}
+use Rattle.layout.proofs.KindSets.{same-set}
 use Rattle.layout.proofs.Family.{rising-snoc, rising-alone, from-snoc, from-alone, no-counts, start-next}
 use Rattle.words.proofs.Part.{between-join, between-none}
-use Rattle.layout.proofs.Fits.{IsFresh, IsOnto, Target, target, not-all, untouched-at}
+use Rattle.layout.proofs.Fits.{IsFresh, IsOnto, Target, target, untouched-at}
 use Rattle.layout.proofs.Arrays
 
 -- staged kinds that fit, and room for a group
@@ -198,13 +199,13 @@ module _ (l : Layout) (f : ℕ) (hs : List ℕ) (ask : OntoAsk l f hs) (sized : 
   own-length = Arrays.kinds-length has well sized f (ask .inside)
 
   grows-length : length own + length lacks ≡ length hs
-  grows-length = without-length hs own (ask .group .staged) (Arrays.family-kinds has well f (ask .inside)) (ask .holds)
+  grows-length = without-length hs own (ask .group .staged .once) (Arrays.family-kinds has well f (ask .inside) .once) (ask .holds)
 
   kinds-grown : KindSet (widened (l .kinds) (getD (l .«kind_ends») f 0) lacks (widthOf has))
   kinds-grown =
       record {
-        once = λ k. rw (counted k) (sum-once (countOf eqb k (take (widthOf has) (l .kinds))) (countOf eqb k lacks) (well .kinds .once k) (omega (arith, ask .group .staged .once k, without-le k hs own)) (ask .unknown k));
-        known = λ k h. omega (arith, counted k, well .kinds .known k h, ask .group .staged .known k h, without-le k hs own);
+        once = λ k. rw (counted k) (sum-once (countOf eqb k (take (widthOf has) (l .kinds))) (countOf eqb k lacks) (well .kinds .once k) (omega (arith, ask .group .staged .once k, count-without-le hs own k)) (ask .unknown k));
+        known = λ k h. omega (arith, counted k, well .kinds .known k h, ask .group .staged .known k h, count-without-le hs own k);
       }
     where
       counted : (k : ℕ) → countOf eqb k (widened (l .kinds) (getD (l .«kind_ends») f 0) lacks (widthOf has)) ≡ countOf eqb k (take (widthOf has) (l .kinds)) + countOf eqb k lacks
@@ -295,7 +296,7 @@ module _ (l : Layout) (hs : List ℕ) (group : GroupKinds l hs) (sized : Sized (
     longer =
         let js = kindsAt (arraysOf l) f in
         let s = Arrays.family-kinds (arraysOf l) fine f inside in
-        let le : length js ≤ length hs = shorter js hs (within-counts js hs s holds) in
+        let le : length js ≤ length hs = shorter js hs (within-counts js hs (s .once) holds) in
         let ne : length js ≢ length hs = λ e. true≢false (sym (same-set hs js (group .staged) s ∙ rw (eq-eqb (length js) (length hs) e, holds)) ∙ unequal) in
         omega arith
 
@@ -307,13 +308,13 @@ module _ (l : Layout) (hs : List ℕ) (group : GroupKinds l hs) (sized : Sized (
           holds = holds;
           longer = longer;
           unknown = λ k c. Arrays.in-no-family k (l .«kind_ends») (l .kinds) (l .families) (Arrays.kind-order (arraysOf l) fine)
-              (λ i h. by-eq i f (λ e. rw e (own-none k c)) (λ ne. unmet-at i h (t .others i (omega (arith, counted-length)) ne) k (omega (arith, without-le k hs (kindsAt (arraysOf l) f)))));
+              (λ i h. by-eq i f (λ e. rw e (own-none k c)) (λ ne. unmet-at i h (t .others i (omega (arith, counted-length)) ne) k (omega (arith, count-without-le hs (kindsAt (arraysOf l) f) k))));
         }
       where
         own-none : (k : ℕ) → 1 ≤ countOf eqb k (without hs (kindsAt (arraysOf l) f)) → countOf eqb k (kindsAt (arraysOf l) f) ≡ 0
         own-none k c =
             out-count (kindsAt (arraysOf l) f) k
-            (bool-cases (mem k (kindsAt (arraysOf l) f)) (λ m. absurd (omega (arith, without-held k hs (kindsAt (arraysOf l) f) m))) (λ m. m))
+            (bool-cases (mem k (kindsAt (arraysOf l) f)) (λ m. absurd (omega (arith, rw m at (count-without hs (kindsAt (arraysOf l) f) k)))) (λ m. m))
 
     pub onto-means : set (meaning l) f (familyAt [] (arraysOf l) f ++ (newGroup (without hs (kindsAt (arraysOf l) f)) ∷ [])) ≡ grown hs (meaning l)
     onto-means =

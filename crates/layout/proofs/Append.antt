@@ -1,16 +1,12 @@
--- The loops that append to the used front of an array, put kinds aside and add to a part. Assumes nothing.
+-- The loops that append to the used front of an array, and add to a part. Assumes nothing.
 use mathlib.Core.Path.{_≡_, refl, sym, ap, _∙_}
-use mathlib.Core.Bool.{true, false}
-use mathlib.Core.List.{List, [], _∷_, _++_, append-assoc, append-nil}
+use mathlib.Core.List.{List, _++_, append-assoc}
 use Prim.Native.Nat.{ℕ, _+_, _-_, _≤_, _<_}
-use native.Mathlib.Numerals.{add-one}
 use native.Mathlib.Omega.{arith}
 use lib.ListN.{length, getD, take, drop, set, length-set, length-append, length-drop}
-use lib.Seq.{take-suc-set, length-take-le, drop-length, getD-set-same, getD-set-other}
-use Rattle.model.specs.Model.{mem, without}
+use lib.Seq.{length-take-le, getD-set-same, getD-set-other}
 use Rattle.model.proofs.BoolLaws.{by-eq}
 use Rattle.layout.specs.Grow.{Appended, Spread, Raised}
-use Rattle.model.proofs.ListLaws.{drop-step}
 
 -- two in a row append the two together
 pub append-two : (d₀ d₁ d₂ s t : List ℕ) (at r₁ r₂ : ℕ) → Appended d₀ at s d₁ r₁ → Appended d₁ r₁ t d₂ r₂ → Appended d₀ at (s ++ t) d₂ r₂
@@ -34,21 +30,6 @@ spread-three d₀ d₁ d₂ d₃ s more at r₁ r₂ r₃ h a b c =
     let long : 0 + length ((take at s ++ more) ++ drop at s) ≡ length s + length more =
     omega (arith, length-append (take at s ++ more) (drop at s), length-append (take at s) more, length-take-le at s h, length-drop at s) in
     record { size = w .size; front = ap (λ (k : ℕ). take k d₃) (sym long) ∙ w .front ∙ append-assoc (take at s) more (drop at s) }
-
--- ---- those of a list that another lacks, put in the front of an array
-
-pub without-held : (ks hs out : List ℕ) (i n : ℕ) → i < length hs → mem (getD hs i 0) ks ≡ true
-    → take n out ++ without (drop i hs) ks ≡ take n out ++ without (drop (i + 1) hs) ks
-without-held ks hs out i n h e = rw (drop-step hs i 0 h, e)
-
-pub without-new : (ks hs out : List ℕ) (i n : ℕ) → i < length hs → n < length out → mem (getD hs i 0) ks ≡ false
-    → take n out ++ without (drop i hs) ks ≡ take (n + 1) (set out n (getD hs i 0)) ++ without (drop (i + 1) hs) ks
-without-new ks hs out i n h o e =
-    let front : take (n + 1) (set out n (getD hs i 0)) ≡ take n out ++ (getD hs i 0 ∷ []) = ap (λ (k : ℕ). take k (set out n (getD hs i 0))) (add-one n) ∙ take-suc-set out n (getD hs i 0) o in
-    rw (drop-step hs i 0 h, e, front, append-assoc)
-
-pub without-end : (ks hs out : List ℕ) (n : ℕ) → take n out ++ without (drop (length hs) hs) ks ≡ take n out
-without-end ks hs out n = rw drop-length (append-nil (take n out))
 
 -- ---- the loop that adds to a part
 

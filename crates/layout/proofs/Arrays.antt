@@ -1,6 +1,6 @@
 -- The arrays of a well-formed layout: where families stand, and that their meaning is theirs. Assumes nothing.
 use mathlib.Core.Path.{_≡_, refl, sym, ap, _∙_, subst, ap₂}
-use mathlib.Core.List.{List, [], _∷_, _++_, append-nil, append-assoc}
+use mathlib.Core.List.{List, [], _∷_, _++_, append-nil}
 use Prim.Native.Nat.{ℕ, zero, suc, _+_, _-_, _≤_, _<_}
 use native.Mathlib.Nat.{add-assoc}
 use native.Mathlib.Numerals.{add-one}
@@ -19,6 +19,7 @@ use Rattle.words.proofs.Part.{length-between, between-front, between-join, getD
 use Rattle.words.specs.Table.{table}
 use Rattle.words.proofs.Tables.{length-table, getD-table, table-snoc, table-none}
 use Rattle.model.proofs.BoolLaws.{by-eq}
+use Rattle.model.proofs.Draft.{kinds-append}
 use Rattle.layout.specs.Layout.{Arrays, startOf, widthOf, groupCount, kindsAt, aritiesAt, groupsFrom, familyAt, familiesOf, KindSet, Rising, WellFormed, blockArrays}
 use Rattle.layout.specs.ByValue.{Sized}
 use Rattle.layout.specs.Fit.{partOf, joinFit, fitFrom, FamilyAsk}
@@ -184,10 +185,6 @@ groups-of counts a good sized =
     (λ i h. groups-length counts (startOf (a .ends) i) (kindsAt a i) 0 (aritiesAt a i) ∙ arities-length a good sized i h)
 
 -- ---- the kinds of all families
-
-kinds-append : (xs ys : List Family) → layoutKinds (xs ++ ys) ≡ layoutKinds xs ++ layoutKinds ys
-kinds-append [] ys = refl
-kinds-append (x ∷ xs) ys = ap (λ (l : List ℕ). kindsOf x ++ l) (kinds-append xs ys) ∙ sym (append-assoc (kindsOf x) (layoutKinds xs) (layoutKinds ys))
 
 kinds-table : (n : ℕ) (F : ℕ → Family) (es ks : List ℕ) → ((i : ℕ) → i < n → startOf es i ≤ getD es i 0) → ((i : ℕ) → i < n → kindsOf (F i) ≡ between (startOf es i) (getD es i 0) ks)
     → layoutKinds (table n F) ≡ take (startOf es n) ks

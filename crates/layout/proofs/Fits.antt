@@ -2,7 +2,7 @@
 use mathlib.Core.Path.{_≡_, refl, sym, ap, _∙_, subst}
 use mathlib.Core.Logic.{_≢_}
 use mathlib.Core.Bool.{Bool, true, false, cond, not, _&&_, _||_, true≢false, and-false}
-use mathlib.Core.List.{List, [], _∷_, _++_, append-assoc, append-nil}
+use mathlib.Core.List.{List, [], _∷_, _++_}
 use Prim.Native.Nat.{ℕ, zero, suc, _+_, _-_, _≤_, _<_}
 use native.Mathlib.Nat.{add-zero, add-suc, suc-add}
 use native.Mathlib.Numerals.{add-one}
@@ -11,7 +11,7 @@ use borrow.Author.Tests.{eqb-true, lt-ltb, le-ltb, le-leb, lt-leb}
 use lib.Dec.{eqb, eqb·suc-zero, eqb·suc-suc}
 use lib.ListN.{length, getD, set}
 use Rattle.model.specs.Numbers.{CLASH, MANY, MAX-GROUP-ARITY, MAX-GROUP-COUNT, WIDE}
-use Rattle.model.specs.Model.{Family, meets, within, sameSet, without, kindsOf, groupsOf, isGroup, present, touched, covers, newGroup, grown}
+use Rattle.model.specs.Model.{Family, meets, within, without, kindsOf, groupsOf, isGroup, present, touched, covers, newGroup, grown}
 use Rattle.model.specs.Adding.{nothing, added, refused, addGroup}
 use Rattle.model.proofs.BoolLaws.{bool-cases, or-false, and-right, or-false-right, not-or, and-left}
 use Rattle.model.proofs.Draft.{grown-same}
@@ -243,11 +243,3 @@ target ks (x ∷ xs) o c p =
         past : Target ks xs (firstTouched ks xs) → (i : ℕ) → i < suc (length xs) → i ≢ suc (firstTouched ks xs) → meets ks (kindsOf (getD (x ∷ xs) i [])) ≡ false
         past r zero h n = m
         past r (suc i) h n = r .others i (omega arith) (λ q. n (ap suc q))
-
--- kinds that are no group of a family are not all its kinds
-pub not-all : (ks acc : List ℕ) (x : Family) → 1 ≤ length x → isGroup ks acc x ≡ false → sameSet ks (acc ++ kindsOf x) ≡ false
-not-all ks acc [] n h = absurd (omega arith)
-not-all ks acc (r ∷ []) n h = rw (append-nil (r .newKinds)) (or-false (sameSet ks (acc ++ r .newKinds)) false h)
-not-all ks acc (r ∷ s ∷ rs) n h =
-    subst (λ (l : List ℕ). sameSet ks l ≡ false) (append-assoc acc (r .newKinds) (kindsOf (s ∷ rs)))
-    (not-all ks (acc ++ r .newKinds) (s ∷ rs) (omega arith) (or-false-right (sameSet ks (acc ++ r .newKinds)) (isGroup ks (acc ++ r .newKinds) (s ∷ rs)) h))

@@ -1,19 +1,15 @@
 -- The kinds of a well-formed layout: no two new kinds of groups have the same place. Assumes nothing.
 use mathlib.Core.Path.{_≡_, sym, ap, _∙_, subst}
 use mathlib.Core.Logic.{_≢_}
-use mathlib.Core.List.{List, [], _∷_}
-use Prim.Native.Nat.{ℕ, zero, suc, _≤_, _<_}
-use native.Mathlib.Nat.{le-of-suc-le-suc, not-suc-le-zero}
+use mathlib.Core.List.{List}
+use Prim.Native.Nat.{ℕ, suc, _≤_, _<_}
 use native.Mathlib.Omega.{arith}
 use native.Mathlib.Decide.{decLt}
-use borrow.Author.Tests.{eq-eqb}
-use lib.Dec.{eqb}
 use lib.ListN.{length, getD, take}
 use lib.Seq.{getD-take, length-take-le}
-use Rattle.model.specs.Lists.{one, countOf}
 use Rattle.model.specs.Sound.{In}
 use Rattle.model.proofs.KindLists.{at-in}
-use Rattle.model.proofs.ListLaws.{at-count}
+use Rattle.model.proofs.ListLaws.{once-apart}
 use Rattle.model.proofs.BoolLaws.{by-eq}
 use Rattle.layout.specs.Layout.{Arrays, startOf, widthOf, WellFormed}
 use Rattle.layout.specs.ByValue.{Sized}
@@ -23,19 +19,6 @@ use Rattle.layout.proofs.Groups.{arity-inside, arity-order}
 use Rattle.layout_apply.specs.Heads.{NewAt, placeNo}
 
 -- ---- kinds once each
-
-count-twice : (l : List ℕ) (i j : ℕ) → i < j → j < length l → getD l i 0 ≡ getD l j 0 → 2 ≤ countOf eqb (getD l j 0) l
-count-twice [] i j h l e = absurd (not-suc-le-zero l)
-count-twice (y ∷ l) i zero h k e = absurd (omega arith)
-count-twice (y ∷ l) zero (suc j) h k e = omega (arith, ap one (eq-eqb (getD l j 0) y (sym e)), at-count l j (le-of-suc-le-suc k))
-count-twice (y ∷ l) (suc i) (suc j) h k e = omega (arith, count-twice l i j (le-of-suc-le-suc h) (le-of-suc-le-suc k) e)
-
-distinct-at : (l : List ℕ) → ((k : ℕ) → countOf eqb k l ≤ 1) → (i j : ℕ) → i < length l → j < length l → i ≢ j → getD l i 0 ≢ getD l j 0
-distinct-at l once i j hi hj ne e =
-    elim (decLt i j) [
-      | yes q ↦ omega (arith, count-twice l i j q hj e, once (getD l j 0))
-      | no q ↦ omega (arith, count-twice l j i (omega arith) hi (sym e), once (getD l i 0))
-    ]
 
 module _ (a : Arrays) (good : WellFormed a) (sized : Sized a) where
   abbrev used : List ℕ
@@ -54,7 +37,7 @@ module _ (a : Arrays) (good : WellFormed a) (sized : Sized a) where
   -- and no other
   pub kinds-apart : (p q : ℕ) → p < widthOf a → q < widthOf a → p ≢ q → getD (a .kinds) p 0 ≢ getD (a .kinds) q 0
   kinds-apart p q hp hq ne e =
-      distinct-at used (good .kinds .once) p q (omega (arith, used-length)) (omega (arith, used-length)) ne (used-at p hp ∙ e ∙ sym (used-at q hq))
+      once-apart used (good .kinds .once) p q (omega (arith, used-length)) (omega (arith, used-length)) ne (used-at p hp ∙ e ∙ sym (used-at q hq))
 
 -- ---- places among all kinds
 

@@ -18,10 +18,10 @@ use Rattle.layout.proofs.Groups as groups
 use Rattle.layout.proofs.Family.{start-next}
 use Rattle.memory.specs.Header.{capacityOf, kindCapacityOf, slotOf}
 use Rattle.memory.specs.Meaning.{layoutArrays}
-use Rattle.memory.proofs.LayoutWords.{kind-word, arity-word, kind-start-word}
+use Rattle.memory.proofs.LayoutWords.{words-sized, kind-word, arity-word, kind-start-word}
 use Rattle.layout_apply.specs.Heads.{withOwn, Heads, slotNo, HeadsReady, NewAt, placeNo, Upto, Headed, HeadsGroup}
 use Rattle.layout_apply.proofs.Arities.{place-below}
-use Rattle.layout_apply.proofs.HeadSteps.{sized, heads-none, heads-then, ready-kept, capacity-same, arrays-same, slot-small, upto-more}
+use Rattle.layout_apply.proofs.HeadSteps.{heads-none, heads-then, ready-kept, capacity-same, arrays-same, slot-small, upto-more}
 
 -- ---- one kind's column
 
@@ -43,16 +43,16 @@ module _ (w : List ℕ) (R : HeadsReady w) (p : ℕ) (h : p < widthOf (layoutArr
 
 module _ (w : List ℕ) (R : HeadsReady w) (f g : ℕ) (G : InFamily (layoutArrays w) f g) where
   pub group-few : g < MAX-GROUP-COUNT
-  group-few = groups.group-few (layoutArrays w) (R .formed) (sized w (R .long)) f g G
+  group-few = groups.group-few (layoutArrays w) (R .formed) (words-sized w (R .long)) f g G
 
   pub family-few : f < MAX-GROUP-COUNT
-  family-few = groups.family-few (layoutArrays w) (R .formed) (sized w (R .long)) f g G
+  family-few = groups.family-few (layoutArrays w) (R .formed) (words-sized w (R .long)) f g G
 
   arity-few : arityOf (layoutArrays w) g ≤ MAX-GROUP-ARITY
-  arity-few = omega (arith, groups.arity-inside (layoutArrays w) (R .formed) (sized w (R .long)) f g G, R .formed .family f (G .family) .most)
+  arity-few = omega (arith, groups.arity-inside (layoutArrays w) (R .formed) (words-sized w (R .long)) f g G, R .formed .family f (G .family) .most)
 
   prior-few : priorArity (layoutArrays w) f g ≤ arityOf (layoutArrays w) g
-  prior-few = omega (arith, groups.prior-less (layoutArrays w) (R .formed) (sized w (R .long)) f g G)
+  prior-few = omega (arith, groups.prior-less (layoutArrays w) (R .formed) (words-sized w (R .long)) f g G)
 
 -- w₀ are the words before group g's new kinds; the heads are set up to place j of family f
 pub record Groupwise (w₀ : List ℕ) (n f g start arity : ℕ) (w : List ℕ) (j : ℕ) : Type 0 where
@@ -108,7 +108,7 @@ module _ (w₀ : List ℕ) (n f g start arity : ℕ) (w : List ℕ) (j : ℕ) (B
 
     pub next-kind : NextKind w n g (start + j) j
     next-kind =
-        let p : placeNo a f j < widthOf a = place-below a (R .formed) (sized w₀ (R .long)) f g j new-at in
+        let p : placeNo a f j < widthOf a = place-below a (R .formed) (words-sized w₀ (R .long)) f g j new-at in
         record {
           ready = ready-kept w₀ w R H;
           capacity = B .capacity ∙ sym (capacity-same w₀ w R H);
@@ -197,7 +197,7 @@ module _ (w₀ : List ℕ) (R : HeadsReady w₀) (f : ℕ) (hf : f < layoutArray
   family-done w g prior F h =
       let e : g ≡ getD (layoutArrays w₀ .ends) f 0 = omega (arith, F .high) in
       let p : prior ≡ getD (layoutArrays w₀ .kindEnds) f 0 - startOf (layoutArrays w₀ .kindEnds) f =
-      F .before ∙ ap (priorArity (layoutArrays w₀) f) e ∙ groups.prior-end (layoutArrays w₀) (R .formed) (sized w₀ (R .long)) f hf in
+      F .before ∙ ap (priorArity (layoutArrays w₀) f) e ∙ groups.prior-end (layoutArrays w₀) (R .formed) (words-sized w₀ (R .long)) f hf in
       let t : placeNo (layoutArrays w₀) f prior ≡ getD (layoutArrays w₀ .kindEnds) f 0 = omega (arith, kind-order (layoutArrays w₀) (R .formed) f hf) in
       record { heads = F .headed .heads; upto = subst (Upto w) t (F .headed .upto) }
 

@@ -5,20 +5,17 @@ use mathlib.Core.List.{List}
 use Prim.Native.Nat.{ℕ, suc, _+_, _≤_, _<_}
 use native.Mathlib.Numerals.{add-one}
 use native.Mathlib.Omega.{arith}
-use lib.ListN.{length, getD, set, take}
+use lib.ListN.{getD, set, take}
 use Rattle.model.specs.Sound.{In}
-use Rattle.words.specs.Offsets.{columnStart, CAPACITY, COLUMN-KIND, ENTITIES, GROUP-FAMILIES, KIND-CAPACITY, LAYOUT, LAYOUT-FAMILIES, OWN-GROUP, PLACE-IN-FAMILY, REGISTERED, TABLE}
-use Rattle.words.specs.Part.{between}
-use Rattle.words.proofs.Part.{length-between}
+use Rattle.words.specs.Offsets.{columnStart, CAPACITY, COLUMN-KIND, ENTITIES, KIND-CAPACITY, LAYOUT-FAMILIES, OWN-GROUP, PLACE-IN-FAMILY, REGISTERED, TABLE}
 use Rattle.model.proofs.BoolLaws.{by-eq}
 use Rattle.component.specs.Columns.{columnOf, Columns}
 use Rattle.component.proofs.Frames.{headed}
 use Rattle.layout.specs.Layout.{Arrays, WellFormed, widthOf}
-use Rattle.layout.specs.ByValue.{Sized}
-use Rattle.layout.proofs.Arrays.{block-sized}
 use Rattle.memory.specs.Header.{capacityOf, kindCapacityOf, registeredOf, slotOf}
 use Rattle.memory.specs.Meaning.{kindAt, ownAt, localAt, layoutArrays}
 use Rattle.memory.proofs.Frames.{start-header, layout-arrays-same}
+use Rattle.memory.proofs.LayoutWords.{words-sized}
 use Rattle.model.proofs.ListLaws.{word-front}
 use Rattle.layout_apply.specs.Heads.{withOwn, Reheaded, Heads, Groupless, Slotted, kindNo, slotNo, HeadsReady, NewAt, placeNo, HeadIs, Upto, Headed}
 use Rattle.layout_apply.proofs.Arities.{kinds-apart, kind-among, same-place, place-below}
@@ -141,9 +138,6 @@ heads-none w R = reheaded-none (capacityOf w) (kindCapacityOf w) w (R .columns)
 
 -- ---- the heads of the layout's kinds
 
-pub sized : (w : List ℕ) → ENTITIES ≤ length w → Sized (layoutArrays w)
-sized w l = block-sized (between LAYOUT GROUP-FAMILIES w) (getD w LAYOUT-FAMILIES 0) (length-between LAYOUT GROUP-FAMILIES w (omega arith))
-
 module _ (w : List ℕ) (R : HeadsReady w) where
   abbrev a : Arrays
   a = layoutArrays w
@@ -151,7 +145,7 @@ module _ (w : List ℕ) (R : HeadsReady w) where
   -- different kinds have different slots
   slots-apart : (p q : ℕ) → p < widthOf a → q < widthOf a → p ≢ q → slotNo w p ≢ slotNo w q
   slots-apart p q hp hq ne e =
-      kinds-apart a (R .formed) (sized w (R .long)) p q hp hq ne
+      kinds-apart a (R .formed) (words-sized w (R .long)) p q hp hq ne
       (sym (R .known p hp .back) ∙ ap (kindAt w) e ∙ R .known q hq .back)
 
   pub slot-small : (p : ℕ) → p < widthOf a → slotNo w p < kindCapacityOf w
@@ -168,7 +162,7 @@ module _ (w : List ℕ) (R : HeadsReady w) where
     w′ = withOwn (capacityOf w) s (g + 1) j w
 
     below : p < widthOf a
-    below = place-below a (R .formed) (sized w (R .long)) f g j N
+    below = place-below a (R .formed) (words-sized w (R .long)) f g j N
 
     change : Owned (capacityOf w) (kindCapacityOf w) s (g + 1) j w w′
     change = owned (capacityOf w) (kindCapacityOf w) s (g + 1) j w (R .columns) (slot-small p below)
@@ -184,10 +178,10 @@ module _ (w : List ℕ) (R : HeadsReady w) where
     right-more : Upto w p → (f′ g′ j′ : ℕ) → NewAt a f′ g′ j′ → placeNo a f′ j′ < p + 1 → HeadIs w′ (placeNo a f′ j′) g′ j′
     right-more U f′ g′ j′ N′ h =
         let q = placeNo a f′ j′ in
-        let hq : q < widthOf a = place-below a (R .formed) (sized w (R .long)) f′ g′ j′ N′ in
+        let hq : q < widthOf a = place-below a (R .formed) (words-sized w (R .long)) f′ g′ j′ N′ in
         by-eq q p
         (λ e.
-        let S = same-place a (R .formed) (sized w (R .long)) f g j f′ g′ j′ N N′ (sym e) in
+        let S = same-place a (R .formed) (words-sized w (R .long)) f g j f′ g′ j′ N N′ (sym e) in
         let t : slotNo w′ q ≡ s = slot-same q hq ∙ ap (slotNo w) e in
         record {
           own = ap (ownAt w′) t ∙ head-same w w′ R (change .heads) s OWN-GROUP ∙ change .own ∙ add-one g ∙ ap suc (S .group);
@@ -205,7 +199,7 @@ module _ (w : List ℕ) (R : HeadsReady w) where
     none-more : Upto w p → (t : ℕ) → t < registeredOf w → 1 ≤ ownAt w′ t → In (take (widthOf a) (a .kinds)) (kindAt w′ t)
     none-more U t h o =
         by-eq t s
-        (λ e. subst (In (take (widthOf a) (a .kinds))) (sym (kind-same w w′ R (change .heads) t h ∙ ap (kindAt w) e ∙ R .known p below .back)) (kind-among a (R .formed) (sized w (R .long)) p below))
+        (λ e. subst (In (take (widthOf a) (a .kinds))) (sym (kind-same w w′ R (change .heads) t h ∙ ap (kindAt w) e ∙ R .known p below .back)) (kind-among a (R .formed) (words-sized w (R .long)) p below))
         (λ ne.
         subst (In (take (widthOf a) (a .kinds))) (sym (kind-same w w′ R (change .heads) t h))
         (U .none t h (rw (head-other t OWN-GROUP (omega (arith, R .few)) ne) at o)))

@@ -2,15 +2,14 @@
 use mathlib.Core.Path.{_≡_, refl, sym, ap, ap₂, _∙_}
 use mathlib.Core.Bool.{Bool, true, not, _&&_, _||_}
 use mathlib.Core.List.{List, [], _∷_}
-use Prim.Native.Nat.{ℕ, zero, suc, _+_, _-_, _*_, _/_, _%_, _^_, _≤_, _<_, suc-le-suc}
+use Prim.Native.Nat.{ℕ, zero, suc, _+_, _-_, _*_, _/_, _%_, _^_, _≤_, _<_}
 use native.Mathlib.Nat.{add-zero, add-suc, suc-add, zero-add, one-mul}
 use native.Mathlib.Omega.{arith}
 use lib.Pow.{pow-pos}
 use lib.Bits.{bitAnd, bitOr}
-use lib.ListN.{length}
 use Rattle.masks.specs.Masks.{putIf, positions, bitsOf, upFrom, has, keepIf, keep, between, unionOf, commonOf, skipping, Ordered}
 use Rattle.masks.proofs.Digits.{isSet, hasBit, span, restOf, has-or, has-and, has-span, has-rest, same-bits, shl-one, span-shifted}
-use Rattle.masks.proofs.Lists.{keep-same, keep-keep, keep-between, has-keep, has-up, between-in, between-parts, and-parts}
+use Rattle.masks.proofs.Lists.{keep-same, keep-keep, keep-between, has-keep, has-up, up-below, between-in, and-parts}
 
 put-keep : (d p : ℕ) (l : List ℕ) → putIf d p l ≡ keepIf (isSet d) p l
 put-keep zero p l = refl
@@ -27,17 +26,15 @@ as-keep (suc w) p m g h =
 bits-keep : (w m : ℕ) → bitsOf w m ≡ keep (hasBit m) (upFrom 0 w)
 bits-keep w m = as-keep w 0 m (hasBit m) (λ i. ap (hasBit m) (zero-add i))
 
-below : (w i : ℕ) → has i (upFrom 0 w) ≡ true → i < w
-below w i e = omega (arith, between-parts 0 (0 + w) i (sym (has-up i 0 w) ∙ e) .1, zero-add w)
-
 -- a mask whose bits are known by a test
 bits-by : (w m : ℕ) (f : ℕ → Bool) → ((i : ℕ) → i < w → hasBit m i ≡ f i) → bitsOf w m ≡ keep f (upFrom 0 w)
-bits-by w m f h = bits-keep w m ∙ keep-same (hasBit m) f (upFrom 0 w) (λ i e. h i (below w i e))
+bits-by w m f h = bits-keep w m ∙ keep-same (hasBit m) f (upFrom 0 w) (λ i e. h i (omega (arith, up-below 0 w i e)))
 
 -- a position of a mask is a set bit below the width
 pub bits-below : (w m i : ℕ) → has i (bitsOf w m) ≡ true → i < w
 bits-below w m i e =
-    below w i (and-parts (has i (upFrom 0 w)) (hasBit m i) (sym (has-keep i (hasBit m) (upFrom 0 w)) ∙ ap (has i) (sym (bits-keep w m)) ∙ e) .0)
+    let up = up-below 0 w i (and-parts (has i (upFrom 0 w)) (hasBit m i) (sym (has-keep i (hasBit m) (upFrom 0 w)) ∙ ap (has i) (sym (bits-keep w m)) ∙ e) .0) in
+    omega arith
 
 pub bits-has : (w m i : ℕ) → i < w → has i (bitsOf w m) ≡ hasBit m i
 bits-has w m i h =
@@ -56,16 +53,6 @@ pub no-bits : (w p : ℕ) → positions w p 0 ≡ []
 unfolding positions
 no-bits zero p = refl
 no-bits (suc w) p = no-bits w (suc p)
-
-put-length : (d p k : ℕ) (l : List ℕ) → length l ≤ k → length (putIf d p l) ≤ suc k
-put-length zero p k l h = omega arith
-put-length (suc d) p k l h = suc-le-suc h
-
--- a mask has at most as many positions as it is wide
-pub bits-length : (w p m : ℕ) → length (positions w p m) ≤ w
-unfolding positions
-bits-length zero p m = omega arith
-bits-length (suc w) p m = put-length (m % 2) p w (positions w (suc p) (m / 2)) (bits-length w (suc p) (m / 2))
 
 -- ---- the operations
 

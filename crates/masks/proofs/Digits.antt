@@ -1,14 +1,15 @@
 -- Binary digits: a bit as a truth value, of a union, an intersection, a run of ones and a complement. Assumes nothing.
 use mathlib.Core.Path.{_≡_, refl, sym, ap, ap₂, _∙_}
 use mathlib.Core.Logic.{_⊎_, inl, inr, ⊎-elim}
-use mathlib.Core.Bool.{Bool, true, false, not, _&&_, _||_, and-false}
-use Prim.Native.Nat.{ℕ, zero, suc, _-_, _*_, _/_, _%_, _^_, _≤_, _<_, min, max}
-use native.Mathlib.Nat.{one-mul, pow-suc, mod-lt, mul-comm, mul-one, suc-sub-suc, zero-sub, mul-left-comm, zero-mul, sub-zero}
+use mathlib.Core.Bool.{Bool, true, false, not, _&&_, _||_, false≢true}
+use Prim.Native.Nat.{ℕ, zero, suc, _-_, _*_, _/_, _%_, _^_, _≤_, _<_, zero-le, min, max}
+use native.Mathlib.Nat.{one-mul, pow-succ', mod-lt, mul-one, suc-sub-suc, zero-sub, mul-left-comm, zero-mul, sub-zero}
 use native.Mathlib.Omega.{arith}
-use lib.Dec.{leb, ltb, leb·zero, leb·suc-zero, leb·suc-suc, lit<}
+use lib.Dec.{ltb, leb·zero, leb·suc-zero, leb·suc-suc, lit<}
 use lib.Pow.{pow-pos, shl-exact, ones-lt}
 use lib.Bits.{bitAnd, bitOr, and-step, or-step}
 use Rattle.masks.specs.Masks.{between}
+use Rattle.masks.proofs.Lists.{between-high}
 
 abbrev pub isSet : ℕ → Bool
 isSet zero = false
@@ -34,9 +35,6 @@ digit n = go (n % 2) (mod-lt n (lit< tt))
     go zero h = inl refl
     go (suc zero) h = inr refl
     go (suc (suc r)) h = absurd (omega arith)
-
-pub half-pow : (t : ℕ) → 2 ^ suc t ≡ 2 * 2 ^ t
-half-pow t = pow-suc 2 t ∙ mul-comm (2 ^ t) 2
 
 -- ---- the machine's shifts, at any width
 
@@ -82,7 +80,7 @@ no-bit zero = refl
 no-bit (suc i) = no-bit i
 
 span-half : (a b : ℕ) → span (suc a) (suc b) ≡ 2 * span a b
-span-half a b = ap₂ (λ (x y : ℕ). (2 ^ x - 1) * y) (suc-sub-suc b a) (half-pow a) ∙ mul-left-comm (2 ^ (b - a) - 1) 2 (2 ^ a)
+span-half a b = ap₂ (λ (x y : ℕ). (2 ^ x - 1) * y) (suc-sub-suc b a) (pow-succ' 2 a) ∙ mul-left-comm (2 ^ (b - a) - 1) 2 (2 ^ a)
 
 span-zero : (b : ℕ) → span 0 b ≡ 2 ^ b - 1
 span-zero b = ap (λ (x : ℕ). (2 ^ x - 1) * 1) (sub-zero b) ∙ mul-one (2 ^ b - 1)
@@ -90,19 +88,16 @@ span-zero b = ap (λ (x : ℕ). (2 ^ x - 1) * 1) (sub-zero b) ∙ mul-one (2 ^ b
 span-none : (a : ℕ) → span (suc a) 0 ≡ 0
 span-none a = ap (λ (x : ℕ). (2 ^ x - 1) * 2 ^ suc a) (zero-sub (suc a)) ∙ zero-mul (2 ^ suc a)
 
-between-none : (a i : ℕ) → between a 0 i ≡ false
-between-none a i = ap (λ (t : Bool). leb a i && t) (leb·suc-zero i) ∙ and-false (leb a i)
-
 pub has-span : (a b i : ℕ) → hasBit (span a b) i ≡ between a b i
 unfolding hasBit
-has-span zero zero i = no-bit i ∙ sym (between-none 0 i)
+has-span zero zero i = no-bit i ∙ sym (between-high 0 0 i zero-le)
 has-span zero (suc b) zero =
-    let low : span 0 (suc b) % 2 ≡ 1 = omega (arith, span-zero (suc b), half-pow b, pow-pos b) in
+    let low : span 0 (suc b) % 2 ≡ 1 = omega (arith, span-zero (suc b), pow-succ' 2 b, pow-pos b) in
     ap isSet low ∙ sym (leb·suc-suc 0 b ∙ leb·zero b)
 has-span zero (suc b) (suc i) =
-    let half : span 0 (suc b) / 2 ≡ span 0 b = omega (arith, span-zero (suc b), span-zero b, half-pow b, pow-pos b) in
+    let half : span 0 (suc b) / 2 ≡ span 0 b = omega (arith, span-zero (suc b), span-zero b, pow-succ' 2 b, pow-pos b) in
     ap (λ (x : ℕ). hasBit x i) half ∙ has-span zero b i ∙ ap₂ _&&_ (leb·zero i ∙ sym (leb·zero (suc i))) (sym (leb·suc-suc (suc i) b))
-has-span (suc a) zero i = ap (λ (x : ℕ). hasBit x i) (span-none a) ∙ no-bit i ∙ sym (between-none (suc a) i)
+has-span (suc a) zero i = ap (λ (x : ℕ). hasBit x i) (span-none a) ∙ no-bit i ∙ sym (between-high (suc a) 0 i zero-le)
 has-span (suc a) (suc b) zero =
     let low : span (suc a) (suc b) % 2 ≡ 0 = omega (arith, span-half a b) in
     ap isSet low ∙ sym (ap (λ (t : Bool). t && ltb 0 (suc b)) (leb·suc-zero a))
@@ -117,26 +112,23 @@ unfolding hasBit
 has-rest zero m i h l = absurd (omega arith)
 has-rest (suc w) m zero h l =
     ⊎-elim
-    (λ (e : m % 2 ≡ 0). let low : restOf (suc w) m % 2 ≡ 1 = omega (arith, half-pow w) in rw (low, e))
-    (λ (e : m % 2 ≡ 1). let low : restOf (suc w) m % 2 ≡ 0 = omega (arith, half-pow w) in rw (low, e)) (digit m)
+    (λ (e : m % 2 ≡ 0). let low : restOf (suc w) m % 2 ≡ 1 = omega (arith, pow-succ' 2 w) in rw (low, e))
+    (λ (e : m % 2 ≡ 1). let low : restOf (suc w) m % 2 ≡ 0 = omega (arith, pow-succ' 2 w) in rw (low, e)) (digit m)
 has-rest (suc w) m (suc i) h l =
-    let half : restOf (suc w) m / 2 ≡ restOf w (m / 2) = omega (arith, half-pow w) in
-    ap (λ (x : ℕ). hasBit x i) half ∙ has-rest w (m / 2) i (omega arith) (omega (arith, half-pow w))
+    let half : restOf (suc w) m / 2 ≡ restOf w (m / 2) = omega (arith, pow-succ' 2 w) in
+    ap (λ (x : ℕ). hasBit x i) half ∙ has-rest w (m / 2) i (omega arith) (omega (arith, pow-succ' 2 w))
 
 -- ---- numbers below 2 ^ w with the same bits are equal
 
 set-digit : (a b : ℕ) → isSet (a % 2) ≡ isSet (b % 2) → a % 2 ≡ b % 2
 set-digit a b e =
-    ⊎-elim (λ (p : a % 2 ≡ 0). ⊎-elim (λ (q : b % 2 ≡ 0). p ∙ sym q) (λ (q : b % 2 ≡ 1). absurd (clash (sym (ap isSet p) ∙ e ∙ ap isSet q))) (digit b))
-    (λ (p : a % 2 ≡ 1). ⊎-elim (λ (q : b % 2 ≡ 0). absurd (clash (sym (ap isSet q) ∙ sym e ∙ ap isSet p))) (λ (q : b % 2 ≡ 1). p ∙ sym q) (digit b)) (digit a)
-  where
-    clash : false ≡ true → ⊥
-    clash e = let z : _≡_ {A = ℕ} 0 1 = cc in omega arith
+    ⊎-elim (λ (p : a % 2 ≡ 0). ⊎-elim (λ (q : b % 2 ≡ 0). p ∙ sym q) (λ (q : b % 2 ≡ 1). absurd (false≢true (sym (ap isSet p) ∙ e ∙ ap isSet q))) (digit b))
+    (λ (p : a % 2 ≡ 1). ⊎-elim (λ (q : b % 2 ≡ 0). absurd (false≢true (sym (ap isSet q) ∙ sym e ∙ ap isSet p))) (λ (q : b % 2 ≡ 1). p ∙ sym q) (digit b)) (digit a)
 
 pub same-bits : (w m n : ℕ) → m < 2 ^ w → n < 2 ^ w → ((i : ℕ) → i < w → hasBit m i ≡ hasBit n i) → m ≡ n
 unfolding hasBit
 same-bits zero m n hm hn h = omega arith
 same-bits (suc w) m n hm hn h =
     let low : m % 2 ≡ n % 2 = set-digit m n (h 0 (omega arith)) in
-    let high : m / 2 ≡ n / 2 = same-bits w (m / 2) (n / 2) (omega (arith, half-pow w)) (omega (arith, half-pow w)) (λ i l. h (suc i) (omega arith)) in
+    let high : m / 2 ≡ n / 2 = same-bits w (m / 2) (n / 2) (omega (arith, pow-succ' 2 w)) (omega (arith, pow-succ' 2 w)) (λ i l. h (suc i) (omega arith)) in
     omega arith

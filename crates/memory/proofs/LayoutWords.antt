@@ -3,21 +3,25 @@ use mathlib.Core.Path.{_≡_, ap, ap₂, sym, _∙_}
 use mathlib.Core.List.{List}
 use Prim.Native.Nat.{ℕ, _+_, _≤_, _<_}
 use native.Mathlib.Omega.{arith}
-use lib.ListN.{getD, drop}
+use lib.ListN.{length, getD, drop}
 use lib.Seq.{getD-drop}
 use Rattle.model.specs.Numbers.{MAX-KINDS}
-use Rattle.words.specs.Offsets.{ARITIES, BLOCK-LEN, ENDS, ENTITIES, GROUP-COUNTS, GROUP-PLACES, KIND-ENDS, LAYOUT, LAYOUT-ARITIES, LAYOUT-ENDS, LAYOUT-KIND-ENDS}
+use Rattle.words.specs.Offsets.{ARITIES, BLOCK-LEN, ENDS, ENTITIES, GROUP-COUNTS, GROUP-FAMILIES, GROUP-PLACES, KIND-ENDS, LAYOUT, LAYOUT-ARITIES, LAYOUT-ENDS, LAYOUT-FAMILIES, LAYOUT-KIND-ENDS}
 use Rattle.words.specs.Part.{between}
 use Rattle.layout.specs.Layout.{startOf}
 use Rattle.layout.specs.Group.{arityOf, priorOf, priorArity}
 use Rattle.layout.specs.Reading.{wordArrays, ReadMetadata}
 use Rattle.layout.specs.declared.group_metadata.GroupMetadata.{GroupMetadata}
-use Rattle.layout.proofs.Arrays.{block-at}
+use Rattle.layout.specs.ByValue.{Sized}
+use Rattle.layout.proofs.Arrays.{block-at, block-sized}
 use Rattle.layout.proofs.Groups.{start-same, prior-same}
 use Rattle.memory.specs.Meaning.{layoutArrays}
-use Rattle.words.proofs.Part.{getD-between}
+use Rattle.words.proofs.Part.{getD-between, length-between}
 
 module _ (w : List ℕ) where
+  pub words-sized : ENTITIES ≤ length w → Sized (layoutArrays w)
+  words-sized long = block-sized (between LAYOUT GROUP-FAMILIES w) (getD w LAYOUT-FAMILIES 0) (length-between LAYOUT GROUP-FAMILIES w (omega arith))
+
   pub kind-word : (i : ℕ) → i < MAX-KINDS → getD (layoutArrays w .kinds) i 0 ≡ getD w (LAYOUT + i) 0
   kind-word i h = block-at LAYOUT w 0 ARITIES i (omega arith) (omega arith)
 

@@ -1,7 +1,7 @@
--- Laws on Bools, and cases on two numbers. Assumes nothing.
+-- Laws on Bools, and cases on numbers. Assumes nothing.
 use mathlib.Core.Path.{_≡_, refl, sym, _∙_}
 use mathlib.Core.Logic.{_≢_}
-use Prim.Native.Nat.{ℕ, _≤_, _<_}
+use Prim.Native.Nat.{ℕ, zero, suc, _+_, _≤_, _<_}
 use native.Mathlib.Decide.{ℕ-discrete, decLt}
 use native.Mathlib.Omega.{arith}
 use mathlib.Core.Bool.{Bool, true, false, cond, _&&_, _||_, true≢false, not, false≢true, or-true}
@@ -15,6 +15,19 @@ by-eq i j f g = elim (ℕ-discrete i j) [ yes e ↦ f e | no h ↦ g h ]
 pub by-lt : {C : Type 0} (a b : ℕ) → (a < b → C) → (b ≤ a → C) → C
 by-lt a b f g = elim (decLt a b) [ yes h ↦ f h | no h ↦ g (omega arith) ]
 
+-- a number that is not 1 or more
+pub zero-of : {n : ℕ} → (1 ≤ n → ⊥) → n ≡ 0
+zero-of {n} f = let no : ¬ (1 ≤ n) = f in omega arith
+
+-- one that is k or more, and not k
+pub above : {n : ℕ} (k : ℕ) → k ≤ n → (n ≡ k → ⊥) → k < n
+above k h f = omega arith
+
+-- two that are never both 1
+pub sum-once : (x y : ℕ) → x ≤ 1 → y ≤ 1 → (1 ≤ y → x ≡ 0) → x + y ≤ 1
+sum-once x zero hx hy h = omega arith
+sum-once x (suc y) hx hy h = omega (arith, h (omega arith))
+
 pub bool-cases : {P : Type 0} (b : Bool) → (b ≡ true → P) → (b ≡ false → P) → P
 bool-cases true f g = f refl
 bool-cases false f g = g refl
@@ -27,6 +40,10 @@ cond-case P false x y f g = g refl
 pub cond-same : {A : Type 0} (b : Bool) (x : A) → cond b x x ≡ x
 cond-same true x = refl
 cond-same false x = refl
+
+pub cond-not : {A : Type 0} (b : Bool) (x y : A) → cond b x y ≡ cond (not b) y x
+cond-not true x y = refl
+cond-not false x y = refl
 
 pub and-left : (a b : Bool) → (a && b) ≡ true → a ≡ true
 and-left true b h = refl

@@ -3,41 +3,28 @@ use mathlib.Core.Path.{_≡_, refl, ap, _∙_}
 use mathlib.Core.List.{List, [], _∷_, _++_, map}
 use Prim.Native.Nat.{ℕ, zero, suc, _+_, _≤_}
 use native.Mathlib.Omega.{arith}
-use borrow.Author.Tests.{eqb-true, eq-eqb}
 use lib.Dec.{eqb}
 use lib.ListN.{length, length-map, length-append}
 use Rattle.model.specs.Lists.{countOf}
-use Rattle.model.proofs.ListLaws.{count-append, count-length-le}
+use Rattle.model.proofs.ListLaws.{count-append, count-length-le, map-append, few-below}
 use Rattle.model.specs.Model.{Entity, Entities, SparseSet, Family, found, sameEntity, setOf, entityOf, allHeld, rangeFor}
 use Rattle.model.specs.Store.{Store}
 use Rattle.model.specs.Sound.{cnt, num, indexOf, key, holders, EntitiesSound, RightFrom, AllRight, StoreSound}
 use Rattle.model.proofs.SparseSets.{entity-eq, entity-same}
 use Rattle.model.proofs.BoolLaws.{cond-case}
-use Rattle.model.proofs.Numbers.{upTo, length-upTo, in-upTo}
 use Rattle.model.proofs.Ranges.{range-shows}
 use Rattle.model.specs.Theorems.{AllCountsTo, CountsTo}
 
 -- ---- numbers
 
-map-append : (a b : List Entity) → map indexOf (a ++ b) ≡ map indexOf a ++ map indexOf b
-map-append [] b = refl
-map-append (e ∷ a) b = ap {B = List ℕ} (λ r. indexOf e ∷ r) (map-append a b)
-
 -- the live and the waiting are no more than the issued
 pub numbers-few : (n : ℕ) (c : Entities) → EntitiesSound n c → length (c .live) + length (c .recycled) ≤ c .issued
 numbers-few n c E =
-    let le = count-length-le eqb (λ x y. eqb-true x y) (λ x. eq-eqb x x refl) (map indexOf (c .live ++ c .recycled)) (upTo (c .issued)) few in
-    omega (arith, le, length-upTo (c .issued), length-map (c .live ++ c .recycled) indexOf, length-append (c .live) (c .recycled))
+    let le = few-below (c .issued) (map indexOf (c .live ++ c .recycled)) (λ i. omega (arith, both i, E .single i)) (λ i h. E .below i (omega (arith, both i))) in
+    omega (arith, length-map (c .live ++ c .recycled) indexOf, length-append (c .live) (c .recycled))
   where
     both : (i : ℕ) → countOf eqb i (map indexOf (c .live ++ c .recycled)) ≡ num i (c .live) + num i (c .recycled)
-    both i = ap (λ (l : List ℕ). countOf eqb i l) (map-append (c .live) (c .recycled)) ∙ count-append eqb i (map indexOf (c .live)) (map indexOf (c .recycled))
-
-    few : (i : ℕ) → countOf eqb i (map indexOf (c .live ++ c .recycled)) ≤ countOf eqb i (upTo (c .issued))
-    few i = go (num i (c .live) + num i (c .recycled)) refl
-      where
-        go : (m : ℕ) → num i (c .live) + num i (c .recycled) ≡ m → countOf eqb i (map indexOf (c .live ++ c .recycled)) ≤ countOf eqb i (upTo (c .issued))
-        go zero e = omega (arith, both i, e)
-        go (suc m) e = omega (arith, both i, e, E .single i, in-upTo (c .issued) i (E .below i (omega (arith, e))))
+    both i = ap (λ (l : List ℕ). countOf eqb i l) (map-append indexOf (c .live) (c .recycled)) ∙ count-append eqb i (map indexOf (c .live)) (map indexOf (c .recycled))
 
 -- ---- rows, holders, counts
 

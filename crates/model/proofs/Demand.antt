@@ -13,7 +13,7 @@ use Rattle.model.specs.History.{trailFor, trail}
 use Rattle.model.specs.Sound.{cnt, In, key, holders, Limits, Right, RightFrom, AllRight, Between, BetweenFrom, AllBetween, GroupsRight, GroupsBetween, StoreSound}
 use Rattle.model.proofs.KindLists.{in-left}
 use Rattle.model.proofs.Held.{holders-fewer}
-use Rattle.model.proofs.Sound.{Bytes, EachStore, run-sound, trail-sound}
+use Rattle.model.proofs.Sound.{Bytes, EachStore, trail-sound}
 use Rattle.model.specs.Theorems.{Passes}
 
 -- ---- the trail is what the run passes through: a store for each command, the last one the run's
@@ -42,9 +42,6 @@ each-right (s ∷ ss) h = (h .0 .groups, each-right ss (h .1))
 -- many places of each of its sparse sets hold exactly those, once each, the same at the same place
 pub after-each-command : (t : List ℕ) (room n k : ℕ) → Bytes t → Limits n k → EachStore GroupsRight (trail t room (empty n k))
 after-each-command t room n k h l = each-right (trail t room (empty n k)) (trail-sound t room n k h l)
-
-pub after-every-run : (t : List ℕ) (room n k : ℕ) → Bytes t → Limits n k → GroupsRight ((run t room (empty n k)) .store)
-after-every-run t room n k h l = run-sound t room n k h l .groups
 
 -- ---- between a group and the next larger one
 

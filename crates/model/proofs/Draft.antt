@@ -1,39 +1,22 @@
 -- Adding a group keeps the draft a layout that commands can build, with all counts 0. Assumes nothing.
 use mathlib.Core.Path.{_≡_, refl, ap, sym, _∙_, subst}
-use mathlib.Core.Bool.{true, false, not, _&&_, _||_, true≢false, false≢true, or-true}
+use mathlib.Core.Bool.{true, false, not, _&&_, _||_, true≢false, false≢true}
 use mathlib.Core.List.{List, [], _∷_, _++_, append-assoc, append-nil}
 use Prim.Native.Nat.{ℕ, _+_, _≤_, _<_}
 use native.Mathlib.Omega.{arith}
-use borrow.Author.Tests.{ltb-false, leb-false, eqb-true, eq-eqb}
+use borrow.Author.Tests.{ltb-false, leb-false, eqb-true}
 use lib.Dec.{ltb, leb, eqb}
 use lib.ListN.{length, length-append}
 use Rattle.model.specs.Numbers.{MAX-GROUP-ARITY, MAX-GROUP-COUNT}
 use Rattle.model.specs.Lists.{countOf}
-use Rattle.model.proofs.ListLaws.{count-append, count-length-le}
+use Rattle.model.proofs.ListLaws.{count-append}
 use Rattle.model.specs.Model.{Group, Family, mem, meets, within, sameSet, without, kindsOf, groupsOf, isGroup, present, touched, covers, newGroup, grown, addsNothing, joins, withGroup}
 use Rattle.model.specs.Adding.{addGroup}
 use Rattle.model.specs.Sound.{Distinct, layoutKinds, Rising, BuildableFamily, BuildableFamilies, Uncounted, AllUncounted}
-use Rattle.model.proofs.BoolLaws.{cond-case, and-left, and-right, or-false, or-cases, or-false-right, not-true, and-false-left, not-or, or-right, bool-cases}
+use Rattle.model.proofs.BoolLaws.{cond-case, and-left, and-right, or-false, or-false-right, not-true, and-false-left, not-or, or-right, bool-cases}
 use Rattle.model.proofs.Groups.{In}
-use Rattle.model.proofs.Walk.{Missing, all-missing}
-use Rattle.model.proofs.KindLists.{in-cases, all-in, in-count, out-count, count-in, count-without, distinct-right, in-length, unmet-in, meets-none}
+use Rattle.model.proofs.KindLists.{Missing, all-missing, in-cases, in-count, out-count, count-in, count-without, count-without-le, in-without, without-length, distinct-left, distinct-right, in-length, unmet-in, meets-none}
 use Rattle.model.specs.Theorems.{AddedSound, DraftSound}
-
--- ---- lists of kinds
-
-without-in : (ks js : List ℕ) (k : ℕ) → In ks k → mem k js ≡ false → In (without ks js) k
-without-in [] js k i n = i
-without-in (j ∷ ks) js k i n =
-    bool-cases (mem j js)
-    (λ t. rw t (or-cases (eqb k j) (mem k ks) i (λ u. absurd (true≢false (sym t ∙ ap (λ (y : ℕ). mem y js) (sym (eqb-true k j u)) ∙ n))) (λ u. without-in ks js k u n)))
-    (λ t. rw t (or-cases (eqb k j) (mem k ks) i (λ u. rw u) (λ u. rw (without-in ks js k u n) (or-true (eqb k j)))))
-
-without-sub : (ks js : List ℕ) (k : ℕ) → In (without ks js) k → In ks k
-without-sub [] js k i = i
-without-sub (j ∷ ks) js k i =
-    bool-cases (mem j js)
-    (λ t. rw (without-sub ks js k (rw t at i)) (or-true (eqb k j)))
-    (λ t. or-cases (eqb k j) (mem k (without ks js)) (rw t at i) (λ u. rw u) (λ u. rw (without-sub ks js k u) (or-true (eqb k j))))
 
 -- ---- a family with no kind of ks
 
@@ -71,29 +54,21 @@ family-snoc (q ∷ f) r h l w = (h .0, rising-snoc f r (h .1) l, subst (λ (ks :
 
 -- ---- the family that grows
 
-is-group-all : (ks acc : List ℕ) (r : Group) (rs : Family) → isGroup ks acc (r ∷ rs) ≡ false → sameSet ks (acc ++ kindsOf (r ∷ rs)) ≡ false
-is-group-all ks acc r [] h = rw (append-nil (r .newKinds)) (or-false (sameSet ks (acc ++ r .newKinds)) false h)
-is-group-all ks acc r (s ∷ rs) h =
+-- kinds that are no group of a family are not all its kinds
+pub not-all : (ks acc : List ℕ) (f : Family) → 1 ≤ length f → isGroup ks acc f ≡ false → sameSet ks (acc ++ kindsOf f) ≡ false
+not-all ks acc [] n h = absurd (omega arith)
+not-all ks acc (r ∷ []) n h = rw (append-nil (r .newKinds)) (or-false (sameSet ks (acc ++ r .newKinds)) false h)
+not-all ks acc (r ∷ s ∷ rs) n h =
     subst (λ (l : List ℕ). sameSet ks l ≡ false) (append-assoc acc (r .newKinds) (kindsOf (s ∷ rs)))
-    (is-group-all ks (acc ++ r .newKinds) s rs (or-false-right (sameSet ks (acc ++ r .newKinds)) (isGroup ks (acc ++ r .newKinds) (s ∷ rs)) h))
+    (not-all ks (acc ++ r .newKinds) (s ∷ rs) (omega arith) (or-false-right (sameSet ks (acc ++ r .newKinds)) (isGroup ks (acc ++ r .newKinds) (s ∷ rs)) h))
 
 -- a hand that holds the family's kinds, and is none of its groups, has a kind more
 more-kinds : (ks : List ℕ) (f : Family) → meets ks (kindsOf f) ≡ true → within (kindsOf f) ks ≡ true → isGroup ks [] f ≡ false → 1 ≤ length (without ks (kindsOf f))
 more-kinds ks [] m w g = absurd (true≢false (sym m ∙ meets-none ks))
 more-kinds ks (r ∷ rs) m w g =
-    let l : within ks (kindsOf (r ∷ rs)) ≡ false = and-false-left (within ks (kindsOf (r ∷ rs))) (within (kindsOf (r ∷ rs)) ks) (is-group-all ks [] r rs g) w in
+    let l : within ks (kindsOf (r ∷ rs)) ≡ false = and-false-left (within ks (kindsOf (r ∷ rs))) (within (kindsOf (r ∷ rs)) ks) (not-all ks [] (r ∷ rs) (omega arith) g) w in
     let x : Missing (λ k. mem k (kindsOf (r ∷ rs))) ks = all-missing (λ k. mem k (kindsOf (r ∷ rs))) ks l in
-    in-length (without ks (kindsOf (r ∷ rs))) (x .kind) (without-in ks (kindsOf (r ∷ rs)) (x .kind) (x .isIn) (x .fails))
-
--- and as many kinds as the hand, together with the family's
-joined-length : (ks js : List ℕ) → Distinct js → within js ks ≡ true → length (js ++ without ks js) ≤ length ks
-joined-length ks js d w = count-length-le eqb (λ x y. eqb-true x y) (λ x. eq-eqb x x refl) (js ++ without ks js) ks few
-  where
-    few : (z : ℕ) → countOf eqb z (js ++ without ks js) ≤ countOf eqb z ks
-    few z =
-        bool-cases (mem z js)
-        (λ t. omega (arith, count-append eqb z js (without ks js), rw t at (count-without ks js z), d z, in-count ks z (all-in (λ k. mem k ks) js w z t)))
-        (λ t. omega (arith, count-append eqb z js (without ks js), rw t at (count-without ks js z), out-count js z t))
+    in-length (without ks (kindsOf (r ∷ rs))) (x .kind) (in-without ks (kindsOf (r ∷ rs)) (x .kind) (x .isIn) (x .fails))
 
 -- ---- what the grown layout's kinds are
 
@@ -106,7 +81,7 @@ grown-out ks (f ∷ fs) z n =
     (λ t. omega (arith, r, count-append eqb z (kindsOf f) (layoutKinds (grown ks fs)), count-append eqb z (kindsOf f) (layoutKinds fs)))
   where
     none : countOf eqb z (without ks (kindsOf f)) ≡ 0
-    none = count-without ks (kindsOf f) z ∙ bool-cases (mem z (kindsOf f)) (λ t. rw t) (λ t. rw t (out-count ks z n))
+    none = omega (arith, count-without-le ks (kindsOf f) z, out-count ks z n)
 
 grown-once : (ks : List ℕ) (fs : List Family) → touched ks fs ≡ 1 → Distinct ks → Distinct (layoutKinds fs) → Distinct (layoutKinds (grown ks fs))
 grown-once ks [] t d o = absurd (omega arith)
@@ -149,10 +124,10 @@ record Grows (ks : List ℕ) (fs : List Family) : Type 0 where
   pub families : BuildableFamilies (grown ks fs)
   pub uncounted : AllUncounted (grown ks fs)
 
-grown-families : (ks : List ℕ) (fs : List Family) → covers ks fs ≡ true → present ks fs ≡ false → length ks ≤ MAX-GROUP-ARITY → Distinct (layoutKinds fs) → BuildableFamilies fs → AllUncounted fs → Grows ks fs
-grown-families ks [] c p l d b u = record { families = tt; uncounted = tt }
-grown-families ks (f ∷ fs) c p l d b u =
-    let r = grown-families ks fs (and-right (not (meets ks (kindsOf f)) || within (kindsOf f) ks) (covers ks fs) c) (or-false-right (isGroup ks [] f) (present ks fs) p) l (distinct-right (kindsOf f) (layoutKinds fs) d) (b .1) (u .1) in
+grown-families : (ks : List ℕ) (fs : List Family) → covers ks fs ≡ true → present ks fs ≡ false → length ks ≤ MAX-GROUP-ARITY → Distinct ks → Distinct (layoutKinds fs) → BuildableFamilies fs → AllUncounted fs → Grows ks fs
+grown-families ks [] c p l k d b u = record { families = tt; uncounted = tt }
+grown-families ks (f ∷ fs) c p l k d b u =
+    let r = grown-families ks fs (and-right (not (meets ks (kindsOf f)) || within (kindsOf f) ks) (covers ks fs) c) (or-false-right (isGroup ks [] f) (present ks fs) p) l k (distinct-right (kindsOf f) (layoutKinds fs) d) (b .1) (u .1) in
     record {
       families = (cond-case BuildableFamily (meets ks (kindsOf f)) _ _ wider (λ t. b .0), r .families);
       uncounted = (cond-case Uncounted (meets ks (kindsOf f)) _ _ (λ t. uncounted-snoc f (newGroup (without ks (kindsOf f))) (u .0) refl) (λ t. u .0), r .uncounted);
@@ -161,8 +136,7 @@ grown-families ks (f ∷ fs) c p l d b u =
     wider : meets ks (kindsOf f) ≡ true → BuildableFamily (f ++ (newGroup (without ks (kindsOf f)) ∷ []))
     wider m =
         let w = not-or (meets ks (kindsOf f)) (within (kindsOf f) ks) (and-left (not (meets ks (kindsOf f)) || within (kindsOf f) ks) (covers ks fs) c) m in
-        let dl : Distinct (kindsOf f) = λ k. omega (arith, d k, count-append eqb k (kindsOf f) (layoutKinds fs)) in
-        family-snoc f (newGroup (without ks (kindsOf f))) (b .0) (more-kinds ks f m w (or-false (isGroup ks [] f) (present ks fs) p)) (omega (arith, joined-length ks (kindsOf f) dl w))
+        family-snoc f (newGroup (without ks (kindsOf f))) (b .0) (more-kinds ks f m w (or-false (isGroup ks [] f) (present ks fs) p)) (omega (arith, length-append (kindsOf f) (without ks (kindsOf f)), without-length ks (kindsOf f) k (distinct-left (kindsOf f) (layoutKinds fs) d) w))
 
 -- ---- a family of its own
 
@@ -174,9 +148,12 @@ own-uncounted : (ks : List ℕ) (fs : List Family) → AllUncounted fs → AllUn
 own-uncounted ks [] u = ((refl, tt), tt)
 own-uncounted ks (f ∷ fs) u = (u .0, own-uncounted ks fs (u .1))
 
+pub kinds-append : (fs gs : List Family) → layoutKinds (fs ++ gs) ≡ layoutKinds fs ++ layoutKinds gs
+kinds-append [] gs = refl
+kinds-append (f ∷ fs) gs = ap (λ (l : List ℕ). kindsOf f ++ l) (kinds-append fs gs) ∙ sym (append-assoc (kindsOf f) (layoutKinds fs) (layoutKinds gs))
+
 own-kinds : (ks : List ℕ) (fs : List Family) → layoutKinds (fs ++ ((newGroup ks ∷ []) ∷ [])) ≡ layoutKinds fs ++ ks
-own-kinds ks [] = append-nil (ks ++ []) ∙ append-nil ks
-own-kinds ks (f ∷ fs) = ap (λ (l : List ℕ). kindsOf f ++ l) (own-kinds ks fs) ∙ sym (append-assoc (kindsOf f) (layoutKinds fs) ks)
+own-kinds ks fs = kinds-append fs ((newGroup ks ∷ []) ∷ []) ∙ ap (λ (l : List ℕ). layoutKinds fs ++ l) (append-nil (ks ++ []) ∙ append-nil ks)
 
 own-groups : (ks : List ℕ) (fs : List Family) → groupsOf (fs ++ ((newGroup ks ∷ []) ∷ [])) ≡ groupsOf fs + 1
 own-groups ks [] = refl
@@ -201,7 +178,7 @@ module _ (kinds ks : List ℕ) (fs : List Family) (d : Distinct ks) (known : (k 
 
   grown-sound : touched ks fs ≡ 1 → covers ks fs ≡ true → present ks fs ≡ false → DraftSound kinds (grown ks fs)
   grown-sound t c p =
-      let G = grown-families ks fs c p narrow (D .buildable .once) (D .buildable .families) (D .uncounted) in
+      let G = grown-families ks fs c p narrow d (D .buildable .once) (D .buildable .families) (D .uncounted) in
       record {
         buildable = record {
           families = G .families;

@@ -4,8 +4,9 @@ use mathlib.Core.Logic.{_↔_}
 use mathlib.Core.Bool.{Bool, true, false, not, _||_}
 use mathlib.Core.Option.{Option, some, none}
 use mathlib.Core.List.{List, [], _∷_, map}
-use Prim.Native.Nat.{ℕ, zero, suc, _-_, _*_, _≤_}
+use Prim.Native.Nat.{ℕ, _-_, _*_, _≤_}
 use native.Mathlib.Omega.{arith}
+use native.Mathlib.Nat.{pos-of-ne-zero}
 use borrow.Author.Tests.{ltb-false, eqb-false, not-false}
 use lib.Dec.{eqb, ltb}
 use lib.ListN.{length, take, length-map, length-drop}
@@ -48,15 +49,11 @@ within-limits n k h =
     let n0 : n ≡ 0 → ⊥ = eqb-false n 0 (or-false (eqb n 0) (ltb MAX-ENTITIES n) a) in
     let k0 : k ≡ 0 → ⊥ = eqb-false k 0 (or-false (eqb k 0) (ltb MAX-KINDS k) b) in
     record {
-      some = positive n n0;
+      some = pos-of-ne-zero n0;
       most = ltb-false MAX-ENTITIES n (or-false-right (eqb n 0) (ltb MAX-ENTITIES n) a);
-      someKinds = positive k k0;
+      someKinds = pos-of-ne-zero k0;
       mostKinds = ltb-false MAX-KINDS k (or-false-right (eqb k 0) (ltb MAX-KINDS k) b);
     }
-  where
-    positive : (n : ℕ) → (n ≡ 0 → ⊥) → 1 ≤ n
-    positive zero f = absurd (f refl)
-    positive (suc n) f = omega arith
 
 pub start-makes : (n k words : ℕ) (s : Store) → start n k words ≡ makes s → Makes n k words s
 unfolding start

@@ -9,8 +9,8 @@ use native.Mathlib.Decide.{ℕ-discrete}
 use borrow.Author.Tests.{ltb-true, eq-eqb}
 use lib.ListN.{length, take, set, length-map, length-append, length-set}
 use lib.Seq.{take-append-le, set-getD, getD-set-same, getD-set-other}
-use Rattle.model.proofs.ListLaws.{count-append, getD-place, map-set}
-use Rattle.model.specs.Model.{Entity, Row, SparseSet, Family, Component, Storage, Walked, sameEntity, noEntity, mem, meets, setOf, keys, entityOf, at, held, kindsOf, kindOf, insertRow, insertAll, groupFamily, groupTouched}
+use Rattle.model.proofs.ListLaws.{count-append, getD-place, map-set, map-append}
+use Rattle.model.specs.Model.{Entity, SparseSet, Family, Component, Storage, Walked, sameEntity, noEntity, mem, meets, setOf, keys, entityOf, at, held, kindsOf, kindOf, insertRow, insertAll, groupFamily, groupTouched}
 use Rattle.model.proofs.SparseSets.{entity-eq, entity-same, key}
 use Rattle.model.proofs.BoolLaws.{cond-case, or-false, or-false-right, bool-cases}
 use Rattle.model.proofs.Groups.{cnt, plc, In, SameEntities}
@@ -19,9 +19,16 @@ use Rattle.model.proofs.KindLists.{in-left, in-right, mem-append, not-b
 
 -- ---- families
 
+-- families that are right for the entities of W, and for all
+abbrev pub FamsFor : (ℕ → List Entity) → (Entity → Type 0) → List Family → Type 0
+FamsFor key W [] = Unit {0}
+FamsFor key W (f ∷ fs) = Chain key W [] f × FamsFor key W fs
+
 abbrev pub Fams : (ℕ → List Entity) → List Family → Type 0
-Fams key [] = Unit {0}
-Fams key (f ∷ fs) = Chain key Every [] f × Fams key fs
+Fams key fs = FamsFor key Every fs
+
+abbrev pub famKinds : List Family → List (List ℕ)
+famKinds fs = map kindsOf fs
 
 abbrev pub allKinds : List (List ℕ) → List ℕ
 allKinds [] = []
@@ -50,6 +57,13 @@ chain-other key new W acc (r ∷ rs) s ch =
       chain-other key new W (acc ++ r .newKinds) rs s₁ (ch .2),
     )
 
+pub fams-other : (key new : ℕ → List Entity) (W : Entity → Type 0) (fs : List Family) → ((k : ℕ) → In (allKinds (famKinds fs)) k → new k ≡ key k) → FamsFor key W fs → FamsFor new W fs
+fams-other key new W [] s fm = tt
+fams-other key new W (f ∷ fs) s fm = (
+  chain-other key new W [] f (λ k i. s k (in-left (kindsOf f) (allKinds (famKinds fs)) k i)) (fm .0),
+  fams-other key new W fs (λ k i. s k (in-right (kindsOf f) (allKinds (famKinds fs)) k i)) (fm .1),
+)
+
 -- ---- the components go in
 
 -- what putting components of entity e does to the sparse sets
@@ -63,17 +77,13 @@ pub record Put (e : Entity) (ks : List ℕ) (key new : ℕ → List Entity) : Ty
 keys-put : (e : Entity) (v : ℕ) (rows : SparseSet) → keys (insertRow e v rows) ≡ cond (held e rows) (keys rows) (keys rows ++ (e ∷ []))
 keys-put e v rows = go (held e rows) refl
   where
-    map-snoc : (l : SparseSet) (r : Row) → map entityOf (l ++ (r ∷ [])) ≡ map entityOf l ++ (entityOf r ∷ [])
-    map-snoc [] r = refl
-    map-snoc (x ∷ l) r = ap {B = List Entity} (λ t. entityOf x ∷ t) (map-snoc l r)
-
     go : (b : Bool) → held e rows ≡ b → keys (cond b (set rows (at e rows) (record { entity = e; value = v })) (rows ++ (record { entity = e; value = v } ∷ []))) ≡ cond b (keys rows) (keys rows ++ (e ∷ []))
     go true t =
         let p : plc e (keys rows) < length (keys rows) = rw (length-map rows entityOf) (ltb-true _ _ t) in
         map-set entityOf rows (at e rows) (record { entity = e; value = v })
         ∙ ap (λ (y : Entity). set (keys rows) (plc e (keys rows)) y) (sym (getD-place sameEntity entity-eq e noEntity (keys rows) p))
         ∙ set-getD (keys rows) (plc e (keys rows)) noEntity
-    go false t = map-snoc rows (record { entity = e; value = v })
+    go false t = map-append entityOf rows (record { entity = e; value = v } ∷ [])
 
 -- a sparse set stays, or the entity is appended where it was missing
 abbrev Which : Entity → List Entity → List Entity → Type 0
@@ -154,9 +164,6 @@ chain-put e ks key new p acc (r ∷ rs) ch =
     )
 
 -- ---- all families are walked
-
-abbrev pub famKinds : List Family → List (List ℕ)
-famKinds fs = map kindsOf fs
 
 -- before the walk: right for the other entities where the staged components have a kind of the family, else right for all
 abbrev pub Pending : Entity → List ℕ → (ℕ → List Entity) → List Family → Type 0

@@ -21,7 +21,7 @@ use Rattle.model.proofs.Families.{Fams, Kinds, Apart, allKinds, famKind
 use Rattle.model.proofs.Invariant.{Fit, holders, holders-count, count-is, count-number, insert-fit, insert-others, insert-kinds}
 use Rattle.model.proofs.Removal.{remove-fit, remove-fewer, remove-lost}
 use Rattle.model.proofs.Regroup.{Fresh, FreshAll, setLayout-fit, setLayout-entities, clearAll-fit, clearAll-entities}
-use Rattle.model.proofs.Numbers.{EntitiesOk, destroy-ok, cnt-cut, cnt-num}
+use Rattle.model.proofs.Numbers.{EntitiesOk, destroy-ok, cnt-cut, live-once}
 
 -- entities, kinds and components together
 pub record Held (entities : Entities) (kinds : List ℕ) (storage : Storage) : Type 0 where
@@ -111,14 +111,11 @@ module _ (entities : Entities) (kinds : List ℕ) (storage : Storage) (H : Held 
   abbrev L : List Entity
   L = entities .live
 
-  live-once : (x : Entity) → cnt x L ≤ 1
-  live-once x = omega (arith, cnt-num x L, H .numbers .single (x .index))
-
   right : (g : List ℕ) (r : Group) (k : ℕ) → In g k → GroupRight (key C) Every g r → Right C L g (r .count)
   right g r k i G =
-      let e : (k : ℕ) → In g k → (x : Entity) → cnt x (take (r .count) (key C k)) ≡ cnt x (holders g C L) = λ k i. count-is C L g r k i (H .fit .once) live-once (H .alive) G in
+      let e : (k : ℕ) → In g k → (x : Entity) → cnt x (take (r .count) (key C k)) ≡ cnt x (holders g C L) = λ k i. count-is C L g r k i (H .fit .once) (live-once entities (H .numbers .single)) (H .alive) G in
       record {
-        number = count-number C L g r k i (H .fit .once) live-once (H .alive) G;
+        number = count-number C L g r k i (H .fit .once) (live-once entities (H .numbers .single)) (H .alive) G;
         places = G .even .fit;
         aligned = G .even .align;
         exact = e;

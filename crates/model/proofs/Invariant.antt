@@ -4,19 +4,17 @@ use mathlib.Core.Bool.{false, cond, true≢false}
 use mathlib.Core.List.{List, [], _∷_, _++_, map}
 use Prim.Native.Nat.{ℕ, suc, _+_, _≤_}
 use native.Mathlib.Omega.{arith}
-use native.Mathlib.Nat.{zero-add}
 use lib.ListN.{length, take, set, length-set}
 use lib.Seq.{length-take-le}
 use Rattle.model.specs.Numbers.{MAX-KINDS}
-use Rattle.model.specs.Lists.{one}
-use Rattle.model.proofs.ListLaws.{count-take-le, count-length}
+use Rattle.model.proofs.ListLaws.{count-take-le, count-kept, count-length}
 use Rattle.model.specs.Model.{Entity, SparseSet, Group, Family, Component, Storage, Walked, GroupStep, sameEntity, mem, meets, setOf, held, allHeld, kindsOf, kindOf, insertRow, insertAll, mapOn, swapTo, isGrouped, groupComponents, groupFamily, groupTouched, insertComponents}
 pub use Rattle.model.specs.Sound.{holders}
 use Rattle.model.proofs.SparseSets.{entity-eq, entity-same, key}
 use Rattle.model.proofs.BoolLaws.{cond-case, bool-cases}
 use Rattle.model.proofs.Groups.{cnt, In, SameEntities}
-use Rattle.model.proofs.Walk.{Every, But, GroupRight, Missing, all-missing, held-count, lacks-count}
-use Rattle.model.proofs.KindLists.{all-in, any-in}
+use Rattle.model.proofs.Walk.{Every, But, GroupRight, held-count, lacks-count}
+use Rattle.model.proofs.KindLists.{Missing, all-missing, all-in, any-in}
 use Rattle.model.proofs.Families.{Fams, Apart, famKinds, chain-other, Put, Kinds, put-all, chain-put, Pending, UpAll, groupFamily-all-good}
 
 pub record Fit (p : Storage) : Type 0 where
@@ -96,17 +94,7 @@ module _ (e : Entity) (staged : List Component) (p : Storage) (lt : Kinds (lengt
 -- ---- what a right group's count is
 
 pub holders-count : (g : List ℕ) (sets : List SparseSet) (live : List Entity) (x : Entity) → cnt x (holders g sets live) ≡ cond (allHeld x g sets) (cnt x live) 0
-holders-count g sets [] x = bool-cases (allHeld x g sets) (λ t. rw t) (λ t. rw t)
-holders-count g sets (e ∷ es) x = bool-cases (sameEntity x e) (λ t. rw (entity-eq x e t) (self (holders-count g sets es e))) (λ t. rw t (other t (holders-count g sets es x)))
-  where
-    R : List Entity
-    R = holders g sets es
-
-    self : cnt e R ≡ cond (allHeld e g sets) (cnt e es) 0 → cnt e (cond (allHeld e g sets) (e ∷ R) R) ≡ cond (allHeld e g sets) (one (sameEntity e e) + cnt e es) 0
-    self ih = bool-cases (allHeld e g sets) (λ u. rw u (ap (λ (n : ℕ). one (sameEntity e e) + n) (rw u at ih))) (λ u. rw u (rw u at ih))
-
-    other : sameEntity x e ≡ false → cnt x R ≡ cond (allHeld x g sets) (cnt x es) 0 → cnt x (cond (allHeld e g sets) (e ∷ R) R) ≡ cond (allHeld x g sets) (0 + cnt x es) 0
-    other t ih = rw (zero-add (cnt x es)) (bool-cases (allHeld e g sets) (λ u. rw (u, t, zero-add (cnt x R)) ih) (λ u. rw u ih))
+holders-count g sets = count-kept sameEntity entity-eq (λ e. allHeld e g sets) (holders g sets) refl (λ e l. refl)
 
 pub count-is : (sets : List SparseSet) (live : List Entity) (g : List ℕ) (r : Group) (k : ℕ) → In g k
     → ((x : Entity) (k : ℕ) → cnt x (key sets k) ≤ 1)

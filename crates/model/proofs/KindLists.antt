@@ -1,19 +1,18 @@
--- Lists of kinds: membership, counts, tests of all and of some. Assumes nothing.
+-- Lists of kinds: membership, counts, tests of all and of some, equal sets. Assumes nothing.
 use mathlib.Core.Path.{_≡_, refl, ap, _∙_, sym}
-use mathlib.Core.Bool.{Bool, true, false, cond, false≢true, _&&_, or-true, _||_, or-assoc, true≢false, or-false as or-none}
-use mathlib.Core.List.{List, [], _∷_, _++_}
-use Prim.Native.Nat.{ℕ, _+_, _≤_, _<_}
+use mathlib.Core.Bool.{Bool, true, false, cond, not, false≢true, _&&_, or-true, _||_, or-assoc, true≢false, or-false as or-none}
+use mathlib.Core.List.{List, [], _∷_, _++_, append-nil}
+use Prim.Native.Nat.{ℕ, zero, suc, _+_, _≤_, _<_, zero-le}
 use native.Mathlib.Omega.{arith}
-use native.Mathlib.Nat.{zero-add}
-use borrow.Author.Tests.{eqb-true, eq-eqb, ne-eqb}
-use lib.Dec.{eqb}
-use lib.ListN.{length, getD, take, drop, take-append-drop}
-use lib.Seq.{drop-cons, take-take}
+use borrow.Author.Tests.{eqb-true, eq-eqb, ne-eqb, leb-true}
+use lib.Dec.{eqb, leb}
+use lib.ListN.{length, getD, take, drop, set, take-append-drop, length-append}
+use lib.Seq.{drop-cons, take-take, drop-length}
 use Rattle.model.specs.Lists.{one, countOf, place}
-use Rattle.model.proofs.ListLaws.{count-append, self-count, at-count, count-place, getD-place, drop-step}
-use Rattle.model.specs.Model.{mem, allOf, without, headKind, anyOf, meets}
+use Rattle.model.proofs.ListLaws.{count-append, count-kept, self-count, count-at, count-place, getD-place, as-long, drop-step, put-next}
+use Rattle.model.specs.Model.{mem, allOf, anyOf, within, meets, sameSet, without, headKind}
 use Rattle.model.specs.Sound.{In, Distinct}
-use Rattle.model.proofs.BoolLaws.{bool-cases, or-cases, or-false, or-false-right, not-true, and-left, and-right}
+use Rattle.model.proofs.BoolLaws.{by-lt, bool-cases, cond-not, or-cases, or-false, or-false-right, not-true, and-left, and-right}
 
 pub in-count : (l : List ℕ) (k : ℕ) → In l k → 1 ≤ countOf eqb k l
 in-count [] k i = absurd (false≢true i)
@@ -25,9 +24,6 @@ out-count (j ∷ l) k n = omega (arith, ap one (or-false (eqb k j) (mem k l) n),
 
 pub count-in : (l : List ℕ) (k : ℕ) → 1 ≤ countOf eqb k l → In l k
 count-in l k h = bool-cases (mem k l) (λ t. t) (λ t. absurd (omega (arith, out-count l k t)))
-
-pub count-out : (l : List ℕ) (k : ℕ) → countOf eqb k l ≡ 0 → mem k l ≡ false
-count-out l k z = not-true (mem k l) (λ t. omega (arith, in-count l k t))
 
 -- ---- lists joined
 
@@ -50,21 +46,34 @@ distinct-snoc l k d n j =
 -- ---- the kinds of ks that js lacks
 
 pub count-without : (ks js : List ℕ) (k : ℕ) → countOf eqb k (without ks js) ≡ cond (mem k js) 0 (countOf eqb k ks)
-count-without [] js k = bool-cases (mem k js) (λ t. rw t) (λ t. rw t)
-count-without (j ∷ ks) js k = go (eqb k j) refl (count-without ks js k)
-  where
-    go : (b : Bool) → eqb k j ≡ b → countOf eqb k (without ks js) ≡ cond (mem k js) 0 (countOf eqb k ks) → countOf eqb k (without (j ∷ ks) js) ≡ cond (mem k js) 0 (one b + countOf eqb k ks)
-    go true t r =
-        bool-cases (mem j js)
-        (λ u. let v : mem k js ≡ true = ap (λ (i : ℕ). mem i js) (eqb-true k j t) ∙ u in rw (u, v) (rw v at r))
-        (λ u. let v : mem k js ≡ false = ap (λ (i : ℕ). mem i js) (eqb-true k j t) ∙ u in rw (u, v, t) (ap (λ (n : ℕ). 1 + n) (rw v at r)))
-    go false t r = bool-cases (mem j js) (λ u. rw (u, zero-add (countOf eqb k ks)) r) (λ u. rw (u, t, zero-add (countOf eqb k ks), zero-add (countOf eqb k (without ks js))) r)
+count-without ks js k =
+    count-kept eqb eqb-true (λ j. not (mem j js)) (λ l. without l js) refl (λ j l. cond-not (mem j js) (without l js) (j ∷ without l js)) ks k
+    ∙ sym (cond-not (mem k js) 0 (countOf eqb k ks))
+
+pub count-without-le : (ks js : List ℕ) (k : ℕ) → countOf eqb k (without ks js) ≤ countOf eqb k ks
+count-without-le ks js k = bool-cases (mem k js) (λ t. omega (arith, rw t at (count-without ks js k))) (λ t. omega (arith, rw t at (count-without ks js k)))
+
+pub in-without : (ks js : List ℕ) (k : ℕ) → In ks k → mem k js ≡ false → In (without ks js) k
+in-without ks js k i n = count-in (without ks js) k (omega (arith, rw n at (count-without ks js k), in-count ks k i))
 
 -- ---- a kind of a list that is not empty
 
 pub head-in : (l : List ℕ) → 1 ≤ length l → In l (headKind l)
 head-in [] h = absurd (omega arith)
 head-in (k ∷ l) h = rw (eq-eqb k k refl)
+
+pub head-in-joined : (l m : List ℕ) → 1 ≤ length l → In l (headKind (l ++ m))
+head-in-joined [] m h = absurd (omega arith)
+head-in-joined (k ∷ l) m h = rw (eq-eqb k k refl)
+
+pub head-first : (l : List ℕ) → headKind l ≡ getD l 0 0
+head-first [] = refl
+head-first (k ∷ l) = refl
+
+pub length-one : (l : List ℕ) → length l ≡ 1 → l ≡ headKind l ∷ []
+length-one [] e = absurd (omega arith)
+length-one (k ∷ []) e = refl
+length-one (k ∷ j ∷ l) e = absurd (omega arith)
 
 pub in-length : (l : List ℕ) (k : ℕ) → In l k → 1 ≤ length l
 in-length [] k i = absurd (false≢true i)
@@ -81,7 +90,7 @@ all-joined p (k ∷ a) b = bool-cases (p k) (λ t. rw t (all-joined p a b)) (λ 
 -- ---- the kind at a place
 
 pub at-in : (l : List ℕ) (i : ℕ) → i < length l → In l (getD l i 0)
-at-in l i h = count-in l (getD l i 0) (at-count l i h)
+at-in l i h = count-in l (getD l i 0) (count-at eqb (λ k. eq-eqb k k refl) 0 l i h)
 
 -- of distinct kinds, the one at a place is not among those before it
 pub distinct-new : (l : List ℕ) → Distinct l → (i : ℕ) → i < length l → mem (getD l i 0) (take i l) ≡ false
@@ -141,12 +150,40 @@ all-in p (j ∷ ks) t k i =
     (λ u. rw (eqb-true k j u) (and-left (p j) (allOf p ks) t))
     (λ u. all-in p ks (and-right (p j) (allOf p ks) t) k u)
 
+-- a kind of the list of which p does not hold
+pub record Missing (p : ℕ → Bool) (ks : List ℕ) : Type 0 where
+  pub kind : ℕ
+  pub isIn : In ks kind
+  pub fails : p kind ≡ false
+
+pub all-missing : (p : ℕ → Bool) (ks : List ℕ) → allOf p ks ≡ false → Missing p ks
+all-missing p [] t = absurd (true≢false t)
+all-missing p (j ∷ ks) t = go (p j) refl t (all-missing p ks)
+  where
+    go : (b : Bool) → p j ≡ b → (b && allOf p ks) ≡ false → (allOf p ks ≡ false → Missing p ks) → Missing p (j ∷ ks)
+    go true e u r = let m = r u in record { kind = m .kind; isIn = rw (m .isIn) (or-true (eqb (m .kind) j)); fails = m .fails }
+    go false e u r = record { kind = j; isIn = rw (eq-eqb j j refl); fails = e }
+
+-- numbers that are all n at most
+pub all-most : (n : ℕ) (l : List ℕ) → allOf (λ x. leb x n) l ≡ true → (i : ℕ) → getD l i 0 ≤ n
+all-most n [] t i = zero-le
+all-most n (x ∷ l) t zero = leb-true x n (and-left (leb x n) (allOf (λ y. leb y n) l) t)
+all-most n (x ∷ l) t (suc i) = all-most n l (and-right (leb x n) (allOf (λ y. leb y n) l) t) i
+
 pub any-in : (p : ℕ → Bool) (ks : List ℕ) (k : ℕ) → In ks k → p k ≡ true → anyOf p ks ≡ true
 any-in p [] k i t = i
 any-in p (j ∷ ks) k i t =
     or-cases (eqb k j) (mem k ks) i
     (λ u. rw (ap p (sym (eqb-true k j u)), t))
     (λ u. rw (any-in p ks k u t) (or-true (p j)))
+
+-- and a kind of the list of which p holds
+pub any-at : (p : ℕ → Bool) (ks : List ℕ) → anyOf p ks ≡ true → (k : ℕ) × In ks k × (p k ≡ true)
+any-at p [] t = absurd (false≢true t)
+any-at p (j ∷ ks) t =
+    or-cases (p j) (anyOf p ks) t
+    (λ u. (j, rw (eq-eqb j j refl), u))
+    (λ u. let r = any-at p ks u in (r .0, rw (r .1) (or-true (eqb (r .0) j)), r .2))
 
 pub any-more : (p q : ℕ → Bool) → ((k : ℕ) → p k ≡ true → q k ≡ true) → (ks : List ℕ) → anyOf p ks ≡ true → anyOf q ks ≡ true
 any-more p q f [] h = h
@@ -172,12 +209,53 @@ meets-none (k ∷ ks) = meets-none ks
 pub meets-one : (k : ℕ) (ks : List ℕ) → meets (k ∷ []) ks ≡ mem k ks
 meets-one k ks = or-none (mem k ks)
 
+pub meets-left : (ks a b : List ℕ) → meets ks a ≡ true → meets ks (a ++ b) ≡ true
+meets-left ks a b h = any-more (λ k. mem k a) (λ k. mem k (a ++ b)) (λ k i. in-left a b k i) ks h
+
 -- no kind in common
 pub unmet : (ks js : List ℕ) (x : ℕ) → meets ks js ≡ false → 1 ≤ countOf eqb x ks → countOf eqb x js ≡ 0
 unmet ks js x m h = out-count js x (any-none (λ k. mem k js) ks x m (count-in ks x h))
 
 pub unmet-in : (ks js : List ℕ) → meets ks js ≡ false → (k : ℕ) → In js k → mem k ks ≡ false
 unmet-in ks js m k i = not-true (mem k ks) (λ t. true≢false (sym (any-in (λ y. mem y js) ks k t i) ∙ m))
+
+-- ---- a list within another
+
+-- where each of js is in ks, and js has each once, js has no kind more often
+pub within-counts : (js ks : List ℕ) → Distinct js → within js ks ≡ true → (k : ℕ) → countOf eqb k js ≤ countOf eqb k ks
+within-counts js ks d w k =
+    by-lt 0 (countOf eqb k js) (λ h. omega (arith, d k, in-count ks k (all-in (λ j. mem j ks) js w k (count-in js k h)))) (λ h. omega arith)
+
+-- ks is as long as js and what js lacks
+pub without-length : (ks js : List ℕ) → Distinct ks → Distinct js → within js ks ≡ true → length js + length (without ks js) ≡ length ks
+without-length ks js dk dj w =
+    sym (length-append js (without ks js))
+    ∙ as-long (js ++ without ks js) ks
+    (λ k. count-append eqb k js (without ks js)
+    ∙ bool-cases (mem k js)
+    (λ t. omega (arith, rw t at (count-without ks js k), in-count js k t, dj k, dk k, within-counts js ks dj w k))
+    (λ t. omega (arith, rw t at (count-without ks js k), out-count js k t)))
+
+-- ---- equal sets
+
+pub same-to : (ks js : List ℕ) → sameSet ks js ≡ true → (k : ℕ) → In ks k → In js k
+same-to ks js s = all-in (λ j. mem j js) ks (and-left (within ks js) (within js ks) s)
+
+pub same-from : (ks js : List ℕ) → sameSet ks js ≡ true → (k : ℕ) → In js k → In ks k
+same-from ks js s = all-in (λ j. mem j ks) js (and-right (within ks js) (within js ks) s)
+
+pub all-same : (p : ℕ → Bool) (ks js : List ℕ) → sameSet ks js ≡ true → allOf p ks ≡ allOf p js
+all-same p ks js s =
+    bool-cases (allOf p ks)
+    (λ t. t ∙ sym (all-true p js (λ k i. all-in p ks t k (same-from ks js s k i))))
+    (λ t. t ∙ sym (not-true (allOf p js) (λ u. true≢false (sym (all-true p ks (λ k i. all-in p js u k (same-to ks js s k i))) ∙ t))))
+
+-- a kind in one and not in the other
+pub differ-left : (ks js : List ℕ) (k : ℕ) → In ks k → mem k js ≡ false → sameSet ks js ≡ false
+differ-left ks js k i n = not-true (sameSet ks js) (λ t. true≢false (sym (same-to ks js t k i) ∙ n))
+
+pub differ-right : (ks js : List ℕ) (k : ℕ) → In js k → mem k ks ≡ false → sameSet ks js ≡ false
+differ-right ks js k i n = not-true (sameSet ks js) (λ t. true≢false (sym (same-from ks js t k i) ∙ n))
 
 -- ---- a turn of a loop over a slice: what is left is `drop i l`
 
@@ -198,3 +276,15 @@ any-hit p l i h e = rw (drop-step l i 0 h, e)
 
 pub any-miss : (p : ℕ → Bool) (l : List ℕ) (i : ℕ) → i < length l → p (getD l i 0) ≡ false → anyOf p (drop i l) ≡ anyOf p (drop (i + 1) l)
 any-miss p l i h e = rw (drop-step l i 0 h, e)
+
+-- those of hs that ks lacks, put into the front of out
+pub without-held : (ks hs out : List ℕ) (i n : ℕ) → i < length hs → mem (getD hs i 0) ks ≡ true
+    → take n out ++ without (drop i hs) ks ≡ take n out ++ without (drop (i + 1) hs) ks
+without-held ks hs out i n h e = rw (drop-step hs i 0 h, e)
+
+pub without-new : (ks hs out : List ℕ) (i n : ℕ) → i < length hs → n < length out → mem (getD hs i 0) ks ≡ false
+    → take n out ++ without (drop i hs) ks ≡ take (n + 1) (set out n (getD hs i 0)) ++ without (drop (i + 1) hs) ks
+without-new ks hs out i n h o e = rw (drop-step hs i 0 h, e) (put-next out (without (drop (i + 1) hs) ks) n (getD hs i 0) o)
+
+pub without-end : (ks hs out : List ℕ) (n : ℕ) → take n out ++ without (drop (length hs) hs) ks ≡ take n out
+without-end ks hs out n = rw drop-length (append-nil (take n out))

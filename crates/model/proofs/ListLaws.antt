@@ -1,5 +1,6 @@
 -- Laws on lists that speak of nothing else: counts, places and swaps; what a list has in front and behind; bytes stored. Assumes nothing.
-use mathlib.Core.Path.{_≡_, refl, ap, ap₂, sym, _∙_}
+use mathlib.Core.Path.{_≡_, refl, ap, ap₂, sym, _∙_, subst}
+use mathlib.Core.Logic.{_≢_}
 use mathlib.Core.Bool.{Bool, true, false, cond}
 use mathlib.Core.List.{List, [], _∷_, _++_, map, append-assoc, append-nil}
 use Prim.Native.Nat.{ℕ, zero, suc, _+_, _-_, _≤_, _<_, zero-le, suc-le-suc}
@@ -7,12 +8,12 @@ use native.Mathlib.Omega.{arith}
 use native.Mathlib.Nat.{le-of-suc-le-suc, not-suc-le-zero, suc-add, add-suc, add-zero, zero-add}
 use native.Mathlib.Decide.{ℕ-discrete}
 use lib.ListN.{length, take, drop, getD, set, length-set, take-append-drop, length-map, List·getD-map, length-drop, length-append}
-use lib.Seq.{set-set, take-set-lt, take-set-le, getD-take, getD-set-same, getD-set-other, take-suc, take-suc-set, set-getD, lt-length-set, length-take-le, take-all, sets, take-take, drop-drop, drop-cons, getD-drop, ext-getD, sets-eq, take-at, drop-at, take-add, set-comm, paste, paste-suc, take-length}
+use lib.Seq.{set-set, take-set-lt, take-set-le, getD-take, getD-set-same, getD-set-other, take-suc, take-suc-set, set-getD, lt-length-set, length-take-le, take-all, sets, take-take, drop-drop, drop-cons, getD-drop, ext-getD, sets-eq, take-at, drop-at, take-add, set-comm, paste, paste-suc, take-length, append-snoc, drop-append-le}
 use borrow.Author.Tests.{eq-eqb, eqb-true}
 use lib.Dec.{eqb}
 use native.Mathlib.Numerals.{add-one}
 use Rattle.model.specs.Lists.{swap, one, after, countOf, place, cutAt}
-use Rattle.model.proofs.BoolLaws.{bool-cases}
+use Rattle.model.proofs.BoolLaws.{bool-cases, by-eq, by-lt, cond-same}
 
 module _ {A : Type 0} where
   pub length-swap : (d : A) (i j : ℕ) (l : List A) → length (swap d i j l) ≡ length l
@@ -117,6 +118,47 @@ module _ {A : Type 0} (same : A → A → Bool) where
       go true e r h = sym (sound x y e)
       go false e r h = r (le-of-suc-le-suc h)
 
+  -- where no two places have the same, it stands once
+  pub apart-once : ((x y : A) → same x y ≡ true → x ≡ y) → (x d : A) (l : List A) → ((i j : ℕ) → i < length l → j < length l → i ≢ j → getD l i d ≢ getD l j d) → countOf same x l ≤ 1
+  apart-once sound x d [] f = omega arith
+  apart-once sound x d (y ∷ l) f =
+      let ih = apart-once sound x d l (λ i j hi hj ne. f (suc i) (suc j) (omega arith) (omega arith) (omega arith)) in
+      bool-cases (same x y)
+      (λ t.
+      let none : ¬ (1 ≤ countOf same x l) = λ h.
+      let p = count-place x l h in
+      f 0 (suc (place same x l)) (omega arith) (omega arith) (omega arith) (sym (sound x y t) ∙ sym (getD-place sound x d l p)) in
+      omega (arith, ap one t))
+      (λ t. omega (arith, ap one t))
+
+-- ---- what stands at a place
+
+module _ {A : Type 0} (same : A → A → Bool) (self : (x : A) → same x x ≡ true) (d : A) where
+  pub count-at : (l : List A) (i : ℕ) → i < length l → 1 ≤ countOf same (getD l i d) l
+  count-at [] i h = absurd (not-suc-le-zero h)
+  count-at (x ∷ l) zero h = omega (arith, ap one (self x))
+  count-at (x ∷ l) (suc i) h = omega (arith, count-at l i (le-of-suc-le-suc h))
+
+  -- no place before x's has x
+  pub place-first : (x : A) (l : List A) (i : ℕ) → i < length l → getD l i d ≡ x → place same x l ≤ i
+  place-first x [] i h e = absurd (not-suc-le-zero h)
+  place-first x (y ∷ l) zero h e = rw (subst (λ (z : A). same x z ≡ true) (sym e) (self x)) (omega arith)
+  place-first x (y ∷ l) (suc i) h e = go (same x y) (place-first x l i (le-of-suc-le-suc h) e)
+    where
+      go : (b : Bool) → place same x l ≤ i → after b (place same x l) ≤ suc i
+      go true r = zero-le
+      go false r = suc-le-suc r
+
+  -- where x stands once, a place that has x is its place
+  pub place-once : (x : A) (l : List A) → countOf same x l ≤ 1 → (i : ℕ) → i < length l → getD l i d ≡ x → place same x l ≡ i
+  place-once x [] s i h e = absurd (not-suc-le-zero h)
+  place-once x (y ∷ l) s zero h e = rw (subst (λ (z : A). same x z ≡ true) (sym e) (self x))
+  place-once x (y ∷ l) s (suc i) h e =
+      let m : 1 ≤ countOf same x l = subst (λ (z : A). 1 ≤ countOf same z l) e (count-at l i (le-of-suc-le-suc h)) in
+      bool-cases (same x y)
+      (λ t. absurd (omega (arith, ap one t)))
+      (λ t. rw t (ap suc (place-once x l (omega (arith, ap one t)) i (le-of-suc-le-suc h) e)))
+
 -- ---- lists with the same counts are as long
 
 module _ {A : Type 0} (same : A → A → Bool) (sound : (x y : A) → same x y ≡ true → x ≡ y) (self : (x : A) → same x x ≡ true) where
@@ -150,6 +192,19 @@ module _ {A : Type 0} (same : A → A → Bool) (sound : (x y : A) → same x y 
   pub count-length : (l m : List A) → ((z : A) → countOf same z l ≡ countOf same z m) → length l ≡ length m
   count-length l m h = omega (arith, count-length-le l m (λ z. omega (arith, h z)), count-length-le m l (λ z. omega (arith, h z)))
 
+-- ---- f leaves those of a list that pass the test p
+
+pub count-kept : {A : Type 0} (same : A → A → Bool) → ((x y : A) → same x y ≡ true → x ≡ y) → (p : A → Bool) (f : List A → List A) → f [] ≡ [] → ((y : A) (l : List A) → f (y ∷ l) ≡ cond (p y) (y ∷ f l) (f l))
+    → (l : List A) (x : A) → countOf same x (f l) ≡ cond (p x) (countOf same x l) 0
+count-kept same sound p f none more [] x = ap (countOf same x) none ∙ sym (cond-same (p x) 0)
+count-kept same sound p f none more (y ∷ l) x = ap (countOf same x) (more y l) ∙ go (same x y) refl (p y) refl (count-kept same sound p f none more l x)
+  where
+    go : (b : Bool) → same x y ≡ b → (c : Bool) → p y ≡ c → countOf same x (f l) ≡ cond (p x) (countOf same x l) 0 → countOf same x (cond c (y ∷ f l) (f l)) ≡ cond (p x) (one b + countOf same x l) 0
+    go true e true u r = let v : p x ≡ true = ap p (sound x y e) ∙ u in rw (v, e) (ap (λ (n : ℕ). 1 + n) (rw v at r))
+    go true e false u r = let v : p x ≡ false = ap p (sound x y e) ∙ u in rw v (rw v at r)
+    go false e true u r = rw (e, zero-add (countOf same x (f l)), zero-add (countOf same x l)) r
+    go false e false u r = rw (zero-add (countOf same x l)) r
+
 -- ---- the element at p goes, and the last takes its place
 
 pub count-cutAt : {A : Type 0} (same : A → A → Bool) (d : A) (p : ℕ) (l : List A) → p < length l → (x : A) → countOf same x (cutAt d p l) + one (same x (getD l p d)) ≡ countOf same x l
@@ -167,6 +222,37 @@ count-cutAt {A} same d p l h x =
     L : List A
     L = swap d p q l
 
+-- one e less, where it is e's place
+pub count-cut : {A : Type 0} (same : A → A → Bool) → ((x y : A) → same x y ≡ true → x ≡ y) → (d e : A) (l : List A) → 1 ≤ countOf same e l → (x : A) → countOf same x (cutAt d (place same e l) l) + one (same x e) ≡ countOf same x l
+count-cut same sound d e l h x = let p = count-place same e l h in rw (getD-place same sound e d l p) at (count-cutAt same d (place same e l) l p x)
+
+-- ---- what holds of each item, and past the end
+
+module _ {A : Type 0} (P : A → Type 0) (d : A) (pd : P d) where
+  abbrev pub AllOf : List A → Type 0
+  AllOf l = (j : ℕ) → P (getD l j d)
+
+  pub all-set : (l : List A) (i : ℕ) (a : A) → P a → AllOf l → AllOf (set l i a)
+  all-set [] i a pa h j = h j
+  all-set (x ∷ l) zero a pa h zero = pa
+  all-set (x ∷ l) zero a pa h (suc j) = h (suc j)
+  all-set (x ∷ l) (suc i) a pa h zero = h zero
+  all-set (x ∷ l) (suc i) a pa h (suc j) = all-set l i a pa (λ m. h (suc m)) j
+
+  pub all-take : (n : ℕ) (l : List A) → AllOf l → AllOf (take n l)
+  all-take zero l h j = pd
+  all-take (suc n) [] h j = pd
+  all-take (suc n) (x ∷ l) h zero = h zero
+  all-take (suc n) (x ∷ l) h (suc j) = all-take n l (λ m. h (suc m)) j
+
+  pub all-snoc : (l : List A) (a : A) → P a → AllOf l → AllOf (l ++ (a ∷ []))
+  all-snoc [] a pa h zero = pa
+  all-snoc [] a pa h (suc j) = pd
+  all-snoc (x ∷ l) a pa h zero = h zero
+  all-snoc (x ∷ l) a pa h (suc j) = all-snoc l a pa (λ m. h (suc m)) j
+
+-- ---- a function of each item
+
 pub map-take : {A B : Type 0} (f : A → B) (n : ℕ) (l : List A) → map f (take n l) ≡ take n (map f l)
 map-take f zero l = refl
 map-take f (suc n) [] = refl
@@ -182,13 +268,14 @@ map-cutAt f d p l =
     map-take f (length l - 1) (set l p (getD l (length l - 1) d))
     ∙ rw (map-set f l p (getD l (length l - 1) d), length-map l f, List·getD-map f l (length l - 1) d)
 
+pub map-append : {A B : Type 0} (f : A → B) (a b : List A) → map f (a ++ b) ≡ map f a ++ map f b
+map-append f [] b = refl
+map-append {B} f (x ∷ a) b = ap {B = List B} (λ r. f x ∷ r) (map-append f a b)
+
+-- ---- lists of numbers
+
 pub self-count : (k : ℕ) → one (eqb k k) ≡ 1
 self-count k = ap one (eq-eqb k k refl)
-
-pub at-count : (l : List ℕ) (i : ℕ) → i < length l → 1 ≤ countOf eqb (getD l i 0) l
-at-count [] i h = absurd (not-suc-le-zero h)
-at-count (k ∷ l) zero h = omega (arith, self-count k)
-at-count (k ∷ l) (suc i) h = omega (arith, at-count l i (le-of-suc-le-suc h))
 
 pub length-zero : (b : List ℕ) → length b ≡ 0 → b ≡ []
 length-zero [] e = refl
@@ -204,10 +291,10 @@ sets-join l i (x ∷ a) b =
 pub take-less : (a b : ℕ) (w v : List ℕ) → a ≤ b → take b v ≡ take b w → take a v ≡ take a w
 take-less a b w v h e = sym (take-take a b v h) ∙ ap (take a) e ∙ take-take a b w h
 
-pub drop-later : (e c : ℕ) (w v : List ℕ) → e ≤ c → drop e v ≡ drop e w → drop c v ≡ drop c w
-drop-later e c w v h q = from v ∙ ap (drop (c - e)) q ∙ sym (from w)
+pub drop-later : {A : Type 0} (e c : ℕ) (w v : List A) → e ≤ c → drop e v ≡ drop e w → drop c v ≡ drop c w
+drop-later {A} e c w v h q = from v ∙ ap (drop (c - e)) q ∙ sym (from w)
   where
-    from : (u : List ℕ) → drop c u ≡ drop (c - e) (drop e u)
+    from : (u : List A) → drop c u ≡ drop (c - e) (drop e u)
     from u = let k : c ≡ e + (c - e) = omega arith in ap (λ (i : ℕ). drop i u) k ∙ sym (drop-drop (c - e) e u)
 
 -- a turn of the loop that appends
@@ -231,6 +318,28 @@ shorter l m h = count-length-le eqb eqb-true (λ x. eq-eqb x x refl) l m h
 
 pub as-long : (l m : List ℕ) → ((x : ℕ) → countOf eqb x l ≡ countOf eqb x m) → length l ≡ length m
 as-long l m h = count-length eqb eqb-true (λ x. eq-eqb x x refl) l m h
+
+-- ---- numbers below n
+
+abbrev upTo : ℕ → List ℕ
+upTo zero = []
+upTo (suc n) = n ∷ upTo n
+
+length-upTo : (n : ℕ) → length (upTo n) ≡ n
+length-upTo zero = refl
+length-upTo (suc n) = ap suc (length-upTo n)
+
+in-upTo : (n i : ℕ) → i < n → 1 ≤ countOf eqb i (upTo n)
+in-upTo zero i h = absurd (omega arith)
+in-upTo (suc n) i h = by-eq i n (λ e. omega (arith, ap one (eq-eqb i n e))) (λ ne. omega (arith, in-upTo n i (omega arith)))
+
+-- of numbers below n that stand once each there are n at most
+pub few-below : (n : ℕ) (l : List ℕ) → ((x : ℕ) → countOf eqb x l ≤ 1) → ((x : ℕ) → 1 ≤ countOf eqb x l → x < n) → length l ≤ n
+few-below n l once below =
+    let le = shorter l (upTo n) (λ x. by-lt 0 (countOf eqb x l) (λ h. omega (arith, once x, in-upTo n x (below x h))) (λ h. omega arith)) in
+    omega (arith, length-upTo n)
+
+-- ---- places, parts and turns of loops
 
 pub drop-step : {A : Type 0} (l : List A) (i : ℕ) (d : A) → i < length l → drop i l ≡ getD l i d ∷ drop (i + 1) l
 drop-step {A} l i d h = drop-cons l i d h ∙ ap (λ (k : ℕ). getD l i d ∷ drop k l) (sym (add-one i))
@@ -296,12 +405,6 @@ pub set-before : (b l : List ℕ) (i j x : ℕ) → i < j → set (sets l j b) i
 set-before [] l i j x h = refl
 set-before (a ∷ b) l i j x h = set-before b (set l j a) i (suc j) x (omega arith) ∙ ap (λ (m : List ℕ). sets m (suc j) b) (set-comm l j i a x (omega arith))
 
-pub take-below : (b n : ℕ) (l : List ℕ) → 1 ≤ b → ((i : ℕ) → getD l i 0 < b) → (i : ℕ) → getD (take n l) i 0 < b
-take-below b zero l h f i = h
-take-below b (suc n) [] h f i = h
-take-below b (suc n) (x ∷ l) h f zero = f 0
-take-below b (suc n) (x ∷ l) h f (suc i) = take-below b n l h (λ j. f (suc j)) i
-
 -- the loop that copies: a turn, and the end
 pub copy-turn : (d s : List ℕ) (j : ℕ) → j < length d → j < length s → set (paste d 0 s j) j (getD s j 0) ≡ paste d 0 s (j + 1)
 copy-turn d s j hd hs =
@@ -317,11 +420,28 @@ copy-end d s j e =
 pub front-sets : (o a : List ℕ) → length a ≤ length o → sets o 0 a ≡ a ++ drop (length a) o
 front-sets o a h = sets-eq a o 0 (omega arith) ∙ ap (λ (n : ℕ). a ++ drop n o) (zero-add (length a))
 
--- the list has each once
+-- the front m of o, that begins with b when it is back
+pub front-back : (b o : List ℕ) (m : ℕ) → length b ≤ m → m ≤ length o → (b ++ drop (length b) (take m o)) ++ drop m o ≡ b ++ drop (length b) o
+front-back b o m h l =
+    let e : length b ≤ length (take m o) = rw (length-take-le m o l) h in
+    append-assoc b (drop (length b) (take m o)) (drop m o)
+    ∙ ap (λ (r : List ℕ). b ++ r) (sym (drop-append-le (length b) (take m o) (drop m o) e) ∙ ap (drop (length b)) (take-append-drop m o))
+
+-- what begins with b, by its length
+pub front-of : (b d o p : List ℕ) (n : ℕ) → o ≡ b ++ d → n ≡ length b → take n (o ++ p) ≡ b
+front-of b d o p n e h = rw (e, append-assoc) (take-at b (d ++ p) n (sym h))
+
+-- a turn of the loop that puts items into the front of out
+pub put-next : (out r : List ℕ) (n x : ℕ) → n < length out → take n out ++ (x ∷ r) ≡ take (n + 1) (set out n x) ++ r
+put-next out r n x h =
+    sym (append-snoc (take n out) x r)
+    ∙ ap (λ (l : List ℕ). l ++ r) (sym (ap (λ (k : ℕ). take k (set out n x)) (add-one n) ∙ take-suc-set out n x h))
+
+-- ---- the list has each once
+
 pub once-place : (l : List ℕ) → ((k : ℕ) → countOf eqb k l ≤ 1) → (i : ℕ) → i < length l → place eqb (getD l i 0) l ≡ i
-once-place [] s i h = absurd (omega arith)
-once-place (x ∷ l) s zero h = rw (eq-eqb x x refl)
-once-place (x ∷ l) s (suc i) h =
-    let y = getD l i 0 in
-    let ne : eqb y x ≡ false = bool-cases (eqb y x) (λ t. absurd (omega (arith, s y, ap one t, at-count l i (omega arith)))) (λ t. t) in
-    rw ne (ap suc (once-place l (λ k. omega (arith, s k)) i (omega arith)))
+once-place l s i h = place-once eqb (λ x. eq-eqb x x refl) 0 (getD l i 0) l (s (getD l i 0)) i h refl
+
+-- two places have two
+pub once-apart : (l : List ℕ) → ((k : ℕ) → countOf eqb k l ≤ 1) → (i j : ℕ) → i < length l → j < length l → i ≢ j → getD l i 0 ≢ getD l j 0
+once-apart l s i j hi hj ne e = ne (sym (once-place l s i hi) ∙ ap (λ (x : ℕ). place eqb x l) e ∙ once-place l s j hj)

@@ -1,21 +1,19 @@
 -- The numbers: each issued index is live or recycled at most once. Assumes nothing.
 use mathlib.Core.Path.{_≡_, refl, ap, _∙_}
-use mathlib.Core.Logic.{_⊎_, inl, inr, ⊎-elim}
 use mathlib.Core.Bool.{Bool, true, false, _&&_}
 use mathlib.Core.List.{List, [], _∷_, _++_, map}
-use Prim.Native.Nat.{ℕ, zero, suc, _+_, _≤_, _<_}
+use Prim.Native.Nat.{ℕ, suc, _+_, _≤_, _<_}
 use native.Mathlib.Omega.{arith}
-use native.Mathlib.Decide.{ℕ-discrete}
-use borrow.Author.Tests.{ltb-true, eqb-true, eq-eqb, ne-eqb}
+use borrow.Author.Tests.{ltb-true, eq-eqb, ne-eqb}
 use lib.Dec.{ltb, eqb}
 use lib.ListN.{length, getD, List·getD-map, length-map}
 use Rattle.model.specs.Lists.{one, countOf}
-use Rattle.model.proofs.ListLaws.{count-append, count-place, getD-place, count-cutAt, map-cutAt, count-length-le}
+use Rattle.model.proofs.ListLaws.{count-append, count-place, getD-place, count-cut, count-cutAt, map-cutAt, few-below}
 use Rattle.model.specs.Model.{Entity, Entities, sameEntity, noEntity, create, createWith, destroy, lastVersion}
 pub use Rattle.model.specs.Sound.{indexOf, num}
 use Rattle.model.specs.Sound.{EntitiesSound}
 use Rattle.model.proofs.SparseSets.{entity-eq}
-use Rattle.model.proofs.BoolLaws.{cond-case, bool-cases}
+use Rattle.model.proofs.BoolLaws.{by-eq, zero-of, cond-case, bool-cases}
 use Rattle.model.proofs.Groups.{cnt, plc}
 
 -- sound, whatever the capacity
@@ -41,11 +39,9 @@ num-snoc i (x ∷ l) e = omega (arith, num-snoc i l e)
 cnt-snoc : (x : Entity) (l : List Entity) (e : Entity) → cnt x (l ++ (e ∷ [])) ≡ cnt x l + one (sameEntity x e)
 cnt-snoc x l e = omega (arith, count-append sameEntity x l (e ∷ []))
 
-same-version : (x y : Entity) → 1 ≤ one (sameEntity x y) → x ≡ y
-same-version x y h = bool-cases (sameEntity x y) (λ t. entity-eq x y t) (λ t. absurd (omega (arith, rw t at h)))
-
-pub zero-of : {n : ℕ} → (1 ≤ n → ⊥) → n ≡ 0
-zero-of {n} f = let no : ¬ (1 ≤ n) = f in omega arith
+-- an index that is live or recycled once is live with one version
+pub live-once : (c : Entities) → ((i : ℕ) → num i (c .live) + num i (c .recycled) ≤ 1) → (x : Entity) → cnt x (c .live) ≤ 1
+live-once c s x = omega (arith, cnt-num x (c .live), s (x .index))
 
 -- ---- an entity is created
 
@@ -56,24 +52,15 @@ create-with [] c e ok =
     let none : num (c .issued) (c .live) + num (c .issued) (c .recycled) ≡ 0 = zero-of (λ h. omega (arith, ok .below (c .issued) h)) in
     record {
       few = omega arith;
-      single = λ i. ⊎-elim
+      single = λ i. by-eq i (c .issued)
           (λ p. omega (arith, num-snoc i (c .live) new, ok .single i, none, ap (λ (j : ℕ). num j (c .live)) p, ap one (eq-eqb i (c .issued) p)))
-          (λ p. omega (arith, num-snoc i (c .live) new, ok .single i, ap one (ne-eqb i (c .issued) p)))
-          (split i (c .issued));
-      below = λ i h. ⊎-elim
+          (λ p. omega (arith, num-snoc i (c .live) new, ok .single i, ap one (ne-eqb i (c .issued) p)));
+      below = λ i h. by-eq i (c .issued)
           (λ p. omega (arith, p))
-          (λ p. omega (arith, ok .below i (omega (arith, num-snoc i (c .live) new, w₀ i, ap one (ne-eqb i (c .issued) p)))))
-          (split i (c .issued));
+          (λ p. omega (arith, ok .below i (omega (arith, num-snoc i (c .live) new, w₀ i, ap one (ne-eqb i (c .issued) p)))));
       positive = λ x h. bool-cases (sameEntity x new) (λ t. omega (arith, ap (λ (y : Entity). y .version) (entity-eq x new t))) (λ t. ok .positive x (omega (arith, cnt-snoc x (c .live) new, ap one t)));
       small = λ x h. bool-cases (sameEntity x new) (λ t. omega (arith, ap (λ (y : Entity). y .version) (entity-eq x new t))) (λ t. ok .small x (omega (arith, cnt-snoc x (c .live) new, ap one t)));
     }
-  where
-    split : (i j : ℕ) → (i ≡ j) ⊎ (i ≡ j → ⊥)
-    split i j = go (ℕ-discrete i j)
-      where
-        go : Dec (i ≡ j) → (i ≡ j) ⊎ (i ≡ j → ⊥)
-        go (yes p) = inl p
-        go (no p) = inr p
 create-with (e ∷ es) c p ok =
     record {
       few = omega arith;
@@ -103,7 +90,7 @@ module _ (e : Entity) (c : Entities) (alive : 1 ≤ cnt e (c .live)) where
 
   pub cnt-cut : (x : Entity) → cnt x ((destroy e c) .live) + one (sameEntity x e) ≡ cnt x (c .live)
   unfolding destroy
-  cnt-cut x = rw (getD-place sameEntity entity-eq e noEntity (c .live) at-place) at (count-cutAt sameEntity noEntity (plc e (c .live)) (c .live) at-place x)
+  cnt-cut x = count-cut sameEntity entity-eq noEntity e (c .live) alive x
 
   num-cut : (i : ℕ) → num i ((destroy e c) .live) + one (eqb i (e .index)) ≡ num i (c .live)
   unfolding destroy
@@ -144,31 +131,7 @@ module _ (e : Entity) (c : Entities) (alive : 1 ≤ cnt e (c .live)) where
 
 -- ---- how many are live
 
--- the numbers below n
-abbrev pub upTo : ℕ → List ℕ
-upTo zero = []
-upTo (suc n) = n ∷ upTo n
-
-pub length-upTo : (n : ℕ) → length (upTo n) ≡ n
-length-upTo zero = refl
-length-upTo (suc n) = ap suc (length-upTo n)
-
-pub in-upTo : (n i : ℕ) → i < n → 1 ≤ countOf eqb i (upTo n)
-in-upTo zero i h = absurd (omega arith)
-in-upTo (suc n) i h = go (in-upTo n i) (ℕ-discrete i n)
-  where
-    go : (i < n → 1 ≤ countOf eqb i (upTo n)) → Dec (i ≡ n) → 1 ≤ one (eqb i n) + countOf eqb i (upTo n)
-    go r (yes p) = omega (arith, ap one (eq-eqb i n p))
-    go r (no p) = omega (arith, r (omega arith))
-
 pub live-few : (c : Entities) → EntitiesOk c → length (c .live) ≤ c .issued
 live-few c ok =
-    let le = count-length-le eqb (λ x y. eqb-true x y) (λ x. eq-eqb x x refl) (map indexOf (c .live)) (upTo (c .issued)) few in
-    omega (arith, le, length-upTo (c .issued), length-map (c .live) indexOf)
-  where
-    few : (i : ℕ) → num i (c .live) ≤ countOf eqb i (upTo (c .issued))
-    few i = go (num i (c .live)) refl
-      where
-        go : (m : ℕ) → num i (c .live) ≡ m → m ≤ countOf eqb i (upTo (c .issued))
-        go zero e = omega arith
-        go (suc m) e = omega (arith, e, ok .single i, in-upTo (c .issued) i (ok .below i (omega (arith, e))))
+    let le = few-below (c .issued) (map indexOf (c .live)) (λ i. omega (arith, ok .single i)) (λ i h. ok .below i (omega arith)) in
+    omega (arith, length-map (c .live) indexOf)

@@ -9,7 +9,7 @@ use lib.Dec.{ltb, leb, eqb, lit<}
 use lib.ListN.{length, getD, replicate, length-append, length-replicate}
 use Rattle.model.specs.Numbers.{LIST-CAPACITY, MAX-KINDS, MAX-REFUSALS}
 use Rattle.model.specs.Lists.{one}
-use Rattle.model.proofs.ListLaws.{place-count, count-place}
+use Rattle.model.proofs.ListLaws.{place-count, count-place, map-append, all-snoc}
 use Rattle.model.specs.Model.{Entity, Entities, SparseSet, Family, Component, sameEntity, mem, setOf, keys, kindOf, isLive, insertComponents, remove, clearAll, setLayout, create, createWith, destroy, Row, noRow}
 use Rattle.model.specs.Store.{Control, Store, empty, withKinds, withEntities, withStorage, withControl, withAll, emptyStaged, emptyBoth, withStaged, withExcluded, withDraft, counted}
 use Rattle.model.specs.Sound.{Eight, noComponent, Limits, KindsSound, StagedSound, ExcludedSound, Buildable, StoreSound}
@@ -93,16 +93,6 @@ staged-ok : (e : Entity) (l : List Component) → ((j : ℕ) → Eight (getD l j
 staged-ok e [] h = tt
 staged-ok e (p ∷ ps) h = (h 0, staged-ok e ps (λ j. h (suc j)))
 
-pub map-snoc : (l : List Component) (p : Component) → map kindOf (l ++ (p ∷ [])) ≡ map kindOf l ++ (p .kind ∷ [])
-map-snoc [] p = refl
-map-snoc (q ∷ l) p = ap {B = List ℕ} (λ r. q .kind ∷ r) (map-snoc l p)
-
-values-snoc : (l : List Component) (p : Component) → Eight (p .value) → ((j : ℕ) → Eight (getD l j noComponent .value)) → (j : ℕ) → Eight (getD (l ++ (p ∷ [])) j noComponent .value)
-values-snoc [] p v h zero = v
-values-snoc [] p v h (suc j) = eight0
-values-snoc (q ∷ l) p v h zero = h 0
-values-snoc (q ∷ l) p v h (suc j) = values-snoc l p v (λ i. h (suc i)) j
-
 pub no-staged : (kinds : List ℕ) → StagedSound kinds []
 no-staged kinds = record { few = omega arith; once = λ k. omega arith; known = λ k i. absurd (false≢true i); values = λ j. eight0 }
 
@@ -125,9 +115,9 @@ module _ (kinds : List ℕ) (d : Control) (C : ControlSound kinds d) where
       record {
         staged = record {
           few = rw (length-append (d .staged) (record { kind = k; value = v } ∷ [])) (omega arith);
-          once = rw (map-snoc (d .staged) (record { kind = k; value = v })) (distinct-snoc (map kindOf (d .staged)) k (C .staged .once) new);
-          known = rw (map-snoc (d .staged) (record { kind = k; value = v })) (known-snoc kinds (map kindOf (d .staged)) k known (C .staged .known));
-          values = values-snoc (d .staged) (record { kind = k; value = v }) fits (C .staged .values);
+          once = rw (map-append kindOf (d .staged) (record { kind = k; value = v } ∷ [])) (distinct-snoc (map kindOf (d .staged)) k (C .staged .once) new);
+          known = rw (map-append kindOf (d .staged) (record { kind = k; value = v } ∷ [])) (known-snoc kinds (map kindOf (d .staged)) k known (C .staged .known));
+          values = all-snoc (λ (p : Component). Eight (p .value)) noComponent eight0 (d .staged) (record { kind = k; value = v }) fits (C .staged .values);
         };
         excluded = C .excluded;
         draft = C .draft;

@@ -1,39 +1,28 @@
 -- What RANGE shows: exactly the entities that its hand and bar describe; and none exactly where 01 says none. Assumes nothing.
 use mathlib.Core.Path.{_≡_, refl, ap, ap₂, sym, _∙_, subst}
 use mathlib.Core.Logic.{_↔_, _⊎_, inl, inr, ⊎-elim}
-use mathlib.Core.Bool.{Bool, true, false, cond, _&&_, true≢false, false≢true}
+use mathlib.Core.Bool.{true, false, cond, not, _&&_}
 use mathlib.Core.List.{List, [], _∷_, _++_, append-assoc, append-nil}
 use Prim.Native.Nat.{ℕ, zero, suc, _+_, _-_, _≤_, _<_}
 use native.Mathlib.Omega.{arith}
-use native.Mathlib.Nat.{zero-add}
 use borrow.Author.Tests.{eqb-true, eq-eqb}
 use lib.Dec.{eqb}
 use lib.ListN.{length, take, drop, getD, length-drop, length-map, take-append-drop}
 use lib.Seq.{length-take-le, take-all, drop-cons}
-use Rattle.model.specs.Lists.{one}
-use Rattle.model.proofs.ListLaws.{count-append, count-length, length-zero}
-use Rattle.model.specs.Model.{Entity, SparseSet, Group, Family, Range, none, found, sameEntity, mem, allOf, within, sameSet, setOf, entityOf, held, allHeld, headKind, kindsOf, newGroup, firstRange, rangeAt, rangeIn, rangeAll, single, rangeFor}
+use Rattle.model.proofs.ListLaws.{count-append, count-kept, count-length, length-zero}
+use Rattle.model.specs.Model.{Entity, SparseSet, Group, Family, Range, none, found, sameEntity, sameSet, setOf, entityOf, held, allHeld, headKind, kindsOf, newGroup, firstRange, rangeAt, rangeIn, rangeAll, single, rangeFor}
 use Rattle.model.specs.Store.{Store}
 use Rattle.model.specs.Sound.{cnt, In, key, holders, Distinct, layoutKinds, Rising, BuildableFamilies, Right, RightFrom, AllRight, Between, StoreSound}
 use Rattle.model.specs.Shown.{lacking, described, Showing, EqualGroup, EqualNewKinds, Shows, oneKind, aGroup, twoGroups}
 use Rattle.model.proofs.SparseSets.{entity-eq, entity-same}
-use Rattle.model.proofs.BoolLaws.{cond-case, and-left, and-right, or-cases, not-true, bool-cases}
+use Rattle.model.proofs.BoolLaws.{cond-case, cond-not, and-left, and-right, bool-cases}
 use Rattle.model.proofs.Walk.{held-count, lacks-count}
-use Rattle.model.proofs.KindLists.{in-left, in-right, all-in, all-true, head-in, distinct-left, distinct-right, distinct-apart, all-joined}
+use Rattle.model.proofs.KindLists.{in-left, in-right, in-one, not-both, all-same, same-to, same-from, differ-left, head-in, length-one, distinct-left, distinct-right, distinct-apart, all-joined}
 use Rattle.model.proofs.Invariant.{holders-count}
-use Rattle.model.proofs.Numbers.{cnt-num}
+use Rattle.model.proofs.Numbers.{live-once}
 use Rattle.model.proofs.Demand.{between}
 
 -- ---- equal sets
-
-in-same : (h g : List ℕ) → sameSet h g ≡ true → (k : ℕ) → In h k → In g k
-in-same h g s k i = all-in (λ j. mem j g) h (and-left (within h g) (within g h) s) k i
-
-same-in : (h g : List ℕ) → sameSet h g ≡ true → (k : ℕ) → In g k → In h k
-same-in h g s k i = all-in (λ j. mem j h) g (and-right (within h g) (within g h) s) k i
-
-all-same : (p : ℕ → Bool) (h g : List ℕ) → sameSet h g ≡ true → allOf p h ≡ allOf p g
-all-same p h g s = bool-cases (allOf p h) (λ t. t ∙ sym (all-true p g (λ k i. all-in p h t k (same-in h g s k i)))) (λ t. t ∙ sym (not-true (allOf p g) (λ u. true≢false (sym (all-true p h (λ k i. all-in p g u k (in-same h g s k i))) ∙ t))))
 
 module _ (sets : List SparseSet) where
   held-same : (x : Entity) (h g : List ℕ) → sameSet h g ≡ true → allHeld x h sets ≡ allHeld x g sets
@@ -44,17 +33,9 @@ module _ (sets : List SparseSet) where
   holders-same h g s (e ∷ l) = rw (held-same e h g s, holders-same h g s l)
 
   lacking-count : (b : List ℕ) (l : List Entity) (x : Entity) → cnt x (lacking b sets l) ≡ cond (allHeld x b sets) 0 (cnt x l)
-  lacking-count b [] x = bool-cases (allHeld x b sets) (λ t. rw t) (λ t. rw t)
-  lacking-count b (e ∷ l) x = bool-cases (sameEntity x e) (λ t. rw (entity-eq x e t) (self (lacking-count b l e))) (λ t. rw t (other t (lacking-count b l x)))
-    where
-      R : List Entity
-      R = lacking b sets l
-
-      self : cnt e R ≡ cond (allHeld e b sets) 0 (cnt e l) → cnt e (cond (allHeld e b sets) R (e ∷ R)) ≡ cond (allHeld e b sets) 0 (one (sameEntity e e) + cnt e l)
-      self ih = bool-cases (allHeld e b sets) (λ u. rw u (rw u at ih)) (λ u. rw u (ap (λ (n : ℕ). one (sameEntity e e) + n) (rw u at ih)))
-
-      other : sameEntity x e ≡ false → cnt x R ≡ cond (allHeld x b sets) 0 (cnt x l) → cnt x (cond (allHeld e b sets) R (e ∷ R)) ≡ cond (allHeld x b sets) 0 (0 + cnt x l)
-      other t ih = rw (zero-add (cnt x l)) (bool-cases (allHeld e b sets) (λ u. rw u ih) (λ u. rw (u, t, zero-add (cnt x R)) ih))
+  lacking-count b l x =
+      count-kept sameEntity entity-eq (λ e. not (allHeld e b sets)) (lacking b sets) refl (λ e r. cond-not (allHeld e b sets) (lacking b sets r) (e ∷ lacking b sets r)) l x
+      ∙ sym (cond-not (allHeld x b sets) 0 (cnt x l))
 
 -- ---- a range that is right shows them
 
@@ -82,22 +63,22 @@ module _ (sets : List SparseSet) (live : List Entity) where
   -- a hand equal to a group, no bar
   group-shown : (h g : List ℕ) (c k : ℕ) → In g k → sameSet h g ≡ true → Right sets live g c → Showing sets live h [] 0 c
   group-shown h g c k i s R =
-      showing h [] 0 c k (same-in h g s k i) (omega arith) (R .number ∙ ap (λ (l : List Entity). length l) (sym (holders-same sets h g s live)))
-      (λ j u. R .places j (in-same h g s j u))
-      (λ j k u v. R .aligned j k (in-same h g s j u) (in-same h g s k v))
-      (λ j u x. R .exact j (in-same h g s j u) x ∙ ap (cnt x) (sym (holders-same sets h g s live)))
-      (λ j u x. R .once j (in-same h g s j u) x)
+      showing h [] 0 c k (same-from h g s k i) (omega arith) (R .number ∙ ap (λ (l : List Entity). length l) (sym (holders-same sets h g s live)))
+      (λ j u. R .places j (same-to h g s j u))
+      (λ j k u v. R .aligned j k (same-to h g s j u) (same-to h g s k v))
+      (λ j u x. R .exact j (same-to h g s j u) x ∙ ap (cnt x) (sym (holders-same sets h g s live)))
+      (λ j u x. R .once j (same-to h g s j u) x)
 
   -- and a bar equal to the next larger group's ring
   bar-shown : (h g b more : List ℕ) (c d k : ℕ) → In g k → 1 ≤ length b → sameSet h g ≡ true → sameSet b more ≡ true → Right sets live g c → Right sets live (g ++ more) d → Showing sets live h b d c
   bar-shown h g [] more c d k i nb s z R Q = absurd (omega arith)
   bar-shown h g (b₀ ∷ bs) more c d k i nb s z R Q =
       let B : Between sets live g more c d = between sets live g more c d R Q in
-      showing h (b₀ ∷ bs) d c k (same-in h g s k i) (B .falls) (R .number ∙ ap (λ (l : List Entity). length l) (sym (holders-same sets h g s live)))
-      (λ j u. R .places j (in-same h g s j u))
-      (λ j k u v. R .aligned j k (in-same h g s j u) (in-same h g s k v))
-      (λ j u x. exact j (in-same h g s j u) x (B .exact j (in-same h g s j u) x))
-      (λ j u x. R .once j (in-same h g s j u) x)
+      showing h (b₀ ∷ bs) d c k (same-from h g s k i) (B .falls) (R .number ∙ ap (λ (l : List Entity). length l) (sym (holders-same sets h g s live)))
+      (λ j u. R .places j (same-to h g s j u))
+      (λ j k u v. R .aligned j k (same-to h g s j u) (same-to h g s k v))
+      (λ j u x. exact j (same-to h g s j u) x (B .exact j (same-to h g s j u) x))
+      (λ j u x. R .once j (same-to h g s j u) x)
     where
       exact : (j : ℕ) → In g j → (x : Entity) → cnt x (drop d (take c (key sets j))) + cnt x (holders (g ++ more) sets live) ≡ cnt x (holders g sets live) → cnt x (drop d (take c (key sets j))) ≡ cnt x (lacking (b₀ ∷ bs) sets (holders h sets live))
       exact j u x e =
@@ -147,29 +128,21 @@ module _ (sets : List SparseSet) (live : List Entity) (h : List ℕ) where
   -- a hand of one kind, no bar: the whole sparse set
   one-shown : (k : ℕ) → ((x : Entity) (j : ℕ) → cnt x (key sets j) ≤ 1) → ((x : Entity) → cnt x live ≤ 1) → ((x : Entity) (j : ℕ) → 1 ≤ cnt x (key sets j) → 1 ≤ cnt x live) → Showing sets live (k ∷ []) [] 0 (length (setOf sets k))
   one-shown k once lonce alive =
-      let whole : (j : ℕ) → In (k ∷ []) j → take (length (setOf sets k)) (key sets j) ≡ key sets k = λ j i. rw (only j i) (take-all (length (setOf sets k)) (key sets k) (omega (arith, length-map (setOf sets k) entityOf))) in
+      let whole : (j : ℕ) → In (k ∷ []) j → take (length (setOf sets k)) (key sets j) ≡ key sets k = λ j i. rw (in-one j k i) (take-all (length (setOf sets k)) (key sets k) (omega (arith, length-map (setOf sets k) entityOf))) in
       let ex : (x : Entity) → cnt x (key sets k) ≡ cnt x (holders (k ∷ []) sets live) = exact in
       showing sets live (k ∷ []) [] 0 (length (setOf sets k)) k (rw (eq-eqb k k refl)) (omega arith)
       (sym (length-map (setOf sets k) entityOf) ∙ count-length sameEntity entity-eq entity-same (key sets k) (holders (k ∷ []) sets live) exact)
-      (λ j i. rw (only j i) (omega (arith, length-map (setOf sets k) entityOf)))
+      (λ j i. rw (in-one j k i) (omega (arith, length-map (setOf sets k) entityOf)))
       (λ i j u v. whole i u ∙ sym (whole j v))
       (λ j i x. ap (cnt x) (whole j i) ∙ exact x)
       (λ j i x. omega (arith, ap (cnt x) (whole j i), once x k))
     where
-      only : (j : ℕ) → In (k ∷ []) j → j ≡ k
-      only j i = or-cases (eqb j k) false i (λ t. eqb-true j k t) (λ t. absurd (false≢true t))
-
       exact : (x : Entity) → cnt x (key sets k) ≡ cnt x (holders (k ∷ []) sets live)
       exact x =
           let c = holders-count (k ∷ []) sets live x in
           bool-cases (held x (setOf sets k))
           (λ t. omega (arith, held-count x sets k t, once x k, lonce x, alive x k (held-count x sets k t), rw t at c))
           (λ t. omega (arith, lacks-count x sets k t, rw t at c))
-
-length-one : (h : List ℕ) → length h ≡ 1 → h ≡ headKind h ∷ []
-length-one [] e = absurd (omega arith)
-length-one (k ∷ []) e = refl
-length-one (k ∷ j ∷ h) e = absurd (omega arith)
 
 module _ (s : Store) (S : StoreSound s) (h b : List ℕ) where
   abbrev C : List SparseSet
@@ -178,9 +151,6 @@ module _ (s : Store) (S : StoreSound s) (h b : List ℕ) where
   abbrev L : List Entity
   L = s .entities .live
 
-  live-once : (x : Entity) → cnt x L ≤ 1
-  live-once x = omega (arith, cnt-num x L, S .entities .single (x .index))
-
   shown : ShownBy C L h b (rangeFor h b (s .storage))
   unfolding rangeFor
   shown =
@@ -188,7 +158,7 @@ module _ (s : Store) (S : StoreSound s) (h b : List ℕ) where
       (λ t.
       let p : length h ≡ 1 = eqb-true (length h) 1 (and-left (eqb (length h) 1) (eqb (length b) 0) t) in
       let q : length b ≡ 0 = eqb-true (length b) 0 (and-right (eqb (length h) 1) (eqb (length b) 0) t) in
-      rw (length-zero b q) (subst (λ (l : List ℕ). Showing C L l [] 0 (length (setOf C (headKind h)))) (sym (length-one h p)) (one-shown C L h (headKind h) (S .sets .once) live-once (S .sets .alive))))
+      rw (length-zero b q) (subst (λ (l : List ℕ). Showing C L l [] 0 (length (setOf C (headKind h)))) (sym (length-one h p)) (one-shown C L h (headKind h) (S .sets .once) (live-once (s .entities) (S .entities .single)) (S .sets .alive))))
       (λ t. all-shown C L h b (s .storage .layout) (S .layout .families) (S .groups))
 
   -- the range found shows exactly the entities that hand and bar describe
@@ -275,10 +245,12 @@ in-hit h b acc (r ∷ q ∷ rs) (suc j) d up lt s = rw no-match (in-hit h b (acc
     k∈q = head-in (q .newKinds) (up .1 .0)
 
     k∈h : In h k
-    k∈h = same-in h ((acc ++ r .newKinds) ++ kindsOf (take (suc j) (q ∷ rs))) s′ k (in-right (acc ++ r .newKinds) (kindsOf (take (suc j) (q ∷ rs))) k (in-left (q .newKinds) (kindsOf (take j rs)) k k∈q))
+    k∈h = same-from h ((acc ++ r .newKinds) ++ kindsOf (take (suc j) (q ∷ rs))) s′ k (in-right (acc ++ r .newKinds) (kindsOf (take (suc j) (q ∷ rs))) k (in-left (q .newKinds) (kindsOf (take j rs)) k k∈q))
 
     no-match : sameSet h (acc ++ r .newKinds) ≡ false
-    no-match = not-true (sameSet h (acc ++ r .newKinds)) (λ t. true≢false (sym (in-left (q .newKinds) (kindsOf rs) k k∈q) ∙ distinct-apart (acc ++ r .newKinds) (kindsOf (q ∷ rs)) (rw append-assoc d) k (in-same h (acc ++ r .newKinds) t k k∈h)))
+    no-match =
+        differ-left h (acc ++ r .newKinds) k k∈h
+        (not-both (acc ++ r .newKinds) (kindsOf (q ∷ rs)) k (distinct-apart (acc ++ r .newKinds) (kindsOf (q ∷ rs)) (rw append-assoc d) k) (in-left (q .newKinds) (kindsOf rs) k k∈q))
 
 at-hit : (b : List ℕ) (c : ℕ) (f : Family) (j : ℕ) → (length b ≡ 0) ⊎ EqualNewKinds b f j → Found (rangeAt b c (drop (suc j) f))
 at-hit [] c f j x = tt

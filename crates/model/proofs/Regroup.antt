@@ -3,30 +3,20 @@ use mathlib.Core.Path.{_≡_, refl, ap, ap₂, sym, _∙_}
 use mathlib.Core.Logic.{_⊎_, inl, inr, ⊎-elim}
 use mathlib.Core.Bool.{false, false≢true}
 use mathlib.Core.List.{List, [], _∷_, _++_, map}
-use Prim.Native.Nat.{ℕ, zero, suc, _≤_}
+use Prim.Native.Nat.{ℕ, _≤_}
 use native.Mathlib.Omega.{arith}
-use lib.ListN.{length, length-map}
+use lib.ListN.{length, length-map, List·getD-map}
 use Rattle.model.specs.Model.{Entity, SparseSet, Family, Storage, Walked, sameEntity, mem, headKind, kindsOf, groupFamily, groupAll, regroup, setLayout, clearAll, zeroCount}
 use Rattle.model.proofs.SparseSets.{key}
 use Rattle.model.proofs.Groups.{cnt, In, SameEntities}
 use Rattle.model.proofs.Walk.{Below, Chain, Every, Plus, Up, groupFamily-good, chain-weaken}
-use Rattle.model.proofs.KindLists.{in-left, in-right, mem-append, not-both}
+use Rattle.model.proofs.KindLists.{in-right, mem-append, not-both}
 use Rattle.model.proofs.BoolLaws.{bool-cases, or-false, or-false-right}
-use Rattle.model.proofs.Families.{Fams, Apart, allKinds, famKinds, chain-other}
+use Rattle.model.proofs.Families.{Fams, Apart, allKinds, famKinds, chain-other, fams-other}
+pub use Rattle.model.proofs.Families.{FamsFor}
 use Rattle.model.proofs.Invariant.{Fit, length-groupFamily}
 
 -- ---- families that are right for the entities of W
-
-abbrev pub FamsFor : (ℕ → List Entity) → (Entity → Type 0) → List Family → Type 0
-FamsFor key W [] = Unit {0}
-FamsFor key W (f ∷ fs) = Chain key W [] f × FamsFor key W fs
-
-fams-other : (key new : ℕ → List Entity) (W : Entity → Type 0) (fs : List Family) → ((k : ℕ) → In (allKinds (famKinds fs)) k → new k ≡ key k) → FamsFor key W fs → FamsFor new W fs
-fams-other key new W [] s fm = tt
-fams-other key new W (f ∷ fs) s fm = (
-  chain-other key new W [] f (λ k i. s k (in-left (kindsOf f) (allKinds (famKinds fs)) k i)) (fm .0),
-  fams-other key new W fs (λ k i. s k (in-right (kindsOf f) (allKinds (famKinds fs)) k i)) (fm .1),
-)
 
 fams-weaken : (key : ℕ → List Entity) (Z W : Entity → Type 0) → ((x : Entity) → Z x → W x) → (fs : List Family) → FamsFor key W fs → FamsFor key Z fs
 fams-weaken key Z W f [] fm = tt
@@ -155,11 +145,6 @@ setLayout-entities live draft p fr a x k = rw (setLayout-is live draft p fr) (re
 
 -- ---- a wiped store
 
-key-wiped : (sets : List SparseSet) (k : ℕ) → key (map (λ (c : SparseSet). []) sets) k ≡ []
-key-wiped [] k = refl
-key-wiped (c ∷ cs) zero = refl
-key-wiped (c ∷ cs) (suc k) = key-wiped cs k
-
 pub zero-kinds : (f : Family) → kindsOf (map zeroCount f) ≡ kindsOf f
 zero-kinds [] = refl
 zero-kinds (r ∷ rs) = ap (λ (l : List ℕ). r .newKinds ++ l) (zero-kinds rs)
@@ -178,12 +163,12 @@ zero-fresh-all key (f ∷ fs) fm = (zero-fresh key Every [] f (fm .0), zero-fres
 
 pub clearAll-entities : (p : Storage) (x : Entity) (k : ℕ) → cnt x (key ((clearAll p) .sets) k) ≡ 0
 unfolding clearAll
-clearAll-entities p x k = rw (key-wiped (p .sets) k)
+clearAll-entities p x k = rw (List·getD-map {B = SparseSet} (λ c. []) (p .sets) k [])
 
 pub clearAll-fit : (p : Storage) → Fit p → Fit (clearAll p)
 unfolding clearAll
 clearAll-fit p f =
-    let no : (x : Entity) (k : ℕ) → cnt x (key (map (λ (c : SparseSet). []) (p .sets)) k) ≡ 0 = λ x k. rw (key-wiped (p .sets) k) in
+    let no : (x : Entity) (k : ℕ) → cnt x (key (map (λ (c : SparseSet). []) (p .sets)) k) ≡ 0 = λ x k. rw (List·getD-map {B = SparseSet} (λ c. []) (p .sets) k []) in
     record {
       once = λ x k. omega (arith, no x k);
       fams = fams-all (key (map (λ (c : SparseSet). []) (p .sets))) None (λ x k h. omega (arith, no x k)) (map (map zeroCount) (p .layout)) (fams-fresh (key (map (λ (c : SparseSet). []) (p .sets))) (map (map zeroCount) (p .layout)) (zero-fresh-all (key (p .sets)) (p .layout) (f .fams)));

@@ -1,25 +1,23 @@
 -- Removal keeps the invariant: the entity leaves its groups, and then its rows go. Assumes nothing.
 use mathlib.Core.Path.{_≡_, refl, ap, ap₂, sym, _∙_, subst}
 use mathlib.Core.Logic.{_⊎_, inl, inr, ⊎-elim}
-use mathlib.Core.Bool.{Bool, true, false, cond, true≢false, false≢true, or-true}
+use mathlib.Core.Bool.{Bool, true, false, cond, true≢false}
 use mathlib.Core.List.{List, [], _∷_, _++_, append-assoc}
 use Prim.Native.Nat.{ℕ, _+_, _-_, _≤_, _<_}
 use native.Mathlib.Omega.{arith}
 use native.Mathlib.Nat.{zero-add}
-use borrow.Author.Tests.{eq-eqb}
-use lib.Dec.{eqb}
 use lib.ListN.{length, take, getD, set, length-set}
 use lib.Seq.{length-take-le, take-take, take-set-le}
 use Rattle.model.specs.Lists.{one, cutAt}
-use Rattle.model.proofs.ListLaws.{count-cutAt, map-cutAt, count-place, place-le, getD-place}
-use Rattle.model.specs.Model.{Entity, SparseSet, Group, Family, Storage, Walked, GroupStep, sameEntity, noEntity, noRow, mem, anyOf, meets, setOf, keys, entityOf, at, held, kindsOf, onKinds, swapTo, removeRow, isGrouped, ungroupComponents, ungroupFamily, ungroup, remove}
+use Rattle.model.proofs.ListLaws.{count-cut, map-cutAt, count-place, place-le}
+use Rattle.model.specs.Model.{Entity, SparseSet, Group, Family, Storage, Walked, GroupStep, sameEntity, noEntity, noRow, mem, meets, setOf, keys, entityOf, at, held, kindsOf, onKinds, swapTo, removeRow, isGrouped, ungroupComponents, ungroupFamily, ungroup, remove}
 use Rattle.model.proofs.SparseSets.{entity-eq, entity-same, key, setOf-mapOn}
-use Rattle.model.proofs.BoolLaws.{cond-case, or-cases, or-false, or-false-right, bool-cases}
+use Rattle.model.proofs.BoolLaws.{cond-case, or-false, or-false-right, bool-cases}
 use Rattle.model.proofs.Groups.{cnt, plc, In, Full, SameEntities}
 use Rattle.model.proofs.Walk.{Chain, Every, But, GroupRight, full-lacks, either, held-count, lacks-count}
-use Rattle.model.proofs.KindLists.{in-left, in-right, mem-append, not-both, any-in}
+use Rattle.model.proofs.KindLists.{in-left, mem-append, not-both, any-in, any-at}
 use Rattle.model.proofs.WalkDown.{Left, LeftChain, Down, ungroupFamily-good, out-place}
-use Rattle.model.proofs.Families.{Fams, Apart, allKinds, famKinds, chain-other}
+use Rattle.model.proofs.Families.{Fams, Apart, allKinds, famKinds, fams-other}
 use Rattle.model.proofs.Invariant.{Fit, length-mapOn}
 
 -- ---- a row goes, and the last takes its place
@@ -35,7 +33,7 @@ module _ (e : Entity) (l : List Entity) (has : 1 ≤ cnt e l) where
   at-place = count-place sameEntity e l has
 
   cut-count : (x : Entity) → cnt x (cut e l) + one (sameEntity x e) ≡ cnt x l
-  cut-count x = rw (getD-place sameEntity entity-eq e noEntity l at-place) at (count-cutAt sameEntity noEntity (plc e l) l at-place x)
+  cut-count x = count-cut sameEntity entity-eq noEntity e l has x
 
   cut-first : (h : ℕ) → h ≤ plc e l → take h (cut e l) ≡ take h l
   cut-first h le =
@@ -101,30 +99,18 @@ removed e gone sets = del-of e gone (key sets) new (λ k. bool-cases (mem k gone
 
 -- ---- the groups after it
 
-record Common (p : ℕ → Bool) (ks : List ℕ) : Type 0 where
-  pub kind : ℕ
-  pub isIn : In ks kind
-  pub holds : p kind ≡ true
-
-common : (p : ℕ → Bool) (ks : List ℕ) → anyOf p ks ≡ true → Common p ks
-common p [] t = absurd (false≢true t)
-common p (j ∷ ks) t =
-    or-cases (p j) (anyOf p ks) t
-    (λ u. record { kind = j; isIn = rw (eq-eqb j j refl); holds = u })
-    (λ u. let c = common p ks u in record { kind = c .kind; isIn = rw (c .isIn) (or-true (eqb (c .kind) j)); holds = c .holds })
-
 group-del : (e : Entity) (gone : List ℕ) (key new : ℕ → List Entity) → Del e gone key new → ((k : ℕ) → cnt e (key k) ≤ 1) → (g : List ℕ) (r : Group) → Left e gone key g r → GroupRight new Every g r
 group-del e gone key new d once g r l = bool-cases (meets gone g) met unmet
   where
     met : meets gone g ≡ true → GroupRight new Every g r
     met m =
-        let c : Common (λ k. mem k g) gone = common (λ k. mem k g) gone m in
+        let c = any-at (λ k. mem k g) gone m in
         let o : (k : ℕ) → In g k → r .count ≤ plc e (key k) = λ k i. out-place e gone key k (r .count) (l .even .fit k i) (l .out m k i) in
         let t : (k : ℕ) → In g k → take (r .count) (new k) ≡ take (r .count) (key k) = λ k i. d .firsts (r .count) k (o k i) in
         record {
           head = l .head;
           even = record { fit = λ k i. d .fits (r .count) k (o k i); align = λ j k i i′. t j i ∙ l .even .align j k i i′ ∙ sym (t k i′) };
-          full = λ x w. full-lacks new (But e) e (c .kind) (d .lost (c .kind) (c .isIn) (once (c .kind))) g (r .count) (c .holds) (λ y ne all k i. rw (t k i) (l .others y ne (λ k′ i′. rw (d .counts y ne k′) at (all k′ i′)) k i)) x (either e x);
+          full = λ x w. full-lacks new (But e) e (c .0) (d .lost (c .0) (c .1) (once (c .0))) g (r .count) (c .2) (λ y ne all k i. rw (t k i) (l .others y ne (λ k′ i′. rw (d .counts y ne k′) at (all k′ i′)) k i)) x (either e x);
         }
 
     unmet : meets gone g ≡ false → GroupRight new Every g r
@@ -171,13 +157,6 @@ module _ (e : Entity) (gone : List ℕ) where
     pub other : (k : ℕ) → mem k (allKinds (famKinds fs)) ≡ false → key (p .sets) k ≡ key sets k
     pub kinds : famKinds (p .layout) ≡ famKinds fs
 
-  fams-other : (key new : ℕ → List Entity) (fs : List Family) → ((k : ℕ) → In (allKinds (famKinds fs)) k → new k ≡ key k) → Fams key fs → Fams new fs
-  fams-other key new [] s fm = tt
-  fams-other key new (f ∷ fs) s fm = (
-    chain-other key new Every [] f (λ k i. s k (in-left (kindsOf f) (allKinds (famKinds fs)) k i)) (fm .0),
-    fams-other key new fs (λ k i. s k (in-right (kindsOf f) (allKinds (famKinds fs)) k i)) (fm .1),
-  )
-
   ungroupFamily-all-good : (sets : List SparseSet) (fs : List Family) → ((k : ℕ) → cnt e (key sets k) ≤ 1) → Apart (famKinds fs) → Fams (key sets) fs → DownAll sets fs (ungroup e gone sets fs)
   unfolding ungroup
   ungroupFamily-all-good sets [] once a fm = record { same = record { entities = λ x k. refl; lengths = λ k. refl }; fams = tt; other = λ k n. refl; kinds = refl }
@@ -185,7 +164,7 @@ module _ (e : Entity) (gone : List ℕ) where
       let w : Walked = ungroupFamily e gone [] sets f in
       let K : List ℕ = allKinds (famKinds fs) in
       let D : Down e gone [] sets f (ungroupFamily e gone [] sets f) = ungroupFamily-good e gone [] sets f once (fm .0) in
-      let R : DownAll (w .sets) fs (ungroup e gone (w .sets) fs) = ungroupFamily-all-good ((ungroupFamily e gone [] sets f) .sets) fs (λ k. rw (D .same .entities e k) (once k)) (a .1) (fams-other (key sets) (key (w .sets)) fs (λ k i. D .other k (not-both (kindsOf f) K k (a .0 k) i)) (fm .1)) in
+      let R : DownAll (w .sets) fs (ungroup e gone (w .sets) fs) = ungroupFamily-all-good ((ungroupFamily e gone [] sets f) .sets) fs (λ k. rw (D .same .entities e k) (once k)) (a .1) (fams-other (key sets) (key (w .sets)) Every fs (λ k i. D .other k (not-both (kindsOf f) K k (a .0 k) i)) (fm .1)) in
       record {
         same = record { entities = λ x k. R .same .entities x k ∙ D .same .entities x k; lengths = λ k. R .same .lengths k ∙ D .same .lengths k };
         fams = (left-other e gone (key (w .sets)) (key ((ungroup e gone (w .sets) fs) .sets)) [] (w .groups) (λ k i. R .other k (a .0 k (rw (D .kinds) at i))) (D .chain), R .fams);
@@ -243,11 +222,3 @@ module _ (e : Entity) (gone : List ℕ) where
     pub remove-lost : (k : ℕ) → In gone k → cnt e (key ((remove e gone p) .sets) k) ≡ 0
     unfolding remove
     remove-lost k i = removed e gone ((ungroup e gone (p .sets) (p .layout)) .sets) .lost k i (rw (walked .same .entities e k) (f .once e k))
-
-    pub remove-others : (x : Entity) → But e x → (k : ℕ) → cnt x (key ((remove e gone p) .sets) k) ≡ cnt x (key (p .sets) k)
-    unfolding remove
-    remove-others x ne k = removed e gone ((ungroup e gone (p .sets) (p .layout)) .sets) .counts x ne k ∙ walked .same .entities x k
-
-    pub remove-kinds : (x : Entity) (k : ℕ) → mem k gone ≡ false → cnt x (key ((remove e gone p) .sets) k) ≡ cnt x (key (p .sets) k)
-    unfolding remove
-    remove-kinds x k n = ap (cnt x) (removed e gone ((ungroup e gone (p .sets) (p .layout)) .sets) .other k n) ∙ walked .same .entities x k

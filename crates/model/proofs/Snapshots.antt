@@ -18,8 +18,8 @@ use Rattle.model.specs.Snapshot.{addComponent, componentsOf, liveVersion
 use Rattle.model.specs.Sound.{Limits, StoreSound}
 use Rattle.model.proofs.SparseSets.{entity-same}
 use Rattle.model.proofs.Groups.{cnt}
-use Rattle.model.proofs.BoolLaws.{bool-cases}
-use Rattle.model.proofs.Numbers.{EntitiesOk, num, live-few, zero-of}
+use Rattle.model.proofs.BoolLaws.{zero-of, bool-cases}
+use Rattle.model.proofs.Numbers.{EntitiesOk, num, live-few}
 use Rattle.model.proofs.Values.{ColsOk}
 use Rattle.model.proofs.Operations.{EightRow, no-row, sound-held}
 use Rattle.model.proofs.Sound.{Bytes, run-sound}

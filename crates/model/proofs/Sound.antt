@@ -1,11 +1,11 @@
 -- Every command keeps a sound store sound, so every run does, and so does every step of it. Assumes nothing.
-use mathlib.Core.Path.{_≡_}
+use mathlib.Core.Path.{_≡_, refl}
 use mathlib.Core.Bool.{true, false, not, _||_}
 use mathlib.Core.Option.{Option, some, none}
 use mathlib.Core.List.{List, [], _∷_}
 use Prim.Native.Nat.{ℕ, zero, suc, _-_, _^_, _≤_, _<_}
 use native.Mathlib.Omega.{arith}
-use native.Mathlib.Nat.{pow-suc}
+use native.Mathlib.Nat.{pow-suc, one-le-pow}
 use borrow.Author.Tests.{ltb-false, leb-false, not-false}
 use lib.Dec.{ltb, leb, lit<}
 use lib.ListN.{length, take, drop, getD, length-take, length-drop}
@@ -20,6 +20,7 @@ use Rattle.model.specs.History.{trailFor, trail}
 pub use Rattle.model.specs.History.{EachStore}
 use Rattle.model.specs.Sound.{Limits, StoreSound}
 use Rattle.model.proofs.BoolLaws.{cond-case, or-false-right, not-and, not-not}
+use Rattle.model.proofs.KindLists.{all-most}
 use Rattle.model.proofs.Draft.{withGroup-sound}
 use Rattle.model.proofs.Operations.{control-of, control-sound, register-sound, create-sound, create-is-live, insert-sound, remove-sound, kill-sound, clearAll-sound, setLayout-sound, stage-sound, exclude-sound, draft-sound, emptyStaged-sound, emptyBoth-sound, counted-sound, no-draft, empty-sound}
 use Rattle.model.proofs.Lines.{none-to, outcome-case}
@@ -88,13 +89,9 @@ bytes-drop zero l h = h
 bytes-drop (suc n) [] h = tt
 bytes-drop (suc n) (x ∷ l) h = bytes-drop n l (h .1)
 
-pow256 : (n : ℕ) → 0 < 256 ^ n
-pow256 zero = lit< tt
-pow256 (suc n) = rw (pow-suc 256 n) (omega (arith, pow256 n))
-
 pub number-lt : (n : ℕ) (bs : List ℕ) → Bytes bs → length bs ≤ n → number bs < 256 ^ n
 number-lt zero [] h le = lit< tt
-number-lt (suc n) [] h le = pow256 (suc n)
+number-lt (suc n) [] h le = one-le-pow (suc n) 256 (lit< tt)
 number-lt zero (b ∷ bs) h le = absurd (omega arith)
 number-lt (suc n) (b ∷ bs) h le = let r = number-lt n bs (h .1) (omega arith) in rw (pow-suc 256 n) (omega (arith, h .0))
 
@@ -115,19 +112,7 @@ command-fits b ops h le =
     b
 
 pub width-le : (b : ℕ) → width b ≤ 9
-width-le b = go widths tt′ b
-  where
-    Small : List ℕ → Type 0
-    Small [] = Unit {0}
-    Small (w ∷ ws) = (w ≤ 9) × Small ws
-
-    go : (l : List ℕ) → Small l → (j : ℕ) → getD l j 0 ≤ 9
-    go [] h j = omega arith
-    go (w ∷ ws) h zero = h .0
-    go (w ∷ ws) h (suc j) = go ws (h .1) j
-
-    tt′ : Small widths
-    tt′ = omega arith
+width-le b = all-most 9 widths refl b
 
 pub tape-fits : (b : ℕ) (t : List ℕ) → Bytes t → Fits (commandAt b (take (width b) t))
 tape-fits b t h = command-fits b (take (width b) t) (bytes-take (width b) t h) (rw (length-take (width b) t) (omega (arith, width-le b)))

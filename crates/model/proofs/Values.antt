@@ -2,38 +2,16 @@
 -- staged components. Assumes nothing.
 use mathlib.Core.Path.{_≡_, refl}
 use mathlib.Core.List.{List, [], _∷_, _++_, map}
-use Prim.Native.Nat.{ℕ, zero, suc, _-_, _<_}
+use Prim.Native.Nat.{ℕ, _-_, _<_}
 use native.Mathlib.Omega.{arith}
 use native.Mathlib.Nat.{zero-add}
 use native.Mathlib.Decide.{ℕ-discrete, decLt}
-use lib.ListN.{length, take, getD, set}
+use lib.ListN.{length, getD, set, List·getD-map}
 use lib.Seq.{getD-set-same, getD-set-other, set-out}
 use Rattle.model.specs.Model.{Entity, Row, SparseSet, Group, Family, Component, Storage, Walked, GroupStep, noRow, mem, meets, setOf, at, held, allHeld, isGrouped, swapTo, insertRow, removeRow, onKinds, insertAll, kindOf, kindsOf, groupComponents, ungroupComponents, groupFamily, ungroupFamily, groupTouched, ungroup, groupAll, regroup, setLayout, insertComponents, remove, clearAll}
+use Rattle.model.proofs.ListLaws.{AllOf, all-set, all-take, all-snoc}
 use Rattle.model.proofs.SparseSets.{setOf-mapOn}
 use Rattle.model.proofs.BoolLaws.{cond-case}
-
-module _ {A : Type 0} (P : A → Type 0) (d : A) (pd : P d) where
-  abbrev pub AllOf : List A → Type 0
-  AllOf l = (j : ℕ) → P (getD l j d)
-
-  pub all-set : (l : List A) (i : ℕ) (a : A) → P a → AllOf l → AllOf (set l i a)
-  all-set [] i a pa h j = h j
-  all-set (x ∷ l) zero a pa h zero = pa
-  all-set (x ∷ l) zero a pa h (suc j) = h (suc j)
-  all-set (x ∷ l) (suc i) a pa h zero = h zero
-  all-set (x ∷ l) (suc i) a pa h (suc j) = all-set l i a pa (λ m. h (suc m)) j
-
-  pub all-take : (n : ℕ) (l : List A) → AllOf l → AllOf (take n l)
-  all-take zero l h j = pd
-  all-take (suc n) [] h j = pd
-  all-take (suc n) (x ∷ l) h zero = h zero
-  all-take (suc n) (x ∷ l) h (suc j) = all-take n l (λ m. h (suc m)) j
-
-  pub all-snoc : (l : List A) (a : A) → P a → AllOf l → AllOf (l ++ (a ∷ []))
-  all-snoc [] a pa h zero = pa
-  all-snoc [] a pa h (suc j) = pd
-  all-snoc (x ∷ l) a pa h zero = h zero
-  all-snoc (x ∷ l) a pa h (suc j) = all-snoc l a pa (λ m. h (suc m)) j
 
 -- Q k holds of each row of kind k's sparse set
 module _ (Q : ℕ → Row → Type 0) (Q0 : (k : ℕ) → Q k noRow) where
@@ -132,11 +110,6 @@ module _ (Q : ℕ → Row → Type 0) (Q0 : (k : ℕ) → Q k noRow) where
   unfolding setLayout
   setLayout-ok live draft p h = regroup-ok live (record { sets = p .sets; layout = _ }) h
 
-  setOf-wiped : (sets : List SparseSet) (k : ℕ) → setOf (map (λ (c : SparseSet). []) sets) k ≡ []
-  setOf-wiped [] k = refl
-  setOf-wiped (c ∷ cs) zero = refl
-  setOf-wiped (c ∷ cs) (suc k) = setOf-wiped cs k
-
   pub clearAll-ok : (p : Storage) → ColsOk ((clearAll p) .sets)
   unfolding clearAll
-  clearAll-ok p k = rw (setOf-wiped (p .sets) k) (λ j. Q0 k)
+  clearAll-ok p k = rw (List·getD-map {B = SparseSet} (λ c. []) (p .sets) k []) (λ j. Q0 k)

@@ -1,19 +1,19 @@
 -- The upward walk over a family: every group is right after it, if all but one entity were right before. Assumes nothing.
 use mathlib.Core.Path.{_≡_, refl, ap, ap₂, sym, _∙_, subst}
 use mathlib.Core.Logic.{_⊎_, inl, inr, ⊎-elim}
-use mathlib.Core.Bool.{Bool, true, false, _&&_, true≢false, or-true}
+use mathlib.Core.Bool.{true, false}
 use mathlib.Core.List.{List, [], _∷_, _++_, append-assoc}
 use Prim.Native.Nat.{ℕ, suc, _≤_, _<_}
 use native.Mathlib.Omega.{arith}
-use borrow.Author.Tests.{ltb-true, ltb-false, eq-eqb, lt-ltb}
-use lib.Dec.{eqb}
+use borrow.Author.Tests.{ltb-true, ltb-false, lt-ltb}
 use lib.ListN.{length, take, length-map}
 use Rattle.model.proofs.ListLaws.{place-count, place-count-take, count-take-place, count-place}
-use Rattle.model.specs.Model.{Entity, SparseSet, Group, Family, Walked, GroupStep, sameEntity, mem, allOf, setOf, entityOf, at, held, headKind, isGrouped, allHeld, swapTo, onKinds, groupComponents, groupFamily, kindsOf}
+use Rattle.model.specs.Model.{Entity, SparseSet, Group, Family, Walked, GroupStep, sameEntity, mem, setOf, entityOf, at, held, headKind, isGrouped, allHeld, swapTo, onKinds, groupComponents, groupFamily, kindsOf}
 use Rattle.model.proofs.SparseSets.{entity-eq, key, key-swapped, key-kept}
 use Rattle.model.proofs.BoolLaws.{cond-case, or-false, bool-cases}
 use Rattle.model.proofs.Groups.{cnt, plc, In, Even, Full, Inside, Swapped, SameEntities, even-kept, full-kept, same-entities, low, inner-even, inner-full, inner-isGrouped, grown-even, grown-full, grown-isGrouped}
 use Rattle.model.proofs.KindLists.{mem-append, in-left, in-right, in-cases, all-in}
+pub use Rattle.model.proofs.KindLists.{Missing, all-missing}
 
 -- ---- a family whose groups are right for each entity of W
 
@@ -95,19 +95,6 @@ pub record Entered (W : Entity → Type 0) (e : Entity) (acc g : List ℕ) (r : 
   pub smaller : (ks : List ℕ) (h : ℕ) → ((k : ℕ) → In ks k → In g k) → Even (key sets) ks h → Inside (key sets) ks h e → Kept (key sets) (key (s .sets)) ks h e
   pub other : (k : ℕ) → mem k g ≡ false → key (s .sets) k ≡ key sets k
   pub first : (m k : ℕ) → In g k → plc e (key sets k) < m → r .count ≤ m → s .group .count ≤ m
-
-pub record Missing (p : ℕ → Bool) (ks : List ℕ) : Type 0 where
-  pub kind : ℕ
-  pub isIn : In ks kind
-  pub fails : p kind ≡ false
-
-pub all-missing : (p : ℕ → Bool) (ks : List ℕ) → allOf p ks ≡ false → Missing p ks
-all-missing p [] t = absurd (true≢false t)
-all-missing p (j ∷ ks) t = go (p j) refl t (all-missing p ks)
-  where
-    go : (b : Bool) → p j ≡ b → (b && allOf p ks) ≡ false → (allOf p ks ≡ false → Missing p ks) → Missing p (j ∷ ks)
-    go true e u r = let m = r u in record { kind = m .kind; isIn = rw (m .isIn) (or-true (eqb (m .kind) j)); fails = m .fails }
-    go false e u r = record { kind = j; isIn = rw (eq-eqb j j refl); fails = e }
 
 pub held-count : (e : Entity) (sets : List SparseSet) (k : ℕ) → held e (setOf sets k) ≡ true → 1 ≤ cnt e (key sets k)
 held-count e sets k t = place-count sameEntity e (key sets k) (rw (length-map (setOf sets k) entityOf) (ltb-true _ _ t))

@@ -12,7 +12,7 @@ use Rattle.model.proofs.SparseSets.{key, key-swapped, key-kept}
 use Rattle.model.proofs.BoolLaws.{cond-case, or-false}
 use Rattle.model.proofs.Groups.{cnt, plc, In, Even, Full, Inside, Swapped, SameEntities, even-kept, full-kept, same-entities, low, inner-even, inner-count, shrunk-even, shrunk-full, shrunk-out}
 use Rattle.model.proofs.Walk.{Below, Chain, Every, But, below-le}
-use Rattle.model.proofs.KindLists.{in-left, in-right, mem-append, any-more}
+use Rattle.model.proofs.KindLists.{in-left, in-right, mem-append, meets-left}
 
 -- what a walk leaves of a smaller group
 pub record Held (key new : ℕ → List Entity) (ks : List ℕ) (h : ℕ) : Type 0 where
@@ -32,9 +32,6 @@ module _ (e : Entity) (gone : List ℕ) where
   LeftChain key acc [] = Unit {0}
   LeftChain key acc (r ∷ rs) = Left key (acc ++ r .newKinds) r × Below (r .count) rs × LeftChain key (acc ++ r .newKinds) rs
 
-  meets-more : (a b : List ℕ) → meets gone a ≡ true → meets gone (a ++ b) ≡ true
-  meets-more a b h = any-more (λ k. mem k a) (λ k. mem k (a ++ b)) (λ k i. in-left a b k i) gone h
-
   pub out-place : (key : ℕ → List Entity) (k h : ℕ) → h ≤ length (key k) → cnt e (take h (key k)) ≡ 0 → h ≤ plc e (key k)
   out-place key k h fit z =
       let no : ¬ (plc e (key k) < h) = λ q. omega (arith, place-count-take sameEntity e h (key k) q fit) in
@@ -44,7 +41,7 @@ module _ (e : Entity) (gone : List ℕ) where
   left-low : {key new : ℕ → List Entity} (g : List ℕ) (q hd : ℕ) → SameEntities key new → ((h : ℕ) → h ≤ q → ((k : ℕ) → In g k → h ≤ plc e (key k)) → (k : ℕ) → take h (new k) ≡ take h (key k)) → plc e (key hd) ≤ q → In g hd → (acc : List ℕ) (rs : Family) → ((k : ℕ) → In g k → In acc k) → meets gone acc ≡ true → LeftChain key acc rs → LeftChain new acc rs
   left-low g q hd s t p i acc [] sub m ch = tt
   left-low {key} {new} g q hd s t p i acc (r ∷ rs) sub m ch =
-      let mg : meets gone (acc ++ r .newKinds) ≡ true = meets-more acc (r .newKinds) m in
+      let mg : meets gone (acc ++ r .newKinds) ≡ true = meets-left gone acc (r .newKinds) m in
       let sb : (k : ℕ) → In g k → In (acc ++ r .newKinds) k = λ k j. in-left acc (r .newKinds) k (sub k j) in
       let o : (k : ℕ) → In g k → r .count ≤ plc e (key k) = λ k j. out-place key k (r .count) (ch .0 .even .fit k (sb k j)) (ch .0 .out mg k (sb k j)) in
       let tt′ : (k : ℕ) → take (r .count) (new k) ≡ take (r .count) (key k) = t (r .count) (omega (arith, o hd i)) o in (
@@ -64,7 +61,7 @@ module _ (e : Entity) (gone : List ℕ) where
   left-below key g q hd p i [] m ch = tt
   left-below key g q hd p i (r ∷ rs) m ch =
       let j = in-left g (r .newKinds) hd i in
-      omega (arith, out-place key hd (r .count) (ch .0 .even .fit hd j) (ch .0 .out (meets-more g (r .newKinds) m) hd j))
+      omega (arith, out-place key hd (r .count) (ch .0 .even .fit hd j) (ch .0 .out (meets-left gone g (r .newKinds) m) hd j))
 
   -- ---- one group
 

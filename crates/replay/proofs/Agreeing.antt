@@ -1,17 +1,18 @@
 -- Why a part that is said to agree does: from what the store's entries promise and what the comparisons decide. Assumes nothing.
 use mathlib.Core.Path.{_≡_, refl, ap, sym, subst, _∙_}
 use mathlib.Core.Bool.{Bool, true, false, false≢true, _&&_}
-use mathlib.Core.List.{List, _++_, append-assoc}
+use mathlib.Core.List.{List, _++_}
 use Prim.Native.Nat.{ℕ, _+_, _-_, _*_, _≤_}
 use native.Mathlib.Omega.{arith}
 use lib.Dec.{eqb}
 use mir.Val.{boolByte}
 use borrow.Author.Tests.{eqb-true}
 use lib.ListN.{length, getD, take, drop, length-append}
-use lib.Seq.{length-take-le, take-at}
+use lib.Seq.{length-take-le}
 use denote.Ref.{RefT}
 use Rattle.model.specs.Store.{Store, empty}
 use Rattle.model.specs.Entries.{Started, refusesStart, makes, start, roll}
+use Rattle.model.proofs.ListLaws.{front-of}
 use Rattle.model.proofs.Entries.{start-makes}
 use Rattle.model.proofs.BoolLaws.{and-left, and-right}
 use Rattle.model.proofs.Emitting.{emits-few}
@@ -61,10 +62,6 @@ gave-few w w′ t o o₁ p q h =
     let x = ranOf (h .sound) t (length o) (meaning w) in
     omega (arith, h .answered .written, ap length (h .answered .bytes) ∙ length-append (x .bytes) (drop (length (x .bytes)) o), length-append o₁ p)
 
--- the answers stand at the front
-front : (b d o₁ p : List ℕ) (n : ℕ) → o₁ ≡ b ++ d → n ≡ length b → take n (o₁ ++ p) ≡ b
-front b d o₁ p n e h = rw (e, append-assoc) (take-at b (d ++ p) n (sym h))
-
 module _ (f w w′ o o₁ : List ℕ) (at n m : ℕ) (q : Ran) (r : Step) (tape : n ≡ short f at) (room : m ≡ short f (at + 2)) (lent : m ≤ length o) where
   -- the code's run is the model's
   answered : Sound w → Runs w w′ (take (at + 4 + n - (at + 4)) (drop (at + 4) f)) (take m o) o₁ q → Answered (take m o) o₁ q (runAt f at (meaning w))
@@ -94,7 +91,7 @@ module _ (f w w′ o o₁ : List ℕ) (at n m : ℕ) (q : Ran) (r : Step) (tape 
         commands = sym (a .commands) ∙ g .commands;
         read = sym (a .read) ∙ g .read;
         written = sym (a .written) ∙ g .written;
-        bytes = sym (front (x .bytes) _ o₁ (drop m o) (q .written) (a .bytes) (a .written)) ∙ sym (g .bytes) ∙ ap (λ (k : ℕ). take k (drop (e + 7) f)) (g .written);
+        bytes = sym (front-of (x .bytes) _ o₁ (drop m o) (q .written) (a .bytes) (a .written)) ∙ sym (g .bytes) ∙ ap (λ (k : ℕ). take k (drop (e + 7) f)) (g .written);
       }
 
   pub run-agrees : Runs w w′ (take (at + 4 + n - (at + 4)) (drop (at + 4) f)) (take m o) o₁ q → Compared f (at + 4 + n) q (o₁ ++ drop m o) r

@@ -1,14 +1,15 @@
 -- How many bytes a command's accepted answer takes. Assumes nothing.
-use mathlib.Core.Path.{_≡_, sym, _∙_}
+use mathlib.Core.Path.{_≡_, refl, sym, _∙_}
 use mathlib.Core.Logic.{_≢_}
 use mathlib.Core.List.{List, [], _∷_}
-use Prim.Native.Nat.{ℕ, zero, suc, _+_, _*_, _≤_, _<_}
+use Prim.Native.Nat.{ℕ, _+_, _*_, _≤_}
 use native.Mathlib.Omega.{arith}
 use lib.ListN.{length, getD, set, List·getD-map}
 use lib.Seq.{getD-set-other}
 use Rattle.model.specs.Store.{Store}
 use Rattle.model.specs.Commands.{Command, TALLY, commands, commandAt, answerLength}
 use Rattle.model.proofs.ListLaws.{default-any}
+use Rattle.model.proofs.KindLists.{all-most}
 use Rattle.model.specs.Numbers.{TAKE-BYTE, LAST-COMMAND}
 
 -- by command byte; TAKE's is for no staged component
@@ -16,16 +17,7 @@ abbrev pub answers : List ℕ
 answers = 5 ∷ 2 ∷ 1 ∷ 9 ∷ 1 ∷ 1 ∷ 1 ∷ 1 ∷ 1 ∷ 2 ∷ 1 ∷ 1 ∷ 10 ∷ 1 ∷ 5 ∷ []
 
 pub answers-small : (b : ℕ) → getD answers b 0 ≤ 10
-answers-small b = small answers (omega arith) b
-  where
-    Small : List ℕ → Type 0
-    Small [] = Unit {0}
-    Small (w ∷ ws) = (w ≤ 10) × Small ws
-
-    small : (l : List ℕ) → Small l → (j : ℕ) → getD l j 0 ≤ 10
-    small [] h j = omega arith
-    small (w ∷ ws) h zero = h .0
-    small (w ∷ ws) h (suc j) = small ws (h .1) j
+answers-small b = all-most 10 answers refl b
 
 module _ (s : Store) (ops : List ℕ) where
   by-byte : (b : ℕ) → answerLength (commandAt b ops) s ≡ getD (set answers TAKE-BYTE (1 + 9 * length (s .control .staged))) b 5

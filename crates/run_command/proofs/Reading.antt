@@ -1,13 +1,13 @@
 -- Operands off the tape, and commands by their bytes. Assumes nothing.
 use mathlib.Core.Path.{_≡_, ap, ap₂, sym, _∙_, subst}
 use mathlib.Core.List.{List}
-use Prim.Native.Nat.{ℕ, suc, _+_, _≤_, _<_}
+use Prim.Native.Nat.{ℕ, _+_, _≤_, _<_}
 use native.Mathlib.Omega.{arith}
 use native.Mathlib.Nat.{add-zero}
 use lib.ListN.{length, getD, take, drop, length-drop}
 use lib.Seq.{getD-take, getD-drop, length-take-le, take-take}
 use Rattle.model.specs.Model.{Entity}
-use Rattle.model.proofs.BoolLaws.{by-eq}
+use Rattle.model.proofs.BoolLaws.{by-eq, above}
 use Rattle.model.specs.Store.{number}
 use Rattle.model.specs.Commands.{Command, entityOfBytes}
 use Rattle.component.specs.SparseSet.{entity, valueOf}
@@ -64,15 +64,12 @@ module _ (f : Entity → Command) (t : List ℕ) (at : ℕ) where
 
 -- ---- what is left after the other arms
 
-up : {b : ℕ} (k : ℕ) → k ≤ b → (b ≡ k → ⊥) → suc k ≤ b
-up k h n = omega arith
-
 -- none of PUT, TAKE and DROP
 abbrev pub OnEntity : ℕ → Type 0
 OnEntity b = ((Unit {0} × (b ≡ PUT-BYTE → ⊥)) × (b ≡ TAKE-BYTE → ⊥)) × (b ≡ DROP-BYTE → ⊥)
 
 pub is-kill : (b : ℕ) → (PUT-BYTE ≤ b) × (b ≤ KILL-BYTE) → OnEntity b → b ≡ KILL-BYTE
-is-kill b h n = omega (arith, h .1, up DROP-BYTE (up TAKE-BYTE (up PUT-BYTE (h .0) (n .0 .0 .1)) (n .0 .1)) (n .1))
+is-kill b h n = omega (arith, h .1, above DROP-BYTE (above TAKE-BYTE (above PUT-BYTE (h .0) (n .0 .0 .1)) (n .0 .1)) (n .1))
 
 -- each of the four has eight operand bytes
 pub entity-whole : {w t o : List ℕ} {at p : ℕ} (b : ℕ) → (PUT-BYTE ≤ b) × (b ≤ KILL-BYTE) → Given w b t at o p → at + 8 ≤ length t
@@ -90,8 +87,8 @@ NoArm b =
 pub on-entity : (b : ℕ) → REG-BYTE ≤ b → b < WIPE-BYTE → NoArm b → (PUT-BYTE ≤ b) × (b ≤ KILL-BYTE)
 on-entity b h l n =
     let m = n .0 .0 .0 .0 .0 .0 in
-    (up NEW-BYTE (up HOLD-BYTE (up REG-BYTE h (m .0 .0 .1)) (m .0 .1)) (m .1), omega arith)
+    (above NEW-BYTE (above HOLD-BYTE (above REG-BYTE h (m .0 .0 .1)) (m .0 .1)) (m .1), omega arith)
 
 pub is-tally : (b : ℕ) → WIPE-BYTE ≤ b → b ≤ LAST-COMMAND → NoArm b → b ≡ LAST-COMMAND
 is-tally b h l n =
-    omega (arith, up EMPTY-BYTE (up RANGE-BYTE (up BAR-BYTE (up APPLY-BYTE (up GROUP-BYTE (up WIPE-BYTE h (n .0 .0 .0 .0 .0 .1)) (n .0 .0 .0 .0 .1)) (n .0 .0 .0 .1)) (n .0 .0 .1)) (n .0 .1)) (n .1))
+    omega (arith, above EMPTY-BYTE (above RANGE-BYTE (above BAR-BYTE (above APPLY-BYTE (above GROUP-BYTE (above WIPE-BYTE h (n .0 .0 .0 .0 .0 .1)) (n .0 .0 .0 .0 .1)) (n .0 .0 .0 .1)) (n .0 .0 .1)) (n .0 .1)) (n .1))

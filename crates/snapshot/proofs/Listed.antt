@@ -7,12 +7,13 @@ use Prim.Native.Nat.{ℕ, zero, suc, _+_, _-_, _≤_, _<_}
 use native.Mathlib.Omega.{arith}
 use native.Mathlib.Numerals.{add-one, towards-suc}
 use lib.ListN.{length, getD, set, take, drop, drop-of-length-le}
-use lib.Seq.{sets, drop-cons, take-suc-set, append-snoc}
+use lib.Seq.{sets, drop-cons}
 use Rattle.model.specs.Numbers.{MAX-KINDS}
 use Rattle.model.specs.Model.{Entity, SparseSet, Component, noRow, mem, at, held, setOf}
 use Rattle.model.specs.Sound.{In}
 use Rattle.model.specs.Store.{bytesOf}
 use Rattle.model.specs.Snapshot.{valueAt, addComponent, componentsOf, componentBytes}
+use Rattle.model.proofs.ListLaws.{put-next}
 use Rattle.model.proofs.Lengths.{bytesOf-length}
 use Rattle.component.specs.SparseSet.{valueOf}
 use Rattle.snapshot.specs.Rising.{risingFrom, risingKinds}
@@ -35,9 +36,7 @@ module _ (ks : List ℕ) where
 
   pub lists-one : (l : List ℕ) (n k : ℕ) → n < length l → k < MAX-KINDS → mem k ks ≡ true → take n l ++ later k ≡ take (n + 1) (set l n k) ++ later (k + 1)
   lists-one l n k b h t =
-      ap (λ (r : List ℕ). take n l ++ r) (later-turn k h ∙ rw t)
-      ∙ sym (append-snoc (take n l) k (later (k + 1)))
-      ∙ ap (λ (r : List ℕ). r ++ later (k + 1)) (sym (ap (λ (j : ℕ). take j (set l n k)) (add-one n) ∙ take-suc-set l n k b))
+      ap (λ (r : List ℕ). take n l ++ r) (later-turn k h ∙ rw t) ∙ put-next l (later (k + 1)) n k b
 
   pub lists-end : (l : List ℕ) (n k : ℕ) → MAX-KINDS ≤ k → take n l ++ later k ≡ take n l
   lists-end l n k h =

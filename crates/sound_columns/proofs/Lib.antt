@@ -1,3 +1,3 @@
-pub mod ListLaws
+pub mod Marking
 pub mod SlotLaws
 pub mod Checking

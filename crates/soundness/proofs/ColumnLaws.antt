@@ -1,45 +1,29 @@
 -- The rows of a sound column: an entity once, and values of eight bytes. Assumes nothing.
 use mathlib.Core.Path.{_≡_, ap, sym, _∙_}
-use mathlib.Core.Logic.{_≢_}
-use mathlib.Core.List.{List, [], _∷_}
-use Prim.Native.Nat.{ℕ, suc, _+_, _*_, _≤_, _<_}
+use mathlib.Core.List.{List}
+use Prim.Native.Nat.{ℕ, _+_, _*_, _≤_, _<_}
 use native.Mathlib.Decide.{decLe}
 use native.Mathlib.Omega.{arith}
-use lib.ListN.{length, getD, length-map, List·getD-map, List·getD-eq-default}
+use lib.ListN.{getD, length-map, List·getD-map, List·getD-eq-default}
 use Rattle.words.specs.Offsets.{ROWS}
-use Rattle.model.specs.Lists.{one, place}
-use Rattle.model.proofs.ListLaws.{count-place, getD-place}
+use Rattle.model.proofs.ListLaws.{apart-once}
 use Rattle.model.specs.Model.{Entity, sameEntity, noEntity, noRow, entityOf, keys}
 use Rattle.model.specs.Sound.{cnt, Eight}
 use Rattle.model.proofs.SparseSets.{entity-eq}
-use Rattle.model.proofs.BoolLaws.{bool-cases}
 use Rattle.component.specs.SparseSet.{lengthOf, indexAt, lowAt, highAt, valueOf, rows, ColumnSound}
 use Rattle.component.proofs.Meaning.{length-rows, getD-rows, index-rows, rows-apart}
-
--- where no two places have one index, no entity stands twice
-pub apart-once : (x : Entity) (l : List Entity) → ((i j : ℕ) → i < length l → j < length l → i ≢ j → getD l i noEntity .index ≢ getD l j noEntity .index) → cnt x l ≤ 1
-apart-once x [] f = omega arith
-apart-once x (y ∷ l) f =
-    let ih = apart-once x l (λ i j hi hj ne. f (suc i) (suc j) (omega arith) (omega arith) (omega arith)) in
-    bool-cases (sameEntity x y)
-    (λ t.
-    let none : ¬ (1 ≤ cnt x l) = λ h.
-    let p = count-place sameEntity x l h in
-    f 0 (suc (place sameEntity x l)) (omega arith) (omega arith) (omega arith) (ap (λ (e : Entity). e .index) (sym (entity-eq x y t) ∙ sym (getD-place sameEntity entity-eq x noEntity l p))) in
-    omega (arith, ap one t))
-    (λ t. omega (arith, ap one t))
 
 module _ (n : ℕ) (w : List ℕ) where
   pub rows-once : ColumnSound n w → (x : Entity) → cnt x (keys (rows n w)) ≤ 1
   rows-once s x =
-      apart-once x (keys (rows n w))
+      apart-once sameEntity entity-eq x noEntity (keys (rows n w))
       (λ i j hi hj ne e.
       let m = length-map (rows n w) entityOf in
       let bi : i < lengthOf w = omega (arith, length-rows n w) in
       let bj : j < lengthOf w = omega (arith, length-rows n w) in
       let at : (k : ℕ) → k < lengthOf w → getD (keys (rows n w)) k noEntity .index ≡ indexAt w k =
       λ k h. ap (λ (y : Entity). y .index) (List·getD-map entityOf (rows n w) k noRow) ∙ index-rows n w k h in
-      rows-apart n w s i j bi bj ne (sym (at i bi) ∙ e ∙ at j bj))
+      rows-apart n w s i j bi bj ne (sym (at i bi) ∙ ap (λ (y : Entity). y .index) e ∙ at j bj))
 
   pub value-eight : (l h : ℕ) → l < 4294967296 → h < 4294967296 → Eight (valueOf l h)
   value-eight l h a b = omega arith

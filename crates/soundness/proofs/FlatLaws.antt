@@ -1,5 +1,5 @@
 -- The groups' clause by the number of the group: all families are right where each group is. Assumes nothing.
-use mathlib.Core.Path.{_≡_, refl, ap, ap₂, sym, _∙_, subst}
+use mathlib.Core.Path.{_≡_, ap, ap₂, sym, _∙_, subst}
 use mathlib.Core.List.{List, [], _∷_}
 use Prim.Native.Nat.{ℕ, zero, suc, _+_, _-_, _≤_, _<_}
 use native.Mathlib.Nat.{le-of-suc-le-suc, not-suc-le-zero}
@@ -8,6 +8,7 @@ use native.Mathlib.Omega.{arith}
 use lib.ListN.{length, getD}
 use Rattle.model.specs.Model.{SparseSet, Family, headKind, kindsOf}
 use Rattle.model.specs.Sound.{key}
+use Rattle.model.proofs.KindLists.{head-first}
 use Rattle.words.specs.Part.{between}
 use Rattle.words.proofs.Part.{getD-between}
 use Rattle.words.specs.Table.{table}
@@ -61,10 +62,6 @@ module _ (sets : List SparseSet) (h : ℕ) (counts ks : List ℕ) where
   )
 
 -- ---- one family, by the number of the group
-
-head-first : (l : List ℕ) → headKind l ≡ getD l 0 0
-head-first [] = refl
-head-first (k ∷ l) = refl
 
 module _ (sets : List SparseSet) (counts : List ℕ) (a : Arrays) (good : WellFormed a) (sized : Sized a) (f : ℕ) (hf : f < a .families) where
   abbrev start : ℕ

@@ -25,13 +25,13 @@ use Rattle.memory.specs.Header.{capacityOf, registeredOf, slotOf, countAt, layo
 use Rattle.memory.specs.Meaning.{ownAt, localAt, setsIn, layoutArrays}
 use Rattle.memory.specs.Arranged.{Arranged, Registered, GroupSound}
 use Rattle.memory.proofs.Becomes.{set-in}
-use Rattle.memory.proofs.LayoutWords.{kind-word}
+use Rattle.memory.proofs.LayoutWords.{words-sized, kind-word}
 use Rattle.sound_groups.specs.Spans.{firstAt, fromAt, toAt, KindAt, SpanOk, Force, NewOk}
 use Rattle.sound_columns.specs.Rows.{keyAt}
 use Rattle.sound_groups.specs.Counts.{rowsAt, CountOk, GroupCounted}
 use Rattle.soundness.specs.Groups.{GroupOk}
 use Rattle.soundness.specs.ByNumber.{GroupAt}
-use Rattle.soundness.proofs.WordLaws.{new-at, at-new, sized}
+use Rattle.soundness.proofs.WordLaws.{new-at, at-new}
 
 module _ (w : List ℕ) (long : ENTITIES ≤ length w) (good : WellFormed (layoutArrays w)) (known : (i : ℕ) → i < widthOf (layoutArrays w) → Registered w (getD w (LAYOUT + i) 0)) where
   abbrev a : Arrays
@@ -46,7 +46,7 @@ module _ (w : List ℕ) (long : ENTITIES ≤ length w) (good : WellFormed (layou
 
   ends : (f g : ℕ) → InFamily (layoutArrays w) f g → Ends f g
   ends f g G =
-      record { arity = arity-inside a good (sized w long) f g G; width = kinds-inside a good f (G .family); some = good .family f (G .family) .least; wide = good .wide }
+      record { arity = arity-inside a good (words-sized w long) f g G; width = kinds-inside a good f (G .family); some = good .family f (G .family) .least; wide = good .wide }
 
   -- ---- what the checks ask
 
@@ -125,7 +125,7 @@ module _ (w : List ℕ) (long : ENTITIES ≤ length w) (good : WellFormed (layou
       first = getD w (firstAt w f) 0
 
       head-is : memberAt (layoutArrays w) f 0 ≡ first
-      head-is = member-at 0 (omega (arith, prior-less a good (sized w long) f g G)) ∙ ap (λ (x : ℕ). getD w x 0) (omega arith)
+      head-is = member-at 0 (omega (arith, prior-less a good (words-sized w long) f g G)) ∙ ap (λ (x : ℕ). getD w x 0) (omega arith)
 
       first-known : Registered w first
       first-known = let E = ends f g G in known (startOf (a .kindEnds) f) (omega (arith, E .some, E .width))
@@ -213,7 +213,7 @@ module _ (w : List ℕ) (long : ENTITIES ≤ length w) (good : WellFormed (layou
       prior-is = ap (priorOf counts (startOf (a .ends) f) g) whole-is
 
       count-is : getD counts g 0 ≡ countAt w g
-      count-is = getD-between GROUP-COUNTS ENTITIES g w 0 (omega (arith, group-few a good (sized w long) f g G))
+      count-is = getD-between GROUP-COUNTS ENTITIES g w 0 (omega (arith, group-few a good (words-sized w long) f g G))
 
       pub counted-at : GroupCounted cap w f g → GroupAt sets counts (layoutArrays w) f g
       counted-at K =

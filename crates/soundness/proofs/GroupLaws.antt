@@ -1,34 +1,27 @@
 -- The groups' clause as the check tells it is the model's. Assumes nothing.
-use mathlib.Core.Path.{_≡_, refl, ap, sym, _∙_, subst}
+use mathlib.Core.Path.{_≡_, ap, sym, _∙_, subst}
 use mathlib.Core.Bool.{true, false, _&&_, true≢false, false≢true}
 use mathlib.Core.List.{List, [], _∷_, _++_}
-use Prim.Native.Nat.{ℕ, zero, suc, _+_, _-_, _≤_, _<_}
-use native.Mathlib.Nat.{le-of-suc-le-suc, not-suc-le-zero}
+use Prim.Native.Nat.{ℕ, _+_, _-_, _≤_, _<_}
 use native.Mathlib.Decide.{decLe}
 use native.Mathlib.Omega.{arith}
-use borrow.Author.Tests.{eq-eqb}
 use lib.ListN.{length, take, drop, getD, take-append-drop, length-drop}
 use lib.Seq.{length-take-le, getD-take, getD-drop, ext-getD}
-use Rattle.model.specs.Lists.{one, place}
-use Rattle.model.proofs.ListLaws.{count-append, count-place, count-take-le, place-count-take, getD-place, count-length}
+use Rattle.model.specs.Lists.{place}
+use Rattle.model.proofs.ListLaws.{count-append, count-at, count-place, count-take-le, place-count-take, getD-place, count-length}
 use Rattle.model.specs.Model.{Entity, SparseSet, Family, sameEntity, noEntity, setOf, held, headKind, kindsOf, allHeld}
 use Rattle.model.specs.Sound.{cnt, In, key, SetsSound, BuildableFamily, BuildableFamilies, holders, Right, RightFrom, AllRight}
 use Rattle.model.proofs.SparseSets.{entity-eq, entity-same}
 use Rattle.model.proofs.BoolLaws.{and-left, and-false-of, and-false-right, bool-cases}
 use Rattle.model.proofs.Invariant.{holders-count}
-use Rattle.model.proofs.Walk.{Missing, all-missing, held-count, lacks-count, count-held}
-use Rattle.model.proofs.KindLists.{in-left, in-right, in-cases, all-in, all-true, all-joined}
+use Rattle.model.proofs.Walk.{held-count, lacks-count, count-held}
+use Rattle.model.proofs.KindLists.{Missing, all-missing, head-in-joined, in-left, in-right, in-cases, all-in, all-true, all-joined}
 use Rattle.soundness.specs.Groups.{GroupOk, GroupsOk, FamilyOk, FamiliesOk}
 
 -- ---- what stands at a place is held
 
-pub count-at : (l : List Entity) (i : ℕ) → i < length l → 1 ≤ cnt (getD l i noEntity) l
-count-at [] i h = absurd (not-suc-le-zero h)
-count-at (y ∷ l) zero h = omega (arith, ap one (entity-same y))
-count-at (y ∷ l) (suc i) h = omega (arith, count-at l i (le-of-suc-le-suc h))
-
 held-at : (sets : List SparseSet) (k i : ℕ) → i < length (key sets k) → held (getD (key sets k) i noEntity) (setOf sets k) ≡ true
-held-at sets k i h = count-held (getD (key sets k) i noEntity) sets k (count-at (key sets k) i h)
+held-at sets k i h = count-held (getD (key sets k) i noEntity) sets k (count-at sameEntity entity-same noEntity (key sets k) i h)
 
 -- ---- a group beside the family's first kind
 
@@ -151,15 +144,11 @@ module _ (kinds : List ℕ) (live : List Entity) (sets : List SparseSet) (S : Se
           let x = getD (key sets h) j noEntity in
           let z : cnt x (holders g sets live) ≡ cnt x live = holders-count g sets live x ∙ rw t in
           let e : getD (drop c (key sets h)) (j - c) noEntity ≡ x = getD-drop c (key sets h) (j - c) noEntity ∙ ap (λ (n : ℕ). getD (key sets h) n noEntity) (omega arith) in
-          let o : 1 ≤ cnt x (drop c (key sets h)) = subst (λ (y : Entity). 1 ≤ cnt y (drop c (key sets h))) e (count-at (drop c (key sets h)) (j - c) (omega (arith, length-drop c (key sets h)))) in
+          let o : 1 ≤ cnt x (drop c (key sets h)) = subst (λ (y : Entity). 1 ≤ cnt y (drop c (key sets h))) e (count-at sameEntity entity-same noEntity (drop c (key sets h)) (j - c) (omega (arith, length-drop c (key sets h)))) in
           let s = ap (cnt x) (take-append-drop c (key sets h)) in
-          omega (arith, count-append sameEntity x (take c (key sets h)) (drop c (key sets h)), S .once x h, S .alive x h (count-at (key sets h) j lt), R .exact h i x)
+          omega (arith, count-append sameEntity x (take c (key sets h)) (drop c (key sets h)), S .once x h, S .alive x h (count-at sameEntity entity-same noEntity (key sets h) j lt), R .exact h i x)
 
 -- ---- along a family, and over all families
-
-head-in : (l m : List ℕ) → 1 ≤ length l → In l (headKind (l ++ m))
-head-in [] m h = absurd (not-suc-le-zero h)
-head-in (k ∷ l) m h = rw (eq-eqb k k refl)
 
 module _ (kinds : List ℕ) (live : List Entity) (sets : List SparseSet) (S : SetsSound kinds live sets) (lonce : (x : Entity) → cnt x live ≤ 1) where
   module _ (h : ℕ) where
@@ -181,7 +170,7 @@ module _ (kinds : List ℕ) (live : List Entity) (sets : List SparseSet) (S : Se
   family-right [] b G = absurd b
   family-right (r ∷ rs) b G =
       let h = headKind (r .newKinds ++ kindsOf rs) in
-      let j = head-in (r .newKinds) (kindsOf rs) (omega (arith, b .0)) in
+      let j = head-in-joined (r .newKinds) (kindsOf rs) (omega (arith, b .0)) in
       let C = beside-more sets h [] (r .newKinds) (length (key sets h)) (r .count) (beside-none sets h) (G .0) in
       (beside-right kinds live sets S lonce h (r .newKinds) (r .count) j C, groups-right h (r .newKinds) (r .count) rs j C (G .1))
 
@@ -189,7 +178,7 @@ module _ (kinds : List ℕ) (live : List Entity) (sets : List SparseSet) (S : Se
   right-family [] b R = absurd b
   right-family (r ∷ rs) b R =
       let h = headKind (r .newKinds ++ kindsOf rs) in
-      let j = head-in (r .newKinds) (kindsOf rs) (omega (arith, b .0)) in
+      let j = head-in-joined (r .newKinds) (kindsOf rs) (omega (arith, b .0)) in
       let C = right-beside kinds live sets S lonce h (r .newKinds) (r .count) j (R .0) in
       (beside-less sets h [] (r .newKinds) (length (key sets h)) (r .count) (beside-none sets h) C, right-groups h (r .newKinds) (r .count) rs j C (R .1))
 

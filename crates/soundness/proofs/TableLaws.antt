@@ -9,21 +9,17 @@ use native.Mathlib.Decide.{decLe}
 use native.Mathlib.Omega.{arith}
 use borrow.Author.Tests.{lt-ltb, le-ltb}
 use lib.Dec.{ltb}
-use lib.ListN.{length, take, getD, length-map, List·getD-map, List·getD-eq-default}
-use lib.Seq.{getD-take, length-take-le}
+use lib.ListN.{length, getD, length-map, List·getD-map, List·getD-eq-default}
 use Rattle.model.specs.Numbers.{MAX-KINDS}
 use Rattle.words.specs.Offsets.{UNREGISTERED}
 use Rattle.model.specs.Lists.{place}
-use Rattle.model.proofs.ListLaws.{count-place, getD-place}
+use Rattle.model.proofs.ListLaws.{count-at, count-place, getD-place}
 use Rattle.model.specs.Model.{Entity, SparseSet, sameEntity, noEntity, noRow, mem, setOf, entityOf, keys}
 use Rattle.model.specs.Sound.{cnt, In, Distinct, Eight, KindsSound, SetsSound}
-use Rattle.model.proofs.SparseSets.{entity-eq}
+use Rattle.model.proofs.SparseSets.{entity-eq, entity-same}
 use Rattle.words.specs.Table.{table}
-use Rattle.model.proofs.BoolLaws.{by-eq, not-true}
-use Rattle.words.proofs.Tables.{length-table, getD-table}
-use Rattle.model.proofs.KindLists.{at-in, in-at}
-use Rattle.soundness.proofs.GroupLaws.{count-at}
-use Rattle.sound_columns.proofs.ListLaws.{new-distinct}
+use Rattle.model.proofs.BoolLaws.{by-eq}
+use Rattle.words.proofs.Tables.{length-table, getD-table, table-in, in-table, table-once}
 
 -- the table and the columns' heads point to each other; there are fewer columns than 255
 pub record TableLinks (reg : ℕ) (kindAt slotOf : ℕ → ℕ) : Type 0 where
@@ -46,40 +42,17 @@ pub record RowsOk (live : List Entity) (rows : SparseSet) : Type 0 where
 module _ (reg : ℕ) (kindAt slotOf : ℕ → ℕ) (T : TableLinks reg kindAt slotOf) where
   -- ---- the registered kinds
 
-  slot-in : (s : ℕ) → s < reg → In (table reg kindAt) (kindAt s)
-  slot-in s h =
-      let n = length-table reg kindAt in
-      subst (λ (k : ℕ). In (table reg kindAt) k) (getD-table reg kindAt s 0 h) (at-in (table reg kindAt) s (omega arith))
-
-  in-slot : (k : ℕ) → In (table reg kindAt) k → (s : ℕ) × (s < reg) × (kindAt s ≡ k)
-  in-slot k t =
-      let q = in-at (table reg kindAt) k t in
-      let b : q .0 < reg = omega (arith, q .1, length-table reg kindAt) in
-      (q .0, b, sym (getD-table reg kindAt (q .0) 0 b) ∙ q .2)
-
   pub registered-slot : (k : ℕ) → In (table reg kindAt) k → slotOf k < reg
-  registered-slot k t = let q = in-slot k t in omega (arith, q .1, T .own (q .0) (q .1), ap slotOf (q .2))
+  registered-slot k t = let q = in-table reg kindAt k t in omega (arith, q .1, T .own (q .0) (q .1), ap slotOf (q .2))
 
   pub registered-small : (k : ℕ) → In (table reg kindAt) k → k < MAX-KINDS
-  registered-small k t = let q = in-slot k t in omega (arith, T .small (q .0) (q .1), q .2)
+  registered-small k t = let q = in-table reg kindAt k t in omega (arith, T .small (q .0) (q .1), q .2)
 
   pub slot-registered : (k : ℕ) → k < MAX-KINDS → slotOf k ≢ UNREGISTERED → In (table reg kindAt) k
-  slot-registered k h n = subst (λ (j : ℕ). In (table reg kindAt) j) (T .back k h n) (slot-in (slotOf k) (T .slot k h n))
+  slot-registered k h n = table-in reg kindAt k (slotOf k) (T .slot k h n) (T .back k h n)
 
   pub registered-once : Distinct (table reg kindAt)
-  registered-once =
-      new-distinct (table reg kindAt)
-      (λ i h.
-      let n = length-table reg kindAt in
-      let l = take i (table reg kindAt) in
-      not-true (mem (getD (table reg kindAt) i 0) l)
-      (λ t.
-      let q = in-at l (getD (table reg kindAt) i 0) t in
-      let m = length-take-le i (table reg kindAt) (omega arith) in
-      let b : q .0 < i = omega (arith, q .1) in
-      let e : kindAt (q .0) ≡ kindAt i =
-      sym (getD-table reg kindAt (q .0) 0 (omega arith)) ∙ sym (getD-take i (table reg kindAt) (q .0) 0 b) ∙ q .2 ∙ getD-table reg kindAt i 0 (omega arith) in
-      omega (arith, ap slotOf e, T .own (q .0) (omega arith), T .own i (omega arith))))
+  registered-once = table-once reg kindAt (λ i j hi hj ne e. ne (sym (T .own i hi) ∙ ap slotOf e ∙ T .own j hj))
 
   pub kinds-sound : (most : ℕ) → reg ≤ most → KindsSound most (table reg kindAt)
   kinds-sound most h = record { few = omega (arith, length-table reg kindAt); once = registered-once; small = registered-small }
@@ -94,7 +67,7 @@ module _ (reg : ℕ) (kindAt slotOf : ℕ → ℕ) (T : TableLinks reg kindAt sl
     set-slot k t = getD-table MAX-KINDS (setAt reg slotOf rowsAt) k [] (registered-small k t) ∙ rw (lt-ltb (slotOf k) reg (registered-slot k t))
 
     pub slot-set : (s : ℕ) → s < reg → setOf sets (kindAt s) ≡ rowsAt s
-    slot-set s h = set-slot (kindAt s) (slot-in s h) ∙ ap rowsAt (T .own s h)
+    slot-set s h = set-slot (kindAt s) (table-in reg kindAt (kindAt s) s h refl) ∙ ap rowsAt (T .own s h)
 
     pub set-none : (k : ℕ) → mem k (table reg kindAt) ≡ false → setOf sets k ≡ []
     set-none k n =
@@ -135,5 +108,5 @@ module _ (reg : ℕ) (kindAt slotOf : ℕ → ℕ) (T : TableLinks reg kindAt sl
     sets-alive live S s h i lt =
         let x = getD (rowsAt s) i noRow .entity in
         let e : getD (keys (rowsAt s)) i noEntity ≡ x = List·getD-map entityOf (rowsAt s) i noRow in
-        let c : 1 ≤ cnt x (keys (rowsAt s)) = subst (λ (y : Entity). 1 ≤ cnt y (keys (rowsAt s))) e (count-at (keys (rowsAt s)) i (omega (arith, length-map (rowsAt s) entityOf))) in
+        let c : 1 ≤ cnt x (keys (rowsAt s)) = subst (λ (y : Entity). 1 ≤ cnt y (keys (rowsAt s))) e (count-at sameEntity entity-same noEntity (keys (rowsAt s)) i (omega (arith, length-map (rowsAt s) entityOf))) in
         S .alive x (kindAt s) (subst (λ (r : SparseSet). 1 ≤ cnt x (keys r)) (sym (slot-set s h)) c)

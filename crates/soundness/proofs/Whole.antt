@@ -1,21 +1,19 @@
 -- The clauses together are soundness: of the words, and of the store that they mean. Assumes nothing.
 use mathlib.Core.Path.{_≡_, ap, sym, _∙_, subst}
 use mathlib.Core.Logic.{_≢_}
-use mathlib.Core.Bool.{true}
 use mathlib.Core.List.{List, [], map}
 use Prim.Native.Nat.{ℕ, _+_, _*_, _-_, _≤_, _<_}
 use native.Mathlib.Decide.{decLe, decLt}
 use native.Mathlib.Omega.{arith}
-use borrow.Author.Tests.{ltb-true, lt-ltb}
 use lib.Dec.{eqb}
 use lib.ListN.{length, getD, take, List·getD-map}
 use lib.Seq.{getD-take, length-take-le}
 use Rattle.model.specs.Numbers.{ENTITY-LEN, LIST-CAPACITY, MAX-GROUP-COUNT, MAX-KINDS, columnLen}
 use Rattle.model.specs.Lists.{countOf}
-use Rattle.model.proofs.ListLaws.{count-place, place-count}
-use Rattle.model.specs.Model.{Entity, sameEntity, noRow, kindOf, entityOf, isLive}
+use Rattle.model.specs.Model.{Entity, noRow, kindOf, entityOf}
 use Rattle.model.specs.Sound.{cnt, In, Distinct, KindsSound, EntitiesSound, SetsSound, StagedSound, ExcludedSound, Buildable, AllRight}
-use Rattle.model.proofs.Numbers.{cnt-num}
+use Rattle.model.proofs.Numbers.{live-once}
+use Rattle.model.proofs.Operations.{live-count, count-live}
 use Rattle.model.proofs.KindLists.{in-count, count-in, at-in}
 use Rattle.words.specs.Offsets.{columnStart, BLOCK-LEN, COLUMN-KIND, DRAFT, ENTITIES, EXCLUDED-KINDS, GROUP-COUNTS, GROUP-FAMILIES, LAYOUT, LAYOUT-ARITIES, LAYOUT-KIND-ENDS, REFUSALS, ROWS, STAGED-KINDS, STAGED-VALUE-LEN, STAGED-VALUES, TABLE, UNREGISTERED}
 use Rattle.words.proofs.Offsets.{columnStart-mono}
@@ -41,7 +39,7 @@ use Rattle.memory.specs.Header.{capacityOf, kindCapacityOf, registeredOf, stage
 use Rattle.memory.specs.Meaning.{kindAt, kindsIn, setsIn, draftArrays, layoutArrays, draftIn, layoutIn, stagedAt, stagedIn, excludedIn, meaning}
 use Rattle.memory.specs.Arranged.{TableSound, Registered, LayoutSound, Arranged, Sound as StoreSound}
 use Rattle.memory.proofs.Frames.{start-header}
-use Rattle.memory.proofs.LayoutWords.{kind-word, kind-start-word}
+use Rattle.memory.proofs.LayoutWords.{words-sized, kind-word, kind-start-word}
 use Rattle.sound_columns.specs.Slots.{Room, headAt}
 use Rattle.sound_columns.specs.Table.{TableOk}
 use Rattle.sound_columns.specs.Rows.{entityIn, RowLive, ColumnOk}
@@ -55,7 +53,7 @@ use Rattle.soundness.proofs.StagedLaws.{staged-sound}
 use Rattle.words.proofs.Tables.{map-table, words-table}
 use Rattle.soundness.proofs.GroupLaws.{families-right, right-families}
 use Rattle.soundness.proofs.FlatLaws.{families-each, each-families, prior-fits}
-use Rattle.soundness.proofs.WordLaws.{layout-words, sized}
+use Rattle.soundness.proofs.WordLaws.{layout-words}
 use Rattle.soundness.proofs.ForceLaws.{force, heads-group, group-heads, counted-at, at-counted}
 use Rattle.model.specs.Sound as modelSound
 use Rattle.entity.specs.Meaning as entity
@@ -219,7 +217,7 @@ module _ (w : List ℕ) where
       let a = layoutArrays w in
       let wide : widthOf a ≤ MAX-KINDS = B .formed .good .wide in
       let l = take (widthOf a) (a .kinds) in
-      let z : length (a .kinds) ≡ MAX-KINDS = sized w long .kinds in
+      let z : length (a .kinds) ≡ MAX-KINDS = words-sized w long .kinds in
       let m : length l ≡ widthOf a = length-take-le (widthOf a) (a .kinds) (omega arith) in
       let e : getD l i 0 ≡ getD w (LAYOUT + i) 0 = getD-take (widthOf a) (a .kinds) i 0 h ∙ kind-word w i (omega arith) in
       subst (Registered w) e (block-known T most (between LAYOUT GROUP-FAMILIES w) (layoutFamilies w) (layoutGroups w) B (getD l i 0) (at-in l i (omega arith)))
@@ -231,12 +229,6 @@ module _ (w : List ℕ) where
 
   abbrev live : List Entity
   live = entitiesIn n w .live
-
-  live-count : (e : Entity) → isLive e (entitiesIn n w) ≡ true → 1 ≤ cnt e live
-  live-count e t = place-count sameEntity e live (ltb-true _ _ t)
-
-  count-live : (e : Entity) → 1 ≤ cnt e live → isLive e (entitiesIn n w) ≡ true
-  count-live e c = lt-ltb _ _ (count-place sameEntity e live c)
 
   -- the entity of a row, as the words have it
   row-entity : (s : ℕ) → Lent n s w → (i : ℕ) → i < length (rowsOf n s w) → getD (rowsOf n s w) i noRow .entity ≡ entityIn w (columnStart n s + ROWS + 2 * i)
@@ -256,7 +248,7 @@ module _ (w : List ℕ) where
         once = rows-once n (columnOf n s w) (C s q .sound);
         alive = λ i lt.
             subst (λ (e : Entity). 1 ≤ cnt e live) (sym (row-entity s (lent n k s w D q) i lt))
-            (live-count (entityIn w (columnStart n s + ROWS + 2 * i)) (C s q .alive i (omega (arith, length-rows n (columnOf n s w)))));
+            (live-count (entityIn w (columnStart n s + ROWS + 2 * i)) (entitiesIn n w) (C s q .alive i (omega (arith, length-rows n (columnOf n s w)))));
         values = rows-values n (columnOf n s w) (column-bits bits s);
       })
 
@@ -265,7 +257,7 @@ module _ (w : List ℕ) where
   alive-of T most D S s h i lt =
       let q : s < k = omega (arith, T .few) in
       let l : i < length (rowsOf n s w) = omega (arith, length-rows n (columnOf n s w)) in
-      count-live (entityIn w (columnStart n s + ROWS + 2 * i))
+      count-live (entityIn w (columnStart n s + ROWS + 2 * i)) (entitiesIn n w)
       (subst (λ (e : Entity). 1 ≤ cnt e live) (row-entity s (lent n k s w D q) i l)
       (sets-alive reg (kindAt w) (slotOf w) (tabled T most) (λ s. rowsOf n s w) live S s h i l))
 
@@ -279,9 +271,6 @@ module _ (w : List ℕ) where
         positive = e .positive;
         small = e .small;
       }
-
-  live-once : EntitiesSound n (entitiesIn n w) → (x : Entity) → cnt x live ≤ 1
-  live-once E x = omega (arith, cnt-num x live, E .single (x .index))
 
   -- ---- the layout in force
 
@@ -323,16 +312,16 @@ module _ (w : List ℕ) where
         unfolding layoutIn
         groups-are K =
             families-right (kindsIn w) live (setsIn w) S once (familiesOf counts a) (B .families)
-            (each-families (setsIn w) counts a good (sized w long) of inside
+            (each-families (setsIn w) counts a good (words-sized w long) of inside
             (λ g lt. counted-at w long good known (of g) g (inside g lt) A (K g (omega (arith, A .layout .count)))))
 
         are-groups : AllRight (setsIn w) live (layoutIn w) → CountsOk n w
         unfolding layoutIn
         are-groups G g h =
             let F = right-families (kindsIn w) live (setsIn w) S once (familiesOf counts a) (B .families) G in
-            let each = families-each (setsIn w) counts a good (sized w long) of inside F in
+            let each = families-each (setsIn w) counts a good (words-sized w long) of inside F in
             let lt : g < groupCount a = omega (arith, A .layout .count) in
-            at-counted w long good known (of g) g (inside g lt) A (each g lt) (prior-fits (setsIn w) counts a good (sized w long) of inside each g lt)
+            at-counted w long good known (of g) g (inside g lt) A (each g lt) (prior-fits (setsIn w) counts a good (words-sized w long) of inside each g lt)
 
   -- ---- from the clauses
 
@@ -426,7 +415,7 @@ module _ (w : List ℕ) where
               draft = draft-are;
               uncounted = uncounted-are;
               layout = layout-build;
-              groups = groups-are long (Y .block .formed .good) (layout-known T most long (Y .block)) arranged-of S (live-once E) layout-build K;
+              groups = groups-are long (Y .block .formed .good) (layout-known T most long (Y .block)) arranged-of S (live-once (entitiesIn n w) (E .single)) layout-build K;
               refusals = omega (arith, bits REFUSALS);
             }
 
@@ -515,4 +504,4 @@ module _ (w : List ℕ) where
 
     pub counts-of : CountsOk n w
     counts-of =
-        are-groups far (A .layout .formed) kinds-known A (M .sets) (live-once (M .entities)) (M .layout) (M .groups)
+        are-groups far (A .layout .formed) kinds-known A (M .sets) (live-once (entitiesIn n w) (M .entities .single)) (M .layout) (M .groups)

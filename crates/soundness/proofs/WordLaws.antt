@@ -6,24 +6,20 @@ use native.Mathlib.Nat.{sub-zero}
 use native.Mathlib.Omega.{arith}
 use lib.ListN.{length, getD, take}
 use Rattle.model.specs.Numbers.{MAX-KINDS}
-use Rattle.words.specs.Offsets.{ENTITIES, GROUP-FAMILIES, LAYOUT, LAYOUT-FAMILIES, ARITIES}
+use Rattle.words.specs.Offsets.{ENTITIES, GROUP-FAMILIES, LAYOUT, ARITIES}
 use Rattle.model.specs.Sound.{In}
 use Rattle.model.proofs.KindLists.{at-in, in-at}
 use Rattle.words.specs.Part.{between}
 use Rattle.words.proofs.Part.{getD-between, length-between, between-part}
 use Rattle.layout.specs.Layout.{Arrays, startOf, widthOf, WellFormed}
-use Rattle.layout.specs.ByValue.{Sized}
 use Rattle.layout.specs.Group.{InFamily, arityOf, priorArity}
 use Rattle.layout.specs.Reading.{newAt}
-use Rattle.layout.proofs.Arrays.{block-sized}
 use Rattle.layout.proofs.Groups.{arity-inside, arity-wide}
 use Rattle.memory.specs.Meaning.{layoutArrays}
+use Rattle.memory.proofs.LayoutWords.{words-sized}
 use Rattle.sound_groups.specs.Spans.{fromAt, toAt}
 
 module _ (w : List ℕ) (long : ENTITIES ≤ length w) where
-  pub sized : Sized (layoutArrays w)
-  sized = block-sized (between LAYOUT GROUP-FAMILIES w) (getD w LAYOUT-FAMILIES 0) (length-between LAYOUT GROUP-FAMILIES w (omega arith))
-
   -- a part of the kinds is a part of the words
   kinds-part : (x y : ℕ) → y ≤ MAX-KINDS → between x y (layoutArrays w .kinds) ≡ between (LAYOUT + x) (LAYOUT + y) w
   kinds-part x y h =
@@ -47,10 +43,10 @@ module _ (w : List ℕ) (long : ENTITIES ≤ length w) where
           let s = startOf (a .kindEnds) f in
           let p = priorArity a f g in
           let r = arityOf a g in
-          between-part p r s (getD (a .kindEnds) f 0) (a .kinds) (arity-inside a good sized f g G) ∙ kinds-part (s + p) (s + r) (arity-wide a good sized f g G)
+          between-part p r s (getD (a .kindEnds) f 0) (a .kinds) (arity-inside a good (words-sized w long) f g G) ∙ kinds-part (s + p) (s + r) (arity-wide a good (words-sized w long) f g G)
 
       to-long : toAt w f g ≤ length w
-      to-long = omega (arith, arity-wide a good sized f g G)
+      to-long = omega (arith, arity-wide a good (words-sized w long) f g G)
 
       -- a new kind is the word at a place, and such a word is a new kind
       pub new-at : (k : ℕ) → In (newAt (layoutArrays w) f g) k → (j : ℕ) × (fromAt w f g ≤ j) × (j < toAt w f g) × (getD w j 0 ≡ k)

@@ -1,17 +1,18 @@
 -- Why `serve` writes what the model's run answers: the store is started empty, the answers stand at the front, and the numbers after them. Assumes nothing.
 use mathlib.Core.Path.{_≡_, refl, ap, sym, subst, _∙_}
 use mathlib.Core.Bool.{Bool, true, false}
-use mathlib.Core.List.{List, [], _∷_, _++_, append-assoc}
+use mathlib.Core.List.{List, [], _∷_, _++_}
 use Prim.Native.Nat.{ℕ, _+_, _≤_, _<_}
 use native.Mathlib.Omega.{arith}
-use lib.ListN.{length, take, drop, set, length-append, length-drop, take-append-drop}
-use lib.Seq.{sets, sets-eq, drop-append-le, drop-append-add, drop-drop, take-append-seam, length-take-le}
+use native.Mathlib.Nat.{zero-add}
+use lib.ListN.{length, take, drop, set, length-append, length-drop}
+use lib.Seq.{sets, length-take-le}
 use Rattle.model.specs.Store.{Store, bytesOf, empty, wordsNeeded}
 use Rattle.model.specs.Run.{run}
 use Rattle.model.specs.Examples.{sample, answer, stream-example}
 use Rattle.model.specs.Entries.{makes, start}
 use Rattle.model.proofs.Lengths.{run-fits}
-use Rattle.model.proofs.ListLaws.{sets-join}
+use Rattle.model.proofs.ListLaws.{sets-join, front-sets, front-back}
 use Rattle.memory.specs.Meaning.{meaning}
 use Rattle.memory.specs.Arranged.{Sound}
 use Rattle.words.specs.Decides.{Decides}
@@ -42,20 +43,12 @@ numbers-put o at s a b w =
 
 -- the front m of the bytes o is lent, begins with b when it is back, and n is put after b
 module _ (b n o : List ℕ) (m : ℕ) (lent : length b ≤ m) (within : m ≤ length o) (fits : length b + length n ≤ length o) where
-  back : (b ++ drop (length b) (take m o)) ++ drop m o ≡ b ++ drop (length b) o
-  back =
-      let e : length b ≤ length (take m o) = rw (length-take-le m o within) lent in
-      append-assoc b (drop (length b) (take m o)) (drop m o)
-      ∙ ap (λ (l : List ℕ). b ++ l) (sym (drop-append-le (length b) (take m o) (drop m o) e) ∙ ap (drop (length b)) (take-append-drop m o))
-
   pub after : sets ((b ++ drop (length b) (take m o)) ++ drop m o) (length b) n ≡ (b ++ n) ++ drop (length (b ++ n)) o
   after =
-      let l = b ++ drop (length b) o in
-      let e : length b + length n ≤ length l = simp (length-append, length-drop) (omega arith) in
-      ap (λ (k : List ℕ). sets k (length b) n) back
-      ∙ sets-eq n l (length b) e
-      ∙ ap (λ (k : List ℕ). k ++ n ++ drop (length b + length n) l) (take-append-seam b (drop (length b) o))
-      ∙ ap (λ (k : List ℕ). b ++ n ++ k) (drop-append-add b (drop (length b) o) (length n) ∙ drop-drop (length n) (length b) o ∙ ap (λ (k : ℕ). drop k o) (sym (length-append b n)))
+      ap (λ (k : List ℕ). sets k (length b) n) (front-back b o m lent within ∙ sym (front-sets o b (omega arith)))
+      ∙ ap (λ (i : ℕ). sets (sets o 0 b) i n) (sym (zero-add (length b)))
+      ∙ sets-join o 0 b n
+      ∙ front-sets o (b ++ n) (omega (arith, length-append b n))
 
 -- sound words are served
 on-sound : (w t o o′ : List ℕ) (q : stream.Ran) (room : ℕ) (s : Store) (sound : Bool) → Decides sound (Sound w) → Sound w → Answered o o′ q (ranOf sound t room s) → Answered o o′ q (run t room s)

@@ -10,7 +10,7 @@ use native.Mathlib.Nat.{sub-zero, suc-sub-suc}
 use native.Mathlib.Numerals.{add-one}
 use lib.Dec.{eqb}
 use Rattle.model.specs.Lists.{countOf}
-use Rattle.model.proofs.ListLaws.{count-append, take-below}
+use Rattle.model.proofs.ListLaws.{count-append, drop-later, all-take}
 use Rattle.model.specs.Sound.{In}
 use Rattle.model.proofs.KindLists.{at-in}
 use Rattle.words.specs.Part.{between}
@@ -45,10 +45,7 @@ module _ {A : Type 0} where
           ]
 
   pub between-rest : (e c d : ℕ) (w v : List A) → e ≤ c → drop e v ≡ drop e w → between c d v ≡ between c d w
-  between-rest e c d w v h q = ap (take (d - c)) (from v ∙ ap (drop (c - e)) q ∙ sym (from w))
-    where
-      from : (u : List A) → drop c u ≡ drop (c - e) (drop e u)
-      from u = let k : c ≡ e + (c - e) = omega arith in ap (λ (i : ℕ). drop i u) k ∙ sym (drop-drop (c - e) e u)
+  between-rest e c d w v h q = ap (take (d - c)) (drop-later e c w v h q)
 
   module _ (a e : ℕ) (w ys : List A) (h : a ≤ e) (g : e ≤ length w) (l : length ys ≡ e - a) where
     pub patch-front : take a (patch a e w ys) ≡ take a w
@@ -145,11 +142,7 @@ count-part k ks s e n h l =
     omega arith
 
 pub between-below : (b a e : ℕ) (w : List ℕ) → 1 ≤ b → ((i : ℕ) → getD w i 0 < b) → (i : ℕ) → getD (between a e w) i 0 < b
-between-below b a e w h f = take-below b (e - a) (drop a w) h (λ i. subst (λ (x : ℕ). x < b) (sym (getD-drop a w i 0)) (f (a + i)))
-
--- an element of a part of a part
-pub getD-inner : (a c d e i : ℕ) (w : List ℕ) → c + i < d → a + d ≤ e → getD (between c d (between a e w)) i 0 ≡ getD w (a + c + i) 0
-getD-inner a c d e i w h k = getD-between c d i (between a e w) 0 h ∙ getD-between a e (c + i) w 0 (omega arith) ∙ ap (λ (x : ℕ). getD w x 0) (omega arith)
+between-below b a e w h f = all-take (λ (x : ℕ). x < b) 0 h (e - a) (drop a w) (λ i. subst (λ (x : ℕ). x < b) (sym (getD-drop a w i 0)) (f (a + i)))
 
 -- a part of n elements, by its ends
 pub part-size : (f : List ℕ) (a n : ℕ) → take (a + n - a) (drop a f) ≡ take n (drop a f)

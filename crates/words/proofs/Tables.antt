@@ -6,12 +6,15 @@ use mathlib.Core.List.{List, [], _∷_, _++_, map}
 use Prim.Native.Nat.{ℕ, zero, suc, _+_, _-_, _<_, _≤_}
 use native.Mathlib.Nat.{le-of-suc-le-suc, not-suc-le-zero}
 use native.Mathlib.Omega.{arith}
+use borrow.Author.Tests.{eqb-true}
+use lib.Dec.{eqb}
 use lib.ListN.{length, getD, set, take, length-set, length-append, List·getD-append}
 use lib.Seq.{ext-getD, getD-set-same, getD-set-other, getD-at, getD-take, length-take-le}
 use Rattle.model.specs.Lists.{swap, cutAt}
 use Rattle.model.proofs.BoolLaws.{by-eq}
-use Rattle.model.specs.Sound.{In}
-use Rattle.model.proofs.KindLists.{at-in}
+use Rattle.model.proofs.ListLaws.{apart-once}
+use Rattle.model.specs.Sound.{In, Distinct}
+use Rattle.model.proofs.KindLists.{at-in, in-at}
 use Rattle.words.specs.Table.{table}
 use Rattle.words.specs.Part.{between}
 use Rattle.words.proofs.Part.{length-between, getD-between}
@@ -103,3 +106,18 @@ table-none k f e = rw e
 
 pub table-in : (m : ℕ) (f : ℕ → ℕ) (k i : ℕ) → i < m → f i ≡ k → In (table m f) k
 table-in m f k i h e = subst (In (table m f)) (getD-table m f i 0 h ∙ e) (at-in (table m f) i (omega (arith, length-table m f)))
+
+pub in-table : (m : ℕ) (f : ℕ → ℕ) (k : ℕ) → In (table m f) k → (i : ℕ) × (i < m) × (f i ≡ k)
+in-table m f k t =
+    let r = in-at (table m f) k t in
+    let h : r .0 < m = omega (arith, r .1, length-table m f) in
+    (r .0, h, sym (getD-table m f (r .0) 0 h) ∙ r .2)
+
+-- different numbers stand once each
+pub table-once : (k : ℕ) (f : ℕ → ℕ) → ((i j : ℕ) → i < k → j < k → i ≢ j → f i ≢ f j) → Distinct (table k f)
+table-once k f apart x =
+    apart-once eqb eqb-true x 0 (table k f)
+    (λ i j hi hj ne e.
+    let p : i < k = omega (arith, length-table k f) in
+    let q : j < k = omega (arith, length-table k f) in
+    apart i j p q ne (sym (getD-table k f i 0 p) ∙ e ∙ getD-table k f j 0 q))

@@ -1,19 +1,18 @@
 -- The loop that puts the staged components in, one kind after another. Assumes nothing.
 use mathlib.Core.Path.{_≡_, refl, ap, sym, _∙_, subst}
 use mathlib.Core.List.{List, [], _∷_, _++_, map}
-use Prim.Native.Nat.{ℕ, zero, suc, _+_, _≤_, _<_}
+use Prim.Native.Nat.{ℕ, _+_, _≤_, _<_}
 use native.Mathlib.Omega.{arith}
 use native.Mathlib.Numerals.{add-one}
 use native.Mathlib.Decide.{decLt}
-use borrow.Author.Tests.{ltb-true, eq-eqb}
-use lib.Dec.{eqb}
-use lib.ListN.{length, getD, set, take, length-set, length-append, List·getD-append}
+use borrow.Author.Tests.{ltb-true}
+use lib.ListN.{length, getD, set, take, length-set, length-append, length-map, List·getD-append, List·getD-map}
 use lib.Seq.{getD-set-same, getD-set-other, set-out, take-all, take-suc, getD-at}
-use mathlib.Core.Bool.{or-true}
 use Rattle.model.specs.Model.{Entity, Row, Component, SparseSet, Storage, noRow, setOf, at, held, kindOf, insertRow, insertAll}
 use Rattle.model.specs.Store.{Store, stagedKinds, onStorage}
 use Rattle.model.specs.Sound.{In, noComponent}
 use Rattle.model.proofs.BoolLaws.{by-eq, cond-case}
+use Rattle.model.proofs.KindLists.{at-in}
 use Rattle.component.specs.SparseSet.{entity}
 use Rattle.component.specs.Stored.{Current}
 use Rattle.memory.specs.Meaning.{meaning}
@@ -105,9 +104,5 @@ module _ (w₀ : List ℕ) (x v : ℕ) (I : Insertable w₀ x v) where
 
   -- the kind of a staged component is registered
   pub staged-known : (i : ℕ) → i < length staged → (k : ℕ) → k ≡ getD staged i noComponent .kind → In (meaning w₀ .kinds) k
-  staged-known i h k e = I .known k (subst (λ (j : ℕ). In (stagedKinds (meaning w₀)) j) (sym e) (kind-in staged i h))
-    where
-      kind-in : (l : List Component) (i : ℕ) → i < length l → In (map kindOf l) (getD l i noComponent .kind)
-      kind-in [] i h = absurd (omega arith)
-      kind-in (p ∷ l) zero h = rw (eq-eqb (p .kind) (p .kind) refl)
-      kind-in (p ∷ l) (suc i) h = rw (kind-in l i (omega arith)) (or-true (eqb (getD l i noComponent .kind) (p .kind)))
+  staged-known i h k e =
+      I .known k (subst (In (stagedKinds (meaning w₀))) (List·getD-map kindOf staged i noComponent ∙ sym e) (at-in (map kindOf staged) i (rw (length-map staged kindOf) h)))

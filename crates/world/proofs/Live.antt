@@ -2,14 +2,14 @@
 use mathlib.Core.Path.{_≡_, ap, sym, _∙_, subst}
 use mathlib.Core.Bool.{true, false, false≢true}
 use mathlib.Core.List.{List, [], _∷_}
-use Prim.Native.Nat.{ℕ, zero, suc, _+_, _≤_, _<_}
+use Prim.Native.Nat.{ℕ, _+_, _≤_, _<_}
 use native.Mathlib.Omega.{arith}
-use native.Mathlib.Nat.{le-of-suc-le-suc, not-suc-le-zero}
 use borrow.Author.Tests.{eq-eqb}
 use lib.Dec.{eqb}
-use lib.ListN.{length, getD}
+use lib.ListN.{length, getD, length-map, List·getD-map}
 use Rattle.model.specs.Lists.{one}
-use Rattle.model.specs.Model.{Entity, SparseSet, sameEntity, noRow, setOf, keys, isLive}
+use Rattle.model.proofs.ListLaws.{count-at}
+use Rattle.model.specs.Model.{Entity, SparseSet, sameEntity, noEntity, noRow, setOf, keys, entityOf, isLive}
 use Rattle.model.specs.Store.{Store, stagedKinds}
 use Rattle.model.specs.Sound.{cnt, num, key, In, EntitiesSound, StoreSound}
 use Rattle.model.proofs.SparseSets.{entity-eq, entity-same}
@@ -45,10 +45,9 @@ two-live x y [] q ne = omega arith
 two-live x y (z ∷ l) q ne = omega (arith, two-live x y l q ne, once-index x y z q ne)
 
 -- an entity of a row stands among the entities
-pub row-count : (rows : SparseSet) (i : ℕ) → i < length rows → 1 ≤ cnt (getD rows i noRow .entity) (keys rows)
-row-count [] i h = absurd (not-suc-le-zero h)
-row-count (r ∷ rows) zero h = omega (arith, ap one (entity-same (r .entity)))
-row-count (r ∷ rows) (suc i) h = omega (arith, row-count rows i (le-of-suc-le-suc h))
+row-count : (rows : SparseSet) (i : ℕ) → i < length rows → 1 ≤ cnt (getD rows i noRow .entity) (keys rows)
+row-count rows i h =
+    subst (λ (e : Entity). 1 ≤ cnt e (keys rows)) (List·getD-map entityOf rows i noRow) (count-at sameEntity entity-same noEntity (keys rows) i (rw (length-map rows entityOf) h))
 
 -- of soundness, what insertion into a live entity rests on: numbers by which an index is live once, and sparse sets that hold live entities only. The
 -- groups have no part in it: they need not be right

@@ -1,9 +1,10 @@
-use mathlib.Core.Path.{_≡_, refl}
-use Prim.Native.Nat.{_-_, _≤_}
+use mathlib.Core.Path.{_≡_, refl, _∙_, sym, ap}
+use Prim.Native.Nat.{ℕ, _-_, _≤_}
 use native.Mathlib.Omega.{arith}
 use lib.ListN.{length, drop}
+use lib.Seq.{drop-length}
 use Rattle.model.specs.Model.{mem}
-use Rattle.control.proofs.KindWords.{mem-here, mem-on, mem-none}
+use Rattle.model.proofs.KindLists.{mem-hit, mem-miss}
 use Rattle.control.proofs.lists.among.Statement.{statement}
 use Rattle.control.proofs.lists.among.Tie as tie
 
@@ -23,19 +24,20 @@ returns : tie.Need-returns Inv-loop μ-loop
 returns c =
     let a = c .before .before .before .before .args in
     let l = c .before .before .before .loop in
-    mem-here (a .kind) (a .kinds .now) (l .i) (l .inv .1) (omega arith) (c .if1 .taken)
+    sym (l .inv .1 ∙ mem-hit (a .kind) (a .kinds .now) (l .i) (omega arith) (c .if1 .taken))
 
 loop-again : tie.Need-loop-again Inv-loop μ-loop
 loop-again c =
     let a = c .before .before .before .before .args in
     let l = c .before .before .before .loop in
-    (omega arith, mem-on (a .kind) (a .kinds .now) (l .i) (l .inv .1) (omega arith) (c .if1 .left))
+    (omega arith, l .inv .1 ∙ mem-miss (a .kind) (a .kinds .now) (l .i) (omega arith) (c .if1 .left))
 
 returns-2 : tie.Need-returns-2 Inv-loop μ-loop
 returns-2 c =
     let a = c .before .before .args in
     let l = c .before .loop in
-    mem-none (a .kind) (a .kinds .now) (l .i) (l .inv .1) (omega arith)
+    let done : l .i ≡ length (a .kinds .now) = omega arith in
+    sym (l .inv .1 ∙ ap (λ (i : ℕ). mem (a .kind) (drop i (a .kinds .now))) done ∙ rw drop-length)
 
 pub among-spec : {M : Type 1} → statement M
 among-spec = tie.close (tie.spec Inv-loop μ-loop loop-holds (λ c. omega arith) (λ c. omega arith) cast-if1 returns (λ c. omega arith) (λ c. omega arith) loop-again returns-2)

@@ -6,7 +6,7 @@ use borrow.Author.Tests.{not-true, not-false}
 use lib.ListN.{length, take, drop, length-set}
 use Rattle.model.specs.Numbers.{LIST-CAPACITY}
 use Rattle.model.specs.Model.{without}
-use Rattle.layout.proofs.Append.{without-held, without-new, without-end}
+use Rattle.model.proofs.KindLists.{without-held, without-new, without-end}
 use native.Mathlib.Omega.{arith}
 use borrow.Author.Needs.{needs}
 use Rattle.layout.proofs.group_layout.missing.Statement.{statement}

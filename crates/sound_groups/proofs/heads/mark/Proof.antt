@@ -5,7 +5,7 @@ use lib.ListN.{length, take, length-set}
 use lib.Seq.{take-length}
 use Rattle.model.specs.Numbers.{MAX-KINDS}
 use Rattle.model.specs.Model.{mem}
-use Rattle.sound_columns.proofs.ListLaws.{Marks, marks-more, marks-none}
+use Rattle.sound_columns.proofs.Marking.{Marks, marks-more, marks-none}
 use Rattle.sound_groups.proofs.heads.mark.Statement.{statement}
 use Rattle.sound_groups.proofs.heads.mark.Tie as tie
 

@@ -1,31 +1,18 @@
--- Lists of kinds told place by place: once each, by a table of what was seen. Assumes nothing.
-use mathlib.Core.Path.{_≡_, ap, sym, _∙_, subst}
+-- A table that marks the kinds of a list as they are passed. Assumes nothing.
+use mathlib.Core.Path.{_≡_, ap, sym, _∙_}
 use mathlib.Core.Bool.{false, _||_, or-false, or-true}
 use mathlib.Core.List.{List, [], _∷_}
-use Prim.Native.Nat.{ℕ, zero, suc, _+_, _≤_, _<_}
+use Prim.Native.Nat.{ℕ, _+_, _<_}
 use native.Mathlib.Numerals.{add-one}
 use native.Mathlib.Omega.{arith}
 use borrow.Author.Tests.{eq-eqb, ne-eqb}
 use lib.Dec.{eqb}
 use lib.ListN.{length, take, getD, set, replicate, getD-replicate}
-use lib.Seq.{take-suc, take-length, getD-set-same, getD-set-other}
+use lib.Seq.{take-suc, getD-set-same, getD-set-other}
 use Rattle.model.specs.Numbers.{MAX-KINDS}
 use Rattle.model.specs.Model.{mem}
-use Rattle.model.specs.Sound.{Distinct}
-use Rattle.model.proofs.KindLists.{mem-append, distinct-snoc}
+use Rattle.model.proofs.KindLists.{mem-append}
 use Rattle.model.proofs.BoolLaws.{by-eq}
-use Rattle.words.specs.Decides.{Each}
-
--- ---- once each, place by place
-
-front : (l : List ℕ) → Each (length l) (λ i. mem (getD l i 0) (take i l) ≡ false) → (n : ℕ) → n ≤ length l → Distinct (take n l)
-front l f zero h = λ k. omega arith
-front l f (suc n) h = rw (take-suc l n 0 h) (distinct-snoc (take n l) (getD l n 0) (front l f n (omega arith)) (f n h))
-
-pub new-distinct : (l : List ℕ) → Each (length l) (λ i. mem (getD l i 0) (take i l) ≡ false) → Distinct l
-new-distinct l f = subst Distinct (take-length l) (front l f (length l) (omega arith))
-
--- ---- a table of what was seen
 
 -- the table marks what stands before i
 abbrev pub Marks : List ℕ → List ℕ → ℕ → Type 0
