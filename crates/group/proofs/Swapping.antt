@@ -2,7 +2,7 @@
 use mathlib.Core.Path.{_≡_, refl, ap, sym, _∙_, subst}
 use mathlib.Core.Bool.{Bool, true, false, cond}
 use mathlib.Core.List.{List, [], _∷_, _++_}
-use Prim.Native.Nat.{ℕ, _+_, _-_, _≤_, _<_}
+use Prim.Native.Nat.{ℕ, _+_, _≤_, _<_}
 use native.Mathlib.Omega.{arith}
 use borrow.Author.Tests.{eq-eqb}
 use lib.ListN.{length, getD, set}
@@ -10,7 +10,7 @@ use Rattle.model.specs.Run.{Store}
 use Rattle.model.specs.Model.{Entity, SparseSet, Storage, mem, setOf, held, swapTo}
 use Rattle.model.specs.Store.{onSet, onStorage}
 use Rattle.model.specs.Sound.{In, Distinct}
-use Rattle.model.proofs.KindLists.{in-left}
+use Rattle.model.proofs.KindLists.{in-left, not-both, distinct-apart}
 use Rattle.words.specs.Part.{between}
 use Rattle.words.proofs.Part.{between-none, between-split, between-more, between-in}
 use Rattle.memory.specs.Meaning.{meaning}
@@ -20,7 +20,6 @@ use Rattle.kinds.proofs.Slot.{known-small}
 use Rattle.group.specs.Ready.{Swappable}
 use Rattle.group.specs.Metadata.{orderOf, PlacesKnown}
 use Rattle.group.specs.Steps.{swapKinds}
-use Rattle.group.proofs.KindPositions.{not-left}
 use Rattle.group.proofs.EachKind.{eachKind, each-append, setOf-each, each-kinds}
 use Rattle.group.proofs.Storing.{becomes-then}
 use Rattle.group.proofs.InWords.{order-part-once}
@@ -76,7 +75,7 @@ module _ (w₀ : List ℕ) (A : Arranged w₀) (e : Entity) (start end c : ℕ) 
       more = between-more start p (orderOf (meaning w₀)) (S .low) (omega (arith, L .within))
 
       fresh : mem k before ≡ false
-      fresh = not-left before (k ∷ []) k (subst Distinct more (order-part-once w₀ A start (p + 1))) (rw (eq-eqb k k refl))
+      fresh = not-both before (k ∷ []) k (distinct-apart before (k ∷ []) (subst Distinct more (order-part-once w₀ A start (p + 1))) k) (rw (eq-eqb k k refl))
 
       same-set : setOf (meaning w .storage .sets) k ≡ setOf (meaning w₀ .storage .sets) k
       same-set =

@@ -2,7 +2,7 @@
 use mathlib.Core.Path.{_≡_, refl, subst}
 use mathlib.Core.Bool.{Bool, true, false, false≢true}
 use mathlib.Core.List.{List, [], _∷_, _++_, map}
-use Prim.Native.Nat.{ℕ, suc, _+_, _-_, _≤_}
+use Prim.Native.Nat.{ℕ, suc, _+_, _≤_}
 use native.Mathlib.Omega.{arith}
 use borrow.Author.Tests.{lt-ltb, le-ltb}
 use lib.ListN.{length, length-map}
@@ -16,12 +16,14 @@ use Rattle.model.proofs.Families.{Fams, Apart, allKinds, famKinds, chain-other,
 use Rattle.model.proofs.Regroup.{FreshAll, FamsFor, None, UpEvery, groupFamily-every-good, fams-fresh}
 use Rattle.model.proofs.Invariant.{Fit}
 use Rattle.masks.specs.Masks.{upFrom}
+use Rattle.masks.proofs.Rising.{From}
 use Rattle.group.specs.declared.group_status.GroupStatus.{GroupStatus}
 use Rattle.group.specs.declared.group_status.GroupStatus.the-variants.{Incomplete, Ungrouped, Grouped}
-use Rattle.group.specs.Flat.{located, withCount, familyPositions, insertPositions}
+use Rattle.group.specs.Flat.{located, withCount, passing, positionsWhere, insertPositions}
 use Rattle.group.specs.Ready.{Swappable, ReadyIn, ReadyUp, ReadyEach}
 use Rattle.group.proofs.Fronts.{Front, whole, past, Hole, opened, next, here}
-use Rattle.group.proofs.Upward.{From, from-le, from-families, top-here, incomplete-here, grouped-here, ungrouped-here, group-here, goes-on, stays, moves, stop, atHole, atFront, length-up, Stepwise, up-from, up-past}
+use Rattle.group.proofs.Positions.{where-family, family-all, family-none, where-within, where-all}
+use Rattle.group.proofs.Upward.{top-here, incomplete-here, grouped-here, ungrouped-here, group-here, goes-on, stays, moves, stop, atHole, atFront, length-up, Stepwise, up-from, up-past}
 
 abbrev pub Asked : Entity → GroupStatus → ℕ → Storage → Type 0 → Type 0
 Asked e t g s A = ReadyIn t e (located (s .layout) g) (s .sets) × A
@@ -62,7 +64,7 @@ module _ (W : Entity → Type 0) (e : Entity) where
       → ((k : ℕ) → In acc k → 1 ≤ cnt e (key sets k)) → Chain (key sets) W acc rs
       → ReadyUp e 0 ps (atHole H (groupFamily e acc sets rs)) → ReadyUp e skip (upFrom p (length rs) ++ ps) (record { sets = sets; layout = H .build rs })
   unfolding upFrom groupFamily
-  family-ready {acc} {first} {top} {p} H sets [] skip ps fits le f has ch after = rw (up-from (Type 0) e (Asked e) (ReadyUp e) (ready-steps e) skip ps (record { sets = sets; layout = H .build [] }) (from-le skip top (omega arith) ps f)) after
+  family-ready {acc} {first} {top} {p} H sets [] skip ps fits le f has ch after = rw (up-from (ready-steps e) skip ps (record { sets = sets; layout = H .build [] }) (λ i h. omega (arith, f i h))) after
   family-ready {acc} {first} {top} {p} H sets (r ∷ rs) skip ps fits le f has ch after =
       bool-cases (allHeld e (r .newKinds) sets)
       (λ a.
@@ -84,7 +86,7 @@ module _ (W : Entity → Type 0) (e : Entity) where
             (subst (λ (w : Walked). ReadyUp e 0 ps (atHole H w)) w after),
       )))
       (λ a.
-      rw (ready-steps e .on skip p rest S le Incomplete (incomplete-here e H sets r rs fits a), top-here e H sets r rs fits, up-past (Type 0) e (Asked e) (ReadyUp e) (ready-steps e) top (suc p) (length rs) ps S (omega arith), up-from (Type 0) e (Asked e) (ReadyUp e) (ready-steps e) top ps S f)
+      rw (ready-steps e .on skip p rest S le Incomplete (incomplete-here e H sets r rs fits a), top-here e H sets r rs fits, up-past (ready-steps e) top (suc p) (length rs) ps S (omega arith), up-from (ready-steps e) top ps S f)
       (tt, subst (λ (w : Walked). ReadyUp e 0 ps (atHole H w)) (stop e acc sets r rs a) after))
     where
       S : Storage
@@ -117,22 +119,26 @@ ahead-walked t W e sets f fs apart ch a =
     ahead-other t W (key sets) (key ((groupFamily e [] sets f) .sets)) fs (λ k i. U .other k (not-both (kindsOf f) (allKinds (famKinds fs)) k (apart .0 k) i)) a
 
 pub ready-where : (t : Family → Bool) (W : Entity → Type 0) (e : Entity) {p : ℕ} (F : Front p) (sets : List SparseSet) (fs : List Family) → Apart (famKinds fs) → Ahead t W (key sets) fs
-    → ReadyUp e 0 (familyPositions t p fs) (atFront F (record { sets = sets; layout = fs }))
-unfolding familyPositions ReadyUp
+    → ReadyUp e 0 (positionsWhere (λ f ks. t f) p fs) (atFront F (record { sets = sets; layout = fs }))
+unfolding passing ReadyUp
 ready-where t W e F sets [] apart a = tt
 ready-where t W e {p} F sets (f ∷ fs) apart a =
-    bool-cases (t f)
-    (λ m. rw m
-    (family-ready W e (opened F (p + length f) fs) sets f 0 rest refl (omega arith) (from-families t (p + length f) fs) (λ k i. absurd (false≢true i)) (a .0 m)
-    (subst (λ (n : ℕ). ReadyUp e 0 (familyPositions t (p + n) fs) (atHole (opened F (p + length f) fs) w)) (length-up e [] sets f)
-    (ready-where t W e (past F (w .groups)) (w .sets) fs (apart .1) (ahead-walked t W e sets f fs apart (a .0 m) (a .1))))))
-    (λ m. rw m (ready-where t W e (past F f) sets fs (apart .1) (a .1)))
+    rw (where-family T p f fs)
+    (bool-cases (t f)
+    (λ m. rw (family-all T f (λ ks. m) p [] f)
+    (family-ready W e (opened F (p + length f) fs) sets f 0 rest refl (omega arith) (λ i h. where-within T (p + length f) fs i h .0) (λ k i. absurd (false≢true i)) (a .0 m)
+    (subst (λ (n : ℕ). ReadyUp e 0 (positionsWhere T (p + n) fs) (atHole (opened F (p + length f) fs) w)) (length-up e [] sets f)
+    (ready-where t W e (past F (w .groups) refl) (w .sets) fs (apart .1) (ahead-walked t W e sets f fs apart (a .0 m) (a .1))))))
+    (λ m. rw (family-none T f (λ ks. m) p [] f) (ready-where t W e (past F f refl) sets fs (apart .1) (a .1))))
   where
+    T : Family → List ℕ → Bool
+    T f ks = t f
+
     w : Walked
     w = groupFamily e [] sets f
 
     rest : List ℕ
-    rest = familyPositions t (p + length f) fs
+    rest = positionsWhere (λ f ks. t f) (p + length f) fs
 
 -- ---- insertion
 
@@ -158,7 +164,7 @@ unfolding ReadyEach
 ready-each W [] s apart fm = tt
 ready-each W (e ∷ es) s apart fm =
     let U : UpEvery W e (s .sets) (s .layout) (groupAll e (s .sets) (s .layout)) = groupFamily-every-good W e (s .sets) (s .layout) apart fm in (
-      ready-where (λ f. true) W e whole (s .sets) (s .layout) apart (ahead-all W (key (s .sets)) (s .layout) fm),
+      subst (λ (ps : List ℕ). ReadyUp e 0 ps s) (where-all 0 (s .layout)) (ready-where (λ f. true) W e whole (s .sets) (s .layout) apart (ahead-all W (key (s .sets)) (s .layout) fm)),
       ready-each (Plus W e) es (groupAll e (s .sets) (s .layout)) (rw (U .kinds) apart) (U .fams),
     )
 

@@ -2,7 +2,7 @@
 use mathlib.Core.Path.{_≡_, refl, ap, sym, _∙_}
 use mathlib.Core.Bool.{Bool, true, false, cond}
 use mathlib.Core.List.{List, [], _∷_, _++_}
-use Prim.Native.Nat.{ℕ, zero, suc, _+_, _-_, _≤_, _<_}
+use Prim.Native.Nat.{ℕ, zero, suc, _+_, _≤_, _<_}
 use native.Mathlib.Omega.{arith}
 use native.Mathlib.Numerals.{add-one}
 use borrow.Author.Tests.{lt-ltb, le-ltb}
@@ -10,20 +10,13 @@ use lib.ListN.{length}
 use Rattle.model.specs.Model.{Entity, SparseSet, Group, Family, Storage, Walked, GroupStep, meets, onKinds, swapTo, allHeld, isGrouped, kindsOf, groupComponents, groupFamily, groupTouched, groupAll}
 use Rattle.model.proofs.BoolLaws.{cond-case, bool-cases}
 use Rattle.masks.specs.Masks.{upFrom}
+use Rattle.masks.proofs.Lists.{has-here, has-later}
+use Rattle.masks.proofs.Rising.{From}
 use Rattle.group.specs.declared.group_status.GroupStatus.{GroupStatus}
 use Rattle.group.specs.declared.group_status.GroupStatus.the-variants.{Incomplete, Ungrouped, Grouped}
-use Rattle.group.specs.Flat.{Located, located, withCount, setCount, statusOf, statusAt, groupAt, stepUp, skipAfter, walkUp, familyPositions, insertPositions, allPositions}
+use Rattle.group.specs.Flat.{Located, located, withCount, setCount, statusOf, statusAt, groupAt, stepUp, skipAfter, walkUp, passing, positionsWhere, insertPositions, allPositions}
 use Rattle.group.proofs.Fronts.{Front, whole, past, Hole, opened, next, Here, here, put-here}
-
--- ---- positions at t or past it
-
-abbrev pub From : ℕ → List ℕ → Type 0
-From t [] = Unit {0}
-From t (g ∷ ps) = (t ≤ g) × From t ps
-
-pub from-le : (t u : ℕ) → t ≤ u → (ps : List ℕ) → From u ps → From t ps
-from-le t u h [] f = tt
-from-le t u h (g ∷ ps) f = (omega (arith, f .0), from-le t u h ps (f .1))
+use Rattle.group.proofs.Positions.{where-family, family-all, family-none, where-within, where-all}
 
 -- ---- a walk upward step by step: what it leaves, or what its steps need
 
@@ -34,12 +27,12 @@ pub record Stepwise {ℓ} (X : Type ℓ) (e : Entity) (step : GroupStatus → �
       → walk skip (g ∷ ps) s ≡ step t g s (walk (skipAfter t (located (s .layout) g .top) skip) ps (stepUp t e g s))
 
 -- what all positions are past need not be skipped
-pub up-from {ℓ} : (X : Type ℓ) (e : Entity) (step : GroupStatus → ℕ → Storage → X → X) (walk : ℕ → List ℕ → Storage → X) → Stepwise X e step walk
+pub up-from {ℓ} : {X : Type ℓ} {e : Entity} {step : GroupStatus → ℕ → Storage → X → X} {walk : ℕ → List ℕ → Storage → X} → Stepwise X e step walk
     → (skip : ℕ) (ps : List ℕ) (s : Storage) → From skip ps → walk skip ps s ≡ walk 0 ps s
-up-from X e step walk W skip [] s f = W .none skip s
-up-from X e step walk W skip (g ∷ ps) s f =
-    W .on skip g ps s (f .0) (statusAt e g s) refl
-    ∙ ap (step (statusAt e g s) g s) (same (statusAt e g s) (λ s′. up-from X e step walk W skip ps s′ (f .1)))
+up-from W skip [] s f = W .none skip s
+up-from {e = e} {step = step} {walk = walk} W skip (g ∷ ps) s f =
+    W .on skip g ps s (f g (has-here g ps)) (statusAt e g s) refl
+    ∙ ap (step (statusAt e g s) g s) (same (statusAt e g s) (λ s′. up-from W skip ps s′ (λ i h. f i (has-later i g ps h))))
     ∙ sym (W .on 0 g ps s (omega arith) (statusAt e g s) refl)
   where
     top : ℕ
@@ -51,11 +44,11 @@ up-from X e step walk W skip (g ∷ ps) s f =
     same Grouped r = r s
 
 -- a run of positions below skip is passed over
-pub up-past {ℓ} : (X : Type ℓ) (e : Entity) (step : GroupStatus → ℕ → Storage → X → X) (walk : ℕ → List ℕ → Storage → X) → Stepwise X e step walk
+pub up-past {ℓ} : {X : Type ℓ} {e : Entity} {step : GroupStatus → ℕ → Storage → X → X} {walk : ℕ → List ℕ → Storage → X} → Stepwise X e step walk
     → (skip p n : ℕ) (ps : List ℕ) (s : Storage) → p + n ≤ skip → walk skip (upFrom p n ++ ps) s ≡ walk skip ps s
 unfolding upFrom
-up-past X e step walk W skip p zero ps s h = refl
-up-past X e step walk W skip p (suc n) ps s h = W .pass skip p (upFrom (suc p) n ++ ps) s (omega arith) ∙ up-past X e step walk W skip (suc p) n ps s (omega arith)
+up-past W skip p zero ps s h = refl
+up-past W skip p (suc n) ps s h = W .pass skip p (upFrom (suc p) n ++ ps) s (omega arith) ∙ up-past W skip (suc p) n ps s (omega arith)
 
 pub walk-steps : (e : Entity) → Stepwise Storage e (λ t g s x. x) (walkUp e)
 unfolding walkUp
@@ -125,7 +118,7 @@ atHole H w = record { sets = w .sets; layout = H .build (w .groups) }
 pub family-up : (e : Entity) {acc : List ℕ} {first top p : ℕ} (H : Hole acc first top p) (sets : List SparseSet) (rs : Family) (skip : ℕ) (ps : List ℕ) → p + length rs ≡ top → skip ≤ p → From top ps
     → walkUp e skip (upFrom p (length rs) ++ ps) (record { sets = sets; layout = H .build rs }) ≡ walkUp e 0 ps (atHole H (groupFamily e acc sets rs))
 unfolding upFrom groupFamily
-family-up e {acc} {first} {top} {p} H sets [] skip ps fits le f = up-from Storage e (λ t g s x. x) (walkUp e) (walk-steps e) skip ps _ (from-le skip top (omega arith) ps f)
+family-up e {acc} {first} {top} {p} H sets [] skip ps fits le f = up-from (walk-steps e) skip ps _ (λ i h. omega (arith, f i h))
 family-up e {acc} {first} {top} {p} H sets (r ∷ rs) skip ps fits le f =
     bool-cases (allHeld e (r .newKinds) sets)
     (λ a. bool-cases (isGrouped e r sets)
@@ -141,8 +134,8 @@ family-up e {acc} {first} {top} {p} H sets (r ∷ rs) skip ps fits le f =
     (λ a.
     walk-steps e .on skip p rest S le Incomplete (incomplete-here e H sets r rs fits a)
     ∙ ap (λ (t : ℕ). walkUp e t rest S) (top-here e H sets r rs fits)
-    ∙ up-past Storage e (λ t g s x. x) (walkUp e) (walk-steps e) top (suc p) (length rs) ps S (omega arith)
-    ∙ up-from Storage e (λ t g s x. x) (walkUp e) (walk-steps e) top ps S f
+    ∙ up-past (walk-steps e) top (suc p) (length rs) ps S (omega arith)
+    ∙ up-from (walk-steps e) top ps S f
     ∙ ap (λ (w : Walked). walkUp e 0 ps (atHole H w)) (sym (stop e acc sets r rs a)))
   where
     S : Storage
@@ -161,18 +154,6 @@ length-up e acc sets (r ∷ rs) =
     cond-case (λ (w : Walked). length (w .groups) ≡ suc (length rs)) (allHeld e (r .newKinds) sets) _ _
     (λ a. ap suc (length-up e (acc ++ r .newKinds) ((groupComponents e (acc ++ r .newKinds) r sets) .sets) rs))
     (λ a. refl)
-
-from-run : (p n : ℕ) (t : ℕ) (ps : List ℕ) → t ≤ p → From t ps → From t (upFrom p n ++ ps)
-unfolding upFrom
-from-run p zero t ps h f = f
-from-run p (suc n) t ps h f = (h, from-run (suc p) n t ps (omega arith) f)
-
-pub from-families : (t : Family → Bool) (p : ℕ) (fs : List Family) → From p (familyPositions t p fs)
-unfolding familyPositions
-from-families t p [] = tt
-from-families t p (f ∷ fs) =
-    let rest : From p (familyPositions t (p + length f) fs) = from-le p (p + length f) (omega arith) (familyPositions t (p + length f) fs) (from-families t (p + length f) fs) in
-    cond-case (From p) (t f) _ _ (λ a. from-run p (length f) p (familyPositions t (p + length f) fs) (omega arith) rest) (λ a. rest)
 
 -- the families that pass the test are walked upward
 unfoldable pub groupWhere : (Family → Bool) → Entity → List SparseSet → List Family → Storage
@@ -199,22 +180,26 @@ abbrev pub atFront : {p : ℕ} → Front p → Storage → Storage
 atFront F s = record { sets = s .sets; layout = F .build (s .layout) }
 
 pub walk-where : (t : Family → Bool) (e : Entity) {p : ℕ} (F : Front p) (sets : List SparseSet) (fs : List Family)
-    → walkUp e 0 (familyPositions t p fs) (atFront F (record { sets = sets; layout = fs })) ≡ atFront F (groupWhere t e sets fs)
-unfolding familyPositions groupWhere walkUp
+    → walkUp e 0 (positionsWhere (λ f ks. t f) p fs) (atFront F (record { sets = sets; layout = fs })) ≡ atFront F (groupWhere t e sets fs)
+unfolding passing groupWhere walkUp
 walk-where t e F sets [] = refl
 walk-where t e {p} F sets (f ∷ fs) =
-    bool-cases (t f)
-    (λ a. rw a (
-    family-up e (opened F (p + length f) fs) sets f 0 rest refl (omega arith) (from-families t (p + length f) fs)
-    ∙ ap (λ (n : ℕ). walkUp e 0 (familyPositions t n fs) S) (ap (λ (n : ℕ). p + n) (sym (length-up e [] sets f)))
-    ∙ walk-where t e (past F (w .groups)) (w .sets) fs))
-    (λ a. rw a (walk-where t e (past F f) sets fs))
+    ap (λ (ps : List ℕ). walkUp e 0 ps (atFront F (record { sets = sets; layout = f ∷ fs }))) (where-family T p f fs)
+    ∙ bool-cases (t f)
+    (λ a. rw (a, family-all T f (λ ks. a) p [] f) (
+    family-up e (opened F (p + length f) fs) sets f 0 rest refl (omega arith) (λ i h. where-within T (p + length f) fs i h .0)
+    ∙ ap (λ (n : ℕ). walkUp e 0 (positionsWhere T n fs) S) (ap (λ (n : ℕ). p + n) (sym (length-up e [] sets f)))
+    ∙ walk-where t e (past F (w .groups) refl) (w .sets) fs))
+    (λ a. rw (a, family-none T f (λ ks. a) p [] f) (walk-where t e (past F f refl) sets fs))
   where
+    T : Family → List ℕ → Bool
+    T f ks = t f
+
     w : Walked
     w = groupFamily e [] sets f
 
     rest : List ℕ
-    rest = familyPositions t (p + length f) fs
+    rest = positionsWhere (λ f ks. t f) (p + length f) fs
 
     S : Storage
     S = record { sets = w .sets; layout = F .build (w .groups ∷ fs) }
@@ -225,4 +210,4 @@ walk-touched e ks s = walk-where (λ f. meets ks (kindsOf f)) e whole (s .sets) 
 
 -- the walk of each live entity, when a layout is applied
 pub walk-all : (e : Entity) (s : Storage) → walkUp e 0 (allPositions (s .layout)) s ≡ groupAll e (s .sets) (s .layout)
-walk-all e s = walk-where (λ f. true) e whole (s .sets) (s .layout) ∙ all-where e (s .sets) (s .layout)
+walk-all e s = ap (λ (ps : List ℕ). walkUp e 0 ps s) (sym (where-all 0 (s .layout))) ∙ walk-where (λ f. true) e whole (s .sets) (s .layout) ∙ all-where e (s .sets) (s .layout)

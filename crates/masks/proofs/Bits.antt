@@ -10,7 +10,7 @@ use lib.Bits.{bitAnd, bitOr}
 use lib.ListN.{length}
 use Rattle.masks.specs.Masks.{putIf, positions, bitsOf, upFrom, has, keepIf, keep, between, unionOf, commonOf, skipping, Ordered}
 use Rattle.masks.proofs.Digits.{isSet, hasBit, span, restOf, has-or, has-and, has-span, has-rest, same-bits, shl-one, span-shifted}
-use Rattle.masks.proofs.Lists.{keep-same, keep-keep, keep-between, has-keep, has-up, between-in, between-parts, and-parts}
+use Rattle.masks.proofs.Lists.{keep-same, keep-keep, keep-between, has-keep, has-up, up-parts, between-in, and-parts}
 
 put-keep : (d p : ℕ) (l : List ℕ) → putIf d p l ≡ keepIf (isSet d) p l
 put-keep zero p l = refl
@@ -24,11 +24,11 @@ as-keep (suc w) p m g h =
     let rest : positions w (suc p) (m / 2) ≡ keep g (upFrom (suc p) w) = as-keep w (suc p) (m / 2) g (λ i. ap g (suc-add p i ∙ sym (add-suc p i)) ∙ h (suc i)) in
     put-keep (m % 2) p (positions w (suc p) (m / 2)) ∙ ap₂ (λ (b : Bool) (l : List ℕ). keepIf b p l) (sym here) rest
 
-bits-keep : (w m : ℕ) → bitsOf w m ≡ keep (hasBit m) (upFrom 0 w)
+pub bits-keep : (w m : ℕ) → bitsOf w m ≡ keep (hasBit m) (upFrom 0 w)
 bits-keep w m = as-keep w 0 m (hasBit m) (λ i. ap (hasBit m) (zero-add i))
 
 below : (w i : ℕ) → has i (upFrom 0 w) ≡ true → i < w
-below w i e = omega (arith, between-parts 0 (0 + w) i (sym (has-up i 0 w) ∙ e) .1, zero-add w)
+below w i e = omega (arith, up-parts 0 w i e .1)
 
 -- a mask whose bits are known by a test
 bits-by : (w m : ℕ) (f : ℕ → Bool) → ((i : ℕ) → i < w → hasBit m i ≡ f i) → bitsOf w m ≡ keep f (upFrom 0 w)
