@@ -20,10 +20,10 @@ use Rattle.model.proofs.Invariant.{Fit}
 use Rattle.masks.specs.Masks.{upFrom, keepIf}
 use Rattle.group.specs.declared.group_status.GroupStatus.{GroupStatus}
 use Rattle.group.specs.declared.group_status.GroupStatus.the-variants.{Incomplete, Ungrouped, Grouped}
-use Rattle.group.specs.Flat.{Located, located, withCount, setCount, statusAt, ungroupAt, stepDown, walkDown, familyMembers, passing, positionsWhere, deletePositions}
+use Rattle.group.specs.Flat.{located, withCount, statusAt, stepDown, walkDown, familyMembers, passing, positionsWhere, deletePositions}
 use Rattle.group.specs.Ready.{ReadyOut, ReadyDown}
-use Rattle.group.proofs.Fronts.{Front, whole, past, Hole, opened, next, here, put-here}
-use Rattle.group.proofs.Upward.{grouped-here, ungrouped-here, incomplete-here, atHole, atFront}
+use Rattle.group.proofs.Fronts.{Front, whole, past, Hole, opened, next, here}
+use Rattle.group.proofs.Upward.{grouped-here, ungrouped-here, incomplete-here, ungroup-here, atHole, atFront}
 use Rattle.group.proofs.Commute.{headed-all, ungroupBack, commutes, ungroup-other}
 use Rattle.group.proofs.Positions.{where-family}
 use Rattle.group.proofs.KindPositions.{delete-all}
@@ -73,14 +73,6 @@ module _ (e : Entity) where
     abbrev S : Storage
     S = record { sets = sets; layout = H .build (r ∷ rs) }
 
-    ungroup-here : ungroupAt e p S ≡ record { sets = onKinds g (swapTo e (r .count - 1)) sets; layout = H .build (withCount (r .count - 1) r ∷ rs) }
-    unfolding ungroupAt
-    ungroup-here = λ i.
-        record {
-          sets = (ap (λ (l : Located). onKinds (l .kinds) (swapTo e (l .count - 1)) sets) (here H r rs fits)) i;
-          layout = (ap (λ (l : Located). setCount p (l .count - 1) (H .build (r ∷ rs))) (here H r rs fits) ∙ put-here H r rs (r .count - 1)) i;
-        }
-
     -- inside, it is held in every kind of the group
     held-inside : isGrouped e r sets ≡ true → (k : ℕ) → In g k → held e (setOf sets k) ≡ true
     held-inside b k i =
@@ -124,7 +116,7 @@ module _ (e : Entity) where
     goes-here =
         bool-cases (isGrouped e r sets)
         (λ b.
-        subst (Goes (p ∷ []) S) (ungroup-here ∙ ap stepped (sym (out b)))
+        subst (Goes (p ∷ []) S) (ungroup-here e H sets r rs fits ∙ ap stepped (sym (out b)))
         (goes-one p S Grouped (grouped-here e H sets r rs fits (all-held b) b) (leaves b)))
         (λ b.
         subst (Goes (p ∷ []) S) (ap stepped (sym (stays b)))

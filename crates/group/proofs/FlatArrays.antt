@@ -19,8 +19,13 @@ use Rattle.layout.specs.Group.{InFamily, arityOf, priorArity}
 use Rattle.layout.proofs.Family.{groups-same}
 use Rattle.layout.proofs.Arrays.{group-order, kinds-inside, arities-length, family-rising, groups-length, layout-kinds}
 use Rattle.layout.proofs.Groups.{same-family, place-is, place-inside, arity-is, prior-is, arity-inside}
-use Rattle.group.specs.Flat.{nowhere, familyGroups, located, setIn, setCount}
+use Rattle.group.specs.Flat.{Located, nowhere, familyGroups, located, setIn, setCount}
 use Rattle.group.proofs.Fronts.{Front, whole, past, opened}
+
+-- the group with arity kinds from start on, of which those from prior on are new
+abbrev pub standing : List ℕ → ℕ → ℕ → ℕ → ℕ → ℕ → ℕ → Located
+standing order start prior arity count first top =
+    record { kinds = between start (start + arity) order; newKinds = between (start + prior) (start + arity) order; count = count; first = first; top = top }
 
 -- ---- a family's groups: ks are its kinds, ars the groups' arities from here on, b the arity before
 
@@ -88,7 +93,7 @@ module _ (counts : List ℕ) (a : Arrays) (good : WellFormed a) (sized : Sized a
       ∙ ap (between (s + x) (s + y)) (sym (layout-kinds counts a good sized))
 
   module _ (f g : ℕ) (G : InFamily a f g) where
-    abbrev start : ℕ
+    abbrev pub start : ℕ
     start = startOf (a .kindEnds) f
 
     abbrev i : ℕ
@@ -100,30 +105,17 @@ module _ (counts : List ℕ) (a : Arrays) (good : WellFormed a) (sized : Sized a
     at c = table-at c (a .families) (familyAt counts a) (startOf (a .ends)) whole steps f i (G .family) (omega (arith, family-size f (G .family), G .low, G .high))
 
     -- what stands at position g
-    pub located-is : located (familiesOf counts a) g ≡ record {
-      kinds = between (startOf (a .kindEnds) f) (startOf (a .kindEnds) f + arityOf a g) (layoutKinds (familiesOf counts a));
-      newKinds = between (startOf (a .kindEnds) f + priorArity a f g) (startOf (a .kindEnds) f + arityOf a g) (layoutKinds (familiesOf counts a));
-      count = getD counts g 0;
-      first = startOf (a .ends) f;
-      top = getD (a .ends) f 0;
-    }
+    pub located-is : located (familiesOf counts a) g ≡ standing (layoutKinds (familiesOf counts a)) start (priorArity a f g) (arityOf a g) (getD counts g 0) (startOf (a .ends) f) (getD (a .ends) f 0)
     located-is =
         let arity = arityOf a g in
         let r : start + arity ≤ getD (a .kindEnds) f 0 = arity-inside a good sized f g G in
         let z : start + 0 ≡ start = omega arith in
-        let all : take arity (kindsAt a f) ≡ between start (start + arity) (layoutKinds (familiesOf counts a)) =
-        ap (λ (n : ℕ). take n (kindsAt a f)) (sym (sub-zero arity)) ∙ kinds-in f 0 arity (G .family) r ∙ ap (λ (n : ℕ). between n (start + arity) (layoutKinds (familiesOf counts a))) z in
-        let new = kinds-in f (priorArity a f g) arity (G .family) r in
+        let all : take (getD (aritiesAt a f) i 0) (kindsAt a f) ≡ between start (start + arity) (layoutKinds (familiesOf counts a)) =
+        ap (λ (n : ℕ). take n (kindsAt a f)) (arity-is a good sized f g G ∙ sym (sub-zero arity)) ∙ kinds-in f 0 arity (G .family) r ∙ ap (λ (n : ℕ). between n (start + arity) (layoutKinds (familiesOf counts a))) z in
+        let new = (λ j. between (prior-is a good sized f g G j) (arity-is a good sized f g G j) (kindsAt a f)) ∙ kinds-in f (priorArity a f g) arity (G .family) r in
         ap (located (familiesOf counts a)) (sym (place-is a good sized f g G)) ∙ at 0 .0
         ∙ family-group counts (startOf (a .ends) f) (getD (a .ends) f 0) (startOf (a .ends) f) (kindsAt a f) 0 (length (kindsAt a f)) (aritiesAt a f) (family-rising a good sized f (G .family)) i (place-inside a good sized f g G)
-        ∙ (λ j. record {
-          kinds = take (arity-is a good sized f g G j) (kindsAt a f);
-          newKinds = between (prior-is a good sized f g G j) (arity-is a good sized f g G j) (kindsAt a f);
-          count = getD counts (place-is a good sized f g G j) 0;
-          first = startOf (a .ends) f;
-          top = getD (a .ends) f 0;
-        })
-        ∙ (λ j. record { kinds = all j; newKinds = new j; count = getD counts g 0; first = startOf (a .ends) f; top = getD (a .ends) f 0 })
+        ∙ (λ j. record { kinds = all j; newKinds = new j; count = getD counts (place-is a good sized f g G j) 0; first = startOf (a .ends) f; top = getD (a .ends) f 0 })
 
     -- another count at position g
     pub counts-are : (c : ℕ) → g < length counts → familiesOf (set counts g c) a ≡ setCount g c (familiesOf counts a)

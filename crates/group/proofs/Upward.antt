@@ -2,7 +2,7 @@
 use mathlib.Core.Path.{_≡_, refl, ap, sym, _∙_}
 use mathlib.Core.Bool.{Bool, true, false, cond}
 use mathlib.Core.List.{List, [], _∷_, _++_}
-use Prim.Native.Nat.{ℕ, zero, suc, _+_, _≤_, _<_}
+use Prim.Native.Nat.{ℕ, zero, suc, _+_, _-_, _≤_, _<_}
 use native.Mathlib.Omega.{arith}
 use native.Mathlib.Numerals.{add-one}
 use borrow.Author.Tests.{lt-ltb, le-ltb}
@@ -14,7 +14,7 @@ use Rattle.masks.proofs.Lists.{has-here, has-later}
 use Rattle.masks.proofs.Rising.{From}
 use Rattle.group.specs.declared.group_status.GroupStatus.{GroupStatus}
 use Rattle.group.specs.declared.group_status.GroupStatus.the-variants.{Incomplete, Ungrouped, Grouped}
-use Rattle.group.specs.Flat.{Located, located, withCount, setCount, statusOf, statusAt, groupAt, stepUp, skipAfter, walkUp, passing, positionsWhere, insertPositions, allPositions}
+use Rattle.group.specs.Flat.{Located, located, withCount, movedTo, statusOf, statusAt, groupAt, ungroupAt, stepUp, skipAfter, walkUp, passing, positionsWhere, insertPositions, allPositions}
 use Rattle.group.proofs.Fronts.{Front, whole, past, Hole, opened, next, Here, here, put-here}
 use Rattle.group.proofs.Positions.{where-family, family-all, family-none, where-within, where-all}
 
@@ -80,16 +80,20 @@ module _ (e : Entity) {acc : List ℕ} {first top p : ℕ} (H : Hole acc first t
   pub ungrouped-here : allHeld e (r .newKinds) sets ≡ true → isGrouped e r sets ≡ false → statusAt e p At ≡ Ungrouped
   ungrouped-here a b = status-here ∙ rw (a, b)
 
-  abbrev pub Moved : List SparseSet
-  Moved = onKinds (acc ++ r .newKinds) (swapTo e (r .count)) sets
+  -- swapped to place c in the group's kinds, and n for its count
+  abbrev pub Moved : ℕ → ℕ → Storage
+  Moved c n = record { sets = onKinds (acc ++ r .newKinds) (swapTo e c) sets; layout = H .build (withCount n r ∷ rs) }
 
-  pub group-here : groupAt e p At ≡ record { sets = Moved; layout = H .build (withCount (suc (r .count)) r ∷ rs) }
+  moved-here : (c n : ℕ) → movedTo e p c n At ≡ Moved c n
+  moved-here c n = λ i. record { sets = onKinds (here H r rs fits i .kinds) (swapTo e c) sets; layout = put-here H r rs n i }
+
+  pub group-here : groupAt e p At ≡ Moved (r .count) (suc (r .count))
   unfolding groupAt
-  group-here = λ i.
-      record {
-        sets = (ap (λ (l : Located). onKinds (l .kinds) (swapTo e (l .count)) sets) (here H r rs fits)) i;
-        layout = (ap (λ (l : Located). setCount p (l .count + 1) (H .build (r ∷ rs))) (here H r rs fits) ∙ put-here H r rs (r .count + 1) ∙ ap (λ (c : ℕ). H .build (withCount c r ∷ rs)) (add-one (r .count))) i;
-      }
+  group-here = ap (λ (l : Located). movedTo e p (l .count) (l .count + 1) At) (here H r rs fits) ∙ moved-here (r .count) (r .count + 1) ∙ ap (Moved (r .count)) (add-one (r .count))
+
+  pub ungroup-here : ungroupAt e p At ≡ Moved (r .count - 1) (r .count - 1)
+  unfolding ungroupAt
+  ungroup-here = ap (λ (l : Located). movedTo e p (l .count - 1) (l .count - 1) At) (here H r rs fits) ∙ moved-here (r .count - 1) (r .count - 1)
 
 -- ---- the model's steps
 
@@ -129,7 +133,7 @@ family-up e {acc} {first} {top} {p} H sets (r ∷ rs) skip ps fits le f =
     (λ b.
     walk-steps e .on skip p rest S le Ungrouped (ungrouped-here e H sets r rs fits a b)
     ∙ ap (walkUp e skip rest) (group-here e H sets r rs fits)
-    ∙ family-up e (next H (withCount (suc (r .count)) r)) (Moved e H sets r rs fits) rs skip ps (omega arith) (omega arith) f
+    ∙ family-up e (next H (withCount (suc (r .count)) r)) (onKinds (acc ++ r .newKinds) (swapTo e (r .count)) sets) rs skip ps (omega arith) (omega arith) f
     ∙ ap (λ (w : Walked). walkUp e 0 ps (atHole H w)) (sym (goes-on e acc sets r rs _ a (moves e (acc ++ r .newKinds) r sets b)))))
     (λ a.
     walk-steps e .on skip p rest S le Incomplete (incomplete-here e H sets r rs fits a)

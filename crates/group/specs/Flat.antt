@@ -66,17 +66,17 @@ statusOf e l sets =
 abbrev pub statusAt : Entity → ℕ → Storage → GroupStatus
 statusAt e g s = statusOf e (located (s .layout) g) (s .sets)
 
+-- swapped to place c, "in every column of the group", and n for the count
+abbrev pub movedTo : Entity → ℕ → ℕ → ℕ → Storage → Storage
+movedTo e g c n s = record { sets = onKinds (located (s .layout) g .kinds) (swapTo e c) (s .sets); layout = setCount g n (s .layout) }
+
 -- "swapped to the place equal to the count, in every column of the group, and the count grows"
 unfoldable pub groupAt : Entity → ℕ → Storage → Storage
-groupAt e g s =
-    let l = located (s .layout) g in
-    record { sets = onKinds (l .kinds) (swapTo e (l .count)) (s .sets); layout = setCount g (l .count + 1) (s .layout) }
+groupAt e g s = let l = located (s .layout) g in movedTo e g (l .count) (l .count + 1) s
 
 -- "swapped to the last counted place and the count falls"
 unfoldable pub ungroupAt : Entity → ℕ → Storage → Storage
-ungroupAt e g s =
-    let l = located (s .layout) g in
-    record { sets = onKinds (l .kinds) (swapTo e (l .count - 1)) (s .sets); layout = setCount g (l .count - 1) (s .layout) }
+ungroupAt e g s = let l = located (s .layout) g in movedTo e g (l .count - 1) (l .count - 1) s
 
 -- ---- the walks
 
