@@ -7,7 +7,7 @@ use native.Mathlib.Omega.{arith}
 use native.Mathlib.Numerals.{add-one}
 use borrow.Author.Tests.{lt-ltb, le-ltb}
 use lib.ListN.{length}
-use Rattle.model.specs.Model.{Entity, SparseSet, Group, Family, Storage, Walked, GroupStep, meets, onKinds, swapTo, allHeld, isGrouped, kindsOf, groupComponents, groupFamily, groupTouched, groupAll}
+use Rattle.model.specs.Model.{Entity, SparseSet, Group, Family, Storage, Walked, meets, onKinds, swapTo, allHeld, isGrouped, kindsOf, groupComponents, groupFamily, groupTouched, groupAll}
 use Rattle.model.proofs.BoolLaws.{cond-case, bool-cases}
 use Rattle.masks.specs.Masks.{upFrom}
 use Rattle.masks.proofs.Lists.{has-here, has-later}
@@ -26,38 +26,28 @@ pub record Stepwise {ℓ} (X : Type ℓ) (e : Entity) (step : GroupStatus → �
   pub on : (skip g : ℕ) (ps : List ℕ) (s : Storage) → skip ≤ g → (t : GroupStatus) → statusAt e g s ≡ t
       → walk skip (g ∷ ps) s ≡ step t g s (walk (skipAfter t (located (s .layout) g .top) skip) ps (stepUp t e g s))
 
--- what all positions are past need not be skipped
-pub up-from {ℓ} : {X : Type ℓ} {e : Entity} {step : GroupStatus → ℕ → Storage → X → X} {walk : ℕ → List ℕ → Storage → X} → Stepwise X e step walk
-    → (skip : ℕ) (ps : List ℕ) (s : Storage) → From skip ps → walk skip ps s ≡ walk 0 ps s
-up-from W skip [] s f = W .none skip s
-up-from {e = e} {step = step} {walk = walk} W skip (g ∷ ps) s f =
-    W .on skip g ps s (f g (has-here g ps)) (statusAt e g s) refl
-    ∙ ap (step (statusAt e g s) g s) (same (statusAt e g s) (λ s′. up-from W skip ps s′ (λ i h. f i (has-later i g ps h))))
-    ∙ sym (W .on 0 g ps s (omega arith) (statusAt e g s) refl)
-  where
-    top : ℕ
-    top = located (s .layout) g .top
+module _ {ℓ} {X : Type ℓ} {e : Entity} {step : GroupStatus → ℕ → Storage → X → X} {walk : ℕ → List ℕ → Storage → X} (W : Stepwise X e step walk) where
+  -- what all positions are past need not be skipped
+  pub up-from : (skip : ℕ) (ps : List ℕ) (s : Storage) → From skip ps → walk skip ps s ≡ walk 0 ps s
+  up-from skip [] s f = W .none skip s
+  up-from skip (g ∷ ps) s f =
+      W .on skip g ps s (f g (has-here g ps)) (statusAt e g s) refl
+      ∙ ap (step (statusAt e g s) g s) (same (statusAt e g s) (λ s′. up-from skip ps s′ (λ i h. f i (has-later i g ps h))))
+      ∙ sym (W .on 0 g ps s (omega arith) (statusAt e g s) refl)
+    where
+      top : ℕ
+      top = located (s .layout) g .top
 
-    same : (t : GroupStatus) → ((s′ : Storage) → walk skip ps s′ ≡ walk 0 ps s′) → walk (skipAfter t top skip) ps (stepUp t e g s) ≡ walk (skipAfter t top 0) ps (stepUp t e g s)
-    same Incomplete r = refl
-    same Ungrouped r = r (groupAt e g s)
-    same Grouped r = r s
+      same : (t : GroupStatus) → ((s′ : Storage) → walk skip ps s′ ≡ walk 0 ps s′) → walk (skipAfter t top skip) ps (stepUp t e g s) ≡ walk (skipAfter t top 0) ps (stepUp t e g s)
+      same Incomplete r = refl
+      same Ungrouped r = r (groupAt e g s)
+      same Grouped r = r s
 
--- a run of positions below skip is passed over
-pub up-past {ℓ} : {X : Type ℓ} {e : Entity} {step : GroupStatus → ℕ → Storage → X → X} {walk : ℕ → List ℕ → Storage → X} → Stepwise X e step walk
-    → (skip p n : ℕ) (ps : List ℕ) (s : Storage) → p + n ≤ skip → walk skip (upFrom p n ++ ps) s ≡ walk skip ps s
-unfolding upFrom
-up-past W skip p zero ps s h = refl
-up-past W skip p (suc n) ps s h = W .pass skip p (upFrom (suc p) n ++ ps) s (omega arith) ∙ up-past W skip (suc p) n ps s (omega arith)
-
-pub walk-steps : (e : Entity) → Stepwise Storage e (λ t g s x. x) (walkUp e)
-unfolding walkUp
-walk-steps e =
-    record {
-      none = λ skip s. refl;
-      pass = λ skip g ps s h. rw (lt-ltb g skip h);
-      on = λ skip g ps s h t q. rw (le-ltb g skip h, q);
-    }
+  -- a run of positions below skip is passed over
+  up-past : (skip p n : ℕ) (ps : List ℕ) (s : Storage) → p + n ≤ skip → walk skip (upFrom p n ++ ps) s ≡ walk skip ps s
+  unfolding upFrom
+  up-past skip p zero ps s h = refl
+  up-past skip p (suc n) ps s h = W .pass skip p (upFrom (suc p) n ++ ps) s (omega arith) ∙ up-past skip (suc p) n ps s (omega arith)
 
 -- ---- a group of a family
 
@@ -97,15 +87,6 @@ module _ (e : Entity) {acc : List ℕ} {first top p : ℕ} (H : Hole acc first t
 
 -- ---- the model's steps
 
-pub stop : (e : Entity) (acc : List ℕ) (sets : List SparseSet) (r : Group) (rs : Family) → allHeld e (r .newKinds) sets ≡ false → groupFamily e acc sets (r ∷ rs) ≡ record { sets = sets; groups = r ∷ rs }
-unfolding groupFamily
-stop e acc sets r rs a = rw a
-
-pub goes-on : (e : Entity) (acc : List ℕ) (sets : List SparseSet) (r : Group) (rs : Family) (t : GroupStep) → allHeld e (r .newKinds) sets ≡ true → groupComponents e (acc ++ r .newKinds) r sets ≡ t
-    → groupFamily e acc sets (r ∷ rs) ≡ record { sets = (groupFamily e (acc ++ r .newKinds) (t .sets) rs) .sets; groups = t .group ∷ (groupFamily e (acc ++ r .newKinds) (t .sets) rs) .groups }
-unfolding groupFamily
-goes-on e acc sets r rs t a q = rw (a, q)
-
 pub stays : (e : Entity) (ks : List ℕ) (r : Group) (sets : List SparseSet) → isGrouped e r sets ≡ true → groupComponents e ks r sets ≡ record { sets = sets; group = r }
 unfolding groupComponents
 stays e ks r sets b = rw b
@@ -116,39 +97,21 @@ moves e ks r sets b = rw b
 
 -- ---- a family
 
+-- R of a walk and of what is left of it: that they are the same, or the needs of the walk from the needs of what is left. C is what the steps rest on,
+-- before the groups rs of a family; acc are the kinds of the group before.
+pub record Climb {ℓ} (X : Type ℓ) (e : Entity) (step : GroupStatus → ℕ → Storage → X → X) (R : X → X → Type 0) (C : List SparseSet → List ℕ → Family → Type 0) : Type ℓ where
+  pub same : (x : X) → R x x
+  pub both : {x y z : X} → R x y → R y z → R x z
+  pub left : {x y : X} (g : ℕ) (s : Storage) → R x y → R (step Incomplete g s x) y
+  pub inside : {x y : X} (g : ℕ) (s : Storage) → R x y → R (step Grouped g s x) y
+  pub enters : {x y : X} {acc : List ℕ} {first top p : ℕ} (H : Hole acc first top p) (sets : List SparseSet) (r : Group) (rs : Family) (fits : p + suc (length rs) ≡ top)
+      → C sets acc (r ∷ rs) → allHeld e (r .newKinds) sets ≡ true → isGrouped e r sets ≡ false → R x y → R (step Ungrouped p (At e H sets r rs fits) x) y
+  pub past : (acc : List ℕ) (sets : List SparseSet) (r : Group) (rs : Family) → C sets acc (r ∷ rs) → allHeld e (r .newKinds) sets ≡ true → C sets (acc ++ r .newKinds) rs
+  pub moved : (acc : List ℕ) (sets : List SparseSet) (r : Group) (rs : Family) → C sets acc (r ∷ rs) → allHeld e (r .newKinds) sets ≡ true → isGrouped e r sets ≡ false
+      → C (onKinds (acc ++ r .newKinds) (swapTo e (r .count)) sets) (acc ++ r .newKinds) rs
+
 abbrev pub atHole : {acc : List ℕ} {first top p : ℕ} → Hole acc first top p → Walked → Storage
 atHole H w = record { sets = w .sets; layout = H .build (w .groups) }
-
-pub family-up : (e : Entity) {acc : List ℕ} {first top p : ℕ} (H : Hole acc first top p) (sets : List SparseSet) (rs : Family) (skip : ℕ) (ps : List ℕ) → p + length rs ≡ top → skip ≤ p → From top ps
-    → walkUp e skip (upFrom p (length rs) ++ ps) (record { sets = sets; layout = H .build rs }) ≡ walkUp e 0 ps (atHole H (groupFamily e acc sets rs))
-unfolding upFrom groupFamily
-family-up e {acc} {first} {top} {p} H sets [] skip ps fits le f = up-from (walk-steps e) skip ps _ (λ i h. omega (arith, f i h))
-family-up e {acc} {first} {top} {p} H sets (r ∷ rs) skip ps fits le f =
-    bool-cases (allHeld e (r .newKinds) sets)
-    (λ a. bool-cases (isGrouped e r sets)
-    (λ b.
-    walk-steps e .on skip p rest S le Grouped (grouped-here e H sets r rs fits a b)
-    ∙ family-up e (next H r) sets rs skip ps (omega arith) (omega arith) f
-    ∙ ap (λ (w : Walked). walkUp e 0 ps (atHole H w)) (sym (goes-on e acc sets r rs (record { sets = sets; group = r }) a (stays e (acc ++ r .newKinds) r sets b))))
-    (λ b.
-    walk-steps e .on skip p rest S le Ungrouped (ungrouped-here e H sets r rs fits a b)
-    ∙ ap (walkUp e skip rest) (group-here e H sets r rs fits)
-    ∙ family-up e (next H (withCount (suc (r .count)) r)) (onKinds (acc ++ r .newKinds) (swapTo e (r .count)) sets) rs skip ps (omega arith) (omega arith) f
-    ∙ ap (λ (w : Walked). walkUp e 0 ps (atHole H w)) (sym (goes-on e acc sets r rs _ a (moves e (acc ++ r .newKinds) r sets b)))))
-    (λ a.
-    walk-steps e .on skip p rest S le Incomplete (incomplete-here e H sets r rs fits a)
-    ∙ ap (λ (t : ℕ). walkUp e t rest S) (top-here e H sets r rs fits)
-    ∙ up-past (walk-steps e) top (suc p) (length rs) ps S (omega arith)
-    ∙ up-from (walk-steps e) top ps S f
-    ∙ ap (λ (w : Walked). walkUp e 0 ps (atHole H w)) (sym (stop e acc sets r rs a)))
-  where
-    S : Storage
-    S = record { sets = sets; layout = H .build (r ∷ rs) }
-
-    rest : List ℕ
-    rest = upFrom (suc p) (length rs) ++ ps
-
--- ---- all families
 
 -- the walk leaves as many groups
 pub length-up : (e : Entity) (acc : List ℕ) (sets : List SparseSet) (rs : Family) → length ((groupFamily e acc sets rs) .groups) ≡ length rs
@@ -183,35 +146,86 @@ all-where e sets (f ∷ fs) = rw (all-where e ((groupFamily e [] sets f) .sets) 
 abbrev pub atFront : {p : ℕ} → Front p → Storage → Storage
 atFront F s = record { sets = s .sets; layout = F .build (s .layout) }
 
-pub walk-where : (t : Family → Bool) (e : Entity) {p : ℕ} (F : Front p) (sets : List SparseSet) (fs : List Family)
-    → walkUp e 0 (positionsWhere (λ f ks. t f) p fs) (atFront F (record { sets = sets; layout = fs })) ≡ atFront F (groupWhere t e sets fs)
-unfolding passing groupWhere walkUp
-walk-where t e F sets [] = refl
-walk-where t e {p} F sets (f ∷ fs) =
-    ap (λ (ps : List ℕ). walkUp e 0 ps (atFront F (record { sets = sets; layout = f ∷ fs }))) (where-family T p f fs)
-    ∙ bool-cases (t f)
-    (λ a. rw (a, family-all T f (λ ks. a) p [] f) (
-    family-up e (opened F (p + length f) fs) sets f 0 rest refl (omega arith) (λ i h. where-within T (p + length f) fs i h .0)
-    ∙ ap (λ (n : ℕ). walkUp e 0 (positionsWhere T n fs) S) (ap (λ (n : ℕ). p + n) (sym (length-up e [] sets f)))
-    ∙ walk-where t e (past F (w .groups) refl) (w .sets) fs))
-    (λ a. rw (a, family-none T f (λ ks. a) p [] f) (walk-where t e (past F f refl) sets fs))
-  where
-    T : Family → List ℕ → Bool
-    T f ks = t f
+module _ {ℓ} {X : Type ℓ} {e : Entity} {step : GroupStatus → ℕ → Storage → X → X} {walk : ℕ → List ℕ → Storage → X} {R : X → X → Type 0} {C : List SparseSet → List ℕ → Family → Type 0}
+    (W : Stepwise X e step walk) (K : Climb X e step R C) where
+  family-climbs : {acc : List ℕ} {first top p : ℕ} (H : Hole acc first top p) (sets : List SparseSet) (rs : Family) (skip : ℕ) (ps : List ℕ) → p + length rs ≡ top → skip ≤ p → From top ps → C sets acc rs
+      → R (walk skip (upFrom p (length rs) ++ ps) (record { sets = sets; layout = H .build rs })) (walk 0 ps (atHole H (groupFamily e acc sets rs)))
+  unfolding upFrom groupFamily
+  family-climbs H sets [] skip ps fits le f c = rw (up-from W skip ps (record { sets = sets; layout = H .build [] }) (λ i h. omega (arith, f i h))) (K .same _)
+  family-climbs {acc} {first} {top} {p} H sets (r ∷ rs) skip ps fits le f c =
+      bool-cases (allHeld e (r .newKinds) sets)
+      (λ a. bool-cases (isGrouped e r sets)
+      (λ b. rw (W .on skip p rest S le Grouped (grouped-here e H sets r rs fits a b), a, stays e (acc ++ r .newKinds) r sets b)
+      (K .inside p S (family-climbs (next H r) sets rs skip ps (omega arith) (omega arith) f (K .past acc sets r rs c a))))
+      (λ b. rw (W .on skip p rest S le Ungrouped (ungrouped-here e H sets r rs fits a b), group-here e H sets r rs fits, a, moves e (acc ++ r .newKinds) r sets b)
+      (K .enters H sets r rs fits c a b (family-climbs (next H (withCount (suc (r .count)) r)) M rs skip ps (omega arith) (omega arith) f (K .moved acc sets r rs c a b)))))
+      (λ a. rw (W .on skip p rest S le Incomplete (incomplete-here e H sets r rs fits a), top-here e H sets r rs fits, up-past W top (suc p) (length rs) ps S (omega arith), up-from W top ps S f, a)
+      (K .left p S (K .same (walk 0 ps S))))
+    where
+      S : Storage
+      S = record { sets = sets; layout = H .build (r ∷ rs) }
 
-    w : Walked
-    w = groupFamily e [] sets f
+      M : List SparseSet
+      M = onKinds (acc ++ r .newKinds) (swapTo e (r .count)) sets
 
-    rest : List ℕ
-    rest = positionsWhere (λ f ks. t f) (p + length f) fs
+      rest : List ℕ
+      rest = upFrom (suc p) (length rs) ++ ps
 
-    S : Storage
-    S = record { sets = w .sets; layout = F .build (w .groups ∷ fs) }
+  -- ---- all families that pass a test: A is what the walks rest on, before the families fs
+
+  pub where-climbs : (t : Family → Bool) (A : List SparseSet → List Family → Type 0)
+      → ((sets : List SparseSet) (f : Family) (fs : List Family) → A sets (f ∷ fs) → t f ≡ true → C sets [] f × A ((groupFamily e [] sets f) .sets) fs)
+      → ((sets : List SparseSet) (f : Family) (fs : List Family) → A sets (f ∷ fs) → A sets fs)
+      → {p : ℕ} (F : Front p) (sets : List SparseSet) (fs : List Family) → A sets fs
+      → R (walk 0 (positionsWhere (λ f ks. t f) p fs) (atFront F (record { sets = sets; layout = fs }))) (walk 0 [] (atFront F (groupWhere t e sets fs)))
+  unfolding passing groupWhere
+  where-climbs t A on off F sets [] a = K .same _
+  where-climbs t A on off {p} F sets (f ∷ fs) a =
+      rw (where-family T p f fs)
+      (bool-cases (t f)
+      (λ m. rw (m, family-all T f (λ ks. m) p [] f)
+      (let o = on sets f fs a m in
+      K .both (family-climbs (opened F (p + length f) fs) sets f 0 (positionsWhere T (p + length f) fs) refl (omega arith) (λ i h. where-within T (p + length f) fs i h .0) (o .0))
+      (rw (ap (λ (n : ℕ). p + n) (sym (length-up e [] sets f))) (where-climbs t A on off (past F (w .groups) refl) (w .sets) fs (o .1)))))
+      (λ m. rw (m, family-none T f (λ ks. m) p [] f) (where-climbs t A on off (past F f refl) sets fs (off sets f fs a))))
+    where
+      T : Family → List ℕ → Bool
+      T f ks = t f
+
+      w : Walked
+      w = groupFamily e [] sets f
+
+-- ---- the walk itself
+
+pub walk-steps : (e : Entity) → Stepwise Storage e (λ t g s x. x) (walkUp e)
+unfolding walkUp
+walk-steps e =
+    record {
+      none = λ skip s. refl;
+      pass = λ skip g ps s h. rw (lt-ltb g skip h);
+      on = λ skip g ps s h t q. rw (le-ltb g skip h, q);
+    }
+
+walk-climb : (e : Entity) → Climb Storage e (λ t g s x. x) (λ x y. x ≡ y) (λ sets acc rs. Unit {0})
+walk-climb e =
+    record {
+      same = λ x. refl;
+      both = λ p q. p ∙ q;
+      left = λ g s r. r;
+      inside = λ g s r. r;
+      enters = λ H sets r rs fits c a b q. q;
+      past = λ acc sets r rs c a. tt;
+      moved = λ acc sets r rs c a b. tt;
+    }
+
+walk-where : (t : Family → Bool) (e : Entity) (s : Storage) → walkUp e 0 (positionsWhere (λ f ks. t f) 0 (s .layout)) s ≡ groupWhere t e (s .sets) (s .layout)
+unfolding walkUp
+walk-where t e s = where-climbs (walk-steps e) (walk-climb e) t (λ sets fs. Unit {0}) (λ sets f fs a m. (tt, tt)) (λ sets f fs a. tt) whole (s .sets) (s .layout) tt
 
 -- insertion's walk
 pub walk-touched : (e : Entity) (ks : List ℕ) (s : Storage) → walkUp e 0 (insertPositions ks (s .layout)) s ≡ groupTouched e ks (s .sets) (s .layout)
-walk-touched e ks s = walk-where (λ f. meets ks (kindsOf f)) e whole (s .sets) (s .layout) ∙ touched-where e ks (s .sets) (s .layout)
+walk-touched e ks s = walk-where (λ f. meets ks (kindsOf f)) e s ∙ touched-where e ks (s .sets) (s .layout)
 
 -- the walk of each live entity, when a layout is applied
 pub walk-all : (e : Entity) (s : Storage) → walkUp e 0 (allPositions (s .layout)) s ≡ groupAll e (s .sets) (s .layout)
-walk-all e s = ap (λ (ps : List ℕ). walkUp e 0 ps s) (sym (where-all 0 (s .layout))) ∙ walk-where (λ f. true) e whole (s .sets) (s .layout) ∙ all-where e (s .sets) (s .layout)
+walk-all e s = ap (λ (ps : List ℕ). walkUp e 0 ps s) (sym (where-all 0 (s .layout))) ∙ walk-where (λ f. true) e s ∙ all-where e (s .sets) (s .layout)

@@ -68,29 +68,28 @@ module _ {walk : List ℕ → Storage → Storage} {Ready : List ℕ → Storage
 
 -- ---- a turn upward
 
--- skipping is leaving out
-up-keep {ℓ} : {X : Type ℓ} {e : Entity} {step : GroupStatus → ℕ → Storage → X → X} {walk : ℕ → List ℕ → Storage → X} → Stepwise X e step walk
-    → (t : ℕ) (ps : List ℕ) (s : Storage) → Ascending ps → walk t ps s ≡ walk 0 (keep (leb t) ps) s
-unfolding keep
-up-keep W t [] s a = W .none t s
-up-keep {walk = walk} W t (g ∷ ps) s a = go (decLt g t) (up-keep W t ps s (a .1))
-  where
-    go : Dec (g < t) → walk t ps s ≡ walk 0 (keep (leb t) ps) s → walk t (g ∷ ps) s ≡ walk 0 (keep (leb t) (g ∷ ps)) s
-    go (yes h) r = W .pass t g ps s h ∙ r ∙ rw (lt-leb t g h)
-    go (no h) r =
-        let f : From t (g ∷ ps) = from-cons t g ps (omega arith) (a .0) in
-        up-from W t (g ∷ ps) s f ∙ ap (λ (l : List ℕ). walk 0 l s) (sym (keep-from t (g ∷ ps) f))
+module _ {ℓ} {X : Type ℓ} {e : Entity} {step : GroupStatus → ℕ → Storage → X → X} {walk : ℕ → List ℕ → Storage → X} (W : Stepwise X e step walk) where
+  -- skipping is leaving out
+  up-keep : (t : ℕ) (ps : List ℕ) (s : Storage) → Ascending ps → walk t ps s ≡ walk 0 (keep (leb t) ps) s
+  unfolding keep
+  up-keep t [] s a = W .none t s
+  up-keep t (g ∷ ps) s a = go (decLt g t) (up-keep t ps s (a .1))
+    where
+      go : Dec (g < t) → walk t ps s ≡ walk 0 (keep (leb t) ps) s → walk t (g ∷ ps) s ≡ walk 0 (keep (leb t) (g ∷ ps)) s
+      go (yes h) r = W .pass t g ps s h ∙ r ∙ rw (lt-leb t g h)
+      go (no h) r =
+          let f : From t (g ∷ ps) = from-cons t g ps (omega arith) (a .0) in
+          up-from W t (g ∷ ps) s f ∙ ap (λ (l : List ℕ). walk 0 l s) (sym (keep-from t (g ∷ ps) f))
 
--- where a new kind is missing, the rest of the family goes out of the mask
-up-on {ℓ} : {X : Type ℓ} {e : Entity} {step : GroupStatus → ℕ → Storage → X → X} {walk : ℕ → List ℕ → Storage → X} → Stepwise X e step walk
-    → (s : Storage) (g : ℕ) (ps : List ℕ) → Ascending (g ∷ ps) → ((i : ℕ) → has i ps ≡ true → i < 64) → (t : GroupStatus) → statusAt e g s ≡ t
-    → walk 0 (g ∷ ps) s ≡ step t g s (walk 0 (leftAfter t g (located (s .layout) g .top) ps) (stepUp t e g s))
-up-on {step = step} {walk = walk} W s g ps a low Incomplete q =
-    let top : ℕ = located (s .layout) g .top in
-    W .on 0 g ps s (omega arith) Incomplete q
-    ∙ ap (step Incomplete g s) (up-keep W top ps s (a .1) ∙ ap (λ (l : List ℕ). walk 0 l s) (sym (skip-rest 64 g top ps (a .0) low)))
-up-on W s g ps a low Ungrouped q = W .on 0 g ps s (omega arith) Ungrouped q
-up-on W s g ps a low Grouped q = W .on 0 g ps s (omega arith) Grouped q
+  -- where a new kind is missing, the rest of the family goes out of the mask
+  up-on : (s : Storage) (g : ℕ) (ps : List ℕ) → Ascending (g ∷ ps) → ((i : ℕ) → has i ps ≡ true → i < 64) → (t : GroupStatus) → statusAt e g s ≡ t
+      → walk 0 (g ∷ ps) s ≡ step t g s (walk 0 (leftAfter t g (located (s .layout) g .top) ps) (stepUp t e g s))
+  up-on s g ps a low Incomplete q =
+      let top : ℕ = located (s .layout) g .top in
+      W .on 0 g ps s (omega arith) Incomplete q
+      ∙ ap (step Incomplete g s) (up-keep top ps s (a .1) ∙ ap (λ (l : List ℕ). walk 0 l s) (sym (skip-rest 64 g top ps (a .0) low)))
+  up-on s g ps a low Ungrouped q = W .on 0 g ps s (omega arith) Ungrouped q
+  up-on s g ps a low Grouped q = W .on 0 g ps s (omega arith) Grouped q
 
 up-groups : (t : GroupStatus) (e : Entity) (g : ℕ) (s : Storage) → groupsOf (stepUp t e g s .layout) ≡ groupsOf (s .layout)
 unfolding groupAt
