@@ -24,7 +24,7 @@ use Rattle.group.specs.Flat.{located, withCount, statusAt, stepDown, wal
 use Rattle.group.specs.Ready.{ReadyOut, ReadyDown}
 use Rattle.group.proofs.Fronts.{Front, whole, past, Hole, opened, next, here}
 use Rattle.group.proofs.Upward.{grouped-here, ungrouped-here, incomplete-here, ungroup-here, atHole, atFront}
-use Rattle.group.proofs.Commute.{headed-all, ungroupBack, commutes, ungroup-other}
+use Rattle.group.proofs.Commute.{headed-all, ungroupBack, commutes, back-other}
 use Rattle.group.proofs.Positions.{where-family}
 use Rattle.group.proofs.KindPositions.{delete-all}
 
@@ -187,8 +187,7 @@ module _ (e : Entity) where
         let R : GoesBack (past F f refl) sets fs = down-back (past F f refl) sets fs (apart .1) (fm .1) once in
         let q : Storage = ungroupBack e gone sets fs in
         let t : Family → List ℕ → Bool = λ f ks. meets gone ks in
-        let kept : (k : ℕ) → In (kindsOf f) k → key (q .sets) k ≡ key sets k = λ k i.
-        ap keys (ap (λ (b : Storage). setOf (b .sets) k) (commutes e gone sets fs (apart .1) (headed-all (key sets) fs (fm .1))) ∙ ungroup-other e gone sets fs k (apart .0 k i)) in
+        let kept : (k : ℕ) → In (kindsOf f) k → key (q .sets) k ≡ key sets k = λ k i. ap keys (back-other e gone sets fs k (apart .0 k i)) in
         let ch : Chain (key (q .sets)) Every [] f = chain-other (key sets) (key (q .sets)) Every [] f kept (fm .0) in
         let once′ : (k : ℕ) → cnt e (key (q .sets) k) ≤ 1 = λ k. rw (R .same .entities e k) (once k) in
         let D : Down e gone [] (q .sets) f (ungroupFamily e gone [] (q .sets) f) = ungroupFamily-good e gone [] (q .sets) f once′ ch in
