@@ -1,6 +1,6 @@
 -- A family's walk downward reads and changes only the sparse sets of its own kinds, so that families can be walked in any order. Assumes nothing.
 use mathlib.Core.Path.{_≡_, refl, ap, ap₂, sym, _∙_}
-use mathlib.Core.Bool.{Bool, true, false, cond}
+use mathlib.Core.Bool.{Bool, false, cond}
 use mathlib.Core.List.{List, [], _∷_, _++_, append-assoc}
 use Prim.Native.Nat.{ℕ, _-_}
 use native.Mathlib.Nat.{zero-add}
@@ -93,23 +93,16 @@ module _ (e : Entity) where
     family-local js acc a b [] sub hd s = record { groups = refl; same = s }
     family-local js acc a b (r ∷ rs) sub hd s =
         let sub′ : (k : ℕ) → In ((acc ++ r .newKinds) ++ kindsOf rs) k → In js k = λ k i. sub k (rw append-assoc at i) in
-        go (meets gone (acc ++ r .newKinds)) (family-local js (acc ++ r .newKinds) a b rs sub′ (hd .1) s)
+        let A = family-local js (acc ++ r .newKinds) a b rs sub′ (hd .1) s in
+        bool-cases (meets gone (acc ++ r .newKinds))
+        (λ m. rw m (record { groups = ap₂ {C = Family} (λ x xs. x ∷ xs) (stepped-count g js r _ _ head (A .same)) (A .groups); same = stepped-same g js r _ _ head (A .same) }))
+        (λ m. rw m (record { groups = ap (λ (xs : Family). r ∷ xs) (A .groups); same = A .same }))
       where
         g : List ℕ
         g = acc ++ r .newKinds
 
         head : In js (headKind (r .newKinds))
         head = sub (headKind (r .newKinds)) (in-right acc (r .newKinds ++ kindsOf rs) (headKind (r .newKinds)) (in-left (r .newKinds) (kindsOf rs) (headKind (r .newKinds)) (hd .0)))
-
-        left : Walked → Walked
-        left w = record { sets = (ungroupComponents e g r (w .sets)) .sets; groups = (ungroupComponents e g r (w .sets)) .group ∷ w .groups }
-
-        kept : Walked → Walked
-        kept w = record { sets = w .sets; groups = r ∷ w .groups }
-
-        go : (m : Bool) → AlikeOn js (ungroupFamily e gone g a rs) (ungroupFamily e gone g b rs) → AlikeOn js (cond m (left (ungroupFamily e gone g a rs)) (kept (ungroupFamily e gone g a rs))) (cond m (left (ungroupFamily e gone g b rs)) (kept (ungroupFamily e gone g b rs)))
-        go true A = record { groups = ap₂ {C = Family} (λ x xs. x ∷ xs) (stepped-count g js r _ _ head (A .same)) (A .groups); same = stepped-same g js r _ _ head (A .same) }
-        go false A = record { groups = ap (λ (xs : Family). r ∷ xs) (A .groups); same = A .same }
 
     -- ---- all families, the first one first and the last one first
 

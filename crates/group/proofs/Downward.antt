@@ -1,6 +1,6 @@
 -- The walk downward over positions, highest first, is the model's walk, and what its steps need holds. Assumes nothing.
 use mathlib.Core.Path.{_≡_, refl, ap, sym, _∙_, subst}
-use mathlib.Core.Bool.{Bool, true, false, cond, true≢false}
+use mathlib.Core.Bool.{Bool, true, false, true≢false}
 use mathlib.Core.List.{List, [], _∷_, _++_, reverse, reverse-cons, reverse-append}
 use Prim.Native.Nat.{ℕ, suc, _+_, _-_, _≤_, _<_}
 use native.Mathlib.Omega.{arith}
@@ -17,7 +17,7 @@ use Rattle.model.proofs.KindLists.{in-right}
 use Rattle.model.proofs.WalkDown.{Held, Down, ungroupFamily-good}
 use Rattle.model.proofs.Families.{Fams, Apart, famKinds, chain-other}
 use Rattle.model.proofs.Invariant.{Fit}
-use Rattle.masks.specs.Masks.{upFrom, keepIf}
+use Rattle.masks.specs.Masks.{upFrom}
 use Rattle.group.specs.declared.group_status.GroupStatus.{GroupStatus}
 use Rattle.group.specs.declared.group_status.GroupStatus.the-variants.{Incomplete, Ungrouped, Grouped}
 use Rattle.group.specs.Flat.{located, withCount, statusAt, stepDown, walkDown, familyMembers, passing, positionsWhere, deletePositions}
@@ -51,8 +51,8 @@ module _ (e : Entity) where
   unfolding walkDown ReadyDown
   goes-none s = record { walks = refl; ready = tt }
 
-  goes-then : (ps qs : List ℕ) (s t u : Storage) → Goes ps s t → Goes qs t u → Goes (ps ++ qs) s u
-  goes-then ps qs s t u a b =
+  goes-then : {ps qs : List ℕ} {s t u : Storage} → Goes ps s t → Goes qs t u → Goes (ps ++ qs) s u
+  goes-then {ps} {qs} {s} a b =
       record {
         walks = down-append ps qs s ∙ ap (walkDown e qs) (a .walks) ∙ b .walks;
         ready = ready-append ps qs s (a .ready) (rw (a .walks) (b .ready));
@@ -140,39 +140,25 @@ module _ (e : Entity) where
     unfolding passing ungroupFamily
     family-down f {acc} {first} {top} {p} H sets [] fits once ch = goes-none (record { sets = sets; layout = H .build [] })
     family-down f {acc} {first} {top} {p} H sets (r ∷ rs) fits once ch =
-        go (family-down f (next H r) sets rs (omega arith) once (ch .2)) (meets gone (acc ++ r .newKinds))
+        let R = family-down f (next H r) sets rs (omega arith) once (ch .2) in
+        bool-cases (meets gone (acc ++ r .newKinds))
+        (λ m. rw (m, reverse-cons p rest) (goes-then R (goes-here H (w .sets) r (w .groups) at-end (ch .0 .head) (E .even))))
+        (λ m. rw m R)
       where
-        g : List ℕ
-        g = acc ++ r .newKinds
-
         w : Walked
-        w = ungroupFamily e gone g sets rs
+        w = ungroupFamily e gone (acc ++ r .newKinds) sets rs
 
         rest : List ℕ
-        rest = passing (λ f ks. meets gone ks) (suc p) (familyMembers f g rs)
+        rest = passing (λ f ks. meets gone ks) (suc p) (familyMembers f (acc ++ r .newKinds) rs)
 
-        S : Storage
-        S = record { sets = sets; layout = H .build (r ∷ rs) }
+        D : Down e gone (acc ++ r .newKinds) sets rs w
+        D = ungroupFamily-good e gone (acc ++ r .newKinds) sets rs once (ch .2)
 
-        s : GroupStep
-        s = ungroupComponents e g r (w .sets)
-
-        D : Down e gone g sets rs (ungroupFamily e gone g sets rs)
-        D = ungroupFamily-good e gone g sets rs once (ch .2)
-
-        E : Held (key sets) (key (w .sets)) g (r .count)
-        E = D .smaller g (r .count) (λ k i. i) (ch .0 .even) (ch .1)
+        E : Held (key sets) (key (w .sets)) (acc ++ r .newKinds) (r .count)
+        E = D .smaller (acc ++ r .newKinds) (r .count) (λ k i. i) (ch .0 .even) (ch .1)
 
         at-end : p + suc (length (w .groups)) ≡ top
-        at-end = ap (λ (n : ℕ). p + suc n) (length-down g sets rs) ∙ fits
-
-        go : Goes (reverse rest) S (record { sets = w .sets; layout = H .build (r ∷ w .groups) }) → (m : Bool)
-            → Goes (reverse (keepIf m p rest)) S (atHole H (cond m (record { sets = s .sets; groups = s .group ∷ w .groups }) (record { sets = w .sets; groups = r ∷ w .groups })))
-        go R true =
-            rw (reverse-cons p rest)
-            (goes-then (reverse rest) (p ∷ []) S (record { sets = w .sets; layout = H .build (r ∷ w .groups) }) (record { sets = s .sets; layout = H .build (s .group ∷ w .groups) }) R
-            (goes-here H (w .sets) r (w .groups) at-end (ch .0 .head) (E .even)))
-        go R false = R
+        at-end = ap (λ (n : ℕ). p + suc n) (length-down (acc ++ r .newKinds) sets rs) ∙ fits
 
     -- ---- all families, the last first
 
@@ -194,10 +180,7 @@ module _ (e : Entity) where
         record {
           goes =
               rw (where-family t p f fs, reverse-append (passing t p (familyMembers f [] f)) (positionsWhere t (p + length f) fs))
-              (goes-then (reverse (positionsWhere t (p + length f) fs)) (reverse (passing t p (familyMembers f [] f)))
-              (atFront F (record { sets = sets; layout = f ∷ fs })) (atFront (past F f refl) q) (atHole (opened F (p + length f) (q .layout)) (ungroupFamily e gone [] (q .sets) f))
-              (R .goes)
-              (family-down f (opened F (p + length f) (q .layout)) (q .sets) f refl once′ ch));
+              (goes-then (R .goes) (family-down f (opened F (p + length f) (q .layout)) (q .sets) f refl once′ ch));
           same = record { entities = λ x k. D .same .entities x k ∙ R .same .entities x k; lengths = λ k. D .same .lengths k ∙ R .same .lengths k };
         }
 

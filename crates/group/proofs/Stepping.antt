@@ -70,17 +70,19 @@ skip-ordered m g d h D =
 
 -- ---- the steps, by status
 
-module _ (w w′ : List ℕ) (e : Entity) (g : ℕ) (t : GroupStatus) (q : t ≡ statusAt e g (meaning w .storage)) where
-  pub steps-up : (rest left : ℕ) → Becomes w w′ (onStorage (stepUp t e g) (meaning w)) → bitsOf 64 left ≡ leftAfter t g (located (meaning w .storage .layout) g .top) (bitsOf 64 rest) → StepsUp w w′ e g rest left
-  steps-up rest left B b =
-      record {
-        becomes = subst (λ (x : GroupStatus). Becomes w w′ (onStorage (stepUp x e g) (meaning w))) q B;
-        remains = subst (λ (x : GroupStatus). bitsOf 64 left ≡ leftAfter x g (located (meaning w .storage .layout) g .top) (bitsOf 64 rest)) q b;
-      }
+pub steps-up : {w w′ : List ℕ} {e : Entity} {g rest left : ℕ} {t : GroupStatus} → t ≡ statusAt e g (meaning w .storage) → Becomes w w′ (onStorage (stepUp t e g) (meaning w))
+    → bitsOf 64 left ≡ leftAfter t g (located (meaning w .storage .layout) g .top) (bitsOf 64 rest) → StepsUp w w′ e g rest left
+steps-up {w} {w′} {e} {g} {rest} {left} q B b =
+    record {
+      becomes = subst (λ (x : GroupStatus). Becomes w w′ (onStorage (stepUp x e g) (meaning w))) q B;
+      remains = subst (λ (x : GroupStatus). bitsOf 64 left ≡ leftAfter x g (located (meaning w .storage .layout) g .top) (bitsOf 64 rest)) q b;
+    }
 
-  pub steps-down : Becomes w w′ (onStorage (stepDown t e g) (meaning w)) → Becomes w w′ (onStorage (stepDown (statusAt e g (meaning w .storage)) e g) (meaning w))
-  steps-down B = subst (λ (x : GroupStatus). Becomes w w′ (onStorage (stepDown x e g) (meaning w))) q B
+pub steps-down : {w w′ : List ℕ} (e : Entity) (g : ℕ) {t : GroupStatus} → t ≡ statusAt e g (meaning w .storage) → Becomes w w′ (onStorage (stepDown t e g) (meaning w))
+    → Becomes w w′ (onStorage (stepDown (statusAt e g (meaning w .storage)) e g) (meaning w))
+steps-down {w} {w′} e g q B = subst (λ (x : GroupStatus). Becomes w w′ (onStorage (stepDown x e g) (meaning w))) q B
 
+module _ (w : List ℕ) (e : Entity) (g : ℕ) {t : GroupStatus} (q : t ≡ statusAt e g (meaning w .storage)) where
   pub ready-in : ReadyIn (statusAt e g (meaning w .storage)) e (located (meaning w .storage .layout) g) (meaning w .storage .sets) → ReadyIn t e (located (meaning w .storage .layout) g) (meaning w .storage .sets)
   ready-in r = subst (λ (x : GroupStatus). ReadyIn x e (located (meaning w .storage .layout) g) (meaning w .storage .sets)) (sym q) r
 
