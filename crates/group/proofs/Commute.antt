@@ -1,18 +1,18 @@
 -- A family's walk downward reads and changes only the sparse sets of its own kinds, so that families can be walked in any order. Assumes nothing.
 use mathlib.Core.Path.{_≡_, refl, ap, ap₂, sym, _∙_}
-use mathlib.Core.Bool.{Bool, true, false, cond}
+use mathlib.Core.Bool.{Bool, false, cond}
 use mathlib.Core.List.{List, [], _∷_, _++_, append-assoc}
-use Prim.Native.Nat.{ℕ, _+_, _-_}
+use Prim.Native.Nat.{ℕ, _-_}
 use native.Mathlib.Nat.{zero-add}
 use lib.Dec.{ltb}
 use lib.ListN.{length}
 use lib.Seq.{ext-getD}
 use Rattle.model.specs.Model.{Entity, SparseSet, Group, Family, Storage, Walked, mem, meets, setOf, at, swapTo, isGrouped, headKind, kindsOf, ungroupComponents, ungroupFamily, ungroup}
 use Rattle.model.proofs.SparseSets.{setOf-mapOn}
-use Rattle.model.proofs.BoolLaws.{cond-case, cond-same, or-false, or-false-right, bool-cases}
+use Rattle.model.proofs.BoolLaws.{cond-case, cond-same, bool-cases}
 use Rattle.model.proofs.Groups.{In}
 use Rattle.model.proofs.Walk.{Chain, Every}
-use Rattle.model.proofs.KindLists.{mem-append, in-left, in-right, not-both}
+use Rattle.model.proofs.KindLists.{in-left, in-right, in-cases, not-in-parts, not-both}
 use Rattle.model.proofs.Families.{Fams, Apart, allKinds, famKinds}
 use Rattle.model.proofs.Removal.{length-ungroupFamily, length-ungroupFamily-all}
 use Rattle.group.specs.Flat.{withCount}
@@ -77,7 +77,7 @@ module _ (e : Entity) where
     family-other acc sets [] k n = refl
     family-other acc sets (r ∷ rs) k n =
         let n₁ : mem k ((acc ++ r .newKinds) ++ kindsOf rs) ≡ false = rw append-assoc n in
-        let n₂ : mem k (acc ++ r .newKinds) ≡ false = or-false (mem k (acc ++ r .newKinds)) (mem k (kindsOf rs)) (sym (mem-append k (acc ++ r .newKinds) (kindsOf rs)) ∙ n₁) in
+        let n₂ : mem k (acc ++ r .newKinds) ≡ false = not-in-parts k (acc ++ r .newKinds) (kindsOf rs) n₁ .0 in
         let rest = family-other (acc ++ r .newKinds) sets rs k n₁ in
         cond-case (λ (w : Walked). setOf (w .sets) k ≡ setOf sets k) (meets gone (acc ++ r .newKinds)) _ _
         (λ m. stepped-other (acc ++ r .newKinds) r ((ungroupFamily e gone (acc ++ r .newKinds) sets rs) .sets) k n₂ ∙ rest)
@@ -93,7 +93,10 @@ module _ (e : Entity) where
     family-local js acc a b [] sub hd s = record { groups = refl; same = s }
     family-local js acc a b (r ∷ rs) sub hd s =
         let sub′ : (k : ℕ) → In ((acc ++ r .newKinds) ++ kindsOf rs) k → In js k = λ k i. sub k (rw append-assoc at i) in
-        go (meets gone (acc ++ r .newKinds)) (family-local js (acc ++ r .newKinds) a b rs sub′ (hd .1) s)
+        let A = family-local js (acc ++ r .newKinds) a b rs sub′ (hd .1) s in
+        bool-cases (meets gone (acc ++ r .newKinds))
+        (λ m. rw m (record { groups = ap₂ {C = Family} (λ x xs. x ∷ xs) (stepped-count g js r _ _ head (A .same)) (A .groups); same = stepped-same g js r _ _ head (A .same) }))
+        (λ m. rw m (record { groups = ap (λ (xs : Family). r ∷ xs) (A .groups); same = A .same }))
       where
         g : List ℕ
         g = acc ++ r .newKinds
@@ -101,40 +104,8 @@ module _ (e : Entity) where
         head : In js (headKind (r .newKinds))
         head = sub (headKind (r .newKinds)) (in-right acc (r .newKinds ++ kindsOf rs) (headKind (r .newKinds)) (in-left (r .newKinds) (kindsOf rs) (headKind (r .newKinds)) (hd .0)))
 
-        left : Walked → Walked
-        left w = record { sets = (ungroupComponents e g r (w .sets)) .sets; groups = (ungroupComponents e g r (w .sets)) .group ∷ w .groups }
+    -- ---- all families, the first one first and the last one first
 
-        kept : Walked → Walked
-        kept w = record { sets = w .sets; groups = r ∷ w .groups }
-
-        go : (m : Bool) → AlikeOn js (ungroupFamily e gone g a rs) (ungroupFamily e gone g b rs) → AlikeOn js (cond m (left (ungroupFamily e gone g a rs)) (kept (ungroupFamily e gone g a rs))) (cond m (left (ungroupFamily e gone g b rs)) (kept (ungroupFamily e gone g b rs)))
-        go true A = record { groups = ap₂ {C = Family} (λ x xs. x ∷ xs) (stepped-count g js r _ _ head (A .same)) (A .groups); same = stepped-same g js r _ _ head (A .same) }
-        go false A = record { groups = ap (λ (xs : Family). r ∷ xs) (A .groups); same = A .same }
-
-    -- ---- all families
-
-    pub ungroup-other : (sets : List SparseSet) (fs : List Family) (k : ℕ) → mem k (allKinds (famKinds fs)) ≡ false → setOf ((ungroup e gone sets fs) .sets) k ≡ setOf sets k
-    unfolding ungroup
-    ungroup-other sets [] k n = refl
-    ungroup-other sets (f ∷ fs) k n =
-        let n′ = sym (mem-append k (kindsOf f) (allKinds (famKinds fs))) ∙ n in
-        ungroup-other ((ungroupFamily e gone [] sets f) .sets) fs k (or-false-right (mem k (kindsOf f)) (mem k (allKinds (famKinds fs))) n′)
-        ∙ family-other [] sets f k (or-false (mem k (kindsOf f)) (mem k (allKinds (famKinds fs))) n′)
-
-    record AlikeAll (js : List ℕ) (p q : Storage) : Type 0 where
-      pub layout : p .layout ≡ q .layout
-      pub same : Same js (p .sets) (q .sets)
-
-    ungroup-local : (js : List ℕ) (a b : List SparseSet) (fs : List Family) → ((k : ℕ) → In (allKinds (famKinds fs)) k → In js k) → HeadedAll fs → Same js a b → AlikeAll js (ungroup e gone a fs) (ungroup e gone b fs)
-    unfolding ungroup
-    ungroup-local js a b [] sub hd s = record { layout = refl; same = s }
-    ungroup-local js a b (f ∷ fs) sub hd s =
-        let K : List ℕ = allKinds (famKinds fs) in
-        let F = family-local js [] a b f (λ k i. sub k (in-left (kindsOf f) (allKinds (famKinds fs)) k i)) (hd .0) s in
-        let R = ungroup-local js ((ungroupFamily e gone [] a f) .sets) ((ungroupFamily e gone [] b f) .sets) fs (λ k i. sub k (in-right (kindsOf f) (allKinds (famKinds fs)) k i)) (hd .1) (F .same) in
-        record { layout = ap₂ {C = List Family} (λ x xs. x ∷ xs) (F .groups) (R .layout); same = R .same }
-
-    -- the last family first
     unfoldable pub ungroupBack : List SparseSet → List Family → Storage
     ungroupBack sets [] = record { sets = sets; layout = [] }
     ungroupBack sets (f ∷ fs) =
@@ -142,47 +113,52 @@ module _ (e : Entity) where
         let w = ungroupFamily e gone [] (p .sets) f in
         record { sets = w .sets; layout = w .groups ∷ p .layout }
 
-    module _ (sets : List SparseSet) (f : Family) (fs : List Family) (apart : Apart (famKinds (f ∷ fs))) (hd : HeadedAll (f ∷ fs)) where
-      abbrev K : List ℕ
-      K = allKinds (famKinds fs)
+    ungroup-other : (sets : List SparseSet) (fs : List Family) (k : ℕ) → mem k (allKinds (famKinds fs)) ≡ false → setOf ((ungroup e gone sets fs) .sets) k ≡ setOf sets k
+    unfolding ungroup
+    ungroup-other sets [] k n = refl
+    ungroup-other sets (f ∷ fs) k n =
+        let out = not-in-parts k (kindsOf f) (allKinds (famKinds fs)) n in
+        ungroup-other ((ungroupFamily e gone [] sets f) .sets) fs k (out .1) ∙ family-other [] sets f k (out .0)
 
-      abbrev w : Walked
-      w = ungroupFamily e gone [] sets f
+    pub back-other : (sets : List SparseSet) (fs : List Family) (k : ℕ) → mem k (allKinds (famKinds fs)) ≡ false → setOf ((ungroupBack sets fs) .sets) k ≡ setOf sets k
+    unfolding ungroupBack
+    back-other sets [] k n = refl
+    back-other sets (f ∷ fs) k n =
+        let out = not-in-parts k (kindsOf f) (allKinds (famKinds fs)) n in
+        family-other [] ((ungroupBack sets fs) .sets) f k (out .0) ∙ back-other sets fs k (out .1)
 
-      abbrev p : Storage
-      p = ungroup e gone (w .sets) fs
+    length-back : (sets : List SparseSet) (fs : List Family) → length ((ungroupBack sets fs) .sets) ≡ length sets
+    unfolding ungroupBack
+    length-back sets [] = refl
+    length-back sets (f ∷ fs) = length-ungroupFamily e gone [] ((ungroupBack sets fs) .sets) f ∙ length-back sets fs
 
-      abbrev p′ : Storage
-      p′ = ungroup e gone sets fs
+    record AlikeAll (js : List ℕ) (p q : Storage) : Type 0 where
+      pub layout : p .layout ≡ q .layout
+      pub same : Same js (p .sets) (q .sets)
 
-      abbrev w′ : Walked
-      w′ = ungroupFamily e gone [] (p′ .sets) f
-
-      F : AlikeOn (kindsOf f) w′ w
-      F = family-local (kindsOf f) [] (p′ .sets) sets f (λ k i. i) (hd .0) (λ k i. ungroup-other sets fs k (apart .0 k i))
-
-      U : AlikeAll K p′ p
-      U = ungroup-local K sets (w .sets) fs (λ k i. i) (hd .1) (λ k i. sym (family-other [] sets f k (not-both (kindsOf f) K k (apart .0 k) i)))
-
-      each : (k : ℕ) → setOf (w′ .sets) k ≡ setOf (p .sets) k
-      each k =
-          bool-cases (mem k (kindsOf f))
-          (λ i. F .same k i ∙ sym (ungroup-other (w .sets) fs k (apart .0 k i)))
-          (λ n. family-other [] (p′ .sets) f k n ∙ bool-cases (mem k K)
-          (λ i. U .same k i)
-          (λ m. ungroup-other sets fs k m ∙ sym (ungroup-other (w .sets) fs k m ∙ family-other [] sets f k n)))
-
-      wide : length (w′ .sets) ≡ length (p .sets)
-      wide = length-ungroupFamily e gone [] (p′ .sets) f ∙ length-ungroupFamily-all e gone sets fs ∙ sym (length-ungroupFamily-all e gone (w .sets) fs ∙ length-ungroupFamily e gone [] sets f)
-
-      swapped : _≡_ {A = Storage} (record { sets = w′ .sets; layout = w′ .groups ∷ p′ .layout }) (record { sets = p .sets; layout = w .groups ∷ p .layout })
-      swapped = λ i. record { sets = ext-getD [] (w′ .sets) (p .sets) wide (λ k h. each k) i; layout = (ap₂ {C = List Family} (λ x xs. x ∷ xs) (F .groups) (U .layout)) i }
+    both-ways : (a b : List SparseSet) (fs : List Family) → Apart (famKinds fs) → HeadedAll fs → Same (allKinds (famKinds fs)) a b → AlikeAll (allKinds (famKinds fs)) (ungroupBack a fs) (ungroup e gone b fs)
+    unfolding ungroupBack ungroup
+    both-ways a b [] apart hd s = record { layout = refl; same = s }
+    both-ways a b (f ∷ fs) apart hd s =
+        let K : List ℕ = allKinds (famKinds fs) in
+        let w : Walked = ungroupFamily e gone [] b f in
+        let R = both-ways a (w .sets) fs (apart .1) (hd .1) (λ k i. s k (in-right (kindsOf f) K k i) ∙ sym (family-other [] b f k (not-both (kindsOf f) K k (apart .0 k) i))) in
+        let F = family-local (kindsOf f) [] ((ungroupBack a fs) .sets) b f (λ k i. i) (hd .0) (λ k i. back-other a fs k (apart .0 k i) ∙ s k (in-left (kindsOf f) K k i)) in
+        record {
+          layout = ap₂ {C = List Family} (λ x xs. x ∷ xs) (F .groups) (R .layout);
+          same = λ k i.
+              in-cases (kindsOf f) K k i
+              (λ j. F .same k j ∙ sym (ungroup-other (w .sets) fs k (apart .0 k j)))
+              (λ j. family-other [] ((ungroupBack a fs) .sets) f k (not-both (kindsOf f) K k (apart .0 k) j) ∙ R .same k j);
+        }
 
     pub commutes : (sets : List SparseSet) (fs : List Family) → Apart (famKinds fs) → HeadedAll fs → ungroupBack sets fs ≡ ungroup e gone sets fs
-    unfolding ungroupBack ungroup
-    commutes sets [] apart hd = refl
-    commutes sets (f ∷ fs) apart hd =
-        ap (λ (q : Storage). back q) (commutes sets fs (apart .1) (hd .1)) ∙ swapped sets f fs apart hd
+    commutes sets fs apart hd =
+        let wide = length-back sets fs ∙ sym (length-ungroupFamily-all e gone sets fs) in
+        λ i. record { sets = ext-getD [] ((ungroupBack sets fs) .sets) ((ungroup e gone sets fs) .sets) wide (λ k h. each k) i; layout = B .layout i }
       where
-        back : Storage → Storage
-        back q = record { sets = (ungroupFamily e gone [] (q .sets) f) .sets; layout = (ungroupFamily e gone [] (q .sets) f) .groups ∷ q .layout }
+        B : AlikeAll (allKinds (famKinds fs)) (ungroupBack sets fs) (ungroup e gone sets fs)
+        B = both-ways sets sets fs apart hd (λ k i. refl)
+
+        each : (k : ℕ) → setOf ((ungroupBack sets fs) .sets) k ≡ setOf ((ungroup e gone sets fs) .sets) k
+        each k = bool-cases (mem k (allKinds (famKinds fs))) (B .same k) (λ n. back-other sets fs k n ∙ sym (ungroup-other sets fs k n))

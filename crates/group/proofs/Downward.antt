@@ -1,13 +1,14 @@
 -- The walk downward over positions, highest first, is the model's walk, and what its steps need holds. Assumes nothing.
 use mathlib.Core.Path.{_≡_, refl, ap, sym, _∙_, subst}
-use mathlib.Core.Bool.{Bool, true, false, cond, true≢false}
+use mathlib.Core.Bool.{Bool, true, false, true≢false}
 use mathlib.Core.List.{List, [], _∷_, _++_, reverse, reverse-cons, reverse-append}
 use Prim.Native.Nat.{ℕ, suc, _+_, _-_, _≤_, _<_}
 use native.Mathlib.Omega.{arith}
 use borrow.Author.Tests.{ltb-true}
 use lib.ListN.{length, length-map}
 use Rattle.model.proofs.ListLaws.{place-count-take, count-take-le}
-use Rattle.model.specs.Model.{Entity, SparseSet, Group, Family, Storage, Walked, GroupStep, sameEntity, meets, setOf, keys, entityOf, at, held, onKinds, swapTo, allHeld, isGrouped, headKind, kindsOf, ungroupComponents, ungroupFamily, ungroup}
+use Rattle.model.specs.Model.{Entity, SparseSet, Group, Family, Storage, Walked, GroupStep, sameEntity, meets, setOf, keys, entityOf, at, held, onKinds, swapTo, allHeld, isGrouped, headKind, kindsOf, groupsOf, ungroupComponents, ungroupFamily, ungroup}
+use Rattle.model.specs.Sound.{layoutKinds}
 use Rattle.model.proofs.SparseSets.{key}
 use Rattle.model.proofs.BoolLaws.{cond-case, bool-cases}
 use Rattle.model.proofs.Groups.{cnt, plc, In, Even, SameEntities}
@@ -16,25 +17,20 @@ use Rattle.model.proofs.KindLists.{in-right}
 use Rattle.model.proofs.WalkDown.{Held, Down, ungroupFamily-good}
 use Rattle.model.proofs.Families.{Fams, Apart, famKinds, chain-other}
 use Rattle.model.proofs.Invariant.{Fit}
+use Rattle.masks.specs.Masks.{upFrom}
 use Rattle.group.specs.declared.group_status.GroupStatus.{GroupStatus}
 use Rattle.group.specs.declared.group_status.GroupStatus.the-variants.{Incomplete, Ungrouped, Grouped}
-use Rattle.group.specs.Flat.{Located, located, withCount, setCount, statusAt, ungroupAt, stepDown, walkDown, deleteFamily, deleteFrom, deletePositions}
+use Rattle.group.specs.Flat.{located, withCount, statusAt, stepDown, walkDown, familyMembers, passing, positionsWhere, deletePositions}
 use Rattle.group.specs.Ready.{ReadyOut, ReadyDown}
-use Rattle.group.proofs.Fronts.{Front, whole, past, Hole, opened, next, here, put-here}
-use Rattle.group.proofs.Upward.{grouped-here, ungrouped-here, incomplete-here, atHole, atFront}
-use Rattle.group.proofs.Commute.{headed-all, ungroupBack, commutes, ungroup-other}
+use Rattle.group.proofs.Fronts.{Front, whole, past, Hole, opened, next, here}
+use Rattle.group.proofs.Upward.{grouped-here, ungrouped-here, incomplete-here, ungroup-here, atHole, atFront}
+use Rattle.group.proofs.Commute.{headed-all, ungroupBack, commutes, back-other}
+use Rattle.group.proofs.Positions.{where-family}
+use Rattle.group.proofs.KindPositions.{delete-all}
 
 -- ---- one step, and one list after another
 
 module _ (e : Entity) where
-  pub down-on : (g : ℕ) (ps : List ℕ) (s : Storage) (t : GroupStatus) → statusAt e g s ≡ t → walkDown e (g ∷ ps) s ≡ walkDown e ps (stepDown t e g s)
-  unfolding walkDown
-  down-on g ps s t q = rw q
-
-  pub down-ready-on : (g : ℕ) (ps : List ℕ) (s : Storage) (t : GroupStatus) → statusAt e g s ≡ t → ReadyDown e (g ∷ ps) s ≡ (ReadyOut t e (located (s .layout) g) (s .sets) × ReadyDown e ps (stepDown t e g s))
-  unfolding ReadyDown
-  down-ready-on g ps s t q = rw q
-
   down-append : (ps qs : List ℕ) (s : Storage) → walkDown e (ps ++ qs) s ≡ walkDown e qs (walkDown e ps s)
   unfolding walkDown
   down-append [] qs s = refl
@@ -55,17 +51,16 @@ module _ (e : Entity) where
   unfolding walkDown ReadyDown
   goes-none s = record { walks = refl; ready = tt }
 
-  goes-then : (ps qs : List ℕ) (s t u : Storage) → Goes ps s t → Goes qs t u → Goes (ps ++ qs) s u
-  goes-then ps qs s t u a b =
+  goes-then : {ps qs : List ℕ} {s t u : Storage} → Goes ps s t → Goes qs t u → Goes (ps ++ qs) s u
+  goes-then {ps} {qs} {s} a b =
       record {
         walks = down-append ps qs s ∙ ap (walkDown e qs) (a .walks) ∙ b .walks;
         ready = ready-append ps qs s (a .ready) (rw (a .walks) (b .ready));
       }
 
   goes-one : (g : ℕ) (s : Storage) (t : GroupStatus) → statusAt e g s ≡ t → ReadyOut t e (located (s .layout) g) (s .sets) → Goes (g ∷ []) s (stepDown t e g s)
-  goes-one g s t q r =
-      let z = goes-none (stepDown t e g s) in
-      record { walks = down-on g [] s t q ∙ z .walks; ready = rw (down-ready-on g [] s t q) (r, z .ready) }
+  unfolding walkDown ReadyDown
+  goes-one g s t q r = record { walks = rw q; ready = rw q (r, tt) }
 
   -- ---- a group
 
@@ -77,14 +72,6 @@ module _ (e : Entity) where
 
     abbrev S : Storage
     S = record { sets = sets; layout = H .build (r ∷ rs) }
-
-    ungroup-here : ungroupAt e p S ≡ record { sets = onKinds g (swapTo e (r .count - 1)) sets; layout = H .build (withCount (r .count - 1) r ∷ rs) }
-    unfolding ungroupAt
-    ungroup-here = λ i.
-        record {
-          sets = (ap (λ (l : Located). onKinds (l .kinds) (swapTo e (l .count - 1)) sets) (here H r rs fits)) i;
-          layout = (ap (λ (l : Located). setCount p (l .count - 1) (H .build (r ∷ rs))) (here H r rs fits) ∙ put-here H r rs (r .count - 1)) i;
-        }
 
     -- inside, it is held in every kind of the group
     held-inside : isGrouped e r sets ≡ true → (k : ℕ) → In g k → held e (setOf sets k) ≡ true
@@ -129,7 +116,7 @@ module _ (e : Entity) where
     goes-here =
         bool-cases (isGrouped e r sets)
         (λ b.
-        subst (Goes (p ∷ []) S) (ungroup-here ∙ ap stepped (sym (out b)))
+        subst (Goes (p ∷ []) S) (ungroup-here e H sets r rs fits ∙ ap stepped (sym (out b)))
         (goes-one p S Grouped (grouped-here e H sets r rs fits (all-held b) b) (leaves b)))
         (λ b.
         subst (Goes (p ∷ []) S) (ap stepped (sym (stays b)))
@@ -148,69 +135,52 @@ module _ (e : Entity) where
         (λ m. ap suc (length-down (acc ++ r .newKinds) sets rs))
         (λ m. ap suc (length-down (acc ++ r .newKinds) sets rs))
 
-    family-down : {acc : List ℕ} {first top p : ℕ} (H : Hole acc first top p) (sets : List SparseSet) (rs : Family) → p + length rs ≡ top → ((k : ℕ) → cnt e (key sets k) ≤ 1) → Chain (key sets) Every acc rs
-        → Goes (reverse (deleteFamily gone p acc rs)) (record { sets = sets; layout = H .build rs }) (atHole H (ungroupFamily e gone acc sets rs))
-    unfolding deleteFamily ungroupFamily
-    family-down {acc} {first} {top} {p} H sets [] fits once ch = goes-none (record { sets = sets; layout = H .build [] })
-    family-down {acc} {first} {top} {p} H sets (r ∷ rs) fits once ch =
-        go (family-down (next H r) sets rs (omega arith) once (ch .2)) (meets gone (acc ++ r .newKinds))
+    family-down : (f : Family) {acc : List ℕ} {first top p : ℕ} (H : Hole acc first top p) (sets : List SparseSet) (rs : Family) → p + length rs ≡ top → ((k : ℕ) → cnt e (key sets k) ≤ 1) → Chain (key sets) Every acc rs
+        → Goes (reverse (passing (λ f ks. meets gone ks) p (familyMembers f acc rs))) (record { sets = sets; layout = H .build rs }) (atHole H (ungroupFamily e gone acc sets rs))
+    unfolding passing ungroupFamily
+    family-down f {acc} {first} {top} {p} H sets [] fits once ch = goes-none (record { sets = sets; layout = H .build [] })
+    family-down f {acc} {first} {top} {p} H sets (r ∷ rs) fits once ch =
+        let R = family-down f (next H r) sets rs (omega arith) once (ch .2) in
+        bool-cases (meets gone (acc ++ r .newKinds))
+        (λ m. rw (m, reverse-cons p rest) (goes-then R (goes-here H (w .sets) r (w .groups) at-end (ch .0 .head) (E .even))))
+        (λ m. rw m R)
       where
-        g : List ℕ
-        g = acc ++ r .newKinds
-
         w : Walked
-        w = ungroupFamily e gone g sets rs
+        w = ungroupFamily e gone (acc ++ r .newKinds) sets rs
 
         rest : List ℕ
-        rest = deleteFamily gone (suc p) g rs
+        rest = passing (λ f ks. meets gone ks) (suc p) (familyMembers f (acc ++ r .newKinds) rs)
 
-        S : Storage
-        S = record { sets = sets; layout = H .build (r ∷ rs) }
+        D : Down e gone (acc ++ r .newKinds) sets rs w
+        D = ungroupFamily-good e gone (acc ++ r .newKinds) sets rs once (ch .2)
 
-        s : GroupStep
-        s = ungroupComponents e g r (w .sets)
-
-        D : Down e gone g sets rs (ungroupFamily e gone g sets rs)
-        D = ungroupFamily-good e gone g sets rs once (ch .2)
-
-        E : Held (key sets) (key (w .sets)) g (r .count)
-        E = D .smaller g (r .count) (λ k i. i) (ch .0 .even) (ch .1)
+        E : Held (key sets) (key (w .sets)) (acc ++ r .newKinds) (r .count)
+        E = D .smaller (acc ++ r .newKinds) (r .count) (λ k i. i) (ch .0 .even) (ch .1)
 
         at-end : p + suc (length (w .groups)) ≡ top
-        at-end = ap (λ (n : ℕ). p + suc n) (length-down g sets rs) ∙ fits
-
-        go : Goes (reverse rest) S (record { sets = w .sets; layout = H .build (r ∷ w .groups) }) → (m : Bool)
-            → Goes (reverse (cond m (p ∷ rest) rest)) S (atHole H (cond m (record { sets = s .sets; groups = s .group ∷ w .groups }) (record { sets = w .sets; groups = r ∷ w .groups })))
-        go R true =
-            rw (reverse-cons p rest)
-            (goes-then (reverse rest) (p ∷ []) S (record { sets = w .sets; layout = H .build (r ∷ w .groups) }) (record { sets = s .sets; layout = H .build (s .group ∷ w .groups) }) R
-            (goes-here H (w .sets) r (w .groups) at-end (ch .0 .head) (E .even)))
-        go R false = R
+        at-end = ap (λ (n : ℕ). p + suc n) (length-down (acc ++ r .newKinds) sets rs) ∙ fits
 
     -- ---- all families, the last first
 
     record GoesBack {p : ℕ} (F : Front p) (sets : List SparseSet) (fs : List Family) : Type 0 where
-      pub goes : Goes (reverse (deleteFrom gone p fs)) (atFront F (record { sets = sets; layout = fs })) (atFront F (ungroupBack e gone sets fs))
+      pub goes : Goes (reverse (positionsWhere (λ f ks. meets gone ks) p fs)) (atFront F (record { sets = sets; layout = fs })) (atFront F (ungroupBack e gone sets fs))
       pub same : SameEntities (key sets) (key ((ungroupBack e gone sets fs) .sets))
 
     down-back : {p : ℕ} (F : Front p) (sets : List SparseSet) (fs : List Family) → Apart (famKinds fs) → Fams (key sets) fs → ((k : ℕ) → cnt e (key sets k) ≤ 1) → GoesBack F sets fs
-    unfolding deleteFrom ungroupBack
+    unfolding passing ungroupBack
     down-back {p} F sets [] apart fm once = record { goes = goes-none (atFront F (record { sets = sets; layout = [] })); same = record { entities = λ x k. refl; lengths = λ k. refl } }
     down-back {p} F sets (f ∷ fs) apart fm once =
-        let R : GoesBack (past F f) sets fs = down-back (past F f) sets fs (apart .1) (fm .1) once in
+        let R : GoesBack (past F f refl) sets fs = down-back (past F f refl) sets fs (apart .1) (fm .1) once in
         let q : Storage = ungroupBack e gone sets fs in
-        let kept : (k : ℕ) → In (kindsOf f) k → key (q .sets) k ≡ key sets k = λ k i.
-        ap keys (ap (λ (b : Storage). setOf (b .sets) k) (commutes e gone sets fs (apart .1) (headed-all (key sets) fs (fm .1))) ∙ ungroup-other e gone sets fs k (apart .0 k i)) in
+        let t : Family → List ℕ → Bool = λ f ks. meets gone ks in
+        let kept : (k : ℕ) → In (kindsOf f) k → key (q .sets) k ≡ key sets k = λ k i. ap keys (back-other e gone sets fs k (apart .0 k i)) in
         let ch : Chain (key (q .sets)) Every [] f = chain-other (key sets) (key (q .sets)) Every [] f kept (fm .0) in
         let once′ : (k : ℕ) → cnt e (key (q .sets) k) ≤ 1 = λ k. rw (R .same .entities e k) (once k) in
         let D : Down e gone [] (q .sets) f (ungroupFamily e gone [] (q .sets) f) = ungroupFamily-good e gone [] (q .sets) f once′ ch in
         record {
           goes =
-              rw (reverse-append (deleteFamily gone p [] f) (deleteFrom gone (p + length f) fs))
-              (goes-then (reverse (deleteFrom gone (p + length f) fs)) (reverse (deleteFamily gone p [] f))
-              (atFront F (record { sets = sets; layout = f ∷ fs })) (atFront (past F f) q) (atHole (opened F (p + length f) (q .layout)) (ungroupFamily e gone [] (q .sets) f))
-              (R .goes)
-              (family-down (opened F (p + length f) (q .layout)) (q .sets) f refl once′ ch));
+              rw (where-family t p f fs, reverse-append (passing t p (familyMembers f [] f)) (positionsWhere t (p + length f) fs))
+              (goes-then (R .goes) (family-down f (opened F (p + length f) (q .layout)) (q .sets) f refl once′ ch));
           same = record { entities = λ x k. D .same .entities x k ∙ R .same .entities x k; lengths = λ k. D .same .lengths k ∙ R .same .lengths k };
         }
 
@@ -222,3 +192,14 @@ module _ (e : Entity) where
 
     pub ready-remove : (s : Storage) → Fit s → ReadyDown e (reverse (deletePositions gone (s .layout))) s
     ready-remove s f = down-back whole (s .sets) (s .layout) (f .apart) (f .fams) (f .once e) .goes .ready
+
+    -- "A destroyed card leaves all groups this way, highest first.": where every kind of the layout goes
+    module _ (s : Storage) (f : Fit s) (known : (k : ℕ) → In (layoutKinds (s .layout)) k → In gone k) where
+      every : deletePositions gone (s .layout) ≡ upFrom 0 (groupsOf (s .layout))
+      every = delete-all gone 0 (s .layout) (headed-all (key (s .sets)) (s .layout) (f .fams)) known
+
+      pub walk-ungroup-all : walkDown e (reverse (upFrom 0 (groupsOf (s .layout)))) s ≡ ungroup e gone (s .sets) (s .layout)
+      walk-ungroup-all = ap (λ (ps : List ℕ). walkDown e (reverse ps) s) (sym every) ∙ walk-ungroup s f
+
+      pub ready-remove-all : ReadyDown e (reverse (upFrom 0 (groupsOf (s .layout)))) s
+      ready-remove-all = subst (λ (ps : List ℕ). ReadyDown e (reverse ps) s) every (ready-remove s f)

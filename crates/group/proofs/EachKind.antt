@@ -2,8 +2,7 @@
 use mathlib.Core.Path.{_≡_, refl, ap, sym, _∙_}
 use mathlib.Core.Bool.{false, cond, _||_, or-true}
 use mathlib.Core.List.{List, [], _∷_, _++_}
-use Prim.Native.Nat.{ℕ, _+_, _<_}
-use native.Mathlib.Omega.{arith}
+use Prim.Native.Nat.{ℕ, _<_}
 use native.Mathlib.Nat.{zero-add}
 use native.Mathlib.Decide.{ℕ-discrete}
 use borrow.Author.Tests.{eq-eqb, ne-eqb}
@@ -14,7 +13,7 @@ use Rattle.model.specs.Model.{SparseSet, mem, setOf, onKinds}
 use Rattle.model.specs.Sound.{In, Distinct}
 use Rattle.model.proofs.SparseSets.{setOf-mapOn}
 use Rattle.model.proofs.Invariant.{length-mapOn}
-use Rattle.model.proofs.KindLists.{distinct-apart}
+use Rattle.model.proofs.KindLists.{distinct-right, distinct-apart}
 
 abbrev pub eachKind : (SparseSet → SparseSet) → List ℕ → List SparseSet → List SparseSet
 eachKind f [] sets = sets
@@ -28,14 +27,11 @@ pub each-append : (f : SparseSet → SparseSet) (ks js : List ℕ) (sets : List 
 each-append f [] js sets = refl
 each-append f (k ∷ ks) js sets = each-append f ks js (set sets k (f (setOf sets k)))
 
-tail-once : (k : ℕ) (ks : List ℕ) → Distinct (k ∷ ks) → Distinct ks
-tail-once k ks d j = omega (arith, d j)
-
 -- kind j's sparse set is changed once if j is one of the kinds, and else is as it was
 pub setOf-each : (f : SparseSet → SparseSet) (ks : List ℕ) (sets : List SparseSet) → Distinct ks → ((k : ℕ) → In ks k → k < length sets) → (j : ℕ)
     → setOf (eachKind f ks sets) j ≡ cond (mem j ks) (f (setOf sets j)) (setOf sets j)
 setOf-each f [] sets d lt j = refl
-setOf-each f (k ∷ ks) sets d lt j = go (ℕ-discrete j k) (setOf-each f ks next (tail-once k ks d) (λ i h. rw (length-set sets k (f (setOf sets k))) (lt i (rw h (or-true (eqb i k))))) j)
+setOf-each f (k ∷ ks) sets d lt j = go (ℕ-discrete j k) (setOf-each f ks next (distinct-right (k ∷ []) ks d) (λ i h. rw (length-set sets k (f (setOf sets k))) (lt i (rw h (or-true (eqb i k))))) j)
   where
     next : List SparseSet
     next = set sets k (f (setOf sets k))

@@ -5,8 +5,8 @@ use mathlib.Core.List.{List, [], _∷_}
 use Prim.Native.Nat.{ℕ, zero, suc, _+_, _-_, _≤_, _<_}
 use native.Mathlib.Omega.{arith}
 use native.Mathlib.Nat.{le-of-suc-le-suc, not-suc-le-zero, sub-zero}
-use lib.ListN.{length, getD, set, take, List·getD-append}
-use lib.Seq.{getD-append-add, getD-set-same, getD-set-other, take-take}
+use lib.ListN.{length, getD, set, take}
+use lib.Seq.{getD-set-same, getD-set-other, take-take}
 use Rattle.model.specs.Model.{Family}
 use Rattle.model.specs.Sound.{layoutKinds}
 use Rattle.words.specs.Part.{between}
@@ -19,8 +19,13 @@ use Rattle.layout.specs.Group.{InFamily, arityOf, priorArity}
 use Rattle.layout.proofs.Family.{groups-same}
 use Rattle.layout.proofs.Arrays.{group-order, kinds-inside, arities-length, family-rising, groups-length, layout-kinds}
 use Rattle.layout.proofs.Groups.{same-family, place-is, place-inside, arity-is, prior-is, arity-inside}
-use Rattle.group.specs.Flat.{nowhere, familyGroups, groupList, located, setIn, setCount}
-use Rattle.group.proofs.Fronts.{length-flattenFamily, set-here, set-later}
+use Rattle.group.specs.Flat.{Located, nowhere, familyGroups, located, setIn, setCount}
+use Rattle.group.proofs.Fronts.{Front, whole, past, opened}
+
+-- the group with arity kinds from start on, of which those from prior on are new
+abbrev pub standing : List ℕ → ℕ → ℕ → ℕ → ℕ → ℕ → ℕ → Located
+standing order start prior arity count first top =
+    record { kinds = between start (start + arity) order; newKinds = between (start + prior) (start + arity) order; count = count; first = first; top = top }
 
 -- ---- a family's groups: ks are its kinds, ars the groups' arities from here on, b the arity before
 
@@ -55,54 +60,18 @@ group-set counts c g ks b (a ∷ ars) (suc i) h l =
     (getD-set-other counts (g + suc i) g c 0 (omega arith))
     (ap (λ (n : ℕ). groupsFrom (set counts n c) (suc g) ks a ars) e ∙ group-set counts c (suc g) ks a ars i (le-of-suc-le-suc h) (omega arith))
 
--- ---- families one after another: family f's groups are numbered from s f on
+-- ---- families one after another, after those of X: family f's groups are numbered from s f on
 
-rises : (n : ℕ) (F : ℕ → Family) (s : ℕ → ℕ) → ((f : ℕ) → f < n → s (suc f) ≡ s f + length (F f)) → (f : ℕ) → f ≤ n → s 0 ≤ s f
-rises n F s e zero h = omega arith
-rises n F s e (suc f) h = omega (arith, rises n F s e f (omega arith), e f (omega arith))
-
--- a position past the first family
-pub record Later (n : ℕ) (F : ℕ → Family) (s : ℕ → ℕ) (f i j : ℕ) : Type 0 where
-  pub rest : ℕ
-  pub is : j ≡ length (F 0) + rest
-  pub at : s (suc f) + i ≡ s 1 + rest
-
-later : (n : ℕ) (F : ℕ → Family) (s : ℕ → ℕ) → ((f : ℕ) → f < suc n → s (suc f) ≡ s f + length (F f)) → (f i j : ℕ) → f < n → s (suc f) + i ≡ s 0 + j → Later n F s f i j
-later n F s e f i j h q =
-    let le : s 1 ≤ s (suc f) = rises n (λ m. F (suc m)) (λ m. s (suc m)) (λ m l. e (suc m) (omega arith)) f (omega arith) in
-    let one : s 1 ≡ s 0 + length (F 0) = e 0 (omega arith) in
-    record { rest = j - length (F 0); is = omega arith; at = omega arith }
-
-groupList-at : (n : ℕ) (F : ℕ → Family) (s : ℕ → ℕ) → ((f : ℕ) → f < n → s (suc f) ≡ s f + length (F f)) → (f : ℕ) → f < n → (i j : ℕ) → i < length (F f) → s f + i ≡ s 0 + j
-    → getD (groupList (s 0) (table n F)) j nowhere ≡ getD (familyGroups (s f) (s (suc f)) [] (F f)) i nowhere
-unfolding table
-groupList-at zero F s e f h i j l q = absurd (not-suc-le-zero h)
-groupList-at (suc n) F s e zero h i j l q =
-    let k : j ≡ i = omega arith in
-    let inside : i < length (familyGroups (s 0) (s 0 + length (F 0)) [] (F 0)) = omega (arith, length-flattenFamily (s 0) (s 0 + length (F 0)) [] (F 0)) in
-    ap (λ (m : ℕ). getD (groupList (s 0) (table (suc n) F)) m nowhere) k
-    ∙ List·getD-append (familyGroups (s 0) (s 0 + length (F 0)) [] (F 0)) (groupList (s 0 + length (F 0)) (table n (λ m. F (suc m)))) nowhere i inside
-    ∙ ap (λ (t : ℕ). getD (familyGroups (s 0) t [] (F 0)) i nowhere) (sym (e 0 (omega arith)))
-groupList-at (suc n) F s e (suc f) h i j l q =
-    let L : Later n F s f i j = later n F s e f i j (omega arith) q in
-    let k : j ≡ length (familyGroups (s 0) (s 0 + length (F 0)) [] (F 0)) + L .rest = L .is ∙ ap (λ (m : ℕ). m + L .rest) (sym (length-flattenFamily (s 0) (s 0 + length (F 0)) [] (F 0))) in
-    ap (λ (m : ℕ). getD (groupList (s 0) (table (suc n) F)) m nowhere) k
-    ∙ getD-append-add (familyGroups (s 0) (s 0 + length (F 0)) [] (F 0)) (groupList (s 0 + length (F 0)) (table n (λ m. F (suc m)))) (L .rest) nowhere
-    ∙ ap (λ (p : ℕ). getD (groupList p (table n (λ m. F (suc m)))) (L .rest) nowhere) (sym (e 0 (omega arith)))
-    ∙ groupList-at n (λ m. F (suc m)) (λ m. s (suc m)) (λ m l. e (suc m) (omega arith)) f (omega arith) i (L .rest) l (L .at)
-
-set-at : (n : ℕ) (F : ℕ → Family) (s : ℕ → ℕ) → ((f : ℕ) → f < n → s (suc f) ≡ s f + length (F f)) → (c f : ℕ) → f < n → (i j : ℕ) → i < length (F f) → s f + i ≡ s 0 + j
-    → setCount j c (table n F) ≡ set (table n F) f (setIn i c (F f))
-unfolding table
-set-at zero F s e c f h i j l q = absurd (not-suc-le-zero h)
-set-at (suc n) F s e c zero h i j l q =
-    let k : j ≡ i = omega arith in
-    ap (λ (m : ℕ). setCount m c (table (suc n) F)) k ∙ set-here i c (F 0) (table n (λ m. F (suc m))) l
-set-at (suc n) F s e c (suc f) h i j l q =
-    let L : Later n F s f i j = later n F s e f i j (omega arith) q in
-    ap (λ (m : ℕ). setCount m c (table (suc n) F)) (L .is)
-    ∙ set-later (L .rest) c (F 0) (table n (λ m. F (suc m)))
-    ∙ ap (λ (fs : List Family). F 0 ∷ fs) (set-at n (λ m. F (suc m)) (λ m. s (suc m)) (λ m l. e (suc m) (omega arith)) c f (omega arith) i (L .rest) l (L .at))
+module _ (c : ℕ) where
+  table-at : (n : ℕ) (F : ℕ → Family) (s : ℕ → ℕ) (X : Front (s 0)) → ((f : ℕ) → f < n → s (suc f) ≡ s f + length (F f)) → (f i : ℕ) → f < n → i < length (F f)
+      → (located (X .build (table n F)) (s f + i) ≡ getD (familyGroups (s f) (s (suc f)) [] (F f)) i nowhere) × (setCount (s f + i) c (X .build (table n F)) ≡ X .build (set (table n F) f (setIn i c (F f))))
+  unfolding table
+  table-at zero F s X e f i h l = absurd (not-suc-le-zero h)
+  table-at (suc n) F s X e zero i h l =
+      let H = opened X (s 1) (table n (λ m. F (suc m))) in
+      (H .locate (F 0) (sym (e 0 h)) i l, H .put (F 0) i c l)
+  table-at (suc n) F s X e (suc f) i h l =
+      table-at n (λ m. F (suc m)) (λ m. s (suc m)) (past X (F 0) (e 0 (omega arith))) (λ m j. e (suc m) (omega arith)) f i (omega arith) l
 
 -- ---- well-formed arrays
 
@@ -124,49 +93,41 @@ module _ (counts : List ℕ) (a : Arrays) (good : WellFormed a) (sized : Sized a
       ∙ ap (between (s + x) (s + y)) (sym (layout-kinds counts a good sized))
 
   module _ (f g : ℕ) (G : InFamily a f g) where
-    abbrev start : ℕ
+    abbrev pub start : ℕ
     start = startOf (a .kindEnds) f
 
     abbrev i : ℕ
     i = g - startOf (a .ends) f
 
+    at : (c : ℕ)
+        → (located (familiesOf counts a) (startOf (a .ends) f + i) ≡ getD (familyGroups (startOf (a .ends) f) (getD (a .ends) f 0) [] (familyAt counts a f)) i nowhere)
+        × (setCount (startOf (a .ends) f + i) c (familiesOf counts a) ≡ set (familiesOf counts a) f (setIn i c (familyAt counts a f)))
+    at c = table-at c (a .families) (familyAt counts a) (startOf (a .ends)) whole steps f i (G .family) (omega (arith, family-size f (G .family), G .low, G .high))
+
     -- what stands at position g
-    pub located-is : located (familiesOf counts a) g ≡ record {
-      kinds = between (startOf (a .kindEnds) f) (startOf (a .kindEnds) f + arityOf a g) (layoutKinds (familiesOf counts a));
-      newKinds = between (startOf (a .kindEnds) f + priorArity a f g) (startOf (a .kindEnds) f + arityOf a g) (layoutKinds (familiesOf counts a));
-      count = getD counts g 0;
-      first = startOf (a .ends) f;
-      top = getD (a .ends) f 0;
-    }
+    pub located-is : located (familiesOf counts a) g ≡ standing (layoutKinds (familiesOf counts a)) start (priorArity a f g) (arityOf a g) (getD counts g 0) (startOf (a .ends) f) (getD (a .ends) f 0)
     located-is =
         let arity = arityOf a g in
         let r : start + arity ≤ getD (a .kindEnds) f 0 = arity-inside a good sized f g G in
         let z : start + 0 ≡ start = omega arith in
-        let all : take arity (kindsAt a f) ≡ between start (start + arity) (layoutKinds (familiesOf counts a)) =
-        ap (λ (n : ℕ). take n (kindsAt a f)) (sym (sub-zero arity)) ∙ kinds-in f 0 arity (G .family) r ∙ ap (λ (n : ℕ). between n (start + arity) (layoutKinds (familiesOf counts a))) z in
-        let new = kinds-in f (priorArity a f g) arity (G .family) r in
-        groupList-at (a .families) (familyAt counts a) (startOf (a .ends)) steps f (G .family) i g (omega (arith, family-size f (G .family), G .low, G .high)) (omega (arith, G .low))
+        let all : take (getD (aritiesAt a f) i 0) (kindsAt a f) ≡ between start (start + arity) (layoutKinds (familiesOf counts a)) =
+        ap (λ (n : ℕ). take n (kindsAt a f)) (arity-is a good sized f g G ∙ sym (sub-zero arity)) ∙ kinds-in f 0 arity (G .family) r ∙ ap (λ (n : ℕ). between n (start + arity) (layoutKinds (familiesOf counts a))) z in
+        let new = (λ j. between (prior-is a good sized f g G j) (arity-is a good sized f g G j) (kindsAt a f)) ∙ kinds-in f (priorArity a f g) arity (G .family) r in
+        ap (located (familiesOf counts a)) (sym (place-is a good sized f g G)) ∙ at 0 .0
         ∙ family-group counts (startOf (a .ends) f) (getD (a .ends) f 0) (startOf (a .ends) f) (kindsAt a f) 0 (length (kindsAt a f)) (aritiesAt a f) (family-rising a good sized f (G .family)) i (place-inside a good sized f g G)
-        ∙ (λ j. record {
-          kinds = take (arity-is a good sized f g G j) (kindsAt a f);
-          newKinds = between (prior-is a good sized f g G j) (arity-is a good sized f g G j) (kindsAt a f);
-          count = getD counts (place-is a good sized f g G j) 0;
-          first = startOf (a .ends) f;
-          top = getD (a .ends) f 0;
-        })
-        ∙ (λ j. record { kinds = all j; newKinds = new j; count = getD counts g 0; first = startOf (a .ends) f; top = getD (a .ends) f 0 })
+        ∙ (λ j. record { kinds = all j; newKinds = new j; count = getD counts (place-is a good sized f g G j) 0; first = startOf (a .ends) f; top = getD (a .ends) f 0 })
 
     -- another count at position g
     pub counts-are : (c : ℕ) → g < length counts → familiesOf (set counts g c) a ≡ setCount g c (familiesOf counts a)
     counts-are c l =
-        let at = place-is a good sized f g G in
+        let e = place-is a good sized f g G in
         let here : familyAt (set counts g c) a f ≡ setIn i c (familyAt counts a f) =
-        ap (λ (m : ℕ). familyAt (set counts m c) a f) (sym at) ∙ group-set counts c (startOf (a .ends) f) (kindsAt a f) 0 (aritiesAt a f) i (place-inside a good sized f g G) (omega (arith, at)) in
+        ap (λ (m : ℕ). familyAt (set counts m c) a f) (sym e) ∙ group-set counts c (startOf (a .ends) f) (kindsAt a f) 0 (aritiesAt a f) i (place-inside a good sized f g G) (omega (arith, e)) in
         table-set [] (setIn i c (familyAt counts a f)) (a .families) (familyAt counts a) (familyAt (set counts g c) a) f (G .family) here
         (λ m h ne.
         groups-same counts (set counts g c) (startOf (a .ends) m) (kindsAt a m) 0 (aritiesAt a m)
         (λ j lo up. getD-set-other counts g j c 0 (apart m h ne j lo up)))
-        ∙ sym (set-at (a .families) (familyAt counts a) (startOf (a .ends)) steps c f (G .family) i g (omega (arith, family-size f (G .family), G .low, G .high)) (omega (arith, G .low)))
+        ∙ sym (ap (λ (m : ℕ). setCount m c (familiesOf counts a)) (sym e) ∙ at c .1)
       where
         -- another family's groups are others
         apart : (m : ℕ) → m < a .families → m ≢ f → (j : ℕ) → startOf (a .ends) m ≤ j → j < startOf (a .ends) m + length (aritiesAt a m) → j ≢ g

@@ -1,27 +1,44 @@
 -- Where a group stands in the layout: a layout with the families before some position filled in, and one with the groups before some position filled
 -- in. A walk over families, or over a family's groups, goes from one to the next. Assumes nothing.
-use mathlib.Core.Path.{_≡_, refl, ap, ap₂, sym, _∙_}
+use mathlib.Core.Path.{_≡_, refl, ap, sym, _∙_, subst}
 use mathlib.Core.List.{List, [], _∷_, _++_}
 use Prim.Native.Nat.{ℕ, suc, _+_, _-_, _<_}
 use native.Mathlib.Omega.{arith}
-use native.Mathlib.Nat.{zero-add, add-zero, add-suc, suc-add, add-assoc}
+use native.Mathlib.Nat.{zero-add, add-zero, add-suc, suc-add}
 use borrow.Author.Tests.{lt-ltb, le-ltb}
-use lib.ListN.{length, getD, length-append, List·getD-append}
+use lib.ListN.{length, getD, List·getD-append}
 use lib.Seq.{getD-append-add}
 use Rattle.model.specs.Model.{Group, Family, groupsOf}
+use Rattle.model.proofs.BoolLaws.{by-lt}
 use Rattle.group.specs.Flat.{Located, nowhere, familyGroups, groupList, located, withCount, setIn, setCount}
 
-pub length-flattenFamily : (first top : ℕ) (acc : List ℕ) (f : Family) → length (familyGroups first top acc f) ≡ length f
+length-flattenFamily : (first top : ℕ) (acc : List ℕ) (f : Family) → length (familyGroups first top acc f) ≡ length f
 length-flattenFamily first top acc [] = refl
 length-flattenFamily first top acc (r ∷ rs) = ap suc (length-flattenFamily first top (acc ++ r .newKinds) rs)
 
-pub length-groupList : (p : ℕ) (fs : List Family) → length (groupList p fs) ≡ groupsOf fs
-length-groupList p [] = refl
-length-groupList p (f ∷ fs) =
-    length-append (familyGroups p (p + length f) [] f) (groupList (p + length f) fs)
-    ∙ ap₂ _+_ (length-flattenFamily p (p + length f) [] f) (length-groupList (p + length f) fs)
+-- ---- a group of the first family, or of a later one
 
--- ---- a count is set in the first family, or in a later one
+pub first-group : (p : ℕ) (f : Family) (fs : List Family) (i : ℕ) → i < length f → getD (groupList p (f ∷ fs)) i nowhere ≡ getD (familyGroups p (p + length f) [] f) i nowhere
+first-group p f fs i h =
+    List·getD-append (familyGroups p (p + length f) [] f) (groupList (p + length f) fs) nowhere i (omega (arith, length-flattenFamily p (p + length f) [] f))
+
+pub later-group : (p : ℕ) (f : Family) (fs : List Family) (i : ℕ) → getD (groupList p (f ∷ fs)) (length f + i) nowhere ≡ getD (groupList (p + length f) fs) i nowhere
+later-group p f fs i =
+    ap (λ (n : ℕ). getD (groupList p (f ∷ fs)) (n + i) nowhere) (sym (length-flattenFamily p (p + length f) [] f))
+    ∙ getD-append-add (familyGroups p (p + length f) [] f) (groupList (p + length f) fs) i nowhere
+
+-- what holds of a group in the first family, and of one past it
+pub by-family : (P : Located → ℕ → Type 0) (p : ℕ) (f : Family) (fs : List Family) (i : ℕ)
+    → (i < length f → P (getD (familyGroups p (p + length f) [] f) i nowhere) i)
+    → ((j : ℕ) → i ≡ length f + j → P (getD (groupList (p + length f) fs) j nowhere) i)
+    → P (getD (groupList p (f ∷ fs)) i nowhere) i
+by-family P p f fs i here later =
+    by-lt i (length f) (λ h. rw (first-group p f fs i h) (here h))
+    (λ h.
+    let e : i ≡ length f + (i - length f) = omega arith in
+    subst (λ (l : Located). P l i) (sym (ap (λ (n : ℕ). getD (groupList p (f ∷ fs)) n nowhere) e ∙ later-group p f fs (i - length f))) (later (i - length f) e))
+
+-- ---- a count is set there
 
 pub set-here : (g c : ℕ) (f : Family) (fs : List Family) → g < length f → setCount g c (f ∷ fs) ≡ setIn g c f ∷ fs
 set-here g c f fs h = rw (lt-ltb g (length f) h)
@@ -47,19 +64,17 @@ whole =
     }
 
 -- one family more
-abbrev pub past : {p : ℕ} → Front p → (f : Family) → Front (p + length f)
-past {p} F f =
+abbrev pub past : {p q : ℕ} → Front p → (f : Family) → q ≡ p + length f → Front q
+past {p} {q} F f e =
     record {
       build = λ fs. F .build (f ∷ fs);
       locate = λ fs i h.
-          ap (located (F .build (f ∷ fs))) (add-assoc p (length f) i)
-          ∙ F .locate (f ∷ fs) (length f + i) (omega arith)
-          ∙ ap (λ (n : ℕ). getD (familyGroups p (p + length f) [] f ++ groupList (p + length f) fs) (n + i) nowhere) (sym (length-flattenFamily p (p + length f) [] f))
-          ∙ getD-append-add (familyGroups p (p + length f) [] f) (groupList (p + length f) fs) i nowhere;
+          let n : q + i ≡ p + (length f + i) = omega arith in
+          ap (located (F .build (f ∷ fs))) n ∙ F .locate (f ∷ fs) (length f + i) (omega arith)
+          ∙ later-group p f fs i ∙ ap (λ (m : ℕ). getD (groupList m fs) i nowhere) (sym e);
       put = λ fs i c h.
-          ap (λ (n : ℕ). setCount n c (F .build (f ∷ fs))) (add-assoc p (length f) i)
-          ∙ F .put (f ∷ fs) (length f + i) c (omega arith)
-          ∙ ap (F .build) (set-later i c f fs);
+          let n : q + i ≡ p + (length f + i) = omega arith in
+          ap (λ (m : ℕ). setCount m c (F .build (f ∷ fs))) n ∙ F .put (f ∷ fs) (length f + i) c (omega arith) ∙ ap (F .build) (set-later i c f fs);
     }
 
 -- ---- the groups before position p are filled in, and the families after this one; acc are the kinds of the group before
@@ -74,10 +89,7 @@ opened {p} F top fs =
     record {
       build = λ rs. F .build (rs ∷ fs);
       locate = λ rs e i h.
-          let h′ : i < length (familyGroups p top [] rs) = rw (length-flattenFamily p top [] rs) h in
-          F .locate (rs ∷ fs) i (omega arith)
-          ∙ ap (λ (t : ℕ). getD (familyGroups p t [] rs ++ groupList (p + length rs) fs) i nowhere) e
-          ∙ List·getD-append (familyGroups p top [] rs) (groupList (p + length rs) fs) nowhere i h′;
+          F .locate (rs ∷ fs) i (omega arith) ∙ first-group p rs fs i h ∙ ap (λ (t : ℕ). getD (familyGroups p t [] rs) i nowhere) e;
       put = λ rs i c h. F .put (rs ∷ fs) i c (omega arith) ∙ ap (F .build) (set-here i c rs fs h);
     }
 

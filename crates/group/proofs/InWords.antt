@@ -29,7 +29,7 @@ use Rattle.memory.proofs.Becomes.{count-becomes, slot-real}
 use Rattle.kinds.proofs.Slot.{slot-known, in-list}
 use Rattle.group.specs.Flat.{Located, located, setCount}
 use Rattle.group.specs.Metadata.{orderOf, Describes}
-use Rattle.group.proofs.FlatArrays.{located-is, counts-are}
+use Rattle.group.proofs.FlatArrays.{standing, located-is, counts-are}
 use Rattle.layout.proofs.Groups as few
 
 -- ---- the layout
@@ -104,20 +104,12 @@ module _ (w : List ℕ) (A : Arranged w) where
     prior = priorArity (layoutArrays w) f g
 
     -- what stands at position g
-    pub located-words : located (meaning w .storage .layout) g ≡ record {
-      kinds = between start (start + arity) (orderOf (meaning w));
-      newKinds = between (start + prior) (start + arity) (orderOf (meaning w));
-      count = countAt w g;
-      first = first;
-      top = top;
-    }
+    pub located-words : located (meaning w .storage .layout) g ≡ standing (orderOf (meaning w)) start prior arity (countAt w g) first top
     located-words =
-        subst
-        (λ (fs : List Family). located fs g ≡ record { kinds = between start (start + arity) (layoutKinds fs); newKinds = between (start + prior) (start + arity) (layoutKinds fs); count = countAt w g; first = first; top = top })
-        (sym layout-means)
-        (located-is (between GROUP-COUNTS ENTITIES w) (layoutArrays w) good (layout-sized w A) f g in-family
-        ∙ ap (λ (c : ℕ). record { kinds = between start (start + arity) (layoutKinds (familiesOf (between GROUP-COUNTS ENTITIES w) (layoutArrays w))); newKinds = between (start + prior) (start + arity) (layoutKinds (familiesOf (between GROUP-COUNTS ENTITIES w) (layoutArrays w))); count = c; first = first; top = top })
-        (getD-between GROUP-COUNTS ENTITIES g w 0 (omega (arith, group-few))))
+        let counts : List ℕ = between GROUP-COUNTS ENTITIES w in
+        subst (λ (fs : List Family). located fs g ≡ standing (layoutKinds fs) start prior arity (countAt w g) first top) (sym layout-means)
+        (located-is counts (layoutArrays w) good (layout-sized w A) f g in-family
+        ∙ ap (λ (c : ℕ). standing (layoutKinds (familiesOf counts (layoutArrays w))) start prior arity c first top) (getD-between GROUP-COUNTS ENTITIES g w 0 (omega (arith, group-few))))
 
     pub group-rises : (prior < arity) × (start + arity ≤ length (orderOf (meaning w))) × (top ≤ MAX-GROUP-COUNT)
     group-rises = (

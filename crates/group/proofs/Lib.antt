@@ -4,11 +4,9 @@ pub mod Upward
 pub mod UpReady
 pub mod Commute
 pub mod Downward
-pub mod MaskWalk
 pub mod Positions
 pub mod KindPositions
 pub mod EachKind
-pub mod AllGroups
 pub mod FlatArrays
 pub mod InWords
 pub mod Storing

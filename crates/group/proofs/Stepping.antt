@@ -1,7 +1,7 @@
 -- One group: an entity goes in, goes out, or stays; what a step of either walk leaves. Assumes nothing.
-use mathlib.Core.Path.{_≡_, ap, sym, _∙_, subst}
+use mathlib.Core.Path.{_≡_, refl, ap, sym, subst}
 use mathlib.Core.List.{List}
-use Prim.Native.Nat.{ℕ, _+_, _-_, _≤_, _<_}
+use Prim.Native.Nat.{ℕ, _≤_, _<_}
 use native.Mathlib.Omega.{arith}
 use lib.ListN.{length, getD}
 use Rattle.model.specs.Numbers.{MAX-ENTITIES}
@@ -20,7 +20,7 @@ use Rattle.memory.specs.Arranged.{Arranged, Becomes}
 use Rattle.kinds.proofs.Slot.{known-slot}
 use Rattle.layout.specs.declared.group_metadata.GroupMetadata.{GroupMetadata}
 use Rattle.group.specs.declared.group_status.GroupStatus.{GroupStatus}
-use Rattle.group.specs.Flat.{located, setCount, statusAt, groupAt, ungroupAt, stepUp, stepDown}
+use Rattle.group.specs.Flat.{located, setCount, movedTo, statusAt, stepUp, stepDown}
 use Rattle.group.specs.Ready.{Swappable, ReadyIn, ReadyOut}
 use Rattle.group.specs.Metadata.{orderOf, Describes, Stands}
 use Rattle.group.specs.Steps.{swapKinds, leftAfter, StepsUp}
@@ -35,51 +35,32 @@ set-room w A k i =
     let n : length (setOf (meaning w .storage .sets) k) ≡ length (rowsOf (capacityOf w) (slotOf w k) w) = ap length (S .rows) in
     omega (arith, length-rows (capacityOf w) (columnOf (capacityOf w) (slotOf w k) w), S .lent .sound .linked .room, S .lent .small)
 
-module _ (w₀ : List ℕ) (A : Arranged w₀) (e : Entity) (g len : ℕ) (d : GroupMetadata) (S : Stands (meaning w₀) g d len) where
-  abbrev order : List ℕ
-  order = orderOf (meaning w₀)
-
+-- the entity can be swapped to place c in every kind of group g, whose metadata and count were read
+module _ {w₀ : List ℕ} {e : Entity} {g len c : ℕ} {d : GroupMetadata} (A : Arranged w₀) (S : Stands (meaning w₀) g d len) (R : Swappable e (located (meaning w₀ .storage .layout) g .kinds) c (meaning w₀ .storage .sets)) where
   abbrev ks : List ℕ
   ks = between (d .«storage_start») (d .«storage_end») (orderOf (meaning w₀))
 
-  -- what the swaps ask, of the kinds as they stand
-  pub swappable : (c n : ℕ) → n ≡ c → Swappable e (located (meaning w₀ .storage .layout) g .kinds) c (meaning w₀ .storage .sets) → Swappable e ks n (meaning w₀ .storage .sets)
-  swappable c n q R =
+  pub swaps : {n : ℕ} → n ≡ c → Swappable e ks n (meaning w₀ .storage .sets)
+  swaps q =
       subst (λ (x : ℕ). Swappable e ks x (meaning w₀ .storage .sets)) (sym q)
       (subst (λ (l : List ℕ). Swappable e l c (meaning w₀ .storage .sets)) (sym (S .metadata .kinds)) R)
 
-  -- a place to swap to is small
-  pub place-small : (c : ℕ) → Swappable e ks c (meaning w₀ .storage .sets) → c < MAX-ENTITIES
-  place-small c R =
+  pub place-small : c < MAX-ENTITIES
+  place-small =
       let D = S .metadata in
-      let i : In ks (getD order (d .«storage_start») 0) = between-in (d .«storage_start») (d .«storage_end») (d .«storage_start») order (omega arith) (omega (arith, D .low, D .some)) (D .listed .within) in
-      omega (arith, R .room (getD order (d .«storage_start») 0) i, set-room w₀ A (getD order (d .«storage_start») 0) (D .listed .known (getD order (d .«storage_start») 0) i))
+      let k : ℕ = getD (orderOf (meaning w₀)) (d .«storage_start») 0 in
+      let i : In ks k = between-in (d .«storage_start») (d .«storage_end») (d .«storage_start») (orderOf (meaning w₀)) (omega arith) (omega (arith, D .low, D .some)) (D .listed .within) in
+      omega (arith, swaps refl .room k i, set-room w₀ A k (D .listed .known k i))
 
-  module _ (w₁ : List ℕ) (c : ℕ) (B : Becomes w₀ w₁ (onStorage (swapKinds e c ks) (meaning w₀))) where
+  module _ {w₁ : List ℕ} {n : ℕ} (q : n ≡ c) (B : Becomes w₀ w₁ (onStorage (swapKinds e n ks) (meaning w₀))) where
     pub still-below : g < groupsOf (meaning w₁ .storage .layout)
     still-below = subst (λ (m : Store). g < groupsOf (m .storage .layout)) (sym (B .means)) (S .below)
 
-    module _ (w₂ : List ℕ) (n : ℕ) (C : Becomes w₁ w₂ (onStorage (λ (s : Storage). withLayout s (setCount g n (s .layout))) (meaning w₁))) where
-      both : Becomes w₀ w₂ (onStorage (λ (s : Storage). record { sets = onKinds ks (swapTo e c) (s .sets); layout = setCount g n (s .layout) }) (meaning w₀))
-      both = becomes-then w₀ w₁ w₂ (swapKinds e c ks) (onStorage (λ (s : Storage). withLayout s (setCount g n (s .layout)))) B C
-
-      pub goes-in : c ≡ len → n ≡ len + 1 → Becomes w₀ w₂ (onStorage (groupAt e g) (meaning w₀))
-      unfolding groupAt
-      goes-in qc qn =
-          let kinds = S .metadata .kinds in
-          let place : c ≡ located (meaning w₀ .storage .layout) g .count = qc ∙ S .counted in
-          let next : n ≡ located (meaning w₀ .storage .layout) g .count + 1 = qn ∙ ap (λ (x : ℕ). x + 1) (S .counted) in
-          storage-becomes w₀ w₂ (meaning w₀) (λ (s : Storage). record { sets = onKinds ks (swapTo e c) (s .sets); layout = setCount g n (s .layout) }) (groupAt e g)
-          (λ i. record { sets = onKinds (kinds i) (swapTo e (place i)) (meaning w₀ .storage .sets); layout = setCount g (next i) (meaning w₀ .storage .layout) }) both
-
-      pub goes-out : c ≡ len - 1 → n ≡ len - 1 → Becomes w₀ w₂ (onStorage (ungroupAt e g) (meaning w₀))
-      unfolding ungroupAt
-      goes-out qc qn =
-          let kinds = S .metadata .kinds in
-          let place : c ≡ located (meaning w₀ .storage .layout) g .count - 1 = qc ∙ ap (λ (x : ℕ). x - 1) (S .counted) in
-          let next : n ≡ located (meaning w₀ .storage .layout) g .count - 1 = qn ∙ ap (λ (x : ℕ). x - 1) (S .counted) in
-          storage-becomes w₀ w₂ (meaning w₀) (λ (s : Storage). record { sets = onKinds ks (swapTo e c) (s .sets); layout = setCount g n (s .layout) }) (ungroupAt e g)
-          (λ i. record { sets = onKinds (kinds i) (swapTo e (place i)) (meaning w₀ .storage .sets); layout = setCount g (next i) (meaning w₀ .storage .layout) }) both
+    pub moves : {w₂ : List ℕ} {x y : ℕ} → x ≡ y → Becomes w₁ w₂ (onStorage (λ (s : Storage). withLayout s (setCount g x (s .layout))) (meaning w₁)) → Becomes w₀ w₂ (onStorage (movedTo e g c y) (meaning w₀))
+    moves {w₂} {x} {y} z C =
+        storage-becomes w₀ w₂ (meaning w₀) (λ (s : Storage). record { sets = onKinds ks (swapTo e n) (s .sets); layout = setCount g x (s .layout) }) (movedTo e g c y)
+        (λ i. record { sets = onKinds (S .metadata .kinds i) (swapTo e (q i)) (meaning w₀ .storage .sets); layout = setCount g (z i) (meaning w₀ .storage .layout) })
+        (becomes-then w₀ w₁ w₂ (swapKinds e n ks) (onStorage (λ (s : Storage). withLayout s (setCount g x (s .layout)))) B C)
 
 -- the family's rest is past g
 pub skip-ordered : (m : Store) (g : ℕ) (d : GroupMetadata) → g < groupsOf (m .storage .layout) → Describes m g d → Ordered 64 g (d .top)
@@ -89,17 +70,19 @@ skip-ordered m g d h D =
 
 -- ---- the steps, by status
 
-module _ (w w′ : List ℕ) (e : Entity) (g : ℕ) (t : GroupStatus) (q : t ≡ statusAt e g (meaning w .storage)) where
-  pub steps-up : (rest left : ℕ) → Becomes w w′ (onStorage (stepUp t e g) (meaning w)) → bitsOf 64 left ≡ leftAfter t g (located (meaning w .storage .layout) g .top) (bitsOf 64 rest) → StepsUp w w′ e g rest left
-  steps-up rest left B b =
-      record {
-        becomes = subst (λ (x : GroupStatus). Becomes w w′ (onStorage (stepUp x e g) (meaning w))) q B;
-        remains = subst (λ (x : GroupStatus). bitsOf 64 left ≡ leftAfter x g (located (meaning w .storage .layout) g .top) (bitsOf 64 rest)) q b;
-      }
+pub steps-up : {w w′ : List ℕ} {e : Entity} {g rest left : ℕ} {t : GroupStatus} → t ≡ statusAt e g (meaning w .storage) → Becomes w w′ (onStorage (stepUp t e g) (meaning w))
+    → bitsOf 64 left ≡ leftAfter t g (located (meaning w .storage .layout) g .top) (bitsOf 64 rest) → StepsUp w w′ e g rest left
+steps-up {w} {w′} {e} {g} {rest} {left} q B b =
+    record {
+      becomes = subst (λ (x : GroupStatus). Becomes w w′ (onStorage (stepUp x e g) (meaning w))) q B;
+      remains = subst (λ (x : GroupStatus). bitsOf 64 left ≡ leftAfter x g (located (meaning w .storage .layout) g .top) (bitsOf 64 rest)) q b;
+    }
 
-  pub steps-down : Becomes w w′ (onStorage (stepDown t e g) (meaning w)) → Becomes w w′ (onStorage (stepDown (statusAt e g (meaning w .storage)) e g) (meaning w))
-  steps-down B = subst (λ (x : GroupStatus). Becomes w w′ (onStorage (stepDown x e g) (meaning w))) q B
+pub steps-down : {w w′ : List ℕ} (e : Entity) (g : ℕ) {t : GroupStatus} → t ≡ statusAt e g (meaning w .storage) → Becomes w w′ (onStorage (stepDown t e g) (meaning w))
+    → Becomes w w′ (onStorage (stepDown (statusAt e g (meaning w .storage)) e g) (meaning w))
+steps-down {w} {w′} e g q B = subst (λ (x : GroupStatus). Becomes w w′ (onStorage (stepDown x e g) (meaning w))) q B
 
+module _ (w : List ℕ) (e : Entity) (g : ℕ) {t : GroupStatus} (q : t ≡ statusAt e g (meaning w .storage)) where
   pub ready-in : ReadyIn (statusAt e g (meaning w .storage)) e (located (meaning w .storage .layout) g) (meaning w .storage .sets) → ReadyIn t e (located (meaning w .storage .layout) g) (meaning w .storage .sets)
   ready-in r = subst (λ (x : GroupStatus). ReadyIn x e (located (meaning w .storage .layout) g) (meaning w .storage .sets)) (sym q) r
 

@@ -2,7 +2,7 @@
 use mathlib.Core.Path.{_≡_, refl, ap, sym, _∙_, subst}
 use mathlib.Core.Bool.{Bool, true, false, cond}
 use mathlib.Core.List.{List, [], _∷_, _++_}
-use Prim.Native.Nat.{ℕ, _+_, _-_, _≤_, _<_}
+use Prim.Native.Nat.{ℕ, _+_, _≤_, _<_}
 use native.Mathlib.Omega.{arith}
 use borrow.Author.Tests.{eq-eqb}
 use lib.ListN.{length, getD, set}
@@ -10,7 +10,7 @@ use Rattle.model.specs.Run.{Store}
 use Rattle.model.specs.Model.{Entity, SparseSet, Storage, mem, setOf, held, swapTo}
 use Rattle.model.specs.Store.{onSet, onStorage}
 use Rattle.model.specs.Sound.{In, Distinct}
-use Rattle.model.proofs.KindLists.{in-left}
+use Rattle.model.proofs.KindLists.{in-left, not-both, distinct-apart}
 use Rattle.words.specs.Part.{between}
 use Rattle.words.proofs.Part.{between-none, between-split, between-more, between-in}
 use Rattle.memory.specs.Meaning.{meaning}
@@ -20,7 +20,6 @@ use Rattle.kinds.proofs.Slot.{known-small}
 use Rattle.group.specs.Ready.{Swappable}
 use Rattle.group.specs.Metadata.{orderOf, PlacesKnown}
 use Rattle.group.specs.Steps.{swapKinds}
-use Rattle.group.proofs.KindPositions.{not-left}
 use Rattle.group.proofs.EachKind.{eachKind, each-append, setOf-each, each-kinds}
 use Rattle.group.proofs.Storing.{becomes-then}
 use Rattle.group.proofs.InWords.{order-part-once}
@@ -34,14 +33,13 @@ pub record Swapping (w₀ : List ℕ) (e : Entity) (start end c : ℕ) (w : List
   pub high : p ≤ end
   pub soFar : Becomes w₀ w (onStorage (eachSwap e c (between start p (orderOf (meaning w₀)))) (meaning w₀))
 
--- what the swap at place p asks
-pub record SwapAsk (w : List ℕ) (e : Entity) (c p : ℕ) : Type 0 where
-  pub place : p < length (orderOf (meaning w))
-  pub known : In (meaning w .kinds) (getD (orderOf (meaning w)) p 0)
-  pub holds : held e (setOf (meaning w .storage .sets) (getD (orderOf (meaning w)) p 0)) ≡ true
-  pub room : c < length (setOf (meaning w .storage .sets) (getD (orderOf (meaning w)) p 0))
+-- what the swap in kind j's sparse set asks
+pub record SwapAsk (w : List ℕ) (e : Entity) (c j : ℕ) : Type 0 where
+  pub known : In (meaning w .kinds) j
+  pub holds : held e (setOf (meaning w .storage .sets) j) ≡ true
+  pub room : c < length (setOf (meaning w .storage .sets) j)
 
-module _ (w₀ : List ℕ) (A : Arranged w₀) (e : Entity) (start end c : ℕ) (L : PlacesKnown (meaning w₀) start end) (R : Swappable e (between start end (orderOf (meaning w₀))) c (meaning w₀ .storage .sets)) where
+module _ {w₀ : List ℕ} {e : Entity} {start end c : ℕ} (A : Arranged w₀) (L : PlacesKnown (meaning w₀) start end) (R : Swappable e (between start end (orderOf (meaning w₀))) c (meaning w₀ .storage .sets)) where
   pub swap-start : Swapping w₀ e start end c w₀ start
   swap-start =
       record {
@@ -58,7 +56,7 @@ module _ (w₀ : List ℕ) (A : Arranged w₀) (e : Entity) (start end c : ℕ) 
       subst (λ (l : List ℕ). In l k) (between-split start p end (orderOf (meaning w₀)) lo hi) (in-left (between start p (orderOf (meaning w₀))) (between p end (orderOf (meaning w₀))) k i) in
       omega (arith, known-small w₀ A k (L .known k inside), sets-wide w₀)
 
-  module _ (w : List ℕ) (p : ℕ) (S : Swapping w₀ e start end c w p) where
+  module _ {w : List ℕ} {p : ℕ} (S : Swapping w₀ e start end c w p) where
     module _ (lt : p < end) where
       abbrev k : ℕ
       k = getD (orderOf (meaning w₀)) p 0
@@ -76,7 +74,7 @@ module _ (w₀ : List ℕ) (A : Arranged w₀) (e : Entity) (start end c : ℕ) 
       more = between-more start p (orderOf (meaning w₀)) (S .low) (omega (arith, L .within))
 
       fresh : mem k before ≡ false
-      fresh = not-left before (k ∷ []) k (subst Distinct more (order-part-once w₀ A start (p + 1))) (rw (eq-eqb k k refl))
+      fresh = not-both before (k ∷ []) k (distinct-apart before (k ∷ []) (subst Distinct more (order-part-once w₀ A start (p + 1))) k) (rw (eq-eqb k k refl))
 
       same-set : setOf (meaning w .storage .sets) k ≡ setOf (meaning w₀ .storage .sets) k
       same-set =
@@ -84,18 +82,20 @@ module _ (w₀ : List ℕ) (A : Arranged w₀) (e : Entity) (start end c : ℕ) 
           ∙ setOf-each (swapTo e c) before (meaning w₀ .storage .sets) (order-part-once w₀ A start p) (small p (S .low) (S .high)) k
           ∙ ap (λ (b : Bool). cond b (swapTo e c (setOf (meaning w₀ .storage .sets) k)) (setOf (meaning w₀ .storage .sets) k)) fresh
 
-      pub swap-ask : SwapAsk w e c p
-      swap-ask =
-          let n : length (orderOf (meaning w)) ≡ length (orderOf (meaning w₀)) = ap (λ (m : Store). length (orderOf m)) (S .soFar .means) in
-          record {
-            place = omega (arith, L .within);
-            known = subst (In (meaning w .kinds)) (sym kind-is) (subst (λ (m : Store). In (m .kinds) k) (sym (S .soFar .means)) (L .known k inside));
-            holds = subst (λ (j : ℕ). held e (setOf (meaning w .storage .sets) j) ≡ true) (sym kind-is) (subst (λ (rs : SparseSet). held e rs ≡ true) (sym same-set) (R .holds k inside));
-            room = subst (λ (j : ℕ). c < length (setOf (meaning w .storage .sets) j)) (sym kind-is) (subst (λ (rs : SparseSet). c < length rs) (sym same-set) (R .room k inside));
-          }
+      pub place-there : p < length (orderOf (meaning w))
+      place-there = let n : length (orderOf (meaning w)) ≡ length (orderOf (meaning w₀)) = ap (λ (m : Store). length (orderOf m)) (S .soFar .means) in omega (arith, L .within)
 
-      pub swap-turn : (w′ : List ℕ) (j : ℕ) → j ≡ getD (orderOf (meaning w)) p 0 → Becomes w w′ (onStorage (onSet j (swapTo e c)) (meaning w)) → Swapping w₀ e start end c w′ (p + 1)
-      swap-turn w′ j q C =
+      pub swap-ask : {j : ℕ} → j ≡ getD (orderOf (meaning w)) p 0 → SwapAsk w e c j
+      swap-ask q =
+          subst (SwapAsk w e c) (sym (q ∙ kind-is))
+          (record {
+            known = subst (λ (m : Store). In (m .kinds) k) (sym (S .soFar .means)) (L .known k inside);
+            holds = subst (λ (rs : SparseSet). held e rs ≡ true) (sym same-set) (R .holds k inside);
+            room = subst (λ (rs : SparseSet). c < length rs) (sym same-set) (R .room k inside);
+          })
+
+      pub swap-turn : {w′ : List ℕ} {j : ℕ} → j ≡ getD (orderOf (meaning w)) p 0 → Becomes w w′ (onStorage (onSet j (swapTo e c)) (meaning w)) → Swapping w₀ e start end c w′ (p + 1)
+      swap-turn {w′} {j} q C =
           let was : List SparseSet = eachKind (swapTo e c) before (meaning w₀ .storage .sets) in
           let sets : set was j (swapTo e c (setOf was j)) ≡ eachKind (swapTo e c) (between start (p + 1) (orderOf (meaning w₀))) (meaning w₀ .storage .sets) =
           ap (λ (x : ℕ). set was x (swapTo e c (setOf was x))) (q ∙ kind-is)

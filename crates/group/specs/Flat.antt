@@ -1,11 +1,11 @@
 -- The groups of the layout numbered in order, and the walks over their positions as the code makes them. Assumes nothing.
-use mathlib.Core.Bool.{Bool, true, cond}
+use mathlib.Core.Bool.{Bool, cond}
 use mathlib.Core.List.{List, [], _∷_, _++_}
 use Prim.Native.Nat.{ℕ, zero, suc, _+_, _-_}
 use lib.Dec.{ltb}
 use lib.ListN.{length, getD}
-use Rattle.model.specs.Model.{Entity, SparseSet, Group, Family, Storage, meets, setOf, at, onKinds, swapTo, allHeld, headKind, kindsOf}
-use Rattle.masks.specs.Masks.{upFrom}
+use Rattle.model.specs.Model.{Entity, SparseSet, Group, Family, Storage, meets, setOf, at, onKinds, swapTo, allHeld, headKind, kindsOf, groupsOf}
+use Rattle.masks.specs.Masks.{upFrom, keepIf}
 use Rattle.group.specs.declared.group_status.GroupStatus.{GroupStatus}
 use Rattle.group.specs.declared.group_status.GroupStatus.the-variants.{Incomplete, Ungrouped, Grouped}
 
@@ -66,17 +66,17 @@ statusOf e l sets =
 abbrev pub statusAt : Entity → ℕ → Storage → GroupStatus
 statusAt e g s = statusOf e (located (s .layout) g) (s .sets)
 
+-- swapped to place c, "in every column of the group", and n for the count
+abbrev pub movedTo : Entity → ℕ → ℕ → ℕ → Storage → Storage
+movedTo e g c n s = record { sets = onKinds (located (s .layout) g .kinds) (swapTo e c) (s .sets); layout = setCount g n (s .layout) }
+
 -- "swapped to the place equal to the count, in every column of the group, and the count grows"
 unfoldable pub groupAt : Entity → ℕ → Storage → Storage
-groupAt e g s =
-    let l = located (s .layout) g in
-    record { sets = onKinds (l .kinds) (swapTo e (l .count)) (s .sets); layout = setCount g (l .count + 1) (s .layout) }
+groupAt e g s = let l = located (s .layout) g in movedTo e g (l .count) (l .count + 1) s
 
 -- "swapped to the last counted place and the count falls"
 unfoldable pub ungroupAt : Entity → ℕ → Storage → Storage
-ungroupAt e g s =
-    let l = located (s .layout) g in
-    record { sets = onKinds (l .kinds) (swapTo e (l .count - 1)) (s .sets); layout = setCount g (l .count - 1) (s .layout) }
+ungroupAt e g s = let l = located (s .layout) g in movedTo e g (l .count - 1) (l .count - 1) s
 
 -- ---- the walks
 
@@ -112,31 +112,32 @@ walkDown e (g ∷ ps) s = walkDown e ps (stepDown (statusAt e g s) e g s)
 
 -- ---- the positions of a walk
 
--- all positions of the families that pass the test, rising
-unfoldable pub familyPositions : (Family → Bool) → ℕ → List Family → List ℕ
-familyPositions t p [] = []
-familyPositions t p (f ∷ fs) =
-    let rest = familyPositions t (p + length f) fs in
-    cond (t f) (upFrom p (length f) ++ rest) rest
+-- a family's groups, smallest first, each as its family and its kinds; acc are the kinds of the group before
+abbrev pub familyMembers : Family → List ℕ → Family → List (Family × List ℕ)
+familyMembers f acc [] = []
+familyMembers f acc (r ∷ rs) = (f, acc ++ r .newKinds) ∷ familyMembers f (acc ++ r .newKinds) rs
+
+-- those of the families, one family after another
+abbrev pub members : List Family → List (Family × List ℕ)
+members [] = []
+members (f ∷ fs) = familyMembers f [] f ++ members fs
+
+-- the numbers of those that pass the test, counted from p, rising
+unfoldable pub passing : (Family → List ℕ → Bool) → ℕ → List (Family × List ℕ) → List ℕ
+passing t p [] = []
+passing t p (m ∷ ms) = keepIf (t (m .0) (m .1)) p (passing t (suc p) ms)
+
+-- the positions of the groups that pass a test of their family and their kinds, where the first group is numbered p
+abbrev pub positionsWhere : (Family → List ℕ → Bool) → ℕ → List Family → List ℕ
+positionsWhere t p fs = passing t p (members fs)
 
 -- "the touched families' groups": those of the families that have a kind of ks
 abbrev pub insertPositions : List ℕ → List Family → List ℕ
-insertPositions ks fs = familyPositions (λ f. meets ks (kindsOf f)) 0 fs
+insertPositions ks fs = positionsWhere (λ f js. meets ks (kindsOf f)) 0 fs
 
 abbrev pub allPositions : List Family → List ℕ
-allPositions fs = familyPositions (λ f. true) 0 fs
+allPositions fs = upFrom 0 (groupsOf fs)
 
--- a family's groups that have a kind of gone: from the first whose new kinds have one to the largest, rising
-unfoldable pub deleteFamily : List ℕ → ℕ → List ℕ → Family → List ℕ
-deleteFamily gone p acc [] = []
-deleteFamily gone p acc (r ∷ rs) =
-    let rest = deleteFamily gone (suc p) (acc ++ r .newKinds) rs in
-    cond (meets gone (acc ++ r .newKinds)) (p ∷ rest) rest
-
-unfoldable pub deleteFrom : List ℕ → ℕ → List Family → List ℕ
-deleteFrom gone p [] = []
-deleteFrom gone p (f ∷ fs) = deleteFamily gone p [] f ++ deleteFrom gone (p + length f) fs
-
--- "the groups from each removed kind's own to the family's largest"
+-- "the groups from each removed kind's own to the family's largest": those that have a kind of gone
 abbrev pub deletePositions : List ℕ → List Family → List ℕ
-deletePositions gone fs = deleteFrom gone 0 fs
+deletePositions gone fs = positionsWhere (λ f ks. meets gone ks) 0 fs

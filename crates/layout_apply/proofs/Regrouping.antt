@@ -10,7 +10,7 @@ use Rattle.model.specs.Sound.{StoreSound}
 use Rattle.model.proofs.Regroup.{FreshAll, setLayout-is}
 use Rattle.model.proofs.Held.{distinct-families, buildable-fresh}
 use Rattle.masks.specs.Masks.{upFrom, has}
-use Rattle.masks.proofs.Lists.{has-up, between-parts}
+use Rattle.masks.proofs.Lists.{up-parts}
 use Rattle.model.proofs.ListLaws.{drop-step}
 use Rattle.memory.specs.Meaning.{meaning}
 use Rattle.memory.specs.Arranged.{Arranged, Becomes}
@@ -18,9 +18,8 @@ use Rattle.memory.proofs.Becomes.{stays, becomes-next}
 use Rattle.group.specs.Flat.{walkUp}
 use Rattle.group.specs.Ready.{ReadyUp, ReadyEach}
 use Rattle.group.specs.Steps.{Below}
-use Rattle.group.proofs.Upward.{length-up}
+use Rattle.group.proofs.Upward.{length-up, walk-all}
 use Rattle.group.proofs.UpReady.{ready-regroup}
-use Rattle.group.proofs.AllGroups.{walk-each, ready-next}
 use Rattle.group.proofs.Storing.{becomes-then}
 use Rattle.layout_apply.specs.Steps.{installed, applied}
 
@@ -75,19 +74,20 @@ module _ (w₀ w : List ℕ) (i : ℕ) (R : Regrouping w₀ w i) where
     all = b ∙ ap (upFrom 0) (sym (R .groups))
 
     next : ReadyUp e 0 (upFrom 0 (groupsOf (s .layout))) s × ReadyEach (drop (i + 1) live) (groupAll e (s .sets) (s .layout))
-    next = ready-next e (drop (i + 1) live) s (rw left at (R .ready))
+    unfolding ReadyEach
+    next = rw left at (R .ready)
 
     pub walk-ask : WalkAsk w e ps
     walk-ask =
         record {
-          below = λ g t. let n = groupsOf (s .layout) in omega (arith, between-parts 0 (0 + n) g (sym (has-up g 0 n) ∙ ap (has g) (sym all) ∙ t) .1);
+          below = λ g t. let n = groupsOf (s .layout) in omega (arith, up-parts 0 n g (ap (has g) (sym all) ∙ t) .1);
           ready = subst (λ (l : List ℕ). ReadyUp e 0 l s) (sym all) (next .0);
         }
 
     pub regroup-turn : (w′ : List ℕ) → Becomes w w′ (onStorage (walkUp e 0 ps) (meaning w)) → Regrouping w₀ w′ (i + 1)
     regroup-turn w′ C =
         let now : meaning w′ .storage ≡ groupAll e (s .sets) (s .layout) =
-        ap (λ (m : Store). m .storage) (C .means) ∙ ap (λ (l : List ℕ). walkUp e 0 l s) all ∙ walk-each e s in
+        ap (λ (m : Store). m .storage) (C .means) ∙ ap (λ (l : List ℕ). walkUp e 0 l s) all ∙ walk-all e s in
         record {
           below = omega arith;
           soFar =

@@ -9,7 +9,7 @@ use lib.Pow.{pow-pos}
 use lib.Bits.{bitAnd, bitOr}
 use Rattle.masks.specs.Masks.{putIf, positions, bitsOf, upFrom, has, keepIf, keep, between, unionOf, commonOf, skipping, Ordered}
 use Rattle.masks.proofs.Digits.{isSet, hasBit, span, restOf, has-or, has-and, has-span, has-rest, same-bits, shl-one, span-shifted}
-use Rattle.masks.proofs.Lists.{keep-same, keep-keep, keep-between, has-keep, has-up, up-below, between-in, and-parts}
+use Rattle.masks.proofs.Lists.{keep-same, keep-keep, keep-between, has-keep, has-up, up-parts, between-in, and-parts}
 
 put-keep : (d p : ℕ) (l : List ℕ) → putIf d p l ≡ keepIf (isSet d) p l
 put-keep zero p l = refl
@@ -23,17 +23,17 @@ as-keep (suc w) p m g h =
     let rest : positions w (suc p) (m / 2) ≡ keep g (upFrom (suc p) w) = as-keep w (suc p) (m / 2) g (λ i. ap g (suc-add p i ∙ sym (add-suc p i)) ∙ h (suc i)) in
     put-keep (m % 2) p (positions w (suc p) (m / 2)) ∙ ap₂ (λ (b : Bool) (l : List ℕ). keepIf b p l) (sym here) rest
 
-bits-keep : (w m : ℕ) → bitsOf w m ≡ keep (hasBit m) (upFrom 0 w)
+pub bits-keep : (w m : ℕ) → bitsOf w m ≡ keep (hasBit m) (upFrom 0 w)
 bits-keep w m = as-keep w 0 m (hasBit m) (λ i. ap (hasBit m) (zero-add i))
 
 -- a mask whose bits are known by a test
 bits-by : (w m : ℕ) (f : ℕ → Bool) → ((i : ℕ) → i < w → hasBit m i ≡ f i) → bitsOf w m ≡ keep f (upFrom 0 w)
-bits-by w m f h = bits-keep w m ∙ keep-same (hasBit m) f (upFrom 0 w) (λ i e. h i (omega (arith, up-below 0 w i e)))
+bits-by w m f h = bits-keep w m ∙ keep-same (hasBit m) f (upFrom 0 w) (λ i e. h i (omega (arith, up-parts 0 w i e .1)))
 
 -- a position of a mask is a set bit below the width
 pub bits-below : (w m i : ℕ) → has i (bitsOf w m) ≡ true → i < w
 bits-below w m i e =
-    let up = up-below 0 w i (and-parts (has i (upFrom 0 w)) (hasBit m i) (sym (has-keep i (hasBit m) (upFrom 0 w)) ∙ ap (has i) (sym (bits-keep w m)) ∙ e) .0) in
+    let up = up-parts 0 w i (and-parts (has i (upFrom 0 w)) (hasBit m i) (sym (has-keep i (hasBit m) (upFrom 0 w)) ∙ ap (has i) (sym (bits-keep w m)) ∙ e) .0) .1 in
     omega arith
 
 pub bits-has : (w m i : ℕ) → i < w → has i (bitsOf w m) ≡ hasBit m i

@@ -9,7 +9,8 @@ use lib.Seq.{take-all, take-suc}
 use Rattle.model.specs.Numbers.{MAX-GROUP-COUNT}
 use Rattle.model.specs.Model.{Family, groupsOf}
 use Rattle.masks.specs.Masks.{bitsOf, unionOf}
-use Rattle.group.proofs.KindPositions.{insert-no-kinds, delete-no-kinds, insert-union, delete-union}
+use Rattle.group.proofs.Positions.{where-none}
+use Rattle.group.proofs.KindPositions.{insert-union, delete-union}
 use Rattle.world.specs.declared.mask.Walk.{Walk}
 use Rattle.world.specs.declared.mask.Walk.the-variants.{Insert, Delete}
 use Rattle.world.specs.Walked.{walkPositions}
@@ -30,8 +31,8 @@ module _ (P : List ℕ → List ℕ) (none : P [] ≡ []) (union : (ks js : List
 
 -- the positions of no kind, and of more kinds, in a layout of at most 64 groups
 pub no-kinds : (walk : Walk) (fs : List Family) → walkPositions walk [] fs ≡ []
-no-kinds Insert fs = insert-no-kinds 0 fs
-no-kinds Delete fs = delete-no-kinds 0 fs
+no-kinds Insert fs = where-none 0 fs
+no-kinds Delete fs = where-none 0 fs
 
 pub more-kinds : (walk : Walk) (fs : List Family) → groupsOf fs ≤ MAX-GROUP-COUNT → (ks js : List ℕ) → walkPositions walk (ks ++ js) fs ≡ unionOf 64 (walkPositions walk ks fs) (walkPositions walk js fs)
 more-kinds Insert fs few ks js = insert-union 64 ks js fs (omega arith)

@@ -72,5 +72,5 @@ module _ (w : List ℕ) (A : Arranged w) where
     in-none = ap (mem k) (order-is w A) ∙ no-group w A k o
 
     pub mask-nothing : (walk : Walk) → walkPositions walk (k ∷ []) (meaning w .storage .layout) ≡ []
-    mask-nothing Insert = insert-none k 0 (meaning w .storage .layout) in-none
-    mask-nothing Delete = delete-none k 0 (meaning w .storage .layout) in-none
+    mask-nothing Insert = insert-none k (meaning w .storage .layout) in-none
+    mask-nothing Delete = delete-none k (meaning w .storage .layout) in-none

@@ -19,11 +19,10 @@ use Rattle.memory.specs.Arranged.{Sound, Becomes}
 use Rattle.group.specs.Flat.{insertPositions, deletePositions, walkUp, walkDown}
 use Rattle.group.specs.Ready.{ReadyUp, ReadyDown}
 use Rattle.group.specs.Steps.{Below}
-use Rattle.group.proofs.Positions.{families-below, delete-below}
+use Rattle.group.proofs.Positions.{where-within}
 use Rattle.group.proofs.Upward.{walk-touched}
 use Rattle.group.proofs.UpReady.{ready-insert}
-use Rattle.group.proofs.Downward.{walk-ungroup, ready-remove}
-use Rattle.group.proofs.AllGroups.{walk-ungroup-all, ready-remove-all}
+use Rattle.group.proofs.Downward.{walk-ungroup, ready-remove, walk-ungroup-all, ready-remove-all}
 use Rattle.world.specs.Insert.{Insertable, inserted}
 use Rattle.world.specs.Remove.{Staged, ungrouped, removed}
 use Rattle.group.proofs.Storing.{becomes-then, storage-becomes}
@@ -51,7 +50,7 @@ module _ (w : List ℕ) (S : Sound w) where
   module _ (x v mask : ℕ) (b : bitsOf 64 mask ≡ insertPositions (stagedKinds (meaning w)) (meaning w .storage .layout)) (w₁ : List ℕ) (B : Becomes w w₁ (onStorage (inserted (entity x v) (meaning w .control .staged)) (meaning w))) where
     pub insert-below : Below (bitsOf 64 mask) (meaning w₁ .storage)
     insert-below g h =
-        let l : g < 0 + groupsOf (meaning w .storage .layout) = families-below (λ (f : Family). meets (stagedKinds (meaning w)) (kindsOf f)) 0 (meaning w .storage .layout) g (ap (has g) (sym b) ∙ h) in
+        let l : g < 0 + groupsOf (meaning w .storage .layout) = where-within (λ (f : Family) (ks : List ℕ). meets (stagedKinds (meaning w)) (kindsOf f)) 0 (meaning w .storage .layout) g (ap (has g) (sym b) ∙ h) .1 in
         subst (λ (s : Store). g < groupsOf (s .storage .layout)) (sym (B .means)) (omega (arith, l))
 
     pub insert-ready : ReadyUp (entity x v) 0 (bitsOf 64 mask) (meaning w₁ .storage)
@@ -76,7 +75,7 @@ module _ (w : List ℕ) (S : Sound w) where
   module _ (e : Entity) (mask : ℕ) (b : bitsOf 64 mask ≡ deletePositions (stagedKinds (meaning w)) (meaning w .storage .layout)) where
     pub delete-inside : Below (bitsOf 64 mask) (meaning w .storage)
     delete-inside g h =
-        let l : g < 0 + groupsOf (meaning w .storage .layout) = delete-below (stagedKinds (meaning w)) 0 (meaning w .storage .layout) g (ap (has g) (sym b) ∙ h) in
+        let l : g < 0 + groupsOf (meaning w .storage .layout) = where-within (λ (f : Family) (ks : List ℕ). meets (stagedKinds (meaning w)) ks) 0 (meaning w .storage .layout) g (ap (has g) (sym b) ∙ h) .1 in
         omega (arith, l)
 
     pub delete-ready : ReadyDown e (reverse (bitsOf 64 mask)) (meaning w .storage)

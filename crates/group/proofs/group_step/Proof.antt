@@ -3,7 +3,6 @@ use Rattle.masks.specs.Masks.{bitsOf, commonOf, skipping}
 use Rattle.component.specs.SparseSet.{entity}
 use Rattle.memory.specs.Meaning.{meaning}
 use Rattle.memory.proofs.Becomes.{stays}
-use Rattle.group.specs.declared.group_status.GroupStatus.the-variants.{Incomplete, Ungrouped, Grouped}
 use Rattle.group.proofs.Stepping.{skip-ordered, steps-up, ready-in}
 use Rattle.group.proofs.group_step.Statement.{statement}
 use Rattle.group.proofs.group_step.Tie as tie
@@ -18,8 +17,7 @@ returns : tie.Need-returns
 returns c =
     let s = c .before .before .before .before .before .before .before .before .before in
     let a = s .args in
-    steps-up (a .words .now) (a .words .now) (entity (a .index) (a .version)) (a .g) Incomplete (sym (c .before .before .enum-told .given .1) ∙ c .before .before .before .before .status-in .ensures) (a .rest .0) (c .intersection .result .0)
-    (stays (s .pre .0))
+    steps-up (sym (c .before .before .enum-told .given .1) ∙ c .before .before .before .before .status-in .ensures) (stays (s .pre .0))
     (c .intersection .ensures ∙ ap (commonOf (bitsOf 64 (a .rest .0))) (c .before .skip-from-to .ensures ∙ ap (skipping 64 (a .g)) (c .before .before .before .before .before .before .metadata .ensures .top)))
 
 group-components-requires : tie.Need-group-components-requires
@@ -29,22 +27,16 @@ group-components-requires c κs =
       s .pre .0,
       (
         record { below = s .pre .1 .0; metadata = c .before .before .before .before .before .before .before .metadata .ensures; counted = c .before .count .ensures },
-        ready-in (a .words .now) (a .words .now) (entity (a .index) (a .version)) (a .g) Ungrouped (sym (c .before .before .before .enum-told2 .given .1) ∙ c .before .before .before .before .before .status-in .ensures) (s .pre .1 .1),
+        ready-in (a .words .now) (entity (a .index) (a .version)) (a .g) (sym (c .before .before .before .enum-told2 .given .1) ∙ c .before .before .before .before .before .status-in .ensures) (s .pre .1 .1),
       ),
     )
 
 returns-2 : tie.Need-returns-2
 returns-2 c =
-    let a = c .before .before .before .before .before .before .before .before .before .before .before .before .before .args in
-    steps-up (a .words .now) (c .before .before .group-components .last .0) (entity (a .index) (a .version)) (a .g) Ungrouped (sym (c .before .before .before .before .before .before .enum-told2 .given .1) ∙ c .before .before .before .before .before .before .before .before .status-in .ensures) (a .rest .0) (a .rest .0)
-    (c .before .before .group-components .ensures) refl
+    steps-up (sym (c .before .before .before .before .before .before .enum-told2 .given .1) ∙ c .before .before .before .before .before .before .before .before .status-in .ensures) (c .before .before .group-components .ensures) refl
 
 returns-3 : tie.Need-returns-3
-returns-3 c =
-    let s = c .before .before .before .before .before .before .before in
-    let a = s .args in
-    steps-up (a .words .now) (a .words .now) (entity (a .index) (a .version)) (a .g) Grouped (sym (c .enum-told3 .given .1) ∙ c .before .before .status-in .ensures) (a .rest .0) (a .rest .0)
-    (stays (s .pre .0)) refl
+returns-3 c = steps-up (sym (c .enum-told3 .given .1) ∙ c .before .before .status-in .ensures) (stays (c .before .before .before .before .before .before .before .pre .0)) refl
 
 pub group-step-spec : {M : Type 1} → statement M
 group-step-spec =

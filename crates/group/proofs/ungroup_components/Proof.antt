@@ -1,47 +1,35 @@
-use mathlib.Core.Path.{refl, ap, _∙_}
-use Prim.Native.Nat.{ℕ, _-_, _<_}
+use mathlib.Core.Path.{_≡_, ap, _∙_}
+use Prim.Native.Nat.{ℕ, _-_}
 use native.Mathlib.Omega.{arith}
-use Rattle.model.specs.Numbers.{MAX-ENTITIES}
-use Rattle.words.specs.Part.{between}
-use Rattle.component.specs.SparseSet.{entity}
 use Rattle.memory.specs.Meaning.{meaning}
-use Rattle.group.specs.Flat.{located}
-use Rattle.group.specs.Ready.{Swappable}
-use Rattle.group.specs.Metadata.{orderOf}
-use Rattle.group.proofs.Stepping.{swappable, place-small, still-below, goes-out}
+use Rattle.group.specs.Flat.{located, ungroupAt}
+use Rattle.group.proofs.Stepping.{swaps, place-small, still-below, moves}
 use Rattle.group.proofs.ungroup_components.Statement.{statement}
 use Rattle.group.proofs.ungroup_components.Tie as tie
 
-swaps : (c : tie.Start) → Swappable (entity (c .args .index) (c .args .version)) (between (c .args .metadata .«storage_start») (c .args .metadata .«storage_end») (orderOf (meaning (c .args .words .now)))) (c .args .group-len - 1) (meaning (c .args .words .now) .storage .sets)
-swaps c =
-    let a = c .args in
-    let S = c .pre .1 .0 in
-    swappable (a .words .now) (c .pre .0) (entity (a .index) (a .version)) (a .g) (a .group-len) (a .metadata) S (located (meaning (a .words .now) .storage .layout) (a .g) .count - 1) (a .group-len - 1) (ap (λ (n : ℕ). n - 1) (S .counted)) (c .pre .1 .1 .1)
-
-small : (c : tie.Start) → c .args .group-len - 1 < MAX-ENTITIES
-small c = let a = c .args in place-small (a .words .now) (c .pre .0) (entity (a .index) (a .version)) (a .g) (a .group-len) (a .metadata) (c .pre .1 .0) (a .group-len - 1) (swaps c)
+-- the last counted place
+last : (c : tie.Start) → c .args .group-len - 1 ≡ located (meaning (c .args .words .now) .storage .layout) (c .args .g) .count - 1
+last c = ap (λ (n : ℕ). n - 1) (c .pre .1 .0 .counted)
 
 swap-kinds-requires : tie.Need-swap-kinds-requires
-swap-kinds-requires c κs = let s = c .before .before in (s .pre .0, (s .pre .1 .0 .metadata .listed, swaps s))
+swap-kinds-requires c κs =
+    let s = c .before .before in
+    let p = s .pre in
+    (p .0, (p .1 .0 .metadata .listed, swaps (p .0) (p .1 .0) (p .1 .1 .1) (last s)))
 
 set-count-requires : tie.Need-set-count-requires
 set-count-requires c κs =
     let s = c .before .before .before .before .before .before in
-    let a = s .args in
-    let B = c .before .before .before .swap-kinds .ensures in (
-      B .arranged,
-      (
-        still-below (a .words .now) (s .pre .0) (entity (a .index) (a .version)) (a .g) (a .group-len) (a .metadata) (s .pre .1 .0) (c .before .before .before .swap-kinds .last .0) (a .group-len - 1) B,
-        omega (arith, small s),
-      ),
-    )
+    let p = s .pre in
+    let B = c .before .before .before .swap-kinds .ensures in
+    (B .arranged, (still-below (p .0) (p .1 .0) (p .1 .1 .1) (last s) B, omega (arith, place-small (p .0) (p .1 .0) (p .1 .1 .1), last s)))
 
 returns : tie.Need-returns
+unfolding ungroupAt
 returns c =
     let s = c .before .before .before .before .before .before .before .before .before in
-    let a = s .args in
-    goes-out (a .words .now) (s .pre .0) (entity (a .index) (a .version)) (a .g) (a .group-len) (a .metadata) (s .pre .1 .0)
-    (c .before .before .before .before .before .before .swap-kinds .last .0) (a .group-len - 1) (c .before .before .before .before .before .before .swap-kinds .ensures) (c .before .before .set-count .last .0) (a .group-len - 1) (c .before .before .set-count .ensures) refl refl
+    let p = s .pre in
+    moves (p .0) (p .1 .0) (p .1 .1 .1) (last s) (c .before .before .before .before .before .before .swap-kinds .ensures) (last s) (c .before .before .set-count .ensures)
 
 pub ungroup-components-spec : {M : Type 1} → statement M
 ungroup-components-spec =

@@ -2,7 +2,6 @@ use mathlib.Core.Path.{refl, sym, _∙_}
 use native.Mathlib.Omega.{arith}
 use Rattle.component.specs.SparseSet.{entity}
 use Rattle.memory.proofs.Becomes.{stays}
-use Rattle.group.specs.declared.group_status.GroupStatus.the-variants.{Incomplete, Ungrouped, Grouped}
 use Rattle.group.proofs.Stepping.{steps-down, ready-out}
 use Rattle.group.proofs.ungroup_step.Statement.{statement}
 use Rattle.group.proofs.ungroup_step.Tie as tie
@@ -11,25 +10,25 @@ returns : tie.Need-returns
 returns c =
     let s = c .before .before .before .before .before .before .before in
     let a = s .args in
-    steps-down (a .words .now) (a .words .now) (entity (a .index) (a .version)) (a .g) Incomplete (sym (c .enum-told .given .1) ∙ c .before .before .status-in .ensures) (stays (s .pre .0))
+    steps-down (entity (a .index) (a .version)) (a .g) (sym (c .enum-told .given .1) ∙ c .before .before .status-in .ensures) (stays (s .pre .0))
 
 returns-2 : tie.Need-returns-2
 returns-2 c =
     let s = c .before .before .before .before .before .before .before in
     let a = s .args in
-    steps-down (a .words .now) (a .words .now) (entity (a .index) (a .version)) (a .g) Ungrouped (sym (c .enum-told2 .given .1) ∙ c .before .before .status-in .ensures) (stays (s .pre .0))
+    steps-down (entity (a .index) (a .version)) (a .g) (sym (c .enum-told2 .given .1) ∙ c .before .before .status-in .ensures) (stays (s .pre .0))
 
 ungroup-components-requires : tie.Need-ungroup-components-requires
 ungroup-components-requires c κs =
     let s = c .before .before .before .before .before .before .before .before .before .before in
     let a = s .args in
-    let out = ready-out (a .words .now) (a .words .now) (entity (a .index) (a .version)) (a .g) Grouped (sym (c .before .before .before .enum-told3 .given .1) ∙ c .before .before .before .before .before .status-in .ensures) (s .pre .1 .1) in
+    let out = ready-out (a .words .now) (entity (a .index) (a .version)) (a .g) (sym (c .before .before .before .enum-told3 .given .1) ∙ c .before .before .before .before .before .status-in .ensures) (s .pre .1 .1) in
     (s .pre .0, (record { below = s .pre .1 .0; metadata = c .before .before .before .before .before .before .before .metadata .ensures; counted = c .before .count .ensures }, (omega (arith, out .0, c .before .count .ensures), out .1)))
 
 returns-3 : tie.Need-returns-3
 returns-3 c =
     let a = c .before .before .before .before .before .before .before .before .before .before .before .before .before .args in
-    steps-down (a .words .now) (c .before .before .ungroup-components .last .0) (entity (a .index) (a .version)) (a .g) Grouped (sym (c .before .before .before .before .before .before .enum-told3 .given .1) ∙ c .before .before .before .before .before .before .before .before .status-in .ensures) (c .before .before .ungroup-components .ensures)
+    steps-down (entity (a .index) (a .version)) (a .g) (sym (c .before .before .before .before .before .before .enum-told3 .given .1) ∙ c .before .before .before .before .before .before .before .before .status-in .ensures) (c .before .before .ungroup-components .ensures)
 
 pub ungroup-step-spec : {M : Type 1} → statement M
 ungroup-step-spec =

@@ -1,17 +1,13 @@
-use mathlib.Core.Path.{_≡_, refl, sym, _∙_, subst}
-use mathlib.Core.Bool.{true, false}
-use Prim.Native.Nat.{ℕ, _-_, _≤_}
+use mathlib.Core.Path.{_≡_, refl, sym, _∙_}
+use Prim.Native.Nat.{_-_, _≤_}
 use native.Mathlib.Omega.{arith}
 use borrow.Author.Tests.{not-true, not-false}
-use lib.ListN.{getD}
-use Rattle.model.specs.Model.{setOf, held, allHeld}
-use Rattle.model.specs.Sound.{In}
+use Rattle.model.specs.Model.{allHeld}
 use Rattle.words.specs.Part.{between}
 use Rattle.component.specs.SparseSet.{entity}
 use Rattle.memory.specs.Meaning.{meaning}
 use Rattle.group.specs.Metadata.{orderOf}
-use Rattle.words.proofs.Part.{between-in}
-use Rattle.group.proofs.Status.{all-miss, all-hit, all-end}
+use Rattle.group.proofs.Status.{kind-known, all-next, all-end}
 use Rattle.group.proofs.group_status.holds_all.Statement.{statement}
 use Rattle.group.proofs.group_status.holds_all.Tie as tie
 
@@ -33,23 +29,13 @@ kind-at-requires c κs = let s = c .before .before .before in (s .pre .0, omega 
 holds-requires : tie.Need-holds-requires Inv-loop μ-loop
 holds-requires c κs =
     let s = c .before .before .before .before in
-    let a = s .args in
-    let l = s .pre .1 in
-    let i = c .before .before .loop in (
-      s .pre .0,
-      subst (In (meaning (a .words .now) .kinds)) (sym (c .kind-at .ensures))
-          (l .known (getD (orderOf (meaning (a .words .now))) (i .place) 0) (between-in (a .start) (a .end) (i .place) (orderOf (meaning (a .words .now))) (i .inv .0) (c .before .loop-test .taken) (l .within))),
-    )
+    (s .pre .0, kind-known (s .pre .1) (c .before .loop-test .taken) (c .kind-at .ensures) (c .before .before .loop .inv .0))
 
 returns : tie.Need-returns Inv-loop μ-loop
 returns c =
     let s = c .before .before .before .before .before .before in
-    let a = s .args in
-    let e = entity (a .index) (a .version) in
-    let i = c .before .before .before .before .loop in
-    let m = meaning (a .words .now) in
-    let h = subst (λ (k : ℕ). held e (setOf (m .storage .sets) k) ≡ false) (c .before .before .kind-at .ensures) (sym (c .before .holds .ensures) ∙ not-true (c .before .holds .result) (c .if1 .taken)) in
-    sym (i .inv .2 ∙ all-miss e (m .storage .sets) (orderOf m) (i .place) (a .end) (c .before .before .before .loop-test .taken) (s .pre .1 .within) h)
+    sym (c .before .before .before .before .loop .inv .2
+    ∙ all-next (s .pre .1) (c .before .before .before .loop-test .taken) (c .before .before .kind-at .ensures) (entity (s .args .index) (s .args .version)) (sym (c .before .holds .ensures) ∙ not-true (c .before .holds .result) (c .if1 .taken)))
 
 add-place : tie.Need-add-place Inv-loop μ-loop
 add-place c = omega (arith, c .before .before .before .loop-test)
@@ -60,24 +46,19 @@ loop-less c = omega (arith, c .before .before .before .loop-test)
 loop-again : tie.Need-loop-again Inv-loop μ-loop
 loop-again c =
     let s = c .before .before .before .before .before .before in
-    let a = s .args in
-    let e = entity (a .index) (a .version) in
-    let i = c .before .before .before .before .loop in
-    let m = meaning (a .words .now) in
-    let h = subst (λ (k : ℕ). held e (setOf (m .storage .sets) k) ≡ true) (c .before .before .kind-at .ensures) (sym (c .before .holds .ensures) ∙ not-false (c .before .holds .result) (c .if1 .left)) in (
+    let i = c .before .before .before .before .loop in (
       omega (arith, i .inv .0),
       omega (arith, c .before .before .before .loop-test),
-      i .inv .2 ∙ all-hit e (m .storage .sets) (orderOf m) (i .place) (a .end) (c .before .before .before .loop-test .taken) (s .pre .1 .within) h,
+      i .inv .2
+          ∙ all-next (s .pre .1) (c .before .before .before .loop-test .taken) (c .before .before .kind-at .ensures) (entity (s .args .index) (s .args .version)) (sym (c .before .holds .ensures) ∙ not-false (c .before .holds .result) (c .if1 .left)),
     )
 
 returns-2 : tie.Need-returns-2 Inv-loop μ-loop
 returns-2 c =
-    let s = c .before .before .before in
-    let a = s .args in
+    let a = c .before .before .before .args in
     let i = c .before .loop in
-    let m = meaning (a .words .now) in
     let q : i .place ≡ a .end = omega (arith, i .inv .1, c .loop-test) in
-    sym (i .inv .2 ∙ all-end (entity (a .index) (a .version)) (m .storage .sets) (orderOf m) (i .place) (a .end) q)
+    sym (i .inv .2 ∙ all-end (meaning (a .words .now)) (entity (a .index) (a .version)) q)
 
 pub holds-all-spec : {M : Type 1} → statement M
 holds-all-spec =

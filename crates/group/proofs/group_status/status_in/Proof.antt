@@ -9,9 +9,8 @@ use Rattle.group.proofs.group_status.status_in.Tie as tie
 get-group-status-requires : tie.Need-get-group-status-requires
 get-group-status-requires c κs =
     let s = c .before .before in
-    let d = s .args .metadata in
     let D = s .pre .1 .1 in
-    (s .pre .0, (listed-later (meaning (s .args .words .now)) (d .«storage_start») (d .«new_storage_start») (d .«storage_end») (D .low) (omega (arith, D .some)) (D .listed), D .some))
+    (s .pre .0, (listed-later (D .low) (omega (arith, D .some)) (D .listed), D .some))
 
 returns : tie.Need-returns
 returns c =
