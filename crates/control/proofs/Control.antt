@@ -6,7 +6,7 @@ use native.Mathlib.Numerals.{add-one}
 use native.Mathlib.Omega.{arith}
 use borrow.Author.Tests.{lt-ltb, le-ltb}
 use lib.ListN.{length, getD, set, drop}
-use lib.Seq.{drop-set-lt, set-getD}
+use lib.Seq.{set-getD}
 use Rattle.model.specs.Numbers.{LIST-CAPACITY, MAX-REFUSALS}
 use Rattle.words.specs.Offsets.{CALLER, DRAFT, DRAFT-FAMILIES, DRAFT-GROUPS, ENTITIES, EXCLUDED-KINDS, EXCLUDED-LEN, MORE-SETTINGS, REFUSALS, STAGED-KINDS, STAGED-LEN, STAGED-VALUE-LEN, STAGED-VALUES, TABLE}
 use Rattle.model.specs.Model.{Component, Family, kindOf}
@@ -15,7 +15,7 @@ use Rattle.model.specs.Store.{Counts, Control, stagedKinds, withControl, withCo
 use Rattle.words.specs.Table.{table}
 use Rattle.words.proofs.Tables.{length-table, getD-table, table-snoc, words-table, map-table}
 use Rattle.words.specs.Stores.{stores}
-use Rattle.words.proofs.Stores.{Misses, length-stores, miss, hit}
+use Rattle.words.proofs.Stores.{length-stores, miss, hit, Misses, StoresBelow, drop-stores}
 use Rattle.words.specs.Part.{between}
 use Rattle.component.specs.SparseSet.{valueOf}
 use Rattle.layout.specs.Layout.{WellFormed, groupCount, familiesOf}
@@ -68,17 +68,8 @@ pub record ListsOnly (w w′ : List ℕ) : Type 0 where
   pub blocks : (i : ℕ) → DRAFT ≤ i → i < ENTITIES → getD w′ i 0 ≡ getD w i 0
   pub rest : drop ENTITIES w′ ≡ drop ENTITIES w
 
--- each store of the run is below k
-abbrev pub Below : ℕ → List (ℕ × ℕ) → Type 0
-Below k [] = Unit {0}
-Below k (s ∷ ss) = (s .0 < k) × Below k ss
-
-pub drop-stores : (k : ℕ) (w : List ℕ) (ss : List (ℕ × ℕ)) → Below k ss → drop k (stores w ss) ≡ drop k w
-drop-stores k w [] b = refl
-drop-stores k w (s ∷ ss) b = drop-stores k (set w (s .0) (s .1)) ss (b .1) ∙ drop-set-lt k w (s .0) (s .1) (b .0)
-
 stores-listed : (w : List ℕ) (ss : List (ℕ × ℕ)) → ((i : ℕ) → i < STAGED-LEN → Misses ss i) → ((i : ℕ) → DRAFT-FAMILIES ≤ i → i < CALLER → Misses ss i) → ((i : ℕ) → MORE-SETTINGS ≤ i → i < REFUSALS → Misses ss i) → ((i : ℕ) → TABLE ≤ i → i < STAGED-KINDS → Misses ss i)
-    → ((i : ℕ) → DRAFT ≤ i → i < ENTITIES → Misses ss i) → Below ENTITIES ss → ListsOnly w (stores w ss)
+    → ((i : ℕ) → DRAFT ≤ i → i < ENTITIES → Misses ss i) → StoresBelow ENTITIES ss → ListsOnly w (stores w ss)
 stores-listed w ss a b t c d below =
     record {
       size = length-stores w ss;

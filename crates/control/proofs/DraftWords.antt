@@ -9,7 +9,7 @@ use Rattle.model.specs.Model.{Family}
 use Rattle.model.specs.Store.{withControl, withDraft}
 use Rattle.words.specs.Table.{table}
 use Rattle.words.specs.Stores.{stores}
-use Rattle.words.proofs.Stores.{length-stores, miss, hit}
+use Rattle.words.proofs.Stores.{length-stores, miss, hit, drop-stores}
 use Rattle.words.specs.Part.{between}
 use Rattle.words.proofs.Part.{patch, length-between, patch-front, patch-between, patch-rest, patch-length}
 use Rattle.layout.specs.declared.group_layout.Layout.{Layout}
@@ -24,7 +24,6 @@ use Rattle.memory.proofs.Frames.{staged-same, excluded-same, counts-kept, long}
 use Rattle.model.proofs.ListLaws.{drop-later, word-front, word-rest}
 use Rattle.memory.proofs.Becomes.{Static, control-becomes}
 use Rattle.control.specs.Draft.{IsDraft, drafting}
-use Rattle.control.proofs.Control.{drop-stores}
 
 -- ---- read
 

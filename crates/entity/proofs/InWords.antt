@@ -8,7 +8,7 @@ use Rattle.model.specs.Numbers.{ENTITY-LEN}
 use Rattle.words.specs.Offsets.{ENTITIES}
 use Rattle.model.specs.Model.{Entities}
 use Rattle.words.proofs.Part.{patch, patch-front, patch-rest, patch-between, patch-length}
-use Rattle.entity.specs.Change.{Changed, SoundIn, EntityChange}
+use Rattle.entity.specs.Change.{Changed, EntityChange}
 use Rattle.entity.specs.Meaning.{entityPart}
 
 -- the part, changed where it lies
@@ -27,5 +27,3 @@ changed-in n f w ys g c =
     }
 
 -- the words have a sound entity part still
-pub sound-in : (n : ℕ) (f : Entities → Entities) (w w′ : List ℕ) → ENTITIES + ENTITY-LEN * n ≤ length w → EntityChange n f w w′ → SoundIn n w′
-sound-in n f w w′ g c = record { fits = omega (arith, c .size); sound = c .sound }

@@ -12,8 +12,8 @@ use Rattle.model.specs.Sound.{layoutKinds}
 use Rattle.model.proofs.SparseSets.{key}
 use Rattle.model.proofs.BoolLaws.{cond-case, bool-cases}
 use Rattle.model.proofs.Groups.{cnt, plc, In, Even, SameEntities}
-use Rattle.model.proofs.Walk.{Chain, Every, Missing, all-missing, count-held}
-use Rattle.model.proofs.KindLists.{in-right}
+use Rattle.model.proofs.Walk.{Chain, Every, count-held}
+use Rattle.model.proofs.KindLists.{in-right, Missing, all-missing}
 use Rattle.model.proofs.WalkDown.{Held, Down, ungroupFamily-good}
 use Rattle.model.proofs.Families.{Fams, Apart, famKinds, chain-other}
 use Rattle.model.proofs.Invariant.{Fit}

@@ -10,6 +10,7 @@ use Rattle.words.specs.Offsets.{ENTITIES, GROUP-COUNTS, GROUP-FAMILIES, GROUP-P
 use Rattle.model.specs.Model.{Family, Storage, groupsOf}
 use Rattle.model.specs.Store.{onStorage, withLayout}
 use Rattle.model.specs.Sound.{In, Distinct, layoutKinds}
+use Rattle.model.proofs.KindLists.{in-at}
 use Rattle.words.specs.Part.{between}
 use Rattle.words.proofs.Part.{length-between, getD-between}
 use Rattle.layout.specs.Layout.{startOf, widthOf, familiesOf, KindSet, WellFormed}
@@ -26,7 +27,7 @@ use Rattle.memory.specs.Arranged.{Arranged, GroupSound, Becomes}
 use Rattle.memory.proofs.Frames.{long, layout-sized}
 use Rattle.memory.proofs.LayoutWords.{kind-word, metadata-words}
 use Rattle.memory.proofs.Becomes.{count-becomes, slot-real}
-use Rattle.kinds.proofs.Slot.{slot-known, in-list}
+use Rattle.kinds.proofs.Slot.{slot-known}
 use Rattle.group.specs.Flat.{Located, located, setCount}
 use Rattle.group.specs.Metadata.{orderOf, Describes}
 use Rattle.group.proofs.FlatArrays.{standing, located-is, counts-are}
@@ -121,17 +122,17 @@ module _ (w : List ℕ) (A : Arranged w) where
     -- a group's kinds are registered
     kinds-registered : (k : ℕ) → In (between start (start + arity) (orderOf (meaning w))) k → In (meaning w .kinds) k
     kinds-registered k n =
-        let r = in-list (between start (start + arity) (orderOf (meaning w))) k n in
+        let r = in-at (between start (start + arity) (orderOf (meaning w))) k n in
         let fits : start + arity ≤ length (orderOf (meaning w)) = group-rises .1 in
-        let lt : r .place < arity = omega (arith, r .below, length-between start (start + arity) (orderOf (meaning w)) fits) in
+        let lt : r .0 < arity = omega (arith, r .1, length-between start (start + arity) (orderOf (meaning w)) fits) in
         let width : widthOf (layoutArrays w) ≡ length (orderOf (meaning w)) = sym order-length in
-        let reg = group-sound .known (r .place) lt in
-        let e : memberAt (layoutArrays w) f (r .place) ≡ k =
-        sym (getD-take (widthOf (layoutArrays w)) (layoutArrays w .kinds) (start + r .place) 0 (omega arith))
-        ∙ sym (ap (λ (l : List ℕ). getD l (start + r .place) 0) order-is)
-        ∙ sym (getD-between start (start + arity) (r .place) (orderOf (meaning w)) 0 (omega arith))
-        ∙ r .is in
-        subst (In (meaning w .kinds)) e (slot-known w A (memberAt (layoutArrays w) f (r .place)) (reg .small) (slot-real w A (memberAt (layoutArrays w) f (r .place)) (reg .slot)))
+        let reg = group-sound .known (r .0) lt in
+        let e : memberAt (layoutArrays w) f (r .0) ≡ k =
+        sym (getD-take (widthOf (layoutArrays w)) (layoutArrays w .kinds) (start + r .0) 0 (omega arith))
+        ∙ sym (ap (λ (l : List ℕ). getD l (start + r .0) 0) order-is)
+        ∙ sym (getD-between start (start + arity) (r .0) (orderOf (meaning w)) 0 (omega arith))
+        ∙ r .2 in
+        subst (In (meaning w .kinds)) e (slot-known w A (memberAt (layoutArrays w) f (r .0)) (reg .small) (slot-real w A (memberAt (layoutArrays w) f (r .0)) (reg .slot)))
 
     pub described : Describes (meaning w) g (record { «storage_start» = start; «new_storage_start» = start + prior; «storage_end» = start + arity; first = first; top = top })
     described =

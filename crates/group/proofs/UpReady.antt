@@ -11,8 +11,8 @@ use Rattle.model.proofs.SparseSets.{key}
 use Rattle.model.proofs.Groups.{cnt, In}
 use Rattle.model.proofs.Walk.{held-count, GroupRight, Chain, But, Plus, Entered, groupComponents-good, chain-low, Up, groupFamily-good, count-held}
 use Rattle.model.proofs.KindLists.{in-left, in-right, in-cases, all-in, not-both}
-use Rattle.model.proofs.Families.{Fams, Apart, allKinds, famKinds, chain-other, Put, put-all, chain-put, Kinds}
-use Rattle.model.proofs.Regroup.{FreshAll, FamsFor, None, UpEvery, groupFamily-every-good, fams-fresh}
+use Rattle.model.proofs.Families.{allKinds, famKinds, chain-other, put-all, chain-put, Apart, Fams, FamsFor, Kinds, Put}
+use Rattle.model.proofs.Regroup.{FreshAll, None, UpEvery, groupFamily-every-good, fams-fresh}
 use Rattle.model.proofs.Invariant.{Fit}
 use Rattle.group.specs.declared.group_status.GroupStatus.{GroupStatus}
 use Rattle.group.specs.Flat.{located, withCount, positionsWhere, insertPositions}

@@ -11,7 +11,6 @@ use Rattle.model.specs.Model.{SparseSet, mem}
 use Rattle.model.specs.Store.{onSet, onStorage}
 use Rattle.model.specs.Sound.{In}
 use Rattle.model.proofs.BoolLaws.{not-true}
-use Rattle.model.proofs.KindLists.{in-at}
 use Rattle.words.specs.Offsets.{columnStart, ENTITIES, ROWS, UNREGISTERED}
 use Rattle.words.specs.Table.{table}
 use Rattle.words.proofs.Tables.{table-in, in-table}
@@ -25,16 +24,6 @@ use Rattle.memory.proofs.Frames.{long}
 use Rattle.memory.proofs.Becomes.{set-at, set-in, one-becomes}
 use Rattle.kinds.specs.Kinds.{kindSet}
 use Rattle.kinds.specs.Steps.{InSlot, headOf}
-
--- ---- a kind of a list
-
-pub record Somewhere (m : ℕ) (f : ℕ → ℕ) (k : ℕ) : Type 0 where
-  pub place : ℕ
-  pub below : place < m
-  pub is : f place ≡ k
-
-pub in-list : (l : List ℕ) (k : ℕ) → In l k → Somewhere (length l) (λ i. getD l i 0) k
-in-list l k i = let r = in-at l k i in record { place = r .0; below = r .1; is = r .2 }
 
 -- ---- the table of kinds
 

@@ -303,10 +303,6 @@ pub capacity-means : (w : List ℕ) → meaning w .settings .capacity ≡ capaci
 unfolding meaning
 capacity-means w = refl
 
-pub kinds-mean : (w : List ℕ) → meaning w .settings .kindCapacity ≡ kindCapacityOf w
-unfolding meaning
-kinds-mean w = refl
-
 settings-mean : (w : List ℕ) → meaning w .settings ≡ settingsOf w
 unfolding meaning
 settings-mean w = refl

@@ -6,17 +6,17 @@ use native.Mathlib.Omega.{arith}
 use lib.ListN.{length, getD}
 use Rattle.model.specs.Numbers.{ENTITY-LEN, LIST-CAPACITY}
 use Rattle.model.specs.Store.{Store}
+use Rattle.memory.proofs.LayoutWords.{words-sized}
 use Rattle.words.specs.Offsets.{columnStart, BLOCK-LEN, CALLER, CAPACITY, DRAFT, DRAFT-FAMILIES, DRAFT-GROUPS, ENTITIES, EXCLUDED-KINDS, EXCLUDED-LEN, GROUP-COUNTS, GROUP-FAMILIES, KIND-CAPACITY, LAYOUT, LAYOUT-FAMILIES, LAYOUT-GROUPS, MORE-SETTINGS, REFUSALS, REGISTERED, ROWS, STAGED-KINDS, STAGED-LEN, STAGED-VALUE-LEN, STAGED-VALUES, TABLE}
 use Rattle.words.proofs.Offsets.{columnStart-needed, columnStart-mono}
 use Rattle.words.specs.Part.{between}
-use Rattle.words.proofs.Part.{length-between, between-same}
+use Rattle.words.proofs.Part.{between-same}
 use Rattle.words.specs.Table.{table}
 use Rattle.words.proofs.Tables.{table-same}
 use Rattle.component.specs.Columns.{columnOf}
 use Rattle.entity.specs.Meaning.{entitiesIn}
 use Rattle.layout.specs.Layout.{blockArrays, WellFormed, groupCount, familiesOf}
 use Rattle.layout.specs.ByValue.{Sized}
-use Rattle.layout.proofs.Arrays.{block-sized}
 use Rattle.memory.specs.Header.{capacityOf, kindCapacityOf, stagedLen, excludedLen, draftGroups, excludedAt}
 use Rattle.memory.specs.Meaning.{kindsIn, setsIn, draftArrays, layoutArrays, draftIn, layoutIn, stagedAt, stagedIn, excludedIn, countsIn, controlIn, settingsOf, meaning}
 use Rattle.memory.specs.Arranged.{Arranged}
@@ -79,7 +79,7 @@ long w A =
     )
 
 pub layout-sized : (w : List ℕ) → Arranged w → Sized (layoutArrays w)
-layout-sized w A = block-sized (between LAYOUT GROUP-FAMILIES w) (getD w LAYOUT-FAMILIES 0) (length-between LAYOUT GROUP-FAMILIES w (omega (arith, long w A)))
+layout-sized w A = words-sized w (long w A)
 
 -- ---- the header below the counts as it was
 

@@ -88,15 +88,6 @@ accepted-exact c s s′ a = (
   (λ h. rw (none-from (linesOf c) s (h .0)) (ap₂ accepts (h .1) (h .2))),
 )
 
--- the same as laws to rewrite by
-pub does-refuses : (c : Command) (s : Store) (n : ℕ) → firstLine (linesOf c) s ≡ some n → does c s ≡ refuses n
-unfolding does
-does-refuses c s n e = rw e
-
-pub does-accepts : (c : Command) (s : Store) → firstLine (linesOf c) s ≡ none → does c s ≡ accepts ((accepted c s) .store) ((accepted c s) .answer)
-unfolding does
-does-accepts c s e = rw e
-
 -- the numbers of a list of lines
 abbrev pub NumbersIn : {A : Type 0} → ℕ → ℕ → List (Line A) → Type 0
 NumbersIn a b [] = Unit {0}

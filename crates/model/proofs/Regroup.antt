@@ -12,8 +12,7 @@ use Rattle.model.proofs.Groups.{cnt, In, SameEntities}
 use Rattle.model.proofs.Walk.{Below, Chain, Every, Plus, Up, groupFamily-good, chain-weaken}
 use Rattle.model.proofs.KindLists.{in-right, mem-append, not-both}
 use Rattle.model.proofs.BoolLaws.{bool-cases, or-false, or-false-right}
-use Rattle.model.proofs.Families.{Fams, Apart, allKinds, famKinds, chain-other, fams-other}
-pub use Rattle.model.proofs.Families.{FamsFor}
+use Rattle.model.proofs.Families.{allKinds, famKinds, chain-other, fams-other, Apart, Fams, FamsFor}
 use Rattle.model.proofs.Invariant.{Fit, length-groupFamily}
 
 -- ---- families that are right for the entities of W

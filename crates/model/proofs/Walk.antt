@@ -12,8 +12,7 @@ use Rattle.model.specs.Model.{Entity, SparseSet, Group, Family, Walked, 
 use Rattle.model.proofs.SparseSets.{entity-eq, key, key-swapped, key-kept}
 use Rattle.model.proofs.BoolLaws.{cond-case, or-false, bool-cases}
 use Rattle.model.proofs.Groups.{cnt, plc, In, Even, Full, Inside, Swapped, SameEntities, even-kept, full-kept, same-entities, low, inner-even, inner-full, inner-isGrouped, grown-even, grown-full, grown-isGrouped}
-use Rattle.model.proofs.KindLists.{mem-append, in-left, in-right, in-cases, all-in}
-pub use Rattle.model.proofs.KindLists.{Missing, all-missing}
+use Rattle.model.proofs.KindLists.{mem-append, in-left, in-right, in-cases, all-in, all-missing}
 
 -- ---- a family whose groups are right for each entity of W
 

@@ -4,8 +4,8 @@ use mathlib.Core.Logic.{_≢_}
 use mathlib.Core.List.{List, [], _∷_}
 use Prim.Native.Nat.{ℕ, zero, suc, _<_}
 use native.Mathlib.Omega.{arith}
-use lib.ListN.{length, getD, set, length-set}
-use lib.Seq.{getD-set-same, getD-set-other}
+use lib.ListN.{length, getD, set, drop, length-set}
+use lib.Seq.{getD-set-same, getD-set-other, drop-set-lt}
 use Rattle.words.specs.Stores.{stores}
 
 -- no store of the run is at j
@@ -35,3 +35,12 @@ hit w (s ∷ ss) zero i v m h =
     miss (set w (s .0) (s .1)) ss i (m .2)
     ∙ rw (m .0, m .1) (getD-set-same w (s .0) (s .1) 0 (rw (m .0) at h))
 hit w (s ∷ ss) (suc k) i v m h = hit (set w (s .0) (s .1)) ss k i v m (omega (arith, length-set w (s .0) (s .1)))
+
+-- each store of the run is below k
+abbrev pub StoresBelow : ℕ → List (ℕ × ℕ) → Type 0
+StoresBelow k [] = Unit {0}
+StoresBelow k (s ∷ ss) = (s .0 < k) × StoresBelow k ss
+
+pub drop-stores : (k : ℕ) (w : List ℕ) (ss : List (ℕ × ℕ)) → StoresBelow k ss → drop k (stores w ss) ≡ drop k w
+drop-stores k w [] b = refl
+drop-stores k w (s ∷ ss) b = drop-stores k (set w (s .0) (s .1)) ss (b .1) ∙ drop-set-lt k w (s .0) (s .1) (b .0)
