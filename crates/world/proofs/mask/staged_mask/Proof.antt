@@ -2,7 +2,6 @@ use mathlib.Core.Path.{_≡_}
 use mathlib.Core.List.{List}
 use Prim.Native.Nat.{ℕ, _≤_, _-_}
 use native.Mathlib.Omega.{arith}
-use borrow.Author.Needs.{needs}
 use lib.ListN.{length, take, length-map}
 use Rattle.model.specs.Model.{kindOf}
 use Rattle.model.specs.Store.{stagedKinds}
@@ -58,4 +57,4 @@ returns c =
 pub staged-mask-spec : {M : Type 1} → statement M
 staged-mask-spec =
     tie.close
-    (tie.spec Inv-loop μ-loop staged-len-requires (λ c κs. search needs) loop-holds mask-at-requires (λ c κs. search needs) (λ c. omega arith) (λ c. omega arith) loop-again returns)
+    (tie.spec Inv-loop μ-loop staged-len-requires (λ c κs. tt) loop-holds mask-at-requires (λ c κs. tt) (λ c. omega arith) (λ c. omega arith) loop-again returns)
