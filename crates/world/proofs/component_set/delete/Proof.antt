@@ -1,4 +1,4 @@
-use mathlib.Core.Path.{_∙_}
+use borrow.Author.Needs.{needs}
 use Rattle.component.specs.SparseSet.{entity}
 use Rattle.world.proofs.Whole.{staged-after, delete-whole}
 use Rattle.world.proofs.component_set.delete.Statement.{statement}
@@ -17,4 +17,4 @@ returns c =
     delete-whole (s .args .words .now) (s .pre) (entity (s .args .index) (s .args .version)) (u .last .0) (u .ensures) (c .before .before .delete-staged .last .0) (c .before .before .delete-staged .ensures)
 
 pub delete-spec : {M : Type 1} → statement M
-delete-spec = tie.close (tie.spec (λ c κs. c .before .before .pre) delete-staged-requires (λ c. c .before .before .delete-staged .kept .0 ∙ c .before .before .before .before .before .before .ungroup-staged .kept .0) returns)
+delete-spec = tie.close (tie.spec (λ c κs. search needs) delete-staged-requires (λ c. search needs) returns)
