@@ -5,7 +5,6 @@ use Rattle.memory.specs.Meaning.{meaning}
 use Rattle.group_info.specs.Describes.{rangeOf}
 use Rattle.command.proofs.Acts.{accepted-by}
 use Rattle.command_range.proofs.Told.{rangeTold, range-told, range-fits}
-use borrow.Author.Needs.{needs}
 use Rattle.command_range.proofs.range.Statement.{statement}
 use Rattle.command_range.proofs.range.Tie as tie
 
@@ -42,8 +41,8 @@ range-spec =
     (tie.spec
     (λ c κs. c .before .before .before .pre .sound)
     (λ c κs. c .before .before .before .before .before .pre .sound .arranged)
-    (λ c. search needs)
-    (λ c. search needs)
+    (λ c. c .match .keys1)
+    (λ c. c .match .keys2)
     (λ c κs. omega (arith, c .before .before .before .before .before .before .before .before .before .before .before .pre .room))
     (λ c. c .before .before .before .before .before .before .before .before .clear-lists .kept .0)
     (λ c. c .before .before .ack-range .kept .0)

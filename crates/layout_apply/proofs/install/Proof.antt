@@ -55,5 +55,5 @@ install-spec =
     word-requires-2
     clear-heads-requires
     put-heads-requires
-    (λ c. search needs)
+    (λ c. c .before .before .put-heads .kept .0 ∙ c .before .before .before .before .before .before .clear-heads .kept .0 ∙ c .before .before .before .before .before .before .before .before .before .before .before .before .before .before .prepare .kept .0)
     returns)

@@ -1,5 +1,5 @@
+use mathlib.Core.Path.{_∙_}
 use native.Mathlib.Omega.{arith}
-use borrow.Author.Needs.{needs}
 use Rattle.memory.proofs.Frames.{long}
 use Rattle.layout_apply.proofs.Words.{ends-ask, prepared}
 use Rattle.layout_apply.proofs.prepare.Statement.{statement}
@@ -40,5 +40,5 @@ prepare-spec =
     number-groups-requires
     fill-requires
     switch-requires
-    (λ c. search needs)
+    (λ c. c .before .before .switch .kept .0 ∙ c .before .before .before .before .before .before .fill .kept .0 ∙ c .before .before .before .before .before .before .before .before .before .before .number-groups .kept .0 ∙ c .before .before .before .before .before .before .before .before .before .before .before .before .before .before .before .before .copy-block .kept .0)
     returns)

@@ -38,5 +38,5 @@ put-member-spec =
     word-requires-2
     (λ c. search needs)
     put-own-requires
-    (λ c. search needs)
+    (λ c. c .before .before .put-own .kept .0)
     returns)

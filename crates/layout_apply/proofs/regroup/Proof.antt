@@ -1,8 +1,8 @@
-use mathlib.Core.Path.{ap, _∙_}
-use Prim.Native.Nat.{_-_}
+use borrow.Author.Count.{falls}
+use mathlib.Core.Path.{ap, _∙_, subst}
+use Prim.Native.Nat.{_-_, ℕ, _<_, _≤_, zero-le}
 use native.Mathlib.Nat.{sub-zero}
 use native.Mathlib.Omega.{arith}
-use borrow.Author.Needs.{needs}
 use lib.ListN.{length}
 use Rattle.masks.specs.Masks.{bitsOf, upFrom}
 use Rattle.component.specs.SparseSet.{entity}
@@ -20,7 +20,7 @@ abbrev μ-loop : tie.MeasureT-loop
 from-to-requires : tie.Need-from-to-requires Inv-loop μ-loop
 from-to-requires c κs =
     let s = c .before .before .before in
-    record { rising = omega arith; inside = omega (arith, c .group-count .ensures, groups-few (s .args .words .now) (s .pre .0)) }
+    record { rising = zero-le; inside = omega (arith, c .group-count .ensures, groups-few (s .args .words .now) (s .pre .0)) }
 
 loop-holds : tie.Need-loop-holds Inv-loop μ-loop
 loop-holds c = let s = c .before .before .before .before .before .before in regroup-start (s .args .words .now) (s .pre .0) (s .pre .1)
@@ -35,7 +35,7 @@ group-requires c κs =
     let l = c .before .before .before .before .loop in
     let e = c .before .live-at .result in
     let W =
-    walk-ask (c .before .before .before .before .before .before .before .before .before .before .before .args .words .now) (l .words) (l .place) (l .inv) (entity (e .index) (e .version)) (omega (arith, c .before .before .before .before .before .live-len .ensures, c .before .before .before .loop-test .taken)) (c .before .live-at .ensures) (bitsOf 64 (c .before .before .before .before .before .before .before .from-to .result .0))
+    walk-ask (c .before .before .before .before .before .before .before .before .before .before .before .args .words .now) (l .words) (l .place) (l .inv) (entity (e .index) (e .version)) (subst (λ (m : ℕ). l .place < m) (c .before .before .before .before .before .live-len .ensures) (c .before .before .before .loop-test .taken)) (c .before .live-at .ensures) (bitsOf 64 (c .before .before .before .before .before .before .before .from-to .result .0))
     (c .before .before .before .before .before .before .before .from-to .ensures ∙ ap (upFrom 0) (sub-zero (c .before .before .before .before .before .before .before .before .group-count .result) ∙ c .before .before .before .before .before .before .before .before .group-count .ensures)) in
     (l .inv .soFar .arranged, (W .below, W .ready))
 
@@ -43,7 +43,7 @@ loop-again : tie.Need-loop-again Inv-loop μ-loop
 loop-again c =
     let l = c .before .before .before .before .before .before .before .loop in
     let e = c .before .before .before .before .live-at .result in
-    regroup-turn (c .before .before .before .before .before .before .before .before .before .before .before .before .before .before .args .words .now) (l .words) (l .place) (l .inv) (entity (e .index) (e .version)) (omega (arith, c .before .before .before .before .before .before .before .before .live-len .ensures, c .before .before .before .before .before .before .loop-test .taken)) (c .before .before .before .before .live-at .ensures) (bitsOf 64 (c .before .before .before .before .before .before .before .before .before .before .from-to .result .0))
+    regroup-turn (c .before .before .before .before .before .before .before .before .before .before .before .before .before .before .args .words .now) (l .words) (l .place) (l .inv) (entity (e .index) (e .version)) (subst (λ (m : ℕ). l .place < m) (c .before .before .before .before .before .before .before .before .live-len .ensures) (c .before .before .before .before .before .before .loop-test .taken)) (c .before .before .before .before .live-at .ensures) (bitsOf 64 (c .before .before .before .before .before .before .before .before .before .before .from-to .result .0))
     (c .before .before .before .before .before .before .before .before .before .before .from-to .ensures ∙ ap (upFrom 0) (sub-zero (c .before .before .before .before .before .before .before .before .before .before .before .group-count .result) ∙ c .before .before .before .before .before .before .before .before .before .before .before .group-count .ensures)) (c .before .before .group .last .0) (c .before .before .group .ensures)
 
 same-length : tie.Need-same-length Inv-loop μ-loop
@@ -52,7 +52,7 @@ same-length c = c .before .loop .inv .soFar .size
 returns : tie.Need-returns Inv-loop μ-loop
 returns c =
     let l = c .before .loop in
-    regroup-end (c .before .before .before .before .before .before .before .before .args .words .now) (l .words) (l .place) (l .inv) (omega (arith, c .before .before .live-len .ensures, c .loop-test .left))
+    regroup-end (c .before .before .before .before .before .before .before .before .args .words .now) (l .words) (l .place) (l .inv) (subst (λ (m : ℕ). m ≤ l .place) (c .before .before .live-len .ensures) (c .loop-test .left))
 
 pub regroup-spec : {M : Type 1} → statement M
 regroup-spec =
@@ -60,14 +60,14 @@ regroup-spec =
     (tie.spec
     Inv-loop
     μ-loop
-    (λ c κs. search needs)
+    (λ c κs. c .before .before .pre .0)
     from-to-requires
-    (λ c κs. search needs)
+    (λ c κs. c .before .before .before .before .before .pre .0)
     loop-holds
     live-at-requires
     group-requires
     (λ c. omega arith)
-    (λ c. omega arith)
+    (λ c. falls _ _ (c .before .before .before .before .before .before .loop-test .taken))
     loop-again
     same-length
     returns)

@@ -1,5 +1,8 @@
-use mathlib.Core.Path.{_∙_, sym}
-use Prim.Native.Nat.{_-_}
+use Rattle.words.specs.Offsets.{BLOCK-LEN, GROUP-PLACES}
+use Rattle.model.specs.Numbers.{MAX-GROUP-COUNT}
+use lib.Dec.{lit≤}
+use mathlib.Core.Path.{_∙_, sym, _≡_}
+use Prim.Native.Nat.{_-_, ℕ, _≤_, _+_}
 use Rattle.words.proofs.Decides.{granted, denied}
 use lib.Seq.{length-take-le}
 use Rattle.layout_block.proofs.Checking.{families-of, block-sound, block-kinds}
@@ -7,6 +10,12 @@ use native.Mathlib.Omega.{arith}
 use borrow.Author.Needs.{needs}
 use Rattle.layout_block.proofs.block_ok.Statement.{statement}
 use Rattle.layout_block.proofs.block_ok.Tie as tie
+
+end-in : (e l : ℕ) → e ≤ BLOCK-LEN → l ≡ BLOCK-LEN → e ≤ l
+end-in e l h q = omega arith
+
+few-in : (f l : ℕ) → f ≤ MAX-GROUP-COUNT → l ≡ GROUP-PLACES → 0 + f ≤ l
+few-in f l h q = omega arith
 
 returns-2 : tie.Need-returns-2
 returns-2 c x = let s = c .before .before .before .before .before .before .before .before in denied (c .before .families-ok .result) (c .before .families-ok .ensures) (c .if2 .taken) (families-of (s .args .block .now) (s .args .families) (x .formed .good))
@@ -27,27 +36,27 @@ block-ok-spec =
     tie.close
     (tie.spec
     (λ c. search needs)
-    (λ c. search needs)
-    (λ c. search needs)
-    (λ c. search needs)
-    (λ c. search needs)
-    (λ c. search needs)
-    (λ c. search needs)
-    (λ c. search needs)
-    (λ c. search needs)
-    (λ c. search needs)
-    (λ c κs. search needs)
+    (λ c. lit≤ tt)
+    (λ c. lit≤ tt)
+    (λ c. end-in 192 _ (lit≤ tt) (c .before .before .before .pre .0))
+    (λ c. lit≤ tt)
+    (λ c. lit≤ tt)
+    (λ c. end-in 256 _ (lit≤ tt) (c .before .before .before .before .pre .0))
+    (λ c. lit≤ tt)
+    (λ c. lit≤ tt)
+    (λ c. end-in 320 _ (lit≤ tt) (c .before .before .before .before .before .pre .0))
+    (λ c κs. record { arities = c .before .before .families-ok-arg .given .2; kindEnds = c .before .families-ok-arg2 .given .2; ends = c .families-ok-arg3 .given .2; few = c .before .before .before .if1 .left })
     returns-2
+    (λ c. lit≤ tt)
+    (λ c. lit≤ tt)
+    (λ c. end-in 320 _ (lit≤ tt) (c .before .before .before .before .before .before .before .before .pre .0))
+    (λ c κs. few-in _ _ (c .before .before .before .before .before .before .if1 .left) (c .start-of-arg .given .2))
     (λ c. search needs)
-    (λ c. search needs)
-    (λ c. search needs)
-    (λ c κs. search needs)
-    (λ c. search needs)
-    (λ c. search needs)
-    (λ c. search needs)
-    (λ c. search needs)
-    (λ c κs. search needs)
+    (λ c. lit≤ tt)
+    (λ c. lit≤ tt)
+    (λ c. end-in 256 _ (lit≤ tt) (c .before .before .before .before .before .before .before .before .before .before .before .pre .0))
+    (λ c κs. few-in _ _ (c .before .before .before .before .before .before .before .before .before .if1 .left) (c .start-of-arg2 .given .2))
     slice-aggregate-kinds-ok
-    (λ c κs. search needs)
+    (λ c κs. c .before .before .before .before .before .before .before .before .before .before .before .before .before .before .pre .1)
     returns-4
     returns-5)

@@ -1,5 +1,5 @@
 use Prim.Native.Nat.{_-_}
-use mathlib.Core.Path.{_≡_, sym}
+use mathlib.Core.Path.{_≡_, sym, _∙_}
 use Rattle.layout_block.proofs.Transfer
 use Rattle.layout.specs.ByValue.{arraysOf, Sized}
 use lib.ListN.{length, take}
@@ -68,5 +68,5 @@ write-layout-spec =
     array-share-prefix-ends
     slice-aggregate-put-4
     put-requires-4
-    (λ c. search needs)
+    (λ c. c .before .before .put4 .kept .0 ∙ c .before .before .before .before .before .before .before .before .put3 .kept .0 ∙ c .before .before .before .before .before .before .before .before .before .before .before .before .before .before .put2 .kept .0 ∙ c .before .before .before .before .before .before .before .before .before .before .before .before .before .before .before .before .before .before .before .before .put .kept .0)
     returns)

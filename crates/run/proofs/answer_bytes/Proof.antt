@@ -1,9 +1,14 @@
+use Rattle.model.specs.Numbers.{LAST-COMMAND}
+use Prim.Native.Nat.{ℕ, _<_, _≤_}
 use Rattle.run.proofs.Answers.{answers-small, take-answer, fixed-answer}
 use Rattle.memory.specs.Meaning.{meaning}
 use native.Mathlib.Omega.{arith}
 use borrow.Author.Needs.{needs}
 use Rattle.run.proofs.answer_bytes.Statement.{statement}
 use Rattle.run.proofs.answer_bytes.Tie as tie
+
+below : (b : ℕ) → b ≤ LAST-COMMAND → b < 15
+below b h = omega arith
 
 cast-fixed : tie.Need-cast-fixed
 cast-fixed c = omega (arith, answers-small (c .before .args .op))
@@ -21,9 +26,9 @@ pub answer-bytes-spec : {M : Type 1} → statement M
 answer-bytes-spec =
     tie.close
     (tie.spec
-    (λ c. search needs)
+    (λ c. below _ (c .before .pre .1))
     cast-fixed
-    (λ c κs. search needs)
+    (λ c κs. c .before .before .pre .0)
     (λ c. search needs)
     add-result
     returns

@@ -1,17 +1,28 @@
+use mir.Facts.{fits-le}
+use mir.Val.{Fits}
+use mir.Syntax.{w64}
 use Rattle.run.proofs.Runs.{Going, start, ended, stops-here, goes-on, moves}
-use borrow.Author.Needs.{needs}
 use lib.ListN.{length}
 use native.Mathlib.Omega.{arith}
 use mathlib.Core.Path.{_∙_}
-use Prim.Native.Nat.{_-_}
+use Prim.Native.Nat.{_-_, ℕ, _+_, _<_, _≤_}
 use Rattle.run.proofs.run_sound.Statement.{statement}
 use Rattle.run.proofs.run_sound.Tie as tie
+
+one-more : (k a l : ℕ) → k ≤ a → a < l → k + 1 ≤ l
+one-more k a l h m = omega arith
+
+less : (a b l : ℕ) → a < b → a < l → l - b < l - a
+less a b l h m = omega arith
 
 abbrev Inv-loop : tie.InvT-loop
 Inv-loop words₀ tape out₀ at₀ to₀ done₀ words out at to done = Going words₀ tape out₀ words out at to done
 
 abbrev μ-loop : tie.MeasureT-loop
 μ-loop words₀ tape out₀ at₀ to₀ done₀ words out at to done = length tape - at
+
+tape-fits : (s : tie.Start Inv-loop μ-loop) → Fits w64 (length (s .args .tape .now))
+tape-fits s = omega arith
 
 loop-holds : tie.Need-loop-holds Inv-loop μ-loop
 loop-holds c = start (c .before .before .before .pre)
@@ -20,10 +31,10 @@ step-requires : tie.Need-step-requires Inv-loop μ-loop
 step-requires c κs = record { sound = c .before .before .before .loop .inv .sound; more = c .before .before .loop-test .taken; within = c .before .before .before .loop .inv .within }
 
 add-done : tie.Need-add-done Inv-loop μ-loop
-add-done c = omega (arith, c .before .before .before .before .before .before .before .before .before .before .before .loop .inv .few, c .before .before .before .before .before .before .before .before .before .before .loop-test .taken, c .before .before .before .before .before .before .before .before .before .before .before .before .before .before .before .good)
+add-done c = fits-le (one-more _ _ _ (c .before .before .before .before .before .before .before .before .before .before .before .loop .inv .few) (c .before .before .before .before .before .before .before .before .before .before .loop-test .taken)) (tape-fits (c .before .before .before .before .before .before .before .before .before .before .before .before .before .before .before))
 
 loop-less : tie.Need-loop-less Inv-loop μ-loop
-loop-less c = omega (arith, moves (c .before .before .before .before .before .before .before .before .before .before .before .loop .inv) (c .before .before .before .before .before .before .before .before .before .before .loop-test .taken) (c .before .next .given .0 .0) (c .before .next .given .0 .1 .0) (rw (c .before .next .given .1) at (c .before .before .before .before .before .before .before .step .ensures)), c .before .before .before .before .before .before .before .before .before .before .loop-test .taken)
+loop-less c = less _ _ _ (moves (c .before .before .before .before .before .before .before .before .before .before .before .loop .inv) (c .before .before .before .before .before .before .before .before .before .before .loop-test .taken) (c .before .next .given .0 .0) (c .before .next .given .0 .1 .0) (rw (c .before .next .given .1) at (c .before .before .before .before .before .before .before .step .ensures))) (c .before .before .before .before .before .before .before .before .before .before .loop-test .taken)
 
 loop-again : tie.Need-loop-again Inv-loop μ-loop
 loop-again c = goes-on (c .before .before .before .before .before .before .before .before .before .before .before .loop .inv) (c .before .before .before .before .before .before .before .before .before .before .loop-test .taken) (c .before .next .given .0 .0) (c .before .next .given .0 .1 .0) (rw (c .before .next .given .1) at (c .before .before .before .before .before .before .before .step .ensures))
@@ -54,11 +65,11 @@ run-sound-spec =
     μ-loop
     loop-holds
     step-requires
-    (λ c. search needs)
+    (λ c. c .match .keys1)
     add-done
     loop-less
     loop-again
-    (λ c. search needs)
+    (λ c. c .match .keys2)
     same-length
     same-length-2
     returns

@@ -1,14 +1,32 @@
-use native.Mathlib.Nat.{pos-of-ne-zero}
+use mir.Facts.{fits-le}
+use mir.Val.{Fits}
+use mir.Syntax.{w64}
+use native.Mathlib.Nat.{pos-of-ne-zero, le-of-lt}
 use Rattle.run.proofs.Steps.{step-zero, step-high, step-cut, step-room, step-did, stopped, given, acted-within, bytes-all, stepped}
 use Rattle.memory.specs.Meaning.{meaning}
 use Rattle.model.specs.Commands.{width}
-use lib.ListN.{getD, take, drop}
-use Prim.Native.Nat.{_+_}
+use lib.ListN.{getD, take, drop, length}
+use Prim.Native.Nat.{_+_, ℕ, _-_, _<_, _≤_}
 use mathlib.Core.Path.{refl}
 use native.Mathlib.Omega.{arith}
-use borrow.Author.Needs.{needs}
 use Rattle.run.proofs.step.Statement.{statement}
 use Rattle.run.proofs.step.Tie as tie
+
+-- lengths fit, and so does what is within them
+tape-fits : (s : tie.Start) → Fits w64 (length (s .args .tape .now))
+tape-fits s = omega arith
+
+out-fits : (s : tie.Start) → Fits w64 (length (s .args .out .now))
+out-fits s = omega arith
+
+small : (n : ℕ) → n ≤ 9 → Fits w64 (1 + n)
+small n h = omega arith
+
+next : (a l : ℕ) → a < l → a + 1 ≤ l
+next a l h = omega arith
+
+whole : (a n l : ℕ) → a < l → n ≤ l - a → a + n ≤ l
+whole a n l h m = omega arith
 
 returns : tie.Need-returns
 returns c =
@@ -23,27 +41,27 @@ returns-2 c =
 returns-3 : tie.Need-returns-3
 returns-3 c =
     let s = c .before .before .before .before .before .before .before .before in
-    stopped (s .pre .sound) (s .pre .within) (step-cut (meaning (s .args .words .now)) (s .args .tape .now) (s .args .at) _ (pos-of-ne-zero (c .before .before .before .if1 .left)) (c .before .before .if2 .left) (s .pre .more) (omega (arith, c .if3 .taken, c .before .operand-bytes .ensures .0)))
+    stopped (s .pre .sound) (s .pre .within) (step-cut (meaning (s .args .words .now)) (s .args .tape .now) (s .args .at) _ (pos-of-ne-zero (c .before .before .before .if1 .left)) (c .before .before .if2 .left) (s .pre .more) (rw (c .before .operand-bytes .ensures .0) at (c .if3 .taken)))
 
 returns-4 : tie.Need-returns-4
 returns-4 c =
     let s = c .before .before .before .before .before .before .before .before .before .before .before in
     let t = s .args .tape .now in
     let b = getD t (s .args .at) 0 in
-    stopped (s .pre .sound) (s .pre .within) (step-room (meaning (s .args .words .now)) t (s .args .at) _ (pos-of-ne-zero (c .before .before .before .before .before .before .if1 .left)) (c .before .before .before .before .before .if2 .left) (omega (arith, c .before .before .before .if3 .left, c .before .before .before .before .operand-bytes .ensures .0)) (omega (arith, c .if4 .taken, c .before .answer-bytes .ensures (take (width b) (drop (s .args .at + 1) t)))))
+    stopped (s .pre .sound) (s .pre .within) (step-room (meaning (s .args .words .now)) t (s .args .at) _ (pos-of-ne-zero (c .before .before .before .before .before .before .if1 .left)) (c .before .before .before .before .before .if2 .left) (rw (c .before .before .before .before .operand-bytes .ensures .0) at (c .before .before .before .if3 .left)) (rw (c .before .answer-bytes .ensures (take (width b) (drop (s .args .at + 1) t))) at (c .if4 .taken)))
 
 act-requires : tie.Need-act-requires
 act-requires c κs =
     let s = c .before .before .before .before .before .before .before .before .before .before .before .before .before in
     let t = s .args .tape .now in
     let b = getD t (s .args .at) 0 in
-    ((pos-of-ne-zero (c .before .before .before .before .before .before .before .before .if1 .left), omega (arith, c .before .before .before .before .before .before .before .if2 .left)), (given b (c .before .before .before .before .before .before .operand-bytes .result) (c .before .before .before .answer-bytes .result) (s .pre) (c .before .before .before .before .before .before .operand-bytes .ensures .0) (c .before .before .before .before .before .if3 .left) (c .before .before .before .answer-bytes .ensures (take (width b) (drop (s .args .at + 1) t))) (c .before .before .if4 .left)))
+    ((pos-of-ne-zero (c .before .before .before .before .before .before .before .before .if1 .left), c .before .before .before .before .before .before .before .if2 .left), (given b (c .before .before .before .before .before .before .operand-bytes .result) (c .before .before .before .answer-bytes .result) (s .pre) (c .before .before .before .before .before .before .operand-bytes .ensures .0) (c .before .before .before .before .before .if3 .left) (c .before .before .before .answer-bytes .ensures (take (width b) (drop (s .args .at + 1) t))) (c .before .before .if4 .left)))
 
 add-t13 : tie.Need-add-t13
 add-t13 c =
     let d = c .before .before .before .before in
     let s = d .before .before .before .before .before .before .before .before .before .before .before .before .before .before in
-    omega (arith, acted-within (getD (s .args .tape .now) (s .args .at) 0) (act-requires (d .before) (d .act .lifetimes) .1) (d .act .ensures), s .good)
+    fits-le (acted-within (getD (s .args .tape .now) (s .args .at) 0) (act-requires (d .before) (d .act .lifetimes) .1) (d .act .ensures)) (out-fits s)
 
 returns-5 : tie.Need-returns-5
 returns-5 c =
@@ -53,27 +71,27 @@ returns-5 c =
     let b = getD t (s .args .at) 0 in
     let n = d .before .before .before .before .before .before .before .operand-bytes .ensures .0 in
     stepped b refl
-    (step-did (meaning (s .args .words .now)) t (s .args .at) _ (pos-of-ne-zero (d .before .before .before .before .before .before .before .before .before .if1 .left)) (d .before .before .before .before .before .before .before .before .if2 .left) (omega (arith, d .before .before .before .before .before .before .if3 .left, n)) (omega (arith, d .before .before .before .if4 .left, d .before .before .before .before .answer-bytes .ensures (take (width b) (drop (s .args .at + 1) t)))))
+    (step-did (meaning (s .args .words .now)) t (s .args .at) _ (pos-of-ne-zero (d .before .before .before .before .before .before .before .before .before .if1 .left)) (d .before .before .before .before .before .before .before .before .if2 .left) (rw n at (d .before .before .before .before .before .before .if3 .left)) (rw (d .before .before .before .before .answer-bytes .ensures (take (width b) (drop (s .args .at + 1) t))) at (d .before .before .before .if4 .left)))
     n (bytes-all t (λ i. omega (arith, d .before .before .before .before .before .before .before .before .before .before .before .before .shared-slice-known .given i))) (act-requires (d .before) (d .act .lifetimes) .1) (d .act .ensures)
 
 pub step-spec : {M : Type 1} → statement M
 step-spec =
     tie.close
     (tie.spec
-    (λ c. search needs)
+    (λ c. c .before .before .before .before .pre .more)
     returns
     returns-2
-    (λ c κs. search needs)
-    (λ c. search needs)
-    (λ c. search needs)
+    (λ c κs. c .if2 .left)
+    (λ c. small (c .operand-bytes .result) (c .operand-bytes .ensures .1))
+    (λ c. le-of-lt (c .before .before .before .before .before .before .before .pre .more))
     returns-3
-    (λ c κs. (c .before .before .before .before .before .before .before .before .before .pre .sound .arranged, omega (arith, c .before .before .before .if2 .left)))
-    (λ c. search needs)
+    (λ c κs. (c .before .before .before .before .before .before .before .before .before .pre .sound .arranged, c .before .before .before .if2 .left))
+    (λ c. c .before .before .before .before .before .before .before .before .before .before .pre .within)
     (λ c. refl)
     returns-4
-    (λ c. search needs)
+    (λ c. fits-le (next _ _ (c .before .before .before .before .before .before .before .before .before .before .before .before .pre .more)) (tape-fits (c .before .before .before .before .before .before .before .before .before .before .before .before)))
     act-requires
-    (λ c. search needs)
+    (λ c. fits-le (whole _ _ _ (c .before .before .before .before .before .before .before .before .before .before .before .before .before .before .before .before .before .before .pre .more) (c .before .before .before .before .before .before .before .before .before .before .if3 .left)) (tape-fits (c .before .before .before .before .before .before .before .before .before .before .before .before .before .before .before .before .before .before)))
     add-t13
     (λ c. c .before .before .before .before .act .kept .0)
     (λ c. c .before .before .before .before .act .kept .1 .1 .1 .1 .0)

@@ -1,3 +1,4 @@
+use lib.Dec.{lit≤}
 use mathlib.Core.Path.{refl}
 use native.Mathlib.Omega.{arith}
 use borrow.Author.Needs.{needs}
@@ -51,9 +52,9 @@ pub column-spec : {M : Type 1} → statement M
 column-spec =
     tie.close
     (tie.spec
-    (λ c κs. search needs)
-    (λ c. search needs)
-    (λ c. search needs)
+    (λ c κs. tt)
+    (λ c. lit≤ tt)
+    (λ c. lit≤ tt)
     (λ c. search needs)
     returns
     row-start-requires

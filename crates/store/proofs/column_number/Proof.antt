@@ -2,7 +2,6 @@ use mathlib.Core.Path.{_≡_, sym, _∙_}
 use mathlib.Core.Bool.{true, false}
 use mathlib.Core.Option.{some, none}
 use native.Mathlib.Omega.{arith}
-use borrow.Author.Needs.{needs}
 use borrow.Author.Tests.{not-true, not-false}
 use Rattle.model.specs.Numbers.{BEYOND, KIND}
 use Rattle.model.specs.Store.{isKind}
@@ -66,4 +65,4 @@ returns-6 c =
 
 pub column-number-spec : {M : Type 1} → statement M
 column-number-spec =
-    tie.close (tie.spec (λ c κs. search needs) returns returns-2 is-registered-requires returns-3 returns-4 set-len-requires returns-5 returns-6)
+    tie.close (tie.spec (λ c κs. tt) returns returns-2 is-registered-requires returns-3 returns-4 set-len-requires returns-5 returns-6)

@@ -31,4 +31,4 @@ returns-3 c =
 
 pub roll-spec : {M : Type 1} → statement M
 roll-spec =
-    tie.close (tie.spec (λ c κs. search needs) returns snapshot-length-requires returns-2 write-snapshot-requires (λ c. search needs) returns-3)
+    tie.close (tie.spec (λ c κs. tt) returns snapshot-length-requires returns-2 write-snapshot-requires (λ c. search needs) returns-3)

@@ -1,5 +1,5 @@
+use mathlib.Core.Path.{refl}
 use native.Mathlib.Omega.{arith}
-use borrow.Author.Needs.{needs}
 use Rattle.memory.specs.Arranged.{Sound}
 use Rattle.words.proofs.Decides.{granted, denied}
 use Rattle.run.proofs.Steps.{bytes-all}
@@ -22,4 +22,4 @@ returns-2 c =
 
 pub run-spec : {M : Type 1} → statement M
 run-spec =
-    tie.close (tie.spec (λ c κs. search needs) (λ c. search needs) returns run-sound-requires (λ c. search needs) (λ c. search needs) returns-2)
+    tie.close (tie.spec (λ c κs. tt) (λ c. refl) returns run-sound-requires (λ c. c .before .before .before .before .run-sound .kept .0) (λ c. c .before .before .before .before .run-sound .kept .1 .1 .0) returns-2)

@@ -1,5 +1,4 @@
 use native.Mathlib.Omega.{arith}
-use borrow.Author.Needs.{needs}
 use lib.ListN.{length}
 use Rattle.model.specs.Sound.{Limits}
 use Rattle.words.proofs.Decides.{granted, denied}
@@ -37,4 +36,4 @@ returns-3 c =
     made-start (a .n) (a .k) (a .words .now) (c .before .before .make .last .0) l (omega (arith, c .before .before .before .before .before .words-needed .ensures, c .before .before .before .before .if2 .left)) (c .before .before .make .ensures)
 
 pub start-spec : {M : Type 1} → statement M
-start-spec = tie.close (tie.spec (λ c κs. search needs) returns words-needed-requires returns-2 make-requires (λ c. search needs) returns-3)
+start-spec = tie.close (tie.spec (λ c κs. tt) returns words-needed-requires returns-2 make-requires (λ c. c .before .before .make .kept .0) returns-3)

@@ -1,5 +1,4 @@
 use mathlib.Core.Path.{refl}
-use borrow.Author.Needs.{needs}
 use Rattle.model.specs.Sound.{Limits}
 use Rattle.words.proofs.Decides.{granted, denied}
 use Rattle.store.proofs.words_needed.Statement.{statement}
@@ -28,4 +27,4 @@ returns-2 c =
     }
 
 pub words-needed-spec : {M : Type 1} → statement M
-words-needed-spec = tie.close (tie.spec (λ c κs. search needs) returns words-needed-requires returns-2)
+words-needed-spec = tie.close (tie.spec (λ c κs. tt) returns words-needed-requires returns-2)

@@ -1,4 +1,4 @@
-use borrow.Author.Needs.{needs}
+use mathlib.Core.Path.{_∙_}
 use Rattle.entity.specs.Answers.{entityOf}
 use Rattle.world.proofs.Lifetimes.{create-sounds, new-live, created-whole}
 use Rattle.world.proofs.create.Statement.{statement}
@@ -25,4 +25,4 @@ returns c =
     }
 
 pub create-spec : {M : Type 1} → statement M
-create-spec = tie.close (tie.spec create-requires insert-requires (λ c. search needs) returns)
+create-spec = tie.close (tie.spec create-requires insert-requires (λ c. c .before .before .insert .kept .0 ∙ c .before .before .before .before .before .before .create .kept .0) returns)

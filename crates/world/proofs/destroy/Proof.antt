@@ -1,4 +1,4 @@
-use borrow.Author.Needs.{needs}
+use mathlib.Core.Path.{_∙_}
 use Rattle.component.specs.SparseSet.{entity}
 use Rattle.world.proofs.Lifetimes.{still-at, destroyed-whole}
 use Rattle.world.proofs.destroy.Statement.{statement}
@@ -18,4 +18,4 @@ returns c =
     destroyed-whole (s .args .words .now) (entity (s .args .index) (s .args .version)) (s .args .place) (s .pre .1) (c .before .before .before .before .before .before .strip .last .0) (c .before .before .before .before .before .before .strip .ensures) (c .before .before .destroy .last .0) (c .before .before .destroy .ensures)
 
 pub destroy-spec : {M : Type 1} → statement M
-destroy-spec = tie.close (tie.spec strip-requires destroy-requires (λ c. search needs) returns)
+destroy-spec = tie.close (tie.spec strip-requires destroy-requires (λ c. c .before .before .destroy .kept .0 ∙ c .before .before .before .before .before .before .strip .kept .0) returns)

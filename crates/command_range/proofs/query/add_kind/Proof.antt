@@ -24,4 +24,4 @@ returns-2 c =
 pub add-kind-spec : {M : Type 1} → statement M
 add-kind-spec =
     tie.close
-    (tie.spec (λ c. search needs) (λ c. search needs) returns (λ c κs. search needs) (λ c κs. search needs) returns-2)
+    (tie.spec (λ c. c .match .keys1) (λ c. c .match .keys2) returns (λ c κs. search needs) (λ c κs. tt) returns-2)

@@ -1,6 +1,6 @@
+use lib.Dec.{lit≤}
 use mathlib.Core.Path.{subst}
 use native.Mathlib.Omega.{arith}
-use borrow.Author.Needs.{needs}
 use Rattle.model.specs.Store.{stagedKinds}
 use Rattle.memory.specs.Meaning.{layoutArrays, meaning}
 use Rattle.memory.proofs.Frames.{long}
@@ -61,19 +61,19 @@ pub group-range-spec : {M : Type 1} → statement M
 group-range-spec =
     tie.close
     (tie.spec
-    (λ c κs. search needs)
-    (λ c. search needs)
-    (λ c. search needs)
+    (λ c κs. c .before .pre)
+    (λ c. c .match .keys1)
+    (λ c. c .match .keys2)
     returns
-    (λ c κs. search needs)
-    (λ c. search needs)
-    (λ c. search needs)
+    (λ c κs. c .before .before .before .before .before .pre)
+    (λ c. c .match2 .keys1)
+    (λ c. c .match2 .keys2)
     returns-2
-    (λ c. search needs)
-    (λ c. search needs)
+    (λ c. lit≤ tt)
+    (λ c. lit≤ tt)
     part-group-range-end
-    (λ c. search needs)
-    (λ c. search needs)
+    (λ c. lit≤ tt)
+    (λ c. lit≤ tt)
     part-group-range-end-2
     group-range-requires
     returns-3)

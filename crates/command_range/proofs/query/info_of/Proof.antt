@@ -1,6 +1,5 @@
 use mathlib.Core.Path.{subst}
 use Prim.Native.Nat.{ℕ}
-use borrow.Author.Needs.{needs}
 use Rattle.kinds.specs.Kinds.{OwnGroup}
 use Rattle.kinds.specs.declared.Own.{Own}
 use Rattle.kinds.proofs.Owned.{Owned, own-group, no-group}
@@ -46,11 +45,11 @@ pub info-of-spec : {M : Type 1} → statement M
 info-of-spec =
     tie.close
     (tie.spec
-    (λ c κs. search needs)
-    (λ c. search needs)
-    (λ c. search needs)
+    (λ c κs. c .before .pre)
+    (λ c. c .match .keys1)
+    (λ c. c .match .keys2)
     returns
     metadata-requires
-    (λ c κs. search needs)
+    (λ c κs. c .before .before .before .before .before .before .pre)
     of-kind-requires
     returns-2)

@@ -1,4 +1,3 @@
-use borrow.Author.Needs.{needs}
 use mathlib.Core.Path.{subst}
 use Prim.Native.Nat.{_+_, _-_}
 use native.Mathlib.Omega.{arith}
@@ -58,12 +57,12 @@ pub insert-spec : {M : Type 1} → statement M
 insert-spec =
     tie.close
     (tie.spec
-    (λ c κs. search needs)
-    (λ c. search needs)
-    (λ c. search needs)
+    (λ c κs. c .before .before .pre .0)
+    (λ c. c .match .keys1)
+    (λ c. c .match .keys2)
     append-requires
-    (λ c. search needs)
+    (λ c. c .before .before .append .kept .0)
     returns
     replace-requires
-    (λ c. search needs)
+    (λ c. c .before .before .replace .kept .0)
     returns-2)

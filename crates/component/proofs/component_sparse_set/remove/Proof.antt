@@ -1,5 +1,4 @@
-use borrow.Author.Needs.{needs}
-use mathlib.Core.Path.{ap, _∙_, subst}
+use mathlib.Core.Path.{ap, _∙_, subst, refl}
 use Prim.Native.Nat.{ℕ, _-_}
 use native.Mathlib.Omega.{arith}
 use lib.ListN.{getD}
@@ -60,12 +59,12 @@ pub remove-spec : {M : Type 1} → statement M
 remove-spec =
     tie.close
     (tie.spec
-    (λ c κs. search needs)
-    (λ c. search needs)
-    (λ c. search needs)
-    (λ c. search needs)
+    (λ c κs. c .before .before .pre)
+    (λ c. c .match .keys1)
+    (λ c. c .match .keys2)
+    (λ c. refl)
     returns
     value-at-requires
     remove-at-requires
-    (λ c. search needs)
+    (λ c. c .before .before .remove-at .kept .0)
     returns-2)

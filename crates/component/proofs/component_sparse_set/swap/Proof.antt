@@ -1,5 +1,4 @@
-use borrow.Author.Needs.{needs}
-use mathlib.Core.Path.{ap}
+use mathlib.Core.Path.{ap, _∙_}
 use Prim.Native.Nat.{_-_}
 use native.Mathlib.Omega.{arith}
 use Rattle.model.specs.Model.{noRow}
@@ -82,5 +81,5 @@ swap-spec =
     put-row-requires-2
     put-lookup-requires
     put-lookup-requires-2
-    (λ c. search needs)
+    (λ c. c .before .before .put-lookup2 .kept .0 ∙ c .before .before .before .before .before .before .put-lookup .kept .0 ∙ c .before .before .before .before .before .before .before .before .before .before .put-row2 .kept .0 ∙ c .before .before .before .before .before .before .before .before .before .before .before .before .before .before .put-row .kept .0)
     returns-2)

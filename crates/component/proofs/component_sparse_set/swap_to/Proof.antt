@@ -1,5 +1,4 @@
-use borrow.Author.Needs.{needs}
-use mathlib.Core.Path.{sym, _∙_, subst}
+use mathlib.Core.Path.{sym, _∙_, subst, refl}
 use Prim.Native.Nat.{_-_}
 use mathlib.Core.Bool.{true≢false}
 use Rattle.model.specs.Model.{swapTo}
@@ -45,11 +44,11 @@ pub swap-to-spec : {M : Type 1} → statement M
 swap-to-spec =
     tie.close
     (tie.spec
-    (λ c κs. search needs)
-    (λ c. search needs)
-    (λ c. search needs)
-    (λ c. search needs)
+    (λ c κs. c .before .before .pre .0)
+    (λ c. c .match .keys1)
+    (λ c. c .match .keys2)
+    (λ c. refl)
     returns
     swap-requires
-    (λ c. search needs)
+    (λ c. c .before .before .swap .kept .0)
     returns-2)

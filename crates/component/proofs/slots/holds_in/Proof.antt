@@ -1,5 +1,4 @@
 use mathlib.Core.Path.{sym, subst}
-use borrow.Author.Needs.{needs}
 use Rattle.component.specs.SparseSet.{entity}
 use Rattle.component.specs.Answers.{Finds}
 use Rattle.component.specs.Columns.{rowsOf}
@@ -20,4 +19,4 @@ returns-2 c =
 
 pub holds-in-spec : {M : Type 1} → statement M
 holds-in-spec =
-    tie.close (tie.spec (λ c κs. search needs) (λ c. search needs) (λ c. search needs) returns returns-2)
+    tie.close (tie.spec (λ c κs. c .before .pre) (λ c. c .match .keys1) (λ c. c .match .keys2) returns returns-2)

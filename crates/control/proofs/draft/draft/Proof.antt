@@ -1,5 +1,5 @@
+use lib.Dec.{lit≤}
 use native.Mathlib.Omega.{arith}
-use borrow.Author.Needs.{needs}
 use Rattle.memory.proofs.Frames.{long}
 use Rattle.control.proofs.DraftWords.{draft-block, is-draft}
 use Rattle.control.proofs.draft.draft.Statement.{statement}
@@ -28,4 +28,4 @@ returns c =
     is-draft (s .args .words .now) (f .result) (c .before .before .word2 .result) (f .ensures) (c .read-layout .result) (c .read-layout .ensures)
 
 pub draft-spec : {M : Type 1} → statement M
-draft-spec = tie.close (tie.spec word-requires word-requires-2 (λ c. search needs) (λ c. search needs) part-read-layout-end read-layout-requires returns)
+draft-spec = tie.close (tie.spec word-requires word-requires-2 (λ c. lit≤ tt) (λ c. lit≤ tt) part-read-layout-end read-layout-requires returns)

@@ -1,4 +1,3 @@
-use borrow.Author.Needs.{needs}
 use Rattle.control.proofs.EntityPart.{entities-read, sound-in, created-becomes}
 use Rattle.control.proofs.entities.create.Statement.{statement}
 use Rattle.control.proofs.entities.create.Tie as tie
@@ -19,4 +18,4 @@ returns c =
     created-becomes (s .args .words .now) (s .pre .0) (g .result) (g .ensures) (r .last .0) (r .result) (r .ensures)
 
 pub create-spec : {M : Type 1} → statement M
-create-spec = tie.close (tie.spec (λ c κs. search needs) create-in-requires (λ c. search needs) returns)
+create-spec = tie.close (tie.spec (λ c κs. c .before .before .pre .0) create-in-requires (λ c. c .before .before .create-in .kept .0) returns)

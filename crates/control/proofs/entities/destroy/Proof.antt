@@ -1,4 +1,3 @@
-use borrow.Author.Needs.{needs}
 use Rattle.model.specs.Model.{destroy}
 use Rattle.entity.specs.Meaning.{entity}
 use Rattle.control.proofs.EntityPart.{entities-read, sound-in, changed-becomes}
@@ -21,4 +20,4 @@ returns c =
     changed-becomes (s .args .words .now) (g .result) (g .ensures) (s .pre .0) (r .last .0) (destroy (entity (s .args .index) (s .args .version))) (r .ensures)
 
 pub destroy-spec : {M : Type 1} → statement M
-destroy-spec = tie.close (tie.spec (λ c κs. search needs) destroy-in-requires (λ c. search needs) returns)
+destroy-spec = tie.close (tie.spec (λ c κs. c .before .before .pre .0) destroy-in-requires (λ c. c .before .before .destroy-in .kept .0) returns)

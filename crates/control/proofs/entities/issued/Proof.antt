@@ -1,9 +1,18 @@
+use Rattle.words.specs.Offsets.{ENTITIES}
+use Rattle.model.specs.Numbers.{MAX-ENTITIES, ENTITY-LEN}
+use mir.Val.{Fits}
+use mir.Syntax.{w64}
+use native.Mathlib.Omega.{arith}
+use Prim.Native.Nat.{ℕ, _+_, _*_, _≤_}
 use mathlib.Core.Path.{ap, _∙_}
 use Rattle.model.specs.Model.{Entities}
-use borrow.Author.Needs.{needs}
 use Rattle.control.proofs.EntityPart.{entities-read, sound-in}
 use Rattle.control.proofs.entities.issued.Statement.{statement}
 use Rattle.control.proofs.entities.issued.Tie as tie
+
+-- the entity part follows the header
+part-sums : (n : ℕ) → n ≤ MAX-ENTITIES → Fits w64 (ENTITY-LEN * n) × Fits w64 (ENTITIES + ENTITY-LEN * n) × (ENTITIES ≤ ENTITIES + ENTITY-LEN * n)
+part-sums n h = (omega arith, omega arith, omega arith)
 
 issued-requires : tie.Need-issued-requires
 issued-requires c κs =
@@ -23,11 +32,11 @@ pub issued-spec : {M : Type 1} → statement M
 issued-spec =
     tie.close
     (tie.spec
-    (λ c κs. search needs)
-    (λ c. search needs)
-    (λ c. search needs)
-    (λ c. search needs)
-    (λ c. search needs)
-    (λ c. search needs)
+    (λ c κs. c .before .pre)
+    (λ c. part-sums (c .capacity .result) (sound-in (c .before .before .args .words .now) (c .capacity .result) (c .capacity .ensures) (c .before .before .pre) .sound .sized .small) .0)
+    (λ c. part-sums (c .capacity .result) (sound-in (c .before .before .args .words .now) (c .capacity .result) (c .capacity .ensures) (c .before .before .pre) .sound .sized .small) .1)
+    (λ c. part-sums (c .capacity .result) (sound-in (c .before .before .args .words .now) (c .capacity .result) (c .capacity .ensures) (c .before .before .pre) .sound .sized .small) .2)
+    (λ c. part-sums (c .capacity .result) (sound-in (c .before .before .args .words .now) (c .capacity .result) (c .capacity .ensures) (c .before .before .pre) .sound .sized .small) .2)
+    (λ c. c .capacity .ensures .fits)
     issued-requires
     returns)

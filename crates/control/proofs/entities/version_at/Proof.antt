@@ -1,11 +1,19 @@
+use Rattle.words.specs.Offsets.{ENTITIES}
+use Rattle.model.specs.Numbers.{MAX-ENTITIES, ENTITY-LEN}
+use mir.Val.{Fits}
+use mir.Syntax.{w64}
+use Prim.Native.Nat.{ℕ, _+_, _*_, _≤_}
 use mathlib.Core.Path.{ap, _∙_}
 use native.Mathlib.Omega.{arith}
 use Rattle.model.specs.Model.{Entities}
 use Rattle.model.specs.Snapshot.{liveVersion}
-use borrow.Author.Needs.{needs}
 use Rattle.control.proofs.EntityPart.{entities-read, sound-in}
 use Rattle.control.proofs.entities.version_at.Statement.{statement}
 use Rattle.control.proofs.entities.version_at.Tie as tie
+
+-- the entity part follows the header
+part-sums : (n : ℕ) → n ≤ MAX-ENTITIES → Fits w64 (ENTITY-LEN * n) × Fits w64 (ENTITIES + ENTITY-LEN * n) × (ENTITIES ≤ ENTITIES + ENTITY-LEN * n)
+part-sums n h = (omega arith, omega arith, omega arith)
 
 version-at-requires : tie.Need-version-at-requires
 version-at-requires c κs =
@@ -25,11 +33,11 @@ pub version-at-spec : {M : Type 1} → statement M
 version-at-spec =
     tie.close
     (tie.spec
-    (λ c κs. search needs)
-    (λ c. search needs)
-    (λ c. search needs)
-    (λ c. search needs)
-    (λ c. search needs)
-    (λ c. search needs)
+    (λ c κs. c .before .pre .0)
+    (λ c. part-sums (c .capacity .result) (sound-in (c .before .before .args .words .now) (c .capacity .result) (c .capacity .ensures) (c .before .before .pre .0) .sound .sized .small) .0)
+    (λ c. part-sums (c .capacity .result) (sound-in (c .before .before .args .words .now) (c .capacity .result) (c .capacity .ensures) (c .before .before .pre .0) .sound .sized .small) .1)
+    (λ c. part-sums (c .capacity .result) (sound-in (c .before .before .args .words .now) (c .capacity .result) (c .capacity .ensures) (c .before .before .pre .0) .sound .sized .small) .2)
+    (λ c. part-sums (c .capacity .result) (sound-in (c .before .before .args .words .now) (c .capacity .result) (c .capacity .ensures) (c .before .before .pre .0) .sound .sized .small) .2)
+    (λ c. c .capacity .ensures .fits)
     version-at-requires
     returns)

@@ -19,4 +19,4 @@ returns c =
     c .among .ensures ∙ ap (mem (s .args .kind)) (sym (excluded-kinds (s .args .words .now) (s .pre)))
 
 pub is-excluded-spec : {M : Type 1} → statement M
-is-excluded-spec = tie.close (tie.spec shared-slice-read-end (λ c. search needs) (λ c. search needs) (λ c. search needs) (λ c. search needs) part-among-end (λ c κs. search needs) returns)
+is-excluded-spec = tie.close (tie.spec shared-slice-read-end (λ c. search needs) (λ c. search needs) (λ c. search needs) (λ c. search needs) part-among-end (λ c κs. tt) returns)

@@ -1,33 +1,45 @@
-use Prim.Native.Nat.{_<_, _≤_}
+use mir.Val.{Fits}
+use mir.Syntax.{w32, w64}
+use Prim.Native.Nat.{_<_, _≤_, ℕ, _+_, _*_}
 use native.Mathlib.Omega.{arith}
 use lib.ListN.{length, length-set}
-use borrow.Author.Needs.{needs}
-use Rattle.model.specs.Numbers.{LIST-CAPACITY}
-use Rattle.words.specs.Offsets.{ENTITIES}
+use Rattle.model.specs.Numbers.{LIST-CAPACITY, MAX-KINDS}
+use Rattle.words.specs.Offsets.{ENTITIES, STAGED-LEN, STAGED-KINDS, STAGED-VALUES}
 use Rattle.memory.specs.Header.{stagedLen}
 use Rattle.memory.proofs.Frames.{long}
 use Rattle.control.proofs.Control.{staged-length, stage-becomes}
 use Rattle.control.proofs.staged.stage.Statement.{statement}
 use Rattle.control.proofs.staged.stage.Tie as tie
 
+-- where one more goes: no sum wraps, and its words lie in the header
+stage-sums : (k : ℕ) → k < LIST-CAPACITY
+    → Fits w64 k × Fits w64 (4 * k) × Fits w64 (STAGED-VALUES + 4 * k) × Fits w32 (k + 1) × Fits w64 (STAGED-KINDS + k) × Fits w64 ((STAGED-KINDS + k) * 4) × Fits w64 ((STAGED-VALUES + 4 * k) * 4) × Fits w64 (STAGED-VALUES + 4 * k + 1) × Fits w64 ((STAGED-VALUES + 4 * k + 1) * 4)
+stage-sums k h = (omega arith, omega arith, omega arith, omega arith, omega arith, omega arith, omega arith, omega arith, omega arith)
+
+stage-in : (k l : ℕ) → (k < LIST-CAPACITY) × (ENTITIES ≤ l) → (STAGED-LEN < l) × (STAGED-KINDS + k < l) × (STAGED-VALUES + 4 * k < l) × (STAGED-VALUES + 4 * k + 1 < l)
+stage-in k l h = (omega arith, omega arith, omega arith, omega arith)
+
+kind-fits : (k : ℕ) → k < MAX-KINDS → Fits w32 k
+kind-fits k h = omega arith
+
 -- there is room for one more, in the header
 inside : (s : tie.Start) → (stagedLen (s .args .words .now) < LIST-CAPACITY) × (ENTITIES ≤ length (s .args .words .now))
 inside s = (omega (arith, staged-length (s .args .words .now), s .pre .1), long (s .args .words .now) (s .pre .0))
 
 slice-read-count : tie.Need-slice-read-count
-slice-read-count c = omega (arith, inside (c .before))
+slice-read-count c = stage-in (stagedLen (c .before .args .words .now)) _ (inside (c .before)) .0
 
 slice-write-words : tie.Need-slice-write-words
-slice-write-words c = omega (arith, inside (c .before))
+slice-write-words c = stage-in (stagedLen (c .before .args .words .now)) _ (inside (c .before)) .0
 
 slice-write-words-2 : tie.Need-slice-write-words-2
-slice-write-words-2 c = simp length-set (omega (arith, inside (c .before)))
+slice-write-words-2 c = simp length-set (stage-in (stagedLen (c .before .args .words .now)) _ (inside (c .before)) .1)
 
 slice-write-words-3 : tie.Need-slice-write-words-3
-slice-write-words-3 c = simp length-set (omega (arith, inside (c .before)))
+slice-write-words-3 c = simp length-set (stage-in (stagedLen (c .before .args .words .now)) _ (inside (c .before)) .2)
 
 slice-write-words-4 : tie.Need-slice-write-words-4
-slice-write-words-4 c = simp length-set (omega (arith, inside (c .before)))
+slice-write-words-4 c = simp length-set (stage-in (stagedLen (c .before .args .words .now)) _ (inside (c .before)) .3)
 
 returns : tie.Need-returns
 returns c =
@@ -36,4 +48,4 @@ returns c =
     stage-becomes (a .words .now) (s .pre .0) (a .kind) (a .low) (a .high) (inside s .0)
 
 pub stage-spec : {M : Type 1} → statement M
-stage-spec = tie.close (tie.spec slice-read-count (λ c. search needs) (λ c. search needs) (λ c. search needs) (λ c. search needs) slice-write-words (λ c. search needs) (λ c. search needs) (λ c. search needs) (λ c. search needs) slice-write-words-2 (λ c. search needs) slice-write-words-3 (λ c. search needs) (λ c. search needs) slice-write-words-4 (λ c. search needs) returns)
+stage-spec = tie.close (tie.spec slice-read-count (λ c. stage-sums _ (inside (c .before) .0) .0) (λ c. stage-sums _ (inside (c .before) .0) .1) (λ c. stage-sums _ (inside (c .before) .0) .2) (λ c. stage-sums _ (inside (c .before) .0) .3) slice-write-words (λ c. kind-fits _ (c .before .pre .1 .1)) (λ c. stage-sums _ (inside (c .before) .0) .0) (λ c. stage-sums _ (inside (c .before) .0) .4) (λ c. stage-sums _ (inside (c .before) .0) .5) slice-write-words-2 (λ c. stage-sums _ (inside (c .before) .0) .6) slice-write-words-3 (λ c. stage-sums _ (inside (c .before) .0) .7) (λ c. stage-sums _ (inside (c .before) .0) .8) slice-write-words-4 (λ c. simp length-set) returns)

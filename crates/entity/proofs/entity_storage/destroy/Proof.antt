@@ -1,6 +1,5 @@
 use mathlib.Core.Path.{sym, ap, _∙_}
 use Prim.Native.Nat.{ℕ, _-_}
-use borrow.Author.Needs.{needs}
 use Rattle.entity.proofs.Lookups.{found-live, found-place}
 use Rattle.entity.proofs.ModelSteps.{destroy-steps}
 use Rattle.entity.specs.Meaning.{entity, entitiesOf}
@@ -37,4 +36,4 @@ returns c =
     }
 
 pub destroy-spec : {M : Type 1} → statement M
-destroy-spec = tie.close (tie.spec remove-requires recycle-requires (λ c. search needs) returns)
+destroy-spec = tie.close (tie.spec remove-requires recycle-requires (λ c. c .before .before .recycle .kept .0 ∙ c .before .before .before .before .before .before .remove .kept .0) returns)

@@ -41,13 +41,13 @@ add-group-spec =
     returns
     returns-2
     fit-of-requires
-    (λ c. search needs)
-    (λ c. search needs)
-    (λ c. search needs)
+    (λ c. c .match .keys1)
+    (λ c. c .match .keys2)
+    (λ c. c .match .keys3)
     add-fresh-requires
-    (λ c. search needs)
+    (λ c. c .match .keys4)
     add-onto-requires
     returns-3
     returns-4
-    (λ c. search needs)
-    (λ c. search needs))
+    (λ c. c .add-fresh .ensures)
+    (λ c. c .add-onto .ensures))

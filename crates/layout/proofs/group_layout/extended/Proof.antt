@@ -1,5 +1,7 @@
+use mir.Val.{Fits}
+use mir.Syntax.{w8, w64}
 use mathlib.Core.Path.{_≡_, refl, _∙_, sym, ap}
-use Prim.Native.Nat.{ℕ, _+_, _-_}
+use Prim.Native.Nat.{ℕ, _+_, _-_, _<_, _≤_}
 use mathlib.Core.List.{[], _∷_}
 use lib.ListN.{length, getD, take}
 use lib.Seq.{length-take-le}
@@ -16,18 +18,43 @@ use Rattle.layout.proofs.group_layout.extended.Tie as tie
 sizes : (c : tie.Start) → Sized (arraysOf (c .args .l))
 sizes c = record { kinds = search needs; arities = search needs; kindEnds = search needs; ends = search needs }
 
+-- what the start alone shows
+inside : (s : tie.Start) → s .args .f < 64
+inside s = search needs
+
+end-fits : (s : tie.Start) → Fits w64 (getD (s .args .l .«kind_ends») (s .args .f) 0)
+end-fits s = search needs
+
+top-fits : (s : tie.Start) → Fits w64 (getD (s .args .l .ends) (s .args .f) 0)
+top-fits s = search needs
+
+more-fits : (s : tie.Start) → Fits w8 (length (s .args .more .now))
+more-fits s = search needs
+
+width-fits : (s : tie.Start) → Fits w64 (s .args .l .width + length (s .args .more .now))
+width-fits s = search needs
+
+groups-fit : (s : tie.Start) → Fits w64 (s .args .l .groups + 1)
+groups-fit s = search needs
+
+kinds-long : (s : tie.Start) → s .args .l .width ≤ length (s .args .l .kinds)
+kinds-long s = omega (arith, sizes s .kinds, s .pre .width, s .pre .loose .wide)
+
+arities-long : (s : tie.Start) → s .args .l .groups ≤ length (s .args .l .arities)
+arities-long s = omega (arith, sizes s .arities, s .pre .groups, s .pre .loose .many)
+
 array-share-prefix-old : tie.Need-array-share-prefix-old
 array-share-prefix-old c = let s = c .before .before .before .before .before in omega (arith, sizes s .kinds, s .pre .width, s .pre .loose .wide)
 
 slice-aggregate-spread-2 : tie.Need-slice-aggregate-spread-2
-slice-aggregate-spread-2 c = let s = c .before .before .before .before .before .before in sym (length-take-le _ _ (omega (arith, sizes s .kinds, s .pre .width, s .pre .loose .wide)))
+slice-aggregate-spread-2 c = let s = c .before .before .before .before .before .before in sym (length-take-le _ _ (kinds-long s))
 
 spread-requires : tie.Need-spread-requires
 spread-requires c κs =
     let s = c .before .before .before .before .before .before in
     let p = s .pre in
     let a = arraysOf (s .args .l) in
-    let long : length (take (s .args .l .width) (s .args .l .kinds)) ≡ s .args .l .width = length-take-le _ _ (omega (arith, sizes s .kinds, p .width, p .loose .wide)) in
+    let long : length (take (s .args .l .width) (s .args .l .kinds)) ≡ s .args .l .width = length-take-le _ _ (kinds-long s) in
     let more = s .args .more .now in
     (omega (arith, kind-inside a (s .args .f) more (p .loose) (sizes s), p .width), omega (arith, kind-room a (s .args .f) more (p .loose) (sizes s) (p .kinds), p .width))
 
@@ -35,14 +62,14 @@ array-share-prefix-sizes : tie.Need-array-share-prefix-sizes
 array-share-prefix-sizes c = let s = c .before .before .before .before .before .before .before .before .before .before in omega (arith, sizes s .arities, s .pre .groups, s .pre .loose .many)
 
 slice-aggregate-spread-4 : tie.Need-slice-aggregate-spread-4
-slice-aggregate-spread-4 c = let s = c .before .before .before .before .before .before .before .before .before .before .before in sym (length-take-le _ _ (omega (arith, sizes s .arities, s .pre .groups, s .pre .loose .many)))
+slice-aggregate-spread-4 c = let s = c .before .before .before .before .before .before .before .before .before .before .before in sym (length-take-le _ _ (arities-long s))
 
 spread-requires-2 : tie.Need-spread-requires-2
 spread-requires-2 c κs =
     let s = c .before .before .before .before .before .before .before .before .before .before .before .before in
     let p = s .pre in
     let a = arraysOf (s .args .l) in
-    let long : length (take (s .args .l .groups) (s .args .l .arities)) ≡ s .args .l .groups = length-take-le _ _ (omega (arith, sizes s .arities, p .groups, p .loose .many)) in
+    let long : length (take (s .args .l .groups) (s .args .l .arities)) ≡ s .args .l .groups = length-take-le _ _ (arities-long s) in
     (omega (arith, group-inside a (s .args .f) (s .args .more .now) (p .loose) (sizes s), p .groups), omega (arith, p .loose .many, p .groups))
 
 raise-requires : tie.Need-raise-requires
@@ -94,24 +121,24 @@ pub extended-spec : {M : Type 1} → statement M
 extended-spec =
     tie.close
     (tie.spec
-    (λ c. search needs)
-    (λ c. search needs)
-    (λ c. search needs)
-    (λ c. search needs)
-    (λ c. search needs)
+    (λ c. inside (c .before .before .before))
+    (λ c. end-fits (c .before .before .before))
+    (λ c. inside (c .before .before .before))
+    (λ c. top-fits (c .before .before .before))
+    (λ c. refl)
     array-share-prefix-old
     slice-aggregate-spread-2
     spread-requires
-    (λ c. search needs)
+    (λ c. refl)
     array-share-prefix-sizes
     slice-aggregate-spread-4
-    (λ c. search needs)
+    (λ c. refl)
     spread-requires-2
-    (λ c. search needs)
-    (λ c. search needs)
+    (λ c. sym (sizes (c .before .before .before .before .before .before .before .before .before .before .before .before .before .before .before) .kindEnds))
+    (λ c. more-fits (c .before .before .before .before .before .before .before .before .before .before .before .before .before .before .before))
     raise-requires
-    (λ c. search needs)
+    (λ c. sym (sizes (c .before .before .before .before .before .before .before .before .before .before .before .before .before .before .before .before .before .before) .ends))
     raise-requires-2
-    (λ c. search needs)
-    (λ c. search needs)
+    (λ c. width-fits (c .before .before .before .before .before .before .before .before .before .before .before .before .before .before .before .before .before .before .before .before))
+    (λ c. groups-fit (c .before .before .before .before .before .before .before .before .before .before .before .before .before .before .before .before .before .before .before .before))
     returns)

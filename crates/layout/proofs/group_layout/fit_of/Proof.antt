@@ -9,7 +9,6 @@ use Rattle.layout.specs.declared.group_layout.Fit.{Fit}
 use Rattle.layout.proofs.Family.{start-next}
 use Rattle.layout.proofs.Arrays.{bounds, family-ask, fit-step, fit-end}
 use native.Mathlib.Omega.{arith}
-use borrow.Author.Needs.{needs}
 use Rattle.layout.proofs.group_layout.fit_of.Statement.{statement}
 use Rattle.layout.proofs.group_layout.fit_of.Tie as tie
 
@@ -98,7 +97,7 @@ fit-of-spec =
     part-part-of-start-2
     part-part-of-end-2
     part-of-requires
-    (λ c κs. search needs)
+    (λ c κs. tt)
     (λ c. omega arith)
     (λ c. omega arith)
     loop-again

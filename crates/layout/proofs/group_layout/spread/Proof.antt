@@ -1,4 +1,4 @@
-use mathlib.Core.Path.{_≡_, sym}
+use mathlib.Core.Path.{_≡_, sym, _∙_}
 use Prim.Native.Nat.{_-_}
 use lib.ListN.{length, take, drop, length-drop}
 use lib.Seq.{length-take-le, take-all}
@@ -40,9 +40,9 @@ spread-spec =
     slice-aggregate-append
     append-requires
     append-requires-2
-    (λ c. search needs)
-    (λ c. search needs)
+    (λ c. c .before .before .before .before .before .before .before .before .before .before .before .before .before .pre .0)
+    (λ c. c .before .before .before .before .before .before .before .before .before .before .before .before .before .pre .0)
     (λ c. search needs)
     append-requires-3
-    (λ c. search needs)
+    (λ c. c .before .before .append3 .kept .0 ∙ c .before .before .before .before .before .before .before .append2 .kept .0 ∙ c .before .before .before .before .before .before .before .before .before .before .before .append .kept .0)
     returns)

@@ -1,9 +1,20 @@
+use lib.ListN.{length}
+use mir.Facts.{fits-le}
+use mir.Val.{Fits}
+use mir.Syntax.{w64}
 use Rattle.replay.proofs.Agreeing.{cut-case, case-agrees}
-use Prim.Native.Nat.{_+_}
+use Prim.Native.Nat.{_+_, ℕ, _*_, _-_, _≤_, _<_}
 use native.Mathlib.Omega.{arith}
 use borrow.Author.Needs.{needs}
 use Rattle.replay.proofs.cases.replay_case.Statement.{statement}
 use Rattle.replay.proofs.cases.replay_case.Tie as tie
+
+file-fits : (s : tie.Start) → Fits w64 (length (s .args .file .now))
+file-fits s = omega arith
+
+-- a case's head lies in the file
+head-in : (a l : ℕ) → a ≤ l → 4 ≤ l - a → (a + 2 ≤ l) × (a + 2 < l) × (a + 3 < l) × (a + 4 ≤ l) × (a + 3 ≤ l)
+head-in a l h p = (omega arith, omega arith, omega arith, omega arith, omega arith)
 
 returns : tie.Need-returns
 returns c = cut-case _ _ _ (c .cut .ensures)
@@ -22,18 +33,18 @@ pub replay-case-spec : {M : Type 1} → statement M
 replay-case-spec =
     tie.close
     (tie.spec
-    (λ c. search needs)
-    (λ c κs. search needs)
+    (λ c. c .before .before .before .pre .1)
+    (λ c κs. tt)
     returns
-    (λ c κs. search needs)
-    (λ c. search needs)
-    (λ c. search needs)
+    (λ c κs. head-in _ _ (c .before .before .before .before .before .pre .1) (c .before .if1 .left) .0)
+    (λ c. fits-le (head-in _ _ (c .before .before .before .before .before .before .pre .1) (c .before .before .if1 .left) .0) (file-fits (c .before .before .before .before .before .before)))
+    (λ c. head-in _ _ (c .before .before .before .before .before .before .before .pre .1) (c .before .before .before .if1 .left) .1)
     cast-start
-    (λ c κs. search needs)
-    (λ c. search needs)
-    (λ c. search needs)
-    (λ c. search needs)
-    (λ c κs. search needs)
+    (λ c κs. tt)
+    (λ c. fits-le (head-in _ _ (c .before .before .before .before .before .before .before .before .before .before .before .pre .1) (c .before .before .before .before .before .before .before .if1 .left) .3) (file-fits (c .before .before .before .before .before .before .before .before .before .before .before)))
+    (λ c. fits-le (head-in _ _ (c .before .before .before .before .before .before .before .before .before .before .before .pre .1) (c .before .before .before .before .before .before .before .if1 .left) .4) (file-fits (c .before .before .before .before .before .before .before .before .before .before .before)))
+    (λ c. head-in _ _ (c .before .before .before .before .before .before .before .before .before .before .before .before .pre .1) (c .before .before .before .before .before .before .before .before .if1 .left) .2)
+    (λ c κs. head-in _ _ (c .before .before .before .before .before .before .before .before .before .before .before .before .before .pre .1) (c .before .before .before .before .before .before .before .before .before .if1 .left) .3)
     (λ c κs. search needs)
     (λ c κs. search needs)
     (λ c. search needs)

@@ -1,8 +1,28 @@
+use lib.ListN.{length}
+use mir.Facts.{fits-le}
+use mir.Val.{Fits}
+use mir.Syntax.{w64}
+use Prim.Native.Nat.{ℕ, _+_, _*_, _-_, _≤_, _<_}
 use Rattle.replay.proofs.Agreeing.{cut-stepped, column-agrees}
 use native.Mathlib.Omega.{arith}
-use borrow.Author.Needs.{needs}
 use Rattle.replay.proofs.cases.replay_column.Statement.{statement}
 use Rattle.replay.proofs.cases.replay_column.Tie as tie
+
+file-fits : (s : tie.Start) → Fits w64 (length (s .args .file .now))
+file-fits s = omega arith
+
+-- a column's head, and then its entities and its values, lie in the file
+head-in : (a l : ℕ) → a ≤ l → 3 ≤ l - a → (a + 3 ≤ l) × (a < l) × (a + 1 ≤ l) × (a + 1 + 2 ≤ l)
+head-in a l h p = (omega arith, omega arith, omega arith, omega arith)
+
+rows-fit : (n : ℕ) → n < 65536 → Fits w64 (16 * n) × Fits w64 (8 * n) × (n ≤ 65535)
+rows-fit n h = (omega arith, omega arith, omega arith)
+
+rows-in : (a n l : ℕ) → a + 3 ≤ l → 16 * n ≤ l - (a + 3) → (a + 3 + 8 * n ≤ l) × (a + 3 + 8 * n + 8 * n ≤ l)
+rows-in a n l h p = (omega arith, omega arith)
+
+low : (a n : ℕ) → a ≤ a + n
+low a n = omega arith
 
 returns : tie.Need-returns
 returns c = cut-stepped _ _ _ _ _ (c .cut .ensures)
@@ -20,27 +40,27 @@ pub replay-column-spec : {M : Type 1} → statement M
 replay-column-spec =
     tie.close
     (tie.spec
-    (λ c. search needs)
-    (λ c κs. search needs)
+    (λ c. c .before .before .pre)
+    (λ c κs. tt)
     returns
-    (λ c. search needs)
-    (λ c. search needs)
-    (λ c. search needs)
-    (λ c κs. search needs)
-    (λ c. search needs)
-    (λ c. search needs)
-    (λ c κs. search needs)
+    (λ c. fits-le (head-in _ _ (c .before .before .before .pre) (c .if1 .left) .0) (file-fits (c .before .before .before)))
+    (λ c. head-in _ _ (c .before .before .before .before .pre) (c .before .if1 .left) .1)
+    (λ c. fits-le (head-in _ _ (c .before .before .before .before .pre) (c .before .if1 .left) .2) (file-fits (c .before .before .before .before)))
+    (λ c κs. head-in _ _ (c .before .before .before .before .pre) (c .before .if1 .left) .3)
+    (λ c. head-in _ _ (c .before .before .before .before .before .pre) (c .before .before .if1 .left) .0)
+    (λ c. rows-fit _ (c .short-at .ensures .1) .0)
+    (λ c κs. tt)
     returns-2
-    (λ c. search needs)
-    (λ c. search needs)
-    (λ c. search needs)
-    (λ c. search needs)
-    (λ c. search needs)
-    (λ c. search needs)
-    (λ c. search needs)
-    (λ c κs. search needs)
-    (λ c. search needs)
-    (λ c. search needs)
-    (λ c. search needs)
-    (λ c κs. search needs)
+    (λ c. rows-fit _ (c .before .short-at .ensures .1) .1)
+    (λ c. fits-le (rows-in (c .before .before .before .before .before .before .args .at) _ _ (head-in _ _ (c .before .before .before .before .before .before .pre) (c .before .before .before .if1 .left) .0) (c .if2 .left) .0) (file-fits (c .before .before .before .before .before .before)))
+    (λ c. rows-fit _ (c .before .short-at .ensures .1) .1)
+    (λ c. fits-le (rows-in (c .before .before .before .before .before .before .args .at) _ _ (head-in _ _ (c .before .before .before .before .before .before .pre) (c .before .before .before .if1 .left) .0) (c .if2 .left) .1) (file-fits (c .before .before .before .before .before .before)))
+    (λ c. low _ _)
+    (λ c. low _ _)
+    (λ c. rows-in (c .before .before .before .before .before .before .args .at) _ _ (head-in _ _ (c .before .before .before .before .before .before .pre) (c .before .before .before .if1 .left) .0) (c .if2 .left) .0)
+    (λ c κs. rows-fit _ (c .before .before .short-at .ensures .1) .2)
+    (λ c. low _ _)
+    (λ c. low _ _)
+    (λ c. rows-in (c .before .before .before .before .before .before .before .before .args .at) _ _ (head-in _ _ (c .before .before .before .before .before .before .before .before .pre) (c .before .before .before .before .before .if1 .left) .0) (c .before .before .if2 .left) .1)
+    (λ c κs. rows-fit _ (c .before .before .before .before .short-at .ensures .1) .2)
     returns-3)

@@ -1,3 +1,4 @@
+use lib.Dec.{lit≤}
 use Prim.Native.Nat.{_+_, _-_}
 use native.Mathlib.Omega.{arith}
 use Rattle.words.specs.Offsets.{STAGED-KINDS, TABLE}
@@ -24,8 +25,8 @@ is-list-spec =
     (λ c. search needs)
     (λ c. search needs)
     (λ c. search needs)
-    (λ c. search needs)
-    (λ c. search needs)
+    (λ c. lit≤ tt)
+    (λ c. lit≤ tt)
     (λ c. search needs)
     (λ c κs. search needs)
     returns-2

@@ -18,4 +18,4 @@ returns-2 c =
 
 pub yirbarn-column-spec : {M : Type 1} → statement M
 yirbarn-column-spec =
-    tie.close (tie.spec (λ c κs. search needs) returns (λ c κs. search needs) (λ c. search needs) returns-2)
+    tie.close (tie.spec (λ c κs. tt) returns (λ c κs. search needs) (λ c. search needs) returns-2)

@@ -1,5 +1,4 @@
 use native.Mathlib.Omega.{arith}
-use borrow.Author.Needs.{needs}
 use Rattle.store.proofs.Columns.{Given, given-of, known-of}
 use Rattle.store.proofs.Linking.{refused-place, given-place}
 use Rattle.store.proofs.exports.yirbarn_column_at.Statement.{statement}
@@ -24,4 +23,4 @@ returns-2 c =
     (λ j. omega (arith, c .before .before .before .shared-slice-known .given j)) (c .row-start .ensures .is)
 
 pub yirbarn-column-at-spec : {M : Type 1} → statement M
-yirbarn-column-at-spec = tie.close (tie.spec (λ c κs. search needs) returns row-start-requires returns-2)
+yirbarn-column-at-spec = tie.close (tie.spec (λ c κs. tt) returns row-start-requires returns-2)

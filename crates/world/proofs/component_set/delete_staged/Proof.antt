@@ -1,5 +1,8 @@
+use Rattle.model.specs.Numbers.{LIST-CAPACITY}
+use mir.Val.{Fits}
+use mir.Syntax.{w64}
 use mathlib.Core.Path.{_≡_, ap, sym, _∙_, subst}
-use Prim.Native.Nat.{_≤_, _-_, ℕ, _<_}
+use Prim.Native.Nat.{_≤_, _-_, ℕ, _<_, _+_, zero-le}
 use native.Mathlib.Omega.{arith}
 use native.Mathlib.Numerals.{add-one-le}
 use borrow.Author.Count.{falls}
@@ -11,6 +14,9 @@ use Rattle.memory.specs.Meaning.{meaning}
 use Rattle.world.proofs.Removing.{Gone, eachGone, gone-none, gone-turn, gone-all, staged-kept, staged-small}
 use Rattle.world.proofs.component_set.delete_staged.Statement.{statement}
 use Rattle.world.proofs.component_set.delete_staged.Tie as tie
+
+next-fits : (i n : ℕ) → i < n → n ≤ LIST-CAPACITY → Fits w64 (i + 1)
+next-fits i n h s = omega arith
 
 abbrev Inv-loop : tie.InvT-loop
 Inv-loop words₀ index version n i₀ words i =
@@ -25,7 +31,7 @@ staged-len-requires c κs = c .before .before .pre .arranged
 loop-holds : tie.Need-loop-holds Inv-loop μ-loop
 loop-holds c =
     let a = c .before .before .before .args in
-    (omega arith, c .staged-len .ensures .is ∙ sym (length-map (meaning (a .words .now) .control .staged) kindOf), gone-none (a .words .now) (entity (a .index) (a .version)) (stagedKinds (meaning (a .words .now))) (c .before .before .before .pre .arranged))
+    (zero-le, c .staged-len .ensures .is ∙ sym (length-map (meaning (a .words .now) .control .staged) kindOf), gone-none (a .words .now) (entity (a .index) (a .version)) (stagedKinds (meaning (a .words .now))) (c .before .before .before .pre .arranged))
 
 remove-one-requires : tie.Need-remove-one-requires Inv-loop μ-loop
 remove-one-requires c κs =
@@ -56,4 +62,4 @@ returns c =
 pub delete-staged-spec : {M : Type 1} → statement M
 delete-staged-spec =
     tie.close
-    (tie.spec Inv-loop μ-loop staged-len-requires loop-holds remove-one-requires (λ c. omega arith) (λ c. falls _ _ (c .before .before .before .before .loop-test .taken)) loop-again same-length returns)
+    (tie.spec Inv-loop μ-loop staged-len-requires loop-holds remove-one-requires (λ c. next-fits _ _ (c .before .before .before .before .loop-test .taken) (c .before .before .before .before .before .before .staged-len .ensures .few)) (λ c. falls _ _ (c .before .before .before .before .loop-test .taken)) loop-again same-length returns)

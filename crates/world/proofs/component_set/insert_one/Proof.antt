@@ -1,5 +1,4 @@
 use mathlib.Core.Path.{ap, subst}
-use borrow.Author.Needs.{needs}
 use Rattle.model.specs.Model.{Component}
 use Rattle.model.specs.Store.{onStorage}
 use Rattle.component.specs.SparseSet.{entity}
@@ -23,4 +22,4 @@ returns c =
     subst (λ (p : Component). Becomes (a .words .now) (c .before .before .insert .last .0) (onStorage (insertOne (entity (a .index) (a .version)) p) (meaning (a .words .now)))) (c .before .before .before .before .staged-at .ensures) (c .before .before .insert .ensures)
 
 pub insert-one-spec : {M : Type 1} → statement M
-insert-one-spec = tie.close (tie.spec (λ c κs. search needs) insert-requires (λ c. search needs) returns)
+insert-one-spec = tie.close (tie.spec (λ c κs. (c .before .before .pre .0 .arranged, c .before .before .pre .1)) insert-requires (λ c. c .before .before .insert .kept .0) returns)

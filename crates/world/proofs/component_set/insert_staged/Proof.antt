@@ -1,5 +1,8 @@
+use Rattle.model.specs.Numbers.{LIST-CAPACITY}
+use mir.Val.{Fits}
+use mir.Syntax.{w64}
 use mathlib.Core.Path.{_≡_, subst}
-use Prim.Native.Nat.{_≤_, _-_, ℕ, _<_}
+use Prim.Native.Nat.{_≤_, _-_, ℕ, _<_, _+_, zero-le}
 use native.Mathlib.Omega.{arith}
 use native.Mathlib.Numerals.{add-one-le}
 use borrow.Author.Count.{falls}
@@ -13,6 +16,9 @@ use Rattle.world.proofs.Inserting.{insert-none, insert-all, insert-ask,
 use Rattle.world.proofs.component_set.insert_staged.Statement.{statement}
 use Rattle.world.proofs.component_set.insert_staged.Tie as tie
 
+next-fits : (i n : ℕ) → i < n → n ≤ LIST-CAPACITY → Fits w64 (i + 1)
+next-fits i n h s = omega arith
+
 abbrev Inv-loop : tie.InvT-loop
 Inv-loop words₀ index version n i₀ words i =
     (i ≤ n) × (n ≡ length (meaning words₀ .control .staged)) × Becomes words₀ words (onStorage (inserted (entity index version) (take i (meaning words₀ .control .staged))) (meaning words₀))
@@ -23,7 +29,7 @@ abbrev μ-loop : tie.MeasureT-loop
 loop-holds : tie.Need-loop-holds Inv-loop μ-loop
 loop-holds c =
     let a = c .before .before .before .args in
-    (omega arith, c .staged-len .ensures .is, insert-none (a .words .now) (a .index) (a .version) (c .before .before .before .pre))
+    (zero-le, c .staged-len .ensures .is, insert-none (a .words .now) (a .index) (a .version) (c .before .before .before .pre))
 
 insert-one-requires : tie.Need-insert-one-requires Inv-loop μ-loop
 insert-one-requires c κs =
@@ -57,7 +63,7 @@ insert-staged-spec =
     (λ c κs. c .before .before .pre .arranged)
     loop-holds
     insert-one-requires
-    (λ c. omega arith)
+    (λ c. next-fits _ _ (c .before .before .before .before .loop-test .taken) (c .before .before .before .before .before .before .staged-len .ensures .few))
     (λ c. falls _ _ (c .before .before .before .before .loop-test .taken))
     loop-again
     same-length

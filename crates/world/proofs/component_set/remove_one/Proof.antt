@@ -1,6 +1,5 @@
 use mathlib.Core.Path.{_∙_, subst}
 use Prim.Native.Nat.{ℕ}
-use borrow.Author.Needs.{needs}
 use Rattle.component.specs.SparseSet.{entity}
 use Rattle.memory.specs.Meaning.{meaning}
 use Rattle.kinds.specs.Kinds.{RemovesKind}
@@ -24,4 +23,4 @@ returns c =
     (c .before .before .before .before .staged-kind .ensures ∙ kind-at (meaning (a .words .now) .control .staged) (a .i)) (r .ensures)
 
 pub remove-one-spec : {M : Type 1} → statement M
-remove-one-spec = tie.close (tie.spec staged-kind-requires remove-requires (λ c. search needs) returns)
+remove-one-spec = tie.close (tie.spec staged-kind-requires remove-requires (λ c. c .before .before .remove .kept .0) returns)

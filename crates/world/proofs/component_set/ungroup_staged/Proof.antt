@@ -1,4 +1,3 @@
-use borrow.Author.Needs.{needs}
 use Rattle.component.specs.SparseSet.{entity}
 use Rattle.world.proofs.Whole.{staged-sound, delete-inside, delete-ready, ungroup-whole}
 use Rattle.world.proofs.component_set.ungroup_staged.Statement.{statement}
@@ -23,4 +22,4 @@ returns c =
     ungroup-whole (a .words .now) (s .pre) (entity (a .index) (a .version)) (m .result .0) (m .ensures) (c .before .before .ungroup .last .0) (c .before .before .ungroup .ensures)
 
 pub ungroup-staged-spec : {M : Type 1} → statement M
-ungroup-staged-spec = tie.close (tie.spec staged-mask-requires ungroup-requires (λ c. search needs) returns)
+ungroup-staged-spec = tie.close (tie.spec staged-mask-requires ungroup-requires (λ c. c .before .before .ungroup .kept .0) returns)

@@ -1,5 +1,7 @@
+use mir.Val.{Fits}
+use mir.Syntax.{w64}
 use mathlib.Core.Path.{_≡_, subst}
-use Prim.Native.Nat.{_≤_, _-_, ℕ, _<_}
+use Prim.Native.Nat.{_≤_, _-_, ℕ, _<_, _+_, zero-le}
 use native.Mathlib.Omega.{arith}
 use native.Mathlib.Numerals.{add-one-le}
 use borrow.Author.Count.{falls}
@@ -10,6 +12,9 @@ use Rattle.group.proofs.InWords.{groups-few}
 use Rattle.world.proofs.Zeroing.{Zeroed, zeroed-none, zeroed-below, zeroed-turn, zeroed-all}
 use Rattle.world.proofs.component_storage.clear_counts.Statement.{statement}
 use Rattle.world.proofs.component_storage.clear_counts.Tie as tie
+
+next-fits : (g n : ℕ) → g < n → n ≤ MAX-GROUP-COUNT → Fits w64 (g + 1)
+next-fits g n h s = omega arith
 
 abbrev Inv-loop : tie.InvT-loop
 Inv-loop words₀ n g₀ words g = (g ≤ n) × (n ≤ MAX-GROUP-COUNT) × (n ≡ groupsOf (meaning words₀ .storage .layout)) × Zeroed words₀ words g
@@ -23,7 +28,7 @@ group-count-requires c κs = c .before .before .pre
 loop-holds : tie.Need-loop-holds Inv-loop μ-loop
 loop-holds c =
     let a = c .before .before .before .args in
-    (omega arith, omega (arith, c .group-count .ensures, groups-few (a .words .now) (c .before .before .before .pre)), c .group-count .ensures, zeroed-none (a .words .now) (c .before .before .before .pre))
+    (zero-le, rw (c .group-count .ensures) (groups-few (a .words .now) (c .before .before .before .pre)), c .group-count .ensures, zeroed-none (a .words .now) (c .before .before .before .pre))
 
 set-count-requires : tie.Need-set-count-requires Inv-loop μ-loop
 set-count-requires c κs =
@@ -46,4 +51,4 @@ returns c =
 pub clear-counts-spec : {M : Type 1} → statement M
 clear-counts-spec =
     tie.close
-    (tie.spec Inv-loop μ-loop group-count-requires loop-holds set-count-requires (λ c. omega arith) (λ c. falls _ _ (c .before .before .before .before .loop-test .taken)) loop-again same-length returns)
+    (tie.spec Inv-loop μ-loop group-count-requires loop-holds set-count-requires (λ c. next-fits _ _ (c .before .before .before .before .loop-test .taken) (c .before .before .before .before .before .loop .inv .1)) (λ c. falls _ _ (c .before .before .before .before .loop-test .taken)) loop-again same-length returns)

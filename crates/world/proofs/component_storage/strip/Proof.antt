@@ -1,4 +1,4 @@
-use borrow.Author.Needs.{needs}
+use mathlib.Core.Path.{_∙_}
 use Rattle.component.specs.SparseSet.{entity}
 use Rattle.world.proofs.Whole.{strip-ready, strip-once, strip-whole}
 use Rattle.world.proofs.component_storage.strip.Statement.{statement}
@@ -18,4 +18,4 @@ returns c =
     strip-whole (s .args .words .now) (s .pre) (entity (s .args .index) (s .args .version)) (c .before .before .before .before .before .before .ungroup-all .last .0) (c .before .before .before .before .before .before .ungroup-all .ensures) (c .before .before .strip-sets .last .0) (c .before .before .strip-sets .ensures)
 
 pub strip-spec : {M : Type 1} → statement M
-strip-spec = tie.close (tie.spec ungroup-all-requires strip-sets-requires (λ c. search needs) returns)
+strip-spec = tie.close (tie.spec ungroup-all-requires strip-sets-requires (λ c. c .before .before .strip-sets .kept .0 ∙ c .before .before .before .before .before .before .ungroup-all .kept .0) returns)

@@ -1,5 +1,8 @@
+use lib.Dec.{lit<}
+use mir.Val.{Fits}
+use mir.Syntax.{w64}
 use mathlib.Core.Path.{_≡_, ap, sym, _∙_, subst}
-use Prim.Native.Nat.{_≤_, _-_, ℕ, _<_}
+use Prim.Native.Nat.{_≤_, _-_, ℕ, _<_, _+_, zero-le}
 use native.Mathlib.Omega.{arith}
 use native.Mathlib.Numerals.{add-one-le}
 use borrow.Author.Count.{falls}
@@ -14,6 +17,9 @@ use Rattle.world.proofs.Removing.{Gone, gone-none, gone-turn, gone-all}
 use Rattle.world.proofs.component_storage.strip_sets.Statement.{statement}
 use Rattle.world.proofs.component_storage.strip_sets.Tie as tie
 
+next-fits : (i n : ℕ) → i < n → n < 4294967296 → Fits w64 (i + 1)
+next-fits i n h s = omega arith
+
 abbrev Inv-loop : tie.InvT-loop
 Inv-loop words₀ index version m slot₀ words slot =
     (slot ≤ m) × (m ≡ length (meaning words₀ .kinds)) × Gone words₀ (entity index version) (meaning words₀ .kinds) words slot
@@ -22,12 +28,12 @@ abbrev μ-loop : tie.MeasureT-loop
 μ-loop words₀ index version m slot₀ words slot = m - slot
 
 word-requires : tie.Need-word-requires Inv-loop μ-loop
-word-requires c κs = let s = c .before .before in header-long (s .args .words .now) (s .pre .0) REGISTERED (omega arith)
+word-requires c κs = let s = c .before .before in header-long (s .args .words .now) (s .pre .0) REGISTERED (lit< tt)
 
 loop-holds : tie.Need-loop-holds Inv-loop μ-loop
 loop-holds c =
     let a = c .before .before .before .args in
-    (omega arith, c .word .ensures .is ∙ sym (kinds-count (a .words .now)), gone-none (a .words .now) (entity (a .index) (a .version)) (meaning (a .words .now) .kinds) (c .before .before .before .pre .0))
+    (zero-le, c .word .ensures .is ∙ sym (kinds-count (a .words .now)), gone-none (a .words .now) (entity (a .index) (a .version)) (meaning (a .words .now) .kinds) (c .before .before .before .pre .0))
 
 strip-slot-requires : tie.Need-strip-slot-requires Inv-loop μ-loop
 strip-slot-requires c κs =
@@ -56,4 +62,4 @@ returns c =
 pub strip-sets-spec : {M : Type 1} → statement M
 strip-sets-spec =
     tie.close
-    (tie.spec Inv-loop μ-loop word-requires loop-holds strip-slot-requires (λ c. omega arith) (λ c. falls _ _ (c .before .before .before .before .loop-test .taken)) loop-again same-length returns)
+    (tie.spec Inv-loop μ-loop word-requires loop-holds strip-slot-requires (λ c. next-fits _ _ (c .before .before .before .before .loop-test .taken) (c .before .before .before .before .before .before .word .ensures .small)) (λ c. falls _ _ (c .before .before .before .before .loop-test .taken)) loop-again same-length returns)

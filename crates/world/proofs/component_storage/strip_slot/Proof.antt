@@ -1,5 +1,4 @@
 use native.Mathlib.Omega.{arith}
-use borrow.Author.Needs.{needs}
 use Rattle.model.specs.Model.{removeRow}
 use Rattle.words.specs.Offsets.{CAPACITY}
 use Rattle.component.specs.SparseSet.{entity}
@@ -21,4 +20,4 @@ returns c =
     slot-becomes (a .words .now) (s .pre .0) (c .before .before .before .before .word .result) (a .slot) (c .before .before .before .before .word .ensures .is) (s .pre .1) (c .before .before .remove-in .last .0) (removeRow (entity (a .index) (a .version))) (c .before .before .remove-in .ensures .change)
 
 pub strip-slot-spec : {M : Type 1} → statement M
-strip-slot-spec = tie.close (tie.spec word-requires remove-in-requires (λ c. search needs) returns)
+strip-slot-spec = tie.close (tie.spec word-requires remove-in-requires (λ c. c .before .before .remove-in .kept .0) returns)

@@ -1,6 +1,5 @@
 use mathlib.Core.Path.{ap, sym, _∙_, subst}
 use Prim.Native.Nat.{ℕ, _-_}
-use borrow.Author.Needs.{needs}
 use Rattle.masks.specs.Masks.{upFrom, Ordered}
 use Rattle.kinds.specs.declared.Own.{Own}
 use Rattle.kinds.specs.Kinds.{OwnGroup}
@@ -47,4 +46,4 @@ returns-2 c =
 pub kind-mask-spec : {M : Type 1} → statement M
 kind-mask-spec =
     tie.close
-    (tie.spec (λ c κs. search needs) (λ c. search needs) (λ c. search needs) (λ c κs. search needs) returns metadata-requires (λ c κs. search needs) from-to-requires returns-2)
+    (tie.spec (λ c κs. c .before .pre) (λ c. c .match .keys1) (λ c. c .match .keys2) (λ c κs. tt) returns metadata-requires (λ c κs. tt) from-to-requires returns-2)

@@ -1,8 +1,12 @@
-use mathlib.Core.Path.{_≡_}
+use borrow.Author.Count.{falls}
+use native.Mathlib.Numerals.{add-one-le}
+use Rattle.model.specs.Numbers.{LIST-CAPACITY}
+use mir.Val.{Fits}
+use mir.Syntax.{w64}
+use mathlib.Core.Path.{_≡_, subst, _∙_, sym}
 use mathlib.Core.List.{List}
-use Prim.Native.Nat.{ℕ, _≤_, _-_}
+use Prim.Native.Nat.{ℕ, _≤_, _-_, _+_, zero-le, _<_}
 use native.Mathlib.Omega.{arith}
-use borrow.Author.Needs.{needs}
 use lib.ListN.{length, take, length-map}
 use Rattle.model.specs.Model.{kindOf}
 use Rattle.model.specs.Store.{stagedKinds}
@@ -14,6 +18,9 @@ use Rattle.world.specs.Walked.{walkPositions}
 use Rattle.world.proofs.Masking.{mask-none, mask-turn, mask-all, no-kinds, more-kinds}
 use Rattle.world.proofs.mask.staged_mask.Statement.{statement}
 use Rattle.world.proofs.mask.staged_mask.Tie as tie
+
+next-fits : (i n : ℕ) → i < n → n ≤ LIST-CAPACITY → Fits w64 (i + 1)
+next-fits i n h s = omega arith
 
 abbrev at : List ℕ → Walk → List ℕ → List ℕ
 at w walk ks = walkPositions walk ks (meaning w .storage .layout)
@@ -31,20 +38,20 @@ loop-holds : tie.Need-loop-holds Inv-loop μ-loop
 loop-holds c =
     let a = c .before .before .before .args in
     let w = a .words .now in
-    (omega arith, c .before .staged-len .ensures .is, mask-none (at w (a .walk)) (no-kinds (a .walk) (meaning w .storage .layout)) (more-kinds (a .walk) (meaning w .storage .layout) (groups-few w (c .before .before .before .pre .arranged))) (stagedKinds (meaning w)) (c .empty .result .0) (c .empty .ensures))
+    (zero-le, c .before .staged-len .ensures .is, mask-none (at w (a .walk)) (no-kinds (a .walk) (meaning w .storage .layout)) (more-kinds (a .walk) (meaning w .storage .layout) (groups-few w (c .before .before .before .pre .arranged))) (stagedKinds (meaning w)) (c .empty .result .0) (c .empty .ensures))
 
 mask-at-requires : tie.Need-mask-at-requires Inv-loop μ-loop
-mask-at-requires c κs = (c .before .before .before .before .before .pre, omega (arith, c .before .loop .inv .1, c .loop-test))
+mask-at-requires c κs = (c .before .before .before .before .before .pre, subst (λ (m : ℕ). c .before .loop .i < m) (c .before .loop .inv .1) (c .loop-test .taken))
 
 loop-again : tie.Need-loop-again Inv-loop μ-loop
 loop-again c =
     let a = c .before .before .before .before .before .before .before .args in
     let w = a .words .now in
     let v = c .before .before .before .loop .inv in (
-      omega arith,
+      add-one-le (c .before .before .loop-test .taken),
       v .1,
       mask-turn (at w (a .walk)) (no-kinds (a .walk) (meaning w .storage .layout)) (more-kinds (a .walk) (meaning w .storage .layout) (groups-few w (c .before .before .before .before .before .before .before .pre .arranged))) (stagedKinds (meaning w)) (c .before .before .before .loop .mask .0) (c .before .mask-at .result .0) (c .union .result .0) (c .before .before .before .loop .i)
-          (omega (arith, v .1, c .before .before .loop-test, length-map (meaning w .control .staged) kindOf)) (v .2) (c .before .mask-at .ensures) (c .union .ensures),
+          (subst (λ (m : ℕ). c .before .before .before .loop .i < m) (v .1 ∙ sym (length-map (meaning w .control .staged) kindOf)) (c .before .before .loop-test .taken)) (v .2) (c .before .mask-at .ensures) (c .union .ensures),
     )
 
 returns : tie.Need-returns Inv-loop μ-loop
@@ -53,9 +60,9 @@ returns c =
     let w = a .words .now in
     let v = c .before .loop .inv in
     mask-all (at w (a .walk)) (no-kinds (a .walk) (meaning w .storage .layout)) (more-kinds (a .walk) (meaning w .storage .layout) (groups-few w (c .before .before .before .before .before .pre .arranged))) (stagedKinds (meaning w)) (c .before .loop .mask .0) (c .before .loop .i)
-    (omega (arith, v .1, c .loop-test, length-map (meaning w .control .staged) kindOf)) (v .2)
+    (subst (λ (m : ℕ). m ≤ c .before .loop .i) (v .1 ∙ sym (length-map (meaning w .control .staged) kindOf)) (c .loop-test .left)) (v .2)
 
 pub staged-mask-spec : {M : Type 1} → statement M
 staged-mask-spec =
     tie.close
-    (tie.spec Inv-loop μ-loop staged-len-requires (λ c κs. search needs) loop-holds mask-at-requires (λ c κs. search needs) (λ c. omega arith) (λ c. omega arith) loop-again returns)
+    (tie.spec Inv-loop μ-loop staged-len-requires (λ c κs. tt) loop-holds mask-at-requires (λ c κs. tt) (λ c. next-fits _ _ (c .before .before .loop-test .taken) (c .before .before .before .before .before .staged-len .ensures .few)) (λ c. falls _ _ (c .before .before .loop-test .taken)) loop-again returns)
