@@ -8,3 +8,4 @@ pub mod Numbering
 pub mod Zeros
 pub mod InWords
 pub mod Known
+pub mod Sums

@@ -1,30 +1,13 @@
-use native.Mathlib.Nat.{le-of-lt}
-use Rattle.model.specs.Numbers.{MAX-ENTITIES, ENTITY-LEN}
-use lib.Dec.{lit<}
-use mir.Val.{Fits}
-use mir.Syntax.{w64}
-use mathlib.Core.Path.{_≡_}
-use Prim.Native.Nat.{_-_, _+_, _*_, ℕ, _≤_, _<_}
+use Prim.Native.Nat.{_-_, _+_, _*_}
 use native.Mathlib.Omega.{arith}
+use native.Mathlib.Nat.{le-of-lt}
 use borrow.Author.Needs.{needs}
-use Rattle.words.specs.Offsets.{LIVE-LIST}
+use lib.Dec.{lit<}
+use Rattle.words.specs.Offsets.{LIVE-LIST, QUEUE-HEAD, RECYCLED-LEN}
 use Rattle.entity.specs.Meaning.{queueSlot}
+use Rattle.entity.proofs.Sums.{word-in, count-fits, index-sums, index-in}
 use Rattle.sound_entities.proofs.listed_ok.Statement.{statement}
 use Rattle.sound_entities.proofs.listed_ok.Tie as tie
-
--- a word of the part's head
-word-in : (i n l : ℕ) → i < 8 → l ≡ ENTITY-LEN * n → 1 ≤ n → i < l
-word-in i n l h e s = omega arith
-
-count-fits : (k n : ℕ) → n ≤ MAX-ENTITIES → k ≤ n → Fits w64 k
-count-fits k n s h = omega arith
-
--- an index, and the word of its place in the queue
-index-sums : (n x : ℕ) → n ≤ MAX-ENTITIES → x < n → Fits w64 (6 * n) × Fits w64 (8 + 6 * n) × Fits w64 (8 + 6 * n + x) × Fits w64 ((8 + 6 * n + x) * 4)
-index-sums n x s h = (omega arith, omega arith, omega arith, omega arith)
-
-index-in : (n x l : ℕ) → l ≡ ENTITY-LEN * n → x < n → 8 + 6 * n + x < l
-index-in n x l e h = omega arith
 
 cast-slot : tie.Need-cast-slot
 cast-slot c = omega (arith, c .shared-slice-known2 .given (LIVE-LIST + 6 * c .before .before .args .n + c .before .before .args .x))
@@ -53,10 +36,10 @@ listed-ok-spec =
     cast-slot
     (λ c. search needs)
     returns-2
-    (λ c. word-in 2 (c .before .before .before .before .before .args .n) _ (lit< tt) (c .before .before .before .before .before .pre .0 .0 .size) (c .before .before .before .before .before .pre .0 .0 .some))
+    (λ c. word-in QUEUE-HEAD (c .before .before .before .before .before .args .n) _ (lit< tt) (c .before .before .before .before .before .pre .0 .0 .size) (c .before .before .before .before .before .pre .0 .0 .some))
     (λ c. count-fits _ _ (c .before .before .before .before .before .pre .0 .0 .small) (le-of-lt (c .before .before .before .before .before .pre .1 .head)))
     (λ c κs. search needs)
-    (λ c. word-in 3 (c .before .before .before .before .before .before .before .args .n) _ (lit< tt) (c .before .before .before .before .before .before .before .pre .0 .0 .size) (c .before .before .before .before .before .before .before .pre .0 .0 .some))
+    (λ c. word-in RECYCLED-LEN (c .before .before .before .before .before .before .before .args .n) _ (lit< tt) (c .before .before .before .before .before .before .before .pre .0 .0 .size) (c .before .before .before .before .before .before .before .pre .0 .0 .some))
     (λ c. count-fits _ _ (c .before .before .before .before .before .before .before .pre .0 .0 .small) (c .before .before .before .before .before .before .before .pre .1 .recycled))
     returns-3
     (λ c. search needs)

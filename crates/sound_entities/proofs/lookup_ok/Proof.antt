@@ -1,38 +1,13 @@
-use native.Mathlib.Nat.{lt-of-lt-of-le}
-use Rattle.model.specs.Numbers.{MAX-ENTITIES, ENTITY-LEN}
-use lib.Dec.{lit<}
-use mir.Val.{Fits}
-use mir.Syntax.{w64}
-use mathlib.Core.Path.{_≡_}
-use Prim.Native.Nat.{_-_, _+_, _*_, ℕ, _≤_, _<_}
+use Prim.Native.Nat.{_-_, _+_, _*_}
 use native.Mathlib.Omega.{arith}
+use native.Mathlib.Nat.{lt-of-lt-of-le}
 use borrow.Author.Needs.{needs}
-use Rattle.words.specs.Offsets.{LIVE-LIST}
+use lib.Dec.{lit<}
+use Rattle.words.specs.Offsets.{LIVE-LEN, LIVE-LIST}
 use Rattle.entity.specs.Meaning.{placeOf}
+use Rattle.entity.proofs.Sums.{word-in, count-fits, row-sums, row-in, lookup-sums, lookup-in}
 use Rattle.sound_entities.proofs.lookup_ok.Statement.{statement}
 use Rattle.sound_entities.proofs.lookup_ok.Tie as tie
-
--- a word of the part's head
-word-in : (i n l : ℕ) → i < 8 → l ≡ ENTITY-LEN * n → 1 ≤ n → i < l
-word-in i n l h e s = omega arith
-
-count-fits : (k n : ℕ) → n ≤ MAX-ENTITIES → k ≤ n → Fits w64 k
-count-fits k n s h = omega arith
-
--- an index, and the words of its lookup
-lookup-sums : (n x : ℕ) → n ≤ MAX-ENTITIES → x < n
-    → Fits w64 (2 * n) × Fits w64 (8 + 2 * n) × Fits w64 (2 * x) × Fits w64 (8 + 2 * n + 2 * x) × Fits w64 ((8 + 2 * n + 2 * x) * 4) × Fits w64 (8 + 2 * n + 2 * x + 1) × Fits w64 ((8 + 2 * n + 2 * x + 1) * 4)
-lookup-sums n x s h = (omega arith, omega arith, omega arith, omega arith, omega arith, omega arith, omega arith)
-
-lookup-in : (n x l : ℕ) → l ≡ ENTITY-LEN * n → x < n → (8 + 2 * n + 2 * x < l) × (8 + 2 * n + 2 * x + 1 < l)
-lookup-in n x l e h = (omega arith, omega arith)
-
--- a place of the live list, and the words at which it stands
-row-sums : (n p : ℕ) → n ≤ MAX-ENTITIES → p < n → Fits w64 (2 * p) × Fits w64 (8 + 2 * p) × Fits w64 ((8 + 2 * p) * 4) × Fits w64 (8 + 2 * p + 1) × Fits w64 ((8 + 2 * p + 1) * 4)
-row-sums n p s h = (omega arith, omega arith, omega arith, omega arith, omega arith)
-
-row-in : (n p l : ℕ) → l ≡ ENTITY-LEN * n → p < n → (8 + 2 * p < l) × (8 + 2 * p + 1 < l)
-row-in n p l e h = (omega arith, omega arith)
 
 cast-place : tie.Need-cast-place
 cast-place c = omega (arith, c .shared-slice-known2 .given (LIVE-LIST + 2 * c .before .before .before .args .n + 2 * c .before .before .before .args .x))
@@ -61,12 +36,12 @@ lookup-ok-spec =
     (λ c. lookup-sums (c .before .before .args .n) (c .before .before .args .x) (c .before .before .pre .0 .0 .small) (c .before .before .pre .0 .1) .4)
     (λ c. lookup-in (c .before .before .before .args .n) (c .before .before .before .args .x) _ (c .before .before .before .pre .0 .0 .size) (c .before .before .before .pre .0 .1) .0)
     cast-place
-    (λ c. word-in 0 (c .before .before .before .before .args .n) _ (lit< tt) (c .before .before .before .before .pre .0 .0 .size) (c .before .before .before .before .pre .0 .0 .some))
+    (λ c. word-in LIVE-LEN (c .before .before .before .before .args .n) _ (lit< tt) (c .before .before .before .before .pre .0 .0 .size) (c .before .before .before .before .pre .0 .0 .some))
     (λ c. count-fits _ _ (c .before .before .before .before .pre .0 .0 .small) (c .before .before .before .before .pre .1 .live))
     returns-2
-    (λ c. row-sums (c .before .before .before .before .before .args .n) _ (c .before .before .before .before .before .pre .0 .0 .small) (lt-of-lt-of-le (c .if2 .left) (c .before .before .before .before .before .pre .1 .live)) .0)
     (λ c. row-sums (c .before .before .before .before .before .args .n) _ (c .before .before .before .before .before .pre .0 .0 .small) (lt-of-lt-of-le (c .if2 .left) (c .before .before .before .before .before .pre .1 .live)) .1)
     (λ c. row-sums (c .before .before .before .before .before .args .n) _ (c .before .before .before .before .before .pre .0 .0 .small) (lt-of-lt-of-le (c .if2 .left) (c .before .before .before .before .before .pre .1 .live)) .2)
+    (λ c. row-sums (c .before .before .before .before .before .args .n) _ (c .before .before .before .before .before .pre .0 .0 .small) (lt-of-lt-of-le (c .if2 .left) (c .before .before .before .before .before .pre .1 .live)) .3)
     (λ c. row-in (c .before .before .before .before .before .before .args .n) _ _ (c .before .before .before .before .before .before .pre .0 .0 .size) (lt-of-lt-of-le (c .before .if2 .left) (c .before .before .before .before .before .before .pre .1 .live)) .0)
     cast-index
     returns-3

@@ -1,49 +1,12 @@
-use native.Mathlib.Nat.{lt-of-lt-of-le}
-use Rattle.model.specs.Numbers.{MAX-ENTITIES, ENTITY-LEN}
-use lib.Dec.{lit<}
-use mir.Val.{Fits}
-use mir.Syntax.{w64}
-use mathlib.Core.Path.{_≡_}
-use Prim.Native.Nat.{_-_, _+_, _*_, ℕ, _≤_, _<_}
+use Prim.Native.Nat.{_-_, _+_, _*_}
 use native.Mathlib.Omega.{arith}
-use Rattle.words.specs.Offsets.{LIVE-LIST}
+use native.Mathlib.Nat.{le-of-lt, lt-of-lt-of-le}
+use lib.Dec.{lit<}
+use Rattle.words.specs.Offsets.{ISSUED, LIVE-LIST, QUEUE-HEAD}
 use Rattle.entity.specs.Meaning.{queueIndex}
+use Rattle.entity.proofs.Sums.{word-in, count-fits, lookup-sums, lookup-in, queue-sums, place-sums, place-in, index-sums, index-in}
 use Rattle.sound_entities.proofs.waits_ok.Statement.{statement}
 use Rattle.sound_entities.proofs.waits_ok.Tie as tie
-
--- a word of the part's head
-word-in : (i n l : ℕ) → i < 8 → l ≡ ENTITY-LEN * n → 1 ≤ n → i < l
-word-in i n l h e s = omega arith
-
-count-fits : (k n : ℕ) → n ≤ MAX-ENTITIES → k ≤ n → Fits w64 k
-count-fits k n s h = omega arith
-
--- from the queue's head on
-head-sums : (n h j : ℕ) → n ≤ MAX-ENTITIES → h < n → j < n → Fits w64 h × Fits w64 (h + j) × (h + j < n + n)
-head-sums n h j s p q = (omega arith, omega arith, omega arith)
-
--- a place of the queue, and the words at which it stands
-place-sums : (n p : ℕ) → n ≤ MAX-ENTITIES → p < n
-    → Fits w64 (4 * n) × Fits w64 (8 + 4 * n) × Fits w64 (2 * p) × Fits w64 (8 + 4 * n + 2 * p) × Fits w64 ((8 + 4 * n + 2 * p) * 4) × Fits w64 (8 + 4 * n + 2 * p + 1) × Fits w64 ((8 + 4 * n + 2 * p + 1) * 4) × Fits w64 (p + 1)
-place-sums n p s h = (omega arith, omega arith, omega arith, omega arith, omega arith, omega arith, omega arith, omega arith)
-
-place-in : (n p l : ℕ) → l ≡ ENTITY-LEN * n → p < n → (8 + 4 * n + 2 * p < l) × (8 + 4 * n + 2 * p + 1 < l)
-place-in n p l e h = (omega arith, omega arith)
-
--- an index, and the word of its place in the queue
-index-sums : (n x : ℕ) → n ≤ MAX-ENTITIES → x < n → Fits w64 (6 * n) × Fits w64 (8 + 6 * n) × Fits w64 (8 + 6 * n + x) × Fits w64 ((8 + 6 * n + x) * 4)
-index-sums n x s h = (omega arith, omega arith, omega arith, omega arith)
-
-index-in : (n x l : ℕ) → l ≡ ENTITY-LEN * n → x < n → 8 + 6 * n + x < l
-index-in n x l e h = omega arith
-
--- an index, and the words of its lookup
-lookup-sums : (n x : ℕ) → n ≤ MAX-ENTITIES → x < n
-    → Fits w64 (2 * n) × Fits w64 (8 + 2 * n) × Fits w64 (2 * x) × Fits w64 (8 + 2 * n + 2 * x) × Fits w64 ((8 + 2 * n + 2 * x) * 4) × Fits w64 (8 + 2 * n + 2 * x + 1) × Fits w64 ((8 + 2 * n + 2 * x + 1) * 4)
-lookup-sums n x s h = (omega arith, omega arith, omega arith, omega arith, omega arith, omega arith, omega arith)
-
-lookup-in : (n x l : ℕ) → l ≡ ENTITY-LEN * n → x < n → (8 + 2 * n + 2 * x < l) × (8 + 2 * n + 2 * x + 1 < l)
-lookup-in n x l e h = (omega arith, omega arith)
 
 cast-index : tie.Need-cast-index
 cast-index c = omega (arith, c .shared-slice-known3 .given (LIVE-LIST + 4 * c .before .before .before .before .args .n + 2 * c .before .wrap .result))
@@ -70,10 +33,10 @@ pub waits-ok-spec : {M : Type 1} → statement M
 waits-ok-spec =
     tie.close
     (tie.spec
-    (λ c. word-in 2 (c .before .before .args .n) _ (lit< tt) (c .before .before .pre .0 .0 .size) (c .before .before .pre .0 .0 .some))
-    (λ c. head-sums (c .before .before .args .n) _ (c .before .before .args .j) (c .before .before .pre .0 .0 .small) (c .before .before .pre .1 .head) (c .before .before .pre .0 .1) .0)
-    (λ c. head-sums (c .before .before .args .n) _ (c .before .before .args .j) (c .before .before .pre .0 .0 .small) (c .before .before .pre .1 .head) (c .before .before .pre .0 .1) .1)
-    (λ c κs. head-sums (c .before .before .args .n) _ (c .before .before .args .j) (c .before .before .pre .0 .0 .small) (c .before .before .pre .1 .head) (c .before .before .pre .0 .1) .2)
+    (λ c. word-in QUEUE-HEAD (c .before .before .args .n) _ (lit< tt) (c .before .before .pre .0 .0 .size) (c .before .before .pre .0 .0 .some))
+    (λ c. queue-sums (c .before .before .args .n) _ (c .before .before .args .j) (c .before .before .pre .0 .0 .small) (c .before .before .pre .1 .head) (le-of-lt (c .before .before .pre .0 .1)) .0)
+    (λ c. queue-sums (c .before .before .args .n) _ (c .before .before .args .j) (c .before .before .pre .0 .0 .small) (c .before .before .pre .1 .head) (le-of-lt (c .before .before .pre .0 .1)) .2)
+    (λ c κs. queue-sums (c .before .before .args .n) _ (c .before .before .args .j) (c .before .before .pre .0 .0 .small) (c .before .before .pre .1 .head) (le-of-lt (c .before .before .pre .0 .1)) .3)
     (λ c. place-sums (c .before .before .before .args .n) (c .wrap .result) (c .before .before .before .pre .0 .0 .small) (c .wrap .ensures .1) .0)
     (λ c. place-sums (c .before .before .before .args .n) (c .wrap .result) (c .before .before .before .pre .0 .0 .small) (c .wrap .ensures .1) .1)
     (λ c. place-sums (c .before .before .before .args .n) (c .wrap .result) (c .before .before .before .pre .0 .0 .small) (c .wrap .ensures .1) .2)
@@ -81,7 +44,7 @@ waits-ok-spec =
     (λ c. place-sums (c .before .before .before .args .n) (c .wrap .result) (c .before .before .before .pre .0 .0 .small) (c .wrap .ensures .1) .4)
     (λ c. place-in (c .before .before .before .before .args .n) (c .before .wrap .result) _ (c .before .before .before .before .pre .0 .0 .size) (c .before .wrap .ensures .1) .0)
     cast-index
-    (λ c. word-in 1 (c .before .before .before .before .before .args .n) _ (lit< tt) (c .before .before .before .before .before .pre .0 .0 .size) (c .before .before .before .before .before .pre .0 .0 .some))
+    (λ c. word-in ISSUED (c .before .before .before .before .before .args .n) _ (lit< tt) (c .before .before .before .before .before .pre .0 .0 .size) (c .before .before .before .before .before .pre .0 .0 .some))
     (λ c. count-fits _ _ (c .before .before .before .before .before .pre .0 .0 .small) (c .before .before .before .before .before .pre .1 .issued))
     returns
     (λ c. place-sums (c .before .before .before .before .before .before .args .n) (c .before .before .before .wrap .result) (c .before .before .before .before .before .before .pre .0 .0 .small) (c .before .before .before .wrap .ensures .1) .5)

@@ -4,7 +4,7 @@ use Prim.Native.Nat.{_<_, _≤_, ℕ, _+_, _*_}
 use native.Mathlib.Omega.{arith}
 use lib.ListN.{length, length-set}
 use Rattle.model.specs.Numbers.{LIST-CAPACITY, MAX-KINDS}
-use Rattle.words.specs.Offsets.{ENTITIES, STAGED-LEN, STAGED-KINDS, STAGED-VALUES}
+use Rattle.words.specs.Offsets.{ENTITIES, STAGED-LEN, STAGED-KINDS, STAGED-VALUES, STAGED-VALUE-LEN}
 use Rattle.memory.specs.Header.{stagedLen}
 use Rattle.memory.proofs.Frames.{long}
 use Rattle.control.proofs.Control.{staged-length, stage-becomes}
@@ -13,10 +13,10 @@ use Rattle.control.proofs.staged.stage.Tie as tie
 
 -- where one more goes: no sum wraps, and its words lie in the header
 stage-sums : (k : ℕ) → k < LIST-CAPACITY
-    → Fits w64 k × Fits w64 (4 * k) × Fits w64 (STAGED-VALUES + 4 * k) × Fits w32 (k + 1) × Fits w64 (STAGED-KINDS + k) × Fits w64 ((STAGED-KINDS + k) * 4) × Fits w64 ((STAGED-VALUES + 4 * k) * 4) × Fits w64 (STAGED-VALUES + 4 * k + 1) × Fits w64 ((STAGED-VALUES + 4 * k + 1) * 4)
+    → Fits w64 k × Fits w64 (STAGED-VALUE-LEN * k) × Fits w64 (STAGED-VALUES + STAGED-VALUE-LEN * k) × Fits w32 (k + 1) × Fits w64 (STAGED-KINDS + k) × Fits w64 ((STAGED-KINDS + k) * 4) × Fits w64 ((STAGED-VALUES + STAGED-VALUE-LEN * k) * 4) × Fits w64 (STAGED-VALUES + STAGED-VALUE-LEN * k + 1) × Fits w64 ((STAGED-VALUES + STAGED-VALUE-LEN * k + 1) * 4)
 stage-sums k h = (omega arith, omega arith, omega arith, omega arith, omega arith, omega arith, omega arith, omega arith, omega arith)
 
-stage-in : (k l : ℕ) → (k < LIST-CAPACITY) × (ENTITIES ≤ l) → (STAGED-LEN < l) × (STAGED-KINDS + k < l) × (STAGED-VALUES + 4 * k < l) × (STAGED-VALUES + 4 * k + 1 < l)
+stage-in : (k l : ℕ) → (k < LIST-CAPACITY) × (ENTITIES ≤ l) → (STAGED-LEN < l) × (STAGED-KINDS + k < l) × (STAGED-VALUES + STAGED-VALUE-LEN * k < l) × (STAGED-VALUES + STAGED-VALUE-LEN * k + 1 < l)
 stage-in k l h = (omega arith, omega arith, omega arith, omega arith)
 
 kind-fits : (k : ℕ) → k < MAX-KINDS → Fits w32 k
