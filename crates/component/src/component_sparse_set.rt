@@ -11,9 +11,9 @@ ghost use mathlib.Core.List.{[], _∷_, _++_};
 ghost use Prim.Native.Nat.{ℕ, _<_, _≤_};
 ghost use lib.ListN.{length, getD};
 ghost use Rattle.model.specs.Lists.{cutAt};
-ghost use Rattle.model.specs.Model.{SparseSet, noRow, held, insertRow, swapTo};
+ghost use Rattle.model.specs.Model.{SparseSet, noRow, held, insertRow, swapTo, entity};
 ghost use Rattle.words.specs.Stores.{stores};
-ghost use Rattle.component.specs.SparseSet.{lengthOf, entity, valueOf, row, rows, ColumnSound};
+ghost use Rattle.component.specs.SparseSet.{lengthOf, valueOf, row, rows, ColumnSound};
 ghost use Rattle.component.specs.Stored.{Sized, Changed, swapRows, Current, wordsAt, rowStores, Absent, valued, popped};
 ghost use Rattle.component.specs.Answers.{Removes};
 

@@ -4,7 +4,7 @@ use mathlib.Core.Logic.{_≢_}
 use mathlib.Core.List.{List, [], _∷_, _++_}
 use Prim.Native.Nat.{ℕ, _+_, _*_, _-_, _≤_, _<_}
 use native.Mathlib.Omega.{arith}
-use Rattle.model.specs.Model.{noEntity}
+use Rattle.model.specs.Model.{noEntity, entity}
 use Rattle.model.proofs.BoolLaws.{by-eq}
 use Rattle.words.specs.Offsets.{ISSUED, LIVE-LEN, LIVE-LIST}
 use Rattle.words.proofs.Tables.{table-snoc, table-removed}
@@ -12,7 +12,7 @@ use Rattle.words.specs.Stores.{stores}
 use Rattle.words.proofs.Stores.{miss, hit, length-stores}
 use Rattle.words.proofs.Links.{apart, linked-appended, linked-removed}
 use Rattle.words.proofs.Pigeon.{pigeon-free}
-use Rattle.entity.specs.Meaning.{EntityPartSound, entity, entitiesOf, entityAt, lenOf, issuedOf, liveIndexAt, liveVersionAt, placeOf, heldOf, queueSlot}
+use Rattle.entity.specs.Meaning.{EntityPartSound, entitiesOf, entityAt, lenOf, issuedOf, liveIndexAt, liveVersionAt, placeOf, heldOf, queueSlot}
 use Rattle.entity.specs.Change.{Idle, Changed, joined, left}
 use Rattle.entity.specs.Stored.{putStores}
 use Rattle.entity.proofs.Kept.{entity-path, entities-path, kept-queue, live-unlisted}

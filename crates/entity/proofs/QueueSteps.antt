@@ -9,14 +9,14 @@ use native.Mathlib.Numerals.{add-one}
 use lib.ListN.{getD, drop, length-drop}
 use lib.Seq.{getD-drop}
 use Rattle.model.proofs.BoolLaws.{zero-of}
-use Rattle.model.specs.Model.{noEntity}
+use Rattle.model.specs.Model.{noEntity, entity}
 use Rattle.words.specs.Offsets.{ISSUED, LIVE-LIST, QUEUE-HEAD, RECYCLED-LEN}
 use Rattle.words.specs.Table.{table}
 use Rattle.words.proofs.Tables.{is-table, length-table, getD-table, table-snoc}
 use Rattle.words.specs.Stores.{stores}
 use Rattle.words.proofs.Stores.{miss, hit, length-stores}
 use Rattle.entity.specs.Queue.{wrapped, Waits}
-use Rattle.entity.specs.Meaning.{EntityPartSound, entity, entitiesOf, waitingAt, issuedOf, headOf, recycledLen, placeOf, heldOf, queueIndex, queueVersion, queueSlot}
+use Rattle.entity.specs.Meaning.{EntityPartSound, entitiesOf, waitingAt, issuedOf, headOf, recycledLen, placeOf, heldOf, queueIndex, queueVersion, queueSlot}
 use Rattle.entity.specs.Change.{Idle, Changed, queued, unqueued, numbered}
 use Rattle.entity.proofs.QueueLaws.{wrapped-below, wrapped-start, wrapped-next, wrapped-apart, listed-below, queue-has-room, queue-pushed, queue-popped}
 use Rattle.entity.proofs.Kept.{entity-path, entities-path, kept-live, kept-queue}

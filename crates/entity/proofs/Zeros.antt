@@ -5,10 +5,11 @@ use Prim.Native.Nat.{ℕ, _+_, _*_, _<_}
 use native.Mathlib.Omega.{arith}
 use lib.ListN.{length, getD}
 use Rattle.model.specs.Numbers.{ENTITY-LEN}
+use Rattle.model.specs.Model.{noEntities}
 use Rattle.words.specs.Offsets.{LIVE-LIST}
 use Rattle.words.proofs.Tables.{table-none}
 use Rattle.entity.specs.Meaning.{Sized, entitiesOf, lenOf, issuedOf, headOf, recycledLen, heldOf, queueSlot}
-use Rattle.entity.specs.Change.{Changed, noEntities}
+use Rattle.entity.specs.Change.{Changed}
 use Rattle.entity.proofs.Kept.{entities-path}
 
 -- the first i words are zeros

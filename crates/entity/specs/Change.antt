@@ -8,9 +8,9 @@ use lib.ListN.{length, take, drop}
 use Rattle.model.specs.Numbers.{ENTITY-LEN}
 use Rattle.words.specs.Offsets.{ENTITIES}
 use Rattle.model.specs.Lists.{cutAt}
-use Rattle.model.specs.Model.{Entity, Entities, noEntity, lastVersion}
-pub use Rattle.model.specs.Model.{isFull, noEntities}
-use Rattle.entity.specs.Meaning.{EntityPartSound, entitiesOf, entity, issuedOf, heldOf, queueSlot, entityPart, entitiesIn}
+use Rattle.model.specs.Model.{Entity, Entities, noEntity, lastVersion, entity}
+use Rattle.model.specs.Model.{isFull, noEntities}
+use Rattle.entity.specs.Meaning.{EntityPartSound, entitiesOf, issuedOf, heldOf, queueSlot, entityPart, entitiesIn}
 
 -- ---- the steps of create and destroy
 

@@ -13,6 +13,7 @@ use Rattle.words.specs.Links.{Linked}
 use Rattle.entity.specs.Queue.{Queue, wrapped}
 use Rattle.words.specs.Offsets.{ENTITIES, ISSUED, LIVE-LEN, LIVE-LIST, QUEUE-HEAD, RECYCLED-LEN}
 use Rattle.words.specs.Part.{between}
+use Rattle.model.specs.Model.{entity}
 
 abbrev pub lenOf : List ℕ → ℕ
 lenOf w = getD w LIVE-LEN 0
@@ -50,9 +51,6 @@ queueVersion n w p = getD w (LIVE-LIST + 4 * n + 2 * p + 1) 0
 -- index x's place in the queue plus one
 abbrev pub queueSlot : ℕ → List ℕ → ℕ → ℕ
 queueSlot n w x = getD w (LIVE-LIST + 6 * n + x) 0
-
-abbrev pub entity : ℕ → ℕ → Entity
-entity x v = record { index = x; version = v }
 
 abbrev pub entityAt : List ℕ → ℕ → Entity
 entityAt w i = entity (liveIndexAt w i) (liveVersionAt w i)

@@ -4,9 +4,10 @@ ghost use mathlib.Core.Path.{_≡_};
 ghost use mathlib.Core.Bool.{false};
 ghost use Prim.Native.Nat.{_≤_, _<_, _+_};
 ghost use Rattle.entity.specs.Queue.{wrapped};
-ghost use Rattle.entity.specs.Meaning.{EntityPartSound, entity, entitiesOf, recycledLen, issuedOf};
-ghost use Rattle.entity.specs.Change.{Idle, Changed, isFull, queued, recycledAs};
+ghost use Rattle.entity.specs.Meaning.{EntityPartSound, entitiesOf, recycledLen, issuedOf};
+ghost use Rattle.entity.specs.Change.{Idle, Changed, queued, recycledAs};
 ghost use Rattle.entity.specs.Answers.{Allocated, Unqueued, Issued};
+ghost use Rattle.model.specs.Model.{entity, isFull};
 
 // How many numbers are issued.
 pub fn issued(part: &[u32], n: usize) -> usize

@@ -6,9 +6,9 @@ use crate::entity_sparse_set;
 use crate::sparse_vec;
 ghost use mathlib.Core.Path.{_≡_};
 ghost use mathlib.Core.Bool.{false};
-ghost use Rattle.model.specs.Model.{isLive, destroy};
-ghost use Rattle.entity.specs.Meaning.{EntityPartSound, entity, entitiesOf};
-ghost use Rattle.entity.specs.Change.{Changed, isFull};
+ghost use Rattle.model.specs.Model.{isLive, destroy, entity, isFull};
+ghost use Rattle.entity.specs.Meaning.{EntityPartSound, entitiesOf};
+ghost use Rattle.entity.specs.Change.{Changed};
 ghost use Rattle.entity.specs.Answers.{LiveAt, Created};
 
 // Whether the entity is live.

@@ -1,10 +1,10 @@
 use mathlib.Core.Path.{ap, _∙_}
 use Rattle.entity.specs.Answers.{foundOf}
-use Rattle.entity.specs.Meaning.{entity}
 use Rattle.entity.proofs.Sums.{part-sums}
 use Rattle.control.proofs.EntityPart.{entities-read, sound-in}
 use Rattle.control.proofs.entities.get.Statement.{statement}
 use Rattle.control.proofs.entities.get.Tie as tie
+use Rattle.model.specs.Model.{entity}
 
 get-requires : tie.Need-get-requires
 get-requires c κs =

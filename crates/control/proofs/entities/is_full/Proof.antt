@@ -1,9 +1,9 @@
 use mathlib.Core.Path.{ap₂, _∙_}
-use Rattle.entity.specs.Change.{isFull}
 use Rattle.entity.proofs.Sums.{part-sums}
 use Rattle.control.proofs.EntityPart.{entities-read, sound-in}
 use Rattle.control.proofs.entities.is_full.Statement.{statement}
 use Rattle.control.proofs.entities.is_full.Tie as tie
+use Rattle.model.specs.Model.{isFull}
 
 is-full-requires : tie.Need-is-full-requires
 is-full-requires c κs =
