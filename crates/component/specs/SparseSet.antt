@@ -8,7 +8,7 @@ use Prim.Native.Nat.{ℕ, _+_, _*_, _≤_}
 use lib.ListN.{length, getD}
 use Rattle.model.specs.Numbers.{MAX-ENTITIES, columnLen}
 use Rattle.words.specs.Offsets.{ROWS, ROWS-LEN}
-use Rattle.model.specs.Model.{Entity, Row, SparseSet}
+use Rattle.model.specs.Model.{Row, SparseSet}
 use Rattle.words.specs.Table.{table}
 use Rattle.words.specs.Links.{Linked}
 use Rattle.model.specs.Model.{entity}

@@ -14,7 +14,7 @@ ghost use lib.ListN.{length, getD};
 ghost use Rattle.model.specs.Model.{noEntity, destroy, entity, isFull};
 ghost use Rattle.model.specs.Store.{withEntities};
 ghost use Rattle.model.specs.Snapshot.{liveVersion};
-ghost use Rattle.entity.specs.Answers.{entityOf, foundOf, LiveAt};
+ghost use Rattle.entity.specs.Answers.{entityOfAnswer, foundOf, LiveAt};
 ghost use Rattle.memory.specs.Meaning.{meaning};
 ghost use Rattle.memory.specs.Arranged.{Arranged, Becomes};
 ghost use Rattle.control.specs.Entities.{Capacity, Creates};
@@ -81,7 +81,7 @@ pub fn live_len(words: &[u32]) -> usize
 pub fn live_at(words: &[u32], place: usize) -> Entity
     requires { ⌜ Arranged (now words) ⌝ }
     requires { ⌜ place < length (meaning (now words) .entities .live) ⌝ }
-    ensures { λ r. ⌜ entityOf r ≡ getD (meaning (now (words .entry)) .entities .live) place noEntity ⌝ }
+    ensures { λ r. ⌜ entityOfAnswer r ≡ getD (meaning (now (words .entry)) .entities .live) place noEntity ⌝ }
 {
     let n = capacity(words);
     let end = ENTITIES + model::ENTITY_LEN * n;

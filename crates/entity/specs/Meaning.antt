@@ -69,7 +69,7 @@ entitiesOf n w =
     }
 
 -- a part for n entities, whatever it holds
-pub record Sized (n : ℕ) (w : List ℕ) : Type 0 where
+pub record EntityPartSized (n : ℕ) (w : List ℕ) : Type 0 where
   pub size : length w ≡ ENTITY-LEN * n
   pub some : 1 ≤ n
   pub small : n ≤ MAX-ENTITIES
@@ -77,7 +77,7 @@ pub record Sized (n : ℕ) (w : List ℕ) : Type 0 where
 -- 01, a sound store: live list and card lookups that agree; at most N issued numbers, from index 0 without gaps, every live or waiting index
 -- among them; each issued number live, waiting once, or neither, with versions of 1 or more
 pub record EntityPartSound (n : ℕ) (w : List ℕ) : Type 0 where
-  pub sized : Sized n w
+  pub sized : EntityPartSized n w
   pub few : issuedOf w ≤ n
   pub linked : Linked n (lenOf w) (liveIndexAt w) (liveVersionAt w) (placeOf n w) (heldOf n w)
   pub known : (i : ℕ) → i < lenOf w → liveIndexAt w i < issuedOf w

@@ -20,7 +20,7 @@ ghost use Rattle.memory.specs.Header.{capacityOf, slotOf};
 ghost use Rattle.memory.specs.Meaning.{localAt, meaning};
 ghost use Rattle.memory.specs.Arranged.{Arranged, Becomes};
 ghost use Rattle.kinds.specs.Kinds.{kindSet, OwnGroup, RemovesKind, emptied};
-ghost use Rattle.kinds.specs.Steps.{InSlot, headOf, withHead};
+ghost use Rattle.kinds.specs.Steps.{InSlot, headWord, withHead};
 
 // The group whose new kinds have the kind.
 pub enum Own {
@@ -146,7 +146,7 @@ fn head(words: &[u32], kind: usize, i: usize) -> usize
     requires { ⌜ Arranged (now words) ⌝ }
     requires { ⌜ In (meaning (now words) .kinds) kind ⌝ }
     requires { ⌜ i < ROWS ⌝ }
-    ensures { λ r. ⌜ r ≡ headOf (now (words .entry)) kind i ⌝ }
+    ensures { λ r. ⌜ r ≡ headWord (now (words .entry)) kind i ⌝ }
 {
     let n = words::word(words, words::CAPACITY);
     let slot = slot_of(words, kind);
