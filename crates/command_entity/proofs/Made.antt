@@ -3,13 +3,11 @@ use mathlib.Core.Path.{_≡_, subst}
 use mathlib.Core.Bool.{false}
 use mathlib.Core.List.{List, [], _∷_, _++_}
 use Prim.Native.Nat.{ℕ}
-use Rattle.model.specs.Model.{Entity, clearAll, create}
+use Rattle.model.specs.Model.{Entity, clearAll, create, entity, isFull}
 use Rattle.model.specs.Store.{Store, bytesOf, withControl, emptyStaged, onStorage}
 use Rattle.model.specs.Commands.{WIPE, APPLY, NEW, accepted}
 use Rattle.model.specs.Run.{accepts, does}
 use Rattle.model.proofs.Outcomes.{wipe-does, apply-does, new-created}
-use Rattle.component.specs.SparseSet.{entity}
-use Rattle.entity.specs.Change.{isFull}
 use Rattle.world.specs.World.{created}
 use Rattle.layout_apply.specs.Steps.{applied}
 use Rattle.command.specs.Acted.{Written}

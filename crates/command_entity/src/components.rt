@@ -5,7 +5,7 @@ use entity::Found;
 use model::refusals::DEAD;
 ghost use Rattle.model.specs.Commands.{PUT, DROP, WIPE};
 ghost use Rattle.model.specs.Run.{does};
-ghost use Rattle.component.specs.SparseSet.{entity};
+ghost use Rattle.model.specs.Model.{entity};
 ghost use Rattle.memory.specs.Meaning.{meaning};
 ghost use Rattle.command.specs.Acted.{Ready, Acted};
 

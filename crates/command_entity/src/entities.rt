@@ -11,7 +11,7 @@ ghost use lib.ListN.{length};
 ghost use Rattle.model.specs.Store.{bytesOf};
 ghost use Rattle.model.specs.Commands.{NEW, KILL};
 ghost use Rattle.model.specs.Run.{does};
-ghost use Rattle.component.specs.SparseSet.{entity};
+ghost use Rattle.model.specs.Model.{entity};
 ghost use Rattle.memory.specs.Meaning.{meaning};
 ghost use Rattle.command.specs.Acted.{Ready, Written, Acted};
 

@@ -19,10 +19,10 @@ use Rattle.control.specs.Draft.{drafting}
 use Rattle.command_group.specs.Drafts.{Drafts}
 
 -- the command's outcome is the answer's
-pub group-as : (s : Store) (r : Answer) (o : Outcome) → Drafts s r → r .outcome ≡ o → does GROUP s ≡ grouped s (modelOf o (layout.meaning (r .layout)))
-group-as s r o D e = group-does s ∙ ap (grouped s) (sym (D .says)) ∙ ap (λ (x : Outcome). grouped s (modelOf x (layout.meaning (r .layout)))) e
+pub group-as : (s : Store) (r : Answer) (o : Outcome) → Drafts s r → r .outcome ≡ o → does GROUP s ≡ grouped s (modelOf o (layout.layoutMeaning (r .layout)))
+group-as s r o D e = group-does s ∙ ap (grouped s) (sym (D .says)) ∙ ap (λ (x : Outcome). grouped s (modelOf x (layout.layoutMeaning (r .layout)))) e
 
 -- the draft set, and then the staged list emptied
 pub drafted-emptied : {w₀ w w′ : List ℕ} (l : Layout) → Becomes w₀ w (drafting l (meaning w₀)) → Becomes w w′ (withControl (meaning w) (emptyStaged (meaning w .control)))
-    → Becomes w₀ w′ (withControl (meaning w₀) (withDraft (emptyStaged (meaning w₀ .control)) (layout.meaning l)))
+    → Becomes w₀ w′ (withControl (meaning w₀) (withDraft (emptyStaged (meaning w₀ .control)) (layout.layoutMeaning l)))
 drafted-emptied {w₀} l B C = becomes-next (drafting l (meaning w₀)) (λ (t : Store). withControl t (emptyStaged (t .control))) B refl C

@@ -19,4 +19,4 @@ pub record StagedBytes (s : Store) (kinds : List ℕ) (n : ℕ) : Type 0 where
 -- 01, GROUP: "the hand's kinds into the draft": the answer is the model's of the store's hand and draft, its layout such as a block of words holds
 pub record Drafts (s : Store) (r : Answer) : Type 0 where
   pub formed : Formed (r .layout)
-  pub says : modelOf (r .outcome) (layout.meaning (r .layout)) ≡ addGroup (stagedKinds s) (s .control .draft)
+  pub says : modelOf (r .outcome) (layout.layoutMeaning (r .layout)) ≡ addGroup (stagedKinds s) (s .control .draft)

@@ -17,14 +17,14 @@ use Rattle.memory.proofs.Frames.{long, layout-sized}
 use Rattle.control.proofs.Control.{staged-kinds, excluded-kinds}
 use Rattle.group.proofs.InWords.{layout-means}
 use Rattle.group_info.specs.Info.{ViewAdded, InsideFound, infoOf, Tables}
-use Rattle.group_info.specs.Describes.{ViewOf, Describes, Scattered, rangeOf, RangeSays}
+use Rattle.group_info.specs.Describes.{ViewOf, DescribesQuery, Scattered, rangeOf, RangeSays}
 use Rattle.group_info.specs.declared.ViewGroupInfo.{ViewGroupInfo}
 use Rattle.group_info.specs.declared.QueryGroupInfo.{QueryGroupInfo}
 use Rattle.group_info.specs.declared.FoundQuery.{FoundQuery}
 use Rattle.group_info.specs.declared.GroupRange.{GroupRange}
 use Rattle.group_info.proofs.Describing.{describes-more, describes-inside}
 use Rattle.group_info.proofs.Answers.{scattered-staged, scattered-excluded, scattered-more}
-use Rattle.command_range.specs.Query.{QueryOf, KindAdded, Kinds}
+use Rattle.command_range.specs.Query.{QueryOf, KindAdded, KindsBetween}
 use Rattle.group_info.specs.declared.QueryGroupInfo.the-variants as query
 use Rattle.group_info.specs.declared.FoundQuery.the-variants as added
 
@@ -50,7 +50,7 @@ module _ (w : List ℕ) (A : Arranged w) where
   query-turn start i k q r h l e d more =
       subst (λ (hs : List ℕ). QueryOf w hs r) (ap (λ (x : ℕ). between start i w ++ (x ∷ [])) e ∙ sym (between-more start i w h l)) (more (between start i w) d)
 
-  pub kind-known : (start end i k : ℕ) → Kinds w start end → start ≤ i → i < end → k ≡ getD w i 0 → In (meaning w .kinds) k
+  pub kind-known : (start end i k : ℕ) → KindsBetween w start end → start ≤ i → i < end → k ≡ getD w i 0 → In (meaning w .kinds) k
   kind-known start end i k K h l e = K .known k (subst (In (between start end w)) (sym e) (between-in start end i w h l (K .within)))
 
   -- ---- the range
@@ -61,10 +61,10 @@ module _ (w : List ℕ) (A : Arranged w) where
   arities-are : layoutArrays w .arities ≡ between LAYOUT-ARITIES LAYOUT-KIND-ENDS w
   arities-are = between-part ARITIES KIND-ENDS LAYOUT GROUP-FAMILIES w (omega arith)
 
-  pub query-inside : (hs : List ℕ) (q : QueryGroupInfo) → Describes (layoutArrays w) (meaning w .storage) hs q → InsideFound (between LAYOUT-ARITIES LAYOUT-KIND-ENDS w) (infoOf q)
+  pub query-inside : (hs : List ℕ) (q : QueryGroupInfo) → DescribesQuery (layoutArrays w) (meaning w .storage) hs q → InsideFound (between LAYOUT-ARITIES LAYOUT-KIND-ENDS w) (infoOf q)
   query-inside hs q d = subst (λ (l : List ℕ). InsideFound l (infoOf q)) arities-are (describes-inside a (A .layout .formed) (layout-sized w A) (meaning w .storage) hs q d)
 
-  pub both-queries : (hs bs : List ℕ) (p q : QueryGroupInfo) (r : GroupRange) → Describes (layoutArrays w) (meaning w .storage) hs p → Describes (layoutArrays w) (meaning w .storage) bs q
+  pub both-queries : (hs bs : List ℕ) (p q : QueryGroupInfo) (r : GroupRange) → DescribesQuery (layoutArrays w) (meaning w .storage) hs p → DescribesQuery (layoutArrays w) (meaning w .storage) bs q
       → RangeSays (between LAYOUT-ARITIES LAYOUT-KIND-ENDS w) (between GROUP-COUNTS ENTITIES w) p q r → rangeOf r ≡ rangeFor hs bs (meaning w .storage)
   both-queries hs bs p q r d e says =
       says
@@ -89,7 +89,7 @@ module _ (w : List ℕ) (A : Arranged w) where
 
 -- ---- the lists in the words
 
-pub staged-in : (w : List ℕ) → Sound w → (n : ℕ) → n ≡ stagedLen w → Kinds w STAGED-KINDS (STAGED-KINDS + n)
+pub staged-in : (w : List ℕ) → Sound w → (n : ℕ) → n ≡ stagedLen w → KindsBetween w STAGED-KINDS (STAGED-KINDS + n)
 staged-in w S n e =
     record {
       rising = omega arith;
@@ -97,7 +97,7 @@ staged-in w S n e =
       known = λ k i. S .means .staged .known k (subst (λ (l : List ℕ). In l k) (ap (λ (m : ℕ). between STAGED-KINDS (STAGED-KINDS + m) w) e ∙ sym (staged-kinds w (S .arranged))) i);
     }
 
-pub excluded-in : (w : List ℕ) → Sound w → (n : ℕ) → n ≡ excludedLen w → Kinds w EXCLUDED-KINDS (EXCLUDED-KINDS + n)
+pub excluded-in : (w : List ℕ) → Sound w → (n : ℕ) → n ≡ excludedLen w → KindsBetween w EXCLUDED-KINDS (EXCLUDED-KINDS + n)
 excluded-in w S n e =
     record {
       rising = omega arith;

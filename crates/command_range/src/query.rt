@@ -14,7 +14,7 @@ ghost use Rattle.words.specs.Part.{between};
 ghost use Rattle.memory.specs.Meaning.{layoutArrays, meaning};
 ghost use Rattle.memory.specs.Arranged.{Arranged, Sound};
 ghost use Rattle.group_info.specs.Describes.{InfoOfKind, ViewOf, rangeOf};
-ghost use Rattle.command_range.specs.Query.{QueryOf, KindAdded, Kinds};
+ghost use Rattle.command_range.specs.Query.{QueryOf, KindAdded, KindsBetween};
 
 // The group info of a kind, by the head of its column.
 fn info_of(words: &[u32], kind: usize) -> FoundInfo
@@ -56,7 +56,7 @@ fn add_kind(words: &[u32], found: FoundQuery, kind: usize) -> FoundQuery
 // The query of the kinds that the words from start to end are.
 fn query_of(words: &[u32], start: usize, end: usize) -> FoundQuery
     requires { ⌜ Arranged (now words) ⌝ }
-    requires { ⌜ Kinds (now words) start end ⌝ }
+    requires { ⌜ KindsBetween (now words) start end ⌝ }
     ensures { λ r. ⌜ QueryOf (now (words .entry)) (between start end (now (words .entry))) r ⌝ }
 {
     let mut found = FoundQuery::Query(QueryGroupInfo::Empty);

@@ -14,7 +14,7 @@ ghost use lib.Seq.{sets};
 ghost use Rattle.model.specs.Store.{stagedKinds, bytesOf};
 ghost use Rattle.model.specs.Commands.{TAKE};
 ghost use Rattle.model.specs.Run.{does};
-ghost use Rattle.component.specs.SparseSet.{entity};
+ghost use Rattle.model.specs.Model.{entity};
 ghost use Rattle.memory.specs.Meaning.{meaning};
 ghost use Rattle.memory.specs.Arranged.{Sound};
 ghost use Rattle.world.specs.Remove.{Staged};

@@ -12,7 +12,7 @@ use Rattle.words.proofs.Tables.{length-table, getD-table, table-same}
 use Rattle.words.proofs.Links.{apart, linked-same}
 use Rattle.words.proofs.Pigeon.{pigeon-free}
 use Rattle.component.specs.SparseSet.{lengthOf, indexAt, versionAt, lowAt, highAt, placeOf, heldOf, row, rowAt, rows, ColumnSound}
-use Rattle.component.specs.Stored.{Sized, Absent}
+use Rattle.component.specs.Stored.{ColumnSized, Absent}
 
 pub length-rows : (n : ℕ) (w : List ℕ) → length (rows n w) ≡ lengthOf w
 unfolding rows
@@ -29,7 +29,7 @@ index-rows n w i h = ap (λ (r : Row). r .entity .index) (getD-rows n w i h)
 pub row-is : (n : ℕ) (w : List ℕ) (i x v l h : ℕ) → indexAt w i ≡ x → versionAt w i ≡ v → lowAt n w i ≡ l → highAt n w i ≡ h → rowAt n w i ≡ row x v l h
 row-is n w i x v l h ex ev el eh = λ k. row (ex k) (ev k) (el k) (eh k)
 
-pub sized : (n : ℕ) (w : List ℕ) → ColumnSound n w → Sized n w
+pub sized : (n : ℕ) (w : List ℕ) → ColumnSound n w → ColumnSized n w
 sized n w s = record { size = s .size; small = s .small }
 
 -- ---- an empty part: no rows, and no index held; what words 1 to 7 hold, and rows and places past the end, does not matter
@@ -38,7 +38,7 @@ pub empty-rows : (n : ℕ) (w : List ℕ) → lengthOf w ≡ 0 → rows n w ≡ 
 unfolding rows table
 empty-rows n w e = rw e
 
-pub fresh-sound : (n : ℕ) (w : List ℕ) → Sized n w → lengthOf w ≡ 0 → ((x : ℕ) → x < n → heldOf n w x ≡ 0) → ColumnSound n w
+pub fresh-sound : (n : ℕ) (w : List ℕ) → ColumnSized n w → lengthOf w ≡ 0 → ((x : ℕ) → x < n → heldOf n w x ≡ 0) → ColumnSound n w
 fresh-sound n w z e free =
     record {
       size = z .size;

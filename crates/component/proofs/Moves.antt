@@ -16,18 +16,18 @@ use Rattle.words.proofs.Stores.{miss, hit, length-stores}
 use Rattle.words.proofs.Links.{linked-exchanged, linked-appended, linked-removed, linked-same}
 use Rattle.component.specs.declared.component_sparse_set.RowWords.{RowWords}
 use Rattle.component.specs.SparseSet.{lengthOf, indexAt, versionAt, placeOf, heldOf, valueOf, row, rowAt, rows, ColumnSound}
-use Rattle.component.specs.Stored.{Changed, swapRows, wordsAt, rowStores, lookupStores, Absent, valued, popped}
+use Rattle.component.specs.Stored.{RowsChanged, swapRows, wordsAt, rowStores, lookupStores, Absent, valued, popped}
 use Rattle.component.proofs.Meaning.{length-rows, getD-rows, row-is, rows-apart, absent-free, absent-room}
 
 -- ---- no change, and a change under another name
 
-pub changed-none : (n : ℕ) (f : SparseSet → SparseSet) (w : List ℕ) → ColumnSound n w → rows n w ≡ f (rows n w) → Changed n f w w
+pub changed-none : (n : ℕ) (f : SparseSet → SparseSet) (w : List ℕ) → ColumnSound n w → rows n w ≡ f (rows n w) → RowsChanged n f w w
 changed-none n f w s e = record { sound = s; size = refl; becomes = e; kept = λ i l h. refl }
 
-pub changed-as : (n : ℕ) (f g : SparseSet → SparseSet) (w w′ : List ℕ) → Changed n f w w′ → f (rows n w) ≡ g (rows n w) → Changed n g w w′
+pub changed-as : (n : ℕ) (f g : SparseSet → SparseSet) (w w′ : List ℕ) → RowsChanged n f w w′ → f (rows n w) ≡ g (rows n w) → RowsChanged n g w w′
 changed-as n f g w w′ c e = record { sound = c .sound; size = c .size; becomes = c .becomes ∙ e; kept = c .kept }
 
-pub changed-then : (n : ℕ) (f g : SparseSet → SparseSet) (w w′ w″ : List ℕ) → Changed n f w w′ → Changed n g w′ w″ → Changed n (λ (rs : SparseSet). g (f rs)) w w″
+pub changed-then : (n : ℕ) (f g : SparseSet → SparseSet) (w w′ w″ : List ℕ) → RowsChanged n f w w′ → RowsChanged n g w′ w″ → RowsChanged n (λ (rs : SparseSet). g (f rs)) w w″
 changed-then n f g w w′ w″ c d =
     record {
       sound = d .sound;
@@ -93,7 +93,7 @@ module _ (n : ℕ) (w : List ℕ) (s : ColumnSound n w) (a b : ℕ) (ha : a < le
       (row-is n w′ b _ _ _ _ (hit w ss 4 _ _ (omega arith) (omega arith)) (hit w ss 5 _ _ (omega arith) (omega arith)) (hit w ss 6 _ _ (omega arith) (omega arith)) (hit w ss 7 _ _ (omega arith) (omega arith)))
       (λ i hi na nb. row-is n w′ i _ _ _ _ (miss w ss _ (omega arith)) (miss w ss _ (omega arith)) (miss w ss _ (omega arith)) (miss w ss _ (omega arith))))
 
-  swapped : Changed n (swapRows a b) w (stores w (swapStores n a b w))
+  swapped : RowsChanged n (swapRows a b) w (stores w (swapStores n a b w))
   swapped =
       let ss = swapStores n a b w in
       record { sound = swapped-sound; size = length-stores w ss; becomes = swapped-rows; kept = λ i l h. miss w ss i (omega arith) }
@@ -102,7 +102,7 @@ module _ (n : ℕ) (w : List ℕ) (s : ColumnSound n w) (a b : ℕ) (ha : a < le
   pub swapped-by : (w₁ w₂ w₃ w₄ : List ℕ) (ra rb : RowWords) → ra ≡ wordsAt n w a → rb ≡ wordsAt n w b
       → w₁ ≡ stores w (rowStores n a rb) → w₂ ≡ stores w₁ (rowStores n b ra)
       → w₃ ≡ stores w₂ (lookupStores n (ra .index) b (ra .version)) → w₄ ≡ stores w₃ (lookupStores n (rb .index) a (rb .version))
-      → Changed n (swapRows a b) w w₄
+      → RowsChanged n (swapRows a b) w w₄
   swapped-by w₁ w₂ w₃ w₄ ra rb ea eb e₁ e₂ e₃ e₄ =
       let e : w₄ ≡ stores w (swapStores n a b w) = rw (e₄, e₃, e₂, e₁, ea, eb) in
       rw e swapped
@@ -149,7 +149,7 @@ module _ (n : ℕ) (w : List ℕ) (s : ColumnSound n w) (x v l h : ℕ) (hx : x 
       (row-is n w′ (lengthOf w) x v l h (hit w ss 0 _ _ (omega arith) (omega arith)) (hit w ss 1 _ _ (omega arith) (omega arith)) (hit w ss 2 _ _ (omega arith) (omega arith)) (hit w ss 3 _ _ (omega arith) (omega arith)))
       (λ i hi. row-is n w′ i _ _ _ _ (miss w ss _ (omega arith)) (miss w ss _ (omega arith)) (miss w ss _ (omega arith)) (miss w ss _ (omega arith))))
 
-  pub appended : Changed n (λ (rs : SparseSet). rs ++ (row x v l h ∷ [])) w (stores w (appendStores n x v l h w))
+  pub appended : RowsChanged n (λ (rs : SparseSet). rs ++ (row x v l h ∷ [])) w (stores w (appendStores n x v l h w))
   appended =
       let ss = appendStores n x v l h w in
       record { sound = appended-sound; size = length-stores w ss; becomes = appended-rows; kept = λ i l′ h′. miss w ss i (omega arith) }
@@ -191,7 +191,7 @@ module _ (n : ℕ) (w : List ℕ) (s : ColumnSound n w) (p l h : ℕ) (hp : p < 
       (row-is n w′ p _ _ l h (miss w ss _ (omega arith)) (miss w ss _ (omega arith)) (hit w ss 0 _ _ (omega arith) (omega arith)) (hit w ss 1 _ _ (omega arith) (omega arith)))
       (λ i hi ne. row-is n w′ i _ _ _ _ (miss w ss _ (omega arith)) (miss w ss _ (omega arith)) (miss w ss _ (omega arith)) (miss w ss _ (omega arith))))
 
-  pub replaced : Changed n (valued p (valueOf l h)) w (stores w (replaceStores n p l h))
+  pub replaced : RowsChanged n (valued p (valueOf l h)) w (stores w (replaceStores n p l h))
   replaced =
       let ss = replaceStores n p l h in
       record {
@@ -250,7 +250,7 @@ module _ (n : ℕ) (w : List ℕ) (s : ColumnSound n w) (p : ℕ) (hp : p < leng
       (λ q. row-is n w′ p _ _ _ _ (hit w ss 0 _ _ (omega arith) (omega arith)) (hit w ss 1 _ _ (omega arith) (omega arith)) (hit w ss 2 _ _ (omega arith) (omega arith)) (hit w ss 3 _ _ (omega arith) (omega arith)))
       (λ i hi ne. row-is n w′ i _ _ _ _ (miss w ss _ (omega arith)) (miss w ss _ (omega arith)) (miss w ss _ (omega arith)) (miss w ss _ (omega arith))))
 
-  removed : Changed n (cutAt noRow p) w (stores w (removeStores n p w))
+  removed : RowsChanged n (cutAt noRow p) w (stores w (removeStores n p w))
   removed =
       let ss = removeStores n p w in
       let L = s .linked in
@@ -259,7 +259,7 @@ module _ (n : ℕ) (w : List ℕ) (s : ColumnSound n w) (p : ℕ) (hp : p < leng
 
   -- the steps, one after the other
   pub removed-by : (w₁ : List ℕ) (gone last : RowWords) → gone ≡ wordsAt n w p → last ≡ wordsAt n w (lengthOf w - 1) → w₁ ≡ stores w (rowStores n p last)
-      → Changed n (cutAt noRow p) w (stores w₁ ((ROWS + 4 * n + 2 * (last .index), p) ∷ (ROWS + 4 * n + 2 * (gone .index) + 1, 0) ∷ (ROWS-LEN, lengthOf w - 1) ∷ []))
+      → RowsChanged n (cutAt noRow p) w (stores w₁ ((ROWS + 4 * n + 2 * (last .index), p) ∷ (ROWS + 4 * n + 2 * (gone .index) + 1, 0) ∷ (ROWS-LEN, lengthOf w - 1) ∷ []))
   removed-by w₁ gone last eg el e = rw (e, eg, el) removed
 
 -- ---- pop
@@ -307,7 +307,7 @@ module _ (n : ℕ) (w : List ℕ) (s : ColumnSound n w) (some : 1 ≤ lengthOf w
       (λ q. absurd (omega arith))
       (λ i hi ne. row-is n w′ i _ _ _ _ (miss w ss _ (omega arith)) (miss w ss _ (omega arith)) (miss w ss _ (omega arith)) (miss w ss _ (omega arith))))
 
-  popped-changed : Changed n popped w (stores w (popStores n w))
+  popped-changed : RowsChanged n popped w (stores w (popStores n w))
   popped-changed =
       let ss = popStores n w in
       let rs = rows n w in
@@ -321,21 +321,21 @@ module _ (n : ℕ) (w : List ℕ) (s : ColumnSound n w) (some : 1 ≤ lengthOf w
       }
 
   pub popped-by : (last : RowWords) → last ≡ wordsAt n w (lengthOf w - 1)
-      → Changed n popped w (stores w ((ROWS + 4 * n + 2 * (last .index) + 1, 0) ∷ (ROWS-LEN, lengthOf w - 1) ∷ []))
+      → RowsChanged n popped w (stores w ((ROWS + 4 * n + 2 * (last .index) + 1, 0) ∷ (ROWS-LEN, lengthOf w - 1) ∷ []))
   popped-by last el = rw el popped-changed
 
 -- ---- clear: rows go one by one from the end
 
-pub clear-none : (n : ℕ) (w : List ℕ) → ColumnSound n w → Changed n (take (lengthOf w)) w w
+pub clear-none : (n : ℕ) (w : List ℕ) → ColumnSound n w → RowsChanged n (take (lengthOf w)) w w
 clear-none n w s = changed-none n (take (lengthOf w)) w s (sym (take-all (lengthOf w) (rows n w) (omega (arith, length-rows n w))))
 
-pub clear-more : (n k : ℕ) (w₀ w w′ : List ℕ) → k ≡ lengthOf w → 1 ≤ k → Changed n (take k) w₀ w → Changed n popped w w′ → Changed n (take (k - 1)) w₀ w′
+pub clear-more : (n k : ℕ) (w₀ w w′ : List ℕ) → k ≡ lengthOf w → 1 ≤ k → RowsChanged n (take k) w₀ w → RowsChanged n popped w w′ → RowsChanged n (take (k - 1)) w₀ w′
 clear-more n k w₀ w w′ e h c d =
     let a : length (take k (rows n w₀)) ≡ k = ap length (sym (c .becomes)) ∙ length-rows n w ∙ sym e in
     changed-as n (λ (rs : SparseSet). popped (take k rs)) (take (k - 1)) w₀ w′ (changed-then n (take k) popped w₀ w w′ c d)
     (ap (λ (j : ℕ). take (j - 1) (take k (rows n w₀))) a ∙ take-take (k - 1) k (rows n w₀) (omega arith))
 
-pub clear-left : (n k : ℕ) (w₀ w w′ : List ℕ) → k ≡ lengthOf w → 1 ≤ k → Changed n (take k) w₀ w → Changed n popped w w′ → k - 1 ≡ lengthOf w′
+pub clear-left : (n k : ℕ) (w₀ w w′ : List ℕ) → k ≡ lengthOf w → 1 ≤ k → RowsChanged n (take k) w₀ w → RowsChanged n popped w w′ → k - 1 ≡ lengthOf w′
 clear-left n k w₀ w w′ e h c d =
     let a : length (rows n w) ≡ k = length-rows n w ∙ sym e in
     sym (length-take-le (k - 1) (rows n w) (omega arith)) ∙ ap (λ (j : ℕ). length (take (j - 1) (rows n w))) (sym a) ∙ ap length (sym (d .becomes)) ∙ length-rows n w′

@@ -15,7 +15,7 @@ use Rattle.words.proofs.Part.{patch, getD-between, between-front, between-rest,
 use Rattle.words.specs.Offsets.{columnStart}
 use Rattle.words.proofs.Offsets.{columnStart-apart, columnStart-mono}
 use Rattle.component.specs.SparseSet.{rows, ColumnSound}
-use Rattle.component.specs.Stored.{Changed}
+use Rattle.component.specs.Stored.{RowsChanged}
 use Rattle.component.specs.Columns.{columnOf, Columns}
 use Rattle.component.specs.Changes.{Lent, Only}
 
@@ -66,7 +66,7 @@ columns-kept n m s w w′ c size sound others =
 
 -- ---- a part changed where it lies
 
-module _ (n s : ℕ) (f : SparseSet → SparseSet) (w ys : List ℕ) (l : Lent n s w) (c : Changed n f (columnOf n s w) ys) where
+module _ (n s : ℕ) (f : SparseSet → SparseSet) (w ys : List ℕ) (l : Lent n s w) (c : RowsChanged n f (columnOf n s w) ys) where
   pub only : Only n s f w (patch (columnStart n s) (columnStart n s + columnLen n) w ys)
   unfolding columnOf
   only m hs k =
@@ -96,5 +96,5 @@ unfolding columnOf
 part-is n s b w q = rw q
 
 pub only-at : (n s b : ℕ) (f : SparseSet → SparseSet) (w ys : List ℕ) → b ≡ columnStart n s → Lent n s w
-    → Changed n f (between b (b + columnLen n) w) ys → Only n s f w (patch b (b + columnLen n) w ys)
+    → RowsChanged n f (between b (b + columnLen n) w) ys → Only n s f w (patch b (b + columnLen n) w ys)
 only-at n s b f w ys q l c = rw q (only n s f w ys l (rw (part-is n s b w q) at c))

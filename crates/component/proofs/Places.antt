@@ -10,10 +10,10 @@ use borrow.Author.Tests.{ltb-true, lt-ltb, le-ltb}
 use lib.ListN.{length, getD, length-map, List·getD-map}
 use Rattle.model.specs.Lists.{cutAt}
 use Rattle.model.proofs.ListLaws.{getD-place, place-first}
-use Rattle.model.specs.Model.{Entity, SparseSet, sameEntity, noEntity, noRow, keys, entityOf, at, held, insertRow, removeRow, swapTo}
+use Rattle.model.specs.Model.{Entity, SparseSet, sameEntity, noEntity, noRow, keys, entityOf, at, held, insertRow, removeRow, swapTo, entity}
 use Rattle.model.proofs.SparseSets.{entity-eq, entity-same}
 use Rattle.component.specs.declared.Found.the-variants as found
-use Rattle.component.specs.SparseSet.{lengthOf, indexAt, versionAt, placeOf, heldOf, entity, rows, ColumnSound}
+use Rattle.component.specs.SparseSet.{lengthOf, indexAt, versionAt, placeOf, heldOf, rows, ColumnSound}
 use Rattle.component.specs.Stored.{Current, swapRows, Absent, valued}
 use Rattle.component.specs.Answers.{HeldAt, Finds}
 use Rattle.component.proofs.Meaning.{length-rows, getD-rows, rows-apart}

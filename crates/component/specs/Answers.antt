@@ -10,7 +10,7 @@ use Rattle.component.specs.declared.Found.the-variants as found
 use Rattle.component.specs.declared.Removed.{Removed}
 use Rattle.component.specs.declared.Removed.the-variants as removed
 use Rattle.component.specs.SparseSet.{valueOf, rows}
-use Rattle.component.specs.Stored.{Changed}
+use Rattle.component.specs.Stored.{RowsChanged}
 
 -- the entity is held, at p
 pub record HeldAt (n : ℕ) (e : Entity) (rs : SparseSet) (p : ℕ) : Type 0 where
@@ -36,5 +36,5 @@ Gives e rs removed.Nothing = held e rs ≡ false
 
 -- 01: "Removal puts the last row in the gap"
 pub record Removes (n : ℕ) (e : Entity) (w w′ : List ℕ) (r : Removed) : Type 0 where
-  pub change : Changed n (removeRow e) w w′
+  pub change : RowsChanged n (removeRow e) w w′
   pub answer : Gives e (rows n w) r

@@ -8,9 +8,10 @@ use Prim.Native.Nat.{ℕ, _+_, _*_, _≤_}
 use lib.ListN.{length, getD}
 use Rattle.model.specs.Numbers.{MAX-ENTITIES, columnLen}
 use Rattle.words.specs.Offsets.{ROWS, ROWS-LEN}
-use Rattle.model.specs.Model.{Entity, Row, SparseSet}
+use Rattle.model.specs.Model.{Row, SparseSet}
 use Rattle.words.specs.Table.{table}
 use Rattle.words.specs.Links.{Linked}
+use Rattle.model.specs.Model.{entity}
 
 -- ---- the words of a part
 
@@ -38,10 +39,6 @@ abbrev pub heldOf : ℕ → List ℕ → ℕ → ℕ
 heldOf n w x = getD w (ROWS + 4 * n + 2 * x + 1) 0
 
 -- ---- what they mean
-
--- 01: "A card is an index and a version, 32 bits each"
-abbrev pub entity : ℕ → ℕ → Entity
-entity x v = record { index = x; version = v }
 
 -- 01: a part's value is eight bytes, here a low and a high word
 abbrev pub valueOf : ℕ → ℕ → ℕ

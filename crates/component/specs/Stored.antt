@@ -35,12 +35,12 @@ abbrev pub popped : SparseSet → SparseSet
 popped rs = take (length rs - 1) rs
 
 -- the words of a part of capacity n, whatever they hold
-pub record Sized (n : ℕ) (w : List ℕ) : Type 0 where
+pub record ColumnSized (n : ℕ) (w : List ℕ) : Type 0 where
   pub size : length w ≡ columnLen n
   pub small : n ≤ MAX-ENTITIES
 
 -- a sound part whose rows have become f of what they were; words 1 to 7 are as they were
-pub record Changed (n : ℕ) (f : SparseSet → SparseSet) (w w′ : List ℕ) : Type 0 where
+pub record RowsChanged (n : ℕ) (f : SparseSet → SparseSet) (w w′ : List ℕ) : Type 0 where
   pub sound : ColumnSound n w′
   pub size : length w′ ≡ length w
   pub becomes : rows n w′ ≡ f (rows n w)

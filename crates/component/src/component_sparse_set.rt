@@ -11,10 +11,10 @@ ghost use mathlib.Core.List.{[], _∷_, _++_};
 ghost use Prim.Native.Nat.{ℕ, _<_, _≤_};
 ghost use lib.ListN.{length, getD};
 ghost use Rattle.model.specs.Lists.{cutAt};
-ghost use Rattle.model.specs.Model.{SparseSet, noRow, held, insertRow, swapTo};
+ghost use Rattle.model.specs.Model.{SparseSet, noRow, held, insertRow, swapTo, entity};
 ghost use Rattle.words.specs.Stores.{stores};
-ghost use Rattle.component.specs.SparseSet.{lengthOf, entity, valueOf, row, rows, ColumnSound};
-ghost use Rattle.component.specs.Stored.{Sized, Changed, swapRows, Current, wordsAt, rowStores, Absent, valued, popped};
+ghost use Rattle.component.specs.SparseSet.{lengthOf, valueOf, row, rows, ColumnSound};
+ghost use Rattle.component.specs.Stored.{ColumnSized, RowsChanged, swapRows, Current, wordsAt, rowStores, Absent, valued, popped};
 ghost use Rattle.component.specs.Answers.{Removes};
 
 // The words of a row.
@@ -26,7 +26,7 @@ struct RowWords {
 }
 
 fn read_row(part: &[u32], n: usize, i: usize) -> RowWords
-    requires { ⌜ Sized n (now part) × (i < n) ⌝ }
+    requires { ⌜ ColumnSized n (now part) × (i < n) ⌝ }
     ensures { λ r. ⌜ r ≡ wordsAt n (now (part .entry)) i ⌝ }
 {
     let c = words::ROWS + 2 * i;
@@ -40,7 +40,7 @@ fn read_row(part: &[u32], n: usize, i: usize) -> RowWords
 }
 
 fn put_row(part: &mut [u32], n: usize, i: usize, r: RowWords)
-    requires { ⌜ Sized n (now part) × (i < n) ⌝ }
+    requires { ⌜ ColumnSized n (now part) × (i < n) ⌝ }
     ensures { λ _. ⌜ now (part .exit) ≡ stores (now (part .entry)) (rowStores n i r) ⌝ }
 {
     let c = words::ROWS + 2 * i;
@@ -75,7 +75,7 @@ pub fn value_at(part: &[u32], n: usize, place: usize) -> Value
 pub fn swap(part: &mut [u32], n: usize, a: usize, b: usize)
     requires { ⌜ ColumnSound n (now part) ⌝ }
     requires { ⌜ (a < length (rows n (now part))) × (b < length (rows n (now part))) ⌝ }
-    ensures { λ _. ⌜ Changed n (swapRows a b) (now (part .entry)) (now (part .exit)) ⌝ }
+    ensures { λ _. ⌜ RowsChanged n (swapRows a b) (now (part .entry)) (now (part .exit)) ⌝ }
 {
     if a == b {
         return;
@@ -92,7 +92,7 @@ pub fn swap(part: &mut [u32], n: usize, a: usize, b: usize)
 pub fn swap_to(part: &mut [u32], n: usize, index: u32, version: u32, place: usize)
     requires { ⌜ ColumnSound n (now part) ⌝ }
     requires { ⌜ (held (entity index version) (rows n (now part)) ≡ true) × (place < length (rows n (now part))) ⌝ }
-    ensures { λ _. ⌜ Changed n (swapTo (entity index version) place) (now (part .entry)) (now (part .exit)) ⌝ }
+    ensures { λ _. ⌜ RowsChanged n (swapTo (entity index version) place) (now (part .entry)) (now (part .exit)) ⌝ }
 {
     let found = find(part, n, index, version);
     let Found::At(at) = found else {
@@ -106,7 +106,7 @@ fn append(part: &mut [u32], n: usize, index: u32, version: u32, low: u32, high: 
     requires { ⌜ ColumnSound n (now part) ⌝ }
     requires { ⌜ (index < n) × (1 ≤ version) ⌝ }
     requires { ⌜ Absent index (rows n (now part)) ⌝ }
-    ensures { λ _. ⌜ Changed n (λ (rs : SparseSet). rs ++ (row index version low high ∷ [])) (now (part .entry)) (now (part .exit)) ⌝ }
+    ensures { λ _. ⌜ RowsChanged n (λ (rs : SparseSet). rs ++ (row index version low high ∷ [])) (now (part .entry)) (now (part .exit)) ⌝ }
 {
     let k = part[words::ROWS_LEN];
     let at = k as usize;
@@ -129,7 +129,7 @@ fn append(part: &mut [u32], n: usize, index: u32, version: u32, low: u32, high: 
 fn replace(part: &mut [u32], n: usize, place: usize, low: u32, high: u32)
     requires { ⌜ ColumnSound n (now part) ⌝ }
     requires { ⌜ place < lengthOf (now part) ⌝ }
-    ensures { λ _. ⌜ Changed n (valued place (valueOf low high)) (now (part .entry)) (now (part .exit)) ⌝ }
+    ensures { λ _. ⌜ RowsChanged n (valued place (valueOf low high)) (now (part .entry)) (now (part .exit)) ⌝ }
 {
     let v = words::ROWS + 2 * n + 2 * place;
     part[v] = low;
@@ -141,7 +141,7 @@ pub fn insert(part: &mut [u32], n: usize, index: u32, version: u32, low: u32, hi
     requires { ⌜ ColumnSound n (now part) ⌝ }
     requires { ⌜ (index < n) × (1 ≤ version) ⌝ }
     requires { ⌜ Current index version (rows n (now part)) ⌝ }
-    ensures { λ _. ⌜ Changed n (insertRow (entity index version) (valueOf low high)) (now (part .entry)) (now (part .exit)) ⌝ }
+    ensures { λ _. ⌜ RowsChanged n (insertRow (entity index version) (valueOf low high)) (now (part .entry)) (now (part .exit)) ⌝ }
 {
     let found = find(part, n, index, version);
     let Found::At(place) = found else {
@@ -155,7 +155,7 @@ pub fn insert(part: &mut [u32], n: usize, index: u32, version: u32, low: u32, hi
 fn remove_at(part: &mut [u32], n: usize, place: usize)
     requires { ⌜ ColumnSound n (now part) ⌝ }
     requires { ⌜ place < lengthOf (now part) ⌝ }
-    ensures { λ _. ⌜ Changed n (cutAt noRow place) (now (part .entry)) (now (part .exit)) ⌝ }
+    ensures { λ _. ⌜ RowsChanged n (cutAt noRow place) (now (part .entry)) (now (part .exit)) ⌝ }
 {
     let k = part[words::ROWS_LEN] - 1;
     let gone = read_row(part, n, place);
@@ -186,7 +186,7 @@ pub fn remove(part: &mut [u32], n: usize, index: u32, version: u32) -> Removed
 fn pop(part: &mut [u32], n: usize)
     requires { ⌜ ColumnSound n (now part) ⌝ }
     requires { ⌜ 1 ≤ lengthOf (now part) ⌝ }
-    ensures { λ _. ⌜ Changed n popped (now (part .entry)) (now (part .exit)) ⌝ }
+    ensures { λ _. ⌜ RowsChanged n popped (now (part .entry)) (now (part .exit)) ⌝ }
 {
     let k = part[words::ROWS_LEN] - 1;
     let last = read_row(part, n, k as usize);
@@ -198,7 +198,7 @@ fn pop(part: &mut [u32], n: usize)
 // Every row goes, one by one from the end: the cost is that of the rows held.
 pub fn clear(part: &mut [u32], n: usize)
     requires { ⌜ ColumnSound n (now part) ⌝ }
-    ensures { λ _. ⌜ Changed n (λ (rs : SparseSet). []) (now (part .entry)) (now (part .exit)) ⌝ }
+    ensures { λ _. ⌜ RowsChanged n (λ (rs : SparseSet). []) (now (part .entry)) (now (part .exit)) ⌝ }
 {
     let mut k = part[words::ROWS_LEN];
     while 0 < k {

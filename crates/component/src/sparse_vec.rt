@@ -3,13 +3,14 @@ use crate::Found;
 ghost use mathlib.Core.Path.{_≡_};
 ghost use Prim.Native.Nat.{_<_};
 ghost use Rattle.words.specs.Stores.{stores};
-ghost use Rattle.component.specs.SparseSet.{entity, rows, ColumnSound};
-ghost use Rattle.component.specs.Stored.{Sized, lookupStores};
+ghost use Rattle.component.specs.SparseSet.{rows, ColumnSound};
+ghost use Rattle.component.specs.Stored.{ColumnSized, lookupStores};
 ghost use Rattle.component.specs.Answers.{Finds};
+ghost use Rattle.model.specs.Model.{entity};
 
 // Has index x's lookup say the place p and the version v.
 pub fn put_lookup(part: &mut [u32], n: usize, x: u32, p: usize, v: u32)
-    requires { ⌜ Sized n (now part) × (x < n) × (p < n) ⌝ }
+    requires { ⌜ ColumnSized n (now part) × (x < n) × (p < n) ⌝ }
     ensures { λ _. ⌜ now (part .exit) ≡ stores (now (part .entry)) (lookupStores n x p v) ⌝ }
 {
     let s = words::ROWS + 4 * n + 2 * (x as usize);

@@ -12,7 +12,7 @@ use Rattle.words.proofs.Offsets.{columnStart-mono}
 use Rattle.entity.specs.declared.Entity.{Entity as Answer}
 use Rattle.entity.specs.Meaning.{entityPart, entitiesIn}
 use Rattle.entity.specs.Change.{SoundIn, EntityChange}
-use Rattle.entity.specs.Answers.{entityOf, created, CreatedIn}
+use Rattle.entity.specs.Answers.{entityOfAnswer, withCreated, CreatedIn}
 use Rattle.entity.proofs.Known.{known-live}
 use Rattle.memory.specs.Header.{capacityOf, kindCapacityOf}
 use Rattle.words.specs.Word.{Word}
@@ -49,10 +49,10 @@ module _ (w : List ℕ) (n : ℕ) (C : Capacity w n) where
 
 pub created-becomes : (w : List ℕ) → Arranged w → (n : ℕ) → Capacity w n → (w′ : List ℕ) (r : Answer) → CreatedIn n w w′ r → Creates w w′ r
 created-becomes w A n C w′ r c =
-    let live : isLive (entityOf r) (entitiesIn n w′) ≡ true = rw (c .changed .becomes, c .entity) (create-is-live (entitiesIn n w)) in
-    let small = known-live n (entityPart n w′) (c .changed .sound) (entityOf r) live in
+    let live : isLive (entityOfAnswer r) (entitiesIn n w′) ≡ true = rw (c .changed .becomes, c .entity) (create-is-live (entitiesIn n w)) in
+    let small = known-live n (entityPart n w′) (c .changed .sound) (entityOfAnswer r) live in
     record {
-      becomes = changed-becomes w n C A w′ created (c .changed);
+      becomes = changed-becomes w n C A w′ withCreated (c .changed);
       entity = c .entity ∙ ap (λ (x : Entities). create x .entity) (entities-read w n C);
       below = omega (arith, small .below, C .is);
       positive = small .positive;

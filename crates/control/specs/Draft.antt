@@ -11,8 +11,8 @@ use Rattle.memory.specs.Meaning.{meaning}
 -- the struct is the store's draft
 pub record IsDraft (w : List ℕ) (r : Layout) : Type 0 where
   pub formed : Formed r
-  pub means : layout.meaning r ≡ meaning w .control .draft
+  pub means : layout.layoutMeaning r ≡ meaning w .control .draft
 
 -- 01, GROUP: "the hand's kinds into the draft"; the draft has become what the struct means
 abbrev pub drafting : Layout → Store → Store
-drafting l s = withControl s (withDraft (s .control) (layout.meaning l))
+drafting l s = withControl s (withDraft (s .control) (layout.layoutMeaning l))

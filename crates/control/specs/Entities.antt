@@ -8,7 +8,7 @@ use Rattle.words.specs.Offsets.{ENTITIES}
 use Rattle.model.specs.Model.{create}
 use Rattle.model.specs.Store.{withEntities}
 use Rattle.entity.specs.declared.Entity.{Entity}
-use Rattle.entity.specs.Answers.{entityOf}
+use Rattle.entity.specs.Answers.{entityOfAnswer}
 use Rattle.memory.specs.Header.{capacityOf}
 use Rattle.memory.specs.Meaning.{meaning}
 use Rattle.memory.specs.Arranged.{Becomes}
@@ -24,6 +24,6 @@ pub record Capacity (w : List ℕ) (n : ℕ) : Type 0 where
 -- 01: "A new card takes the longest waiting number, else the next index at version 1, and joins the live list at its end"
 pub record Creates (w w′ : List ℕ) (r : Entity) : Type 0 where
   pub becomes : Becomes w w′ (withEntities (meaning w) (create (meaning w .entities) .entities))
-  pub entity : entityOf r ≡ create (meaning w .entities) .entity
+  pub entity : entityOfAnswer r ≡ create (meaning w .entities) .entity
   pub below : r .index < meaning w .settings .capacity
   pub positive : 1 ≤ r .version

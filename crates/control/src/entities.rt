@@ -11,12 +11,10 @@ ghost use mathlib.Core.Path.{_≡_};
 ghost use mathlib.Core.Bool.{false};
 ghost use Prim.Native.Nat.{_<_};
 ghost use lib.ListN.{length, getD};
-ghost use Rattle.model.specs.Model.{noEntity, destroy};
+ghost use Rattle.model.specs.Model.{noEntity, destroy, entity, isFull};
 ghost use Rattle.model.specs.Store.{withEntities};
 ghost use Rattle.model.specs.Snapshot.{liveVersion};
-ghost use Rattle.entity.specs.Meaning.{entity};
-ghost use Rattle.entity.specs.Change.{isFull};
-ghost use Rattle.entity.specs.Answers.{entityOf, foundOf, LiveAt};
+ghost use Rattle.entity.specs.Answers.{entityOfAnswer, foundOf, LiveAt};
 ghost use Rattle.memory.specs.Meaning.{meaning};
 ghost use Rattle.memory.specs.Arranged.{Arranged, Becomes};
 ghost use Rattle.control.specs.Entities.{Capacity, Creates};
@@ -83,7 +81,7 @@ pub fn live_len(words: &[u32]) -> usize
 pub fn live_at(words: &[u32], place: usize) -> Entity
     requires { ⌜ Arranged (now words) ⌝ }
     requires { ⌜ place < length (meaning (now words) .entities .live) ⌝ }
-    ensures { λ r. ⌜ entityOf r ≡ getD (meaning (now (words .entry)) .entities .live) place noEntity ⌝ }
+    ensures { λ r. ⌜ entityOfAnswer r ≡ getD (meaning (now (words .entry)) .entities .live) place noEntity ⌝ }
 {
     let n = capacity(words);
     let end = ENTITIES + model::ENTITY_LEN * n;

@@ -8,11 +8,11 @@ use Rattle.model.specs.Numbers.{ENTITY-LEN}
 use Rattle.words.specs.Offsets.{ENTITIES}
 use Rattle.model.specs.Model.{Entities}
 use Rattle.words.proofs.Part.{patch, patch-front, patch-rest, patch-between, patch-length}
-use Rattle.entity.specs.Change.{Changed, EntityChange}
+use Rattle.entity.specs.Change.{EntitiesChanged, EntityChange}
 use Rattle.entity.specs.Meaning.{entityPart}
 
 -- the part, changed where it lies
-pub changed-in : (n : ℕ) (f : Entities → Entities) (w ys : List ℕ) → ENTITIES + ENTITY-LEN * n ≤ length w → Changed n f (entityPart n w) ys → EntityChange n f w (patch ENTITIES (ENTITIES + ENTITY-LEN * n) w ys)
+pub changed-in : (n : ℕ) (f : Entities → Entities) (w ys : List ℕ) → ENTITIES + ENTITY-LEN * n ≤ length w → EntitiesChanged n f (entityPart n w) ys → EntityChange n f w (patch ENTITIES (ENTITIES + ENTITY-LEN * n) w ys)
 changed-in n f w ys g c =
     let e = ENTITIES + ENTITY-LEN * n in
     let h : ENTITIES ≤ e = omega arith in

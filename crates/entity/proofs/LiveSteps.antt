@@ -4,7 +4,7 @@ use mathlib.Core.Logic.{_≢_}
 use mathlib.Core.List.{List, [], _∷_, _++_}
 use Prim.Native.Nat.{ℕ, _+_, _*_, _-_, _≤_, _<_}
 use native.Mathlib.Omega.{arith}
-use Rattle.model.specs.Model.{noEntity}
+use Rattle.model.specs.Model.{noEntity, entity}
 use Rattle.model.proofs.BoolLaws.{by-eq}
 use Rattle.words.specs.Offsets.{ISSUED, LIVE-LEN, LIVE-LIST}
 use Rattle.words.proofs.Tables.{table-snoc, table-removed}
@@ -12,8 +12,8 @@ use Rattle.words.specs.Stores.{stores}
 use Rattle.words.proofs.Stores.{miss, hit, length-stores}
 use Rattle.words.proofs.Links.{apart, linked-appended, linked-removed}
 use Rattle.words.proofs.Pigeon.{pigeon-free}
-use Rattle.entity.specs.Meaning.{EntityPartSound, entity, entitiesOf, entityAt, lenOf, issuedOf, liveIndexAt, liveVersionAt, placeOf, heldOf, queueSlot}
-use Rattle.entity.specs.Change.{Idle, Changed, joined, left}
+use Rattle.entity.specs.Meaning.{EntityPartSound, entitiesOf, entityAt, lenOf, issuedOf, liveIndexAt, liveVersionAt, placeOf, heldOf, queueSlot}
+use Rattle.entity.specs.Change.{Idle, EntitiesChanged, joined, left}
 use Rattle.entity.specs.Stored.{putStores}
 use Rattle.entity.proofs.Kept.{entity-path, entities-path, kept-queue, live-unlisted}
 
@@ -33,7 +33,7 @@ module _ (n : ℕ) (w : List ℕ) (s : EntityPartSound n w) (x v : ℕ) (d : Idl
       (apart n (lenOf w) (liveIndexAt w) (liveVersionAt w) (placeOf n w) (heldOf n w) L)
       (λ i hi e. let t = L .tied i hi in let z = ap (heldOf n w) e in omega (arith, t .agreed, t .issued, d .free))
 
-  pub joined-changed : Changed n (joined (entity x v)) w (stores w (joinStores n x v w))
+  pub joined-changed : EntitiesChanged n (joined (entity x v)) w (stores w (joinStores n x v w))
   unfolding entitiesOf
   joined-changed =
       let ss = joinStores n x v w in
@@ -110,7 +110,7 @@ module _ (n : ℕ) (w : List ℕ) (s : EntityPartSound n w) (p : ℕ) (hp : p < 
         unlisted = miss w ss _ (omega arith) ∙ live-unlisted n w s x (t .below) (omega (arith, t .agreed, t .issued));
       }
 
-  pub left-changed : Changed n (left p) w (stores w (leaveStores n p w))
+  pub left-changed : EntitiesChanged n (left p) w (stores w (leaveStores n p w))
   unfolding entitiesOf
   left-changed =
       let ss = leaveStores n p w in

@@ -11,13 +11,13 @@ use borrow.Author.Tests.{lt-ltb, ltb-true, eq-eqb, ne-eqb}
 use lib.ListN.{length, getD}
 use Rattle.model.specs.Lists.{place, after}
 use Rattle.model.proofs.ListLaws.{getD-place}
-use Rattle.model.specs.Model.{Entity, Entities, noEntity, sameEntity, isLive}
+use Rattle.model.specs.Model.{Entity, Entities, noEntity, sameEntity, isLive, entity}
 use Rattle.model.specs.Snapshot.{liveVersion as versionIn}
 use Rattle.model.proofs.SparseSets.{entity-eq, entity-same}
 use Rattle.model.proofs.BoolLaws.{bool-cases}
 use Rattle.words.proofs.Tables.{length-table, getD-table}
 use Rattle.entity.specs.declared.Found.the-variants.{At, Nothing}
-use Rattle.entity.specs.Meaning.{EntityPartSound, entity, entitiesOf, entityAt, waitingAt, lenOf, issuedOf, recycledLen, liveIndexAt, liveVersionAt, placeOf, heldOf}
+use Rattle.entity.specs.Meaning.{EntityPartSound, entitiesOf, entityAt, waitingAt, lenOf, issuedOf, recycledLen, liveIndexAt, liveVersionAt, placeOf, heldOf}
 use Rattle.entity.specs.Answers.{foundOf, pickFound}
 
 same-other : (a b : Entity) → b ≢ a → sameEntity a b ≡ false

@@ -9,9 +9,8 @@ use borrow.Author.Tests.{lt-ltb, le-ltb, le-leb, lt-leb, eq-eqb, ne-eqb, leb-fal
 use lib.Dec.{ltb, eqb}
 use lib.ListN.{length, getD, drop}
 use Rattle.model.specs.Lists.{place}
-use Rattle.model.specs.Model.{Entity, Entities, noEntity, sameEntity, lastVersion, create, createWith, destroy}
-use Rattle.entity.specs.Meaning.{entity}
-use Rattle.entity.specs.Change.{joined, left, queued, unqueued, numbered, allocatedFrom, allocated, recycledAs, isFull}
+use Rattle.model.specs.Model.{Entity, Entities, noEntity, sameEntity, lastVersion, create, createWith, destroy, entity, isFull}
+use Rattle.entity.specs.Change.{joined, left, queued, unqueued, numbered, allocatedFrom, allocated, recycledAs}
 
 -- create: a number is taken, and joins the live list
 pub create-steps : (s : Entities) → create s .entities ≡ joined (create s .entity) (allocated s)

@@ -13,9 +13,10 @@ use Rattle.model.specs.Lists.{one, place}
 use Rattle.model.proofs.ListLaws.{count-place, getD-place}
 use Rattle.model.specs.Model.{Entity, noEntity, sameEntity, lastVersion}
 use Rattle.model.proofs.SparseSets.{entity-eq}
-use Rattle.model.proofs.Groups.{cnt, plc}
+use Rattle.model.proofs.Groups.{plc}
 use Rattle.model.proofs.BoolLaws.{bool-cases}
-use Rattle.model.proofs.Numbers.{EntitiesOk, num, indexOf}
+use Rattle.model.proofs.Numbers.{EntitiesOk}
+use Rattle.model.specs.Sound.{cnt, num, indexOf}
 use Rattle.words.specs.Offsets.{LIVE-LIST}
 use Rattle.words.proofs.Links.{apart}
 use Rattle.entity.specs.Queue.{wrapped}

@@ -9,15 +9,15 @@ use native.Mathlib.Numerals.{add-one}
 use lib.ListN.{getD, drop, length-drop}
 use lib.Seq.{getD-drop}
 use Rattle.model.proofs.BoolLaws.{zero-of}
-use Rattle.model.specs.Model.{noEntity}
+use Rattle.model.specs.Model.{noEntity, entity}
 use Rattle.words.specs.Offsets.{ISSUED, LIVE-LIST, QUEUE-HEAD, RECYCLED-LEN}
 use Rattle.words.specs.Table.{table}
 use Rattle.words.proofs.Tables.{is-table, length-table, getD-table, table-snoc}
 use Rattle.words.specs.Stores.{stores}
 use Rattle.words.proofs.Stores.{miss, hit, length-stores}
 use Rattle.entity.specs.Queue.{wrapped, Waits}
-use Rattle.entity.specs.Meaning.{EntityPartSound, entity, entitiesOf, waitingAt, issuedOf, headOf, recycledLen, placeOf, heldOf, queueIndex, queueVersion, queueSlot}
-use Rattle.entity.specs.Change.{Idle, Changed, queued, unqueued, numbered}
+use Rattle.entity.specs.Meaning.{EntityPartSound, entitiesOf, waitingAt, issuedOf, headOf, recycledLen, placeOf, heldOf, queueIndex, queueVersion, queueSlot}
+use Rattle.entity.specs.Change.{Idle, EntitiesChanged, queued, unqueued, numbered}
 use Rattle.entity.proofs.QueueLaws.{wrapped-below, wrapped-start, wrapped-next, wrapped-apart, listed-below, queue-has-room, queue-pushed, queue-popped}
 use Rattle.entity.proofs.Kept.{entity-path, entities-path, kept-live, kept-queue}
 
@@ -37,7 +37,7 @@ module _ (n : ℕ) (w : List ℕ) (s : EntityPartSound n w) (x v : ℕ) (d : Idl
       queue-has-room n (issuedOf w) (headOf w) (recycledLen w) (queueIndex n w) (queueVersion n w) (queueSlot n w) (heldOf n w) (s .queue)
       x (d .below) (s .few) (d .unlisted)
 
-  pub queued-changed : Changed n (queued (entity x v)) w (stores w (pushStores n x v w))
+  pub queued-changed : EntitiesChanged n (queued (entity x v)) w (stores w (pushStores n x v w))
   unfolding entitiesOf
   queued-changed =
       let ss = pushStores n x v w in
@@ -142,7 +142,7 @@ module _ (n : ℕ) (w : List ℕ) (s : EntityPartSound n w) (hc : 1 ≤ recycled
         unlisted = hit w ss 2 _ _ (omega arith) (omega arith);
       }
 
-  pub unqueued-changed : Changed n unqueued w (stores w (popStores n w))
+  pub unqueued-changed : EntitiesChanged n unqueued w (stores w (popStores n w))
   unfolding entitiesOf
   unqueued-changed =
       let ss = popStores n w in
@@ -220,7 +220,7 @@ module _ (n : ℕ) (w : List ℕ) (s : EntityPartSound n w) (hn : issuedOf w < n
             ∙ zero-of (λ hb. omega (arith, listed-below n x (headOf w) (recycledLen w) (queueIndex n w) (queueVersion n w) (queueSlot n w) (heldOf n w) (s .queue) x hn hb));
       }
 
-  pub numbered-changed : Changed n numbered w (stores w (numberStores w))
+  pub numbered-changed : EntitiesChanged n numbered w (stores w (numberStores w))
   unfolding entitiesOf
   numbered-changed =
       let ss = numberStores w in

@@ -5,17 +5,18 @@ use Prim.Native.Nat.{ℕ, _+_, _*_, _<_}
 use native.Mathlib.Omega.{arith}
 use lib.ListN.{length, getD}
 use Rattle.model.specs.Numbers.{ENTITY-LEN}
+use Rattle.model.specs.Model.{noEntities}
 use Rattle.words.specs.Offsets.{LIVE-LIST}
 use Rattle.words.proofs.Tables.{table-none}
-use Rattle.entity.specs.Meaning.{Sized, entitiesOf, lenOf, issuedOf, headOf, recycledLen, heldOf, queueSlot}
-use Rattle.entity.specs.Change.{Changed, noEntities}
+use Rattle.entity.specs.Meaning.{EntityPartSized, entitiesOf, lenOf, issuedOf, headOf, recycledLen, heldOf, queueSlot}
+use Rattle.entity.specs.Change.{EntitiesChanged}
 use Rattle.entity.proofs.Kept.{entities-path}
 
 -- the first i words are zeros
 abbrev pub ZerosTo : List ℕ → ℕ → Type 0
 ZerosTo w i = (k : ℕ) → k < i → getD w k 0 ≡ 0
 
-pub zeros-changed : (n : ℕ) (w₀ w : List ℕ) → Sized n w₀ → length w ≡ length w₀ → ZerosTo w (length w) → Changed n (λ s. noEntities) w₀ w
+pub zeros-changed : (n : ℕ) (w₀ w : List ℕ) → EntityPartSized n w₀ → length w ≡ length w₀ → ZerosTo w (length w) → EntitiesChanged n (λ s. noEntities) w₀ w
 unfolding entitiesOf
 zeros-changed n w₀ w d l z =
     let size : length w ≡ ENTITY-LEN * n = l ∙ d .size in

@@ -8,9 +8,8 @@ use lib.ListN.{length, take, drop}
 use Rattle.model.specs.Numbers.{ENTITY-LEN}
 use Rattle.words.specs.Offsets.{ENTITIES}
 use Rattle.model.specs.Lists.{cutAt}
-use Rattle.model.specs.Model.{Entity, Entities, noEntity, lastVersion}
-pub use Rattle.model.specs.Model.{isFull, noEntities}
-use Rattle.entity.specs.Meaning.{EntityPartSound, entitiesOf, entity, issuedOf, heldOf, queueSlot, entityPart, entitiesIn}
+use Rattle.model.specs.Model.{Entity, Entities, noEntity, lastVersion, entity}
+use Rattle.entity.specs.Meaning.{EntityPartSound, entitiesOf, issuedOf, heldOf, queueSlot, entityPart, entitiesIn}
 
 -- ---- the steps of create and destroy
 
@@ -51,7 +50,7 @@ recycledAs e s =
 -- ---- the part
 
 -- the entities have become f of what they were, and the part is sound
-pub record Changed (n : ℕ) (f : Entities → Entities) (w w′ : List ℕ) : Type 0 where
+pub record EntitiesChanged (n : ℕ) (f : Entities → Entities) (w w′ : List ℕ) : Type 0 where
   pub sound : EntityPartSound n w′
   pub size : length w′ ≡ length w
   pub becomes : entitiesOf n w′ ≡ f (entitiesOf n w)

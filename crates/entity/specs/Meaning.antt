@@ -13,6 +13,7 @@ use Rattle.words.specs.Links.{Linked}
 use Rattle.entity.specs.Queue.{Queue, wrapped}
 use Rattle.words.specs.Offsets.{ENTITIES, ISSUED, LIVE-LEN, LIVE-LIST, QUEUE-HEAD, RECYCLED-LEN}
 use Rattle.words.specs.Part.{between}
+use Rattle.model.specs.Model.{entity}
 
 abbrev pub lenOf : List ℕ → ℕ
 lenOf w = getD w LIVE-LEN 0
@@ -51,9 +52,6 @@ queueVersion n w p = getD w (LIVE-LIST + 4 * n + 2 * p + 1) 0
 abbrev pub queueSlot : ℕ → List ℕ → ℕ → ℕ
 queueSlot n w x = getD w (LIVE-LIST + 6 * n + x) 0
 
-abbrev pub entity : ℕ → ℕ → Entity
-entity x v = record { index = x; version = v }
-
 abbrev pub entityAt : List ℕ → ℕ → Entity
 entityAt w i = entity (liveIndexAt w i) (liveVersionAt w i)
 
@@ -71,7 +69,7 @@ entitiesOf n w =
     }
 
 -- a part for n entities, whatever it holds
-pub record Sized (n : ℕ) (w : List ℕ) : Type 0 where
+pub record EntityPartSized (n : ℕ) (w : List ℕ) : Type 0 where
   pub size : length w ≡ ENTITY-LEN * n
   pub some : 1 ≤ n
   pub small : n ≤ MAX-ENTITIES
@@ -79,7 +77,7 @@ pub record Sized (n : ℕ) (w : List ℕ) : Type 0 where
 -- 01, a sound store: live list and card lookups that agree; at most N issued numbers, from index 0 without gaps, every live or waiting index
 -- among them; each issued number live, waiting once, or neither, with versions of 1 or more
 pub record EntityPartSound (n : ℕ) (w : List ℕ) : Type 0 where
-  pub sized : Sized n w
+  pub sized : EntityPartSized n w
   pub few : issuedOf w ≤ n
   pub linked : Linked n (lenOf w) (liveIndexAt w) (liveVersionAt w) (placeOf n w) (heldOf n w)
   pub known : (i : ℕ) → i < lenOf w → liveIndexAt w i < issuedOf w

@@ -4,9 +4,10 @@ ghost use mathlib.Core.Path.{_≡_};
 ghost use mathlib.Core.Bool.{false};
 ghost use Prim.Native.Nat.{_≤_, _<_, _+_};
 ghost use Rattle.entity.specs.Queue.{wrapped};
-ghost use Rattle.entity.specs.Meaning.{EntityPartSound, entity, entitiesOf, recycledLen, issuedOf};
-ghost use Rattle.entity.specs.Change.{Idle, Changed, isFull, queued, recycledAs};
+ghost use Rattle.entity.specs.Meaning.{EntityPartSound, entitiesOf, recycledLen, issuedOf};
+ghost use Rattle.entity.specs.Change.{Idle, EntitiesChanged, queued, recycledAs};
 ghost use Rattle.entity.specs.Answers.{Allocated, Unqueued, Issued};
+ghost use Rattle.model.specs.Model.{entity, isFull};
 
 // How many numbers are issued.
 pub fn issued(part: &[u32], n: usize) -> usize
@@ -64,7 +65,7 @@ fn pop_front(part: &mut [u32], n: usize) -> Entity
 fn push_back(part: &mut [u32], n: usize, index: u32, version: u32)
     requires { ⌜ EntityPartSound n (now part) ⌝ }
     requires { ⌜ Idle n (now part) index × (1 ≤ version) ⌝ }
-    ensures { λ _. ⌜ Changed n (queued (entity index version)) (now (part .entry)) (now (part .exit)) ⌝ }
+    ensures { λ _. ⌜ EntitiesChanged n (queued (entity index version)) (now (part .entry)) (now (part .exit)) ⌝ }
 {
     let count = part[words::RECYCLED_LEN];
     let place = wrap(n, part[words::QUEUE_HEAD] as usize + count as usize);
@@ -102,7 +103,7 @@ pub fn allocate(part: &mut [u32], n: usize) -> Entity
 pub fn recycle(part: &mut [u32], n: usize, index: u32, version: u32)
     requires { ⌜ EntityPartSound n (now part) ⌝ }
     requires { ⌜ Idle n (now part) index ⌝ }
-    ensures { λ _. ⌜ Changed n (recycledAs (entity index version)) (now (part .entry)) (now (part .exit)) ⌝ }
+    ensures { λ _. ⌜ EntitiesChanged n (recycledAs (entity index version)) (now (part .entry)) (now (part .exit)) ⌝ }
 {
     if version < model::LAST_VERSION {
         push_back(part, n, index, version + 1);

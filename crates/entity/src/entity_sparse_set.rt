@@ -3,11 +3,11 @@ use crate::Entity;
 ghost use mathlib.Core.Path.{_≡_};
 ghost use Prim.Native.Nat.{_≤_, _<_};
 ghost use lib.ListN.{length, getD};
-ghost use Rattle.model.specs.Model.{noEntity};
+ghost use Rattle.model.specs.Model.{noEntity, entity};
 ghost use Rattle.words.specs.Stores.{stores};
-ghost use Rattle.entity.specs.Meaning.{Sized, EntityPartSound, entity, entitiesOf, lenOf, liveIndexAt};
-ghost use Rattle.entity.specs.Change.{Idle, Changed, joined, left};
-ghost use Rattle.entity.specs.Answers.{entityOf};
+ghost use Rattle.entity.specs.Meaning.{EntityPartSized, EntityPartSound, entitiesOf, lenOf, liveIndexAt};
+ghost use Rattle.entity.specs.Change.{Idle, EntitiesChanged, joined, left};
+ghost use Rattle.entity.specs.Answers.{entityOfAnswer};
 ghost use Rattle.entity.specs.Stored.{putStores};
 
 // How many entities are live.
@@ -22,7 +22,7 @@ pub fn len(part: &[u32], n: usize) -> usize
 pub fn live_at(part: &[u32], n: usize, place: usize) -> Entity
     requires { ⌜ EntityPartSound n (now part) ⌝ }
     requires { ⌜ place < length (entitiesOf n (now part) .live) ⌝ }
-    ensures { λ r. ⌜ entityOf r ≡ getD (entitiesOf n (now (part .entry)) .live) place noEntity ⌝ }
+    ensures { λ r. ⌜ entityOfAnswer r ≡ getD (entitiesOf n (now (part .entry)) .live) place noEntity ⌝ }
 {
     let at = words::LIVE_LIST + 2 * place;
     Entity {
@@ -33,7 +33,7 @@ pub fn live_at(part: &[u32], n: usize, place: usize) -> Entity
 
 // Has the live list's place say the entity, and the index's lookup the place.
 fn put(part: &mut [u32], n: usize, place: usize, index: u32, version: u32)
-    requires { ⌜ Sized n (now part) ⌝ }
+    requires { ⌜ EntityPartSized n (now part) ⌝ }
     requires { ⌜ (place < n) × (index < n) ⌝ }
     ensures { λ _. ⌜ now (part .exit) ≡ stores (now (part .entry)) (putStores n place index version) ⌝ }
 {
@@ -49,7 +49,7 @@ fn put(part: &mut [u32], n: usize, place: usize, index: u32, version: u32)
 pub fn insert(part: &mut [u32], n: usize, index: u32, version: u32)
     requires { ⌜ EntityPartSound n (now part) ⌝ }
     requires { ⌜ Idle n (now part) index × (1 ≤ version) ⌝ }
-    ensures { λ _. ⌜ Changed n (joined (entity index version)) (now (part .entry)) (now (part .exit)) ⌝ }
+    ensures { λ _. ⌜ EntitiesChanged n (joined (entity index version)) (now (part .entry)) (now (part .exit)) ⌝ }
 {
     let k = part[words::LIVE_LEN];
     put(part, n, k as usize, index, version);
@@ -60,7 +60,7 @@ pub fn insert(part: &mut [u32], n: usize, index: u32, version: u32)
 pub fn remove(part: &mut [u32], n: usize, place: usize)
     requires { ⌜ EntityPartSound n (now part) ⌝ }
     requires { ⌜ place < lenOf (now part) ⌝ }
-    ensures { λ _. ⌜ Changed n (left place) (now (part .entry)) (now (part .exit)) × Idle n (now (part .exit)) (liveIndexAt (now (part .entry)) place) ⌝ }
+    ensures { λ _. ⌜ EntitiesChanged n (left place) (now (part .entry)) (now (part .exit)) × Idle n (now (part .exit)) (liveIndexAt (now (part .entry)) place) ⌝ }
 {
     let k = part[words::LIVE_LEN] - 1;
     let last = words::LIVE_LIST + 2 * (k as usize);

@@ -6,10 +6,10 @@ use crate::entity_sparse_set;
 use crate::sparse_vec;
 ghost use mathlib.Core.Path.{_≡_};
 ghost use mathlib.Core.Bool.{false};
-ghost use Rattle.model.specs.Model.{isLive, destroy};
-ghost use Rattle.entity.specs.Meaning.{EntityPartSound, entity, entitiesOf};
-ghost use Rattle.entity.specs.Change.{Changed, isFull};
-ghost use Rattle.entity.specs.Answers.{LiveAt, Created};
+ghost use Rattle.model.specs.Model.{isLive, destroy, entity, isFull};
+ghost use Rattle.entity.specs.Meaning.{EntityPartSound, entitiesOf};
+ghost use Rattle.entity.specs.Change.{EntitiesChanged};
+ghost use Rattle.entity.specs.Answers.{LiveAt, EntityCreated};
 
 // Whether the entity is live.
 pub fn contains(part: &[u32], n: usize, index: u32, version: u32) -> bool
@@ -27,7 +27,7 @@ pub fn contains(part: &[u32], n: usize, index: u32, version: u32) -> bool
 pub fn create(part: &mut [u32], n: usize) -> Entity
     requires { ⌜ EntityPartSound n (now part) ⌝ }
     requires { ⌜ isFull n (entitiesOf n (now part)) ≡ false ⌝ }
-    ensures { λ r. ⌜ Created n (now (part .entry)) (now (part .exit)) r ⌝ }
+    ensures { λ r. ⌜ EntityCreated n (now (part .entry)) (now (part .exit)) r ⌝ }
 {
     let entity = entity_allocator::allocate(part, n);
     entity_sparse_set::insert(part, n, entity.index, entity.version);
@@ -38,7 +38,7 @@ pub fn create(part: &mut [u32], n: usize) -> Entity
 pub fn destroy(part: &mut [u32], n: usize, place: usize, index: u32, version: u32)
     requires { ⌜ EntityPartSound n (now part) ⌝ }
     requires { ⌜ LiveAt (entity index version) place (entitiesOf n (now part)) ⌝ }
-    ensures { λ _. ⌜ Changed n (destroy (entity index version)) (now (part .entry)) (now (part .exit)) ⌝ }
+    ensures { λ _. ⌜ EntitiesChanged n (destroy (entity index version)) (now (part .entry)) (now (part .exit)) ⌝ }
 {
     entity_sparse_set::remove(part, n, place);
     entity_allocator::recycle(part, n, index, version);

@@ -3,9 +3,9 @@ use crate::Entity;
 use crate::entity_storage;
 ghost use mathlib.Core.Path.{_≡_};
 ghost use mathlib.Core.Bool.{false};
-ghost use Rattle.model.specs.Model.{destroy};
-ghost use Rattle.entity.specs.Meaning.{entity, entitiesIn};
-ghost use Rattle.entity.specs.Change.{SoundIn, EntityChange, isFull};
+ghost use Rattle.model.specs.Model.{destroy, entity, isFull};
+ghost use Rattle.entity.specs.Meaning.{entitiesIn};
+ghost use Rattle.entity.specs.Change.{SoundIn, EntityChange};
 ghost use Rattle.entity.specs.Answers.{LiveAt, CreatedIn};
 
 // A new entity. The caller has seen that there is a number left.

@@ -3,7 +3,8 @@ use crate::Found;
 ghost use mathlib.Core.Path.{_≡_};
 ghost use Prim.Native.Nat.{_<_};
 ghost use Rattle.model.specs.Snapshot.{liveVersion};
-ghost use Rattle.entity.specs.Meaning.{EntityPartSound, entity, entitiesOf};
+ghost use Rattle.model.specs.Model.{entity};
+ghost use Rattle.entity.specs.Meaning.{EntityPartSound, entitiesOf};
 ghost use Rattle.entity.specs.Answers.{foundOf};
 
 // Where the entity is in the live list.

@@ -8,7 +8,7 @@ use mir.Val.{boolByte}
 use Rattle.words.specs.Decides.{Decides}
 use Rattle.memory.specs.Arranged.{Sound}
 use Rattle.flips.specs.declared.trial.Counts.{Counts}
-use Rattle.flips.specs.Trial.{Keeps, Most, Tried, Added}
+use Rattle.flips.specs.Trial.{Keeps, Most, Tried, Summed}
 
 -- no store yet
 pub most-none : (m : ℕ) → Most (record { refused = 0; sound = 0; served = 0; stayed = 0 }) m
@@ -18,7 +18,7 @@ pub most-more : (m n : ℕ) (c : Counts) → Most c m → m ≤ n → Most c n
 most-more m n c h le =
     record { refused = omega (arith, h .refused); sound = omega (arith, h .sound); served = omega (arith, h .served); stayed = h .stayed }
 
-pub most-added : (m n : ℕ) (a b c : Counts) → Most a m → Most b n → Added a b c → Most c (m + n)
+pub most-added : (m n : ℕ) (a b c : Counts) → Most a m → Most b n → Summed a b c → Most c (m + n)
 most-added m n a b c h k e =
     record {
       refused = omega (arith, e .refused, h .refused, k .refused);

@@ -24,7 +24,7 @@ pub record Tried (w : List ℕ) (c : Counts) : Type 0 where
   pub sound : c .sound ≡ 1 → Sound w
 
 -- c is a and b together
-pub record Added (a b c : Counts) : Type 0 where
+pub record Summed (a b c : Counts) : Type 0 where
   pub refused : c .refused ≡ a .refused + b .refused
   pub sound : c .sound ≡ a .sound + b .sound
   pub served : c .served ≡ a .served + b .served

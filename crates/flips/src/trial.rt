@@ -1,7 +1,7 @@
 // One word changed at a time, and what comes of it.
 ghost use Prim.Native.Nat.{_*_, _-_, _≤_, _<_};
 ghost use Rattle.memory.specs.Arranged.{Sound};
-ghost use Rattle.flips.specs.Trial.{Keeps, Most, Tried, Added};
+ghost use Rattle.flips.specs.Trial.{Keeps, Most, Tried, Summed};
 use crate::feed::command;
 use crate::feed::command_on;
 use crate::feed::command_with;
@@ -31,7 +31,7 @@ pub struct Counts {
 pub fn add(a: Counts, b: Counts) -> Counts
     requires { ⌜ Most a 1000000 ⌝ }
     requires { ⌜ Most b 1000000 ⌝ }
-    ensures { λ r. ⌜ Added a b r ⌝ }
+    ensures { λ r. ⌜ Summed a b r ⌝ }
 {
     Counts {
         refused: a.refused + b.refused,

@@ -10,11 +10,11 @@ use lib.Seq.{ext-getD}
 use Rattle.model.specs.Model.{Entity, SparseSet, Group, Family, Storage, Walked, mem, meets, setOf, at, swapTo, isGrouped, headKind, kindsOf, ungroupComponents, ungroupFamily, ungroup}
 use Rattle.model.proofs.SparseSets.{setOf-mapOn}
 use Rattle.model.proofs.BoolLaws.{cond-case, cond-same, bool-cases}
-use Rattle.model.proofs.Groups.{In}
 use Rattle.model.proofs.Walk.{Chain, Every}
 use Rattle.model.proofs.KindLists.{in-left, in-right, in-cases, not-in-parts, not-both}
 use Rattle.model.proofs.Families.{Fams, Apart, allKinds, famKinds}
 use Rattle.model.proofs.Removal.{length-ungroupFamily, length-ungroupFamily-all}
+use Rattle.model.specs.Sound.{In}
 use Rattle.group.specs.Flat.{withCount}
 
 -- each group's first new kind is one

@@ -8,10 +8,9 @@ use borrow.Author.Tests.{ltb-true}
 use lib.ListN.{length, length-map}
 use Rattle.model.proofs.ListLaws.{place-count-take, count-take-le}
 use Rattle.model.specs.Model.{Entity, SparseSet, Group, Family, Storage, Walked, GroupStep, sameEntity, meets, setOf, keys, entityOf, at, held, onKinds, swapTo, allHeld, isGrouped, headKind, kindsOf, groupsOf, ungroupComponents, ungroupFamily, ungroup}
-use Rattle.model.specs.Sound.{layoutKinds}
-use Rattle.model.proofs.SparseSets.{key}
+use Rattle.model.specs.Sound.{layoutKinds, key, cnt, In}
 use Rattle.model.proofs.BoolLaws.{cond-case, bool-cases}
-use Rattle.model.proofs.Groups.{cnt, plc, In, Even, SameEntities}
+use Rattle.model.proofs.Groups.{plc, Even, SameEntities}
 use Rattle.model.proofs.Walk.{Chain, Every, count-held}
 use Rattle.model.proofs.KindLists.{in-right, Missing, all-missing}
 use Rattle.model.proofs.WalkDown.{Held, Down, ungroupFamily-good}

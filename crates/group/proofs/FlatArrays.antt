@@ -13,8 +13,8 @@ use Rattle.words.specs.Part.{between}
 use Rattle.words.proofs.Part.{between-front, between-part, between-join}
 use Rattle.words.specs.Table.{table}
 use Rattle.words.proofs.Tables.{table-set}
-use Rattle.layout.specs.Layout.{Arrays, startOf, widthOf, kindsAt, aritiesAt, groupsFrom, familyAt, familiesOf, Rising, WellFormed}
-use Rattle.layout.specs.ByValue.{Sized}
+use Rattle.layout.specs.Layout.{Arrays, startOf, widthOf, kindsAt, aritiesAt, groupsFrom, familyAt, familiesOf, AritiesRising, WellFormed}
+use Rattle.layout.specs.ByValue.{ArraysSized}
 use Rattle.layout.specs.Group.{InFamily, arityOf, priorArity}
 use Rattle.layout.proofs.Family.{groups-same}
 use Rattle.layout.proofs.Arrays.{group-order, kinds-inside, arities-length, family-rising, groups-length, layout-kinds}
@@ -29,10 +29,10 @@ standing order start prior arity count first top =
 
 -- ---- a family's groups: ks are its kinds, ars the groups' arities from here on, b the arity before
 
-family-group : (counts : List ℕ) (first top g : ℕ) (ks : List ℕ) (b n : ℕ) (ars : List ℕ) → Rising b n ars → (i : ℕ) → i < length ars
+family-group : (counts : List ℕ) (first top g : ℕ) (ks : List ℕ) (b n : ℕ) (ars : List ℕ) → AritiesRising b n ars → (i : ℕ) → i < length ars
     → getD (familyGroups first top (take b ks) (groupsFrom counts g ks b ars)) i nowhere
     ≡ record { kinds = take (getD ars i 0) ks; newKinds = between (getD (b ∷ ars) i 0) (getD ars i 0) ks; count = getD counts (g + i) 0; first = first; top = top }
-unfolding groupsFrom Rising
+unfolding groupsFrom AritiesRising
 family-group counts first top g ks b n [] r i h = absurd (not-suc-le-zero h)
 family-group counts first top g ks b n (a ∷ ars) r zero h =
     let e : g ≡ g + 0 = omega arith in
@@ -75,7 +75,7 @@ module _ (c : ℕ) where
 
 -- ---- well-formed arrays
 
-module _ (counts : List ℕ) (a : Arrays) (good : WellFormed a) (sized : Sized a) where
+module _ (counts : List ℕ) (a : Arrays) (good : WellFormed a) (sized : ArraysSized a) where
   family-size : (f : ℕ) → f < a .families → length (familyAt counts a f) ≡ getD (a .ends) f 0 - startOf (a .ends) f
   family-size f h = groups-length counts (startOf (a .ends) f) (kindsAt a f) 0 (aritiesAt a f) ∙ arities-length a good sized f h
 

@@ -6,11 +6,11 @@ use Prim.Native.Nat.{ℕ, _+_, _≤_, _<_}
 use native.Mathlib.Omega.{arith}
 use borrow.Author.Tests.{lt-ltb, le-ltb}
 use lib.ListN.{getD}
-use Rattle.model.specs.Run.{Store}
 use Rattle.model.specs.Model.{Entity, SparseSet, setOf, at, held, allHeld}
 use Rattle.model.specs.Sound.{In}
 use Rattle.model.proofs.KindLists.{in-right}
 use Rattle.model.proofs.BoolLaws.{bool-cases}
+use Rattle.model.specs.Store.{Store}
 use Rattle.words.specs.Part.{between}
 use Rattle.words.proofs.Part.{between-none, between-split, between-step, between-in}
 use Rattle.component.specs.Answers.{Finds}

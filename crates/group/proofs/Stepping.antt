@@ -5,9 +5,8 @@ use Prim.Native.Nat.{ℕ, _≤_, _<_}
 use native.Mathlib.Omega.{arith}
 use lib.ListN.{length, getD}
 use Rattle.model.specs.Numbers.{MAX-ENTITIES}
-use Rattle.model.specs.Run.{Store}
 use Rattle.model.specs.Model.{Entity, Storage, setOf, onKinds, swapTo, groupsOf}
-use Rattle.model.specs.Store.{onStorage, withLayout}
+use Rattle.model.specs.Store.{onStorage, withLayout, Store}
 use Rattle.model.specs.Sound.{In}
 use Rattle.masks.specs.Masks.{bitsOf, Ordered}
 use Rattle.words.specs.Part.{between}

@@ -6,9 +6,8 @@ use Prim.Native.Nat.{ℕ, _+_, _≤_, _<_}
 use native.Mathlib.Omega.{arith}
 use borrow.Author.Tests.{eq-eqb}
 use lib.ListN.{length, getD, set}
-use Rattle.model.specs.Run.{Store}
 use Rattle.model.specs.Model.{Entity, SparseSet, Storage, mem, setOf, held, swapTo}
-use Rattle.model.specs.Store.{onSet, onStorage}
+use Rattle.model.specs.Store.{onSet, onStorage, Store}
 use Rattle.model.specs.Sound.{In, Distinct}
 use Rattle.model.proofs.KindLists.{in-left, not-both, distinct-apart}
 use Rattle.words.specs.Part.{between}

@@ -7,13 +7,12 @@ use native.Mathlib.Omega.{arith}
 use borrow.Author.Tests.{lt-ltb, le-ltb}
 use lib.ListN.{length, length-map}
 use Rattle.model.specs.Model.{Entity, SparseSet, Group, Family, Component, Storage, meets, setOf, entityOf, held, onKinds, swapTo, allHeld, isGrouped, headKind, kindsOf, kindOf, insertAll, groupFamily, groupAll}
-use Rattle.model.proofs.SparseSets.{key}
-use Rattle.model.proofs.Groups.{cnt, In}
 use Rattle.model.proofs.Walk.{held-count, GroupRight, Chain, But, Plus, Entered, groupComponents-good, chain-low, Up, groupFamily-good, count-held}
 use Rattle.model.proofs.KindLists.{in-left, in-right, in-cases, all-in, not-both}
 use Rattle.model.proofs.Families.{allKinds, famKinds, chain-other, put-all, chain-put, Apart, Fams, FamsFor, Kinds, Put}
 use Rattle.model.proofs.Regroup.{FreshAll, None, UpEvery, groupFamily-every-good, fams-fresh}
 use Rattle.model.proofs.Invariant.{Fit}
+use Rattle.model.specs.Sound.{key, cnt, In}
 use Rattle.group.specs.declared.group_status.GroupStatus.{GroupStatus}
 use Rattle.group.specs.Flat.{located, withCount, positionsWhere, insertPositions}
 use Rattle.group.specs.Ready.{Swappable, ReadyIn, ReadyUp, ReadyEach}

@@ -8,9 +8,8 @@ use native.Mathlib.Decide.{decLt}
 use borrow.Author.Tests.{lt-leb}
 use lib.Dec.{leb}
 use lib.ListN.{length}
-use Rattle.model.specs.Run.{Store}
 use Rattle.model.specs.Model.{Entity, Storage, groupsOf}
-use Rattle.model.specs.Store.{onStorage}
+use Rattle.model.specs.Store.{onStorage, Store}
 use Rattle.masks.specs.Masks.{bitsOf, has, keep, skipping}
 use Rattle.masks.specs.Walk.{LowStep, HighStep}
 use Rattle.masks.proofs.Lists.{has-here, has-later, has-common, has-reverse, length-keep, and-parts}

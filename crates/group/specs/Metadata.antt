@@ -4,9 +4,9 @@ use mathlib.Core.List.{List}
 use Prim.Native.Nat.{ℕ, _≤_, _<_}
 use lib.ListN.{length}
 use Rattle.model.specs.Numbers.{MAX-GROUP-COUNT}
-use Rattle.model.specs.Run.{Store}
 use Rattle.model.specs.Model.{groupsOf}
 use Rattle.model.specs.Sound.{In, layoutKinds}
+use Rattle.model.specs.Store.{Store}
 use Rattle.words.specs.Part.{between}
 use Rattle.layout.specs.declared.group_metadata.GroupMetadata.{GroupMetadata}
 use Rattle.group.specs.Flat.{located}

@@ -11,9 +11,9 @@ use Rattle.model.specs.Model.{Storage, none, found, mem, within, setOf, rangeAl
 use Rattle.model.proofs.BoolLaws.{and-false-of}
 use Rattle.model.proofs.KindLists.{head-in, all-missing, all-joined}
 use Rattle.layout.specs.Layout.{Arrays, kindsAt, familiesOf, WellFormed}
-use Rattle.layout.specs.ByValue.{Sized}
+use Rattle.layout.specs.ByValue.{ArraysSized}
 use Rattle.group_info.specs.Info.{infoOf, ExcludedSays, IncludedSays, RangeBy}
-use Rattle.group_info.specs.Describes.{GroupedKinds, InfoOfKind, Describes, Scattered, rangeOf, RangeSays}
+use Rattle.group_info.specs.Describes.{GroupedKinds, InfoOfKind, DescribesQuery, Scattered, rangeOf, RangeSays}
 use Rattle.group_info.specs.declared.FoundInfo.{FoundInfo}
 use Rattle.group_info.specs.declared.FoundInfo.the-variants as info
 use Rattle.group_info.specs.declared.QueryGroupInfo.{QueryGroupInfo}
@@ -39,7 +39,7 @@ one-kind k s = refl
 
 -- ---- the cases
 
-module _ (a : Arrays) (s : Storage) (counts : List ℕ) (good : WellFormed a) (sized : Sized a) (layout : s .layout ≡ familiesOf counts a) where
+module _ (a : Arrays) (s : Storage) (counts : List ℕ) (good : WellFormed a) (sized : ArraysSized a) (layout : s .layout ≡ familiesOf counts a) where
   -- what the hand's info says of the search
   abbrev Staged : List ℕ → FoundInfo → Type 0
   Staged hs (info.Info i) = GroupedKinds a hs i
@@ -58,7 +58,7 @@ module _ (a : Arrays) (s : Storage) (counts : List ℕ) (good : WellFormed a) (s
   excluded-one k (info.Info e) g = g
   excluded-one k info.Nothing u = λ hs. none-excluded a good sized counts hs k [] (λ f h. (k, head-in (k ∷ []) (omega arith), u f h))
 
-  staged : (hs : List ℕ) (q : QueryGroupInfo) → Describes a s hs q → Staged hs (infoOf q)
+  staged : (hs : List ℕ) (q : QueryGroupInfo) → DescribesQuery a s hs q → Staged hs (infoOf q)
   staged hs query.Empty d = λ bs. ap (λ (l : List ℕ). rangeAll l bs (familiesOf counts a)) d ∙ none-empty a good sized counts bs
   staged hs (query.One v) d = subst (λ (l : List ℕ). Staged l (v .info)) (sym (d .alone)) (staged-one (d .kind) (v .info) (d .view .grouping))
   staged hs (query.Many i) d = d .grouped
@@ -70,7 +70,7 @@ module _ (a : Arrays) (s : Storage) (counts : List ℕ) (good : WellFormed a) (s
   excluded hs b bs info.Nothing (info.Info e) r p q w = ap rangeOf w ∙ sym (with-excluded hs b bs s ∙ ap (rangeAll hs (b ∷ bs)) layout ∙ p (b ∷ bs))
   excluded hs b bs info.Nothing info.Nothing r p q w = ap rangeOf w ∙ sym (with-excluded hs b bs s ∙ ap (rangeAll hs (b ∷ bs)) layout ∙ p (b ∷ bs))
 
-  included : (hs : List ℕ) (q : QueryGroupInfo) (r : GroupRange) → Describes a s hs q → IncludedSays (a .arities) counts q r → rangeOf r ≡ rangeFor hs [] s
+  included : (hs : List ℕ) (q : QueryGroupInfo) (r : GroupRange) → DescribesQuery a s hs q → IncludedSays (a .arities) counts q r → rangeOf r ≡ rangeFor hs [] s
   included hs query.Empty r d w =
       ap rangeOf w ∙ sym (ap (λ (l : List ℕ). rangeFor l [] s) d ∙ by-groups [] [] s refl ∙ ap (rangeAll [] []) layout ∙ none-empty a good sized counts [])
   included hs (query.One v) r d w =
@@ -78,7 +78,7 @@ module _ (a : Arrays) (s : Storage) (counts : List ℕ) (good : WellFormed a) (s
   included hs (query.Many i) r d w =
       include-range a good sized counts (d .grouped .family) hs i (d .grouped .kinds) r w ∙ ap (rangeAll hs []) (sym layout) ∙ sym (several hs [] s (d .many))
 
-  pub query-range : (hs bs : List ℕ) (p q : QueryGroupInfo) (r : GroupRange) → Describes a s hs p → Describes a s bs q → RangeBy (a .arities) counts p q r → rangeOf r ≡ rangeFor hs bs s
+  pub query-range : (hs bs : List ℕ) (p q : QueryGroupInfo) (r : GroupRange) → DescribesQuery a s hs p → DescribesQuery a s bs q → RangeBy (a .arities) counts p q r → rangeOf r ≡ rangeFor hs bs s
   query-range hs bs p query.Empty r d e w = included hs p r d w ∙ ap (λ (l : List ℕ). rangeFor hs l s) (sym e)
   query-range hs bs p (query.One v) r d e w =
       excluded hs (e .kind) [] (infoOf p) (v .info) r (staged hs p d) (excluded-one (e .kind) (v .info) (e .view .grouping)) w ∙ ap (λ (l : List ℕ). rangeFor hs l s) (sym (e .alone))

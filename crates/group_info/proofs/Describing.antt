@@ -17,11 +17,11 @@ use Rattle.masks.specs.Masks.{has, bitsOf}
 use Rattle.words.proofs.Part.{between-in}
 use Rattle.masks.proofs.Lists.{has-union, has-one}
 use Rattle.layout.specs.Layout.{Arrays, startOf, kindsAt, aritiesAt, KindSet, WellFormed}
-use Rattle.layout.specs.ByValue.{Sized}
+use Rattle.layout.specs.ByValue.{ArraysSized}
 use Rattle.layout.proofs.Family.{rising-at, rising-less}
 use Rattle.layout.proofs.Arrays.{groups-inside, family-kinds, family-rising, arities-length}
-use Rattle.group_info.specs.Info.{placesOf, infoOf, KindInfo, Joined, Both, BothAdded, ViewAdded, Inside, InsideFound}
-use Rattle.group_info.specs.Describes.{Placed, GroupedKinds, Ungrouped, InfoOfKind, ViewOf, Describes, Scattered, InfoOfKinds}
+use Rattle.group_info.specs.Info.{placesOf, infoOf, KindInfo, Joined, Both, BothAdded, ViewAdded, GroupsInside, InsideFound}
+use Rattle.group_info.specs.Describes.{Placed, GroupedKinds, Ungrouped, InfoOfKind, ViewOf, DescribesQuery, Scattered, InfoOfKinds}
 use Rattle.group_info.specs.declared.GroupInfo.{GroupInfo}
 use Rattle.group_info.specs.declared.FoundInfo.{FoundInfo}
 use Rattle.group_info.specs.declared.ViewGroupInfo.{ViewGroupInfo}
@@ -34,7 +34,7 @@ use Rattle.group_info.specs.declared.FoundInfo.the-variants as info
 use Rattle.group_info.specs.declared.QueryGroupInfo.the-variants as query
 use Rattle.group_info.specs.declared.FoundQuery.the-variants as added
 
-module _ (a : Arrays) (good : WellFormed a) (sized : Sized a) where
+module _ (a : Arrays) (good : WellFormed a) (sized : ArraysSized a) where
   -- ---- one kind
 
   pub of-kind : (k f own place : ℕ) (r : GroupInfo) → Placed a k f own place → KindInfo (startOf (a .ends) f) (startOf (a .ends) f + own) place r → InfoOfKinds a f (k ∷ []) r
@@ -184,7 +184,7 @@ module _ (a : Arrays) (good : WellFormed a) (sized : Sized a) where
   module _ (s : Storage) where
     -- what became of the query
     abbrev Next : List ℕ → FoundQuery → Type 0
-    Next hs (added.Query q) = Describes a s hs q
+    Next hs (added.Query q) = DescribesQuery a s hs q
     Next hs added.Nothing = Scattered a hs
 
     next-both : (hs : List ℕ) (k : ℕ) (p q : FoundInfo) (r : FoundQuery) → 1 ≤ length hs → Holds hs p → Holds (k ∷ []) q → BothAdded p q r → Next (hs ++ (k ∷ [])) r
@@ -193,7 +193,7 @@ module _ (a : Arrays) (good : WellFormed a) (sized : Sized a) where
     next-both hs k p q (added.Query (query.Many i)) l x y w = record { many = omega (arith, length-append hs (k ∷ [])); grouped = both-join hs (k ∷ []) p q i x y w }
     next-both hs k p q added.Nothing l x y w = both-scatter hs (k ∷ []) p q (omega (arith, length-append hs (k ∷ []))) x y w
 
-    pub describes-more : (hs : List ℕ) (k : ℕ) (q : QueryGroupInfo) (v : ViewGroupInfo) (r : FoundQuery) → Describes a s hs q → ViewOf a s k v → ViewAdded q v r → Next (hs ++ (k ∷ [])) r
+    pub describes-more : (hs : List ℕ) (k : ℕ) (q : QueryGroupInfo) (v : ViewGroupInfo) (r : FoundQuery) → DescribesQuery a s hs q → ViewOf a s k v → ViewAdded q v r → Next (hs ++ (k ∷ [])) r
     describes-more hs k query.Empty v r d x w =
         subst (Next (hs ++ (k ∷ []))) (sym w) (record { kind = k; alone = ap (λ (l : List ℕ). l ++ (k ∷ [])) d; view = x })
     describes-more hs k (query.One u) v r d x w =
@@ -202,7 +202,7 @@ module _ (a : Arrays) (good : WellFormed a) (sized : Sized a) where
 
     -- ---- its groups stand in the arrays
 
-    inside : (f : ℕ) (hs : List ℕ) (i : GroupInfo) → InfoOfKinds a f hs i → Inside (a .arities) i
+    inside : (f : ℕ) (hs : List ℕ) (i : GroupInfo) → InfoOfKinds a f hs i → GroupsInside (a .arities) i
     inside f hs i x =
         let len = arities-length a good sized f (x .inside) in
         let top = groups-inside a good f (x .inside) in
@@ -231,7 +231,7 @@ module _ (a : Arrays) (good : WellFormed a) (sized : Sized a) where
     inside-kind k info.Nothing u = tt
 
     -- what `group_range` asks of a query that describes kinds
-    pub describes-inside : (hs : List ℕ) (q : QueryGroupInfo) → Describes a s hs q → InsideFound (a .arities) (infoOf q)
+    pub describes-inside : (hs : List ℕ) (q : QueryGroupInfo) → DescribesQuery a s hs q → InsideFound (a .arities) (infoOf q)
     describes-inside hs query.Empty d = tt
     describes-inside hs (query.One v) d = inside-kind (d .kind) (v .info) (d .view .grouping)
     describes-inside hs (query.Many i) d = inside (d .grouped .family) hs i (d .grouped .kinds)

@@ -17,7 +17,7 @@ use Rattle.model.proofs.KindLists.{in-count, not-in-parts, mem-take-le, not-in-
 use Rattle.model.proofs.BoolLaws.{not-true, cond-same}
 use Rattle.words.specs.Part.{between}
 use Rattle.words.proofs.Part.{count-part, between-join, between-in}
-use Rattle.layout.specs.Layout.{Arrays, startOf, widthOf, kindsAt, groupsFrom, KindSet, Rising, WellFormed}
+use Rattle.layout.specs.Layout.{Arrays, startOf, widthOf, kindsAt, groupsFrom, KindSet, AritiesRising, WellFormed}
 use Rattle.layout.proofs.Family.{rising-le, rising-head}
 use Rattle.layout.proofs.Arrays.{kind-order, kinds-inside, ends-rise}
 use Rattle.group_info.proofs.Places.{place-at, mem-part}
@@ -101,7 +101,7 @@ module _ (hs bs counts ks : List ℕ) (s : KindSet ks) where
   no-groups g b = refl
 
   -- kinds that are all before b equal no group past it
-  past : (g b : ℕ) (ars : List ℕ) → Rising b (length ks) ars → ((k : ℕ) → mem k hs ≡ true → mem k (take b ks) ≡ true) → rangeIn hs bs (take b ks) (groupsFrom counts g ks b ars) ≡ none
+  past : (g b : ℕ) (ars : List ℕ) → AritiesRising b (length ks) ars → ((k : ℕ) → mem k hs ≡ true → mem k (take b ks) ≡ true) → rangeIn hs bs (take b ks) (groupsFrom counts g ks b ars) ≡ none
   past g b [] r h = no-groups g b
   past g b (a ∷ ars) r h =
       let p = rising-head b (length ks) a ars r in
@@ -111,7 +111,7 @@ module _ (hs bs counts ks : List ℕ) (s : KindSet ks) where
       ∙ rw (differ-right hs (take a ks) (getD ks b 0) (x .0) out) (past (suc g) a ars (p .1) (λ k m. mem-take-le k ks b a (omega (arith, p .0)) (h k m)))
 
   -- kinds up to the group at j, one of them new there: they equal that group or none
-  pub at-group : (g b : ℕ) (ars : List ℕ) (j top : ℕ) → Rising b (length ks) ars → j < length ars
+  pub at-group : (g b : ℕ) (ars : List ℕ) (j top : ℕ) → AritiesRising b (length ks) ars → j < length ars
       → ((k : ℕ) → mem k hs ≡ true → mem k (take (getD ars j 0) ks) ≡ true) → mem top hs ≡ true → mem top (take (getD (b ∷ ars) j 0) ks) ≡ false
       → rangeIn hs bs (take b ks) (groupsFrom counts g ks b ars)
       ≡ cond (sameSet hs (take (getD ars j 0) ks)) (rangeAt bs (getD counts (g + j) 0) (groupsFrom counts (suc (g + j)) ks (getD ars j 0) (drop (suc j) ars))) none
@@ -127,13 +127,13 @@ module _ (hs bs counts ks : List ℕ) (s : KindSet ks) where
       ∙ rw (differ-left hs (take a ks) top m out)
       (at-group (suc g) a ars j top (p .1) (omega arith) below m n ∙ ap (λ (i : ℕ). cond (sameSet hs (take (getD ars j 0) ks)) (rangeAt bs (getD counts i 0) (groupsFrom counts (suc i) ks (getD ars j 0) (drop (suc j) ars))) none) (suc-add g j ∙ sym (add-suc g j)))
     where
-      first : (a : ℕ) (ars : List ℕ) (j : ℕ) → Rising a (length ks) ars → j < suc (length ars) → a ≤ getD (a ∷ ars) j 0
+      first : (a : ℕ) (ars : List ℕ) (j : ℕ) → AritiesRising a (length ks) ars → j < suc (length ars) → a ≤ getD (a ∷ ars) j 0
       first a ars zero r h = omega arith
       first a [] (suc j) r h = absurd (omega arith)
       first a (c ∷ ars) (suc j) r h = let q = rising-head a (length ks) c ars r in omega (arith, q .0, first c ars j (q .1) (omega arith))
 
   -- no kinds equal no group
-  pub empty-none : (g b : ℕ) (ars : List ℕ) → Rising b (length ks) ars → ((k : ℕ) → mem k hs ≡ false) → rangeIn hs bs (take b ks) (groupsFrom counts g ks b ars) ≡ none
+  pub empty-none : (g b : ℕ) (ars : List ℕ) → AritiesRising b (length ks) ars → ((k : ℕ) → mem k hs ≡ false) → rangeIn hs bs (take b ks) (groupsFrom counts g ks b ars) ≡ none
   empty-none g b ars r h = past g b ars r (λ k m. absurd (true≢false (sym m ∙ h k)))
 
 -- ---- what follows a group: the next larger one's new kinds

@@ -8,7 +8,7 @@ use lib.ListN.{getD}
 use Rattle.model.specs.Numbers.{MAX-GROUP-COUNT}
 use Rattle.masks.specs.Masks.{bitsOf, Ordered}
 use Rattle.masks.proofs.Bits.{bits-injective}
-use Rattle.group_info.specs.Info.{Inside, topOf}
+use Rattle.group_info.specs.Info.{GroupsInside, topOf}
 use Rattle.group_info.specs.declared.GroupInfo.{GroupInfo}
 
 -- masks that differ have different places
@@ -18,7 +18,7 @@ differ m n l hm hn ne en em = ne (bits-injective 16 m n hm hn (em ∙ sym en))
 pub agree : (m n : ℕ) (l : List ℕ) → m ≡ n → bitsOf 16 n ≡ l → bitsOf 16 m ≡ l
 agree m n l e en = ap (bitsOf 16) e ∙ en
 
-module _ (ars : List ℕ) (i e : GroupInfo) (x : Inside ars i) (y : Inside ars e) (same : i .«group_start» ≡ e .«group_start») where
+module _ (ars : List ℕ) (i e : GroupInfo) (x : GroupsInside ars i) (y : GroupsInside ars e) (same : i .«group_start» ≡ e .«group_start») where
   pub top-below : topOf i e < MAX-GROUP-COUNT
   top-below = omega (arith, x .low, x .high, y .high)
 

@@ -57,7 +57,7 @@ module _ (ks : List ℕ) (s : KindSet ks) (lo hi : ℕ) (ord : lo ≤ hi) (top :
   module _ (hs : List ℕ) (m : ℕ) (few : length ks ≤ MAX-GROUP-ARITY) (inside : (k : ℕ) → mem k hs ≡ true → mem k ks ≡ true)
       (places : (p : ℕ) → p < 16 → Masks.has p (Masks.bitsOf 16 m) ≡ (ltb p (length ks) && mem (getD ks p 0) hs)) where
     pub places-of-part : sameSet hs (between lo hi ks) ≡ true → Masks.bitsOf 16 m ≡ Masks.upFrom lo (hi - lo)
-    places-of-part e = bits-members 16 m (Masks.between lo hi) (λ p h. places p h ∙ claim p) ∙ keep-between 16 lo hi ord (omega arith)
+    places-of-part e = bits-members 16 m (Masks.isBetween lo hi) (λ p h. places p h ∙ claim p) ∙ keep-between 16 lo hi ord (omega arith)
       where
         outside : (p : ℕ) → p < length ks → (lo ≤ p → p < hi → ⊥) → mem (getD ks p 0) hs ≡ false
         outside p h n =
@@ -72,7 +72,7 @@ module _ (ks : List ℕ) (s : KindSet ks) (lo hi : ℕ) (ord : lo ≤ hi) (top :
               | no h ↦ rw (le-ltb p (length ks) (omega arith)) refl
             ]
 
-        claim : (p : ℕ) → (ltb p (length ks) && mem (getD ks p 0) hs) ≡ Masks.between lo hi p
+        claim : (p : ℕ) → (ltb p (length ks) && mem (getD ks p 0) hs) ≡ Masks.isBetween lo hi p
         claim p =
             elim (decLe lo p) [
               | yes l ↦ elim (decLt p hi) [
@@ -85,8 +85,8 @@ module _ (ks : List ℕ) (s : KindSet ks) (lo hi : ℕ) (ord : lo ≤ hi) (top :
     pub part-of-places : Masks.bitsOf 16 m ≡ Masks.upFrom lo (hi - lo) → sameSet hs (between lo hi ks) ≡ true
     part-of-places e = rw (all-true (λ k. mem k (between lo hi ks)) hs to, all-true (λ k. mem k hs) (between lo hi ks) from)
       where
-        run : (p : ℕ) → Masks.has p (Masks.bitsOf 16 m) ≡ Masks.between lo hi p
-        run p = ap (Masks.has p) e ∙ has-up p lo (hi - lo) ∙ ap (λ (x : ℕ). Masks.between lo x p) (ends ord)
+        run : (p : ℕ) → Masks.has p (Masks.bitsOf 16 m) ≡ Masks.isBetween lo hi p
+        run p = ap (Masks.has p) e ∙ has-up p lo (hi - lo) ∙ ap (λ (x : ℕ). Masks.isBetween lo x p) (ends ord)
           where
             ends : lo ≤ hi → lo + (hi - lo) ≡ hi
             ends o = omega arith
@@ -97,7 +97,7 @@ module _ (ks : List ℕ) (s : KindSet ks) (lo hi : ℕ) (ord : lo ≤ hi) (top :
             let p = placeOf k ks in
             let b : p < length ks = place-inside k ks m′ in
             let g : getD ks p 0 ≡ k = at-place k ks m′ in
-            let bit : Masks.between lo hi p ≡ true = sym (run p) ∙ places p (omega arith) ∙ rw (lt-ltb p (length ks) b, g, h) in
+            let bit : Masks.isBetween lo hi p ≡ true = sym (run p) ∙ places p (omega arith) ∙ rw (lt-ltb p (length ks) b, g, h) in
             let x = between-parts lo hi p bit in
             ap (λ (y : ℕ). mem y (between lo hi ks)) (sym g) ∙ part-in lo hi p ks (x .0) (x .1) top
 

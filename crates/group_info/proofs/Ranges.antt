@@ -15,8 +15,8 @@ use Rattle.model.proofs.BoolLaws.{bool-cases, not-true, by-eq}
 use Rattle.words.specs.Part.{between}
 use Rattle.words.proofs.Part.{between-in}
 use Rattle.masks.specs.Masks.{upFrom}
-use Rattle.layout.specs.Layout.{Arrays, startOf, kindsAt, aritiesAt, groupsFrom, familiesOf, KindSet, Rising, WellFormed}
-use Rattle.layout.specs.ByValue.{Sized}
+use Rattle.layout.specs.Layout.{Arrays, startOf, kindsAt, aritiesAt, groupsFrom, familiesOf, KindSet, AritiesRising, WellFormed}
+use Rattle.layout.specs.ByValue.{ArraysSized}
 use Rattle.layout.specs.Group.{arityOf}
 use Rattle.layout.proofs.Family.{rising-at, rising-less, start-prior, rising-step}
 use Rattle.layout.proofs.Arrays.{families-length, families-at, family-kindsOf, family-kinds, family-rising, kinds-length, arities-length}
@@ -31,7 +31,7 @@ use Rattle.group_info.specs.declared.GroupRange.the-variants as ranged
 
 -- ---- one family: which group its own is
 
-module _ (ks ars : List ℕ) (s : KindSet ks) (r : Rising 0 (length ks) ars) where
+module _ (ks ars : List ℕ) (s : KindSet ks) (r : AritiesRising 0 (length ks) ars) where
   start-below : (j : ℕ) → j < length ars → startOf ars j < getD ars j 0
   start-below j h = omega (arith, rising-step 0 (length ks) ars j r h, start-prior ars j)
 
@@ -84,7 +84,7 @@ module _ (ks ars : List ℕ) (s : KindSet ks) (r : Rising 0 (length ks) ars) whe
 
 -- ---- over the arrays
 
-module _ (a : Arrays) (good : WellFormed a) (sized : Sized a) where
+module _ (a : Arrays) (good : WellFormed a) (sized : ArraysSized a) where
   pub few-kinds : (f : ℕ) → f < a .families → length (kindsAt a f) ≤ MAX-GROUP-ARITY
   few-kinds f h = omega (arith, kinds-length a good sized f h, good .family f h .most)
 

@@ -8,7 +8,7 @@ use lib.ListN.{length, getD, take}
 use Rattle.model.specs.Model.{Storage, Range, none, found, mem, within, setOf, rangeFor}
 use Rattle.masks.specs.Masks.{has}
 use Rattle.layout.specs.Layout.{Arrays, startOf, kindsAt, aritiesAt, familiesOf, WellFormed}
-use Rattle.layout.specs.ByValue.{Sized}
+use Rattle.layout.specs.ByValue.{ArraysSized}
 use Rattle.group_info.specs.declared.GroupInfo.{GroupInfo}
 use Rattle.group_info.specs.declared.FoundInfo.{FoundInfo}
 use Rattle.group_info.specs.declared.FoundInfo.the-variants as info
@@ -66,10 +66,10 @@ pub record ManyKinds (a : Arrays) (hs : List ℕ) (i : GroupInfo) : Type 0 where
   pub many : 2 ≤ length hs
   pub grouped : GroupedKinds a hs i
 
-abbrev pub Describes : Arrays → Storage → List ℕ → QueryGroupInfo → Type 0
-Describes a s hs query.Empty = hs ≡ []
-Describes a s hs (query.One v) = OneKind a s hs v
-Describes a s hs (query.Many i) = ManyKinds a hs i
+abbrev pub DescribesQuery : Arrays → Storage → List ℕ → QueryGroupInfo → Type 0
+DescribesQuery a s hs query.Empty = hs ≡ []
+DescribesQuery a s hs (query.One v) = OneKind a s hs v
+DescribesQuery a s hs (query.Many i) = ManyKinds a hs i
 
 -- two kinds or more that no family holds: where adding a view answers nothing
 pub record Scattered (a : Arrays) (hs : List ℕ) : Type 0 where
@@ -88,11 +88,11 @@ pub record RangeQuery (ars counts : List ℕ) (include exclude : QueryGroupInfo)
   pub staged : List ℕ
   pub excluded : List ℕ
   pub good : WellFormed arrays
-  pub sized : Sized arrays
+  pub sized : ArraysSized arrays
   pub arities : arrays .arities ≡ ars
   pub layout : storage .layout ≡ familiesOf counts arrays
-  pub included : Describes arrays storage staged include
-  pub excludes : Describes arrays storage excluded exclude
+  pub included : DescribesQuery arrays storage staged include
+  pub excludes : DescribesQuery arrays storage excluded exclude
 
 abbrev pub RangeSays : List ℕ → List ℕ → QueryGroupInfo → QueryGroupInfo → GroupRange → Type 0
 RangeSays ars counts include exclude r = (q : RangeQuery ars counts include exclude) → rangeOf r ≡ rangeFor (q .staged) (q .excluded) (q .storage)

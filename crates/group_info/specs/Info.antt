@@ -74,7 +74,7 @@ ViewAdded (query.Many i) v r = BothAdded (info.Info i) (v .info) r
 -- ---- the range of an info
 
 -- its groups stand in the arrays
-pub record Inside (ars : List ℕ) (i : GroupInfo) : Type 0 where
+pub record GroupsInside (ars : List ℕ) (i : GroupInfo) : Type 0 where
   pub low : i .«group_start» < i .«group_end»
   pub high : i .«group_end» ≤ MAX-GROUP-COUNT
   pub small : (g : ℕ) → i .«group_start» ≤ g → g < i .«group_end» → getD ars g 0 < 16
@@ -82,7 +82,7 @@ pub record Inside (ars : List ℕ) (i : GroupInfo) : Type 0 where
 
 -- so where there is an info
 abbrev pub InsideFound : List ℕ → FoundInfo → Type 0
-InsideFound ars (info.Info i) = Inside ars i
+InsideFound ars (info.Info i) = GroupsInside ars i
 InsideFound ars info.Nothing = Unit {0}
 
 -- the arrays of arities and counts, a number for each of 64 groups

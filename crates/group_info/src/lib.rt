@@ -2,7 +2,7 @@
 ghost use mathlib.Core.Path.{_≡_};
 ghost use Prim.Native.Nat.{_+_, _<_, max};
 ghost use Rattle.words.specs.Offsets.{GROUP-PLACES};
-ghost use Rattle.group_info.specs.Info.{KindInfo, JoinedBy, infoOf, BothAdded, ViewAdded, Inside, InsideFound, Tables, IncludeSays, ExcludeSays, ExcludedSays, IncludedSays};
+ghost use Rattle.group_info.specs.Info.{KindInfo, JoinedBy, infoOf, BothAdded, ViewAdded, GroupsInside, InsideFound, Tables, IncludeSays, ExcludeSays, ExcludedSays, IncludedSays};
 ghost use Rattle.group_info.specs.Describes.{RangeSays};
 use masks::group_mask::QueryMask;
 use masks::storage_mask::StorageMask;
@@ -132,7 +132,7 @@ impl QueryGroupInfo {
 
 // The kinds are a whole group: its range.
 fn include_group_range(include: GroupInfo, arities: &[u32], counts: &[u32]) -> GroupRange
-    requires { ⌜ Tables (now arities) (now counts) × Inside (now arities) include ⌝ }
+    requires { ⌜ Tables (now arities) (now counts) × GroupsInside (now arities) include ⌝ }
     ensures { λ r. ⌜ IncludeSays (now (arities .entry)) (now (counts .entry)) include r ⌝ }
 {
     let g = include.group_end - 1;
@@ -152,7 +152,7 @@ fn exclude_group_range(
     arities: &[u32],
     counts: &[u32],
 ) -> GroupRange
-    requires { ⌜ Tables (now arities) (now counts) × Inside (now arities) include × Inside (now arities) exclude ⌝ }
+    requires { ⌜ Tables (now arities) (now counts) × GroupsInside (now arities) include × GroupsInside (now arities) exclude ⌝ }
     ensures { λ r. ⌜ ExcludeSays (now (arities .entry)) (now (counts .entry)) include exclude r ⌝ }
 {
     let start = include.group_start;

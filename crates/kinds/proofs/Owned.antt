@@ -10,7 +10,7 @@ use lib.Seq.{getD-take, length-take-le}
 use Rattle.model.specs.Model.{mem}
 use Rattle.model.specs.Sound.{In}
 use Rattle.model.proofs.BoolLaws.{not-true}
-use Rattle.layout.specs.Layout.{Arrays, startOf, widthOf, kindsAt, aritiesAt, Rising, WellFormed}
+use Rattle.layout.specs.Layout.{Arrays, startOf, widthOf, kindsAt, aritiesAt, AritiesRising, WellFormed}
 use Rattle.layout.specs.Group.{InFamily, arityOf, priorArity, memberAt}
 use Rattle.layout.proofs.Arrays.{groups-inside, kinds-length, arities-length, family-rising}
 use Rattle.layout.proofs.Groups.{spot, same-family, prior-at, arity-at}
@@ -30,8 +30,8 @@ pub record Level (b : ℕ) (ars : List ℕ) (j : ℕ) : Type 0 where
   pub low : getD (b ∷ ars) number 0 ≤ j
   pub high : j < getD ars number 0
 
-level : (b n : ℕ) (ars : List ℕ) (j : ℕ) → Rising b n ars → b ≤ j → j < n → Level b ars j
-unfolding Rising
+level : (b n : ℕ) (ars : List ℕ) (j : ℕ) → AritiesRising b n ars → b ≤ j → j < n → Level b ars j
+unfolding AritiesRising
 level b n [] j r l h = absurd (omega arith)
 level b n (a ∷ rest) j r l h =
     elim (decLt j a) [

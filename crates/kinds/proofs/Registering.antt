@@ -11,7 +11,6 @@ use lib.ListN.{length, getD, set, take, drop, length-set}
 use lib.Seq.{getD-set-same, getD-set-other, drop-set-lt}
 use Rattle.model.specs.Numbers.{ENTITY-LEN, MAX-KINDS}
 use Rattle.model.specs.Model.{mem}
-use Rattle.model.specs.Run.{withKinds}
 use Rattle.model.specs.Sound.{In}
 use Rattle.words.specs.Offsets.{columnStart, CAPACITY, COLUMN-KIND, DRAFT-FAMILIES, DRAFT-GROUPS, ENTITIES, EXCLUDED-LEN, GROUP-COUNTS, GROUP-FAMILIES, GROUP-PLACES, KIND-CAPACITY, LAYOUT-FAMILIES, LAYOUT-GROUPS, OWN-GROUP, PLACE-IN-FAMILY, REGISTERED, STAGED-LEN, TABLE, UNREGISTERED}
 use Rattle.words.proofs.Offsets.{columnStart-mono}
@@ -32,6 +31,7 @@ use Rattle.memory.specs.Meaning.{kindAt, ownAt, kindsIn, setAt, setsIn, draftAr
 use Rattle.memory.specs.Arranged.{TableSound, Registered, GroupSound, LayoutSound, Arranged, Becomes}
 use Rattle.memory.proofs.Frames.{start-header, part-same, draft-arrays-same, layout-arrays-same, counts-same, staged-same, excluded-same, settings-kept, counts-kept, long, reads-means}
 use Rattle.model.proofs.ListLaws.{drop-later, word-front}
+use Rattle.model.specs.Store.{withKinds}
 use Rattle.kinds.specs.Steps.{withHead}
 use Rattle.kinds.proofs.Slot.{slot-known}
 use Rattle.entity.specs.Meaning as entity

@@ -23,7 +23,7 @@ use Rattle.memory.specs.Arranged.{Arranged, Becomes}
 use Rattle.memory.proofs.Frames.{long}
 use Rattle.memory.proofs.Becomes.{set-at, set-in, one-becomes}
 use Rattle.kinds.specs.Kinds.{kindSet}
-use Rattle.kinds.specs.Steps.{InSlot, headOf}
+use Rattle.kinds.specs.Steps.{InSlot, headWord}
 
 -- ---- the table of kinds
 
@@ -73,5 +73,5 @@ module _ (w : List ℕ) (n k s : ℕ) (e : n ≡ capacityOf w) (at : InSlot w k 
       (one-becomes w w′ A s (at .real) f ((rw e at o) (kindCapacityOf w) few (A .columns)))
 
   -- word i of the column's head, where the code reads it
-  pub head-at : (i : ℕ) → i < ROWS → getD w (columnStart n s + i) 0 ≡ headOf w k i
+  pub head-at : (i : ℕ) → i < ROWS → getD w (columnStart n s + i) 0 ≡ headWord w k i
   head-at i h = sym (getD-column n s i w (omega arith)) ∙ rw (e, at .is)

@@ -19,8 +19,8 @@ pub record InSlot (w : List ℕ) (k s : ℕ) : Type 0 where
   pub rows : kindSet w k ≡ rowsOf (capacityOf w) s w
 
 -- word i of the head of kind k's column
-abbrev pub headOf : List ℕ → ℕ → ℕ → ℕ
-headOf w k i = getD (columnOf (capacityOf w) (slotOf w k) w) i 0
+abbrev pub headWord : List ℕ → ℕ → ℕ → ℕ
+headWord w k i = getD (columnOf (capacityOf w) (slotOf w k) w) i 0
 
 -- the head of slot s's column: its kind k, in no group
 abbrev pub withHead : ℕ → ℕ → ℕ → List ℕ → List ℕ

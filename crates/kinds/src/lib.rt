@@ -9,11 +9,10 @@ ghost use Prim.Native.Nat.{_<_, _≤_};
 ghost use lib.ListN.{length, getD};
 ghost use Rattle.model.specs.Numbers.{MAX-KINDS};
 ghost use Rattle.words.specs.Offsets.{ROWS};
-ghost use Rattle.model.specs.Model.{noRow, mem, held, insertRow, swapTo};
-ghost use Rattle.model.specs.Store.{onSet, onStorage};
-ghost use Rattle.model.specs.Run.{withKinds};
+ghost use Rattle.model.specs.Model.{noRow, mem, held, insertRow, swapTo, entity};
+ghost use Rattle.model.specs.Store.{onSet, onStorage, withKinds};
 ghost use Rattle.model.specs.Sound.{In};
-ghost use Rattle.component.specs.SparseSet.{entity, valueOf};
+ghost use Rattle.component.specs.SparseSet.{valueOf};
 ghost use Rattle.component.specs.Stored.{Current};
 ghost use Rattle.component.specs.Answers.{Finds};
 ghost use Rattle.component.specs.Changes.{Lent};
@@ -21,7 +20,7 @@ ghost use Rattle.memory.specs.Header.{capacityOf, slotOf};
 ghost use Rattle.memory.specs.Meaning.{localAt, meaning};
 ghost use Rattle.memory.specs.Arranged.{Arranged, Becomes};
 ghost use Rattle.kinds.specs.Kinds.{kindSet, OwnGroup, RemovesKind, emptied};
-ghost use Rattle.kinds.specs.Steps.{InSlot, headOf, withHead};
+ghost use Rattle.kinds.specs.Steps.{InSlot, headWord, withHead};
 
 // The group whose new kinds have the kind.
 pub enum Own {
@@ -147,7 +146,7 @@ fn head(words: &[u32], kind: usize, i: usize) -> usize
     requires { ⌜ Arranged (now words) ⌝ }
     requires { ⌜ In (meaning (now words) .kinds) kind ⌝ }
     requires { ⌜ i < ROWS ⌝ }
-    ensures { λ r. ⌜ r ≡ headOf (now (words .entry)) kind i ⌝ }
+    ensures { λ r. ⌜ r ≡ headWord (now (words .entry)) kind i ⌝ }
 {
     let n = words::word(words, words::CAPACITY);
     let slot = slot_of(words, kind);

@@ -20,7 +20,7 @@ use Rattle.words.specs.Part.{between}
 use Rattle.words.specs.Table.{table}
 use Rattle.words.proofs.Tables.{table-snoc, table-set}
 use Rattle.layout.specs.Layout.{Arrays, startOf, widthOf, groupCount, kindsAt, aritiesAt, groupsFrom, familyAt, KindSet, FamilyFormed, WellFormed}
-use Rattle.layout.specs.ByValue.{arraysOf, Sized, meaning, Formed}
+use Rattle.layout.specs.ByValue.{arraysOf, ArraysSized, layoutMeaning, Formed}
 use Rattle.layout.specs.Grow.{LooseAt, widened, Extends, Extended, openedOf, GroupKinds, FreshAsk, FreshDone, OntoAsk, OntoDone}
 use Rattle.layout.specs.Add.{Fitting}
 use Rattle.layout.specs.declared.group_layout.Fit.{Fit}
@@ -36,12 +36,12 @@ pub group-kinds : (l : Layout) (hs : List ℕ) (x : Fit) → Fitting l hs x → 
 group-kinds l hs x p g = record { formed = p .formed; room = omega (arith, g); staged = p .kinds; least = p .least; most = omega (arith, p .most) }
 
 -- as many groups as the model counts
-pub counted-groups : (l : Layout) → Formed l → Sized (arraysOf l) → groupsOf (meaning l) ≡ l .groups
+pub counted-groups : (l : Layout) → Formed l → ArraysSized (arraysOf l) → groupsOf (layoutMeaning l) ≡ l .groups
 counted-groups l F z = Arrays.groups-of [] (arraysOf l) (F .good) z ∙ sym (F .groups)
 
 -- ---- a family of its own
 
-module _ (l : Layout) (hs : List ℕ) (ask : FreshAsk l hs) (sized : Sized (arraysOf l)) where
+module _ (l : Layout) (hs : List ℕ) (ask : FreshAsk l hs) (sized : ArraysSized (arraysOf l)) where
   n : ℕ
   n = l .families
 
@@ -182,7 +182,7 @@ module _ (l : Layout) (hs : List ℕ) (ask : FreshAsk l hs) (sized : Sized (arra
 
 -- ---- onto a family
 
-module _ (l : Layout) (f : ℕ) (hs : List ℕ) (ask : OntoAsk l f hs) (sized : Sized (arraysOf l)) where
+module _ (l : Layout) (f : ℕ) (hs : List ℕ) (ask : OntoAsk l f hs) (sized : ArraysSized (arraysOf l)) where
   abbrev has : Arrays
   has = arraysOf l
 
@@ -249,37 +249,37 @@ module _ (l : Layout) (f : ℕ) (hs : List ℕ) (ask : OntoAsk l f hs) (sized : 
 
 -- ---- what the model's rule says of the arrays
 
-module _ (l : Layout) (hs : List ℕ) (group : GroupKinds l hs) (sized : Sized (arraysOf l)) where
+module _ (l : Layout) (hs : List ℕ) (group : GroupKinds l hs) (sized : ArraysSized (arraysOf l)) where
   fine : WellFormed (arraysOf l)
   fine = group .formed .good
 
-  unmet-at : (i : ℕ) → i < l .families → meets hs (kindsOf (getD (meaning l) i [])) ≡ false → (k : ℕ) → 1 ≤ countOf eqb k hs → countOf eqb k (kindsAt (arraysOf l) i) ≡ 0
+  unmet-at : (i : ℕ) → i < l .families → meets hs (kindsOf (getD (layoutMeaning l) i [])) ≡ false → (k : ℕ) → 1 ≤ countOf eqb k hs → countOf eqb k (kindsAt (arraysOf l) i) ≡ 0
   unmet-at i h m k c =
       unmet hs (kindsAt (arraysOf l) i) k
       (ap (meets hs) (sym (ap kindsOf (Arrays.families-at [] (arraysOf l) i h) ∙ Arrays.family-kindsOf (arraysOf l) fine sized [] i h)) ∙ m) c
 
-  counted-length : length (meaning l) ≡ l .families
+  counted-length : length (layoutMeaning l) ≡ l .families
   counted-length = Arrays.families-length [] (arraysOf l)
 
-  pub fresh-ask : IsFresh hs (meaning l) → FreshAsk l hs
+  pub fresh-ask : IsFresh hs (layoutMeaning l) → FreshAsk l hs
   fresh-ask s =
       record {
         group = group;
         unknown = λ k c. Arrays.in-no-family k (l .«kind_ends») (l .kinds) (l .families) (Arrays.kind-order (arraysOf l) fine)
-            (λ i h. unmet-at i h (untouched-at hs (meaning l) (s .none) i (omega (arith, counted-length))) k c);
+            (λ i h. unmet-at i h (untouched-at hs (layoutMeaning l) (s .none) i (omega (arith, counted-length))) k c);
       }
 
-  module _ (f : ℕ) (t : Target hs (meaning l) f) where
+  module _ (f : ℕ) (t : Target hs (layoutMeaning l) f) where
     pub inside : f < l .families
     inside = omega (arith, t .inside, counted-length)
 
-    own-kinds : kindsOf (getD (meaning l) f []) ≡ kindsAt (arraysOf l) f
+    own-kinds : kindsOf (getD (layoutMeaning l) f []) ≡ kindsAt (arraysOf l) f
     own-kinds = ap kindsOf (Arrays.families-at [] (arraysOf l) f inside) ∙ Arrays.family-kindsOf (arraysOf l) fine sized [] f inside
 
     holds : within (kindsAt (arraysOf l) f) hs ≡ true
     holds = ap (λ (ks : List ℕ). within ks hs) (sym own-kinds) ∙ t .holds
 
-    some-group : 1 ≤ length (getD (meaning l) f [])
+    some-group : 1 ≤ length (getD (layoutMeaning l) f [])
     some-group =
         omega (
           arith,
@@ -290,7 +290,7 @@ module _ (l : Layout) (hs : List ℕ) (group : GroupKinds l hs) (sized : Sized (
         )
 
     unequal : sameSet hs (kindsAt (arraysOf l) f) ≡ false
-    unequal = ap (sameSet hs) (sym own-kinds) ∙ not-all hs [] (getD (meaning l) f []) some-group (t .other)
+    unequal = ap (sameSet hs) (sym own-kinds) ∙ not-all hs [] (getD (layoutMeaning l) f []) some-group (t .other)
 
     longer : length (kindsAt (arraysOf l) f) < length hs
     longer =
@@ -316,9 +316,9 @@ module _ (l : Layout) (hs : List ℕ) (group : GroupKinds l hs) (sized : Sized (
             out-count (kindsAt (arraysOf l) f) k
             (bool-cases (mem k (kindsAt (arraysOf l) f)) (λ m. absurd (omega (arith, rw m at (count-without hs (kindsAt (arraysOf l) f) k)))) (λ m. m))
 
-    pub onto-means : set (meaning l) f (familyAt [] (arraysOf l) f ++ (newGroup (without hs (kindsAt (arraysOf l) f)) ∷ [])) ≡ grown hs (meaning l)
+    pub onto-means : set (layoutMeaning l) f (familyAt [] (arraysOf l) f ++ (newGroup (without hs (kindsAt (arraysOf l) f)) ∷ [])) ≡ grown hs (layoutMeaning l)
     onto-means =
-        ap₂ (λ (x : Family) (ks : List ℕ). set (meaning l) f (x ++ (newGroup (without hs ks) ∷ []))) (sym (Arrays.families-at [] (arraysOf l) f inside)) (sym own-kinds)
+        ap₂ (λ (x : Family) (ks : List ℕ). set (layoutMeaning l) f (x ++ (newGroup (without hs ks) ∷ []))) (sym (Arrays.families-at [] (arraysOf l) f inside)) (sym own-kinds)
         ∙ sym (t .grows)
 
 pub onto-target : (hs : List ℕ) (fs : List Family) (f : ℕ) → IsOnto hs fs f → Target hs fs f

@@ -20,14 +20,14 @@ use Rattle.words.specs.Table.{table}
 use Rattle.words.proofs.Tables.{length-table, getD-table, table-snoc, table-none}
 use Rattle.model.proofs.BoolLaws.{by-eq}
 use Rattle.model.proofs.Draft.{kinds-append}
-use Rattle.layout.specs.Layout.{Arrays, startOf, widthOf, groupCount, kindsAt, aritiesAt, groupsFrom, familyAt, familiesOf, KindSet, Rising, WellFormed, blockArrays}
-use Rattle.layout.specs.ByValue.{Sized}
+use Rattle.layout.specs.Layout.{Arrays, startOf, widthOf, groupCount, kindsAt, aritiesAt, groupsFrom, familyAt, familiesOf, KindSet, AritiesRising, WellFormed, blockArrays}
+use Rattle.layout.specs.ByValue.{ArraysSized}
 use Rattle.layout.specs.Fit.{partOf, joinFit, fitFrom, FamilyAsk}
 use Rattle.layout.specs.declared.group_layout.Fit.{Fit}
 use Rattle.layout.proofs.KindSets.{set-between}
 use Rattle.layout.proofs.Family.{rising-zero, kinds-from, no-counts}
 
-pub block-sized : (w : List ℕ) (n : ℕ) → length w ≡ BLOCK-LEN → Sized (blockArrays w n)
+pub block-sized : (w : List ℕ) (n : ℕ) → length w ≡ BLOCK-LEN → ArraysSized (blockArrays w n)
 block-sized w n e =
     record {
       kinds = length-between 0 ARITIES w (omega arith);
@@ -90,7 +90,7 @@ module _ (a : Arrays) (good : WellFormed a) where
       (sym (between-front (widthOf a) (startOf (a .kindEnds) i) (getD (a .kindEnds) i 0) (take (widthOf a) (a .kinds)) (a .kinds) (kinds-inside i h) (sym (take-take (widthOf a) (widthOf a) (a .kinds) (omega arith)))))
       (set-between (startOf (a .kindEnds) i) (getD (a .kindEnds) i 0) (take (widthOf a) (a .kinds)) (good .kinds))
 
-  module _ (sized : Sized a) where
+  module _ (sized : ArraysSized a) where
     pub kinds-length : (i : ℕ) → i < a .families → length (kindsAt a i) ≡ getD (a .kindEnds) i 0 - startOf (a .kindEnds) i
     kinds-length i h =
         length-between (startOf (a .kindEnds) i) (getD (a .kindEnds) i 0) (a .kinds) (omega (arith, kinds-inside i h, good .wide, sized .kinds))
@@ -99,7 +99,7 @@ module _ (a : Arrays) (good : WellFormed a) where
     arities-length i h =
         length-between (startOf (a .ends) i) (getD (a .ends) i 0) (a .arities) (omega (arith, groups-inside i h, good .many, sized .arities))
 
-    pub family-rising : (i : ℕ) → i < a .families → Rising 0 (length (kindsAt a i)) (aritiesAt a i)
+    pub family-rising : (i : ℕ) → i < a .families → AritiesRising 0 (length (kindsAt a i)) (aritiesAt a i)
     family-rising i h =
         let f = good .family i h in
         rw (kinds-length i h) (rising-zero (getD (a .kindEnds) i 0 - startOf (a .kindEnds) i) (aritiesAt a i) (omega (arith, f .least)) (f .rising))
@@ -122,7 +122,7 @@ pub record Bounds (a : Arrays) (i : ℕ) : Type 0 where
   pub kindSmall : getD (a .kindEnds) i 0 ≤ MAX-KINDS
   pub groupSmall : getD (a .ends) i 0 ≤ MAX-GROUP-COUNT
 
-pub bounds : (a : Arrays) → WellFormed a → Sized a → (i : ℕ) → i < a .families → Bounds a i
+pub bounds : (a : Arrays) → WellFormed a → ArraysSized a → (i : ℕ) → i < a .families → Bounds a i
 bounds a good sized i h =
     record {
       low = kind-order a good i h;
@@ -179,7 +179,7 @@ groups-table (suc n) F es o h =
     ∙ groups-append (table n F) (F n ∷ [])
     ∙ omega (arith, groups-table n F es (λ i l. o i (omega arith)) (λ i l. h i (omega arith)), o n (omega arith), h n (omega arith))
 
-pub groups-of : (counts : List ℕ) (a : Arrays) → WellFormed a → Sized a → groupsOf (familiesOf counts a) ≡ groupCount a
+pub groups-of : (counts : List ℕ) (a : Arrays) → WellFormed a → ArraysSized a → groupsOf (familiesOf counts a) ≡ groupCount a
 groups-of counts a good sized =
     groups-table (a .families) (familyAt counts a) (a .ends) (group-order a good)
     (λ i h. groups-length counts (startOf (a .ends) i) (kindsAt a i) 0 (aritiesAt a i) ∙ arities-length a good sized i h)
@@ -196,7 +196,7 @@ kinds-table (suc n) F es ks o h =
     ∙ between-join ks (startOf es n) (getD es n 0) (o n (omega arith))
 
 -- they are the used kinds, in order
-pub layout-kinds : (counts : List ℕ) (a : Arrays) → WellFormed a → Sized a → layoutKinds (familiesOf counts a) ≡ take (widthOf a) (a .kinds)
+pub layout-kinds : (counts : List ℕ) (a : Arrays) → WellFormed a → ArraysSized a → layoutKinds (familiesOf counts a) ≡ take (widthOf a) (a .kinds)
 layout-kinds counts a good sized = kinds-table (a .families) (familyAt counts a) (a .kindEnds) (a .kinds) (kind-order a good) (family-kindsOf a good sized counts)
 
 -- ---- a turn of the loop over the families

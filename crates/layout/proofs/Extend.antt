@@ -11,8 +11,8 @@ use Rattle.model.specs.Numbers.{MAX-GROUP-ARITY, MAX-KINDS}
 use Rattle.words.specs.Part.{between}
 use Rattle.words.proofs.Part.{between-front, length-between, drop-take}
 use Rattle.model.proofs.BoolLaws.{by-eq}
-use Rattle.layout.specs.Layout.{Arrays, arraysIn, startOf, widthOf, groupCount, kindsAt, aritiesAt, groupsFrom, familyAt, KindSet, Rising, FamilyFormed, WellFormed}
-use Rattle.layout.specs.ByValue.{Sized}
+use Rattle.layout.specs.Layout.{Arrays, arraysIn, startOf, widthOf, groupCount, kindsAt, aritiesAt, groupsFrom, familyAt, KindSet, AritiesRising, FamilyFormed, WellFormed}
+use Rattle.layout.specs.ByValue.{ArraysSized}
 use Rattle.layout.specs.Grow.{Spread, Raised, LooseAt, widened}
 use Rattle.layout.proofs.Family.{no-counts}
 use Rattle.layout.proofs.Arrays.{ends-rise, end-inside}
@@ -92,7 +92,7 @@ module _ (es es′ xs ys more : List ℕ) (n f : ℕ) (inside : f < n) (order : 
 
 -- ---- the kinds fit, by pigeonhole
 
-module _ (a : Arrays) (f : ℕ) (more : List ℕ) (loose : LooseAt a f) (sized : Sized a) where
+module _ (a : Arrays) (f : ℕ) (more : List ℕ) (loose : LooseAt a f) (sized : ArraysSized a) where
   pub kind-inside : getD (a .kindEnds) f 0 ≤ widthOf a
   kind-inside = end-inside (a .kindEnds) (a .families) (loose .kindOrder) f (loose .inside)
 
@@ -115,7 +115,7 @@ module _ (a : Arrays) (f : ℕ) (more : List ℕ) (loose : LooseAt a f) (sized :
 
 -- ---- the law
 
-module _ (a : Arrays) (f : ℕ) (more : List ℕ) (s : ℕ) (ks′ ars′ kes′ ges′ : List ℕ) (loose : LooseAt a f) (sized : Sized a)
+module _ (a : Arrays) (f : ℕ) (more : List ℕ) (s : ℕ) (ks′ ars′ kes′ ges′ : List ℕ) (loose : LooseAt a f) (sized : ArraysSized a)
     (kindFront : take (widthOf a + length more) ks′ ≡ widened (a .kinds) (getD (a .kindEnds) f 0) more (widthOf a))
     (arityFront : take (groupCount a + 1) ars′ ≡ widened (a .arities) (getD (a .ends) f 0) (s ∷ []) (groupCount a))
     (kindRaised : Raised (a .kindEnds) f (a .families) (length more) kes′) (raised : Raised (a .ends) f (a .families) 1 ges′) where
@@ -171,7 +171,7 @@ module _ (a : Arrays) (f : ℕ) (more : List ℕ) (s : ℕ) (ks′ ars′ kes′
         rising = rw (size, arities-other i h ne) (o .rising);
       }
 
-  module _ (arity : s ≡ getD (a .kindEnds) f 0 - startOf (a .kindEnds) f + length more) (lo : 2 ≤ s) (hi : s ≤ MAX-GROUP-ARITY) (climbs : Rising 1 s (aritiesAt a f ++ (s ∷ [])))
+  module _ (arity : s ≡ getD (a .kindEnds) f 0 - startOf (a .kindEnds) f + length more) (lo : 2 ≤ s) (hi : s ≤ MAX-GROUP-ARITY) (climbs : AritiesRising 1 s (aritiesAt a f ++ (s ∷ [])))
       (kinds : KindSet (widened (a .kinds) (getD (a .kindEnds) f 0) more (widthOf a))) where
     formed-here : FamilyFormed after f
     formed-here =

@@ -11,7 +11,7 @@ use lib.Seq.{drop-length, take-length}
 use Rattle.model.specs.Model.{Family, kindsOf, isGroup, sameSet, newGroup}
 use Rattle.words.specs.Part.{between}
 use Rattle.words.proofs.Part.{between-join, between-drop, same-front, last-part}
-use Rattle.layout.specs.Layout.{startOf, groupsFrom, Rising}
+use Rattle.layout.specs.Layout.{startOf, groupsFrom, AritiesRising}
 use Rattle.model.proofs.ListLaws.{drop-step}
 
 pub start-next : (es : List ℕ) (f : ℕ) → startOf es (f + 1) ≡ getD es f 0
@@ -23,54 +23,54 @@ start-prior es (suc f) = refl
 
 -- ---- arities
 
-pub rising-le : (b n : ℕ) (ars : List ℕ) → Rising b n ars → b ≤ n
-unfolding Rising
+pub rising-le : (b n : ℕ) (ars : List ℕ) → AritiesRising b n ars → b ≤ n
+unfolding AritiesRising
 rising-le b n [] r = omega (arith, r)
 rising-le b n (a ∷ ars) r = omega (arith, r .0, rising-le a n ars (r .1))
 
-pub rising-snoc : (b n s : ℕ) (ars : List ℕ) → Rising b n ars → n < s → Rising b s (ars ++ (s ∷ []))
-unfolding Rising
+pub rising-snoc : (b n s : ℕ) (ars : List ℕ) → AritiesRising b n ars → n < s → AritiesRising b s (ars ++ (s ∷ []))
+unfolding AritiesRising
 rising-snoc b n s [] r h = (omega (arith, r), refl)
 rising-snoc b n s (a ∷ ars) r h = (r .0, rising-snoc a n s ars (r .1) h)
 
 -- a family that has a group starts its arities anywhere below
-pub rising-zero : (n : ℕ) (ars : List ℕ) → 2 ≤ n → Rising 1 n ars → Rising 0 n ars
-unfolding Rising
+pub rising-zero : (n : ℕ) (ars : List ℕ) → 2 ≤ n → AritiesRising 1 n ars → AritiesRising 0 n ars
+unfolding AritiesRising
 rising-zero n [] h r = absurd (omega (arith, r))
 rising-zero n (a ∷ ars) h r = (omega (arith, r .0), r .1)
 
 -- one group alone
-pub rising-alone : (s : ℕ) → 2 ≤ s → Rising 1 s (s ∷ [])
-unfolding Rising
+pub rising-alone : (s : ℕ) → 2 ≤ s → AritiesRising 1 s (s ∷ [])
+unfolding AritiesRising
 rising-alone s h = (omega arith, refl)
 
 -- an arity is at most the number of kinds, above what comes before, and no smaller than an earlier one
-pub rising-at : (b n : ℕ) (ars : List ℕ) (j : ℕ) → Rising b n ars → j < length ars → getD ars j 0 ≤ n
-unfolding Rising
+pub rising-at : (b n : ℕ) (ars : List ℕ) (j : ℕ) → AritiesRising b n ars → j < length ars → getD ars j 0 ≤ n
+unfolding AritiesRising
 rising-at b n [] j r h = absurd (omega arith)
 rising-at b n (a ∷ ars) zero r h = rising-le a n ars (r .1)
 rising-at b n (a ∷ ars) (suc j) r h = rising-at a n ars j (r .1) (omega arith)
 
-pub rising-step : (b n : ℕ) (ars : List ℕ) (j : ℕ) → Rising b n ars → j < length ars → getD (b ∷ ars) j 0 < getD ars j 0
-unfolding Rising
+pub rising-step : (b n : ℕ) (ars : List ℕ) (j : ℕ) → AritiesRising b n ars → j < length ars → getD (b ∷ ars) j 0 < getD ars j 0
+unfolding AritiesRising
 rising-step b n [] j r h = absurd (omega arith)
 rising-step b n (a ∷ ars) zero r h = r .0
 rising-step b n (a ∷ ars) (suc j) r h = rising-step a n ars j (r .1) (omega arith)
 
 -- the last is all
-pub rising-last : (b n : ℕ) (ars : List ℕ) → Rising b n ars → getD (b ∷ ars) (length ars) 0 ≡ n
-unfolding Rising
+pub rising-last : (b n : ℕ) (ars : List ℕ) → AritiesRising b n ars → getD (b ∷ ars) (length ars) 0 ≡ n
+unfolding AritiesRising
 rising-last b n [] r = r
 rising-last b n (a ∷ ars) r = rising-last a n ars (r .1)
 
-pub rising-above : (b n : ℕ) (ars : List ℕ) (j : ℕ) → Rising b n ars → j < length ars → b < getD ars j 0
-unfolding Rising
+pub rising-above : (b n : ℕ) (ars : List ℕ) (j : ℕ) → AritiesRising b n ars → j < length ars → b < getD ars j 0
+unfolding AritiesRising
 rising-above b n [] j r h = absurd (omega arith)
 rising-above b n (a ∷ ars) zero r h = r .0
 rising-above b n (a ∷ ars) (suc j) r h = omega (arith, r .0, rising-above a n ars j (r .1) (omega arith))
 
-pub rising-less : (b n : ℕ) (ars : List ℕ) (i j : ℕ) → Rising b n ars → i < j → j < length ars → getD ars i 0 < getD ars j 0
-unfolding Rising
+pub rising-less : (b n : ℕ) (ars : List ℕ) (i j : ℕ) → AritiesRising b n ars → i < j → j < length ars → getD ars i 0 < getD ars j 0
+unfolding AritiesRising
 rising-less b n [] i j r l h = absurd (omega arith)
 rising-less b n (a ∷ ars) i zero r l h = absurd (omega arith)
 rising-less b n (a ∷ ars) zero (suc j) r l h = rising-above a n ars j (r .1) (omega arith)
@@ -93,8 +93,8 @@ groups-same cs cs′ g ks b (a ∷ ars) e =
     (groups-same cs cs′ (suc g) ks a ars (λ j l h. e j (omega arith) (omega arith)))
 
 -- the kinds of the groups from arity b on
-pub kinds-from : (counts : List ℕ) (g : ℕ) (ks : List ℕ) (b : ℕ) (ars : List ℕ) → Rising b (length ks) ars → kindsOf (groupsFrom counts g ks b ars) ≡ drop b ks
-unfolding groupsFrom Rising
+pub kinds-from : (counts : List ℕ) (g : ℕ) (ks : List ℕ) (b : ℕ) (ars : List ℕ) → AritiesRising b (length ks) ars → kindsOf (groupsFrom counts g ks b ars) ≡ drop b ks
+unfolding groupsFrom AritiesRising
 kinds-from counts g ks b [] r = sym (ap (λ (n : ℕ). drop n ks) r ∙ drop-length ks)
 kinds-from counts g ks b (a ∷ ars) r =
     ap (λ (l : List ℕ). between b a ks ++ l) (kinds-from counts (suc g) ks a ars (r .1)) ∙ between-drop ks b a (omega (arith, r .0))
@@ -103,7 +103,7 @@ kinds-from counts g ks b (a ∷ ars) r =
 pub record Turn (hs ks ars : List ℕ) (j : ℕ) : Type 0 where
   pub low : startOf ars j < getD ars j 0
   pub high : getD ars j 0 ≤ length ks
-  pub next : Rising (startOf ars (j + 1)) (length ks) (drop (j + 1) ars)
+  pub next : AritiesRising (startOf ars (j + 1)) (length ks) (drop (j + 1) ars)
   pub splits : isGroup hs (take (startOf ars j) ks) (groupsFrom [] 0 ks (startOf ars j) (drop j ars))
       ≡ (sameSet hs (take (getD ars j 0) ks) || isGroup hs (take (startOf ars (j + 1)) ks) (groupsFrom [] 0 ks (startOf ars (j + 1)) (drop (j + 1) ars)))
 
@@ -114,11 +114,11 @@ group-split hs ks b a ars h =
     ap (λ (l : List ℕ). sameSet hs l || isGroup hs l (groupsFrom [] 1 ks a ars)) (between-join ks b a h)
     ∙ ap (λ (r : Family). sameSet hs (take a ks) || isGroup hs (take a ks) r) (no-counts 1 0 ks a ars)
 
-pub rising-head : (b n a : ℕ) (ars : List ℕ) → Rising b n (a ∷ ars) → (b < a) × Rising a n ars
-unfolding Rising
+pub rising-head : (b n a : ℕ) (ars : List ℕ) → AritiesRising b n (a ∷ ars) → (b < a) × AritiesRising a n ars
+unfolding AritiesRising
 rising-head b n a ars r = r
 
-pub turn : (hs ks ars : List ℕ) (j : ℕ) → j < length ars → Rising (startOf ars j) (length ks) (drop j ars) → Turn hs ks ars j
+pub turn : (hs ks ars : List ℕ) (j : ℕ) → j < length ars → AritiesRising (startOf ars j) (length ks) (drop j ars) → Turn hs ks ars j
 turn hs ks ars j h r =
     let d : drop j ars ≡ getD ars j 0 ∷ drop (j + 1) ars = drop-step ars j 0 h in
     let s = rising-head (startOf ars j) (length ks) (getD ars j 0) (drop (j + 1) ars) (rw d at r) in
@@ -139,9 +139,9 @@ no-groups hs ks ars b = rw drop-length
 
 -- ---- a family that grows
 
-pub from-snoc : (g : ℕ) (ks more : List ℕ) (b : ℕ) (ars : List ℕ) → Rising b (length ks) ars
+pub from-snoc : (g : ℕ) (ks more : List ℕ) (b : ℕ) (ars : List ℕ) → AritiesRising b (length ks) ars
     → groupsFrom [] g (ks ++ more) b (ars ++ ((length ks + length more) ∷ [])) ≡ groupsFrom [] g ks b ars ++ (newGroup more ∷ [])
-unfolding groupsFrom Rising
+unfolding groupsFrom AritiesRising
 from-snoc g ks more b [] r =
     ap (λ (l : List ℕ). newGroup l ∷ []) (ap (λ (n : ℕ). between n (length ks + length more) (ks ++ more)) r ∙ last-part ks more)
 from-snoc g ks more b (a ∷ ars) r =

@@ -10,8 +10,8 @@ use lib.Dec.{ltb}
 use lib.ListN.{length, getD}
 use Rattle.model.specs.Numbers.{MAX-GROUP-COUNT, MAX-KINDS}
 use Rattle.words.specs.Part.{between}
-use Rattle.layout.specs.Layout.{Arrays, startOf, kindsAt, aritiesAt, Rising, WellFormed}
-use Rattle.layout.specs.ByValue.{Sized}
+use Rattle.layout.specs.Layout.{Arrays, startOf, kindsAt, aritiesAt, AritiesRising, WellFormed}
+use Rattle.layout.specs.ByValue.{ArraysSized}
 use Rattle.layout.specs.Group.{InFamily, arityOf, priorOf, priorArity}
 use Rattle.layout.proofs.Family.{rising-at, rising-step, rising-last}
 use Rattle.layout.proofs.Arrays.{end-inside, group-order, groups-inside, kind-order, kinds-inside, kinds-length, arities-length, family-rising}
@@ -85,7 +85,7 @@ arity-at a f i h = getD-between (startOf (a .ends) f) (getD (a .ends) f 0) i (a 
 
 -- ---- group g of family f
 
-module _ (a : Arrays) (good : WellFormed a) (sized : Sized a) (f g : ℕ) (G : InFamily a f g) where
+module _ (a : Arrays) (good : WellFormed a) (sized : ArraysSized a) (f g : ℕ) (G : InFamily a f g) where
   abbrev i : ℕ
   i = g - startOf (a .ends) f
 
@@ -107,7 +107,7 @@ module _ (a : Arrays) (good : WellFormed a) (sized : Sized a) (f g : ℕ) (G : I
   pub prior-is : getD (0 ∷ aritiesAt a f) (g - startOf (a .ends) f) 0 ≡ priorArity a f g
   prior-is = sym (prior-at (a .arities) (startOf (a .ends) f) (getD (a .ends) f 0) i 0 (omega (arith, place-is, G .high))) ∙ ap (priorArity a f) place-is
 
-  rising : Rising 0 (length (kindsAt a f)) (aritiesAt a f)
+  rising : AritiesRising 0 (length (kindsAt a f)) (aritiesAt a f)
   rising = family-rising a good sized f (G .family)
 
   pub prior-less : priorArity a f g < arityOf a g
@@ -122,7 +122,7 @@ module _ (a : Arrays) (good : WellFormed a) (sized : Sized a) (f g : ℕ) (G : I
   pub arity-wide : startOf (a .kindEnds) f + arityOf a g ≤ MAX-KINDS
   arity-wide = omega (arith, arity-inside, kinds-inside a good f (G .family), good .wide)
 
-module _ (a : Arrays) (good : WellFormed a) (sized : Sized a) (f g : ℕ) (G : InFamily a f g) where
+module _ (a : Arrays) (good : WellFormed a) (sized : ArraysSized a) (f g : ℕ) (G : InFamily a f g) where
   -- a later group's new kinds come after
   pub arity-order : (h : ℕ) → g < h → h ≤ getD (a .ends) f 0 → arityOf a g ≤ priorArity a f h
   arity-order zero l m = absurd (omega arith)
@@ -133,7 +133,7 @@ module _ (a : Arrays) (good : WellFormed a) (sized : Sized a) (f g : ℕ) (G : I
       (λ ne. omega (arith, arity-order h (omega arith) (omega arith), prior-less a good sized f h (record { family = G .family; low = low; high = m })))
 
 -- past the last group are all kinds
-pub prior-end : (a : Arrays) (good : WellFormed a) (sized : Sized a) (f : ℕ) → f < a .families → priorArity a f (getD (a .ends) f 0) ≡ getD (a .kindEnds) f 0 - startOf (a .kindEnds) f
+pub prior-end : (a : Arrays) (good : WellFormed a) (sized : ArraysSized a) (f : ℕ) → f < a .families → priorArity a f (getD (a .ends) f 0) ≡ getD (a .kindEnds) f 0 - startOf (a .kindEnds) f
 prior-end a good sized f h =
     let s = startOf (a .ends) f in
     let e = getD (a .ends) f 0 in

@@ -7,7 +7,7 @@ use Rattle.model.specs.Numbers.{BEYOND, CLASH, MANY, MAX-GROUP-ARITY, WIDE}
 use Rattle.model.specs.Model.{Family}
 use Rattle.model.specs.Adding.{Added, nothing, added, refused, addGroup}
 use Rattle.layout.specs.Layout.{KindSet}
-use Rattle.layout.specs.ByValue.{Formed, meaning}
+use Rattle.layout.specs.ByValue.{Formed, layoutMeaning}
 use Rattle.layout.specs.Fit.{fitFrom}
 use Rattle.layout.specs.declared.group_layout.Fit.{Fit}
 use Rattle.layout.specs.declared.group_layout.Fit.the-variants.{Fresh}
@@ -39,10 +39,10 @@ pub record Fitting (l : Layout) (staged : List ℕ) (x : Fit) : Type 0 where
   pub kinds : KindSet staged
   pub least : 2 ≤ length staged
   pub most : length staged ≤ MAX-GROUP-ARITY
-  pub fits : fitFrom staged 0 Fresh (meaning l) ≡ x
+  pub fits : fitFrom staged 0 Fresh (layoutMeaning l) ≡ x
 
 -- GROUP, as the model says; unless the group is added, the layout is the one that came
 pub record AddsGroup (l : Layout) (staged : List ℕ) (r : Answer) : Type 0 where
   pub formed : Formed (r .layout)
-  pub says : modelOf (r .outcome) (meaning (r .layout)) ≡ addGroup staged (meaning l)
+  pub says : modelOf (r .outcome) (layoutMeaning (r .layout)) ≡ addGroup staged (layoutMeaning l)
   pub kept : (r .outcome ≡ outcome.Added → ⊥) → r .layout ≡ l

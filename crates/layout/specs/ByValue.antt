@@ -14,15 +14,15 @@ abbrev pub arraysOf : Layout → Arrays
 arraysOf l = arraysIn (l .kinds) (l .arities) (l .«kind_ends») (l .ends) (l .families)
 
 -- arrays as long as the struct's
-pub record Sized (a : Arrays) : Type 0 where
+pub record ArraysSized (a : Arrays) : Type 0 where
   pub kinds : length (a .kinds) ≡ MAX-KINDS
   pub arities : length (a .arities) ≡ GROUP-PLACES
   pub kindEnds : length (a .kindEnds) ≡ GROUP-PLACES
   pub ends : length (a .ends) ≡ GROUP-PLACES
 
 -- the families that it means, and those that a block does; neither counts
-abbrev pub meaning : Layout → List Family
-meaning l = familiesOf [] (arraysOf l)
+abbrev pub layoutMeaning : Layout → List Family
+layoutMeaning l = familiesOf [] (arraysOf l)
 
 abbrev pub blockMeaning : List ℕ → ℕ → List Family
 blockMeaning w n = familiesOf [] (blockArrays w n)

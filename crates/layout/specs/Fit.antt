@@ -4,8 +4,8 @@ use mathlib.Core.List.{List, [], _∷_}
 use Prim.Native.Nat.{ℕ, _+_, _≤_}
 use lib.ListN.{length}
 use Rattle.model.specs.Model.{Family, meets, within, kindsOf, isGroup}
-use Rattle.layout.specs.Layout.{Arrays, WellFormed, KindSet, Rising}
-use Rattle.layout.specs.ByValue.{Sized}
+use Rattle.layout.specs.Layout.{Arrays, WellFormed, KindSet, AritiesRising}
+use Rattle.layout.specs.ByValue.{ArraysSized}
 use Rattle.layout.specs.declared.group_layout.Part.{Part}
 use Rattle.layout.specs.declared.group_layout.Part.the-variants.{Apart, Same, Whole, Cross}
 use Rattle.layout.specs.declared.group_layout.Fit.{Fit}
@@ -58,12 +58,12 @@ pub record GroupAsk (ks : List ℕ) (a : ℕ) (hs : List ℕ) : Type 0 where
 
 -- a family of kinds ks whose groups have the arities ars, and the staged kinds hs
 pub record FamilyAsk (ks ars hs : List ℕ) : Type 0 where
-  pub rising : Rising 0 (length ks) ars
+  pub rising : AritiesRising 0 (length ks) ars
   pub kinds : KindSet ks
   pub staged : KindSet hs
 
 -- a well-formed layout, and the staged kinds hs
 pub record FitAsk (a : Arrays) (hs : List ℕ) : Type 0 where
-  pub sized : Sized a
+  pub sized : ArraysSized a
   pub good : WellFormed a
   pub staged : KindSet hs

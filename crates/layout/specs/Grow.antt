@@ -10,8 +10,8 @@ use Rattle.model.specs.Numbers.{MAX-GROUP-ARITY, MAX-GROUP-COUNT, MAX-KINDS}
 use Rattle.model.specs.Lists.{countOf}
 use Rattle.model.specs.Model.{newGroup, within, without}
 use Rattle.words.specs.Part.{between}
-use Rattle.layout.specs.Layout.{Arrays, startOf, widthOf, groupCount, kindsAt, aritiesAt, groupsFrom, familyAt, KindSet, Rising, FamilyFormed}
-use Rattle.layout.specs.ByValue.{arraysOf, meaning, Formed}
+use Rattle.layout.specs.Layout.{Arrays, startOf, widthOf, groupCount, kindsAt, aritiesAt, groupsFrom, familyAt, KindSet, AritiesRising, FamilyFormed}
+use Rattle.layout.specs.ByValue.{arraysOf, layoutMeaning, Formed}
 use Rattle.layout.specs.declared.group_layout.Layout.{Layout}
 
 -- ---- arrays
@@ -63,7 +63,7 @@ pub record Extends (l : Layout) (f : ℕ) (more : List ℕ) (s : ℕ) : Type 0 w
   pub arity : s ≡ getD (l .«kind_ends») f 0 - startOf (l .«kind_ends») f + length more
   pub least : 2 ≤ s
   pub most : s ≤ MAX-GROUP-ARITY
-  pub rising : Rising 1 s (aritiesAt (arraysOf l) f ++ (s ∷ []))
+  pub rising : AritiesRising 1 s (aritiesAt (arraysOf l) f ++ (s ∷ []))
 
 -- r is l with more at the end of family f's kinds and a group of arity s after its groups; the other families are as they were
 pub record Extended (l : Layout) (f : ℕ) (more : List ℕ) (s : ℕ) (r : Layout) : Type 0 where
@@ -107,7 +107,7 @@ pub record FreshAsk (l : Layout) (staged : List ℕ) : Type 0 where
 -- a family of its own
 pub record FreshDone (l : Layout) (staged : List ℕ) (r : Layout) : Type 0 where
   pub formed : Formed r
-  pub means : meaning r ≡ meaning l ++ ((newGroup staged ∷ []) ∷ [])
+  pub means : layoutMeaning r ≡ layoutMeaning l ++ ((newGroup staged ∷ []) ∷ [])
 
 -- "or if it holds every kind of exactly one family, has more, and shares none with the others": f is that family
 pub record OntoAsk (l : Layout) (f : ℕ) (staged : List ℕ) : Type 0 where
@@ -120,4 +120,4 @@ pub record OntoAsk (l : Layout) (f : ℕ) (staged : List ℕ) : Type 0 where
 -- a group more in family f
 pub record OntoDone (l : Layout) (f : ℕ) (staged : List ℕ) (r : Layout) : Type 0 where
   pub formed : Formed r
-  pub means : meaning r ≡ set (meaning l) f (familyAt [] (arraysOf l) f ++ (newGroup (without staged (kindsAt (arraysOf l) f)) ∷ []))
+  pub means : layoutMeaning r ≡ set (layoutMeaning l) f (familyAt [] (arraysOf l) f ++ (newGroup (without staged (kindsAt (arraysOf l) f)) ∷ []))

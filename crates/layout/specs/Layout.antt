@@ -67,16 +67,16 @@ pub record KindSet (l : List ℕ) : Type 0 where
   pub known : (k : ℕ) → MAX-KINDS ≤ k → countOf eqb k l ≡ 0
 
 -- the arities rise strictly, from above b to n
-unfoldable pub Rising : ℕ → ℕ → List ℕ → Type 0
-Rising b n [] = b ≡ n
-Rising b n (a ∷ rest) = (b < a) × Rising a n rest
+unfoldable pub AritiesRising : ℕ → ℕ → List ℕ → Type 0
+AritiesRising b n [] = b ≡ n
+AritiesRising b n (a ∷ rest) = (b < a) × AritiesRising a n rest
 
 -- 2 to 15 kinds; the first group has 2 or more, the last has all
 pub record FamilyFormed (a : Arrays) (f : ℕ) : Type 0 where
   pub least : startOf (a .kindEnds) f + 2 ≤ getD (a .kindEnds) f 0
   pub most : getD (a .kindEnds) f 0 ≤ startOf (a .kindEnds) f + MAX-GROUP-ARITY
   pub some : startOf (a .ends) f < getD (a .ends) f 0
-  pub rising : Rising 1 (getD (a .kindEnds) f 0 - startOf (a .kindEnds) f) (aritiesAt a f)
+  pub rising : AritiesRising 1 (getD (a .kindEnds) f 0 - startOf (a .kindEnds) f) (aritiesAt a f)
 
 pub record WellFormed (a : Arrays) : Type 0 where
   pub few : a .families ≤ MAX-GROUP-COUNT

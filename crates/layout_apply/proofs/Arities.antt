@@ -12,7 +12,7 @@ use Rattle.model.proofs.KindLists.{at-in}
 use Rattle.model.proofs.ListLaws.{once-apart}
 use Rattle.model.proofs.BoolLaws.{by-eq}
 use Rattle.layout.specs.Layout.{Arrays, startOf, widthOf, WellFormed}
-use Rattle.layout.specs.ByValue.{Sized}
+use Rattle.layout.specs.ByValue.{ArraysSized}
 use Rattle.layout.specs.Group.{InFamily, arityOf}
 use Rattle.layout.proofs.Arrays.{ends-rise, kind-order, kinds-inside}
 use Rattle.layout.proofs.Groups.{arity-inside, arity-order}
@@ -20,7 +20,7 @@ use Rattle.layout_apply.specs.Heads.{NewAt, placeNo}
 
 -- ---- kinds once each
 
-module _ (a : Arrays) (good : WellFormed a) (sized : Sized a) where
+module _ (a : Arrays) (good : WellFormed a) (sized : ArraysSized a) where
   abbrev used : List ℕ
   used = take (widthOf a) (a .kinds)
 
@@ -41,7 +41,7 @@ module _ (a : Arrays) (good : WellFormed a) (sized : Sized a) where
 
 -- ---- places among all kinds
 
-module _ (a : Arrays) (good : WellFormed a) (sized : Sized a) where
+module _ (a : Arrays) (good : WellFormed a) (sized : ArraysSized a) where
   kind-starts : (f h : ℕ) → f < h → h < a .families → getD (a .kindEnds) f 0 ≤ startOf (a .kindEnds) h
   kind-starts f h l k = ends-rise (a .kindEnds) h (λ i q. kind-order a good i (omega arith)) (suc f) l
 

@@ -19,7 +19,7 @@ use Rattle.layout.proofs.Family.{start-next}
 use Rattle.memory.specs.Header.{capacityOf, kindCapacityOf, slotOf}
 use Rattle.memory.specs.Meaning.{layoutArrays}
 use Rattle.memory.proofs.LayoutWords.{words-sized, kind-word, arity-word, kind-start-word}
-use Rattle.layout_apply.specs.Heads.{withOwn, Heads, slotNo, HeadsReady, NewAt, placeNo, Upto, Headed, HeadsGroup}
+use Rattle.layout_apply.specs.Heads.{withOwn, Heads, slotNo, HeadsReady, NewAt, placeNo, Upto, HeadedUpto, HeadsGroup}
 use Rattle.layout_apply.proofs.Arities.{place-below}
 use Rattle.layout_apply.proofs.HeadSteps.{heads-none, heads-then, ready-kept, capacity-same, arrays-same, slot-small, upto-more}
 
@@ -63,7 +63,7 @@ pub record Groupwise (w₀ : List ℕ) (n f g start arity : ℕ) (w : List ℕ) 
   pub ends : arity ≡ arityOf (layoutArrays w₀) g
   pub low : priorArity (layoutArrays w₀) f g ≤ j
   pub high : j ≤ arity
-  pub headed : Headed w₀ w (placeNo (layoutArrays w₀) f j)
+  pub headed : HeadedUpto w₀ w (placeNo (layoutArrays w₀) f j)
 
 pub group-none : (w : List ℕ) (n f g prior start arity : ℕ) → HeadsReady w → n ≡ capacityOf w → InFamily (layoutArrays w) f g → prior ≡ priorArity (layoutArrays w) f g
     → Upto w (placeNo (layoutArrays w) f prior) → ReadStart w LAYOUT-KIND-ENDS f start → arity ≡ getD w (LAYOUT-ARITIES + g) 0 → Groupwise w n f g start arity w prior
@@ -137,14 +137,14 @@ module _ (w₀ : List ℕ) (n f g start arity : ℕ) (w : List ℕ) (j : ℕ) (B
           low = omega (arith, B .low);
           high = omega arith;
           headed =
-              subst (λ (v : List ℕ). Headed w₀ v (placeNo a f (j + 1))) (sym done)
+              subst (λ (v : List ℕ). HeadedUpto w₀ v (placeNo a f (j + 1))) (sym done)
               (record { heads = heads-then w₀ w R H W (M .heads); upto = subst (Upto W) t (M .upto) });
         }
 
   pub group-done : arity ≤ j → HeadsGroup w₀ w f g arity
   group-done h =
       let e : j ≡ arity = omega (arith, B .high) in
-      record { arity = B .ends; headed = subst (λ (i : ℕ). Headed w₀ w (placeNo a f i)) e (B .headed) }
+      record { arity = B .ends; headed = subst (λ (i : ℕ). HeadedUpto w₀ w (placeNo a f i)) e (B .headed) }
 
 -- ---- a family's groups
 
@@ -153,7 +153,7 @@ pub record Familywise (w₀ w : List ℕ) (f g prior : ℕ) : Type 0 where
   pub low : startOf (layoutArrays w₀ .ends) f ≤ g
   pub high : g ≤ getD (layoutArrays w₀ .ends) f 0
   pub before : prior ≡ priorArity (layoutArrays w₀) f g
-  pub headed : Headed w₀ w (placeNo (layoutArrays w₀) f prior)
+  pub headed : HeadedUpto w₀ w (placeNo (layoutArrays w₀) f prior)
 
 module _ (w₀ : List ℕ) (R : HeadsReady w₀) (f : ℕ) (hf : f < layoutArrays w₀ .families) where
   pub family-none : (g : ℕ) → g ≡ startOf (layoutArrays w₀ .ends) f → Upto w₀ (startOf (layoutArrays w₀ .kindEnds) f) → Familywise w₀ w₀ f g 0
@@ -193,7 +193,7 @@ module _ (w₀ : List ℕ) (R : HeadsReady w₀) (f : ℕ) (hf : f < layoutArray
               };
         }
 
-  pub family-done : (w : List ℕ) (g prior : ℕ) → Familywise w₀ w f g prior → getD (layoutArrays w₀ .ends) f 0 ≤ g → Headed w₀ w (getD (layoutArrays w₀ .kindEnds) f 0)
+  pub family-done : (w : List ℕ) (g prior : ℕ) → Familywise w₀ w f g prior → getD (layoutArrays w₀ .ends) f 0 ≤ g → HeadedUpto w₀ w (getD (layoutArrays w₀ .kindEnds) f 0)
   family-done w g prior F h =
       let e : g ≡ getD (layoutArrays w₀ .ends) f 0 = omega (arith, F .high) in
       let p : prior ≡ getD (layoutArrays w₀ .kindEnds) f 0 - startOf (layoutArrays w₀ .kindEnds) f =
@@ -203,10 +203,10 @@ module _ (w₀ : List ℕ) (R : HeadsReady w₀) (f : ℕ) (hf : f < layoutArray
 
 -- ---- the families
 
-pub families-none : (w : List ℕ) → HeadsReady w → Upto w 0 → Headed w w (startOf (layoutArrays w .kindEnds) 0)
+pub families-none : (w : List ℕ) → HeadsReady w → Upto w 0 → HeadedUpto w w (startOf (layoutArrays w .kindEnds) 0)
 families-none w R U = record { heads = heads-none w R; upto = U }
 
-module _ (w₀ : List ℕ) (R : HeadsReady w₀) (w : List ℕ) (f : ℕ) (D : Headed w₀ w (startOf (layoutArrays w₀ .kindEnds) f)) where
+module _ (w₀ : List ℕ) (R : HeadsReady w₀) (w : List ℕ) (f : ℕ) (D : HeadedUpto w₀ w (startOf (layoutArrays w₀ .kindEnds) f)) where
   same : layoutArrays w₀ ≡ layoutArrays w
   same = sym (arrays-same w₀ w R (D .heads))
 
@@ -216,7 +216,7 @@ module _ (w₀ : List ℕ) (R : HeadsReady w₀) (w : List ℕ) (f : ℕ) (D : H
   pub families-upto : Upto w (startOf (layoutArrays w .kindEnds) f)
   families-upto = subst (λ (b : Arrays). Upto w (startOf (b .kindEnds) f)) same (D .upto)
 
-  pub families-more : (w′ : List ℕ) → Headed w w′ (getD (layoutArrays w .kindEnds) f 0) → Headed w₀ w′ (startOf (layoutArrays w₀ .kindEnds) (f + 1))
+  pub families-more : (w′ : List ℕ) → HeadedUpto w w′ (getD (layoutArrays w .kindEnds) f 0) → HeadedUpto w₀ w′ (startOf (layoutArrays w₀ .kindEnds) (f + 1))
   families-more w′ M =
       record {
         heads = heads-then w₀ w R (D .heads) w′ (M .heads);

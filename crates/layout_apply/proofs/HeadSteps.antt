@@ -17,7 +17,7 @@ use Rattle.memory.specs.Meaning.{kindAt, ownAt, localAt, layoutArrays}
 use Rattle.memory.proofs.Frames.{start-header, layout-arrays-same}
 use Rattle.memory.proofs.LayoutWords.{words-sized}
 use Rattle.model.proofs.ListLaws.{word-front}
-use Rattle.layout_apply.specs.Heads.{withOwn, Reheaded, Heads, Groupless, Slotted, kindNo, slotNo, HeadsReady, NewAt, placeNo, HeadIs, Upto, Headed}
+use Rattle.layout_apply.specs.Heads.{withOwn, Reheaded, Heads, Groupless, Slotted, kindNo, slotNo, HeadsReady, NewAt, placeNo, HeadIs, Upto, HeadedUpto}
 use Rattle.layout_apply.proofs.Arities.{kinds-apart, kind-among, same-place, place-below}
 
 -- ---- nothing but words 2 and 3 of the heads
@@ -204,7 +204,7 @@ module _ (w : List ℕ) (R : HeadsReady w) where
         subst (In (take (widthOf a) (a .kinds))) (sym (kind-same w w′ R (change .heads) t h))
         (U .none t h (rw (head-other t OWN-GROUP (omega (arith, R .few)) ne) at o)))
 
-    pub upto-more : Upto w p → Headed w w′ (p + 1)
+    pub upto-more : Upto w p → HeadedUpto w w′ (p + 1)
     upto-more U =
         let e = arrays-same w w′ R (change .heads) in
         record {

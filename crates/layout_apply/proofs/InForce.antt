@@ -23,7 +23,7 @@ use Rattle.component.specs.Columns.{columnOf, rowsOf, Columns}
 use Rattle.component.proofs.Frames.{front-column, front-columns}
 use Rattle.entity.specs.Meaning.{entityPart}
 use Rattle.layout.specs.Layout.{Arrays, blockArrays, WellFormed, startOf, widthOf, groupCount, kindsAt, aritiesAt, familyAt, familiesOf}
-use Rattle.layout.specs.ByValue.{Sized}
+use Rattle.layout.specs.ByValue.{ArraysSized}
 use Rattle.layout.specs.Group.{InFamily, arityOf}
 use Rattle.layout.proofs.Arrays.{none-formed, layout-kinds, block-sized}
 use Rattle.layout.proofs.Family.{groups-same}
@@ -36,7 +36,7 @@ use Rattle.model.proofs.ListLaws.{drop-later}
 use Rattle.kinds.proofs.Slot.{known-slot, known-small}
 use Rattle.kinds.proofs.Clear.{fewer}
 use Rattle.layout_apply.specs.Steps.{installed, Prepared}
-use Rattle.layout_apply.specs.Heads.{Reheaded, Heads, ClearsHeads, Slotted, HeadsReady, placeNo, Upto, Headed}
+use Rattle.layout_apply.specs.Heads.{Reheaded, Heads, ClearsHeads, Slotted, HeadsReady, placeNo, Upto, HeadedUpto}
 use Rattle.layout_apply.proofs.Arities.{kind-among, place-in}
 use Rattle.layout_apply.proofs.HeadSteps.{word-same, registered-same, arrays-same, head-same, ready-kept, heads-then, upto-none}
 use Rattle.entity.specs.Meaning as entity
@@ -90,7 +90,7 @@ module _ (w₀ w₁ : List ℕ) (A : Arranged w₀) (M : StoreSound (meaning w�
   arrays₁ : layoutArrays w₁ ≡ d
   arrays₁ = ap (λ (b : List ℕ). blockArrays b (getD w₁ LAYOUT-FAMILIES 0)) block₁ ∙ ap (blockArrays (between DRAFT LAYOUT w₀)) (P .families)
 
-  sized₀ : Sized d
+  sized₀ : ArraysSized d
   sized₀ = block-sized (between DRAFT LAYOUT w₀) (getD w₀ DRAFT-FAMILIES 0) (length-between DRAFT LAYOUT w₀ (omega (arith, long w₀ A)))
 
   -- the draft's kinds are registered
@@ -186,8 +186,8 @@ module _ (w₀ w₁ : List ℕ) (A : Arranged w₀) (M : StoreSound (meaning w�
     arrays : layoutArrays w ≡ d
     arrays = arrays-same w₁ w ready₁ H ∙ arrays₁
 
-    sized : Sized (layoutArrays w)
-    sized = subst Sized (sym arrays) sized₀
+    sized : ArraysSized (layoutArrays w)
+    sized = subst ArraysSized (sym arrays) sized₀
 
     table-sound : TableSound w
     table-sound =
@@ -320,7 +320,7 @@ module _ (w₀ w₁ : List ℕ) (A : Arranged w₀) (M : StoreSound (meaning w�
 
   -- ---- all of it
 
-  pub heads-set : (w₂ w : List ℕ) → ClearsHeads (capacityOf w₁) (registeredOf w₁) w₁ w₂ → Headed w₂ w (widthOf (layoutArrays w₂)) → Becomes w₀ w (installed (meaning w₀))
+  pub heads-set : (w₂ w : List ℕ) → ClearsHeads (capacityOf w₁) (registeredOf w₁) w₁ w₂ → HeadedUpto w₂ w (widthOf (layoutArrays w₂)) → Becomes w₀ w (installed (meaning w₀))
   heads-set w₂ w C D =
       let H₂ = heads₂ w₂ C in
       let H = heads-then w₁ w₂ ready₁ H₂ w (D .heads) in

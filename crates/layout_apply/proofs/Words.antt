@@ -16,7 +16,7 @@ use Rattle.memory.specs.Header.{draftFamilies}
 use Rattle.memory.specs.Meaning.{draftArrays}
 use Rattle.memory.specs.Arranged.{Arranged}
 use Rattle.memory.proofs.Frames.{long}
-use Rattle.layout_apply.specs.Steps.{Filled, Copied, EndsAsk, Numbered, switched, Prepared}
+use Rattle.layout_apply.specs.Steps.{Filled, Copied, FamilyEndsAsk, Numbered, switched, Prepared}
 use Rattle.layout.proofs.Groups as groups
 
 -- ---- the loops
@@ -54,7 +54,7 @@ pub number-none : (w : List ℕ) → Numbered w 0 w
 number-none w = record { size = refl; here = λ f g h l u. absurd (omega arith); before = λ i h. refl; after = λ i h. refl }
 
 -- ends that rise
-earlier : (w : List ℕ) (n : ℕ) → EndsAsk w n → (f e : ℕ) → e < f → f ≤ n → getD w (LAYOUT-ENDS + e) 0 ≤ startOf (drop LAYOUT-ENDS w) f
+earlier : (w : List ℕ) (n : ℕ) → FamilyEndsAsk w n → (f e : ℕ) → e < f → f ≤ n → getD w (LAYOUT-ENDS + e) 0 ≤ startOf (drop LAYOUT-ENDS w) f
 earlier w n A zero e h l = absurd (omega arith)
 earlier w n A (suc f) e h l =
     by-eq e f
@@ -74,13 +74,13 @@ pub record Spans (w₀ w : List ℕ) (f s e : ℕ) : Type 0 where
   pub most : e ≤ GROUP-PLACES
   pub long : ENTITIES ≤ length w
 
-pub spans : (w₀ w : List ℕ) (n f s e : ℕ) → EndsAsk w₀ n → f < n → Numbered w₀ f w → s ≡ startOf (drop LAYOUT-ENDS w) f → e ≡ getD w (LAYOUT-ENDS + f) 0 → Spans w₀ w f s e
+pub spans : (w₀ w : List ℕ) (n f s e : ℕ) → FamilyEndsAsk w₀ n → f < n → Numbered w₀ f w → s ≡ startOf (drop LAYOUT-ENDS w) f → e ≡ getD w (LAYOUT-ENDS + f) 0 → Spans w₀ w f s e
 spans w₀ w n f s e A h N es ee =
     let b : s ≡ startOf (drop LAYOUT-ENDS w₀) f = es ∙ start-same w₀ w (N .before) f (omega (arith, A .few)) in
     let d : e ≡ getD w₀ (LAYOUT-ENDS + f) 0 = ee ∙ N .before (LAYOUT-ENDS + f) (omega (arith, A .few)) in
     record { starts = b; ends = d; order = omega (arith, A .rising f h); most = omega (arith, A .most f h); long = omega (arith, A .long, N .size) }
 
-pub number-more : (w₀ w w′ : List ℕ) (n f s e : ℕ) → EndsAsk w₀ n → f < n → Numbered w₀ f w → Spans w₀ w f s e → Filled w (GROUP-FAMILIES + s) (GROUP-FAMILIES + e) f w′ → Numbered w₀ (f + 1) w′
+pub number-more : (w₀ w w′ : List ℕ) (n f s e : ℕ) → FamilyEndsAsk w₀ n → f < n → Numbered w₀ f w → Spans w₀ w f s e → Filled w (GROUP-FAMILIES + s) (GROUP-FAMILIES + e) f w′ → Numbered w₀ (f + 1) w′
 number-more w₀ w w′ n f s e A h N S F =
     let es = S .starts in
     let ee = S .ends in
@@ -112,7 +112,7 @@ module _ (w : List ℕ) (A : Arranged w) (w₁ : List ℕ) (C : Copied w BLOCK-L
   families-few : draftFamilies w ≤ MAX-GROUP-COUNT
   families-few = A .draft .few
 
-  pub ends-ask : (n : ℕ) → n ≡ getD w₁ DRAFT-FAMILIES 0 → EndsAsk w₁ n
+  pub ends-ask : (n : ℕ) → n ≡ getD w₁ DRAFT-FAMILIES 0 → FamilyEndsAsk w₁ n
   ends-ask n e =
       let k : n ≡ draftFamilies w = e ∙ C .before DRAFT-FAMILIES (omega arith) in
       record {

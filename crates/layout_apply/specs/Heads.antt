@@ -79,11 +79,11 @@ pub record Upto (w : List ℕ) (p : ℕ) : Type 0 where
   pub none : (s : ℕ) → s < registeredOf w → 1 ≤ ownAt w s → In (take (widthOf (layoutArrays w)) (layoutArrays w .kinds)) (kindAt w s)
 
 -- the heads changed up to the p-th kind
-pub record Headed (w w′ : List ℕ) (p : ℕ) : Type 0 where
+pub record HeadedUpto (w w′ : List ℕ) (p : ℕ) : Type 0 where
   pub heads : Heads w w′
   pub upto : Upto w′ p
 
 -- those of group g, whose arity is the answer
 pub record HeadsGroup (w w′ : List ℕ) (f g r : ℕ) : Type 0 where
   pub arity : r ≡ arityOf (layoutArrays w) g
-  pub headed : Headed w w′ (placeNo (layoutArrays w) f r)
+  pub headed : HeadedUpto w w′ (placeNo (layoutArrays w) f r)

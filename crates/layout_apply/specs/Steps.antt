@@ -37,7 +37,7 @@ pub record Copied (w : List ℕ) (n : ℕ) (w′ : List ℕ) : Type 0 where
   pub after : (i : ℕ) → LAYOUT + n ≤ i → getD w′ i 0 ≡ getD w i 0
 
 -- the ends of the first n families' groups, as the layout's block has them, are no more than 64
-pub record EndsAsk (w : List ℕ) (n : ℕ) : Type 0 where
+pub record FamilyEndsAsk (w : List ℕ) (n : ℕ) : Type 0 where
   pub long : ENTITIES ≤ length w
   pub few : n ≤ GROUP-PLACES
   pub rising : (f : ℕ) → f < n → startOf (drop LAYOUT-ENDS w) f ≤ getD w (LAYOUT-ENDS + f) 0

@@ -20,8 +20,8 @@ ghost use Rattle.memory.specs.Header.{capacityOf};
 ghost use Rattle.memory.specs.Meaning.{layoutArrays, meaning};
 ghost use Rattle.memory.specs.Arranged.{Arranged, Becomes};
 ghost use Rattle.group.specs.Ready.{ReadyEach};
-ghost use Rattle.layout_apply.specs.Steps.{installed, applied, Filled, Copied, EndsAsk, Numbered, switched, Prepared};
-ghost use Rattle.layout_apply.specs.Heads.{withOwn, ClearsHeads, slotNo, HeadsReady, placeNo, Upto, Headed, HeadsGroup};
+ghost use Rattle.layout_apply.specs.Steps.{installed, applied, Filled, Copied, FamilyEndsAsk, Numbered, switched, Prepared};
+ghost use Rattle.layout_apply.specs.Heads.{withOwn, ClearsHeads, slotNo, HeadsReady, placeNo, Upto, HeadedUpto, HeadsGroup};
 
 // One value from start to end.
 fn fill(words: &mut [u32], start: usize, end: usize, value: usize)
@@ -50,7 +50,7 @@ fn copy_block(words: &mut [u32])
 
 // Each group gets the number of its family.
 fn number_groups(words: &mut [u32], families: usize)
-    requires { ⌜ EndsAsk (now words) families ⌝ }
+    requires { ⌜ FamilyEndsAsk (now words) families ⌝ }
     ensures { λ _. ⌜ Numbered (now (words .entry)) families (now (words .exit)) ⌝ }
 {
     let mut f = 0;
@@ -151,7 +151,7 @@ fn put_family(words: &mut [u32], n: usize, f: usize)
     requires { ⌜ n ≡ capacityOf (now words) ⌝ }
     requires { ⌜ f < layoutArrays (now words) .families ⌝ }
     requires { ⌜ Upto (now words) (startOf (layoutArrays (now words) .kindEnds) f) ⌝ }
-    ensures { λ _. ⌜ Headed (now (words .entry)) (now (words .exit)) (getD (layoutArrays (now (words .entry)) .kindEnds) f 0) ⌝ }
+    ensures { λ _. ⌜ HeadedUpto (now (words .entry)) (now (words .exit)) (getD (layoutArrays (now (words .entry)) .kindEnds) f 0) ⌝ }
 {
     let mut prior = 0;
     let mut g = start_of(words, LAYOUT_ENDS, f);
@@ -167,7 +167,7 @@ fn put_heads(words: &mut [u32], n: usize)
     requires { ⌜ HeadsReady (now words) ⌝ }
     requires { ⌜ n ≡ capacityOf (now words) ⌝ }
     requires { ⌜ Upto (now words) 0 ⌝ }
-    ensures { λ _. ⌜ Headed (now (words .entry)) (now (words .exit)) (widthOf (layoutArrays (now (words .entry)))) ⌝ }
+    ensures { λ _. ⌜ HeadedUpto (now (words .entry)) (now (words .exit)) (widthOf (layoutArrays (now (words .entry)))) ⌝ }
 {
     let families = words::word(words, words::LAYOUT_FAMILIES);
     let mut f = 0;

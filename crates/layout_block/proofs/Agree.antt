@@ -9,10 +9,10 @@ use Rattle.words.specs.Part.{between}
 use Rattle.words.proofs.Tables.{table-same}
 use Rattle.words.proofs.Part.{between-same}
 use Rattle.layout.specs.Layout.{Arrays, arraysIn, startOf, kindsAt, aritiesAt, groupsFrom, familyAt, familiesOf, FamilyFormed, WellFormed}
-use Rattle.layout.specs.ByValue.{Sized}
+use Rattle.layout.specs.ByValue.{ArraysSized}
 use Rattle.layout.proofs.Arrays.{kinds-inside, groups-inside}
 
-module _ (n : ℕ) (ks ars kes ges ks′ ars′ kes′ ges′ : List ℕ) (good : WellFormed (arraysIn ks ars kes ges n)) (sized : Sized (arraysIn ks ars kes ges n)) (sized′ : Sized (arraysIn ks′ ars′ kes′ ges′ n))
+module _ (n : ℕ) (ks ars kes ges ks′ ars′ kes′ ges′ : List ℕ) (good : WellFormed (arraysIn ks ars kes ges n)) (sized : ArraysSized (arraysIn ks ars kes ges n)) (sized′ : ArraysSized (arraysIn ks′ ars′ kes′ ges′ n))
     (kindEnds : (i : ℕ) → i < n → getD kes i 0 ≡ getD kes′ i 0) (ends : (i : ℕ) → i < n → getD ges i 0 ≡ getD ges′ i 0)
     (kinds : (i : ℕ) → i < startOf kes n → getD ks i 0 ≡ getD ks′ i 0) (arities : (i : ℕ) → i < startOf ges n → getD ars i 0 ≡ getD ars′ i 0) where
   abbrev a : Arrays

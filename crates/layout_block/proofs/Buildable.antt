@@ -16,8 +16,8 @@ use Rattle.model.proofs.KindLists.{in-count}
 use Rattle.words.specs.Part.{between}
 use Rattle.words.proofs.Part.{length-between}
 use Rattle.words.specs.Table.{table}
-use Rattle.layout.specs.Layout.{Arrays, blockArrays, startOf, widthOf, kindsAt, aritiesAt, groupsFrom, familyAt, familiesOf, Rising, WellFormed}
-use Rattle.layout.specs.ByValue.{Sized}
+use Rattle.layout.specs.Layout.{Arrays, blockArrays, startOf, widthOf, kindsAt, aritiesAt, groupsFrom, familyAt, familiesOf, AritiesRising, WellFormed}
+use Rattle.layout.specs.ByValue.{ArraysSized}
 use Rattle.layout.proofs.Family.{rising-le, kinds-from}
 use Rattle.layout.proofs.Arrays.{kinds-length, groups-of, layout-kinds, block-sized}
 use Rattle.layout_block.specs.Checks.{BlockSound}
@@ -25,14 +25,14 @@ use Rattle.layout_block.specs.Checks.{BlockSound}
 -- ---- one family
 
 -- each group has a kind more than the one before
-rising-groups : (counts : List ℕ) (g : ℕ) (ks : List ℕ) (b : ℕ) (ars : List ℕ) → Rising b (length ks) ars → sound.Rising (groupsFrom counts g ks b ars)
-unfolding groupsFrom Rising
+rising-groups : (counts : List ℕ) (g : ℕ) (ks : List ℕ) (b : ℕ) (ars : List ℕ) → AritiesRising b (length ks) ars → sound.Rising (groupsFrom counts g ks b ars)
+unfolding groupsFrom AritiesRising
 rising-groups counts g ks b [] r = tt
 rising-groups counts g ks b (a ∷ ars) r =
     (omega (arith, r .0, length-between b a ks (rising-le a (length ks) ars (r .1))), rising-groups counts (suc g) ks a ars (r .1))
 
-buildable-family : (counts : List ℕ) (g : ℕ) (ks ars : List ℕ) → 2 ≤ length ks → length ks ≤ MAX-GROUP-ARITY → Rising 1 (length ks) ars → BuildableFamily (groupsFrom counts g ks 0 ars)
-unfolding groupsFrom Rising
+buildable-family : (counts : List ℕ) (g : ℕ) (ks ars : List ℕ) → 2 ≤ length ks → length ks ≤ MAX-GROUP-ARITY → AritiesRising 1 (length ks) ars → BuildableFamily (groupsFrom counts g ks 0 ars)
+unfolding groupsFrom AritiesRising
 buildable-family counts g ks [] lo hi r = absurd (omega (arith, r))
 buildable-family counts g ks (a ∷ ars) lo hi r =
     let first : length (between 0 a ks) ≡ a - 0 = length-between 0 a ks (rising-le a (length ks) ars (r .1)) in
@@ -56,7 +56,7 @@ unfolding table
 all-uncounted zero F h = tt
 all-uncounted (suc n) F h = (h 0, all-uncounted n (λ i. F (suc i)) (λ i. h (suc i)))
 
-module _ (a : Arrays) (good : WellFormed a) (sized : Sized a) (counts : List ℕ) where
+module _ (a : Arrays) (good : WellFormed a) (sized : ArraysSized a) (counts : List ℕ) where
   pub buildable : (registered : List ℕ) → ((k : ℕ) → 1 ≤ countOf eqb k (take (widthOf a) (a .kinds)) → In registered k) → Buildable registered (familiesOf counts a)
   buildable registered known =
       record {

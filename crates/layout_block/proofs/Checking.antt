@@ -13,22 +13,22 @@ use Rattle.model.specs.Lists.{one, countOf}
 use Rattle.model.proofs.ListLaws.{count-next, drop-step}
 use Rattle.words.specs.Part.{between}
 use Rattle.model.proofs.BoolLaws.{by-eq}
-use Rattle.layout.specs.Layout.{Arrays, arraysIn, blockArrays, startOf, Rising, FamilyFormed, WellFormed}
+use Rattle.layout.specs.Layout.{Arrays, arraysIn, blockArrays, startOf, AritiesRising, FamilyFormed, WellFormed}
 use Rattle.layout.proofs.Family.{start-next, rising-head}
 use Rattle.layout.proofs.Arrays.{end-inside}
 use Rattle.layout_block.specs.Checks.{BlockSound, KindsOk, FamilyInside, FamiliesFormed}
 
 -- ---- arities
 
-rising-cons : (b n a : ℕ) (ars : List ℕ) → b < a → Rising a n ars → Rising b n (a ∷ ars)
-unfolding Rising
+rising-cons : (b n a : ℕ) (ars : List ℕ) → b < a → AritiesRising a n ars → AritiesRising b n (a ∷ ars)
+unfolding AritiesRising
 rising-cons b n a ars h r = (h, r)
 
 -- what is left to rise from b says what all do
 pub record RisesSoFar (ars : List ℕ) (n b j : ℕ) : Type 0 where
   pub below : j ≤ length ars
-  pub goes : Rising 1 n ars → Rising b n (drop j ars)
-  pub back : Rising b n (drop j ars) → Rising 1 n ars
+  pub goes : AritiesRising 1 n ars → AritiesRising b n (drop j ars)
+  pub back : AritiesRising b n (drop j ars) → AritiesRising 1 n ars
 
 pub rises-none : (ars : List ℕ) (n : ℕ) → RisesSoFar ars n 1 0
 rises-none ars n = record { below = omega arith; goes = λ r. r; back = λ r. r }
@@ -42,23 +42,23 @@ rises-more ars n b j h l r =
       back = λ rest. r .back (rw d (rising-cons b n (getD ars j 0) (drop (j + 1) ars) l rest));
     }
 
-pub rises-stop : (ars : List ℕ) (n b j : ℕ) → j < length ars → getD ars j 0 ≤ b → RisesSoFar ars n b j → Rising 1 n ars → ⊥
+pub rises-stop : (ars : List ℕ) (n b j : ℕ) → j < length ars → getD ars j 0 ≤ b → RisesSoFar ars n b j → AritiesRising 1 n ars → ⊥
 rises-stop ars n b j h l r all =
     let s = rising-head b n (getD ars j 0) (drop (j + 1) ars) (rw (drop-step ars j 0 h) at (r .goes all)) in
     omega (arith, s .0)
 
-rising-end : (ars : List ℕ) (n b j : ℕ) → length ars ≡ j → Rising b n (drop j ars) → b ≡ n
-unfolding Rising
-rising-end ars n b j e r = subst (Rising b n) (ap (λ (i : ℕ). drop i ars) (sym e) ∙ drop-length ars) r
+rising-end : (ars : List ℕ) (n b j : ℕ) → length ars ≡ j → AritiesRising b n (drop j ars) → b ≡ n
+unfolding AritiesRising
+rising-end ars n b j e r = subst (AritiesRising b n) (ap (λ (i : ℕ). drop i ars) (sym e) ∙ drop-length ars) r
 
-end-rising : (ars : List ℕ) (n b j : ℕ) → length ars ≡ j → b ≡ n → Rising b n (drop j ars)
-unfolding Rising
-end-rising ars n b j e r = subst (Rising b n) (sym (ap (λ (i : ℕ). drop i ars) (sym e) ∙ drop-length ars)) r
+end-rising : (ars : List ℕ) (n b j : ℕ) → length ars ≡ j → b ≡ n → AritiesRising b n (drop j ars)
+unfolding AritiesRising
+end-rising ars n b j e r = subst (AritiesRising b n) (sym (ap (λ (i : ℕ). drop i ars) (sym e) ∙ drop-length ars)) r
 
-pub rises-short : (ars : List ℕ) (n b j : ℕ) → length ars ≡ j → (b ≡ n → ⊥) → RisesSoFar ars n b j → Rising 1 n ars → ⊥
+pub rises-short : (ars : List ℕ) (n b j : ℕ) → length ars ≡ j → (b ≡ n → ⊥) → RisesSoFar ars n b j → AritiesRising 1 n ars → ⊥
 rises-short ars n b j e ne r all = ne (rising-end ars n b j e (r .goes all))
 
-pub rises-done : (ars : List ℕ) (n b j : ℕ) → length ars ≡ j → b ≡ n → RisesSoFar ars n b j → Rising 1 n ars
+pub rises-done : (ars : List ℕ) (n b j : ℕ) → length ars ≡ j → b ≡ n → RisesSoFar ars n b j → AritiesRising 1 n ars
 rises-done ars n b j e q r = r .back (end-rising ars n b j e q)
 
 -- ---- families

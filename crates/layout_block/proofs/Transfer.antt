@@ -11,7 +11,7 @@ use Rattle.words.specs.Offsets.{ARITIES, BLOCK-LEN, ENDS, GROUP-PLACES, KIND-EN
 use Rattle.words.specs.Part.{between}
 use Rattle.words.proofs.Part.{length-between, getD-between}
 use Rattle.layout.specs.Layout.{Arrays, arraysIn, blockArrays, startOf, widthOf, groupCount, aritiesAt, KindSet, WellFormed}
-use Rattle.layout.specs.ByValue.{arraysOf, Sized, meaning, blockMeaning, Formed}
+use Rattle.layout.specs.ByValue.{arraysOf, ArraysSized, layoutMeaning, blockMeaning, Formed}
 use Rattle.layout.specs.declared.group_layout.Layout.{Layout}
 use Rattle.layout.proofs.Family.{rising-at}
 use Rattle.layout.proofs.Arrays.{kinds-inside, groups-inside, arities-length, block-sized}
@@ -21,7 +21,7 @@ use Rattle.model.proofs.ListLaws.{item-counts}
 
 -- ---- what stands in the used parts is small
 
-pub arity-small : (a : Arrays) → WellFormed a → Sized a → (m : ℕ) → m ≤ a .families → (g : ℕ) → g < startOf (a .ends) m → getD (a .arities) g 0 ≤ MAX-GROUP-ARITY
+pub arity-small : (a : Arrays) → WellFormed a → ArraysSized a → (m : ℕ) → m ≤ a .families → (g : ℕ) → g < startOf (a .ends) m → getD (a .arities) g 0 ≤ MAX-GROUP-ARITY
 arity-small a good sized zero h g l = absurd (omega arith)
 arity-small a good sized (suc m) h g l = go (decLt g (startOf (a .ends) m)) (λ l. arity-small a good sized m (omega arith) g l)
   where
@@ -47,7 +47,7 @@ module _ (w : List ℕ) (n g width : ℕ) (f : BlockFormed w n g) (ew : width �
   abbrev a : Arrays
   a = blockArrays w n
 
-  sized : Sized a
+  sized : ArraysSized a
   sized = block-sized w n (f .size)
 
   pub width-small : width ≤ MAX-KINDS
@@ -99,7 +99,7 @@ module _ (w : List ℕ) (n g width : ℕ) (f : BlockFormed w n g) (ew : width �
 
   module _ (d₁ d₂ d₃ d₄ ks ars kes ges : List ℕ) (l₁ : length d₁ ≡ MAX-KINDS) (l₂ : length d₂ ≡ GROUP-PLACES) (l₃ : length d₃ ≡ GROUP-PLACES) (l₄ : length d₄ ≡ GROUP-PLACES)
       (f₁ : Fetched d₁ (take width w) ks) (f₂ : Fetched d₂ (between ARITIES (ARITIES + g) w) ars) (f₃ : Fetched d₃ (between KIND-ENDS (KIND-ENDS + n) w) kes) (f₄ : Fetched d₄ (between ENDS (ENDS + n) w) ges) where
-    sized′ : Sized (arraysIn ks ars kes ges n)
+    sized′ : ArraysSized (arraysIn ks ars kes ges n)
     sized′ = record { kinds = f₁ .size ∙ l₁; arities = f₂ .size ∙ l₂; kindEnds = f₃ .size ∙ l₃; ends = f₄ .size ∙ l₄ }
 
     same-kind : (i : ℕ) → i < widthOf a → getD (a .kinds) i 0 ≡ getD ks i 0
@@ -137,7 +137,7 @@ module _ (w : List ℕ) (n g width : ℕ) (f : BlockFormed w n g) (ew : width �
 
 -- ---- writing
 
-module _ (l : Layout) (formed : Formed l) (long : Sized (arraysOf l)) (w w₁ w₂ w₃ w₄ : List ℕ) (size : length w ≡ BLOCK-LEN)
+module _ (l : Layout) (formed : Formed l) (long : ArraysSized (arraysOf l)) (w w₁ w₂ w₃ w₄ : List ℕ) (size : length w ≡ BLOCK-LEN)
     (p₁ : PutAt w 0 (take (l .width) (l .kinds)) w₁) (p₂ : PutAt w₁ ARITIES (take (l .groups) (l .arities)) w₂)
     (p₃ : PutAt w₂ KIND-ENDS (take (l .families) (l .«kind_ends»)) w₃) (p₄ : PutAt w₃ ENDS (take (l .families) (l .ends)) w₄) where
   abbrev b : Arrays
@@ -204,7 +204,7 @@ module _ (l : Layout) (formed : Formed l) (long : Sized (arraysOf l)) (w w₁ w�
 -- ---- there and back
 
 -- what was written is read again
-pub round-trip : (l : Layout) (w : List ℕ) (r : Layout) → WrittenTo l w → ReadFrom w (l .families) (l .groups) r → meaning r ≡ meaning l
+pub round-trip : (l : Layout) (w : List ℕ) (r : Layout) → WrittenTo l w → ReadFrom w (l .families) (l .groups) r → layoutMeaning r ≡ layoutMeaning l
 round-trip l w r wrote read = read .means [] ∙ wrote .means []
 
 -- a block that is read and written again means what it meant

@@ -9,24 +9,24 @@ use Rattle.model.specs.Numbers.{MAX-GROUP-ARITY, MAX-GROUP-COUNT, MAX-KINDS}
 use Rattle.words.specs.Offsets.{GROUP-PLACES, UNREGISTERED}
 use Rattle.model.specs.Lists.{countOf}
 use Rattle.words.specs.Part.{between}
-use Rattle.layout.specs.Layout.{Arrays, widthOf, groupCount, blockArrays, KindSet, Rising, FamilyFormed}
+use Rattle.layout.specs.Layout.{Arrays, widthOf, groupCount, blockArrays, KindSet, AritiesRising, FamilyFormed}
 use Rattle.layout_block.specs.Blocks.{BlockFormed}
 
 -- each kind of the list is registered: its word in the table of kinds is not 255
-abbrev pub Registered : List ℕ → List ℕ → Type 0
-Registered table ks = (k : ℕ) → 1 ≤ countOf eqb k ks → getD table k 0 ≢ UNREGISTERED
+abbrev pub AllRegistered : List ℕ → List ℕ → Type 0
+AllRegistered table ks = (k : ℕ) → 1 ≤ countOf eqb k ks → getD table k 0 ≢ UNREGISTERED
 
 -- "draft and layout of registered kinds, such as commands can build" (01, "sound")
 pub record BlockSound (w table : List ℕ) (n g : ℕ) : Type 0 where
   pub formed : BlockFormed w n g
-  pub registered : Registered table (take (widthOf (blockArrays w n)) (blockArrays w n .kinds))
+  pub registered : AllRegistered table (take (widthOf (blockArrays w n)) (blockArrays w n .kinds))
 
 -- ---- its parts
 
 -- 01, "sound": "hand, bar, draft and layout of registered kinds"; no kind stands there twice
 pub record KindsOk (table ks : List ℕ) : Type 0 where
   pub once : KindSet ks
-  pub registered : Registered table ks
+  pub registered : AllRegistered table ks
 
 -- a family from kind k to ke and group g to ge, inside the arrays
 pub record FamilyInside (ars : List ℕ) (k ke g ge : ℕ) : Type 0 where
@@ -35,7 +35,7 @@ pub record FamilyInside (ars : List ℕ) (k ke g ge : ℕ) : Type 0 where
   pub wide : ke ≤ MAX-KINDS
   pub some : g < ge
   pub many : ge ≤ MAX-GROUP-COUNT
-  pub rising : Rising 1 (ke - k) (between g ge ars)
+  pub rising : AritiesRising 1 (ke - k) (between g ge ars)
 
 pub record FamiliesFormed (a : Arrays) : Type 0 where
   pub wide : widthOf a ≤ MAX-KINDS

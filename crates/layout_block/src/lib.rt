@@ -6,7 +6,7 @@ ghost use lib.ListN.{length};
 ghost use Rattle.model.specs.Numbers.{MAX-KINDS};
 ghost use Rattle.words.specs.Offsets.{BLOCK-LEN, GROUP-PLACES};
 ghost use Rattle.words.specs.Decides.{Decides};
-ghost use Rattle.layout.specs.Layout.{Rising, arraysIn};
+ghost use Rattle.layout.specs.Layout.{AritiesRising, arraysIn};
 ghost use Rattle.layout.specs.ByValue.{Formed};
 ghost use Rattle.layout_block.specs.Blocks.{BlockFormed, ReadFrom, WrittenTo, FetchAsk, Fetched, PutAt};
 ghost use Rattle.layout_block.specs.Checks.{BlockSound, KindsOk, FamilyInside, FamiliesFormed, EndsAsk};
@@ -85,7 +85,7 @@ pub fn write_layout(block: &mut [u32], l: Layout)
 
 // Do the arities rise strictly, from 2 or more to n?
 fn rises(arities: &[u32], n: usize) -> bool
-    ensures { λ r. ⌜ Decides r (Rising 1 n (now (arities .entry))) ⌝ }
+    ensures { λ r. ⌜ Decides r (AritiesRising 1 n (now (arities .entry))) ⌝ }
 {
     let mut before: usize = 1;
     for j in 0..arities.len() {

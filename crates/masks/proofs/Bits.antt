@@ -7,7 +7,7 @@ use native.Mathlib.Nat.{add-zero, add-suc, suc-add, zero-add, one-mul}
 use native.Mathlib.Omega.{arith}
 use lib.Pow.{pow-pos}
 use lib.Bits.{bitAnd, bitOr}
-use Rattle.masks.specs.Masks.{putIf, positions, bitsOf, upFrom, has, keepIf, keep, between, unionOf, commonOf, skipping, Ordered}
+use Rattle.masks.specs.Masks.{putIf, positions, bitsOf, upFrom, has, keepIf, keep, isBetween, unionOf, commonOf, skipping, Ordered}
 use Rattle.masks.proofs.Digits.{isSet, hasBit, span, restOf, has-or, has-and, has-span, has-rest, same-bits, shl-one, span-shifted}
 use Rattle.masks.proofs.Lists.{keep-same, keep-keep, keep-between, has-keep, has-up, up-parts, between-in, and-parts}
 
@@ -57,7 +57,7 @@ no-bits (suc w) p = no-bits w (suc p)
 -- ---- the operations
 
 pub bits-span : (w a b : ℕ) → a ≤ b → b ≤ w → bitsOf w (span a b) ≡ upFrom a (b - a)
-bits-span w a b h l = bits-by w (span a b) (between a b) (λ i k. has-span a b i) ∙ keep-between w a b h l
+bits-span w a b h l = bits-by w (span a b) (isBetween a b) (λ i k. has-span a b i) ∙ keep-between w a b h l
 
 -- the shift of `from_to` is 1 or more, so that 1 may be taken away
 pub shifted-pos : (w a b : ℕ) → Ordered w a b → 1 ≤ (1 * 2 ^ (b - a)) % 2 ^ w
@@ -90,8 +90,8 @@ bits-and w m n =
 -- the complement of the positions from a to b - 1
 pub bits-skip : (w m a b : ℕ) → m < 2 ^ w → Ordered w a b → bitsOf w m ≡ upFrom a (b - a) → bitsOf w (restOf w m) ≡ skipping w a b
 bits-skip w m a b l h e =
-    bits-by w (restOf w m) (λ i. not (between a b i))
-    (λ i k. has-rest w m i k l ∙ ap not (sym (bits-has w m i k) ∙ ap (has i) e ∙ has-up i a (b - a) ∙ ap (λ (n : ℕ). between a n i) (ends (h .rising))))
+    bits-by w (restOf w m) (λ i. not (isBetween a b i))
+    (λ i k. has-rest w m i k l ∙ ap not (sym (bits-has w m i k) ∙ ap (has i) e ∙ has-up i a (b - a) ∙ ap (λ (n : ℕ). isBetween a n i) (ends (h .rising))))
   where
     ends : a ≤ b → a + (b - a) ≡ b
     ends l = omega arith

@@ -8,7 +8,7 @@ use native.Mathlib.Omega.{arith}
 use lib.Dec.{ltb, leb·zero, leb·suc-zero, leb·suc-suc, lit<}
 use lib.Pow.{pow-pos, shl-exact, ones-lt}
 use lib.Bits.{bitAnd, bitOr, and-step, or-step}
-use Rattle.masks.specs.Masks.{between}
+use Rattle.masks.specs.Masks.{isBetween}
 use Rattle.masks.proofs.Lists.{between-high}
 
 abbrev pub isSet : ℕ → Bool
@@ -88,7 +88,7 @@ span-zero b = ap (λ (x : ℕ). (2 ^ x - 1) * 1) (sub-zero b) ∙ mul-one (2 ^ b
 span-none : (a : ℕ) → span (suc a) 0 ≡ 0
 span-none a = ap (λ (x : ℕ). (2 ^ x - 1) * 2 ^ suc a) (zero-sub (suc a)) ∙ zero-mul (2 ^ suc a)
 
-pub has-span : (a b i : ℕ) → hasBit (span a b) i ≡ between a b i
+pub has-span : (a b i : ℕ) → hasBit (span a b) i ≡ isBetween a b i
 unfolding hasBit
 has-span zero zero i = no-bit i ∙ sym (between-high 0 0 i zero-le)
 has-span zero (suc b) zero =

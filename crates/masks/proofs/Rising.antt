@@ -6,7 +6,7 @@ use Prim.Native.Nat.{ℕ, zero, suc, _≤_, _<_}
 use native.Mathlib.Omega.{arith}
 use borrow.Author.Tests.{le-leb, leb-true, leb-false, eqb-true}
 use lib.Dec.{eqb, leb}
-use Rattle.masks.specs.Masks.{bitsOf, upFrom, has, keepIf, keep, between, commonOf, skipping}
+use Rattle.masks.specs.Masks.{bitsOf, upFrom, has, keepIf, keep, isBetween, commonOf, skipping}
 use Rattle.masks.proofs.Digits.{hasBit}
 use Rattle.masks.proofs.Lists.{and-parts, up-parts, has-keep, keep-same, keep-all, skip-common, between-in, between-high}
 use Rattle.masks.proofs.Bits.{bits-keep}
@@ -50,8 +50,8 @@ keep-from t ps f = keep-all (leb t) ps (λ i h. le-leb t i (f i h))
 -- without the positions from g to top - 1, where all are past g
 pub skip-rest : (w g top : ℕ) (ps : List ℕ) → From (suc g) ps → ((i : ℕ) → has i ps ≡ true → i < w) → commonOf ps (skipping w g top) ≡ keep (leb top) ps
 skip-rest w g top ps f low =
-    skip-common w g top ps low ∙ keep-same (λ i. not (between g top i)) (leb top) ps (λ i h. go i (f i h) (leb top i) refl)
+    skip-common w g top ps low ∙ keep-same (λ i. not (isBetween g top i)) (leb top) ps (λ i h. go i (f i h) (leb top i) refl)
   where
-    go : (i : ℕ) → suc g ≤ i → (t : Bool) → leb top i ≡ t → not (between g top i) ≡ leb top i
+    go : (i : ℕ) → suc g ≤ i → (t : Bool) → leb top i ≡ t → not (isBetween g top i) ≡ leb top i
     go i gt true q = rw (between-high g top i (leb-true top i q), q)
     go i gt false q = rw (between-in g top i (omega arith) (leb-false top i q), q)

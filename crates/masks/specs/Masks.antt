@@ -38,8 +38,8 @@ keep f [] = []
 keep f (p ∷ l) = keepIf (f p) p (keep f l)
 
 -- a ≤ i < b
-abbrev pub between : ℕ → ℕ → ℕ → Bool
-between a b i = leb a i && ltb i b
+abbrev pub isBetween : ℕ → ℕ → ℕ → Bool
+isBetween a b i = leb a i && ltb i b
 
 -- below w, and in one of the two
 abbrev pub unionOf : ℕ → List ℕ → List ℕ → List ℕ
@@ -51,7 +51,7 @@ commonOf xs ys = keep (λ i. has i ys) xs
 
 -- below w, and not from a to b - 1
 abbrev pub skipping : ℕ → ℕ → ℕ → List ℕ
-skipping w a b = keep (λ i. not (between a b i)) (upFrom 0 w)
+skipping w a b = keep (λ i. not (isBetween a b i)) (upFrom 0 w)
 
 -- what `from_to` asserts of its ends
 pub record Ordered (w from to : ℕ) : Type 0 where

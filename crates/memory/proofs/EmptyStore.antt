@@ -6,7 +6,7 @@ use native.Mathlib.Omega.{arith}
 use lib.ListN.{length, getD, set, replicate, length-set, length-replicate, getD-replicate}
 use lib.Seq.{getD-set-same, getD-set-other, drop-set-lt}
 use Rattle.model.specs.Numbers.{ENTITY-LEN, MAX-KINDS, columnLen}
-use Rattle.model.specs.Model.{Entities, SparseSet}
+use Rattle.model.specs.Model.{Entities, SparseSet, noEntities}
 use Rattle.model.specs.Store.{empty}
 use Rattle.model.specs.Sound.{Limits}
 use Rattle.words.specs.Offsets.{columnStart, CAPACITY, DRAFT, DRAFT-FAMILIES, DRAFT-GROUPS, ENTITIES, EXCLUDED-LEN, GROUP-COUNTS, GROUP-FAMILIES, KIND-CAPACITY, LAYOUT, LAYOUT-FAMILIES, LAYOUT-GROUPS, REFUSALS, REGISTERED, ROWS, STAGED-KINDS, STAGED-LEN, TABLE, UNREGISTERED}
@@ -17,7 +17,7 @@ use Rattle.words.specs.Table.{table}
 use Rattle.words.proofs.Tables.{is-table, table-none}
 use Rattle.component.specs.Columns.{Columns}
 use Rattle.component.proofs.Fresh.{fresh-columns, fresh-rows}
-use Rattle.entity.specs.Change.{Changed, noEntities}
+use Rattle.entity.specs.Change.{EntitiesChanged}
 use Rattle.entity.specs.Meaning.{entityPart}
 use Rattle.entity.proofs.Zeros.{zeros-changed}
 use Rattle.layout.specs.Layout.{blockArrays, WellFormed, groupCount, familiesOf}
@@ -76,7 +76,7 @@ module _ (n k : ℕ) (w w₁ w₂ : List ℕ) (L : Limits n k) (enough : columnS
   long : end ≤ length w′
   long = omega (arith, size, enough)
 
-  entities : Changed n (λ (s : Entities). noEntities) (entityPart n w′) (entityPart n w′)
+  entities : EntitiesChanged n (λ (s : Entities). noEntities) (entityPart n w′) (entityPart n w′)
   entities =
       let l : length (entityPart n w′) ≡ ENTITY-LEN * n = length-between ENTITIES (ENTITIES + ENTITY-LEN * n) w′ (omega (arith, long, past-header)) ∙ omega arith in
       zeros-changed n (entityPart n w′) (entityPart n w′)

@@ -16,7 +16,7 @@ use Rattle.words.proofs.Tables.{table-same}
 use Rattle.component.specs.Columns.{columnOf}
 use Rattle.entity.specs.Meaning.{entitiesIn}
 use Rattle.layout.specs.Layout.{blockArrays, WellFormed, groupCount, familiesOf}
-use Rattle.layout.specs.ByValue.{Sized}
+use Rattle.layout.specs.ByValue.{ArraysSized}
 use Rattle.memory.specs.Header.{capacityOf, kindCapacityOf, stagedLen, excludedLen, draftGroups, excludedAt}
 use Rattle.memory.specs.Meaning.{kindsIn, setsIn, draftArrays, layoutArrays, draftIn, layoutIn, stagedAt, stagedIn, excludedIn, countsIn, controlIn, settingsOf, meaning}
 use Rattle.memory.specs.Arranged.{Arranged}
@@ -78,7 +78,7 @@ long w A =
       columnStart-mono (capacityOf w) 0 (kindCapacityOf w) (omega arith),
     )
 
-pub layout-sized : (w : List ℕ) → Arranged w → Sized (layoutArrays w)
+pub layout-sized : (w : List ℕ) → Arranged w → ArraysSized (layoutArrays w)
 layout-sized w A = words-sized w (long w A)
 
 -- ---- the header below the counts as it was

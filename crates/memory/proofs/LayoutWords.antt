@@ -12,14 +12,14 @@ use Rattle.layout.specs.Layout.{startOf}
 use Rattle.layout.specs.Group.{arityOf, priorOf, priorArity}
 use Rattle.layout.specs.Reading.{wordArrays, ReadMetadata}
 use Rattle.layout.specs.declared.group_metadata.GroupMetadata.{GroupMetadata}
-use Rattle.layout.specs.ByValue.{Sized}
+use Rattle.layout.specs.ByValue.{ArraysSized}
 use Rattle.layout.proofs.Arrays.{block-at, block-sized}
 use Rattle.layout.proofs.Groups.{start-same, prior-same}
 use Rattle.memory.specs.Meaning.{layoutArrays}
 use Rattle.words.proofs.Part.{getD-between, length-between}
 
 module _ (w : List ℕ) where
-  pub words-sized : ENTITIES ≤ length w → Sized (layoutArrays w)
+  pub words-sized : ENTITIES ≤ length w → ArraysSized (layoutArrays w)
   words-sized long = block-sized (between LAYOUT GROUP-FAMILIES w) (getD w LAYOUT-FAMILIES 0) (length-between LAYOUT GROUP-FAMILIES w (omega arith))
 
   pub kind-word : (i : ℕ) → i < MAX-KINDS → getD (layoutArrays w .kinds) i 0 ≡ getD w (LAYOUT + i) 0

@@ -7,13 +7,13 @@ use lib.ListN.{length, take, drop, take-append-drop}
 use lib.Seq.{take-take}
 use Rattle.model.proofs.ListLaws.{count-append}
 use Rattle.model.specs.Model.{Entity, SparseSet, Family, sameEntity}
-use Rattle.model.specs.Store.{Store, empty}
+use Rattle.model.specs.Store.{Store, empty, Bytes}
 use Rattle.model.specs.Run.{Step, stops, goes, step, Ran, halt, more, runFor, run}
-use Rattle.model.specs.History.{trailFor, trail}
+use Rattle.model.specs.History.{trailFor, trail, EachStore}
 use Rattle.model.specs.Sound.{cnt, In, key, holders, Limits, Right, RightFrom, AllRight, Between, BetweenFrom, AllBetween, GroupsRight, GroupsBetween, StoreSound}
 use Rattle.model.proofs.KindLists.{in-left}
 use Rattle.model.proofs.Held.{holders-fewer}
-use Rattle.model.proofs.Sound.{Bytes, EachStore, trail-sound}
+use Rattle.model.proofs.Sound.{trail-sound}
 use Rattle.model.specs.Theorems.{Passes}
 
 -- ---- the trail is what the run passes through: a store for each command, the last one the run's

@@ -12,9 +12,8 @@ use Rattle.model.specs.Lists.{countOf}
 use Rattle.model.proofs.ListLaws.{count-append}
 use Rattle.model.specs.Model.{Group, Family, mem, meets, within, sameSet, without, kindsOf, groupsOf, isGroup, present, touched, covers, newGroup, grown, addsNothing, joins, withGroup}
 use Rattle.model.specs.Adding.{addGroup}
-use Rattle.model.specs.Sound.{Distinct, layoutKinds, Rising, BuildableFamily, BuildableFamilies, Uncounted, AllUncounted}
+use Rattle.model.specs.Sound.{Distinct, layoutKinds, Rising, BuildableFamily, BuildableFamilies, Uncounted, AllUncounted, In}
 use Rattle.model.proofs.BoolLaws.{cond-case, and-left, and-right, or-false, or-false-right, not-true, and-false-left, not-or, or-right, bool-cases}
-use Rattle.model.proofs.Groups.{In}
 use Rattle.model.proofs.KindLists.{Missing, all-missing, in-cases, in-count, out-count, count-in, count-without, count-without-le, in-without, without-length, distinct-left, distinct-right, in-length, unmet-in, meets-none}
 use Rattle.model.specs.Theorems.{AddedSound, DraftSound}
 

@@ -16,7 +16,7 @@ use Rattle.model.specs.Model.{Entity, SparseSet, setOf, keys, entityOf}
 use Rattle.model.specs.Store.{Store, empty, wordsNeeded, isKind}
 use Rattle.model.specs.Snapshot.{snapshot}
 use Rattle.model.specs.Refusals.{firstLine, NoneHolds, First, startLines, rollLines, columnLines}
-use Rattle.model.specs.Entries.{refusesStart, makes, startedBy, start, entityWords, valueWords, valueOf, part, partWords, columnRefusal, column, refusesEmit, writes, roll}
+use Rattle.model.specs.Entries.{refusesStart, makes, startedBy, start, entityWords, valueWords, rowValue, part, partWords, columnRefusal, column, refusesEmit, writes, roll}
 use Rattle.model.specs.Sound.{Limits, StoreSound}
 use Rattle.model.proofs.BoolLaws.{or-false, or-false-right}
 use Rattle.model.proofs.Operations.{empty-sound}
@@ -104,7 +104,7 @@ column-accepted which k a e s p =
   where
     size : (which : Bool) (rows : SparseSet) → e ≤ length rows → length (partWords which a e rows) ≡ 2 * (e - a)
     size false rows q = entity-words (part a e (keys rows)) ∙ ap (λ (n : ℕ). 2 * n) (part-length a e (keys rows) (omega (arith, length-map rows entityOf)))
-    size true rows q = value-words (part a e (map valueOf rows)) ∙ ap (λ (n : ℕ). 2 * n) (part-length a e (map valueOf rows) (omega (arith, length-map rows valueOf)))
+    size true rows q = value-words (part a e (map rowValue rows)) ∙ ap (λ (n : ℕ). 2 * n) (part-length a e (map rowValue rows) (omega (arith, length-map rows rowValue)))
 
 -- ---- roll
 

@@ -11,11 +11,12 @@ use lib.ListN.{length, take, set, length-map, length-append, length-set}
 use lib.Seq.{take-append-le, set-getD, getD-set-same, getD-set-other}
 use Rattle.model.proofs.ListLaws.{count-append, getD-place, map-set, map-append}
 use Rattle.model.specs.Model.{Entity, SparseSet, Family, Component, Storage, Walked, sameEntity, noEntity, mem, meets, setOf, keys, entityOf, at, held, kindsOf, kindOf, insertRow, insertAll, groupFamily, groupTouched}
-use Rattle.model.proofs.SparseSets.{entity-eq, entity-same, key}
+use Rattle.model.proofs.SparseSets.{entity-eq, entity-same}
 use Rattle.model.proofs.BoolLaws.{cond-case, or-false, or-false-right, bool-cases}
-use Rattle.model.proofs.Groups.{cnt, plc, In, SameEntities}
+use Rattle.model.proofs.Groups.{plc, SameEntities}
 use Rattle.model.proofs.Walk.{Chain, Every, But, Plus, Up, groupFamily-good, chain-weaken, either, lacks-count}
 use Rattle.model.proofs.KindLists.{in-left, in-right, mem-append, not-both}
+use Rattle.model.specs.Sound.{key, cnt, In}
 
 -- ---- families
 

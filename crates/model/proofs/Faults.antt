@@ -2,13 +2,9 @@
 -- in the other files exclude the faults in general; here a fault shows as a wrong list. Assumes nothing.
 use mathlib.Core.Path.{_≡_, refl}
 use mathlib.Core.Bool.{false}
-use mathlib.Core.List.{List, [], _∷_, map}
-use Prim.Native.Nat.{ℕ}
-use Rattle.model.specs.Model.{Entity, Storage, setOf, keys, held}
-use Rattle.model.specs.Examples.{countsOf, entity, filled, killed}
-
-indexes : ℕ → Storage → List ℕ
-indexes k p = map (λ (e : Entity). e .index) (keys (setOf (p .sets) k))
+use mathlib.Core.List.{[], _∷_}
+use Rattle.model.specs.Model.{entity, setOf, held}
+use Rattle.model.specs.Examples.{countsOf, indexes, filled, killed}
 
 -- removing before leaving the groups: the groups would still count entity 1
 groups-left-first : countsOf (killed .layout) ≡ 2 ∷ 0 ∷ []
@@ -32,5 +28,5 @@ stopped-at-missing = refl
 
 -- ignoring versions: entity 1 at version 2 would be found
 versions-looked-at : held (entity 1 2) (setOf (filled .sets) 1) ≡ false
-unfolding entity filled
+unfolding filled
 versions-looked-at = refl

@@ -9,7 +9,7 @@ use lib.Seq.{length-take-le, take-take, take-suc, getD-set-same, lt-length-set}
 use Rattle.model.specs.Lists.{swap, place, one}
 use Rattle.model.proofs.ListLaws.{length-swap, take-swap-lt, take-swap-le, take-suc-swap, count-append, count-swap, place-take, count-place, count-take-place, count-take-le, getD-place}
 use Rattle.model.specs.Model.{Entity, sameEntity, noEntity, mem}
-pub use Rattle.model.specs.Sound.{cnt, In}
+use Rattle.model.specs.Sound.{cnt, In}
 use Rattle.model.proofs.SparseSets.{entity-eq, entity-same}
 use Rattle.model.proofs.BoolLaws.{bool-cases}
 

@@ -11,14 +11,13 @@ use Rattle.model.specs.Numbers.{MAX-KINDS}
 use Rattle.model.specs.Lists.{one}
 use Rattle.model.proofs.ListLaws.{count-take-le}
 use Rattle.model.specs.Model.{Entity, Entities, SparseSet, Group, Family, Component, Storage, sameEntity, mem, allOf, setOf, held, allHeld, kindOf, kindsOf, headKind, insertComponents, remove, clearAll, setLayout, destroy}
-use Rattle.model.specs.Sound.{Distinct, layoutKinds, Rising, BuildableFamilies, Uncounted, AllUncounted, Right, RightFrom, AllRight}
-use Rattle.model.proofs.SparseSets.{entity-eq, key}
+use Rattle.model.specs.Sound.{Distinct, layoutKinds, Rising, BuildableFamilies, Uncounted, AllUncounted, Right, RightFrom, AllRight, key, cnt, In, holders}
+use Rattle.model.proofs.SparseSets.{entity-eq}
 use Rattle.model.proofs.BoolLaws.{cond-case, and-left, not-true, bool-cases}
-use Rattle.model.proofs.Groups.{cnt, In}
 use Rattle.model.proofs.Walk.{Chain, Every, Below, GroupRight, count-held}
 use Rattle.model.proofs.KindLists.{in-right, all-true, head-in, distinct-right, distinct-apart, all-joined}
 use Rattle.model.proofs.Families.{Fams, Kinds, Apart, allKinds, famKinds}
-use Rattle.model.proofs.Invariant.{Fit, holders, holders-count, count-is, count-number, insert-fit, insert-others, insert-kinds}
+use Rattle.model.proofs.Invariant.{Fit, holders-count, count-is, count-number, insert-fit, insert-others, insert-kinds}
 use Rattle.model.proofs.Removal.{remove-fit, remove-fewer, remove-lost}
 use Rattle.model.proofs.Regroup.{Fresh, FreshAll, setLayout-fit, setLayout-entities, clearAll-fit, clearAll-entities}
 use Rattle.model.proofs.Numbers.{EntitiesOk, destroy-ok, cnt-cut, live-once}

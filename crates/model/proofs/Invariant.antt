@@ -9,10 +9,10 @@ use lib.Seq.{length-take-le}
 use Rattle.model.specs.Numbers.{MAX-KINDS}
 use Rattle.model.proofs.ListLaws.{count-take-le, count-kept, count-length}
 use Rattle.model.specs.Model.{Entity, SparseSet, Group, Family, Component, Storage, Walked, GroupStep, sameEntity, mem, meets, setOf, held, allHeld, kindsOf, kindOf, insertRow, insertAll, mapOn, swapTo, isGrouped, groupComponents, groupFamily, groupTouched, insertComponents}
-pub use Rattle.model.specs.Sound.{holders}
-use Rattle.model.proofs.SparseSets.{entity-eq, entity-same, key}
+use Rattle.model.specs.Sound.{holders, key, cnt, In}
+use Rattle.model.proofs.SparseSets.{entity-eq, entity-same}
 use Rattle.model.proofs.BoolLaws.{cond-case, bool-cases}
-use Rattle.model.proofs.Groups.{cnt, In, SameEntities}
+use Rattle.model.proofs.Groups.{SameEntities}
 use Rattle.model.proofs.Walk.{Every, But, GroupRight, held-count, lacks-count}
 use Rattle.model.proofs.KindLists.{Missing, all-missing, all-in, any-in}
 use Rattle.model.proofs.Families.{Fams, Apart, famKinds, chain-other, Put, Kinds, put-all, chain-put, Pending, UpAll, groupFamily-all-good}

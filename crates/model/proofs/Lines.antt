@@ -10,7 +10,6 @@ use borrow.Author.Tests.{lt-ltb, le-ltb}
 use lib.ListN.{take}
 use Rattle.model.specs.Numbers.{KIND, MANY, MAX-REFUSALS, NOROOM, UNKNOWN}
 use Rattle.model.specs.Store.{Store}
-pub use Rattle.model.specs.Refusals.{Unchanged}
 use Rattle.model.specs.Commands.{Command, REG, HOLD, NEW, PUT, TAKE, DROP, KILL, WIPE, GROUP, APPLY, BAR, RANGE, EMPTY, TALLY, Done, accepted, width, commandAt}
 use Rattle.model.specs.Refusals.{Line, firstLine, NoneHolds, First, linesOf, beforeLines}
 use Rattle.model.specs.Run.{Outcome, refuses, accepts, outcome, does, Step, stops, storeAfter, stepOf, stepIf, step}

@@ -12,10 +12,9 @@ use Rattle.model.specs.Lists.{one}
 use Rattle.model.proofs.ListLaws.{place-count, count-place, map-append, all-snoc}
 use Rattle.model.specs.Model.{Entity, Entities, SparseSet, Family, Component, sameEntity, mem, setOf, keys, kindOf, isLive, insertComponents, remove, clearAll, setLayout, create, createWith, destroy, Row, noRow}
 use Rattle.model.specs.Store.{Control, Store, empty, withKinds, withEntities, withStorage, withControl, withAll, emptyStaged, emptyBoth, withStaged, withExcluded, withDraft, counted}
-use Rattle.model.specs.Sound.{Eight, noComponent, Limits, KindsSound, StagedSound, ExcludedSound, Buildable, StoreSound}
-use Rattle.model.proofs.SparseSets.{entity-same, key}
+use Rattle.model.specs.Sound.{Eight, noComponent, Limits, KindsSound, StagedSound, ExcludedSound, Buildable, StoreSound, key, cnt, In}
+use Rattle.model.proofs.SparseSets.{entity-same}
 use Rattle.model.proofs.BoolLaws.{cond-case, or-false}
-use Rattle.model.proofs.Groups.{cnt, In}
 use Rattle.model.proofs.Numbers.{create-ok, create-live}
 use Rattle.model.proofs.Values.{ColsOk, StagedOk, insert-ok, remove-ok, setLayout-ok, clearAll-ok}
 use Rattle.model.proofs.KindLists.{distinct-snoc, in-cases, in-left, mem-append, in-one, known-snoc}

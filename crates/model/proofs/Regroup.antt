@@ -7,13 +7,13 @@ use Prim.Native.Nat.{ℕ, _≤_}
 use native.Mathlib.Omega.{arith}
 use lib.ListN.{length, length-map, List·getD-map}
 use Rattle.model.specs.Model.{Entity, SparseSet, Family, Storage, Walked, sameEntity, mem, headKind, kindsOf, groupFamily, groupAll, regroup, setLayout, clearAll, zeroCount}
-use Rattle.model.proofs.SparseSets.{key}
-use Rattle.model.proofs.Groups.{cnt, In, SameEntities}
+use Rattle.model.proofs.Groups.{SameEntities}
 use Rattle.model.proofs.Walk.{Below, Chain, Every, Plus, Up, groupFamily-good, chain-weaken}
 use Rattle.model.proofs.KindLists.{in-right, mem-append, not-both}
 use Rattle.model.proofs.BoolLaws.{bool-cases, or-false, or-false-right}
 use Rattle.model.proofs.Families.{allKinds, famKinds, chain-other, fams-other, Apart, Fams, FamsFor}
 use Rattle.model.proofs.Invariant.{Fit, length-groupFamily}
+use Rattle.model.specs.Sound.{key, cnt, In}
 
 -- ---- families that are right for the entities of W
 

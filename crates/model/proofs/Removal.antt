@@ -11,14 +11,15 @@ use lib.Seq.{length-take-le, take-take, take-set-le}
 use Rattle.model.specs.Lists.{one, cutAt}
 use Rattle.model.proofs.ListLaws.{count-cut, map-cutAt, count-place, place-le}
 use Rattle.model.specs.Model.{Entity, SparseSet, Group, Family, Storage, Walked, GroupStep, sameEntity, noEntity, noRow, mem, meets, setOf, keys, entityOf, at, held, kindsOf, onKinds, swapTo, removeRow, isGrouped, ungroupComponents, ungroupFamily, ungroup, remove}
-use Rattle.model.proofs.SparseSets.{entity-eq, entity-same, key, setOf-mapOn}
+use Rattle.model.proofs.SparseSets.{entity-eq, entity-same, setOf-mapOn}
 use Rattle.model.proofs.BoolLaws.{cond-case, or-false, or-false-right, bool-cases}
-use Rattle.model.proofs.Groups.{cnt, plc, In, Full, SameEntities}
+use Rattle.model.proofs.Groups.{plc, Full, SameEntities}
 use Rattle.model.proofs.Walk.{Chain, Every, But, GroupRight, full-lacks, either, held-count, lacks-count}
 use Rattle.model.proofs.KindLists.{in-left, mem-append, not-both, any-in, any-at}
 use Rattle.model.proofs.WalkDown.{Left, LeftChain, Down, ungroupFamily-good, out-place}
 use Rattle.model.proofs.Families.{Fams, Apart, allKinds, famKinds, fams-other}
 use Rattle.model.proofs.Invariant.{Fit, length-mapOn}
+use Rattle.model.specs.Sound.{key, cnt, In}
 
 -- ---- a row goes, and the last takes its place
 

@@ -12,19 +12,18 @@ use lib.ListN.{getD}
 use Rattle.model.specs.Numbers.{MAX-ENTITIES}
 use Rattle.model.specs.Lists.{one}
 use Rattle.model.specs.Model.{Entity, SparseSet, sameEntity, noRow, at, held, lastVersion}
-use Rattle.model.specs.Store.{Store, empty}
+use Rattle.model.specs.Store.{Store, empty, Bytes}
 use Rattle.model.specs.Run.{run}
-use Rattle.model.specs.Snapshot.{addComponent, componentsOf, liveVersion, entryOf, entries, snapshot}
-use Rattle.model.specs.Sound.{Limits, StoreSound}
+use Rattle.model.specs.Snapshot.{addComponent, componentsOf, liveVersion, entryOf, entries, snapshot, Same}
+use Rattle.model.specs.Sound.{Limits, StoreSound, cnt, num}
 use Rattle.model.proofs.SparseSets.{entity-same}
-use Rattle.model.proofs.Groups.{cnt}
 use Rattle.model.proofs.BoolLaws.{zero-of, bool-cases}
-use Rattle.model.proofs.Numbers.{EntitiesOk, num, live-few}
+use Rattle.model.proofs.Numbers.{EntitiesOk, live-few}
 use Rattle.model.proofs.Values.{ColsOk}
 use Rattle.model.proofs.Operations.{EightRow, no-row, sound-held}
-use Rattle.model.proofs.Sound.{Bytes, run-sound}
+use Rattle.model.proofs.Sound.{run-sound}
 use Rattle.model.proofs.Encoding.{FitComponents, FitEntries}
-use Rattle.model.proofs.Listing.{LiveOk, Listable, Same, snapshot-iff}
+use Rattle.model.proofs.Listing.{LiveOk, Listable, snapshot-iff}
 
 -- ---- what the snapshot's law asks
 

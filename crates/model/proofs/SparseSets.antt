@@ -8,7 +8,7 @@ use borrow.Author.Tests.{eqb-true, eq-eqb}
 use lib.Dec.{eqb}
 use lib.ListN.{getD, set, List·getD-map}
 use Rattle.model.specs.Lists.{swap, place}
-pub use Rattle.model.specs.Sound.{key}
+use Rattle.model.specs.Sound.{key}
 use Rattle.model.specs.Model.{Entity, SparseSet, sameEntity, noEntity, noRow, mem, setOf, keys, entityOf, at, swapTo, mapOn, onKinds}
 use Rattle.model.proofs.BoolLaws.{cond-same, and-left, and-right}
 use Rattle.model.proofs.ListLaws.{map-set}

@@ -9,10 +9,11 @@ use borrow.Author.Tests.{ltb-true, ltb-false, lt-ltb}
 use lib.ListN.{length, take, length-map}
 use Rattle.model.proofs.ListLaws.{place-count, place-count-take, count-take-place, count-place}
 use Rattle.model.specs.Model.{Entity, SparseSet, Group, Family, Walked, GroupStep, sameEntity, mem, setOf, entityOf, at, held, headKind, isGrouped, allHeld, swapTo, onKinds, groupComponents, groupFamily, kindsOf}
-use Rattle.model.proofs.SparseSets.{entity-eq, key, key-swapped, key-kept}
+use Rattle.model.proofs.SparseSets.{entity-eq, key-swapped, key-kept}
 use Rattle.model.proofs.BoolLaws.{cond-case, or-false, bool-cases}
-use Rattle.model.proofs.Groups.{cnt, plc, In, Even, Full, Inside, Swapped, SameEntities, even-kept, full-kept, same-entities, low, inner-even, inner-full, inner-isGrouped, grown-even, grown-full, grown-isGrouped}
+use Rattle.model.proofs.Groups.{plc, Even, Full, Inside, Swapped, SameEntities, even-kept, full-kept, same-entities, low, inner-even, inner-full, inner-isGrouped, grown-even, grown-full, grown-isGrouped}
 use Rattle.model.proofs.KindLists.{mem-append, in-left, in-right, in-cases, all-in, all-missing}
+use Rattle.model.specs.Sound.{key, cnt, In}
 
 -- ---- a family whose groups are right for each entity of W
 

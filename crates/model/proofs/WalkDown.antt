@@ -8,11 +8,12 @@ use borrow.Author.Tests.{ltb-true, ltb-false}
 use lib.ListN.{length, take}
 use Rattle.model.proofs.ListLaws.{place-count-take, count-take-place, count-take-le}
 use Rattle.model.specs.Model.{Entity, SparseSet, Group, Family, Walked, GroupStep, sameEntity, mem, meets, headKind, isGrouped, swapTo, onKinds, ungroupComponents, ungroupFamily, kindsOf}
-use Rattle.model.proofs.SparseSets.{key, key-swapped, key-kept}
+use Rattle.model.proofs.SparseSets.{key-swapped, key-kept}
 use Rattle.model.proofs.BoolLaws.{cond-case, or-false}
-use Rattle.model.proofs.Groups.{cnt, plc, In, Even, Full, Inside, Swapped, SameEntities, even-kept, full-kept, same-entities, low, inner-even, inner-count, shrunk-even, shrunk-full, shrunk-out}
+use Rattle.model.proofs.Groups.{plc, Even, Full, Inside, Swapped, SameEntities, even-kept, full-kept, same-entities, low, inner-even, inner-count, shrunk-even, shrunk-full, shrunk-out}
 use Rattle.model.proofs.Walk.{Below, Chain, Every, But, below-le}
 use Rattle.model.proofs.KindLists.{in-left, in-right, mem-append, meets-left}
+use Rattle.model.specs.Sound.{key, cnt, In}
 
 -- what a walk leaves of a smaller group
 pub record Held (key new : ℕ → List Entity) (ks : List ℕ) (h : ℕ) : Type 0 where

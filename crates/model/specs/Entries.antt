@@ -40,8 +40,8 @@ valueWords [] = []
 valueWords (v ∷ vs) = v % 4294967296 ∷ v / 4294967296 ∷ valueWords vs
 
 -- a row's value
-abbrev pub valueOf : Row → ℕ
-valueOf r = r .value
+abbrev pub rowValue : Row → ℕ
+rowValue r = r .value
 
 -- the items of a list from a to e, which is excluded
 abbrev pub part : {A : Type 0} → ℕ → ℕ → List A → List A
@@ -50,7 +50,7 @@ part a e l = drop a (take e l)
 -- the words that column hands back, of the entities (which = false) or of the values (which = true)
 abbrev pub partWords : Bool → ℕ → ℕ → SparseSet → List ℕ
 partWords false a e rows = entityWords (part a e (keys rows))
-partWords true a e rows = valueWords (part a e (map valueOf rows))
+partWords true a e rows = valueWords (part a e (map rowValue rows))
 
 -- "a second entry with the same operands gives column's number, 0 if accepted"
 unfoldable pub columnRefusal : ℕ → ℕ → ℕ → Store → Option ℕ

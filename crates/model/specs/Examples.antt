@@ -4,7 +4,7 @@ use mathlib.Core.List.{List, [], _∷_, _++_, map}
 use Prim.Native.Nat.{ℕ}
 use lib.ListN.{length, replicate}
 use Rattle.model.specs.Numbers.{MAX-KINDS}
-use Rattle.model.specs.Model.{Entity, Component, Storage, Group, Family, Entities, Created, Range, none, found, groupAll, clearAll, groupComponents, ungroupComponents, groupFamily, ungroupFamily, groupTouched, ungroup, insertComponents, remove, rangeFor, setLayout, regroup, create, destroy}
+use Rattle.model.specs.Model.{Entity, Component, Storage, Group, Family, Entities, Created, Range, none, found, groupAll, clearAll, groupComponents, ungroupComponents, groupFamily, ungroupFamily, groupTouched, ungroup, insertComponents, remove, rangeFor, setLayout, regroup, create, destroy, entity, keys, setOf}
 use Rattle.model.specs.Adding.{Added, nothing, added, refused, addGroup}
 use Rattle.model.specs.Store.{empty, bytesOf}
 use Rattle.model.specs.Commands.{accepted}
@@ -55,22 +55,23 @@ draft = draftOr [] (addGroup (1 ∷ 2 ∷ 3 ∷ 4 ∷ []) (draftOr [] (addGroup 
 staged : List ℕ → List Component
 staged ks = map (λ (k : ℕ). record { kind = k; value = 0 }) ks
 
-unfoldable pub entity : ℕ → ℕ → Entity
-entity i v = record { index = i; version = v }
-
 -- "Cards 0 {1,2,3}, 1 {1,2,3,4}, 2 {1,2}, 3 {1}."
 four : Entities
 unfolding create none-issued
 four = (create ((create ((create ((create none-issued) .entities)) .entities)) .entities)) .entities
 
 unfoldable pub filled : Storage
-unfolding bare draft staged entity setLayout regroup groupAll insertComponents groupTouched groupFamily groupComponents
+unfolding bare draft staged setLayout regroup groupAll insertComponents groupTouched groupFamily groupComponents
 filled =
     insertComponents (entity 3 1) (staged (1 ∷ [])) (insertComponents (entity 2 1) (staged (1 ∷ 2 ∷ [])) (insertComponents (entity 1 1) (staged (1 ∷ 2 ∷ 3 ∷ 4 ∷ [])) (insertComponents (entity 0 1) (staged (1 ∷ 2 ∷ 3 ∷ [])) (setLayout [] draft bare))))
 
+-- the indexes of kind k's sparse set, in order
+unfoldable pub indexes : ℕ → Storage → List ℕ
+indexes k p = map (λ (e : Entity). e .index) (keys (setOf (p .sets) k))
+
 -- "KILL card 1"
 unfoldable pub killed : Storage
-unfolding remove ungroup ungroupFamily ungroupComponents filled entity
+unfolding remove ungroup ungroupFamily ungroupComponents filled
 killed = remove (entity 1 1) (1 ∷ 2 ∷ 3 ∷ 4 ∷ 5 ∷ 6 ∷ []) filled
 
 -- RANGE with a hand and a bar
@@ -85,7 +86,7 @@ adds h = ofAdded (addGroup h draft)
 
 -- "the next NEW is index 1, version 2"
 next : Created
-unfolding create destroy four entity
+unfolding create destroy four
 next = create (destroy (entity 1 1) four)
 
 pub marked : List Example

@@ -14,6 +14,9 @@ pub record Entity : Type 0 where
   pub index : ℕ
   pub version : ℕ
 
+abbrev pub entity : ℕ → ℕ → Entity
+entity x v = record { index = x; version = v }
+
 -- "A lookup finds a card only with equal version."
 abbrev pub sameEntity : Entity → Entity → Bool
 sameEntity a b = eqb (a .index) (b .index) && eqb (a .version) (b .version)

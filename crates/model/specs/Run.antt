@@ -3,9 +3,8 @@ use mathlib.Core.Option.{Option, some, none}
 use mathlib.Core.List.{List, [], _∷_, _++_}
 use Prim.Native.Nat.{ℕ, zero, suc, _+_, _-_}
 use lib.ListN.{length, drop}
-pub use Rattle.model.specs.Store.{bytesOf, number, Counts, Control, Settings, Store, stagedKinds, isKind, withStaged, withExcluded, withDraft, withCounts, emptyStaged, emptyBoth, counted, withKinds, withEntities, withStorage, withControl, withAll}
-unfoldable pub use Rattle.model.specs.Store.{empty}
-pub use Rattle.model.specs.Commands.{Command, REG, HOLD, NEW, PUT, TAKE, DROP, KILL, WIPE, GROUP, APPLY, BAR, RANGE, EMPTY, TALLY, takenBytes, heldBytes, rangeBytes, widths, isCommand, entityOfBytes, commandAt, answerLength}
+use Rattle.model.specs.Store.{Store, counted, withControl}
+use Rattle.model.specs.Commands.{Command}
 use Rattle.model.specs.Commands.{Done, accepted, width}
 use Rattle.model.specs.Refusals.{firstLine, linesOf, BeforeCommand, commandOf, beforeLines}
 

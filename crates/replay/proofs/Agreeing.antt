@@ -28,7 +28,7 @@ use Rattle.store.proofs.Demands.{rolled-snapshot}
 use Rattle.replay.specs.declared.recorded.Step.{Step}
 use Rattle.replay.specs.declared.Tally.{Tally}
 use Rattle.replay.specs.Recorded.{short, tapeAt, numbersAt, RunRecorded, runAt, RunAgrees, RunsAgree, noRuns, moreRuns, RollAgrees, SameWords, SameColumn, ColumnAgrees, ColumnsAgree, noColumns, moreColumns, CaseAgrees, CasesAgree, noCases, moreCases}
-use Rattle.replay.specs.Agreement.{GaveSame, Compared, RolledSame, StepAgrees, CaseStepped, Counted, Replayed}
+use Rattle.replay.specs.Agreement.{GaveSame, Compared, RolledSame, StepAgrees, CaseStepped, CountedCase, Replayed}
 use Rattle.words.proofs.Part.{part-size}
 use Rattle.model.specs.Run as model
 use Rattle.model.specs.Numbers.{BEYOND}
@@ -248,7 +248,7 @@ Going f t at i = (t .cases ≡ i) × ((t .agree ≤ t .cases) × ((at ≤ length
 pub no-cases : (f : List ℕ) → 12 ≤ length f → Going f (record { cases = 0; agree = 0; first = 0 }) 12 0
 no-cases f h = (refl, (omega arith, (h, λ e. noCases)))
 
-pub more-cases : (f : List ℕ) (t r : Tally) (at i : ℕ) (s : Step) → Going f t at i → CaseStepped f at s → Counted t (s .agrees) r → Going f r (s .at) (i + 1)
+pub more-cases : (f : List ℕ) (t r : Tally) (at i : ℕ) (s : Step) → Going f t at i → CaseStepped f at s → CountedCase t (s .agrees) r → Going f r (s .at) (i + 1)
 more-cases f t r at i s g h c = go (s .agrees) refl (c .agree)
   where
     go : (b : Bool) → s .agrees ≡ b → r .agree ≡ t .agree + boolByte b → Going f r (s .at) (i + 1)

@@ -43,7 +43,7 @@ pub record CaseStepped (f : List ℕ) (at : ℕ) (r : Step) : Type 0 where
   pub agreed : r .agrees ≡ true → CaseAgrees f at (r .at)
 
 -- one case more, which agrees or does not; `first` is the first that does not, 0 if there is none
-pub record Counted (t : Tally) (agrees : Bool) (r : Tally) : Type 0 where
+pub record CountedCase (t : Tally) (agrees : Bool) (r : Tally) : Type 0 where
   pub cases : r .cases ≡ t .cases + 1
   pub agree : r .agree ≡ t .agree + boolByte agrees
   pub first : r .first ≡ cond agrees (t .first) (cond (eqb (t .first) 0) (t .cases + 1) (t .first))

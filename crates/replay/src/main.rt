@@ -9,7 +9,7 @@ use libc::STDOUT_FILENO;
 ghost use mathlib.Core.Path.{_≡_};
 ghost use Prim.Native.Nat.{_≤_, _<_};
 ghost use lib.ListN.{length};
-ghost use Rattle.replay.specs.Agreement.{Counted, Replayed};
+ghost use Rattle.replay.specs.Agreement.{CountedCase, Replayed};
 
 // More bytes than the file has.
 const FILE: usize = 262144;
@@ -31,7 +31,7 @@ struct Tally {
 fn counted(tally: Tally, agrees: bool) -> Tally
     requires { ⌜ tally .cases < 4294967295 ⌝ }
     requires { ⌜ tally .agree ≤ tally .cases ⌝ }
-    ensures { λ r. ⌜ Counted tally agrees r ⌝ }
+    ensures { λ r. ⌜ CountedCase tally agrees r ⌝ }
 {
     let cases = tally.cases + 1;
     if agrees {

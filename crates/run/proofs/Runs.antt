@@ -11,9 +11,9 @@ use Rattle.model.specs.Run.{Step, stops, goes, step, Ran, halt, more, runFor, r
 use Rattle.model.specs.Theorems.{StepFits}
 use Rattle.model.proofs.Lengths.{step-lengths}
 use Rattle.model.proofs.ListLaws.{take-sets, drop-sets, drop-step}
+use Rattle.memory.proofs.Becomes.{SameSettings, stays, becomes-next}
 use Rattle.memory.specs.Meaning.{meaning}
 use Rattle.memory.specs.Arranged.{Sound, Becomes}
-use Rattle.command.proofs.Acts.{SameSettings, stays, becomes-next}
 use Rattle.run_command.specs.Given.{commandIn}
 use Rattle.run.specs.Run.{Refused, Traced}
 use Rattle.run.specs.Stepping.{stepAt, resultOf, Stepped, Completed}

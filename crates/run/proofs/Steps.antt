@@ -16,10 +16,11 @@ use Rattle.model.proofs.BoolLaws.{cond-case}
 use Rattle.model.proofs.Lines.{accepted-exact}
 use Rattle.model.proofs.Lengths.{answer-length, answer-positive, step-case}
 use Rattle.model.proofs.Sound.{After, bytes-drop, tape-fits}
+use Rattle.memory.proofs.Becomes.{SameSettings, stays}
 use Rattle.memory.specs.Meaning.{meaning}
 use Rattle.memory.specs.Arranged.{Sound}
 use Rattle.command.specs.Acted.{Acted}
-use Rattle.command.proofs.Acts.{SameSettings, stays, acted-sound}
+use Rattle.command.proofs.Acts.{acted-sound}
 use Rattle.run_command.specs.Given.{commandIn, Given}
 use Rattle.run.specs.Stepping.{StepReady, stepAt, Stepped}
 use Rattle.run.specs.declared.Went.the-variants.{Done as Goes, Stop}

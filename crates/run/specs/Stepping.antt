@@ -40,14 +40,14 @@ resultOf at p (stops n) = Stop n
 resultOf at p (goes k a s) = Done (at + k) (p + length a)
 
 -- a stop before the command c changes no word, and its refusal only the one
-abbrev pub Kept : List ℕ → List ℕ → Command → Step → Type 0
-Kept w w′ c (stops n) = w′ ≡ w
-Kept w w′ c (goes k a s) = Refused w w′ c
+abbrev pub KeptBy : List ℕ → List ℕ → Command → Step → Type 0
+KeptBy w w′ c (stops n) = w′ ≡ w
+KeptBy w w′ c (goes k a s) = Refused w w′ c
 
 pub record Stepped (w w′ t o o′ : List ℕ) (at p : ℕ) (r : Went) (x : Step) : Type 0 where
   pub sound : Sound w′
   pub becomes : Becomes w w′ (storeOf (meaning w) x)
-  pub kept : Kept w w′ (commandIn (getD t at 0) t (at + 1)) x
+  pub kept : KeptBy w w′ (commandIn (getD t at 0) t (at + 1)) x
   pub bytes : o′ ≡ sets o p (stepBytes x)
   pub within : p + length (stepBytes x) ≤ length o
   pub result : r ≡ resultOf at p x

@@ -6,11 +6,11 @@ use native.Mathlib.Omega.{arith}
 use native.Mathlib.Nat.{add-zero}
 use lib.ListN.{length, getD, take, drop, length-drop}
 use lib.Seq.{getD-take, getD-drop, length-take-le, take-take}
-use Rattle.model.specs.Model.{Entity}
+use Rattle.model.specs.Model.{Entity, entity}
 use Rattle.model.proofs.BoolLaws.{by-eq, above}
 use Rattle.model.specs.Store.{number}
 use Rattle.model.specs.Commands.{Command, entityOfBytes}
-use Rattle.component.specs.SparseSet.{entity, valueOf}
+use Rattle.component.specs.SparseSet.{valueOf}
 use Rattle.model.specs.Run.{does}
 use Rattle.model.proofs.ListLaws.{halves}
 use Rattle.memory.specs.Meaning.{meaning}

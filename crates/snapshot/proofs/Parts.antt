@@ -6,12 +6,11 @@ use native.Mathlib.Omega.{arith}
 use native.Mathlib.Numerals.{add-one}
 use lib.ListN.{length, set, length-append}
 use lib.Seq.{sets}
-use Rattle.model.specs.Model.{SparseSet, Component}
+use Rattle.model.specs.Model.{SparseSet, Component, entity}
 use Rattle.model.specs.Store.{Store, bytesOf}
 use Rattle.model.specs.Snapshot.{Entry, componentsOf, liveVersion, entryOf, entries, componentBytes, entryBytes, flat, listing, snapshot}
 use Rattle.model.proofs.Lengths.{bytesOf-length}
 use Rattle.model.proofs.ListLaws.{set-before}
-use Rattle.component.specs.SparseSet.{entity}
 use Rattle.memory.specs.Meaning.{meaning}
 use Rattle.snapshot.specs.Wrote.{entryFor, indexBytes, WrittenUntil}
 use Rattle.snapshot.proofs.Writing.{writing-start, writing-turn, writing-last}

@@ -5,8 +5,8 @@ use borrow.Author.Tests.{lt-ltb, le-ltb}
 use lib.ListN.{length}
 use Rattle.model.specs.Store.{Store}
 use Rattle.model.specs.Snapshot.{snapshot}
-use Rattle.model.specs.Refusals.{NOROOM}
 use Rattle.model.specs.Entries.{refusesEmit, writes, roll}
+use Rattle.model.specs.Numbers.{NOROOM}
 
 pub roll-short : (room : ℕ) (s : Store) → room < length (snapshot s) → roll room s ≡ refusesEmit NOROOM
 unfolding roll

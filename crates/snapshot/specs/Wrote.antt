@@ -7,7 +7,7 @@ use lib.ListN.{length}
 use lib.Seq.{sets}
 use Rattle.model.specs.Store.{bytesOf}
 use Rattle.model.specs.Snapshot.{Entry, componentsOf, liveVersion, entryOf, flat}
-use Rattle.component.specs.SparseSet.{entity}
+use Rattle.model.specs.Model.{entity}
 use Rattle.memory.specs.Meaning.{meaning}
 
 -- the bytes of one component: "kind 1, value 8"; none where it is not held

@@ -7,7 +7,7 @@ ghost use lib.ListN.{length};
 ghost use Rattle.model.specs.Numbers.{MAX-ENTITIES, MAX-KINDS};
 ghost use Rattle.model.specs.Sound.{In};
 ghost use Rattle.model.specs.Snapshot.{valueAt, componentsOf, componentBytes, entryBytes, flat, listing, snapshot};
-ghost use Rattle.component.specs.SparseSet.{entity};
+ghost use Rattle.model.specs.Model.{entity};
 ghost use Rattle.memory.specs.Meaning.{meaning};
 ghost use Rattle.memory.specs.Arranged.{Arranged, Sound};
 ghost use Rattle.kinds.specs.Kinds.{kindSet};

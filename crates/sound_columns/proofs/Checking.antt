@@ -2,11 +2,11 @@
 use mathlib.Core.List.{List}
 use Prim.Native.Nat.{ℕ, _≤_}
 use Rattle.component.specs.SparseSet.{lengthOf, ColumnSound}
-use Rattle.component.specs.Stored.{Sized}
+use Rattle.component.specs.Stored.{ColumnSized}
 use Rattle.sound_columns.specs.Checks.{RowOk, LookupOk}
 use Rattle.words.specs.Decides.{Each}
 
-pub sound-of : (n : ℕ) (w : List ℕ) → Sized n w → lengthOf w ≤ n → Each (lengthOf w) (RowOk n w) → Each n (LookupOk n w) → ColumnSound n w
+pub sound-of : (n : ℕ) (w : List ℕ) → ColumnSized n w → lengthOf w ≤ n → Each (lengthOf w) (RowOk n w) → Each n (LookupOk n w) → ColumnSound n w
 sound-of n w z r t s =
     record {
       size = z .size;

@@ -4,9 +4,9 @@ use mathlib.Core.Bool.{true}
 use mathlib.Core.List.{List}
 use Prim.Native.Nat.{ℕ, _+_, _*_, _≤_}
 use lib.ListN.{getD}
-use Rattle.model.specs.Model.{Entity, noEntity, keys, isLive}
+use Rattle.model.specs.Model.{Entity, noEntity, keys, isLive, entity}
 use Rattle.words.specs.Offsets.{columnStart, ROWS}
-use Rattle.component.specs.SparseSet.{ColumnSound, lengthOf, entity}
+use Rattle.component.specs.SparseSet.{ColumnSound, lengthOf}
 use Rattle.words.specs.Decides.{Each}
 use Rattle.component.specs.Columns.{columnOf, rowsOf}
 use Rattle.entity.specs.Meaning.{entitiesIn}

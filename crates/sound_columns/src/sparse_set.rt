@@ -1,12 +1,12 @@
 // Whether a part is a sound sparse set, in time linear in its words.
 ghost use Prim.Native.Nat.{_+_, _*_, _<_, _≤_};
 ghost use Rattle.component.specs.SparseSet.{ColumnSound, lengthOf};
-ghost use Rattle.component.specs.Stored.{Sized};
+ghost use Rattle.component.specs.Stored.{ColumnSized};
 ghost use Rattle.words.specs.Decides.{Decides, Each};
 ghost use Rattle.sound_columns.specs.Checks.{RowOk, LookupOk};
 
 fn row_ok(part: &[u32], n: usize, i: usize) -> bool
-    requires { ⌜ Sized n (now part) × (i < n) ⌝ }
+    requires { ⌜ ColumnSized n (now part) × (i < n) ⌝ }
     ensures { λ r. ⌜ Decides r (RowOk n (now (part .entry)) i) ⌝ }
 {
     let c = words::ROWS + 2 * i;
@@ -31,7 +31,7 @@ fn row_ok(part: &[u32], n: usize, i: usize) -> bool
 }
 
 fn lookup_ok(part: &[u32], n: usize, x: usize) -> bool
-    requires { ⌜ Sized n (now part) × (x < n) × (lengthOf (now part) ≤ n) ⌝ }
+    requires { ⌜ ColumnSized n (now part) × (x < n) × (lengthOf (now part) ≤ n) ⌝ }
     ensures { λ r. ⌜ Decides r (LookupOk n (now (part .entry)) x) ⌝ }
 {
     let s = words::ROWS + 4 * n + 2 * x;
@@ -52,7 +52,7 @@ fn lookup_ok(part: &[u32], n: usize, x: usize) -> bool
 }
 
 fn rows_ok(part: &[u32], n: usize, k: usize) -> bool
-    requires { ⌜ Sized n (now part) × (k ≤ n) ⌝ }
+    requires { ⌜ ColumnSized n (now part) × (k ≤ n) ⌝ }
     ensures { λ r. ⌜ Decides r (Each k (RowOk n (now (part .entry)))) ⌝ }
 {
     let mut i = 0;
@@ -66,7 +66,7 @@ fn rows_ok(part: &[u32], n: usize, k: usize) -> bool
 }
 
 fn lookups_ok(part: &[u32], n: usize) -> bool
-    requires { ⌜ Sized n (now part) × (lengthOf (now part) ≤ n) ⌝ }
+    requires { ⌜ ColumnSized n (now part) × (lengthOf (now part) ≤ n) ⌝ }
     ensures { λ r. ⌜ Decides r (Each n (LookupOk n (now (part .entry)))) ⌝ }
 {
     let mut x = 0;

@@ -1,12 +1,12 @@
 -- Soundness put together from its parts. Assumes nothing.
 use mathlib.Core.List.{List}
 use Prim.Native.Nat.{ℕ}
-use Rattle.entity.specs.Meaning.{Sized, EntityPartSound, lenOf, recycledLen}
-use Rattle.sound_entities.specs.Checks.{Counts, LiveOk, WaitsOk, IndexOk}
+use Rattle.entity.specs.Meaning.{EntityPartSized, EntityPartSound, lenOf, recycledLen}
+use Rattle.sound_entities.specs.Checks.{CountsFit, LiveOk, WaitsOk, IndexOk}
 use Rattle.words.specs.Decides.{Each}
 
 module _ (n : ℕ) (w : List ℕ) where
-  pub counts-of : EntityPartSound n w → Counts n w
+  pub counts-of : EntityPartSound n w → CountsFit n w
   counts-of s = record { issued = s .few; live = s .linked .room; head = s .queue .start; recycled = s .queue .few }
 
   pub live-of : EntityPartSound n w → Each (lenOf w) (LiveOk n w)
@@ -19,7 +19,7 @@ module _ (n : ℕ) (w : List ℕ) where
         listed = s .queue .listed x h;
       }
 
-  pub sound-of : Sized n w → Counts n w → Each (lenOf w) (LiveOk n w) → Each (recycledLen w) (WaitsOk n w) → Each n (IndexOk n w) → EntityPartSound n w
+  pub sound-of : EntityPartSized n w → CountsFit n w → Each (lenOf w) (LiveOk n w) → Each (recycledLen w) (WaitsOk n w) → Each n (IndexOk n w) → EntityPartSound n w
   sound-of z c l r x =
       record {
         sized = z;

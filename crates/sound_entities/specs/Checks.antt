@@ -7,7 +7,7 @@ use Rattle.entity.specs.Queue.{Waits, Queued, wrapped}
 use Rattle.entity.specs.Meaning.{lenOf, issuedOf, headOf, recycledLen, liveIndexAt, liveVersionAt, placeOf, heldOf, queueIndex, queueVersion, queueSlot}
 
 -- the counts are within the capacity
-pub record Counts (n : ℕ) (w : List ℕ) : Type 0 where
+pub record CountsFit (n : ℕ) (w : List ℕ) : Type 0 where
   pub issued : issuedOf w ≤ n
   pub live : lenOf w ≤ n
   pub head : headOf w < n

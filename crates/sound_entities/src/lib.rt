@@ -7,13 +7,13 @@ ghost use Rattle.model.specs.Numbers.{ENTITY-LEN, MAX-ENTITIES};
 ghost use Rattle.words.specs.Offsets.{ENTITIES};
 ghost use Rattle.words.specs.Decides.{Decides, Each};
 ghost use Rattle.entity.specs.Queue.{since};
-ghost use Rattle.entity.specs.Meaning.{entityPart, Sized, EntityPartSound, lenOf, recycledLen};
-ghost use Rattle.sound_entities.specs.Checks.{Counts, LiveOk, LookupOk, WaitsOk, ListedOk, IndexOk};
+ghost use Rattle.entity.specs.Meaning.{entityPart, EntityPartSized, EntityPartSound, lenOf, recycledLen};
+ghost use Rattle.sound_entities.specs.Checks.{CountsFit, LiveOk, LookupOk, WaitsOk, ListedOk, IndexOk};
 
 // The counts are within the capacity.
 fn counts_ok(part: &[u32], n: usize) -> bool
-    requires { ⌜ Sized n (now part) ⌝ }
-    ensures { λ r. ⌜ Decides r (Counts n (now (part .entry))) ⌝ }
+    requires { ⌜ EntityPartSized n (now part) ⌝ }
+    ensures { λ r. ⌜ Decides r (CountsFit n (now (part .entry))) ⌝ }
 {
     let issued = part[words::ISSUED] as usize;
     if n < issued {
@@ -36,7 +36,7 @@ fn counts_ok(part: &[u32], n: usize) -> bool
 
 // The live list's place i has an issued index, whose lookup points back.
 fn live_ok(part: &[u32], n: usize, i: usize) -> bool
-    requires { ⌜ Sized n (now part) × (i < n) ⌝ }
+    requires { ⌜ EntityPartSized n (now part) × (i < n) ⌝ }
     ensures { λ r. ⌜ Decides r (LiveOk n (now (part .entry)) i) ⌝ }
 {
     let index = part[words::LIVE_LIST + 2 * i] as usize;
@@ -64,8 +64,8 @@ fn live_ok(part: &[u32], n: usize, i: usize) -> bool
 }
 
 fn live_list_ok(part: &[u32], n: usize) -> bool
-    requires { ⌜ Sized n (now part) ⌝ }
-    requires { ⌜ Counts n (now part) ⌝ }
+    requires { ⌜ EntityPartSized n (now part) ⌝ }
+    requires { ⌜ CountsFit n (now part) ⌝ }
     ensures { λ r. ⌜ Decides r (Each (lenOf (now (part .entry))) (LiveOk n (now (part .entry)))) ⌝ }
 {
     let k = part[words::LIVE_LEN] as usize;
@@ -81,8 +81,8 @@ fn live_list_ok(part: &[u32], n: usize) -> bool
 
 // The number that waits behind j others is issued and not live, and its index says where it waits.
 fn waits_ok(part: &[u32], n: usize, j: usize) -> bool
-    requires { ⌜ Sized n (now part) × (j < n) ⌝ }
-    requires { ⌜ Counts n (now part) ⌝ }
+    requires { ⌜ EntityPartSized n (now part) × (j < n) ⌝ }
+    requires { ⌜ CountsFit n (now part) ⌝ }
     ensures { λ r. ⌜ Decides r (WaitsOk n (now (part .entry)) j) ⌝ }
 {
     let place = wrap(n, part[words::QUEUE_HEAD] as usize + j);
@@ -108,8 +108,8 @@ fn waits_ok(part: &[u32], n: usize, j: usize) -> bool
 }
 
 fn queue_ok(part: &[u32], n: usize) -> bool
-    requires { ⌜ Sized n (now part) ⌝ }
-    requires { ⌜ Counts n (now part) ⌝ }
+    requires { ⌜ EntityPartSized n (now part) ⌝ }
+    requires { ⌜ CountsFit n (now part) ⌝ }
     ensures { λ r. ⌜ Decides r (Each (recycledLen (now (part .entry))) (WaitsOk n (now (part .entry)))) ⌝ }
 {
     let k = part[words::RECYCLED_LEN] as usize;
@@ -125,8 +125,8 @@ fn queue_ok(part: &[u32], n: usize) -> bool
 
 // A lookup that says live points to a place of the live list that has the index.
 fn lookup_ok(part: &[u32], n: usize, x: usize) -> bool
-    requires { ⌜ Sized n (now part) × (x < n) ⌝ }
-    requires { ⌜ Counts n (now part) ⌝ }
+    requires { ⌜ EntityPartSized n (now part) × (x < n) ⌝ }
+    requires { ⌜ CountsFit n (now part) ⌝ }
     ensures { λ r. ⌜ Decides r (LookupOk n (now (part .entry)) x) ⌝ }
 {
     let slot = words::LIVE_LIST + 2 * n + 2 * x;
@@ -159,8 +159,8 @@ fn behind(n: usize, head: usize, place: usize) -> usize
 
 // An index that says that it waits points to a place in use that has the index.
 fn listed_ok(part: &[u32], n: usize, x: usize) -> bool
-    requires { ⌜ Sized n (now part) × (x < n) ⌝ }
-    requires { ⌜ Counts n (now part) ⌝ }
+    requires { ⌜ EntityPartSized n (now part) × (x < n) ⌝ }
+    requires { ⌜ CountsFit n (now part) ⌝ }
     ensures { λ r. ⌜ Decides r (ListedOk n (now (part .entry)) x) ⌝ }
 {
     let slot = part[words::LIVE_LIST + 6 * n + x] as usize;
@@ -184,8 +184,8 @@ fn listed_ok(part: &[u32], n: usize, x: usize) -> bool
 }
 
 fn index_ok(part: &[u32], n: usize, x: usize) -> bool
-    requires { ⌜ Sized n (now part) × (x < n) ⌝ }
-    requires { ⌜ Counts n (now part) ⌝ }
+    requires { ⌜ EntityPartSized n (now part) × (x < n) ⌝ }
+    requires { ⌜ CountsFit n (now part) ⌝ }
     ensures { λ r. ⌜ Decides r (IndexOk n (now (part .entry)) x) ⌝ }
 {
     if !lookup_ok(part, n, x) {
@@ -198,8 +198,8 @@ fn index_ok(part: &[u32], n: usize, x: usize) -> bool
 }
 
 fn indexes_ok(part: &[u32], n: usize) -> bool
-    requires { ⌜ Sized n (now part) ⌝ }
-    requires { ⌜ Counts n (now part) ⌝ }
+    requires { ⌜ EntityPartSized n (now part) ⌝ }
+    requires { ⌜ CountsFit n (now part) ⌝ }
     ensures { λ r. ⌜ Decides r (Each n (IndexOk n (now (part .entry)))) ⌝ }
 {
     let mut x = 0;

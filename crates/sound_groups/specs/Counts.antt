@@ -32,15 +32,15 @@ pub record EvenOk (n : ℕ) (w : List ℕ) (h c j : ℕ) : Type 0 where
   pub even : Each c (λ i. keyAt n w (slotOf w (getD w j 0)) i ≡ keyAt n w h i)
 
 -- the entity holds all these kinds
-abbrev pub Holds : ℕ → List ℕ → ℕ → ℕ → Entity → Type 0
-Holds n w a e x = Over a e (λ j. held x (rowsAt n w j) ≡ true)
+abbrev pub HoldsAll : ℕ → List ℕ → ℕ → ℕ → Entity → Type 0
+HoldsAll n w a e x = Over a e (λ j. held x (rowsAt n w j) ≡ true)
 
 -- the group has count c, the next smaller one b (the smallest: as many as h has rows)
 pub record CountOk (n : ℕ) (w : List ℕ) (h a e b c : ℕ) : Type 0 where
   pub less : c ≤ b
   pub inside : b ≤ length (rowsOf n h w)
   pub even : Over a e (EvenOk n w h c)
-  pub past : Over c b (λ i. Holds n w a e (keyAt n w h i) → ⊥)
+  pub past : Over c b (λ i. HoldsAll n w a e (keyAt n w h i) → ⊥)
 
 -- group g of family f
 abbrev pub GroupCounted : ℕ → List ℕ → ℕ → ℕ → Type 0

@@ -3,8 +3,8 @@ use layout::starts::prior_of;
 ghost use Prim.Native.Nat.{_+_, _*_, _<_, _≤_};
 ghost use lib.ListN.{length};
 ghost use Rattle.model.specs.Numbers.{MAX-GROUP-COUNT};
+ghost use Rattle.model.specs.Model.{entity};
 ghost use Rattle.words.specs.Offsets.{GROUP-PLACES, LAYOUT-ARITIES};
-ghost use Rattle.component.specs.SparseSet.{entity};
 ghost use Rattle.words.specs.Decides.{Decides, Each};
 ghost use Rattle.component.specs.Columns.{rowsOf};
 ghost use Rattle.component.specs.Changes.{Lent};
@@ -14,7 +14,7 @@ ghost use Rattle.memory.specs.Meaning.{layoutArrays};
 ghost use Rattle.sound_columns.specs.Slots.{Over};
 ghost use Rattle.sound_groups.specs.Spans.{KindAt, KindsAt, Force};
 ghost use Rattle.sound_columns.specs.Rows.{keyAt};
-ghost use Rattle.sound_groups.specs.Counts.{SameWord, EvenOk, Holds, CountOk, GroupCounted, CountedOk};
+ghost use Rattle.sound_groups.specs.Counts.{SameWord, EvenOk, HoldsAll, CountOk, GroupCounted, CountedOk};
 
 // Are c entities from two words on the same?
 fn same_rows(words: &[u32], a: usize, b: usize, c: usize) -> bool
@@ -71,7 +71,7 @@ fn span_even(words: &[u32], n: usize, h: usize, c: usize, from: usize, to: usize
 fn holds_all(words: &[u32], n: usize, index: u32, version: u32, from: usize, to: usize) -> bool
     requires { ⌜ LAYOUT-ARITIES ≤ length (now words) ⌝ }
     requires { ⌜ KindsAt n (now words) from to ⌝ }
-    ensures { λ r. ⌜ Decides r (Holds n (now (words .entry)) from to (entity index version)) ⌝ }
+    ensures { λ r. ⌜ Decides r (HoldsAll n (now (words .entry)) from to (entity index version)) ⌝ }
 {
     let mut j = from;
     while j < to {
@@ -89,7 +89,7 @@ fn holds_all(words: &[u32], n: usize, index: u32, version: u32, from: usize, to:
 fn lacks(words: &[u32], n: usize, h: usize, from: usize, to: usize, i: usize) -> bool
     requires { ⌜ (LAYOUT-ARITIES ≤ length (now words)) × Lent n h (now words) × (i < length (rowsOf n h (now words))) ⌝ }
     requires { ⌜ KindsAt n (now words) from to ⌝ }
-    ensures { λ r. ⌜ Decides r (Holds n (now (words .entry)) from to (keyAt n (now (words .entry)) h i) → ⊥) ⌝ }
+    ensures { λ r. ⌜ Decides r (HoldsAll n (now (words .entry)) from to (keyAt n (now (words .entry)) h i) → ⊥) ⌝ }
 {
     let at = words::column_start(n, h) + words::ROWS + 2 * i;
     let index = words[at];
@@ -103,7 +103,7 @@ fn lacks(words: &[u32], n: usize, h: usize, from: usize, to: usize, i: usize) ->
 fn rows_lack(words: &[u32], n: usize, h: usize, from: usize, to: usize, c: usize, b: usize) -> bool
     requires { ⌜ (LAYOUT-ARITIES ≤ length (now words)) × Lent n h (now words) × (b ≤ length (rowsOf n h (now words))) ⌝ }
     requires { ⌜ KindsAt n (now words) from to ⌝ }
-    ensures { λ r. ⌜ Decides r (Over c b (λ i. Holds n (now (words .entry)) from to (keyAt n (now (words .entry)) h i) → ⊥)) ⌝ }
+    ensures { λ r. ⌜ Decides r (Over c b (λ i. HoldsAll n (now (words .entry)) from to (keyAt n (now (words .entry)) h i) → ⊥)) ⌝ }
 {
     let mut i = c;
     while i < b {

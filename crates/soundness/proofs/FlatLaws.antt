@@ -13,7 +13,7 @@ use Rattle.words.specs.Part.{between}
 use Rattle.words.proofs.Part.{getD-between}
 use Rattle.words.specs.Table.{table}
 use Rattle.layout.specs.Layout.{Arrays, startOf, groupCount, kindsAt, aritiesAt, groupsFrom, familyAt, familiesOf, WellFormed}
-use Rattle.layout.specs.ByValue.{Sized}
+use Rattle.layout.specs.ByValue.{ArraysSized}
 use Rattle.layout.specs.Group.{InFamily, priorOf, memberAt}
 use Rattle.layout.proofs.Arrays.{groups-inside, arities-length, family-kindsOf}
 use Rattle.layout.proofs.Groups.{prior-first, prior-next, prior-at, arity-at, same-family, place-is, place-inside}
@@ -63,7 +63,7 @@ module _ (sets : List SparseSet) (h : ℕ) (counts ks : List ℕ) where
 
 -- ---- one family, by the number of the group
 
-module _ (sets : List SparseSet) (counts : List ℕ) (a : Arrays) (good : WellFormed a) (sized : Sized a) (f : ℕ) (hf : f < a .families) where
+module _ (sets : List SparseSet) (counts : List ℕ) (a : Arrays) (good : WellFormed a) (sized : ArraysSized a) (f : ℕ) (hf : f < a .families) where
   abbrev start : ℕ
   start = startOf (a .ends) f
 
@@ -117,7 +117,7 @@ unfolding table
 each-table sets zero F f = tt
 each-table sets (suc n) F f = (f 0 (omega arith), each-table sets n (λ j. F (suc j)) (λ i lt. f (suc i) (omega arith)))
 
-module _ (sets : List SparseSet) (counts : List ℕ) (a : Arrays) (good : WellFormed a) (sized : Sized a) (of : ℕ → ℕ) (right : (g : ℕ) → g < groupCount a → InFamily a (of g) g) where
+module _ (sets : List SparseSet) (counts : List ℕ) (a : Arrays) (good : WellFormed a) (sized : ArraysSized a) (of : ℕ → ℕ) (right : (g : ℕ) → g < groupCount a → InFamily a (of g) g) where
   pub families-each : FamiliesOk sets (familiesOf counts a) → (g : ℕ) → g < groupCount a → GroupAt sets counts a (of g) g
   families-each F g lt =
       let w = right g lt in

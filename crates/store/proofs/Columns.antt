@@ -170,17 +170,17 @@ module _ (w : List ℕ) (A : Arranged w) (k : ℕ) (i : In (meaning w .kinds) k)
         let b : ℕ = columnStart (capacityOf w) (slotOf w k) in
         let rs = kindSet w k in
         let col = columnOf (capacityOf w) (slotOf w k) w in
-        let l : length (map model.valueOf rs) ≡ length rs = length-map rs model.valueOf in
-        let val : (j : ℕ) → getD (map model.valueOf rs) j (model.valueOf noRow) ≡ model.valueOf (getD rs j noRow) = λ j. List·getD-map model.valueOf rs j noRow in
+        let l : length (map model.rowValue rs) ≡ length rs = length-map rs model.rowValue in
+        let val : (j : ℕ) → getD (map model.rowValue rs) j (model.rowValue noRow) ≡ model.rowValue (getD rs j noRow) = λ j. List·getD-map model.rowValue rs j noRow in
         let lo : (j : ℕ) → j < length rs → getD w (b + ROWS + 2 * n + 2 * j) 0 ≡ getD col (ROWS + 2 * n + 2 * j) 0 =
         λ j q. word-of (b + ROWS + 2 * n + 2 * j) b (ROWS + 2 * n + 2 * j) (omega arith) refl (omega (arith, rows-few)) in
         let hi : (j : ℕ) → j < length rs → getD w (b + ROWS + 2 * n + 2 * j + 1) 0 ≡ getD col (ROWS + 2 * n + 2 * j + 1) 0 =
         λ j q. word-of (b + ROWS + 2 * n + 2 * j + 1) b (ROWS + 2 * n + 2 * j + 1) (omega arith) refl (omega (arith, rows-few)) in
         let below : (j : ℕ) → j < length rs → getD col (ROWS + 2 * n + 2 * j) 0 < 4294967296 = λ j q. omega (arith, lo j q, small (b + ROWS + 2 * n + 2 * j)) in
-        let is : (j : ℕ) → j < length rs → getD (map model.valueOf rs) j (model.valueOf noRow) ≡ valueOf (getD col (ROWS + 2 * n + 2 * j) 0) (getD col (ROWS + 2 * n + 2 * j + 1) 0) =
+        let is : (j : ℕ) → j < length rs → getD (map model.rowValue rs) j (model.rowValue noRow) ≡ valueOf (getD col (ROWS + 2 * n + 2 * j) 0) (getD col (ROWS + 2 * n + 2 * j + 1) 0) =
         λ j q. val j ∙ ap (λ (r : Row). r .value) (row-is j q) in
-        value-pairs (model.part a (a + m) (map model.valueOf rs))
-        ∙ pairs-part lowOf highOf (model.valueOf noRow) (map model.valueOf rs) w (b + ROWS + 2 * n)
+        value-pairs (model.part a (a + m) (map model.rowValue rs))
+        ∙ pairs-part lowOf highOf (model.rowValue noRow) (map model.rowValue rs) w (b + ROWS + 2 * n)
         (λ j q. let t : j < length rs = omega arith in lo j t ∙ sym (ap lowOf (is j t) ∙ value-low (getD col (ROWS + 2 * n + 2 * j) 0) (getD col (ROWS + 2 * n + 2 * j + 1) 0) (below j t)))
         (λ j q. let t : j < length rs = omega arith in hi j t ∙ sym (ap highOf (is j t) ∙ value-high (getD col (ROWS + 2 * n + 2 * j) 0) (getD col (ROWS + 2 * n + 2 * j + 1) 0) (below j t)))
         m a (omega arith) (omega (arith, rows-few, slot-at .lent .size))

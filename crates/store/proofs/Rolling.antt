@@ -3,8 +3,8 @@ use mathlib.Core.List.{List}
 use Prim.Native.Nat.{ℕ, _≤_, _<_}
 use lib.ListN.{length}
 use Rattle.model.specs.Snapshot.{snapshot}
-use Rattle.model.specs.Refusals.{UNSOUND, NOROOM}
 use Rattle.model.specs.Entries.{roll}
+use Rattle.model.specs.Numbers.{UNSOUND, NOROOM}
 use Rattle.memory.specs.Meaning.{meaning}
 use Rattle.memory.specs.Arranged.{Sound}
 use Rattle.snapshot.specs.Wrote.{WrittenUntil}

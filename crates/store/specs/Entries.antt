@@ -7,7 +7,7 @@ use Prim.Native.Nat.{ℕ, _+_, _*_, _≤_}
 use lib.ListN.{length, take, drop}
 use denote.Ref.{RefT}
 use Rattle.model.specs.Store.{Store, Bytes, wordsNeeded}
-use Rattle.model.specs.Refusals.{numberOf, firstLine, otherLines, UNSOUND}
+use Rattle.model.specs.Refusals.{numberOf, firstLine, otherLines}
 use Rattle.model.specs.Run.{halt, run}
 use Rattle.model.specs.Entries.{Started, refusesStart, makes, start, columnRefusal, column, roll, Emitted, refusesEmit, Emits}
 use Rattle.model.specs.Sound.{Limits}
@@ -20,6 +20,7 @@ use Rattle.run.specs.Run.{Traced}
 use Rattle.run.specs.declared.Ran.{Ran}
 use Rattle.store.specs.declared.Rolled.{Rolled}
 use Rattle.model.specs.Run as model
+use Rattle.model.specs.Numbers.{UNSOUND}
 
 -- ---- how many words to lend
 

@@ -3,7 +3,7 @@ use mathlib.Core.Path.{_≡_}
 use mathlib.Core.Logic.{_↔_}
 use mathlib.Core.List.{List}
 use Prim.Native.Nat.{ℕ, suc, _≤_}
-use Rattle.model.specs.Refusals.{UNSOUND, Line, NoneHolds, First}
+use Rattle.model.specs.Refusals.{Line, NoneHolds, First}
 use Rattle.memory.specs.Arranged.{Sound}
 use lib.ListN.{take}
 use Rattle.memory.specs.Meaning.{meaning}
@@ -11,6 +11,7 @@ use Rattle.run.specs.declared.Ran.{Ran}
 use Rattle.store.specs.declared.Rolled.{Rolled}
 use Rattle.model.specs.Store.{Store}
 use Rattle.model.specs.Sound.{GroupsRight, GroupsBetween}
+use Rattle.model.specs.Numbers.{UNSOUND}
 
 -- r is the number of the first line that holds, 0 where none does
 pub record Tabled {A : Type 0} (ls : List (Line A)) (x : A) (r : ℕ) : Type 0 where

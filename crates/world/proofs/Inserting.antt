@@ -8,12 +8,11 @@ use native.Mathlib.Decide.{decLt}
 use borrow.Author.Tests.{ltb-true}
 use lib.ListN.{length, getD, set, take, length-set, length-append, length-map, List·getD-append, List·getD-map}
 use lib.Seq.{getD-set-same, getD-set-other, set-out, take-all, take-suc, getD-at}
-use Rattle.model.specs.Model.{Entity, Row, Component, SparseSet, Storage, noRow, setOf, at, held, kindOf, insertRow, insertAll}
+use Rattle.model.specs.Model.{Entity, Row, Component, SparseSet, Storage, noRow, setOf, at, held, kindOf, insertRow, insertAll, entity}
 use Rattle.model.specs.Store.{Store, stagedKinds, onStorage}
 use Rattle.model.specs.Sound.{In, noComponent}
 use Rattle.model.proofs.BoolLaws.{by-eq, cond-case}
 use Rattle.model.proofs.KindLists.{at-in}
-use Rattle.component.specs.SparseSet.{entity}
 use Rattle.component.specs.Stored.{Current}
 use Rattle.memory.specs.Meaning.{meaning}
 use Rattle.memory.specs.Arranged.{Becomes}

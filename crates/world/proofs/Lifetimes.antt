@@ -3,11 +3,10 @@ use mathlib.Core.Path.{_≡_, refl, sym, subst}
 use mathlib.Core.Bool.{true, false}
 use mathlib.Core.List.{List}
 use Prim.Native.Nat.{ℕ}
-use Rattle.model.specs.Model.{Entity, insertComponents, remove, create, destroy, isLive}
+use Rattle.model.specs.Model.{Entity, insertComponents, remove, create, destroy, isLive, isFull}
 use Rattle.model.specs.Store.{Store, onStorage, withEntities}
 use Rattle.model.specs.Sound as model
 use Rattle.model.proofs.Operations.{create-sound, create-is-live}
-use Rattle.entity.specs.Change.{isFull}
 use Rattle.entity.specs.Answers.{LiveAt}
 use Rattle.memory.specs.Meaning.{meaning}
 use Rattle.memory.specs.Arranged.{Sound, Becomes}

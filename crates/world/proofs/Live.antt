@@ -9,14 +9,13 @@ use lib.Dec.{eqb}
 use lib.ListN.{length, getD, length-map, List·getD-map}
 use Rattle.model.specs.Lists.{one}
 use Rattle.model.proofs.ListLaws.{count-at}
-use Rattle.model.specs.Model.{Entity, SparseSet, sameEntity, noEntity, noRow, setOf, keys, entityOf, isLive}
+use Rattle.model.specs.Model.{Entity, SparseSet, sameEntity, noEntity, noRow, setOf, keys, entityOf, isLive, entity}
 use Rattle.model.specs.Store.{Store, stagedKinds}
 use Rattle.model.specs.Sound.{cnt, num, key, In, EntitiesSound, StoreSound}
 use Rattle.model.proofs.SparseSets.{entity-eq, entity-same}
 use Rattle.model.proofs.BoolLaws.{bool-cases}
 use Rattle.model.proofs.Numbers.{cnt-num}
 use Rattle.model.proofs.Operations.{live-count}
-use Rattle.component.specs.SparseSet.{entity}
 use Rattle.component.specs.Stored.{Current}
 use Rattle.memory.specs.Meaning.{meaning}
 use Rattle.memory.specs.Arranged.{Arranged}

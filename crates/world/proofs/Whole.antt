@@ -5,7 +5,7 @@ use mathlib.Core.List.{List, reverse}
 use Prim.Native.Nat.{ℕ, _+_, _<_}
 use native.Mathlib.Omega.{arith}
 use lib.ListN.{length}
-use Rattle.model.specs.Model.{Entity, Family, Storage, kindsOf, meets, groupsOf, isLive, insertComponents, remove}
+use Rattle.model.specs.Model.{Entity, Family, Storage, kindsOf, meets, groupsOf, isLive, insertComponents, remove, entity}
 use Rattle.model.specs.Store.{Store, stagedKinds, onStorage}
 use Rattle.model.specs.Sound.{Distinct}
 use Rattle.model.proofs.Families.{Kinds}
@@ -13,7 +13,6 @@ use Rattle.model.proofs.Invariant.{Fit}
 use Rattle.model.proofs.Operations.{sound-held}
 use Rattle.model.proofs.Held.{kinds-of}
 use Rattle.masks.specs.Masks.{bitsOf, has, upFrom}
-use Rattle.component.specs.SparseSet.{entity}
 use Rattle.memory.specs.Meaning.{meaning}
 use Rattle.memory.specs.Arranged.{Sound, Becomes}
 use Rattle.group.specs.Flat.{insertPositions, deletePositions, walkUp, walkDown}

@@ -5,7 +5,7 @@ use Prim.Native.Nat.{ℕ}
 use Rattle.model.specs.Model.{Entity, insertComponents, remove, create, destroy}
 use Rattle.model.specs.Store.{Store, withAll}
 use Rattle.entity.specs.declared.Entity.{Entity as Answer}
-use Rattle.entity.specs.Answers.{entityOf}
+use Rattle.entity.specs.Answers.{entityOfAnswer}
 use Rattle.memory.specs.Meaning.{meaning}
 use Rattle.memory.specs.Arranged.{Becomes}
 
@@ -15,7 +15,7 @@ created s = withAll s (create (s .entities) .entities) (insertComponents (create
 
 pub record NewEntity (w w′ : List ℕ) (r : Answer) : Type 0 where
   pub becomes : Becomes w w′ (created (meaning w))
-  pub entity : entityOf r ≡ create (meaning w .entities) .entity
+  pub entity : entityOfAnswer r ≡ create (meaning w .entities) .entity
 
 -- KILL: "destroy"; "A destroyed card leaves all groups"
 abbrev pub killed : Entity → Store → Store

@@ -2,10 +2,9 @@
 ghost use mathlib.Core.List.{map};
 ghost use Prim.Native.Nat.{_<_};
 ghost use lib.ListN.{length, getD};
-ghost use Rattle.model.specs.Model.{Storage, zeroCount, clearAll, removeRow, remove};
+ghost use Rattle.model.specs.Model.{Storage, zeroCount, clearAll, removeRow, remove, entity};
 ghost use Rattle.model.specs.Store.{onSet, onStorage, withLayout};
 ghost use Rattle.model.specs.Sound.{Distinct};
-ghost use Rattle.component.specs.SparseSet.{entity};
 ghost use Rattle.memory.specs.Meaning.{meaning};
 ghost use Rattle.memory.specs.Arranged.{Arranged, Becomes, Sound};
 ghost use Rattle.world.specs.Remove.{removed};

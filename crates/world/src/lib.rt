@@ -6,12 +6,11 @@ pub mod mask;
 use entity::Entity;
 ghost use mathlib.Core.Path.{_≡_};
 ghost use mathlib.Core.Bool.{false};
-ghost use Rattle.component.specs.SparseSet.{entity};
-ghost use Rattle.entity.specs.Change.{isFull};
 ghost use Rattle.entity.specs.Answers.{LiveAt};
 ghost use Rattle.memory.specs.Meaning.{meaning};
 ghost use Rattle.memory.specs.Arranged.{Becomes, Sound};
 ghost use Rattle.world.specs.World.{NewEntity, killed};
+ghost use Rattle.model.specs.Model.{entity, isFull};
 
 // A new entity with the staged components. The caller has seen that there is a number left.
 pub fn create(words: &mut [u32]) -> Entity

@@ -2,8 +2,8 @@ use Rattle.command.proofs.Acts.{refused-by, accepted-by, emptied}
 use Rattle.command_take.proofs.Told.{taken-written}
 use Rattle.entity.proofs.Lookups.{found-live, found-dead}
 use Rattle.memory.specs.Meaning.{meaning}
-use Rattle.component.specs.SparseSet.{entity}
 use Rattle.model.proofs.Outcomes.{take-dead, take-live}
+use Rattle.model.specs.Model.{entity}
 use native.Mathlib.Omega.{arith}
 use mathlib.Core.Path.{refl, sym, _∙_}
 use borrow.Author.Needs.{needs}

@@ -3,7 +3,7 @@ use borrow.Author.Needs.{needs}
 use lib.ListN.{getD}
 use lib.Seq.{sets}
 use Rattle.model.specs.Store.{stagedKinds}
-use Rattle.component.specs.SparseSet.{entity}
+use Rattle.model.specs.Model.{entity}
 use Rattle.component.specs.Answers.{Gives}
 use Rattle.component.specs.declared.Removed.{Removed}
 use Rattle.memory.specs.Meaning.{meaning}

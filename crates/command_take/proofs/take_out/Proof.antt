@@ -1,11 +1,11 @@
 use mathlib.Core.Path.{_∙_}
 -- `command_take::take_out` meets its contract. Assumes nothing.
 use native.Mathlib.Omega.{arith}
-use Rattle.component.specs.SparseSet.{entity}
 use Rattle.world.proofs.Whole.{staged-after, count-after}
 use Rattle.command_take.proofs.Whole.{take-whole}
 use Rattle.command_take.proofs.take_out.Statement.{statement}
 use Rattle.command_take.proofs.take_out.Tie as tie
+use Rattle.model.specs.Model.{entity}
 
 take-staged-requires : tie.Need-take-staged-requires
 take-staged-requires c κs =

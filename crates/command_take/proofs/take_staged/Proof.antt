@@ -3,7 +3,7 @@ use Prim.Native.Nat.{_-_, _≤_}
 use native.Mathlib.Omega.{arith}
 use lib.ListN.{length}
 use Rattle.model.specs.Numbers.{LIST-CAPACITY}
-use Rattle.component.specs.SparseSet.{entity}
+use Rattle.model.specs.Model.{entity}
 use Rattle.memory.specs.Meaning.{meaning}
 use Rattle.command_take.proofs.Taking.{Taken, taken-none, taken-staged, taken-count, taken-length, taken-turn, taken-all}
 use Rattle.command_take.proofs.take_staged.Statement.{statement}

@@ -4,10 +4,10 @@ use borrow.Author.Needs.{needs}
 use lib.ListN.{length}
 use Rattle.masks.specs.Masks.{bitsOf}
 use Rattle.masks.specs.Walk.{LowStep, Lowest}
-use Rattle.component.specs.SparseSet.{entity}
 use Rattle.group.proofs.Walking.{Up, walking-start, up-asks, up-turn, up-less, up-end}
 use Rattle.group.proofs.group.Statement.{statement}
 use Rattle.group.proofs.group.Tie as tie
+use Rattle.model.specs.Model.{entity}
 
 abbrev Inv-loop : tie.InvT-loop
 Inv-loop words₀ index version left₀ words left = Up (entity index version) words₀ (bitsOf 64 (left₀ .0)) words (bitsOf 64 (left .0))

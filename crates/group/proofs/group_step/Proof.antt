@@ -1,11 +1,11 @@
 use mathlib.Core.Path.{refl, ap, sym, _∙_}
 use Rattle.masks.specs.Masks.{bitsOf, commonOf, skipping}
-use Rattle.component.specs.SparseSet.{entity}
 use Rattle.memory.specs.Meaning.{meaning}
 use Rattle.memory.proofs.Becomes.{stays}
 use Rattle.group.proofs.Stepping.{skip-ordered, steps-up, ready-in}
 use Rattle.group.proofs.group_step.Statement.{statement}
 use Rattle.group.proofs.group_step.Tie as tie
+use Rattle.model.specs.Model.{entity}
 
 skip-from-to-requires : tie.Need-skip-from-to-requires
 skip-from-to-requires c κs =

@@ -1,9 +1,9 @@
 use Prim.Native.Nat.{_-_}
 use native.Mathlib.Omega.{arith}
-use Rattle.component.specs.SparseSet.{entity}
 use Rattle.group.proofs.Swapping.{Swapping, swap-start, place-there, swap-ask, swap-turn, swap-done}
 use Rattle.group.proofs.swap_kinds.Statement.{statement}
 use Rattle.group.proofs.swap_kinds.Tie as tie
+use Rattle.model.specs.Model.{entity}
 
 abbrev Inv-loop : tie.InvT-loop
 Inv-loop words₀ index version swap-index end place₀ words place = Swapping words₀ (entity index version) place₀ end swap-index words place

@@ -4,11 +4,11 @@ use native.Mathlib.Omega.{arith}
 use borrow.Author.Needs.{needs}
 use Rattle.masks.specs.Masks.{bitsOf}
 use Rattle.masks.specs.Walk.{HighStep, Highest}
-use Rattle.component.specs.SparseSet.{entity}
 use Rattle.memory.specs.Meaning.{meaning}
 use Rattle.group.proofs.Walking.{Down, walking-start, down-asks, down-turn, down-end, falling, below-back}
 use Rattle.group.proofs.ungroup.Statement.{statement}
 use Rattle.group.proofs.ungroup.Tie as tie
+use Rattle.model.specs.Model.{entity}
 
 abbrev Inv-loop : tie.InvT-loop
 Inv-loop words₀ index version left₀ words left = Down (entity index version) words₀ (reverse (bitsOf 64 (left₀ .0))) words (reverse (bitsOf 64 (left .0)))

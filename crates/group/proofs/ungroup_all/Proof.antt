@@ -3,10 +3,9 @@ use mathlib.Core.List.{List, _∷_, reverse}
 use Prim.Native.Nat.{ℕ, _-_}
 use native.Mathlib.Omega.{arith}
 use borrow.Author.Needs.{needs}
-use Rattle.model.specs.Model.{Entity, groupsOf}
+use Rattle.model.specs.Model.{Entity, groupsOf, entity}
 use Rattle.masks.specs.Masks.{upFrom}
 use Rattle.masks.proofs.Lists.{up-parts, up-last}
-use Rattle.component.specs.SparseSet.{entity}
 use Rattle.memory.specs.Meaning.{meaning}
 use Rattle.group.proofs.Walking.{Down, walking-start, down-asks, down-turn, down-end, below-back}
 use Rattle.group.proofs.ungroup_all.Statement.{statement}

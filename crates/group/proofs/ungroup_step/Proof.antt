@@ -1,10 +1,10 @@
 use mathlib.Core.Path.{refl, sym, _∙_}
 use native.Mathlib.Omega.{arith}
-use Rattle.component.specs.SparseSet.{entity}
 use Rattle.memory.proofs.Becomes.{stays}
 use Rattle.group.proofs.Stepping.{steps-down, ready-out}
 use Rattle.group.proofs.ungroup_step.Statement.{statement}
 use Rattle.group.proofs.ungroup_step.Tie as tie
+use Rattle.model.specs.Model.{entity}
 
 returns : tie.Need-returns
 returns c =

@@ -3,12 +3,12 @@ use native.Mathlib.Omega.{arith}
 use Prim.Native.Nat.{ℕ}
 use mathlib.Core.Path.{subst}
 use Rattle.words.specs.Offsets.{CAPACITY}
-use Rattle.component.specs.SparseSet.{entity}
 use Rattle.component.specs.Answers.{Finds}
 use Rattle.kinds.specs.Kinds.{kindSet}
 use Rattle.kinds.proofs.Slot.{header-long, lent-at, rows-at}
 use Rattle.kinds.proofs.find.Statement.{statement}
 use Rattle.kinds.proofs.find.Tie as tie
+use Rattle.model.specs.Model.{entity}
 
 word-requires : tie.Need-word-requires
 word-requires c κs = let s = c .before in header-long (s .args .words .now) (s .pre .0) CAPACITY (omega arith)

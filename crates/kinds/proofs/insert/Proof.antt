@@ -1,8 +1,8 @@
 use borrow.Author.Needs.{needs}
 use native.Mathlib.Omega.{arith}
-use Rattle.model.specs.Model.{insertRow}
+use Rattle.model.specs.Model.{insertRow, entity}
 use Rattle.words.specs.Offsets.{CAPACITY}
-use Rattle.component.specs.SparseSet.{entity, valueOf}
+use Rattle.component.specs.SparseSet.{valueOf}
 use Rattle.kinds.proofs.Slot.{header-long, lent-at, rows-at, only-becomes}
 use Rattle.kinds.proofs.insert.Statement.{statement}
 use Rattle.kinds.proofs.insert.Tie as tie

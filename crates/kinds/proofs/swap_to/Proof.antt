@@ -1,8 +1,7 @@
 use borrow.Author.Needs.{needs}
 use native.Mathlib.Omega.{arith}
-use Rattle.model.specs.Model.{swapTo}
+use Rattle.model.specs.Model.{swapTo, entity}
 use Rattle.words.specs.Offsets.{CAPACITY}
-use Rattle.component.specs.SparseSet.{entity}
 use Rattle.kinds.proofs.Slot.{header-long, lent-at, rows-at, only-becomes}
 use Rattle.kinds.proofs.swap_to.Statement.{statement}
 use Rattle.kinds.proofs.swap_to.Tie as tie

@@ -3,14 +3,14 @@ use Prim.Native.Nat.{ℕ, _≤_, _-_}
 use native.Mathlib.Omega.{arith}
 use Rattle.layout.specs.Layout.{startOf}
 use Rattle.memory.specs.Meaning.{layoutArrays}
-use Rattle.layout_apply.specs.Heads.{Headed}
+use Rattle.layout_apply.specs.Heads.{HeadedUpto}
 use Rattle.layout_apply.proofs.HeadSteps.{ready-kept, capacity-same}
 use Rattle.layout_apply.proofs.HeadLoops.{families-none, families-here, families-upto, families-more}
 use Rattle.layout_apply.proofs.put_heads.Statement.{statement}
 use Rattle.layout_apply.proofs.put_heads.Tie as tie
 
 abbrev Inv-loop : tie.InvT-loop
-Inv-loop words₀ n families f₀ words f = (f ≤ families) × Headed words₀ words (startOf (layoutArrays words₀ .kindEnds) f)
+Inv-loop words₀ n families f₀ words f = (f ≤ families) × HeadedUpto words₀ words (startOf (layoutArrays words₀ .kindEnds) f)
 
 abbrev μ-loop : tie.MeasureT-loop
 μ-loop words₀ n families f₀ words f = families - f
@@ -50,7 +50,7 @@ returns c =
     let l = c .before .loop in
     let w = s .args .words .now in
     let e : l .f ≡ layoutArrays w .families = omega (arith, l .inv .0, c .before .before .word .ensures .is, c .loop-test .left) in
-    subst (λ (k : ℕ). Headed w (l .words) (startOf (layoutArrays w .kindEnds) k)) e (l .inv .1)
+    subst (λ (k : ℕ). HeadedUpto w (l .words) (startOf (layoutArrays w .kindEnds) k)) e (l .inv .1)
 
 pub put-heads-spec : {M : Type 1} → statement M
 put-heads-spec =

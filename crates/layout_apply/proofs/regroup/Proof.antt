@@ -5,11 +5,11 @@ use native.Mathlib.Nat.{sub-zero}
 use native.Mathlib.Omega.{arith}
 use lib.ListN.{length}
 use Rattle.masks.specs.Masks.{bitsOf, upFrom}
-use Rattle.component.specs.SparseSet.{entity}
 use Rattle.group.proofs.InWords.{groups-few}
 use Rattle.layout_apply.proofs.Regrouping.{Regrouping, regroup-start, live-same, walk-ask, regroup-turn, regroup-end}
 use Rattle.layout_apply.proofs.regroup.Statement.{statement}
 use Rattle.layout_apply.proofs.regroup.Tie as tie
+use Rattle.model.specs.Model.{entity}
 
 abbrev Inv-loop : tie.InvT-loop
 Inv-loop words₀ groups mask len place₀ words place = Regrouping words₀ words place

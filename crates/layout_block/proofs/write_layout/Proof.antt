@@ -1,7 +1,7 @@
 use Prim.Native.Nat.{_-_}
 use mathlib.Core.Path.{_≡_, sym, _∙_}
 use Rattle.layout_block.proofs.Transfer
-use Rattle.layout.specs.ByValue.{arraysOf, Sized}
+use Rattle.layout.specs.ByValue.{arraysOf, ArraysSized}
 use lib.ListN.{length, take}
 use lib.Seq.{length-take-le}
 use native.Mathlib.Omega.{arith}
@@ -10,7 +10,7 @@ use Rattle.layout_block.proofs.write_layout.Statement.{statement}
 use Rattle.layout_block.proofs.write_layout.Tie as tie
 
 -- the arrays have their lengths
-sizes : (c : tie.Start) → Sized (arraysOf (c .args .l))
+sizes : (c : tie.Start) → ArraysSized (arraysOf (c .args .l))
 sizes c = record { kinds = search needs; arities = search needs; kindEnds = search needs; ends = search needs }
 
 array-share-prefix-kinds : tie.Need-array-share-prefix-kinds

@@ -2,9 +2,8 @@ use mathlib.Core.Path.{_≡_}
 use Prim.Native.Nat.{_+_, _-_, _≤_}
 use native.Mathlib.Omega.{arith}
 use lib.ListN.{length, getD, drop}
-use Rattle.model.specs.Model.{setOf}
+use Rattle.model.specs.Model.{setOf, entity}
 use Rattle.model.specs.Snapshot.{valueAt, componentsOf, componentBytes}
-use Rattle.component.specs.SparseSet.{entity}
 use Rattle.memory.specs.Meaning.{meaning}
 use Rattle.snapshot.specs.Wrote.{oneBytes}
 use Rattle.snapshot.proofs.Writing.{Writing, writing-start, writing-turn, writing-end, writing-room}

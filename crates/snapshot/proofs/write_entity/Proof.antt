@@ -3,7 +3,7 @@ use native.Mathlib.Omega.{arith}
 use borrow.Author.Needs.{needs}
 use lib.ListN.{length, length-set}
 use Rattle.model.specs.Snapshot.{componentsOf}
-use Rattle.component.specs.SparseSet.{entity}
+use Rattle.model.specs.Model.{entity}
 use Rattle.memory.specs.Meaning.{meaning}
 use Rattle.snapshot.specs.Wrote.{entryFor}
 use Rattle.memory.proofs.Becomes.{sets-wide}

@@ -4,8 +4,9 @@ use native.Mathlib.Omega.{arith}
 use borrow.Author.Needs.{needs}
 use lib.ListN.{length-set}
 use Rattle.model.specs.Snapshot.{valueAt}
+use Rattle.model.specs.Model.{entity}
 use Rattle.component.specs.declared.Found.{Found}
-use Rattle.component.specs.SparseSet.{entity, valueOf}
+use Rattle.component.specs.SparseSet.{valueOf}
 use Rattle.component.specs.Answers.{Finds, HeldAt}
 use Rattle.memory.specs.Header.{capacityOf}
 use Rattle.kinds.specs.Kinds.{kindSet}

@@ -4,7 +4,7 @@ use borrow.Author.Needs.{needs}
 use Rattle.words.specs.Decides.{Each}
 use Rattle.words.proofs.Decides.{granted, denied}
 use Rattle.sound_entities.proofs.Checking.{counts-of, live-of, indexes-of, sound-of}
-use Rattle.sound_entities.specs.Checks.{Counts, LiveOk, WaitsOk, IndexOk}
+use Rattle.sound_entities.specs.Checks.{CountsFit, LiveOk, WaitsOk, IndexOk}
 use Rattle.entity.specs.Meaning.{lenOf, recycledLen}
 use Rattle.sound_entities.proofs.is_sound.Statement.{statement}
 use Rattle.sound_entities.proofs.is_sound.Tie as tie
@@ -13,13 +13,13 @@ returns-3 : tie.Need-returns-3
 returns-3 c =
     let n = c .before .before .before .before .before .args .n in
     let w = c .before .before .before .before .before .args .part .now in
-    λ s. denied {P = Counts n w} (c .before .counts-ok .result) (c .before .counts-ok .ensures) (c .if3 .taken) (counts-of n w s)
+    λ s. denied {P = CountsFit n w} (c .before .counts-ok .result) (c .before .counts-ok .ensures) (c .if3 .taken) (counts-of n w s)
 
 live-list-ok-requires : tie.Need-live-list-ok-requires
 live-list-ok-requires c κs =
     let n = c .before .before .before .before .before .args .n in
     let w = c .before .before .before .before .before .args .part .now in
-    (search needs, granted {P = Counts n w} (c .before .counts-ok .result) (c .before .counts-ok .ensures) (c .if3 .left))
+    (search needs, granted {P = CountsFit n w} (c .before .counts-ok .result) (c .before .counts-ok .ensures) (c .if3 .left))
 
 returns-4 : tie.Need-returns-4
 returns-4 c =
@@ -31,7 +31,7 @@ queue-ok-requires : tie.Need-queue-ok-requires
 queue-ok-requires c κs =
     let n = c .before .before .before .before .before .before .before .args .n in
     let w = c .before .before .before .before .before .before .before .args .part .now in
-    (search needs, granted {P = Counts n w} (c .before .before .before .counts-ok .result) (c .before .before .before .counts-ok .ensures) (c .before .before .if3 .left))
+    (search needs, granted {P = CountsFit n w} (c .before .before .before .counts-ok .result) (c .before .before .before .counts-ok .ensures) (c .before .before .if3 .left))
 
 returns-5 : tie.Need-returns-5
 returns-5 c =
@@ -43,7 +43,7 @@ indexes-ok-requires : tie.Need-indexes-ok-requires
 indexes-ok-requires c κs =
     let n = c .before .before .before .before .before .before .before .before .before .args .n in
     let w = c .before .before .before .before .before .before .before .before .before .args .part .now in
-    (search needs, granted {P = Counts n w} (c .before .before .before .before .before .counts-ok .result) (c .before .before .before .before .before .counts-ok .ensures) (c .before .before .before .before .if3 .left))
+    (search needs, granted {P = CountsFit n w} (c .before .before .before .before .before .counts-ok .result) (c .before .before .before .before .before .counts-ok .ensures) (c .before .before .before .before .if3 .left))
 
 returns-6 : tie.Need-returns-6
 returns-6 c =
@@ -56,7 +56,7 @@ returns-7 c =
     let n = c .before .before .before .before .before .before .before .before .before .before .before .args .n in
     let w = c .before .before .before .before .before .before .before .before .before .before .before .args .part .now in
     sound-of n w (record { size = omega arith; some = omega arith; small = c .before .before .before .before .before .before .before .before .before .before .before .pre })
-    (granted {P = Counts n w} (c .before .before .before .before .before .before .before .counts-ok .result) (c .before .before .before .before .before .before .before .counts-ok .ensures) (c .before .before .before .before .before .before .if3 .left))
+    (granted {P = CountsFit n w} (c .before .before .before .before .before .before .before .counts-ok .result) (c .before .before .before .before .before .before .before .counts-ok .ensures) (c .before .before .before .before .before .before .if3 .left))
     (granted {P = Each (lenOf w) (LiveOk n w)} (c .before .before .before .before .before .live-list-ok .result) (c .before .before .before .before .before .live-list-ok .ensures) (c .before .before .before .before .if4 .left))
     (granted {P = Each (recycledLen w) (WaitsOk n w)} (c .before .before .before .queue-ok .result) (c .before .before .before .queue-ok .ensures) (c .before .before .if5 .left))
     (granted {P = Each n (IndexOk n w)} (c .before .indexes-ok .result) (c .before .indexes-ok .ensures) (c .if6 .left))

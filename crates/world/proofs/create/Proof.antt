@@ -1,5 +1,5 @@
 use mathlib.Core.Path.{_∙_}
-use Rattle.entity.specs.Answers.{entityOf}
+use Rattle.entity.specs.Answers.{entityOfAnswer}
 use Rattle.world.proofs.Lifetimes.{create-sounds, new-live, created-whole}
 use Rattle.world.proofs.create.Statement.{statement}
 use Rattle.world.proofs.create.Tie as tie
@@ -12,7 +12,7 @@ insert-requires c κs =
     let s = c .before .before .before .before .before .before in
     let w = s .args .words .now in
     let m = c .before .before .before .create in
-    (create-sounds w (s .pre .0) (s .pre .1) (m .last .0) (entityOf (m .result)) (m .ensures .entity) (m .ensures .becomes), new-live w (s .pre .0) (s .pre .1) (m .last .0) (entityOf (m .result)) (m .ensures .entity) (m .ensures .becomes))
+    (create-sounds w (s .pre .0) (s .pre .1) (m .last .0) (entityOfAnswer (m .result)) (m .ensures .entity) (m .ensures .becomes), new-live w (s .pre .0) (s .pre .1) (m .last .0) (entityOfAnswer (m .result)) (m .ensures .entity) (m .ensures .becomes))
 
 returns : tie.Need-returns
 returns c =
@@ -20,7 +20,7 @@ returns c =
     let w = s .args .words .now in
     let m = c .before .before .before .before .before .before .create in
     record {
-      becomes = created-whole w (s .pre .0) (s .pre .1) (m .last .0) (entityOf (m .result)) (m .ensures .entity) (m .ensures .becomes) (c .before .before .insert .last .0) (c .before .before .insert .ensures);
+      becomes = created-whole w (s .pre .0) (s .pre .1) (m .last .0) (entityOfAnswer (m .result)) (m .ensures .entity) (m .ensures .becomes) (c .before .before .insert .last .0) (c .before .before .insert .ensures);
       entity = m .ensures .entity;
     }
 

@@ -1,8 +1,8 @@
 use mathlib.Core.Path.{_∙_}
-use Rattle.component.specs.SparseSet.{entity}
 use Rattle.world.proofs.Lifetimes.{still-at, destroyed-whole}
 use Rattle.world.proofs.destroy.Statement.{statement}
 use Rattle.world.proofs.destroy.Tie as tie
+use Rattle.model.specs.Model.{entity}
 
 strip-requires : tie.Need-strip-requires
 strip-requires c κs = c .before .before .pre .0

@@ -1,6 +1,7 @@
-use Rattle.command.proofs.Acts.{accepted-by, stays}
+use Rattle.command.proofs.Acts.{accepted-by}
 use Rattle.memory.specs.Meaning.{meaning}
 use Rattle.model.proofs.Outcomes.{tally-does}
+use Rattle.memory.proofs.Becomes.{stays}
 use borrow.Author.Needs.{needs}
 use Rattle.command_list.proofs.lists.tally.Statement.{statement}
 use Rattle.command_list.proofs.lists.tally.Tie as tie

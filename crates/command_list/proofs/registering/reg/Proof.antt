@@ -1,8 +1,9 @@
 use mathlib.Core.Path.{refl, sym, _∙_}
 use Rattle.model.specs.Numbers.{LAST-KIND}
-use Rattle.command.proofs.Acts.{refused-by, accepted-by, stays}
+use Rattle.command.proofs.Acts.{refused-by, accepted-by}
 use Rattle.memory.specs.Meaning.{meaning}
 use Rattle.model.proofs.Outcomes.{reg-above, reg-full, reg-known, reg-new}
+use Rattle.memory.proofs.Becomes.{stays}
 use borrow.Author.Tests.{lt-ltb, le-ltb, leb-false}
 use native.Mathlib.Omega.{arith}
 use borrow.Author.Needs.{needs}

@@ -4,7 +4,7 @@ use native.Mathlib.Omega.{arith}
 use Rattle.model.specs.Store.{stagedKinds}
 use Rattle.memory.specs.Meaning.{layoutArrays, meaning}
 use Rattle.memory.proofs.Frames.{long}
-use Rattle.group_info.specs.Describes.{Describes}
+use Rattle.group_info.specs.Describes.{DescribesQuery}
 use Rattle.group_info.specs.declared.FoundQuery.{FoundQuery}
 use Rattle.command_range.specs.Query.{QueryOf}
 use Rattle.command_range.proofs.Queries.{tables, query-inside, both-queries, no-staged, no-excluded}
@@ -32,12 +32,12 @@ part-group-range-end-2 : tie.Need-part-group-range-end-2
 part-group-range-end-2 c = let s = c .before .before .before .before .before .before .before .before .before .before in omega (arith, long (s .args .words .now) (s .pre .arranged))
 
 -- what the two queries describe
-included : (c : tie.After-exclude) → Describes (layoutArrays (c .before .before .before .before .before .before .before .before .args .words .now)) (meaning (c .before .before .before .before .before .before .before .before .args .words .now) .storage) (stagedKinds (meaning (c .before .before .before .before .before .before .before .before .args .words .now))) (c .before .before .before .before .include .given .0 .0)
+included : (c : tie.After-exclude) → DescribesQuery (layoutArrays (c .before .before .before .before .before .before .before .before .args .words .now)) (meaning (c .before .before .before .before .before .before .before .before .args .words .now) .storage) (stagedKinds (meaning (c .before .before .before .before .before .before .before .before .args .words .now))) (c .before .before .before .before .include .given .0 .0)
 included c =
     let w = c .before .before .before .before .before .before .before .before .args .words .now in
     subst (λ (q : FoundQuery). QueryOf w (stagedKinds (meaning w)) q) (c .before .before .before .before .include .given .1) (c .before .before .before .before .before .before .staged-query .ensures)
 
-with-excluded : (c : tie.After-exclude) → Describes (layoutArrays (c .before .before .before .before .before .before .before .before .args .words .now)) (meaning (c .before .before .before .before .before .before .before .before .args .words .now) .storage) (meaning (c .before .before .before .before .before .before .before .before .args .words .now) .control .excluded) (c .exclude .given .0 .0)
+with-excluded : (c : tie.After-exclude) → DescribesQuery (layoutArrays (c .before .before .before .before .before .before .before .before .args .words .now)) (meaning (c .before .before .before .before .before .before .before .before .args .words .now) .storage) (meaning (c .before .before .before .before .before .before .before .before .args .words .now) .control .excluded) (c .exclude .given .0 .0)
 with-excluded c =
     let w = c .before .before .before .before .before .before .before .before .args .words .now in
     subst (λ (q : FoundQuery). QueryOf w (meaning w .control .excluded) q) (c .exclude .given .1) (c .before .before .excluded-query .ensures)

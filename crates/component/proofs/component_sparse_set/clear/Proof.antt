@@ -5,14 +5,14 @@ use lib.ListN.{take}
 use mathlib.Core.List.{[]}
 use Rattle.model.specs.Model.{SparseSet}
 use Rattle.component.specs.SparseSet.{lengthOf, rows}
-use Rattle.component.specs.Stored.{Changed}
+use Rattle.component.specs.Stored.{RowsChanged}
 use Rattle.component.proofs.Moves.{changed-as, clear-none, clear-more, clear-left}
 use borrow.Author.Needs.{needs}
 use Rattle.component.proofs.component_sparse_set.clear.Statement.{statement}
 use Rattle.component.proofs.component_sparse_set.clear.Tie as tie
 
 abbrev Inv-loop : tie.InvT-loop
-Inv-loop part₀ n k₀ part k = (k ≡ lengthOf part) × Changed n (take k) part₀ part
+Inv-loop part₀ n k₀ part k = (k ≡ lengthOf part) × RowsChanged n (take k) part₀ part
 
 abbrev μ-loop : tie.MeasureT-loop
 μ-loop part₀ n k₀ part k = k

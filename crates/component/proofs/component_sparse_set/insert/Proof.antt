@@ -2,10 +2,10 @@ use mathlib.Core.Path.{subst}
 use Prim.Native.Nat.{_+_, _-_}
 use native.Mathlib.Omega.{arith}
 use mathlib.Core.List.{[], _∷_, _++_}
-use Rattle.model.specs.Model.{SparseSet, insertRow}
+use Rattle.model.specs.Model.{SparseSet, insertRow, entity}
 use Rattle.component.specs.declared.Found.{Found}
 use Rattle.component.specs.Answers.{Finds}
-use Rattle.component.specs.SparseSet.{entity, valueOf, rows}
+use Rattle.component.specs.SparseSet.{valueOf, rows}
 use Rattle.component.specs.Stored.{valued}
 use Rattle.component.proofs.Meaning.{length-rows}
 use Rattle.component.proofs.Moves.{changed-as}

@@ -3,10 +3,10 @@ use Prim.Native.Nat.{ℕ, _-_}
 use native.Mathlib.Omega.{arith}
 use lib.ListN.{getD}
 use Rattle.model.specs.Lists.{cutAt}
-use Rattle.model.specs.Model.{noRow, removeRow}
+use Rattle.model.specs.Model.{noRow, removeRow, entity}
 use Rattle.component.specs.declared.Found.{Found}
 use Rattle.component.specs.Answers.{Finds}
-use Rattle.component.specs.SparseSet.{entity, rows}
+use Rattle.component.specs.SparseSet.{rows}
 use Rattle.component.proofs.Meaning.{length-rows}
 use Rattle.component.proofs.Moves.{changed-none, changed-as}
 use Rattle.component.proofs.Places.{remove-free, remove-held}

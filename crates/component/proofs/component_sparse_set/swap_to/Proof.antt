@@ -1,10 +1,10 @@
 use mathlib.Core.Path.{sym, _∙_, subst, refl}
 use Prim.Native.Nat.{_-_}
 use mathlib.Core.Bool.{true≢false}
-use Rattle.model.specs.Model.{swapTo}
+use Rattle.model.specs.Model.{swapTo, entity}
 use Rattle.component.specs.declared.Found.{Found}
 use Rattle.component.specs.Answers.{Finds}
-use Rattle.component.specs.SparseSet.{entity, rows}
+use Rattle.component.specs.SparseSet.{rows}
 use Rattle.component.specs.Stored.{swapRows}
 use Rattle.component.proofs.Moves.{changed-as}
 use Rattle.component.proofs.Places.{swap-held}

@@ -1,10 +1,10 @@
 use mathlib.Core.Path.{sym, subst}
-use Rattle.component.specs.SparseSet.{entity}
 use Rattle.component.specs.Answers.{Finds}
 use Rattle.component.specs.Columns.{rowsOf}
 use Rattle.component.specs.declared.Found.{Found}
 use Rattle.component.proofs.slots.holds_in.Statement.{statement}
 use Rattle.component.proofs.slots.holds_in.Tie as tie
+use Rattle.model.specs.Model.{entity}
 
 returns : tie.Need-returns
 returns c =

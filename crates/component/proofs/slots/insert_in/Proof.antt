@@ -1,6 +1,6 @@
 use borrow.Author.Needs.{needs}
-use Rattle.model.specs.Model.{insertRow}
-use Rattle.component.specs.SparseSet.{entity, valueOf}
+use Rattle.model.specs.Model.{insertRow, entity}
+use Rattle.component.specs.SparseSet.{valueOf}
 use Rattle.component.proofs.Parts.{part-is, only-at}
 use Rattle.component.proofs.slots.insert_in.Statement.{statement}
 use Rattle.component.proofs.slots.insert_in.Tie as tie

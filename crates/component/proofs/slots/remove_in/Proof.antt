@@ -1,6 +1,5 @@
 use borrow.Author.Needs.{needs}
-use Rattle.model.specs.Model.{removeRow}
-use Rattle.component.specs.SparseSet.{entity}
+use Rattle.model.specs.Model.{removeRow, entity}
 use Rattle.component.proofs.Parts.{part-is, only-at}
 use Rattle.component.proofs.slots.remove_in.Statement.{statement}
 use Rattle.component.proofs.slots.remove_in.Tie as tie

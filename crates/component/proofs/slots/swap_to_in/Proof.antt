@@ -1,6 +1,5 @@
 use borrow.Author.Needs.{needs}
-use Rattle.model.specs.Model.{swapTo}
-use Rattle.component.specs.SparseSet.{entity}
+use Rattle.model.specs.Model.{swapTo, entity}
 use Rattle.component.proofs.Parts.{part-is, only-at}
 use Rattle.component.proofs.slots.swap_to_in.Statement.{statement}
 use Rattle.component.proofs.slots.swap_to_in.Tie as tie

@@ -1,5 +1,4 @@
-use Rattle.model.specs.Model.{destroy}
-use Rattle.entity.specs.Meaning.{entity}
+use Rattle.model.specs.Model.{destroy, entity}
 use Rattle.control.proofs.EntityPart.{entities-read, sound-in, changed-becomes}
 use Rattle.control.proofs.entities.destroy.Statement.{statement}
 use Rattle.control.proofs.entities.destroy.Tie as tie

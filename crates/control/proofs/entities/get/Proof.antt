@@ -1,12 +1,12 @@
 use Rattle.words.specs.Offsets.{ENTITIES}
 use Rattle.model.specs.Numbers.{MAX-ENTITIES, ENTITY-LEN}
+use Rattle.model.specs.Model.{entity}
 use mir.Val.{Fits}
 use mir.Syntax.{w64}
 use native.Mathlib.Omega.{arith}
 use Prim.Native.Nat.{ℕ, _+_, _*_, _≤_}
 use mathlib.Core.Path.{ap, _∙_}
 use Rattle.entity.specs.Answers.{foundOf}
-use Rattle.entity.specs.Meaning.{entity}
 use Rattle.control.proofs.EntityPart.{entities-read, sound-in}
 use Rattle.control.proofs.entities.get.Statement.{statement}
 use Rattle.control.proofs.entities.get.Tie as tie

@@ -1,11 +1,11 @@
 use Rattle.words.specs.Offsets.{ENTITIES}
 use Rattle.model.specs.Numbers.{MAX-ENTITIES, ENTITY-LEN}
+use Rattle.model.specs.Model.{isFull}
 use mir.Val.{Fits}
 use mir.Syntax.{w64}
 use native.Mathlib.Omega.{arith}
 use Prim.Native.Nat.{ℕ, _+_, _*_, _≤_}
 use mathlib.Core.Path.{ap₂, _∙_}
-use Rattle.entity.specs.Change.{isFull}
 use Rattle.control.proofs.EntityPart.{entities-read, sound-in}
 use Rattle.control.proofs.entities.is_full.Statement.{statement}
 use Rattle.control.proofs.entities.is_full.Tie as tie

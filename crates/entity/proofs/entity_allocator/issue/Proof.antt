@@ -4,9 +4,9 @@ use native.Mathlib.Omega.{arith}
 use borrow.Author.Needs.{needs}
 use Rattle.entity.proofs.QueueSteps.{numbered-changed, numbered-idle}
 use Rattle.entity.proofs.Lookups.{issued-is}
-use Rattle.entity.specs.Meaning.{entity}
 use Rattle.entity.proofs.entity_allocator.issue.Statement.{statement}
 use Rattle.entity.proofs.entity_allocator.issue.Tie as tie
+use Rattle.model.specs.Model.{entity}
 
 returns : tie.Need-returns
 returns c =

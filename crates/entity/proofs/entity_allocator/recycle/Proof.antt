@@ -2,9 +2,10 @@ use mathlib.Core.Path.{refl, _∙_}
 use Prim.Native.Nat.{_-_}
 use borrow.Author.Needs.{needs}
 use Rattle.entity.proofs.ModelSteps.{recycled-next, recycled-last}
-use Rattle.entity.specs.Meaning.{entity, entitiesOf}
+use Rattle.entity.specs.Meaning.{entitiesOf}
 use Rattle.entity.proofs.entity_allocator.recycle.Statement.{statement}
 use Rattle.entity.proofs.entity_allocator.recycle.Tie as tie
+use Rattle.model.specs.Model.{entity}
 
 returns : tie.Need-returns
 returns c =

@@ -1,7 +1,7 @@
 use Rattle.model.specs.Numbers.{MAX-ENTITIES, ENTITY-LEN}
 use lib.Dec.{lit<}
 use mir.Val.{Fits}
-use mir.Syntax.{w32, w64}
+use mir.Syntax.{w64}
 use mathlib.Core.Path.{_≡_}
 use Prim.Native.Nat.{_-_, _+_, _*_, ℕ, _≤_, _<_}
 use native.Mathlib.Omega.{arith}

@@ -2,9 +2,10 @@ use mathlib.Core.Path.{sym, _∙_}
 use Prim.Native.Nat.{_-_}
 use borrow.Author.Needs.{needs}
 use Rattle.entity.proofs.Lookups.{found-live, found-dead}
-use Rattle.entity.specs.Meaning.{entity, entitiesOf}
+use Rattle.entity.specs.Meaning.{entitiesOf}
 use Rattle.entity.proofs.entity_storage.contains.Statement.{statement}
 use Rattle.entity.proofs.entity_storage.contains.Tie as tie
+use Rattle.model.specs.Model.{entity}
 
 returns : tie.Need-returns
 returns c =

@@ -1,9 +1,9 @@
 use mathlib.Core.Path.{sym, ap, _∙_}
 use Prim.Native.Nat.{_-_}
 use borrow.Author.Needs.{needs}
-use Rattle.model.specs.Model.{Entity}
+use Rattle.model.specs.Model.{Entity, entity}
 use Rattle.entity.proofs.ModelSteps.{create-steps}
-use Rattle.entity.specs.Meaning.{entity, entitiesOf}
+use Rattle.entity.specs.Meaning.{entitiesOf}
 use Rattle.entity.specs.Change.{joined, allocated}
 use Rattle.entity.proofs.entity_storage.create.Statement.{statement}
 use Rattle.entity.proofs.entity_storage.create.Tie as tie

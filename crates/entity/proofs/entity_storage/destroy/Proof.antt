@@ -2,10 +2,11 @@ use mathlib.Core.Path.{sym, ap, _∙_}
 use Prim.Native.Nat.{ℕ, _-_}
 use Rattle.entity.proofs.Lookups.{found-live, found-place}
 use Rattle.entity.proofs.ModelSteps.{destroy-steps}
-use Rattle.entity.specs.Meaning.{entity, entitiesOf}
+use Rattle.entity.specs.Meaning.{entitiesOf}
 use Rattle.entity.specs.Change.{left, recycledAs}
 use Rattle.entity.proofs.entity_storage.destroy.Statement.{statement}
 use Rattle.entity.proofs.entity_storage.destroy.Tie as tie
+use Rattle.model.specs.Model.{entity}
 
 remove-requires : tie.Need-remove-requires
 remove-requires c κs =

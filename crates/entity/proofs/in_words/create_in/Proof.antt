@@ -1,7 +1,7 @@
 use Prim.Native.Nat.{_-_}
 use borrow.Author.Needs.{needs}
 use Rattle.entity.proofs.InWords.{changed-in}
-use Rattle.entity.specs.Answers.{created}
+use Rattle.entity.specs.Answers.{withCreated}
 use Rattle.entity.proofs.in_words.create_in.Statement.{statement}
 use Rattle.entity.proofs.in_words.create_in.Tie as tie
 
@@ -11,7 +11,7 @@ returns c =
     let a = s .args in
     let r = c .before .before .create .ensures in
     record {
-      changed = changed-in (a .n) created (a .words .now) (c .before .before .create .last .0) (s .pre .0 .fits) (r .changed);
+      changed = changed-in (a .n) withCreated (a .words .now) (c .before .before .create .last .0) (s .pre .0 .fits) (r .changed);
       entity = r .entity;
     }
 

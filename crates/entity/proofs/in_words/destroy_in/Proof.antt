@@ -1,8 +1,7 @@
 use Prim.Native.Nat.{_-_}
 use borrow.Author.Needs.{needs}
 use Rattle.entity.proofs.InWords.{changed-in}
-use Rattle.entity.specs.Meaning.{entity}
-use Rattle.model.specs.Model.{destroy}
+use Rattle.model.specs.Model.{destroy, entity}
 use Rattle.entity.proofs.in_words.destroy_in.Statement.{statement}
 use Rattle.entity.proofs.in_words.destroy_in.Tie as tie
 

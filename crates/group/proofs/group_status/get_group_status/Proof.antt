@@ -2,11 +2,11 @@ use mathlib.Core.Path.{sym, _∙_}
 use native.Mathlib.Omega.{arith}
 use borrow.Author.Needs.{needs}
 use borrow.Author.Tests.{not-true, not-false}
-use Rattle.component.specs.SparseSet.{entity}
 use Rattle.memory.specs.Header.{capacityOf}
 use Rattle.group.proofs.Status.{kind-known, status-first, status-others, status-in, status-out, listed-later}
 use Rattle.group.proofs.group_status.get_group_status.Statement.{statement}
 use Rattle.group.proofs.group_status.get_group_status.Tie as tie
+use Rattle.model.specs.Model.{entity}
 
 kind-at-requires : tie.Need-kind-at-requires
 kind-at-requires c κs = let s = c .before in (s .pre .0, omega (arith, s .pre .1 .1, s .pre .1 .0 .within))

@@ -2,9 +2,8 @@ use mathlib.Core.Path.{_≡_, refl, sym, _∙_}
 use Prim.Native.Nat.{_-_, _≤_}
 use native.Mathlib.Omega.{arith}
 use borrow.Author.Tests.{not-true, not-false}
-use Rattle.model.specs.Model.{allHeld}
+use Rattle.model.specs.Model.{allHeld, entity}
 use Rattle.words.specs.Part.{between}
-use Rattle.component.specs.SparseSet.{entity}
 use Rattle.memory.specs.Meaning.{meaning}
 use Rattle.group.specs.Metadata.{orderOf}
 use Rattle.group.proofs.Status.{kind-known, all-next, all-end}

@@ -1,10 +1,10 @@
 use mathlib.Core.Path.{_∙_}
 use native.Mathlib.Omega.{arith}
-use Rattle.component.specs.SparseSet.{entity}
 use Rattle.memory.specs.Meaning.{meaning}
 use Rattle.group.proofs.Status.{status-is, listed-later}
 use Rattle.group.proofs.group_status.status_in.Statement.{statement}
 use Rattle.group.proofs.group_status.status_in.Tie as tie
+use Rattle.model.specs.Model.{entity}
 
 get-group-status-requires : tie.Need-get-group-status-requires
 get-group-status-requires c κs =

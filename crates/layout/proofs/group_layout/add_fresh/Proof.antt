@@ -2,14 +2,14 @@ use mathlib.Core.Path.{refl, _∙_, sym, ap}
 use native.Mathlib.Omega.{arith}
 use borrow.Author.Needs.{needs}
 use Rattle.model.specs.Adding.{added}
-use Rattle.layout.specs.ByValue.{arraysOf, Sized, meaning}
+use Rattle.layout.specs.ByValue.{arraysOf, ArraysSized, layoutMeaning}
 use Rattle.layout.proofs.Fits.{fit-says, fresh-many, fresh-added}
 use Rattle.layout.proofs.Adding.{group-kinds, counted-groups, fresh-ask}
 use Rattle.layout.proofs.group_layout.add_fresh.Statement.{statement}
 use Rattle.layout.proofs.group_layout.add_fresh.Tie as tie
 
 -- the arrays have their lengths
-sizes : (c : tie.Start) → Sized (arraysOf (c .args .l))
+sizes : (c : tie.Start) → ArraysSized (arraysOf (c .args .l))
 sizes c = record { kinds = search needs; arities = search needs; kindEnds = search needs; ends = search needs }
 
 returns : tie.Need-returns
@@ -18,7 +18,7 @@ returns c =
     let p = s .pre in
     record {
       formed = p .formed;
-      says = sym (fresh-many (s .args .staged .now) (meaning (s .args .l)) (p .least) (p .most) (fit-says _ _ _ (p .fits)) (omega (arith, counted-groups (s .args .l) (p .formed) (sizes s), c .if1 .taken)));
+      says = sym (fresh-many (s .args .staged .now) (layoutMeaning (s .args .l)) (p .least) (p .most) (fit-says _ _ _ (p .fits)) (omega (arith, counted-groups (s .args .l) (p .formed) (sizes s), c .if1 .taken)));
       kept = λ n. refl;
     }
 
@@ -34,7 +34,7 @@ returns-2 c =
     let r = c .fresh .ensures in
     record {
       formed = r .formed;
-      says = ap added (r .means) ∙ sym (fresh-added (s .args .staged .now) (meaning (s .args .l)) (p .least) (p .most) (fit-says _ _ _ (p .fits)) (omega (arith, counted-groups (s .args .l) (p .formed) (sizes s), c .before .if1 .left)));
+      says = ap added (r .means) ∙ sym (fresh-added (s .args .staged .now) (layoutMeaning (s .args .l)) (p .least) (p .most) (fit-says _ _ _ (p .fits)) (omega (arith, counted-groups (s .args .l) (p .formed) (sizes s), c .before .if1 .left)));
       kept = λ n. absurd (n refl);
     }
 

@@ -2,14 +2,14 @@ use mathlib.Core.Path.{refl, _∙_, sym, ap}
 use native.Mathlib.Omega.{arith}
 use borrow.Author.Needs.{needs}
 use Rattle.model.specs.Adding.{added}
-use Rattle.layout.specs.ByValue.{arraysOf, Sized, meaning}
+use Rattle.layout.specs.ByValue.{arraysOf, ArraysSized, layoutMeaning}
 use Rattle.layout.proofs.Fits.{fit-says, onto-many, onto-added}
 use Rattle.layout.proofs.Adding.{group-kinds, counted-groups, onto-ask, onto-means, onto-target}
 use Rattle.layout.proofs.group_layout.add_onto.Statement.{statement}
 use Rattle.layout.proofs.group_layout.add_onto.Tie as tie
 
 -- the arrays have their lengths
-sizes : (c : tie.Start) → Sized (arraysOf (c .args .l))
+sizes : (c : tie.Start) → ArraysSized (arraysOf (c .args .l))
 sizes c = record { kinds = search needs; arities = search needs; kindEnds = search needs; ends = search needs }
 
 returns : tie.Need-returns
@@ -18,7 +18,7 @@ returns c =
     let p = s .pre in
     record {
       formed = p .formed;
-      says = sym (onto-many (s .args .staged .now) (meaning (s .args .l)) (p .least) (p .most) _ (fit-says _ _ _ (p .fits)) (omega (arith, counted-groups (s .args .l) (p .formed) (sizes s), c .if1 .taken)));
+      says = sym (onto-many (s .args .staged .now) (layoutMeaning (s .args .l)) (p .least) (p .most) _ (fit-says _ _ _ (p .fits)) (omega (arith, counted-groups (s .args .l) (p .formed) (sizes s), c .if1 .taken)));
       kept = λ n. refl;
     }
 
@@ -35,7 +35,7 @@ returns-2 c =
     let on = fit-says _ _ _ (p .fits) in
     record {
       formed = r .formed;
-      says = ap added (r .means ∙ onto-means (s .args .l) (s .args .staged .now) (group-kinds _ _ _ p (c .before .if1 .left)) (sizes s) _ (onto-target _ _ _ on)) ∙ sym (onto-added (s .args .staged .now) (meaning (s .args .l)) (p .least) (p .most) _ on (omega (arith, counted-groups (s .args .l) (p .formed) (sizes s), c .before .if1 .left)));
+      says = ap added (r .means ∙ onto-means (s .args .l) (s .args .staged .now) (group-kinds _ _ _ p (c .before .if1 .left)) (sizes s) _ (onto-target _ _ _ on)) ∙ sym (onto-added (s .args .staged .now) (layoutMeaning (s .args .l)) (p .least) (p .most) _ on (omega (arith, counted-groups (s .args .l) (p .formed) (sizes s), c .before .if1 .left)));
       kept = λ n. absurd (n refl);
     }
 

@@ -7,7 +7,7 @@ use lib.ListN.{length, getD, take}
 use lib.Seq.{length-take-le}
 use Rattle.words.specs.Offsets.{GROUP-PLACES}
 use Rattle.layout.specs.Layout.{widthOf}
-use Rattle.layout.specs.ByValue.{arraysOf, Sized}
+use Rattle.layout.specs.ByValue.{arraysOf, ArraysSized}
 use Rattle.layout.proofs.Arrays.{end-inside}
 use Rattle.layout.proofs.Extend.{kind-inside, group-inside, kind-room, spread-front, family-other, family-here, width-after, groups-after, well-formed-after}
 use native.Mathlib.Omega.{arith}
@@ -16,7 +16,7 @@ use Rattle.layout.proofs.group_layout.extended.Statement.{statement}
 use Rattle.layout.proofs.group_layout.extended.Tie as tie
 
 -- the arrays have their lengths
-sizes : (c : tie.Start) → Sized (arraysOf (c .args .l))
+sizes : (c : tie.Start) → ArraysSized (arraysOf (c .args .l))
 sizes c = record { kinds = search needs; arities = search needs; kindEnds = search needs; ends = search needs }
 
 -- what the start alone shows

@@ -1,7 +1,7 @@
 use mathlib.Core.Path.{sym, subst}
 use Prim.Native.Nat.{_-_}
 use lib.ListN.{length}
-use Rattle.layout.specs.ByValue.{arraysOf, Sized}
+use Rattle.layout.specs.ByValue.{arraysOf, ArraysSized}
 use Rattle.layout.specs.Grow.{Extends, Extended}
 use Rattle.layout.specs.declared.group_layout.Layout.{Layout}
 use Rattle.layout.proofs.Adding.{few, fresh-extends, fresh-done}
@@ -11,7 +11,7 @@ use Rattle.layout.proofs.group_layout.fresh.Statement.{statement}
 use Rattle.layout.proofs.group_layout.fresh.Tie as tie
 
 -- the arrays have their lengths
-sizes : (c : tie.Start) → Sized (arraysOf (c .args .l))
+sizes : (c : tie.Start) → ArraysSized (arraysOf (c .args .l))
 sizes c = record { kinds = search needs; arities = search needs; kindEnds = search needs; ends = search needs }
 
 opened-requires : tie.Need-opened-requires

@@ -5,7 +5,7 @@ use lib.ListN.{length, getD}
 use lib.Seq.{length-take-le}
 use Rattle.model.specs.Numbers.{LIST-CAPACITY}
 use Rattle.words.specs.Part.{between}
-use Rattle.layout.specs.ByValue.{arraysOf, Sized}
+use Rattle.layout.specs.ByValue.{arraysOf, ArraysSized}
 use Rattle.model.specs.Model.{without}
 use Rattle.layout.specs.Grow.{Extends, Extended}
 use Rattle.layout.proofs.Arrays.{bounds}
@@ -16,7 +16,7 @@ use Rattle.layout.proofs.group_layout.grown.Statement.{statement}
 use Rattle.layout.proofs.group_layout.grown.Tie as tie
 
 -- the arrays have their lengths
-sizes : (c : tie.Start) → Sized (arraysOf (c .args .l))
+sizes : (c : tie.Start) → ArraysSized (arraysOf (c .args .l))
 sizes c = record { kinds = search needs; arities = search needs; kindEnds = search needs; ends = search needs }
 
 start-of-requires : tie.Need-start-of-requires

@@ -3,7 +3,7 @@ use Prim.Native.Nat.{ℕ, _≤_, _-_}
 use mathlib.Core.List.{List, []}
 use lib.ListN.{length, take, drop}
 use Rattle.model.specs.Model.{isGroup}
-use Rattle.layout.specs.Layout.{startOf, groupsFrom, Rising}
+use Rattle.layout.specs.Layout.{startOf, groupsFrom, AritiesRising}
 use Rattle.layout.proofs.Family.{turn, no-groups}
 use native.Mathlib.Omega.{arith}
 use Rattle.layout.proofs.group_layout.same_group.Statement.{statement}
@@ -11,7 +11,7 @@ use Rattle.layout.proofs.group_layout.same_group.Tie as tie
 
 abbrev Inv-loop : tie.InvT-loop
 Inv-loop kinds arities staged j₀ j-end j =
-    (j ≤ length arities) × Rising (startOf arities j) (length kinds) (drop j arities)
+    (j ≤ length arities) × AritiesRising (startOf arities j) (length kinds) (drop j arities)
     × (isGroup staged [] (groupsFrom [] 0 kinds 0 arities) ≡ isGroup staged (take (startOf arities j) kinds) (groupsFrom [] 0 kinds (startOf arities j) (drop j arities)))
 
 abbrev μ-loop : tie.MeasureT-loop

@@ -6,8 +6,7 @@ use mathlib.Core.Path.{_≡_}
 use mathlib.Core.Bool.{true}
 use Rattle.words.proofs.Decides.{decides-test}
 use Rattle.words.proofs.Passes.{Passed, starts, stops, goes, ends}
-use Rattle.model.specs.Model.{held}
-use Rattle.component.specs.SparseSet.{entity}
+use Rattle.model.specs.Model.{held, entity}
 use Rattle.sound_groups.specs.Counts.{rowsAt}
 use Rattle.sound_groups.proofs.counts.holds_all.Statement.{statement}
 use Rattle.sound_groups.proofs.counts.holds_all.Tie as tie

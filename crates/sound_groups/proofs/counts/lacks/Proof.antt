@@ -5,7 +5,7 @@ use Rattle.words.specs.Offsets.{ROWS}
 use Rattle.sound_columns.proofs.SlotLaws.{rows-most, key-word}
 use Rattle.words.proofs.Decides.{yes-of, no-of}
 use Rattle.sound_columns.specs.Rows.{entityIn, keyAt}
-use Rattle.sound_groups.specs.Counts.{Holds}
+use Rattle.sound_groups.specs.Counts.{HoldsAll}
 use borrow.Author.Needs.{needs}
 use Rattle.sound_groups.proofs.counts.lacks.Statement.{statement}
 use Rattle.sound_groups.proofs.counts.lacks.Tie as tie
@@ -32,10 +32,10 @@ shared-slice-read-version : tie.Need-shared-slice-read-version
 shared-slice-read-version c = let a = c .before .before .before .before .args in let m = rows-most (a .n) (a .h) (a .words .now) (c .before .before .before .before .pre .0 .1) in omega (arith, m, c .before .before .before .before .pre .0, c .before .before .column-start .ensures)
 
 returns : tie.Need-returns
-returns c = let a = c .before .before .before .before .before .before .args in let w = a .words .now in let k : keyAt (a .n) w (a .h) (a .i) ≡ entityIn w (c .before .before .before .before .column-start .result + ROWS + 2 * a .i) = key-word (a .n) (a .h) w (c .before .before .before .before .before .before .pre .0 .1) (a .i) (c .before .before .before .before .before .before .pre .0 .2) ∙ ap (λ (b : ℕ). entityIn w (b + ROWS + 2 * a .i)) (sym (c .before .before .before .before .column-start .ensures)) in λ no. no (subst (Holds (a .n) w (a .from) (a .to)) (sym k) (yes-of {P = Holds (a .n) w (a .from) (a .to) (entityIn w (c .before .before .before .before .column-start .result + ROWS + 2 * a .i))} (c .before .holds-all .result) (c .before .holds-all .ensures) (c .if1 .taken)))
+returns c = let a = c .before .before .before .before .before .before .args in let w = a .words .now in let k : keyAt (a .n) w (a .h) (a .i) ≡ entityIn w (c .before .before .before .before .column-start .result + ROWS + 2 * a .i) = key-word (a .n) (a .h) w (c .before .before .before .before .before .before .pre .0 .1) (a .i) (c .before .before .before .before .before .before .pre .0 .2) ∙ ap (λ (b : ℕ). entityIn w (b + ROWS + 2 * a .i)) (sym (c .before .before .before .before .column-start .ensures)) in λ no. no (subst (HoldsAll (a .n) w (a .from) (a .to)) (sym k) (yes-of {P = HoldsAll (a .n) w (a .from) (a .to) (entityIn w (c .before .before .before .before .column-start .result + ROWS + 2 * a .i))} (c .before .holds-all .result) (c .before .holds-all .ensures) (c .if1 .taken)))
 
 returns-2 : tie.Need-returns-2
-returns-2 c = let a = c .before .before .before .before .before .before .args in let w = a .words .now in let k : keyAt (a .n) w (a .h) (a .i) ≡ entityIn w (c .before .before .before .before .column-start .result + ROWS + 2 * a .i) = key-word (a .n) (a .h) w (c .before .before .before .before .before .before .pre .0 .1) (a .i) (c .before .before .before .before .before .before .pre .0 .2) ∙ ap (λ (b : ℕ). entityIn w (b + ROWS + 2 * a .i)) (sym (c .before .before .before .before .column-start .ensures)) in λ H. no-of {P = Holds (a .n) w (a .from) (a .to) (entityIn w (c .before .before .before .before .column-start .result + ROWS + 2 * a .i))} (c .before .holds-all .result) (c .before .holds-all .ensures) (c .if1 .left) (subst (Holds (a .n) w (a .from) (a .to)) k H)
+returns-2 c = let a = c .before .before .before .before .before .before .args in let w = a .words .now in let k : keyAt (a .n) w (a .h) (a .i) ≡ entityIn w (c .before .before .before .before .column-start .result + ROWS + 2 * a .i) = key-word (a .n) (a .h) w (c .before .before .before .before .before .before .pre .0 .1) (a .i) (c .before .before .before .before .before .before .pre .0 .2) ∙ ap (λ (b : ℕ). entityIn w (b + ROWS + 2 * a .i)) (sym (c .before .before .before .before .column-start .ensures)) in λ H. no-of {P = HoldsAll (a .n) w (a .from) (a .to) (entityIn w (c .before .before .before .before .column-start .result + ROWS + 2 * a .i))} (c .before .holds-all .result) (c .before .holds-all .ensures) (c .if1 .left) (subst (HoldsAll (a .n) w (a .from) (a .to)) k H)
 
 pub lacks-spec : {M : Type 1} → statement M
 lacks-spec =

@@ -2,12 +2,12 @@ use Prim.Native.Nat.{ℕ, _-_}
 use native.Mathlib.Omega.{arith}
 use Rattle.words.proofs.Passes.{Passed, starts, stops, goes, ends}
 use Rattle.sound_columns.specs.Rows.{keyAt}
-use Rattle.sound_groups.specs.Counts.{Holds}
+use Rattle.sound_groups.specs.Counts.{HoldsAll}
 use Rattle.sound_groups.proofs.counts.rows_lack.Statement.{statement}
 use Rattle.sound_groups.proofs.counts.rows_lack.Tie as tie
 
 abbrev Inv-loop : tie.InvT-loop
-Inv-loop words n h from to c b i₀ i = Passed (λ (i : ℕ). Holds n words from to (keyAt n words h i) → ⊥) c i
+Inv-loop words n h from to c b i₀ i = Passed (λ (i : ℕ). HoldsAll n words from to (keyAt n words h i) → ⊥) c i
 
 abbrev μ-loop : tie.MeasureT-loop
 μ-loop words n h from to c b i₀ i = b - i

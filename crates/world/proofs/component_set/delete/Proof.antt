@@ -1,8 +1,8 @@
 use borrow.Author.Needs.{needs}
-use Rattle.component.specs.SparseSet.{entity}
 use Rattle.world.proofs.Whole.{staged-after, delete-whole}
 use Rattle.world.proofs.component_set.delete.Statement.{statement}
 use Rattle.world.proofs.component_set.delete.Tie as tie
+use Rattle.model.specs.Model.{entity}
 
 delete-staged-requires : tie.Need-delete-staged-requires
 delete-staged-requires c κs =

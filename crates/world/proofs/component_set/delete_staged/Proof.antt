@@ -5,9 +5,8 @@ use Prim.Native.Nat.{_≤_, _-_, ℕ, _<_, zero-le}
 use native.Mathlib.Numerals.{add-one-le}
 use borrow.Author.Count.{falls}
 use lib.ListN.{length, getD, take, length-map}
-use Rattle.model.specs.Model.{kindOf}
+use Rattle.model.specs.Model.{kindOf, entity}
 use Rattle.model.specs.Store.{Store, stagedKinds}
-use Rattle.component.specs.SparseSet.{entity}
 use Rattle.component.proofs.Sums.{next-fits}
 use Rattle.memory.specs.Meaning.{meaning}
 use Rattle.world.proofs.Removing.{Gone, eachGone, gone-none, gone-turn, gone-all, staged-kept, staged-small}

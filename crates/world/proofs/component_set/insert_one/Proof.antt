@@ -1,7 +1,6 @@
 use mathlib.Core.Path.{ap, subst}
-use Rattle.model.specs.Model.{Component}
+use Rattle.model.specs.Model.{Component, entity}
 use Rattle.model.specs.Store.{onStorage}
-use Rattle.component.specs.SparseSet.{entity}
 use Rattle.memory.specs.Meaning.{meaning}
 use Rattle.memory.specs.Arranged.{Becomes}
 use Rattle.world.specs.Insert.{insertOne}

@@ -5,10 +5,10 @@ use Prim.Native.Nat.{_≤_, _-_, ℕ, _<_, zero-le}
 use native.Mathlib.Numerals.{add-one-le}
 use borrow.Author.Count.{falls}
 use lib.ListN.{length, take}
-use Rattle.component.specs.SparseSet.{entity}
 use Rattle.component.proofs.Sums.{next-fits}
 use Rattle.memory.specs.Meaning.{meaning}
 use Rattle.model.specs.Store.{onStorage}
+use Rattle.model.specs.Model.{entity}
 use Rattle.memory.specs.Arranged.{Becomes}
 use Rattle.world.specs.Insert.{inserted}
 use Rattle.world.proofs.Inserting.{insert-none, insert-all, insert-ask, insert-count, insert-turn}

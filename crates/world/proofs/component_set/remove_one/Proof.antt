@@ -1,11 +1,11 @@
 use mathlib.Core.Path.{_∙_, subst}
 use Prim.Native.Nat.{ℕ}
-use Rattle.component.specs.SparseSet.{entity}
 use Rattle.memory.specs.Meaning.{meaning}
 use Rattle.kinds.specs.Kinds.{RemovesKind}
 use Rattle.world.proofs.Removing.{kind-at, staged-in}
 use Rattle.world.proofs.component_set.remove_one.Statement.{statement}
 use Rattle.world.proofs.component_set.remove_one.Tie as tie
+use Rattle.model.specs.Model.{entity}
 
 staged-kind-requires : tie.Need-staged-kind-requires
 staged-kind-requires c κs = (c .before .before .pre .0 .arranged, c .before .before .pre .1)

@@ -1,7 +1,7 @@
-use Rattle.component.specs.SparseSet.{entity}
 use Rattle.world.proofs.Whole.{staged-sound, delete-inside, delete-ready, ungroup-whole}
 use Rattle.world.proofs.component_set.ungroup_staged.Statement.{statement}
 use Rattle.world.proofs.component_set.ungroup_staged.Tie as tie
+use Rattle.model.specs.Model.{entity}
 
 staged-mask-requires : tie.Need-staged-mask-requires
 staged-mask-requires c κs = let s = c .before .before in staged-sound (s .args .words .now) (s .pre)

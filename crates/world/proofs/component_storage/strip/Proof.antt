@@ -1,8 +1,8 @@
 use mathlib.Core.Path.{_∙_}
-use Rattle.component.specs.SparseSet.{entity}
 use Rattle.world.proofs.Whole.{strip-ready, strip-once, strip-whole}
 use Rattle.world.proofs.component_storage.strip.Statement.{statement}
 use Rattle.world.proofs.component_storage.strip.Tie as tie
+use Rattle.model.specs.Model.{entity}
 
 ungroup-all-requires : tie.Need-ungroup-all-requires
 ungroup-all-requires c κs = let s = c .before .before in (s .pre .arranged, strip-ready (s .args .words .now) (s .pre) (entity (s .args .index) (s .args .version)))

@@ -5,8 +5,8 @@ use native.Mathlib.Numerals.{add-one-le}
 use borrow.Author.Count.{falls}
 use lib.ListN.{length, getD}
 use Rattle.model.specs.Store.{Store}
+use Rattle.model.specs.Model.{entity}
 use Rattle.words.specs.Offsets.{REGISTERED}
-use Rattle.component.specs.SparseSet.{entity}
 use Rattle.component.proofs.Sums.{next-fits}
 use Rattle.memory.specs.Meaning.{meaning}
 use Rattle.memory.proofs.Becomes.{kinds-count}

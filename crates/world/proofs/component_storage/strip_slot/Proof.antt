@@ -1,7 +1,6 @@
 use native.Mathlib.Omega.{arith}
-use Rattle.model.specs.Model.{removeRow}
+use Rattle.model.specs.Model.{removeRow, entity}
 use Rattle.words.specs.Offsets.{CAPACITY}
-use Rattle.component.specs.SparseSet.{entity}
 use Rattle.kinds.proofs.Slot.{header-long}
 use Rattle.world.proofs.Removing.{slot-lent, slot-becomes}
 use Rattle.world.proofs.component_storage.strip_slot.Statement.{statement}
