@@ -5,3 +5,4 @@ pub mod Parts
 pub mod Several
 pub mod Frames
 pub mod Fresh
+pub mod Sums

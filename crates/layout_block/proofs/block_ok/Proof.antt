@@ -1,4 +1,4 @@
-use Rattle.words.specs.Offsets.{BLOCK-LEN, GROUP-PLACES}
+use Rattle.words.specs.Offsets.{GROUP-PLACES}
 use Rattle.model.specs.Numbers.{MAX-GROUP-COUNT}
 use lib.Dec.{lit≤}
 use mathlib.Core.Path.{_∙_, sym, _≡_}
@@ -10,9 +10,6 @@ use native.Mathlib.Omega.{arith}
 use borrow.Author.Needs.{needs}
 use Rattle.layout_block.proofs.block_ok.Statement.{statement}
 use Rattle.layout_block.proofs.block_ok.Tie as tie
-
-end-in : (e l : ℕ) → e ≤ BLOCK-LEN → l ≡ BLOCK-LEN → e ≤ l
-end-in e l h q = omega arith
 
 few-in : (f l : ℕ) → f ≤ MAX-GROUP-COUNT → l ≡ GROUP-PLACES → 0 + f ≤ l
 few-in f l h q = omega arith
@@ -38,23 +35,23 @@ block-ok-spec =
     (λ c. search needs)
     (λ c. lit≤ tt)
     (λ c. lit≤ tt)
-    (λ c. end-in 192 _ (lit≤ tt) (c .before .before .before .pre .0))
+    (λ c. rw (c .before .before .before .pre .0) (lit≤ tt))
     (λ c. lit≤ tt)
     (λ c. lit≤ tt)
-    (λ c. end-in 256 _ (lit≤ tt) (c .before .before .before .before .pre .0))
+    (λ c. rw (c .before .before .before .before .pre .0) (lit≤ tt))
     (λ c. lit≤ tt)
     (λ c. lit≤ tt)
-    (λ c. end-in 320 _ (lit≤ tt) (c .before .before .before .before .before .pre .0))
+    (λ c. rw (c .before .before .before .before .before .pre .0) (lit≤ tt))
     (λ c κs. record { arities = c .before .before .families-ok-arg .given .2; kindEnds = c .before .families-ok-arg2 .given .2; ends = c .families-ok-arg3 .given .2; few = c .before .before .before .if1 .left })
     returns-2
     (λ c. lit≤ tt)
     (λ c. lit≤ tt)
-    (λ c. end-in 320 _ (lit≤ tt) (c .before .before .before .before .before .before .before .before .pre .0))
+    (λ c. rw (c .before .before .before .before .before .before .before .before .pre .0) (lit≤ tt))
     (λ c κs. few-in _ _ (c .before .before .before .before .before .before .if1 .left) (c .start-of-arg .given .2))
     (λ c. search needs)
     (λ c. lit≤ tt)
     (λ c. lit≤ tt)
-    (λ c. end-in 256 _ (lit≤ tt) (c .before .before .before .before .before .before .before .before .before .before .before .pre .0))
+    (λ c. rw (c .before .before .before .before .before .before .before .before .before .before .before .pre .0) (lit≤ tt))
     (λ c κs. few-in _ _ (c .before .before .before .before .before .before .before .before .before .if1 .left) (c .start-of-arg2 .given .2))
     slice-aggregate-kinds-ok
     (λ c κs. c .before .before .before .before .before .before .before .before .before .before .before .before .before .before .pre .1)

@@ -1,19 +1,13 @@
-use Rattle.words.specs.Offsets.{BLOCK-LEN}
 use lib.Dec.{lit≤}
-use Prim.Native.Nat.{_-_, ℕ, _≤_, _+_}
-use mathlib.Core.Path.{refl, sym, _≡_}
+use Prim.Native.Nat.{_-_, _+_}
+use mathlib.Core.Path.{refl, sym}
 use Rattle.layout_block.proofs.Transfer
 use lib.Seq.{length-take-le}
+use native.Mathlib.Nat.{le-add-right}
 use native.Mathlib.Omega.{arith}
 use borrow.Author.Needs.{needs}
 use Rattle.layout_block.proofs.read_layout.Statement.{statement}
 use Rattle.layout_block.proofs.read_layout.Tie as tie
-
-end-in : (e l : ℕ) → e ≤ BLOCK-LEN → l ≡ BLOCK-LEN → e ≤ l
-end-in e l h q = omega arith
-
-low : (a n : ℕ) → a ≤ a + n
-low a n = omega arith
 
 slice-aggregate-fetch-2 : tie.Need-slice-aggregate-fetch-2
 slice-aggregate-fetch-2 c = let s = c .before .before .before .before .before in sym (length-take-le _ _ (omega (arith, s .pre .size, Transfer.width-small (s .args .block .now) (s .args .families) (s .args .groups) (c .before .before .start-of .result) (s .pre) (c .before .before .start-of .ensures .is))))
@@ -39,27 +33,27 @@ read-layout-spec =
     (tie.spec
     (λ c. lit≤ tt)
     (λ c. lit≤ tt)
-    (λ c. end-in 256 _ (lit≤ tt) (c .before .pre .size))
+    (λ c. rw (c .before .pre .size) (lit≤ tt))
     (λ c κs. search needs)
     (λ c. refl)
     slice-aggregate-fetch-2
     fetch-requires
     (λ c. search needs)
     (λ c. refl)
-    (λ c. low _ _)
-    (λ c. low _ _)
+    (λ c. le-add-right _ _)
+    (λ c. le-add-right _ _)
     (λ c. search needs)
     fetch-requires-2
     (λ c. search needs)
     (λ c. refl)
-    (λ c. low _ _)
-    (λ c. low _ _)
+    (λ c. le-add-right _ _)
+    (λ c. le-add-right _ _)
     (λ c. search needs)
     fetch-requires-3
     (λ c. search needs)
     (λ c. refl)
-    (λ c. low _ _)
-    (λ c. low _ _)
+    (λ c. le-add-right _ _)
+    (λ c. le-add-right _ _)
     (λ c. search needs)
     fetch-requires-4
     returns)

@@ -1,14 +1,11 @@
-use Rattle.model.specs.Numbers.{LAST-COMMAND}
-use Prim.Native.Nat.{ℕ, _<_, _≤_}
+use lib.Dec.{lit<}
+use native.Mathlib.Nat.{lt-of-le-of-lt}
 use Rattle.run.proofs.Answers.{answers-small, take-answer, fixed-answer}
 use Rattle.memory.specs.Meaning.{meaning}
 use native.Mathlib.Omega.{arith}
 use borrow.Author.Needs.{needs}
 use Rattle.run.proofs.answer_bytes.Statement.{statement}
 use Rattle.run.proofs.answer_bytes.Tie as tie
-
-below : (b : ℕ) → b ≤ LAST-COMMAND → b < 15
-below b h = omega arith
 
 cast-fixed : tie.Need-cast-fixed
 cast-fixed c = omega (arith, answers-small (c .before .args .op))
@@ -26,7 +23,7 @@ pub answer-bytes-spec : {M : Type 1} → statement M
 answer-bytes-spec =
     tie.close
     (tie.spec
-    (λ c. below _ (c .before .pre .1))
+    (λ c. lt-of-le-of-lt (c .before .pre .1) (lit< tt))
     cast-fixed
     (λ c κs. c .before .before .pre .0)
     (λ c. search needs)

@@ -2,6 +2,7 @@ use mir.Facts.{fits-le}
 use mir.Val.{Fits}
 use mir.Syntax.{w64}
 use native.Mathlib.Nat.{pos-of-ne-zero, le-of-lt}
+use native.Mathlib.Numerals.{add-one-le}
 use Rattle.run.proofs.Steps.{step-zero, step-high, step-cut, step-room, step-did, stopped, given, acted-within, bytes-all, stepped}
 use Rattle.memory.specs.Meaning.{meaning}
 use Rattle.model.specs.Commands.{width}
@@ -21,9 +22,6 @@ out-fits s = omega arith
 
 small : (n : ℕ) → n ≤ 9 → Fits w64 (1 + n)
 small n h = omega arith
-
-next : (a l : ℕ) → a < l → a + 1 ≤ l
-next a l h = omega arith
 
 whole : (a n l : ℕ) → a < l → n ≤ l - a → a + n ≤ l
 whole a n l h m = omega arith
@@ -89,7 +87,7 @@ step-spec =
     (λ c. c .before .before .before .before .before .before .before .before .before .before .pre .within)
     (λ c. refl)
     returns-4
-    (λ c. fits-le (next _ _ (c .before .before .before .before .before .before .before .before .before .before .before .before .pre .more)) (tape-fits (c .before .before .before .before .before .before .before .before .before .before .before .before)))
+    (λ c. fits-le (add-one-le (c .before .before .before .before .before .before .before .before .before .before .before .before .pre .more)) (tape-fits (c .before .before .before .before .before .before .before .before .before .before .before .before)))
     act-requires
     (λ c. fits-le (whole _ _ _ (c .before .before .before .before .before .before .before .before .before .before .before .before .before .before .before .before .before .before .pre .more) (c .before .before .before .before .before .before .before .before .before .before .if3 .left)) (tape-fits (c .before .before .before .before .before .before .before .before .before .before .before .before .before .before .before .before .before .before)))
     add-t13

@@ -5,6 +5,7 @@ use Prim.Native.Nat.{ℕ, _+_, _-_, _<_, _≤_}
 use mathlib.Core.List.{[], _∷_}
 use lib.ListN.{length, getD, take}
 use lib.Seq.{length-take-le}
+use Rattle.words.specs.Offsets.{GROUP-PLACES}
 use Rattle.layout.specs.Layout.{widthOf}
 use Rattle.layout.specs.ByValue.{arraysOf, ArraysSized}
 use Rattle.layout.proofs.Arrays.{end-inside}
@@ -19,7 +20,7 @@ sizes : (c : tie.Start) → ArraysSized (arraysOf (c .args .l))
 sizes c = record { kinds = search needs; arities = search needs; kindEnds = search needs; ends = search needs }
 
 -- what the start alone shows
-inside : (s : tie.Start) → s .args .f < 64
+inside : (s : tie.Start) → s .args .f < GROUP-PLACES
 inside s = search needs
 
 end-fits : (s : tie.Start) → Fits w64 (getD (s .args .l .«kind_ends») (s .args .f) 0)

@@ -4,6 +4,7 @@ use mir.Val.{Fits}
 use mir.Syntax.{w64}
 use Prim.Native.Nat.{ℕ, _+_, _*_, _-_, _≤_, _<_}
 use Rattle.replay.proofs.Agreeing.{cut-stepped, column-agrees}
+use native.Mathlib.Nat.{le-add-right}
 use native.Mathlib.Omega.{arith}
 use Rattle.replay.proofs.cases.replay_column.Statement.{statement}
 use Rattle.replay.proofs.cases.replay_column.Tie as tie
@@ -20,9 +21,6 @@ rows-fit n h = (omega arith, omega arith, omega arith)
 
 rows-in : (a n l : ℕ) → a + 3 ≤ l → 16 * n ≤ l - (a + 3) → (a + 3 + 8 * n ≤ l) × (a + 3 + 8 * n + 8 * n ≤ l)
 rows-in a n l h p = (omega arith, omega arith)
-
-low : (a n : ℕ) → a ≤ a + n
-low a n = omega arith
 
 returns : tie.Need-returns
 returns c = cut-stepped _ _ _ _ _ (c .cut .ensures)
@@ -55,12 +53,12 @@ replay-column-spec =
     (λ c. fits-le (rows-in (c .before .before .before .before .before .before .args .at) _ _ (head-in _ _ (c .before .before .before .before .before .before .pre) (c .before .before .before .if1 .left) .0) (c .if2 .left) .0) (file-fits (c .before .before .before .before .before .before)))
     (λ c. rows-fit _ (c .before .short-at .ensures .1) .1)
     (λ c. fits-le (rows-in (c .before .before .before .before .before .before .args .at) _ _ (head-in _ _ (c .before .before .before .before .before .before .pre) (c .before .before .before .if1 .left) .0) (c .if2 .left) .1) (file-fits (c .before .before .before .before .before .before)))
-    (λ c. low _ _)
-    (λ c. low _ _)
+    (λ c. le-add-right _ _)
+    (λ c. le-add-right _ _)
     (λ c. rows-in (c .before .before .before .before .before .before .args .at) _ _ (head-in _ _ (c .before .before .before .before .before .before .pre) (c .before .before .before .if1 .left) .0) (c .if2 .left) .0)
     (λ c κs. rows-fit _ (c .before .before .short-at .ensures .1) .2)
-    (λ c. low _ _)
-    (λ c. low _ _)
+    (λ c. le-add-right _ _)
+    (λ c. le-add-right _ _)
     (λ c. rows-in (c .before .before .before .before .before .before .before .before .args .at) _ _ (head-in _ _ (c .before .before .before .before .before .before .before .before .pre) (c .before .before .before .before .before .if1 .left) .0) (c .before .before .if2 .left) .1)
     (λ c κs. rows-fit _ (c .before .before .before .before .short-at .ensures .1) .2)
     returns-3)

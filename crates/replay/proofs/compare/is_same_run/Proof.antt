@@ -1,15 +1,12 @@
-use native.Mathlib.Omega.{arith}
+use native.Mathlib.Nat.{le-add-right}
 use mathlib.Core.Path.{sym, _∙_}
-use Prim.Native.Nat.{_+_, ℕ, _≤_}
+use Prim.Native.Nat.{_+_}
 use borrow.Author.Needs.{needs}
 use lib.Seq.{length-take-le}
 use Rattle.words.proofs.Decides.{decides-equal}
 use Rattle.words.proofs.Part.{part-size}
 use Rattle.replay.proofs.compare.is_same_run.Statement.{statement}
 use Rattle.replay.proofs.compare.is_same_run.Tie as tie
-
-low : (a n : ℕ) → a ≤ a + n
-low a n = omega arith
 
 slice-aggregate-same : tie.Need-slice-aggregate-same
 slice-aggregate-same c = let s = c .before .before .before .before .before .before .before .before .before .before .before .before .before .before .before in sym (length-take-le (s .args .ran .written) (s .args .out .now) (s .pre .1))
@@ -45,8 +42,8 @@ is-same-run-spec =
     (λ c. search needs)
     (λ c. search needs)
     (λ c. search needs)
-    (λ c. low _ _)
-    (λ c. low _ _)
+    (λ c. le-add-right _ _)
+    (λ c. le-add-right _ _)
     (λ c. search needs)
     slice-aggregate-same
     (λ c κs. tt)

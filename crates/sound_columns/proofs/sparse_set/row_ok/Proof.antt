@@ -1,29 +1,11 @@
-use Rattle.model.specs.Numbers.{MAX-ENTITIES, columnLen}
-use mir.Val.{Fits}
-use mir.Syntax.{w64}
-use mathlib.Core.Path.{_≡_}
 use borrow.Author.Needs.{needs}
-use Prim.Native.Nat.{_+_, _*_, _-_, ℕ, _≤_, _<_}
+use Prim.Native.Nat.{_+_, _*_, _-_, _<_}
 use native.Mathlib.Omega.{arith}
 use Rattle.words.specs.Offsets.{ROWS}
 use Rattle.component.specs.SparseSet.{indexAt}
+use Rattle.component.proofs.Sums.{row-sums, row-in, lookup-sums, lookup-in}
 use Rattle.sound_columns.proofs.sparse_set.row_ok.Statement.{statement}
 use Rattle.sound_columns.proofs.sparse_set.row_ok.Tie as tie
-
--- a row, and the words at which its entity stands
-row-sums : (n p : ℕ) → n ≤ MAX-ENTITIES → p < n → Fits w64 (2 * p) × Fits w64 (ROWS + 2 * p) × Fits w64 ((ROWS + 2 * p) * 4) × Fits w64 (ROWS + 2 * p + 1) × Fits w64 ((ROWS + 2 * p + 1) * 4)
-row-sums n p s h = (omega arith, omega arith, omega arith, omega arith, omega arith)
-
-row-in : (n p l : ℕ) → l ≡ columnLen n → p < n → (ROWS + 2 * p < l) × (ROWS + 2 * p + 1 < l)
-row-in n p l e h = (omega arith, omega arith)
-
--- an index, and the words of its lookup
-lookup-sums : (n x : ℕ) → n ≤ MAX-ENTITIES → x < n
-    → Fits w64 (4 * n) × Fits w64 (ROWS + 4 * n) × Fits w64 (2 * x) × Fits w64 (ROWS + 4 * n + 2 * x) × Fits w64 ((ROWS + 4 * n + 2 * x) * 4) × Fits w64 (ROWS + 4 * n + 2 * x + 1) × Fits w64 ((ROWS + 4 * n + 2 * x + 1) * 4)
-lookup-sums n x s h = (omega arith, omega arith, omega arith, omega arith, omega arith, omega arith, omega arith)
-
-lookup-in : (n x l : ℕ) → l ≡ columnLen n → x < n → (ROWS + 4 * n + 2 * x < l) × (ROWS + 4 * n + 2 * x + 1 < l)
-lookup-in n x l e h = (omega arith, omega arith)
 
 cast-x : tie.Need-cast-x
 cast-x c = omega (arith, c .shared-slice-known .given (ROWS + 2 * c .before .args .i))

@@ -1,21 +1,17 @@
-use Rattle.model.specs.Numbers.{LIST-CAPACITY}
-use mir.Val.{Fits}
-use mir.Syntax.{w64}
+use lib.Dec.{lit<}
+use native.Mathlib.Nat.{lt-of-le-of-lt}
 use mathlib.Core.Path.{_≡_, ap, sym, _∙_, subst}
-use Prim.Native.Nat.{_≤_, _-_, ℕ, _<_, _+_, zero-le}
-use native.Mathlib.Omega.{arith}
+use Prim.Native.Nat.{_≤_, _-_, ℕ, _<_, zero-le}
 use native.Mathlib.Numerals.{add-one-le}
 use borrow.Author.Count.{falls}
 use lib.ListN.{length, getD, take, length-map}
 use Rattle.model.specs.Model.{kindOf, entity}
 use Rattle.model.specs.Store.{Store, stagedKinds}
+use Rattle.component.proofs.Sums.{next-fits}
 use Rattle.memory.specs.Meaning.{meaning}
 use Rattle.world.proofs.Removing.{Gone, eachGone, gone-none, gone-turn, gone-all, staged-kept, staged-small}
 use Rattle.world.proofs.component_set.delete_staged.Statement.{statement}
 use Rattle.world.proofs.component_set.delete_staged.Tie as tie
-
-next-fits : (i n : ℕ) → i < n → n ≤ LIST-CAPACITY → Fits w64 (i + 1)
-next-fits i n h s = omega arith
 
 abbrev Inv-loop : tie.InvT-loop
 Inv-loop words₀ index version n i₀ words i =
@@ -61,4 +57,4 @@ returns c =
 pub delete-staged-spec : {M : Type 1} → statement M
 delete-staged-spec =
     tie.close
-    (tie.spec Inv-loop μ-loop staged-len-requires loop-holds remove-one-requires (λ c. next-fits _ _ (c .before .before .before .before .loop-test .taken) (c .before .before .before .before .before .before .staged-len .ensures .few)) (λ c. falls _ _ (c .before .before .before .before .loop-test .taken)) loop-again same-length returns)
+    (tie.spec Inv-loop μ-loop staged-len-requires loop-holds remove-one-requires (λ c. next-fits _ _ (c .before .before .before .before .loop-test .taken) (lt-of-le-of-lt (c .before .before .before .before .before .before .staged-len .ensures .few) (lit< tt))) (λ c. falls _ _ (c .before .before .before .before .loop-test .taken)) loop-again same-length returns)

@@ -1,12 +1,11 @@
-use Rattle.model.specs.Numbers.{LIST-CAPACITY}
-use mir.Val.{Fits}
-use mir.Syntax.{w64}
+use lib.Dec.{lit<}
+use native.Mathlib.Nat.{lt-of-le-of-lt}
 use mathlib.Core.Path.{_≡_, subst}
-use Prim.Native.Nat.{_≤_, _-_, ℕ, _<_, _+_, zero-le}
-use native.Mathlib.Omega.{arith}
+use Prim.Native.Nat.{_≤_, _-_, ℕ, _<_, zero-le}
 use native.Mathlib.Numerals.{add-one-le}
 use borrow.Author.Count.{falls}
 use lib.ListN.{length, take}
+use Rattle.component.proofs.Sums.{next-fits}
 use Rattle.memory.specs.Meaning.{meaning}
 use Rattle.model.specs.Store.{onStorage}
 use Rattle.model.specs.Model.{entity}
@@ -15,9 +14,6 @@ use Rattle.world.specs.Insert.{inserted}
 use Rattle.world.proofs.Inserting.{insert-none, insert-all, insert-ask, insert-count, insert-turn}
 use Rattle.world.proofs.component_set.insert_staged.Statement.{statement}
 use Rattle.world.proofs.component_set.insert_staged.Tie as tie
-
-next-fits : (i n : ℕ) → i < n → n ≤ LIST-CAPACITY → Fits w64 (i + 1)
-next-fits i n h s = omega arith
 
 abbrev Inv-loop : tie.InvT-loop
 Inv-loop words₀ index version n i₀ words i =
@@ -63,7 +59,7 @@ insert-staged-spec =
     (λ c κs. c .before .before .pre .arranged)
     loop-holds
     insert-one-requires
-    (λ c. next-fits _ _ (c .before .before .before .before .loop-test .taken) (c .before .before .before .before .before .before .staged-len .ensures .few))
+    (λ c. next-fits _ _ (c .before .before .before .before .loop-test .taken) (lt-of-le-of-lt (c .before .before .before .before .before .before .staged-len .ensures .few) (lit< tt)))
     (λ c. falls _ _ (c .before .before .before .before .loop-test .taken))
     loop-again
     same-length

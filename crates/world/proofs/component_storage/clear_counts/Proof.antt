@@ -1,5 +1,5 @@
-use mir.Val.{Fits}
-use mir.Syntax.{w64}
+use lib.Dec.{lit<}
+use native.Mathlib.Nat.{lt-of-le-of-lt}
 use mathlib.Core.Path.{_≡_, subst}
 use Prim.Native.Nat.{_≤_, _-_, ℕ, _<_, _+_, zero-le}
 use native.Mathlib.Omega.{arith}
@@ -7,14 +7,12 @@ use native.Mathlib.Numerals.{add-one-le}
 use borrow.Author.Count.{falls}
 use Rattle.model.specs.Numbers.{MAX-GROUP-COUNT}
 use Rattle.model.specs.Model.{groupsOf}
+use Rattle.component.proofs.Sums.{next-fits}
 use Rattle.memory.specs.Meaning.{meaning}
 use Rattle.group.proofs.InWords.{groups-few}
 use Rattle.world.proofs.Zeroing.{Zeroed, zeroed-none, zeroed-below, zeroed-turn, zeroed-all}
 use Rattle.world.proofs.component_storage.clear_counts.Statement.{statement}
 use Rattle.world.proofs.component_storage.clear_counts.Tie as tie
-
-next-fits : (g n : ℕ) → g < n → n ≤ MAX-GROUP-COUNT → Fits w64 (g + 1)
-next-fits g n h s = omega arith
 
 abbrev Inv-loop : tie.InvT-loop
 Inv-loop words₀ n g₀ words g = (g ≤ n) × (n ≤ MAX-GROUP-COUNT) × (n ≡ groupsOf (meaning words₀ .storage .layout)) × Zeroed words₀ words g
@@ -51,4 +49,4 @@ returns c =
 pub clear-counts-spec : {M : Type 1} → statement M
 clear-counts-spec =
     tie.close
-    (tie.spec Inv-loop μ-loop group-count-requires loop-holds set-count-requires (λ c. next-fits _ _ (c .before .before .before .before .loop-test .taken) (c .before .before .before .before .before .loop .inv .1)) (λ c. falls _ _ (c .before .before .before .before .loop-test .taken)) loop-again same-length returns)
+    (tie.spec Inv-loop μ-loop group-count-requires loop-holds set-count-requires (λ c. next-fits _ _ (c .before .before .before .before .loop-test .taken) (lt-of-le-of-lt (c .before .before .before .before .before .loop .inv .1) (lit< tt))) (λ c. falls _ _ (c .before .before .before .before .loop-test .taken)) loop-again same-length returns)

@@ -1,24 +1,19 @@
 use lib.Dec.{lit<}
-use mir.Val.{Fits}
-use mir.Syntax.{w64}
 use mathlib.Core.Path.{_≡_, ap, sym, _∙_, subst}
-use Prim.Native.Nat.{_≤_, _-_, ℕ, _<_, _+_, zero-le}
-use native.Mathlib.Omega.{arith}
+use Prim.Native.Nat.{_≤_, _-_, ℕ, _<_, zero-le}
 use native.Mathlib.Numerals.{add-one-le}
 use borrow.Author.Count.{falls}
 use lib.ListN.{length, getD}
 use Rattle.model.specs.Store.{Store}
 use Rattle.model.specs.Model.{entity}
 use Rattle.words.specs.Offsets.{REGISTERED}
+use Rattle.component.proofs.Sums.{next-fits}
 use Rattle.memory.specs.Meaning.{meaning}
 use Rattle.memory.proofs.Becomes.{kinds-count}
 use Rattle.kinds.proofs.Slot.{header-long, known-small}
 use Rattle.world.proofs.Removing.{Gone, gone-none, gone-turn, gone-all}
 use Rattle.world.proofs.component_storage.strip_sets.Statement.{statement}
 use Rattle.world.proofs.component_storage.strip_sets.Tie as tie
-
-next-fits : (i n : ℕ) → i < n → n < 4294967296 → Fits w64 (i + 1)
-next-fits i n h s = omega arith
 
 abbrev Inv-loop : tie.InvT-loop
 Inv-loop words₀ index version m slot₀ words slot =

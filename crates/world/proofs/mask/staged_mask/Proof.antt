@@ -1,16 +1,15 @@
+use lib.Dec.{lit<}
+use native.Mathlib.Nat.{lt-of-le-of-lt}
 use borrow.Author.Count.{falls}
 use native.Mathlib.Numerals.{add-one-le}
-use Rattle.model.specs.Numbers.{LIST-CAPACITY}
-use mir.Val.{Fits}
-use mir.Syntax.{w64}
 use mathlib.Core.Path.{_≡_, subst, _∙_, sym}
 use mathlib.Core.List.{List}
-use Prim.Native.Nat.{ℕ, _≤_, _-_, _+_, zero-le, _<_}
-use native.Mathlib.Omega.{arith}
+use Prim.Native.Nat.{ℕ, _≤_, _-_, zero-le, _<_}
 use lib.ListN.{length, take, length-map}
 use Rattle.model.specs.Model.{kindOf}
 use Rattle.model.specs.Store.{stagedKinds}
 use Rattle.masks.specs.Masks.{bitsOf}
+use Rattle.component.proofs.Sums.{next-fits}
 use Rattle.memory.specs.Meaning.{meaning}
 use Rattle.group.proofs.InWords.{groups-few}
 use Rattle.world.specs.declared.mask.Walk.{Walk}
@@ -18,9 +17,6 @@ use Rattle.world.specs.Walked.{walkPositions}
 use Rattle.world.proofs.Masking.{mask-none, mask-turn, mask-all, no-kinds, more-kinds}
 use Rattle.world.proofs.mask.staged_mask.Statement.{statement}
 use Rattle.world.proofs.mask.staged_mask.Tie as tie
-
-next-fits : (i n : ℕ) → i < n → n ≤ LIST-CAPACITY → Fits w64 (i + 1)
-next-fits i n h s = omega arith
 
 abbrev at : List ℕ → Walk → List ℕ → List ℕ
 at w walk ks = walkPositions walk ks (meaning w .storage .layout)
@@ -65,4 +61,4 @@ returns c =
 pub staged-mask-spec : {M : Type 1} → statement M
 staged-mask-spec =
     tie.close
-    (tie.spec Inv-loop μ-loop staged-len-requires (λ c κs. tt) loop-holds mask-at-requires (λ c κs. tt) (λ c. next-fits _ _ (c .before .before .loop-test .taken) (c .before .before .before .before .before .staged-len .ensures .few)) (λ c. falls _ _ (c .before .before .loop-test .taken)) loop-again returns)
+    (tie.spec Inv-loop μ-loop staged-len-requires (λ c κs. tt) loop-holds mask-at-requires (λ c κs. tt) (λ c. next-fits _ _ (c .before .before .loop-test .taken) (lt-of-le-of-lt (c .before .before .before .before .before .staged-len .ensures .few) (lit< tt))) (λ c. falls _ _ (c .before .before .loop-test .taken)) loop-again returns)
