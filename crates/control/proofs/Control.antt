@@ -4,10 +4,12 @@ use mathlib.Core.List.{List, [], _∷_, _++_}
 use Prim.Native.Nat.{ℕ, _+_, _*_, _-_, _≤_, _<_}
 use native.Mathlib.Numerals.{add-one}
 use native.Mathlib.Omega.{arith}
+use mir.Val.{Fits}
+use mir.Syntax.{w32}
 use borrow.Author.Tests.{lt-ltb, le-ltb}
 use lib.ListN.{length, getD, set, drop}
 use lib.Seq.{set-getD}
-use Rattle.model.specs.Numbers.{LIST-CAPACITY, MAX-REFUSALS}
+use Rattle.model.specs.Numbers.{LIST-CAPACITY, MAX-REFUSALS, MAX-KINDS}
 use Rattle.words.specs.Offsets.{CALLER, DRAFT, DRAFT-FAMILIES, DRAFT-GROUPS, ENTITIES, EXCLUDED-KINDS, EXCLUDED-LEN, MORE-SETTINGS, REFUSALS, STAGED-KINDS, STAGED-LEN, STAGED-VALUE-LEN, STAGED-VALUES, TABLE}
 use Rattle.model.specs.Model.{Component, Family, kindOf}
 use Rattle.model.specs.Sound.{noComponent}
@@ -56,6 +58,10 @@ module _ (w : List ℕ) where
     pub excluded-kinds : meaning w .control .excluded ≡ between EXCLUDED-KINDS (EXCLUDED-KINDS + excludedLen w) w
     unfolding meaning excludedIn
     excluded-kinds = words-table w EXCLUDED-KINDS (excludedLen w) (omega (arith, A .excluded, long w A))
+
+-- a kind is a word
+pub kind-fits : (k : ℕ) → k < MAX-KINDS → Fits w32 k
+kind-fits k h = omega arith
 
 -- ---- words that differ in the two lists and the counts alone
 

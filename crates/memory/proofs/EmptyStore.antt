@@ -28,7 +28,6 @@ use Rattle.memory.specs.Arranged.{TableSound, LayoutSound, Arranged}
 use Rattle.memory.proofs.Frames.{start-header, reads-means}
 use Rattle.model.proofs.ListLaws.{drop-later, word-rest}
 use Rattle.memory.specs.Fresh.{Cleared, TableCleared, Made}
-use Rattle.entity.specs.Meaning as entity
 
 formed : (b : List ℕ) (n : ℕ) → n ≡ 0 → WellFormed (blockArrays b n)
 formed b n e = subst (λ (k : ℕ). WellFormed (blockArrays b k)) (sym e) (none-formed b)

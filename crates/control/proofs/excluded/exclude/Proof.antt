@@ -3,11 +3,11 @@ use mir.Syntax.{w32, w64}
 use Prim.Native.Nat.{_<_, _≤_, ℕ, _+_, _*_}
 use native.Mathlib.Omega.{arith}
 use lib.ListN.{length, length-set}
-use Rattle.model.specs.Numbers.{LIST-CAPACITY, MAX-KINDS}
+use Rattle.model.specs.Numbers.{LIST-CAPACITY}
 use Rattle.words.specs.Offsets.{ENTITIES, EXCLUDED-LEN, EXCLUDED-KINDS}
 use Rattle.memory.specs.Header.{excludedLen}
 use Rattle.memory.proofs.Frames.{long}
-use Rattle.control.proofs.Control.{excluded-length, exclude-becomes}
+use Rattle.control.proofs.Control.{excluded-length, exclude-becomes, kind-fits}
 use Rattle.control.proofs.excluded.exclude.Statement.{statement}
 use Rattle.control.proofs.excluded.exclude.Tie as tie
 
@@ -17,9 +17,6 @@ exclude-sums k h = (omega arith, omega arith, omega arith, omega arith)
 
 exclude-in : (k l : ℕ) → (k < LIST-CAPACITY) × (ENTITIES ≤ l) → (EXCLUDED-LEN < l) × (EXCLUDED-KINDS + k < l)
 exclude-in k l h = (omega arith, omega arith)
-
-kind-fits : (k : ℕ) → k < MAX-KINDS → Fits w32 k
-kind-fits k h = omega arith
 
 -- there is room for one more, in the header
 inside : (s : tie.Start) → (excludedLen (s .args .words .now) < LIST-CAPACITY) × (ENTITIES ≤ length (s .args .words .now))

@@ -3,11 +3,11 @@ use mir.Syntax.{w32, w64}
 use Prim.Native.Nat.{_<_, _≤_, ℕ, _+_, _*_}
 use native.Mathlib.Omega.{arith}
 use lib.ListN.{length, length-set}
-use Rattle.model.specs.Numbers.{LIST-CAPACITY, MAX-KINDS}
+use Rattle.model.specs.Numbers.{LIST-CAPACITY}
 use Rattle.words.specs.Offsets.{ENTITIES, STAGED-LEN, STAGED-KINDS, STAGED-VALUES, STAGED-VALUE-LEN}
 use Rattle.memory.specs.Header.{stagedLen}
 use Rattle.memory.proofs.Frames.{long}
-use Rattle.control.proofs.Control.{staged-length, stage-becomes}
+use Rattle.control.proofs.Control.{staged-length, stage-becomes, kind-fits}
 use Rattle.control.proofs.staged.stage.Statement.{statement}
 use Rattle.control.proofs.staged.stage.Tie as tie
 
@@ -18,9 +18,6 @@ stage-sums k h = (omega arith, omega arith, omega arith, omega arith, omega arit
 
 stage-in : (k l : ℕ) → (k < LIST-CAPACITY) × (ENTITIES ≤ l) → (STAGED-LEN < l) × (STAGED-KINDS + k < l) × (STAGED-VALUES + STAGED-VALUE-LEN * k < l) × (STAGED-VALUES + STAGED-VALUE-LEN * k + 1 < l)
 stage-in k l h = (omega arith, omega arith, omega arith, omega arith)
-
-kind-fits : (k : ℕ) → k < MAX-KINDS → Fits w32 k
-kind-fits k h = omega arith
 
 -- there is room for one more, in the header
 inside : (s : tie.Start) → (stagedLen (s .args .words .now) < LIST-CAPACITY) × (ENTITIES ≤ length (s .args .words .now))
