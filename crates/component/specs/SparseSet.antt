@@ -8,10 +8,9 @@ use Prim.Native.Nat.{ℕ, _+_, _*_, _≤_}
 use lib.ListN.{length, getD}
 use Rattle.model.specs.Numbers.{MAX-ENTITIES, columnLen}
 use Rattle.words.specs.Offsets.{ROWS, ROWS-LEN}
-use Rattle.model.specs.Model.{Row, SparseSet}
+use Rattle.model.specs.Model.{Row, SparseSet, entity}
 use Rattle.words.specs.Table.{table}
 use Rattle.words.specs.Links.{Linked}
-use Rattle.model.specs.Model.{entity}
 
 -- ---- the words of a part
 

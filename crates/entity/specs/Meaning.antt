@@ -7,13 +7,12 @@ use mathlib.Core.List.{List}
 use Prim.Native.Nat.{ℕ, _+_, _*_, _≤_, _<_}
 use lib.ListN.{length, getD}
 use Rattle.model.specs.Numbers.{ENTITY-LEN, MAX-ENTITIES}
-use Rattle.model.specs.Model.{Entity, Entities}
+use Rattle.model.specs.Model.{Entity, Entities, entity}
 use Rattle.words.specs.Table.{table}
 use Rattle.words.specs.Links.{Linked}
 use Rattle.entity.specs.Queue.{Queue, wrapped}
 use Rattle.words.specs.Offsets.{ENTITIES, ISSUED, LIVE-LEN, LIVE-LIST, QUEUE-HEAD, RECYCLED-LEN}
 use Rattle.words.specs.Part.{between}
-use Rattle.model.specs.Model.{entity}
 
 abbrev pub lenOf : List ℕ → ℕ
 lenOf w = getD w LIVE-LEN 0

@@ -16,8 +16,7 @@ use Rattle.model.specs.Lists.{countOf, one}
 use Rattle.model.proofs.ListLaws.{count-length}
 use Rattle.model.specs.Model.{sameEntity, Entity, SparseSet, Component, setOf}
 use Rattle.model.specs.Store.{Store, bytesOf}
-use Rattle.model.specs.Snapshot.{Same}
-use Rattle.model.specs.Snapshot.{Entry, valueAt, addComponent, componentsOf, liveVersion, entryOf, entries, flat, listing, snapshot}
+use Rattle.model.specs.Snapshot.{Same, Entry, valueAt, addComponent, componentsOf, liveVersion, entryOf, entries, flat, listing, snapshot}
 use Rattle.model.proofs.SparseSets.{entity-eq, entity-same}
 use Rattle.model.proofs.Encoding.{FitEntries, flat-inj, bytesOf-inj}
 

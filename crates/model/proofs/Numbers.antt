@@ -10,8 +10,7 @@ use lib.ListN.{length, getD, List·getD-map, length-map}
 use Rattle.model.specs.Lists.{one, countOf}
 use Rattle.model.proofs.ListLaws.{count-append, count-place, getD-place, count-cut, count-cutAt, map-cutAt, few-below}
 use Rattle.model.specs.Model.{Entity, Entities, sameEntity, noEntity, create, createWith, destroy, lastVersion}
-use Rattle.model.specs.Sound.{indexOf, num, cnt}
-use Rattle.model.specs.Sound.{EntitiesSound}
+use Rattle.model.specs.Sound.{indexOf, num, cnt, EntitiesSound}
 use Rattle.model.proofs.SparseSets.{entity-eq}
 use Rattle.model.proofs.BoolLaws.{by-eq, zero-of, cond-case, bool-cases}
 use Rattle.model.proofs.Groups.{plc}

@@ -11,13 +11,11 @@ use lib.Dec.{ltb, leb, lit<}
 use lib.ListN.{length, take, drop, getD, length-take, length-drop}
 use Rattle.model.specs.Numbers.{LAST-KIND, LIST-CAPACITY, MAX-GROUP-ARITY, MAX-GROUP-COUNT}
 use Rattle.model.specs.Model.{Created, isLive, addsNothing, joins, withGroup, groupsOf, create}
-use Rattle.model.specs.Store.{Bytes}
-use Rattle.model.specs.Store.{Store, empty, number, stagedKinds, isKind, withControl, withEntities, counted, emptyStaged, emptyBoth}
+use Rattle.model.specs.Store.{Bytes, Store, empty, number, stagedKinds, isKind, withControl, withEntities, counted, emptyStaged, emptyBoth}
 use Rattle.model.specs.Commands.{Command, REG, HOLD, NEW, PUT, TAKE, DROP, KILL, WIPE, GROUP, APPLY, BAR, RANGE, EMPTY, TALLY, Done, accepted, widths, width, commands, commandAt}
 use Rattle.model.specs.Refusals.{firstLine, linesOf, beforeLines, NoneHolds}
 use Rattle.model.specs.Run.{Outcome, refuses, accepts, does, Step, stops, goes, stepOf, stepIf, step, Ran, halt, more, runFor, run}
-use Rattle.model.specs.History.{trailFor, trail}
-use Rattle.model.specs.History.{EachStore}
+use Rattle.model.specs.History.{trailFor, trail, EachStore}
 use Rattle.model.specs.Sound.{Limits, StoreSound}
 use Rattle.model.proofs.BoolLaws.{cond-case, or-false-right, not-and, not-not}
 use Rattle.model.proofs.KindLists.{all-most}

@@ -6,8 +6,7 @@ use mathlib.Core.List.{List, [], _∷_, _++_}
 use Prim.Native.Nat.{ℕ}
 use lib.Dec.{eqb, leb, ltb}
 use lib.ListN.{length, take}
-use Rattle.model.specs.Numbers.{HANDFUL, KIND, LAST-KIND, LIST-CAPACITY, MANY, MAX-ENTITIES, MAX-GROUP-ARITY, MAX-GROUP-COUNT, MAX-KINDS, SIZE, WIDE}
-use Rattle.model.specs.Numbers.{SIZE, SHORT, UNSOUND, UNKNOWN, CUT, NOROOM, KIND, KINDS, AGAIN, HANDFUL, DEAD, FULL, WIDE, CLASH, MANY, BEYOND}
+use Rattle.model.specs.Numbers.{HANDFUL, KIND, LAST-KIND, LIST-CAPACITY, MANY, MAX-ENTITIES, MAX-GROUP-ARITY, MAX-GROUP-COUNT, MAX-KINDS, SIZE, WIDE, SHORT, UNSOUND, UNKNOWN, CUT, NOROOM, KINDS, AGAIN, DEAD, FULL, CLASH, BEYOND}
 use Rattle.model.specs.Model.{Entity, mem, setOf, groupsOf, addsNothing, joins, isFull, isLive}
 use Rattle.model.specs.Store.{Store, stagedKinds, isKind, wordsNeeded}
 use Rattle.model.specs.Commands.{Command, REG, HOLD, NEW, PUT, TAKE, DROP, KILL, WIPE, GROUP, APPLY, BAR, RANGE, EMPTY, TALLY, width, isCommand, commandAt, answerLength}

@@ -4,8 +4,7 @@ use mathlib.Core.List.{List, [], _∷_, _++_}
 use Prim.Native.Nat.{ℕ, zero, suc, _+_, _-_}
 use lib.ListN.{length, drop}
 use Rattle.model.specs.Store.{Store, counted, withControl}
-use Rattle.model.specs.Commands.{Command}
-use Rattle.model.specs.Commands.{Done, accepted, width}
+use Rattle.model.specs.Commands.{Command, Done, accepted, width}
 use Rattle.model.specs.Refusals.{firstLine, linesOf, BeforeCommand, commandOf, beforeLines}
 
 -- what a command does: it is refused by a number, or accepted with the store after it and the answer after the 0 byte
