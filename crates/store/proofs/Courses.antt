@@ -5,7 +5,7 @@ use mathlib.Core.List.{List, [], _∷_}
 use Prim.Native.Nat.{ℕ, zero, suc, _-_, _≤_}
 use native.Mathlib.Omega.{arith}
 use lib.ListN.{length, drop, length-drop}
-use Rattle.model.specs.Store.{Store, Bytes}
+use Rattle.model.specs.Store.{Store, Bytes, counted, withControl}
 use Rattle.model.specs.Commands.{width, accepted}
 use Rattle.model.specs.Refusals.{firstLine, NoneHolds, First, beforeLines, linesOf}
 use Rattle.model.specs.Run.{Outcome, refuses, accepts, does, Step, stops, goes, stepOf, stepIf, step, Ran, halt, more, runFor, run}
@@ -20,7 +20,7 @@ use Rattle.store.specs.Course.{commandOn, Course, CourseOf, ended, stopp
 -- ---- a step that goes on: which line refused its command, or that none did
 
 pub data Goes (b : ℕ) (t : List ℕ) (s : Store) (k : ℕ) (a : List ℕ) (s′ : Store) : Type 0 where
-  by-line : (n : ℕ) → First (linesOf (commandOn b t)) s n → does (commandOn b t) s ≡ refuses n → k ≡ suc (width b) → a ≡ n ∷ [] → Goes b t s k a s′
+  by-line : (n : ℕ) → First (linesOf (commandOn b t)) s n → does (commandOn b t) s ≡ refuses n → k ≡ suc (width b) → a ≡ n ∷ [] → s′ ≡ withControl s (counted (s .control)) → Goes b t s k a s′
   by-effect : NoneHolds (linesOf (commandOn b t)) s → k ≡ suc (width b) → a ≡ 0 ∷ accepted (commandOn b t) s .answer → s′ ≡ accepted (commandOn b t) s .store → Goes b t s k a s′
 
 pub record WentOn (b : ℕ) (t : List ℕ) (room : ℕ) (s : Store) (k : ℕ) (a : List ℕ) (s′ : Store) : Type 0 where
@@ -35,7 +35,8 @@ step-goes b t room s k a s′ e = lines (firstLine beforeLines (record { byte = 
     outcome (refuses n) p q =
         let ek : k ≡ suc (width b) = cc in
         let ea : a ≡ n ∷ [] = cc in
-        by-line n (refusal-exact (commandOn b t) s n .0 p) p ek ea
+        let es : s′ ≡ withControl s (counted (s .control)) = cc in
+        by-line n (refusal-exact (commandOn b t) s n .0 p) p ek ea es
     outcome (accepts s₁ x) p q =
         let h = accepted-exact (commandOn b t) s s₁ x .0 p in
         let ek : k ≡ suc (width b) = cc in
@@ -64,12 +65,12 @@ module _ (fuel : ℕ) (w′ : List ℕ) (rest : Rest fuel w′) (b : ℕ) (t : L
       let w₁ = L .words in
       let sound : Sound w₁ = record { arranged = L .becomes .arranged; means = rw (L .becomes .means) T } in
       elim (G .by) as (λ g. CourseOf w (b ∷ t) room w′ (more k a (runFor fuel (drop k (b ∷ t)) (room - length a) s))) [
-        | by-line n f d ek ea ↦
+        | by-line n f d ek ea es ↦
             let tail : Traced fuel (drop (width b) t) (room - 1) w₁ w′ = rw (ek, ea) at (L .rest) in
             let more-of : CourseOf w₁ (drop (width b) t) (room - 1) w′ (runFor fuel (drop (width b) t) (room - 1) (meaning w₁)) = rest (drop (width b) t) (room - 1) w₁ shorter (bytes-drop (width b) t bytes) sound tail in
             let is : w₁ ≡ withRefusal w = L .refused n d in
             rw (ek, ea)
-            (refused w (G .passed) f (rw (← is) sound)
+            (refused w (G .passed) f (rw (← is, ← es) (L .becomes)) (rw (← is) sound)
             (subst (λ (v : List ℕ). CourseOf v (drop (width b) t) (room - 1) w′ (runFor fuel (drop (width b) t) (room - 1) s)) is
             (subst (λ (x : Store). CourseOf w₁ (drop (width b) t) (room - 1) w′ (runFor fuel (drop (width b) t) (room - 1) x)) (L .becomes .means) more-of)))
         | by-effect h ek ea es ↦

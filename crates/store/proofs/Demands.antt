@@ -6,12 +6,13 @@ use mathlib.Core.Option.{Option, some, none}
 use mathlib.Core.List.{List, [], _++_}
 use Prim.Native.Nat.{ℕ, _+_, _*_, _≤_}
 use native.Mathlib.Omega.{arith}
-use lib.ListN.{length, take, drop, length-map}
+use lib.ListN.{length, take, drop, getD, length-map}
 use denote.Ref.{RefT}
-use Rattle.model.specs.Numbers.{BEYOND, KIND, LAST-KIND, NOROOM}
+use Rattle.model.specs.Numbers.{BEYOND, KIND, LAST-KIND, MANY, NOROOM, UNKNOWN}
 use Rattle.model.specs.Model.{found, rangeFor, setOf, entityOf}
 use Rattle.model.specs.Store.{Store, empty}
-use Rattle.model.specs.Refusals.{numberOf, startLines, rollLines, columnLines}
+use Rattle.model.specs.Commands.{Command}
+use Rattle.model.specs.Refusals.{numberOf, firstLine, BeforeCommand, beforeLines, linesOf, startLines, rollLines, columnLines}
 use Rattle.model.specs.Run.{halt, run}
 use Rattle.model.specs.Snapshot.{snapshot, Same}
 use Rattle.model.specs.History.{retired}
@@ -21,6 +22,7 @@ use Rattle.model.specs.Shown.{Showing}
 use Rattle.model.proofs.Demand.{all-between}
 use Rattle.model.proofs.Entries.{start-makes, column-refused, column-accepted}
 use Rattle.model.proofs.Lengths.{run-fits}
+use Rattle.model.proofs.Lines.{first-exact, none-exact, lines-numbers}
 use Rattle.model.proofs.Ranges.{range-shows}
 use Rattle.model.proofs.Retired.{run-balanced}
 use Rattle.model.specs.Theorems.{Balanced}
@@ -32,10 +34,10 @@ use Rattle.run.specs.declared.Ran.{Ran}
 use Rattle.snapshot.proofs.Rolled.{roll-fits}
 use Rattle.store.specs.declared.Rolled.{Rolled}
 use Rattle.store.specs.Entries.{startNumber, StartLeaves, Starts, columnRefused, ColumnNumbered, columnWords, partPlace, ColumnPart, ranOf, RunLeaves, Runs, Rolls}
-use Rattle.store.specs.Course.{Course, ended, stopped, refused, done, AfterEach, Reached, started, ran, retiredIn}
+use Rattle.store.specs.Course.{before, commandOn, Course, ended, stopped, refused, done, AfterEach, BeforeEach, EachAnswer, EachRefusal, Reached, started, ran, retiredIn}
 use Rattle.store.proofs.Starting.{start-number}
 use Rattle.store.proofs.Tables.{tabled, judged, start-tabled}
-use Rattle.store.specs.Theorems.{Tabled, Judged, GroupsHold}
+use Rattle.store.specs.Theorems.{Tabled, Judged, RefusalAlone, GroupsHold}
 use Rattle.store.proofs.Emitting.{over-refused, over-accepted, over-refusals, over-written}
 use Rattle.store.proofs.Columns.{column-within}
 use Rattle.store.proofs.Courses.{course-of}
@@ -79,6 +81,50 @@ run-course w w′ t o o′ r R S = go (R .sound) (R .decides) (R .leaves) refl
         let bytes : take (r .written) o′ ≡ x .bytes = answer-bytes o o′ r (ranOf (R .sound) t (length o) (meaning w)) (R .answered) ∙ (λ i. is i .bytes) in
         rw (R .answered .stop ∙ (λ i. is i .stop), R .answered .commands ∙ (λ i. is i .commands), R .answered .read ∙ (λ i. is i .read), bytes)
         (course-of t (length o) w w′ (R .tape) S (l .1))
+
+-- As "exactly if", of each command of a run: the run stops before it with n exactly if line n of those before a command is the first that holds, and
+-- goes on exactly if none does.
+stop-tabled : (x : BeforeCommand) (n : ℕ) → n ≡ numberOf (firstLine beforeLines x) → Tabled beforeLines x n
+stop-tabled x n e = tabled beforeLines x UNKNOWN NOROOM (omega arith) (omega arith) n e
+
+stops-in : {w t w′ bytes : List ℕ} {room stop commands read : ℕ} (c : Course w t room w′ stop commands read bytes) → BeforeEach (λ v b u m n. Tabled beforeLines (before v b u m) n) c
+stops-in ended = tt
+stops-in (stopped {w} {t} {b} {room} {n} f) = stop-tabled (before w b t room) n (sym (ap numberOf (first-exact beforeLines (before w b t room) n .1 f)))
+stops-in (refused w {t = t} {b = b} {room = room} h f m s c) = (stop-tabled (before w b t room) 0 (sym (ap numberOf (none-exact beforeLines (before w b t room) .1 h))), stops-in c)
+stops-in (done w w₁ {t = t} {b = b} {room = room} h n m s c) = (stop-tabled (before w b t room) 0 (sym (ap numberOf (none-exact beforeLines (before w b t room) .1 h))), stops-in c)
+
+pub stops-exact : (w w′ t o o′ : List ℕ) (r : Ran) (R : Runs w w′ t o o′ r) (S : Sound w) → BeforeEach (λ v b u m n. Tabled beforeLines (before v b u m) n) (run-course w w′ t o o′ r R S)
+stops-exact w w′ t o o′ r R S = stops-in (run-course w w′ t o o′ r R S)
+
+-- And the command is answered n exactly if line n of its own is the first that holds, and accepted, with 0, exactly if none does.
+answer-tabled : (k : Command) (s : Store) (n : ℕ) → n ≡ numberOf (firstLine (linesOf k) s) → Tabled (linesOf k) s n
+answer-tabled k s n e = tabled (linesOf k) s KIND MANY (omega arith) (lines-numbers k) n e
+
+answers-in : {w t w′ bytes : List ℕ} {room stop commands read : ℕ} (c : Course w t room w′ stop commands read bytes) → EachAnswer (λ v k l. Tabled (linesOf k) (meaning v) (getD l 0 0)) c
+answers-in ended = tt
+answers-in (stopped f) = tt
+answers-in (refused w {t = t} {b = b} {n = n} h f m s c) =
+    (answer-tabled (commandOn b t) (meaning w) n (sym (ap numberOf (first-exact (linesOf (commandOn b t)) (meaning w) n .1 f))), answers-in c)
+answers-in (done w w₁ {t = t} {b = b} h n m s c) =
+    (answer-tabled (commandOn b t) (meaning w) 0 (sym (ap numberOf (none-exact (linesOf (commandOn b t)) (meaning w) .1 n))), answers-in c)
+
+pub answers-exact : (w w′ t o o′ : List ℕ) (r : Ran) (R : Runs w w′ t o o′ r) (S : Sound w) → EachAnswer (λ v k l. Tabled (linesOf k) (meaning v) (getD l 0 0)) (run-course w w′ t o o′ r R S)
+answers-exact w w′ t o o′ r R S = answers-in (run-course w w′ t o o′ r R S)
+
+-- A refused command changes, of what the words mean, the count of refusals alone: settings, kinds, entities, components, groups, draft and both lists
+-- are as they were.
+refusals-in : {w t w′ bytes : List ℕ} {room stop commands read : ℕ} (c : Course w t room w′ stop commands read bytes) → EachRefusal (λ v u. RefusalAlone (meaning v) (meaning u)) c
+refusals-in ended = tt
+refusals-in (stopped f) = tt
+refusals-in (refused w h f m s c) = (
+  subst (RefusalAlone (meaning w)) (sym (m .means))
+      (record { same = record { settings = refl; kinds = refl; entities = refl; storage = refl; staged = refl; excluded = refl; draft = refl }; counts = refl }),
+  refusals-in c,
+)
+refusals-in (done w w₁ h n m s c) = refusals-in c
+
+pub refused-command-keeps : (w w′ t o o′ : List ℕ) (r : Ran) (R : Runs w w′ t o o′ r) (S : Sound w) → EachRefusal (λ v u. RefusalAlone (meaning v) (meaning u)) (run-course w w′ t o o′ r R S)
+refused-command-keeps w w′ t o o′ r R S = refusals-in (run-course w w′ t o o′ r R S)
 
 -- "1 to 3, and every refusal outside a run, change no lent memory, with zeros beside the number."
 
@@ -160,7 +206,7 @@ sound-groups w S =
 after-each : (P : List ℕ → Type 0) → ((w : List ℕ) → Sound w → P w) → {w t w′ bytes : List ℕ} {room stop commands read : ℕ} (c : Course w t room w′ stop commands read bytes) → AfterEach P c
 after-each P f ended = tt
 after-each P f (stopped g) = tt
-after-each P f (refused w h g s c) = (f (withRefusal w) s, after-each P f c)
+after-each P f (refused w h g b s c) = (f (withRefusal w) s, after-each P f c)
 after-each P f (done w w₁ h n b s c) = (f w₁ s, after-each P f c)
 
 pub groups-after-each-command : (w w′ t o o′ : List ℕ) (r : Ran) (R : Runs w w′ t o o′ r) (S : Sound w) → AfterEach (λ v. GroupsHold (meaning v)) (run-course w w′ t o o′ r R S)
@@ -190,6 +236,12 @@ rolls-equal w v o p o′ p′ r q R Q zr zq =
 pub reached-rolls : {w : List ℕ} (o o′ : List ℕ) (r : Rolled) → Reached w → length (snapshot (meaning w)) ≤ length o → Rolls w o o′ r → r .number ≡ 0
 reached-rolls {w} o o′ r c h R =
     over-accepted w o o′ (snapshot (meaning w)) (r .number) (r .written) (roll (length o) (meaning w)) (reached-sound c) (roll-fits (length o) (meaning w) h) R .0
+
+-- so of two stores, each reached from a start by any runs, with room for both: equal bytes exactly if the same entities are live with the same
+-- components and values
+pub reached-rolls-equal : {w v : List ℕ} (o p o′ p′ : List ℕ) (r q : Rolled) → Reached w → Reached v → length (snapshot (meaning w)) ≤ length o → length (snapshot (meaning v)) ≤ length p → Rolls w o o′ r → Rolls v p p′ q
+    → (take (r .written) o′ ≡ take (q .written) p′) ↔ Same (meaning w) (meaning v)
+reached-rolls-equal {w} {v} o p o′ p′ r q c d h k R Q = rolls-equal w v o p o′ p′ r q R Q (reached-rolls o o′ r c h R) (reached-rolls p p′ q d k Q)
 
 -- ---- RANGE and column: the entities that hand h and bar b describe stand in the column of each kind of the hand, from start to end of the range
 

@@ -3,6 +3,7 @@
 use mathlib.Core.List.{List, [], _∷_, _++_}
 use Prim.Native.Nat.{ℕ, suc, _+_, _-_}
 use lib.ListN.{length, take, drop}
+use Rattle.model.specs.Store.{counted, withControl}
 use Rattle.model.specs.Commands.{Command, width, commandAt, accepted}
 use Rattle.model.specs.Refusals.{NoneHolds, First, BeforeCommand, beforeLines, linesOf}
 use Rattle.model.specs.Run as modelRun
@@ -29,7 +30,8 @@ pub data Course : List ℕ → List ℕ → ℕ → List ℕ → ℕ → ℕ →
   -- "7 to 15 in a run write their number as one byte, add to the tally, change no other word, and the run goes on": a line of the command holds, and
   -- no line above it does
   refused : (w : List ℕ) {w′ t bytes : List ℕ} {b room n stop commands read : ℕ} → NoneHolds beforeLines (before w b t room) → First (linesOf (commandOn b t)) (meaning w) n
-      → Sound (withRefusal w) → Course (withRefusal w) (drop (width b) t) (room - 1) w′ stop commands read bytes → Course w (b ∷ t) room w′ stop (suc commands) (suc (width b) + read) (n ∷ bytes)
+      → Becomes w (withRefusal w) (withControl (meaning w) (counted (meaning w .control))) → Sound (withRefusal w)
+      → Course (withRefusal w) (drop (width b) t) (room - 1) w′ stop commands read bytes → Course w (b ∷ t) room w′ stop (suc commands) (suc (width b) + read) (n ∷ bytes)
   -- no line holds: "effect; answer after a 0 byte"
   done : (w w₁ : List ℕ) {w′ t bytes : List ℕ} {b room stop commands read : ℕ} → NoneHolds beforeLines (before w b t room) → NoneHolds (linesOf (commandOn b t)) (meaning w)
       → Becomes w w₁ (accepted (commandOn b t) (meaning w) .store) → Sound w₁
@@ -44,8 +46,30 @@ CourseOf w t room w′ x = Course w t room w′ (x .stop) (x .commands) (x .read
 abbrev pub AfterEach : (P : List ℕ → Type 0) {w t w′ bytes : List ℕ} {room stop commands read : ℕ} → Course w t room w′ stop commands read bytes → Type 0
 AfterEach P ended = Unit {0}
 AfterEach P (stopped f) = Unit {0}
-AfterEach P (refused w h f s c) = P (withRefusal w) × AfterEach P c
+AfterEach P (refused w h f b s c) = P (withRefusal w) × AfterEach P c
 AfterEach P (done w w₁ h n b s c) = P w₁ × AfterEach P c
+
+-- P of each command that the run comes to, done or stopped before: the words there, its byte, the tape after it, the free answer bytes, and the number
+-- by which the run stops before it, 0 where it goes on
+abbrev pub BeforeEach : (P : List ℕ → ℕ → List ℕ → ℕ → ℕ → Type 0) {w t w′ bytes : List ℕ} {room stop commands read : ℕ} → Course w t room w′ stop commands read bytes → Type 0
+BeforeEach P ended = Unit {0}
+BeforeEach P (stopped {w} {t} {b} {room} {n} f) = P w b t room n
+BeforeEach P (refused w {w′} {t} {bytes} {b} {room} h f m s c) = P w b t room 0 × BeforeEach P c
+BeforeEach P (done w w₁ {w′} {t} {bytes} {b} {room} h n m s c) = P w b t room 0 × BeforeEach P c
+
+-- P of each command done: the words before it, the command, and the run's answer bytes from its own on
+abbrev pub EachAnswer : (P : List ℕ → Command → List ℕ → Type 0) {w t w′ bytes : List ℕ} {room stop commands read : ℕ} → Course w t room w′ stop commands read bytes → Type 0
+EachAnswer P ended = Unit {0}
+EachAnswer P (stopped f) = Unit {0}
+EachAnswer P (refused w {w′} {t} {bytes} {b} {room} {n} h f m s c) = P w (commandOn b t) (n ∷ bytes) × EachAnswer P c
+EachAnswer P (done w w₁ {w′} {t} {bytes} {b} h n m s c) = P w (commandOn b t) (0 ∷ accepted (commandOn b t) (meaning w) .answer ++ bytes) × EachAnswer P c
+
+-- P of each refused command: the words before it, and after it
+abbrev pub EachRefusal : (P : List ℕ → List ℕ → Type 0) {w t w′ bytes : List ℕ} {room stop commands read : ℕ} → Course w t room w′ stop commands read bytes → Type 0
+EachRefusal P ended = Unit {0}
+EachRefusal P (stopped f) = Unit {0}
+EachRefusal P (refused w h f m s c) = P w (withRefusal w) × EachRefusal P c
+EachRefusal P (done w w₁ h n m s c) = EachRefusal P c
 
 -- the words that an accepted start and then any runs leave
 pub data Reached : List ℕ → Type 0 where

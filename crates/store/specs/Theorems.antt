@@ -3,13 +3,13 @@ use mathlib.Core.Path.{_≡_}
 use mathlib.Core.Logic.{_↔_}
 use mathlib.Core.List.{List}
 use Prim.Native.Nat.{ℕ, suc, _≤_}
-use Rattle.model.specs.Refusals.{Line, NoneHolds, First}
+use Rattle.model.specs.Refusals.{Line, NoneHolds, First, Unchanged}
 use Rattle.memory.specs.Arranged.{Sound}
 use lib.ListN.{take}
 use Rattle.memory.specs.Meaning.{meaning}
 use Rattle.run.specs.declared.Ran.{Ran}
 use Rattle.store.specs.declared.Rolled.{Rolled}
-use Rattle.model.specs.Store.{Store}
+use Rattle.model.specs.Store.{Store, counted}
 use Rattle.model.specs.Sound.{GroupsRight, GroupsBetween}
 use Rattle.model.specs.Numbers.{UNSOUND}
 
@@ -22,6 +22,12 @@ pub record Tabled {A : Type 0} (ls : List (Line A)) (x : A) (r : ℕ) : Type 0 w
 pub record Judged {A : Type 0} (w : List ℕ) (ls : List (Line A)) (x : A) (r : ℕ) : Type 0 where
   pub unsound : (r ≡ UNSOUND) ↔ (Sound w → ⊥)
   pub sound : Sound w → Tabled ls x r
+
+-- what a refused command inside a run leaves: all that the words mean is as it was, but for the count of refusals, which has one more
+pub record RefusalAlone (s t : Store) : Type 0 where
+  pub same : Unchanged s t
+  -- "a tally of refused commands that stays at 4,294,967,295"
+  pub counts : t .control .counts ≡ counted (s .control) .counts
 
 -- words that no entry tells apart
 pub record Alike (w v : List ℕ) : Type 0 where
