@@ -5,9 +5,10 @@ use crate::compare::{compare, Look, Make};
 use crate::listing::{assemble, listing};
 use crate::tape::{Case, Chunk};
 use sparsey::harness::{words_needed, Oracle, Ran, Sets};
+use std::collections::BTreeSet;
 use std::fmt::Write;
 use std::fs;
-use std::path::Path;
+use std::path::{Path, PathBuf};
 
 /// The store of the program `tape`.
 const N: usize = 64;
@@ -16,17 +17,25 @@ const K: usize = 8;
 /// What stands beside a text, by its ending.
 type Files = [(&'static str, Vec<u8>); 4];
 
+/// The texts of the folder. A file that stands beside a text names its text too, so that a text that is gone is missed.
+fn texts(folder: &Path) -> std::io::Result<BTreeSet<PathBuf>> {
+    let mut texts = BTreeSet::new();
+    for entry in fs::read_dir(folder)? {
+        let path = entry?.path();
+        let ending = path.extension().and_then(|ending| ending.to_str());
+        if matches!(ending, Some("txt" | "tape" | "answers" | "listing" | "roll")) {
+            texts.insert(path.with_extension("txt"));
+        }
+    }
+    Ok(texts)
+}
+
 /// Makes the files of every text of the folder, after both sides agreed on it; writes them, or holds them to those
 /// that are there. The names of the texts.
 pub fn examples(folder: &Path, write: bool, make: Make) -> Result<Vec<String>, String> {
     let mut names = vec![];
-    let entries = fs::read_dir(folder).map_err(|e| format!("{}: {e}", folder.display()))?;
-    let mut paths: Vec<_> = entries.map(|entry| entry.unwrap().path()).collect();
-    paths.sort();
-    for path in paths {
-        if path.extension().is_none_or(|ending| ending != "txt") {
-            continue;
-        }
+    let texts = texts(folder).map_err(|e| format!("{}: {e}", folder.display()))?;
+    for path in texts {
         let name = path.display().to_string();
         let text = fs::read_to_string(&path).map_err(|e| format!("{name}: {e}"))?;
         let chunks = assemble(&text).map_err(|what| format!("{name}, {what}"))?;
@@ -34,15 +43,19 @@ pub fn examples(folder: &Path, write: bool, make: Make) -> Result<Vec<String>, S
             .map_err(|what| format!("{name}: {what}"))?;
         for (ending, bytes) in files(&chunks) {
             let file = path.with_extension(ending);
+            let shown = file.display();
             if write {
-                fs::write(&file, bytes).map_err(|e| format!("{}: {e}", file.display()))?;
-            } else if fs::read(&file).ok() != Some(bytes) {
-                return Err(format!("{} is not what the Rust answers", file.display()));
+                fs::write(&file, bytes).map_err(|e| format!("{shown}: {e}"))?;
+            } else if fs::read(&file).map_err(|e| format!("{shown}: {e}"))? != bytes {
+                return Err(format!("{shown} is not what the Rust answers"));
             }
         }
         names.push(name);
     }
-    Ok(names)
+    match names.is_empty() {
+        true => Err(format!("{}: no example", folder.display())),
+        false => Ok(names),
+    }
 }
 
 fn files(chunks: &[Chunk]) -> Files {
