@@ -4,29 +4,29 @@ use mathlib.Core.Path.{_≡_, refl}
 use mathlib.Core.Bool.{false}
 use mathlib.Core.List.{[], _∷_}
 use Rattle.model.specs.Model.{entity, setOf, held}
-use Rattle.model.specs.Examples.{countsOf, indexes, filled, killed}
+use Rattle.model.specs.Examples.{countsOf, indexes, built, afterKill}
 
 -- removing before leaving the groups: the groups would still count entity 1
-groups-left-first : countsOf (killed .layout) ≡ 2 ∷ 0 ∷ []
-unfolding killed countsOf
+groups-left-first : countsOf (afterKill .storage .layout) ≡ 2 ∷ 0 ∷ []
+unfolding afterKill countsOf
 groups-left-first = refl
 
 -- leaving the smallest group first: the larger group's step would swap entity 1 back to the front
-largest-left-first : indexes 1 killed ≡ 2 ∷ 0 ∷ 3 ∷ []
-unfolding killed indexes
+largest-left-first : indexes 1 (afterKill .storage) ≡ 2 ∷ 0 ∷ 3 ∷ []
+unfolding afterKill indexes
 largest-left-first = refl
 
 -- swapping in the ring only: entity 1 would come to the front of columns 3 and 4 alone
-swapped-in-all : indexes 1 filled ≡ 1 ∷ 0 ∷ 2 ∷ 3 ∷ []
-unfolding filled indexes
+swapped-in-all : indexes 1 (built .storage) ≡ 1 ∷ 0 ∷ 2 ∷ 3 ∷ []
+unfolding built indexes
 swapped-in-all = refl
 
 -- going on upward after a missing part: entities 0, 2 and 3 would be counted in the larger group
-stopped-at-missing : countsOf (filled .layout) ≡ 3 ∷ 1 ∷ []
-unfolding filled countsOf
+stopped-at-missing : countsOf (built .storage .layout) ≡ 3 ∷ 1 ∷ []
+unfolding built countsOf
 stopped-at-missing = refl
 
 -- ignoring versions: entity 1 at version 2 would be found
-versions-looked-at : held (entity 1 2) (setOf (filled .sets) 1) ≡ false
-unfolding filled
+versions-looked-at : held (entity 1 2) (setOf (built .storage .sets) 1) ≡ false
+unfolding built
 versions-looked-at = refl

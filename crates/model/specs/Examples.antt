@@ -1,111 +1,140 @@
--- "Marked examples of the definitions": 01's fourteen, as a list under one theorem, and its byte-exact tape; all computed. Assumes nothing.
+-- "Marked examples of the definitions": 01's fourteen, as a list under one theorem, each by what commands answer in a store that commands have built; and its
+-- byte-exact tape. All computed. Assumes nothing.
 use mathlib.Core.Path.{_≡_, refl}
 use mathlib.Core.List.{List, [], _∷_, _++_, map}
 use Prim.Native.Nat.{ℕ}
-use lib.ListN.{length, replicate}
-use Rattle.model.specs.Numbers.{MAX-KINDS}
-use Rattle.model.specs.Model.{Entity, Component, Storage, Group, Family, Entities, Created, Range, none, found, groupAll, clearAll, groupComponents, ungroupComponents, groupFamily, ungroupFamily, groupTouched, ungroup, insertComponents, remove, rangeFor, setLayout, regroup, create, destroy, entity, keys, setOf}
-use Rattle.model.specs.Adding.{Added, nothing, added, refused, addGroup}
-use Rattle.model.specs.Store.{empty, bytesOf}
-use Rattle.model.specs.Commands.{accepted}
+use lib.ListN.{length}
+use Rattle.model.specs.Numbers.{REG-BYTE, HOLD-BYTE, NEW-BYTE, GROUP-BYTE, APPLY-BYTE, BAR-BYTE, RANGE-BYTE}
+use Rattle.model.specs.Model.{Entity, Storage, Group, Family, groupAll, groupComponents, ungroupComponents, groupFamily, ungroupFamily, groupTouched, ungroup, insertComponents, remove, rangeFor, setLayout, regroup, create, destroy, entity, keys, setOf}
+use Rattle.model.specs.Store.{Store, empty, bytesOf}
+use Rattle.model.specs.Commands.{NEW, KILL, GROUP, RANGE, accepted}
 use Rattle.model.specs.Refusals.{linesOf}
-use Rattle.model.specs.Run.{Ran, run, runFor, step, does}
+use Rattle.model.specs.Run.{Ran, run, runFor, step, does, storeAfter, answerOf}
+
+-- ---- tapes: "One command byte, then operands"
+
+abbrev pub reg : ℕ → List ℕ
+reg k = REG-BYTE ∷ k ∷ []
+
+abbrev pub hold : ℕ → ℕ → List ℕ
+hold k v = HOLD-BYTE ∷ k ∷ bytesOf 8 v
+
+-- HOLD of each kind, value 0
+abbrev pub holdAll : List ℕ → List ℕ
+holdAll [] = []
+holdAll (k ∷ ks) = hold k 0 ++ holdAll ks
+
+-- BAR of each kind
+abbrev pub barAll : List ℕ → List ℕ
+barAll [] = []
+barAll (k ∷ ks) = BAR-BYTE ∷ k ∷ barAll ks
+
+-- HOLD of each kind, then the command of byte b, which has no operands
+abbrev pub holding : List ℕ → ℕ → List ℕ
+holding ks b = holdAll ks ++ (b ∷ [])
+
+-- "with 16,384 answer bytes"
+abbrev pub ANSWER-ROOM : ℕ
+ANSWER-ROOM = 16384
+
+-- the store after the commands of a tape
+abbrev pub afterTape : List ℕ → Store → Store
+afterTape t s = (run t ANSWER-ROOM s) .store
+
+-- "writes the answers, then stop 1, commands 4, read 4, written 4"
+abbrev pub written : Ran → List ℕ
+written r = r .bytes ++ (r .stop ∷ bytesOf 4 (r .commands) ++ bytesOf 4 (r .read) ++ bytesOf 4 (length (r .bytes)))
+
+-- ---- the store of the examples, by commands alone from an empty one of "N 64, K 8"
+
+-- "Layout {1,2}, then {1,2,3,4}."
+abbrev pub groupsTape : List ℕ
+groupsTape = holding (1 ∷ 2 ∷ []) GROUP-BYTE ++ holding (1 ∷ 2 ∷ 3 ∷ 4 ∷ []) GROUP-BYTE
+
+-- "Cards 0 {1,2,3}, 1 {1,2,3,4}, 2 {1,2}, 3 {1}."
+abbrev pub entitiesTape : List ℕ
+entitiesTape = holding (1 ∷ 2 ∷ 3 ∷ []) NEW-BYTE ++ holding (1 ∷ 2 ∷ 3 ∷ 4 ∷ []) NEW-BYTE ++ holding (1 ∷ 2 ∷ []) NEW-BYTE ++ holding (1 ∷ []) NEW-BYTE
+
+unfoldable pub buildTape : List ℕ
+buildTape = reg 1 ++ reg 2 ++ reg 3 ++ reg 4 ++ reg 5 ++ reg 6 ++ groupsTape ++ (APPLY-BYTE ∷ []) ++ entitiesTape
+
+unfoldable pub built : Store
+unfolding buildTape run runFor step does accepted linesOf empty insertComponents groupTouched groupFamily groupComponents setLayout regroup groupAll create
+built = afterTape buildTape (empty 64 8)
+
+-- its answers, each command accepted; then stop 0, commands 29, read 179, written 69
+pub buildAnswer : List ℕ
+buildAnswer =
+    -- REG of 1 to 6: "1 new"
+    (0 ∷ 1 ∷ 0 ∷ 1 ∷ 0 ∷ 1 ∷ 0 ∷ 1 ∷ 0 ∷ 1 ∷ 0 ∷ 1 ∷ [])
+    -- HOLD, .. GROUP: "1 added"
+    ++ (0 ∷ 0 ∷ 0 ∷ 1 ∷ [])
+    ++ (0 ∷ 0 ∷ 0 ∷ 0 ∷ 0 ∷ 1 ∷ [])
+    -- APPLY
+    ++ (0 ∷ [])
+    -- HOLD, .. NEW: "index 4, version 4"
+    ++ (0 ∷ 0 ∷ 0 ∷ 0 ∷ 0 ∷ 0 ∷ 0 ∷ 0 ∷ 1 ∷ 0 ∷ 0 ∷ 0 ∷ [])
+    ++ (0 ∷ 0 ∷ 0 ∷ 0 ∷ 0 ∷ 1 ∷ 0 ∷ 0 ∷ 0 ∷ 1 ∷ 0 ∷ 0 ∷ 0 ∷ [])
+    ++ (0 ∷ 0 ∷ 0 ∷ 2 ∷ 0 ∷ 0 ∷ 0 ∷ 1 ∷ 0 ∷ 0 ∷ 0 ∷ [])
+    ++ (0 ∷ 0 ∷ 3 ∷ 0 ∷ 0 ∷ 0 ∷ 1 ∷ 0 ∷ 0 ∷ 0 ∷ [])
+    ++ (0 ∷ 29 ∷ 0 ∷ 0 ∷ 0 ∷ 179 ∷ 0 ∷ 0 ∷ 0 ∷ 69 ∷ 0 ∷ 0 ∷ 0 ∷ [])
+
+pub build-example : written (run buildTape ANSWER-ROOM (empty 64 8)) ≡ buildAnswer
+unfolding buildAnswer built
+build-example = refl
+
+-- "In a draft with these groups": made anew, since APPLY has emptied the draft
+drafted : Store
+unfolding built
+drafted = afterTape groupsTape built
+
+-- "KILL card 1"
+unfoldable pub afterKill : Store
+unfolding built destroy remove ungroup ungroupFamily ungroupComponents
+afterKill = storeAfter built (does (KILL (entity 1 1)) built)
+
+-- ---- the fourteen
 
 -- what the model gives, and what 01 says
 pub record Example : Type 0 where
   pub got : List ℕ
   pub want : List ℕ
 
-abbrev draftOr : List Family → Added → List Family
-draftOr fs nothing = fs
-draftOr fs (added gs) = gs
-draftOr fs (refused n) = fs
+-- what RANGE answers in the store s, with a hand and a bar
+ranges : Store → List ℕ → List ℕ → List ℕ
+unfolding run runFor step does accepted linesOf rangeFor
+ranges s ks bs = answerOf (does RANGE (afterTape (holdAll ks ++ barAll bs) s))
 
-abbrev ofAdded : Added → List ℕ
-ofAdded nothing = 0 ∷ 0 ∷ []
-ofAdded (added gs) = 0 ∷ 1 ∷ []
-ofAdded (refused n) = n ∷ []
-
-abbrev ofRange : Range → List ℕ
-ofRange none = 0 ∷ 0 ∷ 0 ∷ []
-ofRange (found a b) = 1 ∷ a ∷ b ∷ []
-
-abbrev ofEntity : Entity → List ℕ
-ofEntity e = e .index ∷ e .version ∷ []
-
-unfoldable pub countsOf : List Family → List ℕ
-countsOf [] = []
-countsOf (f ∷ fs) = map (λ (r : Group). r .count) f ++ countsOf fs
-
-columns : ℕ
-columns = MAX-KINDS
-
-bare : Storage
-unfolding columns
-bare = record { sets = replicate columns []; layout = [] }
-
-none-issued : Entities
-none-issued = record { live = []; recycled = []; issued = 0 }
-
--- "Layout {1,2}, then {1,2,3,4}."
-draft : List Family
-unfolding addGroup
-draft = draftOr [] (addGroup (1 ∷ 2 ∷ 3 ∷ 4 ∷ []) (draftOr [] (addGroup (1 ∷ 2 ∷ []) [])))
-
-staged : List ℕ → List Component
-staged ks = map (λ (k : ℕ). record { kind = k; value = 0 }) ks
-
--- "Cards 0 {1,2,3}, 1 {1,2,3,4}, 2 {1,2}, 3 {1}."
-four : Entities
-unfolding create none-issued
-four = (create ((create ((create ((create none-issued) .entities)) .entities)) .entities)) .entities
-
-unfoldable pub filled : Storage
-unfolding bare draft staged setLayout regroup groupAll insertComponents groupTouched groupFamily groupComponents
-filled =
-    insertComponents (entity 3 1) (staged (1 ∷ [])) (insertComponents (entity 2 1) (staged (1 ∷ 2 ∷ [])) (insertComponents (entity 1 1) (staged (1 ∷ 2 ∷ 3 ∷ 4 ∷ [])) (insertComponents (entity 0 1) (staged (1 ∷ 2 ∷ 3 ∷ [])) (setLayout [] draft bare))))
-
--- the indexes of kind k's sparse set, in order
-unfoldable pub indexes : ℕ → Storage → List ℕ
-indexes k p = map (λ (e : Entity). e .index) (keys (setOf (p .sets) k))
-
--- "KILL card 1"
-unfoldable pub killed : Storage
-unfolding remove ungroup ungroupFamily ungroupComponents filled
-killed = remove (entity 1 1) (1 ∷ 2 ∷ 3 ∷ 4 ∷ 5 ∷ 6 ∷ []) filled
-
--- RANGE with a hand and a bar
-asks : List ℕ → List ℕ → List ℕ
-unfolding rangeFor filled
-asks h b = ofRange (rangeFor h b filled)
-
--- GROUP "In a draft with these groups"
+-- what GROUP answers, with a hand
 adds : List ℕ → List ℕ
-unfolding addGroup draft
-adds h = ofAdded (addGroup h draft)
+unfolding drafted
+adds ks = answerOf (does GROUP (afterTape (holdAll ks) drafted))
 
--- "the next NEW is index 1, version 2"
-next : Created
-unfolding create destroy four
-next = create (destroy (entity 1 1) four)
+-- what KILL answers, and after it RANGE with each of the groups, and NEW
+kills : List ℕ
+unfolding afterKill ranges
+kills = answerOf (does (KILL (entity 1 1)) built) ++ ranges afterKill (1 ∷ 2 ∷ []) [] ++ ranges afterKill (1 ∷ 2 ∷ 3 ∷ 4 ∷ []) [] ++ answerOf (does NEW afterKill)
 
 pub marked : List Example
-unfolding asks adds killed next countsOf
+unfolding ranges adds kills
 marked =
-    record { got = asks (1 ∷ 2 ∷ []) []; want = 1 ∷ 0 ∷ 3 ∷ [] }
-    ∷ record { got = asks (1 ∷ 2 ∷ 3 ∷ 4 ∷ []) []; want = 1 ∷ 0 ∷ 1 ∷ [] }
-    ∷ record { got = asks (1 ∷ []) []; want = 1 ∷ 0 ∷ 4 ∷ [] }
-    ∷ record { got = asks (1 ∷ 3 ∷ []) []; want = 0 ∷ 0 ∷ 0 ∷ [] }
-    ∷ record { got = asks (1 ∷ 2 ∷ []) (3 ∷ 4 ∷ []); want = 1 ∷ 1 ∷ 3 ∷ [] }
-    ∷ record { got = asks (1 ∷ 2 ∷ []) (3 ∷ []); want = 0 ∷ 0 ∷ 0 ∷ [] }
-    ∷ record { got = asks [] []; want = 0 ∷ 0 ∷ 0 ∷ [] }
+    -- "RANGE: {1,2} 0..3; {1,2,3,4} 0..1; {1} 0..4; {1,3} none; {1,2} bar {3,4} 1..3; {1,2} bar {3} none; empty none."
+    record { got = ranges built (1 ∷ 2 ∷ []) []; want = 0 ∷ 1 ∷ 0 ∷ 0 ∷ 0 ∷ 0 ∷ 3 ∷ 0 ∷ 0 ∷ 0 ∷ [] }
+    ∷ record { got = ranges built (1 ∷ 2 ∷ 3 ∷ 4 ∷ []) []; want = 0 ∷ 1 ∷ 0 ∷ 0 ∷ 0 ∷ 0 ∷ 1 ∷ 0 ∷ 0 ∷ 0 ∷ [] }
+    ∷ record { got = ranges built (1 ∷ []) []; want = 0 ∷ 1 ∷ 0 ∷ 0 ∷ 0 ∷ 0 ∷ 4 ∷ 0 ∷ 0 ∷ 0 ∷ [] }
+    ∷ record { got = ranges built (1 ∷ 3 ∷ []) []; want = 0 ∷ 0 ∷ 0 ∷ 0 ∷ 0 ∷ 0 ∷ 0 ∷ 0 ∷ 0 ∷ 0 ∷ [] }
+    ∷ record { got = ranges built (1 ∷ 2 ∷ []) (3 ∷ 4 ∷ []); want = 0 ∷ 1 ∷ 1 ∷ 0 ∷ 0 ∷ 0 ∷ 3 ∷ 0 ∷ 0 ∷ 0 ∷ [] }
+    ∷ record { got = ranges built (1 ∷ 2 ∷ []) (3 ∷ []); want = 0 ∷ 0 ∷ 0 ∷ 0 ∷ 0 ∷ 0 ∷ 0 ∷ 0 ∷ 0 ∷ 0 ∷ [] }
+    ∷ record { got = ranges built [] []; want = 0 ∷ 0 ∷ 0 ∷ 0 ∷ 0 ∷ 0 ∷ 0 ∷ 0 ∷ 0 ∷ 0 ∷ [] }
+    -- "{1,2} nothing; {1,2,3} 14; {1,2,5} 14; {3,4} 14; {5,6} added; {1,2,3,4,5} added."
     ∷ record { got = adds (1 ∷ 2 ∷ []); want = 0 ∷ 0 ∷ [] }
     ∷ record { got = adds (1 ∷ 2 ∷ 3 ∷ []); want = 14 ∷ [] }
     ∷ record { got = adds (1 ∷ 2 ∷ 5 ∷ []); want = 14 ∷ [] }
     ∷ record { got = adds (3 ∷ 4 ∷ []); want = 14 ∷ [] }
     ∷ record { got = adds (5 ∷ 6 ∷ []); want = 0 ∷ 1 ∷ [] }
     ∷ record { got = adds (1 ∷ 2 ∷ 3 ∷ 4 ∷ 5 ∷ []); want = 0 ∷ 1 ∷ [] }
-    ∷ record { got = countsOf (killed .layout) ++ ofEntity (next .entity); want = 2 ∷ 0 ∷ 1 ∷ 2 ∷ [] }
+    -- "counts 2 and 0; the next NEW is index 1, version 2."
+    ∷ record { got = kills; want = (0 ∷ []) ++ (0 ∷ 1 ∷ 0 ∷ 0 ∷ 0 ∷ 0 ∷ 2 ∷ 0 ∷ 0 ∷ 0 ∷ []) ++ (0 ∷ 1 ∷ 0 ∷ 0 ∷ 0 ∷ 0 ∷ 0 ∷ 0 ∷ 0 ∷ 0 ∷ []) ++ (0 ∷ 1 ∷ 0 ∷ 0 ∷ 0 ∷ 2 ∷ 0 ∷ 0 ∷ 0 ∷ []) }
     ∷ []
 
 abbrev pub gots : List Example → List (List ℕ)
@@ -118,25 +147,29 @@ pub examples : gots marked ≡ wants marked
 unfolding marked
 examples = refl
 
+-- ---- the byte-exact tape
+
 -- "REG 1, REG 2, HOLD 1 and 2 (value 0), GROUP, APPLY, HOLD 1=5, NEW, HOLD 1=6, HOLD 2=7, NEW, HOLD 1 and 2 (value 0), RANGE"
-abbrev pub hold0 : ℕ → List ℕ
-hold0 k = 2 ∷ k ∷ 0 ∷ 0 ∷ 0 ∷ 0 ∷ 0 ∷ 0 ∷ 0 ∷ 0 ∷ []
-
-abbrev pub holds : ℕ → ℕ → List ℕ
-holds k v = 2 ∷ k ∷ v ∷ 0 ∷ 0 ∷ 0 ∷ 0 ∷ 0 ∷ 0 ∷ 0 ∷ []
-
 pub sample : List ℕ
-sample = (1 ∷ 1 ∷ 1 ∷ 2 ∷ []) ++ hold0 1 ++ hold0 2 ++ (9 ∷ 10 ∷ []) ++ holds 1 5 ++ (3 ∷ []) ++ holds 1 6 ++ holds 2 7 ++ (3 ∷ []) ++ hold0 1 ++ hold0 2 ++ (12 ∷ [])
+sample = reg 1 ++ reg 2 ++ holding (1 ∷ 2 ∷ []) GROUP-BYTE ++ (APPLY-BYTE ∷ []) ++ hold 1 5 ++ (NEW-BYTE ∷ []) ++ hold 1 6 ++ hold 2 7 ++ (NEW-BYTE ∷ []) ++ holding (1 ∷ 2 ∷ []) RANGE-BYTE
 
--- "writes the answers, then stop 1, commands 4, read 4, written 4"
-abbrev pub written : Ran → List ℕ
-written r = r .bytes ++ (r .stop ∷ bytesOf 4 (r .commands) ++ bytesOf 4 (r .read) ++ bytesOf 4 (length (r .bytes)))
-
+-- the answers, "then" the numbers
 pub answer : List ℕ
 answer =
     0 ∷ 1 ∷ 0 ∷ 1 ∷ 0 ∷ 0 ∷ 0 ∷ 1 ∷ 0 ∷ 0 ∷ 0 ∷ 0 ∷ 0 ∷ 0 ∷ 0 ∷ 1 ∷ 0 ∷ 0 ∷ 0 ∷ 0 ∷ 0 ∷ 0 ∷ 1 ∷ 0 ∷ 0 ∷ 0 ∷ 1 ∷ 0 ∷ 0 ∷ 0 ∷ 0 ∷ 0 ∷ 0 ∷ 1 ∷ 0 ∷ 0 ∷ 0 ∷ 0 ∷ 1 ∷ 0 ∷ 0 ∷ 0
     ∷ 0 ∷ 14 ∷ 0 ∷ 0 ∷ 0 ∷ 79 ∷ 0 ∷ 0 ∷ 0 ∷ 42 ∷ 0 ∷ 0 ∷ 0 ∷ []
 
-pub stream-example : written (run sample 16384 (empty 64 8)) ≡ answer
-unfolding sample answer run runFor step does accepted linesOf empty insertComponents groupTouched groupFamily groupComponents ungroupComponents remove ungroup ungroupFamily setLayout regroup groupAll rangeFor addGroup create destroy clearAll
+pub stream-example : written (run sample ANSWER-ROOM (empty 64 8)) ≡ answer
+unfolding sample answer run runFor step does accepted linesOf empty insertComponents groupTouched groupFamily groupComponents setLayout regroup groupAll rangeFor create
 stream-example = refl
+
+-- ---- what proofs/Faults.antt looks at
+
+-- the groups' counts, family by family
+unfoldable pub countsOf : List Family → List ℕ
+countsOf [] = []
+countsOf (f ∷ fs) = map (λ (r : Group). r .count) f ++ countsOf fs
+
+-- the indexes of kind k's sparse set, in order
+unfoldable pub indexes : ℕ → Storage → List ℕ
+indexes k p = map (λ (e : Entity). e .index) (keys (setOf (p .sets) k))
