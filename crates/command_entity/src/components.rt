@@ -15,7 +15,7 @@ pub fn put(words: &mut [u32], index: u32, version: u32, out: &mut [u8], at: usiz
     ensures { λ r. ⌜ Acted (now (words .entry)) (now (words .exit)) (now (out .entry)) (now (out .exit)) at r (does (PUT (entity index version)) (meaning (now (words .entry)))) ⌝ }
 {
     let found = control::entities::get(words, index, version);
-    let Found::At(_) = found else {
+    let Found::At(place) = found else {
         return refuse(words, out, at, DEAD);
     };
     world::component_set::insert(words, index, version);
@@ -29,7 +29,7 @@ pub fn drop(words: &mut [u32], index: u32, version: u32, out: &mut [u8], at: usi
     ensures { λ r. ⌜ Acted (now (words .entry)) (now (words .exit)) (now (out .entry)) (now (out .exit)) at r (does (DROP (entity index version)) (meaning (now (words .entry)))) ⌝ }
 {
     let found = control::entities::get(words, index, version);
-    let Found::At(_) = found else {
+    let Found::At(place) = found else {
         return refuse(words, out, at, DEAD);
     };
     world::component_set::delete(words, index, version);

@@ -1,11 +1,11 @@
 // RANGE over the words: the group infos of the staged and of the excluded kinds, and the range that they get.
+use component::Found;
 use group_info::FoundInfo;
 use group_info::FoundQuery;
 use group_info::GroupInfo;
 use group_info::GroupRange;
 use group_info::QueryGroupInfo;
 use group_info::ViewGroupInfo;
-use kinds::Own;
 ghost use mathlib.Core.Path.{_≡_};
 ghost use Rattle.model.specs.Model.{rangeFor};
 ghost use Rattle.model.specs.Sound.{In};
@@ -22,12 +22,13 @@ fn info_of(words: &[u32], kind: usize) -> FoundInfo
     requires { ⌜ In (meaning (now words) .kinds) kind ⌝ }
     ensures { λ r. ⌜ InfoOfKind (layoutArrays (now (words .entry))) kind r ⌝ }
 {
-    let Own::Group(g) = kinds::own_group(words, kind) else {
+    let found = kinds::own_group(words, kind);
+    let Found::At(place) = found else {
         return FoundInfo::Nothing;
     };
-    let metadata = group::group_metadata::metadata(words, g);
-    let place = kinds::place_in_family(words, kind);
-    FoundInfo::Info(GroupInfo::of_kind(metadata.first, g, place))
+    let metadata = group::group_metadata::metadata(words, place);
+    let storage_place = kinds::place_in_family(words, kind);
+    FoundInfo::Info(GroupInfo::of_kind(metadata.first, place, storage_place))
 }
 
 pub fn view_of(words: &[u32], kind: usize) -> ViewGroupInfo
@@ -90,10 +91,12 @@ pub fn group_range(words: &[u32]) -> GroupRange
     requires { ⌜ Sound (now words) ⌝ }
     ensures { λ r. ⌜ rangeOf r ≡ rangeFor (stagedKinds (meaning (now (words .entry)))) (meaning (now (words .entry)) .control .excluded) (meaning (now (words .entry)) .storage) ⌝ }
 {
-    let FoundQuery::Query(include) = staged_query(words) else {
+    let found = staged_query(words);
+    let FoundQuery::Query(include) = found else {
         return GroupRange::Nothing;
     };
-    let FoundQuery::Query(exclude) = excluded_query(words) else {
+    let found = excluded_query(words);
+    let FoundQuery::Query(exclude) = found else {
         return GroupRange::Nothing;
     };
     group_info::group_range(

@@ -75,7 +75,7 @@ pub fn take(words: &mut [u32], index: u32, version: u32, out: &mut [u8], at: usi
     ensures { λ r. ⌜ Acted (now (words .entry)) (now (words .exit)) (now (out .entry)) (now (out .exit)) at r (does (TAKE (entity index version)) (meaning (now (words .entry)))) ⌝ }
 {
     let found = control::entities::get(words, index, version);
-    let Found::At(_) = found else {
+    let Found::At(place) = found else {
         return refuse(words, out, at, DEAD);
     };
     let n = control::staged::staged_len(words);

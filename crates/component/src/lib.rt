@@ -3,7 +3,7 @@ pub mod component_sparse_set;
 pub mod slots;
 pub mod sparse_vec;
 
-// Where an entity's row is.
+// Where what was looked up is: an entity's row in a sparse set, or a kind's own group among the groups.
 pub enum Found {
     At(usize),
     Nothing,

@@ -40,7 +40,7 @@ pub fn holds_in(words: &[u32], n: usize, slot: usize, index: u32, version: u32) 
     ensures { λ r. ⌜ r ≡ held (entity index version) (rowsOf n slot (now (words .entry))) ⌝ }
 {
     let found = find_in(words, n, slot, index, version);
-    let Found::At(_) = found else {
+    let Found::At(place) = found else {
         return false;
     };
     true

@@ -4,22 +4,22 @@ use mathlib.Core.List.{List, [], map}
 use Prim.Native.Nat.{ℕ, suc}
 use Rattle.model.specs.Model.{Entity, SparseSet, Storage, setOf, removeRow}
 use Rattle.model.specs.Store.{onSet, onStorage}
+use Rattle.component.specs.declared.Found.{Found}
+use Rattle.component.specs.declared.Found.the-variants as found
 use Rattle.component.specs.declared.Removed.{Removed}
 use Rattle.component.specs.Answers.{Gives}
 use Rattle.memory.specs.Header.{slotOf}
 use Rattle.memory.specs.Meaning.{ownAt, meaning}
 use Rattle.memory.specs.Arranged.{Becomes}
-use Rattle.kinds.specs.declared.Own.{Own}
-use Rattle.kinds.specs.declared.Own.the-variants as own
 
 -- kind k's sparse set in the store that the words mean
 abbrev pub kindSet : List ℕ → ℕ → SparseSet
 kindSet w k = setOf (meaning w .storage .sets) k
 
 -- 01: a kind's "own (the one whose ring has it; a kind in no group has none)", as the head of its column says it
-abbrev pub OwnGroup : List ℕ → ℕ → Own → Type 0
-OwnGroup w k (own.Group g) = ownAt w (slotOf w k) ≡ suc g
-OwnGroup w k own.None = ownAt w (slotOf w k) ≡ 0
+abbrev pub OwnGroup : List ℕ → ℕ → Found → Type 0
+OwnGroup w k (found.At g) = ownAt w (slotOf w k) ≡ suc g
+OwnGroup w k found.Nothing = ownAt w (slotOf w k) ≡ 0
 
 -- 01: "Removal puts the last row in the gap", in kind k's sparse set, and the answer
 pub record RemovesKind (w w′ : List ℕ) (k : ℕ) (e : Entity) (r : Removed) : Type 0 where

@@ -22,12 +22,6 @@ ghost use Rattle.memory.specs.Arranged.{Arranged, Becomes};
 ghost use Rattle.kinds.specs.Kinds.{kindSet, OwnGroup, RemovesKind, emptied};
 ghost use Rattle.kinds.specs.Steps.{InSlot, headWord, withHead};
 
-// The group whose new kinds have the kind.
-pub enum Own {
-    Group(usize),
-    None,
-}
-
 // 255 in the table says that the kind has no column.
 pub fn is_registered(words: &[u32], kind: usize) -> bool
     requires { ⌜ Arranged (now words) ⌝ }
@@ -154,16 +148,17 @@ fn head(words: &[u32], kind: usize, i: usize) -> usize
     words::word(words, base + i)
 }
 
-pub fn own_group(words: &[u32], kind: usize) -> Own
+// The place of the kind's own group among the groups: the one whose new kinds have it.
+pub fn own_group(words: &[u32], kind: usize) -> Found
     requires { ⌜ Arranged (now words) ⌝ }
     requires { ⌜ In (meaning (now words) .kinds) kind ⌝ }
     ensures { λ r. ⌜ OwnGroup (now (words .entry)) kind r ⌝ }
 {
     let own = head(words, kind, words::OWN_GROUP);
     if own == 0 {
-        return Own::None;
+        return Found::Nothing;
     }
-    Own::Group(own - 1)
+    Found::At(own - 1)
 }
 
 // The kind's place among its family's kinds, where it is in a group.

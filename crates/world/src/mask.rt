@@ -1,5 +1,5 @@
 // The groups that an insertion and a removal walk (component_set.rs): one bit a group of the layout in force.
-use kinds::Own;
+use component::Found;
 use masks::group_mask::GroupMask;
 ghost use mathlib.Core.Path.{_≡_};
 ghost use mathlib.Core.List.{[], _∷_};
@@ -39,12 +39,12 @@ fn kind_mask(words: &[u32], walk: Walk, kind: usize) -> GroupMask
     requires { ⌜ In (meaning (now words) .kinds) kind ⌝ }
     ensures { λ r. ⌜ bitsOf 64 (r .0) ≡ walkPositions walk (kind ∷ []) (meaning (now (words .entry)) .storage .layout) ⌝ }
 {
-    let own = kinds::own_group(words, kind);
-    let Own::Group(g) = own else {
+    let found = kinds::own_group(words, kind);
+    let Found::At(place) = found else {
         return GroupMask::empty();
     };
-    let metadata = group::group_metadata::metadata(words, g);
-    let from = lowest(walk, metadata.first, g);
+    let metadata = group::group_metadata::metadata(words, place);
+    let from = lowest(walk, metadata.first, place);
     GroupMask::from_to(from, metadata.top)
 }
 

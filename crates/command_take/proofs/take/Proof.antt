@@ -18,14 +18,14 @@ returns c =
     let a = c .before .before .before .before .before .before .before .before .before .before .before .before .before .args in
     let e = entity (a .index) (a .version) in
     let s = meaning (a .words .now) in
-    refused-by (take-dead s e (found-dead e (s .entities) (sym (c .before .before .before .before .before .before .before .before .before .get .ensures) ∙ c .before .before .before .before .before .before .before .enum-told2 .given .1))) (c .before .before .before .before .refuse .ensures)
+    refused-by (take-dead s e (found-dead e (s .entities) (sym (c .before .before .before .before .before .before .before .before .before .get .ensures) ∙ c .before .before .before .before .before .before .before .enum-told .given .1))) (c .before .before .before .before .refuse .ensures)
 
 returns-2 : tie.Need-returns-2
 returns-2 c =
-    let a = c .before .before .before .before .before .before .before .before .before .before .before .before .before .before .before .before .before .before .before .before .before .before .before .args in
+    let a = c .before .before .before .before .before .before .before .before .before .before .before .before .before .before .before .before .before .before .before .before .before .before .before .before .args in
     let e = entity (a .index) (a .version) in
     let s = meaning (a .words .now) in
-    let live = found-live e (s .entities) _ (sym (c .before .before .before .before .before .before .before .before .before .before .before .before .before .before .before .before .before .before .before .get .ensures) ∙ c .before .before .before .before .before .before .before .before .before .before .before .before .before .before .before .before .before .enum-told .given .1) .0 in
+    let live = found-live e (s .entities) _ (sym (c .before .before .before .before .before .before .before .before .before .before .before .before .before .before .before .before .before .before .before .before .get .ensures) ∙ c .before .before .before .before .before .before .before .before .before .before .before .before .before .before .before .before .before .before .found .given .1) .0 in
     accepted-by (take-live s e live) (emptied _ (c .before .before .before .before .before .before .before .before .take-out .ensures .becomes) refl (c .before .before .clear-staged .ensures)) (taken-written (a .out .now) _ _ (a .at) _ e s live (c .before .before .before .before .before .before .before .before .before .before .before .before .before .ack .ensures .bytes) (c .before .before .before .before .before .before .before .before .take-out .ensures .bytes) (c .before .before .before .before .before .before .before .before .before .before .before .before .before .before .before .staged-len .ensures .is))
 
 pub take-spec : {M : Type 1} → statement M
@@ -39,8 +39,8 @@ take-spec =
     (λ c. c .before .before .before .before .refuse .kept .0)
     (λ c. c .before .before .before .before .refuse .kept .1 .0)
     returns
-    (λ c κs. c .before .before .before .before .before .before .before .pre .sound .arranged)
-    (λ c κs. omega (arith, c .before .before .before .before .before .before .before .before .before .pre .room))
+    (λ c κs. c .before .before .before .before .before .before .before .before .pre .sound .arranged)
+    (λ c κs. omega (arith, c .before .before .before .before .before .before .before .before .before .before .pre .room))
     (λ c. search needs)
     (λ c κs. search needs)
     (λ c κs. c .before .before .before .before .before .take-out .ensures .becomes .arranged)

@@ -17,14 +17,14 @@ returns c =
     let a = c .before .before .before .before .before .before .before .before .before .before .before .before .before .args in
     let e = entity (a .index) (a .version) in
     let s = meaning (a .words .now) in
-    refused-by (drop-dead s e (found-dead e (s .entities) (sym (c .before .before .before .before .before .before .before .before .before .get .ensures) ∙ c .before .before .before .before .before .before .before .enum-told2 .given .1))) (c .before .before .before .before .refuse .ensures)
+    refused-by (drop-dead s e (found-dead e (s .entities) (sym (c .before .before .before .before .before .before .before .before .before .get .ensures) ∙ c .before .before .before .before .before .before .before .enum-told .given .1))) (c .before .before .before .before .refuse .ensures)
 
 returns-2 : tie.Need-returns-2
 returns-2 c =
-    let a = c .before .before .before .before .before .before .before .before .before .before .before .before .before .before .before .before .before .before .args in
+    let a = c .before .before .before .before .before .before .before .before .before .before .before .before .before .before .before .before .before .before .before .args in
     let e = entity (a .index) (a .version) in
     let s = meaning (a .words .now) in
-    accepted-by (drop-live s e (found-live e (s .entities) _ (sym (c .before .before .before .before .before .before .before .before .before .before .before .before .before .before .get .ensures) ∙ c .before .before .before .before .before .before .before .before .before .before .before .before .enum-told .given .1) .0)) (emptied _ (c .before .before .before .before .before .before .before .before .before .before .delete .ensures) refl (c .before .before .before .before .before .before .clear-staged .ensures)) (c .before .before .ack .ensures)
+    accepted-by (drop-live s e (found-live e (s .entities) _ (sym (c .before .before .before .before .before .before .before .before .before .before .before .before .before .before .before .get .ensures) ∙ c .before .before .before .before .before .before .before .before .before .before .before .before .before .found .given .1) .0)) (emptied _ (c .before .before .before .before .before .before .before .before .before .before .delete .ensures) refl (c .before .before .before .before .before .before .clear-staged .ensures)) (c .before .before .ack .ensures)
 
 pub drop-spec : {M : Type 1} → statement M
 drop-spec =
@@ -37,9 +37,9 @@ drop-spec =
     (λ c. c .before .before .before .before .refuse .kept .0)
     (λ c. c .before .before .before .before .refuse .kept .1 .0)
     returns
-    (λ c κs. c .before .before .before .before .before .before .before .pre .sound)
+    (λ c κs. c .before .before .before .before .before .before .before .before .pre .sound)
     (λ c κs. c .before .before .before .delete .ensures .arranged)
-    (λ c κs. omega (arith, c .before .before .before .before .before .before .before .before .before .before .before .before .before .before .before .pre .room))
+    (λ c κs. omega (arith, c .before .before .before .before .before .before .before .before .before .before .before .before .before .before .before .before .pre .room))
     (λ c. search needs)
     (λ c. c .before .before .ack .kept .0)
     returns-2)

@@ -17,19 +17,19 @@ returns c =
     let a = c .before .before .before .before .before .before .before .before .before .before .before .before .before .args in
     let e = entity (a .index) (a .version) in
     let s = meaning (a .words .now) in
-    refused-by (put-dead s e (found-dead e (s .entities) (sym (c .before .before .before .before .before .before .before .before .before .get .ensures) ∙ c .before .before .before .before .before .before .before .enum-told2 .given .1))) (c .before .before .before .before .refuse .ensures)
+    refused-by (put-dead s e (found-dead e (s .entities) (sym (c .before .before .before .before .before .before .before .before .before .get .ensures) ∙ c .before .before .before .before .before .before .before .enum-told .given .1))) (c .before .before .before .before .refuse .ensures)
 
 insert-requires : tie.Need-insert-requires
 insert-requires c κs =
-    let a = c .before .before .before .before .before .before .before .args in
-    (c .before .before .before .before .before .before .before .pre .sound, found-live (entity (a .index) (a .version)) (meaning (a .words .now) .entities) _ (sym (c .before .before .before .get .ensures) ∙ c .before .enum-told .given .1) .0)
+    let a = c .before .before .before .before .before .before .before .before .args in
+    (c .before .before .before .before .before .before .before .before .pre .sound, found-live (entity (a .index) (a .version)) (meaning (a .words .now) .entities) _ (sym (c .before .before .before .before .get .ensures) ∙ c .before .before .found .given .1) .0)
 
 returns-2 : tie.Need-returns-2
 returns-2 c =
-    let a = c .before .before .before .before .before .before .before .before .before .before .before .before .before .before .before .before .before .before .args in
+    let a = c .before .before .before .before .before .before .before .before .before .before .before .before .before .before .before .before .before .before .before .args in
     let e = entity (a .index) (a .version) in
     let s = meaning (a .words .now) in
-    accepted-by (put-live s e (found-live e (s .entities) _ (sym (c .before .before .before .before .before .before .before .before .before .before .before .before .before .before .get .ensures) ∙ c .before .before .before .before .before .before .before .before .before .before .before .before .enum-told .given .1) .0)) (emptied _ (c .before .before .before .before .before .before .before .before .before .before .insert .ensures) refl (c .before .before .before .before .before .before .clear-staged .ensures)) (c .before .before .ack .ensures)
+    accepted-by (put-live s e (found-live e (s .entities) _ (sym (c .before .before .before .before .before .before .before .before .before .before .before .before .before .before .before .get .ensures) ∙ c .before .before .before .before .before .before .before .before .before .before .before .before .before .found .given .1) .0)) (emptied _ (c .before .before .before .before .before .before .before .before .before .before .insert .ensures) refl (c .before .before .before .before .before .before .clear-staged .ensures)) (c .before .before .ack .ensures)
 
 pub put-spec : {M : Type 1} → statement M
 put-spec =
@@ -44,7 +44,7 @@ put-spec =
     returns
     insert-requires
     (λ c κs. c .before .before .before .insert .ensures .arranged)
-    (λ c κs. omega (arith, c .before .before .before .before .before .before .before .before .before .before .before .before .before .before .before .pre .room))
+    (λ c κs. omega (arith, c .before .before .before .before .before .before .before .before .before .before .before .before .before .before .before .before .pre .room))
     (λ c. search needs)
     (λ c. c .before .before .ack .kept .0)
     returns-2)

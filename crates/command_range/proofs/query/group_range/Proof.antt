@@ -32,15 +32,15 @@ part-group-range-end-2 : tie.Need-part-group-range-end-2
 part-group-range-end-2 c = let s = c .before .before .before .before .before .before .before .before .before .before in omega (arith, long (s .args .words .now) (s .pre .arranged))
 
 -- what the two queries describe
-included : (c : tie.After-exclude) → DescribesQuery (layoutArrays (c .before .before .before .before .before .before .before .before .args .words .now)) (meaning (c .before .before .before .before .before .before .before .before .args .words .now) .storage) (stagedKinds (meaning (c .before .before .before .before .before .before .before .before .args .words .now))) (c .before .before .before .before .include .given .0 .0)
+included : (c : tie.After-found2) → DescribesQuery (layoutArrays (c .before .before .before .before .before .before .before .before .args .words .now)) (meaning (c .before .before .before .before .before .before .before .before .args .words .now) .storage) (stagedKinds (meaning (c .before .before .before .before .before .before .before .before .args .words .now))) (c .before .before .before .before .found .given .0 .0)
 included c =
     let w = c .before .before .before .before .before .before .before .before .args .words .now in
-    subst (λ (q : FoundQuery). QueryOf w (stagedKinds (meaning w)) q) (c .before .before .before .before .include .given .1) (c .before .before .before .before .before .before .staged-query .ensures)
+    subst (λ (q : FoundQuery). QueryOf w (stagedKinds (meaning w)) q) (c .before .before .before .before .found .given .1) (c .before .before .before .before .before .before .staged-query .ensures)
 
-with-excluded : (c : tie.After-exclude) → DescribesQuery (layoutArrays (c .before .before .before .before .before .before .before .before .args .words .now)) (meaning (c .before .before .before .before .before .before .before .before .args .words .now) .storage) (meaning (c .before .before .before .before .before .before .before .before .args .words .now) .control .excluded) (c .exclude .given .0 .0)
+with-excluded : (c : tie.After-found2) → DescribesQuery (layoutArrays (c .before .before .before .before .before .before .before .before .args .words .now)) (meaning (c .before .before .before .before .before .before .before .before .args .words .now) .storage) (meaning (c .before .before .before .before .before .before .before .before .args .words .now) .control .excluded) (c .found2 .given .0 .0)
 with-excluded c =
     let w = c .before .before .before .before .before .before .before .before .args .words .now in
-    subst (λ (q : FoundQuery). QueryOf w (meaning w .control .excluded) q) (c .exclude .given .1) (c .before .before .excluded-query .ensures)
+    subst (λ (q : FoundQuery). QueryOf w (meaning w .control .excluded) q) (c .found2 .given .1) (c .before .before .excluded-query .ensures)
 
 group-range-requires : tie.Need-group-range-requires
 group-range-requires c κs =
@@ -48,14 +48,14 @@ group-range-requires c κs =
     let w = s .args .words .now in
     let m = meaning w in
     let A = s .pre .arranged in
-    (tables w A, query-inside w A (stagedKinds m) (c .before .before .before .before .before .before .before .include .given .0 .0) (included (c .before .before .before)), query-inside w A (m .control .excluded) (c .before .before .before .exclude .given .0 .0) (with-excluded (c .before .before .before)))
+    (tables w A, query-inside w A (stagedKinds m) (c .before .before .before .before .before .before .before .found .given .0 .0) (included (c .before .before .before)), query-inside w A (m .control .excluded) (c .before .before .before .found2 .given .0 .0) (with-excluded (c .before .before .before)))
 
 returns-3 : tie.Need-returns-3
 returns-3 c =
     let s = c .before .before .before .before .before .before .before .before .before .before .before .before in
     let w = s .args .words .now in
     let m = meaning w in
-    both-queries w (s .pre .arranged) (stagedKinds m) (m .control .excluded) (c .before .before .before .before .before .before .before .before .include .given .0 .0) (c .before .before .before .before .exclude .given .0 .0) (c .group-range .result) (included (c .before .before .before .before)) (with-excluded (c .before .before .before .before)) (c .group-range .ensures)
+    both-queries w (s .pre .arranged) (stagedKinds m) (m .control .excluded) (c .before .before .before .before .before .before .before .before .found .given .0 .0) (c .before .before .before .before .found2 .given .0 .0) (c .group-range .result) (included (c .before .before .before .before)) (with-excluded (c .before .before .before .before)) (c .group-range .ensures)
 
 pub group-range-spec : {M : Type 1} → statement M
 group-range-spec =

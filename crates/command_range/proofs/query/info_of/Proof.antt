@@ -1,7 +1,7 @@
 use mathlib.Core.Path.{subst}
 use Prim.Native.Nat.{ℕ}
+use Rattle.component.specs.declared.Found.{Found}
 use Rattle.kinds.specs.Kinds.{OwnGroup}
-use Rattle.kinds.specs.declared.Own.{Own}
 use Rattle.kinds.proofs.Owned.{Owned, own-group, no-group}
 use Rattle.group_info.specs.Info.{KindInfo}
 use Rattle.command_range.proofs.Views.{ungrouped, real, small, grouped}
@@ -12,31 +12,31 @@ returns : tie.Need-returns
 returns c =
     let s = c .before .before .before .before in
     let w = s .args .words .now in
-    ungrouped w (s .pre .0) (s .args .kind) (no-group w (s .pre .0) (s .args .kind) (subst (λ (r : Own). OwnGroup w (s .args .kind) r) (c .enum-told .given .1) (c .before .before .own-group .ensures)))
+    ungrouped w (s .pre .0) (s .args .kind) (no-group w (s .pre .0) (s .args .kind) (subst (λ (r : Found). OwnGroup w (s .args .kind) r) (c .enum-told .given .1) (c .before .before .own-group .ensures)))
 
 -- the kind is among the new kinds of group g
-owned : (c : tie.After-g) → Owned (c .before .before .before .before .args .words .now) (c .before .before .before .before .args .kind) (c .g .given .0 .0)
+owned : (c : tie.After-found) → Owned (c .before .before .before .before .args .words .now) (c .before .before .before .before .args .kind) (c .found .given .0 .0)
 owned c =
     let s = c .before .before .before .before in
     let w = s .args .words .now in
-    own-group w (s .pre .0) (s .args .kind) (c .g .given .0 .0) (s .pre .1) (subst (λ (r : Own). OwnGroup w (s .args .kind) r) (c .g .given .1) (c .before .before .own-group .ensures))
+    own-group w (s .pre .0) (s .args .kind) (c .found .given .0 .0) (s .pre .1) (subst (λ (r : Found). OwnGroup w (s .args .kind) r) (c .found .given .1) (c .before .before .own-group .ensures))
 
 metadata-requires : tie.Need-metadata-requires
 metadata-requires c κs =
     let s = c .before .before .before .before .before in
-    (s .pre .0, real (s .args .words .now) (s .pre .0) (s .args .kind) (c .before .g .given .0 .0) (owned (c .before)))
+    (s .pre .0, real (s .args .words .now) (s .pre .0) (s .args .kind) (c .before .found .given .0 .0) (owned (c .before)))
 
 of-kind-requires : tie.Need-of-kind-requires
 of-kind-requires c κs =
     let s = c .before .before .before .before .before .before .before in
-    let l = small (s .args .words .now) (s .pre .0) (s .args .kind) (c .before .before .before .g .given .0 .0) (owned (c .before .before .before)) in
+    let l = small (s .args .words .now) (s .pre .0) (s .args .kind) (c .before .before .before .found .given .0 .0) (owned (c .before .before .before)) in
     (l .0, rw (c .place-in-family .ensures) (l .1))
 
 returns-2 : tie.Need-returns-2
 returns-2 c =
     let s = c .before .before .before .before .before .before .before .before in
     let w = s .args .words .now in
-    let g = c .before .before .before .before .g .given .0 .0 in
+    let g = c .before .before .before .before .found .given .0 .0 in
     let d = c .before .before .metadata in
     grouped w (s .pre .0) (s .args .kind) g (owned (c .before .before .before .before)) (d .result .first) (c .of-kind .result) (d .ensures .first)
     (subst (λ (p : ℕ). KindInfo (d .result .first) g p (c .of-kind .result)) (c .before .place-in-family .ensures) (c .of-kind .ensures))

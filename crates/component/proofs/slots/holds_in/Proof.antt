@@ -9,12 +9,12 @@ use Rattle.model.specs.Model.{entity}
 returns : tie.Need-returns
 returns c =
     let a = c .before .before .before .before .args in
-    sym (subst (λ (r : Found). Finds (a .n) (entity (a .index) (a .version)) (rowsOf (a .n) (a .slot) (a .words .now)) r) (c .enum-told2 .given .1) (c .before .before .find-in .ensures))
+    sym (subst (λ (r : Found). Finds (a .n) (entity (a .index) (a .version)) (rowsOf (a .n) (a .slot) (a .words .now)) r) (c .enum-told .given .1) (c .before .before .find-in .ensures))
 
 returns-2 : tie.Need-returns-2
 returns-2 c =
-    let a = c .before .before .before .before .args in
-    let q = subst (λ (r : Found). Finds (a .n) (entity (a .index) (a .version)) (rowsOf (a .n) (a .slot) (a .words .now)) r) (c .enum-told .given .1) (c .before .before .find-in .ensures) in
+    let a = c .before .before .before .before .before .args in
+    let q = subst (λ (r : Found). Finds (a .n) (entity (a .index) (a .version)) (rowsOf (a .n) (a .slot) (a .words .now)) r) (c .before .found .given .1) (c .before .before .before .find-in .ensures) in
     sym (q .holds)
 
 pub holds-in-spec : {M : Type 1} → statement M
