@@ -1,4 +1,4 @@
--- A tape that is run in pieces. Assumes nothing.
+-- A tape that is run in pieces: "A run of the tape from `read` on goes on where this one stopped" (bindings/c/yirbarn.h). Assumes nothing.
 use mathlib.Core.Path.{_≡_}
 use mathlib.Core.Logic.{_⊎_, _≢_}
 use mathlib.Core.List.{_++_}
