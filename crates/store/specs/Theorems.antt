@@ -2,7 +2,7 @@
 use mathlib.Core.Path.{_≡_}
 use mathlib.Core.Logic.{_↔_}
 use mathlib.Core.List.{List}
-use Prim.Native.Nat.{ℕ, suc, _≤_}
+use Prim.Native.Nat.{ℕ, suc, _+_, _≤_}
 use Rattle.model.specs.Refusals.{Line, NoneHolds, First, Unchanged}
 use Rattle.memory.specs.Arranged.{Sound}
 use lib.ListN.{take}
@@ -59,3 +59,16 @@ pub record SameWritten (o p o′ p′ : List ℕ) (r q : Rolled) : Type 0 where
 pub record GroupsHold (s : Store) : Type 0 where
   pub right : GroupsRight s
   pub between : GroupsBetween s
+
+-- ---- a run goes on where it stopped
+
+-- what two runs answer together: the second's stop, and the counts added
+abbrev pub together : Ran → Ran → Ran
+together a b = record { stop = b .stop; commands = a .commands + b .commands; read = a .read + b .read; written = a .written + b .written }
+
+-- a run that answers c, in the bytes q′, and leaves the words v, in place of runs that answer r together, with the bytes, and leave the words w′: the same
+-- result, the same answers, words that no entry tells apart
+pub record Continues (v w′ q′ bytes : List ℕ) (c r : Ran) : Type 0 where
+  pub result : c ≡ r
+  pub answers : take (c .written) q′ ≡ bytes
+  pub alike : Alike v w′
