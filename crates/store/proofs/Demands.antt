@@ -6,22 +6,18 @@ use mathlib.Core.Option.{Option, some, none}
 use mathlib.Core.List.{List, [], _++_}
 use Prim.Native.Nat.{ℕ, _+_, _*_, _≤_}
 use native.Mathlib.Omega.{arith}
-use lib.ListN.{length, take, drop, length-map}
+use lib.ListN.{length, take, drop}
 use denote.Ref.{RefT}
-use Rattle.model.specs.Numbers.{BEYOND, KIND, LAST-KIND, NOROOM}
-use Rattle.model.specs.Model.{found, rangeFor, setOf, entityOf}
+use Rattle.model.specs.Numbers.{BEYOND, KIND, NOROOM}
 use Rattle.model.specs.Store.{Store, empty}
 use Rattle.model.specs.Refusals.{numberOf, startLines, rollLines, columnLines}
 use Rattle.model.specs.Run.{halt, run}
 use Rattle.model.specs.Snapshot.{snapshot, Same}
 use Rattle.model.specs.History.{retired}
-use Rattle.model.specs.Entries.{Started, refusesStart, makes, start, entityWords, part, columnRefusal, column, roll}
-use Rattle.model.specs.Sound.{In, key}
-use Rattle.model.specs.Shown.{Showing}
+use Rattle.model.specs.Entries.{Started, refusesStart, makes, start, columnRefusal, column, roll}
 use Rattle.model.proofs.Demand.{all-between}
-use Rattle.model.proofs.Entries.{start-makes, column-refused, column-accepted}
+use Rattle.model.proofs.Entries.{start-makes, column-refused}
 use Rattle.model.proofs.Lengths.{run-fits}
-use Rattle.model.proofs.Ranges.{range-shows}
 use Rattle.model.proofs.Retired.{run-balanced}
 use Rattle.model.specs.Theorems.{Balanced}
 use Rattle.model.proofs.Snapshots.{snapshots-of-sound}
@@ -37,7 +33,6 @@ use Rattle.store.proofs.Starting.{start-number}
 use Rattle.store.proofs.Tables.{tabled, judged, start-tabled}
 use Rattle.store.specs.Theorems.{Tabled, Judged, GroupsHold}
 use Rattle.store.proofs.Emitting.{over-refused, over-accepted, over-refusals, over-written}
-use Rattle.store.proofs.Columns.{column-within}
 use Rattle.store.proofs.Courses.{course-of}
 use Rattle.store.proofs.Determined.{answer-bytes}
 use Rattle.words.proofs.Decides.{decides-same}
@@ -190,22 +185,6 @@ rolls-equal w v o p o′ p′ r q R Q zr zq =
 pub reached-rolls : {w : List ℕ} (o o′ : List ℕ) (r : Rolled) → Reached w → length (snapshot (meaning w)) ≤ length o → Rolls w o o′ r → r .number ≡ 0
 reached-rolls {w} o o′ r c h R =
     over-accepted w o o′ (snapshot (meaning w)) (r .number) (r .written) (roll (length o) (meaning w)) (reached-sound c) (roll-fits (length o) (meaning w) h) R .0
-
--- ---- RANGE and column: the entities that hand h and bar b describe stand in the column of each kind of the hand, from start to end of the range
-
-pub range-shown : (v r : RefT (List ℕ)) (h b : List ℕ) (k a e : ℕ) → Sound (v .now) → In h k → In (meaning (v .now) .kinds) k → rangeFor h b (meaning (v .now) .storage) ≡ found a e → ColumnPart v r false k a e
-    → Showing (meaning (v .now) .storage .sets) (meaning (v .now) .entities .live) h b a e × (r .now ≡ entityWords (part a e (key (meaning (v .now) .storage .sets) k)))
-range-shown v r h b k a e S i known f P =
-    let s = meaning (v .now) in
-    let shows : Showing (s .storage .sets) (s .entities .live) h b a e = range-shows s (S .means) h b a e f in
-    let small : k ≤ LAST-KIND = omega (arith, S .means .kinds .small k known) in
-    let inside : e ≤ length (setOf (s .storage .sets) k) = omega (arith, shows .places k i, length-map (setOf (s .storage .sets) k) entityOf) in
-    let taken : columnRefusal k a e s ≡ none = column-within k a e s small known (omega (arith, shows .start)) inside in
-    (shows, go (P .sound) (P .decides) (P .words) taken)
-  where
-    go : (c : Bool) → Decides c (Sound (v .now)) → r .now ≡ columnWords c false k a e (meaning (v .now)) → columnRefusal k a e (meaning (v .now)) ≡ none → r .now ≡ entityWords (part a e (key (meaning (v .now) .storage .sets) k))
-    go false d p t = absurd (d S)
-    go true d p t = p ∙ column-accepted false k a e (meaning (v .now)) t .words
 
 -- ---- "From an empty store, numbers issued = live + waiting + retired; retired counts past destructions at the last version": after any runs
 

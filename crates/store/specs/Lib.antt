@@ -2,3 +2,4 @@ pub mod Entries
 pub mod Course
 pub mod Linked
 pub mod Theorems
+pub mod Ranging
