@@ -1,26 +1,38 @@
--- What RANGE shows: exactly the entities that its hand and bar describe; and none exactly where 01 says none. Assumes nothing.
+-- What RANGE shows: exactly the entities that its hand and bar describe, with the values that they hold; none exactly where 01 says none; and what the
+-- bytes of its answer tell. Assumes nothing.
 use mathlib.Core.Path.{_≡_, refl, ap, ap₂, sym, _∙_, subst}
 use mathlib.Core.Logic.{_↔_, _⊎_, inl, inr, ⊎-elim}
 use mathlib.Core.Bool.{true, false, cond, not, _&&_}
-use mathlib.Core.List.{List, [], _∷_, _++_, append-assoc, append-nil}
-use Prim.Native.Nat.{ℕ, zero, suc, _+_, _-_, _≤_, _<_}
+use mathlib.Core.Option.{Option, some, none}
+use mathlib.Core.List.{List, [], _∷_, _++_, map, map-map, append-assoc, append-nil}
+use Prim.Native.Nat.{ℕ, zero, suc, _+_, _-_, _/_, _^_, _≤_, _<_}
 use native.Mathlib.Omega.{arith}
-use borrow.Author.Tests.{eqb-true, eq-eqb}
-use lib.Dec.{eqb}
-use lib.ListN.{length, take, drop, getD, length-drop, length-map, take-append-drop}
+use native.Mathlib.Nat.{pow-suc, div-lt-iff-lt-mul}
+use borrow.Author.Tests.{eqb-true, eq-eqb, lt-ltb, le-ltb}
+use lib.Dec.{eqb, lit<}
+use lib.ListN.{length, take, drop, getD, length-drop, length-map, List·getD-map, take-append-drop}
 use lib.Seq.{length-take-le, take-all, drop-cons}
-use Rattle.model.proofs.ListLaws.{count-append, count-kept, count-length, length-zero}
-use Rattle.model.specs.Model.{Entity, SparseSet, Group, Family, Range, none, found, sameEntity, sameSet, setOf, entityOf, held, allHeld, headKind, kindsOf, newGroup, firstRange, rangeAt, rangeIn, rangeAll, single, rangeFor}
-use Rattle.model.specs.Store.{Store}
+use Rattle.model.proofs.ListLaws.{count-append, count-kept, count-length, count-length-le, length-zero, map-take, place-once}
+use Rattle.model.specs.Numbers.{MAX-ENTITIES, RANGE-BYTE}
+use Rattle.model.specs.Model.{Entity, Row, SparseSet, Group, Family, Range, none, found, sameEntity, noEntity, noRow, sameSet, setOf, entityOf, keys, at, held, allHeld, headKind, kindsOf, newGroup, firstRange, rangeAt, rangeIn, rangeAll, single, rangeFor}
+use Rattle.model.specs.Store.{Store, bytesOf, number, stagedKinds, withControl, emptyBoth}
+use Rattle.model.specs.Commands.{RANGE, rangeBytes, accepted}
+use Rattle.model.specs.Refusals.{firstLine, beforeLines}
+use Rattle.model.specs.Run.{does, Step, stops, goes, stepOf, stepIf, step, Ran, halt, more, runFor, run}
+use Rattle.model.specs.Snapshot.{valueAt}
+use Rattle.model.specs.Entries.{rowValue, part}
 use Rattle.model.specs.Sound.{cnt, In, key, holders, Distinct, layoutKinds, Rising, BuildableFamilies, Right, RightFrom, AllRight, Between, StoreSound}
-use Rattle.model.specs.Shown.{lacking, described, Showing, EqualGroup, EqualNewKinds, Shows, oneKind, aGroup, twoGroups}
+use Rattle.model.specs.Shown.{lacking, described, Showing, EqualGroup, EqualNewKinds, Shows, oneKind, aGroup, twoGroups, RangeAnswer, Hold}
 use Rattle.model.proofs.SparseSets.{entity-eq, entity-same}
 use Rattle.model.proofs.BoolLaws.{cond-case, cond-not, and-left, and-right, bool-cases}
 use Rattle.model.proofs.Walk.{held-count, lacks-count}
 use Rattle.model.proofs.KindLists.{in-left, in-right, in-one, not-both, all-same, same-to, same-from, differ-left, head-in, length-one, distinct-left, distinct-right, distinct-apart, all-joined}
 use Rattle.model.proofs.Invariant.{holders-count}
-use Rattle.model.proofs.Numbers.{live-once}
+use Rattle.model.proofs.Numbers.{live-once, live-few}
+use Rattle.model.proofs.Operations.{sound-held}
 use Rattle.model.proofs.Demand.{between}
+use Rattle.model.proofs.Lines.{none-from}
+use Rattle.model.proofs.Outcomes.{range-does}
 
 -- ---- equal sets
 
@@ -318,3 +330,91 @@ module _ (s : Store) (S : StoreSound s) (h b : List ℕ) where
       go : (r : Range) → ((a e : ℕ) → r ≡ found a e → ⊥) → r ≡ none
       go none f = refl
       go (found a e) f = absurd (f a e refl)
+
+-- ---- the answer: its bytes tell the range that was found
+
+-- a number of n bytes is read back
+number-of : (n x : ℕ) → x < 256 ^ n → number (bytesOf n x) ≡ x
+number-of zero x h = omega (arith, h)
+number-of (suc n) x h =
+    let q : x / 256 < 256 ^ n = div-lt-iff-lt-mul (lit< tt) .1 (rw pow-suc at h) in
+    let r : number (bytesOf n (x / 256)) ≡ x / 256 = number-of n (x / 256) q in
+    omega (arith, r)
+
+-- RANGE's answer, after its 0 byte, in a sound store
+pub range-answer : (s : Store) → StoreSound s → RangeAnswer (stagedKinds s) (s .control .excluded) s (0 ∷ accepted RANGE s .answer)
+unfolding accepted
+range-answer s S = go (rangeFor (stagedKinds s) (s .control .excluded) (s .storage)) refl
+  where
+    h : List ℕ
+    h = stagedKinds s
+
+    b : List ℕ
+    b = s .control .excluded
+
+    -- no more hold the hand than are live
+    few : length (holders h (s .storage .sets) (s .entities .live)) ≤ MAX-ENTITIES
+    few =
+        let all : (x : Entity) → cnt x (holders h (s .storage .sets) (s .entities .live)) ≤ cnt x (s .entities .live) =
+        λ x. rw (holders-count h (s .storage .sets) (s .entities .live) x) (cond-case (λ (n : ℕ). n ≤ cnt x (s .entities .live)) (allHeld x h (s .storage .sets)) _ _ (λ t. omega arith) (λ t. omega arith)) in
+        omega (arith, count-length-le sameEntity entity-eq entity-same (holders h (s .storage .sets) (s .entities .live)) (s .entities .live) all, live-few (s .entities) (sound-held s S .numbers), S .entities .few, S .limits .most)
+
+    go : (r : Range) → rangeFor h b (s .storage) ≡ r → RangeAnswer h b s (0 ∷ rangeBytes r)
+    go none p =
+        record {
+          size = refl;
+          either = inr refl;
+          found = ((λ z. absurd (omega (arith, z))), (λ w. absurd (range-none s S h b .0 p w)));
+          shows = λ z. absurd (omega (arith, z));
+        }
+    go (found a e) p =
+        let W : Showing (s .storage .sets) (s .entities .live) h b a e = range-shows s S h b a e p in
+        let starts : number (bytesOf 4 a) ≡ a = number-of 4 a (omega (arith, W .start, W .end, few)) in
+        let ends : number (bytesOf 4 e) ≡ e = number-of 4 e (omega (arith, W .end, few)) in
+        record {
+          size = refl;
+          either = inl (rw (starts, ends) refl);
+          found = ((λ z. range-where s S h b a e p), (λ w. refl));
+          shows = λ z. rw (starts, ends) W;
+        }
+
+-- a run of RANGE alone, with room for its ten bytes
+range-step : (room : ℕ) (s : Store) → 10 ≤ room → step RANGE-BYTE [] room s ≡ goes 1 (0 ∷ accepted RANGE s .answer) (accepted RANGE s .store)
+unfolding step
+range-step room s h =
+    let passed : firstLine beforeLines (record { byte = RANGE-BYTE; rest = []; room = room; store = s }) ≡ none = none-from beforeLines (record { byte = RANGE-BYTE; rest = []; room = room; store = s }) (refl, (refl, (le-ltb room 10 h, tt))) in
+    ap (λ (x : Option ℕ). stepIf x (stepOf 1 s (does RANGE s))) passed ∙ ap (stepOf 1 s) (range-does s)
+
+pub range-run : (room : ℕ) (s : Store) → 10 ≤ room → run (RANGE-BYTE ∷ []) room s ≡ record { store = withControl s (emptyBoth (s .control)); stop = 0; commands = 1; read = 1; bytes = 0 ∷ accepted RANGE s .answer }
+unfolding run runFor accepted
+range-run room s h =
+    ap (λ (p : Step). elim p as (λ p. Ran) [ stops n ↦ halt n s | goes w a s′ ↦ more w a (runFor 0 (drop w (RANGE-BYTE ∷ [])) (room - length a) s′) ]) (range-step room s h)
+    ∙ (λ i. record { store = withControl s (emptyBoth (s .control)); stop = 0; commands = 1; read = 1; bytes = 0 ∷ append-nil (accepted RANGE s .answer) i })
+
+-- ---- the values at a range's places are those of the entities there, since an entity stands once in a sparse set
+
+map-at : {A B : Type 0} (f g : A → B) (d : A) (l : List A) → ((i : ℕ) → i < length l → f (getD l i d) ≡ g (getD l i d)) → map f l ≡ map g l
+map-at f g d [] h = refl
+map-at {B} f g d (x ∷ l) h = ap₂ {C = List B} (λ y ys. y ∷ ys) (h 0 (omega arith)) (map-at f g d l (λ i q. h (suc i) (omega arith)))
+
+map-drop : {A B : Type 0} (f : A → B) (n : ℕ) (l : List A) → map f (drop n l) ≡ drop n (map f l)
+map-drop f zero l = refl
+map-drop f (suc n) [] = refl
+map-drop f (suc n) (x ∷ l) = map-drop f n l
+
+map-part : {A B : Type 0} (f : A → B) (a e : ℕ) (l : List A) → map f (part a e l) ≡ part a e (map f l)
+map-part f a e l = map-drop f a (take e l) ∙ ap (drop a) (map-take f e l)
+
+module _ (rows : SparseSet) (once : (x : Entity) → cnt x (keys rows) ≤ 1) where
+  row-held : (i : ℕ) → i < length rows → valueAt (entityOf (getD rows i noRow)) rows ≡ some (rowValue (getD rows i noRow))
+  row-held i h =
+      let x : Entity = entityOf (getD rows i noRow) in
+      let there : at x rows ≡ i = place-once sameEntity entity-same noEntity x (keys rows) (once x) i (rw (length-map rows entityOf) h) (List·getD-map entityOf rows i noRow) in
+      rw (there, lt-ltb i (length rows) h)
+
+  -- the entities from a to e hold the values from a to e
+  pub rows-hold : (a e : ℕ) → Hold rows (part a e (keys rows)) (part a e (map rowValue rows))
+  rows-hold a e =
+      map-part (λ (x : Entity). valueAt x rows) a e (keys rows)
+      ∙ ap (part a e) (map-map (λ (x : Entity). valueAt x rows) entityOf rows ∙ map-at (λ (r : Row). valueAt (entityOf r) rows) (λ (r : Row). some (rowValue r)) noRow rows row-held ∙ sym (map-map {C = Option ℕ} some rowValue rows))
+      ∙ sym (map-part {B = Option ℕ} some a e (map rowValue rows))

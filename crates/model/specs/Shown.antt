@@ -1,10 +1,15 @@
--- What RANGE shows, said of the entities and not of the search: which of them the hand and the bar describe, and where 01 says none. Assumes nothing.
+-- What RANGE shows, said of the entities and not of the search: which of them the hand and the bar describe, where 01 says none, and what its answer's
+-- bytes tell. Assumes nothing.
 use mathlib.Core.Path.{_≡_}
+use mathlib.Core.Logic.{_↔_, _⊎_}
 use mathlib.Core.Bool.{true, cond}
-use mathlib.Core.List.{List, [], _∷_}
+use mathlib.Core.Option.{Option, some}
+use mathlib.Core.List.{List, [], _∷_, _++_, map}
 use Prim.Native.Nat.{ℕ, suc, _+_, _≤_, _<_}
-use lib.ListN.{length, take, drop, getD}
+use lib.ListN.{length, take, drop, getD, replicate}
 use Rattle.model.specs.Model.{Entity, SparseSet, Family, sameSet, allHeld, kindsOf, newGroup}
+use Rattle.model.specs.Store.{Store, bytesOf, number}
+use Rattle.model.specs.Snapshot.{valueAt}
 use Rattle.model.specs.Sound.{cnt, In, key, holders}
 
 -- ---- the entities that a hand h and a bar b describe
@@ -50,3 +55,27 @@ pub data Shows (h b : List ℕ) (fs : List Family) : Type 0 where
   aGroup : length b ≡ 0 → EqualGroup h fs → Shows h b fs
   -- "Bar not empty: a hand equal to a group and a bar equal to the next larger group's ring"
   twoGroups : 1 ≤ length b → (g : EqualGroup h fs) → EqualNewKinds b (getD fs (g .family) []) (g .group) → Shows h b fs
+
+-- ---- the answer's ten bytes: "answer after a 0 byte", "1 byte found, start 4, end 4 (zeros if none)"
+
+abbrev pub foundIn : List ℕ → ℕ
+foundIn bytes = getD bytes 1 0
+
+abbrev pub startIn : List ℕ → ℕ
+startIn bytes = number (take 4 (drop 2 bytes))
+
+abbrev pub endIn : List ℕ → ℕ
+endIn bytes = number (take 4 (drop 6 bytes))
+
+-- with hand h and bar b: found, start and end, or ten zeros; found exactly where 01 says so, and then start and end are those of the entities described
+pub record RangeAnswer (h b : List ℕ) (s : Store) (bytes : List ℕ) : Type 0 where
+  pub size : length bytes ≡ 10
+  pub either : (bytes ≡ 0 ∷ 1 ∷ bytesOf 4 (startIn bytes) ++ bytesOf 4 (endIn bytes)) ⊎ (bytes ≡ replicate 10 0)
+  pub found : (foundIn bytes ≡ 1) ↔ Shows h b (s .storage .layout)
+  pub shows : foundIn bytes ≡ 1 → Showing (s .storage .sets) (s .entities .live) h b (startIn bytes) (endIn bytes)
+
+-- ---- the values that entities hold
+
+-- looked up by the entity, not by the place: each of these entities holds the value that stands at its place among vs
+abbrev pub Hold : SparseSet → List Entity → List ℕ → Type 0
+Hold rows es vs = map (λ (x : Entity). valueAt x rows) es ≡ map {B = Option ℕ} some vs

@@ -6,24 +6,20 @@ use mathlib.Core.Option.{Option, some, none}
 use mathlib.Core.List.{List, [], _++_}
 use Prim.Native.Nat.{ℕ, _+_, _*_, _≤_}
 use native.Mathlib.Omega.{arith}
-use lib.ListN.{length, take, drop, getD, length-map}
+use lib.ListN.{length, take, drop, getD}
 use denote.Ref.{RefT}
-use Rattle.model.specs.Numbers.{BEYOND, KIND, LAST-KIND, MANY, NOROOM, UNKNOWN}
-use Rattle.model.specs.Model.{found, rangeFor, setOf, entityOf}
+use Rattle.model.specs.Numbers.{BEYOND, KIND, MANY, NOROOM, UNKNOWN}
 use Rattle.model.specs.Store.{Store, empty}
 use Rattle.model.specs.Commands.{Command}
 use Rattle.model.specs.Refusals.{numberOf, firstLine, BeforeCommand, beforeLines, linesOf, startLines, rollLines, columnLines}
 use Rattle.model.specs.Run.{halt, run}
 use Rattle.model.specs.Snapshot.{snapshot, Same}
 use Rattle.model.specs.History.{retired}
-use Rattle.model.specs.Entries.{Started, refusesStart, makes, start, entityWords, part, columnRefusal, column, roll}
-use Rattle.model.specs.Sound.{In, key}
-use Rattle.model.specs.Shown.{Showing}
+use Rattle.model.specs.Entries.{Started, refusesStart, makes, start, columnRefusal, column, roll}
 use Rattle.model.proofs.Demand.{all-between}
-use Rattle.model.proofs.Entries.{start-makes, column-refused, column-accepted}
+use Rattle.model.proofs.Entries.{start-makes, column-refused}
 use Rattle.model.proofs.Lengths.{run-fits}
 use Rattle.model.proofs.Lines.{first-exact, none-exact, lines-numbers}
-use Rattle.model.proofs.Ranges.{range-shows}
 use Rattle.model.proofs.Retired.{run-balanced}
 use Rattle.model.specs.Theorems.{Balanced}
 use Rattle.model.proofs.Snapshots.{snapshots-of-sound}
@@ -39,7 +35,6 @@ use Rattle.store.proofs.Starting.{start-number}
 use Rattle.store.proofs.Tables.{tabled, judged, start-tabled}
 use Rattle.store.specs.Theorems.{Tabled, Judged, RefusalAlone, GroupsHold}
 use Rattle.store.proofs.Emitting.{over-refused, over-accepted, over-refusals, over-written}
-use Rattle.store.proofs.Columns.{column-within}
 use Rattle.store.proofs.Courses.{course-of}
 use Rattle.store.proofs.Determined.{answer-bytes}
 use Rattle.words.proofs.Decides.{decides-same}
@@ -242,22 +237,6 @@ reached-rolls {w} o o′ r c h R =
 pub reached-rolls-equal : {w v : List ℕ} (o p o′ p′ : List ℕ) (r q : Rolled) → Reached w → Reached v → length (snapshot (meaning w)) ≤ length o → length (snapshot (meaning v)) ≤ length p → Rolls w o o′ r → Rolls v p p′ q
     → (take (r .written) o′ ≡ take (q .written) p′) ↔ Same (meaning w) (meaning v)
 reached-rolls-equal {w} {v} o p o′ p′ r q c d h k R Q = rolls-equal w v o p o′ p′ r q R Q (reached-rolls o o′ r c h R) (reached-rolls p p′ q d k Q)
-
--- ---- RANGE and column: the entities that hand h and bar b describe stand in the column of each kind of the hand, from start to end of the range
-
-pub range-shown : (v r : RefT (List ℕ)) (h b : List ℕ) (k a e : ℕ) → Sound (v .now) → In h k → In (meaning (v .now) .kinds) k → rangeFor h b (meaning (v .now) .storage) ≡ found a e → ColumnPart v r false k a e
-    → Showing (meaning (v .now) .storage .sets) (meaning (v .now) .entities .live) h b a e × (r .now ≡ entityWords (part a e (key (meaning (v .now) .storage .sets) k)))
-range-shown v r h b k a e S i known f P =
-    let s = meaning (v .now) in
-    let shows : Showing (s .storage .sets) (s .entities .live) h b a e = range-shows s (S .means) h b a e f in
-    let small : k ≤ LAST-KIND = omega (arith, S .means .kinds .small k known) in
-    let inside : e ≤ length (setOf (s .storage .sets) k) = omega (arith, shows .places k i, length-map (setOf (s .storage .sets) k) entityOf) in
-    let taken : columnRefusal k a e s ≡ none = column-within k a e s small known (omega (arith, shows .start)) inside in
-    (shows, go (P .sound) (P .decides) (P .words) taken)
-  where
-    go : (c : Bool) → Decides c (Sound (v .now)) → r .now ≡ columnWords c false k a e (meaning (v .now)) → columnRefusal k a e (meaning (v .now)) ≡ none → r .now ≡ entityWords (part a e (key (meaning (v .now) .storage .sets) k))
-    go false d p t = absurd (d S)
-    go true d p t = p ∙ column-accepted false k a e (meaning (v .now)) t .words
 
 -- ---- "From an empty store, numbers issued = live + waiting + retired; retired counts past destructions at the last version": after any runs
 

@@ -10,3 +10,4 @@ pub mod Courses
 pub mod Determined
 pub mod Demands
 pub mod Pieces
+pub mod Ranging

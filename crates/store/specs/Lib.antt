@@ -3,3 +3,4 @@ pub mod Course
 pub mod Linked
 pub mod Theorems
 pub mod Pieces
+pub mod Ranging

@@ -1,0 +1,52 @@
+-- What a run of RANGE and *column* show together, over the words: the answer's ten bytes, and the columns of the hand's kinds from the start to the end
+-- that those bytes tell. Assumes nothing.
+use mathlib.Core.Path.{_≡_}
+use mathlib.Core.Option.{some}
+use mathlib.Core.List.{List}
+use Prim.Native.Nat.{ℕ, _+_, _*_, _≤_}
+use lib.ListN.{getD, take, drop}
+use Rattle.model.specs.Model.{Entity, setOf}
+use Rattle.model.specs.Store.{Store, stagedKinds, withControl, emptyBoth}
+use Rattle.model.specs.Snapshot.{valueAt}
+use Rattle.model.specs.Entries.{entityWords, valueWords, part}
+use Rattle.model.specs.Sound.{cnt, key}
+use Rattle.model.specs.Shown.{described, RangeAnswer, Hold}
+use Rattle.component.specs.SparseSet.{valueOf}
+use Rattle.memory.specs.Meaning.{meaning}
+use Rattle.memory.specs.Arranged.{Sound}
+use Rattle.run.specs.declared.Ran.{Ran}
+
+-- RANGE alone on the tape, over the words w, which it leaves as w′, with its answer in the bytes o, which it leaves as o′. A tape may be cut between any
+-- two commands (proofs/Pieces.antt), so that one command is no restriction.
+pub record RangeRan (w w′ o o′ : List ℕ) (r : Ran) : Type 0 where
+  pub stop : r .stop ≡ 0
+  pub commands : r .commands ≡ 1
+  pub read : r .read ≡ 1
+  pub written : r .written ≡ 10
+  pub rest : drop 10 o′ ≡ drop 10 o
+  pub sound : Sound w′
+  -- "03 to 06, 09 and 0C, when accepted, empty the hand; 0C also the bar", and nothing else is changed
+  pub store : meaning w′ ≡ withControl (meaning w) (emptyBoth (meaning w .control))
+  -- with the hand and the bar as they were, of the store that is left
+  pub answer : RangeAnswer (stagedKinds (meaning w)) (meaning w .control .excluded) (meaning w′) (take 10 o′)
+
+-- column of kind k from a to e over words that mean the store s, with number n: the entities there, and the values that these entities hold
+pub record ColumnsShown (s : Store) (k a e n : ℕ) (entities values : List ℕ) : Type 0 where
+  pub number : n ≡ 0
+  pub entities-are : entities ≡ entityWords (part a e (key (s .storage .sets) k))
+  pub held : List ℕ
+  pub values-are : values ≡ valueWords held
+  pub hold : Hold (setOf (s .storage .sets) k) (part a e (key (s .storage .sets) k)) held
+
+-- row i of the two parts is of the entity x, with the value of kind k that x holds in the store s
+pub record RowOf (s : Store) (x : Entity) (k i : ℕ) (entities values : List ℕ) : Type 0 where
+  pub index : getD entities (2 * i) 0 ≡ x .index
+  pub version : getD entities (2 * i + 1) 0 ≡ x .version
+  pub value : valueAt x (setOf (s .storage .sets) k) ≡ some (valueOf (getD values (2 * i) 0) (getD values (2 * i + 1) 0))
+
+-- rows i of the parts of kinds j and k are of one entity, which hand h and bar b describe
+pub record OneEntity (s : Store) (h b : List ℕ) (j k i : ℕ) (entities values entities′ values′ : List ℕ) : Type 0 where
+  pub entity : Entity
+  pub among : 1 ≤ cnt entity (described h b (s .storage .sets) (s .entities .live))
+  pub first : RowOf s entity j i entities values
+  pub second : RowOf s entity k i entities′ values′
