@@ -9,3 +9,4 @@ pub mod Emitting
 pub mod Courses
 pub mod Determined
 pub mod Demands
+pub mod Built

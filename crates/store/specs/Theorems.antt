@@ -53,3 +53,9 @@ pub record SameWritten (o p o′ p′ : List ℕ) (r q : Rolled) : Type 0 where
 pub record GroupsHold (s : Store) : Type 0 where
   pub right : GroupsRight s
   pub between : GroupsBetween s
+
+-- words that mean s, left by a run to the tape's end
+pub record LeftInWords (s : Store) (w : List ℕ) (r : Ran) : Type 0 where
+  pub stop : r .stop ≡ 0
+  pub sound : Sound w
+  pub means : meaning w ≡ s

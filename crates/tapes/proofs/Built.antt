@@ -1,273 +1,41 @@
--- Every hand, bar, draft and layout that a sound store may have is what some tape leaves, and no other. Assumes nothing.
+-- "hand, bar, draft and layout of registered kinds, such as commands can build", both ways: each that a sound store may have is what some tape leaves, and
+-- what a tape leaves is such. Assumes nothing.
 use mathlib.Core.Path.{_≡_, refl, ap, ap₂, sym, _∙_, subst}
 use mathlib.Core.Logic.{_↔_}
-use mathlib.Core.Bool.{false}
-use mathlib.Core.List.{List, [], _∷_, _++_, map, append-assoc, append-nil}
-use Prim.Native.Nat.{ℕ, suc, _+_, _^_, _≤_, _<_}
+use mathlib.Core.List.{List, [], _∷_, _++_, map}
+use Prim.Native.Nat.{ℕ, suc, _+_, _≤_}
 use native.Mathlib.Omega.{arith}
-use borrow.Author.Tests.{le-ltb, lt-leb, eq-eqb}
-use lib.Dec.{eqb, lit<}
-use lib.ListN.{length, getD, length-append, length-map}
-use Rattle.model.specs.Numbers.{LAST-KIND, LIST-CAPACITY, MAX-GROUP-ARITY, MAX-GROUP-COUNT, MAX-KINDS}
-use Rattle.model.specs.Lists.{countOf}
-use Rattle.model.specs.Model.{Entity, SparseSet, Group, Family, Component, mem, kindOf, kindsOf, groupsOf, newGroup, zeroCount, setLayout, regroup}
-use Rattle.model.specs.Adding.{Added, added, addGroup}
-use Rattle.model.specs.Store.{Store, Control, empty, stagedKinds, isKind, withControl, withStorage, withKinds, withLayout, withStaged, withExcluded, withDraft, emptyStaged}
-use Rattle.model.specs.Commands.{Command, REG, HOLD, GROUP, APPLY, BAR, accepted}
-use Rattle.model.specs.Refusals.{unknownKind}
-use Rattle.model.specs.Run.{Outcome, does, storeAfter, Ran, run}
-use Rattle.model.specs.Sound.{In, Distinct, Eight, Limits, noComponent, KindsSound, StagedSound, ExcludedSound, layoutKinds, Rising, BuildableFamily, BuildableFamilies, Buildable, Uncounted, AllUncounted, RightFrom, AllRight, StoreSound}
-use Rattle.model.specs.Theorems.{DraftSound, grouped}
-use Rattle.model.proofs.BoolLaws.{not-true}
-use Rattle.model.proofs.ListLaws.{count-append, map-append, self-count}
-use Rattle.model.proofs.KindLists.{in-count, distinct-left, distinct-right, distinct-apart, in-left, in-right, in-one, in-cases, not-both}
-use Rattle.model.proofs.Draft.{kinds-append}
-use Rattle.model.proofs.Outcomes.{reg-new, hold-staged, bar-excluded, apply-does, group-does}
+use lib.ListN.{length, replicate}
+use Rattle.model.specs.Numbers.{MAX-KINDS}
+use Rattle.model.specs.Model.{Entity, SparseSet, Family, setOf, zeroCount}
+use Rattle.model.specs.Store.{Store, empty}
+use Rattle.model.specs.Run.{Ran}
+use Rattle.model.specs.Sound.{Limits, Uncounted, AllUncounted, RightFrom, AllRight, StoreSound}
+use Rattle.model.proofs.Bounds.{numbers-few, rows-live}
+use Rattle.model.proofs.Shape.{buildable-plain}
 use Rattle.model.proofs.Sound.{run-sound}
-use Rattle.tapes.specs.Tapes.{Encodable, AllEncodable, afterOne, afterAll}
-use Rattle.tapes.specs.Built.{Build, builtStore, BuildSound, Leaves, BuiltBy, valueless, holdsOf, groupsFrom, familiesOf, commandsOf, buildTape, buildRoom}
-use Rattle.tapes.proofs.Tapes.{tape-bytes, encodable-append, after-append, run-commands}
-use Rattle.tapes.proofs.Drafts.{Apart, family-kinds, groups-append, own-added, wider-added}
+use Rattle.tapes.specs.Built.{Build, builtStore, BuildSound, partsOf, TapeLeaves, LeftBy, commandsOf, buildTape, buildRoom}
+use Rattle.tapes.proofs.Tapes.{tape-bytes, run-commands}
+use Rattle.tapes.proofs.Building.{zeroed-families, commands-after, commands-encodable}
 
--- ---- lists of distinct kinds
+-- ---- each is what a tape leaves: that of specs/Built.antt, with room for its answers
 
--- the next of them is not among those before
-next-new : (l m : List ℕ) (k : ℕ) → Distinct (l ++ (k ∷ m)) → mem k l ≡ false
-next-new l m k d = not-true (mem k l) (λ t. omega (arith, d k, count-append eqb k l (k ∷ m), in-count l k t, self-count k))
-
-next-in : (l : List ℕ) (k : ℕ) → In (k ∷ l) k
-next-in l k = rw (eq-eqb k k refl)
-
-next-few : {A : Type 0} (l m : List A) (x : A) (n : ℕ) → length (l ++ (x ∷ m)) ≤ n → length l < n
-next-few l m x n h = omega (arith, length-append l (x ∷ m))
-
-one-by-one : {A : Type 0} (l m : List A) (x : A) → (l ++ (x ∷ [])) ++ m ≡ l ++ (x ∷ m)
-one-by-one l m x = append-assoc l (x ∷ []) m
-
--- commands of which the first leave t
-first : (a b : List Command) (s t : Store) → afterAll a s ≡ t → afterAll (a ++ b) s ≡ afterAll b t
-first a b s t e = after-append a b s ∙ ap (afterAll b) e
-
--- ---- REG
-
--- the kinds are registered in their order
-regs-after : (ks : List ℕ) (s : Store) → Distinct (s .kinds ++ ks) → length (s .kinds ++ ks) ≤ s .settings .kindCapacity → ((k : ℕ) → In ks k → k < MAX-KINDS) → afterAll (map REG ks) s ≡ withKinds s (s .kinds ++ ks)
-regs-after [] s d few small = ap (withKinds s) (sym (append-nil (s .kinds)))
-regs-after (k ∷ ks) s d few small =
-    let does-it = reg-new s k (le-ltb LAST-KIND k (omega (arith, small k (next-in ks k)))) (next-new (s .kinds) ks k d) (lt-leb (s .settings .kindCapacity) (length (s .kinds)) (next-few (s .kinds) ks k (s .settings .kindCapacity) few)) in
-    let s′ : Store = withKinds s (s .kinds ++ (k ∷ [])) in
-    let e = one-by-one (s .kinds) ks k in
-    ap (λ (x : Outcome). afterAll (map REG ks) (storeAfter s x)) does-it
-    ∙ regs-after ks (withKinds s (s .kinds ++ (k ∷ []))) (rw e d) (rw e few) (λ j i. small j (in-right (k ∷ []) ks j i))
-    ∙ ap (withKinds s) e
-
--- ---- HOLD
-
--- the components are staged in their order
-holds-after : (ps : List Component) (s : Store) → Distinct (stagedKinds s ++ map kindOf ps) → length (s .control .staged ++ ps) ≤ LIST-CAPACITY → ((k : ℕ) → In (map kindOf ps) k → unknownKind k s ≡ false)
-    → afterAll (holdsOf ps) s ≡ withControl s (withStaged (s .control) (s .control .staged ++ ps))
-holds-after [] s d few known = ap (λ (h : List Component). withControl s (withStaged (s .control) h)) (sym (append-nil (s .control .staged)))
-holds-after (p ∷ ps) s d few known =
-    let h = s .control .staged in
-    let does-it = hold-staged s (p .kind) (p .value) (known (p .kind) (next-in (map kindOf ps) (p .kind))) (next-new (stagedKinds s) (map kindOf ps) (p .kind) d) (lt-leb LIST-CAPACITY (length (s .control .staged)) (next-few (s .control .staged) ps p LIST-CAPACITY few)) in
-    let e : (s .control .staged ++ (p ∷ [])) ++ ps ≡ s .control .staged ++ (p ∷ ps) = one-by-one (s .control .staged) ps p in
-    let q : map kindOf (s .control .staged ++ (p ∷ [])) ++ map kindOf ps ≡ stagedKinds s ++ (p .kind ∷ map kindOf ps) = ap (λ (l : List ℕ). l ++ map kindOf ps) (map-append kindOf (s .control .staged) (p ∷ [])) ∙ one-by-one (stagedKinds s) (map kindOf ps) (p .kind) in
-    ap (λ (x : Outcome). afterAll (holdsOf ps) (storeAfter s x)) does-it
-    ∙ holds-after ps (withControl s (withStaged (s .control) (s .control .staged ++ (p ∷ [])))) (rw q d) (rw e few) (λ j i. known j (in-right (p .kind ∷ []) (map kindOf ps) j i))
-    ∙ ap (λ (l : List Component). withControl s (withStaged (s .control) l)) e
-
--- ---- BAR
-
--- the kinds are excluded in their order
-bars-after : (ks : List ℕ) (s : Store) → Distinct (s .control .excluded ++ ks) → length (s .control .excluded ++ ks) ≤ LIST-CAPACITY → ((k : ℕ) → In ks k → unknownKind k s ≡ false)
-    → afterAll (map BAR ks) s ≡ withControl s (withExcluded (s .control) (s .control .excluded ++ ks))
-bars-after [] s d few known = ap (λ (b : List ℕ). withControl s (withExcluded (s .control) b)) (sym (append-nil (s .control .excluded)))
-bars-after (k ∷ ks) s d few known =
-    let does-it = bar-excluded s k (known k (next-in ks k)) (next-new (s .control .excluded) ks k d) (lt-leb LIST-CAPACITY (length (s .control .excluded)) (next-few (s .control .excluded) ks k LIST-CAPACITY few)) in
-    let e = one-by-one (s .control .excluded) ks k in
-    ap (λ (x : Outcome). afterAll (map BAR ks) (storeAfter s x)) does-it
-    ∙ bars-after ks (withControl s (withExcluded (s .control) (s .control .excluded ++ (k ∷ [])))) (rw e d) (rw e few) (λ j i. known j (in-right (k ∷ []) ks j i))
-    ∙ ap (λ (l : List ℕ). withControl s (withExcluded (s .control) l)) e
-
--- ---- GROUP
-
--- the store with this draft, and nothing staged
-abbrev drafted : Store → List Family → Store
-drafted s fs = withControl s (withDraft (emptyStaged (s .control)) fs)
-
-valueless-kinds : (ks : List ℕ) → map kindOf (map valueless ks) ≡ ks
-valueless-kinds [] = refl
-valueless-kinds (k ∷ ks) = ap {B = List ℕ} (λ l. k ∷ l) (valueless-kinds ks)
-
-module _ (s : Store) (small : (k : ℕ) → In (s .kinds) k → k < MAX-KINDS) where
-  known-kind : (k : ℕ) → In (s .kinds) k → unknownKind k s ≡ false
-  known-kind k i = rw (le-ltb LAST-KIND k (omega (arith, small k i)), i)
-
-  -- a group's kinds are held and added to the draft
-  group-after : (ks : List ℕ) (cs : List Command) (fs gs : List Family) → Distinct ks → length ks ≤ MAX-GROUP-ARITY → ((k : ℕ) → In ks k → In (s .kinds) k) → addGroup ks fs ≡ added gs
-      → afterAll (holdsOf (map valueless ks) ++ (GROUP ∷ cs)) (drafted s fs) ≡ afterAll cs (drafted s gs)
-  group-after ks cs fs gs d narrow known e =
-      let ps = map valueless ks in
-      let q = valueless-kinds ks in
-      let held : Store = withControl (drafted s fs) (withStaged (drafted s fs .control) (map valueless ks)) in
-      let H = holds-after (map valueless ks) (drafted s fs) (rw q d) (omega (arith, length-map ks valueless)) (λ k i. known-kind k (known k (rw q at i))) in
-      let does-it : does GROUP held ≡ grouped held (added gs) = group-does held ∙ ap (grouped held) (ap (λ (l : List ℕ). addGroup l fs) q ∙ e) in
-      after-append (holdsOf (map valueless ks)) (GROUP ∷ cs) (drafted s fs)
-      ∙ ap (λ (t : Store). afterAll cs (afterOne GROUP t)) H
-      ∙ ap (λ (x : Outcome). afterAll cs (storeAfter held x)) does-it
-
-  -- the last family's groups from its second on; acc are its kinds so far
-  groups-after : (rs : Family) (acc : List ℕ) (f : Family) (fs : List Family) → kindsOf f ≡ acc → 1 ≤ length acc → Rising rs → Uncounted rs → length (acc ++ kindsOf rs) ≤ MAX-GROUP-ARITY
-      → Distinct (layoutKinds fs ++ (acc ++ kindsOf rs)) → ((k : ℕ) → In (acc ++ kindsOf rs) k → In (s .kinds) k) → groupsOf fs + (length f + length rs) ≤ MAX-GROUP-COUNT
-      → afterAll (groupsFrom acc rs) (drafted s (fs ++ (f ∷ []))) ≡ drafted s (fs ++ ((f ++ rs) ∷ []))
-  groups-after [] acc f fs q some up zero narrow once known few = ap (λ (g : Family). drafted s (fs ++ (g ∷ []))) (sym (append-nil f))
-  groups-after (r ∷ rs) acc f fs q some up zero narrow once known few =
-      let ring = r .newKinds in
-      let ks = acc ++ r .newKinds in
-      let p : acc ++ (r .newKinds ++ kindsOf rs) ≡ (acc ++ r .newKinds) ++ kindsOf rs = sym (append-assoc acc (r .newKinds) (kindsOf rs)) in
-      let once′ : Distinct (layoutKinds fs ++ ((acc ++ r .newKinds) ++ kindsOf rs)) = rw p at once in
-      let front : Distinct (layoutKinds fs ++ (acc ++ r .newKinds)) = distinct-left (layoutKinds fs ++ (acc ++ r .newKinds)) (kindsOf rs) (rw (sym (append-assoc (layoutKinds fs) (acc ++ r .newKinds) (kindsOf rs))) at once′) in
-      let narrow′ : length ((acc ++ r .newKinds) ++ kindsOf rs) ≤ MAX-GROUP-ARITY = rw p at narrow in
-      let short : length (acc ++ r .newKinds) ≤ MAX-GROUP-ARITY = omega (arith, length-append (acc ++ r .newKinds) (kindsOf rs)) in
-      let known′ : (k : ℕ) → In ((acc ++ r .newKinds) ++ kindsOf rs) k → In (s .kinds) k = rw p at known in
-      let is : newGroup (r .newKinds) ≡ r = λ i. record { newKinds = r .newKinds; count = sym (zero .0) i } in
-      let adds : addGroup (acc ++ r .newKinds) (fs ++ (f ∷ [])) ≡ added (fs ++ ((f ++ (r ∷ [])) ∷ [])) =
-          subst (λ (a : List ℕ). addGroup (a ++ r .newKinds) (fs ++ (f ∷ [])) ≡ added (fs ++ ((f ++ (r ∷ [])) ∷ []))) q
-          (wider-added fs f (r .newKinds) (rw q some) (up .0) (rw q short) (rw q front) (omega arith) ∙ ap (λ (g : Group). added (fs ++ ((f ++ (g ∷ [])) ∷ []))) is) in
-      group-after (acc ++ r .newKinds) (groupsFrom (acc ++ r .newKinds) rs) (fs ++ (f ∷ [])) (fs ++ ((f ++ (r ∷ [])) ∷ [])) (distinct-right (layoutKinds fs) (acc ++ r .newKinds) front) short (λ k i. known′ k (in-left (acc ++ r .newKinds) (kindsOf rs) k i)) adds
-      ∙ groups-after rs (acc ++ r .newKinds) (f ++ (r ∷ [])) fs (family-kinds f (r ∷ []) ∙ ap₂ (λ (a b : List ℕ). a ++ b) q (append-nil (r .newKinds))) (omega (arith, length-append acc (r .newKinds))) (up .1) (zero .1) narrow′ once′ known′ (omega (arith, length-append f (r ∷ [])))
-      ∙ ap (λ (g : Family). drafted s (fs ++ (g ∷ []))) (one-by-one f rs r)
-
-  -- a family of its own
-  family-after : (f : Family) (fs : List Family) → BuildableFamily f → Uncounted f → Distinct (layoutKinds fs ++ kindsOf f) → ((k : ℕ) → In (kindsOf f) k → In (s .kinds) k) → groupsOf fs + length f ≤ MAX-GROUP-COUNT
-      → afterAll (groupsFrom [] f) (drafted s fs) ≡ drafted s (fs ++ (f ∷ []))
-  family-after [] fs b zero once known few = absurd b
-  family-after (r ∷ rs) fs b zero once known few =
-      let ring = r .newKinds in
-      let front : Distinct (layoutKinds fs ++ r .newKinds) = distinct-left (layoutKinds fs ++ r .newKinds) (kindsOf rs) (rw (sym (append-assoc (layoutKinds fs) (r .newKinds) (kindsOf rs))) at once) in
-      let short : length (r .newKinds) ≤ MAX-GROUP-ARITY = omega (arith, b .2, length-append (r .newKinds) (kindsOf rs)) in
-      let apart : Apart (r .newKinds) fs = λ k i. not-both (layoutKinds fs) (r .newKinds) k (distinct-apart (layoutKinds fs) (r .newKinds) front k) i in
-      let is : newGroup (r .newKinds) ≡ r = λ i. record { newKinds = r .newKinds; count = sym (zero .0) i } in
-      let adds : addGroup (r .newKinds) fs ≡ added (fs ++ ((r ∷ []) ∷ [])) = own-added (r .newKinds) fs (b .0) short apart (omega arith) ∙ ap (λ (g : Group). added (fs ++ ((g ∷ []) ∷ []))) is in
-      group-after (r .newKinds) (groupsFrom (r .newKinds) rs) fs (fs ++ ((r ∷ []) ∷ [])) (distinct-right (layoutKinds fs) (r .newKinds) front) short (λ k i. known k (in-left (r .newKinds) (kindsOf rs) k i)) adds
-      ∙ groups-after rs (r .newKinds) (r ∷ []) fs (append-nil (r .newKinds)) (omega (arith, b .0)) (b .1) (zero .1) (b .2) once known (omega arith)
-
-  -- the families in their order, behind those of the draft
-  families-after : (gs fs : List Family) → BuildableFamilies gs → AllUncounted gs → Distinct (layoutKinds (fs ++ gs)) → ((k : ℕ) → In (layoutKinds gs) k → In (s .kinds) k) → groupsOf (fs ++ gs) ≤ MAX-GROUP-COUNT
-      → afterAll (familiesOf gs) (drafted s fs) ≡ drafted s (fs ++ gs)
-  families-after [] fs b zero once known few = ap (drafted s) (sym (append-nil fs))
-  families-after (g ∷ gs) fs b zero once known few =
-      let e : (fs ++ (g ∷ [])) ++ gs ≡ fs ++ (g ∷ gs) = one-by-one fs gs g in
-      let front : Distinct (layoutKinds fs ++ kindsOf g) = distinct-left (layoutKinds fs ++ kindsOf g) (layoutKinds gs) (rw (kinds-append fs (g ∷ gs), sym (append-assoc (layoutKinds fs) (kindsOf g) (layoutKinds gs))) at once) in
-      after-append (groupsFrom [] g) (familiesOf gs) (drafted s fs)
-      ∙ ap (λ (t : Store). afterAll (familiesOf gs) t) (family-after g fs (b .0) (zero .0) front (λ k i. known k (in-left (kindsOf g) (layoutKinds gs) k i)) (omega (arith, groups-append fs (g ∷ gs))))
-      ∙ families-after gs (fs ++ (g ∷ [])) (b .1) (zero .1) (rw e once) (λ k i. known k (in-right (kindsOf g) (layoutKinds gs) k i)) (rw e few)
-      ∙ ap (drafted s) e
-
-  -- a draft from nothing
-  draft-after : (fs : List Family) → DraftSound (s .kinds) fs → afterAll (familiesOf fs) (drafted s []) ≡ drafted s fs
-  draft-after fs D = families-after fs [] (D .buildable .families) (D .uncounted) (D .buildable .once) (D .buildable .known) (D .buildable .few)
-
--- ---- APPLY
-
-plain-group : (r : Group) → r .count ≡ 0 → zeroCount r ≡ r
-plain-group r z = λ i. record { newKinds = r .newKinds; count = sym z i }
-
-plain-family : (f : Family) → Uncounted f → map zeroCount f ≡ f
-plain-family [] z = refl
-plain-family (r ∷ f) z = ap₂ {C = Family} (λ x xs. x ∷ xs) (plain-group r (z .0)) (plain-family f (z .1))
-
-pub plain-families : (fs : List Family) → AllUncounted fs → map (map zeroCount) fs ≡ fs
-plain-families [] z = refl
-plain-families (f ∷ fs) z = ap₂ {C = List Family} (λ x xs. x ∷ xs) (plain-family f (z .0)) (plain-families fs (z .1))
-
--- with no entity live the draft is in force as it stands
-apply-after : (s : Store) → s .entities .live ≡ [] → AllUncounted (s .control .draft) → afterOne APPLY s ≡ withControl (withStorage s (withLayout (s .storage) (s .control .draft))) (withDraft (s .control) [])
-unfolding accepted setLayout regroup
-apply-after s none zero =
-    ap (storeAfter s) (apply-does s)
-    ∙ ap (λ (l : List Entity). withControl (withStorage s (setLayout l (s .control .draft) (s .storage))) (withDraft (s .control) [])) none
-    ∙ ap (λ (fs : List Family). withControl (withStorage s (withLayout (s .storage) fs)) (withDraft (s .control) [])) (plain-families (s .control .draft) zero)
-
--- ---- the whole tape
-
-module _ (n k : ℕ) (b : Build) (B : BuildSound k b) where
-  commands-after : afterAll (commandsOf b) (empty n k) ≡ builtStore n k b
-  unfolding empty
-  commands-after =
-      let s₁ = withKinds (empty n k) (b .kinds) in
-      let s₂ = withStorage s₁ (withLayout (empty n k .storage) (b .layout)) in
-      let s₃ = drafted s₂ (b .draft) in
-      let s₄ = withControl s₃ (withStaged (s₃ .control) (b .staged)) in
-      let barring = map BAR (b .excluded) in
-      let holding = holdsOf (b .staged) ++ barring in
-      let drafting = familiesOf (b .draft) ++ holding in
-      let small = B .kinds .small in
-      first (map REG (b .kinds)) (familiesOf (b .layout) ++ (APPLY ∷ drafting)) (empty n k) s₁ (regs-after (b .kinds) (empty n k) (B .kinds .once) (B .kinds .few) small)
-      ∙ first (familiesOf (b .layout)) (APPLY ∷ drafting) s₁ (drafted s₁ (b .layout)) (draft-after s₁ small (b .layout) (B .layout))
-      ∙ first (APPLY ∷ []) drafting (drafted s₁ (b .layout)) s₂ (apply-after (drafted s₁ (b .layout)) refl (B .layout .uncounted))
-      ∙ first (familiesOf (b .draft)) holding s₂ s₃ (draft-after s₂ small (b .draft) (B .draft))
-      ∙ first (holdsOf (b .staged)) barring s₃ s₄ (holds-after (b .staged) s₃ (B .staged .once) (B .staged .few) (λ j i. known-kind s₃ small j (B .staged .known j i)))
-      ∙ bars-after (b .excluded) s₄ (B .excluded .once) (B .excluded .few) (λ j i. known-kind s₄ small j (B .excluded .known j i))
-
--- ---- the commands can stand on a tape
-
-abbrev Bytewise : List ℕ → Type 0
-Bytewise ks = (k : ℕ) → In ks k → k < 256
-
-regs-encodable : (ks : List ℕ) → Bytewise ks → AllEncodable (map REG ks)
-regs-encodable [] h = tt
-regs-encodable (k ∷ ks) h = (h k (next-in ks k), regs-encodable ks (λ j i. h j (in-right (k ∷ []) ks j i)))
-
-bars-encodable : (ks : List ℕ) → Bytewise ks → AllEncodable (map BAR ks)
-bars-encodable [] h = tt
-bars-encodable (k ∷ ks) h = (h k (next-in ks k), bars-encodable ks (λ j i. h j (in-right (k ∷ []) ks j i)))
-
-holds-encodable : (ps : List Component) → Bytewise (map kindOf ps) → ((j : ℕ) → Eight (getD ps j noComponent .value)) → AllEncodable (holdsOf ps)
-holds-encodable [] h v = tt
-holds-encodable (p ∷ ps) h v = ((h (p .kind) (next-in (map kindOf ps) (p .kind)), v 0), holds-encodable ps (λ j i. h j (in-right (p .kind ∷ []) (map kindOf ps) j i)) (λ j. v (suc j)))
-
-valueless-encodable : (ks : List ℕ) → Bytewise ks → AllEncodable (holdsOf (map valueless ks))
-valueless-encodable [] h = tt
-valueless-encodable (k ∷ ks) h = ((h k (next-in ks k), lit< tt), valueless-encodable ks (λ j i. h j (in-right (k ∷ []) ks j i)))
-
-groups-encodable : (rs : Family) (acc : List ℕ) → Bytewise (acc ++ kindsOf rs) → AllEncodable (groupsFrom acc rs)
-groups-encodable [] acc h = tt
-groups-encodable (r ∷ rs) acc h =
-    let h′ : Bytewise ((acc ++ r .newKinds) ++ kindsOf rs) = rw (append-assoc acc (r .newKinds) (kindsOf rs)) h in
-    encodable-append (holdsOf (map valueless (acc ++ r .newKinds))) (GROUP ∷ groupsFrom (acc ++ r .newKinds) rs)
-    (valueless-encodable (acc ++ r .newKinds) (λ k i. h′ k (in-left (acc ++ r .newKinds) (kindsOf rs) k i)))
-    (tt, groups-encodable rs (acc ++ r .newKinds) h′)
-
-families-encodable : (fs : List Family) → Bytewise (layoutKinds fs) → AllEncodable (familiesOf fs)
-families-encodable [] h = tt
-families-encodable (f ∷ fs) h =
-    encodable-append (groupsFrom [] f) (familiesOf fs) (groups-encodable f [] (λ k i. h k (in-left (kindsOf f) (layoutKinds fs) k i))) (families-encodable fs (λ k i. h k (in-right (kindsOf f) (layoutKinds fs) k i)))
-
-pub commands-encodable : (k : ℕ) (b : Build) → BuildSound k b → AllEncodable (commandsOf b)
-commands-encodable k b B =
-    encodable-append (map REG (b .kinds)) _ (regs-encodable (b .kinds) byte)
-    (encodable-append (familiesOf (b .layout)) _ (families-encodable (b .layout) (λ j i. byte j (B .layout .buildable .known j i)))
-    (tt, encodable-append (familiesOf (b .draft)) _ (families-encodable (b .draft) (λ j i. byte j (B .draft .buildable .known j i)))
-    (encodable-append (holdsOf (b .staged)) _ (holds-encodable (b .staged) (λ j i. byte j (B .staged .known j i)) (B .staged .values)) (bars-encodable (b .excluded) (λ j i. byte j (B .excluded .known j i))))))
-  where
-    byte : Bytewise (b .kinds)
-    byte j i = omega (arith, B .kinds .small j i)
-
--- ---- both ways
-
--- the tape of specs/Built.antt, with room for its answers, builds it
-pub every-built : (n k : ℕ) (b : Build) → BuildSound k b → BuiltBy n k b
-every-built n k b B =
+pub tape-builds : (n k : ℕ) (b : Build) → BuildSound k b → TapeLeaves n k (buildTape b) (buildRoom n k b) (builtStore n k b)
+tape-builds n k b B =
     let E = commands-encodable k b B in
     record {
-      tape = buildTape b;
       bytes = tape-bytes (commandsOf b) E;
-      room = buildRoom n k b;
-      leaves = λ r h.
-          let ran = run-commands (commandsOf b) r (empty n k) E h in
-          record { stop = ap (λ (x : Ran). x .stop) ran; store = ap (λ (x : Ran). x .store) ran ∙ commands-after n k b B };
+      stop = λ r h. ap (λ (x : Ran). x .stop) (run-commands (commandsOf b) r (empty n k) E h);
+      store = λ r h. ap (λ (x : Ran). x .store) (run-commands (commandsOf b) r (empty n k) E h) ∙ commands-after n k b B;
     }
+
+pub every-built : (n k : ℕ) (b : Build) → BuildSound k b → LeftBy n k (builtStore n k b)
+every-built n k b B = record { tape = buildTape b; room = buildRoom n k b; leaves = tape-builds n k b B }
+
+-- ---- what a tape leaves is such
+
+pub left-sound : (n k : ℕ) (s : Store) → Limits n k → LeftBy n k s → StoreSound s
+left-sound n k s L T = subst StoreSound (T .leaves .store (T .room) (omega arith)) (run-sound (T .tape) (T .room) n k (T .leaves .bytes) L)
 
 -- with no entity live, groups that are right count nothing
 right-uncounted : (sets : List SparseSet) (acc : List ℕ) (f : Family) → RightFrom sets [] acc f → Uncounted f
@@ -278,7 +46,6 @@ all-uncounted : (sets : List SparseSet) (fs : List Family) → AllRight sets [] 
 all-uncounted sets [] R = tt
 all-uncounted sets (f ∷ fs) R = (right-uncounted sets [] f (R .0), all-uncounted sets fs (R .1))
 
--- a sound store without entities has what commands can build
 sound-build : (n k : ℕ) (b : Build) → StoreSound (builtStore n k b) → BuildSound k b
 unfolding empty
 sound-build n k b S =
@@ -288,11 +55,77 @@ sound-build n k b S =
       draft = record { buildable = S .draft; uncounted = S .uncounted };
       staged = S .staged;
       excluded = S .excluded;
+      refusals = S .refusals;
     }
 
--- and no other is built
-pub only-sound-built : (n k : ℕ) (b : Build) → Limits n k → BuiltBy n k b → BuildSound k b
-only-sound-built n k b L T = sound-build n k b (subst StoreSound (T .leaves (T .room) (omega arith) .store) (run-sound (T .tape) (T .room) n k (T .bytes) L))
+-- both ways
+pub built-exactly : (n k : ℕ) (b : Build) → Limits n k → BuildSound k b ↔ LeftBy n k (builtStore n k b)
+built-exactly n k b L = (every-built n k b, λ T. sound-build n k b (left-sound n k (builtStore n k b) L T))
 
-pub built-exactly : (n k : ℕ) (b : Build) → Limits n k → BuildSound k b ↔ BuiltBy n k b
-built-exactly n k b L = (every-built n k b, only-sound-built n k b L)
+-- ---- the parts of every sound store
+
+zeroed-uncounted : (f : Family) → Uncounted (map zeroCount f)
+zeroed-uncounted [] = tt
+zeroed-uncounted (r ∷ f) = (refl, zeroed-uncounted f)
+
+all-zeroed : (fs : List Family) → AllUncounted (map (map zeroCount) fs)
+all-zeroed [] = tt
+all-zeroed (f ∷ fs) = (zeroed-uncounted f, all-zeroed fs)
+
+module _ (s : Store) (S : StoreSound s) where
+  pub parts-sound : BuildSound (s .settings .kindCapacity) (partsOf s)
+  parts-sound =
+      let fs = s .storage .layout in
+      record {
+        kinds = S .kinds;
+        layout = record { buildable = buildable-plain (s .kinds) fs (map (map zeroCount) fs) (zeroed-families (map (map zeroCount) fs) (all-zeroed fs)) (S .layout); uncounted = all-zeroed fs };
+        draft = record { buildable = S .draft; uncounted = S .uncounted };
+        staged = S .staged;
+        excluded = S .excluded;
+        refusals = S .refusals;
+      }
+
+  -- its kinds, hand, bar, draft, tally and its layout but for the counts are what some tape leaves
+  pub parts-built : LeftBy (s .settings .capacity) (s .settings .kindCapacity) (builtStore (s .settings .capacity) (s .settings .kindCapacity) (partsOf s))
+  parts-built = every-built (s .settings .capacity) (s .settings .kindCapacity) (partsOf s) parts-sound
+
+-- ---- sound stores in which no number is issued: they are what tapes leave, the whole store
+
+none-of : {A : Type 0} (l : List A) → length l ≤ 0 → l ≡ []
+none-of [] h = refl
+none-of (x ∷ l) h = absurd (omega arith)
+
+no-sets : (sets : List SparseSet) → ((k : ℕ) → setOf sets k ≡ []) → sets ≡ replicate (length sets) []
+no-sets [] h = refl
+no-sets (c ∷ sets) h = ap₂ {C = List SparseSet} (λ x xs. x ∷ xs) (h 0) (no-sets sets (λ k. h (suc k)))
+
+module _ (s : Store) (S : StoreSound s) (none : s .entities .issued ≡ 0) where
+  few : length (s .entities .live) + length (s .entities .recycled) ≤ 0
+  few = omega (arith, none, numbers-few (s .settings .capacity) (s .entities) (S .entities))
+
+  no-live : s .entities .live ≡ []
+  no-live = none-of (s .entities .live) (omega (arith, few))
+
+  sets-empty : s .storage .sets ≡ replicate MAX-KINDS []
+  sets-empty =
+      no-sets (s .storage .sets) (λ k. none-of (setOf (s .storage .sets) k) (omega (arith, few, rows-live s S k)))
+      ∙ ap (λ (n : ℕ). replicate n []) (S .sets .wide)
+
+  layout-zeroed : map (map zeroCount) (s .storage .layout) ≡ s .storage .layout
+  layout-zeroed = zeroed-families (s .storage .layout) (all-uncounted (s .storage .sets) (s .storage .layout) (subst (λ (l : List Entity). AllRight (s .storage .sets) l (s .storage .layout)) no-live (S .groups)))
+
+  parts-whole : builtStore (s .settings .capacity) (s .settings .kindCapacity) (partsOf s) ≡ s
+  unfolding empty
+  parts-whole = λ i. record {
+    settings = s .settings;
+    kinds = s .kinds;
+    entities = record { live = sym no-live i; recycled = sym (none-of (s .entities .recycled) (omega (arith, few))) i; issued = sym none i };
+    storage = record { sets = sym sets-empty i; layout = layout-zeroed i };
+    control = s .control;
+  }
+
+pub sound-exactly : (s : Store) → Limits (s .settings .capacity) (s .settings .kindCapacity) → s .entities .issued ≡ 0 → StoreSound s ↔ LeftBy (s .settings .capacity) (s .settings .kindCapacity) s
+sound-exactly s L none = (
+  (λ S. subst (LeftBy (s .settings .capacity) (s .settings .kindCapacity)) (parts-whole s S none) (parts-built s S)),
+  left-sound (s .settings .capacity) (s .settings .kindCapacity) s L,
+)

@@ -8,7 +8,7 @@ use borrow.Author.Tests.{eq-eqb, le-ltb, lt-leb}
 use lib.Dec.{eqb}
 use lib.ListN.{length, length-append}
 use Rattle.model.specs.Numbers.{MAX-GROUP-ARITY, MAX-GROUP-COUNT}
-use Rattle.model.specs.Model.{Group, Family, mem, meets, within, without, headKind, kindsOf, groupsOf, isGroup, present, touched, covers, newGroup, grown}
+use Rattle.model.specs.Model.{Family, mem, meets, within, without, headKind, kindsOf, groupsOf, isGroup, present, touched, covers, newGroup, grown}
 use Rattle.model.specs.Adding.{added, addGroup}
 use Rattle.model.specs.Sound.{In, Distinct, layoutKinds}
 use Rattle.model.proofs.BoolLaws.{bool-cases, not-true}
@@ -108,18 +108,25 @@ pub wider-added : (fs : List Family) (f : Family) (ring : List ℕ) → 1 ≤ le
     → addGroup (kindsOf f ++ ring) (fs ++ (f ∷ [])) ≡ added (fs ++ ((f ++ (newGroup ring ∷ [])) ∷ []))
 unfolding addGroup
 wider-added fs f ring some more narrow once few =
-    let ks = kindsOf f ++ ring in
     let two : 2 ≤ length (kindsOf f ++ ring) = omega (arith, length-append (kindsOf f) ring) in
     let both : Distinct (kindsOf f ++ ring) = distinct-right (layoutKinds fs) (kindsOf f ++ ring) once in
     let apart : Apart (kindsOf f ++ ring) fs = λ k i. not-both (layoutKinds fs) (kindsOf f ++ ring) k (distinct-apart (layoutKinds fs) (kindsOf f ++ ring) once k) i in
     let h : In ring (headKind ring) = head-in ring more in
     let i : In (kindsOf f ++ ring) (headKind ring) = in-right (kindsOf f) ring (headKind ring) h in
     let new : mem (headKind ring) (layoutKinds (fs ++ (f ∷ []))) ≡ false =
-        ap (mem (headKind ring)) (kinds-append fs (f ∷ []) ∙ ap (λ (l : List ℕ). layoutKinds fs ++ l) (append-nil (kindsOf f)))
-        ∙ mem-append (headKind ring) (layoutKinds fs) (kindsOf f)
-        ∙ rw (apart (headKind ring) i) (not-both (kindsOf f) ring (headKind ring) (distinct-apart (kindsOf f) ring both (headKind ring)) h) in
+    ap (mem (headKind ring)) (kinds-append fs (f ∷ []) ∙ ap (λ (l : List ℕ). layoutKinds fs ++ l) (append-nil (kindsOf f)))
+    ∙ mem-append (headKind ring) (layoutKinds fs) (kindsOf f)
+    ∙ rw (apart (headKind ring) i) (not-both (kindsOf f) ring (headKind ring) (distinct-apart (kindsOf f) ring both (headKind ring)) h) in
     let m : meets (kindsOf f ++ ring) (kindsOf f) ≡ true = any-in (λ k. mem k (kindsOf f)) (kindsOf f ++ ring) (headKind (kindsOf f)) (in-left (kindsOf f) ring (headKind (kindsOf f)) (head-in (kindsOf f) some)) (head-in (kindsOf f) some) in
     let w : within (kindsOf f) (kindsOf f ++ ring) ≡ true = all-true (λ k. mem k (kindsOf f ++ ring)) (kindsOf f) (λ k j. in-left (kindsOf f) ring k j) in
     let room : groupsOf (fs ++ (f ∷ [])) < MAX-GROUP-COUNT = omega (arith, groups-append fs (f ∷ [])) in
-    rw (le-ltb MAX-GROUP-ARITY (length (kindsOf f ++ ring)) narrow, le-ltb (length (kindsOf f ++ ring)) 2 two, not-present (kindsOf f ++ ring) (headKind ring) (fs ++ (f ∷ [])) i new,
-    last-touched (kindsOf f ++ ring) f m w fs apart, last-covered (kindsOf f ++ ring) f m w fs apart, lt-leb MAX-GROUP-COUNT (groupsOf (fs ++ (f ∷ []))) room, last-grown (kindsOf f ++ ring) f m w fs apart, without-ring (kindsOf f) ring both)
+    rw (
+      le-ltb MAX-GROUP-ARITY (length (kindsOf f ++ ring)) narrow,
+      le-ltb (length (kindsOf f ++ ring)) 2 two,
+      not-present (kindsOf f ++ ring) (headKind ring) (fs ++ (f ∷ [])) i new,
+      last-touched (kindsOf f ++ ring) f m w fs apart,
+      last-covered (kindsOf f ++ ring) f m w fs apart,
+      lt-leb MAX-GROUP-COUNT (groupsOf (fs ++ (f ∷ []))) room,
+      last-grown (kindsOf f ++ ring) f m w fs apart,
+      without-ring (kindsOf f) ring both,
+    )
