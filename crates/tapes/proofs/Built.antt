@@ -14,7 +14,7 @@ use Rattle.model.specs.Sound.{Limits, Uncounted, AllUncounted, RightFrom, AllRi
 use Rattle.model.proofs.Bounds.{numbers-few, rows-live}
 use Rattle.model.proofs.Shape.{buildable-plain}
 use Rattle.model.proofs.Sound.{run-sound}
-use Rattle.tapes.specs.Built.{Build, builtStore, BuildSound, partsOf, TapeLeaves, LeftBy, commandsOf, buildTape, buildRoom}
+use Rattle.tapes.specs.Built.{Build, builtStore, BuildSound, partsOf, TapeLeaves, LeftBy, buildCommands, buildTape, buildRoom}
 use Rattle.tapes.proofs.Tapes.{tape-bytes, run-commands}
 use Rattle.tapes.proofs.Building.{zeroed-families, commands-after, commands-encodable}
 
@@ -24,9 +24,9 @@ pub tape-builds : (n k : ℕ) (b : Build) → BuildSound k b → TapeLeaves n k 
 tape-builds n k b B =
     let E = commands-encodable k b B in
     record {
-      bytes = tape-bytes (commandsOf b) E;
-      stop = λ r h. ap (λ (x : Ran). x .stop) (run-commands (commandsOf b) r (empty n k) E h);
-      store = λ r h. ap (λ (x : Ran). x .store) (run-commands (commandsOf b) r (empty n k) E h) ∙ commands-after n k b B;
+      bytes = tape-bytes (buildCommands b) E;
+      stop = λ r h. ap (λ (x : Ran). x .stop) (run-commands (buildCommands b) r (empty n k) E h);
+      store = λ r h. ap (λ (x : Ran). x .store) (run-commands (buildCommands b) r (empty n k) E h) ∙ commands-after n k b B;
     }
 
 pub every-built : (n k : ℕ) (b : Build) → BuildSound k b → LeftBy n k (builtStore n k b)
@@ -114,7 +114,7 @@ module _ (s : Store) (S : StoreSound s) (none : s .entities .issued ≡ 0) where
   layout-zeroed : map (map zeroCount) (s .storage .layout) ≡ s .storage .layout
   layout-zeroed = zeroed-families (s .storage .layout) (all-uncounted (s .storage .sets) (s .storage .layout) (subst (λ (l : List Entity). AllRight (s .storage .sets) l (s .storage .layout)) no-live (S .groups)))
 
-  parts-whole : builtStore (s .settings .capacity) (s .settings .kindCapacity) (partsOf s) ≡ s
+  pub parts-whole : builtStore (s .settings .capacity) (s .settings .kindCapacity) (partsOf s) ≡ s
   unfolding empty
   parts-whole = λ i. record {
     settings = s .settings;

@@ -1,4 +1,5 @@
--- Adding a group to a draft that has not its kinds, and one that holds all kinds of the last family. Assumes nothing.
+-- What GROUP adds to a draft: kinds of which the draft has none become a family of their own, kinds that hold all those of the last family its next group.
+-- Assumes nothing.
 use mathlib.Core.Path.{_≡_, refl, ap, sym, _∙_}
 use mathlib.Core.Bool.{true, false, true≢false, or-true}
 use mathlib.Core.List.{List, [], _∷_, _++_, append-assoc, append-nil}
@@ -34,18 +35,22 @@ without-none : (b js : List ℕ) → ((k : ℕ) → In b k → mem k js ≡ fals
 without-none [] js h = refl
 without-none (k ∷ b) js h = rw (h k (rw (eq-eqb k k refl))) (ap {B = List ℕ} (λ l. k ∷ l) (without-none b js (λ j i. h j (rw i (or-true (eqb j k))))))
 
+-- of distinct kinds those behind are not among those before
+pub before-free : (a b : List ℕ) → Distinct (a ++ b) → (k : ℕ) → In b k → mem k a ≡ false
+before-free a b d k i = not-both a b k (distinct-apart a b d k) i
+
 -- a group's kinds without those of the group before are its ring
 pub without-ring : (acc ring : List ℕ) → Distinct (acc ++ ring) → without (acc ++ ring) acc ≡ ring
 without-ring acc ring d =
     without-append acc ring acc
     ∙ ap (λ (l : List ℕ). l ++ without ring acc) (without-all acc acc (λ k i. i))
-    ∙ without-none ring acc (λ k i. not-both acc ring k (distinct-apart acc ring d k) i)
+    ∙ without-none ring acc (before-free acc ring d)
 
 -- ---- families
 
-pub family-kinds : (f g : Family) → kindsOf (f ++ g) ≡ kindsOf f ++ kindsOf g
-family-kinds [] g = refl
-family-kinds (r ∷ f) g = ap (λ (l : List ℕ). r .newKinds ++ l) (family-kinds f g) ∙ sym (append-assoc (r .newKinds) (kindsOf f) (kindsOf g))
+pub family-joined : (f g : Family) → kindsOf (f ++ g) ≡ kindsOf f ++ kindsOf g
+family-joined [] g = refl
+family-joined (r ∷ f) g = ap (λ (l : List ℕ). r .newKinds ++ l) (family-joined f g) ∙ sym (append-assoc (r .newKinds) (kindsOf f) (kindsOf g))
 
 pub groups-append : (fs gs : List Family) → groupsOf (fs ++ gs) ≡ groupsOf fs + groupsOf gs
 groups-append [] gs = omega arith
@@ -66,42 +71,42 @@ not-present ks k (f ∷ fs) i n =
     let p = not-in-parts k (kindsOf f) (layoutKinds fs) n in
     rw (not-group ks [] k f i (p .0)) (not-present ks k fs i (p .1))
 
--- none of ks is in it
-abbrev pub Apart : List ℕ → List Family → Type 0
-Apart ks fs = (k : ℕ) → In ks k → mem k (layoutKinds fs) ≡ false
+-- it has none of ks
+abbrev pub FreeOf : List ℕ → List Family → Type 0
+FreeOf ks fs = (k : ℕ) → In ks k → mem k (layoutKinds fs) ≡ false
 
-module _ (ks : List ℕ) (f : Family) (fs : List Family) (h : Apart ks (f ∷ fs)) where
-  apart-first : meets ks (kindsOf f) ≡ false
-  apart-first = unmet-all ks (kindsOf f) (λ k i. not-in-parts k (kindsOf f) (layoutKinds fs) (h k i) .0)
+module _ (ks : List ℕ) (f : Family) (fs : List Family) (h : FreeOf ks (f ∷ fs)) where
+  free-first : meets ks (kindsOf f) ≡ false
+  free-first = unmet-all ks (kindsOf f) (λ k i. not-in-parts k (kindsOf f) (layoutKinds fs) (h k i) .0)
 
-  apart-rest : Apart ks fs
-  apart-rest k i = not-in-parts k (kindsOf f) (layoutKinds fs) (h k i) .1
+  free-rest : FreeOf ks fs
+  free-rest k i = not-in-parts k (kindsOf f) (layoutKinds fs) (h k i) .1
 
-apart-touched : (ks : List ℕ) (fs : List Family) → Apart ks fs → touched ks fs ≡ 0
-apart-touched ks [] h = refl
-apart-touched ks (f ∷ fs) h = rw (apart-first ks f fs h) (apart-touched ks fs (apart-rest ks f fs h))
+free-touched : (ks : List ℕ) (fs : List Family) → FreeOf ks fs → touched ks fs ≡ 0
+free-touched ks [] h = refl
+free-touched ks (f ∷ fs) h = rw (free-first ks f fs h) (free-touched ks fs (free-rest ks f fs h))
 
 -- a group of its own
-pub own-added : (ks : List ℕ) (fs : List Family) → 2 ≤ length ks → length ks ≤ MAX-GROUP-ARITY → Apart ks fs → groupsOf fs < MAX-GROUP-COUNT → addGroup ks fs ≡ added (fs ++ ((newGroup ks ∷ []) ∷ []))
+pub own-added : (ks : List ℕ) (fs : List Family) → 2 ≤ length ks → length ks ≤ MAX-GROUP-ARITY → FreeOf ks fs → groupsOf fs < MAX-GROUP-COUNT → addGroup ks fs ≡ added (fs ++ ((newGroup ks ∷ []) ∷ []))
 unfolding addGroup
-own-added ks fs two narrow apart few =
+own-added ks fs two narrow free few =
     let i : In ks (headKind ks) = head-in ks (omega arith) in
-    rw (le-ltb MAX-GROUP-ARITY (length ks) narrow, le-ltb (length ks) 2 two, not-present ks (headKind ks) fs i (apart (headKind ks) i), apart-touched ks fs apart, lt-leb MAX-GROUP-COUNT (groupsOf fs) few)
+    rw (le-ltb MAX-GROUP-ARITY (length ks) narrow, le-ltb (length ks) 2 two, not-present ks (headKind ks) fs i (free (headKind ks) i), free-touched ks fs free, lt-leb MAX-GROUP-COUNT (groupsOf fs) few)
 
 -- ---- kinds that hold all kinds of the last family, and none of the families before
 
 module _ (ks : List ℕ) (f : Family) (m : meets ks (kindsOf f) ≡ true) (w : within (kindsOf f) ks ≡ true) where
-  last-touched : (fs : List Family) → Apart ks fs → touched ks (fs ++ (f ∷ [])) ≡ 1
+  last-touched : (fs : List Family) → FreeOf ks fs → touched ks (fs ++ (f ∷ [])) ≡ 1
   last-touched [] h = rw m
-  last-touched (g ∷ fs) h = rw (apart-first ks g fs h) (last-touched fs (apart-rest ks g fs h))
+  last-touched (g ∷ fs) h = rw (free-first ks g fs h) (last-touched fs (free-rest ks g fs h))
 
-  last-covered : (fs : List Family) → Apart ks fs → covers ks (fs ++ (f ∷ [])) ≡ true
+  last-covered : (fs : List Family) → FreeOf ks fs → covers ks (fs ++ (f ∷ [])) ≡ true
   last-covered [] h = rw (m, w)
-  last-covered (g ∷ fs) h = rw (apart-first ks g fs h) (last-covered fs (apart-rest ks g fs h))
+  last-covered (g ∷ fs) h = rw (free-first ks g fs h) (last-covered fs (free-rest ks g fs h))
 
-  last-grown : (fs : List Family) → Apart ks fs → grown ks (fs ++ (f ∷ [])) ≡ fs ++ ((f ++ (newGroup (without ks (kindsOf f)) ∷ [])) ∷ [])
+  last-grown : (fs : List Family) → FreeOf ks fs → grown ks (fs ++ (f ∷ [])) ≡ fs ++ ((f ++ (newGroup (without ks (kindsOf f)) ∷ [])) ∷ [])
   last-grown [] h = rw m
-  last-grown (g ∷ fs) h = rw (apart-first ks g fs h) (ap {B = List Family} (λ l. g ∷ l) (last-grown fs (apart-rest ks g fs h)))
+  last-grown (g ∷ fs) h = rw (free-first ks g fs h) (ap {B = List Family} (λ l. g ∷ l) (last-grown fs (free-rest ks g fs h)))
 
 -- the last family's next group, of ring `ring`
 pub wider-added : (fs : List Family) (f : Family) (ring : List ℕ) → 1 ≤ length (kindsOf f) → 1 ≤ length ring → length (kindsOf f ++ ring) ≤ MAX-GROUP-ARITY → Distinct (layoutKinds fs ++ (kindsOf f ++ ring)) → groupsOf fs + length f < MAX-GROUP-COUNT
@@ -110,13 +115,13 @@ unfolding addGroup
 wider-added fs f ring some more narrow once few =
     let two : 2 ≤ length (kindsOf f ++ ring) = omega (arith, length-append (kindsOf f) ring) in
     let both : Distinct (kindsOf f ++ ring) = distinct-right (layoutKinds fs) (kindsOf f ++ ring) once in
-    let apart : Apart (kindsOf f ++ ring) fs = λ k i. not-both (layoutKinds fs) (kindsOf f ++ ring) k (distinct-apart (layoutKinds fs) (kindsOf f ++ ring) once k) i in
+    let free : FreeOf (kindsOf f ++ ring) fs = before-free (layoutKinds fs) (kindsOf f ++ ring) once in
     let h : In ring (headKind ring) = head-in ring more in
     let i : In (kindsOf f ++ ring) (headKind ring) = in-right (kindsOf f) ring (headKind ring) h in
     let new : mem (headKind ring) (layoutKinds (fs ++ (f ∷ []))) ≡ false =
     ap (mem (headKind ring)) (kinds-append fs (f ∷ []) ∙ ap (λ (l : List ℕ). layoutKinds fs ++ l) (append-nil (kindsOf f)))
     ∙ mem-append (headKind ring) (layoutKinds fs) (kindsOf f)
-    ∙ rw (apart (headKind ring) i) (not-both (kindsOf f) ring (headKind ring) (distinct-apart (kindsOf f) ring both (headKind ring)) h) in
+    ∙ rw (free (headKind ring) i) (before-free (kindsOf f) ring both (headKind ring) h) in
     let m : meets (kindsOf f ++ ring) (kindsOf f) ≡ true = any-in (λ k. mem k (kindsOf f)) (kindsOf f ++ ring) (headKind (kindsOf f)) (in-left (kindsOf f) ring (headKind (kindsOf f)) (head-in (kindsOf f) some)) (head-in (kindsOf f) some) in
     let w : within (kindsOf f) (kindsOf f ++ ring) ≡ true = all-true (λ k. mem k (kindsOf f ++ ring)) (kindsOf f) (λ k j. in-left (kindsOf f) ring k j) in
     let room : groupsOf (fs ++ (f ∷ [])) < MAX-GROUP-COUNT = omega (arith, groups-append fs (f ∷ [])) in
@@ -124,9 +129,9 @@ wider-added fs f ring some more narrow once few =
       le-ltb MAX-GROUP-ARITY (length (kindsOf f ++ ring)) narrow,
       le-ltb (length (kindsOf f ++ ring)) 2 two,
       not-present (kindsOf f ++ ring) (headKind ring) (fs ++ (f ∷ [])) i new,
-      last-touched (kindsOf f ++ ring) f m w fs apart,
-      last-covered (kindsOf f ++ ring) f m w fs apart,
+      last-touched (kindsOf f ++ ring) f m w fs free,
+      last-covered (kindsOf f ++ ring) f m w fs free,
       lt-leb MAX-GROUP-COUNT (groupsOf (fs ++ (f ∷ []))) room,
-      last-grown (kindsOf f ++ ring) f m w fs apart,
+      last-grown (kindsOf f ++ ring) f m w fs free,
       without-ring (kindsOf f) ring both,
     )

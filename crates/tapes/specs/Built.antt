@@ -1,4 +1,4 @@
--- "hand, bar, draft and layout of registered kinds, such as commands can build": the tape that builds them, and what it is that a tape leaves a store.
+-- "hand, bar, draft and layout of registered kinds, such as commands can build": what it is that a tape leaves them, and the tape that builds them.
 -- Assumes nothing.
 use mathlib.Core.Path.{_≡_}
 use mathlib.Core.List.{List, [], _∷_, _++_, map}
@@ -13,8 +13,9 @@ use Rattle.model.specs.Sound.{KindsSound, StagedSound, ExcludedSound}
 use Rattle.model.specs.Theorems.{DraftSound}
 use Rattle.tapes.specs.Tapes.{tapeOf, roomFor}
 
--- ---- what is built, in a store in which no number is issued: the registered kinds in their order, the layout in force, draft, hand, bar and tally
+-- ---- what is built
 
+-- the registered kinds in their order, the layout in force, draft, hand, bar and tally
 pub record Build : Type 0 where
   pub kinds : List ℕ
   pub layout : List Family
@@ -23,7 +24,7 @@ pub record Build : Type 0 where
   pub excluded : List ℕ
   pub refusals : ℕ
 
--- the empty store with these in it
+-- the empty store with these in it: no number is issued
 abbrev pub builtStore : ℕ → ℕ → Build → Store
 builtStore n k b =
     let s = empty n k in
@@ -39,7 +40,7 @@ pub record BuildSound (k : ℕ) (b : Build) : Type 0 where
   pub excluded : ExcludedSound (b .kinds) (b .excluded)
   pub refusals : b .refusals ≤ MAX-REFUSALS
 
--- those of a store, but for the counts of its groups
+-- a store's own, but for the counts of its groups
 abbrev pub partsOf : Store → Build
 partsOf s =
     record {
@@ -71,30 +72,32 @@ pub record LeftBy (n k : ℕ) (s : Store) : Type 0 where
 abbrev pub refusedCommand : Command
 refusedCommand = REG (suc LAST-KIND)
 
-abbrev pub holdsOf : List Component → List Command
-holdsOf [] = []
-holdsOf (p ∷ ps) = HOLD (p .kind) (p .value) ∷ holdsOf ps
+-- into the hand, in its order
+abbrev pub holdCommands : List Component → List Command
+holdCommands [] = []
+holdCommands (p ∷ ps) = HOLD (p .kind) (p .value) ∷ holdCommands ps
 
 -- a kind as it is held for a GROUP
 abbrev pub valueless : ℕ → Component
 valueless k = record { kind = k; value = 0 }
 
 -- a family's groups, smallest first: for each a HOLD of all its kinds, then GROUP; acc are the kinds of the group before
-abbrev pub groupsFrom : List ℕ → Family → List Command
-groupsFrom acc [] = []
-groupsFrom acc (r ∷ rs) = holdsOf (map valueless (acc ++ r .newKinds)) ++ (GROUP ∷ groupsFrom (acc ++ r .newKinds) rs)
+abbrev pub groupCommands : List ℕ → Family → List Command
+groupCommands acc [] = []
+groupCommands acc (r ∷ rs) = holdCommands (map valueless (acc ++ r .newKinds)) ++ (GROUP ∷ groupCommands (acc ++ r .newKinds) rs)
 
-abbrev pub familiesOf : List Family → List Command
-familiesOf [] = []
-familiesOf (f ∷ fs) = groupsFrom [] f ++ familiesOf fs
+-- and so each family
+abbrev pub familyCommands : List Family → List Command
+familyCommands [] = []
+familyCommands (f ∷ fs) = groupCommands [] f ++ familyCommands fs
 
 -- the tally, the kinds, the layout as a draft that is applied, the draft, the hand, the bar
-abbrev pub commandsOf : Build → List Command
-commandsOf b = replicate (b .refusals) refusedCommand ++ (map REG (b .kinds) ++ (familiesOf (b .layout) ++ (APPLY ∷ (familiesOf (b .draft) ++ (holdsOf (b .staged) ++ map BAR (b .excluded))))))
+abbrev pub buildCommands : Build → List Command
+buildCommands b = replicate (b .refusals) refusedCommand ++ (map REG (b .kinds) ++ (familyCommands (b .layout) ++ (APPLY ∷ (familyCommands (b .draft) ++ (holdCommands (b .staged) ++ map BAR (b .excluded))))))
 
 abbrev pub buildTape : Build → List ℕ
-buildTape b = tapeOf (commandsOf b)
+buildTape b = tapeOf (buildCommands b)
 
 -- the room that its answers take
 abbrev pub buildRoom : ℕ → ℕ → Build → ℕ
-buildRoom n k b = roomFor (commandsOf b) (empty n k)
+buildRoom n k b = roomFor (buildCommands b) (empty n k)
