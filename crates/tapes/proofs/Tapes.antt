@@ -3,7 +3,7 @@
 use mathlib.Core.Path.{_≡_, refl, ap, ap₂, _∙_}
 use mathlib.Core.Bool.{true, false}
 use mathlib.Core.List.{List, [], _∷_, _++_}
-use Prim.Native.Nat.{ℕ, zero, suc, _+_, _-_, _*_, _/_, _%_, _^_, _≤_, _<_}
+use Prim.Native.Nat.{ℕ, zero, suc, _+_, _-_, _/_, _^_, _≤_, _<_}
 use native.Mathlib.Omega.{arith}
 use native.Mathlib.Nat.{pow-suc, div-lt-iff-lt-mul}
 use borrow.Author.Tests.{le-ltb}
@@ -15,7 +15,7 @@ use Rattle.model.specs.Store.{Store, Bytes, bytesOf, number}
 use Rattle.model.specs.Commands.{Command, REG, HOLD, NEW, PUT, TAKE, DROP, KILL, WIPE, GROUP, APPLY, BAR, RANGE, EMPTY, TALLY, width, isCommand, entityOfBytes, commandAt, answerLength}
 use Rattle.model.specs.Run.{Outcome, refuses, accepts, does, Step, stops, goes, step, answerOf, Ran, halt, more, runFor, run}
 use Rattle.model.proofs.Lengths.{bytesOf-length, answer-length, answer-positive}
-use Rattle.tapes.specs.Tapes.{byteOf, entityBytes, operandsOf, EntityFits, Encodable, AllEncodable, tapeOf, afterOne, afterAll, answersTo, roomFor}
+use Rattle.tapes.specs.Tapes.{byteOf, entityBytes, operandsOf, EntityFits, Encodable, AllEncodable, tapeOf, afterOne, afterAll, answersTo, roomFor, ranAll}
 
 -- ---- numbers in bytes
 
@@ -164,10 +164,6 @@ run-step : (fuel b : ℕ) (t : List ℕ) (room : ℕ) (s : Store) (w : ℕ) (a :
 unfolding runFor
 run-step fuel b t room s w a s′ e =
     ap (λ (p : Step). elim p as (λ p. Ran) [ stops n ↦ halt n s | goes w a s′ ↦ more w a (runFor fuel (drop w (b ∷ t)) (room - length a) s′) ]) e
-
--- the run of a list of commands, to the tape's end
-abbrev pub ranAll : List Command → Store → Ran
-ranAll cs s = record { store = afterAll cs s; stop = 0; commands = length cs; read = length (tapeOf cs); bytes = answersTo cs s }
 
 run-commands-for : (fuel : ℕ) (cs : List Command) (room : ℕ) (s : Store) → AllEncodable cs → length (tapeOf cs) ≤ fuel → roomFor cs s ≤ room → runFor fuel (tapeOf cs) room s ≡ ranAll cs s
 unfolding runFor

@@ -1,11 +1,12 @@
 -- A command as it stands on a tape, the tape of a list of commands, and what such a list does to a store. Assumes nothing.
 use mathlib.Core.List.{List, [], _∷_, _++_}
 use Prim.Native.Nat.{ℕ, _+_, _^_, _<_}
+use lib.ListN.{length}
 use Rattle.model.specs.Numbers.{REG-BYTE, HOLD-BYTE, NEW-BYTE, PUT-BYTE, TAKE-BYTE, DROP-BYTE, KILL-BYTE, WIPE-BYTE, GROUP-BYTE, APPLY-BYTE, BAR-BYTE, RANGE-BYTE, EMPTY-BYTE, TALLY-BYTE}
 use Rattle.model.specs.Model.{Entity}
 use Rattle.model.specs.Store.{Store, bytesOf}
 use Rattle.model.specs.Commands.{Command, REG, HOLD, NEW, PUT, TAKE, DROP, KILL, WIPE, GROUP, APPLY, BAR, RANGE, EMPTY, TALLY, answerLength}
-use Rattle.model.specs.Run.{does, storeAfter, answerOf}
+use Rattle.model.specs.Run.{does, storeAfter, answerOf, Ran}
 use Rattle.model.specs.Sound.{Eight}
 
 -- ---- "One command byte, then operands"
@@ -94,3 +95,7 @@ answersTo (c ∷ cs) s = answerOf (does c s) ++ answersTo cs (afterOne c s)
 abbrev pub roomFor : List Command → Store → ℕ
 roomFor [] s = 0
 roomFor (c ∷ cs) s = answerLength c s + roomFor cs (afterOne c s)
+
+-- what their run gives, to the tape's end
+abbrev pub ranAll : List Command → Store → Ran
+ranAll cs s = record { store = afterAll cs s; stop = 0; commands = length cs; read = length (tapeOf cs); bytes = answersTo cs s }
