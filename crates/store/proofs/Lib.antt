@@ -11,3 +11,4 @@ pub mod Determined
 pub mod Demands
 pub mod Pieces
 pub mod Ranging
+pub mod Built

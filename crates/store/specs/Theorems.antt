@@ -72,3 +72,9 @@ pub record Continues (v w′ q′ bytes : List ℕ) (c r : Ran) : Type 0 where
   pub result : c ≡ r
   pub answers : take (c .written) q′ ≡ bytes
   pub alike : Alike v w′
+
+-- words that mean s, left by a run to the tape's end
+pub record LeftInWords (s : Store) (w : List ℕ) (r : Ran) : Type 0 where
+  pub stop : r .stop ≡ 0
+  pub sound : Sound w
+  pub means : meaning w ≡ s

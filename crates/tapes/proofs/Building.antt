@@ -1,0 +1,267 @@
+-- What the commands of the building tape do, kind of command by kind of command: none but those that are to count is refused. Assumes nothing.
+use mathlib.Core.Path.{_≡_, refl, ap, ap₂, sym, _∙_, subst}
+use mathlib.Core.Bool.{false}
+use mathlib.Core.List.{List, [], _∷_, _++_, map, append-assoc, append-nil}
+use Prim.Native.Nat.{ℕ, zero, suc, _+_, _≤_, _<_}
+use native.Mathlib.Omega.{arith}
+use borrow.Author.Tests.{le-ltb, lt-ltb, lt-leb, eq-eqb}
+use lib.Dec.{eqb, lit<}
+use lib.ListN.{length, getD, replicate, length-append, length-map}
+use Rattle.model.specs.Numbers.{LAST-KIND, LIST-CAPACITY, MAX-GROUP-ARITY, MAX-GROUP-COUNT, MAX-KINDS, MAX-REFUSALS}
+use Rattle.model.specs.Model.{Entity, Group, Family, Component, mem, kindOf, kindsOf, groupsOf, newGroup, zeroCount, setLayout, regroup}
+use Rattle.model.specs.Adding.{added, addGroup}
+use Rattle.model.specs.Store.{Store, empty, stagedKinds, counted, withControl, withStorage, withKinds, withLayout, withStaged, withExcluded, withDraft, withCounts, emptyStaged}
+use Rattle.model.specs.Commands.{Command, REG, GROUP, APPLY, BAR, accepted}
+use Rattle.model.specs.Refusals.{unknownKind}
+use Rattle.model.specs.Run.{Outcome, storeAfter}
+use Rattle.model.specs.Sound.{In, Distinct, Eight, noComponent, layoutKinds, Rising, BuildableFamily, BuildableFamilies, Uncounted, AllUncounted}
+use Rattle.model.specs.Theorems.{DraftSound, grouped}
+use Rattle.model.proofs.BoolLaws.{not-true}
+use Rattle.model.proofs.ListLaws.{count-append, map-append, self-count}
+use Rattle.model.proofs.KindLists.{in-count, distinct-left, distinct-right, in-left, in-right}
+use Rattle.model.proofs.Draft.{kinds-append}
+use Rattle.model.proofs.Outcomes.{reg-above, reg-new, hold-staged, bar-excluded, apply-does, group-does}
+use Rattle.tapes.specs.Tapes.{AllEncodable, afterOne, afterAll}
+use Rattle.tapes.specs.Built.{Build, builtStore, BuildSound, refusedCommand, valueless, holdCommands, groupCommands, familyCommands, buildCommands}
+use Rattle.tapes.proofs.Tapes.{encodable-append, after-append}
+use Rattle.tapes.proofs.Drafts.{before-free, family-joined, groups-append, own-added, wider-added}
+
+-- ---- a list whose items come one by one
+
+-- of distinct kinds the next is not among those before
+next-new : (l m : List ℕ) (k : ℕ) → Distinct (l ++ (k ∷ m)) → mem k l ≡ false
+next-new l m k d = not-true (mem k l) (λ t. omega (arith, d k, count-append eqb k l (k ∷ m), in-count l k t, self-count k))
+
+next-in : (l : List ℕ) (k : ℕ) → In (k ∷ l) k
+next-in l k = rw (eq-eqb k k refl)
+
+next-few : {A : Type 0} (l m : List A) (x : A) (n : ℕ) → length (l ++ (x ∷ m)) ≤ n → length l < n
+next-few l m x n h = omega (arith, length-append l (x ∷ m))
+
+one-by-one : {A : Type 0} (l m : List A) (x : A) → (l ++ (x ∷ [])) ++ m ≡ l ++ (x ∷ m)
+one-by-one l m x = append-assoc l (x ∷ []) m
+
+-- commands of which the first leave t
+first : (a b : List Command) (s t : Store) → afterAll a s ≡ t → afterAll (a ++ b) s ≡ afterAll b t
+first a b s t e = after-append a b s ∙ ap (afterAll b) e
+
+-- ---- refused commands: the tally grows by one each
+
+refusals-after : (t : ℕ) (s : Store) → t + s .control .counts .refusals ≤ MAX-REFUSALS
+    → afterAll (replicate t refusedCommand) s ≡ withControl s (withCounts (s .control) (record { refusals = t + s .control .counts .refusals }))
+refusals-after zero s h = let e : s .control .counts .refusals ≡ 0 + s .control .counts .refusals = omega arith in ap (λ (n : ℕ). withControl s (withCounts (s .control) (record { refusals = n }))) e
+refusals-after (suc t) s h =
+    let n = s .control .counts .refusals in
+    let up : counted (s .control) ≡ withCounts (s .control) (record { refusals = suc n }) = rw (lt-ltb n MAX-REFUSALS (omega arith)) in
+    let e : t + suc n ≡ suc t + n = omega arith in
+    ap (λ (x : Outcome). afterAll (replicate t refusedCommand) (storeAfter s x)) (reg-above s (suc LAST-KIND) refl)
+    ∙ ap (λ d. afterAll (replicate t refusedCommand) (withControl s d)) up
+    ∙ refusals-after t (withControl s (withCounts (s .control) (record { refusals = suc n }))) (omega arith)
+    ∙ ap (λ (m : ℕ). withControl s (withCounts (s .control) (record { refusals = m }))) e
+
+-- ---- REG: the kinds in their order
+
+regs-after : (ks : List ℕ) (s : Store) → Distinct (s .kinds ++ ks) → length (s .kinds ++ ks) ≤ s .settings .kindCapacity → ((k : ℕ) → In ks k → k < MAX-KINDS) → afterAll (map REG ks) s ≡ withKinds s (s .kinds ++ ks)
+regs-after [] s d few small = ap (withKinds s) (sym (append-nil (s .kinds)))
+regs-after (k ∷ ks) s d few small =
+    let e = one-by-one (s .kinds) ks k in
+    ap (λ (x : Outcome). afterAll (map REG ks) (storeAfter s x))
+    (reg-new s k (le-ltb LAST-KIND k (omega (arith, small k (next-in ks k)))) (next-new (s .kinds) ks k d) (lt-leb (s .settings .kindCapacity) (length (s .kinds)) (next-few (s .kinds) ks k (s .settings .kindCapacity) few)))
+    ∙ regs-after ks (withKinds s (s .kinds ++ (k ∷ []))) (rw e d) (rw e few) (λ j i. small j (in-right (k ∷ []) ks j i))
+    ∙ ap (withKinds s) e
+
+-- ---- HOLD: the components in their order
+
+holds-after : (ps : List Component) (s : Store) → Distinct (stagedKinds s ++ map kindOf ps) → length (s .control .staged ++ ps) ≤ LIST-CAPACITY → ((k : ℕ) → In (map kindOf ps) k → unknownKind k s ≡ false)
+    → afterAll (holdCommands ps) s ≡ withControl s (withStaged (s .control) (s .control .staged ++ ps))
+holds-after [] s d few known = ap (λ (h : List Component). withControl s (withStaged (s .control) h)) (sym (append-nil (s .control .staged)))
+holds-after (p ∷ ps) s d few known =
+    let e : (s .control .staged ++ (p ∷ [])) ++ ps ≡ s .control .staged ++ (p ∷ ps) = one-by-one (s .control .staged) ps p in
+    let q : map kindOf (s .control .staged ++ (p ∷ [])) ++ map kindOf ps ≡ stagedKinds s ++ (p .kind ∷ map kindOf ps) =
+    ap (λ (l : List ℕ). l ++ map kindOf ps) (map-append kindOf (s .control .staged) (p ∷ [])) ∙ one-by-one (stagedKinds s) (map kindOf ps) (p .kind) in
+    ap (λ (x : Outcome). afterAll (holdCommands ps) (storeAfter s x))
+    (hold-staged s (p .kind) (p .value) (known (p .kind) (next-in (map kindOf ps) (p .kind))) (next-new (stagedKinds s) (map kindOf ps) (p .kind) d) (lt-leb LIST-CAPACITY (length (s .control .staged)) (next-few (s .control .staged) ps p LIST-CAPACITY few)))
+    ∙ holds-after ps (withControl s (withStaged (s .control) (s .control .staged ++ (p ∷ [])))) (rw q d) (rw e few) (λ j i. known j (in-right (p .kind ∷ []) (map kindOf ps) j i))
+    ∙ ap (λ (l : List Component). withControl s (withStaged (s .control) l)) e
+
+-- ---- BAR: the kinds in their order
+
+bars-after : (ks : List ℕ) (s : Store) → Distinct (s .control .excluded ++ ks) → length (s .control .excluded ++ ks) ≤ LIST-CAPACITY → ((k : ℕ) → In ks k → unknownKind k s ≡ false)
+    → afterAll (map BAR ks) s ≡ withControl s (withExcluded (s .control) (s .control .excluded ++ ks))
+bars-after [] s d few known = ap (λ (b : List ℕ). withControl s (withExcluded (s .control) b)) (sym (append-nil (s .control .excluded)))
+bars-after (k ∷ ks) s d few known =
+    let e = one-by-one (s .control .excluded) ks k in
+    ap (λ (x : Outcome). afterAll (map BAR ks) (storeAfter s x))
+    (bar-excluded s k (known k (next-in ks k)) (next-new (s .control .excluded) ks k d) (lt-leb LIST-CAPACITY (length (s .control .excluded)) (next-few (s .control .excluded) ks k LIST-CAPACITY few)))
+    ∙ bars-after ks (withControl s (withExcluded (s .control) (s .control .excluded ++ (k ∷ [])))) (rw e d) (rw e few) (λ j i. known j (in-right (k ∷ []) ks j i))
+    ∙ ap (λ (l : List ℕ). withControl s (withExcluded (s .control) l)) e
+
+-- ---- GROUP
+
+-- the store with this draft, and nothing staged
+abbrev drafted : Store → List Family → Store
+drafted s fs = withControl s (withDraft (emptyStaged (s .control)) fs)
+
+valueless-kinds : (ks : List ℕ) → map kindOf (map valueless ks) ≡ ks
+valueless-kinds [] = refl
+valueless-kinds (k ∷ ks) = ap {B = List ℕ} (λ l. k ∷ l) (valueless-kinds ks)
+
+-- a draft's group is a new group of its ring
+pub zeroed : (r : Group) → r .count ≡ 0 → newGroup (r .newKinds) ≡ r
+zeroed r z = λ i. record { newKinds = r .newKinds; count = sym z i }
+
+module _ (s : Store) (small : (k : ℕ) → In (s .kinds) k → k < MAX-KINDS) where
+  known-kind : (k : ℕ) → In (s .kinds) k → unknownKind k s ≡ false
+  known-kind k i = rw (le-ltb LAST-KIND k (omega (arith, small k i)), i)
+
+  -- a group's kinds are held and added to the draft
+  group-after : (ks : List ℕ) (cs : List Command) (fs gs : List Family) → Distinct ks → length ks ≤ MAX-GROUP-ARITY → ((k : ℕ) → In ks k → In (s .kinds) k) → addGroup ks fs ≡ added gs
+      → afterAll (holdCommands (map valueless ks) ++ (GROUP ∷ cs)) (drafted s fs) ≡ afterAll cs (drafted s gs)
+  group-after ks cs fs gs d narrow known e =
+      let q = valueless-kinds ks in
+      let held : Store = withControl (drafted s fs) (withStaged (drafted s fs .control) (map valueless ks)) in
+      first (holdCommands (map valueless ks)) (GROUP ∷ cs) (drafted s fs) held
+      (holds-after (map valueless ks) (drafted s fs) (rw q d) (omega (arith, length-map ks valueless)) (λ k i. known-kind k (known k (rw q at i))))
+      ∙ ap (λ (x : Outcome). afterAll cs (storeAfter held x)) (group-does held ∙ ap (grouped held) (ap (λ (l : List ℕ). addGroup l fs) q ∙ e))
+
+  -- the last family's groups from its second on; acc are its kinds so far
+  groups-after : (rs : Family) (acc : List ℕ) (f : Family) (fs : List Family) → kindsOf f ≡ acc → 1 ≤ length acc → Rising rs → Uncounted rs → length (acc ++ kindsOf rs) ≤ MAX-GROUP-ARITY
+      → Distinct (layoutKinds fs ++ (acc ++ kindsOf rs)) → ((k : ℕ) → In (acc ++ kindsOf rs) k → In (s .kinds) k) → groupsOf fs + (length f + length rs) ≤ MAX-GROUP-COUNT
+      → afterAll (groupCommands acc rs) (drafted s (fs ++ (f ∷ []))) ≡ drafted s (fs ++ ((f ++ rs) ∷ []))
+  groups-after [] acc f fs q some up uncounted narrow once known few = ap (λ (g : Family). drafted s (fs ++ (g ∷ []))) (sym (append-nil f))
+  groups-after (r ∷ rs) acc f fs q some up uncounted narrow once known few =
+      let p : acc ++ (r .newKinds ++ kindsOf rs) ≡ (acc ++ r .newKinds) ++ kindsOf rs = sym (append-assoc acc (r .newKinds) (kindsOf rs)) in
+      let once′ : Distinct (layoutKinds fs ++ ((acc ++ r .newKinds) ++ kindsOf rs)) = rw p at once in
+      let front : Distinct (layoutKinds fs ++ (acc ++ r .newKinds)) = distinct-left (layoutKinds fs ++ (acc ++ r .newKinds)) (kindsOf rs) (rw (sym (append-assoc (layoutKinds fs) (acc ++ r .newKinds) (kindsOf rs))) at once′) in
+      let narrow′ : length ((acc ++ r .newKinds) ++ kindsOf rs) ≤ MAX-GROUP-ARITY = rw p at narrow in
+      let short : length (acc ++ r .newKinds) ≤ MAX-GROUP-ARITY = omega (arith, length-append (acc ++ r .newKinds) (kindsOf rs)) in
+      let known′ : (k : ℕ) → In ((acc ++ r .newKinds) ++ kindsOf rs) k → In (s .kinds) k = rw p at known in
+      let adds : addGroup (acc ++ r .newKinds) (fs ++ (f ∷ [])) ≡ added (fs ++ ((f ++ (r ∷ [])) ∷ [])) =
+      subst (λ (a : List ℕ). addGroup (a ++ r .newKinds) (fs ++ (f ∷ [])) ≡ added (fs ++ ((f ++ (r ∷ [])) ∷ []))) q
+      (wider-added fs f (r .newKinds) (rw q some) (up .0) (rw q short) (rw q front) (omega arith) ∙ ap (λ (g : Group). added (fs ++ ((f ++ (g ∷ [])) ∷ []))) (zeroed r (uncounted .0))) in
+      group-after (acc ++ r .newKinds) (groupCommands (acc ++ r .newKinds) rs) (fs ++ (f ∷ [])) (fs ++ ((f ++ (r ∷ [])) ∷ [])) (distinct-right (layoutKinds fs) (acc ++ r .newKinds) front) short (λ k i. known′ k (in-left (acc ++ r .newKinds) (kindsOf rs) k i)) adds
+      ∙ groups-after rs (acc ++ r .newKinds) (f ++ (r ∷ [])) fs (family-joined f (r ∷ []) ∙ ap₂ (λ (a b : List ℕ). a ++ b) q (append-nil (r .newKinds))) (omega (arith, length-append acc (r .newKinds))) (up .1) (uncounted .1) narrow′ once′ known′ (omega (arith, length-append f (r ∷ [])))
+      ∙ ap (λ (g : Family). drafted s (fs ++ (g ∷ []))) (one-by-one f rs r)
+
+  -- a family of its own
+  family-after : (f : Family) (fs : List Family) → BuildableFamily f → Uncounted f → Distinct (layoutKinds fs ++ kindsOf f) → ((k : ℕ) → In (kindsOf f) k → In (s .kinds) k) → groupsOf fs + length f ≤ MAX-GROUP-COUNT
+      → afterAll (groupCommands [] f) (drafted s fs) ≡ drafted s (fs ++ (f ∷ []))
+  family-after [] fs b uncounted once known few = absurd b
+  family-after (r ∷ rs) fs b uncounted once known few =
+      let front : Distinct (layoutKinds fs ++ r .newKinds) = distinct-left (layoutKinds fs ++ r .newKinds) (kindsOf rs) (rw (sym (append-assoc (layoutKinds fs) (r .newKinds) (kindsOf rs))) at once) in
+      let short : length (r .newKinds) ≤ MAX-GROUP-ARITY = omega (arith, b .2, length-append (r .newKinds) (kindsOf rs)) in
+      let adds : addGroup (r .newKinds) fs ≡ added (fs ++ ((r ∷ []) ∷ [])) = own-added (r .newKinds) fs (b .0) short (before-free (layoutKinds fs) (r .newKinds) front) (omega arith) ∙ ap (λ (g : Group). added (fs ++ ((g ∷ []) ∷ []))) (zeroed r (uncounted .0)) in
+      group-after (r .newKinds) (groupCommands (r .newKinds) rs) fs (fs ++ ((r ∷ []) ∷ [])) (distinct-right (layoutKinds fs) (r .newKinds) front) short (λ k i. known k (in-left (r .newKinds) (kindsOf rs) k i)) adds
+      ∙ groups-after rs (r .newKinds) (r ∷ []) fs (append-nil (r .newKinds)) (omega (arith, b .0)) (b .1) (uncounted .1) (b .2) once known (omega arith)
+
+  -- the families in their order, behind those of the draft
+  families-after : (gs fs : List Family) → BuildableFamilies gs → AllUncounted gs → Distinct (layoutKinds (fs ++ gs)) → ((k : ℕ) → In (layoutKinds gs) k → In (s .kinds) k) → groupsOf (fs ++ gs) ≤ MAX-GROUP-COUNT
+      → afterAll (familyCommands gs) (drafted s fs) ≡ drafted s (fs ++ gs)
+  families-after [] fs b uncounted once known few = ap (drafted s) (sym (append-nil fs))
+  families-after (g ∷ gs) fs b uncounted once known few =
+      let e : (fs ++ (g ∷ [])) ++ gs ≡ fs ++ (g ∷ gs) = one-by-one fs gs g in
+      let front : Distinct (layoutKinds fs ++ kindsOf g) = distinct-left (layoutKinds fs ++ kindsOf g) (layoutKinds gs) (rw (kinds-append fs (g ∷ gs), sym (append-assoc (layoutKinds fs) (kindsOf g) (layoutKinds gs))) at once) in
+      first (groupCommands [] g) (familyCommands gs) (drafted s fs) (drafted s (fs ++ (g ∷ [])))
+      (family-after g fs (b .0) (uncounted .0) front (λ k i. known k (in-left (kindsOf g) (layoutKinds gs) k i)) (omega (arith, groups-append fs (g ∷ gs))))
+      ∙ families-after gs (fs ++ (g ∷ [])) (b .1) (uncounted .1) (rw e once) (λ k i. known k (in-right (kindsOf g) (layoutKinds gs) k i)) (rw e few)
+      ∙ ap (drafted s) e
+
+  -- a draft from nothing
+  draft-after : (fs : List Family) → DraftSound (s .kinds) fs → afterAll (familyCommands fs) (drafted s []) ≡ drafted s fs
+  draft-after fs D = families-after fs [] (D .buildable .families) (D .uncounted) (D .buildable .once) (D .buildable .known) (D .buildable .few)
+
+-- ---- APPLY
+
+zeroed-family : (f : Family) → Uncounted f → map zeroCount f ≡ f
+zeroed-family [] z = refl
+zeroed-family (r ∷ f) z = ap₂ {C = Family} (λ x xs. x ∷ xs) (zeroed r (z .0)) (zeroed-family f (z .1))
+
+pub zeroed-families : (fs : List Family) → AllUncounted fs → map (map zeroCount) fs ≡ fs
+zeroed-families [] z = refl
+zeroed-families (f ∷ fs) z = ap₂ {C = List Family} (λ x xs. x ∷ xs) (zeroed-family f (z .0)) (zeroed-families fs (z .1))
+
+-- with no entity live the draft is in force as it stands
+apply-after : (s : Store) → s .entities .live ≡ [] → AllUncounted (s .control .draft) → afterOne APPLY s ≡ withControl (withStorage s (withLayout (s .storage) (s .control .draft))) (withDraft (s .control) [])
+unfolding accepted setLayout regroup
+apply-after s none uncounted =
+    ap (storeAfter s) (apply-does s)
+    ∙ ap (λ (l : List Entity). withControl (withStorage s (setLayout l (s .control .draft) (s .storage))) (withDraft (s .control) [])) none
+    ∙ ap (λ (fs : List Family). withControl (withStorage s (withLayout (s .storage) fs)) (withDraft (s .control) [])) (zeroed-families (s .control .draft) uncounted)
+
+-- ---- all of them, from the empty store
+
+pub commands-after : (n k : ℕ) (b : Build) → BuildSound k b → afterAll (buildCommands b) (empty n k) ≡ builtStore n k b
+unfolding empty
+commands-after n k b B =
+    let s₀ = withControl (empty n k) (withCounts (empty n k .control) (record { refusals = b .refusals })) in
+    let s₁ = withKinds s₀ (b .kinds) in
+    let s₂ = withStorage s₁ (withLayout (empty n k .storage) (b .layout)) in
+    let s₃ = drafted s₂ (b .draft) in
+    let s₄ = withControl s₃ (withStaged (s₃ .control) (b .staged)) in
+    let barring = map BAR (b .excluded) in
+    let holding = holdCommands (b .staged) ++ barring in
+    let drafting = familyCommands (b .draft) ++ holding in
+    let applying = familyCommands (b .layout) ++ (APPLY ∷ drafting) in
+    let small = B .kinds .small in
+    let tally : b .refusals + 0 ≡ b .refusals = omega arith in
+    first (replicate (b .refusals) refusedCommand) (map REG (b .kinds) ++ applying) (empty n k) s₀
+    (refusals-after (b .refusals) (empty n k) (omega (arith, B .refusals)) ∙ ap (λ (m : ℕ). withControl (empty n k) (withCounts (empty n k .control) (record { refusals = m }))) tally)
+    ∙ first (map REG (b .kinds)) applying s₀ s₁ (regs-after (b .kinds) s₀ (B .kinds .once) (B .kinds .few) small)
+    ∙ first (familyCommands (b .layout)) (APPLY ∷ drafting) s₁ (drafted s₁ (b .layout)) (draft-after s₁ small (b .layout) (B .layout))
+    ∙ first (APPLY ∷ []) drafting (drafted s₁ (b .layout)) s₂ (apply-after (drafted s₁ (b .layout)) refl (B .layout .uncounted))
+    ∙ first (familyCommands (b .draft)) holding s₂ s₃ (draft-after s₂ small (b .draft) (B .draft))
+    ∙ first (holdCommands (b .staged)) barring s₃ s₄ (holds-after (b .staged) s₃ (B .staged .once) (B .staged .few) (λ j i. known-kind s₃ small j (B .staged .known j i)))
+    ∙ bars-after (b .excluded) s₄ (B .excluded .once) (B .excluded .few) (λ j i. known-kind s₄ small j (B .excluded .known j i))
+
+-- ---- they can stand on a tape
+
+abbrev Small : List ℕ → Type 0
+Small ks = (k : ℕ) → In ks k → k < 256
+
+refused-encodable : (t : ℕ) → AllEncodable (replicate t refusedCommand)
+refused-encodable zero = tt
+refused-encodable (suc t) = (lit< tt, refused-encodable t)
+
+regs-encodable : (ks : List ℕ) → Small ks → AllEncodable (map REG ks)
+regs-encodable [] h = tt
+regs-encodable (k ∷ ks) h = (h k (next-in ks k), regs-encodable ks (λ j i. h j (in-right (k ∷ []) ks j i)))
+
+bars-encodable : (ks : List ℕ) → Small ks → AllEncodable (map BAR ks)
+bars-encodable [] h = tt
+bars-encodable (k ∷ ks) h = (h k (next-in ks k), bars-encodable ks (λ j i. h j (in-right (k ∷ []) ks j i)))
+
+holds-encodable : (ps : List Component) → Small (map kindOf ps) → ((j : ℕ) → Eight (getD ps j noComponent .value)) → AllEncodable (holdCommands ps)
+holds-encodable [] h v = tt
+holds-encodable (p ∷ ps) h v = ((h (p .kind) (next-in (map kindOf ps) (p .kind)), v 0), holds-encodable ps (λ j i. h j (in-right (p .kind ∷ []) (map kindOf ps) j i)) (λ j. v (suc j)))
+
+valueless-encodable : (ks : List ℕ) → Small ks → AllEncodable (holdCommands (map valueless ks))
+valueless-encodable [] h = tt
+valueless-encodable (k ∷ ks) h = ((h k (next-in ks k), lit< tt), valueless-encodable ks (λ j i. h j (in-right (k ∷ []) ks j i)))
+
+groups-encodable : (rs : Family) (acc : List ℕ) → Small (acc ++ kindsOf rs) → AllEncodable (groupCommands acc rs)
+groups-encodable [] acc h = tt
+groups-encodable (r ∷ rs) acc h =
+    let h′ : Small ((acc ++ r .newKinds) ++ kindsOf rs) = rw (append-assoc acc (r .newKinds) (kindsOf rs)) h in
+    encodable-append (holdCommands (map valueless (acc ++ r .newKinds))) (GROUP ∷ groupCommands (acc ++ r .newKinds) rs)
+    (valueless-encodable (acc ++ r .newKinds) (λ k i. h′ k (in-left (acc ++ r .newKinds) (kindsOf rs) k i)))
+    (tt, groups-encodable rs (acc ++ r .newKinds) h′)
+
+families-encodable : (fs : List Family) → Small (layoutKinds fs) → AllEncodable (familyCommands fs)
+families-encodable [] h = tt
+families-encodable (f ∷ fs) h =
+    encodable-append (groupCommands [] f) (familyCommands fs)
+    (groups-encodable f [] (λ k i. h k (in-left (kindsOf f) (layoutKinds fs) k i)))
+    (families-encodable fs (λ k i. h k (in-right (kindsOf f) (layoutKinds fs) k i)))
+
+pub commands-encodable : (k : ℕ) (b : Build) → BuildSound k b → AllEncodable (buildCommands b)
+commands-encodable k b B =
+    encodable-append (replicate (b .refusals) refusedCommand) _ (refused-encodable (b .refusals))
+    (encodable-append (map REG (b .kinds)) _ (regs-encodable (b .kinds) small)
+    (encodable-append (familyCommands (b .layout)) _ (families-encodable (b .layout) (λ j i. small j (B .layout .buildable .known j i))) (
+      tt,
+      encodable-append (familyCommands (b .draft)) _ (families-encodable (b .draft) (λ j i. small j (B .draft .buildable .known j i)))
+          (encodable-append (holdCommands (b .staged)) _ (holds-encodable (b .staged) (λ j i. small j (B .staged .known j i)) (B .staged .values)) (bars-encodable (b .excluded) (λ j i. small j (B .excluded .known j i)))),
+    )))
+  where
+    small : Small (b .kinds)
+    small j i = omega (arith, B .kinds .small j i)

@@ -1,0 +1,131 @@
+-- "hand, bar, draft and layout of registered kinds, such as commands can build", both ways: each that a sound store may have is what some tape leaves, and
+-- what a tape leaves is such. Assumes nothing.
+use mathlib.Core.Path.{_≡_, refl, ap, ap₂, sym, _∙_, subst}
+use mathlib.Core.Logic.{_↔_}
+use mathlib.Core.List.{List, [], _∷_, _++_, map}
+use Prim.Native.Nat.{ℕ, suc, _+_, _≤_}
+use native.Mathlib.Omega.{arith}
+use lib.ListN.{length, replicate}
+use Rattle.model.specs.Numbers.{MAX-KINDS}
+use Rattle.model.specs.Model.{Entity, SparseSet, Family, setOf, zeroCount}
+use Rattle.model.specs.Store.{Store, empty}
+use Rattle.model.specs.Run.{Ran}
+use Rattle.model.specs.Sound.{Limits, Uncounted, AllUncounted, RightFrom, AllRight, StoreSound}
+use Rattle.model.proofs.Bounds.{numbers-few, rows-live}
+use Rattle.model.proofs.Shape.{buildable-plain}
+use Rattle.model.proofs.Sound.{run-sound}
+use Rattle.tapes.specs.Built.{Build, builtStore, BuildSound, partsOf, TapeLeaves, LeftBy, buildCommands, buildTape, buildRoom}
+use Rattle.tapes.proofs.Tapes.{tape-bytes, run-commands}
+use Rattle.tapes.proofs.Building.{zeroed-families, commands-after, commands-encodable}
+
+-- ---- each is what a tape leaves: that of specs/Built.antt, with room for its answers
+
+pub tape-builds : (n k : ℕ) (b : Build) → BuildSound k b → TapeLeaves n k (buildTape b) (buildRoom n k b) (builtStore n k b)
+tape-builds n k b B =
+    let E = commands-encodable k b B in
+    record {
+      bytes = tape-bytes (buildCommands b) E;
+      stop = λ r h. ap (λ (x : Ran). x .stop) (run-commands (buildCommands b) r (empty n k) E h);
+      store = λ r h. ap (λ (x : Ran). x .store) (run-commands (buildCommands b) r (empty n k) E h) ∙ commands-after n k b B;
+    }
+
+pub every-built : (n k : ℕ) (b : Build) → BuildSound k b → LeftBy n k (builtStore n k b)
+every-built n k b B = record { tape = buildTape b; room = buildRoom n k b; leaves = tape-builds n k b B }
+
+-- ---- what a tape leaves is such
+
+pub left-sound : (n k : ℕ) (s : Store) → Limits n k → LeftBy n k s → StoreSound s
+left-sound n k s L T = subst StoreSound (T .leaves .store (T .room) (omega arith)) (run-sound (T .tape) (T .room) n k (T .leaves .bytes) L)
+
+-- with no entity live, groups that are right count nothing
+right-uncounted : (sets : List SparseSet) (acc : List ℕ) (f : Family) → RightFrom sets [] acc f → Uncounted f
+right-uncounted sets acc [] R = tt
+right-uncounted sets acc (r ∷ rs) R = (R .0 .number, right-uncounted sets (acc ++ r .newKinds) rs (R .1))
+
+all-uncounted : (sets : List SparseSet) (fs : List Family) → AllRight sets [] fs → AllUncounted fs
+all-uncounted sets [] R = tt
+all-uncounted sets (f ∷ fs) R = (right-uncounted sets [] f (R .0), all-uncounted sets fs (R .1))
+
+sound-build : (n k : ℕ) (b : Build) → StoreSound (builtStore n k b) → BuildSound k b
+unfolding empty
+sound-build n k b S =
+    record {
+      kinds = S .kinds;
+      layout = record { buildable = S .layout; uncounted = all-uncounted (builtStore n k b .storage .sets) (b .layout) (S .groups) };
+      draft = record { buildable = S .draft; uncounted = S .uncounted };
+      staged = S .staged;
+      excluded = S .excluded;
+      refusals = S .refusals;
+    }
+
+-- both ways
+pub built-exactly : (n k : ℕ) (b : Build) → Limits n k → BuildSound k b ↔ LeftBy n k (builtStore n k b)
+built-exactly n k b L = (every-built n k b, λ T. sound-build n k b (left-sound n k (builtStore n k b) L T))
+
+-- ---- the parts of every sound store
+
+zeroed-uncounted : (f : Family) → Uncounted (map zeroCount f)
+zeroed-uncounted [] = tt
+zeroed-uncounted (r ∷ f) = (refl, zeroed-uncounted f)
+
+all-zeroed : (fs : List Family) → AllUncounted (map (map zeroCount) fs)
+all-zeroed [] = tt
+all-zeroed (f ∷ fs) = (zeroed-uncounted f, all-zeroed fs)
+
+module _ (s : Store) (S : StoreSound s) where
+  pub parts-sound : BuildSound (s .settings .kindCapacity) (partsOf s)
+  parts-sound =
+      let fs = s .storage .layout in
+      record {
+        kinds = S .kinds;
+        layout = record { buildable = buildable-plain (s .kinds) fs (map (map zeroCount) fs) (zeroed-families (map (map zeroCount) fs) (all-zeroed fs)) (S .layout); uncounted = all-zeroed fs };
+        draft = record { buildable = S .draft; uncounted = S .uncounted };
+        staged = S .staged;
+        excluded = S .excluded;
+        refusals = S .refusals;
+      }
+
+  -- its kinds, hand, bar, draft, tally and its layout but for the counts are what some tape leaves
+  pub parts-built : LeftBy (s .settings .capacity) (s .settings .kindCapacity) (builtStore (s .settings .capacity) (s .settings .kindCapacity) (partsOf s))
+  parts-built = every-built (s .settings .capacity) (s .settings .kindCapacity) (partsOf s) parts-sound
+
+-- ---- sound stores in which no number is issued: they are what tapes leave, the whole store
+
+none-of : {A : Type 0} (l : List A) → length l ≤ 0 → l ≡ []
+none-of [] h = refl
+none-of (x ∷ l) h = absurd (omega arith)
+
+no-sets : (sets : List SparseSet) → ((k : ℕ) → setOf sets k ≡ []) → sets ≡ replicate (length sets) []
+no-sets [] h = refl
+no-sets (c ∷ sets) h = ap₂ {C = List SparseSet} (λ x xs. x ∷ xs) (h 0) (no-sets sets (λ k. h (suc k)))
+
+module _ (s : Store) (S : StoreSound s) (none : s .entities .issued ≡ 0) where
+  few : length (s .entities .live) + length (s .entities .recycled) ≤ 0
+  few = omega (arith, none, numbers-few (s .settings .capacity) (s .entities) (S .entities))
+
+  no-live : s .entities .live ≡ []
+  no-live = none-of (s .entities .live) (omega (arith, few))
+
+  sets-empty : s .storage .sets ≡ replicate MAX-KINDS []
+  sets-empty =
+      no-sets (s .storage .sets) (λ k. none-of (setOf (s .storage .sets) k) (omega (arith, few, rows-live s S k)))
+      ∙ ap (λ (n : ℕ). replicate n []) (S .sets .wide)
+
+  layout-zeroed : map (map zeroCount) (s .storage .layout) ≡ s .storage .layout
+  layout-zeroed = zeroed-families (s .storage .layout) (all-uncounted (s .storage .sets) (s .storage .layout) (subst (λ (l : List Entity). AllRight (s .storage .sets) l (s .storage .layout)) no-live (S .groups)))
+
+  pub parts-whole : builtStore (s .settings .capacity) (s .settings .kindCapacity) (partsOf s) ≡ s
+  unfolding empty
+  parts-whole = λ i. record {
+    settings = s .settings;
+    kinds = s .kinds;
+    entities = record { live = sym no-live i; recycled = sym (none-of (s .entities .recycled) (omega (arith, few))) i; issued = sym none i };
+    storage = record { sets = sym sets-empty i; layout = layout-zeroed i };
+    control = s .control;
+  }
+
+pub sound-exactly : (s : Store) → Limits (s .settings .capacity) (s .settings .kindCapacity) → s .entities .issued ≡ 0 → StoreSound s ↔ LeftBy (s .settings .capacity) (s .settings .kindCapacity) s
+sound-exactly s L none = (
+  (λ S. subst (LeftBy (s .settings .capacity) (s .settings .kindCapacity)) (parts-whole s S none) (parts-built s S)),
+  left-sound (s .settings .capacity) (s .settings .kindCapacity) s L,
+)
