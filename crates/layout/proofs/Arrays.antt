@@ -19,7 +19,7 @@ use Rattle.words.proofs.Part.{length-between, between-front, between-join, getD
 use Rattle.words.specs.Table.{table}
 use Rattle.words.proofs.Tables.{length-table, getD-table, table-snoc, table-none}
 use Rattle.model.proofs.BoolLaws.{by-eq}
-use Rattle.model.proofs.Draft.{kinds-append}
+use Rattle.model.proofs.Draft.{kinds-append, groups-append}
 use Rattle.layout.specs.Layout.{Arrays, startOf, widthOf, groupCount, kindsAt, aritiesAt, groupsFrom, familyAt, familiesOf, KindSet, AritiesRising, WellFormed, blockArrays}
 use Rattle.layout.specs.ByValue.{ArraysSized}
 use Rattle.layout.specs.Fit.{partOf, joinFit, fitFrom, FamilyAsk}
@@ -166,10 +166,6 @@ pub groups-length : (counts : List ℕ) (g : ℕ) (ks : List ℕ) (b : ℕ) (ars
 unfolding groupsFrom
 groups-length counts g ks b [] = refl
 groups-length counts g ks b (a ∷ ars) = ap suc (groups-length counts (suc g) ks a ars)
-
-groups-append : (xs ys : List Family) → groupsOf (xs ++ ys) ≡ groupsOf xs + groupsOf ys
-groups-append [] ys = omega arith
-groups-append (x ∷ xs) ys = omega (arith, groups-append xs ys)
 
 groups-table : (n : ℕ) (F : ℕ → Family) (es : List ℕ) → ((i : ℕ) → i < n → startOf es i ≤ getD es i 0)
     → ((i : ℕ) → i < n → length (F i) ≡ getD es i 0 - startOf es i) → groupsOf (table n F) ≡ startOf es n

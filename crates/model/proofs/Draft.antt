@@ -35,9 +35,12 @@ grown-same ks (f ∷ fs) z =
 
 -- ---- a family with a group more
 
+pub family-joined : (f g : Family) → kindsOf (f ++ g) ≡ kindsOf f ++ kindsOf g
+family-joined [] g = refl
+family-joined (r ∷ f) g = ap (λ (l : List ℕ). r .newKinds ++ l) (family-joined f g) ∙ sym (append-assoc (r .newKinds) (kindsOf f) (kindsOf g))
+
 kinds-snoc : (f : Family) (r : Group) → kindsOf (f ++ (r ∷ [])) ≡ kindsOf f ++ r .newKinds
-kinds-snoc [] r = append-nil (r .newKinds)
-kinds-snoc (s ∷ f) r = ap (λ (l : List ℕ). s .newKinds ++ l) (kinds-snoc f r) ∙ sym (append-assoc (s .newKinds) (kindsOf f) (r .newKinds))
+kinds-snoc f r = family-joined f (r ∷ []) ∙ ap (λ (l : List ℕ). kindsOf f ++ l) (append-nil (r .newKinds))
 
 rising-snoc : (f : Family) (r : Group) → Rising f → 1 ≤ length (r .newKinds) → Rising (f ++ (r ∷ []))
 rising-snoc [] r h l = (l, tt)
@@ -150,6 +153,10 @@ own-uncounted ks (f ∷ fs) u = (u .0, own-uncounted ks fs (u .1))
 pub kinds-append : (fs gs : List Family) → layoutKinds (fs ++ gs) ≡ layoutKinds fs ++ layoutKinds gs
 kinds-append [] gs = refl
 kinds-append (f ∷ fs) gs = ap (λ (l : List ℕ). kindsOf f ++ l) (kinds-append fs gs) ∙ sym (append-assoc (kindsOf f) (layoutKinds fs) (layoutKinds gs))
+
+pub groups-append : (fs gs : List Family) → groupsOf (fs ++ gs) ≡ groupsOf fs + groupsOf gs
+groups-append [] gs = omega arith
+groups-append (f ∷ fs) gs = omega (arith, groups-append fs gs)
 
 own-kinds : (ks : List ℕ) (fs : List Family) → layoutKinds (fs ++ ((newGroup ks ∷ []) ∷ [])) ≡ layoutKinds fs ++ ks
 own-kinds ks fs = kinds-append fs ((newGroup ks ∷ []) ∷ []) ∙ ap (λ (l : List ℕ). layoutKinds fs ++ l) (append-nil (ks ++ []) ∙ append-nil ks)

@@ -1,4 +1,4 @@
--- The snapshot's bytes determine its entries. Assumes nothing.
+-- Numbers in bytes and back; and that the snapshot's bytes determine its entries. Assumes nothing.
 use mathlib.Core.Path.{_≡_, refl, ap₂}
 use mathlib.Core.List.{List, [], _∷_, _++_, head-eq-of-cons-eq, tail-eq-of-cons-eq, nil≢cons, cons≢nil}
 use Prim.Native.Nat.{ℕ, zero, suc, _/_, _%_, _^_, _<_}
@@ -7,8 +7,23 @@ use native.Mathlib.Nat.{pow-suc, div-lt-iff-lt-mul}
 use lib.Dec.{lit<}
 use lib.ListN.{length}
 use Rattle.model.specs.Model.{Component}
-use Rattle.model.specs.Store.{bytesOf}
+use Rattle.model.specs.Store.{bytesOf, number, Bytes}
 use Rattle.model.specs.Snapshot.{Entry, componentBytes, entryBytes, flat}
+
+-- a number of n bytes is the number of its bytes
+pub number-bytes : (n x : ℕ) → x < 256 ^ n → number (bytesOf n x) ≡ x
+number-bytes zero x h = omega (arith, h)
+number-bytes (suc n) x h =
+    let q : x / 256 < 256 ^ n = div-lt-iff-lt-mul (lit< tt) .1 (rw pow-suc at h) in
+    rw (number-bytes n (x / 256) q) (omega arith)
+
+pub bytes-of : (n x : ℕ) → Bytes (bytesOf n x)
+bytes-of zero x = tt
+bytes-of (suc n) x = (omega arith, bytes-of n (x / 256))
+
+pub bytes-append : (a b : List ℕ) → Bytes a → Bytes b → Bytes (a ++ b)
+bytes-append [] b h i = i
+bytes-append (x ∷ a) b h i = (h .0, bytes-append a b (h .1) i)
 
 -- a number of n bytes is read back, and so is what follows it
 pub bytesOf-inj : (n x y : ℕ) (r s : List ℕ) → x < 256 ^ n → y < 256 ^ n → bytesOf n x ++ r ≡ bytesOf n y ++ s → (x ≡ y) × (r ≡ s)

@@ -288,3 +288,33 @@ without-new ks hs out i n h o e = rw (drop-step hs i 0 h, e) (put-next out (with
 
 pub without-end : (ks hs out : List ℕ) (n : ℕ) → take n out ++ without (drop (length hs) hs) ks ≡ take n out
 without-end ks hs out n = rw drop-length (append-nil (take n out))
+
+-- ---- a list without the kinds of another
+
+pub unmet-all : (ks js : List ℕ) → ((k : ℕ) → In ks k → mem k js ≡ false) → meets ks js ≡ false
+unmet-all ks js h = not-true (meets ks js) (λ t. let a = any-at (λ k. mem k js) ks t in true≢false (sym (a .2) ∙ h (a .0) (a .1)))
+
+pub without-append : (a b js : List ℕ) → without (a ++ b) js ≡ without a js ++ without b js
+without-append [] b js = refl
+without-append (k ∷ a) b js = bool-cases (mem k js) (λ t. rw t (without-append a b js)) (λ t. rw t (ap {B = List ℕ} (λ l. k ∷ l) (without-append a b js)))
+
+-- js has all of a
+pub without-all : (a js : List ℕ) → ((k : ℕ) → In a k → In js k) → without a js ≡ []
+without-all [] js h = refl
+without-all (k ∷ a) js h = rw (h k (rw (eq-eqb k k refl))) (without-all a js (λ j i. h j (rw i (or-true (eqb j k)))))
+
+-- js has none of b
+pub without-none : (b js : List ℕ) → ((k : ℕ) → In b k → mem k js ≡ false) → without b js ≡ b
+without-none [] js h = refl
+without-none (k ∷ b) js h = rw (h k (rw (eq-eqb k k refl))) (ap {B = List ℕ} (λ l. k ∷ l) (without-none b js (λ j i. h j (rw i (or-true (eqb j k))))))
+
+-- of distinct kinds those behind are not among those before
+pub before-free : (a b : List ℕ) → Distinct (a ++ b) → (k : ℕ) → In b k → mem k a ≡ false
+before-free a b d k i = not-both a b k (distinct-apart a b d k) i
+
+-- a group's kinds without those of the group before are its ring
+pub without-ring : (acc ring : List ℕ) → Distinct (acc ++ ring) → without (acc ++ ring) acc ≡ ring
+without-ring acc ring d =
+    without-append acc ring acc
+    ∙ ap (λ (l : List ℕ). l ++ without ring acc) (without-all acc acc (λ k i. i))
+    ∙ without-none ring acc (before-free acc ring d)

@@ -7,12 +7,11 @@ use mathlib.Core.Option.{Option, some, none}
 use mathlib.Core.List.{List, [], _∷_, _++_, map, map-map, append-assoc, append-nil}
 use Prim.Native.Nat.{ℕ, zero, suc, _+_, _-_, _/_, _^_, _≤_, _<_}
 use native.Mathlib.Omega.{arith}
-use native.Mathlib.Nat.{pow-suc, div-lt-iff-lt-mul}
 use borrow.Author.Tests.{eqb-true, eq-eqb, lt-ltb, le-ltb}
-use lib.Dec.{eqb, lit<}
+use lib.Dec.{eqb}
 use lib.ListN.{length, take, drop, getD, length-drop, length-map, List·getD-map, take-append-drop}
 use lib.Seq.{length-take-le, take-all, drop-cons}
-use Rattle.model.proofs.ListLaws.{count-append, count-kept, count-length, count-length-le, length-zero, map-take, place-once}
+use Rattle.model.proofs.ListLaws.{count-append, count-kept, count-length, count-length-le, length-zero, map-at, map-drop, map-take, place-once}
 use Rattle.model.specs.Numbers.{MAX-ENTITIES, RANGE-BYTE}
 use Rattle.model.specs.Model.{Entity, Row, SparseSet, Group, Family, Range, none, found, sameEntity, noEntity, noRow, sameSet, setOf, entityOf, keys, at, held, allHeld, headKind, kindsOf, newGroup, firstRange, rangeAt, rangeIn, rangeAll, single, rangeFor}
 use Rattle.model.specs.Store.{Store, bytesOf, number, stagedKinds, withControl, emptyBoth}
@@ -33,6 +32,7 @@ use Rattle.model.proofs.Operations.{sound-held}
 use Rattle.model.proofs.Demand.{between}
 use Rattle.model.proofs.Lines.{none-from}
 use Rattle.model.proofs.Outcomes.{range-does}
+use Rattle.model.proofs.Encoding.{number-bytes}
 
 -- ---- equal sets
 
@@ -333,14 +333,6 @@ module _ (s : Store) (S : StoreSound s) (h b : List ℕ) where
 
 -- ---- the answer: its bytes tell the range that was found
 
--- a number of n bytes is read back
-number-of : (n x : ℕ) → x < 256 ^ n → number (bytesOf n x) ≡ x
-number-of zero x h = omega (arith, h)
-number-of (suc n) x h =
-    let q : x / 256 < 256 ^ n = div-lt-iff-lt-mul (lit< tt) .1 (rw pow-suc at h) in
-    let r : number (bytesOf n (x / 256)) ≡ x / 256 = number-of n (x / 256) q in
-    omega (arith, r)
-
 -- RANGE's answer, after its 0 byte, in a sound store
 pub range-answer : (s : Store) → StoreSound s → RangeAnswer (stagedKinds s) (s .control .excluded) s (0 ∷ accepted RANGE s .answer)
 unfolding accepted
@@ -369,8 +361,8 @@ range-answer s S = go (rangeFor (stagedKinds s) (s .control .excluded) (s .stora
         }
     go (found a e) p =
         let W : Showing (s .storage .sets) (s .entities .live) h b a e = range-shows s S h b a e p in
-        let starts : number (bytesOf 4 a) ≡ a = number-of 4 a (omega (arith, W .start, W .end, few)) in
-        let ends : number (bytesOf 4 e) ≡ e = number-of 4 e (omega (arith, W .end, few)) in
+        let starts : number (bytesOf 4 a) ≡ a = number-bytes 4 a (omega (arith, W .start, W .end, few)) in
+        let ends : number (bytesOf 4 e) ≡ e = number-bytes 4 e (omega (arith, W .end, few)) in
         record {
           size = refl;
           either = inl (rw (starts, ends) refl);
@@ -392,15 +384,6 @@ range-run room s h =
     ∙ (λ i. record { store = withControl s (emptyBoth (s .control)); stop = 0; commands = 1; read = 1; bytes = 0 ∷ append-nil (accepted RANGE s .answer) i })
 
 -- ---- the values at a range's places are those of the entities there, since an entity stands once in a sparse set
-
-map-at : {A B : Type 0} (f g : A → B) (d : A) (l : List A) → ((i : ℕ) → i < length l → f (getD l i d) ≡ g (getD l i d)) → map f l ≡ map g l
-map-at f g d [] h = refl
-map-at {B} f g d (x ∷ l) h = ap₂ {C = List B} (λ y ys. y ∷ ys) (h 0 (omega arith)) (map-at f g d l (λ i q. h (suc i) (omega arith)))
-
-map-drop : {A B : Type 0} (f : A → B) (n : ℕ) (l : List A) → map f (drop n l) ≡ drop n (map f l)
-map-drop f zero l = refl
-map-drop f (suc n) [] = refl
-map-drop f (suc n) (x ∷ l) = map-drop f n l
 
 map-part : {A B : Type 0} (f : A → B) (a e : ℕ) (l : List A) → map f (part a e l) ≡ part a e (map f l)
 map-part f a e l = map-drop f a (take e l) ∙ ap (drop a) (map-take f e l)

@@ -6,14 +6,14 @@ use mathlib.Core.List.{List, [], _∷_, _++_, map}
 use Prim.Native.Nat.{ℕ, _≤_}
 use native.Mathlib.Omega.{arith}
 use lib.ListN.{length, length-map, List·getD-map}
-use Rattle.model.specs.Model.{Entity, SparseSet, Family, Storage, Walked, sameEntity, mem, headKind, kindsOf, groupFamily, groupAll, regroup, setLayout, clearAll, zeroCount}
+use Rattle.model.specs.Model.{Entity, SparseSet, Group, Family, Storage, Walked, sameEntity, mem, headKind, kindsOf, newGroup, groupFamily, groupAll, regroup, setLayout, clearAll, zeroCount}
 use Rattle.model.proofs.Groups.{SameEntities}
 use Rattle.model.proofs.Walk.{Below, Chain, Every, Plus, Up, groupFamily-good, chain-weaken}
 use Rattle.model.proofs.KindLists.{in-right, mem-append, not-both}
 use Rattle.model.proofs.BoolLaws.{bool-cases, or-false, or-false-right}
 use Rattle.model.proofs.Families.{allKinds, famKinds, chain-other, fams-other, Apart, Fams, FamsFor}
 use Rattle.model.proofs.Invariant.{Fit, length-groupFamily}
-use Rattle.model.specs.Sound.{key, cnt, In}
+use Rattle.model.specs.Sound.{key, cnt, In, Uncounted, AllUncounted}
 
 -- ---- families that are right for the entities of W
 
@@ -114,18 +114,30 @@ fams-all : (key : ℕ → List Entity) (W : Entity → Type 0) → ((x : Entity)
 fams-all key W f [] fm = tt
 fams-all key W f (r ∷ rs) fm = (chain-all key W f [] r (fm .0), fams-all key W f rs (fm .1))
 
-zero-counted : (f : Family) → Fresh f → map zeroCount f ≡ f
-zero-counted [] fr = refl
-zero-counted (r ∷ rs) fr = ap₂ {C = Family} (λ x xs. x ∷ xs) (λ i. record { newKinds = r .newKinds; count = sym (fr .1) i }) (zero-counted rs (fr .2))
+-- a group that counts nothing is a new group of its ring
+pub zeroed : (r : Group) → r .count ≡ 0 → newGroup (r .newKinds) ≡ r
+zeroed r z = λ i. record { newKinds = r .newKinds; count = sym z i }
 
-all-zero-counted : (fs : List Family) → FreshAll fs → map (map zeroCount) fs ≡ fs
-all-zero-counted [] fr = refl
-all-zero-counted (f ∷ fs) fr = ap₂ {C = List Family} (λ x xs. x ∷ xs) (zero-counted f (fr .0)) (all-zero-counted fs (fr .1))
+zeroed-family : (f : Family) → Uncounted f → map zeroCount f ≡ f
+zeroed-family [] z = refl
+zeroed-family (r ∷ f) z = ap₂ {C = Family} (λ x xs. x ∷ xs) (zeroed r (z .0)) (zeroed-family f (z .1))
+
+pub zeroed-families : (fs : List Family) → AllUncounted fs → map (map zeroCount) fs ≡ fs
+zeroed-families [] z = refl
+zeroed-families (f ∷ fs) z = ap₂ {C = List Family} (λ x xs. x ∷ xs) (zeroed-family f (z .0)) (zeroed-families fs (z .1))
+
+fresh-uncounted : (f : Family) → Fresh f → Uncounted f
+fresh-uncounted [] fr = tt
+fresh-uncounted (r ∷ rs) fr = (fr .1, fresh-uncounted rs (fr .2))
+
+all-uncounted : (fs : List Family) → FreshAll fs → AllUncounted fs
+all-uncounted [] fr = tt
+all-uncounted (f ∷ fs) fr = (fresh-uncounted f (fr .0), all-uncounted fs (fr .1))
 
 -- a draft's counts are 0 as they stand
 pub setLayout-is : (live : List Entity) (draft : List Family) (p : Storage) → FreshAll draft → setLayout live draft p ≡ regroup live (record { sets = p .sets; layout = draft })
 unfolding setLayout
-setLayout-is live draft p fr = ap (λ (l : List Family). regroup live (record { sets = p .sets; layout = l })) (all-zero-counted draft fr)
+setLayout-is live draft p fr = ap (λ (l : List Family). regroup live (record { sets = p .sets; layout = l })) (zeroed-families draft (all-uncounted draft fr))
 
 pub setLayout-fit : (live : List Entity) (draft : List Family) (p : Storage) → ((x : Entity) (k : ℕ) → 1 ≤ cnt x (key (p .sets) k) → 1 ≤ cnt x live) → FreshAll draft → Apart (famKinds draft) → Fit p → Fit (setLayout live draft p)
 setLayout-fit live draft p alive fr a f =

@@ -55,16 +55,16 @@ groupsTape = holding (1 ∷ 2 ∷ []) GROUP-BYTE ++ holding (1 ∷ 2 ∷ 3 ∷ 4
 abbrev pub entitiesTape : List ℕ
 entitiesTape = holding (1 ∷ 2 ∷ 3 ∷ []) NEW-BYTE ++ holding (1 ∷ 2 ∷ 3 ∷ 4 ∷ []) NEW-BYTE ++ holding (1 ∷ 2 ∷ []) NEW-BYTE ++ holding (1 ∷ []) NEW-BYTE
 
-unfoldable pub buildTape : List ℕ
-buildTape = reg 1 ++ reg 2 ++ reg 3 ++ reg 4 ++ reg 5 ++ reg 6 ++ groupsTape ++ (APPLY-BYTE ∷ []) ++ entitiesTape
+unfoldable pub exampleTape : List ℕ
+exampleTape = reg 1 ++ reg 2 ++ reg 3 ++ reg 4 ++ reg 5 ++ reg 6 ++ groupsTape ++ (APPLY-BYTE ∷ []) ++ entitiesTape
 
-unfoldable pub built : Store
-unfolding buildTape run runFor step does accepted linesOf empty insertComponents groupTouched groupFamily groupComponents setLayout regroup groupAll create
-built = afterTape buildTape (empty 64 8)
+unfoldable pub exampleStore : Store
+unfolding exampleTape run runFor step does accepted linesOf empty insertComponents groupTouched groupFamily groupComponents setLayout regroup groupAll create
+exampleStore = afterTape exampleTape (empty 64 8)
 
 -- its answers, each command accepted; then stop 0, commands 29, read 179, written 69
-pub buildAnswer : List ℕ
-buildAnswer =
+pub exampleAnswer : List ℕ
+exampleAnswer =
     -- REG of 1 to 6: "1 new"
     (0 ∷ 1 ∷ 0 ∷ 1 ∷ 0 ∷ 1 ∷ 0 ∷ 1 ∷ 0 ∷ 1 ∷ 0 ∷ 1 ∷ [])
     -- HOLD, .. GROUP: "1 added"
@@ -79,19 +79,19 @@ buildAnswer =
     ++ (0 ∷ 0 ∷ 3 ∷ 0 ∷ 0 ∷ 0 ∷ 1 ∷ 0 ∷ 0 ∷ 0 ∷ [])
     ++ (0 ∷ 29 ∷ 0 ∷ 0 ∷ 0 ∷ 179 ∷ 0 ∷ 0 ∷ 0 ∷ 69 ∷ 0 ∷ 0 ∷ 0 ∷ [])
 
-pub build-example : written (run buildTape ANSWER-ROOM (empty 64 8)) ≡ buildAnswer
-unfolding buildAnswer built
-build-example = refl
+pub store-example : written (run exampleTape ANSWER-ROOM (empty 64 8)) ≡ exampleAnswer
+unfolding exampleAnswer exampleStore
+store-example = refl
 
 -- "In a draft with these groups": made anew, since APPLY has emptied the draft
 drafted : Store
-unfolding built
-drafted = afterTape groupsTape built
+unfolding exampleStore
+drafted = afterTape groupsTape exampleStore
 
 -- "KILL card 1"
 unfoldable pub afterKill : Store
-unfolding built destroy remove ungroup ungroupFamily ungroupComponents
-afterKill = storeAfter built (does (KILL (entity 1 1)) built)
+unfolding exampleStore destroy remove ungroup ungroupFamily ungroupComponents
+afterKill = storeAfter exampleStore (does (KILL (entity 1 1)) exampleStore)
 
 -- ---- the fourteen
 
@@ -113,19 +113,19 @@ adds ks = answerOf (does GROUP (afterTape (holdAll ks) drafted))
 -- what KILL answers, and after it RANGE with each of the groups, and NEW
 kills : List ℕ
 unfolding afterKill ranges
-kills = answerOf (does (KILL (entity 1 1)) built) ++ ranges afterKill (1 ∷ 2 ∷ []) [] ++ ranges afterKill (1 ∷ 2 ∷ 3 ∷ 4 ∷ []) [] ++ answerOf (does NEW afterKill)
+kills = answerOf (does (KILL (entity 1 1)) exampleStore) ++ ranges afterKill (1 ∷ 2 ∷ []) [] ++ ranges afterKill (1 ∷ 2 ∷ 3 ∷ 4 ∷ []) [] ++ answerOf (does NEW afterKill)
 
 pub marked : List Example
 unfolding ranges adds kills
 marked =
     -- "RANGE: {1,2} 0..3; {1,2,3,4} 0..1; {1} 0..4; {1,3} none; {1,2} bar {3,4} 1..3; {1,2} bar {3} none; empty none."
-    record { got = ranges built (1 ∷ 2 ∷ []) []; want = 0 ∷ 1 ∷ 0 ∷ 0 ∷ 0 ∷ 0 ∷ 3 ∷ 0 ∷ 0 ∷ 0 ∷ [] }
-    ∷ record { got = ranges built (1 ∷ 2 ∷ 3 ∷ 4 ∷ []) []; want = 0 ∷ 1 ∷ 0 ∷ 0 ∷ 0 ∷ 0 ∷ 1 ∷ 0 ∷ 0 ∷ 0 ∷ [] }
-    ∷ record { got = ranges built (1 ∷ []) []; want = 0 ∷ 1 ∷ 0 ∷ 0 ∷ 0 ∷ 0 ∷ 4 ∷ 0 ∷ 0 ∷ 0 ∷ [] }
-    ∷ record { got = ranges built (1 ∷ 3 ∷ []) []; want = 0 ∷ 0 ∷ 0 ∷ 0 ∷ 0 ∷ 0 ∷ 0 ∷ 0 ∷ 0 ∷ 0 ∷ [] }
-    ∷ record { got = ranges built (1 ∷ 2 ∷ []) (3 ∷ 4 ∷ []); want = 0 ∷ 1 ∷ 1 ∷ 0 ∷ 0 ∷ 0 ∷ 3 ∷ 0 ∷ 0 ∷ 0 ∷ [] }
-    ∷ record { got = ranges built (1 ∷ 2 ∷ []) (3 ∷ []); want = 0 ∷ 0 ∷ 0 ∷ 0 ∷ 0 ∷ 0 ∷ 0 ∷ 0 ∷ 0 ∷ 0 ∷ [] }
-    ∷ record { got = ranges built [] []; want = 0 ∷ 0 ∷ 0 ∷ 0 ∷ 0 ∷ 0 ∷ 0 ∷ 0 ∷ 0 ∷ 0 ∷ [] }
+    record { got = ranges exampleStore (1 ∷ 2 ∷ []) []; want = 0 ∷ 1 ∷ 0 ∷ 0 ∷ 0 ∷ 0 ∷ 3 ∷ 0 ∷ 0 ∷ 0 ∷ [] }
+    ∷ record { got = ranges exampleStore (1 ∷ 2 ∷ 3 ∷ 4 ∷ []) []; want = 0 ∷ 1 ∷ 0 ∷ 0 ∷ 0 ∷ 0 ∷ 1 ∷ 0 ∷ 0 ∷ 0 ∷ [] }
+    ∷ record { got = ranges exampleStore (1 ∷ []) []; want = 0 ∷ 1 ∷ 0 ∷ 0 ∷ 0 ∷ 0 ∷ 4 ∷ 0 ∷ 0 ∷ 0 ∷ [] }
+    ∷ record { got = ranges exampleStore (1 ∷ 3 ∷ []) []; want = 0 ∷ 0 ∷ 0 ∷ 0 ∷ 0 ∷ 0 ∷ 0 ∷ 0 ∷ 0 ∷ 0 ∷ [] }
+    ∷ record { got = ranges exampleStore (1 ∷ 2 ∷ []) (3 ∷ 4 ∷ []); want = 0 ∷ 1 ∷ 1 ∷ 0 ∷ 0 ∷ 0 ∷ 3 ∷ 0 ∷ 0 ∷ 0 ∷ [] }
+    ∷ record { got = ranges exampleStore (1 ∷ 2 ∷ []) (3 ∷ []); want = 0 ∷ 0 ∷ 0 ∷ 0 ∷ 0 ∷ 0 ∷ 0 ∷ 0 ∷ 0 ∷ 0 ∷ [] }
+    ∷ record { got = ranges exampleStore [] []; want = 0 ∷ 0 ∷ 0 ∷ 0 ∷ 0 ∷ 0 ∷ 0 ∷ 0 ∷ 0 ∷ 0 ∷ [] }
     -- "{1,2} nothing; {1,2,3} 14; {1,2,5} 14; {3,4} 14; {5,6} added; {1,2,3,4,5} added."
     ∷ record { got = adds (1 ∷ 2 ∷ []); want = 0 ∷ 0 ∷ [] }
     ∷ record { got = adds (1 ∷ 2 ∷ 3 ∷ []); want = 14 ∷ [] }

@@ -18,13 +18,14 @@ use Rattle.model.specs.Sound.{In, Distinct, Eight, noComponent, layoutKinds, Ri
 use Rattle.model.specs.Theorems.{DraftSound, grouped}
 use Rattle.model.proofs.BoolLaws.{not-true}
 use Rattle.model.proofs.ListLaws.{count-append, map-append, self-count}
-use Rattle.model.proofs.KindLists.{in-count, distinct-left, distinct-right, in-left, in-right}
-use Rattle.model.proofs.Draft.{kinds-append}
+use Rattle.model.proofs.KindLists.{in-count, distinct-left, distinct-right, in-left, in-right, before-free}
+use Rattle.model.proofs.Draft.{family-joined, kinds-append, groups-append}
+use Rattle.model.proofs.Regroup.{zeroed, zeroed-families}
 use Rattle.model.proofs.Outcomes.{reg-above, reg-new, hold-staged, bar-excluded, apply-does, group-does}
 use Rattle.tapes.specs.Tapes.{AllEncodable, afterOne, afterAll}
 use Rattle.tapes.specs.Built.{Build, builtStore, BuildSound, refusedCommand, valueless, holdCommands, groupCommands, familyCommands, buildCommands}
 use Rattle.tapes.proofs.Tapes.{encodable-append, after-append}
-use Rattle.tapes.proofs.Drafts.{before-free, family-joined, groups-append, own-added, wider-added}
+use Rattle.tapes.proofs.Drafts.{own-added, wider-added}
 
 -- ---- a list whose items come one by one
 
@@ -106,10 +107,6 @@ valueless-kinds : (ks : List ℕ) → map kindOf (map valueless ks) ≡ ks
 valueless-kinds [] = refl
 valueless-kinds (k ∷ ks) = ap {B = List ℕ} (λ l. k ∷ l) (valueless-kinds ks)
 
--- a draft's group is a new group of its ring
-pub zeroed : (r : Group) → r .count ≡ 0 → newGroup (r .newKinds) ≡ r
-zeroed r z = λ i. record { newKinds = r .newKinds; count = sym z i }
-
 module _ (s : Store) (small : (k : ℕ) → In (s .kinds) k → k < MAX-KINDS) where
   known-kind : (k : ℕ) → In (s .kinds) k → unknownKind k s ≡ false
   known-kind k i = rw (le-ltb LAST-KIND k (omega (arith, small k i)), i)
@@ -171,14 +168,6 @@ module _ (s : Store) (small : (k : ℕ) → In (s .kinds) k → k < MAX-KINDS) w
   draft-after fs D = families-after fs [] (D .buildable .families) (D .uncounted) (D .buildable .once) (D .buildable .known) (D .buildable .few)
 
 -- ---- APPLY
-
-zeroed-family : (f : Family) → Uncounted f → map zeroCount f ≡ f
-zeroed-family [] z = refl
-zeroed-family (r ∷ f) z = ap₂ {C = Family} (λ x xs. x ∷ xs) (zeroed r (z .0)) (zeroed-family f (z .1))
-
-pub zeroed-families : (fs : List Family) → AllUncounted fs → map (map zeroCount) fs ≡ fs
-zeroed-families [] z = refl
-zeroed-families (f ∷ fs) z = ap₂ {C = List Family} (λ x xs. x ∷ xs) (zeroed-family f (z .0)) (zeroed-families fs (z .1))
 
 -- with no entity live the draft is in force as it stands
 apply-after : (s : Store) → s .entities .live ≡ [] → AllUncounted (s .control .draft) → afterOne APPLY s ≡ withControl (withStorage s (withLayout (s .storage) (s .control .draft))) (withDraft (s .control) [])

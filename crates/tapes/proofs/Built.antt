@@ -16,7 +16,8 @@ use Rattle.model.proofs.Shape.{buildable-plain}
 use Rattle.model.proofs.Sound.{run-sound}
 use Rattle.tapes.specs.Built.{Build, builtStore, BuildSound, partsOf, TapeLeaves, LeftBy, buildCommands, buildTape, buildRoom}
 use Rattle.tapes.proofs.Tapes.{tape-bytes, run-commands}
-use Rattle.tapes.proofs.Building.{zeroed-families, commands-after, commands-encodable}
+use Rattle.model.proofs.Regroup.{zeroed-families}
+use Rattle.tapes.proofs.Building.{commands-after, commands-encodable}
 
 -- ---- each is what a tape leaves: that of specs/Built.antt, with room for its answers
 

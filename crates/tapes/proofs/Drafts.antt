@@ -1,60 +1,18 @@
 -- What GROUP adds to a draft: kinds of which the draft has none become a family of their own, kinds that hold all those of the last family its next group.
 -- Assumes nothing.
-use mathlib.Core.Path.{_≡_, refl, ap, sym, _∙_}
-use mathlib.Core.Bool.{true, false, true≢false, or-true}
+use mathlib.Core.Path.{_≡_, refl, ap, _∙_}
+use mathlib.Core.Bool.{true, false}
 use mathlib.Core.List.{List, [], _∷_, _++_, append-assoc, append-nil}
 use Prim.Native.Nat.{ℕ, _+_, _≤_, _<_}
 use native.Mathlib.Omega.{arith}
-use borrow.Author.Tests.{eq-eqb, le-ltb, lt-leb}
-use lib.Dec.{eqb}
+use borrow.Author.Tests.{le-ltb, lt-leb}
 use lib.ListN.{length, length-append}
 use Rattle.model.specs.Numbers.{MAX-GROUP-ARITY, MAX-GROUP-COUNT}
 use Rattle.model.specs.Model.{Family, mem, meets, within, without, headKind, kindsOf, groupsOf, isGroup, present, touched, covers, newGroup, grown}
 use Rattle.model.specs.Adding.{added, addGroup}
 use Rattle.model.specs.Sound.{In, Distinct, layoutKinds}
-use Rattle.model.proofs.BoolLaws.{bool-cases, not-true}
-use Rattle.model.proofs.KindLists.{distinct-apart, distinct-right, mem-append, head-in, in-left, in-right, not-in-parts, not-both, all-true, any-in, any-at, differ-left}
-use Rattle.model.proofs.Draft.{kinds-append}
-
--- ---- lists of kinds
-
-unmet-all : (ks js : List ℕ) → ((k : ℕ) → In ks k → mem k js ≡ false) → meets ks js ≡ false
-unmet-all ks js h = not-true (meets ks js) (λ t. let a = any-at (λ k. mem k js) ks t in true≢false (sym (a .2) ∙ h (a .0) (a .1)))
-
-without-append : (a b js : List ℕ) → without (a ++ b) js ≡ without a js ++ without b js
-without-append [] b js = refl
-without-append (k ∷ a) b js = bool-cases (mem k js) (λ t. rw t (without-append a b js)) (λ t. rw t (ap {B = List ℕ} (λ l. k ∷ l) (without-append a b js)))
-
--- js has all of a
-without-all : (a js : List ℕ) → ((k : ℕ) → In a k → In js k) → without a js ≡ []
-without-all [] js h = refl
-without-all (k ∷ a) js h = rw (h k (rw (eq-eqb k k refl))) (without-all a js (λ j i. h j (rw i (or-true (eqb j k)))))
-
--- js has none of b
-without-none : (b js : List ℕ) → ((k : ℕ) → In b k → mem k js ≡ false) → without b js ≡ b
-without-none [] js h = refl
-without-none (k ∷ b) js h = rw (h k (rw (eq-eqb k k refl))) (ap {B = List ℕ} (λ l. k ∷ l) (without-none b js (λ j i. h j (rw i (or-true (eqb j k))))))
-
--- of distinct kinds those behind are not among those before
-pub before-free : (a b : List ℕ) → Distinct (a ++ b) → (k : ℕ) → In b k → mem k a ≡ false
-before-free a b d k i = not-both a b k (distinct-apart a b d k) i
-
--- a group's kinds without those of the group before are its ring
-pub without-ring : (acc ring : List ℕ) → Distinct (acc ++ ring) → without (acc ++ ring) acc ≡ ring
-without-ring acc ring d =
-    without-append acc ring acc
-    ∙ ap (λ (l : List ℕ). l ++ without ring acc) (without-all acc acc (λ k i. i))
-    ∙ without-none ring acc (before-free acc ring d)
-
--- ---- families
-
-pub family-joined : (f g : Family) → kindsOf (f ++ g) ≡ kindsOf f ++ kindsOf g
-family-joined [] g = refl
-family-joined (r ∷ f) g = ap (λ (l : List ℕ). r .newKinds ++ l) (family-joined f g) ∙ sym (append-assoc (r .newKinds) (kindsOf f) (kindsOf g))
-
-pub groups-append : (fs gs : List Family) → groupsOf (fs ++ gs) ≡ groupsOf fs + groupsOf gs
-groups-append [] gs = omega arith
-groups-append (f ∷ fs) gs = omega (arith, groups-append fs gs)
+use Rattle.model.proofs.KindLists.{distinct-right, mem-append, head-in, in-left, in-right, not-in-parts, all-true, any-in, differ-left, unmet-all, before-free, without-ring}
+use Rattle.model.proofs.Draft.{kinds-append, groups-append}
 
 -- ---- kinds that a draft has not
 

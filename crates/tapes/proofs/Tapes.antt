@@ -3,36 +3,20 @@
 use mathlib.Core.Path.{_≡_, refl, ap, ap₂, _∙_}
 use mathlib.Core.Bool.{true, false}
 use mathlib.Core.List.{List, [], _∷_, _++_}
-use Prim.Native.Nat.{ℕ, zero, suc, _+_, _-_, _/_, _^_, _≤_, _<_}
+use Prim.Native.Nat.{ℕ, zero, suc, _+_, _-_, _≤_, _<_}
 use native.Mathlib.Omega.{arith}
-use native.Mathlib.Nat.{pow-suc, div-lt-iff-lt-mul}
 use borrow.Author.Tests.{le-ltb}
-use lib.Dec.{ltb, lit<}
+use lib.Dec.{ltb}
 use lib.ListN.{length, take, drop, length-append}
 use lib.Seq.{take-at, drop-at}
 use Rattle.model.specs.Model.{Entity}
 use Rattle.model.specs.Store.{Store, Bytes, bytesOf, number}
 use Rattle.model.specs.Commands.{Command, REG, HOLD, NEW, PUT, TAKE, DROP, KILL, WIPE, GROUP, APPLY, BAR, RANGE, EMPTY, TALLY, width, isCommand, entityOfBytes, commandAt, answerLength}
-use Rattle.model.specs.Run.{Outcome, refuses, accepts, does, Step, stops, goes, step, answerOf, Ran, halt, more, runFor, run}
+use Rattle.model.specs.Run.{Outcome, refuses, accepts, does, goes, step, answerOf, more, runFor, run}
+use Rattle.model.proofs.Encoding.{number-bytes, bytes-of, bytes-append}
 use Rattle.model.proofs.Lengths.{bytesOf-length, answer-length, answer-positive}
+use Rattle.tapes.proofs.Pieces.{run-step}
 use Rattle.tapes.specs.Tapes.{byteOf, entityBytes, operandsOf, EntityFits, Encodable, AllEncodable, tapeOf, afterOne, afterAll, answersTo, roomFor, ranAll}
-
--- ---- numbers in bytes
-
--- a number of n bytes is the number of its bytes
-pub number-bytes : (n x : ℕ) → x < 256 ^ n → number (bytesOf n x) ≡ x
-number-bytes zero x h = omega (arith, h)
-number-bytes (suc n) x h =
-    let q : x / 256 < 256 ^ n = div-lt-iff-lt-mul (lit< tt) .1 (rw pow-suc at h) in
-    rw (number-bytes n (x / 256) q) (omega arith)
-
-pub bytes-of : (n x : ℕ) → Bytes (bytesOf n x)
-bytes-of zero x = tt
-bytes-of (suc n) x = (omega arith, bytes-of n (x / 256))
-
-pub bytes-append : (a b : List ℕ) → Bytes a → Bytes b → Bytes (a ++ b)
-bytes-append [] b h i = i
-bytes-append (x ∷ a) b h i = (h .0, bytes-append a b (h .1) i)
 
 -- ---- a command and its bytes
 
@@ -158,12 +142,6 @@ step-whole c rest room s f h =
     let t : take (width (byteOf c)) (operandsOf c ++ rest) ≡ operandsOf c = take-at (operandsOf c) rest (width (byteOf c)) (is-whole c) in
     let l : ltb (length (operandsOf c ++ rest)) (width (byteOf c)) ≡ false = le-ltb (length (operandsOf c ++ rest)) (width (byteOf c)) (omega (arith, is-whole c, length-append (operandsOf c) rest)) in
     rw (is-command c, l, t, command-back c f, le-ltb room (answerLength c s) h)
-
-run-step : (fuel b : ℕ) (t : List ℕ) (room : ℕ) (s : Store) (w : ℕ) (a : List ℕ) (s′ : Store) → step b t room s ≡ goes w a s′
-    → runFor (suc fuel) (b ∷ t) room s ≡ more w a (runFor fuel (drop w (b ∷ t)) (room - length a) s′)
-unfolding runFor
-run-step fuel b t room s w a s′ e =
-    ap (λ (p : Step). elim p as (λ p. Ran) [ stops n ↦ halt n s | goes w a s′ ↦ more w a (runFor fuel (drop w (b ∷ t)) (room - length a) s′) ]) e
 
 run-commands-for : (fuel : ℕ) (cs : List Command) (room : ℕ) (s : Store) → AllEncodable cs → length (tapeOf cs) ≤ fuel → roomFor cs s ≤ room → runFor fuel (tapeOf cs) room s ≡ ranAll cs s
 unfolding runFor
