@@ -8,7 +8,7 @@ use borrow.Author.Tests.{le-ltb, lt-ltb, lt-leb, eq-eqb}
 use lib.Dec.{eqb, lit<}
 use lib.ListN.{length, getD, replicate, length-append, length-map}
 use Rattle.model.specs.Numbers.{LAST-KIND, LIST-CAPACITY, MAX-GROUP-ARITY, MAX-GROUP-COUNT, MAX-KINDS, MAX-REFUSALS}
-use Rattle.model.specs.Model.{Entity, Group, Family, Component, mem, kindOf, kindsOf, groupsOf, newGroup, zeroCount, setLayout, regroup}
+use Rattle.model.specs.Model.{Entity, Group, Family, Component, mem, kindOf, kindsOf, groupsOf, setLayout, regroup}
 use Rattle.model.specs.Adding.{added, addGroup}
 use Rattle.model.specs.Store.{Store, empty, stagedKinds, counted, withControl, withStorage, withKinds, withLayout, withStaged, withExcluded, withDraft, withCounts, emptyStaged}
 use Rattle.model.specs.Commands.{Command, REG, GROUP, APPLY, BAR, accepted}
