@@ -30,6 +30,7 @@ use Rattle.memory.specs.Meaning.{meaning, withRefusal}
 use Rattle.memory.specs.Arranged.{Sound}
 use Rattle.run.specs.declared.Ran.{Ran}
 use Rattle.snapshot.proofs.Rolled.{roll-fits}
+use Rattle.columns.proofs.Columns.{column-within}
 use Rattle.store.specs.declared.Rolled.{Rolled}
 use Rattle.store.specs.Entries.{startNumber, StartLeaves, Starts, columnRefused, ColumnNumbered, columnWords, partPlace, ColumnPart, ranOf, RunLeaves, Runs, Rolls}
 use Rattle.store.specs.Course.{Course, ended, stopped, refused, done, AfterEach, Reached, started, ran, retiredIn}
@@ -37,7 +38,6 @@ use Rattle.store.proofs.Starting.{start-number}
 use Rattle.store.proofs.Tables.{tabled, judged, start-tabled}
 use Rattle.store.specs.Theorems.{Tabled, Judged, GroupsHold}
 use Rattle.store.proofs.Emitting.{over-refused, over-accepted, over-refusals, over-written}
-use Rattle.store.proofs.Columns.{column-within}
 use Rattle.store.proofs.Courses.{course-of}
 use Rattle.store.proofs.Determined.{answer-bytes}
 use Rattle.words.proofs.Decides.{decides-same}

@@ -6,8 +6,8 @@ use borrow.Author.Needs.{needs}
 use lib.ListN.{length, getD, set, length-set}
 use lib.Seq.{paste, paste-zero}
 use Rattle.model.proofs.ListLaws.{copy-turn, copy-end}
-use Rattle.store.proofs.exports.copy.Statement.{statement}
-use Rattle.store.proofs.exports.copy.Tie as tie
+use Rattle.columns.proofs.copy.Statement.{statement}
+use Rattle.columns.proofs.copy.Tie as tie
 
 abbrev Inv-loop : tie.InvT-loop
 Inv-loop from to₀ i₀ to i = (i ≤ length from) × (to ≡ paste to₀ 0 from i) × (length to ≡ length to₀)

@@ -4,9 +4,9 @@ use borrow.Author.Needs.{needs}
 use Rattle.words.specs.Offsets.{CAPACITY, TABLE}
 use Rattle.words.proofs.Offsets.{columnStart-fits}
 use Rattle.kinds.proofs.Slot.{known-small, known-slot, header-long}
-use Rattle.store.proofs.Columns.{rows-few, row-start-small, value-place, entity-place}
-use Rattle.store.proofs.row_start.Statement.{statement}
-use Rattle.store.proofs.row_start.Tie as tie
+use Rattle.columns.proofs.Columns.{rows-few, row-start-small, value-place, entity-place}
+use Rattle.columns.proofs.row_start.Statement.{statement}
+use Rattle.columns.proofs.row_start.Tie as tie
 
 word-requires : tie.Need-word-requires
 word-requires c κs = header-long (c .before .args .words .now) (c .before .pre .0) CAPACITY (omega arith)
