@@ -136,6 +136,10 @@ module _ (w : List ℕ) (k a n t b : ℕ) (en : n ≡ capacityOf w) (et : t ≡ 
   pub entity-place : (values : Bool) → values ≡ false → b + ROWS + 2 * a ≡ rowPlace values w k a
   entity-place values q = rw q (rw (eb, en, et))
 
+  -- so that each sum on the way is small
+  pub sums-small : Arranged w → In (meaning w .kinds) k → a ≤ length (kindSet w k) → b + ROWS + 2 * n + 2 * a ≤ 4000000
+  sums-small A i h = rw (eb, en, et) (row-start-small w A k i true a h)
+
 -- ---- an accepted column
 
 -- it is a part of the words, of at most 4,096 rows

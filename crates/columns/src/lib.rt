@@ -43,11 +43,11 @@ pub fn row_start(words: &[u32], kind: usize, values: bool, place: usize) -> usiz
 {
     let n = words::word(words, words::CAPACITY);
     let slot = words::word(words, words::TABLE + kind);
-    let entities = words::column_start(n, slot) + words::ROWS;
+    let start = words::column_start(n, slot);
     if values {
-        return entities + 2 * n + 2 * place;
+        return start + words::ROWS + 2 * n + 2 * place;
     }
-    entities + 2 * place
+    start + words::ROWS + 2 * place
 }
 
 // The entities, or the values, of the rows from start to end, which column accepts: where they lie in the words.

@@ -1,10 +1,8 @@
 use Prim.Native.Nat.{_+_}
 use native.Mathlib.Omega.{arith}
-use borrow.Author.Needs.{needs}
 use Rattle.words.specs.Offsets.{CAPACITY, TABLE}
-use Rattle.words.proofs.Offsets.{columnStart-fits}
 use Rattle.kinds.proofs.Slot.{known-small, known-slot, header-long}
-use Rattle.columns.proofs.Columns.{rows-few, row-start-small, value-place, entity-place}
+use Rattle.columns.proofs.Columns.{row-start-small, value-place, entity-place, sums-small}
 use Rattle.columns.proofs.row_start.Statement.{statement}
 use Rattle.columns.proofs.row_start.Tie as tie
 
@@ -25,37 +23,20 @@ column-start-requires c κs =
     let w = s .args .words .now in
     (omega (arith, c .before .word .ensures .is, s .pre .0 .limits .most), omega (arith, c .word2 .ensures .is, known-slot w (s .pre .0) (s .args .kind) (s .pre .1 .0) .lent .few))
 
-add-entities : tie.Need-add-entities
-add-entities c =
-    let s = c .before .before .before .before in
-    let w = s .args .words .now in
-    let f = columnStart-fits (c .before .before .word .result) (c .before .word2 .result) (omega (arith, c .before .before .word .ensures .is, s .pre .0 .limits .most)) (omega (arith, c .before .word2 .ensures .is, known-slot w (s .pre .0) (s .args .kind) (s .pre .1 .0) .lent .few)) in
-    let few = rows-few w (s .pre .0) (s .args .kind) (s .pre .1 .0) in
-    omega (arith, f, few, c .column-start .ensures, c .before .before .word .ensures .is, s .pre .0 .limits .most, s .pre .1 .1)
-
-mul-result-2 : tie.Need-mul-result-2
-mul-result-2 c =
-    let s = c .before .before .before .before .before in
-    let w = s .args .words .now in
-    let f = columnStart-fits (c .before .before .before .word .result) (c .before .before .word2 .result) (omega (arith, c .before .before .before .word .ensures .is, s .pre .0 .limits .most)) (omega (arith, c .before .before .word2 .ensures .is, known-slot w (s .pre .0) (s .args .kind) (s .pre .1 .0) .lent .few)) in
-    let few = rows-few w (s .pre .0) (s .args .kind) (s .pre .1 .0) in
-    omega (arith, f, few, c .before .column-start .ensures, c .before .before .before .word .ensures .is, s .pre .0 .limits .most, s .pre .1 .1)
-
 add-result : tie.Need-add-result
-add-result c =
-    let s = c .before .before .before .before .before in
-    let w = s .args .words .now in
-    let f = columnStart-fits (c .before .before .before .word .result) (c .before .before .word2 .result) (omega (arith, c .before .before .before .word .ensures .is, s .pre .0 .limits .most)) (omega (arith, c .before .before .word2 .ensures .is, known-slot w (s .pre .0) (s .args .kind) (s .pre .1 .0) .lent .few)) in
-    let few = rows-few w (s .pre .0) (s .args .kind) (s .pre .1 .0) in
-    omega (arith, f, few, c .before .column-start .ensures, c .before .before .before .word .ensures .is, s .pre .0 .limits .most, s .pre .1 .1)
+add-result c = let s = c .before .before .before .before .before in omega (arith, sums-small (s .args .words .now) (s .args .kind) (s .args .place) (c .before .before .before .word .result) (c .before .before .word2 .result) (c .before .column-start .result) (c .before .before .before .word .ensures .is) (c .before .before .word2 .ensures .is) (c .before .column-start .ensures) (s .pre .0) (s .pre .1 .0) (s .pre .1 .1))
+
+mul-result : tie.Need-mul-result
+mul-result c = let s = c .before .before .before .before .before in omega (arith, sums-small (s .args .words .now) (s .args .kind) (s .args .place) (c .before .before .before .word .result) (c .before .before .word2 .result) (c .before .column-start .result) (c .before .before .before .word .ensures .is) (c .before .before .word2 .ensures .is) (c .before .column-start .ensures) (s .pre .0) (s .pre .1 .0) (s .pre .1 .1))
 
 add-result-2 : tie.Need-add-result-2
-add-result-2 c =
-    let s = c .before .before .before .before .before in
-    let w = s .args .words .now in
-    let f = columnStart-fits (c .before .before .before .word .result) (c .before .before .word2 .result) (omega (arith, c .before .before .before .word .ensures .is, s .pre .0 .limits .most)) (omega (arith, c .before .before .word2 .ensures .is, known-slot w (s .pre .0) (s .args .kind) (s .pre .1 .0) .lent .few)) in
-    let few = rows-few w (s .pre .0) (s .args .kind) (s .pre .1 .0) in
-    omega (arith, f, few, c .before .column-start .ensures, c .before .before .before .word .ensures .is, s .pre .0 .limits .most, s .pre .1 .1)
+add-result-2 c = let s = c .before .before .before .before .before in omega (arith, sums-small (s .args .words .now) (s .args .kind) (s .args .place) (c .before .before .before .word .result) (c .before .before .word2 .result) (c .before .column-start .result) (c .before .before .before .word .ensures .is) (c .before .before .word2 .ensures .is) (c .before .column-start .ensures) (s .pre .0) (s .pre .1 .0) (s .pre .1 .1))
+
+mul-result-2 : tie.Need-mul-result-2
+mul-result-2 c = let s = c .before .before .before .before .before in omega (arith, sums-small (s .args .words .now) (s .args .kind) (s .args .place) (c .before .before .before .word .result) (c .before .before .word2 .result) (c .before .column-start .result) (c .before .before .before .word .ensures .is) (c .before .before .word2 .ensures .is) (c .before .column-start .ensures) (s .pre .0) (s .pre .1 .0) (s .pre .1 .1))
+
+add-result-3 : tie.Need-add-result-3
+add-result-3 c = let s = c .before .before .before .before .before in omega (arith, sums-small (s .args .words .now) (s .args .kind) (s .args .place) (c .before .before .before .word .result) (c .before .before .word2 .result) (c .before .column-start .result) (c .before .before .before .word .ensures .is) (c .before .before .word2 .ensures .is) (c .before .column-start .ensures) (s .pre .0) (s .pre .1 .0) (s .pre .1 .1))
 
 returns : tie.Need-returns
 returns c =
@@ -64,21 +45,14 @@ returns c =
     let is = value-place (a .words .now) (a .kind) (a .place) (c .before .before .before .word .result) (c .before .before .word2 .result) (c .before .column-start .result) (c .before .before .before .word .ensures .is) (c .before .before .word2 .ensures .is) (c .before .column-start .ensures) (a .values) (c .if1 .taken) in
     record { is = is; small = rw is (row-start-small (a .words .now) (s .pre .0) (a .kind) (s .pre .1 .0) (a .values) (a .place) (s .pre .1 .1)) }
 
-mul-result-3 : tie.Need-mul-result-3
-mul-result-3 c =
-    let s = c .before .before .before .before .before in
-    let w = s .args .words .now in
-    let f = columnStart-fits (c .before .before .before .word .result) (c .before .before .word2 .result) (omega (arith, c .before .before .before .word .ensures .is, s .pre .0 .limits .most)) (omega (arith, c .before .before .word2 .ensures .is, known-slot w (s .pre .0) (s .args .kind) (s .pre .1 .0) .lent .few)) in
-    let few = rows-few w (s .pre .0) (s .args .kind) (s .pre .1 .0) in
-    omega (arith, f, few, c .before .column-start .ensures, c .before .before .before .word .ensures .is, s .pre .0 .limits .most, s .pre .1 .1)
+add-result-4 : tie.Need-add-result-4
+add-result-4 c = let s = c .before .before .before .before .before in omega (arith, sums-small (s .args .words .now) (s .args .kind) (s .args .place) (c .before .before .before .word .result) (c .before .before .word2 .result) (c .before .column-start .result) (c .before .before .before .word .ensures .is) (c .before .before .word2 .ensures .is) (c .before .column-start .ensures) (s .pre .0) (s .pre .1 .0) (s .pre .1 .1))
 
-add-result-3 : tie.Need-add-result-3
-add-result-3 c =
-    let s = c .before .before .before .before .before in
-    let w = s .args .words .now in
-    let f = columnStart-fits (c .before .before .before .word .result) (c .before .before .word2 .result) (omega (arith, c .before .before .before .word .ensures .is, s .pre .0 .limits .most)) (omega (arith, c .before .before .word2 .ensures .is, known-slot w (s .pre .0) (s .args .kind) (s .pre .1 .0) .lent .few)) in
-    let few = rows-few w (s .pre .0) (s .args .kind) (s .pre .1 .0) in
-    omega (arith, f, few, c .before .column-start .ensures, c .before .before .before .word .ensures .is, s .pre .0 .limits .most, s .pre .1 .1)
+mul-result-3 : tie.Need-mul-result-3
+mul-result-3 c = let s = c .before .before .before .before .before in omega (arith, sums-small (s .args .words .now) (s .args .kind) (s .args .place) (c .before .before .before .word .result) (c .before .before .word2 .result) (c .before .column-start .result) (c .before .before .before .word .ensures .is) (c .before .before .word2 .ensures .is) (c .before .column-start .ensures) (s .pre .0) (s .pre .1 .0) (s .pre .1 .1))
+
+add-result-5 : tie.Need-add-result-5
+add-result-5 c = let s = c .before .before .before .before .before in omega (arith, sums-small (s .args .words .now) (s .args .kind) (s .args .place) (c .before .before .before .word .result) (c .before .before .word2 .result) (c .before .column-start .result) (c .before .before .before .word .ensures .is) (c .before .before .word2 .ensures .is) (c .before .column-start .ensures) (s .pre .0) (s .pre .1 .0) (s .pre .1 .1))
 
 returns-2 : tie.Need-returns-2
 returns-2 c =
@@ -95,12 +69,13 @@ row-start-spec =
     add-word
     word-requires-2
     column-start-requires
-    add-entities
-    (λ c. search needs)
     add-result
-    mul-result-2
+    mul-result
     add-result-2
-    returns
-    mul-result-3
+    mul-result-2
     add-result-3
+    returns
+    add-result-4
+    mul-result-3
+    add-result-5
     returns-2)
