@@ -1,5 +1,5 @@
 -- Theorems over the contracts of the exported functions alone (specs/Linked.antt): the place and the copy of a column. Assumes nothing.
-use mathlib.Core.Path.{_≡_, refl, sym, ap, _∙_}
+use mathlib.Core.Path.{_≡_, refl, sym, ap, _∙_, subst}
 use mathlib.Core.Bool.{Bool, true, false, cond}
 use mathlib.Core.Option.{Option, some, none}
 use mathlib.Core.List.{List, [], _∷_, map}
@@ -10,30 +10,67 @@ use lib.ListN.{length, take, drop}
 use lib.Seq.{length-take-le}
 use denote.Ref.{RefT}
 use Rattle.model.specs.Numbers.{NOROOM, BEYOND}
+use Rattle.model.specs.Store.{Store}
 use Rattle.model.specs.Refusals.{NoneHolds, First, firstLine, numberOf, columnLines}
 use Rattle.model.specs.Entries.{columnRefusal, column}
 use Rattle.model.proofs.Lines.{first-exact, none-from}
 use Rattle.model.proofs.Entries.{column-exact, column-refused, column-accepted}
 use Rattle.model.proofs.Emitting.{emits-few}
 use Rattle.words.specs.Decides.{Decides}
-use Rattle.words.proofs.Decides.{decides-same}
+use Rattle.words.proofs.Decides.{decides-same, decides-true}
 use Rattle.memory.specs.Meaning.{meaning}
 use Rattle.memory.specs.Arranged.{Sound}
+use Rattle.columns.specs.Parts.{rowPlace}
 use Rattle.store.specs.declared.Written.{Written}
 use Rattle.store.specs.Entries.{firstRefusal, columnRefused, ColumnNumbered, columnWords, partPlace, ColumnPart}
 use Rattle.store.specs.Linked.{ColumnPlaced, CopyTold, copyTold, toCopy, ofPart, roomLine, copyLines, copied, ColumnCopied, CopyWrote}
 use Rattle.store.specs.Theorems.{Judged}
 use Rattle.store.proofs.Emitting.{over-refused, over-past, over-refusals, over-written}
+use Rattle.store.proofs.Handing.{Given, given-of}
 use Rattle.store.proofs.Linking.{first-of-part, numbered-copy}
 use Rattle.store.proofs.Determined.{alike-same, column-copy-determined}
 
--- ---- the place: it is where the part that column hands back lies, four bytes a word from the words' start
+-- ---- the place
 
-pub placed-part : (v p : RefT (List ℕ)) (values : Bool) (k a e r : ℕ) → ColumnPart v p values k a e → ColumnPlaced (v .now) values k a e r → p .ptr .1 ≡ r * 4 + v .ptr .1
+-- it is where the part that column hands back lies, four bytes a word from the words' start
+pub placed-part : (v p : RefT (List ℕ)) (values : Bool) (k a e r : ℕ) → ColumnPart v p values k a e → ColumnPlaced (v .now) values k a e r → p .ptr ≡ (v .ptr .0, r * 4 + v .ptr .1)
 placed-part v p values k a e r P R =
     let b : P .sound ≡ R .sound = decides-same (P .sound) (R .sound) (P .decides) (R .decides) ((λ S. S), (λ S. S)) in
     let at : partPlace (columnRefused (P .sound) k a e (meaning (v .now))) values (v .now) k a ≡ r = (λ i. partPlace (columnRefused (b i) k a e (meaning (v .now))) values (v .now) k a) ∙ sym (R .place) in
-    P .part .offset ∙ ap (λ (n : ℕ). n * 4 + v .ptr .1) at
+    let offset : p .ptr .1 ≡ r * 4 + v .ptr .1 = P .part .offset ∙ ap (λ (n : ℕ). n * 4 + v .ptr .1) at in
+    λ i. (P .part .block i, offset i)
+
+row-after-head : (values : Bool) (w : List ℕ) (k a : ℕ) → 1 ≤ rowPlace values w k a
+row-after-head false w k a = omega arith
+row-after-head true w k a = omega arith
+
+-- where column is accepted it is not 0, and column's words, two a row, stand there; where column is refused it is 0
+pub placed-words : (w : List ℕ) (values : Bool) (k a e n r : ℕ) → ColumnNumbered w k a e n → ColumnPlaced w values k a e r
+    → (n ≡ 0 → (1 ≤ r) × (take (2 * (e - a)) (drop r w) ≡ column values k a e (meaning w))) × (1 ≤ n → r ≡ 0)
+placed-words w values k a e n r C R = (there, front)
+  where
+    s : Store
+    s = meaning w
+
+    there : n ≡ 0 → (1 ≤ r) × (take (2 * (e - a)) (drop r w) ≡ column values k a e s)
+    there z =
+        let G : Given w k a e = given-of w k a e n C z in
+        let b : R .sound ≡ true = decides-true (R .sound) (R .decides) (G .sound) in
+        let at : r ≡ rowPlace values w k a =
+        R .place ∙ (λ i. partPlace (columnRefused (b i) k a e s) values w k a) ∙ ap (λ (o : Option ℕ). partPlace o values w k a) (G .taken) in
+        let words : column values k a e s ≡ take (length (column values k a e s)) (drop r w) =
+        subst (λ (c : Bool). columnWords c values k a e s ≡ take (length (columnWords c values k a e s)) (drop r w)) b (R .words) in
+        let long : length (column values k a e s) ≡ 2 * (e - a) = column-accepted values k a e s (G .taken) .size in
+        (rw at (row-after-head values w k a), sym (words ∙ ap (λ (m : ℕ). take m (drop r w)) long))
+
+    line : (o : Option ℕ) → n ≡ numberOf o → 1 ≤ n → partPlace o values w k a ≡ 0
+    line none q h = absurd (omega (arith, q, h))
+    line (some m) q h = refl
+
+    front : 1 ≤ n → r ≡ 0
+    front h =
+        let b : C .sound ≡ R .sound = decides-same (C .sound) (R .sound) (C .decides) (R .decides) ((λ S. S), (λ S. S)) in
+        R .place ∙ line (columnRefused (R .sound) k a e s) (C .number ∙ (λ i. numberOf (columnRefused (b i) k a e s))) h
 
 -- ---- the copy: "A refusal comes when its line holds and no line above does, else never"
 
