@@ -126,7 +126,6 @@ static void test_run(void)
 static void test_column(void)
 {
     const uint32_t entities[] = {1, 1, 0, 1}, values[] = {6, 0, 5, 0};
-    uint32_t copy[8];
     used();
     CHECK(yirbarn_column_number(words, NEEDED, 1, false, 0, 2) == YIRBARN_OK);
     CHECK(yirbarn_column_number(words, NEEDED, 1, true, 2, 2) == YIRBARN_OK);
@@ -146,14 +145,43 @@ static void test_column(void)
     CHECK(yirbarn_column_at(words, NEEDED, 3, true, 0, 0) == 0);
     CHECK(yirbarn_column_at(words, NEEDED - 1, 1, true, 0, 2) == 0);
 
+}
+
+/* A copy of a column gives this number and count. */
+static bool copies(struct yirbarn_written copied, uint8_t number, size_t written)
+{
+    return copied.number == number && copied.written == written;
+}
+
+static void test_copy(void)
+{
+    const uint32_t entities[] = {1, 1, 0, 1}, values[] = {6, 0, 5, 0};
+    uint32_t copy[8];
+    used();
     memset(copy, 0x5a, sizeof copy);
-    CHECK(yirbarn_column(words, NEEDED, 1, true, 0, 2, copy, 3) == 0 && all(copy, 0, sizeof copy, 0x5a));
-    CHECK(yirbarn_column(words, NEEDED, 1, true, 0, 3, copy, 8) == 0 && all(copy, 0, sizeof copy, 0x5a));
-    CHECK(yirbarn_column(words, NEEDED - 1, 1, true, 0, 2, copy, 8) == 0 && all(copy, 0, sizeof copy, 0x5a));
-    CHECK(yirbarn_column(words, NEEDED, 1, true, 1, 1, copy, 0) == 0 && all(copy, 0, sizeof copy, 0x5a));
-    CHECK(yirbarn_column(words, NEEDED, 1, true, 0, 2, copy, 4) == 4 && !memcmp(copy, values, sizeof values));
-    CHECK(yirbarn_column(words, NEEDED, 1, false, 0, 2, copy, 8) == 4 && !memcmp(copy, entities, sizeof entities));
-    CHECK(all(copy, sizeof values, sizeof copy, 0x5a));
+
+    /* Too short, refused, no rows: told apart, and nothing is written. */
+    for (size_t room = 0; room < 4; room++)
+        CHECK(copies(yirbarn_column(words, NEEDED, 1, true, 0, 2, copy, room), YIRBARN_NOROOM, 0));
+    CHECK(copies(yirbarn_column(words, NEEDED, 1, true, 1, 2, copy, 1), YIRBARN_NOROOM, 0));
+    CHECK(copies(yirbarn_column(words, NEEDED, 1, true, 0, 3, copy, 8), YIRBARN_BEYOND, 0));
+    CHECK(copies(yirbarn_column(words, NEEDED, 1, true, 2, 1, copy, 8), YIRBARN_BEYOND, 0));
+    CHECK(copies(yirbarn_column(words, NEEDED, 1, true, 0, SIZE_MAX, copy, 0), YIRBARN_BEYOND, 0));
+    CHECK(copies(yirbarn_column(words, NEEDED, 3, true, 0, 0, copy, 8), YIRBARN_KIND, 0));
+    CHECK(copies(yirbarn_column(words, NEEDED, 255, true, 9, 0, copy, 0), YIRBARN_KIND, 0));
+    CHECK(copies(yirbarn_column(words, NEEDED - 1, 1, true, 0, 2, copy, 8), YIRBARN_UNSOUND, 0));
+    CHECK(copies(yirbarn_column(words, NEEDED - 1, 1, true, 0, 2, copy, 0), YIRBARN_UNSOUND, 0));
+    CHECK(copies(yirbarn_column(words, NEEDED, 1, true, 1, 1, copy, 0), YIRBARN_OK, 0));
+    CHECK(copies(yirbarn_column(words, NEEDED, 1, true, 2, 2, copy, 8), YIRBARN_OK, 0));
+    CHECK(all(copy, 0, sizeof copy, 0x5a));
+
+    /* An exact fit, a word more, a part. */
+    CHECK(copies(yirbarn_column(words, NEEDED, 1, true, 0, 2, copy, 4), YIRBARN_OK, 4));
+    CHECK(!memcmp(copy, values, sizeof values) && all(copy, sizeof values, sizeof copy, 0x5a));
+    CHECK(copies(yirbarn_column(words, NEEDED, 1, false, 0, 2, copy, 5), YIRBARN_OK, 4));
+    CHECK(!memcmp(copy, entities, sizeof entities) && all(copy, sizeof entities, sizeof copy, 0x5a));
+    CHECK(copies(yirbarn_column(words, NEEDED, 1, true, 1, 2, copy, 8), YIRBARN_OK, 2));
+    CHECK(copy[0] == 5 && copy[1] == 0 && copy[2] == 0 && copy[3] == 1 && all(copy, 16, sizeof copy, 0x5a));
 }
 
 static void test_roll(void)
@@ -186,7 +214,7 @@ static void test_unsound(const uint32_t *before)
     CHECK(ran.stop == YIRBARN_UNSOUND && ran.commands == 0 && ran.read == 0 && ran.written == 0);
     CHECK(rolled.number == YIRBARN_UNSOUND && rolled.written == 0);
     CHECK(yirbarn_column_at(words, NEEDED, 1, false, 0, 1) == 0);
-    CHECK(yirbarn_column(words, NEEDED, 1, false, 0, 1, copy, 4) == 0);
+    CHECK(copies(yirbarn_column(words, NEEDED, 1, false, 0, 1, copy, 4), YIRBARN_UNSOUND, 0));
     CHECK(all(out, 0, OUT, 0x5a) && all(copy, 0, sizeof copy, 0x5a));
     CHECK(!memcmp(words, before, sizeof words));
 }
@@ -223,12 +251,21 @@ static void test_damaged(void)
     test_unsound(damaged);
 }
 
+static void test_version(void)
+{
+    char version[32];
+    snprintf(version, sizeof version, "%d.%d.%d", YIRBARN_VERSION_MAJOR, YIRBARN_VERSION_MINOR, YIRBARN_VERSION_PATCH);
+    CHECK(!strcmp(version, YIRBARN_VERSION));
+}
+
 int main(void)
 {
+    test_version();
     test_words_needed();
     test_start();
     test_run();
     test_column();
+    test_copy();
     test_roll();
     test_damaged();
     printf("C: %d checks, %d failed\n", checks, failures);

@@ -2,12 +2,14 @@
  *
  * A store keeps up to 4,096 entities (an index and a version, 32 bits each) and their components: a value of eight
  * bytes for each of up to 128 kinds. It lives in the words alone: no allocation, no hidden state. A tape of commands
- * changes it (README.md has the table of commands), and it is read by column and as a whole.
+ * changes it (docs/COMMANDS.md has all fourteen: their bytes, answers, refusals and limits), and it is read by column
+ * and as a whole.
  *
  * What a caller owes, and nothing else: no pointer is null, also where its length is 0; each points to as many items as
  * the length after it says; what one call may write (`words` where not const, `out`) overlaps nothing else that the
- * call is given; and no other thread touches any of it meanwhile. What the words hold is free: every function first
- * tells whether they hold a sound store.
+ * call is given; and meanwhile no other thread writes any of it, or reads what the call may write. What the words hold
+ * is free: yirbarn_start makes a store of any words, and every other function that is given words first tests whether
+ * they hold a sound one. yirbarn_words_needed is given none.
  *
  * Numbers are those of the refusals below, 0 where nothing is refused. Link with libstore.a (`rt staticlib store`).
  */
@@ -17,6 +19,12 @@
 #include <stdbool.h>
 #include <stddef.h>
 #include <stdint.h>
+
+/* Of this header and what it declares (CHANGELOG.md). */
+#define YIRBARN_VERSION_MAJOR 0
+#define YIRBARN_VERSION_MINOR 2
+#define YIRBARN_VERSION_PATCH 0
+#define YIRBARN_VERSION "0.2.0"
 
 #ifdef __cplusplus
 extern "C" {
@@ -29,7 +37,7 @@ enum yirbarn_number {
     YIRBARN_UNSOUND = 3,  /* the words hold no sound store */
     YIRBARN_UNKNOWN = 4,  /* a byte that is no command */
     YIRBARN_CUT = 5,      /* the tape ends within a command */
-    YIRBARN_NOROOM = 6,   /* no room for the accepted answer, or the roll */
+    YIRBARN_NOROOM = 6,   /* no room for the accepted answer, the roll, or the copy of a column */
     YIRBARN_KIND = 7,     /* a kind above 127, or not registered */
     YIRBARN_KINDS = 8,    /* as many kinds are registered as the store takes */
     YIRBARN_AGAIN = 9,    /* the kind is in that list already */
@@ -63,7 +71,9 @@ struct yirbarn_ran {
  * command tells, or a refusal's number (7 to 15) alone, which then counts, and changes no other word.
  * stop: YIRBARN_UNSOUND, with zeros beside it and nothing changed; or what stops the run before a command:
  * YIRBARN_UNKNOWN, YIRBARN_CUT, YIRBARN_NOROOM (judged by the accepted answer's length); or 0. The store stays sound.
- * A run of the tape from `read` on goes on where this one stopped. Bytes of out past `written` stay. */
+ * A run of the tape from `read` on goes on where this one stopped. So a long tape can be fed in pieces, cut anywhere:
+ * after each run, take its answers, and go on with the bytes from `read` on, the next piece behind them (YIRBARN_CUT: the
+ * last command of the piece goes on in the next). Bytes of out past `written` stay. */
 struct yirbarn_ran yirbarn_run(uint32_t *words, size_t words_len, const uint8_t *tape, size_t tape_len, uint8_t *out,
                                size_t out_len);
 
@@ -78,10 +88,18 @@ uint8_t yirbarn_column_number(const uint32_t *words, size_t words_len, uint8_t k
  * until the next run or start. Entities and values of one row have the same number, counted from start. */
 size_t yirbarn_column_at(const uint32_t *words, size_t words_len, uint8_t kind, bool values, size_t start, size_t end);
 
-/* The same rows, copied to the front of out, and how many words that are: 2 (end - start). Where it is refused, or out
- * has fewer words, nothing is copied, and the answer is 0. Words of out past those copied stay. */
-size_t yirbarn_column(const uint32_t *words, size_t words_len, uint8_t kind, bool values, size_t start, size_t end,
-                      uint32_t *out, size_t out_len);
+/* What a function that writes to out answers, but for a run and a roll. */
+struct yirbarn_written {
+    uint8_t number;
+    size_t written; /* items of out; 0 where the number is not */
+};
+
+/* The same rows, copied to the front of out: 2 (end - start) words.
+ * Number: that of yirbarn_column_number; where that is 0, YIRBARN_NOROOM if out has fewer words than the rows take; or 0.
+ * Where it is not 0, nothing is copied. No rows (start = end) that are accepted are number 0 and 0 words. Words of out
+ * past `written` stay. */
+struct yirbarn_written yirbarn_column(const uint32_t *words, size_t words_len, uint8_t kind, bool values, size_t start,
+                                      size_t end, uint32_t *out, size_t out_len);
 
 /* What a roll answers. */
 struct yirbarn_rolled {

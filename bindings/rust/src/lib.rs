@@ -33,6 +33,9 @@ mod rows;
 pub use refusal::Refusal;
 pub use rows::{Entities, Entity, Row, Rows, Values};
 
+/// This crate's version, which is that of `yirbarn.h` too.
+pub const VERSION: &str = env!("CARGO_PKG_VERSION");
+
 /// What a run answers.
 #[derive(Clone, Copy, PartialEq, Eq, Debug)]
 pub struct Ran {
@@ -125,6 +128,9 @@ impl<'a> Store<'a> {
     /// [`Refusal::NoRoom`]; what came before is done, and a run of the tape from `read` on goes on. A refused command
     /// answers its number alone, and changes nothing but the count of refusals.
     ///
+    /// So a long tape can be fed in pieces, cut anywhere: after each run, take its answers, and go on with the bytes from
+    /// `read` on, the next piece behind them ([`Refusal::Cut`]: the last command of the piece goes on in the next).
+    ///
     /// ```
     /// use yirbarn::{Refusal, Store};
     ///
@@ -184,6 +190,47 @@ impl<'a> Store<'a> {
             }
             at => Ok(&self.words[at..at + 2 * (end - start)]),
         }
+    }
+
+    /// Copies the same words to the front of `out`, and gives how many they are. Refused: as of [`Store::column`], and
+    /// then [`Refusal::NoRoom`]; nothing is copied then. Words past those copied are as they were.
+    ///
+    /// ```
+    /// # use yirbarn::{Part, Refusal, Store};
+    /// # let mut words = vec![0; Store::words_needed(4, 1).unwrap()];
+    /// # let mut store = Store::start(&mut words, 4, 1)?;
+    /// // REG 9, HOLD 9 = 6, NEW.
+    /// store.run(&[0x01, 9, 0x02, 9, 6, 0, 0, 0, 0, 0, 0, 0, 0x03], &mut [0; 16]);
+    /// let mut out = [7; 3];
+    /// assert_eq!(store.copy_column(9, Part::Values, 0, 1, &mut out[..1]), Err(Refusal::NoRoom));
+    /// assert_eq!(store.copy_column(9, Part::Values, 1, 1, &mut out), Ok(0));
+    /// assert_eq!(out, [7; 3]);
+    /// assert_eq!(store.copy_column(9, Part::Values, 0, 1, &mut out), Ok(2));
+    /// assert_eq!(out, [6, 0, 7]);
+    /// # Ok::<(), Refusal>(())
+    /// ```
+    pub fn copy_column(
+        &self,
+        kind: u8,
+        part: Part,
+        start: usize,
+        end: usize,
+        out: &mut [u32],
+    ) -> Result<usize, Refusal> {
+        let copied = unsafe {
+            sys::yirbarn_column(
+                self.words.as_ptr(),
+                self.words.len(),
+                kind,
+                part == Part::Values,
+                start,
+                end,
+                out.as_mut_ptr(),
+                out.len(),
+            )
+        };
+        refused(copied.number)?;
+        Ok(copied.written)
     }
 
     /// The entities of a kind's rows, in row order; refusals as of [`Store::column`].

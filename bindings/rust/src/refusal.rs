@@ -53,7 +53,7 @@ impl Refusal {
             Refusal::Unsound => "the words hold no sound store",
             Refusal::Unknown => "a byte that is no command",
             Refusal::Cut => "the tape ends within a command",
-            Refusal::NoRoom => "no room for the answer",
+            Refusal::NoRoom => "no room for the answer, the roll or the copy",
             Refusal::Kind => "a kind above 127, or not registered",
             Refusal::Kinds => "as many kinds are registered as the store takes",
             Refusal::Again => "the kind is in the list already",

@@ -2,7 +2,8 @@
 //! call every one; `../c/yirbarn.h` has the same for C, with each function's promise.
 //!
 //! What a caller owes: no pointer is null, also where its length is 0; each points to as many items as its length says,
-//! and those of `*mut` overlap nothing else that the call is given.
+//! and those of `*mut` overlap nothing else that the call is given; meanwhile no other thread writes any of it, or reads
+//! what the call may write.
 
 /// What *run* answers.
 #[repr(C)]
@@ -18,6 +19,14 @@ pub struct Ran {
 #[repr(C)]
 #[derive(Clone, Copy, PartialEq, Eq, Debug)]
 pub struct Rolled {
+    pub number: u8,
+    pub written: usize,
+}
+
+/// What other functions that write answer: items of `out`, none where the number is not 0.
+#[repr(C)]
+#[derive(Clone, Copy, PartialEq, Eq, Debug)]
+pub struct Written {
     pub number: u8,
     pub written: usize,
 }
@@ -63,7 +72,7 @@ extern "C" {
         end: usize,
         out: *mut u32,
         out_len: usize,
-    ) -> usize;
+    ) -> Written;
 
     pub fn yirbarn_roll(words: *const u32, words_len: usize, out: *mut u8, out_len: usize) -> Rolled;
 }

@@ -175,21 +175,59 @@ fn copied_columns() {
             out.len(),
         )
     };
+    let written = |number: u8, written: usize| sys::Written { number, written };
     let mut out = [9; 6];
-    for (length, kind, start, end, room) in [
-        (NEEDED, 1, 0, 2, 3),
-        (NEEDED, 1, 0, 3, 6),
-        (NEEDED, 3, 0, 0, 6),
-        (NEEDED - 1, 1, 0, 2, 6),
-        (NEEDED, 1, 1, 1, 0),
+    // Too short, refused, no rows: told apart, and nothing is written.
+    for (length, kind, start, end, room, number) in [
+        (NEEDED, 1, 0, 2, 0, 6),
+        (NEEDED, 1, 0, 2, 3, 6),
+        (NEEDED, 1, 1, 2, 1, 6),
+        (NEEDED, 1, 0, 3, 6, 16),
+        (NEEDED, 1, 0, usize::MAX, 0, 16),
+        (NEEDED, 1, 2, 1, 6, 16),
+        (NEEDED, 3, 0, 0, 6, 7),
+        (NEEDED, 255, 9, 0, 0, 7),
+        (NEEDED - 1, 1, 0, 2, 6, 3),
+        (NEEDED - 1, 1, 0, 2, 0, 3),
+        (NEEDED, 1, 1, 1, 0, 0),
+        (NEEDED, 1, 2, 2, 6, 0),
     ] {
-        assert_eq!(copy(length, kind, start, end, &mut out[..room]), 0);
+        assert_eq!(copy(length, kind, start, end, &mut out[..room]), written(number, 0));
         assert_eq!(out, [9; 6]);
     }
-    assert_eq!(copy(NEEDED, 1, 0, 2, &mut out), 4);
+    // An exact fit, a word more, a part.
+    assert_eq!(copy(NEEDED, 1, 0, 2, &mut out[..4]), written(0, 4));
     assert_eq!(out, [6, 0, 5, 0, 9, 9]);
-    assert_eq!(copy(NEEDED, 1, 1, 2, &mut out[..2]), 2);
+    assert_eq!(copy(NEEDED, 1, 1, 2, &mut out[..3]), written(0, 2));
     assert_eq!(out, [5, 0, 5, 0, 9, 9]);
+}
+
+#[test]
+fn copies_of_a_store() {
+    let mut words = used();
+    let store = Store::open(&mut words).unwrap();
+    for room in 0..6 {
+        let mut out = [9; 6];
+        let copied = store.copy_column(1, Part::Entities, 0, 2, &mut out[..room]);
+        assert_eq!(copied, if room < 4 { Err(Refusal::NoRoom) } else { Ok(4) });
+        assert_eq!(out, if room < 4 { [9; 6] } else { [1, 1, 0, 1, 9, 9] });
+    }
+    assert_eq!(store.copy_column(1, Part::Values, 2, 2, &mut []), Ok(0));
+    assert_eq!(
+        store.copy_column(1, Part::Values, 0, 3, &mut [9; 6]),
+        Err(Refusal::Beyond)
+    );
+    assert_eq!(
+        store.copy_column(3, Part::Values, 0, 0, &mut [9; 6]),
+        Err(Refusal::Kind)
+    );
+}
+
+/// The header and the crate have one version.
+#[test]
+fn version() {
+    let line = format!("#define YIRBARN_VERSION \"{}\"", yirbarn::VERSION);
+    assert!(include_str!("../../c/yirbarn.h").lines().any(|found| found == line));
 }
 
 #[test]
@@ -221,10 +259,8 @@ fn unsound(words: &mut [u32]) {
         assert_eq!((rolled.number, rolled.written), (3, 0));
         assert_eq!(sys::yirbarn_column_number(pointer, length, 1, false, 0, 1), 3);
         assert_eq!(sys::yirbarn_column_at(pointer, length, 1, false, 0, 1), 0);
-        assert_eq!(
-            sys::yirbarn_column(pointer, length, 1, false, 0, 1, copy.as_mut_ptr(), 4),
-            0
-        );
+        let copied = sys::yirbarn_column(pointer, length, 1, false, 0, 1, copy.as_mut_ptr(), 4);
+        assert_eq!((copied.number, copied.written), (3, 0));
     }
     assert_eq!((out, copy), ([0x5a; 64], [9; 4]));
     assert_eq!(words, before);

@@ -20,10 +20,12 @@ use Rattle.memory.specs.Meaning.{meaning}
 use Rattle.memory.specs.Arranged.{Sound}
 use Rattle.run.specs.declared.Ran.{Ran}
 use Rattle.store.specs.declared.Rolled.{Rolled}
+use Rattle.store.specs.declared.Written.{Written}
 use Rattle.store.specs.Entries.{Needs, startNumber, StartLeaves, Starts, columnRefused, ColumnNumbered, columnWords, partPlace, ColumnPart, ranOf, Answered, RunLeaves, Runs, emittedOver, EmitsOver, Rolls}
+use Rattle.store.specs.Linked.{ColumnPlaced, copyTold, copied, ColumnCopied}
 use Rattle.store.proofs.Starting.{start-number}
 use Rattle.model.specs.Run as model
-use Rattle.store.specs.Theorems.{Alike, SameStart, SameRun, SameWritten}
+use Rattle.store.specs.Theorems.{Alike, SameStart, SameRun, SameWritten, SameCopied}
 
 -- ---- words that no entry tells apart
 
@@ -69,6 +71,12 @@ column-place-determined v r q values k a e R Q =
     R .part .offset ∙ (λ i. partPlace (columnRefused (b i) k a e (meaning (v .now))) values (v .now) k a * 4 + v .ptr .1) ∙ sym (Q .part .offset) in
     λ i. (block i, offset i)
 
+-- its place, of one store: as exported, a number of words
+pub column-at-determined : (w : List ℕ) (values : Bool) (k a e r q : ℕ) → ColumnPlaced w values k a e r → ColumnPlaced w values k a e q → r ≡ q
+column-at-determined w values k a e r q R Q =
+    let b : R .sound ≡ Q .sound = decides-same (R .sound) (Q .sound) (R .decides) (Q .decides) (alike-same w w refl .sound) in
+    R .place ∙ (λ i. partPlace (columnRefused (b i) k a e (meaning w)) values w k a) ∙ sym (Q .place)
+
 -- ---- run: equal tapes and lengths of the buffers
 
 -- the answers are what stands before the bytes that stay
@@ -104,17 +112,26 @@ run-determined w v w′ v′ t o p o′ p′ r q A e R Q =
     left true false z l k = absurd (true≢false z)
     left false true z l k = absurd (false≢true z)
 
--- ---- an entry that writes bytes: over words alike, and equal lengths of the buffers
+-- ---- an entry that writes: over words alike, and equal lengths of the buffers
 
-pub same-written : (o p o′ p′ : List ℕ) (r q : Rolled) → SameEmitted o p o′ p′ (r .number) (r .written) (q .number) (q .written) → SameWritten o p o′ p′ r q
+pub over-determined : (w v o p o′ p′ : List ℕ) (n k m j : ℕ) (x y : Emitted) → Alike w v → x ≡ y → EmitsOver w o o′ n k x → EmitsOver v p p′ m j y → SameEmitted o p o′ p′ n k m j
+over-determined w v o p o′ p′ n k m j x y A e R Q =
+    let b : R .sound ≡ Q .sound = decides-same (R .sound) (Q .sound) (R .decides) (Q .decides) (A .sound) in
+    emits-determined o p o′ p′ n k m j (emittedOver (R .sound) x) (emittedOver (Q .sound) y) (λ i. emittedOver (b i) (e i)) (R .emits) (Q .emits)
+
+same-written : (o p o′ p′ : List ℕ) (r q : Rolled) → SameEmitted o p o′ p′ (r .number) (r .written) (q .number) (q .written) → SameWritten o p o′ p′ r q
 same-written o p o′ p′ r q E = record { result = λ i. record { number = E .number i; written = E .written i }; answers = E .answers; bytes = E .bytes }
 
-pub over-determined : (w v o p o′ p′ : List ℕ) (r q : Rolled) (x y : Emitted) → Alike w v → x ≡ y → EmitsOver w o o′ (r .number) (r .written) x → EmitsOver v p p′ (q .number) (q .written) y
-    → SameWritten o p o′ p′ r q
-over-determined w v o p o′ p′ r q x y A e R Q =
-    let b : R .sound ≡ Q .sound = decides-same (R .sound) (Q .sound) (R .decides) (Q .decides) (A .sound) in
-    same-written o p o′ p′ r q
-    (emits-determined o p o′ p′ (r .number) (r .written) (q .number) (q .written) (emittedOver (R .sound) x) (emittedOver (Q .sound) y) (λ i. emittedOver (b i) (e i)) (R .emits) (Q .emits))
-
 pub roll-determined : (w v o p o′ p′ : List ℕ) (r q : Rolled) → Alike w v → length o ≡ length p → Rolls w o o′ r → Rolls v p p′ q → SameWritten o p o′ p′ r q
-roll-determined w v o p o′ p′ r q A e R Q = over-determined w v o p o′ p′ r q (roll (length o) (meaning w)) (roll (length p) (meaning v)) A (λ i. roll (e i) (A .means i)) R Q
+roll-determined w v o p o′ p′ r q A e R Q =
+    same-written o p o′ p′ r q
+    (over-determined w v o p o′ p′ (r .number) (r .written) (q .number) (q .written) (roll (length o) (meaning w)) (roll (length p) (meaning v)) A (λ i. roll (e i) (A .means i)) R Q)
+
+same-copied : (o p o′ p′ : List ℕ) (r q : Written) → SameEmitted o p o′ p′ (r .number) (r .written) (q .number) (q .written) → SameCopied o p o′ p′ r q
+same-copied o p o′ p′ r q E = record { result = λ i. record { number = E .number i; written = E .written i }; answers = E .answers; words = E .bytes }
+
+pub column-copy-determined : (w v o p o′ p′ : List ℕ) (values : Bool) (k a e : ℕ) (r q : Written) → Alike w v → length o ≡ length p → ColumnCopied w o o′ values k a e r → ColumnCopied v p p′ values k a e q → SameCopied o p o′ p′ r q
+column-copy-determined w v o p o′ p′ values k a e r q A l R Q =
+    same-copied o p o′ p′ r q
+    (over-determined w v o p o′ p′ (r .number) (r .written) (q .number) (q .written) (copied (copyTold values k a e (length o) (meaning w))) (copied (copyTold values k a e (length p) (meaning v))) A
+    (λ i. copied (copyTold values k a e (l i) (A .means i))) R Q)

@@ -1,12 +1,13 @@
 -- An entry that writes bytes or refuses, over any lines and bytes: what it promises, from what its branches show; its number by its table; and what an
 -- accepted one wrote. Assumes nothing.
-use mathlib.Core.Path.{_≡_, refl, sym, ap, _∙_}
+use mathlib.Core.Path.{_≡_, refl, sym, ap, _∙_, subst}
 use mathlib.Core.Bool.{Bool, true, false}
-use mathlib.Core.List.{List}
+use mathlib.Core.List.{List, _++_}
 use Prim.Native.Nat.{_<_, _≤_, ℕ}
 use native.Mathlib.Nat.{zero-add}
 use native.Mathlib.Omega.{arith}
-use lib.ListN.{length, take}
+use lib.ListN.{length, take, drop}
+use lib.Seq.{drop-append-seam}
 use Rattle.model.specs.Refusals.{Line, firstLine, NoneHolds, numberOf, otherLines}
 use Rattle.model.specs.Entries.{Emitted, refusesEmit, writes, emitted, emittedNumber, emittedBytes, Emits}
 use Rattle.model.proofs.Lines.{NumbersIn}
@@ -30,10 +31,20 @@ refuses-over w o n x S e = record { sound = true; decides = S; emits = refused-e
 pub writes-over : (w o o′ b : List ℕ) (k : ℕ) (x : Emitted) → Sound w → x ≡ writes b → length b ≤ length o → WrittenUntil o o′ 0 k b → EmitsOver w o o′ 0 k x
 writes-over w o o′ b k x S e h W = record { sound = true; decides = S; emits = written-emits o o′ b k x e h (W .bytes) (W .next ∙ zero-add (length b)) }
 
+pub copies-over : (w o o′ b : List ℕ) (k : ℕ) (x : Emitted) → Sound w → x ≡ writes b → k ≡ length b → o′ ≡ b ++ drop (length b) o → EmitsOver w o o′ 0 k x
+copies-over w o o′ b k x S e c p = record { sound = true; decides = S; emits = record { number = rw e; written = rw e c; bytes = rw e p } }
+
 -- ---- "every refusal outside a run, change no lent memory, with zeros beside the number"
 
 pub over-refused : (w o o′ : List ℕ) (n k : ℕ) (x : Emitted) → EmitsOver w o o′ n k x → 1 ≤ n → (o′ ≡ o) × (k ≡ 0)
 over-refused w o o′ n k x E h = emits-refused o o′ n k (emittedOver (E .sound) x) (E .emits) h
+
+-- "the bytes past those written .. stay"
+pub over-past : (w o o′ : List ℕ) (n k : ℕ) (x : Emitted) → EmitsOver w o o′ n k x → drop k o′ ≡ drop k o
+over-past w o o′ n k x E =
+    let b = emittedBytes (emittedOver (E .sound) x) in
+    let past : drop (length b) o′ ≡ drop (length b) o = ap (drop (length b)) (E .emits .bytes) ∙ drop-append-seam b (drop (length b) o) in
+    subst (λ (m : ℕ). drop m o′ ≡ drop m o) (sym (E .emits .written)) past
 
 -- over sound words an accepted one gives 0 and its bytes
 pub over-accepted : (w o o′ b : List ℕ) (n k : ℕ) (x : Emitted) → Sound w → x ≡ writes b → EmitsOver w o o′ n k x → (n ≡ 0) × (take k o′ ≡ b)

@@ -1,14 +1,14 @@
 pub mod Starting
 pub mod Running
-pub mod Pairs
-pub mod Columns
 pub mod Rolling
-pub mod Linking
 pub mod Tables
 pub mod Emitting
+pub mod Handing
+pub mod Linking
 pub mod Courses
 pub mod Determined
 pub mod Demands
+pub mod Exported
 pub mod Pieces
 pub mod Ranging
 pub mod Built

@@ -30,8 +30,8 @@ use Rattle.memory.specs.Arranged.{Sound}
 use Rattle.run.specs.declared.Ran.{Ran}
 use Rattle.store.specs.Entries.{columnRefused, ColumnNumbered, columnWords, ColumnPart, ranOf, RunLeaves, Runs}
 use Rattle.store.specs.Ranging.{RangeRan, ColumnsShown, RowOf, OneEntity}
-use Rattle.store.proofs.Pairs.{pairs, indexOf, versionOf, lowOf, highOf, entity-pairs, value-pairs}
-use Rattle.store.proofs.Columns.{column-within}
+use Rattle.columns.proofs.Pairs.{pairs, indexOf, versionOf, lowOf, highOf, entity-pairs, value-pairs}
+use Rattle.columns.proofs.Columns.{column-within}
 use Rattle.store.proofs.Determined.{answer-bytes}
 
 -- ---- the ten bytes

@@ -3,19 +3,18 @@ use mathlib.Core.Path.{_≡_}
 use mathlib.Core.Bool.{Bool, true, false}
 use mathlib.Core.Option.{Option, some, none}
 use mathlib.Core.List.{List, [], _++_}
-use Prim.Native.Nat.{ℕ, _+_, _*_, _≤_}
-use lib.ListN.{length, take, drop}
+use Prim.Native.Nat.{ℕ}
+use lib.ListN.{length, drop}
 use denote.Ref.{RefT}
 use Rattle.model.specs.Store.{Store, Bytes, wordsNeeded}
 use Rattle.model.specs.Refusals.{numberOf, firstLine, otherLines}
 use Rattle.model.specs.Run.{halt, run}
 use Rattle.model.specs.Entries.{Started, refusesStart, makes, start, columnRefusal, column, roll, Emitted, refusesEmit, Emits}
 use Rattle.model.specs.Sound.{Limits}
-use Rattle.words.specs.Offsets.{columnStart, ROWS}
 use Rattle.words.specs.Decides.{Decides}
-use Rattle.memory.specs.Header.{capacityOf, slotOf}
 use Rattle.memory.specs.Meaning.{meaning}
 use Rattle.memory.specs.Arranged.{Sound}
+use Rattle.columns.specs.Parts.{rowPlace, PartOf}
 use Rattle.run.specs.Run.{Traced}
 use Rattle.run.specs.declared.Ran.{Ran}
 use Rattle.store.specs.declared.Rolled.{Rolled}
@@ -71,27 +70,10 @@ abbrev pub columnWords : Bool → Bool → ℕ → ℕ → ℕ → Store → Lis
 columnWords true values k a e s = column values k a e s
 columnWords false values k a e s = []
 
--- where row a's words stand among all words (docs/WORDS.md): "cards (index word, version word) or values (low word, high word)"
-abbrev pub rowPlace : Bool → List ℕ → ℕ → ℕ → ℕ
-rowPlace false w k a = columnStart (capacityOf w) (slotOf w k) + ROWS + 2 * a
-rowPlace true w k a = columnStart (capacityOf w) (slotOf w k) + ROWS + 2 * capacityOf w + 2 * a
-
--- the code's place of that row; two words more for each row stay a small number
-pub record RowStart (values : Bool) (w : List ℕ) (k a r : ℕ) : Type 0 where
-  pub is : r ≡ rowPlace values w k a
-  pub small : r ≤ 4000000
-
 -- "A refused column is the empty part at the front"
 abbrev pub partPlace : Option ℕ → Bool → List ℕ → ℕ → ℕ → ℕ
 partPlace (some n) values w k a = 0
 partPlace none values w k a = rowPlace values w k a
-
--- r is a part of the words v, `size` words from place `at` on: it lies in v's memory, at four bytes a word from v's start, and is the words there
-pub record PartOf (v r : RefT (List ℕ)) (at size : ℕ) : Type 0 where
-  pub block : r .ptr .0 ≡ v .ptr .0
-  pub offset : r .ptr .1 ≡ at * 4 + v .ptr .1
-  pub inside : at + size ≤ length (v .now)
-  pub words : r .now ≡ take size (drop at (v .now))
 
 -- "hands back the part of the lent store holding a kind's cards .. or values .. from start to end"
 pub record ColumnPart (v r : RefT (List ℕ)) (values : Bool) (k a e : ℕ) : Type 0 where

@@ -9,6 +9,7 @@ use lib.ListN.{take}
 use Rattle.memory.specs.Meaning.{meaning}
 use Rattle.run.specs.declared.Ran.{Ran}
 use Rattle.store.specs.declared.Rolled.{Rolled}
+use Rattle.store.specs.declared.Written.{Written}
 use Rattle.model.specs.Store.{Store, counted}
 use Rattle.model.specs.Sound.{GroupsRight, GroupsBetween}
 use Rattle.model.specs.Numbers.{UNSOUND}
@@ -54,6 +55,13 @@ pub record SameWritten (o p o′ p′ : List ℕ) (r q : Rolled) : Type 0 where
   pub answers : take (r .written) o′ ≡ take (q .written) p′
   -- bytes that were equal stay equal
   pub bytes : o ≡ p → o′ ≡ p′
+
+-- two copies, or two entries that answer as a copy does: the same result and the same words
+pub record SameCopied (o p o′ p′ : List ℕ) (r q : Written) : Type 0 where
+  pub result : r ≡ q
+  pub answers : take (r .written) o′ ≡ take (q .written) p′
+  -- words that were equal stay equal
+  pub words : o ≡ p → o′ ≡ p′
 
 -- demand 3 of the groups: each right, and what stands between two neighbours
 pub record GroupsHold (s : Store) : Type 0 where

@@ -1,10 +1,8 @@
 // The entries for C and Rust, under plain names. An exported function returns no part of a slice, so that *column* comes as the part's place in the
 // words, and as a copy.
 use crate::Rolled;
-ghost use mathlib.Core.Path.{_≡_};
-ghost use mathlib.Core.List.{_++_};
-ghost use Prim.Native.Nat.{_≤_};
-ghost use lib.ListN.{length, drop};
+use crate::Written;
+use model::refusals::NOROOM;
 ghost use Rattle.store.specs.Entries.{Needs, Starts, Runs, ColumnNumbered, Rolls};
 ghost use Rattle.store.specs.Linked.{asRan, ColumnPlaced, ColumnCopied};
 
@@ -71,22 +69,10 @@ pub extern "C" fn yirbarn_column_at(
     if crate::column_number(words, kind, values, start, end) != 0 {
         return 0;
     }
-    crate::row_start(words, kind as usize, values, start)
+    columns::row_start(words, kind as usize, values, start)
 }
 
-// All of `from`, to the front of `to`.
-fn copy(from: &[u32], to: &mut [u32])
-    requires { ⌜ length (now from) ≤ length (now to) ⌝ }
-    ensures { λ _. ⌜ now (to .exit) ≡ now (from .entry) ++ drop (length (now (from .entry))) (now (to .entry)) ⌝ }
-{
-    let mut i = 0;
-    while i < from.len() {
-        to[i] = from[i];
-        i += 1;
-    }
-}
-
-// The words that column hands back, copied if they have room, and how many they are.
+// The words that column hands back, copied to the front of out if they have room there.
 #[no_mangle]
 pub extern "C" fn yirbarn_column(
     words: &[u32],
@@ -95,16 +81,29 @@ pub extern "C" fn yirbarn_column(
     start: usize,
     end: usize,
     out: &mut [u32],
-) -> usize
+) -> Written
     ensures { λ r. ⌜ ColumnCopied (now (words .entry)) (now (out .entry)) (now (out .exit)) values kind start end r ⌝ }
 {
-    let part = crate::column(words, kind, values, start, end);
+    let number = crate::column_number(words, kind, values, start, end);
+    if number != 0 {
+        return Written {
+            number: number,
+            written: 0,
+        };
+    }
+    let part = columns::rows(words, kind as usize, values, start, end);
     let count = part.len();
     if out.len() < count {
-        return 0;
+        return Written {
+            number: NOROOM,
+            written: 0,
+        };
     }
-    copy(part, out);
-    count
+    columns::copy(part, out);
+    Written {
+        number: 0,
+        written: count,
+    }
 }
 
 #[no_mangle]

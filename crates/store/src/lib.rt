@@ -3,24 +3,23 @@ pub mod exports;
 
 use memory::empty;
 use memory::empty::within_limits;
-use model::refusals::BEYOND;
-use model::refusals::KIND;
 use model::refusals::NOROOM;
 use model::refusals::SHORT;
 use model::refusals::SIZE;
 use model::refusals::UNSOUND;
 use run::Ran;
-ghost use Prim.Native.Nat.{_≤_};
-ghost use lib.ListN.{length};
-ghost use Rattle.model.specs.Sound.{In};
-ghost use Rattle.memory.specs.Meaning.{meaning};
-ghost use Rattle.memory.specs.Arranged.{Arranged};
-ghost use Rattle.kinds.specs.Kinds.{kindSet};
-ghost use Rattle.store.specs.Entries.{Needs, Starts, Runs, ColumnNumbered, RowStart, ColumnPart, Rolls};
+ghost use Rattle.store.specs.Entries.{Needs, Starts, Runs, ColumnNumbered, ColumnPart, Rolls};
 
 // What roll answers: 0 and how many bytes, or the number of a refusal and 0.
 #[repr(C)]
 pub struct Rolled {
+    pub number: u8,
+    pub written: usize,
+}
+
+// What other entries that write answer: 0 and how many words or bytes, or the number of a refusal and 0.
+#[repr(C)]
+pub struct Written {
     pub number: u8,
     pub written: usize,
 }
@@ -71,36 +70,7 @@ pub fn column_number(words: &[u32], kind: u8, values: bool, start: usize, end: u
     if !soundness::is_sound(words) {
         return UNSOUND;
     }
-    let k = kind as usize;
-    if model::LAST_KIND < k {
-        return KIND;
-    }
-    if !kinds::is_registered(words, k) {
-        return KIND;
-    }
-    if end < start {
-        return BEYOND;
-    }
-    if kinds::set_len(words, k) < end {
-        return BEYOND;
-    }
-    0
-}
-
-// Where the words of the kind's row at a place stand: its entity, or its value.
-fn row_start(words: &[u32], kind: usize, values: bool, place: usize) -> usize
-    requires { ⌜ Arranged (now words) ⌝ }
-    requires { ⌜ In (meaning (now words) .kinds) kind ⌝ }
-    requires { ⌜ place ≤ length (kindSet (now words) kind) ⌝ }
-    ensures { λ r. ⌜ RowStart values (now (words .entry)) kind place r ⌝ }
-{
-    let n = words::word(words, words::CAPACITY);
-    let slot = words::word(words, words::TABLE + kind);
-    let entities = words::column_start(n, slot) + words::ROWS;
-    if values {
-        return entities + 2 * n + 2 * place;
-    }
-    entities + 2 * place
+    columns::refusal(words, kind as usize, start, end)
 }
 
 // The entities, or the values, of a kind's rows from start to end, where they lie in the words.
@@ -110,9 +80,7 @@ pub fn column(words: &[u32], kind: u8, values: bool, start: usize, end: usize) -
     if column_number(words, kind, values, start, end) != 0 {
         return &words[0..0];
     }
-    let first = row_start(words, kind as usize, values, start);
-    let last = first + 2 * (end - start);
-    &words[first..last]
+    columns::rows(words, kind as usize, values, start, end)
 }
 
 // The snapshot, from the front of the bytes.

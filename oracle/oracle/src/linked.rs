@@ -19,6 +19,9 @@ const LISTS: usize = ENTITIES + 8;
 /// Words past those that a store is lent, which must stay as they are.
 const BEYOND: usize = 3;
 
+/// What stands in a buffer before a copy.
+const FILL: u32 = 0x5a5a_5a5a;
+
 /// Stores of up to this many words are compared as a whole before and after each entry.
 const WATCHED: usize = 1 << 14;
 
@@ -29,6 +32,8 @@ pub struct Linked {
     needed: usize,
     complaint: Option<String>,
     rng: Rng,
+    /// Copies of columns so far.
+    copies: usize,
 }
 
 impl Linked {
@@ -40,6 +45,7 @@ impl Linked {
             needed: 0,
             complaint: None,
             rng: Rng::new(7),
+            copies: 0,
         };
         linked.reach(2000 + BEYOND);
         linked
@@ -66,6 +72,40 @@ impl Linked {
 
     fn word(&self, at: usize) -> usize {
         self.words[at] as usize
+    }
+
+    fn copy(&self, kind: u8, values: bool, start: usize, end: usize, out: &mut [u32]) -> (u8, usize) {
+        let copied = unsafe {
+            sys::yirbarn_column(
+                self.words.as_ptr(),
+                self.lent,
+                kind,
+                values,
+                start,
+                end,
+                out.as_mut_ptr(),
+                out.len(),
+            )
+        };
+        (copied.number, copied.written)
+    }
+
+    /// The number of a copy, which is column's, and of one into a buffer that is a word short.
+    fn copy_numbers(&mut self, kind: u8, values: bool, start: usize, end: usize, number: u8) {
+        let expected = self.column_number(kind, values, start, end);
+        if u32::from(number) != expected {
+            self.complain(format!(
+                "copy of column {kind}, {start}..{end}: {number}, not {expected}"
+            ));
+        }
+        if number != 0 || start == end {
+            return;
+        }
+        let mut out = vec![FILL; 2 * (end - start) - 1];
+        let short = self.copy(kind, values, start, end, &mut out);
+        if short != (6, 0) || out.iter().any(|&word| word != FILL) {
+            self.complain(format!("short copy of column {kind}, {start}..{end}: {short:?}"));
+        }
     }
 }
 
@@ -148,25 +188,21 @@ impl Side for Linked {
     }
 
     fn column(&mut self, kind: u8, values: bool, start: usize, end: usize) -> Vec<u32> {
-        let mut out = vec![0; 2 * end.saturating_sub(start)];
-        let len = unsafe {
-            sys::yirbarn_column(
-                self.words.as_ptr(),
-                self.lent,
-                kind,
-                values,
-                start,
-                end,
-                out.as_mut_ptr(),
-                out.len(),
-            )
-        };
+        // A word more than the rows take, which must stay.
+        let mut out = vec![FILL; 2 * end.saturating_sub(start) + 1];
+        let (number, len) = self.copy(kind, values, start, end, &mut out);
         let at = unsafe { sys::yirbarn_column_at(self.words.as_ptr(), self.lent, kind, values, start, end) };
-        if len > out.len() || at > self.lent || self.words[at..].get(..len) != Some(&out[..len]) {
+        let stays = out.get(len..).is_some_and(|rest| rest.iter().all(|&word| word == FILL));
+        if !stays || at > self.lent || self.words[at..].get(..len) != Some(&out[..len]) {
             self.complain(format!(
-                "column of kind {kind}, {start}..{end}: {len} words, those in place at {at}"
+                "column of kind {kind}, {start}..{end}: {number}, {len} words, those in place at {at}"
             ));
             return out;
+        }
+        // Each call tests the words anew, so not at every column.
+        self.copies += 1;
+        if self.copies % 8 == 0 {
+            self.copy_numbers(kind, values, start, end, number);
         }
         out.truncate(len);
         out

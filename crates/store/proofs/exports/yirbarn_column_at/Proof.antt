@@ -1,5 +1,6 @@
 use native.Mathlib.Omega.{arith}
-use Rattle.store.proofs.Columns.{Given, given-of, known-of}
+use Rattle.columns.proofs.Columns.{known-of}
+use Rattle.store.proofs.Handing.{Given, given-of}
 use Rattle.store.proofs.Linking.{refused-place, given-place}
 use Rattle.store.proofs.exports.yirbarn_column_at.Statement.{statement}
 use Rattle.store.proofs.exports.yirbarn_column_at.Tie as tie
@@ -13,7 +14,7 @@ row-start-requires : tie.Need-row-start-requires
 row-start-requires c κs =
     let a = c .before .before .before .args in
     let G : Given (a .words .now) (a .kind) (a .start) (a .end) = given-of (a .words .now) (a .kind) (a .start) (a .end) (c .before .column-number .result) (c .before .column-number .ensures) (c .if1 .left) in
-    let C = known-of (a .words .now) (a .values) (a .kind) (a .start) (a .end) G in
+    let C = known-of (a .words .now) (a .values) (a .kind) (a .start) (a .end) (G .sound .arranged) (G .taken) in
     (G .sound .arranged, (C .known, omega (arith, C .order, C .inside)))
 
 returns-2 : tie.Need-returns-2

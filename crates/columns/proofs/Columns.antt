@@ -1,8 +1,8 @@
 -- The model's column by its tests, and where its words stand in the lent ones. Assumes nothing.
 use mathlib.Core.Path.{_≡_, refl, sym, ap, _∙_, subst}
 use mathlib.Core.Bool.{Bool, true, false}
-use mathlib.Core.Option.{Option, some, none}
-use mathlib.Core.List.{List, [], map}
+use mathlib.Core.Option.{some, none}
+use mathlib.Core.List.{List, map}
 use Prim.Native.Nat.{ℕ, _+_, _*_, _-_, _≤_, _<_}
 use native.Mathlib.Nat.{zero-add, add-mul-mod-self-left, add-mul-div-left, mod-eq-of-lt, div-eq-of-lt}
 use native.Mathlib.Omega.{arith}
@@ -13,28 +13,25 @@ use denote.Ref.{RefT}
 use Rattle.model.specs.Numbers.{LAST-KIND, MAX-ENTITIES, columnLen, KIND, BEYOND}
 use Rattle.model.specs.Model.{Row, SparseSet, setOf, keys, entityOf, noRow}
 use Rattle.model.specs.Store.{Store, isKind}
-use Rattle.model.specs.Refusals.{numberOf, columnLines}
 use Rattle.model.specs.Entries.{columnRefusal, column, partWords}
 use Rattle.model.specs.Entries as model
 use Rattle.model.specs.Sound.{In}
-use Rattle.model.proofs.Lines.{first-number}
-use Rattle.model.proofs.Entries.{column-accepted, column-refused}
+use Rattle.model.proofs.Entries.{column-accepted}
 use Rattle.model.specs.Theorems.{Columned}
 use Rattle.words.specs.Offsets.{columnStart, ROWS}
 use Rattle.words.proofs.Offsets.{columnStart-fits}
 use Rattle.component.specs.SparseSet.{lengthOf, rowAt, valueOf, rows}
 use Rattle.component.proofs.Meaning.{length-rows, getD-rows}
-use Rattle.words.specs.Decides.{Decides}
 use Rattle.component.specs.Columns.{columnOf}
 use Rattle.component.proofs.Parts.{getD-column}
 use Rattle.memory.specs.Header.{capacityOf, slotOf}
 use Rattle.memory.specs.Meaning.{meaning}
-use Rattle.memory.specs.Arranged.{Arranged, Sound}
+use Rattle.memory.specs.Arranged.{Arranged}
 use Rattle.kinds.specs.Kinds.{kindSet}
 use Rattle.kinds.specs.Steps.{InSlot}
 use Rattle.kinds.proofs.Slot.{known-slot}
-use Rattle.store.specs.Entries.{columnRefused, ColumnNumbered, rowPlace, partPlace, PartOf, ColumnPart}
-use Rattle.store.proofs.Pairs.{pairs-part, indexOf, versionOf, lowOf, highOf, entity-pairs, value-pairs}
+use Rattle.columns.specs.Parts.{rowPlace, RowsPart}
+use Rattle.columns.proofs.Pairs.{pairs-part, indexOf, versionOf, lowOf, highOf, entity-pairs, value-pairs}
 
 -- ---- the lines of column
 
@@ -60,64 +57,6 @@ module _ (k a e : ℕ) (s : Store) where
       pub column-within : a ≤ e → e ≤ length (setOf (s .storage .sets) k) → columnRefusal k a e s ≡ none
       unfolding columnRefusal
       column-within o t = rw (le-ltb LAST-KIND k h, u, le-ltb e a o, le-ltb (length (setOf (s .storage .sets) k)) e t)
-
--- ---- the number
-
-pub unsound-number : (w : List ℕ) (k a e : ℕ) → (Sound w → ⊥) → ColumnNumbered w k a e 3
-unsound-number w k a e d = record { sound = false; decides = d; number = refl }
-
-pub sound-number : (w : List ℕ) (k a e : ℕ) (o : Option ℕ) → Sound w → columnRefusal k a e (meaning w) ≡ o → ColumnNumbered w k a e (numberOf o)
-sound-number w k a e o S q = record { sound = true; decides = S; number = sym (ap numberOf q) }
-
--- column is accepted
-pub record Given (w : List ℕ) (k a e : ℕ) : Type 0 where
-  pub sound : Sound w
-  pub taken : columnRefusal k a e (meaning w) ≡ none
-
-none-of : (k a e : ℕ) (s : Store) (o : Option ℕ) → columnRefusal k a e s ≡ o → numberOf o ≡ 0 → columnRefusal k a e s ≡ none
-unfolding columnRefusal
-none-of k a e s none p z = p
-none-of k a e s (some n) p z = absurd (omega (arith, z, first-number columnLines (record { kind = k; start = a; end = e; store = s }) KIND BEYOND n (omega arith) p .0))
-
-pub given-of : (w : List ℕ) (k a e r : ℕ) → ColumnNumbered w k a e r → r ≡ 0 → Given w k a e
-given-of w k a e r C z = go (C .sound) (C .decides) (C .number)
-  where
-    go : (b : Bool) → Decides b (Sound w) → r ≡ numberOf (columnRefused b k a e (meaning w)) → Given w k a e
-    go false d q = absurd (omega (arith, q, z))
-    go true d q = record { sound = d; taken = none-of k a e (meaning w) (columnRefusal k a e (meaning w)) refl (sym q ∙ z) }
-
--- ---- the empty part at the front
-
-pub refused-part : (v r : RefT (List ℕ)) (values : Bool) (k a e n : ℕ) → ColumnNumbered (v .now) k a e n → (n ≡ 0 → ⊥) → r .ptr .0 ≡ v .ptr .0 → r .ptr .1 ≡ 0 * 4 + v .ptr .1 → r .now ≡ [] → ColumnPart v r values k a e
-refused-part v r values k a e n C f block offset words = go (C .sound) (C .decides) (C .number)
-  where
-    front : (at : ℕ) → at ≡ 0 → PartOf v r at (length (r .now))
-    front at z =
-        let empty : length (r .now) ≡ 0 = ap length words in
-        record {
-          block = block;
-          offset = omega arith;
-          inside = omega arith;
-          words = words ∙ ap (λ (m : ℕ). take m (drop at (v .now))) (sym empty);
-        }
-
-    by-line : (o : Option ℕ) → n ≡ numberOf o → partPlace o values (v .now) k a ≡ 0
-    by-line none q = absurd (f q)
-    by-line (some m) q = refl
-
-    none-given : (o : Option ℕ) → n ≡ numberOf o → columnRefusal k a e (meaning (v .now)) ≡ o → column values k a e (meaning (v .now)) ≡ []
-    none-given none q p = absurd (f q)
-    none-given (some m) q p = column-refused values k a e (meaning (v .now)) m p
-
-    go : (b : Bool) → Decides b (Sound (v .now)) → n ≡ numberOf (columnRefused b k a e (meaning (v .now))) → ColumnPart v r values k a e
-    go false d q = record { sound = false; decides = d; words = words; part = front 0 refl }
-    go true d q =
-        record {
-          sound = true;
-          decides = d;
-          words = words ∙ sym (none-given (columnRefusal k a e (meaning (v .now))) q refl);
-          part = front (partPlace (columnRefusal k a e (meaning (v .now))) values (v .now) k a) (by-line (columnRefusal k a e (meaning (v .now))) q);
-        }
 
 -- ---- the rows of a registered kind
 
@@ -197,10 +136,11 @@ module _ (w : List ℕ) (k a n t b : ℕ) (en : n ≡ capacityOf w) (et : t ≡ 
   pub entity-place : (values : Bool) → values ≡ false → b + ROWS + 2 * a ≡ rowPlace values w k a
   entity-place values q = rw q (rw (eb, en, et))
 
--- ---- an accepted column
+  -- so that each sum on the way is small
+  pub sums-small : Arranged w → In (meaning w .kinds) k → a ≤ length (kindSet w k) → b + ROWS + 2 * n + 2 * a ≤ 4000000
+  sums-small A i h = rw (eb, en, et) (row-start-small w A k i true a h)
 
-pub known-of : (w : List ℕ) (values : Bool) (k a e : ℕ) → Given w k a e → Columned values k a e (meaning w)
-known-of w values k a e G = column-accepted values k a e (meaning w) (G .taken)
+-- ---- an accepted column
 
 -- it is a part of the words, of at most 4,096 rows
 pub record Inside (w : List ℕ) (values : Bool) (k a e : ℕ) : Type 0 where
@@ -208,36 +148,36 @@ pub record Inside (w : List ℕ) (values : Bool) (k a e : ℕ) : Type 0 where
   pub few : e ≤ MAX-ENTITIES
   pub within : rowPlace values w k a + 2 * (e - a) ≤ length w
 
-pub given-inside : (w : List ℕ) (values : Bool) (k a e : ℕ) → Given w k a e → Inside w values k a e
-given-inside w values k a e G =
-    let C : Columned values k a e (meaning w) = known-of w values k a e G in
-    record {
-      order = C .order;
-      few = omega (arith, C .inside, rows-few w (G .sound .arranged) k (C .known), G .sound .arranged .limits .most);
-      within = part-inside w (G .sound .arranged) k (C .known) values a (e - a) (omega (arith, C .order, C .inside));
-    }
+module _ (w : List ℕ) (values : Bool) (k a e : ℕ) (A : Arranged w) (taken : columnRefusal k a e (meaning w) ≡ none) where
+  pub known-of : Columned values k a e (meaning w)
+  known-of = column-accepted values k a e (meaning w) taken
 
--- its words, where they stand
-pub given-words : (w : List ℕ) (values : Bool) (k a e : ℕ) → Given w k a e → ((j : ℕ) → getD w j 0 < 4294967296) → column values k a e (meaning w) ≡ take (2 * (e - a)) (drop (rowPlace values w k a) w)
-given-words w values k a e G small =
-    let C : Columned values k a e (meaning w) = known-of w values k a e G in
-    let up : a + (e - a) ≡ e = omega (arith, C .order) in
-    let fits : a + (e - a) ≤ length (kindSet w k) = omega (arith, C .inside, up) in
-    C .words
-    ∙ subst (λ (x : ℕ). partWords values a x (kindSet w k) ≡ take (2 * (e - a)) (drop (rowPlace values w k a) w)) up (part-there w (G .sound .arranged) k (C .known) small values a (e - a) fits)
+  pub inside-of : Inside w values k a e
+  inside-of =
+      record {
+        order = known-of .order;
+        few = omega (arith, known-of .inside, rows-few w A k (known-of .known), A .limits .most);
+        within = part-inside w A k (known-of .known) values a (e - a) (omega (arith, known-of .order, known-of .inside));
+      }
 
-pub given-part : (v r : RefT (List ℕ)) (values : Bool) (k a e first last : ℕ) → Given (v .now) k a e → ((j : ℕ) → getD (v .now) j 0 < 4294967296)
-    → first ≡ rowPlace values (v .now) k a → last ≡ first + 2 * (e - a) → r .ptr .0 ≡ v .ptr .0 → r .ptr .1 ≡ first * 4 + v .ptr .1 → r .now ≡ take (last - first) (drop first (v .now)) → ColumnPart v r values k a e
-given-part v r values k a e first last G small at end block offset words =
+  -- its words, where they stand
+  pub words-there : ((j : ℕ) → getD w j 0 < 4294967296) → column values k a e (meaning w) ≡ take (2 * (e - a)) (drop (rowPlace values w k a) w)
+  words-there small =
+      let up : a + (e - a) ≡ e = omega (arith, known-of .order) in
+      let fits : a + (e - a) ≤ length (kindSet w k) = omega (arith, known-of .inside, up) in
+      known-of .words
+      ∙ subst (λ (x : ℕ). partWords values a x (kindSet w k) ≡ take (2 * (e - a)) (drop (rowPlace values w k a) w)) up (part-there w A k (known-of .known) small values a (e - a) fits)
+
+pub rows-part : (v r : RefT (List ℕ)) (values : Bool) (k a e first last : ℕ) → Arranged (v .now) → columnRefusal k a e (meaning (v .now)) ≡ none → ((j : ℕ) → getD (v .now) j 0 < 4294967296)
+    → first ≡ rowPlace values (v .now) k a → last ≡ first + 2 * (e - a) → r .ptr .0 ≡ v .ptr .0 → r .ptr .1 ≡ first * 4 + v .ptr .1 → r .now ≡ take (last - first) (drop first (v .now)) → RowsPart v r values k a e
+rows-part v r values k a e first last A taken small at end block offset words =
     let w = v .now in
     let place : ℕ = rowPlace values w k a in
-    let inside : place + 2 * (e - a) ≤ length w = given-inside w values k a e G .within in
+    let inside : place + 2 * (e - a) ≤ length w = inside-of w values k a e A taken .within in
     let cut : last - first ≡ 2 * (e - a) = omega arith in
     let is : r .now ≡ take (2 * (e - a)) (drop place w) = words ∙ ap (λ (n : ℕ). take n (drop first w)) cut ∙ ap (λ (n : ℕ). take (2 * (e - a)) (drop n w)) at in
     let long : length (r .now) ≡ 2 * (e - a) = ap length is ∙ length-take-le (2 * (e - a)) (drop place w) (omega (arith, inside, length-drop place w)) in
     record {
-      sound = true;
-      decides = G .sound;
-      words = is ∙ sym (given-words w values k a e G small);
-      part = rw (G .taken, long) (record { block = block; offset = offset ∙ ap (λ (n : ℕ). n * 4 + v .ptr .1) at; inside = inside; words = is });
+      words = is ∙ sym (words-there w values k a e A taken small);
+      part = rw long (record { block = block; offset = offset ∙ ap (λ (n : ℕ). n * 4 + v .ptr .1) at; inside = inside; words = is });
     }
