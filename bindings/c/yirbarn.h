@@ -72,8 +72,8 @@ struct yirbarn_ran {
  * stop: YIRBARN_UNSOUND, with zeros beside it and nothing changed; or what stops the run before a command:
  * YIRBARN_UNKNOWN, YIRBARN_CUT, YIRBARN_NOROOM (judged by the accepted answer's length); or 0. The store stays sound.
  * A run of the tape from `read` on goes on where this one stopped. So a long tape can be fed in pieces, cut anywhere:
- * after each run, take its answers, and go on with the bytes from `read` on, the next piece behind them (YIRBARN_CUT: the
- * last command of the piece goes on in the next). Bytes of out past `written` stay. */
+ * after each run, take its answers, and go on with the bytes from `read` on, the next piece behind them (YIRBARN_CUT:
+ * the last command of the piece goes on in the next). Bytes of out past `written` stay. */
 struct yirbarn_ran yirbarn_run(uint32_t *words, size_t words_len, const uint8_t *tape, size_t tape_len, uint8_t *out,
                                size_t out_len);
 
@@ -95,9 +95,9 @@ struct yirbarn_written {
 };
 
 /* The same rows, copied to the front of out: 2 (end - start) words.
- * Number: that of yirbarn_column_number; where that is 0, YIRBARN_NOROOM if out has fewer words than the rows take; or 0.
- * Where it is not 0, nothing is copied. No rows (start = end) that are accepted are number 0 and 0 words. Words of out
- * past `written` stay. */
+ * Number: that of yirbarn_column_number; where that is 0, YIRBARN_NOROOM if out has fewer words than the rows take; else
+ * 0. Where it is not 0, nothing is copied. No rows (start = end) that are accepted are number 0 and 0 words. Words of
+ * out past `written` stay. */
 struct yirbarn_written yirbarn_column(const uint32_t *words, size_t words_len, uint8_t kind, bool values, size_t start,
                                       size_t end, uint32_t *out, size_t out_len);
 
