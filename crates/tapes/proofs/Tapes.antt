@@ -5,14 +5,16 @@ use mathlib.Core.Bool.{true, false}
 use mathlib.Core.List.{List, [], _∷_, _++_}
 use Prim.Native.Nat.{ℕ, zero, suc, _+_, _-_, _≤_, _<_}
 use native.Mathlib.Omega.{arith}
-use borrow.Author.Tests.{le-ltb}
-use lib.Dec.{ltb}
+use borrow.Author.Tests.{le-ltb, leb-true}
+use lib.Dec.{leb, ltb}
 use lib.ListN.{length, take, drop, length-append}
 use lib.Seq.{take-at, drop-at}
+use Rattle.model.specs.Numbers.{LAST-COMMAND}
 use Rattle.model.specs.Model.{Entity}
 use Rattle.model.specs.Store.{Store, Bytes, bytesOf, number}
 use Rattle.model.specs.Commands.{Command, REG, HOLD, NEW, PUT, TAKE, DROP, KILL, WIPE, GROUP, APPLY, BAR, RANGE, EMPTY, TALLY, width, isCommand, entityOfBytes, commandAt, answerLength}
 use Rattle.model.specs.Run.{Outcome, refuses, accepts, does, goes, step, answerOf, more, runFor, run}
+use Rattle.model.proofs.BoolLaws.{and-right}
 use Rattle.model.proofs.Encoding.{number-bytes, bytes-of, bytes-append}
 use Rattle.model.proofs.Lengths.{bytesOf-length, answer-length, answer-positive}
 use Rattle.tapes.proofs.Pieces.{run-step}
@@ -83,20 +85,7 @@ is-whole EMPTY = refl
 is-whole TALLY = refl
 
 byte-small : (c : Command) → byteOf c < 256
-byte-small (REG k) = omega arith
-byte-small (HOLD k v) = omega arith
-byte-small NEW = omega arith
-byte-small (PUT e) = omega arith
-byte-small (TAKE e) = omega arith
-byte-small (DROP e) = omega arith
-byte-small (KILL e) = omega arith
-byte-small WIPE = omega arith
-byte-small GROUP = omega arith
-byte-small APPLY = omega arith
-byte-small (BAR k) = omega arith
-byte-small RANGE = omega arith
-byte-small EMPTY = omega arith
-byte-small TALLY = omega arith
+byte-small c = omega (arith, leb-true (byteOf c) LAST-COMMAND (and-right (leb 1 (byteOf c)) (leb (byteOf c) LAST-COMMAND) (is-command c)))
 
 operand-bytes : (c : Command) → Encodable c → Bytes (operandsOf c)
 operand-bytes (REG k) h = (h, tt)
