@@ -68,7 +68,8 @@ struct yirbarn_ran {
 };
 
 /* Does the tape's commands one after the other, and writes their answers to the front of out: a 0 byte and what the
- * command tells, or a refusal's number (7 to 15) alone, which then counts, and changes no other word.
+ * command tells, or a refusal's number (7 to 15) alone. A refused command adds one to the tally, which TALLY tells, and
+ * changes no other word.
  * stop: YIRBARN_UNSOUND, with zeros beside it and nothing changed; or what stops the run before a command:
  * YIRBARN_UNKNOWN, YIRBARN_CUT, YIRBARN_NOROOM (judged by the accepted answer's length); or 0. The store stays sound.
  * A run of the tape from `read` on goes on where this one stopped. So a long tape can be fed in pieces, cut anywhere:
@@ -84,8 +85,9 @@ uint8_t yirbarn_column_number(const uint32_t *words, size_t words_len, uint8_t k
 
 /* Where in the words the rows of a kind stand, from start to before end: with at = the answer, words[at] to
  * words[at + 2 (end - start) - 1] are their entities (index word, version word), or where `values` is true their values
- * (low word, high word), in row order. 0 where yirbarn_column_number is not 0; no column stands there. They stay there
- * until the next run or start. Entities and values of one row have the same number, counted from start. */
+ * (low word, high word), in row order. 0 where yirbarn_column_number is not 0, and nowhere else, for no column stands
+ * there: ask for the number only then. They stay there until the next run or start. Entities and values of one row have
+ * the same number, counted from start. */
 size_t yirbarn_column_at(const uint32_t *words, size_t words_len, uint8_t kind, bool values, size_t start, size_t end);
 
 /* What a function that writes to out answers, but for a run and a roll. */
