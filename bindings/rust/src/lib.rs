@@ -3,6 +3,8 @@
 //! A store keeps entities and their components, a value of eight bytes for each of up to 128 kinds, in a `&mut [u32]`.
 //! It is changed by a tape of commands, which [`Store::run`] answers, and read by column and as a whole. The work is done
 //! by the static library of the crate `store`, which is proved; this crate lends it slices and gives names to its numbers.
+//! The commands, their bytes and their answers are in the repository's docs/COMMANDS.md; examples/cards.rs is a program to
+//! begin with.
 //!
 //! ```
 //! use yirbarn::{Entity, Row, Store};

@@ -2,7 +2,8 @@
 
 use core::fmt;
 
-/// Why something was refused, or a run stopped. As a number it is the one that answers and entries give.
+/// Why something was refused, or a run stopped. As a number it is the one that answers and entries give; displayed, it
+/// says what it is.
 ///
 /// ```
 /// use yirbarn::Refusal;
@@ -10,6 +11,10 @@ use core::fmt;
 /// assert_eq!(Refusal::of(11), Some(Refusal::Dead));
 /// assert_eq!(Refusal::Dead as u8, 11);
 /// assert_eq!(Refusal::of(0), None);
+/// for refusal in Refusal::ALL {
+///     println!("{refusal}");
+/// }
+/// assert_eq!(format!("{}", Refusal::Dead), "the entity is not live (11)");
 /// ```
 #[derive(Clone, Copy, PartialEq, Eq, Debug)]
 #[repr(u8)]
