@@ -1,4 +1,4 @@
-// The work of *column*, over words that are a sound store: its number, where the rows of a kind stand, the part that they are, and a copy.
+// The work of *column*, over words that are arranged: its number, where the rows of a kind stand, the part that they are, and a copy.
 use model::refusals::BEYOND;
 use model::refusals::KIND;
 ghost use mathlib.Core.Path.{_≡_};

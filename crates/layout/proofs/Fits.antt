@@ -7,14 +7,14 @@ use Prim.Native.Nat.{ℕ, zero, suc, _+_, _-_, _≤_, _<_}
 use native.Mathlib.Nat.{add-zero, add-suc, suc-add}
 use native.Mathlib.Numerals.{add-one}
 use native.Mathlib.Omega.{arith}
-use borrow.Author.Tests.{eqb-true, lt-ltb, le-ltb, le-leb, lt-leb}
+use borrow.Author.Tests.{eqb-true, lt-ltb, le-ltb, le-leb}
 use lib.Dec.{eqb, eqb·suc-zero, eqb·suc-suc}
 use lib.ListN.{length, getD, set}
 use Rattle.model.specs.Numbers.{CLASH, MANY, MAX-GROUP-ARITY, MAX-GROUP-COUNT, WIDE}
 use Rattle.model.specs.Model.{Family, meets, within, without, kindsOf, groupsOf, isGroup, present, touched, covers, newGroup, grown}
 use Rattle.model.specs.Adding.{nothing, added, refused, addGroup}
 use Rattle.model.proofs.BoolLaws.{bool-cases, or-false, and-right, or-false-right, not-or, and-left}
-use Rattle.model.proofs.Draft.{grown-same}
+use Rattle.model.proofs.Draft.{grown-same, added-fresh, added-onto}
 use Rattle.layout.specs.Fit.{pickPart, partOf, joinFit, fitFrom}
 use Rattle.layout.specs.declared.group_layout.Part.{Part}
 use Rattle.layout.specs.declared.group_layout.Part.the-variants.{Apart, Same, Whole, Cross}
@@ -173,16 +173,14 @@ module _ (ks : List ℕ) (fs : List Family) where
     fresh-many s h = rw (le-ltb (length ks) 2 lo, le-ltb MAX-GROUP-ARITY (length ks) hi, s .absent, s .none, le-leb MAX-GROUP-COUNT (groupsOf fs) h)
 
     pub fresh-added : IsFresh ks fs → groupsOf fs < MAX-GROUP-COUNT → addGroup ks fs ≡ added (fs ++ ((newGroup ks ∷ []) ∷ []))
-    unfolding addGroup
-    fresh-added s h = rw (le-ltb (length ks) 2 lo, le-ltb MAX-GROUP-ARITY (length ks) hi, s .absent, s .none, lt-leb MAX-GROUP-COUNT (groupsOf fs) h)
+    fresh-added s h = added-fresh ks fs lo hi (s .absent) h (s .none)
 
     pub onto-many : (f : ℕ) → IsOnto ks fs f → MAX-GROUP-COUNT ≤ groupsOf fs → addGroup ks fs ≡ refused MANY
     unfolding addGroup
     onto-many f s h = rw (le-ltb (length ks) 2 lo, le-ltb MAX-GROUP-ARITY (length ks) hi, s .absent, s .alone, s .held, le-leb MAX-GROUP-COUNT (groupsOf fs) h)
 
     pub onto-added : (f : ℕ) → IsOnto ks fs f → groupsOf fs < MAX-GROUP-COUNT → addGroup ks fs ≡ added (grown ks fs)
-    unfolding addGroup
-    onto-added f s h = rw (le-ltb (length ks) 2 lo, le-ltb MAX-GROUP-ARITY (length ks) hi, s .absent, s .alone, s .held, lt-leb MAX-GROUP-COUNT (groupsOf fs) h)
+    onto-added f s h = added-onto ks fs lo hi (s .absent) h (s .alone) (s .held)
 
 -- ---- by the number of a family
 

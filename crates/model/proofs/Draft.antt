@@ -4,14 +4,14 @@ use mathlib.Core.Bool.{true, false, not, _&&_, _||_, true≢false, false≢true}
 use mathlib.Core.List.{List, [], _∷_, _++_, append-assoc, append-nil}
 use Prim.Native.Nat.{ℕ, _+_, _≤_, _<_}
 use native.Mathlib.Omega.{arith}
-use borrow.Author.Tests.{ltb-false, leb-false, eqb-true}
+use borrow.Author.Tests.{ltb-false, leb-false, eqb-true, le-ltb, lt-leb}
 use lib.Dec.{ltb, leb, eqb}
 use lib.ListN.{length, length-append}
 use Rattle.model.specs.Numbers.{MAX-GROUP-ARITY, MAX-GROUP-COUNT}
 use Rattle.model.specs.Lists.{countOf}
 use Rattle.model.proofs.ListLaws.{count-append}
 use Rattle.model.specs.Model.{Group, Family, mem, meets, within, sameSet, without, kindsOf, groupsOf, isGroup, present, touched, covers, newGroup, grown, addsNothing, joins, withGroup}
-use Rattle.model.specs.Adding.{addGroup}
+use Rattle.model.specs.Adding.{added, addGroup}
 use Rattle.model.specs.Sound.{Distinct, layoutKinds, Rising, BuildableFamily, BuildableFamilies, Uncounted, AllUncounted, In}
 use Rattle.model.proofs.BoolLaws.{cond-case, and-left, and-right, or-false, or-false-right, not-true, and-false-left, not-or, or-right, bool-cases}
 use Rattle.model.proofs.KindLists.{Missing, all-missing, in-cases, in-count, out-count, count-in, count-without, count-without-le, in-without, without-length, distinct-left, distinct-right, in-length, unmet-in, meets-none}
@@ -32,6 +32,19 @@ grown-same ks (f ∷ fs) z =
     bool-cases (meets ks (kindsOf f))
     (λ t. absurd (omega (arith, rw t at z)))
     (λ t. rw t (ap {B = List Family} (λ r. f ∷ r) (grown-same ks fs (rw t at z))))
+
+-- ---- what is added
+
+module _ (ks : List ℕ) (fs : List Family) (lo : 2 ≤ length ks) (hi : length ks ≤ MAX-GROUP-ARITY) (absent : present ks fs ≡ false) (room : groupsOf fs < MAX-GROUP-COUNT) where
+  -- kinds of which no family has one are a family of their own
+  pub added-fresh : touched ks fs ≡ 0 → addGroup ks fs ≡ added (fs ++ ((newGroup ks ∷ []) ∷ []))
+  unfolding addGroup
+  added-fresh none = rw (le-ltb (length ks) 2 lo, le-ltb MAX-GROUP-ARITY (length ks) hi, absent, none, lt-leb MAX-GROUP-COUNT (groupsOf fs) room)
+
+  -- kinds that hold all kinds of the one family that they touch are its next group
+  pub added-onto : touched ks fs ≡ 1 → covers ks fs ≡ true → addGroup ks fs ≡ added (grown ks fs)
+  unfolding addGroup
+  added-onto alone held = rw (le-ltb (length ks) 2 lo, le-ltb MAX-GROUP-ARITY (length ks) hi, absent, alone, held, lt-leb MAX-GROUP-COUNT (groupsOf fs) room)
 
 -- ---- a family with a group more
 

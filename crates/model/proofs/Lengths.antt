@@ -13,7 +13,7 @@ use Rattle.model.specs.Model.{Entity, SparseSet, Storage, Range, none, f
 use Rattle.model.specs.Store.{Store, bytesOf, stagedKinds, isKind}
 use Rattle.model.specs.Commands.{Command, REG, HOLD, NEW, PUT, TAKE, DROP, KILL, WIPE, GROUP, APPLY, BAR, RANGE, EMPTY, TALLY, Done, accepted, answerLength, takenBytes, heldBytes, rangeBytes, width, commandAt}
 use Rattle.model.specs.Refusals.{firstLine, NoneHolds, beforeLines}
-use Rattle.model.specs.Run.{Outcome, refuses, accepts, does, Step, stops, goes, stepOf, stepIf, step, Ran, halt, more, runFor, run}
+use Rattle.model.specs.Run.{Outcome, refuses, accepts, does, Step, stops, goes, stepOf, stepIf, step, answerOf, Ran, halt, more, runFor, run}
 use Rattle.model.proofs.BoolLaws.{cond-case}
 use Rattle.model.proofs.Lines.{none-to, accepted-exact, stop-number}
 use Rattle.model.specs.Theorems.{IfGoes, RunFits, StepFits}
@@ -61,6 +61,11 @@ answer-length c s s′ a e = sym (ap (λ (b : List ℕ). suc (length b)) (accept
 
 pub answer-positive : (c : Command) (s : Store) → 1 ≤ answerLength c s
 answer-positive c s = omega (arith, accepted-length c s)
+
+-- the answer takes no more than the accepted one
+pub answer-fits : (c : Command) (s : Store) (x : Outcome) → does c s ≡ x → length (answerOf x) ≤ answerLength c s
+answer-fits c s (refuses n) e = answer-positive c s
+answer-fits c s (accepts s′ a) e = omega (arith, answer-length c s s′ a e)
 
 -- ---- one step
 

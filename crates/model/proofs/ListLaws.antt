@@ -287,9 +287,9 @@ map-append {B} f (x ∷ a) b = ap {B = List B} (λ r. f x ∷ r) (map-append f a
 pub self-count : (k : ℕ) → one (eqb k k) ≡ 1
 self-count k = ap one (eq-eqb k k refl)
 
-pub length-zero : (b : List ℕ) → length b ≡ 0 → b ≡ []
+pub length-zero : {A : Type 0} (l : List A) → length l ≡ 0 → l ≡ []
 length-zero [] e = refl
-length-zero (k ∷ b) e = absurd (omega arith)
+length-zero (x ∷ l) e = absurd (omega arith)
 
 -- bytes written one run after another
 pub sets-join : (l : List ℕ) (i : ℕ) (a b : List ℕ) → sets (sets l i a) (i + length a) b ≡ sets l i (a ++ b)

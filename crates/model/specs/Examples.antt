@@ -84,9 +84,9 @@ unfolding exampleAnswer exampleStore
 store-example = refl
 
 -- "In a draft with these groups": made anew, since APPLY has emptied the draft
-drafted : Store
+exampleDraft : Store
 unfolding exampleStore
-drafted = afterTape groupsTape exampleStore
+exampleDraft = afterTape groupsTape exampleStore
 
 -- "KILL card 1"
 unfoldable pub afterKill : Store
@@ -107,8 +107,8 @@ ranges s ks bs = answerOf (does RANGE (afterTape (holdAll ks ++ barAll bs) s))
 
 -- what GROUP answers, with a hand
 adds : List ℕ → List ℕ
-unfolding drafted
-adds ks = answerOf (does GROUP (afterTape (holdAll ks) drafted))
+unfolding exampleDraft
+adds ks = answerOf (does GROUP (afterTape (holdAll ks) exampleDraft))
 
 -- what KILL answers, and after it RANGE with each of the groups, and NEW
 kills : List ℕ

@@ -14,7 +14,7 @@ use Rattle.model.specs.Commands.{Command, REG, HOLD, NEW, PUT, TAKE, DROP, KILL
 use Rattle.model.specs.Run.{Outcome, refuses, accepts, does, Step, stops, goes, stepOf, step, storeAfter, answerOf}
 use Rattle.model.proofs.BoolLaws.{cond-case}
 use Rattle.model.proofs.Lines.{accepted-exact}
-use Rattle.model.proofs.Lengths.{answer-length, answer-positive, step-case}
+use Rattle.model.proofs.Lengths.{answer-fits, step-case}
 use Rattle.model.proofs.Sound.{After, bytes-drop, tape-fits}
 use Rattle.memory.proofs.Becomes.{SameSettings, stays}
 use Rattle.memory.specs.Meaning.{meaning}
@@ -55,11 +55,6 @@ module _ (s : Store) (t : List ℕ) (at room : ℕ) where
         pub step-did : answerLength (commandIn (getD t at 0) t (at + 1)) s ≤ room → stepAt s t at room ≡ stepOf (suc (width (getD t at 0))) s (does (commandIn (getD t at 0) t (at + 1)) s)
         unfolding step
         step-did h = rw (le-leb 1 (getD t at 0) low, le-leb (getD t at 0) LAST-COMMAND high, fits, le-ltb room (answerLength (commandIn (getD t at 0) t (at + 1)) s) h)
-
--- the answer takes no more than the accepted one
-answer-fits : (c : Command) (s : Store) (x : Outcome) → does c s ≡ x → length (answerOf x) ≤ answerLength c s
-answer-fits c s (refuses n) e = answer-positive c s
-answer-fits c s (accepts s′ a) e = omega (arith, answer-length c s s′ a e)
 
 -- ---- commands keep N and K
 

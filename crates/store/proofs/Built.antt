@@ -7,8 +7,8 @@ use lib.ListN.{length}
 use Rattle.model.specs.Store.{Store, empty}
 use Rattle.model.specs.Run.{run}
 use Rattle.words.specs.Decides.{Decides}
-use Rattle.tapes.specs.Built.{Build, builtStore, BuildSound, partsOf, TapeLeaves, buildTape, buildRoom}
-use Rattle.tapes.proofs.Built.{tape-builds, parts-sound, parts-whole}
+use Rattle.tapes.specs.Built.{Build, builtStore, BuildSound, buildOf, TapeLeaves, buildTape, buildRoom}
+use Rattle.tapes.proofs.Built.{tape-builds, own-sound, own-whole}
 use Rattle.memory.specs.Meaning.{meaning}
 use Rattle.memory.specs.Arranged.{Sound}
 use Rattle.run.specs.declared.Ran.{Ran}
@@ -38,13 +38,13 @@ pub built-in-words : (n k : ℕ) (b : Build) (w w₁ w₂ o o′ : List ℕ) (r 
 built-in-words n k b w w₁ w₂ o o′ r B = left-in-words n k (buildTape b) (buildRoom n k b) (builtStore n k b) w w₁ w₂ o o′ r (tape-builds n k b B)
 
 -- and what stands in any words that a start and runs reach is such as this tape builds
-pub reached-buildable : {w : List ℕ} → Reached w → BuildSound (meaning w .settings .kindCapacity) (partsOf (meaning w))
-reached-buildable {w} c = parts-sound (meaning w) (reached-sound c .means)
+pub reached-buildable : {w : List ℕ} → Reached w → BuildSound (meaning w .settings .kindCapacity) (buildOf (meaning w))
+reached-buildable {w} c = own-sound (meaning w) (reached-sound c .means)
 
 -- sound words in which no number is issued are built anew over any words, by an accepted start and one run: no entry tells the two apart
 pub rebuilt-in-words : (w v v₁ v₂ o o′ : List ℕ) (r : Ran) → Sound w → meaning w .entities .issued ≡ 0 → Starts (meaning w .settings .capacity) (meaning w .settings .kindCapacity) v v₁ 0
-    → Runs v₁ v₂ (buildTape (partsOf (meaning w))) o o′ r → buildRoom (meaning w .settings .capacity) (meaning w .settings .kindCapacity) (partsOf (meaning w)) ≤ length o → Alike w v₂
+    → Runs v₁ v₂ (buildTape (buildOf (meaning w))) o o′ r → buildRoom (meaning w .settings .capacity) (meaning w .settings .kindCapacity) (buildOf (meaning w)) ≤ length o → Alike w v₂
 rebuilt-in-words w v v₁ v₂ o o′ r S none St R h =
     let s = meaning w in
-    let L = built-in-words (s .settings .capacity) (s .settings .kindCapacity) (partsOf s) v v₁ v₂ o o′ r (parts-sound s (S .means)) St R h in
-    record { means = sym (L .means ∙ parts-whole s (S .means) none); sound = ((λ x. L .sound), (λ x. S)) }
+    let L = built-in-words (s .settings .capacity) (s .settings .kindCapacity) (buildOf s) v v₁ v₂ o o′ r (own-sound s (S .means)) St R h in
+    record { means = sym (L .means ∙ own-whole s (S .means) none); sound = ((λ x. L .sound), (λ x. S)) }

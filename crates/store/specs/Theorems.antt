@@ -24,7 +24,7 @@ pub record Judged {A : Type 0} (w : List ℕ) (ls : List (Line A)) (x : A) (r : 
   pub unsound : (r ≡ UNSOUND) ↔ (Sound w → ⊥)
   pub sound : Sound w → Tabled ls x r
 
--- what a refused command inside a run leaves: all that the words mean is as it was, but for the count of refusals, which has one more
+-- what a refused command inside a run leaves: all that the words mean is as it was, but for the count of refusals, which is counted up
 pub record RefusalAlone (s t : Store) : Type 0 where
   pub same : Unchanged s t
   -- "a tally of refused commands that stays at 4,294,967,295"

@@ -5,7 +5,7 @@ use mathlib.Core.List.{List, [], _∷_, _++_, map, append-assoc, append-nil}
 use Prim.Native.Nat.{ℕ, zero, suc, _+_, _≤_, _<_}
 use native.Mathlib.Omega.{arith}
 use borrow.Author.Tests.{le-ltb, lt-ltb, lt-leb, eq-eqb}
-use lib.Dec.{eqb, lit<}
+use lib.Dec.{lit<}
 use lib.ListN.{length, getD, replicate, length-append, length-map}
 use Rattle.model.specs.Numbers.{LAST-KIND, LIST-CAPACITY, MAX-GROUP-ARITY, MAX-GROUP-COUNT, MAX-KINDS, MAX-REFUSALS}
 use Rattle.model.specs.Model.{Entity, Group, Family, Component, mem, kindOf, kindsOf, groupsOf, setLayout, regroup}
@@ -16,9 +16,8 @@ use Rattle.model.specs.Refusals.{unknownKind}
 use Rattle.model.specs.Run.{Outcome, storeAfter}
 use Rattle.model.specs.Sound.{In, Distinct, Eight, noComponent, layoutKinds, Rising, BuildableFamily, BuildableFamilies, Uncounted, AllUncounted}
 use Rattle.model.specs.Theorems.{DraftSound, grouped}
-use Rattle.model.proofs.BoolLaws.{not-true}
-use Rattle.model.proofs.ListLaws.{count-append, map-append, self-count}
-use Rattle.model.proofs.KindLists.{in-count, distinct-left, distinct-right, in-left, in-right, before-free}
+use Rattle.model.proofs.ListLaws.{map-append}
+use Rattle.model.proofs.KindLists.{distinct-left, distinct-right, in-left, in-right, before-free}
 use Rattle.model.proofs.Draft.{family-joined, kinds-append, groups-append}
 use Rattle.model.proofs.Regroup.{zeroed, zeroed-families}
 use Rattle.model.proofs.Outcomes.{reg-above, reg-new, hold-staged, bar-excluded, apply-does, group-does}
@@ -29,12 +28,12 @@ use Rattle.tapes.proofs.Drafts.{own-added, wider-added}
 
 -- ---- a list whose items come one by one
 
--- of distinct kinds the next is not among those before
-next-new : (l m : List ℕ) (k : ℕ) → Distinct (l ++ (k ∷ m)) → mem k l ≡ false
-next-new l m k d = not-true (mem k l) (λ t. omega (arith, d k, count-append eqb k l (k ∷ m), in-count l k t, self-count k))
-
 next-in : (l : List ℕ) (k : ℕ) → In (k ∷ l) k
 next-in l k = rw (eq-eqb k k refl)
+
+-- of distinct kinds the next is not among those before
+next-new : (l m : List ℕ) (k : ℕ) → Distinct (l ++ (k ∷ m)) → mem k l ≡ false
+next-new l m k d = before-free l (k ∷ m) d k (next-in m k)
 
 next-few : {A : Type 0} (l m : List A) (x : A) (n : ℕ) → length (l ++ (x ∷ m)) ≤ n → length l < n
 next-few l m x n h = omega (arith, length-append l (x ∷ m))

@@ -14,8 +14,9 @@ use Rattle.model.specs.Sound.{Limits, Uncounted, AllUncounted, RightFrom, AllRi
 use Rattle.model.proofs.Bounds.{numbers-few, rows-live}
 use Rattle.model.proofs.Shape.{buildable-plain}
 use Rattle.model.proofs.Sound.{run-sound}
-use Rattle.tapes.specs.Built.{Build, builtStore, BuildSound, partsOf, TapeLeaves, LeftBy, buildCommands, buildTape, buildRoom}
+use Rattle.tapes.specs.Built.{Build, builtStore, BuildSound, buildOf, TapeLeaves, LeftBy, buildCommands, buildTape, buildRoom}
 use Rattle.tapes.proofs.Tapes.{tape-bytes, run-commands}
+use Rattle.model.proofs.ListLaws.{length-zero}
 use Rattle.model.proofs.Regroup.{zeroed-families}
 use Rattle.tapes.proofs.Building.{commands-after, commands-encodable}
 
@@ -74,8 +75,8 @@ all-zeroed [] = tt
 all-zeroed (f ∷ fs) = (zeroed-uncounted f, all-zeroed fs)
 
 module _ (s : Store) (S : StoreSound s) where
-  pub parts-sound : BuildSound (s .settings .kindCapacity) (partsOf s)
-  parts-sound =
+  pub own-sound : BuildSound (s .settings .kindCapacity) (buildOf s)
+  own-sound =
       let fs = s .storage .layout in
       record {
         kinds = S .kinds;
@@ -87,14 +88,10 @@ module _ (s : Store) (S : StoreSound s) where
       }
 
   -- its kinds, hand, bar, draft, tally and its layout but for the counts are what some tape leaves
-  pub parts-built : LeftBy (s .settings .capacity) (s .settings .kindCapacity) (builtStore (s .settings .capacity) (s .settings .kindCapacity) (partsOf s))
-  parts-built = every-built (s .settings .capacity) (s .settings .kindCapacity) (partsOf s) parts-sound
+  pub own-built : LeftBy (s .settings .capacity) (s .settings .kindCapacity) (builtStore (s .settings .capacity) (s .settings .kindCapacity) (buildOf s))
+  own-built = every-built (s .settings .capacity) (s .settings .kindCapacity) (buildOf s) own-sound
 
 -- ---- sound stores in which no number is issued: they are what tapes leave, the whole store
-
-none-of : {A : Type 0} (l : List A) → length l ≤ 0 → l ≡ []
-none-of [] h = refl
-none-of (x ∷ l) h = absurd (omega arith)
 
 no-sets : (sets : List SparseSet) → ((k : ℕ) → setOf sets k ≡ []) → sets ≡ replicate (length sets) []
 no-sets [] h = refl
@@ -105,28 +102,28 @@ module _ (s : Store) (S : StoreSound s) (none : s .entities .issued ≡ 0) where
   few = omega (arith, none, numbers-few (s .settings .capacity) (s .entities) (S .entities))
 
   no-live : s .entities .live ≡ []
-  no-live = none-of (s .entities .live) (omega (arith, few))
+  no-live = length-zero (s .entities .live) (omega (arith, few))
 
   sets-empty : s .storage .sets ≡ replicate MAX-KINDS []
   sets-empty =
-      no-sets (s .storage .sets) (λ k. none-of (setOf (s .storage .sets) k) (omega (arith, few, rows-live s S k)))
+      no-sets (s .storage .sets) (λ k. length-zero (setOf (s .storage .sets) k) (omega (arith, few, rows-live s S k)))
       ∙ ap (λ (n : ℕ). replicate n []) (S .sets .wide)
 
   layout-zeroed : map (map zeroCount) (s .storage .layout) ≡ s .storage .layout
   layout-zeroed = zeroed-families (s .storage .layout) (all-uncounted (s .storage .sets) (s .storage .layout) (subst (λ (l : List Entity). AllRight (s .storage .sets) l (s .storage .layout)) no-live (S .groups)))
 
-  pub parts-whole : builtStore (s .settings .capacity) (s .settings .kindCapacity) (partsOf s) ≡ s
+  pub own-whole : builtStore (s .settings .capacity) (s .settings .kindCapacity) (buildOf s) ≡ s
   unfolding empty
-  parts-whole = λ i. record {
+  own-whole = λ i. record {
     settings = s .settings;
     kinds = s .kinds;
-    entities = record { live = sym no-live i; recycled = sym (none-of (s .entities .recycled) (omega (arith, few))) i; issued = sym none i };
+    entities = record { live = sym no-live i; recycled = sym (length-zero (s .entities .recycled) (omega (arith, few))) i; issued = sym none i };
     storage = record { sets = sym sets-empty i; layout = layout-zeroed i };
     control = s .control;
   }
 
 pub sound-exactly : (s : Store) → Limits (s .settings .capacity) (s .settings .kindCapacity) → s .entities .issued ≡ 0 → StoreSound s ↔ LeftBy (s .settings .capacity) (s .settings .kindCapacity) s
 sound-exactly s L none = (
-  (λ S. subst (LeftBy (s .settings .capacity) (s .settings .kindCapacity)) (parts-whole s S none) (parts-built s S)),
+  (λ S. subst (LeftBy (s .settings .capacity) (s .settings .kindCapacity)) (own-whole s S none) (own-built s S)),
   left-sound (s .settings .capacity) (s .settings .kindCapacity) s L,
 )

@@ -5,14 +5,13 @@ use mathlib.Core.Bool.{true, false}
 use mathlib.Core.List.{List, [], _∷_, _++_, append-assoc, append-nil}
 use Prim.Native.Nat.{ℕ, _+_, _≤_, _<_}
 use native.Mathlib.Omega.{arith}
-use borrow.Author.Tests.{le-ltb, lt-leb}
 use lib.ListN.{length, length-append}
 use Rattle.model.specs.Numbers.{MAX-GROUP-ARITY, MAX-GROUP-COUNT}
 use Rattle.model.specs.Model.{Family, mem, meets, within, without, headKind, kindsOf, groupsOf, isGroup, present, touched, covers, newGroup, grown}
 use Rattle.model.specs.Adding.{added, addGroup}
 use Rattle.model.specs.Sound.{In, Distinct, layoutKinds}
 use Rattle.model.proofs.KindLists.{distinct-right, mem-append, head-in, in-left, in-right, not-in-parts, all-true, any-in, differ-left, unmet-all, before-free, without-ring}
-use Rattle.model.proofs.Draft.{kinds-append, groups-append}
+use Rattle.model.proofs.Draft.{added-fresh, added-onto, kinds-append, groups-append}
 
 -- ---- kinds that a draft has not
 
@@ -46,10 +45,9 @@ free-touched ks (f ∷ fs) h = rw (free-first ks f fs h) (free-touched ks fs (fr
 
 -- a group of its own
 pub own-added : (ks : List ℕ) (fs : List Family) → 2 ≤ length ks → length ks ≤ MAX-GROUP-ARITY → FreeOf ks fs → groupsOf fs < MAX-GROUP-COUNT → addGroup ks fs ≡ added (fs ++ ((newGroup ks ∷ []) ∷ []))
-unfolding addGroup
 own-added ks fs two narrow free few =
     let i : In ks (headKind ks) = head-in ks (omega arith) in
-    rw (le-ltb MAX-GROUP-ARITY (length ks) narrow, le-ltb (length ks) 2 two, not-present ks (headKind ks) fs i (free (headKind ks) i), free-touched ks fs free, lt-leb MAX-GROUP-COUNT (groupsOf fs) few)
+    added-fresh ks fs two narrow (not-present ks (headKind ks) fs i (free (headKind ks) i)) few (free-touched ks fs free)
 
 -- ---- kinds that hold all kinds of the last family, and none of the families before
 
@@ -69,7 +67,6 @@ module _ (ks : List ℕ) (f : Family) (m : meets ks (kindsOf f) ≡ true) (w : w
 -- the last family's next group, of ring `ring`
 pub wider-added : (fs : List Family) (f : Family) (ring : List ℕ) → 1 ≤ length (kindsOf f) → 1 ≤ length ring → length (kindsOf f ++ ring) ≤ MAX-GROUP-ARITY → Distinct (layoutKinds fs ++ (kindsOf f ++ ring)) → groupsOf fs + length f < MAX-GROUP-COUNT
     → addGroup (kindsOf f ++ ring) (fs ++ (f ∷ [])) ≡ added (fs ++ ((f ++ (newGroup ring ∷ [])) ∷ []))
-unfolding addGroup
 wider-added fs f ring some more narrow once few =
     let two : 2 ≤ length (kindsOf f ++ ring) = omega (arith, length-append (kindsOf f) ring) in
     let both : Distinct (kindsOf f ++ ring) = distinct-right (layoutKinds fs) (kindsOf f ++ ring) once in
@@ -83,13 +80,6 @@ wider-added fs f ring some more narrow once few =
     let m : meets (kindsOf f ++ ring) (kindsOf f) ≡ true = any-in (λ k. mem k (kindsOf f)) (kindsOf f ++ ring) (headKind (kindsOf f)) (in-left (kindsOf f) ring (headKind (kindsOf f)) (head-in (kindsOf f) some)) (head-in (kindsOf f) some) in
     let w : within (kindsOf f) (kindsOf f ++ ring) ≡ true = all-true (λ k. mem k (kindsOf f ++ ring)) (kindsOf f) (λ k j. in-left (kindsOf f) ring k j) in
     let room : groupsOf (fs ++ (f ∷ [])) < MAX-GROUP-COUNT = omega (arith, groups-append fs (f ∷ [])) in
-    rw (
-      le-ltb MAX-GROUP-ARITY (length (kindsOf f ++ ring)) narrow,
-      le-ltb (length (kindsOf f ++ ring)) 2 two,
-      not-present (kindsOf f ++ ring) (headKind ring) (fs ++ (f ∷ [])) i new,
-      last-touched (kindsOf f ++ ring) f m w fs free,
-      last-covered (kindsOf f ++ ring) f m w fs free,
-      lt-leb MAX-GROUP-COUNT (groupsOf (fs ++ (f ∷ []))) room,
-      last-grown (kindsOf f ++ ring) f m w fs free,
-      without-ring (kindsOf f) ring both,
-    )
+    added-onto (kindsOf f ++ ring) (fs ++ (f ∷ [])) two narrow (not-present (kindsOf f ++ ring) (headKind ring) (fs ++ (f ∷ [])) i new) room
+    (last-touched (kindsOf f ++ ring) f m w fs free) (last-covered (kindsOf f ++ ring) f m w fs free)
+    ∙ ap added (last-grown (kindsOf f ++ ring) f m w fs free ∙ ap (λ (l : List ℕ). fs ++ ((f ++ (newGroup l ∷ [])) ∷ [])) (without-ring (kindsOf f) ring both))

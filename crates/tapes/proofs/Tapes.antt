@@ -13,10 +13,10 @@ use Rattle.model.specs.Numbers.{LAST-COMMAND}
 use Rattle.model.specs.Model.{Entity}
 use Rattle.model.specs.Store.{Store, Bytes, bytesOf, number}
 use Rattle.model.specs.Commands.{Command, REG, HOLD, NEW, PUT, TAKE, DROP, KILL, WIPE, GROUP, APPLY, BAR, RANGE, EMPTY, TALLY, width, isCommand, entityOfBytes, commandAt, answerLength}
-use Rattle.model.specs.Run.{Outcome, refuses, accepts, does, goes, step, answerOf, more, runFor, run}
+use Rattle.model.specs.Run.{does, goes, step, answerOf, more, runFor, run}
 use Rattle.model.proofs.BoolLaws.{and-right}
 use Rattle.model.proofs.Encoding.{number-bytes, bytes-of, bytes-append}
-use Rattle.model.proofs.Lengths.{bytesOf-length, answer-length, answer-positive}
+use Rattle.model.proofs.Lengths.{bytesOf-length, answer-fits}
 use Rattle.tapes.proofs.Pieces.{run-step}
 use Rattle.tapes.specs.Tapes.{byteOf, entityBytes, operandsOf, EntityFits, Encodable, AllEncodable, tapeOf, afterOne, afterAll, answersTo, roomFor, ranAll}
 
@@ -119,10 +119,6 @@ after-append [] b s = refl
 after-append (c ∷ a) b s = after-append a b (afterOne c s)
 
 -- ---- a run
-
-answer-fits : (c : Command) (s : Store) (x : Outcome) → does c s ≡ x → length (answerOf x) ≤ answerLength c s
-answer-fits c s (refuses n) e = answer-positive c s
-answer-fits c s (accepts s′ a) e = omega (arith, answer-length c s s′ a e)
 
 step-whole : (c : Command) (rest : List ℕ) (room : ℕ) (s : Store) → Encodable c → answerLength c s ≤ room
     → step (byteOf c) (operandsOf c ++ rest) room s ≡ goes (suc (width (byteOf c))) (answerOf (does c s)) (afterOne c s)

@@ -41,8 +41,8 @@ pub record BuildSound (k : ℕ) (b : Build) : Type 0 where
   pub refusals : b .refusals ≤ MAX-REFUSALS
 
 -- a store's own, but for the counts of its groups
-abbrev pub partsOf : Store → Build
-partsOf s =
+abbrev pub buildOf : Store → Build
+buildOf s =
     record {
       kinds = s .kinds;
       layout = map (map zeroCount) (s .storage .layout);
