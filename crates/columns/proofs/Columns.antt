@@ -29,7 +29,7 @@ use Rattle.memory.specs.Meaning.{meaning}
 use Rattle.memory.specs.Arranged.{Arranged}
 use Rattle.kinds.specs.Kinds.{kindSet}
 use Rattle.kinds.specs.Steps.{InSlot}
-use Rattle.kinds.proofs.Slot.{known-slot}
+use Rattle.kinds.proofs.Slot.{known-slot, slot-alike}
 use Rattle.columns.specs.Parts.{rowPlace, RowsPart}
 use Rattle.columns.proofs.Pairs.{pairs-part, indexOf, versionOf, lowOf, highOf, entity-pairs, value-pairs}
 
@@ -57,6 +57,22 @@ module _ (k a e : ℕ) (s : Store) where
       pub column-within : a ≤ e → e ≤ length (setOf (s .storage .sets) k) → columnRefusal k a e s ≡ none
       unfolding columnRefusal
       column-within o t = rw (le-ltb LAST-KIND k h, u, le-ltb e a o, le-ltb (length (setOf (s .storage .sets) k)) e t)
+
+-- ---- where a row stands, by what the words mean alone
+
+pub row-alike : (w v : List ℕ) → Arranged w → Arranged v → meaning w ≡ meaning v → (values : Bool) (k a : ℕ) → In (meaning v .kinds) k → rowPlace values w k a ≡ rowPlace values v k a
+unfolding meaning
+row-alike w v A B e values k a i = go values
+  where
+    slot : slotOf w k ≡ slotOf v k
+    slot = slot-alike w v A B e k i
+
+    capacity : capacityOf w ≡ capacityOf v
+    capacity = ap (λ (x : Store). x .settings .capacity) e
+
+    go : (b : Bool) → rowPlace b w k a ≡ rowPlace b v k a
+    go false = λ j. columnStart (capacity j) (slot j) + ROWS + 2 * a
+    go true = λ j. columnStart (capacity j) (slot j) + ROWS + 2 * capacity j + 2 * a
 
 -- ---- the rows of a registered kind
 

@@ -17,7 +17,7 @@ pub fn contains(part: &[u32], n: usize, index: u32, version: u32) -> bool
     ensures { λ r. ⌜ r ≡ isLive (entity index version) (entitiesOf n (now (part .entry))) ⌝ }
 {
     let found = sparse_vec::get(part, n, index, version);
-    let Found::At(_) = found else {
+    let Found::At(place) = found else {
         return false;
     };
     true

@@ -3,15 +3,18 @@
 use mathlib.Core.Path.{_≡_, refl, sym, ap, _∙_, subst}
 use mathlib.Core.Logic.{_↔_}
 use mathlib.Core.Bool.{Bool, true, false, true≢false, false≢true}
+use mathlib.Core.Option.{Option, some, none}
 use mathlib.Core.List.{List, _++_}
 use Prim.Native.Nat.{ℕ, _+_, _*_}
 use native.Mathlib.Omega.{arith}
 use lib.ListN.{length, take, drop}
 use lib.Seq.{take-at}
 use denote.Ref.{RefT}
+use Rattle.model.specs.Store.{Store}
 use Rattle.model.specs.Refusals.{numberOf}
-use Rattle.model.specs.Entries.{Started, refusesStart, makes, start, Emitted, roll}
+use Rattle.model.specs.Entries.{Started, refusesStart, makes, start, columnRefusal, Emitted, roll}
 use Rattle.model.specs.Sound.{Limits}
+use Rattle.model.proofs.Entries.{column-accepted}
 use Rattle.model.proofs.Emitting.{emits-determined}
 use Rattle.model.specs.Theorems.{SameEmitted}
 use Rattle.words.specs.Decides.{Decides}
@@ -20,12 +23,13 @@ use Rattle.memory.specs.Meaning.{meaning}
 use Rattle.memory.specs.Arranged.{Sound}
 use Rattle.run.specs.declared.Ran.{Ran}
 use Rattle.store.specs.declared.Rolled.{Rolled}
-use Rattle.store.specs.declared.Written.{Written}
+use Rattle.store.specs.declared.Reply.{Reply}
 use Rattle.store.specs.Entries.{Needs, startNumber, StartLeaves, Starts, columnRefused, ColumnNumbered, columnWords, partPlace, ColumnPart, ranOf, Answered, RunLeaves, Runs, emittedOver, EmitsOver, Rolls}
 use Rattle.store.specs.Linked.{ColumnPlaced, copyTold, copied, ColumnCopied}
+use Rattle.columns.proofs.Columns.{row-alike}
 use Rattle.store.proofs.Starting.{start-number}
 use Rattle.model.specs.Run as model
-use Rattle.store.specs.Theorems.{Alike, SameStart, SameRun, SameWritten, SameCopied}
+use Rattle.store.specs.Theorems.{Alike, SameStart, SameRun, SameRolled, SameCopied}
 
 -- ---- words that no entry tells apart
 
@@ -71,11 +75,19 @@ column-place-determined v r q values k a e R Q =
     R .part .offset ∙ (λ i. partPlace (columnRefused (b i) k a e (meaning (v .now))) values (v .now) k a * 4 + v .ptr .1) ∙ sym (Q .part .offset) in
     λ i. (block i, offset i)
 
--- its place, of one store: as exported, a number of words
-pub column-at-determined : (w : List ℕ) (values : Bool) (k a e r q : ℕ) → ColumnPlaced w values k a e r → ColumnPlaced w values k a e q → r ≡ q
-column-at-determined w values k a e r q R Q =
-    let b : R .sound ≡ Q .sound = decides-same (R .sound) (Q .sound) (R .decides) (Q .decides) (alike-same w w refl .sound) in
-    R .place ∙ (λ i. partPlace (columnRefused (b i) k a e (meaning w)) values w k a) ∙ sym (Q .place)
+-- its place, as exported, a number of words: the slot of a column is of the meaning too
+pub column-at-determined : (w v : List ℕ) (values : Bool) (k a e r q : ℕ) → Alike w v → ColumnPlaced w values k a e r → ColumnPlaced v values k a e q → r ≡ q
+column-at-determined w v values k a e r q A R Q = go (R .sound) (Q .sound) (R .decides) (Q .decides) (R .place) (Q .place)
+  where
+    line : (o : Option ℕ) → columnRefusal k a e (meaning v) ≡ o → Sound w → Sound v → r ≡ partPlace o values w k a → q ≡ partPlace o values v k a → r ≡ q
+    line (some n) p S T x y = x ∙ sym y
+    line none p S T x y = x ∙ row-alike w v (S .arranged) (T .arranged) (A .means) values k a (column-accepted values k a e (meaning v) p .known) ∙ sym y
+
+    go : (b c : Bool) → Decides b (Sound w) → Decides c (Sound v) → r ≡ partPlace (columnRefused b k a e (meaning w)) values w k a → q ≡ partPlace (columnRefused c k a e (meaning v)) values v k a → r ≡ q
+    go false false d f x y = x ∙ sym y
+    go true false d f x y = absurd (f (A .sound .0 d))
+    go false true d f x y = absurd (d (A .sound .1 f))
+    go true true d f x y = line (columnRefusal k a e (meaning v)) refl d f (x ∙ ap (λ (s : Store). partPlace (columnRefusal k a e s) values w k a) (A .means)) y
 
 -- ---- run: equal tapes and lengths of the buffers
 
@@ -119,18 +131,18 @@ over-determined w v o p o′ p′ n k m j x y A e R Q =
     let b : R .sound ≡ Q .sound = decides-same (R .sound) (Q .sound) (R .decides) (Q .decides) (A .sound) in
     emits-determined o p o′ p′ n k m j (emittedOver (R .sound) x) (emittedOver (Q .sound) y) (λ i. emittedOver (b i) (e i)) (R .emits) (Q .emits)
 
-same-written : (o p o′ p′ : List ℕ) (r q : Rolled) → SameEmitted o p o′ p′ (r .number) (r .written) (q .number) (q .written) → SameWritten o p o′ p′ r q
-same-written o p o′ p′ r q E = record { result = λ i. record { number = E .number i; written = E .written i }; answers = E .answers; bytes = E .bytes }
+same-rolled : (o p o′ p′ : List ℕ) (r q : Rolled) → SameEmitted o p o′ p′ (r .number) (r .written) (q .number) (q .written) → SameRolled o p o′ p′ r q
+same-rolled o p o′ p′ r q E = record { result = λ i. record { number = E .number i; written = E .written i }; answers = E .answers; bytes = E .bytes }
 
-pub roll-determined : (w v o p o′ p′ : List ℕ) (r q : Rolled) → Alike w v → length o ≡ length p → Rolls w o o′ r → Rolls v p p′ q → SameWritten o p o′ p′ r q
+pub roll-determined : (w v o p o′ p′ : List ℕ) (r q : Rolled) → Alike w v → length o ≡ length p → Rolls w o o′ r → Rolls v p p′ q → SameRolled o p o′ p′ r q
 roll-determined w v o p o′ p′ r q A e R Q =
-    same-written o p o′ p′ r q
+    same-rolled o p o′ p′ r q
     (over-determined w v o p o′ p′ (r .number) (r .written) (q .number) (q .written) (roll (length o) (meaning w)) (roll (length p) (meaning v)) A (λ i. roll (e i) (A .means i)) R Q)
 
-same-copied : (o p o′ p′ : List ℕ) (r q : Written) → SameEmitted o p o′ p′ (r .number) (r .written) (q .number) (q .written) → SameCopied o p o′ p′ r q
+same-copied : (o p o′ p′ : List ℕ) (r q : Reply) → SameEmitted o p o′ p′ (r .number) (r .written) (q .number) (q .written) → SameCopied o p o′ p′ r q
 same-copied o p o′ p′ r q E = record { result = λ i. record { number = E .number i; written = E .written i }; answers = E .answers; words = E .bytes }
 
-pub column-copy-determined : (w v o p o′ p′ : List ℕ) (values : Bool) (k a e : ℕ) (r q : Written) → Alike w v → length o ≡ length p → ColumnCopied w o o′ values k a e r → ColumnCopied v p p′ values k a e q → SameCopied o p o′ p′ r q
+pub column-copy-determined : (w v o p o′ p′ : List ℕ) (values : Bool) (k a e : ℕ) (r q : Reply) → Alike w v → length o ≡ length p → ColumnCopied w o o′ values k a e r → ColumnCopied v p p′ values k a e q → SameCopied o p o′ p′ r q
 column-copy-determined w v o p o′ p′ values k a e r q A l R Q =
     same-copied o p o′ p′ r q
     (over-determined w v o p o′ p′ (r .number) (r .written) (q .number) (q .written) (copied (copyTold values k a e (length o) (meaning w))) (copied (copyTold values k a e (length p) (meaning v))) A

@@ -21,7 +21,7 @@ use Rattle.words.proofs.Decides.{decides-same, decides-true}
 use Rattle.memory.specs.Meaning.{meaning}
 use Rattle.memory.specs.Arranged.{Sound}
 use Rattle.columns.specs.Parts.{rowPlace}
-use Rattle.store.specs.declared.Written.{Written}
+use Rattle.store.specs.declared.Reply.{Reply}
 use Rattle.store.specs.Entries.{firstRefusal, columnRefused, ColumnNumbered, columnWords, partPlace, ColumnPart}
 use Rattle.store.specs.Linked.{ColumnPlaced, CopyTold, copyTold, toCopy, ofPart, roomLine, copyLines, copied, ColumnCopied, CopyWrote}
 use Rattle.store.specs.Theorems.{Judged}
@@ -74,7 +74,7 @@ placed-words w values k a e n r C R = (there, front)
 
 -- ---- the copy: "A refusal comes when its line holds and no line above does, else never"
 
-pub column-copy-refusals : (w o o′ : List ℕ) (values : Bool) (k a e : ℕ) (r : Written) → ColumnCopied w o o′ values k a e r → Judged w copyLines (copyTold values k a e (length o) (meaning w)) (r .number)
+pub column-copy-refusals : (w o o′ : List ℕ) (values : Bool) (k a e : ℕ) (r : Reply) → ColumnCopied w o o′ values k a e r → Judged w copyLines (copyTold values k a e (length o) (meaning w)) (r .number)
 column-copy-refusals w o o′ values k a e r R =
     let told : CopyTold = copyTold values k a e (length o) (meaning w) in
     over-refusals copyLines told (toCopy told) NOROOM BEYOND (omega arith) w o o′ (r .number) (r .written) (omega arith) R
@@ -98,18 +98,18 @@ copy-order-free c =
     by-refusal (some n) p = rw (copy-order c n (first-exact columnLines (c .part) n .0 p))
 
 -- a number of column is the copy's
-pub copy-number : (w o o′ : List ℕ) (values : Bool) (k a e n : ℕ) (r : Written) → ColumnNumbered w k a e n → 1 ≤ n → ColumnCopied w o o′ values k a e r → r .number ≡ n
+pub copy-number : (w o o′ : List ℕ) (values : Bool) (k a e n : ℕ) (r : Reply) → ColumnNumbered w k a e n → 1 ≤ n → ColumnCopied w o o′ values k a e r → r .number ≡ n
 copy-number w o o′ values k a e n r C h R =
-    let q : Written = record { number = n; written = 0 } in
+    let q : Reply = record { number = n; written = 0 } in
     let Q : ColumnCopied w o o values k a e q = numbered-copy w o values k a e n C (λ z. omega (arith, z, h)) in
-    ap (λ (x : Written). x .number) (column-copy-determined w w o o o′ o values k a e r q (alike-same w w refl) refl R Q .result)
+    ap (λ (x : Reply). x .number) (column-copy-determined w w o o o′ o values k a e r q (alike-same w w refl) refl R Q .result)
 
 -- "every refusal outside a run, change no lent memory, with zeros beside the number"
-pub refused-copy-changes-nothing : (w o o′ : List ℕ) (values : Bool) (k a e : ℕ) (r : Written) → ColumnCopied w o o′ values k a e r → 1 ≤ r .number → (o′ ≡ o) × (r .written ≡ 0)
+pub refused-copy-changes-nothing : (w o o′ : List ℕ) (values : Bool) (k a e : ℕ) (r : Reply) → ColumnCopied w o o′ values k a e r → 1 ≤ r .number → (o′ ≡ o) × (r .written ≡ 0)
 refused-copy-changes-nothing w o o′ values k a e r R h = over-refused w o o′ (r .number) (r .written) (copied (copyTold values k a e (length o) (meaning w))) R h
 
 -- what an accepted one wrote
-pub column-copied : (w o o′ : List ℕ) (values : Bool) (k a e : ℕ) (r : Written) → ColumnCopied w o o′ values k a e r → r .number ≡ 0 → CopyWrote w o o′ values k a e r
+pub column-copied : (w o o′ : List ℕ) (values : Bool) (k a e : ℕ) (r : Reply) → ColumnCopied w o o′ values k a e r → r .number ≡ 0 → CopyWrote w o o′ values k a e r
 unfolding columnRefusal
 column-copied w o o′ values k a e r R z =
     let s = meaning w in
@@ -129,7 +129,7 @@ column-copied w o o′ values k a e r R z =
     }
 
 -- these are the words of the part that column hands back
-pub copied-part : (v p : RefT (List ℕ)) (o o′ : List ℕ) (values : Bool) (k a e : ℕ) (r : Written) → ColumnPart v p values k a e → ColumnCopied (v .now) o o′ values k a e r → r .number ≡ 0 → take (r .written) o′ ≡ p .now
+pub copied-part : (v p : RefT (List ℕ)) (o o′ : List ℕ) (values : Bool) (k a e : ℕ) (r : Reply) → ColumnPart v p values k a e → ColumnCopied (v .now) o o′ values k a e r → r .number ≡ 0 → take (r .written) o′ ≡ p .now
 copied-part v p o o′ values k a e r P R z =
     let W = column-copied (v .now) o o′ values k a e r R z in
     W .words ∙ sym (go (P .sound) (P .decides) (P .words) (W .sound))

@@ -14,7 +14,7 @@ use Rattle.words.specs.Decides.{Decides}
 use Rattle.memory.specs.Meaning.{meaning}
 use Rattle.memory.specs.Arranged.{Sound}
 use Rattle.run.specs.declared.Ran.{Ran}
-use Rattle.store.specs.declared.Written.{Written}
+use Rattle.store.specs.declared.Reply.{Reply}
 use Rattle.store.specs.declared.exports.ExportedRan.{ExportedRan}
 use Rattle.store.specs.Entries.{columnRefused, columnWords, partPlace, EmitsOver}
 
@@ -63,11 +63,11 @@ abbrev pub copied : CopyTold → Emitted
 copied c = emitted copyLines c (toCopy c)
 
 -- the column of the words w, copied into the words o, which it leaves as o′
-abbrev pub ColumnCopied : List ℕ → List ℕ → List ℕ → Bool → ℕ → ℕ → ℕ → Written → Type 0
+abbrev pub ColumnCopied : List ℕ → List ℕ → List ℕ → Bool → ℕ → ℕ → ℕ → Reply → Type 0
 ColumnCopied w o o′ values k a e r = EmitsOver w o o′ (r .number) (r .written) (copied (copyTold values k a e (length o) (meaning w)))
 
 -- what an accepted copy did: column accepts its operands, two words a row had room, they are column's words, and "the bytes past those written .. stay"
-pub record CopyWrote (w o o′ : List ℕ) (values : Bool) (k a e : ℕ) (r : Written) : Type 0 where
+pub record CopyWrote (w o o′ : List ℕ) (values : Bool) (k a e : ℕ) (r : Reply) : Type 0 where
   pub sound : Sound w
   pub accepted : NoneHolds columnLines (record { kind = k; start = a; end = e; store = meaning w })
   pub count : r .written ≡ 2 * (e - a)

@@ -9,7 +9,7 @@ use lib.ListN.{take}
 use Rattle.memory.specs.Meaning.{meaning}
 use Rattle.run.specs.declared.Ran.{Ran}
 use Rattle.store.specs.declared.Rolled.{Rolled}
-use Rattle.store.specs.declared.Written.{Written}
+use Rattle.store.specs.declared.Reply.{Reply}
 use Rattle.model.specs.Store.{Store, counted}
 use Rattle.model.specs.Sound.{GroupsRight, GroupsBetween}
 use Rattle.model.specs.Numbers.{UNSOUND}
@@ -30,7 +30,8 @@ pub record RefusalAlone (s t : Store) : Type 0 where
   -- "a tally of refused commands that stays at 4,294,967,295"
   pub counts : t .control .counts ≡ counted (s .control) .counts
 
--- words that no entry tells apart
+-- words of one meaning, sound or not alike: *run*, *roll* and *column*, its number, place and copy do not tell them apart (proofs/Determined.antt);
+-- *start* looks at nothing but how many they are
 pub record Alike (w v : List ℕ) : Type 0 where
   pub means : meaning w ≡ meaning v
   pub sound : Sound w ↔ Sound v
@@ -41,7 +42,7 @@ pub record SameStart (w v w′ v′ : List ℕ) (r q : ℕ) : Type 0 where
   pub made : r ≡ 0 → meaning w′ ≡ meaning v′
   pub refused : 1 ≤ r → (w′ ≡ w) × (v′ ≡ v)
 
--- two runs of one tape: the same result, the same answers, words that no entry tells apart
+-- two runs of one tape: the same result, the same answers, words that are alike
 pub record SameRun (o p w′ v′ o′ p′ : List ℕ) (r q : Ran) : Type 0 where
   pub result : r ≡ q
   pub alike : Alike w′ v′
@@ -50,14 +51,14 @@ pub record SameRun (o p w′ v′ o′ p′ : List ℕ) (r q : Ran) : Type 0 whe
   pub bytes : o ≡ p → o′ ≡ p′
 
 -- two entries that wrote: the same result and the same bytes
-pub record SameWritten (o p o′ p′ : List ℕ) (r q : Rolled) : Type 0 where
+pub record SameRolled (o p o′ p′ : List ℕ) (r q : Rolled) : Type 0 where
   pub result : r ≡ q
   pub answers : take (r .written) o′ ≡ take (q .written) p′
   -- bytes that were equal stay equal
   pub bytes : o ≡ p → o′ ≡ p′
 
 -- two copies, or two entries that answer as a copy does: the same result and the same words
-pub record SameCopied (o p o′ p′ : List ℕ) (r q : Written) : Type 0 where
+pub record SameCopied (o p o′ p′ : List ℕ) (r q : Reply) : Type 0 where
   pub result : r ≡ q
   pub answers : take (r .written) o′ ≡ take (q .written) p′
   -- words that were equal stay equal

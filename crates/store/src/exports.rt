@@ -1,7 +1,7 @@
 // The entries for C and Rust, under plain names. An exported function returns no part of a slice, so that *column* comes as the part's place in the
 // words, and as a copy.
+use crate::Reply;
 use crate::Rolled;
-use crate::Written;
 use model::refusals::NOROOM;
 ghost use Rattle.store.specs.Entries.{Needs, Starts, Runs, ColumnNumbered, Rolls};
 ghost use Rattle.store.specs.Linked.{asRan, ColumnPlaced, ColumnCopied};
@@ -81,12 +81,12 @@ pub extern "C" fn yirbarn_column(
     start: usize,
     end: usize,
     out: &mut [u32],
-) -> Written
+) -> Reply
     ensures { λ r. ⌜ ColumnCopied (now (words .entry)) (now (out .entry)) (now (out .exit)) values kind start end r ⌝ }
 {
     let number = crate::column_number(words, kind, values, start, end);
     if number != 0 {
-        return Written {
+        return Reply {
             number: number,
             written: 0,
         };
@@ -94,13 +94,13 @@ pub extern "C" fn yirbarn_column(
     let part = columns::rows(words, kind as usize, values, start, end);
     let count = part.len();
     if out.len() < count {
-        return Written {
+        return Reply {
             number: NOROOM,
             written: 0,
         };
     }
     columns::copy(part, out);
-    Written {
+    Reply {
         number: 0,
         written: count,
     }

@@ -19,7 +19,7 @@ pub struct Rolled {
 
 // What other entries that write answer: 0 and how many words or bytes, or the number of a refusal and 0.
 #[repr(C)]
-pub struct Written {
+pub struct Reply {
     pub number: u8,
     pub written: usize,
 }
