@@ -1,6 +1,6 @@
 -- A run goes on where it stopped: a tape run in pieces, each from the byte where the last stopped, does what one run does. Assumes nothing.
 use mathlib.Core.Path.{_≡_, refl, ap, ap₂, sym, _∙_, subst}
-use mathlib.Core.Logic.{_≢_, inl, inr, ⊎-elim}
+use mathlib.Core.Logic.{_≢_}
 use mathlib.Core.Bool.{false}
 use mathlib.Core.Option.{Option}
 use mathlib.Core.List.{List, [], _∷_, _++_, append-assoc, append-nil}
@@ -10,7 +10,7 @@ use native.Mathlib.Nat.{zero-add, add-assoc, suc-add, sub-zero}
 use borrow.Author.Tests.{ltb-false, le-ltb}
 use lib.Dec.{ltb}
 use lib.ListN.{length, take, drop, length-append, length-drop}
-use lib.Seq.{take-append-le, drop-append-le, drop-drop, drop-at}
+use lib.Seq.{take-append-le, drop-append-le, drop-drop}
 use Rattle.model.specs.Numbers.{NOROOM}
 use Rattle.model.specs.Store.{Store}
 use Rattle.model.specs.Commands.{width, isCommand, commandAt, answerLength}
@@ -19,8 +19,8 @@ use Rattle.model.specs.Run.{does, Step, stops, goes, stepOf, stepIf, step, Ran,
 use Rattle.model.specs.Theorems.{IfGoes, StepFits}
 use Rattle.model.proofs.BoolLaws.{bool-cases}
 use Rattle.model.proofs.Lines.{none-from}
-use Rattle.model.proofs.Lengths.{step-case, step-lengths, run-fits}
-use Rattle.tapes.specs.Pieces.{inTurn, Enough}
+use Rattle.model.proofs.Lengths.{step-case, step-lengths}
+use Rattle.tapes.specs.Pieces.{inTurn}
 
 -- ---- one step
 
@@ -51,15 +51,12 @@ step-stopped b t room room′ s n e h =
     (λ cut. rw (known, cut) (rw (known, cut) at e))
     (λ whole.
     bool-cases (ltb room (answerLength (commandAt b (take (width b) t)) s))
-    (λ short. absurd (h (sym (stops-eq (rw (known, whole, short) at e)))))
-    (λ fits. absurd (goes-stops (rw (known, whole, fits) at e)))))
+    (λ short. let p : stops NOROOM ≡ stops n = rw (known, whole, short) at e in let z : n ≡ NOROOM = cc in absurd (h z))
+    (λ fits.
+    let p : stepOf (suc (width b)) s (does (commandAt b (take (width b) t)) s) ≡ stops n = rw (known, whole, fits) at e in
+    let z : _≡_ {A = ℕ} 0 1 = cc in
+    absurd (omega arith))))
     (λ unknown. rw unknown (rw unknown at e))
-  where
-    stops-eq : {i j : ℕ} → stops i ≡ stops j → i ≡ j
-    stops-eq p = cc
-
-    goes-stops : {w i : ℕ} {a : List ℕ} {s′ : Store} → goes w a s′ ≡ stops i → ⊥
-    goes-stops p = let z : _≡_ {A = ℕ} 0 1 = cc in omega arith
 
 -- ---- a run, by its next step
 
@@ -177,38 +174,3 @@ roomier-for (suc fuel) (b ∷ t) room room′ s h n = go (step b t room s) refl 
 pub run-roomier : (t : List ℕ) (room room′ : ℕ) (s : Store) → room ≤ room′ → run t room s .stop ≢ NOROOM → run t room′ s ≡ run t room s
 unfolding run
 run-roomier t room room′ s h n = roomier-for (length t) t room room′ s h n
-
--- or with as much
-pub run-enough : (t : List ℕ) (room room′ : ℕ) (s : Store) → Enough room′ room (run t room s .stop) → run t room′ s ≡ run t room s
-run-enough t room room′ s e = ⊎-elim (λ same. ap (λ (k : ℕ). run t k s) same) (λ m. run-roomier t room room′ s (m .1) (m .0)) e
-
--- ---- with a fresh buffer
-
--- what is left of the room does in place of the second piece's buffer
-pub enough-left : (room written fresh stop : ℕ) → Enough room (written + fresh) stop → Enough (room - written) fresh stop
-enough-left room written fresh stop e = ⊎-elim (λ same. inl (omega (arith, same))) (λ m. inr (m .0, omega (arith, m .1))) e
-
--- so the second piece may have a buffer of any size, if the one run has room for both
-pub run-resumed : (t u : List ℕ) (room fresh room′ : ℕ) (s : Store) → room ≤ room′
-    → Enough room′ (length (run t room s .bytes) + fresh) (run (drop (run t room s .read) (t ++ u)) fresh (run t room s .store) .stop)
-    → run (t ++ u) room′ s ≡ inTurn (run t room s) (run (drop (run t room s .read) (t ++ u)) fresh (run t room s .store))
-run-resumed t u room fresh room′ s h e =
-    run-pieces t u room room′ s h
-    ∙ ap (inTurn a) (run-enough (drop (a .read) (t ++ u)) fresh (room′ - length (a .bytes)) (a .store) (enough-left room′ (length (a .bytes)) fresh (run (drop (a .read) (t ++ u)) fresh (a .store) .stop) e))
-  where
-    a : Ran
-    a = run t room s
-
--- cut between two commands, so that the first piece is run to its end: the second is the rest of the tape
-pub run-cut : (t u : List ℕ) (room fresh room′ : ℕ) (s : Store) → run t room s .stop ≡ 0 → room ≤ room′
-    → Enough room′ (length (run t room s .bytes) + fresh) (run u fresh (run t room s .store) .stop)
-    → run (t ++ u) room′ s ≡ inTurn (run t room s) (run u fresh (run t room s .store))
-run-cut t u room fresh room′ s z h e =
-    let rest : drop (run t room s .read) (t ++ u) ≡ u = drop-at t u (run t room s .read) (sym (run-fits t room s .end z)) in
-    rw rest at (run-resumed t u room fresh room′ s h (rw rest e))
-
--- stopped for want of room (6), or by 4 or 5: the same tape from there on
-pub run-stopped : (t : List ℕ) (room fresh room′ : ℕ) (s : Store) → room ≤ room′
-    → Enough room′ (length (run t room s .bytes) + fresh) (run (drop (run t room s .read) t) fresh (run t room s .store) .stop)
-    → run t room′ s ≡ inTurn (run t room s) (run (drop (run t room s .read) t) fresh (run t room s .store))
-run-stopped t room fresh room′ s h e = rw (append-nil t) at (run-resumed t [] room fresh room′ s h (rw (append-nil t) e))
