@@ -14,7 +14,7 @@ use Rattle.model.proofs.Lengths.{run-fits}
 use Rattle.tapes.specs.Pieces.{inTurn}
 use Rattle.tapes.proofs.Pieces.{run-pieces, run-roomier}
 use Rattle.words.specs.Decides.{Decides}
-use Rattle.words.proofs.Decides.{decides-same}
+use Rattle.words.proofs.Decides.{decides-same, decides-on}
 use Rattle.memory.specs.Meaning.{meaning}
 use Rattle.memory.specs.Arranged.{Sound}
 use Rattle.run.specs.declared.Ran.{Ran}
@@ -84,11 +84,6 @@ module _ (w w′ t o o′ : List ℕ) (r : Ran) (R : Runs w w′ t o o′ r) whe
         answers = λ i. same i .bytes;
         alike = record { means = λ i. same i .store; sound = ((λ S. e .0 (run-sound .1 S)), (λ S. run-sound .0 (e .1 S))) };
       }
-
--- what is decided of a proposition is decided of one that comes to the same
-decides-on : {P Q : Type 0} (b : Bool) → P ↔ Q → Decides b P → Decides b Q
-decides-on true e d = e .0 d
-decides-on false e d = λ q. d (e .1 q)
 
 -- ---- a tape fed in pieces
 

@@ -37,6 +37,11 @@ decides-same true false p q e = absurd (q (e .0 p))
 decides-same false true p q e = absurd (p (e .1 q))
 decides-same false false p q e = refl
 
+-- what is decided of a proposition is decided of one that comes to the same
+pub decides-on : {P Q : Type 0} (b : Bool) → P ↔ Q → Decides b P → Decides b Q
+decides-on true e d = e .0 d
+decides-on false e d = λ q. d (e .1 q)
+
 -- a check whose answer is a test's decides that the test is true
 pub decides-test : (b t : Bool) → b ≡ t → Decides b (t ≡ true)
 decides-test true t e = sym e
