@@ -13,7 +13,7 @@ use lib.ListN.{length, getD, take, drop, length-append, length-map}
 use lib.Seq.{take-at, drop-at, length-slice}
 use denote.Ref.{RefT}
 use Rattle.model.specs.Numbers.{NOROOM, RANGE-BYTE}
-use Rattle.model.specs.Model.{Entity, SparseSet, Storage, noEntity, sameEntity, setOf, keys, entityOf}
+use Rattle.model.specs.Model.{Entity, SparseSet, noEntity, sameEntity, setOf, keys, entityOf}
 use Rattle.model.specs.Store.{Store, Bytes, stagedKinds, withControl, emptyBoth}
 use Rattle.model.specs.Commands.{Command, RANGE, accepted}
 use Rattle.model.specs.Refusals.{First, numberOf, linesOf}
@@ -22,7 +22,7 @@ use Rattle.model.specs.Run as model
 use Rattle.model.specs.Snapshot.{valueAt}
 use Rattle.model.specs.Entries.{rowValue, part, partWords, columnRefusal}
 use Rattle.model.specs.Sound.{In, key, StoreSound}
-use Rattle.model.specs.Shown.{Showing, Shows, foundIn, startIn, endIn, RangeAnswer, Hold}
+use Rattle.model.specs.Shown.{Showing, foundIn, startIn, endIn, RangeAnswer, Hold}
 use Rattle.model.proofs.BoolLaws.{bool-cases}
 use Rattle.model.proofs.ListLaws.{count-at}
 use Rattle.model.proofs.SparseSets.{entity-same}
@@ -30,7 +30,7 @@ use Rattle.model.proofs.Entries.{column-accepted}
 use Rattle.model.proofs.Lengths.{run-fits}
 use Rattle.model.proofs.Lines.{first-exact}
 use Rattle.model.proofs.Outcomes.{range-does}
-use Rattle.model.proofs.Ranges.{range-answer, rows-hold}
+use Rattle.model.proofs.Ranges.{range-answer, range-stays, rows-hold}
 use Rattle.model.proofs.Sound.{run-keeps}
 use Rattle.words.specs.Decides.{Decides}
 use Rattle.words.proofs.Decides.{decides-same}
@@ -67,7 +67,7 @@ ranges-in S (refused w {t = t} {b = b} {n = n} h f m s c) =
     ((λ e. absurd (range-unrefused (meaning w) n (subst (λ (k : Command). First (linesOf k) (meaning w) n) e f))), ranges-in s c)
 ranges-in S (done w w₁ {t = t} {bytes = bytes} {b = b} h n m s c) = (
   λ e.
-  subst (λ (k : Command). RangeAnswer (stagedKinds (meaning w)) (meaning w .control .excluded) (meaning w) (take 10 (0 ∷ accepted k (meaning w) .answer ++ bytes))) (sym e)
+      subst (λ (k : Command). RangeAnswer (stagedKinds (meaning w)) (meaning w .control .excluded) (meaning w) (take 10 (0 ∷ accepted k (meaning w) .answer ++ bytes))) (sym e)
       (range-bytes (meaning w) bytes (S .means)),
   ranges-in s c,
 )
@@ -76,20 +76,6 @@ ranges-in S (done w w₁ {t = t} {bytes = bytes} {b = b} h n m s c) = (
 pub ranges-in-run : (w w′ t o o′ : List ℕ) (r : Ran) (R : Runs w w′ t o o′ r) (S : Sound w)
     → EachAnswer (λ v k l. k ≡ RANGE → RangeAnswer (stagedKinds (meaning v)) (meaning v .control .excluded) (meaning v) (take 10 l)) (run-course w w′ t o o′ r R S)
 ranges-in-run w w′ t o o′ r R S = ranges-in S (run-course w w′ t o o′ r R S)
-
--- ---- they stay true while no row moves
-
-pub range-stays : (h b : List ℕ) (s s′ : Store) (bytes : List ℕ) → s .storage ≡ s′ .storage → s .entities .live ≡ s′ .entities .live → RangeAnswer h b s bytes → RangeAnswer h b s′ bytes
-range-stays h b s s′ bytes p q A =
-    record {
-      size = A .size;
-      either = A .either;
-      found = subst (λ (c : Storage). (foundIn bytes ≡ 1) ↔ Shows h b (c .layout)) p (A .found);
-      shows =
-          λ f.
-          subst (λ (l : List Entity). Showing (s′ .storage .sets) l h b (startIn bytes) (endIn bytes)) q
-              (subst (λ (c : Storage). Showing (c .sets) (s .entities .live) h b (startIn bytes) (endIn bytes)) p (A .shows f));
-    }
 
 -- ---- RANGE at a tape's end
 
