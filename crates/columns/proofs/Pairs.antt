@@ -35,6 +35,22 @@ module _ {A : Type 0} (low high : A → ℕ) where
         ∙ (λ i. lo i ∷ hi i ∷ rest i)
         ∙ sym (ap (λ (n : ℕ). take n (drop p w)) two ∙ ap (take (suc (suc (2 * m)))) words)
 
+-- the words of the item at a place
+module _ {A : Type 0} (low high : A → ℕ) (d : A) where
+  pub pair-low : (l : List A) (i : ℕ) → i < length l → getD (pairs low high l) (2 * i) 0 ≡ low (getD l i d)
+  pair-low [] i h = absurd (omega arith)
+  pair-low (x ∷ l) zero h = refl
+  pair-low (x ∷ l) (suc i) h =
+      let two : 2 * suc i ≡ suc (suc (2 * i)) = omega arith in
+      ap (λ (n : ℕ). getD (pairs low high (x ∷ l)) n 0) two ∙ pair-low l i (omega arith)
+
+  pub pair-high : (l : List A) (i : ℕ) → i < length l → getD (pairs low high l) (2 * i + 1) 0 ≡ high (getD l i d)
+  pair-high [] i h = absurd (omega arith)
+  pair-high (x ∷ l) zero h = refl
+  pair-high (x ∷ l) (suc i) h =
+      let two : 2 * suc i + 1 ≡ suc (suc (2 * i + 1)) = omega arith in
+      ap (λ (n : ℕ). getD (pairs low high (x ∷ l)) n 0) two ∙ pair-high l i (omega arith)
+
 -- ---- the two kinds of items
 
 abbrev pub indexOf : Entity → ℕ

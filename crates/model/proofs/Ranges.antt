@@ -7,21 +7,19 @@ use mathlib.Core.Option.{Option, some, none}
 use mathlib.Core.List.{List, [], _∷_, _++_, map, map-map, append-assoc, append-nil}
 use Prim.Native.Nat.{ℕ, zero, suc, _+_, _-_, _≤_, _<_}
 use native.Mathlib.Omega.{arith}
-use borrow.Author.Tests.{eqb-true, eq-eqb, lt-ltb, le-ltb}
+use borrow.Author.Tests.{eqb-true, eq-eqb, lt-ltb}
 use lib.Dec.{eqb}
 use lib.ListN.{length, take, drop, getD, length-drop, length-map, List·getD-map, take-append-drop}
 use lib.Seq.{length-take-le, take-all, drop-cons}
 use Rattle.model.proofs.ListLaws.{count-append, count-kept, count-length, count-length-le, length-zero, map-at, map-drop, map-take, place-once}
-use Rattle.model.specs.Numbers.{MAX-ENTITIES, RANGE-BYTE}
-use Rattle.model.specs.Model.{Entity, Row, SparseSet, Group, Family, Range, none, found, sameEntity, noEntity, noRow, sameSet, setOf, entityOf, keys, at, held, allHeld, headKind, kindsOf, newGroup, firstRange, rangeAt, rangeIn, rangeAll, single, rangeFor}
-use Rattle.model.specs.Store.{Store, bytesOf, number, stagedKinds, withControl, emptyBoth}
+use Rattle.model.specs.Numbers.{MAX-ENTITIES}
+use Rattle.model.specs.Model.{Entity, Row, SparseSet, Storage, Group, Family, Range, none, found, sameEntity, noEntity, noRow, sameSet, setOf, entityOf, keys, at, held, allHeld, headKind, kindsOf, newGroup, firstRange, rangeAt, rangeIn, rangeAll, single, rangeFor}
+use Rattle.model.specs.Store.{Store, bytesOf, number, stagedKinds}
 use Rattle.model.specs.Commands.{RANGE, rangeBytes, accepted}
-use Rattle.model.specs.Refusals.{firstLine, beforeLines}
-use Rattle.model.specs.Run.{does, Step, stops, goes, stepOf, stepIf, step, Ran, halt, more, runFor, run}
 use Rattle.model.specs.Snapshot.{valueAt}
 use Rattle.model.specs.Entries.{rowValue, part}
 use Rattle.model.specs.Sound.{cnt, In, key, holders, Distinct, layoutKinds, Rising, BuildableFamilies, Right, RightFrom, AllRight, Between, StoreSound}
-use Rattle.model.specs.Shown.{lacking, described, Showing, EqualGroup, EqualNewKinds, Shows, oneKind, aGroup, twoGroups, RangeAnswer, Hold}
+use Rattle.model.specs.Shown.{lacking, described, Showing, EqualGroup, EqualNewKinds, Shows, oneKind, aGroup, twoGroups, foundIn, startIn, endIn, RangeAnswer, Hold}
 use Rattle.model.proofs.SparseSets.{entity-eq, entity-same}
 use Rattle.model.proofs.BoolLaws.{cond-case, cond-not, and-left, and-right, bool-cases}
 use Rattle.model.proofs.Walk.{held-count, lacks-count}
@@ -30,8 +28,6 @@ use Rattle.model.proofs.Invariant.{holders-count}
 use Rattle.model.proofs.Numbers.{live-once, live-few}
 use Rattle.model.proofs.Operations.{sound-held}
 use Rattle.model.proofs.Demand.{between}
-use Rattle.model.proofs.Lines.{none-from}
-use Rattle.model.proofs.Outcomes.{range-does}
 use Rattle.model.proofs.Encoding.{number-bytes}
 
 -- ---- equal sets
@@ -370,18 +366,18 @@ range-answer s S = go (rangeFor (stagedKinds s) (s .control .excluded) (s .stora
           shows = λ z. rw (starts, ends) W;
         }
 
--- a run of RANGE alone, with room for its ten bytes
-range-step : (room : ℕ) (s : Store) → 10 ≤ room → step RANGE-BYTE [] room s ≡ goes 1 (0 ∷ accepted RANGE s .answer) (accepted RANGE s .store)
-unfolding step
-range-step room s h =
-    let passed : firstLine beforeLines (record { byte = RANGE-BYTE; rest = []; room = room; store = s }) ≡ none = none-from beforeLines (record { byte = RANGE-BYTE; rest = []; room = room; store = s }) (refl, (refl, (le-ltb room 10 h, tt))) in
-    ap (λ (x : Option ℕ). stepIf x (stepOf 1 s (does RANGE s))) passed ∙ ap (stepOf 1 s) (range-does s)
-
-pub range-run : (room : ℕ) (s : Store) → 10 ≤ room → run (RANGE-BYTE ∷ []) room s ≡ record { store = withControl s (emptyBoth (s .control)); stop = 0; commands = 1; read = 1; bytes = 0 ∷ accepted RANGE s .answer }
-unfolding run runFor accepted
-range-run room s h =
-    ap (λ (p : Step). elim p as (λ p. Ran) [ stops n ↦ halt n s | goes w a s′ ↦ more w a (runFor 0 (drop w (RANGE-BYTE ∷ [])) (room - length a) s′) ]) (range-step room s h)
-    ∙ (λ i. record { store = withControl s (emptyBoth (s .control)); stop = 0; commands = 1; read = 1; bytes = 0 ∷ append-nil (accepted RANGE s .answer) i })
+-- and in every other store with the same components, groups and live entities
+pub range-stays : (h b : List ℕ) (s s′ : Store) (bytes : List ℕ) → s .storage ≡ s′ .storage → s .entities .live ≡ s′ .entities .live → RangeAnswer h b s bytes → RangeAnswer h b s′ bytes
+range-stays h b s s′ bytes p q A =
+    record {
+      size = A .size;
+      either = A .either;
+      found = subst (λ (c : Storage). (foundIn bytes ≡ 1) ↔ Shows h b (c .layout)) p (A .found);
+      shows =
+          λ f.
+          subst (λ (l : List Entity). Showing (s′ .storage .sets) l h b (startIn bytes) (endIn bytes)) q
+          (subst (λ (c : Storage). Showing (c .sets) (s .entities .live) h b (startIn bytes) (endIn bytes)) p (A .shows f));
+    }
 
 -- ---- the values at a range's places are those of the entities there, since an entity stands once in a sparse set
 

@@ -1,92 +1,200 @@
 -- RANGE over the words: what its ten answer bytes tell, and what *column* hands back from the start to the end that they tell. Theorems over the
 -- contracts of *run* and *column* alone (specs/Entries.antt). Assumes nothing.
 use mathlib.Core.Path.{_≡_, refl, sym, ap, _∙_, subst}
+use mathlib.Core.Logic.{_↔_}
 use mathlib.Core.Bool.{Bool, true, false}
 use mathlib.Core.Option.{Option, some, none}
-use mathlib.Core.List.{List, [], _∷_, _++_, map, head-eq-of-cons-eq, tail-eq-of-cons-eq, cons≢nil}
+use mathlib.Core.List.{List, [], _∷_, _++_, map, append-assoc, append-nil, head-eq-of-cons-eq, tail-eq-of-cons-eq, cons≢nil}
 use Prim.Native.Nat.{ℕ, zero, suc, _+_, _*_, _-_, _≤_, _<_}
 use native.Mathlib.Omega.{arith}
-use lib.ListN.{length, getD, take, drop, length-map}
-use lib.Seq.{drop-at, length-slice}
+use borrow.Author.Tests.{ltb-false}
+use lib.Dec.{ltb}
+use lib.ListN.{length, getD, take, drop, length-append, length-map}
+use lib.Seq.{take-at, drop-at, length-slice}
 use denote.Ref.{RefT}
-use Rattle.model.specs.Numbers.{RANGE-BYTE}
+use Rattle.model.specs.Numbers.{NOROOM, RANGE-BYTE}
 use Rattle.model.specs.Model.{Entity, SparseSet, noEntity, sameEntity, setOf, keys, entityOf}
-use Rattle.model.specs.Store.{Store, stagedKinds, withControl, emptyBoth}
-use Rattle.model.specs.Commands.{RANGE, accepted}
-use Rattle.model.specs.Refusals.{numberOf}
+use Rattle.model.specs.Store.{Store, Bytes, stagedKinds, withControl, emptyBoth}
+use Rattle.model.specs.Commands.{Command, RANGE, accepted}
+use Rattle.model.specs.Refusals.{First, numberOf, linesOf}
+use Rattle.model.specs.Run.{Outcome, storeAfter, answerOf, Step, stops, goes, step, halt, more, runFor, run}
 use Rattle.model.specs.Run as model
 use Rattle.model.specs.Snapshot.{valueAt}
 use Rattle.model.specs.Entries.{rowValue, part, partWords, columnRefusal}
-use Rattle.model.specs.Sound.{In, key}
+use Rattle.model.specs.Sound.{In, key, StoreSound}
 use Rattle.model.specs.Shown.{Showing, foundIn, startIn, endIn, RangeAnswer, Hold}
+use Rattle.model.proofs.BoolLaws.{bool-cases}
 use Rattle.model.proofs.ListLaws.{count-at}
 use Rattle.model.proofs.SparseSets.{entity-same}
 use Rattle.model.proofs.Entries.{column-accepted}
-use Rattle.model.proofs.Ranges.{range-answer, range-run, rows-hold}
+use Rattle.model.proofs.Lengths.{run-fits}
+use Rattle.model.proofs.Lines.{first-exact}
+use Rattle.model.proofs.Outcomes.{range-does}
+use Rattle.model.proofs.Ranges.{range-answer, range-stays, rows-hold}
+use Rattle.model.proofs.Sound.{run-keeps}
 use Rattle.words.specs.Decides.{Decides}
+use Rattle.words.proofs.Decides.{decides-same}
+use Rattle.tapes.specs.Pieces.{inTurn}
+use Rattle.tapes.proofs.Pieces.{run-pieces}
+use Rattle.tapes.proofs.Tapes.{run-commands}
 use Rattle.component.specs.SparseSet.{valueOf}
 use Rattle.memory.specs.Meaning.{meaning}
 use Rattle.memory.specs.Arranged.{Sound}
 use Rattle.run.specs.declared.Ran.{Ran}
-use Rattle.store.specs.Entries.{columnRefused, ColumnNumbered, columnWords, ColumnPart, ranOf, RunLeaves, Runs}
+use Rattle.store.specs.Course.{Course, ended, stopped, refused, done, EachAnswer}
+use Rattle.store.specs.Entries.{columnRefused, ColumnNumbered, columnWords, ColumnPart, ranOf, Runs}
 use Rattle.store.specs.Ranging.{RangeRan, ColumnsShown, RowOf, OneEntity}
-use Rattle.columns.proofs.Pairs.{pairs, indexOf, versionOf, lowOf, highOf, entity-pairs, value-pairs}
+use Rattle.columns.proofs.Pairs.{pairs, pair-low, pair-high, indexOf, versionOf, lowOf, highOf, entity-pairs, value-pairs}
 use Rattle.columns.proofs.Columns.{column-within}
-use Rattle.store.proofs.Determined.{answer-bytes}
+use Rattle.store.proofs.Demands.{run-course, run-keeps-sound}
 
--- ---- the ten bytes
+-- ---- the ten bytes of each RANGE of a run
 
-pub range-ran : (w w′ o o′ : List ℕ) (r : Ran) → Sound w → 10 ≤ length o → Runs w w′ (RANGE-BYTE ∷ []) o o′ r → RangeRan w w′ o o′ r
-range-ran w w′ o o′ r S room R = go (R .sound) (R .decides) (R .leaves) refl
-  where
-    s : Store
-    s = meaning w
+range-unrefused : (s : Store) (n : ℕ) → First (linesOf RANGE) s n → ⊥
+unfolding linesOf
+range-unrefused s n f = let no : none ≡ some n = first-exact [] s n .1 f in let z : _≡_ {A = ℕ} 0 1 = cc in omega arith
 
-    bytes : List ℕ
-    bytes = 0 ∷ accepted RANGE s .answer
+range-bytes : (s : Store) (rest : List ℕ) → StoreSound s → RangeAnswer (stagedKinds s) (s .control .excluded) s (take 10 (0 ∷ accepted RANGE s .answer ++ rest))
+range-bytes s rest S =
+    let A : RangeAnswer (stagedKinds s) (s .control .excluded) s (0 ∷ accepted RANGE s .answer) = range-answer s S in
+    subst (RangeAnswer (stagedKinds s) (s .control .excluded) s) (sym (take-at (0 ∷ accepted RANGE s .answer) rest 10 (A .size))) A
 
-    after : model.Ran
-    after = record { store = withControl s (emptyBoth (s .control)); stop = 0; commands = 1; read = 1; bytes = bytes }
+ranges-in : {w t w′ bytes : List ℕ} {room stop commands read : ℕ} → Sound w → (c : Course w t room w′ stop commands read bytes)
+    → EachAnswer (λ v k l. k ≡ RANGE → RangeAnswer (stagedKinds (meaning v)) (meaning v .control .excluded) (meaning v) (take 10 l)) c
+ranges-in S ended = tt
+ranges-in S (stopped f) = tt
+ranges-in S (refused w {t = t} {b = b} {n = n} h f m s c) =
+    ((λ e. absurd (range-unrefused (meaning w) n (subst (λ (k : Command). First (linesOf k) (meaning w) n) e f))), ranges-in s c)
+ranges-in S (done w w₁ {t = t} {bytes = bytes} {b = b} h n m s c) = (
+  λ e.
+      subst (λ (k : Command). RangeAnswer (stagedKinds (meaning w)) (meaning w .control .excluded) (meaning w) (take 10 (0 ∷ accepted k (meaning w) .answer ++ bytes))) (sym e)
+      (range-bytes (meaning w) bytes (S .means)),
+  ranges-in s c,
+)
 
-    go : (b : Bool) → Decides b (Sound w) → RunLeaves b (RANGE-BYTE ∷ []) (length o) w w′ → R .sound ≡ b → RangeRan w w′ o o′ r
-    go false d l e = absurd (d S)
-    go true d l e =
-        let is : ranOf (R .sound) (RANGE-BYTE ∷ []) (length o) s ≡ after = ap (λ (b : Bool). ranOf b (RANGE-BYTE ∷ []) (length o) s) e ∙ range-run (length o) s room in
-        let A : RangeAnswer (stagedKinds s) (s .control .excluded) s bytes = range-answer s (S .means) in
-        let store : meaning w′ ≡ withControl s (emptyBoth (s .control)) = R .means ∙ (λ i. is i .store) in
-        let written : r .written ≡ 10 = R .answered .written ∙ (λ i. length (is i .bytes)) ∙ A .size in
-        let told : take 10 o′ ≡ bytes =
-        ap (λ (n : ℕ). take n o′) (sym written) ∙ answer-bytes o o′ r (ranOf (R .sound) (RANGE-BYTE ∷ []) (length o) s) (R .answered) ∙ (λ i. is i .bytes) in
-        let left : o′ ≡ bytes ++ drop 10 o = R .answered .bytes ∙ (λ i. is i .bytes ++ drop (length (is i .bytes)) o) ∙ ap (λ (n : ℕ). bytes ++ drop n o) (A .size) in
-        let same : RangeAnswer (stagedKinds s) (s .control .excluded) (withControl s (emptyBoth (s .control))) bytes =
-        record { size = A .size; either = A .either; found = A .found; shows = A .shows } in
+-- wherever it stands in the run: for the hand and the bar before it, of the store before it
+pub ranges-in-run : (w w′ t o o′ : List ℕ) (r : Ran) (R : Runs w w′ t o o′ r) (S : Sound w)
+    → EachAnswer (λ v k l. k ≡ RANGE → RangeAnswer (stagedKinds (meaning v)) (meaning v .control .excluded) (meaning v) (take 10 l)) (run-course w w′ t o o′ r R S)
+ranges-in-run w w′ t o o′ r R S = ranges-in S (run-course w w′ t o o′ r R S)
+
+-- ---- RANGE at a tape's end
+
+range-room : (room : ℕ) (s : Store) → run (RANGE-BYTE ∷ []) room s .stop ≡ 0 → 10 ≤ room
+unfolding run runFor step
+range-room room s z =
+    bool-cases (ltb room 10)
+    (λ short.
+    let six : step RANGE-BYTE [] room s ≡ stops NOROOM = rw short in
+    let halted : run (RANGE-BYTE ∷ []) room s ≡ halt NOROOM s =
+    ap (λ (p : Step). elim p as (λ p. model.Ran) [ stops n ↦ halt n s | goes w a s′ ↦ more w a (runFor 0 (drop w (RANGE-BYTE ∷ [])) (room - length a) s′) ]) six in
+    absurd (omega (arith, z, ap (λ (x : model.Ran). x .stop) halted)))
+    (λ fits. ltb-false room 10 fits)
+
+range-last : (room : ℕ) (s : Store) → 10 ≤ room
+    → run (RANGE-BYTE ∷ []) room s ≡ record { store = withControl s (emptyBoth (s .control)); stop = 0; commands = 1; read = 1; bytes = 0 ∷ accepted RANGE s .answer }
+unfolding accepted
+range-last room s h =
+    run-commands (RANGE ∷ []) room s (tt, tt) (omega arith)
+    ∙ (λ i.
+    record {
+      store = storeAfter s (range-does s i);
+      stop = 0;
+      commands = 1;
+      read = 1;
+      bytes = (ap (λ (x : Outcome). answerOf x ++ []) (range-does s) ∙ append-nil (0 ∷ accepted RANGE s .answer)) i;
+    })
+
+bytes-before : (a b : List ℕ) → Bytes (a ++ b) → Bytes a
+bytes-before [] b h = tt
+bytes-before (x ∷ a) b h = (h .0, bytes-before a b (h .1))
+
+-- the part of a list that stands behind a
+part-behind : (a b c : List ℕ) (n : ℕ) → length b ≡ n → take n (drop (length a) (a ++ (b ++ c))) ≡ b
+part-behind a b c n e = ap (take n) (drop-at a (b ++ c) (length a) refl) ∙ take-at b c n e
+
+-- behind a tape t of whole commands, whose run with this room comes to its end
+module _ (w w′ t o o′ : List ℕ) (r : Ran) (S : Sound w) (R : Runs w w′ (t ++ (RANGE-BYTE ∷ [])) o o′ r) (whole : run t (length o) (meaning w) .stop ≡ 0) where
+  abbrev x : model.Ran
+  x = run t (length o) (meaning w)
+
+  abbrev s₁ : Store
+  s₁ = x .store
+
+  abbrev free : ℕ
+  free = length o - length (x .bytes)
+
+  abbrev ten : List ℕ
+  ten = 0 ∷ accepted RANGE s₁ .answer
+
+  abbrev ended-run : model.Ran
+  ended-run = ranOf (R .sound) (t ++ (RANGE-BYTE ∷ [])) (length o) (meaning w)
+
+  in-turn : ended-run ≡ inTurn x (run (RANGE-BYTE ∷ []) free s₁)
+  in-turn =
+      let yes : R .sound ≡ true = decides-same (R .sound) true (R .decides) S ((λ d. d), (λ d. d)) in
+      ap (λ (c : Bool). ranOf c (t ++ (RANGE-BYTE ∷ [])) (length o) (meaning w)) yes
+      ∙ run-pieces t (RANGE-BYTE ∷ []) (length o) (length o) (meaning w) (omega arith)
+      ∙ ap (λ (l : List ℕ). inTurn x (run l free s₁)) (drop-at t (RANGE-BYTE ∷ []) (x .read) (sym (run-fits t (length o) (meaning w) .end whole)))
+
+  -- it comes to the tape's end exactly if ten bytes are free for it
+  pub range-ends : (r .stop ≡ 0) ↔ (length (x .bytes) + 10 ≤ length o)
+  range-ends =
+      let is : r .stop ≡ run (RANGE-BYTE ∷ []) free s₁ .stop = R .answered .stop ∙ (λ i. in-turn i .stop) in
+      ((λ z. omega (arith, range-room free s₁ (sym is ∙ z))), (λ room. is ∙ (λ i. range-last free s₁ (omega (arith, room)) i .stop)))
+
+  module _ (z : r .stop ≡ 0) where
+    is : ended-run ≡ inTurn x (record { store = withControl s₁ (emptyBoth (s₁ .control)); stop = 0; commands = 1; read = 1; bytes = ten })
+    is = in-turn ∙ ap (inTurn x) (range-last free s₁ (omega (arith, range-ends .0 z)))
+
+    sound-before : StoreSound s₁
+    sound-before = run-keeps t (length o) (meaning w) (bytes-before t (RANGE-BYTE ∷ []) (R .tape)) (S .means)
+
+    answers : RangeAnswer (stagedKinds s₁) (s₁ .control .excluded) s₁ ten
+    answers = range-answer s₁ sound-before
+
+    means : meaning w′ ≡ withControl s₁ (emptyBoth (s₁ .control))
+    means = R .means ∙ (λ i. is i .store)
+
+    long : length (x .bytes ++ ten) ≡ length (x .bytes) + 10
+    long = length-append (x .bytes) ten ∙ ap (λ (n : ℕ). length (x .bytes) + n) (answers .size)
+
+    wrote : r .written ≡ length (x .bytes) + 10
+    wrote = R .answered .written ∙ (λ i. length (is i .bytes)) ∙ long
+
+    left-as : o′ ≡ (x .bytes ++ ten) ++ drop (r .written) o
+    left-as = R .answered .bytes ∙ (λ i. is i .bytes ++ drop (length (is i .bytes)) o) ∙ ap (λ (n : ℕ). (x .bytes ++ ten) ++ drop n o) (long ∙ sym wrote)
+
+    parts : o′ ≡ x .bytes ++ (ten ++ drop (r .written) o)
+    parts = left-as ∙ append-assoc (x .bytes) ten (drop (r .written) o)
+
+    told : take 10 (drop (r .written - 10) o′) ≡ ten
+    told =
+        let at : r .written - 10 ≡ length (x .bytes) = omega (arith, wrote) in
+        ap (λ (n : ℕ). take 10 (drop n o′)) at ∙ ap (λ (l : List ℕ). take 10 (drop (length (x .bytes)) l)) parts ∙ part-behind (x .bytes) ten (drop (r .written) o) 10 (answers .size)
+
+    -- its ten bytes stand last, and tell of the store that is left
+    pub range-ran : RangeRan x w′ o o′ r
+    range-ran =
         record {
-          stop = R .answered .stop ∙ (λ i. is i .stop);
           commands = R .answered .commands ∙ (λ i. is i .commands);
           read = R .answered .read ∙ (λ i. is i .read);
-          written = written;
-          rest = ap (drop 10) left ∙ drop-at bytes (drop 10 o) 10 (A .size);
-          sound = l .0;
-          store = store;
-          answer = rw (store, told) same;
+          written = wrote;
+          before = ap (take (length (x .bytes))) parts ∙ take-at (x .bytes) (ten ++ drop (r .written) o) (length (x .bytes)) refl;
+          rest = ap (drop (r .written)) left-as ∙ drop-at (x .bytes ++ ten) (drop (r .written) o) (r .written) (long ∙ sym wrote);
+          sound = run-keeps-sound w w′ (t ++ (RANGE-BYTE ∷ [])) o o′ r R S;
+          store = means;
+          answer =
+              rw told
+              (range-stays (stagedKinds s₁) (s₁ .control .excluded) s₁ (meaning w′) ten (sym (λ i. means i .storage)) (sym (λ i. means i .entities .live)) answers);
+          known = λ k i. subst (λ (y : Store). In (y .kinds) k) (sym means) (sound-before .staged .known k i);
         }
 
+-- alone on the tape
+pub range-alone : (w w′ o o′ : List ℕ) (r : Ran) → Sound w → Runs w w′ (RANGE-BYTE ∷ []) o o′ r → r .stop ≡ 0 → RangeRan (halt 0 (meaning w)) w′ o o′ r
+unfolding run runFor
+range-alone w w′ o o′ r S R z = range-ran w w′ [] o o′ r S R refl z
+
 -- ---- a row of a part
-
-module _ {A : Type 0} (low high : A → ℕ) (d : A) where
-  pair-low : (l : List A) (i : ℕ) → i < length l → getD (pairs low high l) (2 * i) 0 ≡ low (getD l i d)
-  pair-low [] i h = absurd (omega arith)
-  pair-low (x ∷ l) zero h = refl
-  pair-low (x ∷ l) (suc i) h =
-      let two : 2 * suc i ≡ suc (suc (2 * i)) = omega arith in
-      ap (λ (n : ℕ). getD (pairs low high (x ∷ l)) n 0) two ∙ pair-low l i (omega arith)
-
-  pair-high : (l : List A) (i : ℕ) → i < length l → getD (pairs low high l) (2 * i + 1) 0 ≡ high (getD l i d)
-  pair-high [] i h = absurd (omega arith)
-  pair-high (x ∷ l) zero h = refl
-  pair-high (x ∷ l) (suc i) h =
-      let two : 2 * suc i + 1 ≡ suc (suc (2 * i + 1)) = omega arith in
-      ap (λ (n : ℕ). getD (pairs low high (x ∷ l)) n 0) two ∙ pair-high l i (omega arith)
 
 hold-at : (rows : SparseSet) (es : List Entity) (vs : List ℕ) → Hold rows es vs → (i : ℕ) → i < length es → valueAt (getD es i noEntity) rows ≡ some (getD vs i 0)
 hold-at rows [] vs H i h = absurd (omega arith)
@@ -145,36 +253,24 @@ module _ (v : RefT (List ℕ)) (S : Sound (v .now)) (h b : List ℕ) (k a e : �
         value = hold-at rows es vs holds j ne ∙ ap {B = Option ℕ} some is;
       }
 
--- ---- after RANGE has found a range, over the words that it leaves: column of a kind of the hand, from the start to the end that the bytes tell
+-- ---- over sound words, ten bytes that tell of their store that a range is found: column of a kind of the hand, from the start to the end that they tell
 
-module _ (w : List ℕ) (v : RefT (List ℕ)) (o o′ : List ℕ) (r : Ran) (S : Sound w) (room : 10 ≤ length o) (R : Runs w (v .now) (RANGE-BYTE ∷ []) o o′ r) (f : foundIn (take 10 o′) ≡ 1) where
+module _ (v : RefT (List ℕ)) (S : Sound (v .now)) (h b bytes : List ℕ) (A : RangeAnswer h b (meaning (v .now)) bytes) (f : foundIn bytes ≡ 1) (known : (k : ℕ) → In h k → In (meaning (v .now) .kinds) k) where
   abbrev a : ℕ
-  a = startIn (take 10 o′)
+  a = startIn bytes
 
   abbrev e : ℕ
-  e = endIn (take 10 o′)
-
-  abbrev h : List ℕ
-  h = stagedKinds (meaning w)
-
-  abbrev b : List ℕ
-  b = meaning w .control .excluded
+  e = endIn bytes
 
   abbrev left : Store
   left = meaning (v .now)
 
-  ran : RangeRan w (v .now) o o′ r
-  ran = range-ran w (v .now) o o′ r S room R
-
   shows : Showing (left .storage .sets) (left .entities .live) h b a e
-  shows = ran .answer .shows f
-
-  known : (k : ℕ) → In h k → In (left .kinds) k
-  known k i = subst (λ (x : Store). In (x .kinds) k) (sym (ran .store)) (S .means .staged .known k i)
+  shows = A .shows f
 
   -- it is accepted, its entities are those at these places, and its values are those that these entities hold
   pub range-columns : (p q : RefT (List ℕ)) (k n : ℕ) → In h k → ColumnNumbered (v .now) k a e n → ColumnPart v p false k a e → ColumnPart v q true k a e → ColumnsShown left k a e n (p .now) (q .now)
-  range-columns p q k n i C P Q = columns-shown v (ran .sound) h b k a e i (known k i) shows p q n C P Q
+  range-columns p q k n i C P Q = columns-shown v S h b k a e i (known k i) shows p q n C P Q
 
   -- two columns side by side: the same row is of the same entity, which hand and bar describe, with its values of both kinds
   pub same-entity : (p q p′ q′ : RefT (List ℕ)) (j k i : ℕ) → In h j → In h k → i < e - a → ColumnPart v p false j a e → ColumnPart v q true j a e → ColumnPart v p′ false k a e → ColumnPart v q′ true k a e
@@ -185,8 +281,8 @@ module _ (w : List ℕ) (v : RefT (List ℕ)) (o o′ : List ℕ) (r : Ran) (S :
       record {
         entity = getD es i noEntity;
         among = omega (arith, shows .exact j hj (getD es i noEntity), count-at sameEntity entity-same noEntity es i there);
-        first = row-of v (ran .sound) h b j a e hj (known j hj) shows p q i t P Q;
+        first = row-of v S h b j a e hj (known j hj) shows p q i t P Q;
         second =
             subst (λ (l : List Entity). RowOf left (getD l i noEntity) k i (p′ .now) (q′ .now)) (sym (shows .aligned j k hj hk))
-            (row-of v (ran .sound) h b k a e hk (known k hk) shows p′ q′ i t P′ Q′);
+            (row-of v S h b k a e hk (known k hk) shows p′ q′ i t P′ Q′);
       }

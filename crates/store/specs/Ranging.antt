@@ -1,34 +1,35 @@
--- What a run of RANGE and *column* show together, over the words: the answer's ten bytes, and the columns of the hand's kinds from the start to the end
--- that those bytes tell. Assumes nothing.
+-- What RANGE and *column* show together, over the words: the answer's ten bytes, and the columns of the hand's kinds from the start to the end that those
+-- bytes tell. Assumes nothing.
 use mathlib.Core.Path.{_≡_}
 use mathlib.Core.Option.{some}
 use mathlib.Core.List.{List}
-use Prim.Native.Nat.{ℕ, _+_, _*_, _≤_}
-use lib.ListN.{getD, take, drop}
+use Prim.Native.Nat.{ℕ, _+_, _*_, _-_, _≤_}
+use lib.ListN.{length, getD, take, drop}
 use Rattle.model.specs.Model.{Entity, setOf}
 use Rattle.model.specs.Store.{Store, stagedKinds, withControl, emptyBoth}
+use Rattle.model.specs.Run as model
 use Rattle.model.specs.Snapshot.{valueAt}
 use Rattle.model.specs.Entries.{entityWords, valueWords, part}
-use Rattle.model.specs.Sound.{cnt, key}
+use Rattle.model.specs.Sound.{cnt, In, key}
 use Rattle.model.specs.Shown.{described, RangeAnswer, Hold}
 use Rattle.component.specs.SparseSet.{valueOf}
 use Rattle.memory.specs.Meaning.{meaning}
 use Rattle.memory.specs.Arranged.{Sound}
 use Rattle.run.specs.declared.Ran.{Ran}
 
--- RANGE alone on the tape, over the words w, which it leaves as w′, with its answer in the bytes o, which it leaves as o′. A tape may be cut between any
--- two commands (proofs/Pieces.antt), so that one command is no restriction.
-pub record RangeRan (w w′ o o′ : List ℕ) (r : Ran) : Type 0 where
-  pub stop : r .stop ≡ 0
-  pub commands : r .commands ≡ 1
-  pub read : r .read ≡ 1
-  pub written : r .written ≡ 10
-  pub rest : drop 10 o′ ≡ drop 10 o
+-- RANGE at a tape's end, behind commands whose run is x: the words w′ that it leaves, its answers in the bytes o, which it leaves as o′
+pub record RangeRan (x : model.Ran) (w′ o o′ : List ℕ) (r : Ran) : Type 0 where
+  pub commands : r .commands ≡ x .commands + 1
+  pub read : r .read ≡ x .read + 1
+  pub written : r .written ≡ length (x .bytes) + 10
+  pub before : take (length (x .bytes)) o′ ≡ x .bytes
+  pub rest : drop (r .written) o′ ≡ drop (r .written) o
   pub sound : Sound w′
   -- "03 to 06, 09 and 0C, when accepted, empty the hand; 0C also the bar", and nothing else is changed
-  pub store : meaning w′ ≡ withControl (meaning w) (emptyBoth (meaning w .control))
-  -- with the hand and the bar as they were, of the store that is left
-  pub answer : RangeAnswer (stagedKinds (meaning w)) (meaning w .control .excluded) (meaning w′) (take 10 o′)
+  pub store : meaning w′ ≡ withControl (x .store) (emptyBoth (x .store .control))
+  -- the last ten bytes written tell of the hand and the bar as they were, of the store that is left, which knows all kinds of that hand
+  pub answer : RangeAnswer (stagedKinds (x .store)) (x .store .control .excluded) (meaning w′) (take 10 (drop (r .written - 10) o′))
+  pub known : (k : ℕ) → In (stagedKinds (x .store)) k → In (meaning w′ .kinds) k
 
 -- column of kind k from a to e over words that mean the store s, with number n: the entities there, and the values that these entities hold
 pub record ColumnsShown (s : Store) (k a e n : ℕ) (entities values : List ℕ) : Type 0 where
