@@ -41,7 +41,7 @@ built-in-words n k b w w₁ w₂ o o′ r B = left-in-words n k (buildTape b) (b
 pub reached-buildable : {w : List ℕ} → Reached w → BuildSound (meaning w .settings .kindCapacity) (buildOf (meaning w))
 reached-buildable {w} c = own-sound (meaning w) (reached-sound c .means)
 
--- sound words in which no number is issued are built anew over any words, by an accepted start and one run: no entry tells the two apart
+-- sound words in which no number is issued are built anew over any words, by an accepted start and one run: the two are alike
 pub rebuilt-in-words : (w v v₁ v₂ o o′ : List ℕ) (r : Ran) → Sound w → meaning w .entities .issued ≡ 0 → Starts (meaning w .settings .capacity) (meaning w .settings .kindCapacity) v v₁ 0
     → Runs v₁ v₂ (buildTape (buildOf (meaning w))) o o′ r → buildRoom (meaning w .settings .capacity) (meaning w .settings .kindCapacity) (buildOf (meaning w)) ≤ length o → Alike w v₂
 rebuilt-in-words w v v₁ v₂ o o′ r S none St R h =

@@ -31,7 +31,7 @@ use Rattle.store.proofs.Starting.{start-number}
 use Rattle.model.specs.Run as model
 use Rattle.store.specs.Theorems.{Alike, SameStart, SameRun, SameRolled, SameCopied}
 
--- ---- words that no entry tells apart
+-- ---- words alike
 
 pub alike-same : (w v : List ℕ) → w ≡ v → Alike w v
 alike-same w v e = record { means = ap meaning e; sound = ((λ S. subst Sound e S), (λ S. subst Sound (sym e) S)) }

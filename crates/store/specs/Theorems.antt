@@ -76,7 +76,7 @@ abbrev pub together : Ran → Ran → Ran
 together a b = record { stop = b .stop; commands = a .commands + b .commands; read = a .read + b .read; written = a .written + b .written }
 
 -- a run that answers c, in the bytes q′, and leaves the words v, in place of runs that answer r together, with the bytes, and leave the words w′: the same
--- result, the same answers, words that no entry tells apart
+-- result, the same answers, words that are alike
 pub record Continues (v w′ q′ bytes : List ℕ) (c r : Ran) : Type 0 where
   pub result : c ≡ r
   pub answers : take (c .written) q′ ≡ bytes
