@@ -77,7 +77,7 @@ refused-sound s S = control-sound s S (counted (s .control)) (counted-sound (s .
 
 -- ---- the tape's bytes
 
-bytes-take : (n : ℕ) (l : List ℕ) → Bytes l → Bytes (take n l)
+pub bytes-take : (n : ℕ) (l : List ℕ) → Bytes l → Bytes (take n l)
 bytes-take zero l h = tt
 bytes-take (suc n) [] h = tt
 bytes-take (suc n) (x ∷ l) h = (h .0, bytes-take n l (h .1))

@@ -8,7 +8,7 @@ use Prim.Native.Nat.{ℕ, _+_, _*_, _≤_}
 use native.Mathlib.Omega.{arith}
 use lib.ListN.{length, take, drop, getD}
 use denote.Ref.{RefT}
-use Rattle.model.specs.Numbers.{BEYOND, KIND, MANY, NOROOM, UNKNOWN}
+use Rattle.model.specs.Numbers.{BEYOND, KIND, MANY, NOROOM, UNKNOWN, UNSOUND}
 use Rattle.model.specs.Store.{Store, empty}
 use Rattle.model.specs.Commands.{Command}
 use Rattle.model.specs.Refusals.{numberOf, firstLine, BeforeCommand, beforeLines, linesOf, startLines, rollLines, columnLines}
@@ -54,10 +54,10 @@ unfolding roll
 roll-refusals w o o′ r R =
     over-refusals rollLines (record { room = length o; store = meaning w }) (snapshot (meaning w)) NOROOM NOROOM (omega arith) w o o′ (r .number) (r .written) (omega arith) R
 
-pub run-unsound : (w w′ t o o′ : List ℕ) (r : Ran) → Runs w w′ t o o′ r → (r .stop ≡ 3) ↔ (Sound w → ⊥)
+pub run-unsound : (w w′ t o o′ : List ℕ) (r : Ran) → Runs w w′ t o o′ r → (r .stop ≡ UNSOUND) ↔ (Sound w → ⊥)
 run-unsound w w′ t o o′ r R = go (R .sound) (R .decides) (R .answered .stop)
   where
-    go : (b : Bool) → Decides b (Sound w) → r .stop ≡ ranOf b t (length o) (meaning w) .stop → (r .stop ≡ 3) ↔ (Sound w → ⊥)
+    go : (b : Bool) → Decides b (Sound w) → r .stop ≡ ranOf b t (length o) (meaning w) .stop → (r .stop ≡ UNSOUND) ↔ (Sound w → ⊥)
     go false d e = ((λ q. d), (λ n. e))
     go true d e =
         ((λ q. absurd (⊎-elim (λ z. omega (arith, q, e, z)) (λ z. omega (arith, q, e, z .0)) (run-fits t (length o) (meaning w) .stop))), (λ n. absurd (n d)))
@@ -130,13 +130,13 @@ refused-start-changes-nothing n k w w′ r S h = go (start n k (length w)) (S .n
     go (refusesStart m) e l = l
     go (makes s) e l = absurd (omega (arith, e, h))
 
-pub unsound-run-changes-nothing : (w w′ t o o′ : List ℕ) (r : Ran) → Runs w w′ t o o′ r → r .stop ≡ 3 → (w′ ≡ w) × (o′ ≡ o) × (r ≡ record { stop = 3; commands = 0; read = 0; written = 0 })
+pub unsound-run-changes-nothing : (w w′ t o o′ : List ℕ) (r : Ran) → Runs w w′ t o o′ r → r .stop ≡ UNSOUND → (w′ ≡ w) × (o′ ≡ o) × (r ≡ record { stop = UNSOUND; commands = 0; read = 0; written = 0 })
 unsound-run-changes-nothing w w′ t o o′ r R h = go (R .sound) (R .decides) (R .leaves) refl
   where
-    go : (b : Bool) → Decides b (Sound w) → RunLeaves b t (length o) w w′ → R .sound ≡ b → (w′ ≡ w) × (o′ ≡ o) × (r ≡ record { stop = 3; commands = 0; read = 0; written = 0 })
+    go : (b : Bool) → Decides b (Sound w) → RunLeaves b t (length o) w w′ → R .sound ≡ b → (w′ ≡ w) × (o′ ≡ o) × (r ≡ record { stop = UNSOUND; commands = 0; read = 0; written = 0 })
     go true d l e = absurd (run-unsound w w′ t o o′ r R .0 h d)
     go false d l e =
-        let is : ranOf (R .sound) t (length o) (meaning w) ≡ halt 3 (meaning w) = ap (λ (b : Bool). ranOf b t (length o) (meaning w)) e in (
+        let is : ranOf (R .sound) t (length o) (meaning w) ≡ halt UNSOUND (meaning w) = ap (λ (b : Bool). ranOf b t (length o) (meaning w)) e in (
           l,
           R .answered .bytes ∙ (λ j. is j .bytes ++ drop (length (is j .bytes)) o),
           λ i. record {

@@ -150,9 +150,9 @@ pub run-continues-exact : (w w₁ w₂ v t u o o₁ p p₂ q q′ : List ℕ) (a
 run-continues-exact w w₁ w₂ v t u o o₁ p p₂ q q′ a b c A B C h e =
     let first : Sound w ↔ Sound w₁ = run-sound w w₁ t o o₁ a A in
     let second : Sound w₁ ↔ Sound w₂ = run-sound w₁ w₂ (drop (a .read) (t ++ u)) p p₂ b B in
-    let left : length q - a .written ≡ length p = omega (arith, e) in
-    let rest : ranOf (C .sound) (drop (a .read) (t ++ u)) (length q - a .written) (meaning w₁) ≡ given w₂ b (take (b .written) p₂) =
-    ap (λ (k : ℕ). ranOf (C .sound) (drop (a .read) (t ++ u)) k (meaning w₁)) left ∙ run-given w₁ w₂ (drop (a .read) (t ++ u)) p p₂ b B (C .sound) (decides-on (C .sound) first (C .decides)) in
+    let d : Decides (C .sound) (Sound w₁) = decides-on (C .sound) first (C .decides) in
+    let left : length p ≡ length q - a .written = omega (arith, e) in
+    let rest = subst (λ (k : ℕ). ranOf (C .sound) (drop (a .read) (t ++ u)) k (meaning w₁) ≡ given w₂ b (take (b .written) p₂)) left (run-given w₁ w₂ (drop (a .read) (t ++ u)) p p₂ b B (C .sound) d) in
     let both = run-then w w₁ t o o₁ a A (C .sound) (length q) u w₂ (take (b .written) p₂) b (C .decides) h rest in
     run-in-place w v (t ++ u) q q′ c C w₂ (take (a .written) o₁ ++ take (b .written) p₂) (together a b) (sym (run-given w v (t ++ u) q q′ c C (C .sound) (C .decides)) ∙ both)
     (omega (arith, run-written w w₁ t o o₁ a A, run-written w₁ w₂ (drop (a .read) (t ++ u)) p p₂ b B, length-append (take (a .written) o₁) (take (b .written) p₂)))

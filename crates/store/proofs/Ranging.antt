@@ -31,7 +31,7 @@ use Rattle.model.proofs.Lengths.{run-fits}
 use Rattle.model.proofs.Lines.{first-exact}
 use Rattle.model.proofs.Outcomes.{range-does}
 use Rattle.model.proofs.Ranges.{range-answer, range-stays, rows-hold}
-use Rattle.model.proofs.Sound.{run-keeps}
+use Rattle.model.proofs.Sound.{bytes-take, run-keeps}
 use Rattle.words.specs.Decides.{Decides}
 use Rattle.words.proofs.Decides.{decides-same}
 use Rattle.tapes.specs.Pieces.{inTurn}
@@ -104,10 +104,6 @@ range-last room s h =
       bytes = (ap (λ (x : Outcome). answerOf x ++ []) (range-does s) ∙ append-nil (0 ∷ accepted RANGE s .answer)) i;
     })
 
-bytes-before : (a b : List ℕ) → Bytes (a ++ b) → Bytes a
-bytes-before [] b h = tt
-bytes-before (x ∷ a) b h = (h .0, bytes-before a b (h .1))
-
 -- the part of a list that stands behind a
 part-behind : (a b c : List ℕ) (n : ℕ) → length b ≡ n → take n (drop (length a) (a ++ (b ++ c))) ≡ b
 part-behind a b c n e = ap (take n) (drop-at a (b ++ c) (length a) refl) ∙ take-at b c n e
@@ -147,7 +143,7 @@ module _ (w w′ t o o′ : List ℕ) (r : Ran) (S : Sound w) (R : Runs w w′ (
     is = in-turn ∙ ap (inTurn x) (range-last free s₁ (omega (arith, range-ends .0 z)))
 
     sound-before : StoreSound s₁
-    sound-before = run-keeps t (length o) (meaning w) (bytes-before t (RANGE-BYTE ∷ []) (R .tape)) (S .means)
+    sound-before = run-keeps t (length o) (meaning w) (subst Bytes (take-at t (RANGE-BYTE ∷ []) (length t) refl) (bytes-take (length t) (t ++ (RANGE-BYTE ∷ [])) (R .tape))) (S .means)
 
     answers : RangeAnswer (stagedKinds s₁) (s₁ .control .excluded) s₁ ten
     answers = range-answer s₁ sound-before

@@ -4,6 +4,7 @@ use mathlib.Core.Bool.{true, false}
 use mathlib.Core.List.{List}
 use Prim.Native.Nat.{ℕ}
 use lib.ListN.{length}
+use Rattle.model.specs.Numbers.{UNSOUND}
 use Rattle.model.specs.Store.{Bytes, wordsNeeded}
 use Rattle.model.specs.Run.{run}
 use Rattle.memory.specs.Header.{capacityOf, kindCapacityOf}
@@ -18,7 +19,7 @@ pub needed-of : (w : List ℕ) → wordsNeeded (meaning w .settings .capacity) (
 unfolding meaning
 needed-of w = refl
 
-pub refused-run : (w t o : List ℕ) → (Sound w → ⊥) → Bytes t → Runs w w t o o (record { stop = 3; commands = 0; read = 0; written = 0 })
+pub refused-run : (w t o : List ℕ) → (Sound w → ⊥) → Bytes t → Runs w w t o o (record { stop = UNSOUND; commands = 0; read = 0; written = 0 })
 refused-run w t o d b =
     record {
       sound = false;

@@ -40,7 +40,7 @@ judged w ls x r true lo hi l h d e =
       sound = λ S. tabled ls x lo hi (omega (arith, l)) h r e;
     }
   where
-    other : (o : Option ℕ) → firstLine ls x ≡ o → numberOf o ≡ 3 → ⊥
+    other : (o : Option ℕ) → firstLine ls x ≡ o → numberOf o ≡ UNSOUND → ⊥
     other none p z = omega (arith, z)
     other (some n) p z = omega (arith, l, z, first-number ls x lo hi n h p .0)
 
