@@ -50,7 +50,7 @@ impl GroupMask {
         GroupMask(self.0 & other.0)
     }
 
-    // The lowest set bit, and the mask without it.
+    // The lowest set bit, and the mask without it. The position is below 64: eight bits hold it.
     pub fn next(self) -> NextBit
         ensures { λ r. ⌜ Lowest (self .0) r ⌝ }
     {
@@ -58,11 +58,11 @@ impl GroupMask {
         if m == 0 {
             return NextBit::End;
         }
-        let at = u64::trailing_zeros(m);
-        NextBit::At(at, GroupMask(m - (1 << at)))
+        let at = u64::trailing_zeros(m) as u8;
+        NextBit::At(at as u32, GroupMask(m - (1 << at)))
     }
 
-    // The highest set bit, and the mask without it.
+    // The highest set bit, and the mask without it; the position in eight bits too.
     pub fn next_back(self) -> NextBit
         ensures { λ r. ⌜ Highest (self .0) r ⌝ }
     {
@@ -70,8 +70,8 @@ impl GroupMask {
         if m == 0 {
             return NextBit::End;
         }
-        let at = 63 - u64::leading_zeros(m);
-        NextBit::At(at, GroupMask(m - (1 << at)))
+        let at = (63 - u64::leading_zeros(m)) as u8;
+        NextBit::At(at as u32, GroupMask(m - (1 << at)))
     }
 }
 

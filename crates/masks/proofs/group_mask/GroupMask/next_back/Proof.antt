@@ -11,16 +11,16 @@ use Rattle.masks.proofs.group_mask.GroupMask.next_back.Tie as tie
 returns : tie.Need-returns
 returns c = ap (bitsOf 64) (c .if1 .taken) ∙ no-bits 64 0
 
-sub-at : tie.Need-sub-at
-sub-at c = top (c .before .args .self .0) (omega arith) (omega arith) .1 .lead
-
-sub-t8 : tie.Need-sub-t8
-sub-t8 c =
-    let s = top (c .before .args .self .0) (omega arith) (omega arith) in
-    rw (s .1 .place, shl-one 64 (s .0) (s .1 .inside)) (s .1 .fits)
-
 returns-2 : tie.Need-returns-2
 returns-2 c = high-step (c .before .args .self .0) (omega arith) (omega arith)
 
+-- the position, its casts to 8, 32 and 64 bits, the shift, the subtraction
 pub next-back-spec : {M : Type 1} → statement M
-next-back-spec = tie.close (tie.spec returns sub-at (λ c. search needs) (λ c. search needs) sub-t8 returns-2)
+next-back-spec =
+    tie.close
+    (tie.spec returns (λ c. top (c .before .args .self .0) (omega arith) (omega arith) .1 .lead) (λ c. search needs) (λ c. search needs)
+    (λ c. search needs) (λ c. search needs)
+    (λ c.
+    let s = top (c .before .args .self .0) (omega arith) (omega arith) in
+    rw (s .1 .place, shl-one 64 (s .0) (s .1 .inside)) (s .1 .fits))
+    returns-2)
