@@ -15,8 +15,9 @@ pub struct Found {
     /// Random cases that differ, of those tried.
     pub random: usize,
     pub tried: usize,
-    /// Names of the fixed parts with a case that differs.
+    /// Names of the fixed parts with a case that differs, of how many.
     pub fixed: Vec<&'static str>,
+    pub parts: usize,
     /// Whether the comparison of *start* differs.
     pub at_start: bool,
     /// The smallest tape found.
@@ -42,11 +43,12 @@ impl Found {
         };
         let start = if self.at_start { 1 } else { 0 };
         format!(
-            "| {} | {} of {} | {} of 8 | {start} | {least} |",
+            "| {} | {} of {} | {} of {} | {start} | {least} |",
             self.fault.text(),
             self.random,
             self.tried,
             self.fixed.len(),
+            self.parts,
         )
     }
 }
@@ -68,6 +70,7 @@ pub fn find(fault: Fault, seed: u64, tried: usize) -> Found {
         random: 0,
         tried,
         fixed: vec![],
+        parts: 0,
         at_start: !matches!(catch_unwind(AssertUnwindSafe(|| fixed::starts(sets, make))), Ok(Ok(_))),
         least: None,
     };
@@ -81,6 +84,7 @@ pub fn find(fault: Fault, seed: u64, tried: usize) -> Found {
         }
     };
     for part in fixed::limits(16) {
+        found.parts += 1;
         if let Some(difference) = differs(|| fixed::compare_all(part.cases, sets, make)) {
             found.fixed.push(part.name);
             keep(difference);

@@ -105,6 +105,7 @@ pub fn limits(most: usize) -> Vec<Part> {
         part("K full", kinds_full()),
         part("16 staged", sixteen_staged()),
         part("63 groups", many_groups()),
+        part("walks above position 32", high_walks()),
         part(
             "drafts of up to 2 groups over 5 kinds with every further group",
             drafts::cases(5, 2),
@@ -314,6 +315,84 @@ fn many_groups() -> impl Iterator<Item = Case> {
             }
         })
     })
+}
+
+/// Layouts of 63 groups whose walks go through the positions above 32, one family after the other.
+fn high_walks() -> impl Iterator<Item = Case> {
+    // The kinds of each family, which has a group for each number of them from 2 on.
+    let layouts = [
+        [vec![2; 34], vec![15, 15, 2]].concat(),
+        vec![15, 15, 15, 15, 8],
+        vec![2; 63],
+    ];
+    layouts.into_iter().flat_map(|sizes: Vec<u8>| {
+        let mut kinds = 0..128u8;
+        let families: Vec<Vec<u8>> = sizes
+            .iter()
+            .map(|&size| kinds.by_ref().take(size.into()).collect())
+            .collect();
+        // The families whose largest group stands above position 32.
+        let groups = |family: usize| families[..=family].iter().map(|kinds| kinds.len() - 1).sum::<usize>();
+        let high: Vec<usize> = (0..sizes.len()).filter(|&family| groups(family) > 33).collect();
+        high.into_iter().map(move |family| family_walks(&families, family))
+    })
+}
+
+/// From the entities 0 and 2 in turn two kinds of a family go, and the smaller group's comes back last; then one goes
+/// together with a kind of the first family, and both come back. Entity 0 is older than the layout.
+fn family_walks(families: &[Vec<u8>], walked: usize) -> Case {
+    let groups: Vec<&[u8]> = families
+        .iter()
+        .flat_map(|family| (2..=family.len()).map(move |size| &family[..size]))
+        .collect();
+    let kinds = families.concat();
+    let mut runs = vec![run_of(kinds.iter().map(|&kind| tape::reg(kind)).collect())];
+    runs.push(high_entity(families, 0));
+    runs.push(run_of(layout(&groups)));
+    runs.extend([high_entity(families, 1), high_entity(families, 2)]);
+
+    let low = families[0][0];
+    let (&last, others) = families[walked].split_last().unwrap();
+    for (i, &kind) in others.iter().enumerate() {
+        let index = i as u32 % 2 * 2;
+        let id = (index, 1);
+        for chunks in [
+            tape::with(&[kind, last], tape::take(id)),
+            valued(&[last], index, tape::put(id)),
+            valued(&[kind], index, tape::put(id)),
+            tape::with(&[low, kind], tape::drop(id)),
+            valued(&[kind, low], index, tape::put(id)),
+        ] {
+            runs.push(run_of(chunks));
+        }
+    }
+    runs.push(run_of(vec![tape::kill((0, 1))]));
+    Case {
+        n: 3,
+        k: kinds.len(),
+        preset: None,
+        runs,
+    }
+}
+
+/// An entity with all kinds; the one of index 1 lacks the last of each family, so that a family's counts differ.
+fn high_entity(families: &[Vec<u8>], index: u32) -> Run {
+    let held: Vec<u8> = families
+        .iter()
+        .flat_map(|family| &family[..family.len() - usize::from(index == 1)])
+        .copied()
+        .collect();
+    let parts = held
+        .chunks(16)
+        .flat_map(|kinds| valued(kinds, index, tape::put((index, 1))));
+    run_of([tape::new()].into_iter().chain(parts).collect())
+}
+
+/// HOLD for each kind, with a value that tells kind and entity, then the command.
+fn valued(kinds: &[u8], index: u32, command: Chunk) -> Vec<Chunk> {
+    let value = |kind: u8| u64::from(index + 1) << 32 | u64::from(kind);
+    let holds = kinds.iter().map(|&kind| tape::hold(kind, value(kind)));
+    holds.chain([command]).collect()
 }
 
 /// Each command at every length of buffer up to two bytes more than it takes, accepted and refused.

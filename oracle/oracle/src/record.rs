@@ -164,6 +164,8 @@ pub fn write(seed: u64, budget: usize) -> Vec<u8> {
             "16 staged" => (1, 5),
             "63 groups" => (2, 5),
             "rooms" => (0, 17),
+            // Newer than the file, which stays as it is.
+            "walks above position 32" => continue,
             // Long, and a random case or two has the like.
             _ => (0, usize::MAX),
         };

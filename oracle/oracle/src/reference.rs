@@ -53,6 +53,8 @@ faults! {
     LeaveOwnGroupOnly: "removal leaves the kind's own group only",
     LeaveFromSmallest: "removal leaves every group of the family",
     KillLeavesNoGroup: "a destroyed entity leaves no group",
+    UpwardFolded: "the walk upward has five bits for a group's position",
+    RemovalFolded: "a removal's walk has five bits for a group's position",
     ApplyByIndex: "APPLY walks entities by index",
     ApplyBackwards: "APPLY walks the live list from its end",
     ApplyKeepsDraft: "APPLY keeps the draft",
@@ -513,6 +515,7 @@ impl Store {
 
     fn enter(&mut self, family: usize, entity: Id) {
         for group in 0..self.layout[family].new_kinds.len() {
+            let (family, group) = self.folded(Fault::UpwardFolded, family, group);
             let new = self.layout[family].new_kinds[group].clone();
             if new.iter().any(|&kind| self.place(kind, entity).is_none()) {
                 match self.has(Fault::GoOnUpward) {
@@ -559,17 +562,30 @@ impl Store {
         self.layout[family].counts[group] -= 1;
     }
 
-    /// Leaves the groups from `lowest` to the family's largest, the largest first.
-    fn leave_from(&mut self, family: usize, lowest: usize, entity: Id) {
+    /// The groups from `lowest` to the family's largest, which are left the largest first.
+    fn groups_from(&self, family: usize, lowest: usize) -> Vec<usize> {
         let mut groups: Vec<usize> = (lowest..self.layout[family].new_kinds.len()).rev().collect();
         match self.fault {
             Some(Fault::SmallestFirst) => groups.reverse(),
             Some(Fault::LeaveOwnGroupOnly) => groups = vec![lowest],
             _ => {}
         }
-        for group in groups {
-            self.leave(family, group, entity);
+        groups
+    }
+
+    /// The family and group themselves; with the fault those at the position's remainder by 32.
+    fn folded(&self, fault: Fault, family: usize, group: usize) -> (usize, usize) {
+        if !self.has(fault) {
+            return (family, group);
         }
+        let length = |family: usize| self.layout[family].new_kinds.len();
+        let mut position = ((0..family).map(length).sum::<usize>() + group) % 32;
+        let mut family = 0;
+        while position >= length(family) {
+            position -= length(family);
+            family += 1;
+        }
+        (family, position)
     }
 
     fn remove_rows(&mut self, entity: Id, kinds: &[u8]) -> Vec<Option<u64>> {
@@ -596,7 +612,10 @@ impl Store {
             let own = kinds.iter().filter_map(|&kind| self.layout[family].own_group(kind));
             if let Some(lowest) = own.min() {
                 let lowest = if self.has(Fault::LeaveFromSmallest) { 0 } else { lowest };
-                self.leave_from(family, lowest, entity);
+                for group in self.groups_from(family, lowest) {
+                    let (family, group) = self.folded(Fault::RemovalFolded, family, group);
+                    self.leave(family, group, entity);
+                }
             }
         }
         early.unwrap_or_else(|| self.remove_rows(entity, kinds))
@@ -635,7 +654,9 @@ impl Store {
         };
         if !self.has(Fault::KillLeavesNoGroup) {
             for family in 0..self.layout.len() {
-                self.leave_from(family, 0, entity);
+                for group in self.groups_from(family, 0) {
+                    self.leave(family, group, entity);
+                }
             }
         }
         let kinds = self.registered.clone();
