@@ -15,8 +15,9 @@ pub struct Found {
     /// Random cases that differ, of those tried.
     pub random: usize,
     pub tried: usize,
-    /// Names of the fixed parts with a case that differs, of how many.
+    /// Names of the fixed parts with a case that differs.
     pub fixed: Vec<&'static str>,
+    /// How many fixed parts there are.
     pub parts: usize,
     /// Whether the comparison of *start* differs.
     pub at_start: bool,
