@@ -382,10 +382,10 @@ fn high_entity(families: &[Vec<u8>], index: u32) -> Run {
         .flat_map(|family| &family[..family.len() - usize::from(index == 1)])
         .copied()
         .collect();
-    let parts = held
+    let puts = held
         .chunks(16)
         .flat_map(|kinds| valued(kinds, index, tape::put((index, 1))));
-    run_of([tape::new()].into_iter().chain(parts).collect())
+    run_of([tape::new()].into_iter().chain(puts).collect())
 }
 
 /// HOLD for each kind, with a value that tells kind and entity, then the command.
