@@ -7,8 +7,8 @@ use Prim.Native.Nat.{ℕ, zero, suc, _+_, _-_, _≤_, _<_}
 use native.Mathlib.Omega.{arith}
 use borrow.Author.Tests.{eq-eqb}
 use lib.Dec.{eqb}
-use lib.ListN.{length, getD, take, set}
-use lib.Seq.{getD-set-same, getD-set-other}
+use lib.ListN.{length, getD, take, set, length-append}
+use lib.Seq.{getD-set-same, getD-set-other, take-length, drop-length}
 use Rattle.model.specs.Numbers.{MAX-GROUP-COUNT}
 use Rattle.model.specs.Lists.{countOf}
 use Rattle.model.proofs.ListLaws.{count-append, shorter}
@@ -21,7 +21,7 @@ use Rattle.words.specs.Table.{table}
 use Rattle.words.proofs.Tables.{table-snoc, table-set}
 use Rattle.layout.specs.Layout.{Arrays, startOf, widthOf, groupCount, kindsAt, aritiesAt, groupsFrom, familyAt, KindSet, FamilyFormed, WellFormed}
 use Rattle.layout.specs.ByValue.{arraysOf, ArraysSized, layoutMeaning, Formed}
-use Rattle.layout.specs.Grow.{LooseAt, widened, Extends, Extended, openedOf, GroupKinds, FreshAsk, FreshDone, OntoAsk, OntoDone}
+use Rattle.layout.specs.Grow.{LooseAt, replaced, putIn, Places, Placed, openedOf, GroupKinds, FreshAsk, FreshDone, OntoAsk, OntoDone}
 use Rattle.layout.specs.Add.{Fitting}
 use Rattle.layout.specs.declared.group_layout.Fit.{Fit}
 use Rattle.layout.specs.declared.group_layout.Layout.{Layout}
@@ -88,9 +88,6 @@ module _ (l : Layout) (hs : List ℕ) (ask : FreshAsk l hs) (sized : ArraysSized
   pub opn-groups : groupCount opn ≡ l .groups
   opn-groups = start-next (opn .ends) (l .families) ∙ groups-end
 
-  no-kinds : kindsAt opn (l .families) ≡ []
-  no-kinds = ap₂ (λ (a b : ℕ). between a b (l .kinds)) kinds-start kinds-end ∙ between-none (l .width) (l .kinds)
-
   no-arities : aritiesAt opn (l .families) ≡ []
   no-arities = ap₂ (λ (a b : ℕ). between a b (l .arities)) groups-start groups-end ∙ between-none (l .groups) (l .arities)
 
@@ -127,7 +124,7 @@ module _ (l : Layout) (hs : List ℕ) (ask : FreshAsk l hs) (sized : ArraysSized
         others = formed-opn;
       }
 
-  kinds-opn : KindSet (widened (l .kinds) (l .width) hs (l .width))
+  kinds-opn : KindSet (replaced (l .kinds) (l .width) (l .width) hs (l .width))
   kinds-opn =
       record {
         once = λ k. rw (counted k) (sum-once (countOf eqb k (take (l .width) (l .kinds))) (countOf eqb k hs) (w .once k) (s .once k) (apart k));
@@ -140,7 +137,7 @@ module _ (l : Layout) (hs : List ℕ) (ask : FreshAsk l hs) (sized : ArraysSized
       w : KindSet (take (l .width) (l .kinds))
       w = rw (ask .group .formed .width) (good .kinds)
 
-      counted : (k : ℕ) → countOf eqb k (widened (l .kinds) (l .width) hs (l .width)) ≡ countOf eqb k (take (l .width) (l .kinds)) + countOf eqb k hs
+      counted : (k : ℕ) → countOf eqb k (replaced (l .kinds) (l .width) (l .width) hs (l .width)) ≡ countOf eqb k (take (l .width) (l .kinds)) + countOf eqb k hs
       counted k =
           count-append eqb k (take (l .width) (l .kinds)) (hs ++ between (l .width) (l .width) (l .kinds))
           ∙ omega (arith, count-append eqb k hs (between (l .width) (l .width) (l .kinds)), ap (countOf eqb k) (between-none (l .width) (l .kinds)))
@@ -148,16 +145,17 @@ module _ (l : Layout) (hs : List ℕ) (ask : FreshAsk l hs) (sized : ArraysSized
       apart : (k : ℕ) → 1 ≤ countOf eqb k hs → countOf eqb k (take (l .width) (l .kinds)) ≡ 0
       apart k h = rw (ask .group .formed .width) (ask .unknown k h)
 
-  pub fresh-extends : Extends (openedOf l) (l .families) hs (length hs)
-  fresh-extends =
+  pub fresh-places : Places (openedOf l) (l .families) hs 0 (length hs)
+  fresh-places =
       record {
         loose = loose-opn;
         width = sym opn-width;
         groups = sym opn-groups;
-        kinds = rw (kinds-end, opn-width) kinds-opn;
-        arity = omega (arith, kinds-end, kinds-start);
+        kindSet = rw (kinds-start, kinds-end, opn-width) kinds-opn;
+        more = omega (arith, kinds-end, kinds-start);
         least = ask .group .least;
         most = ask .group .most;
+        place = omega (arith, groups-end, groups-start);
         rising = rw no-arities (rising-alone (length hs) (ask .group .least));
       }
 
@@ -169,14 +167,14 @@ module _ (l : Layout) (hs : List ℕ) (ask : FreshAsk l hs) (sized : ArraysSized
       let ge = end-same (l .ends) (l .groups) i (omega arith) in
       rw (s, e, gs, ge)
 
-  pub fresh-done : (r : Layout) → Extended (openedOf l) (l .families) hs (length hs) r → FreshDone l hs r
+  pub fresh-done : (r : Layout) → Placed (openedOf l) (l .families) hs 0 (length hs) r → FreshDone l hs r
   fresh-done r x =
       record {
         formed = x .formed;
         means =
             ap (λ (m : ℕ). table m (familyAt [] (arraysOf r))) (x .families)
             ∙ table-snoc [] (newGroup hs ∷ []) (l .families) (familyAt [] now) (familyAt [] (arraysOf r))
-            (x .here ∙ ap₂ (λ (ks ars : List ℕ). groupsFrom [] 0 (ks ++ hs) 0 (ars ++ (length hs ∷ []))) no-kinds no-arities ∙ from-alone 0 hs)
+            (x .here ∙ ap (λ (ars : List ℕ). groupsFrom [] 0 hs 0 (putIn 0 (length hs) ars)) no-arities ∙ from-alone 0 hs)
             (λ i h. x .others i (omega arith) (omega arith) ∙ same-family i h);
       }
 
@@ -201,20 +199,45 @@ module _ (l : Layout) (f : ℕ) (hs : List ℕ) (ask : OntoAsk l f hs) (sized : 
   grows-length : length own + length lacks ≡ length hs
   grows-length = without-length hs own (ask .group .staged .once) (Arrays.family-kinds has well f (ask .inside) .once) (ask .holds)
 
-  kinds-grown : KindSet (widened (l .kinds) (getD (l .«kind_ends») f 0) lacks (widthOf has))
-  kinds-grown =
-      record {
-        once = λ k. rw (counted k) (sum-once (countOf eqb k (take (widthOf has) (l .kinds))) (countOf eqb k lacks) (well .kinds .once k) (omega (arith, ask .group .staged .once k, count-without-le hs own k)) (ask .unknown k));
-        known = λ k h. omega (arith, counted k, well .kinds .known k h, ask .group .staged .known k h, count-without-le hs own k);
-      }
-    where
-      counted : (k : ℕ) → countOf eqb k (widened (l .kinds) (getD (l .«kind_ends») f 0) lacks (widthOf has)) ≡ countOf eqb k (take (widthOf has) (l .kinds)) + countOf eqb k lacks
-      counted k =
-          count-append eqb k (take (getD (l .«kind_ends») f 0) (l .kinds)) (lacks ++ between (getD (l .«kind_ends») f 0) (widthOf has) (l .kinds))
-          ∙ omega (arith, count-append eqb k lacks (between (getD (l .«kind_ends») f 0) (widthOf has) (l .kinds)), count-append eqb k (take (getD (l .«kind_ends») f 0) (l .kinds)) (between (getD (l .«kind_ends») f 0) (widthOf has) (l .kinds)), ap (countOf eqb k) (between-join (l .kinds) (getD (l .«kind_ends») f 0) (widthOf has) (Arrays.kinds-inside has well f (ask .inside))))
+  -- other kinds for the family's: its own and those that it lacks
+  module _ (new : List ℕ) (counts : (k : ℕ) → countOf eqb k new ≡ countOf eqb k own + countOf eqb k lacks) where
+    abbrev st : ℕ
+    st = startOf (l .«kind_ends») f
 
-  pub onto-extends : Extends l f lacks (length hs)
-  onto-extends =
+    abbrev en : ℕ
+    en = getD (l .«kind_ends») f 0
+
+    replaced-count : (k : ℕ) → countOf eqb k (replaced (l .kinds) st en new (widthOf has)) ≡ countOf eqb k (take (widthOf has) (l .kinds)) + countOf eqb k lacks
+    replaced-count k =
+        let c1 = count-append eqb k (take st (l .kinds)) (new ++ between en (widthOf has) (l .kinds)) in
+        let c2 = count-append eqb k new (between en (widthOf has) (l .kinds)) in
+        let c3 = count-append eqb k (take en (l .kinds)) (between en (widthOf has) (l .kinds)) in
+        let c4 = ap (countOf eqb k) (between-join (l .kinds) en (widthOf has) (Arrays.kinds-inside has well f (ask .inside))) in
+        let c5 = count-append eqb k (take st (l .kinds)) own in
+        let c6 = ap (countOf eqb k) (between-join (l .kinds) st en (Arrays.kind-order has well f (ask .inside))) in
+        omega (arith, counts k)
+
+    replaced-set : KindSet (replaced (l .kinds) st en new (widthOf has))
+    replaced-set =
+        record {
+          once = λ k. rw (replaced-count k) (sum-once (countOf eqb k (take (widthOf has) (l .kinds))) (countOf eqb k lacks) (well .kinds .once k) (omega (arith, ask .group .staged .once k, count-without-le hs own k)) (ask .unknown k));
+          known = λ k h. omega (arith, replaced-count k, well .kinds .known k h, ask .group .staged .known k h, count-without-le hs own k);
+        }
+
+  pub all-length : length (own ++ lacks) ≡ length hs
+  all-length = length-append own lacks ∙ grows-length
+
+  abbrev end : ℕ
+  end = getD (l .ends) f 0 - startOf (l .ends) f
+
+  at-end : putIn end (length hs) (aritiesAt has f) ≡ aritiesAt has f ++ (length hs ∷ [])
+  at-end =
+      let ars = aritiesAt has f in
+      ap (λ (n : ℕ). putIn n (length hs) ars) (sym (Arrays.arities-length has well sized f (ask .inside)))
+      ∙ ap₂ (λ (p q : List ℕ). p ++ (length hs ∷ q)) (take-length ars) (drop-length ars)
+
+  pub onto-places : Places l f (own ++ lacks) end (length hs)
+  onto-places =
       record {
         loose = record {
           few = well .few;
@@ -227,21 +250,22 @@ module _ (l : Layout) (f : ℕ) (hs : List ℕ) (ask : OntoAsk l f hs) (sized : 
         };
         width = ask .group .formed .width;
         groups = ask .group .formed .groups;
-        kinds = kinds-grown;
-        arity = omega (arith, own-length, grows-length);
-        least = ask .group .least;
-        most = ask .group .most;
-        rising = rising-snoc 1 (getD (l .«kind_ends») f 0 - startOf (l .«kind_ends») f) (length hs) (aritiesAt has f) (well .family f (ask .inside) .rising) (omega (arith, own-length, ask .longer));
+        kindSet = replaced-set (own ++ lacks) (λ k. count-append eqb k own lacks);
+        more = omega (arith, length-append own lacks, own-length, Arrays.kind-order has well f (ask .inside));
+        least = omega (arith, all-length, ask .group .least);
+        most = omega (arith, all-length, ask .group .most);
+        place = omega (arith, Arrays.group-order has well f (ask .inside));
+        rising = rw (all-length, at-end) (rising-snoc 1 (getD (l .«kind_ends») f 0 - startOf (l .«kind_ends») f) (length hs) (aritiesAt has f) (well .family f (ask .inside) .rising) (omega (arith, own-length, ask .longer)));
       }
 
-  pub onto-done : (r : Layout) → Extended l f lacks (length hs) r → OntoDone l f hs r
+  pub onto-done : (r : Layout) → Placed l f (own ++ lacks) end (length hs) r → OntoDone l f hs r
   onto-done r x =
       record {
         formed = x .formed;
         means =
             ap (λ (m : ℕ). table m (familyAt [] (arraysOf r))) (x .families)
             ∙ table-set [] (familyAt [] has f ++ (newGroup lacks ∷ [])) (l .families) (familyAt [] has) (familyAt [] (arraysOf r)) f (ask .inside)
-            (x .here ∙ ap (λ (s : ℕ). groupsFrom [] 0 (own ++ lacks) 0 (aritiesAt has f ++ (s ∷ []))) (sym grows-length)
+            (x .here ∙ ap (groupsFrom [] 0 (own ++ lacks) 0) at-end ∙ ap (λ (s : ℕ). groupsFrom [] 0 (own ++ lacks) 0 (aritiesAt has f ++ (s ∷ []))) (sym grows-length)
             ∙ from-snoc 0 own lacks 0 (aritiesAt has f) (Arrays.family-rising has well sized f (ask .inside))
             ∙ ap (λ (x : Family). x ++ (newGroup lacks ∷ [])) (no-counts 0 (startOf (l .ends) f) own 0 (aritiesAt has f)))
             (λ i h ne. x .others i h ne);

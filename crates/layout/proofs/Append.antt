@@ -22,14 +22,18 @@ append-two d₀ d₁ d₂ s t at r₁ r₂ a b =
           ∙ append-assoc (take at d₀) s t;
     }
 
+-- appended from the start, it is all that there is
+pub append-all : (d₀ s d : List ℕ) (r : ℕ) → Appended d₀ 0 s d r → (take r d ≡ s) × (r ≡ length s)
+append-all d₀ s d r a = let n : r ≡ 0 + length s = a .next in (ap (λ (k : ℕ). take k d) n ∙ a .front, omega arith)
+
 -- three from the start spread more into s
-pub spread-three : (d₀ d₁ d₂ d₃ s more : List ℕ) (at r₁ r₂ r₃ : ℕ) → at ≤ length s
-    → Appended d₀ 0 (take at s) d₁ r₁ → Appended d₁ r₁ more d₂ r₂ → Appended d₂ r₂ (drop at s) d₃ r₃ → Spread d₀ s at more d₃
-spread-three d₀ d₁ d₂ d₃ s more at r₁ r₂ r₃ h a b c =
-    let w = append-two d₀ d₂ d₃ (take at s ++ more) (drop at s) 0 r₂ r₃ (append-two d₀ d₁ d₂ (take at s) more 0 r₁ r₂ a b) c in
-    let long : 0 + length ((take at s ++ more) ++ drop at s) ≡ length s + length more =
-    omega (arith, length-append (take at s ++ more) (drop at s), length-append (take at s) more, length-take-le at s h, length-drop at s) in
-    record { size = w .size; front = ap (λ (k : ℕ). take k d₃) (sym long) ∙ w .front ∙ append-assoc (take at s) more (drop at s) }
+pub spread-three : (d₀ d₁ d₂ d₃ s more : List ℕ) (a e r₁ r₂ r₃ : ℕ) → a ≤ length s
+    → Appended d₀ 0 (take a s) d₁ r₁ → Appended d₁ r₁ more d₂ r₂ → Appended d₂ r₂ (drop e s) d₃ r₃ → Spread d₀ s a e more d₃
+spread-three d₀ d₁ d₂ d₃ s more a e r₁ r₂ r₃ h x y z =
+    let w = append-two d₀ d₂ d₃ (take a s ++ more) (drop e s) 0 r₂ r₃ (append-two d₀ d₁ d₂ (take a s) more 0 r₁ r₂ x y) z in
+    let long : 0 + length ((take a s ++ more) ++ drop e s) ≡ a + length more + (length s - e) =
+    omega (arith, length-append (take a s ++ more) (drop e s), length-append (take a s) more, length-take-le a s h, length-drop e s) in
+    record { size = w .size; front = ap (λ (k : ℕ). take k d₃) (sym long) ∙ w .front ∙ append-assoc (take a s) more (drop e s) }
 
 -- ---- the loop that adds to a part
 

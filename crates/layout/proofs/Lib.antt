@@ -4,5 +4,5 @@ pub mod Family
 pub mod Fits
 pub mod Arrays
 pub mod Groups
-pub mod Extend
+pub mod Placing
 pub mod Adding

@@ -1,4 +1,4 @@
--- How a layout grows: a family with more kinds after its own and one group more. Assumes nothing.
+-- How a layout grows: a family with other kinds, no fewer, and one group more at a place. Assumes nothing.
 use mathlib.Core.Path.{_≡_}
 use mathlib.Core.Logic.{_≢_}
 use mathlib.Core.Bool.{true}
@@ -22,10 +22,10 @@ pub record Appended (d₀ : List ℕ) (at : ℕ) (s d : List ℕ) (r : ℕ) : Ty
   pub size : length d ≡ length d₀
   pub front : take (at + length s) d ≡ take at d₀ ++ s
 
--- d starts with s, and more put in at
-pub record Spread (d₀ s : List ℕ) (at : ℕ) (more d : List ℕ) : Type 0 where
+-- d starts with s, with more in the place of what s has from a up to e
+pub record Spread (d₀ s : List ℕ) (a e : ℕ) (more d : List ℕ) : Type 0 where
   pub size : length d ≡ length d₀
-  pub front : take (length s + length more) d ≡ take at s ++ (more ++ drop at s)
+  pub front : take (a + length more + (length s - e)) d ≡ take a s ++ (more ++ drop e s)
 
 -- each number from a to e - 1 is by more
 pub record Raised (d₀ : List ℕ) (a e by : ℕ) (d : List ℕ) : Type 0 where
@@ -50,27 +50,32 @@ pub record LooseAt (a : Arrays) (f : ℕ) : Type 0 where
   pub order : (i : ℕ) → i < a .families → startOf (a .ends) i ≤ getD (a .ends) i 0
   pub others : (i : ℕ) → i < a .families → i ≢ f → FamilyFormed a i
 
--- the kinds up to place k, then more, then the rest up to w
-abbrev pub widened : List ℕ → ℕ → List ℕ → ℕ → List ℕ
-widened ks k more w = take k ks ++ (more ++ between k w ks)
+-- the first w of a list, with more in the place of what it has from a up to e
+abbrev pub replaced : List ℕ → ℕ → ℕ → List ℕ → ℕ → List ℕ
+replaced l a e more w = take a l ++ (more ++ between e w l)
 
--- family f may get these kinds and a group of arity s
-pub record Extends (l : Layout) (f : ℕ) (more : List ℕ) (s : ℕ) : Type 0 where
+-- the list with s put in at a place
+abbrev pub putIn : ℕ → ℕ → List ℕ → List ℕ
+putIn at s l = take at l ++ (s ∷ drop at l)
+
+-- family f may have these kinds, no fewer than its own, and a group of arity s more, at a place among its groups
+pub record Places (l : Layout) (f : ℕ) (kinds : List ℕ) (at s : ℕ) : Type 0 where
   pub loose : LooseAt (arraysOf l) f
   pub width : l .width ≡ widthOf (arraysOf l)
   pub groups : l .groups ≡ groupCount (arraysOf l)
-  pub kinds : KindSet (widened (l .kinds) (getD (l .«kind_ends») f 0) more (widthOf (arraysOf l)))
-  pub arity : s ≡ getD (l .«kind_ends») f 0 - startOf (l .«kind_ends») f + length more
-  pub least : 2 ≤ s
-  pub most : s ≤ MAX-GROUP-ARITY
-  pub rising : AritiesRising 1 s (aritiesAt (arraysOf l) f ++ (s ∷ []))
+  pub kindSet : KindSet (replaced (l .kinds) (startOf (l .«kind_ends») f) (getD (l .«kind_ends») f 0) kinds (widthOf (arraysOf l)))
+  pub more : getD (l .«kind_ends») f 0 ≤ startOf (l .«kind_ends») f + length kinds
+  pub least : 2 ≤ length kinds
+  pub most : length kinds ≤ MAX-GROUP-ARITY
+  pub place : startOf (l .ends) f + at ≤ getD (l .ends) f 0
+  pub rising : AritiesRising 1 (length kinds) (putIn at s (aritiesAt (arraysOf l) f))
 
--- r is l with more at the end of family f's kinds and a group of arity s after its groups; the other families are as they were
-pub record Extended (l : Layout) (f : ℕ) (more : List ℕ) (s : ℕ) (r : Layout) : Type 0 where
+-- r is l with these kinds for family f's, and a group of arity s more at that place; the other families are as they were
+pub record Placed (l : Layout) (f : ℕ) (kinds : List ℕ) (at s : ℕ) (r : Layout) : Type 0 where
   pub formed : Formed r
   pub families : r .families ≡ l .families
   pub others : (i : ℕ) → i < l .families → i ≢ f → familyAt [] (arraysOf r) i ≡ familyAt [] (arraysOf l) i
-  pub here : familyAt [] (arraysOf r) f ≡ groupsFrom [] 0 (kindsAt (arraysOf l) f ++ more) 0 (aritiesAt (arraysOf l) f ++ (s ∷ []))
+  pub here : familyAt [] (arraysOf r) f ≡ groupsFrom [] 0 kinds 0 (putIn at s (aritiesAt (arraysOf l) f))
 
 -- the layout with an empty family at its end
 abbrev pub openedOf : Layout → Layout

@@ -1,6 +1,6 @@
 // The layout of groups by value, and a group added to it.
 ghost use mathlib.Core.Path.{_≡_};
-ghost use mathlib.Core.List.{[]};
+ghost use mathlib.Core.List.{[], _++_};
 ghost use Prim.Native.Nat.{_+_, _-_, _≤_, _<_};
 ghost use lib.ListN.{length, take};
 ghost use Rattle.model.specs.Numbers.{LIST-CAPACITY, MAX-GROUP-COUNT, MAX-KINDS};
@@ -8,7 +8,7 @@ ghost use Rattle.model.specs.Model.{mem, within, meets, sameSet, isGroup, witho
 ghost use Rattle.layout.specs.Layout.{KindSet, groupsFrom, arraysIn, familiesOf, startOf};
 ghost use Rattle.layout.specs.ByValue.{Formed};
 ghost use Rattle.layout.specs.Fit.{partOf, joinFit, fitFrom, GroupAsk, FamilyAsk, FitAsk};
-ghost use Rattle.layout.specs.Grow.{Appended, Spread, Raised, RaiseAsk, Extends, Extended, openedOf, FreshAsk, FreshDone, OntoAsk, OntoDone};
+ghost use Rattle.layout.specs.Grow.{Appended, Spread, Raised, RaiseAsk, Places, Placed, openedOf, FreshAsk, FreshDone, OntoAsk, OntoDone};
 ghost use Rattle.layout.specs.Add.{Fitting, AddsGroup};
 
 // The families one after another: their kinds in order, their groups' arities, and where each family's kinds and groups end.
@@ -192,14 +192,14 @@ fn append(dst: &mut [u8], at: usize, src: &[u8]) -> usize
     at + src.len()
 }
 
-// Writes src into dst, with more put in at a place.
-fn spread(dst: &mut [u8], src: &[u8], at: usize, more: &[u8])
-    requires { ⌜ (at ≤ length (now src)) × (length (now src) + length (now more) ≤ length (now dst)) ⌝ }
-    ensures { λ r. ⌜ Spread (now (dst .entry)) (now (src .entry)) at (now (more .entry)) (now (dst .exit)) ⌝ }
+// Writes src into dst, with more in the place of its part from..to.
+fn spread(dst: &mut [u8], src: &[u8], from: usize, to: usize, more: &[u8])
+    requires { ⌜ (from ≤ to) × (to ≤ length (now src)) × (from + length (now more) + (length (now src) - to) ≤ length (now dst)) ⌝ }
+    ensures { λ r. ⌜ Spread (now (dst .entry)) (now (src .entry)) from to (now (more .entry)) (now (dst .exit)) ⌝ }
 {
-    let first = append(&mut *dst, 0, &src[..at]);
+    let first = append(&mut *dst, 0, &src[..from]);
     let second = append(&mut *dst, first, more);
-    append(&mut *dst, second, &src[at..]);
+    append(&mut *dst, second, &src[to..]);
 }
 
 // Adds to each number of a part.
@@ -247,7 +247,7 @@ fn start_of(ends: &[u8], f: usize) -> usize
     ends[before] as usize
 }
 
-// The layout with an empty family at its end, for `extended` to fill.
+// The layout with an empty family at its end, for `placed` to fill.
 fn opened(l: Layout) -> Layout
     requires { ⌜ (l .families < MAX-GROUP-COUNT) × (l .width ≤ MAX-KINDS) × (l .groups ≤ MAX-GROUP-COUNT) ⌝ }
     ensures { λ r. ⌜ r ≡ openedOf l ⌝ }
@@ -270,35 +270,49 @@ fn opened(l: Layout) -> Layout
     }
 }
 
-// Family f with more kinds after its own, and a group of all of them.
-fn extended(l: Layout, f: usize, more: &[u8], arity: u8) -> Layout
-    requires { ⌜ Extends l f (now more) arity ⌝ }
-    ensures { λ r. ⌜ Extended l f (now (more .entry)) arity r ⌝ }
+// A family's kinds, and after them the staged kinds that it lacks.
+fn wider(ks: &[u8], staged: &[u8]) -> Kinds16
+    requires { ⌜ (length (now staged) ≤ LIST-CAPACITY) × (length (now ks ++ without (now staged) (now ks)) ≤ LIST-CAPACITY) ⌝ }
+    ensures { λ r. ⌜ (take (r .count) (r .kinds) ≡ now (ks .entry) ++ without (now (staged .entry)) (now (ks .entry))) × (r .count ≤ LIST-CAPACITY) ⌝ }
+{
+    let m = missing(ks, staged);
+    let more = m.kinds;
+    let n = m.count;
+    let mut kinds = [0u8; model::LIST_CAPACITY];
+    let first = append(&mut kinds, 0, ks);
+    let count = append(&mut kinds, first, &more[..n]);
+    Kinds16 { kinds, count }
+}
+
+// Family f with other kinds, no fewer than its own, and a group more, at a place among its groups.
+fn placed(l: Layout, f: usize, kinds: &[u8], at: usize, arity: u8) -> Layout
+    requires { ⌜ Places l f (now kinds) at arity ⌝ }
+    ensures { λ r. ⌜ Placed l f (now (kinds .entry)) at arity r ⌝ }
 {
     let families = l.families;
-    let width = l.width;
-    let groups = l.groups;
     let mut kind_ends = l.kind_ends;
     let mut ends = l.ends;
+    let k = start_of(&kind_ends, f);
     let ke = kind_ends[f] as usize;
-    let ge = ends[f] as usize;
+    let more = kinds.len() - (ke - k);
     let old = l.kinds;
-    let mut kinds = [0u8; model::MAX_KINDS];
-    spread(&mut kinds, &old[..width], ke, more);
+    let mut all = [0u8; model::MAX_KINDS];
+    spread(&mut all, &old[..l.width], k, ke, kinds);
+    let g = start_of(&ends, f) + at;
     let sizes = l.arities;
     let one = [arity; 1];
     let mut arities = [0u8; words::GROUP_PLACES];
-    spread(&mut arities, &sizes[..groups], ge, &one);
-    raise(&mut kind_ends, f, families, more.len() as u8);
+    spread(&mut arities, &sizes[..l.groups], g, g, &one);
+    raise(&mut kind_ends, f, families, more as u8);
     raise(&mut ends, f, families, 1);
     Layout {
-        kinds,
+        kinds: all,
         arities,
         kind_ends,
         ends,
         families,
-        width: width + more.len(),
-        groups: groups + 1,
+        width: l.width + more,
+        groups: l.groups + 1,
     }
 }
 
@@ -309,7 +323,7 @@ fn fresh(l: Layout, staged: &[u8]) -> Layout
 {
     let f = l.families;
     let open = opened(l);
-    extended(open, f, staged, staged.len() as u8)
+    placed(open, f, staged, 0, staged.len() as u8)
 }
 
 // The staged kinds as the next larger group of family f.
@@ -321,10 +335,13 @@ fn grown(l: Layout, f: usize, staged: &[u8]) -> Layout
     let kind_ends = l.kind_ends;
     let k = start_of(&kind_ends, f);
     let ke = kind_ends[f] as usize;
-    let m = missing(&kinds[k..ke], staged);
-    let more = m.kinds;
+    let m = wider(&kinds[k..ke], staged);
+    let all = m.kinds;
     let n = m.count;
-    extended(l, f, &more[..n], staged.len() as u8)
+    let ends = l.ends;
+    let g = start_of(&ends, f);
+    let ge = ends[f] as usize;
+    placed(l, f, &all[..n], ge - g, staged.len() as u8)
 }
 
 // Adds them as a family of their own, if a group more may be.

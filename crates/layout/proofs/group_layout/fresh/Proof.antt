@@ -2,9 +2,9 @@ use mathlib.Core.Path.{sym, subst}
 use Prim.Native.Nat.{_-_}
 use lib.ListN.{length}
 use Rattle.layout.specs.ByValue.{arraysOf, ArraysSized}
-use Rattle.layout.specs.Grow.{Extends, Extended}
+use Rattle.layout.specs.Grow.{Places, Placed}
 use Rattle.layout.specs.declared.group_layout.Layout.{Layout}
-use Rattle.layout.proofs.Adding.{few, fresh-extends, fresh-done}
+use Rattle.layout.proofs.Adding.{few, fresh-places, fresh-done}
 use native.Mathlib.Omega.{arith}
 use borrow.Author.Needs.{needs}
 use Rattle.layout.proofs.group_layout.fresh.Statement.{statement}
@@ -20,19 +20,19 @@ opened-requires c κs =
     let g = s .pre .group .formed in
     (few (s .args .l) (s .args .staged .now) (s .pre) (sizes s), omega (arith, g .width, g .good .wide), omega (arith, s .pre .group .room))
 
-cast-extended : tie.Need-cast-extended
-cast-extended c = omega (arith, c .before .before .pre .group .most)
+cast-placed : tie.Need-cast-placed
+cast-placed c = omega (arith, c .before .before .pre .group .most)
 
-extended-requires : tie.Need-extended-requires
-extended-requires c κs =
+placed-requires : tie.Need-placed-requires
+placed-requires c κs =
     let s = c .before .before in
-    subst (λ (r : Layout). Extends r (s .args .l .families) (s .args .staged .now) (length (s .args .staged .now))) (sym (c .opened .ensures)) (fresh-extends (s .args .l) (s .args .staged .now) (s .pre) (sizes s))
+    subst (λ (r : Layout). Places r (s .args .l .families) (s .args .staged .now) 0 (length (s .args .staged .now))) (sym (c .opened .ensures)) (fresh-places (s .args .l) (s .args .staged .now) (s .pre) (sizes s))
 
 returns : tie.Need-returns
 returns c =
     let s = c .before .before .before in
-    fresh-done (s .args .l) (s .args .staged .now) (s .pre) (sizes s) (c .extended .result)
-    (subst (λ (r : Layout). Extended r (s .args .l .families) (s .args .staged .now) (length (s .args .staged .now)) (c .extended .result)) (c .before .opened .ensures) (c .extended .ensures))
+    fresh-done (s .args .l) (s .args .staged .now) (s .pre) (sizes s) (c .placed .result)
+    (subst (λ (r : Layout). Placed r (s .args .l .families) (s .args .staged .now) 0 (length (s .args .staged .now)) (c .placed .result)) (c .before .opened .ensures) (c .placed .ensures))
 
 pub fresh-spec : {M : Type 1} → statement M
-fresh-spec = tie.close (tie.spec opened-requires cast-extended extended-requires returns)
+fresh-spec = tie.close (tie.spec opened-requires cast-placed placed-requires returns)
