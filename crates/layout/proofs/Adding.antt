@@ -1,33 +1,33 @@
--- A group added to a well-formed layout: as a family of its own, or onto the one family that it holds. Assumes nothing.
-use mathlib.Core.Path.{_≡_, refl, sym, ap, ap₂, _∙_, subst}
+-- A group added to a well-formed layout: as a family of its own, or at its place in the one family that it shares kinds with. Assumes nothing.
+use mathlib.Core.Path.{_≡_, refl, sym, ap, ap₂, _∙_}
 use mathlib.Core.Logic.{_≢_}
-use mathlib.Core.Bool.{true, false, true≢false}
+use mathlib.Core.Bool.{false}
 use mathlib.Core.List.{List, [], _∷_, _++_}
 use Prim.Native.Nat.{ℕ, zero, suc, _+_, _-_, _≤_, _<_}
 use native.Mathlib.Omega.{arith}
-use borrow.Author.Tests.{eq-eqb}
 use lib.Dec.{eqb}
-use lib.ListN.{length, getD, take, set, length-append}
-use lib.Seq.{getD-set-same, getD-set-other, take-length, drop-length}
-use Rattle.model.specs.Numbers.{MAX-GROUP-COUNT}
+use lib.ListN.{length, getD, take, set}
+use lib.Seq.{getD-set-same, getD-set-other}
+use Rattle.model.specs.Numbers.{MAX-GROUP-ARITY, MAX-GROUP-COUNT}
 use Rattle.model.specs.Lists.{countOf}
-use Rattle.model.proofs.ListLaws.{count-append, shorter}
-use Rattle.model.specs.Model.{Family, newGroup, grown, mem, meets, within, without, sameSet, kindsOf, groupsOf}
+use Rattle.model.proofs.ListLaws.{count-append}
+use Rattle.model.specs.Model.{Family, newGroup, mem, meets, without, kindsOf, groupsOf, isGroup, nested, chains, familyWith, familiesWith}
 use Rattle.model.proofs.BoolLaws.{bool-cases, by-eq, sum-once}
-use Rattle.model.proofs.KindLists.{out-count, unmet, count-without, count-without-le, within-counts, without-length}
-use Rattle.model.proofs.Draft.{not-all}
+use Rattle.model.proofs.KindLists.{out-count, unmet, count-without, count-without-le}
+use Rattle.model.proofs.Draft.{chains-largest}
 use Rattle.words.specs.Part.{between}
 use Rattle.words.specs.Table.{table}
 use Rattle.words.proofs.Tables.{table-snoc, table-set}
 use Rattle.layout.specs.Layout.{Arrays, startOf, widthOf, groupCount, kindsAt, aritiesAt, groupsFrom, familyAt, KindSet, FamilyFormed, WellFormed}
 use Rattle.layout.specs.ByValue.{arraysOf, ArraysSized, layoutMeaning, Formed}
-use Rattle.layout.specs.Grow.{LooseAt, replaced, putIn, Places, Placed, openedOf, GroupKinds, FreshAsk, FreshDone, OntoAsk, OntoDone}
+use Rattle.layout.specs.Grow.{LooseAt, replaced, putIn, mergedKinds, FillAsk, FillDone, openedOf, GroupKinds, FreshAsk, FreshDone, OntoAsk, OntoDone}
+use Rattle.layout.specs.Fit.{placeIn}
 use Rattle.layout.specs.Add.{Fitting}
 use Rattle.layout.specs.declared.group_layout.Fit.{Fit}
 use Rattle.layout.specs.declared.group_layout.Layout.{Layout}
-use Rattle.layout.proofs.KindSets.{same-set}
-use Rattle.layout.proofs.Family.{rising-snoc, rising-alone, from-snoc, from-alone, no-counts, start-next}
+use Rattle.layout.proofs.Family.{rising-alone, from-alone, no-counts, start-next}
 use Rattle.words.proofs.Part.{between-join, between-none}
+use Rattle.layout.proofs.Inserting.{Inserts, inserts, merged-count, merged-length, merged-most, place-le, rising-one}
 use Rattle.layout.proofs.Fits.{IsFresh, IsOnto, Target, target, untouched-at}
 use Rattle.layout.proofs.Arrays
 
@@ -145,7 +145,7 @@ module _ (l : Layout) (hs : List ℕ) (ask : FreshAsk l hs) (sized : ArraysSized
       apart : (k : ℕ) → 1 ≤ countOf eqb k hs → countOf eqb k (take (l .width) (l .kinds)) ≡ 0
       apart k h = rw (ask .group .formed .width) (ask .unknown k h)
 
-  pub fresh-places : Places (openedOf l) (l .families) hs 0 (length hs)
+  pub fresh-places : FillAsk (openedOf l) (l .families) hs 0 (length hs)
   fresh-places =
       record {
         loose = loose-opn;
@@ -167,7 +167,7 @@ module _ (l : Layout) (hs : List ℕ) (ask : FreshAsk l hs) (sized : ArraysSized
       let ge = end-same (l .ends) (l .groups) i (omega arith) in
       rw (s, e, gs, ge)
 
-  pub fresh-done : (r : Layout) → Placed (openedOf l) (l .families) hs 0 (length hs) r → FreshDone l hs r
+  pub fresh-done : (r : Layout) → FillDone (openedOf l) (l .families) hs 0 (length hs) r → FreshDone l hs r
   fresh-done r x =
       record {
         formed = x .formed;
@@ -178,9 +178,9 @@ module _ (l : Layout) (hs : List ℕ) (ask : FreshAsk l hs) (sized : ArraysSized
             (λ i h. x .others i (omega arith) (omega arith) ∙ same-family i h);
       }
 
--- ---- onto a family
+-- ---- at a place in a family
 
-module _ (l : Layout) (f : ℕ) (hs : List ℕ) (ask : OntoAsk l f hs) (sized : ArraysSized (arraysOf l)) where
+module _ (l : Layout) (f at : ℕ) (hs : List ℕ) (ask : OntoAsk l f at hs) (sized : ArraysSized (arraysOf l)) where
   abbrev has : Arrays
   has = arraysOf l
 
@@ -193,51 +193,59 @@ module _ (l : Layout) (f : ℕ) (hs : List ℕ) (ask : OntoAsk l f hs) (sized : 
   abbrev lacks : List ℕ
   lacks = without hs own
 
-  own-length : length own ≡ getD (l .«kind_ends») f 0 - startOf (l .«kind_ends») f
+  abbrev all : List ℕ
+  all = mergedKinds own hs
+
+  abbrev st : ℕ
+  st = startOf (l .«kind_ends») f
+
+  abbrev en : ℕ
+  en = getD (l .«kind_ends») f 0
+
+  own-set : KindSet own
+  own-set = Arrays.family-kinds has well f (ask .inside)
+
+  pub own-length : length own ≡ en - st
   own-length = Arrays.kinds-length has well sized f (ask .inside)
 
-  grows-length : length own + length lacks ≡ length hs
-  grows-length = without-length hs own (ask .group .staged .once) (Arrays.family-kinds has well f (ask .inside) .once) (ask .holds)
+  own-groups : length (familyAt [] has f) ≡ getD (l .ends) f 0 - startOf (l .ends) f
+  own-groups = Arrays.groups-length [] (startOf (l .ends) f) own 0 (aritiesAt has f) ∙ Arrays.arities-length has well sized f (ask .inside)
 
-  -- other kinds for the family's: its own and those that it lacks
-  module _ (new : List ℕ) (counts : (k : ℕ) → countOf eqb k new ≡ countOf eqb k own + countOf eqb k lacks) where
-    abbrev st : ℕ
-    st = startOf (l .«kind_ends») f
+  -- the groups with the staged kinds among them
+  put : Inserts own hs own-set (ask .group .staged) (startOf (l .ends) f) 0 (aritiesAt has f) []
+  put = inserts own hs own-set (ask .group .staged) (startOf (l .ends) f) 0 (aritiesAt has f) [] refl (Arrays.family-rising has well sized f (ask .inside)) refl (omega (arith, ask .group .least)) (ask .chain) (ask .other)
 
-    abbrev en : ℕ
-    en = getD (l .«kind_ends») f 0
+  pub all-most : length all ≤ MAX-GROUP-ARITY
+  all-most =
+      merged-most own hs own-set (ask .group .staged) MAX-GROUP-ARITY
+      (ap (λ (ks : List ℕ). nested ks hs) (sym (Arrays.family-kindsOf has well sized [] f (ask .inside))) ∙ chains-largest hs [] (familyAt [] has f) (omega (arith, own-groups, well .family f (ask .inside) .some)) (ask .chain))
+      (omega (arith, own-length, well .family f (ask .inside) .most)) (ask .group .most)
 
-    replaced-count : (k : ℕ) → countOf eqb k (replaced (l .kinds) st en new (widthOf has)) ≡ countOf eqb k (take (widthOf has) (l .kinds)) + countOf eqb k lacks
-    replaced-count k =
-        let c1 = count-append eqb k (take st (l .kinds)) (new ++ between en (widthOf has) (l .kinds)) in
-        let c2 = count-append eqb k new (between en (widthOf has) (l .kinds)) in
-        let c3 = count-append eqb k (take en (l .kinds)) (between en (widthOf has) (l .kinds)) in
-        let c4 = ap (countOf eqb k) (between-join (l .kinds) en (widthOf has) (Arrays.kinds-inside has well f (ask .inside))) in
-        let c5 = count-append eqb k (take st (l .kinds)) own in
-        let c6 = ap (countOf eqb k) (between-join (l .kinds) st en (Arrays.kind-order has well f (ask .inside))) in
-        omega (arith, counts k)
+  all-length : length all ≡ length own + length lacks
+  all-length = merged-length own hs own-set (ask .group .staged)
 
-    replaced-set : KindSet (replaced (l .kinds) st en new (widthOf has))
-    replaced-set =
-        record {
-          once = λ k. rw (replaced-count k) (sum-once (countOf eqb k (take (widthOf has) (l .kinds))) (countOf eqb k lacks) (well .kinds .once k) (omega (arith, ask .group .staged .once k, count-without-le hs own k)) (ask .unknown k));
-          known = λ k h. omega (arith, replaced-count k, well .kinds .known k h, ask .group .staged .known k h, count-without-le hs own k);
-        }
+  replaced-count : (k : ℕ) → countOf eqb k (replaced (l .kinds) st en all (widthOf has)) ≡ countOf eqb k (take (widthOf has) (l .kinds)) + countOf eqb k lacks
+  replaced-count k =
+      let c1 = count-append eqb k (take st (l .kinds)) (all ++ between en (widthOf has) (l .kinds)) in
+      let c2 = count-append eqb k all (between en (widthOf has) (l .kinds)) in
+      let c3 = count-append eqb k (take en (l .kinds)) (between en (widthOf has) (l .kinds)) in
+      let c4 = ap (countOf eqb k) (between-join (l .kinds) en (widthOf has) (Arrays.kinds-inside has well f (ask .inside))) in
+      let c5 = count-append eqb k (take st (l .kinds)) own in
+      let c6 = ap (countOf eqb k) (between-join (l .kinds) st en (Arrays.kind-order has well f (ask .inside))) in
+      omega (arith, merged-count own hs own-set (ask .group .staged) k)
 
-  pub all-length : length (own ++ lacks) ≡ length hs
-  all-length = length-append own lacks ∙ grows-length
+  replaced-set : KindSet (replaced (l .kinds) st en all (widthOf has))
+  replaced-set =
+      record {
+        once = λ k. rw (replaced-count k) (sum-once (countOf eqb k (take (widthOf has) (l .kinds))) (countOf eqb k lacks) (well .kinds .once k) (omega (arith, ask .group .staged .once k, count-without-le hs own k)) (ask .unknown k));
+        known = λ k h. omega (arith, replaced-count k, well .kinds .known k h, ask .group .staged .known k h, count-without-le hs own k);
+      }
 
-  abbrev end : ℕ
-  end = getD (l .ends) f 0 - startOf (l .ends) f
-
-  at-end : putIn end (length hs) (aritiesAt has f) ≡ aritiesAt has f ++ (length hs ∷ [])
-  at-end =
-      let ars = aritiesAt has f in
-      ap (λ (n : ℕ). putIn n (length hs) ars) (sym (Arrays.arities-length has well sized f (ask .inside)))
-      ∙ ap₂ (λ (p q : List ℕ). p ++ (length hs ∷ q)) (take-length ars) (drop-length ars)
-
-  pub onto-places : Places l f (own ++ lacks) end (length hs)
+  pub onto-places : FillAsk l f all at (length hs)
   onto-places =
+      let size = Arrays.kind-order has well f (ask .inside) in
+      let order = Arrays.group-order has well f (ask .inside) in
+      let few : at ≤ length (familyAt [] has f) = rw (ask .place) (place-le hs [] (familyAt [] has f)) in
       record {
         loose = record {
           few = well .few;
@@ -250,24 +258,23 @@ module _ (l : Layout) (f : ℕ) (hs : List ℕ) (ask : OntoAsk l f hs) (sized : 
         };
         width = ask .group .formed .width;
         groups = ask .group .formed .groups;
-        kindSet = replaced-set (own ++ lacks) (λ k. count-append eqb k own lacks);
-        more = omega (arith, length-append own lacks, own-length, Arrays.kind-order has well f (ask .inside));
-        least = omega (arith, all-length, ask .group .least);
-        most = omega (arith, all-length, ask .group .most);
-        place = omega (arith, Arrays.group-order has well f (ask .inside));
-        rising = rw (all-length, at-end) (rising-snoc 1 (getD (l .«kind_ends») f 0 - startOf (l .«kind_ends») f) (length hs) (aritiesAt has f) (well .family f (ask .inside) .rising) (omega (arith, own-length, ask .longer)));
+        kindSet = replaced-set;
+        more = omega (arith, all-length, own-length);
+        least = omega (arith, all-length, own-length, well .family f (ask .inside) .least);
+        most = all-most;
+        place = omega (arith, own-groups);
+        rising = rw (ask .place) (rising-one (length all) (en - st) (placeIn hs [] (familyAt [] has f)) (length hs) (aritiesAt has f) (ask .group .least) (well .family f (ask .inside) .rising) (put .rising));
       }
 
-  pub onto-done : (r : Layout) → Placed l f (own ++ lacks) end (length hs) r → OntoDone l f hs r
+  pub onto-done : (r : Layout) → FillDone l f all at (length hs) r → OntoDone l f hs r
   onto-done r x =
       record {
         formed = x .formed;
         means =
             ap (λ (m : ℕ). table m (familyAt [] (arraysOf r))) (x .families)
-            ∙ table-set [] (familyAt [] has f ++ (newGroup lacks ∷ [])) (l .families) (familyAt [] has) (familyAt [] (arraysOf r)) f (ask .inside)
-            (x .here ∙ ap (groupsFrom [] 0 (own ++ lacks) 0) at-end ∙ ap (λ (s : ℕ). groupsFrom [] 0 (own ++ lacks) 0 (aritiesAt has f ++ (s ∷ []))) (sym grows-length)
-            ∙ from-snoc 0 own lacks 0 (aritiesAt has f) (Arrays.family-rising has well sized f (ask .inside))
-            ∙ ap (λ (x : Family). x ++ (newGroup lacks ∷ [])) (no-counts 0 (startOf (l .ends) f) own 0 (aritiesAt has f)))
+            ∙ table-set [] (familyWith hs [] (familyAt [] has f)) (l .families) (familyAt [] has) (familyAt [] (arraysOf r)) f (ask .inside)
+            (x .here ∙ ap (λ (p : ℕ). groupsFrom [] 0 all 0 (putIn p (length hs) (aritiesAt has f))) (ask .place)
+            ∙ no-counts 0 (startOf (l .ends) f) all 0 (putIn (placeIn hs [] (familyAt [] has f)) (length hs) (aritiesAt has f)) ∙ put .same)
             (λ i h ne. x .others i h ne);
       }
 
@@ -293,44 +300,21 @@ module _ (l : Layout) (hs : List ℕ) (group : GroupKinds l hs) (sized : ArraysS
             (λ i h. unmet-at i h (untouched-at hs (layoutMeaning l) (s .none) i (omega (arith, counted-length))) k c);
       }
 
-  module _ (f : ℕ) (t : Target hs (layoutMeaning l) f) where
-    pub inside : f < l .families
+  module _ (f at : ℕ) (t : Target hs (layoutMeaning l) f at) where
+    inside : f < l .families
     inside = omega (arith, t .inside, counted-length)
 
-    own-kinds : kindsOf (getD (layoutMeaning l) f []) ≡ kindsAt (arraysOf l) f
-    own-kinds = ap kindsOf (Arrays.families-at [] (arraysOf l) f inside) ∙ Arrays.family-kindsOf (arraysOf l) fine sized [] f inside
+    family : getD (layoutMeaning l) f [] ≡ familyAt [] (arraysOf l) f
+    family = Arrays.families-at [] (arraysOf l) f inside
 
-    holds : within (kindsAt (arraysOf l) f) hs ≡ true
-    holds = ap (λ (ks : List ℕ). within ks hs) (sym own-kinds) ∙ t .holds
-
-    some-group : 1 ≤ length (getD (layoutMeaning l) f [])
-    some-group =
-        omega (
-          arith,
-          ap length (Arrays.families-at [] (arraysOf l) f inside),
-          Arrays.groups-length [] (startOf (l .ends) f) (kindsAt (arraysOf l) f) 0 (aritiesAt (arraysOf l) f),
-          Arrays.arities-length (arraysOf l) fine sized f inside,
-          fine .family f inside .some,
-        )
-
-    unequal : sameSet hs (kindsAt (arraysOf l) f) ≡ false
-    unequal = ap (sameSet hs) (sym own-kinds) ∙ not-all hs [] (getD (layoutMeaning l) f []) some-group (t .other)
-
-    longer : length (kindsAt (arraysOf l) f) < length hs
-    longer =
-        let js = kindsAt (arraysOf l) f in
-        let s = Arrays.family-kinds (arraysOf l) fine f inside in
-        let le : length js ≤ length hs = shorter js hs (within-counts js hs (s .once) holds) in
-        let ne : length js ≢ length hs = λ e. true≢false (sym (same-set hs js (group .staged) s ∙ rw (eq-eqb (length js) (length hs) e, holds)) ∙ unequal) in
-        omega arith
-
-    pub onto-ask : OntoAsk l f hs
+    pub onto-ask : OntoAsk l f at hs
     onto-ask =
         record {
           group = group;
           inside = inside;
-          holds = holds;
-          longer = longer;
+          chain = ap (chains hs []) (sym family) ∙ t .chain;
+          other = ap (isGroup hs []) (sym family) ∙ t .other;
+          place = t .place ∙ ap (placeIn hs []) family;
           unknown = λ k c. Arrays.in-no-family k (l .«kind_ends») (l .kinds) (l .families) (Arrays.kind-order (arraysOf l) fine)
               (λ i h. by-eq i f (λ e. rw e (own-none k c)) (λ ne. unmet-at i h (t .others i (omega (arith, counted-length)) ne) k (omega (arith, count-without-le hs (kindsAt (arraysOf l) f) k))));
         }
@@ -340,10 +324,8 @@ module _ (l : Layout) (hs : List ℕ) (group : GroupKinds l hs) (sized : ArraysS
             out-count (kindsAt (arraysOf l) f) k
             (bool-cases (mem k (kindsAt (arraysOf l) f)) (λ m. absurd (omega (arith, rw m at (count-without hs (kindsAt (arraysOf l) f) k)))) (λ m. m))
 
-    pub onto-means : set (layoutMeaning l) f (familyAt [] (arraysOf l) f ++ (newGroup (without hs (kindsAt (arraysOf l) f)) ∷ [])) ≡ grown hs (layoutMeaning l)
-    onto-means =
-        ap₂ (λ (x : Family) (ks : List ℕ). set (layoutMeaning l) f (x ++ (newGroup (without hs ks) ∷ []))) (sym (Arrays.families-at [] (arraysOf l) f inside)) (sym own-kinds)
-        ∙ sym (t .grows)
+    pub onto-means : set (layoutMeaning l) f (familyWith hs [] (familyAt [] (arraysOf l) f)) ≡ familiesWith hs (layoutMeaning l)
+    onto-means = ap (λ (x : Family). set (layoutMeaning l) f (familyWith hs [] x)) (sym family) ∙ sym (t .places)
 
-pub onto-target : (hs : List ℕ) (fs : List Family) (f : ℕ) → IsOnto hs fs f → Target hs fs f
-onto-target hs fs f s = subst (Target hs fs) (sym (s .first)) (target hs fs (s .alone) (s .held) (s .absent))
+pub onto-target : (hs : List ℕ) (fs : List Family) (f at : ℕ) → IsOnto hs fs f at → Target hs fs f at
+onto-target hs fs f at s = rw (s .first, s .place) (target hs fs (s .alone) (s .chain) (s .absent))

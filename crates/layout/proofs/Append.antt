@@ -22,18 +22,22 @@ append-two d₀ d₁ d₂ s t at r₁ r₂ a b =
           ∙ append-assoc (take at d₀) s t;
     }
 
--- appended from the start, it is all that there is
-pub append-all : (d₀ s d : List ℕ) (r : ℕ) → Appended d₀ 0 s d r → (take r d ≡ s) × (r ≡ length s)
-append-all d₀ s d r a = let n : r ≡ 0 + length s = a .next in (ap (λ (k : ℕ). take k d) n ∙ a .front, omega arith)
+pub append-three : (d₀ d₁ d₂ d₃ x y z : List ℕ) (at r₁ r₂ r₃ : ℕ) → Appended d₀ at x d₁ r₁ → Appended d₁ r₁ y d₂ r₂ → Appended d₂ r₂ z d₃ r₃ → Appended d₀ at (x ++ (y ++ z)) d₃ r₃
+append-three d₀ d₁ d₂ d₃ x y z at r₁ r₂ r₃ a b c =
+    append-two d₀ d₁ d₃ x (y ++ z) at r₁ r₃ a (append-two d₁ d₂ d₃ y z r₁ r₂ r₃ b c)
 
 -- three from the start spread more into s
 pub spread-three : (d₀ d₁ d₂ d₃ s more : List ℕ) (a e r₁ r₂ r₃ : ℕ) → a ≤ length s
     → Appended d₀ 0 (take a s) d₁ r₁ → Appended d₁ r₁ more d₂ r₂ → Appended d₂ r₂ (drop e s) d₃ r₃ → Spread d₀ s a e more d₃
 spread-three d₀ d₁ d₂ d₃ s more a e r₁ r₂ r₃ h x y z =
-    let w = append-two d₀ d₂ d₃ (take a s ++ more) (drop e s) 0 r₂ r₃ (append-two d₀ d₁ d₂ (take a s) more 0 r₁ r₂ x y) z in
-    let long : 0 + length ((take a s ++ more) ++ drop e s) ≡ a + length more + (length s - e) =
-    omega (arith, length-append (take a s ++ more) (drop e s), length-append (take a s) more, length-take-le a s h, length-drop e s) in
-    record { size = w .size; front = ap (λ (k : ℕ). take k d₃) (sym long) ∙ w .front ∙ append-assoc (take a s) more (drop e s) }
+    let w = append-three d₀ d₁ d₂ d₃ (take a s) more (drop e s) 0 r₁ r₂ r₃ x y z in
+    let long : 0 + length (take a s ++ (more ++ drop e s)) ≡ a + length more + (length s - e) =
+    omega (arith, length-append (take a s) (more ++ drop e s), length-append more (drop e s), length-take-le a s h, length-drop e s) in
+    record { size = w .size; front = ap (λ (k : ℕ). take k d₃) (sym long) ∙ w .front }
+
+-- appended from the start, it is all that there is
+pub append-all : (d₀ s d : List ℕ) (r : ℕ) → Appended d₀ 0 s d r → (take r d ≡ s) × (r ≡ length s)
+append-all d₀ s d r a = let n : r ≡ 0 + length s = a .next in (ap (λ (k : ℕ). take k d) n ∙ a .front, omega arith)
 
 -- ---- the loop that adds to a part
 

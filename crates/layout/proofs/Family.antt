@@ -10,7 +10,7 @@ use lib.ListN.{length, getD, take, drop}
 use lib.Seq.{drop-length, take-length}
 use Rattle.model.specs.Model.{Family, kindsOf, isGroup, sameSet, newGroup}
 use Rattle.words.specs.Part.{between}
-use Rattle.words.proofs.Part.{between-join, between-drop, same-front, last-part}
+use Rattle.words.proofs.Part.{between-join, between-drop}
 use Rattle.layout.specs.Layout.{startOf, groupsFrom, AritiesRising}
 use Rattle.model.proofs.ListLaws.{drop-step}
 
@@ -27,11 +27,6 @@ pub rising-le : (b n : ℕ) (ars : List ℕ) → AritiesRising b n ars → b ≤
 unfolding AritiesRising
 rising-le b n [] r = omega (arith, r)
 rising-le b n (a ∷ ars) r = omega (arith, r .0, rising-le a n ars (r .1))
-
-pub rising-snoc : (b n s : ℕ) (ars : List ℕ) → AritiesRising b n ars → n < s → AritiesRising b s (ars ++ (s ∷ []))
-unfolding AritiesRising
-rising-snoc b n s [] r h = (omega (arith, r), refl)
-rising-snoc b n s (a ∷ ars) r h = (r .0, rising-snoc a n s ars (r .1) h)
 
 -- a family that has a group starts its arities anywhere below
 pub rising-zero : (n : ℕ) (ars : List ℕ) → 2 ≤ n → AritiesRising 1 n ars → AritiesRising 0 n ars
@@ -104,8 +99,14 @@ pub record Turn (hs ks ars : List ℕ) (j : ℕ) : Type 0 where
   pub low : startOf ars j < getD ars j 0
   pub high : getD ars j 0 ≤ length ks
   pub next : AritiesRising (startOf ars (j + 1)) (length ks) (drop (j + 1) ars)
+  pub joins : take (startOf ars j) ks ++ between (startOf ars j) (getD ars j 0) ks ≡ take (getD ars j 0) ks
+  pub opens : groupsFrom [] 0 ks (startOf ars j) (drop j ars) ≡ newGroup (between (startOf ars j) (getD ars j 0) ks) ∷ groupsFrom [] 0 ks (startOf ars (j + 1)) (drop (j + 1) ars)
   pub splits : isGroup hs (take (startOf ars j) ks) (groupsFrom [] 0 ks (startOf ars j) (drop j ars))
       ≡ (sameSet hs (take (getD ars j 0) ks) || isGroup hs (take (startOf ars (j + 1)) ks) (groupsFrom [] 0 ks (startOf ars (j + 1)) (drop (j + 1) ars)))
+
+group-open : (ks : List ℕ) (b a : ℕ) (ars : List ℕ) → groupsFrom [] 0 ks b (a ∷ ars) ≡ newGroup (between b a ks) ∷ groupsFrom [] 0 ks a ars
+unfolding groupsFrom
+group-open ks b a ars = ap (λ (r : Family). newGroup (between b a ks) ∷ r) (no-counts 1 0 ks a ars)
 
 group-split : (hs ks : List ℕ) (b a : ℕ) (ars : List ℕ) → b ≤ a
     → isGroup hs (take b ks) (groupsFrom [] 0 ks b (a ∷ ars)) ≡ (sameSet hs (take a ks) || isGroup hs (take a ks) (groupsFrom [] 0 ks a ars))
@@ -127,6 +128,10 @@ turn hs ks ars j h r =
       low = s .0;
       high = rising-le (getD ars j 0) (length ks) (drop (j + 1) ars) (s .1);
       next = rw n (s .1);
+      joins = between-join ks (startOf ars j) (getD ars j 0) (omega (arith, s .0));
+      opens =
+          ap (groupsFrom [] 0 ks (startOf ars j)) d ∙ group-open ks (startOf ars j) (getD ars j 0) (drop (j + 1) ars)
+          ∙ ap (λ (a : ℕ). newGroup (between (startOf ars j) (getD ars j 0) ks) ∷ groupsFrom [] 0 ks a (drop (j + 1) ars)) (sym n);
       splits =
           ap (λ (l : List ℕ). isGroup hs (take (startOf ars j) ks) (groupsFrom [] 0 ks (startOf ars j) l)) d
           ∙ group-split hs ks (startOf ars j) (getD ars j 0) (drop (j + 1) ars) (omega (arith, s .0))
@@ -137,17 +142,8 @@ pub no-groups : (hs ks ars : List ℕ) (b : ℕ) → isGroup hs (take b ks) (gro
 unfolding groupsFrom
 no-groups hs ks ars b = rw drop-length
 
--- ---- a family that grows
+-- ---- a family of one group
 
-pub from-snoc : (g : ℕ) (ks more : List ℕ) (b : ℕ) (ars : List ℕ) → AritiesRising b (length ks) ars
-    → groupsFrom [] g (ks ++ more) b (ars ++ ((length ks + length more) ∷ [])) ≡ groupsFrom [] g ks b ars ++ (newGroup more ∷ [])
-unfolding groupsFrom AritiesRising
-from-snoc g ks more b [] r =
-    ap (λ (l : List ℕ). newGroup l ∷ []) (ap (λ (n : ℕ). between n (length ks + length more) (ks ++ more)) r ∙ last-part ks more)
-from-snoc g ks more b (a ∷ ars) r =
-    ap₂ (λ (l : List ℕ) (f : Family). newGroup l ∷ f) (same-front ks more b a (rising-le a (length ks) ars (r .1))) (from-snoc (suc g) ks more a ars (r .1))
-
--- a family's first group of all
 pub from-alone : (g : ℕ) (more : List ℕ) → groupsFrom [] g more 0 (length more ∷ []) ≡ newGroup more ∷ []
 unfolding groupsFrom
 from-alone g more = ap (λ (l : List ℕ). newGroup l ∷ []) (ap (λ (n : ℕ). take n more) (sub-zero (length more)) ∙ take-length more)

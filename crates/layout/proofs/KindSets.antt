@@ -2,7 +2,7 @@
 use mathlib.Core.Path.{_≡_, refl, sym, ap, _∙_}
 use mathlib.Core.Bool.{true, false, _&&_, and-false}
 use mathlib.Core.List.{List, _∷_}
-use Prim.Native.Nat.{ℕ, _-_, _≤_}
+use Prim.Native.Nat.{ℕ, _-_, _≤_, _<_}
 use native.Mathlib.Omega.{arith}
 use borrow.Author.Tests.{eq-eqb, ne-eqb}
 use lib.Dec.{eqb}
@@ -11,7 +11,7 @@ use Rattle.model.specs.Numbers.{MAX-KINDS}
 use Rattle.model.specs.Lists.{one}
 use Rattle.model.proofs.ListLaws.{below-counts, shorter, as-long, few-below}
 use Rattle.model.specs.Model.{mem, within, sameSet}
-use Rattle.model.proofs.KindLists.{in-count, out-count, all-true, within-counts}
+use Rattle.model.proofs.KindLists.{in-count, out-count, all-true, within-counts, without-length, lacks-some}
 use Rattle.model.proofs.BoolLaws.{bool-cases, by-eq, by-lt}
 use Rattle.words.specs.Part.{between}
 use Rattle.layout.specs.Layout.{KindSet}
@@ -60,3 +60,7 @@ same-set ks js sk sj = bool-cases (within js ks) inside outside
         (λ ne. bool-cases (within ks js)
         (λ v. absurd (ne (as-long js ks (λ x. omega (arith, within-counts js ks (sj .once) w x, within-counts ks js (sk .once) v x)))))
         (λ v. rw (w, v, ne-eqb (length js) (length ks) ne)))
+
+-- a set within another that is not within it is shorter
+pub proper : (js ks : List ℕ) → KindSet js → KindSet ks → within js ks ≡ true → within ks js ≡ false → length js < length ks
+proper js ks sj sk w n = omega (arith, without-length ks js (sk .once) (sj .once) w, lacks-some ks js n)

@@ -5,4 +5,5 @@ pub mod Fits
 pub mod Arrays
 pub mod Groups
 pub mod Placing
+pub mod Inserting
 pub mod Adding

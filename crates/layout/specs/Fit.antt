@@ -1,13 +1,13 @@
--- How staged kinds stand to the families of a layout: the cases of 01's rule for a new group. Assumes nothing.
-use mathlib.Core.Bool.{Bool, true, false}
-use mathlib.Core.List.{List, [], _∷_}
-use Prim.Native.Nat.{ℕ, _+_, _≤_}
+-- How staged kinds stand to the families of a layout: the cases of the rule for a new group (02, No. 1). Assumes nothing.
+use mathlib.Core.Bool.{Bool, true, false, cond}
+use mathlib.Core.List.{List, [], _∷_, _++_}
+use Prim.Native.Nat.{ℕ, suc, _+_, _≤_}
 use lib.ListN.{length}
-use Rattle.model.specs.Model.{Family, meets, within, kindsOf, isGroup}
+use Rattle.model.specs.Model.{Family, meets, within, kindsOf, isGroup, chains}
 use Rattle.layout.specs.Layout.{Arrays, WellFormed, KindSet, AritiesRising}
 use Rattle.layout.specs.ByValue.{ArraysSized}
 use Rattle.layout.specs.declared.group_layout.Part.{Part}
-use Rattle.layout.specs.declared.group_layout.Part.the-variants.{Apart, Same, Whole, Cross}
+use Rattle.layout.specs.declared.group_layout.Part.the-variants.{Apart, Same, At, Cross}
 use Rattle.layout.specs.declared.group_layout.Fit.{Fit}
 use Rattle.layout.specs.declared.group_layout.Fit.the-variants.{Fresh, Present, Onto, Clash}
 
@@ -16,31 +16,40 @@ abbrev pub pickPart : Bool → Part → Part → Part
 pickPart true p q = p
 pickPart false p q = q
 
--- equal to a group of the family; else sharing no kind with it; else holding all its kinds; else crossing it
+-- "it may go below, between or above": ks goes behind the groups that it holds, which are so many; acc are the kinds of the group before
+abbrev pub placeIn : List ℕ → List ℕ → Family → ℕ
+placeIn ks acc [] = 0
+placeIn ks acc (r ∷ rs) =
+    let further = suc (placeIn ks (acc ++ r .newKinds) rs) in
+    cond (within (acc ++ r .newKinds) ks) further 0
+
+-- "all groups of that family, with it, are a chain": then ks has a place among them; else it crosses the family
+abbrev pub chainPlace : List ℕ → Family → Part
+chainPlace ks f = pickPart (chains ks [] f) (At (placeIn ks [] f)) Cross
+
+-- equal to a group of the family; else sharing no kind with it; else at a place among its groups or crossing it
 abbrev pub partOf : List ℕ → Family → Part
-partOf ks f =
-    pickPart (isGroup ks [] f) Same
-    (pickPart (meets ks (kindsOf f)) (pickPart (within (kindsOf f) ks) Whole Cross) Apart)
+partOf ks f = pickPart (isGroup ks [] f) Same (pickPart (meets ks (kindsOf f)) (chainPlace ks f) Apart)
 
--- family f is held whole, after acc: it is the one family, unless there was another
-abbrev pub joinWhole : ℕ → Fit → Fit
-joinWhole f Fresh = Onto f
-joinWhole f Present = Present
-joinWhole f (Onto g) = Clash
-joinWhole f Clash = Clash
+-- at a place of family f, after acc: "shares kinds with one family at most", which is f unless there was another
+abbrev pub joinAt : ℕ → ℕ → Fit → Fit
+joinAt f at Fresh = Onto f at
+joinAt f at Present = Present
+joinAt f at (Onto g p) = Clash
+joinAt f at Clash = Clash
 
--- a family is crossed, after acc: "Everything else clashes", but for an equal group
+-- a family is crossed, after acc: "CLASH shrinks to what is left", which is this and a second family, but for an equal group
 abbrev pub joinCross : Fit → Fit
 joinCross Fresh = Clash
 joinCross Present = Present
-joinCross (Onto g) = Clash
+joinCross (Onto g p) = Clash
 joinCross Clash = Clash
 
--- after family f: an equal group settles it, and holding two families clashes
+-- after family f: an equal group settles it, and sharing kinds with two families clashes
 abbrev pub joinFit : Fit → ℕ → Part → Fit
 joinFit acc f Apart = acc
 joinFit acc f Same = Present
-joinFit acc f Whole = joinWhole f acc
+joinFit acc f (At p) = joinAt f p acc
 joinFit acc f Cross = joinCross acc
 
 -- how the kinds stand to the families from number f on, after acc

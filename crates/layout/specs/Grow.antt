@@ -1,17 +1,18 @@
 -- How a layout grows: a family with other kinds, no fewer, and one group more at a place. Assumes nothing.
 use mathlib.Core.Path.{_≡_}
 use mathlib.Core.Logic.{_≢_}
-use mathlib.Core.Bool.{true}
+use mathlib.Core.Bool.{true, false}
 use mathlib.Core.List.{List, [], _∷_, _++_}
 use Prim.Native.Nat.{ℕ, _+_, _-_, _≤_, _<_}
 use lib.Dec.{eqb}
 use lib.ListN.{length, getD, take, drop, set}
 use Rattle.model.specs.Numbers.{MAX-GROUP-ARITY, MAX-GROUP-COUNT, MAX-KINDS}
 use Rattle.model.specs.Lists.{countOf}
-use Rattle.model.specs.Model.{newGroup, within, without}
+use Rattle.model.specs.Model.{newGroup, without, common, isGroup, chains, familyWith}
 use Rattle.words.specs.Part.{between}
 use Rattle.layout.specs.Layout.{Arrays, startOf, widthOf, groupCount, kindsAt, aritiesAt, groupsFrom, familyAt, KindSet, AritiesRising, FamilyFormed}
 use Rattle.layout.specs.ByValue.{arraysOf, layoutMeaning, Formed}
+use Rattle.layout.specs.Fit.{placeIn}
 use Rattle.layout.specs.declared.group_layout.Layout.{Layout}
 
 -- ---- arrays
@@ -58,8 +59,13 @@ replaced l a e more w = take a l ++ (more ++ between e w l)
 abbrev pub putIn : ℕ → ℕ → List ℕ → List ℕ
 putIn at s l = take at l ++ (s ∷ drop at l)
 
+-- a family's kinds ks and the staged kinds hs: those of ks that are staged, the staged ones that ks lacks, the others of ks. Where the groups
+-- and the staged kinds are a chain, each of them is, as a set, a front of this list
+abbrev pub mergedKinds : List ℕ → List ℕ → List ℕ
+mergedKinds ks hs = common ks hs ++ (without hs ks ++ without ks hs)
+
 -- family f may have these kinds, no fewer than its own, and a group of arity s more, at a place among its groups
-pub record Places (l : Layout) (f : ℕ) (kinds : List ℕ) (at s : ℕ) : Type 0 where
+pub record FillAsk (l : Layout) (f : ℕ) (kinds : List ℕ) (at s : ℕ) : Type 0 where
   pub loose : LooseAt (arraysOf l) f
   pub width : l .width ≡ widthOf (arraysOf l)
   pub groups : l .groups ≡ groupCount (arraysOf l)
@@ -71,7 +77,7 @@ pub record Places (l : Layout) (f : ℕ) (kinds : List ℕ) (at s : ℕ) : Type 
   pub rising : AritiesRising 1 (length kinds) (putIn at s (aritiesAt (arraysOf l) f))
 
 -- r is l with these kinds for family f's, and a group of arity s more at that place; the other families are as they were
-pub record Placed (l : Layout) (f : ℕ) (kinds : List ℕ) (at s : ℕ) (r : Layout) : Type 0 where
+pub record FillDone (l : Layout) (f : ℕ) (kinds : List ℕ) (at s : ℕ) (r : Layout) : Type 0 where
   pub formed : Formed r
   pub families : r .families ≡ l .families
   pub others : (i : ℕ) → i < l .families → i ≢ f → familyAt [] (arraysOf r) i ≡ familyAt [] (arraysOf l) i
@@ -104,7 +110,7 @@ pub record GroupKinds (l : Layout) (hs : List ℕ) : Type 0 where
 abbrev pub Unknown : Layout → List ℕ → Type 0
 Unknown l ks = (k : ℕ) → 1 ≤ countOf eqb k ks → countOf eqb k (take (widthOf (arraysOf l)) (l .kinds)) ≡ 0
 
--- "It is added if it shares no kind with any group"
+-- the staged kinds share no kind with a family
 pub record FreshAsk (l : Layout) (staged : List ℕ) : Type 0 where
   pub group : GroupKinds l staged
   pub unknown : Unknown l staged
@@ -114,15 +120,17 @@ pub record FreshDone (l : Layout) (staged : List ℕ) (r : Layout) : Type 0 wher
   pub formed : Formed r
   pub means : layoutMeaning r ≡ layoutMeaning l ++ ((newGroup staged ∷ []) ∷ [])
 
--- "or if it holds every kind of exactly one family, has more, and shares none with the others": f is that family
-pub record OntoAsk (l : Layout) (f : ℕ) (staged : List ℕ) : Type 0 where
+-- 02, No. 1: "shares kinds with one family at most and all groups of that family, with it, are a chain": f is that family, of which the staged kinds are no
+-- group, and at their place in it
+pub record OntoAsk (l : Layout) (f at : ℕ) (staged : List ℕ) : Type 0 where
   pub group : GroupKinds l staged
   pub inside : f < l .families
-  pub holds : within (kindsAt (arraysOf l) f) staged ≡ true
-  pub longer : length (kindsAt (arraysOf l) f) < length staged
+  pub chain : chains staged [] (familyAt [] (arraysOf l) f) ≡ true
+  pub other : isGroup staged [] (familyAt [] (arraysOf l) f) ≡ false
+  pub place : at ≡ placeIn staged [] (familyAt [] (arraysOf l) f)
   pub unknown : Unknown l (without staged (kindsAt (arraysOf l) f))
 
--- a group more in family f
+-- a group more in family f: "it may go below, between or above"
 pub record OntoDone (l : Layout) (f : ℕ) (staged : List ℕ) (r : Layout) : Type 0 where
   pub formed : Formed r
-  pub means : layoutMeaning r ≡ set (layoutMeaning l) f (familyAt [] (arraysOf l) f ++ (newGroup (without staged (kindsAt (arraysOf l) f)) ∷ []))
+  pub means : layoutMeaning r ≡ set (layoutMeaning l) f (familyWith staged [] (familyAt [] (arraysOf l) f))

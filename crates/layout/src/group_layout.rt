@@ -1,14 +1,14 @@
 // The layout of groups by value, and a group added to it.
 ghost use mathlib.Core.Path.{_≡_};
-ghost use mathlib.Core.List.{[], _++_};
+ghost use mathlib.Core.List.{[]};
 ghost use Prim.Native.Nat.{_+_, _-_, _≤_, _<_};
 ghost use lib.ListN.{length, take};
 ghost use Rattle.model.specs.Numbers.{LIST-CAPACITY, MAX-GROUP-COUNT, MAX-KINDS};
-ghost use Rattle.model.specs.Model.{mem, within, meets, sameSet, isGroup, without};
+ghost use Rattle.model.specs.Model.{mem, within, meets, sameSet, isGroup, without, common};
 ghost use Rattle.layout.specs.Layout.{KindSet, groupsFrom, arraysIn, familiesOf, startOf};
 ghost use Rattle.layout.specs.ByValue.{Formed};
-ghost use Rattle.layout.specs.Fit.{partOf, joinFit, fitFrom, GroupAsk, FamilyAsk, FitAsk};
-ghost use Rattle.layout.specs.Grow.{Appended, Spread, Raised, RaiseAsk, Places, Placed, openedOf, FreshAsk, FreshDone, OntoAsk, OntoDone};
+ghost use Rattle.layout.specs.Fit.{chainPlace, partOf, joinFit, fitFrom, GroupAsk, FamilyAsk, FitAsk};
+ghost use Rattle.layout.specs.Grow.{Appended, Spread, Raised, RaiseAsk, mergedKinds, FillAsk, FillDone, openedOf, FreshAsk, FreshDone, OntoAsk, OntoDone};
 ghost use Rattle.layout.specs.Add.{Fitting, AddsGroup};
 
 // The families one after another: their kinds in order, their groups' arities, and where each family's kinds and groups end.
@@ -30,8 +30,8 @@ pub enum Part {
     Apart,
     // They are one of the family's groups.
     Same,
-    // They hold all of the family's kinds, and more.
-    Whole,
+    // They are a chain with its groups: behind so many of them, which they hold.
+    At(usize),
     // Anything else.
     Cross,
 }
@@ -40,7 +40,8 @@ pub enum Part {
 pub enum Fit {
     Fresh,
     Present,
-    Onto(usize),
+    // The family, and the place among its groups.
+    Onto(usize, usize),
     Clash,
 }
 
@@ -118,6 +119,24 @@ fn same_group(kinds: &[u8], arities: &[u8], staged: &[u8]) -> bool
     false
 }
 
+// Their place among the family's groups: behind those that they hold, if the next one holds them, as each later one then does.
+fn place_of(kinds: &[u8], arities: &[u8], staged: &[u8]) -> Part
+    requires { ⌜ FamilyAsk (now kinds) (now arities) (now staged) ⌝ }
+    ensures { λ r. ⌜ r ≡ chainPlace (now (staged .entry)) (groupsFrom [] 0 (now (kinds .entry)) 0 (now (arities .entry))) ⌝ }
+{
+    for j in 0..arities.len() {
+        let group = &kinds[..arities[j] as usize];
+        if !all_among(group, staged) {
+            if all_among(staged, group) {
+                return Part::At(j);
+            }
+            return Part::Cross;
+        }
+    }
+    Part::At(arities.len())
+}
+
+// How they stand to one family.
 fn part_of(kinds: &[u8], arities: &[u8], staged: &[u8]) -> Part
     requires { ⌜ FamilyAsk (now kinds) (now arities) (now staged) ⌝ }
     ensures { λ r. ⌜ r ≡ partOf (now (staged .entry)) (groupsFrom [] 0 (now (kinds .entry)) 0 (now (arities .entry))) ⌝ }
@@ -128,28 +147,26 @@ fn part_of(kinds: &[u8], arities: &[u8], staged: &[u8]) -> Part
     if !some_among(staged, kinds) {
         return Part::Apart;
     }
-    if all_among(kinds, staged) {
-        return Part::Whole;
-    }
-    Part::Cross
+    place_of(kinds, arities, staged)
 }
 
+// How they stand to the families so far, with family f.
 fn joined(acc: Fit, f: usize, p: Part) -> Fit
     ensures { λ r. ⌜ r ≡ joinFit acc f p ⌝ }
 {
     match p {
         Part::Apart => acc,
         Part::Same => Fit::Present,
-        Part::Whole => match acc {
-            Fit::Fresh => Fit::Onto(f),
+        Part::At(at) => match acc {
+            Fit::Fresh => Fit::Onto(f, at),
             Fit::Present => Fit::Present,
-            Fit::Onto(_) => Fit::Clash,
+            Fit::Onto(_, _) => Fit::Clash,
             Fit::Clash => Fit::Clash,
         },
         Part::Cross => match acc {
             Fit::Fresh => Fit::Clash,
             Fit::Present => Fit::Present,
-            Fit::Onto(_) => Fit::Clash,
+            Fit::Onto(_, _) => Fit::Clash,
             Fit::Clash => Fit::Clash,
         },
     }
@@ -218,7 +235,7 @@ struct Kinds16 {
     count: usize,
 }
 
-// The staged kinds that ks lacks, in their order.
+// The kinds of the second list that the first lacks, in their order.
 fn missing(ks: &[u8], staged: &[u8]) -> Kinds16
     requires { ⌜ length (now staged) ≤ LIST-CAPACITY ⌝ }
     ensures { λ r. ⌜ (take (r .count) (r .kinds) ≡ without (now (staged .entry)) (now (ks .entry))) × (r .count ≤ length (now (staged .entry))) ⌝ }
@@ -228,6 +245,23 @@ fn missing(ks: &[u8], staged: &[u8]) -> Kinds16
     for i in 0..staged.len() {
         let kind = staged[i];
         if !among(ks, kind) {
+            kinds[n] = kind;
+            n += 1;
+        }
+    }
+    Kinds16 { kinds, count: n }
+}
+
+// The kinds of the first list that the second has, in their order.
+fn shared(ks: &[u8], staged: &[u8]) -> Kinds16
+    requires { ⌜ length (now ks) ≤ LIST-CAPACITY ⌝ }
+    ensures { λ r. ⌜ (take (r .count) (r .kinds) ≡ common (now (ks .entry)) (now (staged .entry))) × (r .count ≤ length (now (ks .entry))) ⌝ }
+{
+    let mut kinds = [0u8; model::LIST_CAPACITY];
+    let mut n: usize = 0;
+    for i in 0..ks.len() {
+        let kind = ks[i];
+        if among(staged, kind) {
             kinds[n] = kind;
             n += 1;
         }
@@ -247,7 +281,7 @@ fn start_of(ends: &[u8], f: usize) -> usize
     ends[before] as usize
 }
 
-// The layout with an empty family at its end, for `placed` to fill.
+// The layout with an empty family at its end, for `filled` to fill.
 fn opened(l: Layout) -> Layout
     requires { ⌜ (l .families < MAX-GROUP-COUNT) × (l .width ≤ MAX-KINDS) × (l .groups ≤ MAX-GROUP-COUNT) ⌝ }
     ensures { λ r. ⌜ r ≡ openedOf l ⌝ }
@@ -270,24 +304,28 @@ fn opened(l: Layout) -> Layout
     }
 }
 
-// A family's kinds, and after them the staged kinds that it lacks.
-fn wider(ks: &[u8], staged: &[u8]) -> Kinds16
-    requires { ⌜ (length (now staged) ≤ LIST-CAPACITY) × (length (now ks ++ without (now staged) (now ks)) ≤ LIST-CAPACITY) ⌝ }
-    ensures { λ r. ⌜ (take (r .count) (r .kinds) ≡ now (ks .entry) ++ without (now (staged .entry)) (now (ks .entry))) × (r .count ≤ LIST-CAPACITY) ⌝ }
+// A family's kinds and the staged ones: its kinds that are staged, the staged ones that it lacks, its others.
+fn merged(ks: &[u8], staged: &[u8]) -> Kinds16
+    requires { ⌜ (length (now ks) ≤ LIST-CAPACITY) × (length (now staged) ≤ LIST-CAPACITY) × (length (mergedKinds (now ks) (now staged)) ≤ LIST-CAPACITY) ⌝ }
+    ensures { λ r. ⌜ (take (r .count) (r .kinds) ≡ mergedKinds (now (ks .entry)) (now (staged .entry))) × (r .count ≤ LIST-CAPACITY) ⌝ }
 {
-    let m = missing(ks, staged);
-    let more = m.kinds;
-    let n = m.count;
+    let held = shared(ks, staged);
+    let new = missing(ks, staged);
+    let others = missing(staged, ks);
+    let first = held.kinds;
+    let second = new.kinds;
+    let third = others.kinds;
     let mut kinds = [0u8; model::LIST_CAPACITY];
-    let first = append(&mut kinds, 0, ks);
-    let count = append(&mut kinds, first, &more[..n]);
+    let a = append(&mut kinds, 0, &first[..held.count]);
+    let b = append(&mut kinds, a, &second[..new.count]);
+    let count = append(&mut kinds, b, &third[..others.count]);
     Kinds16 { kinds, count }
 }
 
 // Family f with other kinds, no fewer than its own, and a group more, at a place among its groups.
-fn placed(l: Layout, f: usize, kinds: &[u8], at: usize, arity: u8) -> Layout
-    requires { ⌜ Places l f (now kinds) at arity ⌝ }
-    ensures { λ r. ⌜ Placed l f (now (kinds .entry)) at arity r ⌝ }
+fn filled(l: Layout, f: usize, kinds: &[u8], at: usize, arity: u8) -> Layout
+    requires { ⌜ FillAsk l f (now kinds) at arity ⌝ }
+    ensures { λ r. ⌜ FillDone l f (now (kinds .entry)) at arity r ⌝ }
 {
     let families = l.families;
     let mut kind_ends = l.kind_ends;
@@ -323,25 +361,22 @@ fn fresh(l: Layout, staged: &[u8]) -> Layout
 {
     let f = l.families;
     let open = opened(l);
-    placed(open, f, staged, 0, staged.len() as u8)
+    filled(open, f, staged, 0, staged.len() as u8)
 }
 
-// The staged kinds as the next larger group of family f.
-fn grown(l: Layout, f: usize, staged: &[u8]) -> Layout
-    requires { ⌜ OntoAsk l f (now staged) ⌝ }
+// The staged kinds as a group of family f, at their place.
+fn grown(l: Layout, f: usize, at: usize, staged: &[u8]) -> Layout
+    requires { ⌜ OntoAsk l f at (now staged) ⌝ }
     ensures { λ r. ⌜ OntoDone l f (now (staged .entry)) r ⌝ }
 {
     let kinds = l.kinds;
     let kind_ends = l.kind_ends;
     let k = start_of(&kind_ends, f);
     let ke = kind_ends[f] as usize;
-    let m = wider(&kinds[k..ke], staged);
+    let m = merged(&kinds[k..ke], staged);
     let all = m.kinds;
     let n = m.count;
-    let ends = l.ends;
-    let g = start_of(&ends, f);
-    let ge = ends[f] as usize;
-    placed(l, f, &all[..n], ge - g, staged.len() as u8)
+    filled(l, f, &all[..n], at, staged.len() as u8)
 }
 
 // Adds them as a family of their own, if a group more may be.
@@ -362,9 +397,9 @@ fn add_fresh(l: Layout, staged: &[u8]) -> Answer
     }
 }
 
-// Adds them to family f, if a group more may be.
-fn add_onto(l: Layout, f: usize, staged: &[u8]) -> Answer
-    requires { ⌜ Fitting l (now staged) (Fit.Onto f) ⌝ }
+// Adds them to family f at their place, if a group more may be.
+fn add_onto(l: Layout, f: usize, at: usize, staged: &[u8]) -> Answer
+    requires { ⌜ Fitting l (now staged) (Fit.Onto f at) ⌝ }
     ensures { λ r. ⌜ AddsGroup l (now (staged .entry)) r ⌝ }
 {
     if model::MAX_GROUP_COUNT <= l.groups {
@@ -373,7 +408,7 @@ fn add_onto(l: Layout, f: usize, staged: &[u8]) -> Answer
             layout: l,
         };
     }
-    let layout = grown(l, f, staged);
+    let layout = grown(l, f, at, staged);
     Answer {
         outcome: Outcome::Added,
         layout,
@@ -415,6 +450,6 @@ pub fn add_group(l: Layout, staged: &[u8]) -> Answer
             layout: l,
         },
         Fit::Fresh => add_fresh(l, staged),
-        Fit::Onto(f) => add_onto(l, f, staged),
+        Fit::Onto(f, at) => add_onto(l, f, at, staged),
     }
 }

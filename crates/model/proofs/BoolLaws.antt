@@ -88,10 +88,9 @@ not-and false b h e = h
 pub not-not : (a b : Bool) → (not a && not b) ≡ false → a ≡ false → b ≡ true
 not-not a b h e = not-false b (not-and a (not b) h e)
 
-pub or-exchange : (a b c d : Bool) → ((a || b) || (c || d)) ≡ ((a || c) || (b || d))
-or-exchange true b c d = refl
-or-exchange false true c d = sym (or-true c)
-or-exchange false false c d = refl
+pub or-swap : (a b c : Bool) → (a || (b || c)) ≡ (b || (a || c))
+or-swap true b c = sym (or-true b)
+or-swap false b c = refl
 
 pub and-false-of : (a b : Bool) → a ≡ false → (a && b) ≡ false
 and-false-of a b e = rw e
@@ -99,3 +98,20 @@ and-false-of a b e = rw e
 pub and-false-right : (a b : Bool) → b ≡ false → (a && b) ≡ false
 and-false-right true b e = e
 and-false-right false b e = refl
+
+pub both-true : (a b : Bool) → a ≡ true → b ≡ true → (a && b) ≡ true
+both-true true b p q = q
+both-true false b p q = p
+
+pub left-true : (a b : Bool) → a ≡ true → (a || b) ≡ true
+left-true true b p = refl
+left-true false b p = absurd (false≢true p)
+
+pub right-true : (a b : Bool) → b ≡ true → (a || b) ≡ true
+right-true true b p = refl
+right-true false b p = p
+
+pub same-truth : (a b : Bool) → (a ≡ true → b ≡ true) → (b ≡ true → a ≡ true) → a ≡ b
+same-truth true b f g = sym (f refl)
+same-truth false true f g = g refl
+same-truth false false f g = refl

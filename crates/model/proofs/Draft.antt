@@ -1,37 +1,44 @@
 -- Adding a group keeps the draft a layout that commands can build, with all counts 0. Assumes nothing.
 use mathlib.Core.Path.{_≡_, refl, ap, sym, _∙_, subst}
-use mathlib.Core.Bool.{true, false, not, _&&_, _||_, true≢false, false≢true}
+use mathlib.Core.Bool.{true, false, not, _||_, true≢false, false≢true}
 use mathlib.Core.List.{List, [], _∷_, _++_, append-assoc, append-nil}
 use Prim.Native.Nat.{ℕ, _+_, _≤_, _<_}
 use native.Mathlib.Omega.{arith}
-use borrow.Author.Tests.{ltb-false, leb-false, eqb-true, le-ltb, lt-leb}
+use borrow.Author.Tests.{ltb-false, leb-true, leb-false, eqb-true, eqb-false, le-ltb, lt-leb}
 use lib.Dec.{ltb, leb, eqb}
 use lib.ListN.{length, length-append}
 use Rattle.model.specs.Numbers.{MAX-GROUP-ARITY, MAX-GROUP-COUNT}
 use Rattle.model.specs.Lists.{countOf}
-use Rattle.model.proofs.ListLaws.{count-append}
-use Rattle.model.specs.Model.{Group, Family, mem, meets, within, sameSet, without, kindsOf, groupsOf, isGroup, present, touched, covers, newGroup, grown, addsNothing, joins, withGroup}
+use Rattle.model.proofs.ListLaws.{count-append, as-long}
+use Rattle.model.specs.Model.{Group, Family, mem, meets, within, sameSet, without, common, kindsOf, groupsOf, isGroup, present, touched, nested, chains, chained, newGroup, familyWith, familiesWith, addsNothing, joins, withGroup}
 use Rattle.model.specs.Adding.{added, addGroup}
 use Rattle.model.specs.Sound.{Distinct, layoutKinds, Rising, BuildableFamily, BuildableFamilies, Uncounted, AllUncounted, In}
-use Rattle.model.proofs.BoolLaws.{cond-case, and-left, and-right, or-false, or-false-right, not-true, and-false-left, not-or, or-right, bool-cases}
-use Rattle.model.proofs.KindLists.{Missing, all-missing, in-cases, in-count, out-count, count-in, count-without, count-without-le, in-without, without-length, distinct-left, distinct-right, in-length, unmet-in, meets-none}
+use Rattle.model.proofs.BoolLaws.{above, cond-case, and-left, and-right, or-cases, or-false, or-false-right, not-true, and-false-left, not-or, or-right, bool-cases}
+use Rattle.model.proofs.KindLists.{Missing, all-missing, all-joined, in-left, in-cases, in-length, in-common, in-count, out-count, count-in, count-without, count-without-le, count-parted, without-all, without-length, within-in, within-left, common-length, lacks-some, distinct-left, distinct-right, unmet-in}
 use Rattle.model.specs.Theorems.{AddedSound, DraftSound}
 
 -- ---- a family with no kind of ks
 
-untouched : (ks : List ℕ) (fs : List Family) → touched ks fs ≡ 0 → (k : ℕ) → In (layoutKinds fs) k → mem k ks ≡ false
+pub untouched : (ks : List ℕ) (fs : List Family) → touched ks fs ≡ 0 → (k : ℕ) → In (layoutKinds fs) k → mem k ks ≡ false
 untouched ks [] z k i = absurd (false≢true i)
 untouched ks (f ∷ fs) z k i =
     bool-cases (meets ks (kindsOf f))
     (λ t. absurd (omega (arith, rw t at z)))
     (λ t. in-cases (kindsOf f) (layoutKinds fs) k i (λ j. unmet-in ks (kindsOf f) t k j) (λ j. untouched ks fs (rw t at z) k j))
 
-pub grown-same : (ks : List ℕ) (fs : List Family) → touched ks fs ≡ 0 → grown ks fs ≡ fs
-grown-same ks [] z = refl
-grown-same ks (f ∷ fs) z =
+pub untouched-chained : (ks : List ℕ) (fs : List Family) → touched ks fs ≡ 0 → chained ks fs ≡ true
+untouched-chained ks [] z = refl
+untouched-chained ks (f ∷ fs) z =
     bool-cases (meets ks (kindsOf f))
     (λ t. absurd (omega (arith, rw t at z)))
-    (λ t. rw t (ap {B = List Family} (λ r. f ∷ r) (grown-same ks fs (rw t at z))))
+    (λ t. rw t (untouched-chained ks fs (rw t at z)))
+
+pub familiesWith-same : (ks : List ℕ) (fs : List Family) → touched ks fs ≡ 0 → familiesWith ks fs ≡ fs
+familiesWith-same ks [] z = refl
+familiesWith-same ks (f ∷ fs) z =
+    bool-cases (meets ks (kindsOf f))
+    (λ t. absurd (omega (arith, rw t at z)))
+    (λ t. rw t (ap {B = List Family} (λ r. f ∷ r) (familiesWith-same ks fs (rw t at z))))
 
 -- ---- what is added
 
@@ -39,119 +46,212 @@ module _ (ks : List ℕ) (fs : List Family) (lo : 2 ≤ length ks) (hi : length 
   -- kinds of which no family has one are a family of their own
   pub added-fresh : touched ks fs ≡ 0 → addGroup ks fs ≡ added (fs ++ ((newGroup ks ∷ []) ∷ []))
   unfolding addGroup
-  added-fresh none = rw (le-ltb (length ks) 2 lo, le-ltb MAX-GROUP-ARITY (length ks) hi, absent, none, lt-leb MAX-GROUP-COUNT (groupsOf fs) room)
+  added-fresh none = rw (le-ltb (length ks) 2 lo, le-ltb MAX-GROUP-ARITY (length ks) hi, absent, none, untouched-chained ks fs none, lt-leb MAX-GROUP-COUNT (groupsOf fs) room)
 
-  -- kinds that hold all kinds of the one family that they touch are its next group
-  pub added-onto : touched ks fs ≡ 1 → covers ks fs ≡ true → addGroup ks fs ≡ added (grown ks fs)
+  -- kinds that are a chain with the groups of the one family that they touch go to their place in it
+  pub added-onto : touched ks fs ≡ 1 → chained ks fs ≡ true → addGroup ks fs ≡ added (familiesWith ks fs)
   unfolding addGroup
-  added-onto alone held = rw (le-ltb (length ks) 2 lo, le-ltb MAX-GROUP-ARITY (length ks) hi, absent, alone, held, lt-leb MAX-GROUP-COUNT (groupsOf fs) room)
+  added-onto alone fits = rw (le-ltb (length ks) 2 lo, le-ltb MAX-GROUP-ARITY (length ks) hi, absent, alone, fits, lt-leb MAX-GROUP-COUNT (groupsOf fs) room)
 
--- ---- a family with a group more
+-- ---- groups of one family
 
 pub family-joined : (f g : Family) → kindsOf (f ++ g) ≡ kindsOf f ++ kindsOf g
 family-joined [] g = refl
 family-joined (r ∷ f) g = ap (λ (l : List ℕ). r .newKinds ++ l) (family-joined f g) ∙ sym (append-assoc (r .newKinds) (kindsOf f) (kindsOf g))
 
-kinds-snoc : (f : Family) (r : Group) → kindsOf (f ++ (r ∷ [])) ≡ kindsOf f ++ r .newKinds
-kinds-snoc f r = family-joined f (r ∷ []) ∙ ap (λ (l : List ℕ). kindsOf f ++ l) (append-nil (r .newKinds))
+-- kinds that are a chain with all groups: with the first, with those behind it, and with the largest
+pub chains-here : (ks acc : List ℕ) (r : Group) (rs : Family) → chains ks acc (r ∷ rs) ≡ true → nested (acc ++ r .newKinds) ks ≡ true
+chains-here ks acc r rs c = and-left (nested (acc ++ r .newKinds) ks) (chains ks (acc ++ r .newKinds) rs) c
 
-rising-snoc : (f : Family) (r : Group) → Rising f → 1 ≤ length (r .newKinds) → Rising (f ++ (r ∷ []))
-rising-snoc [] r h l = (l, tt)
-rising-snoc (q ∷ f) r h l = (h .0, rising-snoc f r (h .1) l)
+pub chains-rest : (ks acc : List ℕ) (r : Group) (rs : Family) → chains ks acc (r ∷ rs) ≡ true → chains ks (acc ++ r .newKinds) rs ≡ true
+chains-rest ks acc r rs c = and-right (nested (acc ++ r .newKinds) ks) (chains ks (acc ++ r .newKinds) rs) c
 
-uncounted-snoc : (f : Family) (r : Group) → Uncounted f → r .count ≡ 0 → Uncounted (f ++ (r ∷ []))
-uncounted-snoc [] r h z = (z, tt)
-uncounted-snoc (q ∷ f) r h z = (h .0, uncounted-snoc f r (h .1) z)
+pub chains-largest : (ks acc : List ℕ) (f : Family) → 1 ≤ length f → chains ks acc f ≡ true → nested (acc ++ kindsOf f) ks ≡ true
+chains-largest ks acc [] n c = absurd (omega arith)
+chains-largest ks acc (r ∷ []) n c = rw (append-nil (r .newKinds)) (chains-here ks acc r [] c)
+chains-largest ks acc (r ∷ s ∷ rs) n c =
+    subst (λ (l : List ℕ). nested l ks ≡ true) (append-assoc acc (r .newKinds) (kindsOf (s ∷ rs)))
+    (chains-largest ks (acc ++ r .newKinds) (s ∷ rs) (omega arith) (chains-rest ks acc r (s ∷ rs) c))
 
-family-snoc : (f : Family) (r : Group) → BuildableFamily f → 1 ≤ length (r .newKinds) → length (kindsOf f ++ r .newKinds) ≤ MAX-GROUP-ARITY → BuildableFamily (f ++ (r ∷ []))
-family-snoc [] r h l w = absurd h
-family-snoc (q ∷ f) r h l w = (h .0, rising-snoc f r (h .1) l, subst (λ (ks : List ℕ). length ks ≤ MAX-GROUP-ARITY) (sym (kinds-snoc (q ∷ f) r)) w)
+module _ (ks : List ℕ) where
+  -- ---- kinds that hold all groups go above them
 
--- ---- the family that grows
+  -- they hold those behind the first, and the first
+  rest-held : (acc : List ℕ) (r : Group) (rs : Family) → within (acc ++ kindsOf (r ∷ rs)) ks ≡ true → within ((acc ++ r .newKinds) ++ kindsOf rs) ks ≡ true
+  rest-held acc r rs w = ap (λ (l : List ℕ). within l ks) (append-assoc acc (r .newKinds) (kindsOf rs)) ∙ w
 
--- kinds that are no group of a family are not all its kinds
-pub not-all : (ks acc : List ℕ) (f : Family) → 1 ≤ length f → isGroup ks acc f ≡ false → sameSet ks (acc ++ kindsOf f) ≡ false
-not-all ks acc [] n h = absurd (omega arith)
-not-all ks acc (r ∷ []) n h = rw (append-nil (r .newKinds)) (or-false (sameSet ks (acc ++ r .newKinds)) false h)
-not-all ks acc (r ∷ s ∷ rs) n h =
-    subst (λ (l : List ℕ). sameSet ks l ≡ false) (append-assoc acc (r .newKinds) (kindsOf (s ∷ rs)))
-    (not-all ks (acc ++ r .newKinds) (s ∷ rs) (omega arith) (or-false-right (sameSet ks (acc ++ r .newKinds)) (isGroup ks (acc ++ r .newKinds) (s ∷ rs)) h))
+  first-held : (acc : List ℕ) (r : Group) (rs : Family) → within (acc ++ kindsOf (r ∷ rs)) ks ≡ true → within (acc ++ r .newKinds) ks ≡ true
+  first-held acc r rs w = within-left (acc ++ r .newKinds) (kindsOf rs) ks (rest-held acc r rs w)
 
--- a hand that holds the family's kinds, and is none of its groups, has a kind more
-more-kinds : (ks : List ℕ) (f : Family) → meets ks (kindsOf f) ≡ true → within (kindsOf f) ks ≡ true → isGroup ks [] f ≡ false → 1 ≤ length (without ks (kindsOf f))
-more-kinds ks [] m w g = absurd (true≢false (sym m ∙ meets-none ks))
-more-kinds ks (r ∷ rs) m w g =
-    let l : within ks (kindsOf (r ∷ rs)) ≡ false = and-false-left (within ks (kindsOf (r ∷ rs))) (within (kindsOf (r ∷ rs)) ks) (not-all ks [] (r ∷ rs) (omega arith) g) w in
-    let x : Missing (λ k. mem k (kindsOf (r ∷ rs))) ks = all-missing (λ k. mem k (kindsOf (r ∷ rs))) ks l in
-    in-length (without ks (kindsOf (r ∷ rs))) (x .kind) (in-without ks (kindsOf (r ∷ rs)) (x .kind) (x .isIn) (x .fails))
+  pub chains-above : (acc : List ℕ) (f : Family) → within (acc ++ kindsOf f) ks ≡ true → chains ks acc f ≡ true
+  chains-above acc [] w = refl
+  chains-above acc (r ∷ rs) w = rw (first-held acc r rs w) (chains-above (acc ++ r .newKinds) rs (rest-held acc r rs w))
 
--- ---- what the grown layout's kinds are
+  pub familyWith-above : (acc : List ℕ) (f : Family) → within (acc ++ kindsOf f) ks ≡ true → familyWith ks acc f ≡ f ++ (newGroup (without ks (acc ++ kindsOf f)) ∷ [])
+  familyWith-above acc [] w = rw (append-nil acc)
+  familyWith-above acc (r ∷ rs) w =
+      rw (first-held acc r rs w)
+      (ap {B = Family} (λ l. r ∷ l) (familyWith-above (acc ++ r .newKinds) rs (rest-held acc r rs w) ∙ ap (λ (l : List ℕ). rs ++ (newGroup (without ks l) ∷ [])) (append-assoc acc (r .newKinds) (kindsOf rs))))
 
-grown-out : (ks : List ℕ) (fs : List Family) (z : ℕ) → mem z ks ≡ false → countOf eqb z (layoutKinds (grown ks fs)) ≡ countOf eqb z (layoutKinds fs)
-grown-out ks [] z n = refl
-grown-out ks (f ∷ fs) z n =
-    let r = grown-out ks fs z n in
-    cond-case (λ (h : Family). countOf eqb z (kindsOf h ++ layoutKinds (grown ks fs)) ≡ countOf eqb z (kindsOf f ++ layoutKinds fs)) (meets ks (kindsOf f)) _ _
-    (λ t. rw (kinds-snoc f (newGroup (without ks (kindsOf f)))) (omega (arith, r, none, count-append eqb z (kindsOf f ++ without ks (kindsOf f)) (layoutKinds (grown ks fs)), count-append eqb z (kindsOf f) (without ks (kindsOf f)), count-append eqb z (kindsOf f) (layoutKinds fs))))
-    (λ t. omega (arith, r, count-append eqb z (kindsOf f) (layoutKinds (grown ks fs)), count-append eqb z (kindsOf f) (layoutKinds fs)))
+  -- ---- the family with the group in its place
+
+  -- a group that the hand does not hold holds the hand, since the two are a chain
+  pub holds-hand : (acc : List ℕ) (r : Group) (rs : Family) → chains ks acc (r ∷ rs) ≡ true → within (acc ++ r .newKinds) ks ≡ false → within ks (acc ++ r .newKinds) ≡ true
+  holds-hand acc r rs c n = or-right (within (acc ++ r .newKinds) ks) (within ks (acc ++ r .newKinds)) (chains-here ks acc r rs c) n
+
+  -- its kinds are those of the family, and those of the hand that the family lacks
+  pub familyWith-count : (acc : List ℕ) (f : Family) (z : ℕ) → chains ks acc f ≡ true → countOf eqb z (kindsOf (familyWith ks acc f)) ≡ countOf eqb z (kindsOf f) + countOf eqb z (without ks (acc ++ kindsOf f))
+  familyWith-count acc [] z c = rw (append-nil acc, append-nil (without ks acc)) (omega arith)
+  familyWith-count acc (r ∷ rs) z c =
+      let on = familyWith-count (acc ++ r .newKinds) rs z (chains-rest ks acc r rs c) in
+      cond-case (λ (h : Family). countOf eqb z (kindsOf h) ≡ countOf eqb z (r .newKinds ++ kindsOf rs) + countOf eqb z (without ks (acc ++ (r .newKinds ++ kindsOf rs)))) (within (acc ++ r .newKinds) ks) _ _
+      (λ t. further on)
+      (λ n. here (without-all ks (acc ++ (r .newKinds ++ kindsOf rs)) (λ k i. held k (within-in ks (acc ++ r .newKinds) (holds-hand acc r rs c n) k i))))
+    where
+      held : (k : ℕ) → In (acc ++ r .newKinds) k → In (acc ++ (r .newKinds ++ kindsOf rs)) k
+      held k i = ap (mem k) (sym (append-assoc acc (r .newKinds) (kindsOf rs))) ∙ in-left (acc ++ r .newKinds) (kindsOf rs) k i
+
+      further : countOf eqb z (kindsOf (familyWith ks (acc ++ r .newKinds) rs)) ≡ countOf eqb z (kindsOf rs) + countOf eqb z (without ks ((acc ++ r .newKinds) ++ kindsOf rs))
+          → countOf eqb z (r .newKinds ++ kindsOf (familyWith ks (acc ++ r .newKinds) rs)) ≡ countOf eqb z (r .newKinds ++ kindsOf rs) + countOf eqb z (without ks (acc ++ (r .newKinds ++ kindsOf rs)))
+      further on = omega (arith, on, ap (λ (l : List ℕ). countOf eqb z (without ks l)) (append-assoc acc (r .newKinds) (kindsOf rs)), count-append eqb z (r .newKinds) (kindsOf (familyWith ks (acc ++ r .newKinds) rs)), count-append eqb z (r .newKinds) (kindsOf rs))
+
+      here : without ks (acc ++ (r .newKinds ++ kindsOf rs)) ≡ []
+          → countOf eqb z (common (r .newKinds) ks ++ (without (r .newKinds) ks ++ kindsOf rs)) ≡ countOf eqb z (r .newKinds ++ kindsOf rs) + countOf eqb z (without ks (acc ++ (r .newKinds ++ kindsOf rs)))
+      here e = omega (arith, ap (countOf eqb z) e, count-append eqb z (common (r .newKinds) ks) (without (r .newKinds) ks ++ kindsOf rs), count-append eqb z (without (r .newKinds) ks) (kindsOf rs), count-parted (r .newKinds) ks z, count-append eqb z (r .newKinds) (kindsOf rs))
+
+  pub familyWith-groups : (acc : List ℕ) (f : Family) → length (familyWith ks acc f) ≡ length f + 1
+  familyWith-groups acc [] = refl
+  familyWith-groups acc (r ∷ rs) =
+      cond-case (λ (h : Family). length h ≡ length (r ∷ rs) + 1) (within (acc ++ r .newKinds) ks) _ _
+      (λ t. omega (arith, familyWith-groups (acc ++ r .newKinds) rs))
+      (λ t. omega arith)
+
+  familyWith-uncounted : (acc : List ℕ) (f : Family) → Uncounted f → Uncounted (familyWith ks acc f)
+  familyWith-uncounted acc [] u = (refl, tt)
+  familyWith-uncounted acc (r ∷ rs) u = cond-case Uncounted (within (acc ++ r .newKinds) ks) _ _ (λ t. (u .0, familyWith-uncounted (acc ++ r .newKinds) rs (u .1))) (λ t. (refl, u))
+
+  -- ---- no ring is empty, since the hand is no group of the family
+
+  -- a hand that holds a group, and is not that group, has a kind more
+  more-kinds : (g : List ℕ) → within g ks ≡ true → sameSet ks g ≡ false → 1 ≤ length (without ks g)
+  more-kinds g w n = lacks-some ks g (and-false-left (within ks g) (within g ks) n w)
+
+  -- a hand above the kinds acc, and in the group of them and a ring, has a kind of the ring
+  has-some : (acc ring : List ℕ) → within acc ks ≡ true → sameSet ks acc ≡ false → within ks (acc ++ ring) ≡ true → 1 ≤ length (common ring ks)
+  has-some acc ring a n w =
+      let l : within ks acc ≡ false = and-false-left (within ks acc) (within acc ks) n a in
+      let x : Missing (λ k. mem k acc) ks = all-missing (λ k. mem k acc) ks l in
+      let i : In ring (x .kind) = in-cases acc ring (x .kind) (within-in ks (acc ++ ring) w (x .kind) (x .isIn)) (λ t. absurd (true≢false (sym t ∙ x .fails))) (λ t. t) in
+      in-length (common ring ks) (x .kind) (in-common ring ks (x .kind) i (x .isIn))
+
+  -- and lacks one, where it does not hold the group
+  lacks-one : (acc ring : List ℕ) → within acc ks ≡ true → within (acc ++ ring) ks ≡ false → 1 ≤ length (without ring ks)
+  lacks-one acc ring a n =
+      lacks-some ring ks
+      (not-true (within ring ks)
+      (λ u.
+      let e : within (acc ++ ring) ks ≡ true = all-joined (λ k. mem k ks) acc ring ∙ rw (a, u) in
+      true≢false (sym e ∙ n)))
+
+  familyWith-rising : (acc : List ℕ) (f : Family) → within acc ks ≡ true → sameSet ks acc ≡ false → isGroup ks acc f ≡ false → chains ks acc f ≡ true → Rising f → Rising (familyWith ks acc f)
+  familyWith-rising acc [] a n g c h = (more-kinds acc a n, tt)
+  familyWith-rising acc (r ∷ rs) a n g c h =
+      let on : within (acc ++ r .newKinds) ks ≡ true → Rising (familyWith ks (acc ++ r .newKinds) rs) = λ t. familyWith-rising (acc ++ r .newKinds) rs t (or-false (sameSet ks (acc ++ r .newKinds)) (isGroup ks (acc ++ r .newKinds) rs) g) (or-false-right (sameSet ks (acc ++ r .newKinds)) (isGroup ks (acc ++ r .newKinds) rs) g) (chains-rest ks acc r rs c) (h .1) in
+      cond-case Rising (within (acc ++ r .newKinds) ks) _ _
+      (λ t. (h .0, on t))
+      (λ t. (has-some acc (r .newKinds) a n (holds-hand acc r rs c t), (lacks-one acc (r .newKinds) a t, h .1)))
+
+  -- ---- and the family is one that commands can build
+
+  -- the first group has two kinds or more
+  familyWith-first : (r : Group) (rs : Family) → 2 ≤ length ks → Distinct ks → isGroup ks [] (r ∷ rs) ≡ false → chains ks [] (r ∷ rs) ≡ true → 2 ≤ length (r .newKinds) → Rising rs → length (kindsOf (familyWith ks [] (r ∷ rs))) ≤ MAX-GROUP-ARITY → BuildableFamily (familyWith ks [] (r ∷ rs))
+  familyWith-first r rs two d g c lo up =
+      cond-case (λ (h : Family). length (kindsOf h) ≤ MAX-GROUP-ARITY → BuildableFamily h) (within (r .newKinds) ks) _ _
+      (λ t w. (lo, familyWith-rising (r .newKinds) rs t (or-false (sameSet ks (r .newKinds)) (isGroup ks (r .newKinds) rs) g) (or-false-right (sameSet ks (r .newKinds)) (isGroup ks (r .newKinds) rs) g) (chains-rest ks [] r rs c) up, w))
+      (λ t w. (omega (arith, common-length (r .newKinds) ks d (holds-hand [] r rs c t)), (lacks-some (r .newKinds) ks t, up), w))
+
+  -- the last has as many as the hand, or as the family's last
+  familyWith-width : (f : Family) → 1 ≤ length f → length ks ≤ MAX-GROUP-ARITY → Distinct ks → Distinct (kindsOf f) → chains ks [] f ≡ true → length (kindsOf f) ≤ MAX-GROUP-ARITY → length (kindsOf (familyWith ks [] f)) ≤ MAX-GROUP-ARITY
+  familyWith-width f some narrow dk df c w =
+      let e : length (kindsOf (familyWith ks [] f)) ≡ length (kindsOf f ++ without ks (kindsOf f)) = as-long (kindsOf (familyWith ks [] f)) (kindsOf f ++ without ks (kindsOf f)) (λ z. familyWith-count [] f z c ∙ sym (count-append eqb z (kindsOf f) (without ks (kindsOf f)))) in
+      or-cases (within (kindsOf f) ks) (within ks (kindsOf f)) (chains-largest ks [] f some c)
+      (λ t. omega (arith, e, length-append (kindsOf f) (without ks (kindsOf f)), without-length ks (kindsOf f) dk df t))
+      (λ t. omega (arith, e, length-append (kindsOf f) (without ks (kindsOf f)), ap (length {A = ℕ}) (without-all ks (kindsOf f) (within-in ks (kindsOf f) t))))
+
+  familyWith-family : (f : Family) → 2 ≤ length ks → length ks ≤ MAX-GROUP-ARITY → Distinct ks → Distinct (kindsOf f) → isGroup ks [] f ≡ false → chains ks [] f ≡ true → BuildableFamily f → BuildableFamily (familyWith ks [] f)
+  familyWith-family [] two narrow dk df g c b = absurd b
+  familyWith-family (r ∷ rs) two narrow dk df g c b = familyWith-first r rs two dk g c (b .0) (b .1) (familyWith-width (r ∷ rs) (omega arith) narrow dk df c (b .2))
+
+-- ---- what the kinds of the draft are then
+
+-- the first family, where the hand meets it, and the others
+pub chained-first : (ks : List ℕ) (f : Family) (fs : List Family) → chained ks (f ∷ fs) ≡ true → meets ks (kindsOf f) ≡ true → chains ks [] f ≡ true
+chained-first ks f fs c m = not-or (meets ks (kindsOf f)) _ (and-left _ (chained ks fs) c) m
+
+pub chained-rest : (ks : List ℕ) (f : Family) (fs : List Family) → chained ks (f ∷ fs) ≡ true → chained ks fs ≡ true
+chained-rest ks f fs c = and-right (not (meets ks (kindsOf f)) || _) (chained ks fs) c
+
+-- of a kind that the hand has not, as many as before
+familiesWith-out : (ks : List ℕ) (fs : List Family) (z : ℕ) → chained ks fs ≡ true → mem z ks ≡ false → countOf eqb z (layoutKinds (familiesWith ks fs)) ≡ countOf eqb z (layoutKinds fs)
+familiesWith-out ks [] z c n = refl
+familiesWith-out ks (f ∷ fs) z c n =
+    let r = familiesWith-out ks fs z (chained-rest ks f fs c) n in
+    cond-case (λ (h : Family). countOf eqb z (kindsOf h ++ layoutKinds (familiesWith ks fs)) ≡ countOf eqb z (kindsOf f ++ layoutKinds fs)) (meets ks (kindsOf f)) _ _
+    (λ t. omega (arith, r, none, familyWith-count ks [] f z (chained-first ks f fs c t), count-append eqb z (kindsOf (familyWith ks [] f)) (layoutKinds (familiesWith ks fs)), count-append eqb z (kindsOf f) (layoutKinds fs)))
+    (λ t. omega (arith, r, count-append eqb z (kindsOf f) (layoutKinds (familiesWith ks fs)), count-append eqb z (kindsOf f) (layoutKinds fs)))
   where
     none : countOf eqb z (without ks (kindsOf f)) ≡ 0
     none = omega (arith, count-without-le ks (kindsOf f) z, out-count ks z n)
 
-grown-once : (ks : List ℕ) (fs : List Family) → touched ks fs ≡ 1 → Distinct ks → Distinct (layoutKinds fs) → Distinct (layoutKinds (grown ks fs))
-grown-once ks [] t d o = absurd (omega arith)
-grown-once ks (f ∷ fs) t d o = bool-cases (meets ks (kindsOf f)) here (λ m. later m (grown-once ks fs (rw m at t) d (distinct-right (kindsOf f) (layoutKinds fs) o)))
+familiesWith-once : (ks : List ℕ) (fs : List Family) → touched ks fs ≡ 1 → chained ks fs ≡ true → Distinct ks → Distinct (layoutKinds fs) → Distinct (layoutKinds (familiesWith ks fs))
+familiesWith-once ks [] t c d o = absurd (omega arith)
+familiesWith-once ks (f ∷ fs) t c d o = bool-cases (meets ks (kindsOf f)) here (λ m. later m (familiesWith-once ks fs (rw m at t) (chained-rest ks f fs c) d (distinct-right (kindsOf f) (layoutKinds fs) o)))
   where
-    here : meets ks (kindsOf f) ≡ true → Distinct (layoutKinds (grown ks (f ∷ fs)))
+    here : meets ks (kindsOf f) ≡ true → Distinct (layoutKinds (familiesWith ks (f ∷ fs)))
     here m z =
         let t0 : touched ks fs ≡ 0 = omega (arith, rw m at t) in
-        rw (m, grown-same ks fs t0, kinds-snoc f (newGroup (without ks (kindsOf f))))
+        rw (m, familiesWith-same ks fs t0)
         (bool-cases (mem z (kindsOf f))
         (λ u. omega (arith, parts z, o z, count-append eqb z (kindsOf f) (layoutKinds fs), rw u at (count-without ks (kindsOf f) z)))
         (λ u. bool-cases (mem z ks)
         (λ v. omega (arith, parts z, rw u at (count-without ks (kindsOf f) z), d z, out-count (kindsOf f) z u, out-count (layoutKinds fs) z (not-true (mem z (layoutKinds fs)) (λ i. true≢false (sym v ∙ untouched ks fs t0 z i)))))
         (λ v. omega (arith, parts z, rw u at (count-without ks (kindsOf f) z), out-count ks z v, o z, count-append eqb z (kindsOf f) (layoutKinds fs)))))
       where
-        parts : (z : ℕ) → countOf eqb z ((kindsOf f ++ without ks (kindsOf f)) ++ layoutKinds fs) ≡ countOf eqb z (kindsOf f) + countOf eqb z (without ks (kindsOf f)) + countOf eqb z (layoutKinds fs)
-        parts z = omega (arith, count-append eqb z (kindsOf f ++ without ks (kindsOf f)) (layoutKinds fs), count-append eqb z (kindsOf f) (without ks (kindsOf f)))
+        parts : (z : ℕ) → countOf eqb z (kindsOf (familyWith ks [] f) ++ layoutKinds fs) ≡ countOf eqb z (kindsOf f) + countOf eqb z (without ks (kindsOf f)) + countOf eqb z (layoutKinds fs)
+        parts z = omega (arith, count-append eqb z (kindsOf (familyWith ks [] f)) (layoutKinds fs), familyWith-count ks [] f z (chained-first ks f fs c m))
 
-    later : meets ks (kindsOf f) ≡ false → Distinct (layoutKinds (grown ks fs)) → Distinct (layoutKinds (grown ks (f ∷ fs)))
+    later : meets ks (kindsOf f) ≡ false → Distinct (layoutKinds (familiesWith ks fs)) → Distinct (layoutKinds (familiesWith ks (f ∷ fs)))
     later m r z =
         rw m
         (bool-cases (mem z ks)
-        (λ v. omega (arith, count-append eqb z (kindsOf f) (layoutKinds (grown ks fs)), r z, out-count (kindsOf f) z (not-true (mem z (kindsOf f)) (λ i. true≢false (sym v ∙ unmet-in ks (kindsOf f) m z i)))))
-        (λ v. omega (arith, count-append eqb z (kindsOf f) (layoutKinds (grown ks fs)), grown-out ks fs z v, o z, count-append eqb z (kindsOf f) (layoutKinds fs))))
+        (λ v. omega (arith, count-append eqb z (kindsOf f) (layoutKinds (familiesWith ks fs)), r z, out-count (kindsOf f) z (not-true (mem z (kindsOf f)) (λ i. true≢false (sym v ∙ unmet-in ks (kindsOf f) m z i)))))
+        (λ v. omega (arith, count-append eqb z (kindsOf f) (layoutKinds (familiesWith ks fs)), familiesWith-out ks fs z (chained-rest ks f fs c) v, o z, count-append eqb z (kindsOf f) (layoutKinds fs))))
 
-grown-in : (ks : List ℕ) (fs : List Family) (k : ℕ) → In (layoutKinds (grown ks fs)) k → mem k ks ≡ false → In (layoutKinds fs) k
-grown-in ks fs k i n = count-in (layoutKinds fs) k (omega (arith, grown-out ks fs k n, in-count (layoutKinds (grown ks fs)) k i))
+familiesWith-in : (ks : List ℕ) (fs : List Family) (k : ℕ) → chained ks fs ≡ true → In (layoutKinds (familiesWith ks fs)) k → mem k ks ≡ false → In (layoutKinds fs) k
+familiesWith-in ks fs k c i n = count-in (layoutKinds fs) k (omega (arith, familiesWith-out ks fs k c n, in-count (layoutKinds (familiesWith ks fs)) k i))
 
-grown-groups : (ks : List ℕ) (fs : List Family) → groupsOf (grown ks fs) ≡ groupsOf fs + touched ks fs
-grown-groups ks [] = refl
-grown-groups ks (f ∷ fs) =
-    let r = grown-groups ks fs in
+pub familiesWith-groups : (ks : List ℕ) (fs : List Family) → groupsOf (familiesWith ks fs) ≡ groupsOf fs + touched ks fs
+familiesWith-groups ks [] = refl
+familiesWith-groups ks (f ∷ fs) =
+    let r = familiesWith-groups ks fs in
     bool-cases (meets ks (kindsOf f))
-    (λ t. rw t (omega (arith, r, length-append f (newGroup (without ks (kindsOf f)) ∷ []))))
+    (λ t. rw t (omega (arith, r, familyWith-groups ks [] f)))
     (λ t. rw t (omega (arith, r)))
 
--- ---- the family that grows is one that commands can build, and so are the others
+-- ---- every family is one that commands can build, with all counts 0
 
-record Grows (ks : List ℕ) (fs : List Family) : Type 0 where
-  pub families : BuildableFamilies (grown ks fs)
-  pub uncounted : AllUncounted (grown ks fs)
+record FamiliesSound (ks : List ℕ) (fs : List Family) : Type 0 where
+  pub families : BuildableFamilies (familiesWith ks fs)
+  pub uncounted : AllUncounted (familiesWith ks fs)
 
-grown-families : (ks : List ℕ) (fs : List Family) → covers ks fs ≡ true → present ks fs ≡ false → length ks ≤ MAX-GROUP-ARITY → Distinct ks → Distinct (layoutKinds fs) → BuildableFamilies fs → AllUncounted fs → Grows ks fs
-grown-families ks [] c p l k d b u = record { families = tt; uncounted = tt }
-grown-families ks (f ∷ fs) c p l k d b u =
-    let r = grown-families ks fs (and-right (not (meets ks (kindsOf f)) || within (kindsOf f) ks) (covers ks fs) c) (or-false-right (isGroup ks [] f) (present ks fs) p) l k (distinct-right (kindsOf f) (layoutKinds fs) d) (b .1) (u .1) in
+familiesWith-families : (ks : List ℕ) (fs : List Family) → chained ks fs ≡ true → present ks fs ≡ false → 2 ≤ length ks → length ks ≤ MAX-GROUP-ARITY → Distinct ks → Distinct (layoutKinds fs) → BuildableFamilies fs → AllUncounted fs → FamiliesSound ks fs
+familiesWith-families ks [] c p two l k d b u = record { families = tt; uncounted = tt }
+familiesWith-families ks (f ∷ fs) c p two l k d b u =
+    let r = familiesWith-families ks fs (chained-rest ks f fs c) (or-false-right (isGroup ks [] f) (present ks fs) p) two l k (distinct-right (kindsOf f) (layoutKinds fs) d) (b .1) (u .1) in
     record {
-      families = (cond-case BuildableFamily (meets ks (kindsOf f)) _ _ wider (λ t. b .0), r .families);
-      uncounted = (cond-case Uncounted (meets ks (kindsOf f)) _ _ (λ t. uncounted-snoc f (newGroup (without ks (kindsOf f))) (u .0) refl) (λ t. u .0), r .uncounted);
+      families = (cond-case BuildableFamily (meets ks (kindsOf f)) _ _ (λ t. familyWith-family ks f two l k (distinct-left (kindsOf f) (layoutKinds fs) d) (or-false (isGroup ks [] f) (present ks fs) p) (chained-first ks f fs c t) (b .0)) (λ t. b .0), r .families);
+      uncounted = (cond-case Uncounted (meets ks (kindsOf f)) _ _ (λ t. familyWith-uncounted ks [] f (u .0)) (λ t. u .0), r .uncounted);
     }
-  where
-    wider : meets ks (kindsOf f) ≡ true → BuildableFamily (f ++ (newGroup (without ks (kindsOf f)) ∷ []))
-    wider m =
-        let w = not-or (meets ks (kindsOf f)) (within (kindsOf f) ks) (and-left (not (meets ks (kindsOf f)) || within (kindsOf f) ks) (covers ks fs) c) m in
-        family-snoc f (newGroup (without ks (kindsOf f))) (b .0) (more-kinds ks f m w (or-false (isGroup ks [] f) (present ks fs) p)) (omega (arith, length-append (kindsOf f) (without ks (kindsOf f)), without-length ks (kindsOf f) k (distinct-left (kindsOf f) (layoutKinds fs) d) w))
 
 -- ---- a family of its own
 
@@ -195,15 +295,15 @@ module _ (kinds ks : List ℕ) (fs : List Family) (d : Distinct ks) (known : (k 
         uncounted = own-uncounted ks fs (D .uncounted);
       }
 
-  grown-sound : touched ks fs ≡ 1 → covers ks fs ≡ true → present ks fs ≡ false → DraftSound kinds (grown ks fs)
-  grown-sound t c p =
-      let G = grown-families ks fs c p narrow d (D .buildable .once) (D .buildable .families) (D .uncounted) in
+  familiesWith-sound : 2 ≤ length ks → touched ks fs ≡ 1 → chained ks fs ≡ true → present ks fs ≡ false → DraftSound kinds (familiesWith ks fs)
+  familiesWith-sound two t c p =
+      let G = familiesWith-families ks fs c p two narrow d (D .buildable .once) (D .buildable .families) (D .uncounted) in
       record {
         buildable = record {
           families = G .families;
-          once = grown-once ks fs t d (D .buildable .once);
-          known = λ k i. bool-cases (mem k ks) (known k) (λ n. D .buildable .known k (grown-in ks fs k i n));
-          few = omega (arith, grown-groups ks fs);
+          once = familiesWith-once ks fs t c d (D .buildable .once);
+          known = λ k i. bool-cases (mem k ks) (known k) (λ n. D .buildable .known k (familiesWith-in ks fs k c i n));
+          few = omega (arith, familiesWith-groups ks fs);
         };
         uncounted = G .uncounted;
       }
@@ -214,8 +314,9 @@ module _ (kinds ks : List ℕ) (fs : List Family) (d : Distinct ks) (known : (k 
       cond-case (DraftSound kinds) (eqb (touched ks fs) 0) _ _
       (λ z. own-sound two (eqb-true (touched ks fs) 0 z))
       (λ z.
-      let b = or-right (eqb (touched ks fs) 0) (eqb (touched ks fs) 1 && covers ks fs) j z in
-      grown-sound (eqb-true (touched ks fs) 1 (and-left (eqb (touched ks fs) 1) (covers ks fs) b)) (and-right (eqb (touched ks fs) 1) (covers ks fs) b) (or-false-right (ltb (length ks) 2) (present ks fs) n))
+      let some : 0 < touched ks fs = above 0 (omega arith) (eqb-false (touched ks fs) 0 z) in
+      let one : touched ks fs ≡ 1 = omega (arith, some, leb-true (touched ks fs) 1 (and-left (leb (touched ks fs) 1) (chained ks fs) j)) in
+      familiesWith-sound two one (and-right (leb (touched ks fs) 1) (chained ks fs) j) (or-false-right (ltb (length ks) 2) (present ks fs) n))
 
 -- ---- the same of addGroup
 

@@ -1,4 +1,4 @@
--- Lists of kinds: membership, counts, tests of all and of some, equal sets. Assumes nothing.
+-- Lists of kinds: membership, counts, tests of all and of some, equal sets, what two lists have in common. Assumes nothing.
 use mathlib.Core.Path.{_≡_, refl, ap, _∙_, sym}
 use mathlib.Core.Bool.{Bool, true, false, cond, not, false≢true, _&&_, or-true, _||_, or-assoc, true≢false, or-false as or-none}
 use mathlib.Core.List.{List, [], _∷_, _++_, append-nil}
@@ -9,8 +9,8 @@ use lib.Dec.{eqb, leb}
 use lib.ListN.{length, getD, take, drop, set, take-append-drop, length-append}
 use lib.Seq.{drop-cons, take-take, drop-length}
 use Rattle.model.specs.Lists.{one, countOf, place}
-use Rattle.model.proofs.ListLaws.{count-append, count-kept, self-count, count-at, count-place, getD-place, as-long, drop-step, put-next}
-use Rattle.model.specs.Model.{mem, allOf, anyOf, within, meets, sameSet, without, headKind}
+use Rattle.model.proofs.ListLaws.{count-append, count-kept, self-count, count-at, count-place, getD-place, shorter, as-long, drop-step, put-next}
+use Rattle.model.specs.Model.{mem, allOf, anyOf, within, meets, sameSet, without, common, headKind}
 use Rattle.model.specs.Sound.{In, Distinct}
 use Rattle.model.proofs.BoolLaws.{by-lt, bool-cases, cond-not, or-cases, or-false, or-false-right, not-true, and-left, and-right}
 
@@ -55,6 +55,51 @@ count-without-le ks js k = bool-cases (mem k js) (λ t. omega (arith, rw t at (c
 
 pub in-without : (ks js : List ℕ) (k : ℕ) → In ks k → mem k js ≡ false → In (without ks js) k
 in-without ks js k i n = count-in (without ks js) k (omega (arith, rw n at (count-without ks js k), in-count ks k i))
+
+pub without-in : (ks js : List ℕ) (k : ℕ) → In (without ks js) k → In ks k
+without-in ks js k i = count-in ks k (omega (arith, in-count (without ks js) k i, count-without-le ks js k))
+
+-- ---- the kinds of ks that js has
+
+pub count-common : (ks js : List ℕ) (k : ℕ) → countOf eqb k (common ks js) ≡ cond (mem k js) (countOf eqb k ks) 0
+count-common ks js k = count-kept eqb eqb-true (λ j. mem j js) (λ l. common l js) refl (λ j l. refl) ks k
+
+pub in-common : (ks js : List ℕ) (k : ℕ) → In ks k → In js k → In (common ks js) k
+in-common ks js k i j = count-in (common ks js) k (omega (arith, rw j at (count-common ks js k), in-count ks k i))
+
+-- with those that it lacks, these are ks
+pub count-parted : (ks js : List ℕ) (k : ℕ) → countOf eqb k (common ks js) + countOf eqb k (without ks js) ≡ countOf eqb k ks
+count-parted ks js k =
+    bool-cases (mem k js)
+    (λ t. omega (arith, rw t at (count-common ks js k), rw t at (count-without ks js k)))
+    (λ t. omega (arith, rw t at (count-common ks js k), rw t at (count-without ks js k)))
+
+pub common-in : (ks js : List ℕ) (k : ℕ) → In (common ks js) k → In ks k × In js k
+common-in ks js k i = (
+  count-in ks k (omega (arith, in-count (common ks js) k i, count-parted ks js k)),
+  bool-cases (mem k js) (λ t. t) (λ t. absurd (omega (arith, in-count (common ks js) k i, rw t at (count-common ks js k)))),
+)
+
+pub length-parted : (ks js : List ℕ) → length (common ks js) + length (without ks js) ≡ length ks
+length-parted [] js = refl
+length-parted (k ∷ ks) js =
+    bool-cases (mem k js)
+    (λ t. rw t (omega (arith, length-parted ks js)))
+    (λ t. rw t (omega (arith, length-parted ks js)))
+
+pub common-append : (a b js : List ℕ) → common (a ++ b) js ≡ common a js ++ common b js
+common-append [] b js = refl
+common-append (k ∷ a) b js = bool-cases (mem k js) (λ t. rw t (ap {B = List ℕ} (λ l. k ∷ l) (common-append a b js))) (λ t. rw t (common-append a b js))
+
+-- js has all of a
+pub common-all : (a js : List ℕ) → ((k : ℕ) → In a k → In js k) → common a js ≡ a
+common-all [] js h = refl
+common-all (k ∷ a) js h = rw (h k (rw (eq-eqb k k refl))) (ap {B = List ℕ} (λ l. k ∷ l) (common-all a js (λ j i. h j (rw i (or-true (eqb j k))))))
+
+-- js has none of b
+pub common-none : (b js : List ℕ) → ((k : ℕ) → In b k → mem k js ≡ false) → common b js ≡ []
+common-none [] js h = refl
+common-none (k ∷ b) js h = rw (h k (rw (eq-eqb k k refl))) (common-none b js (λ j i. h j (rw i (or-true (eqb j k)))))
 
 -- ---- a kind of a list that is not empty
 
@@ -236,6 +281,28 @@ without-length ks js dk dj w =
     (λ t. omega (arith, rw t at (count-without ks js k), in-count js k t, dj k, dk k, within-counts js ks dj w k))
     (λ t. omega (arith, rw t at (count-without ks js k), out-count js k t)))
 
+-- a list within another has its kinds there
+pub within-in : (js ks : List ℕ) → within js ks ≡ true → (k : ℕ) → In js k → In ks k
+within-in js ks w = all-in (λ j. mem j ks) js w
+
+-- of two lists joined, the first is within where both are
+pub within-left : (a b ks : List ℕ) → within (a ++ b) ks ≡ true → within a ks ≡ true
+within-left a b ks w = and-left (within a ks) (within b ks) (sym (all-joined (λ j. mem j ks) a b) ∙ w)
+
+-- where ks is within js, the kinds of js that ks has are as many as ks
+pub common-length : (js ks : List ℕ) → Distinct ks → within ks js ≡ true → length ks ≤ length (common js ks)
+common-length js ks d w =
+    shorter ks (common js ks)
+    (λ k. bool-cases (mem k ks)
+    (λ t. omega (arith, within-counts ks js d w k, rw t at (count-common js ks k)))
+    (λ t. omega (arith, out-count ks k t)))
+
+-- a list that is not within js has a kind that js lacks
+pub lacks-some : (ks js : List ℕ) → within ks js ≡ false → 1 ≤ length (without ks js)
+lacks-some ks js n =
+    let x : Missing (λ k. mem k js) ks = all-missing (λ k. mem k js) ks n in
+    in-length (without ks js) (x .kind) (in-without ks js (x .kind) (x .isIn) (x .fails))
+
 -- ---- equal sets
 
 pub same-to : (ks js : List ℕ) → sameSet ks js ≡ true → (k : ℕ) → In ks k → In js k
@@ -288,6 +355,18 @@ without-new ks hs out i n h o e = rw (drop-step hs i 0 h, e) (put-next out (with
 
 pub without-end : (ks hs out : List ℕ) (n : ℕ) → take n out ++ without (drop (length hs) hs) ks ≡ take n out
 without-end ks hs out n = rw drop-length (append-nil (take n out))
+
+-- those of ks that hs has, put into the front of out
+pub common-next : (ks hs out : List ℕ) (i n : ℕ) → i < length ks → n < length out → mem (getD ks i 0) hs ≡ true
+    → take n out ++ common (drop i ks) hs ≡ take (n + 1) (set out n (getD ks i 0)) ++ common (drop (i + 1) ks) hs
+common-next ks hs out i n h o e = rw (drop-step ks i 0 h, e) (put-next out (common (drop (i + 1) ks) hs) n (getD ks i 0) o)
+
+pub common-past : (ks hs out : List ℕ) (i n : ℕ) → i < length ks → mem (getD ks i 0) hs ≡ false
+    → take n out ++ common (drop i ks) hs ≡ take n out ++ common (drop (i + 1) ks) hs
+common-past ks hs out i n h e = rw (drop-step ks i 0 h, e)
+
+pub common-end : (ks hs out : List ℕ) (n : ℕ) → take n out ++ common (drop (length ks) ks) hs ≡ take n out
+common-end ks hs out n = rw drop-length (append-nil (take n out))
 
 -- ---- a list without the kinds of another
 

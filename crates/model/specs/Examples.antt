@@ -95,7 +95,7 @@ afterKill = storeAfter exampleStore (does (KILL (entity 1 1)) exampleStore)
 
 -- ---- the fourteen
 
--- what the model gives, and what 01 says
+-- what the model gives, and what 01 says, or 02 in its place
 pub record Example : Type 0 where
   pub got : List ℕ
   pub want : List ℕ
@@ -126,9 +126,10 @@ marked =
     ∷ record { got = ranges exampleStore (1 ∷ 2 ∷ []) (3 ∷ 4 ∷ []); want = 0 ∷ 1 ∷ 1 ∷ 0 ∷ 0 ∷ 0 ∷ 3 ∷ 0 ∷ 0 ∷ 0 ∷ [] }
     ∷ record { got = ranges exampleStore (1 ∷ 2 ∷ []) (3 ∷ []); want = 0 ∷ 0 ∷ 0 ∷ 0 ∷ 0 ∷ 0 ∷ 0 ∷ 0 ∷ 0 ∷ 0 ∷ [] }
     ∷ record { got = ranges exampleStore [] []; want = 0 ∷ 0 ∷ 0 ∷ 0 ∷ 0 ∷ 0 ∷ 0 ∷ 0 ∷ 0 ∷ 0 ∷ [] }
-    -- "{1,2} nothing; {1,2,3} 14; {1,2,5} 14; {3,4} 14; {5,6} added; {1,2,3,4,5} added."
+    -- "{1,2} nothing; {1,2,3} 14; {1,2,5} 14; {3,4} 14; {5,6} added; {1,2,3,4,5} added." 02's No. 1 changes the second: "In 01 {1,2,3} becomes added;
+    -- {1,2,5} and {3,4} still clash"
     ∷ record { got = adds (1 ∷ 2 ∷ []); want = 0 ∷ 0 ∷ [] }
-    ∷ record { got = adds (1 ∷ 2 ∷ 3 ∷ []); want = 14 ∷ [] }
+    ∷ record { got = adds (1 ∷ 2 ∷ 3 ∷ []); want = 0 ∷ 1 ∷ [] }
     ∷ record { got = adds (1 ∷ 2 ∷ 5 ∷ []); want = 14 ∷ [] }
     ∷ record { got = adds (3 ∷ 4 ∷ []); want = 14 ∷ [] }
     ∷ record { got = adds (5 ∷ 6 ∷ []); want = 0 ∷ 1 ∷ [] }

@@ -2,6 +2,8 @@ pub mod Numbers
 pub mod Lists
 pub mod Model
 pub mod Adding
+pub mod Forms
+pub mod Listed
 pub mod Store
 pub mod Commands
 pub mod Snapshot

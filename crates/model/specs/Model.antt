@@ -1,5 +1,5 @@
 -- The store's model: entities, sparse sets, families, and the operations on them as functions that compute. Assumes nothing.
--- A comment quotes the sentence of document 01 that its definition is.
+-- A comment quotes the sentence of document 01 that its definition is; under GROUP also of 02's No. 1.
 use mathlib.Core.Bool.{Bool, true, false, cond, not, _&&_, _||_}
 use mathlib.Core.List.{List, [], _∷_, _++_, map}
 use Prim.Native.Nat.{ℕ, suc, _+_, _-_}
@@ -85,6 +85,11 @@ sameSet ks js = within ks js && within js ks
 abbrev pub without : List ℕ → List ℕ → List ℕ
 without [] js = []
 without (k ∷ ks) js = let r = without ks js in cond (mem k js) r (k ∷ r)
+
+-- the kinds of ks that js has
+abbrev pub common : List ℕ → List ℕ → List ℕ
+common [] js = []
+common (k ∷ ks) js = let r = common ks js in cond (mem k js) (k ∷ r) r
 
 -- ---- sparse sets. The list of sparse sets has one for each of the 128 kinds, at the kind's place; an unregistered kind's is empty.
 
@@ -329,40 +334,57 @@ abbrev pub present : List ℕ → List Family → Bool
 present ks [] = false
 present ks (f ∷ fs) = isGroup ks [] f || present ks fs
 
--- how many families share a kind with ks: "shares no kind with any group" is 0, "exactly one family" is 1
+-- how many families share a kind with ks: "shares kinds with one family at most" is 0 or 1
 abbrev pub touched : List ℕ → List Family → ℕ
 touched ks [] = 0
 touched ks (f ∷ fs) = cond (meets ks (kindsOf f)) (suc (touched ks fs)) (touched ks fs)
 
--- "holds every kind of" each family that it shares a kind with
-abbrev pub covers : List ℕ → List Family → Bool
-covers ks [] = true
-covers ks (f ∷ fs) = (not (meets ks (kindsOf f)) || within (kindsOf f) ks) && covers ks fs
+-- one of the two holds the other
+abbrev pub nested : List ℕ → List ℕ → Bool
+nested ks js = within ks js || within js ks
+
+-- "all groups of that family, with it, are a chain"; acc are the kinds of the group before
+abbrev pub chains : List ℕ → List ℕ → Family → Bool
+chains ks acc [] = true
+chains ks acc (r ∷ rs) = nested (acc ++ r .newKinds) ks && chains ks (acc ++ r .newKinds) rs
+
+-- and so for each family that it shares a kind with
+abbrev pub chained : List ℕ → List Family → Bool
+chained ks [] = true
+chained ks (f ∷ fs) = (not (meets ks (kindsOf f)) || chains ks [] f) && chained ks fs
 
 -- a group of no entity yet, with ks for its ring
 abbrev pub newGroup : List ℕ → Group
 newGroup ks = record { newKinds = ks; count = 0 }
 
--- each family that ks shares a kind with gets a group more, whose ring is what ks has besides
-abbrev pub grown : List ℕ → List Family → List Family
-grown ks [] = []
-grown ks (f ∷ fs) = cond (meets ks (kindsOf f)) (f ++ (newGroup (without ks (kindsOf f)) ∷ [])) f ∷ grown ks fs
+-- "it may go below, between or above": behind the groups that it holds, before those that hold it. Its ring is its kinds that the group before lacks, and
+-- in the ring of the group after it stay the kinds that it lacks; acc are the kinds of the group before
+abbrev pub familyWith : List ℕ → List ℕ → Family → Family
+familyWith ks acc [] = newGroup (without ks acc) ∷ []
+familyWith ks acc (r ∷ rs) =
+    let further = r ∷ familyWith ks (acc ++ r .newKinds) rs in
+    let here = newGroup (common (r .newKinds) ks) ∷ record { newKinds = without (r .newKinds) ks; count = r .count } ∷ rs in
+    cond (within (acc ++ r .newKinds) ks) further here
+
+-- each family that ks shares a kind with gets the group
+abbrev pub familiesWith : List ℕ → List Family → List Family
+familiesWith ks [] = []
+familiesWith ks (f ∷ fs) = cond (meets ks (kindsOf f)) (familyWith ks [] f) f ∷ familiesWith ks fs
 
 -- "A new group of fewer than two kinds, or equal to one present, adds nothing."
 abbrev pub addsNothing : List ℕ → List Family → Bool
 addsNothing ks fs = ltb (length ks) 2 || present ks fs
 
--- "It is added if it shares no kind with any group, or if it holds every kind of exactly one family, has more, and shares none with the others.
--- Everything else clashes." That it has more kinds than that family is that it is not equal to a group present.
+-- 02, No. 1: "A group is to be added whenever it shares kinds with one family at most and all groups of that family, with it, are a chain"
 abbrev pub joins : List ℕ → List Family → Bool
-joins ks fs = eqb (touched ks fs) 0 || (eqb (touched ks fs) 1 && covers ks fs)
+joins ks fs = leb (touched ks fs) 1 && chained ks fs
 
--- the draft with the group added: a family of its own, or the largest group of the family that it shares kinds with
+-- the draft with the group added: a family of its own, or in its place in the family that it shares kinds with
 abbrev pub withGroup : List ℕ → List Family → List Family
 withGroup ks fs =
-    let fresh = fs ++ ((newGroup ks ∷ []) ∷ []) in
-    let wider = grown ks fs in
-    cond (eqb (touched ks fs) 0) fresh wider
+    let own = fs ++ ((newGroup ks ∷ []) ∷ []) in
+    let joined = familiesWith ks fs in
+    cond (eqb (touched ks fs) 0) own joined
 
 -- ---- entities
 

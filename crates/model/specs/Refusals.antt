@@ -148,7 +148,7 @@ linesOf NEW =
 linesOf GROUP =
     -- "16 kinds"
     line WIDE (λ s. ltb MAX-GROUP-ARITY (length (stagedKinds s)))
-    -- "Everything else clashes."
+    -- 02, No. 1: "CLASH shrinks to what is left"
     ∷ line CLASH (λ s. not (addsNothing (stagedKinds s) (s .control .draft)) && not (joins (stagedKinds s) (s .control .draft)))
     -- "draft has 63 groups"
     ∷ line MANY (λ s. not (addsNothing (stagedKinds s) (s .control .draft)) && leb MAX-GROUP-COUNT (groupsOf (s .control .draft)))

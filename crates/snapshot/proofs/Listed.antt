@@ -10,13 +10,13 @@ use lib.ListN.{length, getD, set, take, drop, drop-of-length-le}
 use lib.Seq.{sets, drop-cons}
 use Rattle.model.specs.Numbers.{MAX-KINDS}
 use Rattle.model.specs.Model.{Entity, SparseSet, Component, noRow, mem, at, held, setOf}
+use Rattle.model.specs.Listed.{risingFrom, risingKinds}
 use Rattle.model.specs.Sound.{In}
 use Rattle.model.specs.Store.{bytesOf}
 use Rattle.model.specs.Snapshot.{valueAt, addComponent, componentsOf, componentBytes}
 use Rattle.model.proofs.ListLaws.{put-next}
 use Rattle.model.proofs.Lengths.{bytesOf-length}
 use Rattle.component.specs.SparseSet.{valueOf}
-use Rattle.snapshot.specs.Rising.{risingFrom, risingKinds}
 use Rattle.snapshot.specs.Wrote.{oneBytes, WrittenUntil}
 
 -- ---- the list of registered kinds

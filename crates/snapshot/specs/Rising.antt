@@ -1,20 +1,11 @@
 -- The registered kinds in the order of a snapshot, and how many rows all sparse sets have. Assumes nothing.
 use mathlib.Core.Path.{_≡_}
-use mathlib.Core.Bool.{cond}
 use mathlib.Core.List.{List, [], _∷_}
-use Prim.Native.Nat.{ℕ, zero, suc, _+_, _≤_}
+use Prim.Native.Nat.{ℕ, _+_, _≤_}
 use lib.ListN.{length, take}
 use Rattle.model.specs.Numbers.{MAX-KINDS}
-use Rattle.model.specs.Model.{SparseSet, mem}
-
--- of the n kinds from k on, those in the list ks
-abbrev pub risingFrom : List ℕ → ℕ → ℕ → List ℕ
-risingFrom ks zero k = []
-risingFrom ks (suc n) k = let r = risingFrom ks n (suc k) in cond (mem k ks) (k ∷ r) r
-
--- 01, roll: "each part by rising kind"
-unfoldable pub risingKinds : List ℕ → List ℕ
-risingKinds ks = risingFrom ks MAX-KINDS 0
+use Rattle.model.specs.Model.{SparseSet}
+use Rattle.model.specs.Listed.{risingKinds}
 
 -- the first r numbers of l are the kinds ks, rising
 pub record Lists (l : List ℕ) (r : ℕ) (ks : List ℕ) : Type 0 where

@@ -8,10 +8,11 @@ ghost use Rattle.model.specs.Numbers.{MAX-ENTITIES, MAX-KINDS};
 ghost use Rattle.model.specs.Sound.{In};
 ghost use Rattle.model.specs.Snapshot.{valueAt, componentsOf, componentBytes, entryBytes, flat, listing, snapshot};
 ghost use Rattle.model.specs.Model.{entity};
+ghost use Rattle.model.specs.Listed.{risingKinds};
 ghost use Rattle.memory.specs.Meaning.{meaning};
 ghost use Rattle.memory.specs.Arranged.{Arranged, Sound};
 ghost use Rattle.kinds.specs.Kinds.{kindSet};
-ghost use Rattle.snapshot.specs.Rising.{risingKinds, Lists, rowsIn, Counted};
+ghost use Rattle.snapshot.specs.Rising.{Lists, rowsIn, Counted};
 ghost use Rattle.snapshot.specs.Wrote.{oneBytes, entryFor, indexBytes, WrittenUntil};
 
 // The rows of a kind's column, none where the kind has no column.

@@ -28,17 +28,17 @@ use Rattle.tapes.proofs.Drafts.{own-added, wider-added}
 
 -- ---- a list whose items come one by one
 
-next-in : (l : List ℕ) (k : ℕ) → In (k ∷ l) k
+pub next-in : (l : List ℕ) (k : ℕ) → In (k ∷ l) k
 next-in l k = rw (eq-eqb k k refl)
 
 -- of distinct kinds the next is not among those before
-next-new : (l m : List ℕ) (k : ℕ) → Distinct (l ++ (k ∷ m)) → mem k l ≡ false
+pub next-new : (l m : List ℕ) (k : ℕ) → Distinct (l ++ (k ∷ m)) → mem k l ≡ false
 next-new l m k d = before-free l (k ∷ m) d k (next-in m k)
 
-next-few : {A : Type 0} (l m : List A) (x : A) (n : ℕ) → length (l ++ (x ∷ m)) ≤ n → length l < n
+pub next-few : {A : Type 0} (l m : List A) (x : A) (n : ℕ) → length (l ++ (x ∷ m)) ≤ n → length l < n
 next-few l m x n h = omega (arith, length-append l (x ∷ m))
 
-one-by-one : {A : Type 0} (l m : List A) (x : A) → (l ++ (x ∷ [])) ++ m ≡ l ++ (x ∷ m)
+pub one-by-one : {A : Type 0} (l m : List A) (x : A) → (l ++ (x ∷ [])) ++ m ≡ l ++ (x ∷ m)
 one-by-one l m x = append-assoc l (x ∷ []) m
 
 -- commands of which the first leave t
@@ -72,7 +72,7 @@ regs-after (k ∷ ks) s d few small =
 
 -- ---- HOLD: the components in their order
 
-holds-after : (ps : List Component) (s : Store) → Distinct (stagedKinds s ++ map kindOf ps) → length (s .control .staged ++ ps) ≤ LIST-CAPACITY → ((k : ℕ) → In (map kindOf ps) k → unknownKind k s ≡ false)
+pub holds-after : (ps : List Component) (s : Store) → Distinct (stagedKinds s ++ map kindOf ps) → length (s .control .staged ++ ps) ≤ LIST-CAPACITY → ((k : ℕ) → In (map kindOf ps) k → unknownKind k s ≡ false)
     → afterAll (holdCommands ps) s ≡ withControl s (withStaged (s .control) (s .control .staged ++ ps))
 holds-after [] s d few known = ap (λ (h : List Component). withControl s (withStaged (s .control) h)) (sym (append-nil (s .control .staged)))
 holds-after (p ∷ ps) s d few known =
@@ -99,32 +99,32 @@ bars-after (k ∷ ks) s d few known =
 -- ---- GROUP
 
 -- the store with this draft, and nothing staged
-abbrev drafted : Store → List Family → Store
-drafted s fs = withControl s (withDraft (emptyStaged (s .control)) fs)
+abbrev pub onDraft : Store → List Family → Store
+onDraft s fs = withControl s (withDraft (emptyStaged (s .control)) fs)
 
 valueless-kinds : (ks : List ℕ) → map kindOf (map valueless ks) ≡ ks
 valueless-kinds [] = refl
 valueless-kinds (k ∷ ks) = ap {B = List ℕ} (λ l. k ∷ l) (valueless-kinds ks)
 
 module _ (s : Store) (small : (k : ℕ) → In (s .kinds) k → k < MAX-KINDS) where
-  known-kind : (k : ℕ) → In (s .kinds) k → unknownKind k s ≡ false
+  pub known-kind : (k : ℕ) → In (s .kinds) k → unknownKind k s ≡ false
   known-kind k i = rw (le-ltb LAST-KIND k (omega (arith, small k i)), i)
 
   -- a group's kinds are held and added to the draft
   group-after : (ks : List ℕ) (cs : List Command) (fs gs : List Family) → Distinct ks → length ks ≤ MAX-GROUP-ARITY → ((k : ℕ) → In ks k → In (s .kinds) k) → addGroup ks fs ≡ added gs
-      → afterAll (holdCommands (map valueless ks) ++ (GROUP ∷ cs)) (drafted s fs) ≡ afterAll cs (drafted s gs)
+      → afterAll (holdCommands (map valueless ks) ++ (GROUP ∷ cs)) (onDraft s fs) ≡ afterAll cs (onDraft s gs)
   group-after ks cs fs gs d narrow known e =
       let q = valueless-kinds ks in
-      let held : Store = withControl (drafted s fs) (withStaged (drafted s fs .control) (map valueless ks)) in
-      first (holdCommands (map valueless ks)) (GROUP ∷ cs) (drafted s fs) held
-      (holds-after (map valueless ks) (drafted s fs) (rw q d) (omega (arith, length-map ks valueless)) (λ k i. known-kind k (known k (rw q at i))))
+      let held : Store = withControl (onDraft s fs) (withStaged (onDraft s fs .control) (map valueless ks)) in
+      first (holdCommands (map valueless ks)) (GROUP ∷ cs) (onDraft s fs) held
+      (holds-after (map valueless ks) (onDraft s fs) (rw q d) (omega (arith, length-map ks valueless)) (λ k i. known-kind k (known k (rw q at i))))
       ∙ ap (λ (x : Outcome). afterAll cs (storeAfter held x)) (group-does held ∙ ap (grouped held) (ap (λ (l : List ℕ). addGroup l fs) q ∙ e))
 
   -- the last family's groups from its second on; acc are its kinds so far
   groups-after : (rs : Family) (acc : List ℕ) (f : Family) (fs : List Family) → kindsOf f ≡ acc → 1 ≤ length acc → Rising rs → Uncounted rs → length (acc ++ kindsOf rs) ≤ MAX-GROUP-ARITY
       → Distinct (layoutKinds fs ++ (acc ++ kindsOf rs)) → ((k : ℕ) → In (acc ++ kindsOf rs) k → In (s .kinds) k) → groupsOf fs + (length f + length rs) ≤ MAX-GROUP-COUNT
-      → afterAll (groupCommands acc rs) (drafted s (fs ++ (f ∷ []))) ≡ drafted s (fs ++ ((f ++ rs) ∷ []))
-  groups-after [] acc f fs q some up uncounted narrow once known few = ap (λ (g : Family). drafted s (fs ++ (g ∷ []))) (sym (append-nil f))
+      → afterAll (groupCommands acc rs) (onDraft s (fs ++ (f ∷ []))) ≡ onDraft s (fs ++ ((f ++ rs) ∷ []))
+  groups-after [] acc f fs q some up uncounted narrow once known few = ap (λ (g : Family). onDraft s (fs ++ (g ∷ []))) (sym (append-nil f))
   groups-after (r ∷ rs) acc f fs q some up uncounted narrow once known few =
       let p : acc ++ (r .newKinds ++ kindsOf rs) ≡ (acc ++ r .newKinds) ++ kindsOf rs = sym (append-assoc acc (r .newKinds) (kindsOf rs)) in
       let once′ : Distinct (layoutKinds fs ++ ((acc ++ r .newKinds) ++ kindsOf rs)) = rw p at once in
@@ -137,11 +137,11 @@ module _ (s : Store) (small : (k : ℕ) → In (s .kinds) k → k < MAX-KINDS) w
       (wider-added fs f (r .newKinds) (rw q some) (up .0) (rw q short) (rw q front) (omega arith) ∙ ap (λ (g : Group). added (fs ++ ((f ++ (g ∷ [])) ∷ []))) (zeroed r (uncounted .0))) in
       group-after (acc ++ r .newKinds) (groupCommands (acc ++ r .newKinds) rs) (fs ++ (f ∷ [])) (fs ++ ((f ++ (r ∷ [])) ∷ [])) (distinct-right (layoutKinds fs) (acc ++ r .newKinds) front) short (λ k i. known′ k (in-left (acc ++ r .newKinds) (kindsOf rs) k i)) adds
       ∙ groups-after rs (acc ++ r .newKinds) (f ++ (r ∷ [])) fs (family-joined f (r ∷ []) ∙ ap₂ (λ (a b : List ℕ). a ++ b) q (append-nil (r .newKinds))) (omega (arith, length-append acc (r .newKinds))) (up .1) (uncounted .1) narrow′ once′ known′ (omega (arith, length-append f (r ∷ [])))
-      ∙ ap (λ (g : Family). drafted s (fs ++ (g ∷ []))) (one-by-one f rs r)
+      ∙ ap (λ (g : Family). onDraft s (fs ++ (g ∷ []))) (one-by-one f rs r)
 
   -- a family of its own
   family-after : (f : Family) (fs : List Family) → BuildableFamily f → Uncounted f → Distinct (layoutKinds fs ++ kindsOf f) → ((k : ℕ) → In (kindsOf f) k → In (s .kinds) k) → groupsOf fs + length f ≤ MAX-GROUP-COUNT
-      → afterAll (groupCommands [] f) (drafted s fs) ≡ drafted s (fs ++ (f ∷ []))
+      → afterAll (groupCommands [] f) (onDraft s fs) ≡ onDraft s (fs ++ (f ∷ []))
   family-after [] fs b uncounted once known few = absurd b
   family-after (r ∷ rs) fs b uncounted once known few =
       let front : Distinct (layoutKinds fs ++ r .newKinds) = distinct-left (layoutKinds fs ++ r .newKinds) (kindsOf rs) (rw (sym (append-assoc (layoutKinds fs) (r .newKinds) (kindsOf rs))) at once) in
@@ -152,18 +152,18 @@ module _ (s : Store) (small : (k : ℕ) → In (s .kinds) k → k < MAX-KINDS) w
 
   -- the families in their order, behind those of the draft
   families-after : (gs fs : List Family) → BuildableFamilies gs → AllUncounted gs → Distinct (layoutKinds (fs ++ gs)) → ((k : ℕ) → In (layoutKinds gs) k → In (s .kinds) k) → groupsOf (fs ++ gs) ≤ MAX-GROUP-COUNT
-      → afterAll (familyCommands gs) (drafted s fs) ≡ drafted s (fs ++ gs)
-  families-after [] fs b uncounted once known few = ap (drafted s) (sym (append-nil fs))
+      → afterAll (familyCommands gs) (onDraft s fs) ≡ onDraft s (fs ++ gs)
+  families-after [] fs b uncounted once known few = ap (onDraft s) (sym (append-nil fs))
   families-after (g ∷ gs) fs b uncounted once known few =
       let e : (fs ++ (g ∷ [])) ++ gs ≡ fs ++ (g ∷ gs) = one-by-one fs gs g in
       let front : Distinct (layoutKinds fs ++ kindsOf g) = distinct-left (layoutKinds fs ++ kindsOf g) (layoutKinds gs) (rw (kinds-append fs (g ∷ gs), sym (append-assoc (layoutKinds fs) (kindsOf g) (layoutKinds gs))) at once) in
-      first (groupCommands [] g) (familyCommands gs) (drafted s fs) (drafted s (fs ++ (g ∷ [])))
+      first (groupCommands [] g) (familyCommands gs) (onDraft s fs) (onDraft s (fs ++ (g ∷ [])))
       (family-after g fs (b .0) (uncounted .0) front (λ k i. known k (in-left (kindsOf g) (layoutKinds gs) k i)) (omega (arith, groups-append fs (g ∷ gs))))
       ∙ families-after gs (fs ++ (g ∷ [])) (b .1) (uncounted .1) (rw e once) (λ k i. known k (in-right (kindsOf g) (layoutKinds gs) k i)) (rw e few)
-      ∙ ap (drafted s) e
+      ∙ ap (onDraft s) e
 
   -- a draft from nothing
-  draft-after : (fs : List Family) → DraftSound (s .kinds) fs → afterAll (familyCommands fs) (drafted s []) ≡ drafted s fs
+  draft-after : (fs : List Family) → DraftSound (s .kinds) fs → afterAll (familyCommands fs) (onDraft s []) ≡ onDraft s fs
   draft-after fs D = families-after fs [] (D .buildable .families) (D .uncounted) (D .buildable .once) (D .buildable .known) (D .buildable .few)
 
 -- ---- APPLY
@@ -184,7 +184,7 @@ commands-after n k b B =
     let s₀ = withControl (empty n k) (withCounts (empty n k .control) (record { refusals = b .refusals })) in
     let s₁ = withKinds s₀ (b .kinds) in
     let s₂ = withStorage s₁ (withLayout (empty n k .storage) (b .layout)) in
-    let s₃ = drafted s₂ (b .draft) in
+    let s₃ = onDraft s₂ (b .draft) in
     let s₄ = withControl s₃ (withStaged (s₃ .control) (b .staged)) in
     let barring = map BAR (b .excluded) in
     let holding = holdCommands (b .staged) ++ barring in
@@ -195,46 +195,46 @@ commands-after n k b B =
     first (replicate (b .refusals) refusedCommand) (map REG (b .kinds) ++ applying) (empty n k) s₀
     (refusals-after (b .refusals) (empty n k) (omega (arith, B .refusals)) ∙ ap (λ (m : ℕ). withControl (empty n k) (withCounts (empty n k .control) (record { refusals = m }))) tally)
     ∙ first (map REG (b .kinds)) applying s₀ s₁ (regs-after (b .kinds) s₀ (B .kinds .once) (B .kinds .few) small)
-    ∙ first (familyCommands (b .layout)) (APPLY ∷ drafting) s₁ (drafted s₁ (b .layout)) (draft-after s₁ small (b .layout) (B .layout))
-    ∙ first (APPLY ∷ []) drafting (drafted s₁ (b .layout)) s₂ (apply-after (drafted s₁ (b .layout)) refl (B .layout .uncounted))
+    ∙ first (familyCommands (b .layout)) (APPLY ∷ drafting) s₁ (onDraft s₁ (b .layout)) (draft-after s₁ small (b .layout) (B .layout))
+    ∙ first (APPLY ∷ []) drafting (onDraft s₁ (b .layout)) s₂ (apply-after (onDraft s₁ (b .layout)) refl (B .layout .uncounted))
     ∙ first (familyCommands (b .draft)) holding s₂ s₃ (draft-after s₂ small (b .draft) (B .draft))
     ∙ first (holdCommands (b .staged)) barring s₃ s₄ (holds-after (b .staged) s₃ (B .staged .once) (B .staged .few) (λ j i. known-kind s₃ small j (B .staged .known j i)))
     ∙ bars-after (b .excluded) s₄ (B .excluded .once) (B .excluded .few) (λ j i. known-kind s₄ small j (B .excluded .known j i))
 
 -- ---- they can stand on a tape
 
-abbrev Small : List ℕ → Type 0
-Small ks = (k : ℕ) → In ks k → k < 256
+abbrev pub OneByte : List ℕ → Type 0
+OneByte ks = (k : ℕ) → In ks k → k < 256
 
 refused-encodable : (t : ℕ) → AllEncodable (replicate t refusedCommand)
 refused-encodable zero = tt
 refused-encodable (suc t) = (lit< tt, refused-encodable t)
 
-regs-encodable : (ks : List ℕ) → Small ks → AllEncodable (map REG ks)
+regs-encodable : (ks : List ℕ) → OneByte ks → AllEncodable (map REG ks)
 regs-encodable [] h = tt
 regs-encodable (k ∷ ks) h = (h k (next-in ks k), regs-encodable ks (λ j i. h j (in-right (k ∷ []) ks j i)))
 
-bars-encodable : (ks : List ℕ) → Small ks → AllEncodable (map BAR ks)
+bars-encodable : (ks : List ℕ) → OneByte ks → AllEncodable (map BAR ks)
 bars-encodable [] h = tt
 bars-encodable (k ∷ ks) h = (h k (next-in ks k), bars-encodable ks (λ j i. h j (in-right (k ∷ []) ks j i)))
 
-holds-encodable : (ps : List Component) → Small (map kindOf ps) → ((j : ℕ) → Eight (getD ps j noComponent .value)) → AllEncodable (holdCommands ps)
+pub holds-encodable : (ps : List Component) → OneByte (map kindOf ps) → ((j : ℕ) → Eight (getD ps j noComponent .value)) → AllEncodable (holdCommands ps)
 holds-encodable [] h v = tt
 holds-encodable (p ∷ ps) h v = ((h (p .kind) (next-in (map kindOf ps) (p .kind)), v 0), holds-encodable ps (λ j i. h j (in-right (p .kind ∷ []) (map kindOf ps) j i)) (λ j. v (suc j)))
 
-valueless-encodable : (ks : List ℕ) → Small ks → AllEncodable (holdCommands (map valueless ks))
+valueless-encodable : (ks : List ℕ) → OneByte ks → AllEncodable (holdCommands (map valueless ks))
 valueless-encodable [] h = tt
 valueless-encodable (k ∷ ks) h = ((h k (next-in ks k), lit< tt), valueless-encodable ks (λ j i. h j (in-right (k ∷ []) ks j i)))
 
-groups-encodable : (rs : Family) (acc : List ℕ) → Small (acc ++ kindsOf rs) → AllEncodable (groupCommands acc rs)
+groups-encodable : (rs : Family) (acc : List ℕ) → OneByte (acc ++ kindsOf rs) → AllEncodable (groupCommands acc rs)
 groups-encodable [] acc h = tt
 groups-encodable (r ∷ rs) acc h =
-    let h′ : Small ((acc ++ r .newKinds) ++ kindsOf rs) = rw (append-assoc acc (r .newKinds) (kindsOf rs)) h in
+    let h′ : OneByte ((acc ++ r .newKinds) ++ kindsOf rs) = rw (append-assoc acc (r .newKinds) (kindsOf rs)) h in
     encodable-append (holdCommands (map valueless (acc ++ r .newKinds))) (GROUP ∷ groupCommands (acc ++ r .newKinds) rs)
     (valueless-encodable (acc ++ r .newKinds) (λ k i. h′ k (in-left (acc ++ r .newKinds) (kindsOf rs) k i)))
     (tt, groups-encodable rs (acc ++ r .newKinds) h′)
 
-families-encodable : (fs : List Family) → Small (layoutKinds fs) → AllEncodable (familyCommands fs)
+families-encodable : (fs : List Family) → OneByte (layoutKinds fs) → AllEncodable (familyCommands fs)
 families-encodable [] h = tt
 families-encodable (f ∷ fs) h =
     encodable-append (groupCommands [] f) (familyCommands fs)
@@ -251,5 +251,5 @@ commands-encodable k b B =
           (encodable-append (holdCommands (b .staged)) _ (holds-encodable (b .staged) (λ j i. small j (B .staged .known j i)) (B .staged .values)) (bars-encodable (b .excluded) (λ j i. small j (B .excluded .known j i)))),
     )))
   where
-    small : Small (b .kinds)
+    small : OneByte (b .kinds)
     small j i = omega (arith, B .kinds .small j i)

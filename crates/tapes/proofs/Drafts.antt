@@ -7,11 +7,11 @@ use Prim.Native.Nat.{ℕ, _+_, _≤_, _<_}
 use native.Mathlib.Omega.{arith}
 use lib.ListN.{length, length-append}
 use Rattle.model.specs.Numbers.{MAX-GROUP-ARITY, MAX-GROUP-COUNT}
-use Rattle.model.specs.Model.{Family, mem, meets, within, without, headKind, kindsOf, groupsOf, isGroup, present, touched, covers, newGroup, grown}
+use Rattle.model.specs.Model.{Family, mem, meets, within, without, headKind, kindsOf, groupsOf, isGroup, present, touched, chained, newGroup, familiesWith}
 use Rattle.model.specs.Adding.{added, addGroup}
 use Rattle.model.specs.Sound.{In, Distinct, layoutKinds}
 use Rattle.model.proofs.KindLists.{distinct-right, mem-append, head-in, in-left, in-right, not-in-parts, all-true, any-in, differ-left, unmet-all, before-free, without-ring}
-use Rattle.model.proofs.Draft.{added-fresh, added-onto, kinds-append, groups-append}
+use Rattle.model.proofs.Draft.{added-fresh, added-onto, chains-above, familyWith-above, kinds-append, groups-append}
 
 -- ---- kinds that a draft has not
 
@@ -56,13 +56,13 @@ module _ (ks : List ℕ) (f : Family) (m : meets ks (kindsOf f) ≡ true) (w : w
   last-touched [] h = rw m
   last-touched (g ∷ fs) h = rw (free-first ks g fs h) (last-touched fs (free-rest ks g fs h))
 
-  last-covered : (fs : List Family) → FreeOf ks fs → covers ks (fs ++ (f ∷ [])) ≡ true
-  last-covered [] h = rw (m, w)
-  last-covered (g ∷ fs) h = rw (free-first ks g fs h) (last-covered fs (free-rest ks g fs h))
+  last-chained : (fs : List Family) → FreeOf ks fs → chained ks (fs ++ (f ∷ [])) ≡ true
+  last-chained [] h = rw (m, chains-above ks [] f w)
+  last-chained (g ∷ fs) h = rw (free-first ks g fs h) (last-chained fs (free-rest ks g fs h))
 
-  last-grown : (fs : List Family) → FreeOf ks fs → grown ks (fs ++ (f ∷ [])) ≡ fs ++ ((f ++ (newGroup (without ks (kindsOf f)) ∷ [])) ∷ [])
-  last-grown [] h = rw m
-  last-grown (g ∷ fs) h = rw (free-first ks g fs h) (ap {B = List Family} (λ l. g ∷ l) (last-grown fs (free-rest ks g fs h)))
+  last-placed : (fs : List Family) → FreeOf ks fs → familiesWith ks (fs ++ (f ∷ [])) ≡ fs ++ ((f ++ (newGroup (without ks (kindsOf f)) ∷ [])) ∷ [])
+  last-placed [] h = rw (m, familyWith-above ks [] f w)
+  last-placed (g ∷ fs) h = rw (free-first ks g fs h) (ap {B = List Family} (λ l. g ∷ l) (last-placed fs (free-rest ks g fs h)))
 
 -- the last family's next group, of ring `ring`
 pub wider-added : (fs : List Family) (f : Family) (ring : List ℕ) → 1 ≤ length (kindsOf f) → 1 ≤ length ring → length (kindsOf f ++ ring) ≤ MAX-GROUP-ARITY → Distinct (layoutKinds fs ++ (kindsOf f ++ ring)) → groupsOf fs + length f < MAX-GROUP-COUNT
@@ -81,5 +81,5 @@ wider-added fs f ring some more narrow once few =
     let w : within (kindsOf f) (kindsOf f ++ ring) ≡ true = all-true (λ k. mem k (kindsOf f ++ ring)) (kindsOf f) (λ k j. in-left (kindsOf f) ring k j) in
     let room : groupsOf (fs ++ (f ∷ [])) < MAX-GROUP-COUNT = omega (arith, groups-append fs (f ∷ [])) in
     added-onto (kindsOf f ++ ring) (fs ++ (f ∷ [])) two narrow (not-present (kindsOf f ++ ring) (headKind ring) (fs ++ (f ∷ [])) i new) room
-    (last-touched (kindsOf f ++ ring) f m w fs free) (last-covered (kindsOf f ++ ring) f m w fs free)
-    ∙ ap added (last-grown (kindsOf f ++ ring) f m w fs free ∙ ap (λ (l : List ℕ). fs ++ ((f ++ (newGroup l ∷ [])) ∷ [])) (without-ring (kindsOf f) ring both))
+    (last-touched (kindsOf f ++ ring) f m w fs free) (last-chained (kindsOf f ++ ring) f m w fs free)
+    ∙ ap added (last-placed (kindsOf f ++ ring) f m w fs free ∙ ap (λ (l : List ℕ). fs ++ ((f ++ (newGroup l ∷ [])) ∷ [])) (without-ring (kindsOf f) ring both))

@@ -5,8 +5,8 @@ use Prim.Native.Nat.{_-_, _≤_}
 use native.Mathlib.Omega.{arith}
 use lib.ListN.{length, take, length-set}
 use Rattle.model.specs.Numbers.{MAX-KINDS}
+use Rattle.model.specs.Listed.{risingKinds}
 use Rattle.memory.specs.Meaning.{meaning}
-use Rattle.snapshot.specs.Rising.{risingKinds}
 use Rattle.snapshot.proofs.Listed.{later, lists-none, lists-one, lists-end}
 use Rattle.snapshot.proofs.rising_kinds.Statement.{statement}
 use Rattle.snapshot.proofs.rising_kinds.Tie as tie

@@ -18,14 +18,14 @@ returns c =
     let p = s .pre in
     record {
       formed = p .formed;
-      says = sym (onto-many (s .args .staged .now) (layoutMeaning (s .args .l)) (p .least) (p .most) _ (fit-says _ _ _ (p .fits)) (omega (arith, counted-groups (s .args .l) (p .formed) (sizes s), c .if1 .taken)));
+      says = sym (onto-many (s .args .staged .now) (layoutMeaning (s .args .l)) (p .least) (p .most) _ _ (fit-says _ _ _ (p .fits)) (omega (arith, counted-groups (s .args .l) (p .formed) (sizes s), c .if1 .taken)));
       kept = λ n. refl;
     }
 
 grown-requires : tie.Need-grown-requires
 grown-requires c κs =
     let s = c .before .before .before in
-    onto-ask (s .args .l) (s .args .staged .now) (group-kinds _ _ _ (s .pre) (c .if1 .left)) (sizes s) _ (onto-target _ _ _ (fit-says _ _ _ (s .pre .fits)))
+    onto-ask (s .args .l) (s .args .staged .now) (group-kinds _ _ _ (s .pre) (c .if1 .left)) (sizes s) _ _ (onto-target _ _ _ _ (fit-says _ _ _ (s .pre .fits)))
 
 returns-2 : tie.Need-returns-2
 returns-2 c =
@@ -35,7 +35,7 @@ returns-2 c =
     let on = fit-says _ _ _ (p .fits) in
     record {
       formed = r .formed;
-      says = ap added (r .means ∙ onto-means (s .args .l) (s .args .staged .now) (group-kinds _ _ _ p (c .before .if1 .left)) (sizes s) _ (onto-target _ _ _ on)) ∙ sym (onto-added (s .args .staged .now) (layoutMeaning (s .args .l)) (p .least) (p .most) _ on (omega (arith, counted-groups (s .args .l) (p .formed) (sizes s), c .before .if1 .left)));
+      says = ap added (r .means ∙ onto-means (s .args .l) (s .args .staged .now) (group-kinds _ _ _ p (c .before .if1 .left)) (sizes s) _ _ (onto-target _ _ _ _ on)) ∙ sym (onto-added (s .args .staged .now) (layoutMeaning (s .args .l)) (p .least) (p .most) _ _ on (omega (arith, counted-groups (s .args .l) (p .formed) (sizes s), c .before .if1 .left)));
       kept = λ n. absurd (n refl);
     }
 

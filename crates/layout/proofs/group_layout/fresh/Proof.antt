@@ -2,7 +2,7 @@ use mathlib.Core.Path.{sym, subst}
 use Prim.Native.Nat.{_-_}
 use lib.ListN.{length}
 use Rattle.layout.specs.ByValue.{arraysOf, ArraysSized}
-use Rattle.layout.specs.Grow.{Places, Placed}
+use Rattle.layout.specs.Grow.{FillAsk, FillDone}
 use Rattle.layout.specs.declared.group_layout.Layout.{Layout}
 use Rattle.layout.proofs.Adding.{few, fresh-places, fresh-done}
 use native.Mathlib.Omega.{arith}
@@ -20,19 +20,19 @@ opened-requires c κs =
     let g = s .pre .group .formed in
     (few (s .args .l) (s .args .staged .now) (s .pre) (sizes s), omega (arith, g .width, g .good .wide), omega (arith, s .pre .group .room))
 
-cast-placed : tie.Need-cast-placed
-cast-placed c = omega (arith, c .before .before .pre .group .most)
+cast-filled : tie.Need-cast-filled
+cast-filled c = omega (arith, c .before .before .pre .group .most)
 
-placed-requires : tie.Need-placed-requires
-placed-requires c κs =
+filled-requires : tie.Need-filled-requires
+filled-requires c κs =
     let s = c .before .before in
-    subst (λ (r : Layout). Places r (s .args .l .families) (s .args .staged .now) 0 (length (s .args .staged .now))) (sym (c .opened .ensures)) (fresh-places (s .args .l) (s .args .staged .now) (s .pre) (sizes s))
+    subst (λ (r : Layout). FillAsk r (s .args .l .families) (s .args .staged .now) 0 (length (s .args .staged .now))) (sym (c .opened .ensures)) (fresh-places (s .args .l) (s .args .staged .now) (s .pre) (sizes s))
 
 returns : tie.Need-returns
 returns c =
     let s = c .before .before .before in
-    fresh-done (s .args .l) (s .args .staged .now) (s .pre) (sizes s) (c .placed .result)
-    (subst (λ (r : Layout). Placed r (s .args .l .families) (s .args .staged .now) 0 (length (s .args .staged .now)) (c .placed .result)) (c .before .opened .ensures) (c .placed .ensures))
+    fresh-done (s .args .l) (s .args .staged .now) (s .pre) (sizes s) (c .filled .result)
+    (subst (λ (r : Layout). FillDone r (s .args .l .families) (s .args .staged .now) 0 (length (s .args .staged .now)) (c .filled .result)) (c .before .opened .ensures) (c .filled .ensures))
 
 pub fresh-spec : {M : Type 1} → statement M
-fresh-spec = tie.close (tie.spec opened-requires cast-placed placed-requires returns)
+fresh-spec = tie.close (tie.spec opened-requires cast-filled filled-requires returns)

@@ -1,4 +1,4 @@
-use mathlib.Core.List.{List, _++_}
+use mathlib.Core.List.{List}
 use mathlib.Core.Path.{_≡_, _∙_, sym, ap}
 use Prim.Native.Nat.{ℕ}
 use lib.ListN.{length, getD}
@@ -7,9 +7,9 @@ use Rattle.model.specs.Numbers.{LIST-CAPACITY}
 use Rattle.words.specs.Part.{between}
 use Rattle.layout.specs.ByValue.{arraysOf, ArraysSized}
 use Rattle.layout.specs.Layout.{kindsAt, startOf}
-use Rattle.model.specs.Model.{without}
+use Rattle.layout.specs.Grow.{mergedKinds}
 use Rattle.layout.proofs.Arrays.{Bounds, bounds}
-use Rattle.layout.proofs.Adding.{all-length, onto-places, onto-done}
+use Rattle.layout.proofs.Adding.{own-length, all-most, onto-places, onto-done}
 use native.Mathlib.Omega.{arith}
 use borrow.Author.Needs.{needs}
 use Rattle.layout.proofs.group_layout.grown.Statement.{statement}
@@ -36,62 +36,53 @@ array-read-ke c = omega (arith, at-family (c .before .before .before .before .be
 cast-ke : tie.Need-cast-ke
 cast-ke c = omega (arith, at-family (c .before .before .before .before .before))
 
-sub-wider : tie.Need-sub-wider
-sub-wider c = omega (arith, at-family (c .before .before .before .before .before), c .start-of .ensures)
+sub-merged : tie.Need-sub-merged
+sub-merged c = omega (arith, at-family (c .before .before .before .before .before), c .start-of .ensures)
 
-part-wider-start : tie.Need-part-wider-start
-part-wider-start c = omega (arith, at-family (c .before .before .before .before .before .before), c .before .start-of .ensures)
+part-merged-start : tie.Need-part-merged-start
+part-merged-start c = omega (arith, at-family (c .before .before .before .before .before .before), c .before .start-of .ensures)
 
-part-wider-end : tie.Need-part-wider-end
-part-wider-end c = omega (arith, at-family (c .before .before .before .before .before .before))
+part-merged-end : tie.Need-part-merged-end
+part-merged-end c = omega (arith, at-family (c .before .before .before .before .before .before))
 
-wider-requires : tie.Need-wider-requires
-wider-requires c κs =
+merged-requires : tie.Need-merged-requires
+merged-requires c κs =
     let s = c .before .before .before .before .before .before .before in
+    let l = s .args .l in
+    let f = s .args .f in
     let hs = s .args .staged .now in
-    let e = part-kinds s _ (c .before .before .start-of .ensures) in
-    (omega (arith, s .pre .group .most), rw e (omega (arith, all-length (s .args .l) (s .args .f) hs (s .pre) (sizes s), s .pre .group .most)))
-
-start-of-requires-2 : tie.Need-start-of-requires-2
-start-of-requires-2 c κs = omega (arith, at-family (c .before .before .before .before .before .before .before .before .before .before .before))
-
-array-read-ge : tie.Need-array-read-ge
-array-read-ge c = omega (arith, at-family (c .before .before .before .before .before .before .before .before .before .before .before .before))
-
-cast-ge : tie.Need-cast-ge
-cast-ge c = omega (arith, at-family (c .before .before .before .before .before .before .before .before .before .before .before .before))
+    let e = part-kinds s _ (c .before .before .start-of .ensures) in (
+      rw e (omega (arith, own-length l f (s .args .at) hs (s .pre) (sizes s), s .pre .group .formed .good .family f (s .pre .inside) .most)),
+      omega (arith, s .pre .group .most),
+      rw e (omega (arith, all-most l f (s .args .at) hs (s .pre) (sizes s))),
+    )
 
 array-share-prefix-all : tie.Need-array-share-prefix-all
 array-share-prefix-all c =
-    let e : length (c .before .before .before .before .wider .result .kinds) ≡ LIST-CAPACITY = search needs in
-    omega (arith, c .before .before .before .before .wider .ensures .1)
+    let e : length (c .before .merged .result .kinds) ≡ LIST-CAPACITY = search needs in
+    omega (arith, c .before .merged .ensures .1)
 
-slice-aggregate-placed : tie.Need-slice-aggregate-placed
-slice-aggregate-placed c =
-    let e : length (c .before .before .before .before .before .wider .result .kinds) ≡ LIST-CAPACITY = search needs in
-    sym (length-take-le _ _ (omega (arith, c .before .before .before .before .before .wider .ensures .1)))
+slice-aggregate-filled : tie.Need-slice-aggregate-filled
+slice-aggregate-filled c =
+    let e : length (c .before .before .merged .result .kinds) ≡ LIST-CAPACITY = search needs in
+    sym (length-take-le _ _ (omega (arith, c .before .before .merged .ensures .1)))
 
-sub-placed : tie.Need-sub-placed
-sub-placed c = omega (arith, at-family (c .before .before .before .before .before .before .before .before .before .before .before .before .before), c .before .start-of2 .ensures)
+cast-filled : tie.Need-cast-filled
+cast-filled c = omega (arith, c .before .before .before .before .before .before .before .before .before .before .pre .group .most)
 
-cast-placed : tie.Need-cast-placed
-cast-placed c = omega (arith, c .before .before .before .before .before .before .before .before .before .before .before .before .before .pre .group .most)
-
-placed-requires : tie.Need-placed-requires
-placed-requires c κs =
-    let s = c .before .before .before .before .before .before .before .before .before .before .before .before .before in
+filled-requires : tie.Need-filled-requires
+filled-requires c κs =
+    let s = c .before .before .before .before .before .before .before .before .before .before in
     let hs = s .args .staged .now in
-    let same = c .before .before .before .before .before .wider .ensures .0 ∙ ap (λ (ks : List ℕ). ks ++ without hs ks) (part-kinds s _ (c .before .before .before .before .before .before .before .before .start-of .ensures)) in
-    let e = c .before .start-of2 .ensures in
-    rw (same, e) (onto-places (s .args .l) (s .args .f) hs (s .pre) (sizes s))
+    let same = c .before .before .merged .ensures .0 ∙ ap (λ (ks : List ℕ). mergedKinds ks hs) (part-kinds s _ (c .before .before .before .before .before .start-of .ensures)) in
+    rw same (onto-places (s .args .l) (s .args .f) (s .args .at) hs (s .pre) (sizes s))
 
 returns : tie.Need-returns
 returns c =
-    let s = c .before .before .before .before .before .before .before .before .before .before .before .before .before .before in
+    let s = c .before .before .before .before .before .before .before .before .before .before .before in
     let hs = s .args .staged .now in
-    let same = c .before .before .before .before .before .before .wider .ensures .0 ∙ ap (λ (ks : List ℕ). ks ++ without hs ks) (part-kinds s _ (c .before .before .before .before .before .before .before .before .before .start-of .ensures)) in
-    let e = c .before .before .start-of2 .ensures in
-    onto-done (s .args .l) (s .args .f) hs (s .pre) (sizes s) (c .placed .result) (rw (same, e) at (c .placed .ensures))
+    let same = c .before .before .before .merged .ensures .0 ∙ ap (λ (ks : List ℕ). mergedKinds ks hs) (part-kinds s _ (c .before .before .before .before .before .before .start-of .ensures)) in
+    onto-done (s .args .l) (s .args .f) (s .args .at) hs (s .pre) (sizes s) (c .filled .result) (rw same at (c .filled .ensures))
 
 pub grown-spec : {M : Type 1} → statement M
 grown-spec =
@@ -101,17 +92,12 @@ grown-spec =
     start-of-requires
     array-read-ke
     cast-ke
-    sub-wider
-    part-wider-start
-    part-wider-end
-    wider-requires
-    (λ c. search needs)
-    start-of-requires-2
-    array-read-ge
-    cast-ge
+    sub-merged
+    part-merged-start
+    part-merged-end
+    merged-requires
     array-share-prefix-all
-    slice-aggregate-placed
-    sub-placed
-    cast-placed
-    placed-requires
+    slice-aggregate-filled
+    cast-filled
+    filled-requires
     returns)

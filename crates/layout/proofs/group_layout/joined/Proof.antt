@@ -3,7 +3,7 @@ use Rattle.layout.proofs.group_layout.joined.Statement.{statement}
 use Rattle.layout.proofs.group_layout.joined.Tie as tie
 
 returns-3 : tie.Need-returns-3
-returns-3 c = rw (c .before .before .enum-told3 .given .1, c .enum-told4 .given .1)
+returns-3 c = rw (c .before .before .before .p .given .1, c .enum-told3 .given .1)
 
 pub joined-spec : {M : Type 1} → statement M
 joined-spec =

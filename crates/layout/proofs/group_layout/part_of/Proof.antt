@@ -16,13 +16,8 @@ returns-2 c =
 
 returns-3 : tie.Need-returns-3
 returns-3 c =
-    let s = c .before .before .before .before .before .before .before .before .before in
-    rw (sym (c .before .before .before .before .before .same-group .ensures) ∙ c .before .before .before .before .if1 .left, kinds-from [] 0 (s .args .kinds .now) 0 (s .args .arities .now) (s .pre .rising), sym (c .before .before .before .some-among .ensures) ∙ not-false (c .before .before .before .some-among .result) (c .before .before .if2 .left), sym (c .before .all-among .ensures) ∙ c .if3 .taken)
-
-returns-4 : tie.Need-returns-4
-returns-4 c =
-    let s = c .before .before .before .before .before .before .before .before .before in
-    rw (sym (c .before .before .before .before .before .same-group .ensures) ∙ c .before .before .before .before .if1 .left, kinds-from [] 0 (s .args .kinds .now) 0 (s .args .arities .now) (s .pre .rising), sym (c .before .before .before .some-among .ensures) ∙ not-false (c .before .before .before .some-among .result) (c .before .before .if2 .left), sym (c .before .all-among .ensures) ∙ c .if3 .left)
+    let s = c .before .before .before .before .before .before .before .before in
+    rw (sym (c .before .before .before .before .same-group .ensures) ∙ c .before .before .before .if1 .left, kinds-from [] 0 (s .args .kinds .now) 0 (s .args .arities .now) (s .pre .rising), sym (c .before .before .some-among .ensures) ∙ not-false (c .before .before .some-among .result) (c .before .if2 .left)) (c .place-of .ensures)
 
 pub part-of-spec : {M : Type 1} → statement M
 part-of-spec =
@@ -33,5 +28,4 @@ part-of-spec =
     (λ c κs. search needs)
     returns-2
     (λ c κs. search needs)
-    returns-3
-    returns-4)
+    returns-3)

@@ -7,8 +7,8 @@ use Rattle.layout.proofs.Arrays.{end-inside}
 use Rattle.layout.proofs.Placing.{kind-inside, group-inside, kind-room, changes, family-other, family-here, width-after, groups-after, well-formed-after}
 use native.Mathlib.Omega.{arith}
 use borrow.Author.Needs.{needs}
-use Rattle.layout.proofs.group_layout.placed.Statement.{statement}
-use Rattle.layout.proofs.group_layout.placed.Tie as tie
+use Rattle.layout.proofs.group_layout.filled.Statement.{statement}
+use Rattle.layout.proofs.group_layout.filled.Tie as tie
 
 -- the arrays have their lengths
 sizes : (c : tie.Start) → ArraysSized (arraysOf (c .args .l))
@@ -126,8 +126,8 @@ returns c =
       here = family-here a f kinds (s .args .at) (s .args .arity) _ C;
     }
 
-pub placed-spec : {M : Type 1} → statement M
-placed-spec =
+pub filled-spec : {M : Type 1} → statement M
+filled-spec =
     tie.close
     (tie.spec
     (λ c. search needs)
