@@ -2,7 +2,7 @@
 
 use crate::side::Side;
 use crate::tape::{self, Case, Chunk, Run, ROOMY};
-use sparsey::harness::{words_needed, Oracle, Ran, Sets};
+use sparsey::harness::{arranged, kinds_of, words_needed, Families, Oracle, Ran, Sets, JUDGEMENTS};
 use std::collections::{BTreeMap, BTreeSet};
 use std::fmt::Write;
 
@@ -20,6 +20,8 @@ pub struct Figures {
     pub stops: [u64; 7],
     /// Answers by command byte and number.
     pub seen: [[u64; 16]; 15],
+    /// What GROUP made of what was staged.
+    pub judged: [u64; JUDGEMENTS.len()],
 }
 
 impl Figures {
@@ -35,6 +37,9 @@ impl Figures {
             *mine += theirs;
         }
         for (mine, theirs) in self.seen.iter_mut().flatten().zip(other.seen.iter().flatten()) {
+            *mine += theirs;
+        }
+        for (mine, theirs) in self.judged.iter_mut().zip(other.judged) {
             *mine += theirs;
         }
     }
@@ -57,6 +62,13 @@ impl Figures {
                 .collect();
             writeln!(text, "  {:<6} {}", tape::NAMES[byte], answers.join(", ")).unwrap();
         }
+        let all = self.judged.iter().sum::<u64>().max(1) as f64;
+        let judged: Vec<String> = JUDGEMENTS
+            .iter()
+            .zip(self.judged)
+            .map(|(name, count)| format!("{name}: {count} ({:.1} %)", 100.0 * count as f64 / all))
+            .collect();
+        writeln!(text, "GROUP by place: {}", judged.join(", ")).unwrap();
         text
     }
 }
@@ -150,11 +162,12 @@ impl Pair {
         Ok(ran)
     }
 
-    /// Live list, every column through *column*, and the roll. One state in eight is looked at more closely.
+    /// Live list, families, every column through *column*, and the roll. One state in eight is looked at more closely.
     pub fn state(&mut self) -> Result<(), String> {
         let name = self.other.name();
         let closely = self.figures.states % 8 == 0;
         same!("live list", self.rust.live(), self.other.live(), name);
+        self.families()?;
 
         let registered = self.rust.registered();
         for &kind in &registered {
@@ -183,6 +196,24 @@ impl Pair {
         self.complaint()?;
         self.figures.states += 1;
         Ok(())
+    }
+
+    /// The families of the draft and of the layout in force as sets of sets. Those in force the Rust made itself.
+    fn families(&mut self) -> Result<(), String> {
+        let (rust, other) = (self.rust.families().map(arranged), self.other.families().map(arranged));
+        if rust == other {
+            return Ok(());
+        }
+        let name = self.other.name();
+        for (what, i) in [("draft", 0), ("layout", 1)] {
+            same!(
+                format!("families of the {what}"),
+                shown(&rust[i]),
+                shown(&other[i]),
+                name
+            );
+        }
+        unreachable!("families that differ look alike");
     }
 
     /// The numbers of *column*, and a part from the middle.
@@ -306,8 +337,16 @@ impl Pair {
     /// The figures, with the Rust's answers counted in.
     pub fn finish(mut self) -> Figures {
         self.figures.seen = self.rust.seen;
+        self.figures.judged = self.rust.judged();
         self.figures
     }
+}
+
+fn shown(families: &Families) -> Vec<Vec<Vec<u8>>> {
+    families
+        .iter()
+        .map(|family| family.iter().map(|&group| kinds_of(group)).collect())
+        .collect()
 }
 
 fn column_name(kind: u8, values: bool) -> String {

@@ -106,6 +106,7 @@ pub fn limits(most: usize) -> Vec<Part> {
         part("16 staged", sixteen_staged()),
         part("63 groups", many_groups()),
         part("walks above position 32", high_walks()),
+        part("groups below and between", below_and_between()),
         part(
             "drafts of up to 2 groups over 5 kinds with every further group",
             drafts::cases(5, 2),
@@ -334,17 +335,23 @@ fn high_walks() -> impl Iterator<Item = Case> {
         // The families whose largest group stands above position 32.
         let groups = |family: usize| families[..=family].iter().map(|kinds| kinds.len() - 1).sum::<usize>();
         let high: Vec<usize> = (0..sizes.len()).filter(|&family| groups(family) > 33).collect();
-        high.into_iter().map(move |family| family_walks(&families, family))
+        high.into_iter()
+            .map(move |family| family_walks(&families, family, &chains_of(&families)))
     })
+}
+
+/// The groups of families that have one for each number of kinds from 2 on.
+fn chains_of(families: &[Vec<u8>]) -> Vec<Vec<u8>> {
+    families
+        .iter()
+        .flat_map(|family| (2..=family.len()).map(move |size| family[..size].to_vec()))
+        .collect()
 }
 
 /// From the entities 0 and 2 in turn two kinds of a family go, and the smaller group's comes back last; then one goes
 /// together with a kind of the first family, and both come back. Entity 0 is older than the layout.
-fn family_walks(families: &[Vec<u8>], walked: usize) -> Case {
-    let groups: Vec<&[u8]> = families
-        .iter()
-        .flat_map(|family| (2..=family.len()).map(move |size| &family[..size]))
-        .collect();
+fn family_walks(families: &[Vec<u8>], walked: usize, groups: &[Vec<u8>]) -> Case {
+    let groups: Vec<&[u8]> = groups.iter().map(|group| &group[..]).collect();
     let kinds = families.concat();
     let mut runs = vec![run_of(kinds.iter().map(|&kind| tape::reg(kind)).collect())];
     runs.push(high_entity(families, 0));
@@ -393,6 +400,185 @@ fn valued(kinds: &[u8], index: u32, command: Chunk) -> Vec<Chunk> {
     let value = |kind: u8| u64::from(index + 1) << 32 | u64::from(kind);
     let holds = kinds.iter().map(|&kind| tape::hold(kind, value(kind)));
     holds.chain([command]).collect()
+}
+
+/// Groups below and between at the limits of their kinds and of their number, and walks over the families made so.
+fn below_and_between() -> impl Iterator<Item = Case> {
+    let chains = chains_in_orders().chain(high_chains());
+    one_too_many().chain(chains).chain(at_the_limit())
+}
+
+/// Orders in which the groups of chains come: the largest first, from both ends, every other one and then those
+/// between, and by chance. Every other group has its kinds falling.
+fn in_orders(groups: &[Vec<u8>]) -> Vec<Vec<Vec<u8>>> {
+    let count = groups.len();
+    let ends = (0..count).map(|i| if i % 2 == 0 { i / 2 } else { count - 1 - i / 2 });
+    let mut orders: Vec<Vec<usize>> = vec![
+        (0..count).rev().collect(),
+        ends.collect(),
+        (0..count).step_by(2).chain((1..count).step_by(2)).collect(),
+    ];
+    for seed in 0..3 {
+        let mut order: Vec<usize> = (0..count).collect();
+        Rng::new(seed).shuffle(&mut order);
+        orders.push(order);
+    }
+    let group = |&i: &usize| -> Vec<u8> {
+        let kinds = groups[i].iter().copied();
+        if i % 2 == 0 {
+            kinds.collect()
+        } else {
+            kinds.rev().collect()
+        }
+    };
+    orders.iter().map(|order| order.iter().map(group).collect()).collect()
+}
+
+/// One family with a group for each number of kinds from 2 to 15, in several orders, and a pair among them. Once it is
+/// full, each of its groups comes again, and lists that are small, wide or clash. Then every ring is walked and asked for.
+fn chains_in_orders() -> impl Iterator<Item = Case> {
+    let families: Vec<Vec<u8>> = vec![(0..15).collect(), vec![15, 16]];
+    let orders = in_orders(&chains_of(&families[..1]));
+    orders.into_iter().map(move |order| {
+        let (before, behind) = order.split_at(7);
+        let mut walks = family_walks(&families, 0, &[before, &[vec![15, 16]], behind].concat());
+        let mut runs = vec![run_of((0..20).map(tape::reg).collect())];
+        let grouped = |group: &Vec<u8>| run_of(tape::with(group, tape::group()));
+        runs.extend(order.iter().chain(&order).map(grouped));
+        let wide: Vec<u8> = (0..16).collect();
+        let more: [&[u8]; 7] = [&[], &[3], &[0, 2], &[0, 1, 17], &[2, 3], &[1, 15], &wide];
+        for list in more {
+            runs.push(run_of([tape::with(list, tape::group()), vec![tape::empty()]].concat()));
+        }
+        // What was drafted so far goes into force, and out of it again by the walks' own layout.
+        runs.push(run_of(vec![tape::apply()]));
+        runs.append(&mut walks.runs);
+        runs.extend((2..15).map(ring_asked));
+        // The same groups in the opposite order, while entities exist.
+        let back: Vec<&[u8]> = order.iter().rev().map(|group| &group[..]).collect();
+        runs.push(run_of(layout(&back)));
+        runs.push(run_of(tape::with(&(0..14).collect::<Vec<u8>>(), tape::new())));
+        runs.push(run_of(tape::with(&[7, 3], tape::drop((2, 1)))));
+        runs.push(run_of(vec![tape::kill((1, 1))]));
+        Case {
+            n: 4,
+            k: 20,
+            preset: None,
+            runs,
+        }
+    })
+}
+
+/// RANGE of the first `size` kinds without the next one.
+fn ring_asked(size: u8) -> Run {
+    let ask = tape::with(&(0..size).collect::<Vec<u8>>(), tape::range());
+    run_of([vec![tape::bar(size)], ask].concat())
+}
+
+/// The first layout of the high walks, with each family's groups the largest first; and with one group of each family,
+/// then the others by chance. The last chain is walked.
+fn high_chains() -> impl Iterator<Item = Case> {
+    let mut kinds = 0..128u8;
+    let sizes = [vec![2; 34], vec![15, 15, 2]].concat();
+    let families: Vec<Vec<u8>> = sizes.iter().map(|&size| kinds.by_ref().take(size).collect()).collect();
+    let rng = &mut Rng::new(5);
+    let (mut falling, mut first, mut rest) = (vec![], vec![], vec![]);
+    for family in &families {
+        let mut groups = chains_of(&[family.clone()]);
+        falling.extend(groups.iter().rev().cloned());
+        first.push(groups.swap_remove(rng.below(groups.len())));
+        rest.extend(groups);
+    }
+    rng.shuffle(&mut rest);
+    [falling, [first, rest].concat()]
+        .into_iter()
+        .map(move |groups: Vec<Vec<u8>>| family_walks(&families, 35, &groups))
+}
+
+/// Eight families with gaps below and between, 61 to 64 groups of them in several orders; then lists that would go
+/// below and between, equal ones, small, wide and clashing ones, and what the layout does.
+fn at_the_limit() -> impl Iterator<Item = Case> {
+    let groups: Vec<Vec<u8>> = (0..8u8)
+        .flat_map(|family| [3, 4, 6, 8, 10, 12, 14, 15].map(|arity| (family * 16..family * 16 + arity).collect()))
+        .collect();
+    [61usize, 62, 63, 64].into_iter().flat_map(move |count| {
+        let orders = in_orders(&groups[..count]).into_iter().take(4);
+        orders.map(|groups| limit_case(&groups))
+    })
+}
+
+/// 63 groups, nearly all of them pairs; a small list, two equal ones, and one more below the last or between the last two.
+fn one_too_many() -> impl Iterator<Item = Case> {
+    let pairs: Vec<Vec<u8>> = (0..62).map(|i| vec![2 * i, 2 * i + 1]).collect();
+    let below = ([&pairs[..], &[vec![124, 125, 126]]].concat(), vec![124, 126]);
+    let last = vec![vec![125, 126], vec![124, 125, 126, 127]];
+    let between = ([&pairs[..61], &last].concat(), vec![124, 125, 126]);
+    [below, between].into_iter().map(|(groups, more)| {
+        let staged = groups.concat();
+        let mut runs = vec![run_of(staged.iter().map(|&kind| tape::reg(kind)).collect())];
+        let grouped = groups.iter().flat_map(|group| tape::with(group, tape::group()));
+        runs.push(run_of(grouped.collect()));
+        for list in [&[5][..], &groups[0], &groups[62], &more] {
+            runs.push(run_of(tape::with(list, tape::group())));
+        }
+        runs.push(run_of(vec![tape::new(), tape::apply()]));
+        Case {
+            n: 1,
+            k: 128,
+            preset: None,
+            runs,
+        }
+    })
+}
+
+fn limit_case(groups: &[Vec<u8>]) -> Case {
+    let mut runs = vec![run_of((0..128).map(tape::reg).collect())];
+    for groups in groups.chunks(8) {
+        let chunks = groups.iter().flat_map(|group| tape::with(group, tape::group()));
+        runs.push(run_of(chunks.collect()));
+    }
+    let rising = |end: u8| -> Vec<u8> { (0..end).collect() };
+    let more: [&[u8]; 14] = [
+        &[3],
+        &[0, 1, 2],
+        &rising(8),
+        &[0, 16],
+        &[0, 3],
+        &rising(16),
+        // Below, between, and each again.
+        &[1, 0],
+        &[0, 1],
+        &rising(5),
+        &rising(5),
+        &rising(13),
+        &[17, 18],
+        &[34, 32, 33, 36, 35],
+        &[64, 65],
+    ];
+    for list in more {
+        runs.push(run_of([tape::with(list, tape::group()), vec![tape::empty()]].concat()));
+    }
+    // Entities before and after the layout is applied.
+    let news = |from: usize| -> Run {
+        let list = |i: usize| &groups[(from + 7 * i) % groups.len()];
+        run_of((0..8).flat_map(|i| tape::with(list(i), tape::new())).collect())
+    };
+    runs.push(news(0));
+    runs.push(run_of(vec![tape::apply()]));
+    runs.push(news(3));
+    for index in 0..12u32 {
+        let kind = 16 * (index as u8 % 8) + index as u8;
+        runs.push(run_of(tape::with(&[kind, 1], tape::take((index, 1)))));
+        runs.push(run_of(valued(&[1, kind], index, tape::put((index, 1)))));
+    }
+    runs.push(run_of((0..10).map(|index| tape::kill((index, 1))).collect()));
+    runs.push(run_of(vec![tape::apply(), tape::wipe()]));
+    Case {
+        n: 20,
+        k: 128,
+        preset: None,
+        runs,
+    }
 }
 
 /// Each command at every length of buffer up to two bytes more than it takes, accepted and refused.
@@ -623,8 +809,8 @@ fn layouts() -> Vec<Vec<Chunk>> {
         &[],
         &[&[0, 1]],
         &[&[0, 1], &[0, 1, 2]],
-        &[&[0, 1], &[0, 1, 2, 3]],
-        &[&[0, 1], &[0, 1, 2], &[0, 1, 2, 3]],
+        &[&[0, 1, 2, 3], &[0, 1]],
+        &[&[0, 1], &[0, 1, 2, 3], &[0, 1, 2]],
         &[&[1, 2], &[0, 3]],
     ];
     groups
@@ -726,8 +912,8 @@ fn relayouts() -> Vec<Vec<Chunk>> {
     steps.extend([
         layout(&[&[2, 3]]),
         layout(&[&[0, 1], &[2, 3]]),
-        layout(&[&[2, 3], &[2, 3, 1]]),
-        layout(&[&[1, 3], &[1, 3, 0], &[1, 3, 0, 2]]),
+        layout(&[&[2, 3, 1], &[2, 3]]),
+        layout(&[&[1, 3, 0, 2], &[1, 3], &[1, 3, 0]]),
         layout(&[&[0, 1, 2, 3]]),
         tape::with(&[0, 1, 2, 3], tape::new()),
         tape::with(&[3, 2], tape::new()),

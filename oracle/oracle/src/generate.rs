@@ -2,9 +2,10 @@
 //! and reuse. Some are damaged, some get too little room, some start where versions run out.
 
 use crate::compare::{Difference, Figures, Make, Pair};
+use crate::drafts;
 use crate::rng::Rng;
 use crate::tape::{self, Case, Chunk, Run, ROOMY};
-use sparsey::harness::{Id, Oracle, Preset, Sets};
+use sparsey::harness::{kinds_of, set_of, Id, Oracle, Preset, Sets};
 
 /// What a case is like.
 struct Profile {
@@ -119,8 +120,14 @@ struct Steps<'a> {
     live: Vec<Id>,
     registered: Vec<u8>,
     groups: Vec<Vec<u8>>,
-    draft: Vec<Vec<Vec<u8>>>,
+    /// The groups that the draft is likely to have.
+    drafted: Vec<Vec<u8>>,
     chunks: Vec<Chunk>,
+}
+
+/// Whether the one has all kinds of the other.
+fn holds(outer: &[u8], inner: &[u8]) -> bool {
+    inner.iter().all(|kind| outer.contains(kind))
 }
 
 impl<'a> Steps<'a> {
@@ -131,7 +138,11 @@ impl<'a> Steps<'a> {
             live: rust.live(),
             registered: rust.registered(),
             groups: rust.groups().into_iter().map(|(kinds, _)| kinds).collect(),
-            draft: rust.draft(),
+            drafted: rust.families()[0]
+                .iter()
+                .flatten()
+                .map(|&group| kinds_of(group))
+                .collect(),
             chunks: vec![],
         }
     }
@@ -229,7 +240,7 @@ impl<'a> Steps<'a> {
         self.chunks.push(chunk);
     }
 
-    /// A draft of groups that are accepted, each after those inside it.
+    /// The groups of a layout, each after those inside it.
     fn layout(&mut self) -> Vec<Vec<u8>> {
         let mut kinds = self.registered.clone();
         self.rng.shuffle(&mut kinds);
@@ -240,12 +251,14 @@ impl<'a> Steps<'a> {
             let (family, others) = rest.split_at(arity);
             rest = others;
             let mut at = self.rng.between(2, arity.min(4));
+            // Many groups that have few kinds more, or few that have many.
+            let most = if self.rng.once_in(2) { 2 } else { arity };
             loop {
                 groups.push(family[..at].to_vec());
                 if at == arity {
                     break;
                 }
-                at = self.rng.between(at + 1, arity);
+                at = self.rng.between(at + 1, arity.min(at + most));
             }
         }
         groups
@@ -267,36 +280,116 @@ impl<'a> Steps<'a> {
         }
     }
 
-    /// GROUP for a chain of groups, or for a drafted group as it is, with foreign kinds, or joined with another.
-    fn group(&mut self) {
-        let drafted: Vec<Vec<u8>> = self.draft.iter().flatten().cloned().collect();
-        if drafted.is_empty() || self.rng.once_in(6) {
-            for group in self.layout() {
-                self.hold(&group);
-                self.chunks.push(tape::group());
-            }
-            return;
+    /// GROUP of these kinds. What it would leave staged is mostly emptied.
+    fn group_of(&mut self, mut kinds: Vec<u8>) {
+        if self.rng.once_in(2) {
+            self.rng.shuffle(&mut kinds);
         }
-        let mut kinds = self.rng.pick(&drafted).clone();
-        match self.rng.below(5) {
-            0 => {}
-            1 | 2 => {
-                let mut foreign = self.registered.clone();
-                foreign.retain(|kind| !drafted.iter().any(|group| group.contains(kind)));
-                self.rng.shuffle(&mut foreign);
-                foreign.truncate(self.rng.between(1, 3));
-                kinds.extend(foreign);
-            }
-            3 => {
-                let other = self.rng.pick(&drafted).clone();
-                let more: Vec<u8> = other.into_iter().filter(|kind| !kinds.contains(kind)).collect();
-                kinds.extend(more);
-            }
-            _ => kinds = self.kinds(),
-        }
-        self.vary(&mut kinds);
         self.hold(&kinds);
         self.chunks.push(tape::group());
+        let mut sets: Vec<u128> = self.drafted.iter().map(|group| set_of(group)).collect();
+        let is_new = !sets.contains(&set_of(&kinds));
+        sets.push(set_of(&kinds));
+        if drafts::formed(&sets).is_none() || kinds.len() > 15 {
+            if !self.rng.once_in(4) {
+                self.chunks.push(tape::empty());
+            }
+        } else if kinds.len() > 1 && is_new {
+            self.drafted.push(kinds);
+        }
+    }
+
+    /// GROUP for each group of a layout, in one order or another, and now and then for kinds near one.
+    fn draft(&mut self) {
+        let mut groups = self.layout();
+        match self.rng.below(4) {
+            0 => {}
+            1 => groups.reverse(),
+            _ => self.rng.shuffle(&mut groups),
+        }
+        for group in groups {
+            self.group_of(group);
+            if self.rng.once_in(4) && !self.drafted.is_empty() {
+                let kinds = self.near();
+                self.group_of(kinds);
+            }
+        }
+    }
+
+    /// Some of the kinds: not all, where there are two.
+    fn some(&mut self, mut kinds: Vec<u8>) -> Vec<u8> {
+        self.rng.shuffle(&mut kinds);
+        if kinds.len() > 1 {
+            kinds.truncate(self.rng.between(1, kinds.len() - 1));
+        }
+        kinds
+    }
+
+    /// The largest group of the draft inside this one, and what this one has more.
+    fn ring(&self, group: &[u8]) -> (Vec<u8>, Vec<u8>) {
+        let inside = |other: &&Vec<u8>| other.len() < group.len() && holds(group, other);
+        let smaller = self.drafted.iter().filter(inside).max_by_key(|other| other.len());
+        let smaller = smaller.cloned().unwrap_or_default();
+        let ring = group.iter().copied().filter(|kind| !smaller.contains(kind)).collect();
+        (smaller, ring)
+    }
+
+    /// A group for which there is room between this one and the next smaller, or below this one.
+    fn gap(&mut self) -> Vec<u8> {
+        let rings = self.drafted.iter().map(|group| self.ring(group));
+        let gaps: Vec<_> = rings.filter(|(_, ring)| ring.len() > 1).collect();
+        let between: Vec<_> = gaps.iter().filter(|gap| !gap.0.is_empty()).cloned().collect();
+        let (smaller, ring) = match (between.is_empty(), gaps.is_empty()) {
+            (_, true) => return self.kinds(),
+            (false, false) if !self.rng.once_in(4) => self.rng.pick(&between).clone(),
+            _ => self.rng.pick(&gaps).clone(),
+        };
+        [smaller, self.some(ring)].concat()
+    }
+
+    /// Kinds of the registered ones that no group of the draft has, three at most.
+    fn foreign(&mut self) -> Vec<u8> {
+        let mut foreign = self.registered.clone();
+        foreign.retain(|kind| !self.drafted.iter().any(|group| group.contains(kind)));
+        self.rng.shuffle(&mut foreign);
+        foreign.truncate(self.rng.between(1, 3));
+        foreign
+    }
+
+    /// Kinds near a group of the draft: below, between or above; with foreign kinds; some of it; joined with another
+    /// group; or as it is.
+    fn near(&mut self) -> Vec<u8> {
+        let group = self.rng.pick(&self.drafted).clone();
+        let around = self.drafted.iter().filter(|other| holds(other, &group));
+        let largest = around.max_by_key(|other| other.len()).cloned().unwrap_or_default();
+        match self.rng.below(12) {
+            0..=4 => self.gap(),
+            5 | 6 => [largest, self.foreign()].concat(),
+            7 => [group, self.foreign()].concat(),
+            8 => [self.gap(), self.foreign()].concat(),
+            9 => self.some(group),
+            10 => {
+                let other = self.rng.pick(&self.drafted).clone();
+                let more = other.into_iter().filter(|kind| !group.contains(kind));
+                group.iter().copied().chain(more).collect()
+            }
+            _ => group,
+        }
+    }
+
+    /// GROUP for the groups of a layout, for kinds near a group of the draft, or for any.
+    fn group(&mut self) {
+        if self.drafted.is_empty() || self.rng.once_in(6) {
+            return self.draft();
+        }
+        let mut kinds = match self.rng.once_in(6) {
+            true => self.kinds(),
+            false => self.near(),
+        };
+        if self.rng.once_in(3) {
+            self.vary(&mut kinds);
+        }
+        self.group_of(kinds);
     }
 
     /// RANGE, with a bar of what a larger group has more, of some kinds, or none.
@@ -355,11 +448,9 @@ impl<'a> Steps<'a> {
             }
             5 => self.chunks.push(tape::wipe()),
             6 => {
-                for group in self.layout() {
-                    self.hold(&group);
-                    self.chunks.push(tape::group());
-                }
+                self.draft();
                 self.chunks.push(tape::apply());
+                self.groups = std::mem::take(&mut self.drafted);
             }
             7 => self.range(),
             8 => {

@@ -3,18 +3,27 @@
 
 use crate::rng::Rng;
 use crate::side::Side;
-use sparsey::harness::{words_needed, Id, Preset, Ran};
+use sparsey::harness::{words_needed, Families, Id, Preset, Ran};
 use yirbarn::sys;
 
 // The arrangement of the words, for what no entry shows and for presets (docs/WORDS.md).
 const N: usize = 0;
+const DRAFT_FAMILIES: usize = 5;
+const LAYOUT_FAMILIES: usize = 7;
 const REFUSALS: usize = 16;
+const DRAFT: usize = 256;
+const LAYOUT: usize = 576;
 const ENTITIES: usize = 1024;
 const LIVE: usize = ENTITIES;
 const ISSUED: usize = ENTITIES + 1;
 const RING_HEAD: usize = ENTITIES + 2;
 const RECYCLED: usize = ENTITIES + 3;
 const LISTS: usize = ENTITIES + 8;
+
+// Inside a layout block, behind the kinds.
+const ARITIES: usize = 128;
+const KIND_ENDS: usize = 192;
+const ENDS: usize = 256;
 
 /// Words past those that a store is lent, which must stay as they are.
 const BEYOND: usize = 3;
@@ -72,6 +81,24 @@ impl Linked {
 
     fn word(&self, at: usize) -> usize {
         self.words[at] as usize
+    }
+
+    /// The families of a layout block.
+    fn block(&self, block: usize, families: usize) -> Families {
+        let part = |table: usize, family: usize| {
+            let start = family
+                .checked_sub(1)
+                .map_or(0, |before| self.word(block + table + before));
+            start..self.word(block + table + family)
+        };
+        let family = |family: usize| {
+            let first = block + part(KIND_ENDS, family).start;
+            part(ENDS, family)
+                .map(|group| &self.words[first..first + self.word(block + ARITIES + group)])
+                .map(|kinds| kinds.iter().fold(0, |set, kind| set | 1 << kind))
+                .collect()
+        };
+        (0..families).map(family).collect()
     }
 
     fn copy(&self, kind: u8, values: bool, start: usize, end: usize, out: &mut [u32]) -> (u8, usize) {
@@ -220,6 +247,13 @@ impl Side for Linked {
     fn live(&mut self) -> Vec<Id> {
         let rows = &self.words[LISTS..LISTS + 2 * self.word(LIVE)];
         rows.chunks(2).map(|row| (row[0], row[1])).collect()
+    }
+
+    fn families(&mut self) -> [Families; 2] {
+        [
+            self.block(DRAFT, self.word(DRAFT_FAMILIES)),
+            self.block(LAYOUT, self.word(LAYOUT_FAMILIES)),
+        ]
     }
 
     fn complaint(&mut self) -> Option<String> {

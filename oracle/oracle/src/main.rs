@@ -88,7 +88,7 @@ fn main() -> ExitCode {
     match command.as_str() {
         "all" => all(&options, make),
         "compare" => compare_everything(&options, make),
-        "drafts" => show_drafts(),
+        "drafts" => show_drafts(make),
         "examples" => check_examples(&options, make),
         "faults" => show_faults(&options),
         "record" => record_answers(&options),
@@ -268,7 +268,7 @@ fn check_examples(options: &Options, make: Make) -> ExitCode {
 fn all(options: &Options, make: Make) -> ExitCode {
     let codes = [
         compare_everything(options, make),
-        show_drafts(),
+        show_drafts(make),
         show_faults(options),
         replay_answers(options, make),
         check_examples(options, make),
@@ -325,14 +325,21 @@ fn wear(make: Make) -> ExitCode {
     ExitCode::SUCCESS
 }
 
-fn show_drafts() -> ExitCode {
-    let (drafts, limits) = quietly(|| (drafts::enumerate(), drafts::limits()));
+fn show_drafts(make: Make) -> ExitCode {
+    let (drafts, limits) = quietly(|| (drafts::enumerate(6, 3), drafts::limits()));
     print!("{}limits:\n{limits}", drafts.text());
-    match drafts.disputed {
+    println!("every list of 4 groups over 5 kinds:");
+    let mut wrong = drafts.differ() + drafts.disputed;
+    for mut side in [make(), Box::new(Oracle::new(Sets::Staged))] {
+        let orders = drafts::orders(5, 4, &mut *side);
+        print!("  {}", orders.text(side.name()));
+        wrong += orders.wrong;
+    }
+    if drafts.disputed > 0 {
+        println!("harness and reference dispute {} hands", drafts.disputed);
+    }
+    match wrong {
         0 => ExitCode::SUCCESS,
-        disputed => {
-            println!("harness and reference dispute {disputed} hands");
-            ExitCode::FAILURE
-        }
+        _ => ExitCode::FAILURE,
     }
 }

@@ -68,7 +68,14 @@ fn recorded(case: &Case) -> Option<Vec<u8>> {
     Some(bytes)
 }
 
-/// The examples of document 01, each as a case.
+/// A draft of the groups, and then one more.
+fn group_on(draft: &[&[u8]], staged: &[u8]) -> Vec<tape::Chunk> {
+    let groups = draft.iter().flat_map(|group| tape::with(group, tape::group()));
+    let begin = [tape::empty(), tape::apply()].into_iter().chain(groups);
+    begin.chain(tape::with(staged, tape::group())).collect()
+}
+
+/// The examples of document 01, each as a case, with the groups that 02 adds.
 pub fn examples() -> Vec<Case> {
     let kinds: Vec<tape::Chunk> = (1..=6).map(tape::reg).collect();
     let layout = fixed::layout(&[&[1, 2], &[1, 2, 3, 4]]);
@@ -91,13 +98,8 @@ pub fn examples() -> Vec<Case> {
         let barred: Vec<tape::Chunk> = excluded.iter().map(|&kind| tape::bar(kind)).collect();
         runs.push(Run::new([barred, tape::with(staged, tape::range())].concat()));
     }
-    runs.push(Run::new(
-        [
-            tape::with(&[1, 2], tape::group()),
-            tape::with(&[1, 2, 3, 4], tape::group()),
-        ]
-        .concat(),
-    ));
+    // Each on a draft of these groups, begun anew by APPLY.
+    let nested: [&[u8]; 2] = [&[1, 2], &[1, 2, 3, 4]];
     for staged in [
         &[1u8, 2][..],
         &[1, 2, 3],
@@ -106,20 +108,9 @@ pub fn examples() -> Vec<Case> {
         &[5, 6],
         &[1, 2, 3, 4, 5],
     ] {
-        // {1,2,3,4,5} is added to the draft without {5,6}.
-        let again = match staged.len() {
-            5 => vec![
-                vec![tape::apply()],
-                tape::with(&[1, 2], tape::group()),
-                tape::with(&[1, 2, 3, 4], tape::group()),
-            ]
-            .concat(),
-            _ => vec![],
-        };
-        runs.push(Run::new(
-            [vec![tape::empty()], again, tape::with(staged, tape::group())].concat(),
-        ));
+        runs.push(Run::new(group_on(&nested, staged)));
     }
+    runs.push(Run::new(group_on(&[&[1, 2], &[3, 4]], &[1, 2, 3, 4])));
     let marked = Case {
         n: 8,
         k: 6,
@@ -164,9 +155,10 @@ pub fn write(seed: u64, budget: usize) -> Vec<u8> {
             "16 staged" => (1, 5),
             "63 groups" => (2, 5),
             "rooms" => (0, 17),
-            // Newer than the file, which stays as it is.
-            "walks above position 32" => continue,
-            // Long, and a random case or two has the like.
+            "groups below and between" => (1, 4),
+            // {0,1} and {0,1,2,3,4}, in one order and in the other.
+            "drafts of up to 2 groups over 5 kinds with every further group" => (37, 225),
+            // Long, and a random case or two has the like, but for the walks above position 32.
             _ => (0, usize::MAX),
         };
         cases.extend(part.cases.skip(first).step_by(every).filter_map(|case| recorded(&case)));

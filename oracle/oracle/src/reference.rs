@@ -1,8 +1,8 @@
-//! Document 01 again, in plain lists: no sparse sets, no masks, every lookup a search. It is written after the
-//! document's definitions and shares no code with the harness. A fault can be switched on, to see whether the comparison finds it.
+//! Documents 01 and 02 again, in plain lists: no sparse sets, no masks, every lookup a search. It is written after the
+//! papers' definitions and shares no code with the harness. A fault can be switched on, to see whether the comparison finds it.
 
 use crate::side::Side;
-use sparsey::harness::{Id, Preset, Ran};
+use sparsey::harness::{Families, Id, Preset, Ran};
 use std::collections::{BTreeMap, BTreeSet, VecDeque};
 
 /// The faults, each once: its name and what is wrong, in a line.
@@ -77,10 +77,23 @@ faults! {
     CutBeforeUnknown: "an unknown byte at the tape's end is CUT",
     WideAfterClash: "CLASH comes before WIDE",
     ClashBeforeEqual: "a group equal to one present clashes",
+    EqualAsLists: "a group equal to one present is added if its kinds come in another order",
+    EqualToLargestOnly: "a group equal to one present is added if that is not its family's largest",
     TwoFamiliesJoined: "a group that holds two families is added to the first",
-    GroupBelowAccepted: "a group inside a family's smallest is added",
-    GroupBetweenAccepted: "a smaller group with a foreign kind is added, as the Rust does",
+    FirstSharingOnly: "a group that meets two families is added if it fits the first",
+    FirstFamilyOnly: "a group is held to the draft's first family only",
+    FamilyByFirstKind: "a group's family is found by its first kind alone",
+    BelowRefused: "a group below a family's smallest clashes",
+    BetweenRefused: "a group between two of a family clashes",
+    LargestTested: "a group is held to a family's largest only",
+    SmallestTested: "a group is held to a family's smallest only",
+    SharedKindSuffices: "a group that shares a kind with each of a family's is added",
+    ForeignBetween: "a smaller group with a foreign kind is added, as the Rust does",
+    GroupAtEnd: "a new group goes to its family's end, whatever its place",
+    GroupAtStart: "a new group that is not its family's largest goes to the family's start",
+    NextRingKept: "the next larger group's ring keeps the new group's kinds",
     SixtyFourGroups: "a draft holds 64 groups",
+    ManyAboveOnly: "a 64th group is added if it goes below or between",
     ManyBeforeEqual: "MANY comes before nothing added",
     KindsBeforeKnown: "KINDS is answered for a known kind too",
     FullByLive: "FULL goes by the entities live",
@@ -109,6 +122,11 @@ impl Family {
         self.new_kinds[..=group].concat()
     }
 
+    /// The kinds of each group, the smallest first.
+    fn groups(&self) -> Vec<Vec<u8>> {
+        (0..self.new_kinds.len()).map(|group| self.kinds(group)).collect()
+    }
+
     fn all(&self) -> BTreeSet<u8> {
         self.new_kinds.iter().flatten().copied().collect()
     }
@@ -120,6 +138,13 @@ impl Family {
 
 fn set(kinds: &[u8]) -> BTreeSet<u8> {
     kinds.iter().copied().collect()
+}
+
+/// The families as sets of kinds.
+fn sets(families: &[Family]) -> Families {
+    let bits = |group: &Vec<u8>| set(group).into_iter().map(|kind| 1u128 << kind).sum();
+    let family = |family: &Family| family.groups().iter().map(bits).collect();
+    families.iter().map(family).collect()
 }
 
 #[derive(Clone, Debug)]
@@ -250,6 +275,12 @@ impl Side for Reference {
 
     fn live(&mut self) -> Vec<Id> {
         self.store.as_ref().map_or(vec![], |store| store.live.clone())
+    }
+
+    fn families(&mut self) -> [Families; 2] {
+        self.store
+            .as_ref()
+            .map_or([vec![], vec![]], |store| [sets(&store.draft), sets(&store.layout)])
     }
 }
 
@@ -715,52 +746,103 @@ impl Store {
         if many && self.has(Fault::ManyBeforeEqual) {
             return Err(15);
         }
-        let is_present = |family: &Family| (0..family.new_kinds.len()).any(|group| set(&family.kinds(group)) == new);
-        if self.draft.iter().any(is_present) {
+        if self.is_present(kinds) {
             return match self.has(Fault::ClashBeforeEqual) {
                 true => Err(14),
                 false => Ok(false),
             };
         }
-        let sharing: Vec<usize> = (0..self.draft.len())
-            .filter(|&family| !self.draft[family].all().is_disjoint(&new))
-            .collect();
-        let held = |family: usize| self.draft[family].all().is_subset(&new);
-        let place = match sharing[..] {
+        let place = match self.sharing(kinds)[..] {
             [] => None,
-            [family] if held(family) => Some(family),
-            [family]
-                if self.has(Fault::GroupBelowAccepted) && new.is_subset(&set(&self.draft[family].new_kinds[0])) =>
-            {
-                return Ok(true);
-            }
-            [family] if self.has(Fault::GroupBetweenAccepted) && self.is_between(family, &new) => return Ok(true),
-            [family, other] if self.has(Fault::TwoFamiliesJoined) && held(family) && held(other) => Some(family),
+            [family] if self.is_chain(family, &new) => Some(family),
+            [family] if self.has(Fault::ForeignBetween) && self.is_foreign(family, &new) => return Ok(true),
+            [family, other] if self.has(Fault::TwoFamiliesJoined) && self.holds(family, other, &new) => Some(family),
+            [family, _, ..] if self.has(Fault::FirstSharingOnly) && self.is_chain(family, &new) => Some(family),
             _ => return Err(14),
         };
         if new.len() == 16 {
             return Err(13);
         }
-        if many {
+        let inside = place.is_some_and(|family| !self.draft[family].all().is_subset(&new));
+        if many && !(inside && self.has(Fault::ManyAboveOnly)) {
             return Err(15);
         }
+        let groups = place.map_or(vec![], |family| self.draft[family].groups());
+        let family = self.family_of(groups, kinds);
         match place {
-            None => self.draft.push(Family {
-                new_kinds: vec![kinds.to_vec()],
-                counts: vec![0],
-            }),
-            Some(family) => {
-                let old = self.draft[family].all();
-                let added = kinds.iter().copied().filter(|kind| !old.contains(kind)).collect();
-                self.draft[family].new_kinds.push(added);
-                self.draft[family].counts.push(0);
-            }
+            None => self.draft.push(family),
+            Some(place) => self.draft[place] = family,
         }
         Ok(true)
     }
 
+    /// Whether the draft has a group of these kinds.
+    fn is_present(&self, kinds: &[u8]) -> bool {
+        self.draft.iter().any(|family| {
+            let last = family.new_kinds.len() - 1;
+            let first = if self.has(Fault::EqualToLargestOnly) { last } else { 0 };
+            (first..=last).any(|group| match self.has(Fault::EqualAsLists) {
+                true => family.kinds(group) == kinds,
+                false => set(&family.kinds(group)) == set(kinds),
+            })
+        })
+    }
+
+    /// The families of the draft that share kinds with a new group.
+    fn sharing(&self, kinds: &[u8]) -> Vec<usize> {
+        let (looked, kinds) = match self.fault {
+            Some(Fault::FirstFamilyOnly) => (self.draft.len().min(1), kinds),
+            Some(Fault::FamilyByFirstKind) => (self.draft.len(), &kinds[..1]),
+            _ => (self.draft.len(), kinds),
+        };
+        let shares = |&family: &usize| !self.draft[family].all().is_disjoint(&set(kinds));
+        (0..looked).filter(shares).collect()
+    }
+
+    /// Whether the groups of the family, with the new one, are a chain.
+    fn is_chain(&self, family: usize, new: &BTreeSet<u8>) -> bool {
+        let groups: Vec<BTreeSet<u8>> = self.draft[family].groups().iter().map(|group| set(group)).collect();
+        let (smallest, largest) = (&groups[0], &groups[groups.len() - 1]);
+        let below = new.is_subset(smallest);
+        let between = smallest.is_subset(new) && new.is_subset(largest);
+        let nested = |group: &BTreeSet<u8>| group.is_subset(new) || new.is_subset(group);
+        match self.fault {
+            Some(Fault::BelowRefused) if below => false,
+            Some(Fault::BetweenRefused) if between => false,
+            Some(Fault::LargestTested) => nested(largest),
+            Some(Fault::SmallestTested) => nested(smallest),
+            Some(Fault::SharedKindSuffices) => groups.iter().all(|group| !group.is_disjoint(new)),
+            _ => groups.iter().all(nested),
+        }
+    }
+
+    /// The family of these groups and the new one: by size, each ring what the group before it lacks.
+    fn family_of(&self, mut groups: Vec<Vec<u8>>, new: &[u8]) -> Family {
+        let at = groups.iter().filter(|group| group.len() < new.len()).count();
+        let at = match self.fault {
+            Some(Fault::GroupAtEnd) => groups.len(),
+            Some(Fault::GroupAtStart) if at < groups.len() => 0,
+            _ => at,
+        };
+        groups.insert(at, new.to_vec());
+        let ring = |group: usize| {
+            let kept = self.has(Fault::NextRingKept) && group == at + 1;
+            let before = if kept { group - 1 } else { group };
+            let lacking = |kind: &u8| before == 0 || !groups[before - 1].contains(kind);
+            groups[group].iter().copied().filter(lacking).collect()
+        };
+        Family {
+            new_kinds: (0..groups.len()).map(ring).collect(),
+            counts: vec![0; groups.len()],
+        }
+    }
+
+    fn holds(&self, family: usize, other: usize, new: &BTreeSet<u8>) -> bool {
+        self.draft[family].all().is_subset(new) && self.draft[other].all().is_subset(new)
+    }
+
     /// Whether the new group is a group of the family with foreign kinds, and smaller than the next.
-    fn is_between(&self, family: usize, new: &BTreeSet<u8>) -> bool {
+    fn is_foreign(&self, family: usize, new: &BTreeSet<u8>) -> bool {
         let family = &self.draft[family];
         let shared: BTreeSet<u8> = family.all().intersection(new).copied().collect();
         (1..family.new_kinds.len())

@@ -1,6 +1,6 @@
 //! The entries of document 01, as either side of the comparison offers them.
 
-use sparsey::harness::{Id, Oracle, Preset, Ran};
+use sparsey::harness::{Families, Id, Oracle, Preset, Ran};
 
 /// One side of the comparison: a store, lent or of its own, and the entries on it.
 pub trait Side {
@@ -25,6 +25,9 @@ pub trait Side {
 
     /// The live list, in its order.
     fn live(&mut self) -> Vec<Id>;
+
+    /// The families of the draft and of the layout in force, in any order.
+    fn families(&mut self) -> [Families; 2];
 
     /// What the side found wrong with itself since the last call.
     fn complaint(&mut self) -> Option<String> {
@@ -76,5 +79,9 @@ impl Side for Oracle {
 
     fn live(&mut self) -> Vec<Id> {
         Oracle::live(self)
+    }
+
+    fn families(&mut self) -> [Families; 2] {
+        Oracle::families(self)
     }
 }

@@ -1,6 +1,7 @@
 //! The harness held to document 01's own examples and to the library's own ways, and the tools to themselves.
 
 use crate::compare::{compare, shrink, Look, Make, Pair};
+use crate::drafts::{self, Ours, Sorted, Theirs};
 use crate::fixed;
 use crate::generate;
 use crate::record;
@@ -58,12 +59,13 @@ fn marked_examples() {
                 range(false, 0, 0),
             ]
         );
-        assert_eq!(last(9, 2), [0, 0]);
+        assert_eq!(last(8, 2), [0, 0]);
+        assert_eq!(last(9, 2), [0, 1]);
         assert_eq!(last(10, 1), [14]);
         assert_eq!(last(11, 1), [14]);
-        assert_eq!(last(12, 1), [14]);
+        assert_eq!(last(12, 2), [0, 1]);
         assert_eq!(last(13, 2), [0, 1]);
-        assert_eq!(last(14, 2), [0, 1]);
+        assert_eq!(last(14, 1), [14]);
     }
     for mut side in sides() {
         let answers = answers(&mut *side, killed);
@@ -89,6 +91,49 @@ fn the_tape_of_document_01() {
         let ran = side.run(&case.runs[0].tape(), &mut out);
         assert_eq!((ran.stop, ran.commands, ran.read, ran.written), (0, 14, 0x4f, 0x2a));
         assert_eq!(out[..ran.written], expected);
+    }
+}
+
+/// Each set of groups that forms a layout is added in every order, with the same families; and GROUP adds exactly what
+/// forms one.
+#[test]
+fn groups_in_any_order() {
+    for mut side in sides() {
+        let orders = drafts::orders(5, 4, &mut *side);
+        assert_eq!(orders.wrong, 0, "{}", orders.text(side.name()));
+        // And the layout of no groups.
+        assert_eq!(orders.layouts() + 1, 387);
+    }
+}
+
+/// Given the smallest first, the Rust has our families, and panics where GROUP clashes; in the order given it panics at a
+/// group below or between.
+#[test]
+fn the_rust_takes_the_smallest_first() {
+    let drafts = drafts::enumerate(5, 2);
+    assert_eq!((drafts.disputed, drafts.differ()), (0, 0), "{}", drafts.text());
+    let smallest = |class| drafts.classes.get(&class).map(|(_, draft, new)| (&draft[..], *new));
+    assert_eq!(
+        smallest((Ours::Below, Theirs::Panic, Sorted::Same)),
+        Some((&[0b111][..], 0b011))
+    );
+    assert_eq!(
+        smallest((Ours::Between, Theirs::Panic, Sorted::Same)),
+        Some((&[0b0011, 0b1111][..], 0b0111))
+    );
+    assert_eq!(
+        smallest((Ours::Clash, Theirs::Wrong, Sorted::Panic)),
+        Some((&[0b00011, 0b01111][..], 0b10011))
+    );
+    // It takes no group below or between, and every one above or apart.
+    for &(ours, theirs, _) in drafts.classes.keys() {
+        let expected = match ours {
+            Ours::Apart | Ours::Above => Theirs::Added,
+            Ours::Between | Ours::Below => Theirs::Panic,
+            Ours::Nothing => Theirs::Nothing,
+            Ours::Clash => continue,
+        };
+        assert!(theirs == expected || theirs == Theirs::Earlier, "{ours:?}: {theirs:?}");
     }
 }
 

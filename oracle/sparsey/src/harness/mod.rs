@@ -57,19 +57,27 @@ struct Store {
     values: Vec<Value>,
     excluded: Vec<u8>,
     draft: Draft,
+    /// The layout in force, as the library was given it.
+    layout: GroupLayout,
     issued: usize,
     retired: usize,
     refusals: u32,
+    /// How often GROUP judged each of `JUDGEMENTS`.
+    judged: [u64; JUDGEMENTS.len()],
     /// The answer to the command under way: one buffer for all, so that times are not those of an allocator.
     answer: Vec<u8>,
 }
 
-/// The draft layout, as the library has it and as sets of kinds, one list a family, rising.
+/// The draft layout: its groups as sets of kinds, one list a family, rising. The library is given it at APPLY.
 #[derive(Default)]
 struct Draft {
-    layout: GroupLayout,
-    families: Vec<Vec<u128>>,
+    families: Families,
+    /// What was staged at each GROUP that was accepted, those that added nothing too: how many kinds, and these in front.
+    hands: Vec<(usize, [u8; MOST_STAGED])>,
 }
+
+/// Groups as sets of kinds, one list a family, by size.
+pub type Families = Vec<Vec<u128>>;
 
 /// Document 01 over the library.
 pub struct Oracle {
@@ -203,13 +211,16 @@ impl Oracle {
         self.store.as_ref().map_or(vec![], Store::groups)
     }
 
-    /// The groups of the draft, as sets of kinds, one list a family.
-    pub fn draft(&self) -> Vec<Vec<Vec<u8>>> {
-        let families = self.store.as_ref().map_or(&[][..], |store| &store.draft.families);
-        families
-            .iter()
-            .map(|family| family.iter().map(|&group| kinds_of(group)).collect())
-            .collect()
+    /// The families of the draft, and those of the library's layout in force.
+    pub fn families(&self) -> [Families; 2] {
+        self.store.as_ref().map_or([vec![], vec![]], |store| {
+            [store.draft.families.clone(), families_of(&store.layout)]
+        })
+    }
+
+    /// How often GROUP judged each of `JUDGEMENTS`, since the start.
+    pub fn judged(&self) -> [u64; JUDGEMENTS.len()] {
+        self.store.as_ref().map_or([0; JUDGEMENTS.len()], |store| store.judged)
     }
 
     /// How many component stores the library keeps, those left behind by relayouts included.
@@ -236,9 +247,11 @@ impl Store {
             values: vec![],
             excluded: vec![],
             draft: Draft::default(),
+            layout: GroupLayout::default(),
             issued: 0,
             retired: 0,
             refusals: 0,
+            judged: [0; JUDGEMENTS.len()],
             answer: vec![],
         }
     }
@@ -450,19 +463,20 @@ impl Store {
     }
 
     fn group(&mut self) -> Result<(), u8> {
-        let place = self.draft.judge(set_of(&self.staged))?;
-        self.draft.add(place, &self.staged);
+        let judged = self.draft.judge(set_of(&self.staged));
+        self.judged[self.draft.judgement(judged)] += 1;
+        let added = self.draft.add(judged, &self.staged)?;
         self.clear_staged();
-        self.answer.push(u8::from(place != Place::Nowhere));
+        self.answer.push(u8::from(added));
         Ok(())
     }
 
     fn apply(&mut self) {
-        let draft = core::mem::take(&mut self.draft);
+        self.layout = core::mem::take(&mut self.draft).layout();
         unsafe {
             self.world
                 .components
-                .set_layout(&draft.layout, self.world.entities.as_slice());
+                .set_layout(&self.layout, self.world.entities.as_slice());
         }
     }
 
@@ -577,54 +591,118 @@ impl Store {
     }
 }
 
-/// Where an accepted group goes.
+/// What GROUP makes of a hand.
 #[derive(Clone, Copy, PartialEq, Eq, Debug)]
-enum Place {
-    Nowhere,
+enum Judged {
+    /// Fewer than two kinds, or a group of the draft.
+    Nothing,
     NewFamily,
-    Family(usize),
+    /// Into a family, behind so many of its groups.
+    Into(usize, usize),
+    Wide,
+    /// It shares kinds with two families.
+    TwoFamilies,
+    /// It shares kinds with one, whose groups are no chain with it.
+    NoChain,
+    Many,
+}
+
+/// The same, with the place in a family in words, for the figures.
+pub const JUDGEMENTS: [&str; 9] = [
+    "nothing added",
+    "a family of its own",
+    "below",
+    "between",
+    "above",
+    "wide",
+    "clash, two families",
+    "clash, no chain",
+    "many",
+];
+
+fn is_within(inner: u128, outer: u128) -> bool {
+    inner & !outer == 0
 }
 
 impl Draft {
-    /// 01's rule for GROUP.
-    fn judge(&self, group: u128) -> Result<Place, u8> {
+    /// The rule for GROUP.
+    fn judge(&self, group: u128) -> Judged {
         if group.count_ones() < 2 {
-            return Ok(Place::Nowhere);
+            return Judged::Nothing;
         }
         if group.count_ones() == 16 {
-            return Err(13);
+            return Judged::Wide;
         }
         if self.families.iter().flatten().any(|&old| old == group) {
-            return Ok(Place::Nowhere);
+            return Judged::Nothing;
         }
-        let largest = |family: &Vec<u128>| family[family.len() - 1];
-        let sharing: Vec<usize> = (0..self.families.len())
-            .filter(|&i| largest(&self.families[i]) & group != 0)
-            .collect();
-        let place = match sharing[..] {
-            [] => Place::NewFamily,
-            [i] if largest(&self.families[i]) & !group == 0 => Place::Family(i),
-            _ => return Err(14),
+        let shares = |family: &Vec<u128>| family[family.len() - 1] & group != 0;
+        let mut sharing = (0..self.families.len()).filter(|&i| shares(&self.families[i]));
+        let judged = match (sharing.next(), sharing.next()) {
+            (None, _) => Judged::NewFamily,
+            (Some(i), None) => self.judge_chain(i, group),
+            _ => Judged::TwoFamilies,
         };
-        if self.families.iter().flatten().count() == MOST_GROUPS {
-            return Err(15);
+        let full = self.families.iter().flatten().count() == MOST_GROUPS;
+        match judged {
+            Judged::NewFamily | Judged::Into(..) if full => Judged::Many,
+            _ => judged,
         }
-        Ok(place)
     }
 
-    /// Gives an accepted group to the library, and holds its families to ours.
-    fn add(&mut self, place: Place, kinds: &[u8]) {
-        add_group(&mut self.layout, kinds);
-        match place {
-            Place::Nowhere => {}
-            Place::NewFamily => self.families.push(vec![set_of(kinds)]),
-            Place::Family(i) => self.families[i].push(set_of(kinds)),
+    /// Below, between or above, if each group of the family holds the new one or is held by it.
+    fn judge_chain(&self, i: usize, group: u128) -> Judged {
+        let family = &self.families[i];
+        if !family.iter().all(|&old| is_within(old, group) || is_within(group, old)) {
+            return Judged::NoChain;
+        }
+        Judged::Into(i, family.iter().filter(|&&old| is_within(old, group)).count())
+    }
+
+    /// The place in `JUDGEMENTS`.
+    fn judgement(&self, judged: Judged) -> usize {
+        match judged {
+            Judged::Nothing => 0,
+            Judged::NewFamily => 1,
+            Judged::Into(_, 0) => 2,
+            Judged::Into(i, at) if at < self.families[i].len() => 3,
+            Judged::Into(..) => 4,
+            Judged::Wide => 5,
+            Judged::TwoFamilies => 6,
+            Judged::NoChain => 7,
+            Judged::Many => 8,
+        }
+    }
+
+    /// Keeps an accepted hand; whether it is one group more.
+    fn add(&mut self, judged: Judged, kinds: &[u8]) -> Result<bool, u8> {
+        match judged {
+            Judged::Nothing => {}
+            Judged::NewFamily => self.families.push(vec![set_of(kinds)]),
+            Judged::Into(i, at) => self.families[i].insert(at, set_of(kinds)),
+            Judged::Wide => return Err(13),
+            Judged::TwoFamilies | Judged::NoChain => return Err(14),
+            Judged::Many => return Err(15),
+        }
+        let mut hand = [0; MOST_STAGED];
+        hand[..kinds.len()].copy_from_slice(kinds);
+        self.hands.push((kinds.len(), hand));
+        Ok(judged != Judged::Nothing)
+    }
+
+    /// The library's layout: it is given the hands the smallest first, and its families are held to ours.
+    fn layout(mut self) -> GroupLayout {
+        self.hands.sort_by_key(|&(kinds, _)| kinds);
+        let mut layout = GroupLayout::default();
+        for (kinds, hand) in &self.hands {
+            add_group(&mut layout, &hand[..*kinds]);
         }
         debug_assert_eq!(
-            families_of(&self.layout),
-            self.families,
+            arranged(families_of(&layout)),
+            arranged(self.families),
             "add_group_dyn made other families"
         );
+        layout
     }
 }
 
@@ -647,18 +725,27 @@ pub fn families(layout: &GroupLayout) -> Vec<Vec<Vec<u8>>> {
 }
 
 /// The same as sets of kinds.
-fn families_of(layout: &GroupLayout) -> Vec<Vec<u128>> {
-    families(layout)
-        .iter()
-        .map(|family| family.iter().map(|kinds| set_of(kinds)).collect())
-        .collect()
+pub fn families_of(layout: &GroupLayout) -> Families {
+    let sets = |family: &Vec<Vec<u8>>| family.iter().map(|kinds| set_of(kinds)).collect();
+    families(layout).iter().map(sets).collect()
 }
 
-fn set_of(kinds: &[u8]) -> u128 {
+/// Families in an order that goes by the sets alone, so that equal ones are equal lists.
+pub fn arranged(mut families: Families) -> Families {
+    for family in &mut families {
+        family.sort_by_key(|group| (group.count_ones(), *group));
+    }
+    families.sort();
+    families
+}
+
+/// The kinds as a set.
+pub fn set_of(kinds: &[u8]) -> u128 {
     kinds.iter().fold(0, |set, number| set | 1 << number)
 }
 
-fn kinds_of(set: u128) -> Vec<u8> {
+/// The kinds of a set, rising.
+pub fn kinds_of(set: u128) -> Vec<u8> {
     (0..128).filter(|number| set >> number & 1 == 1).collect()
 }
 
