@@ -11,4 +11,5 @@ pub mod Demands
 pub mod Exported
 pub mod Pieces
 pub mod Ranging
+pub mod Grouping
 pub mod Built

@@ -57,12 +57,16 @@ BeforeEach P (stopped {w} {t} {b} {room} {n} f) = P w b t room n
 BeforeEach P (refused w {w′} {t} {bytes} {b} {room} h f m s c) = P w b t room 0 × BeforeEach P c
 BeforeEach P (done w w₁ {w′} {t} {bytes} {b} {room} h n m s c) = P w b t room 0 × BeforeEach P c
 
--- P of each command done: the words before it, the command, and the run's answer bytes from its own on
+-- P of each command done, refused or not: the words before it, the command, the words after it, and the run's answer bytes from its own on
+abbrev pub EachDone : (P : List ℕ → Command → List ℕ → List ℕ → Type 0) {w t w′ bytes : List ℕ} {room stop commands read : ℕ} → Course w t room w′ stop commands read bytes → Type 0
+EachDone P ended = Unit {0}
+EachDone P (stopped f) = Unit {0}
+EachDone P (refused w {w′} {t} {bytes} {b} {room} {n} h f m s c) = P w (commandOn b t) (withRefusal w) (n ∷ bytes) × EachDone P c
+EachDone P (done w w₁ {w′} {t} {bytes} {b} h n m s c) = P w (commandOn b t) w₁ (0 ∷ accepted (commandOn b t) (meaning w) .answer ++ bytes) × EachDone P c
+
+-- the same without the words after it
 abbrev pub EachAnswer : (P : List ℕ → Command → List ℕ → Type 0) {w t w′ bytes : List ℕ} {room stop commands read : ℕ} → Course w t room w′ stop commands read bytes → Type 0
-EachAnswer P ended = Unit {0}
-EachAnswer P (stopped f) = Unit {0}
-EachAnswer P (refused w {w′} {t} {bytes} {b} {room} {n} h f m s c) = P w (commandOn b t) (n ∷ bytes) × EachAnswer P c
-EachAnswer P (done w w₁ {w′} {t} {bytes} {b} h n m s c) = P w (commandOn b t) (0 ∷ accepted (commandOn b t) (meaning w) .answer ++ bytes) × EachAnswer P c
+EachAnswer P c = EachDone (λ v k v′ l. P v k l) c
 
 -- P of each refused command: the words before it, and after it
 abbrev pub EachRefusal : (P : List ℕ → List ℕ → Type 0) {w t w′ bytes : List ℕ} {room stop commands read : ℕ} → Course w t room w′ stop commands read bytes → Type 0

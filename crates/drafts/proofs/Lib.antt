@@ -1,0 +1,7 @@
+pub mod Sets
+pub mod Forming
+pub mod Grouping
+pub mod Keyed
+pub mod Listing
+pub mod AnyOrder
+pub mod Sheets

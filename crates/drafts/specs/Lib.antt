@@ -1,0 +1,3 @@
+pub mod Grouped
+pub mod Drafted
+pub mod Sheets

@@ -1,0 +1,71 @@
+-- GROUP over the words: what each GROUP of a run answers and leaves, and the groups of a job sheet in any order. Theorems over the contract of *run* alone
+-- (specs/Entries.antt). Assumes nothing.
+use mathlib.Core.Path.{_≡_, refl, sym, ap, _∙_, subst}
+use mathlib.Core.Bool.{Bool, true}
+use mathlib.Core.List.{List, [], _++_}
+use Prim.Native.Nat.{ℕ, _≤_}
+use lib.ListN.{length}
+use Rattle.model.specs.Model.{Component}
+use Rattle.model.specs.Forms.{SameGroups}
+use Rattle.model.specs.Store.{Store}
+use Rattle.model.specs.Commands.{Command, GROUP}
+use Rattle.model.specs.Run.{Outcome, refuses, accepts, does, storeAfter, answerOf}
+use Rattle.model.specs.Sound.{StoreSound}
+use Rattle.model.proofs.Lines.{refusal-exact, accepted-exact}
+use Rattle.words.proofs.Decides.{decides-same}
+use Rattle.tapes.specs.Tapes.{AllEncodable, tapeOf, afterAll, roomFor, ranAll}
+use Rattle.tapes.proofs.Tapes.{run-commands}
+use Rattle.drafts.specs.Grouped.{GroupTold}
+use Rattle.drafts.specs.Drafted.{twoOrMore}
+use Rattle.drafts.specs.Sheets.{sheetCommands, sheetGroups, SheetSound, NoneRefused, SameSheet}
+use Rattle.drafts.proofs.Grouping.{group-told}
+use Rattle.drafts.proofs.Sheets.{sheet-encodable, sheets-in-any-order}
+use Rattle.memory.specs.Meaning.{meaning, withRefusal}
+use Rattle.memory.specs.Arranged.{Sound}
+use Rattle.run.specs.declared.Ran.{Ran}
+use Rattle.store.specs.Course.{Course, ended, stopped, refused, done, EachDone}
+use Rattle.store.specs.Entries.{ranOf, Runs}
+use Rattle.store.proofs.Demands.{run-course}
+
+-- ---- each GROUP of a run
+
+-- by what the model's GROUP does
+told-by : (k : Command) (s s′ : Store) (x : Outcome) (rest : List ℕ) → StoreSound s → does k s ≡ x → s′ ≡ storeAfter s x → k ≡ GROUP → GroupTold s s′ (answerOf x ++ rest)
+told-by k s s′ x rest S d m e =
+    let g : does GROUP s ≡ x = ap (λ (c : Command). does c s) (sym e) ∙ d in
+    subst (λ (t : Store). GroupTold s t (answerOf x ++ rest)) (sym m) (subst (λ (y : Outcome). GroupTold s (storeAfter s y) (answerOf y ++ rest)) g (group-told s S rest))
+
+groups-in : {w t w′ bytes : List ℕ} {room stop commands read : ℕ} → Sound w → (c : Course w t room w′ stop commands read bytes) → EachDone (λ v k v′ l. k ≡ GROUP → GroupTold (meaning v) (meaning v′) l) c
+groups-in S ended = tt
+groups-in S (stopped f) = tt
+groups-in S (refused w {t = t} {bytes = bytes} {b = b} {n = n} h f m s c) =
+    (told-by _ (meaning w) (meaning (withRefusal w)) (refuses n) bytes (S .means) (refusal-exact _ (meaning w) n .1 f) (m .means), groups-in s c)
+groups-in S (done w w₁ {t = t} {bytes = bytes} {b = b} h n m s c) =
+    (told-by _ (meaning w) (meaning w₁) (accepts _ _) bytes (S .means) (accepted-exact _ (meaning w) _ _ .1 (n, refl, refl)) (m .means), groups-in s c)
+
+-- wherever it stands in the run: for the hand and the draft before it
+pub groups-in-run : (w w′ t o o′ : List ℕ) (r : Ran) (R : Runs w w′ t o o′ r) (S : Sound w) → EachDone (λ v k v′ l. k ≡ GROUP → GroupTold (meaning v) (meaning v′) l) (run-course w w′ t o o′ r R S)
+groups-in-run w w′ t o o′ r R S = groups-in S (run-course w w′ t o o′ r R S)
+
+-- ---- a job sheet
+
+-- what whole commands leave, where the buffer has room for their answers
+left-by : (cs : List Command) (w w′ o o′ : List ℕ) (r : Ran) → Sound w → AllEncodable cs → Runs w w′ (tapeOf cs) o o′ r → roomFor cs (meaning w) ≤ length o → meaning w′ ≡ afterAll cs (meaning w)
+left-by cs w w′ o o′ r S e R h =
+    let yes : R .sound ≡ true = decides-same (R .sound) true (R .decides) S ((λ d. d), (λ d. d)) in
+    let all : ranOf (R .sound) (tapeOf cs) (length o) (meaning w) ≡ ranAll cs (meaning w) = ap (λ (c : Bool). ranOf c (tapeOf cs) (length o) (meaning w)) yes ∙ run-commands cs (length o) (meaning w) e h in
+    R .means ∙ (λ i. all i .store)
+
+-- the groups of a sheet in another order, run on the same words, which have an empty hand: the one sheet leaves words w₁, none of it refused; then none of the
+-- other is refused, and it leaves words w₂ with the same list of the draft's groups, and nothing else differs
+pub sheets-in-words : (w w₁ w₂ o o₁ p p₁ : List ℕ) (r q : Ran) (hs js : List (List Component)) → Sound w → meaning w .control .staged ≡ []
+    → SheetSound (meaning w .kinds) hs → SheetSound (meaning w .kinds) js → SameGroups (twoOrMore (sheetGroups hs)) (twoOrMore (sheetGroups js))
+    → Runs w w₁ (tapeOf (sheetCommands hs)) o o₁ r → roomFor (sheetCommands hs) (meaning w) ≤ length o
+    → Runs w w₂ (tapeOf (sheetCommands js)) p p₁ q → roomFor (sheetCommands js) (meaning w) ≤ length p
+    → NoneRefused (sheetCommands hs) (meaning w) → SameSheet js (meaning w) (meaning w₁) (meaning w₂)
+sheets-in-words w w₁ w₂ o o₁ p p₁ r q hs js S bare H J same R room Q room′ n =
+    let small = S .means .kinds .small in
+    let first = left-by (sheetCommands hs) w w₁ o o₁ r S (sheet-encodable (meaning w .kinds) small hs H) R room in
+    let second = left-by (sheetCommands js) w w₂ p p₁ q S (sheet-encodable (meaning w .kinds) small js J) Q room′ in
+    subst (SameSheet js (meaning w) (meaning w₁)) (sym second)
+    (subst (λ (t : Store). SameSheet js (meaning w) t (afterAll (sheetCommands js) (meaning w))) (sym first) (sheets-in-any-order (meaning w) (S .means) bare hs js H J same n))
