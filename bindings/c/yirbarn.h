@@ -22,9 +22,9 @@
 
 /* Of this header and what it declares (CHANGELOG.md). */
 #define YIRBARN_VERSION_MAJOR 0
-#define YIRBARN_VERSION_MINOR 2
+#define YIRBARN_VERSION_MINOR 3
 #define YIRBARN_VERSION_PATCH 0
-#define YIRBARN_VERSION "0.2.0"
+#define YIRBARN_VERSION "0.3.0"
 
 #ifdef __cplusplus
 extern "C" {
@@ -45,7 +45,7 @@ enum yirbarn_number {
     YIRBARN_DEAD = 11,    /* the entity is not live */
     YIRBARN_FULL = 12,    /* no index is left */
     YIRBARN_WIDE = 13,    /* a group of 16 kinds */
-    YIRBARN_CLASH = 14,   /* the group fits into no family and shares kinds with one */
+    YIRBARN_CLASH = 14,   /* the group shares kinds with more than one family, or is no chain with that one */
     YIRBARN_MANY = 15,    /* the draft has 63 groups */
     YIRBARN_BEYOND = 16   /* rows that are not there */
 };
