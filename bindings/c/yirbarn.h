@@ -45,7 +45,7 @@ enum yirbarn_number {
     YIRBARN_DEAD = 11,    /* the entity is not live */
     YIRBARN_FULL = 12,    /* no index is left */
     YIRBARN_WIDE = 13,    /* a group of 16 kinds */
-    YIRBARN_CLASH = 14,   /* the group shares kinds with more than one family, or is no chain with that one */
+    YIRBARN_CLASH = 14,   /* the group shares kinds with more than one family, or with one that it is no chain with */
     YIRBARN_MANY = 15,    /* the draft has 63 groups */
     YIRBARN_BEYOND = 16   /* rows that are not there */
 };

@@ -66,7 +66,7 @@ impl Refusal {
             Refusal::Dead => "the entity is not live",
             Refusal::Full => "no index is left",
             Refusal::Wide => "a group of 16 kinds",
-            Refusal::Clash => "the group shares kinds with more than one family, or is no chain with that one",
+            Refusal::Clash => "the group shares kinds with more than one family, or with one that it is no chain with",
             Refusal::Many => "the draft has 63 groups",
             Refusal::Beyond => "rows that are not there",
         }
