@@ -16,7 +16,7 @@ use Rattle.model.specs.Forms.{allGroups, hasGroup, SameGroups}
 use Rattle.model.specs.Theorems.{DraftSound, AddedSound}
 use Rattle.model.proofs.BoolLaws.{bool-cases, cond-case, or-cases, or-false, or-false-right}
 use Rattle.model.proofs.Draft.{addGroup-sound}
-use Rattle.drafts.specs.Drafted.{andThen, drafted, Small, HandSound, HandsSound, twoOrMore, DraftOf, SameDraft}
+use Rattle.drafts.specs.Drafted.{andThen, drafted, Small, StagedKindsSound, AllStagedKindsSound, twoOrMore, DraftOf, SameDraft}
 use Rattle.drafts.proofs.Sets.{same-groups-refl, same-groups-sym, same-groups-append, same-groups-middle, same-groups-again, same-set-sym, Among, has-first, has-here, has-there, has-over, has-cases, has-left, has-right, has-split, group-narrow, present-has}
 use Rattle.drafts.proofs.Forming.{joins-forms, forms-part, layout-forms, withGroup-groups}
 use Rattle.drafts.proofs.Listing.{more-groups, listed-unique}
@@ -70,7 +70,7 @@ built-more kinds h hs fs mid gs s b =
     }
 
 -- what a draft has after GROUPs of hands, none refused
-pub drafted-groups : (kinds : List ℕ) (hs : List (List ℕ)) (fs gs : List Family) → HandsSound kinds hs → DraftSound kinds fs → drafted hs fs ≡ some gs → DraftOf kinds hs fs gs
+pub drafted-groups : (kinds : List ℕ) (hs : List (List ℕ)) (fs gs : List Family) → AllStagedKindsSound kinds hs → DraftSound kinds fs → drafted hs fs ≡ some gs → DraftOf kinds hs fs gs
 drafted-groups kinds [] fs gs H D e =
     let q : fs ≡ gs = cc in
     subst (DraftOf kinds [] fs) q (record { sound = D; groups = same-groups-refl (allGroups fs) })
@@ -90,7 +90,7 @@ Accepted (added gs) = Unit {0}
 Accepted (refused n) = ⊥
 
 module _ (kinds : List ℕ) (small : Small kinds) (fs : List Family) (F : DraftSound kinds fs) where
-  addGroup-accepted : (gs : List Family) → DraftSound kinds gs → Among (allGroups gs) (allGroups fs) → (h : List ℕ) → HandSound kinds h → Among (twoOrMore (h ∷ [])) (allGroups fs) → Accepted (addGroup h gs)
+  addGroup-accepted : (gs : List Family) → DraftSound kinds gs → Among (allGroups gs) (allGroups fs) → (h : List ℕ) → StagedKindsSound kinds h → Among (twoOrMore (h ∷ [])) (allGroups fs) → Accepted (addGroup h gs)
   unfolding addGroup
   addGroup-accepted gs G p h H q =
       cond-case Accepted (ltb MAX-GROUP-ARITY (length h)) _ _
@@ -122,7 +122,7 @@ two-rest h hs g t = cond-case (λ (l : List (List ℕ)). hasGroup g l ≡ true) 
 
 module _ (kinds : List ℕ) (small : Small kinds) (fs : List Family) (F : DraftSound kinds fs) where
   -- from a draft whose groups are all groups of fs, hands that are groups of fs, or have fewer than two kinds, are none of them refused
-  pub drafted-accepted : (hs : List (List ℕ)) (gs : List Family) → HandsSound kinds hs → DraftSound kinds gs → Among (allGroups gs) (allGroups fs) → Among (twoOrMore hs) (allGroups fs)
+  pub drafted-accepted : (hs : List (List ℕ)) (gs : List Family) → AllStagedKindsSound kinds hs → DraftSound kinds gs → Among (allGroups gs) (allGroups fs) → Among (twoOrMore hs) (allGroups fs)
       → (out : List Family) × (drafted hs gs ≡ some out)
   drafted-accepted [] gs H G p q = (gs, refl)
   drafted-accepted (h ∷ hs) gs H G p q =
@@ -138,7 +138,7 @@ module _ (kinds : List ℕ) (small : Small kinds) (fs : List Family) (F : DraftS
 
 -- "A draft built from the same groups in another order accepts all of them too and gives the same families", from any draft on. The same groups: the hands of
 -- two kinds or more, as sets
-pub any-order : (kinds : List ℕ) → Small kinds → (start : List Family) → DraftSound kinds start → (hs js : List (List ℕ)) → HandsSound kinds hs → HandsSound kinds js → SameGroups (twoOrMore hs) (twoOrMore js)
+pub any-order : (kinds : List ℕ) → Small kinds → (start : List Family) → DraftSound kinds start → (hs js : List (List ℕ)) → AllStagedKindsSound kinds hs → AllStagedKindsSound kinds js → SameGroups (twoOrMore hs) (twoOrMore js)
     → (fs : List Family) → drafted hs start ≡ some fs → SameDraft js start fs
 any-order kinds small start D hs js H J s fs e =
     let B = drafted-groups kinds hs start fs H D e in

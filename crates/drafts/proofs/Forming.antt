@@ -13,7 +13,7 @@ use Rattle.model.specs.Model.{Family, mem, within, meets, sameSet, without, com
 use Rattle.model.specs.Sound.{In, Distinct, layoutKinds}
 use Rattle.model.specs.Forms.{groupsIn, allGroups, hasGroup, SameGroups, IsChain, AreFamilies, Forms, eachOf, isLayout}
 use Rattle.model.proofs.BoolLaws.{bool-cases, cond-case, and-left, and-right, or-right, not-true, both-true}
-use Rattle.model.proofs.Draft.{untouched, untouched-chained, familiesWith-same, chains-here, chains-rest, holds-hand, chained-first, chained-rest}
+use Rattle.model.proofs.Draft.{untouched, untouched-chained, familiesWith-same, chains-here, chains-rest, holds-staged, chained-first, chained-rest}
 use Rattle.model.proofs.KindLists.{Missing, all-missing, in-left, in-right, in-cases, meets-none, unmet-all, any-none, distinct-right, in-without, in-common, within-in, common-in, without-in}
 use Rattle.drafts.proofs.Sets.{within-over, meets-at, meets-of, meets-sym, same-of, same-set-refl, same-set-sym, same-within, nested-left, nested-meets, nested-over, meets-over, meets-same, has-first, has-here, has-there, has-cases, has-left, has-right, has-split, Among, Member, has-member, same-groups-refl, same-groups-trans, same-groups-to, same-groups-from, same-groups-cons, same-groups-append, same-groups-swap, same-groups-middle, has-each, each-at, flat-in, flat-at, apart-groups, chain-tail, chain-over, chain-cons, chain-nested, family-chain, family-same, kinds-flat, flat-kinds, flat-layout, layout-flat, layout-append, family-apart}
 
@@ -371,7 +371,7 @@ familyWith-has ks acc [] w c = same-groups-cons (acc ++ without ks acc) ks [] []
 familyWith-has ks acc (r ∷ rs) w c =
     cond-case (λ (h : Family). SameGroups (groupsIn acc h) (ks ∷ groupsIn acc (r ∷ rs))) (within (acc ++ r .newKinds) ks) _ _
     (λ t. further t (familyWith-has ks (acc ++ r .newKinds) rs t (chains-rest ks acc r rs c)))
-    (λ t. here (holds-hand ks acc r rs c t))
+    (λ t. here (holds-staged ks acc r rs c t))
   where
     g : List ℕ
     g = acc ++ r .newKinds

@@ -22,7 +22,7 @@ use Rattle.model.proofs.BoolLaws.{bool-cases, or-cases, or-false, or-false-righ
 use Rattle.model.proofs.Lengths.{clash}
 use Rattle.model.proofs.Outcomes.{group-does}
 use Rattle.model.proofs.Sound.{does-sound}
-use Rattle.drafts.specs.Grouped.{ofDraft, withHand, Answers, Adds, Clashing, Joining, GroupTold}
+use Rattle.drafts.specs.Grouped.{ofDraft, ofDraftAndStaged, Answers, Adds, Clashing, Joining, GroupTold}
 use Rattle.drafts.proofs.Sets.{same-groups-sym, same-groups-again, group-narrow, present-has}
 use Rattle.drafts.proofs.Forming.{forms-same, layout-forms, joins-forms, withGroup-groups}
 
@@ -100,16 +100,16 @@ zero-not n h e = omega arith
 -- ---- in a sound store
 
 module _ (s : Store) (S : StoreSound s) where
-  forms-of : joins (stagedKinds s) (s .control .draft) ≡ true → Forms (withHand s)
+  forms-of : joins (stagedKinds s) (s .control .draft) ≡ true → Forms (ofDraftAndStaged s)
   forms-of = joins-forms (stagedKinds s) (s .control .draft) (S .draft .once) .0
 
-  joins-of : Forms (withHand s) → joins (stagedKinds s) (s .control .draft) ≡ true
+  joins-of : Forms (ofDraftAndStaged s) → joins (stagedKinds s) (s .control .draft) ≡ true
   joins-of = joins-forms (stagedKinds s) (s .control .draft) (S .draft .once) .1
 
   -- a hand that is a group of the draft forms a layout with them
-  again-forms : hasGroup (stagedKinds s) (ofDraft s) ≡ true → Forms (withHand s)
+  again-forms : hasGroup (stagedKinds s) (ofDraft s) ≡ true → Forms (ofDraftAndStaged s)
   again-forms i =
-      forms-same (ofDraft s) (withHand s) (same-groups-sym (withHand s) (ofDraft s) (same-groups-again (stagedKinds s) (ofDraft s) i))
+      forms-same (ofDraft s) (ofDraftAndStaged s) (same-groups-sym (ofDraftAndStaged s) (ofDraft s) (same-groups-again (stagedKinds s) (ofDraft s) i))
       (layout-forms (s .control .draft) (S .draft .once))
 
   -- the tests, by what they say
@@ -226,7 +226,7 @@ module _ (s : Store) (S : StoreSound s) where
       (λ a b f d e.
       let same : grown s ≡ s′ = cc in
       record {
-        groups = subst (λ (t : Store). SameGroups (ofDraft t) (withHand s)) same (withGroup-groups (stagedKinds s) (s .control .draft) f);
+        groups = subst (λ (t : Store). SameGroups (ofDraft t) (ofDraftAndStaged s)) same (withGroup-groups (stagedKinds s) (s .control .draft) f);
         sound = record { buildable = S′ .draft; uncounted = S′ .uncounted };
         emptied = sym (ap (λ (t : Store). t .control .staged) same);
       })

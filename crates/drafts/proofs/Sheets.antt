@@ -26,7 +26,7 @@ use Rattle.tapes.specs.Tapes.{AllEncodable, afterOne, afterAll}
 use Rattle.tapes.specs.Built.{holdCommands}
 use Rattle.tapes.proofs.Tapes.{encodable-append, after-append}
 use Rattle.tapes.proofs.Building.{next-in, next-new, next-few, one-by-one, holds-after, known-kind, holds-encodable, onDraft}
-use Rattle.drafts.specs.Drafted.{andThen, drafted, HandsSound, twoOrMore, SameDraft}
+use Rattle.drafts.specs.Drafted.{andThen, drafted, AllStagedKindsSound, twoOrMore, SameDraft}
 use Rattle.drafts.proofs.AnyOrder.{any-order}
 use Rattle.drafts.specs.Sheets.{sheetCommands, sheetGroups, SheetSound, NoneRefused, SameSheet}
 
@@ -117,9 +117,9 @@ sheet-encodable kinds small (h ∷ hs) H =
 
 -- ---- hands as lists of kinds
 
-hands-sound : (kinds : List ℕ) (hs : List (List Component)) → SheetSound kinds hs → HandsSound kinds (sheetGroups hs)
-hands-sound kinds [] H = tt
-hands-sound kinds (h ∷ hs) H = (record { once = H .0 .once; known = H .0 .known }, hands-sound kinds hs (H .1))
+all-staged-sound : (kinds : List ℕ) (hs : List (List Component)) → SheetSound kinds hs → AllStagedKindsSound kinds (sheetGroups hs)
+all-staged-sound kinds [] H = tt
+all-staged-sound kinds (h ∷ hs) H = (record { once = H .0 .once; known = H .0 .known }, all-staged-sound kinds hs (H .1))
 
 -- ---- the theorem
 
@@ -131,7 +131,7 @@ sheets-in-any-order s S bare hs js H J same n =
     let start = s .control .draft in
     let at : onDraft s start ≡ s = ap (holding s start) (sym bare) in
     let d = sheet-drafted s small hs start H (subst (NoneRefused (sheetCommands hs)) (sym at) n) in
-    let D : SameDraft (sheetGroups js) start (d .0) = any-order (s .kinds) small start (record { buildable = S .draft; uncounted = S .uncounted }) (sheetGroups hs) (sheetGroups js) (hands-sound (s .kinds) hs H) (hands-sound (s .kinds) js J) same (d .0) (d .1) in
+    let D : SameDraft (sheetGroups js) start (d .0) = any-order (s .kinds) small start (record { buildable = S .draft; uncounted = S .uncounted }) (sheetGroups hs) (sheetGroups js) (all-staged-sound (s .kinds) hs H) (all-staged-sound (s .kinds) js J) same (d .0) (d .1) in
     let b = drafted-sheet s small js start (D .draft) J (D .accepted) in
     let first : afterAll (sheetCommands hs) s ≡ onDraft s (d .0) = ap (afterAll (sheetCommands hs)) (sym at) ∙ drafted-sheet s small hs start (d .0) H (d .1) .1 in
     let second : afterAll (sheetCommands js) s ≡ onDraft s (D .draft) = ap (afterAll (sheetCommands js)) (sym at) ∙ b .1 in

@@ -35,14 +35,14 @@ Small ks = (k : ℕ) → In ks k → k < MAX-KINDS
 
 -- "hand, bar .. of registered kinds, such as commands can build": distinct kinds. However many: a hand of
 -- fewer than two kinds is one, and so is a hand of more than a group may have
-pub record HandSound (kinds h : List ℕ) : Type 0 where
+pub record StagedKindsSound (kinds h : List ℕ) : Type 0 where
   pub once : Distinct h
   pub known : (k : ℕ) → In h k → In kinds k
 
 -- each hand of the list is such
-abbrev pub HandsSound : List ℕ → List (List ℕ) → Type 0
-HandsSound kinds [] = Unit {0}
-HandsSound kinds (h ∷ hs) = HandSound kinds h × HandsSound kinds hs
+abbrev pub AllStagedKindsSound : List ℕ → List (List ℕ) → Type 0
+AllStagedKindsSound kinds [] = Unit {0}
+AllStagedKindsSound kinds (h ∷ hs) = StagedKindsSound kinds h × AllStagedKindsSound kinds hs
 
 -- "A new group of fewer than two kinds .. adds nothing": the other hands
 abbrev pub twoOrMore : List (List ℕ) → List (List ℕ)

@@ -18,8 +18,8 @@ abbrev pub ofDraft : Store → List (List ℕ)
 ofDraft s = allGroups (s .control .draft)
 
 -- the draft's groups, and the hand with them
-abbrev pub withHand : Store → List (List ℕ)
-withHand s = stagedKinds s ∷ ofDraft s
+abbrev pub ofDraftAndStaged : Store → List (List ℕ)
+ofDraftAndStaged s = stagedKinds s ∷ ofDraft s
 
 -- GROUP is accepted and answers a: "1 added or 0 nothing added"
 pub record Answers (s : Store) (a : ℕ) : Type 0 where
@@ -28,7 +28,7 @@ pub record Answers (s : Store) (a : ℕ) : Type 0 where
 
 -- "added": the draft's groups are those of before and the hand; the hand is emptied
 pub record Adds (s s′ : Store) : Type 0 where
-  pub groups : SameGroups (ofDraft s′) (withHand s)
+  pub groups : SameGroups (ofDraft s′) (ofDraftAndStaged s)
   pub sound : DraftSound (s′ .kinds) (s′ .control .draft)
   pub emptied : s′ .control .staged ≡ []
 
@@ -36,14 +36,14 @@ pub record Adds (s s′ : Store) : Type 0 where
 pub record Clashing (s : Store) : Type 0 where
   pub two : 2 ≤ length (stagedKinds s)
   pub narrow : length (stagedKinds s) ≤ MAX-GROUP-ARITY
-  pub none : Forms (withHand s) → ⊥
+  pub none : Forms (ofDraftAndStaged s) → ⊥
 
 -- one that forms a layout with them and is none of them
 pub record Joining (s : Store) : Type 0 where
   pub two : 2 ≤ length (stagedKinds s)
   pub narrow : length (stagedKinds s) ≤ MAX-GROUP-ARITY
   pub new : hasGroup (stagedKinds s) (ofDraft s) ≡ false
-  pub forms : Forms (withHand s)
+  pub forms : Forms (ofDraftAndStaged s)
 
 -- what GROUP tells and does in the store s: l are the run's answer bytes from its own on, s′ is the store after it. "1 added or 0 nothing added" after a 0
 -- byte, or the number of the refusal; "03 to 06, 09 and 0C, when accepted, empty the hand"

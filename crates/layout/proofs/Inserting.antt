@@ -14,7 +14,7 @@ use Rattle.model.specs.Sound.{In, Distinct}
 use Rattle.model.proofs.ListLaws.{count-append, as-long}
 use Rattle.model.proofs.BoolLaws.{bool-cases, or-cases, or-false, or-false-right, and-false-left, not-true}
 use Rattle.model.proofs.KindLists.{in-left, in-count, out-count, count-common, count-parted, length-parted, common-append, common-all, common-none, without-append, without-all, without-none, without-length, within-in, within-counts, all-true, before-free}
-use Rattle.model.proofs.Draft.{chains-rest, holds-hand}
+use Rattle.model.proofs.Draft.{chains-rest, holds-staged}
 use Rattle.words.specs.Part.{between}
 use Rattle.words.proofs.Part.{between-join, between-drop, between-front, between-rest, last-part, drop-take}
 use Rattle.layout.specs.Layout.{startOf, groupsFrom, KindSet, AritiesRising}
@@ -197,12 +197,12 @@ module _ (K h : List ℕ) (kset : KindSet K) (hset : KindSet h) where
     ring-length : length (common ring h) + length (without ring h) ≡ a - b
     ring-length = length-parted ring h ∙ omega (arith, length-append (take b K) ring, ap length (between-join K b a (omega arith)), take-length′, length-take-le a K fits)
 
-    hand-length : length h ≡ b + length (common ring h)
-    hand-length = omega (arith, front-length, length-append (take b K) (common ring h), take-length′)
+    staged-length : length h ≡ b + length (common ring h)
+    staged-length = omega (arith, front-length, length-append (take b K) (common ring h), take-length′)
 
     first-ring : between b (length h) (mergedKinds K h) ≡ common ring h
     first-ring =
-        drop-take (mergedKinds K h) b (length h) (omega (arith, hand-length))
+        drop-take (mergedKinds K h) b (length h) (omega (arith, staged-length))
         ∙ ap (λ (l : List ℕ). drop b (take (length h) l)) parted
         ∙ ap (drop b) (take-at front (without ring h ++ drop a K) (length h) front-length)
         ∙ drop-at (take b K) (common ring h) b take-length′
@@ -211,12 +211,12 @@ module _ (K h : List ℕ) (kset : KindSet K) (hset : KindSet h) where
     second-ring =
         ap (between (length h) a) parted
         ∙ ap (take (a - length h)) (drop-at front (without ring h ++ drop a K) (length h) front-length)
-        ∙ take-at (without ring h) (drop a K) (a - length h) (omega (arith, ring-length, hand-length))
+        ∙ take-at (without ring h) (drop a K) (a - length h) (omega (arith, ring-length, staged-length))
 
     later-kinds : drop a (mergedKinds K h) ≡ drop a K
     later-kinds =
         ap (drop a) (parted ∙ sym (append-assoc front (without ring h) (drop a K)))
-        ∙ drop-at (front ++ without ring h) (drop a K) a (omega (arith, length-append front (without ring h), front-length, hand-length, ring-length))
+        ∙ drop-at (front ++ without ring h) (drop a K) a (omega (arith, length-append front (without ring h), front-length, staged-length, ring-length))
 
     parted-size : length (mergedKinds K h) ≡ length K
     parted-size = omega (arith, merged-length, ap length no-more)
@@ -282,4 +282,4 @@ module _ (K h : List ℕ) (kset : KindSet K) (hset : KindSet h) where
       omega (arith, proper next h (subst KindSet (sym up) (set-take a K kset)) hset t (and-false-left (within h next) (within next h) unequal t), ap length up, length-take-le a K fits) in
       bool-cases (within next h)
       (λ t. further g b a ars acc up (r .0) fits t (inserts (suc g) a ars next up (r .1) t (longer t) (chains-rest h acc first rest c) (or-false-right (sameSet h next) (isGroup h next rest) o)))
-      (λ t. here g b a ars acc e up (r .0) (r .1) w l t (holds-hand h acc first rest c t))
+      (λ t. here g b a ars acc e up (r .0) (r .1) w l t (holds-staged h acc first rest c t))

@@ -96,8 +96,8 @@ module _ (ks : List ℕ) where
   -- ---- the family with the group in its place
 
   -- a group that the hand does not hold holds the hand, since the two are a chain
-  pub holds-hand : (acc : List ℕ) (r : Group) (rs : Family) → chains ks acc (r ∷ rs) ≡ true → within (acc ++ r .newKinds) ks ≡ false → within ks (acc ++ r .newKinds) ≡ true
-  holds-hand acc r rs c n = or-right (within (acc ++ r .newKinds) ks) (within ks (acc ++ r .newKinds)) (chains-here ks acc r rs c) n
+  pub holds-staged : (acc : List ℕ) (r : Group) (rs : Family) → chains ks acc (r ∷ rs) ≡ true → within (acc ++ r .newKinds) ks ≡ false → within ks (acc ++ r .newKinds) ≡ true
+  holds-staged acc r rs c n = or-right (within (acc ++ r .newKinds) ks) (within ks (acc ++ r .newKinds)) (chains-here ks acc r rs c) n
 
   -- its kinds are those of the family, and those of the hand that the family lacks
   pub familyWith-count : (acc : List ℕ) (f : Family) (z : ℕ) → chains ks acc f ≡ true → countOf eqb z (kindsOf (familyWith ks acc f)) ≡ countOf eqb z (kindsOf f) + countOf eqb z (without ks (acc ++ kindsOf f))
@@ -106,7 +106,7 @@ module _ (ks : List ℕ) where
       let on = familyWith-count (acc ++ r .newKinds) rs z (chains-rest ks acc r rs c) in
       cond-case (λ (h : Family). countOf eqb z (kindsOf h) ≡ countOf eqb z (r .newKinds ++ kindsOf rs) + countOf eqb z (without ks (acc ++ (r .newKinds ++ kindsOf rs)))) (within (acc ++ r .newKinds) ks) _ _
       (λ t. further on)
-      (λ n. here (without-all ks (acc ++ (r .newKinds ++ kindsOf rs)) (λ k i. held k (within-in ks (acc ++ r .newKinds) (holds-hand acc r rs c n) k i))))
+      (λ n. here (without-all ks (acc ++ (r .newKinds ++ kindsOf rs)) (λ k i. held k (within-in ks (acc ++ r .newKinds) (holds-staged acc r rs c n) k i))))
     where
       held : (k : ℕ) → In (acc ++ r .newKinds) k → In (acc ++ (r .newKinds ++ kindsOf rs)) k
       held k i = ap (mem k) (sym (append-assoc acc (r .newKinds) (kindsOf rs))) ∙ in-left (acc ++ r .newKinds) (kindsOf rs) k i
@@ -159,7 +159,7 @@ module _ (ks : List ℕ) where
       let on : within (acc ++ r .newKinds) ks ≡ true → Rising (familyWith ks (acc ++ r .newKinds) rs) = λ t. familyWith-rising (acc ++ r .newKinds) rs t (or-false (sameSet ks (acc ++ r .newKinds)) (isGroup ks (acc ++ r .newKinds) rs) g) (or-false-right (sameSet ks (acc ++ r .newKinds)) (isGroup ks (acc ++ r .newKinds) rs) g) (chains-rest ks acc r rs c) (h .1) in
       cond-case Rising (within (acc ++ r .newKinds) ks) _ _
       (λ t. (h .0, on t))
-      (λ t. (has-some acc (r .newKinds) a n (holds-hand acc r rs c t), (lacks-one acc (r .newKinds) a t, h .1)))
+      (λ t. (has-some acc (r .newKinds) a n (holds-staged acc r rs c t), (lacks-one acc (r .newKinds) a t, h .1)))
 
   -- ---- and the family is one that commands can build
 
@@ -168,7 +168,7 @@ module _ (ks : List ℕ) where
   familyWith-first r rs two d g c lo up =
       cond-case (λ (h : Family). length (kindsOf h) ≤ MAX-GROUP-ARITY → BuildableFamily h) (within (r .newKinds) ks) _ _
       (λ t w. (lo, familyWith-rising (r .newKinds) rs t (or-false (sameSet ks (r .newKinds)) (isGroup ks (r .newKinds) rs) g) (or-false-right (sameSet ks (r .newKinds)) (isGroup ks (r .newKinds) rs) g) (chains-rest ks [] r rs c) up, w))
-      (λ t w. (omega (arith, common-length (r .newKinds) ks d (holds-hand [] r rs c t)), (lacks-some (r .newKinds) ks t, up), w))
+      (λ t w. (omega (arith, common-length (r .newKinds) ks d (holds-staged [] r rs c t)), (lacks-some (r .newKinds) ks t, up), w))
 
   -- the last has as many as the hand, or as the family's last
   familyWith-width : (f : Family) → 1 ≤ length f → length ks ≤ MAX-GROUP-ARITY → Distinct ks → Distinct (kindsOf f) → chains ks [] f ≡ true → length (kindsOf f) ≤ MAX-GROUP-ARITY → length (kindsOf (familyWith ks [] f)) ≤ MAX-GROUP-ARITY

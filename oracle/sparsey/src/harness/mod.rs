@@ -73,7 +73,7 @@ struct Store {
 struct Draft {
     families: Families,
     /// What was staged at each GROUP that was accepted, those that added nothing too: how many kinds, and these in front.
-    hands: Vec<(usize, [u8; MOST_STAGED])>,
+    kept: Vec<(usize, [u8; MOST_STAGED])>,
 }
 
 /// Groups as sets of kinds, one list a family, by size.
@@ -591,7 +591,7 @@ impl Store {
     }
 }
 
-/// What GROUP makes of a hand.
+/// What GROUP makes of the staged kinds.
 #[derive(Clone, Copy, PartialEq, Eq, Debug)]
 enum Judged {
     /// Fewer than two kinds, or a group of the draft.
@@ -674,7 +674,7 @@ impl Draft {
         }
     }
 
-    /// Keeps an accepted hand; whether it is one group more.
+    /// Keeps an accepted list; whether it is one group more.
     fn add(&mut self, judged: Judged, kinds: &[u8]) -> Result<bool, u8> {
         match judged {
             Judged::Nothing => {}
@@ -684,18 +684,18 @@ impl Draft {
             Judged::TwoFamilies | Judged::NoChain => return Err(14),
             Judged::Many => return Err(15),
         }
-        let mut hand = [0; MOST_STAGED];
-        hand[..kinds.len()].copy_from_slice(kinds);
-        self.hands.push((kinds.len(), hand));
+        let mut list = [0; MOST_STAGED];
+        list[..kinds.len()].copy_from_slice(kinds);
+        self.kept.push((kinds.len(), list));
         Ok(judged != Judged::Nothing)
     }
 
-    /// The library's layout: it is given the hands the smallest first, and its families are held to ours.
+    /// The library's layout: it is given the lists the smallest first, and its families are held to ours.
     fn layout(mut self) -> GroupLayout {
-        self.hands.sort_by_key(|&(kinds, _)| kinds);
+        self.kept.sort_by_key(|&(kinds, _)| kinds);
         let mut layout = GroupLayout::default();
-        for (kinds, hand) in &self.hands {
-            add_group(&mut layout, &hand[..*kinds]);
+        for (kinds, list) in &self.kept {
+            add_group(&mut layout, &list[..*kinds]);
         }
         debug_assert_eq!(
             arranged(families_of(&layout)),
