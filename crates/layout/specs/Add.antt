@@ -1,9 +1,9 @@
 -- What adding a group answers, in document 01's numbers and in the model's terms. Assumes nothing.
 use mathlib.Core.Path.{_≡_}
 use mathlib.Core.List.{List}
-use Prim.Native.Nat.{ℕ, _≤_, _<_}
+use Prim.Native.Nat.{ℕ, _≤_}
 use lib.ListN.{length}
-use Rattle.model.specs.Numbers.{BEYOND, CLASH, MANY, MAX-GROUP-ARITY, WIDE}
+use Rattle.model.specs.Numbers.{CLASH, MANY, MAX-GROUP-ARITY, WIDE}
 use Rattle.model.specs.Model.{Family}
 use Rattle.model.specs.Adding.{Added, nothing, added, refused, addGroup}
 use Rattle.layout.specs.Layout.{KindSet}
@@ -18,8 +18,8 @@ use Rattle.layout.specs.declared.group_layout.Outcome.the-variants as ou
 
 -- the number of the refusal (01: WIDE, CLASH, MANY), 0 where the command is accepted
 abbrev pub refusalOf : Outcome → ℕ
-refusalOf outcome.Nothing = BEYOND
-refusalOf outcome.Added = BEYOND
+refusalOf outcome.Nothing = 0
+refusalOf outcome.Added = 0
 refusalOf outcome.Wide = WIDE
 refusalOf outcome.Clash = CLASH
 refusalOf outcome.Many = MANY
