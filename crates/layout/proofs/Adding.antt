@@ -1,11 +1,12 @@
 -- A group added to a well-formed layout: as a family of its own, or at its place in the one family that it shares kinds with. Assumes nothing.
 use mathlib.Core.Path.{_≡_, refl, sym, ap, ap₂, _∙_}
 use mathlib.Core.Logic.{_≢_}
-use mathlib.Core.Bool.{false}
+use mathlib.Core.Bool.{Bool, true, false}
 use mathlib.Core.List.{List, [], _∷_, _++_}
 use Prim.Native.Nat.{ℕ, zero, suc, _+_, _-_, _≤_, _<_}
 use native.Mathlib.Omega.{arith}
-use lib.Dec.{eqb}
+use borrow.Author.Tests.{leb-true, leb-false}
+use lib.Dec.{eqb, leb}
 use lib.ListN.{length, getD, take, set}
 use lib.Seq.{getD-set-same, getD-set-other}
 use Rattle.model.specs.Numbers.{MAX-GROUP-ARITY, MAX-GROUP-COUNT}
@@ -30,6 +31,14 @@ use Rattle.words.proofs.Part.{between-join, between-none}
 use Rattle.layout.proofs.Inserting.{Inserts, inserts, merged-count, merged-length, merged-most, place-le, rising-one}
 use Rattle.layout.proofs.Fits.{IsFresh, IsOnto, Target, target, untouched-at}
 use Rattle.layout.proofs.Arrays
+
+-- what a test for the most groups told
+
+pub told-full : (m n : ℕ) (t : Bool) → t ≡ leb m n → t ≡ true → m ≤ n
+told-full m n t e h = leb-true m n (sym e ∙ h)
+
+pub told-room : (m n : ℕ) (t : Bool) → t ≡ leb m n → t ≡ false → n < m
+told-room m n t e h = leb-false m n (sym e ∙ h)
 
 -- staged kinds that fit, and room for a group
 pub group-kinds : (l : Layout) (hs : List ℕ) (x : Fit) → Fitting l hs x → l .groups < MAX-GROUP-COUNT → GroupKinds l hs

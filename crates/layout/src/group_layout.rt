@@ -2,6 +2,7 @@
 ghost use mathlib.Core.Path.{_≡_};
 ghost use mathlib.Core.List.{[]};
 ghost use Prim.Native.Nat.{_+_, _-_, _≤_, _<_};
+ghost use lib.Dec.{leb};
 ghost use lib.ListN.{length, take};
 ghost use Rattle.model.specs.Numbers.{LIST-CAPACITY, MAX-GROUP-COUNT, MAX-KINDS};
 ghost use Rattle.model.specs.Model.{mem, within, meets, sameSet, isGroup, without, common};
@@ -379,12 +380,19 @@ fn grown(l: Layout, f: usize, at: usize, staged: &[u8]) -> Layout
     filled(l, f, &all[..n], at, staged.len() as u8)
 }
 
+// Are there as many groups as there may be?
+fn has_most_groups(groups: usize) -> bool
+    ensures { λ r. ⌜ r ≡ leb MAX-GROUP-COUNT groups ⌝ }
+{
+    model::MAX_GROUP_COUNT <= groups
+}
+
 // Adds them as a family of their own, if a group more may be.
 fn add_fresh(l: Layout, staged: &[u8]) -> Answer
     requires { ⌜ Fitting l (now staged) Fit.Fresh ⌝ }
     ensures { λ r. ⌜ AddsGroup l (now (staged .entry)) r ⌝ }
 {
-    if model::MAX_GROUP_COUNT <= l.groups {
+    if has_most_groups(l.groups) {
         return Answer {
             outcome: Outcome::Many,
             layout: l,
@@ -402,7 +410,7 @@ fn add_onto(l: Layout, f: usize, at: usize, staged: &[u8]) -> Answer
     requires { ⌜ Fitting l (now staged) (Fit.Onto f at) ⌝ }
     ensures { λ r. ⌜ AddsGroup l (now (staged .entry)) r ⌝ }
 {
-    if model::MAX_GROUP_COUNT <= l.groups {
+    if has_most_groups(l.groups) {
         return Answer {
             outcome: Outcome::Many,
             layout: l,

@@ -4,7 +4,7 @@ use borrow.Author.Needs.{needs}
 use Rattle.model.specs.Adding.{added}
 use Rattle.layout.specs.ByValue.{arraysOf, ArraysSized, layoutMeaning}
 use Rattle.layout.proofs.Fits.{fit-says, fresh-many, fresh-added}
-use Rattle.layout.proofs.Adding.{group-kinds, counted-groups, fresh-ask}
+use Rattle.layout.proofs.Adding.{told-full, told-room, group-kinds, counted-groups, fresh-ask}
 use Rattle.layout.proofs.group_layout.add_fresh.Statement.{statement}
 use Rattle.layout.proofs.group_layout.add_fresh.Tie as tie
 
@@ -18,14 +18,14 @@ returns c =
     let p = s .pre in
     record {
       formed = p .formed;
-      says = sym (fresh-many (s .args .staged .now) (layoutMeaning (s .args .l)) (p .least) (p .most) (fit-says _ _ _ (p .fits)) (omega (arith, counted-groups (s .args .l) (p .formed) (sizes s), c .if1 .taken)));
+      says = sym (fresh-many (s .args .staged .now) (layoutMeaning (s .args .l)) (p .least) (p .most) (fit-says _ _ _ (p .fits)) (omega (arith, counted-groups (s .args .l) (p .formed) (sizes s), told-full _ (s .args .l .groups) _ (c .before .has-most-groups .ensures) (c .if1 .taken))));
       kept = λ n. refl;
     }
 
 fresh-requires : tie.Need-fresh-requires
 fresh-requires c κs =
     let s = c .before .before .before in
-    fresh-ask (s .args .l) (s .args .staged .now) (group-kinds _ _ _ (s .pre) (c .if1 .left)) (sizes s) (fit-says _ _ _ (s .pre .fits))
+    fresh-ask (s .args .l) (s .args .staged .now) (group-kinds _ _ _ (s .pre) (told-room _ (s .args .l .groups) _ (c .before .has-most-groups .ensures) (c .if1 .left))) (sizes s) (fit-says _ _ _ (s .pre .fits))
 
 returns-2 : tie.Need-returns-2
 returns-2 c =
@@ -34,9 +34,9 @@ returns-2 c =
     let r = c .fresh .ensures in
     record {
       formed = r .formed;
-      says = ap added (r .means) ∙ sym (fresh-added (s .args .staged .now) (layoutMeaning (s .args .l)) (p .least) (p .most) (fit-says _ _ _ (p .fits)) (omega (arith, counted-groups (s .args .l) (p .formed) (sizes s), c .before .if1 .left)));
+      says = ap added (r .means) ∙ sym (fresh-added (s .args .staged .now) (layoutMeaning (s .args .l)) (p .least) (p .most) (fit-says _ _ _ (p .fits)) (omega (arith, counted-groups (s .args .l) (p .formed) (sizes s), told-room _ (s .args .l .groups) _ (c .before .before .has-most-groups .ensures) (c .before .if1 .left))));
       kept = λ n. absurd (n refl);
     }
 
 pub add-fresh-spec : {M : Type 1} → statement M
-add-fresh-spec = tie.close (tie.spec returns fresh-requires returns-2)
+add-fresh-spec = tie.close (tie.spec (λ c κs. search needs) returns fresh-requires returns-2)
