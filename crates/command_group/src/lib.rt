@@ -5,7 +5,6 @@ use layout::group_layout::Answer;
 use layout::group_layout::Outcome;
 use model::refusals::CLASH;
 use model::refusals::MANY;
-use model::refusals::WIDE;
 ghost use Prim.Native.Nat.{_≤_};
 ghost use lib.ListN.{length};
 ghost use Rattle.model.specs.Numbers.{LIST-CAPACITY};
@@ -16,7 +15,6 @@ ghost use Rattle.memory.specs.Arranged.{Sound};
 ghost use Rattle.command.specs.Acted.{Ready, Acted};
 ghost use Rattle.command_group.specs.Drafts.{StagedBytes, Drafts};
 
-// The refusals of GROUP, by their names in 01's table.
 // The staged kinds as bytes, in the front of `kinds`. Answers how many.
 fn staged_kinds(words: &[u32], kinds: &mut [u8]) -> usize
     requires { ⌜ Sound (now words) ⌝ }
@@ -62,7 +60,6 @@ pub fn group(words: &mut [u32], out: &mut [u8], at: usize) -> usize
             control::staged::clear_staged(words);
             ack_byte(out, at, 1)
         }
-        Outcome::Wide => refuse(words, out, at, WIDE),
         Outcome::Clash => refuse(words, out, at, CLASH),
         Outcome::Many => refuse(words, out, at, MANY),
     }

@@ -1,5 +1,5 @@
 -- What GROUP answers in a sound store, by the draft's groups as sets of kinds: 14 exactly where the hand forms no layout with them, 1 exactly where it forms
--- one that is new; and the draft then has exactly one group more. Assumes nothing.
+-- one that is new and there is room; and the draft then has exactly one group more. Assumes nothing.
 use mathlib.Core.Path.{_≡_, refl, ap, sym, _∙_, subst}
 use mathlib.Core.Logic.{_↔_, _⊎_, inl, inr, ⊎-elim}
 use mathlib.Core.Bool.{Bool, true, false, true≢false}
@@ -20,13 +20,14 @@ use Rattle.model.specs.Forms.{hasGroup, SameGroups, Forms}
 use Rattle.model.specs.Theorems.{OutSound}
 use Rattle.model.proofs.BoolLaws.{bool-cases, or-cases, or-false, or-false-right, not-true, left-true, right-true}
 use Rattle.model.proofs.Lengths.{clash}
+use Rattle.model.proofs.Lines.{hand-is-narrow, staged-few, wide-never}
 use Rattle.model.proofs.Outcomes.{group-does}
 use Rattle.model.proofs.Sound.{does-sound}
 use Rattle.drafts.specs.Grouped.{ofDraft, ofDraftAndStaged, Answers, Adds, Clashing, Joining, GroupTold}
-use Rattle.drafts.proofs.Sets.{same-groups-sym, same-groups-again, group-narrow, present-has}
+use Rattle.drafts.proofs.Sets.{same-groups-sym, same-groups-again, present-has}
 use Rattle.drafts.proofs.Forming.{forms-same, layout-forms, joins-forms, withGroup-groups}
 
--- ---- the five outcomes, by the four tests
+-- ---- the outcomes of a hand that is not too wide, by the three tests
 
 module _ (s : Store) where
   abbrev tooWide : Bool
@@ -45,10 +46,6 @@ module _ (s : Store) where
   abbrev grown : Store
   grown = withControl s (withDraft (emptyStaged (s .control)) (withGroup (stagedKinds s) (s .control .draft)))
 
-  group-wide : tooWide ≡ true → does GROUP s ≡ refuses WIDE
-  unfolding addGroup
-  group-wide a = group-does s ∙ rw a
-
   group-nothing : tooWide ≡ false → idle ≡ true → does GROUP s ≡ accepts (withControl s (emptyStaged (s .control))) (0 ∷ [])
   unfolding addGroup
   group-nothing a b = group-does s ∙ rw (a, b)
@@ -64,21 +61,6 @@ module _ (s : Store) where
   group-added : tooWide ≡ false → idle ≡ false → fits ≡ true → full ≡ false → does GROUP s ≡ accepts grown (1 ∷ [])
   unfolding addGroup
   group-added a b c d = group-does s ∙ rw (a, b, c, d)
-
-  -- by the outcome
-  group-cases : {P : Type 0}
-      → (tooWide ≡ true → does GROUP s ≡ refuses WIDE → P)
-      → (tooWide ≡ false → idle ≡ true → does GROUP s ≡ accepts (withControl s (emptyStaged (s .control))) (0 ∷ []) → P)
-      → (tooWide ≡ false → idle ≡ false → fits ≡ false → does GROUP s ≡ refuses CLASH → P)
-      → (tooWide ≡ false → idle ≡ false → fits ≡ true → full ≡ true → does GROUP s ≡ refuses MANY → P)
-      → (tooWide ≡ false → idle ≡ false → fits ≡ true → full ≡ false → does GROUP s ≡ accepts grown (1 ∷ []) → P)
-      → P
-  group-cases w n c m g =
-      bool-cases tooWide (λ a. w a (group-wide a))
-      (λ a. bool-cases idle (λ b. n a b (group-nothing a b))
-      (λ b. bool-cases fits
-      (λ f. bool-cases full (λ d. m a b f d (group-many a b f d)) (λ d. g a b f d (group-added a b f d)))
-      (λ f. c a b f (group-clash a b f))))
 
 -- two outcomes that are the same, and that are not
 
@@ -119,11 +101,8 @@ module _ (s : Store) (S : StoreSound s) where
   new-of : idle s ≡ false → hasGroup (stagedKinds s) (ofDraft s) ≡ false
   new-of b = sym (present-has (stagedKinds s) (s .control .draft)) ∙ or-false-right (ltb (length (stagedKinds s)) 2) (present (stagedKinds s) (s .control .draft)) b
 
-  narrow-of : tooWide s ≡ false → length (stagedKinds s) ≤ MAX-GROUP-ARITY
-  narrow-of a = omega (arith, ltb-false MAX-GROUP-ARITY (length (stagedKinds s)) a)
-
-  of-narrow : length (stagedKinds s) ≤ MAX-GROUP-ARITY → tooWide s ≡ false
-  of-narrow h = le-ltb MAX-GROUP-ARITY (length (stagedKinds s)) h
+  narrow : tooWide s ≡ false
+  narrow = le-ltb MAX-GROUP-ARITY (length (stagedKinds s)) (hand-is-narrow (length (stagedKinds s)) (staged-few s S))
 
   of-new : 2 ≤ length (stagedKinds s) → hasGroup (stagedKinds s) (ofDraft s) ≡ false → idle s ≡ false
   of-new h n = rw (le-ltb (length (stagedKinds s)) 2 h, present-has (stagedKinds s) (s .control .draft)) n
@@ -137,21 +116,21 @@ module _ (s : Store) (S : StoreSound s) where
   of-joining : Joining s → idle s ≡ false
   of-joining j = of-new (j .two) (j .new)
 
-  joining : tooWide s ≡ false → idle s ≡ false → fits s ≡ true → Joining s
-  joining a b f = record { two = two-of b; narrow = narrow-of a; new = new-of b; forms = forms-of f }
+  joining : idle s ≡ false → fits s ≡ true → Joining s
+  joining b f = record { two = two-of b; new = new-of b; forms = forms-of f }
 
-  -- 13: a hand of more kinds than a group may have
-  pub wide-exactly : (does GROUP s ≡ refuses WIDE) ↔ (MAX-GROUP-ARITY < length (stagedKinds s))
-  wide-exactly = (to, λ h. group-wide s (lt-ltb MAX-GROUP-ARITY (length (stagedKinds s)) h))
-    where
-      to : does GROUP s ≡ refuses WIDE → MAX-GROUP-ARITY < length (stagedKinds s)
-      to o =
-          group-cases s
-          (λ a e. ltb-true MAX-GROUP-ARITY (length (stagedKinds s)) a)
-          (λ a b e. absurd (clash (does GROUP s) WIDE _ _ o e))
-          (λ a b f e. absurd (other-refusal (does GROUP s) WIDE CLASH (λ x. omega arith) o e))
-          (λ a b f d e. absurd (other-refusal (does GROUP s) WIDE MANY (λ x. omega arith) o e))
-          (λ a b f d e. absurd (clash (does GROUP s) WIDE _ _ o e))
+  -- by the outcome; 13 is none (`wide-never`)
+  group-cases : {P : Type 0}
+      → (idle s ≡ true → does GROUP s ≡ accepts (withControl s (emptyStaged (s .control))) (0 ∷ []) → P)
+      → (idle s ≡ false → fits s ≡ false → does GROUP s ≡ refuses CLASH → P)
+      → (idle s ≡ false → fits s ≡ true → full s ≡ true → does GROUP s ≡ refuses MANY → P)
+      → (idle s ≡ false → fits s ≡ true → full s ≡ false → does GROUP s ≡ accepts (grown s) (1 ∷ []) → P)
+      → P
+  group-cases n c m g =
+      bool-cases (idle s) (λ b. n b (group-nothing s narrow b))
+      (λ b. bool-cases (fits s)
+      (λ f. bool-cases (full s) (λ d. m b f d (group-many s narrow b f d)) (λ d. g b f d (group-added s narrow b f d)))
+      (λ f. c b f (group-clash s narrow b f)))
 
   -- 14: the hand forms no layout with the draft's groups. A small hand is answered 0, and so is one that is a group already.
   pub clash-exactly : (does GROUP s ≡ refuses CLASH) ↔ Clashing s
@@ -159,71 +138,63 @@ module _ (s : Store) (S : StoreSound s) where
     where
       to : does GROUP s ≡ refuses CLASH → Clashing s
       to o =
-          group-cases s
-          (λ a e. absurd (other-refusal (does GROUP s) CLASH WIDE (λ x. omega arith) o e))
-          (λ a b e. absurd (clash (does GROUP s) CLASH _ _ o e))
-          (λ a b f e. record { two = two-of b; narrow = narrow-of a; none = λ F. true≢false (sym (joins-of F) ∙ f) })
-          (λ a b f d e. absurd (other-refusal (does GROUP s) CLASH MANY (λ x. omega arith) o e))
-          (λ a b f d e. absurd (clash (does GROUP s) CLASH _ _ o e))
+          group-cases
+          (λ b e. absurd (clash (does GROUP s) CLASH _ _ o e))
+          (λ b f e. record { two = two-of b; none = λ F. true≢false (sym (joins-of F) ∙ f) })
+          (λ b f d e. absurd (other-refusal (does GROUP s) CLASH MANY (λ x. omega arith) o e))
+          (λ b f d e. absurd (clash (does GROUP s) CLASH _ _ o e))
 
       from : Clashing s → does GROUP s ≡ refuses CLASH
       from c =
-          group-clash s (of-narrow (c .narrow))
+          group-clash s narrow
           (of-new (c .two) (not-true (hasGroup (stagedKinds s) (ofDraft s)) (λ i. c .none (again-forms i))))
           (not-true (joins (stagedKinds s) (s .control .draft)) (λ j. c .none (forms-of j)))
 
   -- 15: it would be added, and the draft is full
   pub many-exactly : (does GROUP s ≡ refuses MANY) ↔ (Joining s × (MAX-GROUP-COUNT ≤ groupsOf (s .control .draft)))
-  many-exactly = (to, λ j. group-many s (of-narrow (j .0 .narrow)) (of-joining (j .0)) (joins-of (j .0 .forms)) (le-leb MAX-GROUP-COUNT (groupsOf (s .control .draft)) (j .1)))
+  many-exactly = (to, λ j. group-many s narrow (of-joining (j .0)) (joins-of (j .0 .forms)) (le-leb MAX-GROUP-COUNT (groupsOf (s .control .draft)) (j .1)))
     where
       to : does GROUP s ≡ refuses MANY → Joining s × (MAX-GROUP-COUNT ≤ groupsOf (s .control .draft))
       to o =
-          group-cases s
-          (λ a e. absurd (other-refusal (does GROUP s) MANY WIDE (λ x. omega arith) o e))
-          (λ a b e. absurd (clash (does GROUP s) MANY _ _ o e))
-          (λ a b f e. absurd (other-refusal (does GROUP s) MANY CLASH (λ x. omega arith) o e))
-          (λ a b f d e. (joining a b f, leb-true MAX-GROUP-COUNT (groupsOf (s .control .draft)) d))
-          (λ a b f d e. absurd (clash (does GROUP s) MANY _ _ o e))
+          group-cases
+          (λ b e. absurd (clash (does GROUP s) MANY _ _ o e))
+          (λ b f e. absurd (other-refusal (does GROUP s) MANY CLASH (λ x. omega arith) o e))
+          (λ b f d e. (joining b f, leb-true MAX-GROUP-COUNT (groupsOf (s .control .draft)) d))
+          (λ b f d e. absurd (clash (does GROUP s) MANY _ _ o e))
 
   -- 1: it is added
   pub added-exactly : Answers s 1 ↔ (Joining s × (groupsOf (s .control .draft) < MAX-GROUP-COUNT))
-  added-exactly = (to, λ j. record { store = grown s; outcome = group-added s (of-narrow (j .0 .narrow)) (of-joining (j .0)) (joins-of (j .0 .forms)) (lt-leb MAX-GROUP-COUNT (groupsOf (s .control .draft)) (j .1)) })
+  added-exactly = (to, λ j. record { store = grown s; outcome = group-added s narrow (of-joining (j .0)) (joins-of (j .0 .forms)) (lt-leb MAX-GROUP-COUNT (groupsOf (s .control .draft)) (j .1)) })
     where
       to : Answers s 1 → Joining s × (groupsOf (s .control .draft) < MAX-GROUP-COUNT)
       to x =
-          group-cases s
-          (λ a e. absurd (clash (does GROUP s) WIDE _ _ e (x .outcome)))
-          (λ a b e. absurd (other-answer (does GROUP s) _ _ 1 0 (λ z. omega arith) (x .outcome) e))
-          (λ a b f e. absurd (clash (does GROUP s) CLASH _ _ e (x .outcome)))
-          (λ a b f d e. absurd (clash (does GROUP s) MANY _ _ e (x .outcome)))
-          (λ a b f d e. (joining a b f, omega (arith, leb-false MAX-GROUP-COUNT (groupsOf (s .control .draft)) d)))
+          group-cases
+          (λ b e. absurd (other-answer (does GROUP s) _ _ 1 0 (λ z. omega arith) (x .outcome) e))
+          (λ b f e. absurd (clash (does GROUP s) CLASH _ _ e (x .outcome)))
+          (λ b f d e. absurd (clash (does GROUP s) MANY _ _ e (x .outcome)))
+          (λ b f d e. (joining b f, omega (arith, leb-false MAX-GROUP-COUNT (groupsOf (s .control .draft)) d)))
 
   -- 0: "A new group of fewer than two kinds, or equal to one present, adds nothing."
   pub nothing-exactly : Answers s 0 ↔ ((length (stagedKinds s) < 2) ⊎ (hasGroup (stagedKinds s) (ofDraft s) ≡ true))
-  nothing-exactly = (to, λ h. record { store = withControl s (emptyStaged (s .control)); outcome = group-nothing s (of-narrow (fine h)) (of-small h) })
+  nothing-exactly = (to, λ h. record { store = withControl s (emptyStaged (s .control)); outcome = group-nothing s narrow (of-small h) })
     where
-      fine : (length (stagedKinds s) < 2) ⊎ (hasGroup (stagedKinds s) (ofDraft s) ≡ true) → length (stagedKinds s) ≤ MAX-GROUP-ARITY
-      fine = ⊎-elim (λ h. omega arith) (group-narrow (stagedKinds s) (s .control .draft) (S .staged .once) (S .draft .families))
-
       to : Answers s 0 → (length (stagedKinds s) < 2) ⊎ (hasGroup (stagedKinds s) (ofDraft s) ≡ true)
       to x =
-          group-cases s
-          (λ a e. absurd (clash (does GROUP s) WIDE _ _ e (x .outcome)))
-          (λ a b e. or-cases (ltb (length (stagedKinds s)) 2) (present (stagedKinds s) (s .control .draft)) b (λ t. inl (ltb-true (length (stagedKinds s)) 2 t)) (λ t. inr (sym (present-has (stagedKinds s) (s .control .draft)) ∙ t)))
-          (λ a b f e. absurd (clash (does GROUP s) CLASH _ _ e (x .outcome)))
-          (λ a b f d e. absurd (clash (does GROUP s) MANY _ _ e (x .outcome)))
-          (λ a b f d e. absurd (other-answer (does GROUP s) _ _ 0 1 (λ z. omega arith) (x .outcome) e))
+          group-cases
+          (λ b e. or-cases (ltb (length (stagedKinds s)) 2) (present (stagedKinds s) (s .control .draft)) b (λ t. inl (ltb-true (length (stagedKinds s)) 2 t)) (λ t. inr (sym (present-has (stagedKinds s) (s .control .draft)) ∙ t)))
+          (λ b f e. absurd (clash (does GROUP s) CLASH _ _ e (x .outcome)))
+          (λ b f d e. absurd (clash (does GROUP s) MANY _ _ e (x .outcome)))
+          (λ b f d e. absurd (other-answer (does GROUP s) _ _ 0 1 (λ z. omega arith) (x .outcome) e))
 
   -- the draft has one group more
   pub group-adds : (s′ : Store) → does GROUP s ≡ accepts s′ (1 ∷ []) → Adds s s′
   group-adds s′ o =
       let S′ : StoreSound s′ = subst OutSound o (does-sound GROUP s tt S) in
-      group-cases s
-      (λ a e. absurd (clash (does GROUP s) WIDE _ _ e o))
-      (λ a b e. absurd (other-answer (does GROUP s) _ _ 1 0 (λ z. omega arith) o e))
-      (λ a b f e. absurd (clash (does GROUP s) CLASH _ _ e o))
-      (λ a b f d e. absurd (clash (does GROUP s) MANY _ _ e o))
-      (λ a b f d e.
+      group-cases
+      (λ b e. absurd (other-answer (does GROUP s) _ _ 1 0 (λ z. omega arith) o e))
+      (λ b f e. absurd (clash (does GROUP s) CLASH _ _ e o))
+      (λ b f d e. absurd (clash (does GROUP s) MANY _ _ e o))
+      (λ b f d e.
       let same : grown s ≡ s′ = cc in
       record {
         groups = subst (λ (t : Store). SameGroups (ofDraft t) (ofDraftAndStaged s)) same (withGroup-groups (stagedKinds s) (s .control .draft) f);
@@ -236,7 +207,7 @@ module _ (s : Store) (S : StoreSound s) where
   refused-told : (n : ℕ) (rest : List ℕ) → (n ≡ 0 → ⊥) → does GROUP s ≡ refuses n → GroupTold s (storeAfter s (refuses n)) (n ∷ rest)
   refused-told n rest some e =
       record {
-        wide = byte WIDE wide-exactly;
+        wide = λ q. wide-never GROUP s S (e ∙ ap refuses (head-eq-of-cons-eq q));
         clashes = byte CLASH clash-exactly;
         many = byte MANY many-exactly;
         added = ((λ q. absurd (some (head-eq-of-cons-eq q))), (λ j. absurd (clash (does GROUP s) n _ _ e (added-exactly .1 j .outcome))));
@@ -253,7 +224,7 @@ module _ (s : Store) (S : StoreSound s) where
   accepted-told s′ a rest kept emptied e =
       let one : a ≡ 1 → does GROUP s ≡ accepts s′ (1 ∷ []) = λ q. e ∙ ap (λ (x : ℕ). accepts s′ (x ∷ [])) q in
       record {
-        wide = other WIDE (omega arith) wide-exactly;
+        wide = λ q. zero-not WIDE (omega arith) (head-eq-of-cons-eq q);
         clashes = other CLASH (omega arith) clash-exactly;
         many = other MANY (omega arith) many-exactly;
         added = ((λ q. added-exactly .0 (record { store = s′; outcome = one (second q) })), (λ j. byte (same-answer (does GROUP s) _ _ a 1 e (added-exactly .1 j .outcome))));
@@ -274,12 +245,11 @@ module _ (s : Store) (S : StoreSound s) where
 
   pub group-told : (rest : List ℕ) → GroupTold s (storeAfter s (does GROUP s)) (answerOf (does GROUP s) ++ rest)
   group-told rest =
-      group-cases s
-      (λ a e. of e (refused-told WIDE rest (λ z. omega arith) e))
-      (λ a b e. of e (accepted-told (withControl s (emptyStaged (s .control))) 0 rest (λ n. refl) refl e))
-      (λ a b f e. of e (refused-told CLASH rest (λ z. omega arith) e))
-      (λ a b f d e. of e (refused-told MANY rest (λ z. omega arith) e))
-      (λ a b f d e. of e (accepted-told (grown s) 1 rest (λ n. absurd (n refl)) refl e))
+      group-cases
+      (λ b e. of e (accepted-told (withControl s (emptyStaged (s .control))) 0 rest (λ n. refl) refl e))
+      (λ b f e. of e (refused-told CLASH rest (λ z. omega arith) e))
+      (λ b f d e. of e (refused-told MANY rest (λ z. omega arith) e))
+      (λ b f d e. of e (accepted-told (grown s) 1 rest (λ n. absurd (n refl)) refl e))
     where
       of : {x : Outcome} → does GROUP s ≡ x → GroupTold s (storeAfter s x) (answerOf x ++ rest) → GroupTold s (storeAfter s (does GROUP s)) (answerOf (does GROUP s) ++ rest)
       of e t = subst (λ (x : Outcome). GroupTold s (storeAfter s x) (answerOf x ++ rest)) (sym e) t

@@ -33,8 +33,8 @@ drafted (h ∷ hs) fs = andThen (addGroup h fs) fs (drafted hs)
 abbrev pub Small : List ℕ → Type 0
 Small ks = (k : ℕ) → In ks k → k < MAX-KINDS
 
--- "hand, bar .. of registered kinds, such as commands can build": distinct kinds. However many: a hand of
--- fewer than two kinds is one, and so is a hand of more than a group may have
+-- "hand, bar .. of registered kinds, such as commands can build": distinct kinds. The theorems need no bound on how many: fewer than two, or more than a
+-- hand can have, are let in
 pub record StagedKindsSound (kinds h : List ℕ) : Type 0 where
   pub once : Distinct h
   pub known : (k : ℕ) → In h k → In kinds k

@@ -5,7 +5,7 @@ use mathlib.Core.Bool.{true, false}
 use mathlib.Core.List.{List, [], _∷_}
 use Prim.Native.Nat.{ℕ, _≤_, _<_}
 use lib.ListN.{length, take}
-use Rattle.model.specs.Numbers.{CLASH, MANY, MAX-GROUP-ARITY, MAX-GROUP-COUNT, WIDE}
+use Rattle.model.specs.Numbers.{CLASH, MANY, MAX-GROUP-COUNT, WIDE}
 use Rattle.model.specs.Model.{groupsOf}
 use Rattle.model.specs.Store.{Store, stagedKinds}
 use Rattle.model.specs.Commands.{GROUP}
@@ -32,23 +32,21 @@ pub record Adds (s s′ : Store) : Type 0 where
   pub sound : DraftSound (s′ .kinds) (s′ .control .draft)
   pub emptied : s′ .control .staged ≡ []
 
--- a hand of two kinds or more, 15 at most, that with the draft's groups forms no layout
+-- a hand of two kinds or more that with the draft's groups forms no layout
 pub record Clashing (s : Store) : Type 0 where
   pub two : 2 ≤ length (stagedKinds s)
-  pub narrow : length (stagedKinds s) ≤ MAX-GROUP-ARITY
   pub none : Forms (ofDraftAndStaged s) → ⊥
 
 -- one that forms a layout with them and is none of them
 pub record Joining (s : Store) : Type 0 where
   pub two : 2 ≤ length (stagedKinds s)
-  pub narrow : length (stagedKinds s) ≤ MAX-GROUP-ARITY
   pub new : hasGroup (stagedKinds s) (ofDraft s) ≡ false
   pub forms : Forms (ofDraftAndStaged s)
 
 -- what GROUP tells and does in the store s: l are the run's answer bytes from its own on, s′ is the store after it. "1 added or 0 nothing added" after a 0
--- byte, or the number of the refusal; "03 to 06, 09 and 0C, when accepted, empty the hand"
+-- byte, or the number of the refusal, of which 13 is none (02, No. 3: "WIDE then never occurs"); "03 to 06, 09 and 0C, when accepted, empty the hand"
 pub record GroupTold (s s′ : Store) (l : List ℕ) : Type 0 where
-  pub wide : (take 1 l ≡ WIDE ∷ []) ↔ (MAX-GROUP-ARITY < length (stagedKinds s))
+  pub wide : take 1 l ≡ WIDE ∷ [] → ⊥
   pub clashes : (take 1 l ≡ CLASH ∷ []) ↔ Clashing s
   pub many : (take 1 l ≡ MANY ∷ []) ↔ (Joining s × (MAX-GROUP-COUNT ≤ groupsOf (s .control .draft)))
   pub added : (take 2 l ≡ 0 ∷ 1 ∷ []) ↔ (Joining s × (groupsOf (s .control .draft) < MAX-GROUP-COUNT))

@@ -4,7 +4,7 @@ use mathlib.Core.Logic.{_≢_}
 use mathlib.Core.List.{List, [], _∷_}
 use Prim.Native.Nat.{ℕ, _+_, _-_, _≤_, _<_, max}
 use lib.ListN.{length, getD}
-use Rattle.model.specs.Numbers.{MAX-GROUP-COUNT}
+use Rattle.model.specs.Numbers.{MAX-GROUP-ARITY, MAX-GROUP-COUNT}
 use Rattle.words.specs.Offsets.{GROUP-PLACES}
 use Rattle.masks.specs.Masks.{bitsOf, upFrom, unionOf}
 use Rattle.group_info.specs.declared.GroupInfo.{GroupInfo}
@@ -77,7 +77,7 @@ ViewAdded (query.Many i) v r = BothAdded (info.Info i) (v .info) r
 pub record GroupsInside (ars : List ℕ) (i : GroupInfo) : Type 0 where
   pub low : i .«group_start» < i .«group_end»
   pub high : i .«group_end» ≤ MAX-GROUP-COUNT
-  pub small : (g : ℕ) → i .«group_start» ≤ g → g < i .«group_end» → getD ars g 0 < 16
+  pub small : (g : ℕ) → i .«group_start» ≤ g → g < i .«group_end» → getD ars g 0 ≤ MAX-GROUP-ARITY
   pub rising : (g : ℕ) → i .«group_start» < g → g < i .«group_end» → getD ars (g - 1) 0 ≤ getD ars g 0
 
 -- so where there is an info

@@ -10,7 +10,7 @@ use native.Mathlib.Omega.{arith}
 use borrow.Author.Tests.{eqb-true, eqb-false, lt-ltb, le-ltb, le-leb, lt-leb}
 use lib.Dec.{eqb, leb, eqb·suc-zero, eqb·suc-suc}
 use lib.ListN.{length, getD, set}
-use Rattle.model.specs.Numbers.{CLASH, MANY, MAX-GROUP-ARITY, MAX-GROUP-COUNT, WIDE}
+use Rattle.model.specs.Numbers.{CLASH, MANY, MAX-GROUP-ARITY, MAX-GROUP-COUNT}
 use Rattle.model.specs.Model.{Family, meets, kindsOf, groupsOf, isGroup, present, touched, chains, chained, newGroup, familyWith, familiesWith, joins}
 use Rattle.model.specs.Adding.{nothing, added, refused, addGroup}
 use Rattle.model.proofs.BoolLaws.{above, bool-cases, or-false, or-false-right}
@@ -154,10 +154,6 @@ module _ (ks : List ℕ) (fs : List Family) where
   pub add-small : length ks < 2 → addGroup ks fs ≡ nothing
   unfolding addGroup
   add-small h = rw (le-ltb MAX-GROUP-ARITY (length ks) (omega arith), lt-ltb (length ks) 2 h)
-
-  pub add-wide : MAX-GROUP-ARITY < length ks → addGroup ks fs ≡ refused WIDE
-  unfolding addGroup
-  add-wide h = rw (lt-ltb MAX-GROUP-ARITY (length ks) h)
 
   module _ (lo : 2 ≤ length ks) (hi : length ks ≤ MAX-GROUP-ARITY) where
     pub add-present : present ks fs ≡ true → addGroup ks fs ≡ nothing

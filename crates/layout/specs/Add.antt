@@ -3,7 +3,7 @@ use mathlib.Core.Path.{_≡_}
 use mathlib.Core.List.{List}
 use Prim.Native.Nat.{ℕ, _≤_}
 use lib.ListN.{length}
-use Rattle.model.specs.Numbers.{CLASH, MANY, MAX-GROUP-ARITY, WIDE}
+use Rattle.model.specs.Numbers.{CLASH, MANY, MAX-GROUP-ARITY}
 use Rattle.model.specs.Model.{Family}
 use Rattle.model.specs.Adding.{Added, nothing, added, refused, addGroup}
 use Rattle.layout.specs.Layout.{KindSet}
@@ -16,11 +16,10 @@ use Rattle.layout.specs.declared.group_layout.Answer.{Answer}
 use Rattle.layout.specs.declared.group_layout.Outcome.{Outcome}
 use Rattle.layout.specs.declared.group_layout.Outcome.the-variants as outcome
 
--- the number of the refusal (01: WIDE, CLASH, MANY), 0 where the command is accepted
+-- the number of the refusal (01: CLASH, MANY), 0 where the command is accepted
 abbrev pub refusalOf : Outcome → ℕ
 refusalOf outcome.Nothing = 0
 refusalOf outcome.Added = 0
-refusalOf outcome.Wide = WIDE
 refusalOf outcome.Clash = CLASH
 refusalOf outcome.Many = MANY
 
@@ -29,11 +28,10 @@ refusalOf outcome.Many = MANY
 abbrev pub modelOf : Outcome → List Family → Added
 modelOf outcome.Nothing fs = nothing
 modelOf outcome.Added fs = added fs
-modelOf outcome.Wide fs = refused (refusalOf outcome.Wide)
 modelOf outcome.Clash fs = refused (refusalOf outcome.Clash)
 modelOf outcome.Many fs = refused (refusalOf outcome.Many)
 
--- the staged kinds, two to fifteen of them, stand so to the layout's families
+-- the staged kinds, two to sixteen of them, stand so to the layout's families
 pub record Fitting (l : Layout) (staged : List ℕ) (x : Fit) : Type 0 where
   pub formed : Formed l
   pub kinds : KindSet staged

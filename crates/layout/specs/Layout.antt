@@ -71,7 +71,7 @@ unfoldable pub AritiesRising : ℕ → ℕ → List ℕ → Type 0
 AritiesRising b n [] = b ≡ n
 AritiesRising b n (a ∷ rest) = (b < a) × AritiesRising a n rest
 
--- 2 to 15 kinds; the first group has 2 or more, the last has all
+-- 2 to 16 kinds; the first group has 2 or more, the last has all
 pub record FamilyFormed (a : Arrays) (f : ℕ) : Type 0 where
   pub least : startOf (a .kindEnds) f + 2 ≤ getD (a .kindEnds) f 0
   pub most : getD (a .kindEnds) f 0 ≤ startOf (a .kindEnds) f + MAX-GROUP-ARITY

@@ -49,7 +49,6 @@ pub enum Fit {
 pub enum Outcome {
     Nothing,
     Added,
-    Wide,
     Clash,
     Many,
 }
@@ -423,7 +422,7 @@ fn add_onto(l: Layout, f: usize, at: usize, staged: &[u8]) -> Answer
     }
 }
 
-// Adds a group of the staged kinds.
+// Adds a group of the staged kinds, which are no more than a group may have.
 pub fn add_group(l: Layout, staged: &[u8]) -> Answer
     requires { ⌜ Formed l × KindSet (now staged) × (length (now staged) ≤ LIST-CAPACITY) ⌝ }
     ensures { λ r. ⌜ AddsGroup l (now (staged .entry)) r ⌝ }
@@ -431,12 +430,6 @@ pub fn add_group(l: Layout, staged: &[u8]) -> Answer
     if staged.len() < 2 {
         return Answer {
             outcome: Outcome::Nothing,
-            layout: l,
-        };
-    }
-    if model::MAX_GROUP_ARITY < staged.len() {
-        return Answer {
-            outcome: Outcome::Wide,
             layout: l,
         };
     }

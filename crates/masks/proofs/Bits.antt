@@ -5,7 +5,6 @@ use mathlib.Core.List.{List, [], _∷_}
 use Prim.Native.Nat.{ℕ, zero, suc, _+_, _-_, _*_, _/_, _%_, _^_, _≤_, _<_}
 use native.Mathlib.Nat.{add-zero, add-suc, suc-add, zero-add, one-mul}
 use native.Mathlib.Omega.{arith}
-use lib.Pow.{pow-pos}
 use lib.Bits.{bitAnd, bitOr}
 use Rattle.masks.specs.Masks.{putIf, positions, bitsOf, upFrom, has, keepIf, keep, isBetween, unionOf, commonOf, skipping, Ordered}
 use Rattle.masks.proofs.Digits.{isSet, hasBit, span, restOf, has-or, has-and, has-span, has-rest, same-bits, shl-one, span-shifted}
@@ -59,14 +58,15 @@ no-bits (suc w) p = no-bits w (suc p)
 pub bits-span : (w a b : ℕ) → a ≤ b → b ≤ w → bitsOf w (span a b) ≡ upFrom a (b - a)
 bits-span w a b h l = bits-by w (span a b) (isBetween a b) (λ i k. has-span a b i) ∙ keep-between w a b h l
 
--- the shift of `from_to` is 1 or more, so that 1 may be taken away
-pub shifted-pos : (w a b : ℕ) → Ordered w a b → 1 ≤ (1 * 2 ^ (b - a)) % 2 ^ w
-shifted-pos w a b o = rw (shl-one w (b - a) (omega arith)) (pow-pos (b - a))
-
--- what `from_to` computes
-pub bits-from-to : (w a b : ℕ) → Ordered w a b → bitsOf w ((((1 * 2 ^ (b - a)) % 2 ^ w - 1) * 2 ^ a) % 2 ^ w) ≡ upFrom a (b - a)
+-- what `from_to` computes: w ones, shifted right by those too many, and then to their place
+pub bits-from-to : (w a b : ℕ) → Ordered w a b → bitsOf w (((2 ^ w - 1) / 2 ^ (w - (b - a)) * 2 ^ a) % 2 ^ w) ≡ upFrom a (b - a)
 bits-from-to w a b o =
-    ap (bitsOf w) (span-shifted w a b (o .rising) (o .inside)) ∙ bits-span w a b (o .rising) (omega arith)
+    ap (bitsOf w) (span-shifted w a b (o .rising) (o .inside)) ∙ bits-span w a b (o .rising) (o .inside)
+
+-- and where there are none
+pub bits-empty : (w a b : ℕ) → a ≡ b → bitsOf w 0 ≡ upFrom a (b - a)
+unfolding upFrom
+bits-empty w a b e = let z : b - a ≡ 0 = omega arith in rw z (no-bits w 0)
 
 -- what `single` computes
 pub bits-single : (w i : ℕ) → i < w → bitsOf w ((1 * 2 ^ i) % 2 ^ w) ≡ i ∷ []

@@ -2,11 +2,11 @@
 use mathlib.Core.Path.{_≡_, refl, sym, ap, ap₂, _∙_}
 use mathlib.Core.Logic.{_⊎_, inl, inr, ⊎-elim}
 use mathlib.Core.Bool.{Bool, true, false, not, _&&_, _||_, false≢true}
-use Prim.Native.Nat.{ℕ, zero, suc, _-_, _*_, _/_, _%_, _^_, _≤_, _<_, zero-le, min, max}
+use Prim.Native.Nat.{ℕ, zero, suc, _+_, _-_, _*_, _/_, _%_, _^_, _≤_, _<_, zero-le, min, max}
 use native.Mathlib.Nat.{one-mul, pow-succ', mod-lt, mul-one, suc-sub-suc, zero-sub, mul-left-comm, zero-mul, sub-zero}
 use native.Mathlib.Omega.{arith}
 use lib.Dec.{ltb, leb·zero, leb·suc-zero, leb·suc-suc, lit<}
-use lib.Pow.{pow-pos, shl-exact, ones-lt}
+use lib.Pow.{pow-pos, shl-exact, ones-lt, ones-split, high}
 use lib.Bits.{bitAnd, bitOr, and-step, or-step}
 use Rattle.masks.specs.Masks.{isBetween}
 use Rattle.masks.proofs.Lists.{between-high}
@@ -41,9 +41,15 @@ digit n = go (n % 2) (mod-lt n (lit< tt))
 pub shl-one : (w k : ℕ) → k < w → (1 * 2 ^ k) % 2 ^ w ≡ 2 ^ k
 shl-one w k h = shl-exact 1 k w (lit< tt) (omega arith) ∙ one-mul (2 ^ k)
 
-pub span-shifted : (w a b : ℕ) → a ≤ b → b < w → (((1 * 2 ^ (b - a)) % 2 ^ w - 1) * 2 ^ a) % 2 ^ w ≡ span a b
+-- the n lowest of w ones
+low-ones : (w n : ℕ) → n ≤ w → (2 ^ w - 1) / 2 ^ (w - n) ≡ 2 ^ n - 1
+low-ones w n h =
+    let e : w ≡ n + (w - n) = omega arith in
+    ap (λ (x : ℕ). (2 ^ x - 1) / 2 ^ (w - n)) e ∙ ap (λ (x : ℕ). x / 2 ^ (w - n)) (ones-split n (w - n)) ∙ high (2 ^ n - 1) (w - n) (ones-lt (w - n))
+
+pub span-shifted : (w a b : ℕ) → a ≤ b → b ≤ w → ((2 ^ w - 1) / 2 ^ (w - (b - a)) * 2 ^ a) % 2 ^ w ≡ span a b
 span-shifted w a b l h =
-    rw (shl-one w (b - a) (omega arith)) (shl-exact (b - a) a w (ones-lt (b - a)) (omega arith))
+    rw (low-ones w (b - a) (omega arith)) (shl-exact (b - a) a w (ones-lt (b - a)) (omega arith))
 
 -- ---- union and intersection
 

@@ -1,7 +1,7 @@
 -- A mask is a number; what it means is the rising list of the positions of its set bits, and the operations are told on such lists.
 use mathlib.Core.Bool.{Bool, true, false, not, _&&_, _||_}
 use mathlib.Core.List.{List, [], _∷_}
-use Prim.Native.Nat.{ℕ, zero, suc, _/_, _%_, _≤_, _<_}
+use Prim.Native.Nat.{ℕ, zero, suc, _/_, _%_, _≤_}
 use lib.Dec.{eqb, leb, ltb}
 
 -- p in front, where the binary digit is 1
@@ -53,7 +53,7 @@ commonOf xs ys = keep (λ i. has i ys) xs
 abbrev pub skipping : ℕ → ℕ → ℕ → List ℕ
 skipping w a b = keep (λ i. not (isBetween a b i)) (upFrom 0 w)
 
--- what `from_to` asserts of its ends
+-- what the mask makers ask of their ends; 02, No. 3: "Masks must be built up to and including the end of their width"
 pub record Ordered (w from to : ℕ) : Type 0 where
   pub rising : from ≤ to
-  pub inside : to < w
+  pub inside : to ≤ w

@@ -1,12 +1,14 @@
 // One bit a group of the layout, and the walk over the set bits from either end.
 ghost use mathlib.Core.Path.{_≡_};
 ghost use mathlib.Core.List.{[]};
-ghost use Prim.Native.Nat.{_-_, _<_};
+ghost use Prim.Native.Nat.{_-_, _≤_};
 ghost use Rattle.masks.specs.Masks.{bitsOf, upFrom, unionOf, commonOf, skipping, Ordered};
 ghost use Rattle.masks.specs.Walk.{Lowest, Highest, Asks};
 use crate::storage_mask::StorageMask;
 
 pub struct GroupMask(pub u64);
+
+const ALL_BITS: u64 = 0xffff_ffff_ffff_ffff;
 
 // A step of the walk: a position and the mask without it, or the end.
 pub enum NextBit {
@@ -21,15 +23,18 @@ impl GroupMask {
         GroupMask(0)
     }
 
-    // The bits from to to - 1.
+    // The bits `from` to `to` - 1. There is no shift by the whole width, so the empty run is a case of its own.
     pub fn from_to(from: usize, to: usize) -> GroupMask
         requires { ⌜ Ordered 64 from to ⌝ }
         ensures { λ r. ⌜ bitsOf 64 (r .0) ≡ upFrom from (to - from) ⌝ }
     {
-        GroupMask(((1 << (to - from)) - 1) << from)
+        if from == to {
+            return GroupMask(0);
+        }
+        GroupMask((ALL_BITS >> (64 - (to - from))) << from)
     }
 
-    // All but the bits from to to - 1.
+    // All but the bits `from` to `to` - 1.
     pub fn skip_from_to(from: usize, to: usize) -> GroupMask
         requires { ⌜ Ordered 64 from to ⌝ }
         ensures { λ r. ⌜ bitsOf 64 (r .0) ≡ skipping 64 from to ⌝ }
@@ -84,7 +89,7 @@ pub struct QueryMask {
 impl QueryMask {
     // A group's kinds, and nothing excluded.
     pub fn include(arity: usize) -> QueryMask
-        requires { ⌜ arity < 16 ⌝ }
+        requires { ⌜ arity ≤ 16 ⌝ }
         ensures { λ r. ⌜ Asks r (upFrom 0 arity) [] ⌝ }
     {
         let include = StorageMask::from_to(0, arity);

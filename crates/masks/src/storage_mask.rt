@@ -6,6 +6,8 @@ ghost use Rattle.masks.specs.Masks.{bitsOf, upFrom, unionOf, Ordered};
 
 pub struct StorageMask(pub u16);
 
+const ALL_BITS: u16 = 0xffff;
+
 impl StorageMask {
     pub fn empty() -> StorageMask
         ensures { λ r. ⌜ bitsOf 16 (r .0) ≡ [] ⌝ }
@@ -13,12 +15,15 @@ impl StorageMask {
         StorageMask(0)
     }
 
-    // The bits from to to - 1.
+    // The bits `from` to `to` - 1; the empty run is a case of its own, as in a group mask.
     pub fn from_to(from: usize, to: usize) -> StorageMask
         requires { ⌜ Ordered 16 from to ⌝ }
         ensures { λ r. ⌜ bitsOf 16 (r .0) ≡ upFrom from (to - from) ⌝ }
     {
-        StorageMask(((1 << (to - from)) - 1) << from)
+        if from == to {
+            return StorageMask(0);
+        }
+        StorageMask((ALL_BITS >> (16 - (to - from))) << from)
     }
 
     pub fn single(index: usize) -> StorageMask

@@ -6,13 +6,15 @@ use mathlib.Core.Option.{Option, some, none}
 use mathlib.Core.List.{List, [], _∷_, _++_}
 use Prim.Native.Nat.{ℕ, suc, _≤_}
 use native.Mathlib.Omega.{arith}
-use borrow.Author.Tests.{lt-ltb, le-ltb}
-use lib.ListN.{take}
-use Rattle.model.specs.Numbers.{KIND, MANY, MAX-REFUSALS, NOROOM, UNKNOWN}
-use Rattle.model.specs.Store.{Store}
+use borrow.Author.Tests.{ltb-true, lt-ltb, le-ltb}
+use lib.ListN.{length, take, length-map}
+use Rattle.model.specs.Numbers.{KIND, LIST-CAPACITY, MANY, MAX-GROUP-ARITY, MAX-REFUSALS, NOROOM, UNKNOWN, WIDE}
+use Rattle.model.specs.Model.{kindOf}
+use Rattle.model.specs.Store.{Store, stagedKinds}
 use Rattle.model.specs.Commands.{Command, REG, HOLD, NEW, PUT, TAKE, DROP, KILL, WIPE, GROUP, APPLY, BAR, RANGE, EMPTY, TALLY, Done, accepted, width, commandAt}
 use Rattle.model.specs.Refusals.{Line, firstLine, NoneHolds, First, linesOf, beforeLines}
 use Rattle.model.specs.Run.{Outcome, refuses, accepts, outcome, does, Step, stops, storeAfter, stepOf, stepIf, step}
+use Rattle.model.specs.Sound.{StoreSound}
 use Rattle.model.proofs.BoolLaws.{bool-cases}
 use Rattle.model.specs.Theorems.{RefusedStep}
 
@@ -120,6 +122,52 @@ lines-numbers TALLY = tt
 pub refusal-number : (c : Command) (s : Store) (n : ℕ) → does c s ≡ refuses n → (KIND ≤ n) × (n ≤ MANY)
 unfolding does
 refusal-number c s n e = first-number (linesOf c) s KIND MANY n (lines-numbers c) (outcome-refuses (firstLine (linesOf c) s) (accepted c s) n e)
+
+-- ---- 13 WIDE
+
+-- no line of the number n holds
+abbrev NoneBy : {A : Type 0} → ℕ → List (Line A) → A → Type 0
+NoneBy n [] a = Unit {0}
+NoneBy n (l ∷ ls) a = (l .number ≡ n → l .holds a ≡ true → ⊥) × NoneBy n ls a
+
+first-by : {A : Type 0} (ls : List (Line A)) (a : A) (n : ℕ) → NoneBy n ls a → firstLine ls a ≡ some n → ⊥
+first-by [] a n h e = some-none (sym e)
+first-by (l ∷ ls) a n h e = bool-cases (l .holds a) (λ t. h .0 (some-eq (rw t at e)) t) (λ t. first-by ls a n (h .1) (rw t at e))
+
+-- the number of a line is another one
+other : {P : Type 0} (m n : ℕ) → (m ≡ n → ⊥) → m ≡ n → P → ⊥
+other m n h e p = h e
+
+-- what a hand may have, a group may
+pub hand-is-narrow : (n : ℕ) → n ≤ LIST-CAPACITY → n ≤ MAX-GROUP-ARITY
+hand-is-narrow n h = omega arith
+
+-- a hand has "up to 16 distinct kinds"
+pub staged-few : (s : Store) → StoreSound s → length (stagedKinds s) ≤ LIST-CAPACITY
+staged-few s S = omega (arith, length-map (s .control .staged) kindOf, S .staged .few)
+
+lines-wide : (c : Command) (s : Store) → StoreSound s → NoneBy WIDE (linesOf c) s
+unfolding linesOf
+lines-wide (REG k) s S = (other _ _ (λ e. omega arith), (other _ _ (λ e. omega arith), tt))
+lines-wide (HOLD k v) s S = (other _ _ (λ e. omega arith), (other _ _ (λ e. omega arith), (other _ _ (λ e. omega arith), tt)))
+lines-wide NEW s S = (other _ _ (λ e. omega arith), tt)
+lines-wide (PUT e) s S = (other _ _ (λ e. omega arith), tt)
+lines-wide (TAKE e) s S = (other _ _ (λ e. omega arith), tt)
+lines-wide (DROP e) s S = (other _ _ (λ e. omega arith), tt)
+lines-wide (KILL e) s S = (other _ _ (λ e. omega arith), tt)
+lines-wide WIPE s S = tt
+lines-wide GROUP s S =
+    ((λ e t. omega (arith, hand-is-narrow (length (stagedKinds s)) (staged-few s S), ltb-true _ (length (stagedKinds s)) t)), (other _ _ (λ e. omega arith), (other _ _ (λ e. omega arith), tt)))
+lines-wide APPLY s S = tt
+lines-wide (BAR k) s S = (other _ _ (λ e. omega arith), (other _ _ (λ e. omega arith), (other _ _ (λ e. omega arith), tt)))
+lines-wide RANGE s S = tt
+lines-wide EMPTY s S = tt
+lines-wide TALLY s S = tt
+
+-- 02, No. 3: "WIDE then never occurs"
+pub wide-never : (c : Command) (s : Store) → StoreSound s → does c s ≡ refuses WIDE → ⊥
+unfolding does
+wide-never c s S e = first-by (linesOf c) s WIDE (lines-wide c s S) (outcome-refuses (firstLine (linesOf c) s) (accepted c s) WIDE e)
 
 -- ---- what a refused command changes: the refusal count alone, which saturates
 

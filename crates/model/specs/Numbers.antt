@@ -19,13 +19,13 @@ LAST-KIND = 127
 abbrev pub LIST-CAPACITY : ℕ
 LIST-CAPACITY = 16
 
--- the most kinds of a group: a hand of "16 kinds" is WIDE
+-- the most kinds of a group; 02, No. 3: "The sixteenth kind". More are WIDE, which "then never occurs"
 abbrev pub MAX-GROUP-ARITY : ℕ
-MAX-GROUP-ARITY = 15
+MAX-GROUP-ARITY = 16
 
--- the most groups of a layout: "draft has 63 groups" is MANY
+-- the most groups of a layout; 02, No. 3: "MANY moves to a draft with 64 groups"
 abbrev pub MAX-GROUP-COUNT : ℕ
-MAX-GROUP-COUNT = 63
+MAX-GROUP-COUNT = 64
 
 -- "a tally of refused commands that stays at 4,294,967,295"
 abbrev pub MAX-REFUSALS : ℕ

@@ -146,11 +146,11 @@ linesOf NEW =
     ∷ []
 -- "GROUP answers "nothing added" for a small hand before 13 and for an equal group before 14."
 linesOf GROUP =
-    -- "16 kinds"
+    -- more kinds than a group may have. 02, No. 3: "WIDE then never occurs": a hand has 16 at most (`wide-never`)
     line WIDE (λ s. ltb MAX-GROUP-ARITY (length (stagedKinds s)))
     -- 02, No. 1: "CLASH shrinks to what is left"
     ∷ line CLASH (λ s. not (addsNothing (stagedKinds s) (s .control .draft)) && not (joins (stagedKinds s) (s .control .draft)))
-    -- "draft has 63 groups"
+    -- 02, No. 3: "MANY moves to a draft with 64 groups"
     ∷ line MANY (λ s. not (addsNothing (stagedKinds s) (s .control .draft)) && leb MAX-GROUP-COUNT (groupsOf (s .control .draft)))
     ∷ []
 linesOf WIPE = []

@@ -106,7 +106,7 @@ abbrev pub Rising : Family → Type 0
 Rising [] = Unit {0}
 Rising (r ∷ rs) = (1 ≤ length (r .newKinds)) × Rising rs
 
--- a family's first group has two kinds or more, its last 15 or fewer
+-- a family's first group has two kinds or more, its last 16 or fewer
 abbrev pub BuildableFamily : Family → Type 0
 BuildableFamily [] = ⊥
 BuildableFamily (r ∷ rs) = (2 ≤ length (r .newKinds)) × Rising rs × (length (kindsOf (r ∷ rs)) ≤ MAX-GROUP-ARITY)

@@ -23,6 +23,7 @@ pub const DEAD: u8 = 11;
 
 pub const FULL: u8 = 12;
 
+// Answered to no command (02, No. 3); the number stays reserved.
 pub const WIDE: u8 = 13;
 
 pub const CLASH: u8 = 14;

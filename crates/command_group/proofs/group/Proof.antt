@@ -14,9 +14,6 @@ refuse-requires c κs = let s = c .before .before .before .before .before .befor
 refuse-requires-2 : tie.Need-refuse-requires-2
 refuse-requires-2 c κs = let s = c .before .before .before .before .before .before .before .before in (s .pre .sound .arranged, omega (arith, s .pre .room))
 
-refuse-requires-3 : tie.Need-refuse-requires-3
-refuse-requires-3 c κs = let s = c .before .before .before .before .before .before .before .before in (s .pre .sound .arranged, omega (arith, s .pre .room))
-
 returns : tie.Need-returns
 returns c =
     let r = c .before .before .before .before .before .before .before .before .before .before .add-staged in
@@ -30,17 +27,12 @@ returns-2 c =
 returns-3 : tie.Need-returns-3
 returns-3 c =
     let r = c .before .before .before .before .before .before .before .before .before .add-staged in
-    refused-by (group-as (meaning (c .before .before .before .before .before .before .before .before .before .before .before .before .before .args .words .now)) (r .result) outcome.Wide (r .ensures) (c .before .before .before .before .before .before .before .enum-told3 .given .1)) (c .before .before .before .before .refuse .ensures)
+    refused-by (group-as (meaning (c .before .before .before .before .before .before .before .before .before .before .before .before .before .args .words .now)) (r .result) outcome.Clash (r .ensures) (c .before .before .before .before .before .before .before .enum-told3 .given .1)) (c .before .before .before .before .refuse .ensures)
 
 returns-4 : tie.Need-returns-4
 returns-4 c =
     let r = c .before .before .before .before .before .before .before .before .before .add-staged in
-    refused-by (group-as (meaning (c .before .before .before .before .before .before .before .before .before .before .before .before .before .args .words .now)) (r .result) outcome.Clash (r .ensures) (c .before .before .before .before .before .before .before .enum-told4 .given .1)) (c .before .before .before .before .refuse2 .ensures)
-
-returns-5 : tie.Need-returns-5
-returns-5 c =
-    let r = c .before .before .before .before .before .before .before .before .before .add-staged in
-    refused-by (group-as (meaning (c .before .before .before .before .before .before .before .before .before .before .before .before .before .args .words .now)) (r .result) outcome.Many (r .ensures) (c .before .before .before .before .before .before .before .enum-told5 .given .1)) (c .before .before .before .before .refuse3 .ensures)
+    refused-by (group-as (meaning (c .before .before .before .before .before .before .before .before .before .before .before .before .before .args .words .now)) (r .result) outcome.Many (r .ensures) (c .before .before .before .before .before .before .before .enum-told4 .given .1)) (c .before .before .before .before .refuse2 .ensures)
 
 pub group-spec : {M : Type 1} → statement M
 group-spec =
@@ -58,8 +50,6 @@ group-spec =
     refuse-requires
     (λ c. c .match .keys4)
     refuse-requires-2
-    (λ c. c .match .keys5)
-    refuse-requires-3
     (λ c. c .before .before .before .before .before .before .clear-staged .kept .0)
     (λ c. c .before .before .ack-byte .kept .0)
     returns
@@ -71,7 +61,4 @@ group-spec =
     returns-3
     (λ c. c .before .before .before .before .refuse2 .kept .0)
     (λ c. c .before .before .before .before .refuse2 .kept .1 .0)
-    returns-4
-    (λ c. c .before .before .before .before .refuse3 .kept .0)
-    (λ c. c .before .before .before .before .refuse3 .kept .1 .0)
-    returns-5)
+    returns-4)

@@ -1,13 +1,14 @@
+use native.Mathlib.Omega.{arith}
 use borrow.Author.Needs.{needs}
-use Rattle.masks.proofs.Bits.{shifted-pos, bits-from-to}
+use Rattle.masks.proofs.Bits.{bits-empty, bits-from-to}
 use Rattle.masks.proofs.storage_mask.StorageMask.from_to.Statement.{statement}
 use Rattle.masks.proofs.storage_mask.StorageMask.from_to.Tie as tie
 
-sub-t6 : tie.Need-sub-t6
-sub-t6 c = shifted-pos 16 (c .args .from) (c .args .to) (c .pre)
-
 returns : tie.Need-returns
-returns c = bits-from-to 16 (c .args .from) (c .args .to) (c .pre)
+returns c = bits-empty 16 (c .before .args .from) (c .before .args .to) (omega (arith, c .if1 .taken))
+
+returns-2 : tie.Need-returns-2
+returns-2 c = bits-from-to 16 (c .before .args .from) (c .before .args .to) (c .before .pre)
 
 pub from-to-spec : {M : Type 1} → statement M
-from-to-spec = tie.close (tie.spec (λ c. search needs) (λ c. search needs) (λ c. search needs) sub-t6 (λ c. search needs) (λ c. search needs) returns)
+from-to-spec = tie.close (tie.spec returns (λ c. search needs) (λ c. search needs) (λ c. search needs) (λ c. search needs) (λ c. search needs) (λ c. search needs) returns-2)
