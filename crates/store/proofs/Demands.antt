@@ -8,18 +8,18 @@ use Prim.Native.Nat.{ℕ, _+_, _*_, _≤_}
 use native.Mathlib.Omega.{arith}
 use lib.ListN.{length, take, drop, getD}
 use denote.Ref.{RefT}
-use Rattle.model.specs.Numbers.{BEYOND, KIND, MANY, NOROOM, UNKNOWN, UNSOUND}
+use Rattle.model.specs.Numbers.{BEYOND, KIND, MANY, NOROOM, UNKNOWN, UNSOUND, WIDE}
 use Rattle.model.specs.Store.{Store, empty}
 use Rattle.model.specs.Commands.{Command}
 use Rattle.model.specs.Refusals.{numberOf, firstLine, BeforeCommand, beforeLines, linesOf, startLines, rollLines, columnLines}
-use Rattle.model.specs.Run.{halt, run}
+use Rattle.model.specs.Run.{refuses, halt, run}
 use Rattle.model.specs.Snapshot.{snapshot, Same}
 use Rattle.model.specs.History.{retired}
 use Rattle.model.specs.Entries.{Started, refusesStart, makes, start, columnRefusal, column, roll}
 use Rattle.model.proofs.Demand.{all-between}
 use Rattle.model.proofs.Entries.{start-makes, column-refused}
 use Rattle.model.proofs.Lengths.{run-fits}
-use Rattle.model.proofs.Lines.{first-exact, none-exact, lines-numbers}
+use Rattle.model.proofs.Lines.{first-exact, none-exact, refusal-exact, lines-numbers, wide-never}
 use Rattle.model.proofs.Retired.{run-balanced}
 use Rattle.model.specs.Theorems.{Balanced}
 use Rattle.model.proofs.Snapshots.{snapshots-of-sound}
@@ -105,6 +105,17 @@ answers-in (done w w₁ {t = t} {b = b} h n m s c) =
 
 pub answers-exact : (w w′ t o o′ : List ℕ) (r : Ran) (R : Runs w w′ t o o′ r) (S : Sound w) → EachAnswer (λ v k l. Tabled (linesOf k) (meaning v) (getD l 0 0)) (run-course w w′ t o o′ r R S)
 answers-exact w w′ t o o′ r R S = answers-in (run-course w w′ t o o′ r R S)
+
+-- 02, No. 3: "WIDE then never occurs": no command of a run is answered 13.
+wide-in : {w t w′ bytes : List ℕ} {room stop commands read : ℕ} → Sound w → (c : Course w t room w′ stop commands read bytes) → EachAnswer (λ v k l. getD l 0 0 ≡ WIDE → ⊥) c
+wide-in S ended = tt
+wide-in S (stopped f) = tt
+wide-in S (refused w {t = t} {b = b} h f m s c) =
+    ((λ e. wide-never (commandOn b t) (meaning w) (S .means) (refusal-exact (commandOn b t) (meaning w) _ .1 f ∙ ap refuses e)), wide-in s c)
+wide-in S (done w w₁ h n m s c) = ((λ e. omega arith), wide-in s c)
+
+pub wide-never-in-run : (w w′ t o o′ : List ℕ) (r : Ran) (R : Runs w w′ t o o′ r) (S : Sound w) → EachAnswer (λ v k l. getD l 0 0 ≡ WIDE → ⊥) (run-course w w′ t o o′ r R S)
+wide-never-in-run w w′ t o o′ r R S = wide-in S (run-course w w′ t o o′ r R S)
 
 -- A refused command changes, of what the words mean, the count of refusals alone: settings, kinds, entities, components, groups, draft and both lists
 -- are as they were.
