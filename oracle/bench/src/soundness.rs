@@ -19,7 +19,7 @@ fn full(n: usize, k: usize) -> Vec<u32> {
             tape.extend((kind as u64 * 1000).to_le_bytes());
         }
     };
-    // 63 groups at most: seven for each family of sixteen kinds.
+    // Seven groups for each sixteen kinds.
     for family in 0..k / 16 {
         for arity in [2, 4, 6, 8, 10, 12, 15] {
             hold(&mut tape, 16 * family..16 * family + arity);

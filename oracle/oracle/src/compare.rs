@@ -1,9 +1,11 @@
-//! Runs one case on the Rust and on another side, and says where they part.
+//! Runs one case on the Rust, or past its reach on the plain reference, and on another side, and says where they part.
 
-use crate::side::Side;
+use crate::demand;
+use crate::past;
+use crate::reference::Reference;
+use crate::side::{Known, Seen, Side};
 use crate::tape::{self, Case, Chunk, Run, ROOMY};
 use sparsey::harness::{arranged, kinds_of, words_needed, Families, Oracle, Ran, Sets, JUDGEMENTS};
-use std::collections::{BTreeMap, BTreeSet};
 use std::fmt::Write;
 
 /// What was compared.
@@ -19,7 +21,7 @@ pub struct Figures {
     /// Runs by stop number.
     pub stops: [u64; 7],
     /// Answers by command byte and number.
-    pub seen: [[u64; 16]; 15],
+    pub seen: Seen,
     /// What GROUP made of what was staged.
     pub judged: [u64; JUDGEMENTS.len()],
 }
@@ -62,7 +64,10 @@ impl Figures {
                 .collect();
             writeln!(text, "  {:<6} {}", tape::NAMES[byte], answers.join(", ")).unwrap();
         }
-        let all = self.judged.iter().sum::<u64>().max(1) as f64;
+        let all = self.judged.iter().sum::<u64>() as f64;
+        if all == 0.0 {
+            return text;
+        }
         let judged: Vec<String> = JUDGEMENTS
             .iter()
             .zip(self.judged)
@@ -73,49 +78,76 @@ impl Figures {
     }
 }
 
+/// What the other side stands beside: the Rust, or past its reach the plain reference.
+#[derive(Clone, Copy, PartialEq, Eq, Debug)]
+pub enum Beside {
+    Rust(Sets),
+    Reference,
+}
+
+impl Beside {
+    /// That side, with no store yet.
+    pub fn known(self) -> Box<dyn Known> {
+        match self {
+            Beside::Rust(sets) => Box::new(Oracle::new(sets)),
+            Beside::Reference => Box::new(Reference::new()),
+        }
+    }
+
+    /// Of eight states of a case, the one that is looked at more closely. Past the Rust are many cases of few states.
+    fn close_state(self) -> u64 {
+        match self {
+            Beside::Rust(_) => 0,
+            Beside::Reference => 7,
+        }
+    }
+}
+
 /// Makes the other side of a comparison, with no store yet.
 pub type Make<'a> = &'a dyn Fn() -> Box<dyn Side>;
 
 /// Both sides of one case under way.
 pub struct Pair {
-    pub rust: Oracle,
+    pub known: Box<dyn Known>,
     pub other: Box<dyn Side>,
     pub figures: Figures,
+    beside: Beside,
     k: usize,
     /// What an answer buffer holds before a run.
     fill: u8,
 }
 
 macro_rules! same {
-    ($what:expr, $rust:expr, $other:expr, $name:expr) => {{
-        let (rust, other) = (&$rust, &$other);
-        if rust != other {
-            return Err(format!("{}: Rust {:?}, {} {:?}", $what, rust, $name, other));
+    ($what:expr, $known:expr, $other:expr, $names:expr) => {{
+        let (known, other, names) = (&$known, &$other, $names);
+        if known != other {
+            return Err(format!("{}: {} {:?}, {} {:?}", $what, names[0], known, names[1], other));
         }
     }};
 }
 
 impl Pair {
     /// Both sides, neither started.
-    pub fn new(sets: Sets, make: Make) -> Self {
+    pub fn new(beside: Beside, make: Make) -> Self {
         Self {
-            rust: Oracle::new(sets),
+            known: beside.known(),
             other: make(),
             figures: Figures::default(),
+            beside,
             k: 0,
             fill: 0xa5,
         }
     }
 
     /// Both sides started by the case.
-    pub fn start(case: &Case, sets: Sets, make: Make) -> Result<Self, String> {
-        let mut pair = Self::new(sets, make);
+    pub fn start(case: &Case, beside: Beside, make: Make) -> Result<Self, String> {
+        let mut pair = Self::new(beside, make);
         pair.k = case.k;
         pair.figures.cases = 1;
         let number = pair.start_number(words_needed(case.n, case.k), case.n, case.k)?;
         assert_eq!(number, 0, "a case starts a store");
         if let Some(preset) = &case.preset {
-            pair.rust.preset(preset);
+            pair.known.preset(preset);
             pair.other.preset(preset);
         }
         Ok(pair)
@@ -123,12 +155,16 @@ impl Pair {
 
     /// *start* on both sides.
     pub fn start_number(&mut self, words: usize, n: usize, k: usize) -> Result<u32, String> {
-        let name = self.other.name();
-        let rust = self.rust.start(words, n, k);
+        let names = self.names();
+        let known = self.known.start(words, n, k);
         let other = self.other.start(words, n, k);
-        same!(format!("start N {n}, K {k}, {words} words"), rust, other, name);
+        same!(format!("start N {n}, K {k}, {words} words"), known, other, names);
         self.complaint()?;
-        Ok(rust)
+        Ok(known)
+    }
+
+    fn names(&self) -> [&'static str; 2] {
+        [self.known.name(), self.other.name()]
     }
 
     fn complaint(&mut self) -> Result<(), String> {
@@ -137,21 +173,26 @@ impl Pair {
 
     /// One run on both sides: stop, counts, answer bytes, and the bytes past them.
     pub fn run(&mut self, run: &Run) -> Result<Ran, String> {
+        Ok(self.answered(run)?.0)
+    }
+
+    /// The same, with the answers.
+    fn answered(&mut self, run: &Run) -> Result<(Ran, Vec<u8>), String> {
         let tape = run.tape();
-        let name = self.other.name();
+        let names = self.names();
         self.fill = self.fill.wrapping_add(0x3b);
         let mut out = vec![self.fill; run.room.min(usable(&tape))];
         let mut theirs = out.clone();
 
-        let ran = self.rust.run(&tape, &mut out);
+        let ran = self.known.run(&tape, &mut out);
         let other = self.other.run(&tape, &mut theirs);
-        same!("run", ran, other, name);
-        same!("answer bytes", out[..ran.written], theirs[..ran.written], name);
+        same!("run", ran, other, names);
+        same!("answer bytes", out[..ran.written], theirs[..ran.written], names);
         same!(
             "bytes past the answers",
             out[ran.written..],
             theirs[ran.written..],
-            name
+            names
         );
         self.complaint()?;
 
@@ -159,23 +200,24 @@ impl Pair {
         self.figures.commands += ran.commands as u64;
         self.figures.answer_bytes += ran.written as u64;
         self.figures.stops[ran.stop as usize] += 1;
-        Ok(ran)
+        out.truncate(ran.written);
+        Ok((ran, out))
     }
 
     /// Live list, families, every column through *column*, and the roll. One state in eight is looked at more closely.
     pub fn state(&mut self) -> Result<(), String> {
-        let name = self.other.name();
-        let closely = self.figures.states % 8 == 0;
-        same!("live list", self.rust.live(), self.other.live(), name);
+        let names = self.names();
+        let closely = self.figures.states % 8 == self.beside.close_state();
+        same!("live list", self.known.live(), self.other.live(), names);
         self.families()?;
 
-        let registered = self.rust.registered();
+        let registered = self.known.registered();
         for &kind in &registered {
-            let length = self.rust.length(kind).unwrap();
+            let length = self.known.length(kind).unwrap();
             for values in [false, true] {
-                let whole = Side::column(&mut self.rust, kind, values, 0, length);
+                let whole = self.known.column(kind, values, 0, length);
                 let what = column_name(kind, values);
-                same!(what, whole, self.other.column(kind, values, 0, length), name);
+                same!(what, whole, self.other.column(kind, values, 0, length), names);
                 if closely {
                     self.column_parts(kind, values, &whole)?;
                 }
@@ -185,7 +227,7 @@ impl Pair {
                 format!("number of {} past its end", column_name(kind, false)),
                 16,
                 past,
-                name
+                names
             );
             self.figures.rows += length as u64;
         }
@@ -200,17 +242,18 @@ impl Pair {
 
     /// The families of the draft and of the layout in force as sets of sets. Those in force the Rust made itself.
     fn families(&mut self) -> Result<(), String> {
-        let (rust, other) = (self.rust.families().map(arranged), self.other.families().map(arranged));
-        if rust == other {
+        let known = self.known.families().map(arranged);
+        let other = self.other.families().map(arranged);
+        if known == other {
             return Ok(());
         }
-        let name = self.other.name();
+        let names = self.names();
         for (what, i) in [("draft", 0), ("layout", 1)] {
             same!(
                 format!("families of the {what}"),
-                shown(&rust[i]),
+                shown(&known[i]),
                 shown(&other[i]),
-                name
+                names
             );
         }
         unreachable!("families that differ look alike");
@@ -218,7 +261,7 @@ impl Pair {
 
     /// The numbers of *column*, and a part from the middle.
     fn column_parts(&mut self, kind: u8, values: bool, whole: &[u32]) -> Result<(), String> {
-        let name = self.other.name();
+        let names = self.names();
         let what = column_name(kind, values);
         let length = whole.len() / 2;
         for (start, end, number) in [
@@ -228,10 +271,11 @@ impl Pair {
             (length / 2 + 1, length / 2, 16),
             (1, usize::MAX, 16),
         ] {
-            let rust = Side::column_number(&mut self.rust, kind, values, start, end);
+            let known = self.known.column_number(kind, values, start, end);
             let other = self.other.column_number(kind, values, start, end);
-            same!(format!("number of {what} {start}..{end}"), number, rust, "Rust again");
-            same!(format!("number of {what} {start}..{end}"), rust, other, name);
+            let what = format!("number of {what} {start}..{end}");
+            same!(what, number, known, ["expected", names[0]]);
+            same!(what, known, other, names);
         }
         let (start, end) = (length / 3, length / 2);
         let part = whole[2 * start..2 * end].to_vec();
@@ -239,28 +283,28 @@ impl Pair {
             format!("{what} {start}..{end}"),
             part,
             self.other.column(kind, values, start, end),
-            name
+            names
         );
         Ok(())
     }
 
     /// Kinds without a column.
     fn no_columns(&mut self, registered: &[u8]) -> Result<(), String> {
-        let name = self.other.name();
+        let names = self.names();
         for kind in [0, 1, 2, 63, 127, 128, 255] {
             if !registered.contains(&kind) {
                 same!(
                     format!("number of column {kind}"),
                     7,
                     self.other.column_number(kind, false, 0, 0),
-                    name
+                    names
                 );
                 let none: Vec<u32> = vec![];
                 same!(
                     format!("refused column {kind}"),
                     none,
                     self.other.column(kind, true, 0, 0),
-                    name
+                    names
                 );
             }
         }
@@ -269,60 +313,67 @@ impl Pair {
 
     /// The roll, in a buffer that it fills exactly, in a longer one, and in one that is a byte short.
     fn roll(&mut self, closely: bool) -> Result<(), String> {
-        let name = self.other.name();
-        let length = 4
-            + self.rust.live().len() * 9
-            + self
-                .rust
-                .registered()
-                .iter()
-                .map(|&kind| self.rust.length(kind).unwrap() * 9)
-                .sum::<usize>();
+        let names = self.names();
+        let rows: usize = self.lengths().iter().map(|&(_, length)| length).sum();
+        let length = 4 + 9 * self.known.live().len() + 9 * rows;
         let rooms = [length, length + 3, length - 1];
         for room in rooms.into_iter().take(if closely { 3 } else { 1 }) {
             let mut out = vec![self.fill; room];
             let mut theirs = out.clone();
-            let rust = self.rust.roll(&mut out);
+            let known = self.known.roll(&mut out);
             let other = self.other.roll(&mut theirs);
             let expected = if room < length { (6, 0) } else { (0, length) };
-            same!(format!("roll into {room} bytes"), expected, rust, "Rust again");
-            same!(format!("roll into {room} bytes"), rust, other, name);
-            same!("roll", out, theirs, name);
+            let what = format!("roll into {room} bytes");
+            same!(what, expected, known, ["expected", names[0]]);
+            same!(what, known, other, names);
+            same!("roll", out, theirs, names);
         }
         Ok(())
     }
 
-    /// A run that asks for the counts of all groups through RANGE: every group, every one with the next larger
-    /// group's new kinds excluded, and every kind alone. It empties what is staged and excluded.
-    pub fn range_run(&self) -> Run {
-        let groups = self.rust.groups();
-        let mut chunks: Vec<Chunk> = vec![tape::tally(), tape::empty()];
-        for (kinds, _) in &groups {
-            chunks.extend(tape::with(kinds, tape::range()));
-            let kinds: BTreeSet<u8> = kinds.iter().copied().collect();
-            let larger = groups
-                .iter()
-                .map(|(kinds, _)| kinds.iter().copied().collect::<BTreeSet<u8>>())
-                .filter(|larger| larger.is_superset(&kinds) && larger.len() > kinds.len())
-                .min_by_key(BTreeSet::len);
-            if let Some(larger) = larger {
-                chunks.extend(larger.difference(&kinds).map(|&kind| tape::bar(kind)));
-                chunks.extend(tape::with(&Vec::from_iter(kinds), tape::range()));
-            }
-        }
-        for kind in self.rust.registered() {
-            chunks.extend(tape::with(&[kind], tape::range()));
-        }
-        Run::new(chunks)
+    /// The registered kinds, each with the length of its column.
+    fn lengths(&self) -> Vec<(u8, usize)> {
+        let kinds = self.known.registered().into_iter();
+        kinds.map(|kind| (kind, self.known.length(kind).unwrap())).collect()
     }
 
-    /// Counts of all groups, through RANGE and in the Rust's columns.
+    /// A run that asks for the counts of all groups through RANGE: every group, every one with the next larger
+    /// group's new kinds excluded, and every kind alone. It empties what is staged and excluded.
+    pub fn range_run(&mut self) -> Run {
+        let [_, layout] = self.known.families();
+        let asked = [demand::rings(&layout), demand::kinds(&self.known.registered())].concat();
+        demand::run(&asked)
+    }
+
+    /// The ranges of all groups, and of every kind alone; past the Rust also those that there are none of.
     pub fn ranges(&mut self) -> Result<(), String> {
-        let run = self.range_run();
-        self.figures.ranges += run.chunks.iter().filter(|chunk| chunk[0] == 12).count() as u64;
-        let ran = self.run(&run)?;
+        let [_, layout] = self.known.families();
+        let registered = self.known.registered();
+        let mut asked = [demand::rings(&layout), demand::kinds(&registered)].concat();
+        if self.beside == Beside::Reference {
+            asked.extend(demand::none(&layout, &registered));
+        }
+        self.ask(&asked)
+    }
+
+    /// The ranges of all groups.
+    fn group_ranges(&mut self) -> Result<(), String> {
+        let [_, layout] = self.known.families();
+        self.ask(&demand::rings(&layout))
+    }
+
+    /// Asks both sides for ranges, and holds what they answer to the definition, by the columns of the side that the
+    /// other is held to; past the Rust by those of both.
+    fn ask(&mut self, asked: &[demand::Asked]) -> Result<(), String> {
+        let (ran, answers) = self.answered(&demand::run(asked))?;
         assert_eq!(ran.stop, 0);
-        counted(&self.rust, &self.rust.groups())
+        self.figures.ranges += asked.len() as u64;
+        let (lengths, found) = (self.lengths(), demand::found(asked, &answers));
+        demand::hold(&mut *self.known, &lengths, asked, &found)?;
+        match self.beside {
+            Beside::Rust(_) => Ok(()),
+            Beside::Reference => demand::hold(&mut *self.other, &lengths, asked, &found),
+        }
     }
 
     /// Everything after a run.
@@ -334,10 +385,10 @@ impl Pair {
         Ok(ran)
     }
 
-    /// The figures, with the Rust's answers counted in.
+    /// The figures, with the answers counted in.
     pub fn finish(mut self) -> Figures {
-        self.figures.seen = self.rust.seen;
-        self.figures.judged = self.rust.judged();
+        self.figures.seen = self.known.seen();
+        self.figures.judged = self.known.judged();
         self.figures
     }
 }
@@ -358,40 +409,6 @@ fn usable(tape: &[u8]) -> usize {
     8 + 145 * tape.len()
 }
 
-/// Demand 3 on the Rust itself: a group's count is the number of entities with all its kinds, and its first rows are
-/// those, in the same order in each of its columns.
-fn counted(rust: &Oracle, groups: &[(Vec<u8>, usize)]) -> Result<(), String> {
-    let mut held: BTreeMap<(u32, u32), BTreeSet<u8>> = BTreeMap::new();
-    let columns: BTreeMap<u8, Vec<(u32, u32)>> = rust
-        .registered()
-        .into_iter()
-        .map(|kind| (kind, rust.column(kind).unwrap().0))
-        .collect();
-    for (&kind, ids) in &columns {
-        for &id in ids {
-            assert!(
-                held.entry(id).or_default().insert(kind),
-                "an entity twice in a column of the Rust"
-            );
-        }
-    }
-    for (kinds, count) in groups {
-        let all = held
-            .values()
-            .filter(|held| kinds.iter().all(|kind| held.contains(kind)))
-            .count();
-        let first = &columns[&kinds[0]][..*count];
-        let aligned = kinds.iter().all(|kind| columns[kind].starts_with(first));
-        let whole = first.iter().all(|id| kinds.iter().all(|kind| held[id].contains(kind)));
-        if all != *count || !aligned || !whole {
-            return Err(format!(
-                "the Rust's group {kinds:?} counts {count} of {all}, aligned {aligned}"
-            ));
-        }
-    }
-    Ok(())
-}
-
 /// How closely a case is looked at.
 #[derive(Clone, Copy, PartialEq, Eq, Debug)]
 pub enum Look {
@@ -399,14 +416,32 @@ pub enum Look {
     EachRun,
     /// The state and the ranges at the end.
     AtEnd,
+    /// The state and the ranges of all groups after every run, the other ranges at the end.
+    EachRange,
+}
+
+impl Look {
+    /// How closely a case is looked at as a rule.
+    pub fn at(case: &Case, beside: Beside) -> Self {
+        match beside {
+            Beside::Reference => Look::EachRange,
+            Beside::Rust(_) if case.n > 400 => Look::AtEnd,
+            Beside::Rust(_) => Look::EachRun,
+        }
+    }
 }
 
 /// A whole case. The answer tells where the sides part, if they do.
-pub fn compare(case: &Case, sets: Sets, make: Make, look: Look) -> Result<Figures, String> {
-    let mut pair = Pair::start(case, sets, make)?;
+pub fn compare(case: &Case, beside: Beside, make: Make, look: Look) -> Result<Figures, String> {
+    let mut pair = Pair::start(case, beside, make)?;
     for (i, run) in case.runs.iter().enumerate() {
-        pair.step(run, look == Look::EachRun || i + 1 == case.runs.len())
+        let is_last = i + 1 == case.runs.len();
+        pair.step(run, look != Look::AtEnd || is_last)
             .map_err(|what| format!("run {}: {what}", i + 1))?;
+        if look == Look::EachRange && !is_last {
+            pair.group_ranges()
+                .map_err(|what| format!("ranges after run {}: {what}", i + 1))?;
+        }
     }
     pair.ranges().map_err(|what| format!("ranges at the end: {what}"))?;
     Ok(pair.finish())
@@ -425,9 +460,16 @@ impl Difference {
     }
 }
 
-/// Cuts a case down while the sides still part.
-pub fn shrink(case: &Case, sets: Sets, make: Make) -> Option<Difference> {
-    let parts = |case: &Case| -> Option<String> { compare(case, sets, make, Look::EachRun).err() };
+/// Cuts a case down while the sides still part. Beside the Rust no case goes past its reach.
+pub fn shrink(case: &Case, beside: Beside, make: Make) -> Option<Difference> {
+    let look = match beside {
+        Beside::Rust(_) => Look::EachRun,
+        Beside::Reference => Look::EachRange,
+    };
+    let parts = |case: &Case| -> Option<String> {
+        let is_past = beside != Beside::Reference && !past::is_within_reach(case);
+        (!is_past).then(|| compare(case, beside, make, look).err())?
+    };
     let mut best = Difference {
         what: parts(case)?,
         case: case.clone(),
@@ -454,6 +496,12 @@ pub fn shrink(case: &Case, sets: Sets, make: Make) -> Option<Difference> {
         }
     }
 }
+
+/// The command's byte.
+const HOLD: u8 = 2;
+
+/// Runs of more commands keep their operands.
+const LONG: usize = 150;
 
 type Attempt<'a> = dyn FnMut(&mut Difference, Case) -> bool + 'a;
 
@@ -516,24 +564,45 @@ fn drop_kinds(best: &mut Difference, attempt: &mut Attempt) {
     }
 }
 
+/// The same with the value 0 throughout.
+fn without_values(case: &Case) -> Case {
+    let mut case = case.clone();
+    let chunks = case.runs.iter_mut().flat_map(|run| &mut run.chunks);
+    for hold in chunks.filter(|chunk| chunk[..].starts_with(&[HOLD])) {
+        hold.iter_mut().skip(2).for_each(|byte| *byte = 0);
+    }
+    case
+}
+
+/// Smaller operands in one run.
+fn lessen(best: &mut Difference, i: usize, attempt: &mut Attempt) {
+    for j in 0..best.case.runs[i].chunks.len() {
+        for at in 1..best.case.runs[i].chunks[j].len() {
+            for byte in [0, 1, 2] {
+                let mut case = best.case.clone();
+                if case.runs[i].chunks[j][at] > byte {
+                    case.runs[i].chunks[j][at] = byte;
+                    attempt(best, case);
+                }
+            }
+        }
+    }
+}
+
 /// Smaller operands, more room, smaller stores, no preset.
 fn simplify(best: &mut Difference, attempt: &mut Attempt) {
+    let case = without_values(&best.case);
+    if case != best.case {
+        attempt(best, case);
+    }
     for i in 0..best.case.runs.len() {
         let mut case = best.case.clone();
         case.runs[i].room = ROOMY;
         if case != best.case {
             attempt(best, case);
         }
-        for j in 0..best.case.runs[i].chunks.len() {
-            for at in 1..best.case.runs[i].chunks[j].len() {
-                for byte in [0, 1, 2] {
-                    let mut case = best.case.clone();
-                    if case.runs[i].chunks[j][at] > byte {
-                        case.runs[i].chunks[j][at] = byte;
-                        attempt(best, case);
-                    }
-                }
-            }
+        if best.case.runs[i].chunks.len() <= LONG {
+            lessen(best, i, attempt);
         }
     }
     for (n, k) in [

@@ -391,7 +391,7 @@ pub fn orders(width: u32, length: u32, side: &mut dyn Side) -> Orders {
     found
 }
 
-/// What the Rust does at the limits that 01 draws in: 16 kinds, 64 groups, groups out of order, and relayouts.
+/// What the Rust does at the limits: 16 kinds, 64 groups, groups out of order, and relayouts.
 pub fn limits() -> String {
     let arities = (15..=17u8).map(|arity| (format!("a group of {arity} kinds"), vec![(0..arity).collect()]));
     let counts = (62..=64u8).map(|count| {

@@ -1,7 +1,7 @@
 //! The tapes of `examples/`: text in, and beside it the tape's bytes, the answers as the program `tape` writes them, a
 //! listing, and what the example programs of `bindings/` print.
 
-use crate::compare::{compare, Look, Make};
+use crate::compare::{compare, Beside, Look, Make};
 use crate::listing::{assemble, listing};
 use crate::tape::{Case, Chunk};
 use sparsey::harness::{words_needed, Oracle, Ran, Sets};
@@ -39,7 +39,8 @@ pub fn examples(folder: &Path, write: bool, make: Make) -> Result<Vec<String>, S
         let name = path.display().to_string();
         let text = fs::read_to_string(&path).map_err(|e| format!("{name}: {e}"))?;
         let chunks = assemble(&text).map_err(|what| format!("{name}, {what}"))?;
-        compare(&Case::new(N, K, chunks.clone()), Sets::Tuples, make, Look::EachRun)
+        let beside = Beside::Rust(Sets::Tuples);
+        compare(&Case::new(N, K, chunks.clone()), beside, make, Look::EachRun)
             .map_err(|what| format!("{name}: {what}"))?;
         for (ending, bytes) in files(&chunks) {
             let file = path.with_extension(ending);

@@ -1,10 +1,11 @@
 //! Cases that no chance is left to: every limit, and all tapes of a few steps over small alphabets.
 
-use crate::compare::{compare, Difference, Figures, Look, Make, Pair};
+use crate::compare::{compare, Beside, Difference, Figures, Look, Make, Pair};
 use crate::drafts;
+use crate::past::{self, is_within_reach};
 use crate::rng::Rng;
 use crate::tape::{self, Case, Chunk, Run};
-use sparsey::harness::{words_needed, Preset, Sets};
+use sparsey::harness::{words_needed, Preset};
 
 /// A name and the cases under it.
 pub struct Part {
@@ -12,7 +13,7 @@ pub struct Part {
     pub cases: Box<dyn Iterator<Item = Case>>,
 }
 
-fn part(name: &'static str, cases: impl Iterator<Item = Case> + 'static) -> Part {
+pub fn part(name: &'static str, cases: impl Iterator<Item = Case> + 'static) -> Part {
     Part {
         name,
         cases: Box::new(cases),
@@ -20,11 +21,10 @@ fn part(name: &'static str, cases: impl Iterator<Item = Case> + 'static) -> Part
 }
 
 /// Compares the cases of a part.
-pub fn compare_all(cases: impl Iterator<Item = Case>, sets: Sets, make: Make) -> Result<Figures, Difference> {
+pub fn compare_all(cases: impl Iterator<Item = Case>, beside: Beside, make: Make) -> Result<Figures, Difference> {
     let mut figures = Figures::default();
     for case in cases {
-        let look = if case.n > 400 { Look::AtEnd } else { Look::EachRun };
-        match compare(&case, sets, make, look) {
+        match compare(&case, beside, make, Look::at(&case, beside)) {
             Ok(more) => figures.add(&more),
             Err(what) => return Err(Difference { case, what }),
         }
@@ -33,17 +33,17 @@ pub fn compare_all(cases: impl Iterator<Item = Case>, sets: Sets, make: Make) ->
 }
 
 /// *start* at every limit, and every entry on words that hold no store.
-pub fn starts(sets: Sets, make: Make) -> Result<Figures, String> {
-    let mut pair = Pair::new(sets, make);
+pub fn starts(beside: Beside, make: Make) -> Result<Figures, String> {
+    let mut pair = Pair::new(beside, make);
     let none = pair.run(&Run::new(vec![tape::tally()]))?;
     assert_eq!(none.stop, 3);
     let name = pair.other.name();
-    let (rust, other) = (pair.rust.roll(&mut [0; 64]), pair.other.roll(&mut [0; 64]));
+    let (rust, other) = (pair.known.roll(&mut [0; 64]), pair.other.roll(&mut [0; 64]));
     if rust != other {
         return Err(format!("roll of no store: Rust {rust:?}, {name} {other:?}"));
     }
     let (rust, other) = (
-        pair.rust.column_number(0, 0, 0),
+        pair.known.column_number(0, false, 0, 0),
         pair.other.column_number(0, false, 0, 0),
     );
     if rust != other {
@@ -102,11 +102,12 @@ pub fn limits(most: usize) -> Vec<Part> {
             "N full and churned",
             full_and_churned().filter(move |case| case.n <= most),
         ),
-        part("K full", kinds_full()),
-        part("16 staged", sixteen_staged()),
-        part("63 groups", many_groups()),
+        part("K full", kinds_full(63)),
+        part("16 staged", sixteen_staged().filter(is_within_reach)),
+        part("63 groups", many_groups(15).filter(is_within_reach)),
+        part("drafts of 62 to 64 groups, not applied", past::drafts().map(unapplied)),
         part("walks above position 32", high_walks()),
-        part("groups below and between", below_and_between()),
+        part("groups below and between", below_and_between().filter(is_within_reach)),
         part(
             "drafts of up to 2 groups over 5 kinds with every further group",
             drafts::cases(5, 2),
@@ -120,7 +121,21 @@ pub fn limits(most: usize) -> Vec<Part> {
     ]
 }
 
-fn run_of(chunks: Vec<Chunk>) -> Run {
+/// Those of the cases at the limits that go past the Rust's reach.
+pub fn past_limits() -> Vec<Part> {
+    let is_past = |case: &Case| !is_within_reach(case);
+    vec![
+        part("K full, 64 groups", kinds_full(64).filter(is_past)),
+        part("16 staged, then a group", sixteen_staged().filter(is_past)),
+        part("64 groups", many_groups(16).filter(is_past)),
+        part(
+            "groups below and between, to 16 kinds and 64 groups",
+            below_and_between().filter(is_past),
+        ),
+    ]
+}
+
+pub fn run_of(chunks: Vec<Chunk>) -> Run {
     Run::new(chunks)
 }
 
@@ -178,8 +193,9 @@ pub fn layout(groups: &[&[u8]]) -> Vec<Chunk> {
     chunks
 }
 
-fn kinds_full() -> impl Iterator<Item = Case> {
-    [1usize, 2, 5, 16, 127, 128].into_iter().map(|k| {
+/// Stores with all their kinds, and pairs of them, so many at most.
+fn kinds_full(most: usize) -> impl Iterator<Item = Case> {
+    [1usize, 2, 5, 16, 127, 128].into_iter().map(move |k| {
         let mut first: Vec<Chunk> = (0..128).rev().map(tape::reg).collect();
         first.extend((0..=255).map(tape::reg));
         first.push(tape::tally());
@@ -196,6 +212,7 @@ fn kinds_full() -> impl Iterator<Item = Case> {
         }
         runs.push(run_of(
             kept.chunks(2)
+                .take(most)
                 .flat_map(|pair| tape::with(pair, tape::group()))
                 .chain([tape::apply()])
                 .collect(),
@@ -212,110 +229,115 @@ fn kinds_full() -> impl Iterator<Item = Case> {
 }
 
 fn sixteen_staged() -> impl Iterator<Item = Case> {
-    (14..=18usize).flat_map(|width| {
-        (0..7).map(move |which| {
-            let mut runs = vec![run_of((0..20).map(tape::reg).collect())];
-            runs.push(run_of(layout(&[
-                &[0, 1],
-                &[0, 1, 2, 3, 4, 5, 6],
-                &(0..15).collect::<Vec<u8>>(),
-                &[15, 16],
-            ])));
-            runs.push(run_of(
-                (0..3)
-                    .flat_map(|_| tape::with(&(0..16).collect::<Vec<u8>>(), tape::new()))
-                    .collect(),
-            ));
-            let kinds: Vec<u8> = (0..width as u8).collect();
-            let mut chunks = tape::hold_all(&kinds);
-            chunks.extend(kinds.iter().map(|&kind| tape::bar(kind)));
-            // Again at sixteen, and one unknown.
-            chunks.extend([tape::hold(0, 1), tape::hold(19, 1), tape::hold(77, 1)]);
-            chunks.extend([tape::bar(0), tape::bar(19), tape::bar(77)]);
-            chunks.push(match which {
-                0 => tape::new(),
-                1 => tape::put((1, 1)),
-                2 => tape::take((1, 1)),
-                3 => tape::drop((1, 1)),
-                4 => tape::group(),
-                5 => tape::range(),
-                _ => tape::take((1, 2)),
-            });
-            chunks.extend([tape::tally(), tape::hold(0, 3), tape::new()]);
-            runs.push(run_of(chunks));
-            runs.push(run_of(vec![tape::apply(), tape::kill((1, 1))]));
-            Case {
-                n: 6,
-                k: 20,
-                preset: None,
-                runs,
-            }
-        })
-    })
+    (14..=18).flat_map(|width| (0..8).map(move |which| staged_case(width, which)))
 }
 
-/// Drafts that reach 63 groups by pairs, by chains and by both, and what comes then.
-fn many_groups() -> impl Iterator<Item = Case> {
+/// So many kinds staged and excluded, some more that are refused, and then a command.
+fn staged_case(width: u8, which: usize) -> Case {
+    let list = |end: u8| -> Vec<u8> { (0..end).collect() };
+    let mut runs = vec![
+        run_of((0..20).map(tape::reg).collect()),
+        run_of(layout(&[&[0, 1], &list(7), &list(15), &[15, 16]])),
+        run_of((0..3).flat_map(|_| tape::with(&list(16), tape::new())).collect()),
+    ];
+    // The last command is a group then, and clashes with this one.
+    if which == 7 {
+        runs.push(run_of(tape::with(&[0, 18], tape::group())));
+    }
+    let mut chunks = tape::hold_all(&list(width));
+    chunks.extend((0..width).map(tape::bar));
+    // Again at sixteen, and one unknown.
+    chunks.extend([tape::hold(0, 1), tape::hold(19, 1), tape::hold(77, 1)]);
+    chunks.extend([tape::bar(0), tape::bar(19), tape::bar(77)]);
+    chunks.push(match which {
+        0 => tape::new(),
+        1 => tape::put((1, 1)),
+        2 => tape::take((1, 1)),
+        3 => tape::drop((1, 1)),
+        4 | 7 => tape::group(),
+        5 => tape::range(),
+        _ => tape::take((1, 2)),
+    });
+    chunks.extend([tape::tally(), tape::hold(0, 3), tape::new()]);
+    runs.push(run_of(chunks));
+    runs.push(run_of(vec![tape::apply(), tape::kill((1, 1))]));
+    Case {
+        n: 6,
+        k: 20,
+        preset: None,
+        runs,
+    }
+}
+
+/// Drafts that reach up to 64 groups by pairs, by chains and by both, and what comes then, a list of `widest` kinds too.
+/// The longest are also left unapplied.
+fn many_groups(widest: u8) -> impl Iterator<Item = Case> {
     let pairs: Vec<Vec<u8>> = (0..64u8).map(|i| vec![2 * i, 2 * i + 1]).collect();
     let chains: Vec<Vec<u8>> = (0..8u8)
         .flat_map(|family| (2..=15u8).map(move |arity| (family * 16..family * 16 + arity).collect()))
         .collect();
-    let mixed: Vec<Vec<u8>> = chains[..28]
-        .iter()
-        .cloned()
-        .chain(pairs[32..].iter().cloned())
-        .chain([vec![14, 15]])
-        .collect();
-    [pairs, chains, mixed].into_iter().flat_map(|groups| {
-        [61usize, 62, 63, 64, 65].into_iter().map(move |count| {
-            let count = count.min(groups.len());
-            let mut runs = vec![run_of((0..128).map(tape::reg).collect())];
-            for groups in groups[..count].chunks(8) {
-                runs.push(run_of(
-                    groups
-                        .iter()
-                        .flat_map(|group| tape::with(group, tape::group()))
-                        .collect(),
-                ));
-            }
-            // Small, equal, clashing, wide and new lists at the limit.
-            let more: [&[u8]; 8] = [
-                &[],
-                &[3],
-                &groups[0],
-                &groups[count / 2],
-                &[0, 127],
-                &(100..116).collect::<Vec<u8>>(),
-                &[110, 111],
-                &[0, 1, 125],
-            ];
-            for list in more {
-                runs.push(run_of([tape::with(list, tape::group()), vec![tape::empty()]].concat()));
-            }
-            // Entities before and after the layout is applied.
-            let lists: Vec<&Vec<u8>> = groups[..count].iter().collect();
-            let news = |from: usize| -> Run {
-                let lists = lists.clone();
-                run_of(
-                    (0..10)
-                        .flat_map(|i| tape::with(lists[(from + 7 * i) % lists.len()], tape::new()))
-                        .collect(),
-                )
-            };
-            runs.push(news(0));
-            runs.push(run_of(vec![tape::apply()]));
-            runs.push(news(3));
-            runs.push(run_of((0..12).map(|index| tape::kill((index, 1))).collect()));
-            runs.push(news(5));
-            runs.push(run_of(vec![tape::apply(), tape::wipe()]));
-            Case {
-                n: 24,
-                k: 128,
-                preset: None,
-                runs,
-            }
+    let mixed = [&chains[..28], &[vec![14, 15]], &pairs[16..]].concat();
+    [pairs, chains, mixed].into_iter().flat_map(move |groups| {
+        [61usize, 62, 63, 64, 65].into_iter().flat_map(move |count| {
+            let case = many_groups_case(&groups[..count.min(groups.len())], widest);
+            let unapplied = (count > 62).then(|| unapplied(case.clone()));
+            [case].into_iter().chain(unapplied)
         })
     })
+}
+
+/// The case without the runs that apply a layout.
+pub fn unapplied(mut case: Case) -> Case {
+    case.runs.retain(|run| !run.chunks.contains(&tape::apply()));
+    case
+}
+
+fn many_groups_case(groups: &[Vec<u8>], widest: u8) -> Case {
+    let mut runs = drafted(groups);
+    // Small, equal, clashing and new lists at the limit.
+    let more: [&[u8]; 8] = [
+        &[],
+        &[3],
+        &groups[0],
+        &groups[groups.len() / 2],
+        &[0, 127],
+        &(100..100 + widest).collect::<Vec<u8>>(),
+        &[110, 111],
+        &[0, 1, 125],
+    ];
+    runs.extend(more.into_iter().map(grouped));
+    // Entities before and after the layout is applied.
+    let news = |from: usize| -> Run {
+        let list = |i: usize| &groups[(from + 7 * i) % groups.len()];
+        run_of((0..10).flat_map(|i| tape::with(list(i), tape::new())).collect())
+    };
+    runs.push(news(0));
+    runs.push(run_of(vec![tape::apply()]));
+    runs.push(news(3));
+    runs.push(run_of((0..12).map(|index| tape::kill((index, 1))).collect()));
+    runs.push(news(5));
+    runs.push(run_of(vec![tape::apply(), tape::wipe()]));
+    Case {
+        n: 24,
+        k: 128,
+        preset: None,
+        runs,
+    }
+}
+
+/// All kinds, and the groups by GROUP, eight a run.
+pub fn drafted(groups: &[Vec<u8>]) -> Vec<Run> {
+    let all = run_of((0..128).map(tape::reg).collect());
+    let added = |groups: &[Vec<u8>]| {
+        let chunks = groups.iter().flat_map(|group| tape::with(group, tape::group()));
+        run_of(chunks.collect())
+    };
+    [all].into_iter().chain(groups.chunks(8).map(added)).collect()
+}
+
+/// GROUP of the kinds, and nothing staged after it.
+pub fn grouped(kinds: &[u8]) -> Run {
+    run_of([tape::with(kinds, tape::group()), vec![tape::empty()]].concat())
 }
 
 /// Layouts of 63 groups whose walks go through the positions above 32, one family after the other.
@@ -326,12 +348,8 @@ fn high_walks() -> impl Iterator<Item = Case> {
         vec![15, 15, 15, 15, 8],
         vec![2; 63],
     ];
-    layouts.into_iter().flat_map(|sizes: Vec<u8>| {
-        let mut kinds = 0..128u8;
-        let families: Vec<Vec<u8>> = sizes
-            .iter()
-            .map(|&size| kinds.by_ref().take(size.into()).collect())
-            .collect();
+    layouts.into_iter().flat_map(|sizes: Vec<usize>| {
+        let families = families_of(&sizes);
         // The families whose largest group stands above position 32.
         let groups = |family: usize| families[..=family].iter().map(|kinds| kinds.len() - 1).sum::<usize>();
         let high: Vec<usize> = (0..sizes.len()).filter(|&family| groups(family) > 33).collect();
@@ -341,7 +359,7 @@ fn high_walks() -> impl Iterator<Item = Case> {
 }
 
 /// The groups of families that have one for each number of kinds from 2 on.
-fn chains_of(families: &[Vec<u8>]) -> Vec<Vec<u8>> {
+pub fn chains_of(families: &[Vec<u8>]) -> Vec<Vec<u8>> {
     families
         .iter()
         .flat_map(|family| (2..=family.len()).map(move |size| family[..size].to_vec()))
@@ -350,7 +368,7 @@ fn chains_of(families: &[Vec<u8>]) -> Vec<Vec<u8>> {
 
 /// From the entities 0 and 2 in turn two kinds of a family go, and the smaller group's comes back last; then one goes
 /// together with a kind of the first family, and both come back. Entity 0 is older than the layout.
-fn family_walks(families: &[Vec<u8>], walked: usize, groups: &[Vec<u8>]) -> Case {
+pub fn family_walks(families: &[Vec<u8>], walked: usize, groups: &[Vec<u8>]) -> Case {
     let groups: Vec<&[u8]> = groups.iter().map(|group| &group[..]).collect();
     let kinds = families.concat();
     let mut runs = vec![run_of(kinds.iter().map(|&kind| tape::reg(kind)).collect())];
@@ -383,7 +401,7 @@ fn family_walks(families: &[Vec<u8>], walked: usize, groups: &[Vec<u8>]) -> Case
 }
 
 /// An entity with all kinds; the one of index 1 lacks the last of each family, so that a family's counts differ.
-fn high_entity(families: &[Vec<u8>], index: u32) -> Run {
+pub fn high_entity(families: &[Vec<u8>], index: u32) -> Run {
     let held: Vec<u8> = families
         .iter()
         .flat_map(|family| &family[..family.len() - usize::from(index == 1)])
@@ -396,7 +414,7 @@ fn high_entity(families: &[Vec<u8>], index: u32) -> Run {
 }
 
 /// HOLD for each kind, with a value that tells kind and entity, then the command.
-fn valued(kinds: &[u8], index: u32, command: Chunk) -> Vec<Chunk> {
+pub fn valued(kinds: &[u8], index: u32, command: Chunk) -> Vec<Chunk> {
     let value = |kind: u8| u64::from(index + 1) << 32 | u64::from(kind);
     let holds = kinds.iter().map(|&kind| tape::hold(kind, value(kind)));
     holds.chain([command]).collect()
@@ -404,13 +422,15 @@ fn valued(kinds: &[u8], index: u32, command: Chunk) -> Vec<Chunk> {
 
 /// Groups below and between at the limits of their kinds and of their number, and walks over the families made so.
 fn below_and_between() -> impl Iterator<Item = Case> {
-    let chains = chains_in_orders().chain(high_chains());
-    one_too_many().chain(chains).chain(at_the_limit())
+    let chains = [15, 16].into_iter().flat_map(chains_in_orders);
+    let high = [63, 64].into_iter().flat_map(high_chains);
+    let last = [62, 63, 64].into_iter().flat_map(one_more);
+    last.chain(chains).chain(high).chain(at_the_limit())
 }
 
 /// Orders in which the groups of chains come: the largest first, from both ends, every other one and then those
 /// between, and by chance. Every other group has its kinds falling.
-fn in_orders(groups: &[Vec<u8>]) -> Vec<Vec<Vec<u8>>> {
+pub fn in_orders(groups: &[Vec<u8>]) -> Vec<Vec<Vec<u8>>> {
     let count = groups.len();
     let ends = (0..count).map(|i| if i % 2 == 0 { i / 2 } else { count - 1 - i / 2 });
     let mut orders: Vec<Vec<usize>> = vec![
@@ -434,30 +454,30 @@ fn in_orders(groups: &[Vec<u8>]) -> Vec<Vec<Vec<u8>>> {
     orders.iter().map(|order| order.iter().map(group).collect()).collect()
 }
 
-/// One family with a group for each number of kinds from 2 to 15, in several orders, and a pair among them. Once it is
-/// full, each of its groups comes again, and lists that are small, wide or clash. Then every ring is walked and asked for.
-fn chains_in_orders() -> impl Iterator<Item = Case> {
-    let families: Vec<Vec<u8>> = vec![(0..15).collect(), vec![15, 16]];
+/// One family with a group for each number of kinds from 2 to `widest`, in several orders, and a pair among them. Once it
+/// is full, each of its groups comes again, and lists that are small or clash, one of 16 kinds among them. Then every ring is
+/// walked and asked for.
+fn chains_in_orders(widest: u8) -> impl Iterator<Item = Case> {
+    let pair = vec![widest, widest + 1];
+    let families: Vec<Vec<u8>> = vec![(0..widest).collect(), pair.clone()];
     let orders = in_orders(&chains_of(&families[..1]));
     orders.into_iter().map(move |order| {
         let (before, behind) = order.split_at(7);
-        let mut walks = family_walks(&families, 0, &[before, &[vec![15, 16]], behind].concat());
+        let mut walks = family_walks(&families, 0, &[before, std::slice::from_ref(&pair), behind].concat());
         let mut runs = vec![run_of((0..20).map(tape::reg).collect())];
-        let grouped = |group: &Vec<u8>| run_of(tape::with(group, tape::group()));
-        runs.extend(order.iter().chain(&order).map(grouped));
-        let wide: Vec<u8> = (0..16).collect();
-        let more: [&[u8]; 7] = [&[], &[3], &[0, 2], &[0, 1, 17], &[2, 3], &[1, 15], &wide];
-        for list in more {
-            runs.push(run_of([tape::with(list, tape::group()), vec![tape::empty()]].concat()));
-        }
+        let again = |group: &Vec<u8>| run_of(tape::with(group, tape::group()));
+        runs.extend(order.iter().chain(&order).map(again));
+        let shifted: Vec<u8> = (1..17).collect();
+        let more: [&[u8]; 7] = [&[], &[3], &[0, 2], &[0, 1, 18], &[2, 3], &[1, widest], &shifted];
+        runs.extend(more.into_iter().map(grouped));
         // What was drafted so far goes into force, and out of it again by the walks' own layout.
         runs.push(run_of(vec![tape::apply()]));
         runs.append(&mut walks.runs);
-        runs.extend((2..15).map(ring_asked));
+        runs.extend((2..widest).map(ring_asked));
         // The same groups in the opposite order, while entities exist.
         let back: Vec<&[u8]> = order.iter().rev().map(|group| &group[..]).collect();
         runs.push(run_of(layout(&back)));
-        runs.push(run_of(tape::with(&(0..14).collect::<Vec<u8>>(), tape::new())));
+        runs.push(run_of(tape::with(&(0..widest - 1).collect::<Vec<u8>>(), tape::new())));
         runs.push(run_of(tape::with(&[7, 3], tape::drop((2, 1)))));
         runs.push(run_of(vec![tape::kill((1, 1))]));
         Case {
@@ -475,12 +495,11 @@ fn ring_asked(size: u8) -> Run {
     run_of([vec![tape::bar(size)], ask].concat())
 }
 
-/// The first layout of the high walks, with each family's groups the largest first; and with one group of each family,
-/// then the others by chance. The last chain is walked.
-fn high_chains() -> impl Iterator<Item = Case> {
-    let mut kinds = 0..128u8;
-    let sizes = [vec![2; 34], vec![15, 15, 2]].concat();
-    let families: Vec<Vec<u8>> = sizes.iter().map(|&size| kinds.by_ref().take(size).collect()).collect();
+/// The first layout of the high walks, or with 64 groups, with each family's groups the largest first; and with one group of
+/// each family, then the others by chance. The last chain is walked.
+fn high_chains(count: usize) -> impl Iterator<Item = Case> {
+    let sizes = [vec![2; 34], vec![15, count - 48, 2]].concat();
+    let families = families_of(&sizes);
     let rng = &mut Rng::new(5);
     let (mut falling, mut first, mut rest) = (vec![], vec![], vec![]);
     for family in &families {
@@ -495,32 +514,44 @@ fn high_chains() -> impl Iterator<Item = Case> {
         .map(move |groups: Vec<Vec<u8>>| family_walks(&families, 35, &groups))
 }
 
-/// Eight families with gaps below and between, 61 to 64 groups of them in several orders; then lists that would go
-/// below and between, equal ones, small, wide and clashing ones, and what the layout does.
+/// Families of so many kinds each, all different.
+pub fn families_of(sizes: &[usize]) -> Vec<Vec<u8>> {
+    let mut kinds = 0..128u8;
+    sizes.iter().map(|&size| kinds.by_ref().take(size).collect()).collect()
+}
+
+/// Eight families with gaps below and between, up to 64 groups of them in several orders; then lists that would go
+/// below and between, equal ones, small and clashing ones, one of 16 kinds, and what the layout does.
 fn at_the_limit() -> impl Iterator<Item = Case> {
     let groups: Vec<Vec<u8>> = (0..8u8)
         .flat_map(|family| [3, 4, 6, 8, 10, 12, 14, 15].map(|arity| (family * 16..family * 16 + arity).collect()))
         .collect();
-    [61usize, 62, 63, 64].into_iter().flat_map(move |count| {
-        let orders = in_orders(&groups[..count]).into_iter().take(4);
-        orders.map(|groups| limit_case(&groups))
-    })
+    // How many groups, and in how many orders. Six more join.
+    [(56usize, 4), (57, 4), (63, 2), (64, 2)]
+        .into_iter()
+        .flat_map(move |(count, orders)| {
+            let orders = in_orders(&groups[..count]).into_iter().take(orders);
+            orders.map(|groups| limit_case(&groups))
+        })
 }
 
-/// 63 groups, nearly all of them pairs; a small list, two equal ones, and one more below the last or between the last two.
-fn one_too_many() -> impl Iterator<Item = Case> {
-    let pairs: Vec<Vec<u8>> = (0..62).map(|i| vec![2 * i, 2 * i + 1]).collect();
-    let below = ([&pairs[..], &[vec![124, 125, 126]]].concat(), vec![124, 126]);
-    let last = vec![vec![125, 126], vec![124, 125, 126, 127]];
-    let between = ([&pairs[..61], &last].concat(), vec![124, 125, 126]);
+/// So many groups, nearly all of them pairs; a small list, two equal ones, and one more below the last family's or between
+/// its two.
+fn one_more(count: usize) -> impl Iterator<Item = Case> {
+    let pairs: Vec<Vec<u8>> = (0..64).map(|i| vec![2 * i, 2 * i + 1]).collect();
+    let rising = [125, 126, 127].map(|end| (122..end).collect::<Vec<u8>>());
+    let below = ([&pairs[..count - 3], &rising].concat(), vec![122, 124]);
+    let apart = [vec![125, 126], vec![124, 125, 126, 127]];
+    let between = ([&pairs[..count - 2], &apart].concat(), vec![124, 125, 126]);
     [below, between].into_iter().map(|(groups, more)| {
-        let staged = groups.concat();
-        let mut runs = vec![run_of(staged.iter().map(|&kind| tape::reg(kind)).collect())];
-        let grouped = groups.iter().flat_map(|group| tape::with(group, tape::group()));
-        runs.push(run_of(grouped.collect()));
-        for list in [&[5][..], &groups[0], &groups[62], &more] {
-            runs.push(run_of(tape::with(list, tape::group())));
-        }
+        let mut kinds = groups.concat();
+        kinds.sort();
+        kinds.dedup();
+        let mut runs = vec![run_of(kinds.into_iter().map(tape::reg).collect())];
+        let all = groups.iter().flat_map(|group| tape::with(group, tape::group()));
+        runs.push(run_of(all.collect()));
+        let lists = [&[5][..], &groups[0], &groups[groups.len() - 1], &more];
+        runs.extend(lists.into_iter().map(|list| run_of(tape::with(list, tape::group()))));
         runs.push(run_of(vec![tape::new(), tape::apply()]));
         Case {
             n: 1,
@@ -532,11 +563,7 @@ fn one_too_many() -> impl Iterator<Item = Case> {
 }
 
 fn limit_case(groups: &[Vec<u8>]) -> Case {
-    let mut runs = vec![run_of((0..128).map(tape::reg).collect())];
-    for groups in groups.chunks(8) {
-        let chunks = groups.iter().flat_map(|group| tape::with(group, tape::group()));
-        runs.push(run_of(chunks.collect()));
-    }
+    let mut runs = drafted(groups);
     let rising = |end: u8| -> Vec<u8> { (0..end).collect() };
     let more: [&[u8]; 14] = [
         &[3],
@@ -544,7 +571,7 @@ fn limit_case(groups: &[Vec<u8>]) -> Case {
         &rising(8),
         &[0, 16],
         &[0, 3],
-        &rising(16),
+        &(8..24).collect::<Vec<u8>>(),
         // Below, between, and each again.
         &[1, 0],
         &[0, 1],
@@ -555,9 +582,7 @@ fn limit_case(groups: &[Vec<u8>]) -> Case {
         &[34, 32, 33, 36, 35],
         &[64, 65],
     ];
-    for list in more {
-        runs.push(run_of([tape::with(list, tape::group()), vec![tape::empty()]].concat()));
-    }
+    runs.extend(more.into_iter().map(grouped));
     // Entities before and after the layout is applied.
     let news = |from: usize| -> Run {
         let list = |i: usize| &groups[(from + 7 * i) % groups.len()];

@@ -1,11 +1,13 @@
 //! Random cases: they lean to commands that are accepted, and change layouts while entities exist, remove, destroy
 //! and reuse. Some are damaged, some get too little room, some start where versions run out.
 
-use crate::compare::{Difference, Figures, Make, Pair};
+use crate::compare::{Beside, Difference, Figures, Make, Pair};
 use crate::drafts;
+use crate::past::{self, Scout};
 use crate::rng::Rng;
+use crate::side::Known;
 use crate::tape::{self, Case, Chunk, Run, ROOMY};
-use sparsey::harness::{kinds_of, set_of, Id, Oracle, Preset, Sets};
+use sparsey::harness::{kinds_of, set_of, Id, Preset};
 
 /// What a case is like.
 struct Profile {
@@ -23,6 +25,10 @@ struct Profile {
     steps: usize,
     /// Values of this many bits.
     bits: u32,
+    /// The most kinds of a family.
+    widest: usize,
+    /// One family in so many is a layout's last.
+    families: usize,
 }
 
 // The steps, in the order of the weights: create, put, take, drop, kill, wipe, relayout, range, register, empty,
@@ -33,7 +39,40 @@ const RELAYOUT: [usize; 12] = [6, 6, 2, 2, 2, 0, 8, 4, 1, 0, 0, 2];
 const REMOVE: [usize; 12] = [6, 10, 8, 8, 2, 1, 1, 2, 0, 0, 0, 0];
 const DRAFT: [usize; 12] = [2, 2, 0, 0, 1, 0, 3, 6, 3, 1, 1, 10];
 
-fn profile(rng: &mut Rng) -> (Profile, usize, usize) {
+fn profile(rng: &mut Rng, beside: Beside) -> (Profile, usize, usize) {
+    match beside {
+        Beside::Rust(_) => within_reach(rng),
+        Beside::Reference => past_reach(rng),
+    }
+}
+
+/// Families of 16 kinds, and many groups.
+fn past_reach(rng: &mut Rng) -> (Profile, usize, usize) {
+    let is_wide = rng.once_in(2);
+    let k = if is_wide {
+        rng.between(16, 34)
+    } else {
+        rng.between(100, 128)
+    };
+    let mut kinds: Vec<u8> = (0..128).collect();
+    rng.shuffle(&mut kinds);
+    kinds.truncate(k);
+    let profile = Profile {
+        kinds,
+        weights: *rng.pick(&[EVEN, CHURN, RELAYOUT, REMOVE, DRAFT]),
+        noise: *rng.pick(&[0, 0, 40]),
+        damage: *rng.pick(&[0, 0, 0, 12]),
+        tight: *rng.pick(&[0, 0, 0, 6]),
+        runs: rng.between(3, 8),
+        steps: rng.between(4, 16),
+        bits: *rng.pick(&[4, 64]),
+        widest: 16,
+        families: if is_wide { 6 } else { 200 },
+    };
+    (profile, rng.between(3, 12), k)
+}
+
+fn within_reach(rng: &mut Rng) -> (Profile, usize, usize) {
     let (n, k, runs, steps) = match rng.below(20) {
         0..=8 => (
             rng.between(1, 6),
@@ -85,6 +124,8 @@ fn profile(rng: &mut Rng) -> (Profile, usize, usize) {
         runs,
         steps,
         bits: *rng.pick(&[0, 4, 40, 64]),
+        widest: 15,
+        families: 4,
     };
     (profile, n, k)
 }
@@ -113,7 +154,7 @@ fn preset(rng: &mut Rng, n: usize) -> Preset {
     preset
 }
 
-/// Makes steps for a store that is in the state of the Rust's.
+/// Makes steps for a store that is in the state of the known side's.
 struct Steps<'a> {
     rng: &'a mut Rng,
     profile: &'a Profile,
@@ -131,18 +172,16 @@ fn holds(outer: &[u8], inner: &[u8]) -> bool {
 }
 
 impl<'a> Steps<'a> {
-    fn new(rng: &'a mut Rng, profile: &'a Profile, rust: &Oracle) -> Self {
+    fn new(rng: &'a mut Rng, profile: &'a Profile, known: &mut dyn Known) -> Self {
+        let groups = known.families().map(|families| families.concat());
+        let [drafted, groups] = groups.map(|groups| groups.into_iter().map(kinds_of).collect());
         Self {
             rng,
             profile,
-            live: rust.live(),
-            registered: rust.registered(),
-            groups: rust.groups().into_iter().map(|(kinds, _)| kinds).collect(),
-            drafted: rust.families()[0]
-                .iter()
-                .flatten()
-                .map(|&group| kinds_of(group))
-                .collect(),
+            live: known.live(),
+            registered: known.registered(),
+            groups,
+            drafted,
             chunks: vec![],
         }
     }
@@ -246,8 +285,8 @@ impl<'a> Steps<'a> {
         self.rng.shuffle(&mut kinds);
         let mut groups = vec![];
         let mut rest = &kinds[..];
-        while rest.len() >= 2 && !self.rng.once_in(4) {
-            let arity = self.rng.between(2, rest.len().min(15));
+        while rest.len() >= 2 && !self.rng.once_in(self.profile.families) {
+            let arity = self.rng.between(2, rest.len().min(self.profile.widest));
             let (family, others) = rest.split_at(arity);
             rest = others;
             let mut at = self.rng.between(2, arity.min(4));
@@ -280,17 +319,26 @@ impl<'a> Steps<'a> {
         }
     }
 
+    /// Whether the groups of the draft form a layout with these kinds.
+    fn joins(&self, kinds: &[u8]) -> bool {
+        let drafted = self.drafted.iter().map(|group| set_of(group));
+        let sets: Vec<u128> = drafted.chain([set_of(kinds)]).collect();
+        drafts::formed(&sets).is_some()
+    }
+
     /// GROUP of these kinds. What it would leave staged is mostly emptied.
     fn group_of(&mut self, mut kinds: Vec<u8>) {
         if self.rng.once_in(2) {
             self.rng.shuffle(&mut kinds);
         }
+        kinds.truncate(16);
+        if self.joins(&kinds) {
+            kinds.truncate(self.profile.widest);
+        }
         self.hold(&kinds);
         self.chunks.push(tape::group());
-        let mut sets: Vec<u128> = self.drafted.iter().map(|group| set_of(group)).collect();
-        let is_new = !sets.contains(&set_of(&kinds));
-        sets.push(set_of(&kinds));
-        if drafts::formed(&sets).is_none() || kinds.len() > 15 {
+        let is_new = !self.drafted.iter().any(|group| set_of(group) == set_of(&kinds));
+        if !self.joins(&kinds) {
             if !self.rng.once_in(4) {
                 self.chunks.push(tape::empty());
             }
@@ -501,10 +549,33 @@ impl<'a> Steps<'a> {
     }
 }
 
-/// One random case, compared as it grows. `Err` has the case and where the sides part.
-pub fn random_case(seed: u64, sets: Sets, make: Make) -> Result<(Case, Figures), Difference> {
+/// A run for the state that the pair is in.
+fn random_run(rng: &mut Rng, profile: &Profile, pair: &mut Pair) -> Run {
+    if rng.once_in(8) {
+        return pair.range_run();
+    }
+    let mut steps = Steps::new(rng, profile, &mut *pair.known);
+    for _ in 0..profile.steps {
+        steps.step();
+    }
+    steps.finish()
+}
+
+/// The first such run that the scout can follow.
+fn next_run(rng: &mut Rng, profile: &Profile, pair: &mut Pair, scout: &mut Scout) -> Run {
+    loop {
+        let run = random_run(rng, profile, pair);
+        if scout.follows(&run) {
+            return run;
+        }
+    }
+}
+
+/// One random case, compared as it grows. `Err` has the case and where the sides part. Beside the Rust no run takes the
+/// draft past its reach.
+pub fn random_case(seed: u64, beside: Beside, make: Make) -> Result<(Case, Figures), Difference> {
     let rng = &mut Rng::new(seed);
-    let (profile, n, k) = profile(rng);
+    let (profile, n, k) = profile(rng, beside);
     let preset = rng.once_in(6).then(|| preset(rng, n));
     let mut case = Case {
         n,
@@ -517,44 +588,43 @@ pub fn random_case(seed: u64, sets: Sets, make: Make) -> Result<(Case, Figures),
         case: case.clone(),
         what,
     };
-    let mut pair = Pair::start(&case, sets, make).map_err(|what| part(&case, what))?;
+    let mut pair = Pair::start(&case, beside, make).map_err(|what| part(&case, what))?;
+    let mut scout = Scout::start(&case, beside);
+    let registering = Run::new(profile.kinds.iter().map(|&kind| tape::reg(kind)).collect());
+    assert!(scout.follows(&registering));
+    case.runs.push(registering);
     for i in 0..=profile.runs {
-        let run = match i {
-            0 => Run::new(profile.kinds.iter().map(|&kind| tape::reg(kind)).collect()),
-            _ if rng.once_in(8) => pair.range_run(),
-            _ => {
-                let mut steps = Steps::new(rng, &profile, &pair.rust);
-                for _ in 0..profile.steps {
-                    steps.step();
-                }
-                steps.finish()
-            }
-        };
-        case.runs.push(run);
         pair.step(&case.runs[i], true).map_err(|what| part(&case, what))?;
+        if i < profile.runs {
+            case.runs.push(next_run(rng, &profile, &mut pair, &mut scout));
+        }
     }
     pair.ranges().map_err(|what| part(&case, what))?;
     Ok((case, pair.finish()))
 }
 
-/// The case again with one run in a buffer that its answers fill exactly, and in one a byte short, and then the rest
-/// of that run's tape in another run.
-pub fn tight_case(seed: u64, case: &Case, sets: Sets, make: Make) -> Result<Figures, Difference> {
-    let rng = &mut Rng::new(seed);
-    let mut figures = Figures::default();
-    let at = rng.below(case.runs.len());
-
-    // The bytes that the run answers with, on the Rust alone.
-    let mut rust = Oracle::new(sets);
-    rust.start(usize::MAX, case.n, case.k);
+/// The bytes that the run of this number answers with, on the known side alone.
+fn written(case: &Case, at: usize, beside: Beside) -> usize {
+    let mut known = beside.known();
+    known.start(usize::MAX, case.n, case.k);
     if let Some(preset) = &case.preset {
-        rust.preset(preset);
+        known.preset(preset);
     }
     let mut written = 0;
     for run in &case.runs[..=at] {
         let mut out = vec![0; run.room.min(1 << 20)];
-        written = rust.run(&run.tape(), &mut out).written;
+        written = known.run(&run.tape(), &mut out).written;
     }
+    written
+}
+
+/// The case again with one run in a buffer that its answers fill exactly, and in one a byte short, and then the rest
+/// of that run's tape in another run.
+pub fn tight_case(seed: u64, case: &Case, beside: Beside, make: Make) -> Result<Figures, Difference> {
+    let rng = &mut Rng::new(seed);
+    let mut figures = Figures::default();
+    let at = rng.below(case.runs.len());
+    let written = written(case, at, beside);
 
     for room in [written, written.saturating_sub(1), rng.below(written + 1)] {
         let mut tight = case.clone();
@@ -564,15 +634,18 @@ pub fn tight_case(seed: u64, case: &Case, sets: Sets, make: Make) -> Result<Figu
             case: case.clone(),
             what,
         };
-        let mut pair = Pair::start(&tight, sets, make).map_err(|what| part(what, &tight))?;
+        let mut pair = Pair::start(&tight, beside, make).map_err(|what| part(what, &tight))?;
         let mut read = 0;
         for run in &tight.runs {
             read = pair.step(run, true).map_err(|what| part(what, &tight))?.read;
         }
         let rest = tight.runs[at].tape()[read..].to_vec();
         tight.runs.push(Run::new(vec![rest]));
-        pair.step(&tight.runs[at + 1], true)
-            .map_err(|what| part(what, &tight))?;
+        // The case itself may have had no room for the rest.
+        if beside == Beside::Reference || past::is_within_reach(&tight) {
+            pair.step(&tight.runs[at + 1], true)
+                .map_err(|what| part(what, &tight))?;
+        }
         pair.ranges().map_err(|what| part(what, &tight))?;
         figures.add(&pair.finish());
     }

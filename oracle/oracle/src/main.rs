@@ -1,6 +1,7 @@
 //! Runs document 01's tapes on the Rust and on another side, and compares.
 
 mod compare;
+mod demand;
 mod drafts;
 mod examples;
 mod faults;
@@ -9,6 +10,7 @@ mod generate;
 #[cfg(feature = "linked")]
 mod linked;
 mod listing;
+mod past;
 mod record;
 mod reference;
 mod rng;
@@ -17,7 +19,8 @@ mod tape;
 #[cfg(test)]
 mod tests;
 
-use compare::{shrink, Difference, Figures, Make, Pair};
+use compare::{shrink, Beside, Difference, Figures, Make, Pair};
+use fixed::Part;
 use reference::Reference;
 use side::Side;
 use sparsey::harness::{words_needed, Oracle, Preset, Sets};
@@ -29,6 +32,8 @@ use tape::{Case, Run};
 struct Options {
     seed: u64,
     count: u64,
+    /// Commands of random cases past the Rust's reach.
+    past: u64,
     /// Random cases for each fault.
     cases: usize,
     quick: bool,
@@ -49,6 +54,7 @@ fn options() -> (String, Options) {
     let mut options = Options {
         seed: 1,
         count: 2_000_000,
+        past: 1_000_000,
         cases: 300,
         quick: false,
         show: false,
@@ -70,6 +76,7 @@ fn options() -> (String, Options) {
         match arg.as_str() {
             "--seed" => options.seed = number(),
             "--count" => options.count = number(),
+            "--past" => options.past = number(),
             "--cases" => options.cases = number() as usize,
             "--kilobytes" => options.kilobytes = number() as usize,
             "--quick" => options.quick = true,
@@ -91,11 +98,14 @@ fn main() -> ExitCode {
         "drafts" => show_drafts(make),
         "examples" => check_examples(&options, make),
         "faults" => show_faults(&options),
+        "past" => code(compare_past_the_rust(&options, make)),
         "record" => record_answers(&options),
         "replay" => replay_answers(&options, make),
         "wear" => wear(make),
         _ => {
-            eprintln!("oracle all | compare | drafts | examples | faults | record | replay | wear: see README.md");
+            eprintln!(
+                "oracle all | compare | drafts | examples | faults | past | record | replay | wear: see README.md"
+            );
             ExitCode::from(2)
         }
     }
@@ -118,27 +128,18 @@ fn progress(name: &str, figures: &Figures, since: Instant) {
     );
 }
 
-fn report(difference: &Difference, sets: Sets, make: Make) {
+fn report(difference: &Difference, beside: Beside, make: Make) {
     println!("DIFFERENCE\n{}", difference.text());
-    match shrink(&difference.case, sets, make) {
+    match shrink(&difference.case, beside, make) {
         Some(least) => println!("cut down to\n{}", least.text()),
         None => println!("it did not come again when the case was run anew"),
     }
 }
 
-/// Everything that is fixed, then random cases until `count` commands of them are compared.
-fn compare_everything(options: &Options, make: Make) -> ExitCode {
-    let since = Instant::now();
-    let mut fixed = Figures::default();
-    match fixed::starts(Sets::Tuples, make) {
-        Ok(figures) => fixed.add(&figures),
-        Err(what) => {
-            println!("DIFFERENCE at start: {what}");
-            return ExitCode::FAILURE;
-        }
-    }
-    let exhaustive = if options.quick { vec![] } else { fixed::exhaustive() };
-    for part in fixed::limits(4096).into_iter().chain(exhaustive) {
+/// The figures of all the parts; `None` where a difference was found and reported.
+fn compare_parts(parts: Vec<Part>, beside: Beside, make: Make, since: Instant) -> Option<Figures> {
+    let mut figures = Figures::default();
+    for part in parts {
         let mut shown = Instant::now();
         let watched = part.cases.inspect(|_| {
             if shown.elapsed().as_secs() >= 10 {
@@ -146,41 +147,79 @@ fn compare_everything(options: &Options, make: Make) -> ExitCode {
                 eprintln!("{:>7.1} s  {} ..", since.elapsed().as_secs_f64(), part.name);
             }
         });
-        match fixed::compare_all(watched, Sets::Tuples, make) {
-            Ok(figures) => fixed.add(&figures),
+        match fixed::compare_all(watched, beside, make) {
+            Ok(more) => figures.add(&more),
             Err(difference) => {
-                report(&difference, Sets::Tuples, make);
-                return ExitCode::FAILURE;
+                report(&difference, beside, make);
+                return None;
             }
         }
-        progress(part.name, &fixed, since);
+        progress(part.name, &figures, since);
     }
+    Some(figures)
+}
 
-    let mut random = Figures::default();
-    let mut cases = 0;
+/// One random case, and one in five again with little room.
+fn compare_random(seed: u64, case: u64, beside: Beside, make: Make) -> Result<Figures, Difference> {
+    let seed = seed.wrapping_mul(0x1_0000_0000).wrapping_add(case);
+    let (compared, mut figures) = generate::random_case(seed, beside, make)?;
+    if case % 5 == 4 {
+        figures.add(&generate::tight_case(seed, &compared, beside, make)?);
+    }
+    Ok(figures)
+}
+
+/// Random cases until `count` commands are compared, each beside what `beside` gives for its number.
+fn compare_randoms(seed: u64, count: u64, beside: fn(u64) -> Beside, make: Make, since: Instant) -> Option<Figures> {
+    let mut figures = Figures::default();
     let mut shown = Instant::now();
-    while random.commands < options.count {
-        let seed = options.seed.wrapping_mul(0x1_0000_0000).wrapping_add(cases);
-        let sets = if cases % 3 == 0 { Sets::Staged } else { Sets::Tuples };
-        cases += 1;
-        let outcome = generate::random_case(seed, sets, make).and_then(|(case, figures)| {
-            random.add(&figures);
-            match cases % 5 {
-                0 => generate::tight_case(seed, &case, sets, make).map(|figures| random.add(&figures)),
-                _ => Ok(()),
+    for case in 0.. {
+        if figures.commands >= count {
+            break;
+        }
+        match compare_random(seed, case, beside(case), make) {
+            Ok(more) => figures.add(&more),
+            Err(difference) => {
+                println!("seed {seed}, case {case}");
+                report(&difference, beside(case), make);
+                return None;
             }
-        });
-        if let Err(difference) = outcome {
-            println!("seed {seed}");
-            report(&difference, sets, make);
-            return ExitCode::FAILURE;
         }
         if shown.elapsed().as_secs() >= 5 {
             shown = Instant::now();
-            progress("random", &random, since);
+            progress("random", &figures, since);
         }
     }
+    Some(figures)
+}
 
+/// Everything that is fixed, then random cases until `count` commands of them are compared; then both past the Rust.
+fn compare_everything(options: &Options, make: Make) -> ExitCode {
+    code(compare_beside_the_rust(options, make).and_then(|()| compare_past_the_rust(options, make)))
+}
+
+/// Success where nothing differs.
+fn code(compared: Option<()>) -> ExitCode {
+    match compared {
+        Some(()) => ExitCode::SUCCESS,
+        None => ExitCode::FAILURE,
+    }
+}
+
+fn compare_beside_the_rust(options: &Options, make: Make) -> Option<()> {
+    let since = Instant::now();
+    let rust = Beside::Rust(Sets::Tuples);
+    let mut fixed = fixed::starts(rust, make)
+        .inspect_err(|what| println!("DIFFERENCE at start: {what}"))
+        .ok()?;
+    let exhaustive = if options.quick { vec![] } else { fixed::exhaustive() };
+    let parts = fixed::limits(4096).into_iter().chain(exhaustive).collect();
+    fixed.add(&compare_parts(parts, rust, make, since)?);
+    let sets = |case| match case % 3 {
+        0 => Beside::Rust(Sets::Staged),
+        _ => Beside::Rust(Sets::Tuples),
+    };
+    let random = compare_randoms(options.seed, options.count, sets, make, since)?;
     println!("fixed: {}", fixed.text());
     println!("random, seed {}: {}", options.seed, random.text());
     println!(
@@ -189,7 +228,24 @@ fn compare_everything(options: &Options, make: Make) -> ExitCode {
         fixed.commands + random.commands,
         since.elapsed().as_secs_f64()
     );
-    ExitCode::SUCCESS
+    Some(())
+}
+
+/// Families of 16 kinds and layouts of 64 groups: the reference beside the linked store, both held to the definition.
+/// Without the library that is the reference beside itself, and only the definition judges.
+fn compare_past_the_rust(options: &Options, make: Make) -> Option<()> {
+    let since = Instant::now();
+    let fixed = compare_parts(past::parts(), Beside::Reference, make, since)?;
+    let random = compare_randoms(options.seed, options.past, |_| Beside::Reference, make, since)?;
+    println!("past the Rust, fixed: {}", fixed.text());
+    println!("past the Rust, random, seed {}: {}", options.seed, random.text());
+    println!(
+        "no difference between the reference, the {} and the definition in {} commands, {:.0} s",
+        make().name(),
+        fixed.commands + random.commands,
+        since.elapsed().as_secs_f64()
+    );
+    Some(())
 }
 
 /// Runs `f` with panics kept quiet, for panics that are looked for.
@@ -202,12 +258,15 @@ fn quietly<T>(f: impl FnOnce() -> T) -> T {
 }
 
 fn show_faults(options: &Options) -> ExitCode {
-    let mut missed = 0;
-    println!("| fault | random cases | limits | start | commands in the smallest tape |");
-    println!("|---|---|---|---|---|");
+    let plain = faults::find(None, options.seed, options.cases);
+    assert!(!plain.is_found(), "the reference as it is differs: {}", plain.line());
+    let (mut missed, since) = (0, Instant::now());
+    println!("| fault | random cases | limits | past the Rust | start | commands in the smallest tape |");
+    println!("|---|---|---|---|---|---|");
     for &fault in reference::Fault::ALL {
-        let found = quietly(|| faults::find(fault, options.seed, options.cases));
+        let found = quietly(|| faults::find(Some(fault), options.seed, options.cases));
         println!("{}", found.line());
+        eprintln!("{:>7.1} s  {}", since.elapsed().as_secs_f64(), fault.text());
         missed += usize::from(!found.is_found());
         if let Some(least) = found.least.filter(|_| options.show) {
             println!("{}", least.text());
@@ -293,11 +352,11 @@ fn wear(make: Make) -> ExitCode {
         }),
         runs: vec![],
     };
-    let mut pair = Pair::start(&case, Sets::Tuples, make).unwrap();
+    let mut pair = Pair::start(&case, Beside::Rust(Sets::Tuples), make).unwrap();
     let mut worn = Oracle::new(Sets::Tuples);
     worn.start(words_needed(2, 1), 2, 1);
     worn.wear(u64::from(version) - 1);
-    pair.rust = worn;
+    pair.known = Box::new(worn);
     let mut chunks = vec![tape::reg(5)];
     for version in version..=u32::MAX {
         chunks.extend([tape::hold(5, 9), tape::new(), tape::kill((0, version))]);

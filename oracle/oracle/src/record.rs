@@ -1,12 +1,13 @@
 //! A sample of tapes with what the Rust answered, in one file, for a program that replays it. README.md has the
 //! format.
 
+use crate::compare::Beside;
 use crate::fixed;
 use crate::generate;
 use crate::reference::Reference;
 use crate::side::Side;
 use crate::tape::{self, Case, Run};
-use sparsey::harness::{words_needed, Oracle, Sets};
+use sparsey::harness::{is_within_reach, words_needed, Oracle, Sets};
 
 const MAGIC: &[u8; 8] = b"TAPES 1\n";
 
@@ -16,7 +17,8 @@ pub const MOST_TAPE: usize = 4096;
 pub const MOST_ROOM: usize = 4096;
 pub const MOST_ROLL: usize = 4096;
 
-/// The case with what the Rust answered, or nothing if it is too large to be recorded.
+/// The case with what the Rust answered, or nothing if it is too large to be recorded, or if its draft goes past the Rust's
+/// reach, where the harness answers alone.
 fn recorded(case: &Case) -> Option<Vec<u8>> {
     if case.preset.is_some() || words_needed(case.n, case.k) > MOST_WORDS || case.runs.len() > 255 {
         return None;
@@ -34,6 +36,9 @@ fn recorded(case: &Case) -> Option<Vec<u8>> {
         }
         let mut out = vec![0; room];
         let ran = rust.run(&tape, &mut out);
+        if !is_within_reach(&rust.families()[0]) {
+            return None;
+        }
         for number in [tape.len(), room] {
             bytes.extend((number as u16).to_le_bytes());
         }
@@ -167,7 +172,7 @@ pub fn write(seed: u64, budget: usize) -> Vec<u8> {
     while cases.iter().map(Vec::len).sum::<usize>() < budget {
         let seed = seed.wrapping_mul(0x1_0000_0000).wrapping_add(random);
         random += 1;
-        let (case, _) = generate::random_case(seed, Sets::Staged, make)
+        let (case, _) = generate::random_case(seed, Beside::Rust(Sets::Staged), make)
             .unwrap_or_else(|difference| panic!("{}", difference.text()));
         cases.extend(recorded(&case).filter(|bytes| bytes.len() < 1500));
     }

@@ -1,7 +1,7 @@
 //! Documents 01 and 02 again, in plain lists: no sparse sets, no masks, every lookup a search. It is written after the
 //! papers' definitions and shares no code with the harness. A fault can be switched on, to see whether the comparison finds it.
 
-use crate::side::Side;
+use crate::side::{Known, Seen, Side};
 use sparsey::harness::{Families, Id, Preset, Ran};
 use std::collections::{BTreeMap, BTreeSet, VecDeque};
 
@@ -75,7 +75,7 @@ faults! {
     FifteenStaged: "fifteen kinds can be staged",
     RoomByAnswerGiven: "NOROOM goes by the answer given, not the accepted one",
     CutBeforeUnknown: "an unknown byte at the tape's end is CUT",
-    WideAfterClash: "CLASH comes before WIDE",
+    SixteenWide: "a group of 16 kinds is WIDE",
     ClashBeforeEqual: "a group equal to one present clashes",
     EqualAsLists: "a group equal to one present is added if its kinds come in another order",
     EqualToLargestOnly: "a group equal to one present is added if that is not its family's largest",
@@ -92,9 +92,19 @@ faults! {
     GroupAtEnd: "a new group goes to its family's end, whatever its place",
     GroupAtStart: "a new group that is not its family's largest goes to the family's start",
     NextRingKept: "the next larger group's ring keeps the new group's kinds",
-    SixtyFourGroups: "a draft holds 64 groups",
-    ManyAboveOnly: "a 64th group is added if it goes below or between",
+    SixtyThreeGroups: "63 groups are the most",
+    ManyAboveOnly: "a 65th group is added if it goes below or between",
     ManyBeforeEqual: "MANY comes before nothing added",
+    SixteenthNotAsked: "the walk upward does not ask for a family's sixteenth kind",
+    SixteenthNotSwapped: "walks swap rows in a family's first fifteen columns only",
+    SixteenthPutAlone: "inserting a family's sixteenth kind walks no group",
+    SixteenthRemovedAlone: "removing a family's sixteenth kind leaves no group",
+    UpwardOneShort: "the walk upward loses the 64th group",
+    RemovalOneShort: "a removal's walk loses the 64th group",
+    KillOneShort: "a destroyed entity does not leave the 64th group",
+    WipeOneShort: "WIPE keeps the 64th group's count",
+    RangeFifteen: "RANGE finds no group of 16 kinds",
+    RingFifteen: "RANGE finds nothing where the excluded ring ends at the sixteenth kind",
     KindsBeforeKnown: "KINDS is answered for a known kind too",
     FullByLive: "FULL goes by the entities live",
     RefusalCountWraps: "the refusal count starts over after 4,294,967,295",
@@ -103,6 +113,9 @@ faults! {
     RollByRegistration: "the roll's parts follow the order of registration",
     StartKeepsRefusalCount: "a second start keeps the refusal count",
 }
+
+const MOST_KINDS: usize = 16;
+const MOST_GROUPS: usize = 64;
 
 #[derive(Clone, Debug)]
 struct Row {
@@ -120,6 +133,10 @@ struct Family {
 impl Family {
     fn kinds(&self, group: usize) -> Vec<u8> {
         self.new_kinds[..=group].concat()
+    }
+
+    fn arity(&self, group: usize) -> usize {
+        self.new_kinds[..=group].iter().map(Vec::len).sum()
     }
 
     /// The kinds of each group, the smallest first.
@@ -163,6 +180,7 @@ struct Store {
     excluded: Vec<u8>,
     refusals: u32,
     commands: u64,
+    seen: Seen,
 }
 
 /// The plain side.
@@ -174,17 +192,11 @@ pub struct Reference {
 
 impl Reference {
     pub fn new() -> Self {
-        Self {
-            fault: None,
-            store: None,
-        }
+        Self::with(None)
     }
 
-    pub fn with(fault: Fault) -> Self {
-        Self {
-            fault: Some(fault),
-            store: None,
-        }
+    pub fn with(fault: Option<Fault>) -> Self {
+        Self { fault, store: None }
     }
 }
 
@@ -218,6 +230,7 @@ impl Side for Reference {
                 .filter(|_| self.fault == Some(Fault::StartKeepsRefusalCount))
                 .map_or(0, |old| old.refusals),
             commands: 0,
+            seen: Seen::default(),
         });
         0
     }
@@ -284,6 +297,21 @@ impl Side for Reference {
     }
 }
 
+impl Known for Reference {
+    fn registered(&self) -> Vec<u8> {
+        let columns = self.store.as_ref().map(|store| store.columns.keys());
+        columns.map_or(vec![], |kinds| kinds.copied().collect())
+    }
+
+    fn length(&self, kind: u8) -> Option<usize> {
+        Some(self.store.as_ref()?.columns.get(&kind)?.len())
+    }
+
+    fn seen(&self) -> Seen {
+        self.store.as_ref().map_or(Seen::default(), |store| store.seen)
+    }
+}
+
 /// Operand bytes by command byte.
 fn width(byte: u8) -> usize {
     match byte {
@@ -325,6 +353,7 @@ impl Store {
             }
             let (byte, width) = (rest[0], width(rest[0]));
             let answer = self.answer(byte, &rest[1..1 + width]);
+            self.seen[usize::from(byte)][usize::from(answer[0])] += 1;
             out[ran.written..ran.written + answer.len()].copy_from_slice(&answer);
             ran.written += answer.len();
             ran.read += 1 + width;
@@ -439,7 +468,7 @@ impl Store {
         if self.staged.iter().any(|held| held.0 == kind) {
             return Err(9);
         }
-        if self.staged.len() == if self.has(Fault::FifteenStaged) { 15 } else { 16 } {
+        if self.staged.len() == if self.has(Fault::FifteenStaged) { 15 } else { MOST_KINDS } {
             return Err(10);
         }
         self.staged.push((kind, value));
@@ -454,7 +483,7 @@ impl Store {
         if self.excluded.contains(&kind) || self.has(Fault::AgainAcrossLists) && is_staged {
             return Err(9);
         }
-        if self.excluded.len() == 16 {
+        if self.excluded.len() == MOST_KINDS {
             return Err(10);
         }
         self.excluded.push(kind);
@@ -535,10 +564,11 @@ impl Store {
             }
         }
         for family in 0..self.layout.len() {
-            if staged
-                .iter()
-                .any(|&(kind, _)| self.layout[family].own_group(kind).is_some())
-            {
+            let touches = |&(kind, _): &(u8, u64)| {
+                self.layout[family].own_group(kind).is_some()
+                    && !self.is_sixteenth(Fault::SixteenthPutAlone, family, kind)
+            };
+            if staged.iter().any(touches) {
                 self.enter(family, entity);
             }
         }
@@ -546,29 +576,42 @@ impl Store {
 
     fn enter(&mut self, family: usize, entity: Id) {
         for group in 0..self.layout[family].new_kinds.len() {
+            if self.is_64th(Fault::UpwardOneShort, family, group) {
+                return;
+            }
             let (family, group) = self.folded(Fault::UpwardFolded, family, group);
             let new = self.layout[family].new_kinds[group].clone();
-            if new.iter().any(|&kind| self.place(kind, entity).is_none()) {
+            let asked = |kind: u8| !self.is_sixteenth(Fault::SixteenthNotAsked, family, kind);
+            if new
+                .iter()
+                .any(|&kind| asked(kind) && self.place(kind, entity).is_none())
+            {
                 match self.has(Fault::GoOnUpward) {
                     true => continue,
                     false => return,
                 }
             }
             let count = self.layout[family].counts[group];
-            if self.place(new[0], entity).unwrap() < count {
+            if self.place(new[0], entity).is_some_and(|place| place < count) {
                 continue;
             }
-            let kinds = match self.has(Fault::SwapNewKindsOnly) {
-                true => new,
-                false => self.layout[family].kinds(group),
-            };
-            for kind in kinds {
+            for kind in self.swapped(family, group) {
                 if let Some(place) = self.place(kind, entity) {
                     self.swap(kind, place, count);
                 }
             }
             self.layout[family].counts[group] += 1;
         }
+    }
+
+    /// The kinds in whose columns a walk swaps at a group.
+    fn swapped(&self, family: usize, group: usize) -> Vec<u8> {
+        let mut kinds = match self.has(Fault::SwapNewKindsOnly) {
+            true => self.layout[family].new_kinds[group].clone(),
+            false => self.layout[family].kinds(group),
+        };
+        kinds.retain(|&kind| !self.is_sixteenth(Fault::SixteenthNotSwapped, family, kind));
+        kinds
     }
 
     /// Leaves a group, if the entity is inside.
@@ -581,11 +624,7 @@ impl Store {
         if !inside {
             return;
         }
-        let kinds = match self.has(Fault::SwapNewKindsOnly) {
-            true => new,
-            false => self.layout[family].kinds(group),
-        };
-        for kind in kinds {
+        for kind in self.swapped(family, group) {
             if let Some(place) = self.place(kind, entity) {
                 self.swap(kind, place, count - 1);
             }
@@ -604,13 +643,29 @@ impl Store {
         groups
     }
 
+    /// How many groups stand before this one in the layout.
+    fn position(&self, family: usize, group: usize) -> usize {
+        let before = &self.layout[..family];
+        before.iter().map(|family| family.new_kinds.len()).sum::<usize>() + group
+    }
+
+    /// Whether there is the fault, and the group is the last that a layout has room for.
+    fn is_64th(&self, fault: Fault, family: usize, group: usize) -> bool {
+        self.has(fault) && self.position(family, group) == MOST_GROUPS - 1
+    }
+
+    /// Whether there is the fault, and the kind is the last that its family has room for.
+    fn is_sixteenth(&self, fault: Fault, family: usize, kind: u8) -> bool {
+        self.has(fault) && self.layout[family].new_kinds.concat().get(MOST_KINDS - 1) == Some(&kind)
+    }
+
     /// The family and group themselves; with the fault those at the position's remainder by 32.
     fn folded(&self, fault: Fault, family: usize, group: usize) -> (usize, usize) {
         if !self.has(fault) {
             return (family, group);
         }
         let length = |family: usize| self.layout[family].new_kinds.len();
-        let mut position = ((0..family).map(length).sum::<usize>() + group) % 32;
+        let mut position = self.position(family, group) % 32;
         let mut family = 0;
         while position >= length(family) {
             position -= length(family);
@@ -640,10 +695,15 @@ impl Store {
             .has(Fault::RemoveBeforeLeaving)
             .then(|| self.remove_rows(entity, kinds));
         for family in 0..self.layout.len() {
-            let own = kinds.iter().filter_map(|&kind| self.layout[family].own_group(kind));
+            let walks = |kind: &&u8| !self.is_sixteenth(Fault::SixteenthRemovedAlone, family, **kind);
+            let own = kinds.iter().filter(walks);
+            let own = own.filter_map(|&kind| self.layout[family].own_group(kind));
             if let Some(lowest) = own.min() {
                 let lowest = if self.has(Fault::LeaveFromSmallest) { 0 } else { lowest };
                 for group in self.groups_from(family, lowest) {
+                    if self.is_64th(Fault::RemovalOneShort, family, group) {
+                        continue;
+                    }
                     let (family, group) = self.folded(Fault::RemovalFolded, family, group);
                     self.leave(family, group, entity);
                 }
@@ -686,7 +746,9 @@ impl Store {
         if !self.has(Fault::KillLeavesNoGroup) {
             for family in 0..self.layout.len() {
                 for group in self.groups_from(family, 0) {
-                    self.leave(family, group, entity);
+                    if !self.is_64th(Fault::KillOneShort, family, group) {
+                        self.leave(family, group, entity);
+                    }
                 }
             }
         }
@@ -713,9 +775,11 @@ impl Store {
         for rows in self.columns.values_mut() {
             rows.clear();
         }
-        if !self.has(Fault::WipeKeepsCounts) {
-            for family in &mut self.layout {
-                family.counts.fill(0);
+        for family in 0..self.layout.len() {
+            for group in 0..self.layout[family].counts.len() {
+                if !self.has(Fault::WipeKeepsCounts) && !self.is_64th(Fault::WipeOneShort, family, group) {
+                    self.layout[family].counts[group] = 0;
+                }
             }
         }
         if self.has(Fault::WipeKillsAll) {
@@ -738,10 +802,14 @@ impl Store {
         if new.len() < 2 {
             return Ok(false);
         }
-        if new.len() == 16 && !self.has(Fault::WideAfterClash) {
+        if new.len() == MOST_KINDS && self.has(Fault::SixteenWide) {
             return Err(13);
         }
-        let most = if self.has(Fault::SixtyFourGroups) { 64 } else { 63 };
+        let most = if self.has(Fault::SixtyThreeGroups) {
+            63
+        } else {
+            MOST_GROUPS
+        };
         let many = self.draft.iter().map(|family| family.new_kinds.len()).sum::<usize>() == most;
         if many && self.has(Fault::ManyBeforeEqual) {
             return Err(15);
@@ -760,9 +828,6 @@ impl Store {
             [family, _, ..] if self.has(Fault::FirstSharingOnly) && self.is_chain(family, &new) => Some(family),
             _ => return Err(14),
         };
-        if new.len() == 16 {
-            return Err(13);
-        }
         let inside = place.is_some_and(|family| !self.draft[family].all().is_subset(&new));
         if many && !(inside && self.has(Fault::ManyAboveOnly)) {
             return Err(15);
@@ -783,7 +848,7 @@ impl Store {
             let first = if self.has(Fault::EqualToLargestOnly) { last } else { 0 };
             (first..=last).any(|group| match self.has(Fault::EqualAsLists) {
                 true => family.kinds(group) == kinds,
-                false => set(&family.kinds(group)) == set(kinds),
+                false => family.arity(group) == kinds.len() && set(&family.kinds(group)) == set(kinds),
             })
         })
     }
@@ -795,7 +860,13 @@ impl Store {
             Some(Fault::FamilyByFirstKind) => (self.draft.len(), &kinds[..1]),
             _ => (self.draft.len(), kinds),
         };
-        let shares = |&family: &usize| !self.draft[family].all().is_disjoint(&set(kinds));
+        let shares = |&family: &usize| {
+            self.draft[family]
+                .new_kinds
+                .iter()
+                .flatten()
+                .any(|kind| kinds.contains(kind))
+        };
         (0..looked).filter(shares).collect()
     }
 
@@ -896,7 +967,10 @@ impl Store {
         let drafted = self.draft.iter().filter(|_| self.has(Fault::RangeOfDraft));
         for family in self.layout.iter().chain(drafted) {
             for group in 0..family.new_kinds.len() {
-                if set(&family.kinds(group)) != staged {
+                if family.arity(group) != staged.len() || set(&family.kinds(group)) != staged {
+                    continue;
+                }
+                if family.arity(group) == MOST_KINDS && self.has(Fault::RangeFifteen) {
                     continue;
                 }
                 let count = match self.has(Fault::InventedCounts) {
@@ -907,6 +981,9 @@ impl Store {
                     return Some((0, count));
                 }
                 for larger in group + 1..family.new_kinds.len() {
+                    if family.arity(larger) == MOST_KINDS && self.has(Fault::RingFifteen) {
+                        continue;
+                    }
                     let more = set(&family.new_kinds[group + 1..=larger].concat());
                     let next = larger == group + 1;
                     let part = next && self.has(Fault::ExcludePart) && excluded.is_subset(&more);

@@ -1,6 +1,6 @@
 //! The entries of document 01, as either side of the comparison offers them.
 
-use sparsey::harness::{Families, Id, Oracle, Preset, Ran};
+use sparsey::harness::{Families, Id, Oracle, Preset, Ran, JUDGEMENTS};
 
 /// One side of the comparison: a store, lent or of its own, and the entries on it.
 pub trait Side {
@@ -32,6 +32,43 @@ pub trait Side {
     /// What the side found wrong with itself since the last call.
     fn complaint(&mut self) -> Option<String> {
         None
+    }
+}
+
+/// How often each command byte was answered by each number.
+pub type Seen = [[u64; 16]; 15];
+
+/// A side that others are held to.
+pub trait Known: Side {
+    /// The registered kinds, rising.
+    fn registered(&self) -> Vec<u8>;
+
+    /// The length of a registered kind's column.
+    fn length(&self, kind: u8) -> Option<usize>;
+
+    fn seen(&self) -> Seen;
+
+    /// How often GROUP judged each of `JUDGEMENTS`, where the side counts it.
+    fn judged(&self) -> [u64; JUDGEMENTS.len()] {
+        [0; JUDGEMENTS.len()]
+    }
+}
+
+impl Known for Oracle {
+    fn registered(&self) -> Vec<u8> {
+        Oracle::registered(self)
+    }
+
+    fn length(&self, kind: u8) -> Option<usize> {
+        Oracle::length(self, kind)
+    }
+
+    fn seen(&self) -> Seen {
+        self.seen
+    }
+
+    fn judged(&self) -> [u64; JUDGEMENTS.len()] {
+        Oracle::judged(self)
     }
 }
 

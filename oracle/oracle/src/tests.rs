@@ -1,14 +1,20 @@
 //! The harness held to document 01's own examples and to the library's own ways, and the tools to themselves.
 
-use crate::compare::{compare, shrink, Look, Make, Pair};
+use crate::compare::{compare, shrink, Beside, Look, Make, Pair};
 use crate::drafts::{self, Ours, Sorted, Theirs};
 use crate::fixed;
 use crate::generate;
+use crate::past;
 use crate::record;
 use crate::reference::{Fault, Reference};
 use crate::side::Side;
 use crate::tape::{self, Case, Run};
-use sparsey::harness::{words_needed, Oracle, Preset, Sets};
+use sparsey::component::GroupLayout;
+use sparsey::harness::{add_group, families_of, is_within_reach, words_needed, Oracle, Preset, Sets};
+use std::panic::{catch_unwind, AssertUnwindSafe};
+
+const TUPLES: Beside = Beside::Rust(Sets::Tuples);
+const STAGED: Beside = Beside::Rust(Sets::Staged);
 
 fn plain() -> Box<dyn Side> {
     Box::new(Reference::new())
@@ -94,6 +100,104 @@ fn the_tape_of_document_01() {
     }
 }
 
+/// What GROUP answers to each of the lists, behind those of a draft.
+fn group_answers(side: &mut dyn Side, draft: &[Vec<u8>], lists: &[Vec<u8>]) -> Vec<Vec<u8>> {
+    let runs = fixed::drafted(draft);
+    let drafted = runs.len();
+    let case = Case {
+        n: 1,
+        k: 128,
+        preset: None,
+        runs: runs
+            .into_iter()
+            .chain(lists.iter().map(|list| fixed::grouped(list)))
+            .collect(),
+    };
+    let answers = answers(side, &case).split_off(drafted);
+    let group = |(answer, list): (&Vec<u8>, &Vec<u8>)| answer[list.len()..answer.len() - 1].to_vec();
+    answers.iter().zip(lists).map(group).collect()
+}
+
+/// A group of 16 kinds is added; a 64th is added and a 65th is not, wherever it would go; WIDE never comes.
+#[test]
+fn sixteen_kinds_and_64_groups() {
+    let groups = past::gapped();
+    let wide = |first: u8| -> Vec<u8> { (first..first + 16).collect() };
+    let (added, nothing, clash, many) = (vec![0, 1], vec![0, 0], vec![14], vec![15]);
+    for mut side in sides() {
+        let side = &mut *side;
+        let empty = group_answers(side, &[], &[wide(0), wide(0), wide(8), wide(16)]);
+        assert_eq!(empty, [&added, &nothing, &clash, &added].map(Clone::clone));
+
+        let refused = [vec![], vec![77], groups[5].clone(), wide(0), vec![0, 64], wide(8)];
+        let expected = [&nothing, &nothing, &nothing, &nothing, &clash, &clash].map(Clone::clone);
+        for count in [62, 63, 64] {
+            assert_eq!(group_answers(side, &groups[..count], &refused), expected);
+        }
+        // A family of its own, below, between and above.
+        for list in [vec![48, 49], wide(48), vec![0, 1], vec![0, 1, 2, 3], wide(16), wide(32)] {
+            assert_eq!(group_answers(side, &groups, &[list.clone()]), [many.clone()]);
+            let again = [list, vec![51, 50]];
+            let answers = group_answers(side, &groups[..63], &again);
+            assert_eq!(answers[0], added);
+            assert!([&many, &clash].contains(&&answers[1]));
+        }
+    }
+}
+
+/// The library takes families of 15 kinds and layouts of 63 groups, and panics at one more of either.
+#[test]
+fn the_reach_of_the_rust() {
+    let pairs = |count: u8| -> Vec<Vec<u8>> { (0..count).map(|i| vec![2 * i, 2 * i + 1]).collect() };
+    for (groups, takes) in [
+        (vec![(0..15).collect()], true),
+        (vec![(0..16).collect()], false),
+        (pairs(63), true),
+        (pairs(64), false),
+    ] {
+        let mut layout = GroupLayout::default();
+        groups.iter().for_each(|group| add_group(&mut layout, group));
+        assert_eq!(is_within_reach(&families_of(&layout)), takes);
+        assert_eq!(
+            catch_unwind(AssertUnwindSafe(|| sparsey::World::new(&layout))).is_ok(),
+            takes
+        );
+    }
+}
+
+/// Past the Rust the definition finds faults in walks and ranges also where both sides have them.
+#[test]
+fn the_definition_judges_alone() {
+    for fault in [
+        Fault::SixteenthNotAsked,
+        Fault::SixteenthNotSwapped,
+        Fault::SixteenthPutAlone,
+        Fault::SixteenthRemovedAlone,
+        Fault::UpwardOneShort,
+        Fault::RemovalOneShort,
+        Fault::KillOneShort,
+        Fault::WipeOneShort,
+        Fault::RangeFifteen,
+        Fault::RingFifteen,
+    ] {
+        let mut cases = past::few().into_iter().flat_map(|part| part.cases);
+        assert!(cases.any(|case| by_definition(&case, fault).is_err()), "{fault:?}");
+    }
+}
+
+/// The case on two sides with the same fault.
+fn by_definition(case: &Case, fault: Fault) -> Result<(), String> {
+    let faulty: Make = &|| Box::new(Reference::with(Some(fault))) as Box<dyn Side>;
+    let mut pair = Pair::start(case, Beside::Reference, faulty)?;
+    pair.known = Box::new(Reference::with(Some(fault)));
+    pair.known.start(words_needed(case.n, case.k), case.n, case.k);
+    for run in &case.runs {
+        pair.step(run, true)?;
+        pair.ranges()?;
+    }
+    Ok(())
+}
+
 /// Each set of groups that forms a layout is added in every order, with the same families; and GROUP adds exactly what
 /// forms one.
 #[test]
@@ -142,9 +246,20 @@ fn the_rust_takes_the_smallest_first() {
 fn tuples_and_staged_agree() {
     let staged: Make = &|| Box::new(Oracle::new(Sets::Staged)) as Box<dyn Side>;
     for seed in 0..1500 {
-        if let Err(difference) = generate::random_case(seed, Sets::Tuples, staged) {
+        if let Err(difference) = generate::random_case(seed, TUPLES, staged) {
             panic!("seed {seed}: {}", difference.text());
         }
+    }
+}
+
+/// The whole case on one side.
+fn run_all(side: &mut dyn Side, case: &Case) {
+    side.start(words_needed(case.n, case.k), case.n, case.k);
+    if let Some(preset) = &case.preset {
+        side.preset(preset);
+    }
+    for run in &case.runs {
+        side.run(&run.tape(), &mut vec![0; run.room]);
     }
 }
 
@@ -154,14 +269,12 @@ fn ranges_are_those_of_the_query() {
     let subset = |mask: u32| -> Vec<u8> { (0..4).filter(|kind| mask >> kind & 1 == 1).collect() };
     let mut found = 0;
     for seed in 0..3000 {
-        let Ok((case, _)) = generate::random_case(seed, Sets::Staged, &plain) else {
+        let Ok((case, _)) = generate::random_case(seed, STAGED, &plain) else {
             panic!()
         };
-        let mut pair = Pair::start(&case, Sets::Tuples, &plain).unwrap();
-        for run in &case.runs {
-            pair.run(run).unwrap();
-        }
-        let registered = pair.rust.registered();
+        let mut rust = Oracle::new(Sets::Tuples);
+        run_all(&mut rust, &case);
+        let registered = rust.registered();
         if !(0..4).all(|kind| registered.contains(&kind)) {
             continue;
         }
@@ -174,18 +287,18 @@ fn ranges_are_those_of_the_query() {
         ];
         if let Some(groups) = layouts.get(seed as usize % 8) {
             let chunks = [vec![tape::empty(), tape::apply()], fixed::layout(groups)].concat();
-            pair.run(&Run::new(chunks)).unwrap();
+            rust.run(&chunks.concat(), &mut [0; 256]);
         }
         for (include, exclude) in (1..16).flat_map(|a| (0..16).map(move |b| (a, b))) {
             let (include, exclude) = (subset(include), subset(exclude));
             let bars: Vec<tape::Chunk> = exclude.iter().map(|&kind| tape::bar(kind)).collect();
             let chunks = [vec![tape::empty()], bars, tape::with(&include, tape::range())].concat();
             let mut out = [0; 64];
-            let ran = pair.rust.run(&chunks.concat(), &mut out);
+            let ran = rust.run(&chunks.concat(), &mut out);
             let answer = &out[ran.written - 9..ran.written];
             let number = |at: usize| u32::from_le_bytes(answer[at..at + 4].try_into().unwrap()) as usize;
             let ours = (answer[0] == 1).then(|| (number(1), number(5)));
-            let theirs = pair.rust.slice(&include, &exclude).expect("a query for these kinds");
+            let theirs = rust.slice(&include, &exclude).expect("a query for these kinds");
             assert_eq!(ours, theirs, "seed {seed}, {include:?} without {exclude:?}");
             found += usize::from(ours.is_some() && !exclude.is_empty());
         }
@@ -209,8 +322,8 @@ fn a_preset_is_a_state() {
         }),
         runs: vec![],
     };
-    let mut pair = Pair::start(&case, Sets::Tuples, &plain).unwrap();
-    pair.rust = worn;
+    let mut pair = Pair::start(&case, TUPLES, &plain).unwrap();
+    pair.known = Box::new(worn);
     for chunk in [
         tape::new(),
         tape::new(),
@@ -225,19 +338,19 @@ fn a_preset_is_a_state() {
 
 #[test]
 fn a_difference_is_cut_down() {
-    let faulty: Make = &|| Box::new(Reference::with(Fault::LastInFirstOut)) as Box<dyn Side>;
+    let faulty: Make = &|| Box::new(Reference::with(Some(Fault::LastInFirstOut))) as Box<dyn Side>;
     let difference = (0..100)
         .find_map(|seed| {
-            generate::random_case(seed, Sets::Staged, faulty)
+            generate::random_case(seed, STAGED, faulty)
                 .err()
                 .filter(|d| d.case.preset.is_none())
         })
         .expect("the fault is found");
-    let least = shrink(&difference.case, Sets::Staged, faulty).expect("it comes again");
+    let least = shrink(&difference.case, STAGED, faulty).expect("it comes again");
     // Two created, both destroyed, one created.
     assert_eq!(least.case.runs.len(), 1);
     assert_eq!(least.case.runs[0].chunks.len(), 5);
-    assert!(compare(&least.case, Sets::Staged, &plain, Look::EachRun).is_ok());
+    assert!(compare(&least.case, STAGED, &plain, Look::EachRun).is_ok());
 }
 
 #[test]
@@ -245,7 +358,7 @@ fn recorded_answers_replay() {
     let file = record::write(3, 60_000);
     let whole = record::replay(&file, &plain);
     assert!(whole.cases > 30 && whole.agree == whole.cases);
-    let faulty = record::replay(&file, &|| Box::new(Reference::with(Fault::SwapNewKindsOnly)));
+    let faulty = record::replay(&file, &|| Box::new(Reference::with(Some(Fault::SwapNewKindsOnly))));
     assert!(faulty.agree < whole.cases);
     // Of the bytes of answers, none may be other.
     let mut damaged = file.clone();

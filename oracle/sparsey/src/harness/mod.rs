@@ -39,7 +39,11 @@ pub enum Sets {
 
 const OPERANDS: [usize; 15] = [0, 1, 9, 0, 8, 8, 8, 8, 0, 0, 0, 1, 0, 0, 0];
 const MOST_STAGED: usize = 16;
-const MOST_GROUPS: usize = 63;
+const MOST_GROUPS: usize = 64;
+
+/// The most kinds of a family and the most groups of a layout that `set_layout` takes.
+const REACH_KINDS: u32 = 15;
+const REACH_GROUPS: usize = 63;
 
 /// How many words a store for `n` entities and `k` kinds takes.
 pub fn words_needed(n: usize, k: usize) -> usize {
@@ -78,6 +82,12 @@ struct Draft {
 
 /// Groups as sets of kinds, one list a family, by size.
 pub type Families = Vec<Vec<u128>>;
+
+/// Whether the library can take a layout of these families.
+pub fn is_within_reach(families: &Families) -> bool {
+    let mut groups = families.iter().flatten();
+    groups.clone().count() <= REACH_GROUPS && groups.all(|group| group.count_ones() <= REACH_KINDS)
+}
 
 /// Document 01 over the library.
 pub struct Oracle {
@@ -204,11 +214,6 @@ impl Oracle {
     /// A registered kind's entities and values in row order.
     pub fn column(&self, number: u8) -> Option<(Vec<Id>, Vec<u64>)> {
         self.store.as_ref()?.column(number)
-    }
-
-    /// The groups in force: the kinds, rising, and the count of each, in the library's order.
-    pub fn groups(&self) -> Vec<(Vec<u8>, usize)> {
-        self.store.as_ref().map_or(vec![], Store::groups)
     }
 
     /// The families of the draft, and those of the library's layout in force.
@@ -472,6 +477,10 @@ impl Store {
     }
 
     fn apply(&mut self) {
+        assert!(
+            is_within_reach(&self.draft.families),
+            "a layout past the Rust's reach is applied: no case beside the Rust may do so"
+        );
         self.layout = core::mem::take(&mut self.draft).layout();
         unsafe {
             self.world
@@ -535,22 +544,6 @@ impl Store {
         ))
     }
 
-    fn groups(&self) -> Vec<(Vec<u8>, usize)> {
-        let places: Vec<(usize, u8)> = kinds_of(self.registered)
-            .into_iter()
-            .map(|number| (self.metadata(number).storage_index, number))
-            .collect();
-        let groups = &self.world.components.groups;
-        groups
-            .iter()
-            .map(|group| {
-                let range = group.metadata.storage_range();
-                let kinds = places.iter().filter(|(place, _)| range.contains(place));
-                (kinds.map(|(_, number)| *number).collect(), group.len)
-            })
-            .collect()
-    }
-
     /// The roll at the front of `out`, if it fits; its length.
     fn roll(&self, out: &mut [u8]) -> Option<usize> {
         let mut entities = self.world.entities().to_vec();
@@ -599,7 +592,6 @@ enum Judged {
     NewFamily,
     /// Into a family, behind so many of its groups.
     Into(usize, usize),
-    Wide,
     /// It shares kinds with two families.
     TwoFamilies,
     /// It shares kinds with one, whose groups are no chain with it.
@@ -608,13 +600,12 @@ enum Judged {
 }
 
 /// The same, with the place in a family in words, for the figures.
-pub const JUDGEMENTS: [&str; 9] = [
+pub const JUDGEMENTS: [&str; 8] = [
     "nothing added",
     "a family of its own",
     "below",
     "between",
     "above",
-    "wide",
     "clash, two families",
     "clash, no chain",
     "many",
@@ -629,9 +620,6 @@ impl Draft {
     fn judge(&self, group: u128) -> Judged {
         if group.count_ones() < 2 {
             return Judged::Nothing;
-        }
-        if group.count_ones() == 16 {
-            return Judged::Wide;
         }
         if self.families.iter().flatten().any(|&old| old == group) {
             return Judged::Nothing;
@@ -667,10 +655,9 @@ impl Draft {
             Judged::Into(_, 0) => 2,
             Judged::Into(i, at) if at < self.families[i].len() => 3,
             Judged::Into(..) => 4,
-            Judged::Wide => 5,
-            Judged::TwoFamilies => 6,
-            Judged::NoChain => 7,
-            Judged::Many => 8,
+            Judged::TwoFamilies => 5,
+            Judged::NoChain => 6,
+            Judged::Many => 7,
         }
     }
 
@@ -680,7 +667,6 @@ impl Draft {
             Judged::Nothing => {}
             Judged::NewFamily => self.families.push(vec![set_of(kinds)]),
             Judged::Into(i, at) => self.families[i].insert(at, set_of(kinds)),
-            Judged::Wide => return Err(13),
             Judged::TwoFamilies | Judged::NoChain => return Err(14),
             Judged::Many => return Err(15),
         }
