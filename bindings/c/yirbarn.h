@@ -22,9 +22,9 @@
 
 /* Of this header and what it declares (CHANGELOG.md). */
 #define YIRBARN_VERSION_MAJOR 0
-#define YIRBARN_VERSION_MINOR 3
+#define YIRBARN_VERSION_MINOR 4
 #define YIRBARN_VERSION_PATCH 0
-#define YIRBARN_VERSION "0.3.0"
+#define YIRBARN_VERSION "0.4.0"
 
 #ifdef __cplusplus
 extern "C" {
@@ -44,9 +44,9 @@ enum yirbarn_number {
     YIRBARN_HANDFUL = 10, /* the list has 16 kinds */
     YIRBARN_DEAD = 11,    /* the entity is not live */
     YIRBARN_FULL = 12,    /* no index is left */
-    YIRBARN_WIDE = 13,    /* a group of 16 kinds */
+    YIRBARN_WIDE = 13,    /* a group of more than 16 kinds: never, the list has 16 at most */
     YIRBARN_CLASH = 14,   /* the group shares kinds with more than one family, or with one that it is no chain with */
-    YIRBARN_MANY = 15,    /* the draft has 63 groups */
+    YIRBARN_MANY = 15,    /* the draft has 64 groups */
     YIRBARN_BEYOND = 16   /* rows that are not there */
 };
 

@@ -65,9 +65,9 @@ impl Refusal {
             Refusal::Handful => "the list has 16 kinds",
             Refusal::Dead => "the entity is not live",
             Refusal::Full => "no index is left",
-            Refusal::Wide => "a group of 16 kinds",
+            Refusal::Wide => "a group of more than 16 kinds",
             Refusal::Clash => "the group shares kinds with more than one family, or with one that it is no chain with",
-            Refusal::Many => "the draft has 63 groups",
+            Refusal::Many => "the draft has 64 groups",
             Refusal::Beyond => "rows that are not there",
         }
     }

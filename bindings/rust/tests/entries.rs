@@ -223,6 +223,47 @@ fn copies_of_a_store() {
     );
 }
 
+/// HOLD of each kind, with value 0, and then the command.
+fn holding(kinds: &[u8], command: &[u8]) -> Vec<u8> {
+    let held = kinds.iter().flat_map(|&kind| [0x02, kind, 0, 0, 0, 0, 0, 0, 0, 0]);
+    held.chain(command.iter().copied()).collect()
+}
+
+/// The answer to the last command of a tape that is run to its end.
+fn last_answer(store: &mut Store, tape: &[u8], length: usize) -> Vec<u8> {
+    let mut answers = [0x5a; 512];
+    let ran = store.run(tape, &mut answers);
+    assert_eq!((ran.stop, ran.read), (None, tape.len()));
+    answers[ran.written - length..ran.written].to_vec()
+}
+
+/// A group of 16 kinds, the 64th group and what is refused past it; then the layout applied, entered and asked for.
+#[test]
+fn most_kinds_and_groups() {
+    let mut words = vec![0; Store::words_needed(2, 128).unwrap()];
+    let mut store = Store::start(&mut words, 2, 128).unwrap();
+    let all: Vec<u8> = (0..128).flat_map(|kind| [0x01, kind]).collect();
+    last_answer(&mut store, &all, 2);
+    let chain = (1..16).map(|last| (0..=last).collect::<Vec<u8>>());
+    let pairs = (8..57).map(|pair| vec![2 * pair, 2 * pair + 1]);
+    for group in chain.chain(pairs) {
+        assert_eq!(last_answer(&mut store, &holding(&group, &[0x09]), 2), [0, 1]);
+    }
+    let sixteen: Vec<u8> = (0..16).rev().collect();
+    assert_eq!(last_answer(&mut store, &holding(&sixteen, &[0x09]), 2), [0, 0]);
+    let more = holding(&[126, 127], &[0x09]);
+    assert_eq!(last_answer(&mut store, &more, 1), [Refusal::Many as u8]);
+    assert_eq!(last_answer(&mut store, &holding(&[], &[0x0d, 0x0a]), 1), [0]);
+
+    // The first entity has the family of 16 kinds, the second the last pair.
+    last_answer(&mut store, &holding(&sixteen, &[0x03]), 9);
+    last_answer(&mut store, &holding(&[112, 113], &[0x03]), 9);
+    let one = [0, 1, 0, 0, 0, 0, 1, 0, 0, 0];
+    assert_eq!(last_answer(&mut store, &holding(&sixteen, &[0x0c]), 10), one);
+    assert_eq!(last_answer(&mut store, &holding(&[112, 113], &[0x0c]), 10), one);
+    assert!(Store::open(&mut words).is_ok());
+}
+
 /// The header and the crate have one version.
 #[test]
 fn version() {
