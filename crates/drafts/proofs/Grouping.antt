@@ -20,7 +20,7 @@ use Rattle.model.specs.Forms.{hasGroup, SameGroups, Forms}
 use Rattle.model.specs.Theorems.{OutSound}
 use Rattle.model.proofs.BoolLaws.{bool-cases, or-cases, or-false, or-false-right, not-true, left-true, right-true}
 use Rattle.model.proofs.Lengths.{clash}
-use Rattle.model.proofs.Lines.{hand-is-narrow, staged-few, wide-never}
+use Rattle.model.proofs.Lines.{staged-narrow, staged-few, wide-never}
 use Rattle.model.proofs.Outcomes.{group-does}
 use Rattle.model.proofs.Sound.{does-sound}
 use Rattle.drafts.specs.Grouped.{ofDraft, ofDraftAndStaged, Answers, Adds, Clashing, Joining, GroupTold}
@@ -102,7 +102,7 @@ module _ (s : Store) (S : StoreSound s) where
   new-of b = sym (present-has (stagedKinds s) (s .control .draft)) ∙ or-false-right (ltb (length (stagedKinds s)) 2) (present (stagedKinds s) (s .control .draft)) b
 
   narrow : tooWide s ≡ false
-  narrow = le-ltb MAX-GROUP-ARITY (length (stagedKinds s)) (hand-is-narrow (length (stagedKinds s)) (staged-few s S))
+  narrow = le-ltb MAX-GROUP-ARITY (length (stagedKinds s)) (staged-narrow (length (stagedKinds s)) (staged-few s S))
 
   of-new : 2 ≤ length (stagedKinds s) → hasGroup (stagedKinds s) (ofDraft s) ≡ false → idle s ≡ false
   of-new h n = rw (le-ltb (length (stagedKinds s)) 2 h, present-has (stagedKinds s) (s .control .draft)) n

@@ -1,7 +1,7 @@
 // One bit a group of the layout, and the walk over the set bits from either end.
 ghost use mathlib.Core.Path.{_≡_};
 ghost use mathlib.Core.List.{[]};
-ghost use Prim.Native.Nat.{_-_, _≤_};
+ghost use Prim.Native.Nat.{_-_, _≤_, _<_};
 ghost use Rattle.masks.specs.Masks.{bitsOf, upFrom, unionOf, commonOf, skipping, Ordered};
 ghost use Rattle.masks.specs.Walk.{Lowest, Highest, Asks};
 use crate::storage_mask::StorageMask;
@@ -23,6 +23,14 @@ impl GroupMask {
         GroupMask(0)
     }
 
+    // The bits `from` to `to` - 1, one or more.
+    pub fn some_from_to(from: usize, to: usize) -> GroupMask
+        requires { ⌜ (from < to) × (to ≤ 64) ⌝ }
+        ensures { λ r. ⌜ bitsOf 64 (r .0) ≡ upFrom from (to - from) ⌝ }
+    {
+        GroupMask((ALL_BITS >> (64 - (to - from))) << from)
+    }
+
     // The bits `from` to `to` - 1. There is no shift by the whole width, so the empty run is a case of its own.
     pub fn from_to(from: usize, to: usize) -> GroupMask
         requires { ⌜ Ordered 64 from to ⌝ }
@@ -31,7 +39,7 @@ impl GroupMask {
         if from == to {
             return GroupMask(0);
         }
-        GroupMask((ALL_BITS >> (64 - (to - from))) << from)
+        GroupMask::some_from_to(from, to)
     }
 
     // All but the bits `from` to `to` - 1.

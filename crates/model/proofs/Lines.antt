@@ -138,9 +138,9 @@ first-by (l ∷ ls) a n h e = bool-cases (l .holds a) (λ t. h .0 (some-eq (rw t
 other : {P : Type 0} (m n : ℕ) → (m ≡ n → ⊥) → m ≡ n → P → ⊥
 other m n h e p = h e
 
--- what a hand may have, a group may
-pub hand-is-narrow : (n : ℕ) → n ≤ LIST-CAPACITY → n ≤ MAX-GROUP-ARITY
-hand-is-narrow n h = omega arith
+-- as many kinds as a hand may have, a group may
+pub staged-narrow : (n : ℕ) → n ≤ LIST-CAPACITY → n ≤ MAX-GROUP-ARITY
+staged-narrow n h = omega arith
 
 -- a hand has "up to 16 distinct kinds"
 pub staged-few : (s : Store) → StoreSound s → length (stagedKinds s) ≤ LIST-CAPACITY
@@ -157,7 +157,7 @@ lines-wide (DROP e) s S = (other _ _ (λ e. omega arith), tt)
 lines-wide (KILL e) s S = (other _ _ (λ e. omega arith), tt)
 lines-wide WIPE s S = tt
 lines-wide GROUP s S =
-    ((λ e t. omega (arith, hand-is-narrow (length (stagedKinds s)) (staged-few s S), ltb-true _ (length (stagedKinds s)) t)), (other _ _ (λ e. omega arith), (other _ _ (λ e. omega arith), tt)))
+    ((λ e t. omega (arith, staged-narrow (length (stagedKinds s)) (staged-few s S), ltb-true _ (length (stagedKinds s)) t)), (other _ _ (λ e. omega arith), (other _ _ (λ e. omega arith), tt)))
 lines-wide APPLY s S = tt
 lines-wide (BAR k) s S = (other _ _ (λ e. omega arith), (other _ _ (λ e. omega arith), (other _ _ (λ e. omega arith), tt)))
 lines-wide RANGE s S = tt

@@ -8,7 +8,7 @@ use lib.ListN.{length, getD}
 use lib.Seq.{getD-take, take-all}
 use Rattle.model.specs.Model.{mem, groupsOf}
 use Rattle.model.specs.Sound.{In, Distinct, layoutKinds}
-use Rattle.masks.specs.Masks.{bitsOf, upFrom, Ordered}
+use Rattle.masks.specs.Masks.{bitsOf, upFrom}
 use Rattle.words.specs.Part.{between}
 use Rattle.layout.specs.Layout.{startOf, widthOf}
 use Rattle.layout.specs.Group.{arityOf, priorArity}
@@ -49,13 +49,13 @@ module _ (w : List ℕ) (A : Arranged w) where
         (subst (In (between from to (orderOf (meaning w)))) here (between-in from to (s + j) (orderOf (meaning w)) (omega (arith, O .low)) (omega (arith, O .high)) width))
 
     module _ (d : GroupMetadata) (D : Describes (meaning w) g d) where
-      pub mask-ordered : (walk : Walk) → Ordered 64 (lowestOf walk (d .first) g) (d .top)
-      mask-ordered Insert =
+      pub mask-some : (walk : Walk) → (lowestOf walk (d .first) g < d .top) × (d .top ≤ 64)
+      mask-some Insert =
           let P = placed (meaning w .storage .layout) g own-below in
-          record { rising = omega (arith, P .0, P .1, D .first, D .top); inside = omega (arith, D .few) }
-      mask-ordered Delete =
+          (omega (arith, P .0, P .1, D .first, D .top), omega (arith, D .few))
+      mask-some Delete =
           let P = placed (meaning w .storage .layout) g own-below in
-          record { rising = omega (arith, P .1, D .top); inside = omega (arith, D .few) }
+          (omega (arith, P .1, D .top), omega (arith, D .few))
 
       pub mask-is : (walk : Walk) (m : ℕ) → bitsOf 64 m ≡ upFrom (lowestOf walk (d .first) g) (d .top - lowestOf walk (d .first) g) → bitsOf 64 m ≡ walkPositions walk (k ∷ []) (meaning w .storage .layout)
       mask-is Insert m b =

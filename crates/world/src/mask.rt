@@ -45,7 +45,7 @@ fn kind_mask(words: &[u32], walk: Walk, kind: usize) -> GroupMask
     };
     let metadata = group::group_metadata::metadata(words, place);
     let from = lowest(walk, metadata.first, place);
-    GroupMask::from_to(from, metadata.top)
+    GroupMask::some_from_to(from, metadata.top)
 }
 
 fn mask_at(words: &[u32], walk: Walk, i: usize) -> GroupMask
