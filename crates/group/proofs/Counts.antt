@@ -1,29 +1,37 @@
 -- What a count that is set leaves as it was, and where a group's family begins and ends. Assumes nothing.
-use mathlib.Core.Path.{_≡_, refl, ap}
-use mathlib.Core.List.{List, [], _∷_, _++_}
+use mathlib.Core.Path.{_≡_, refl, ap, sym, _∙_}
+use mathlib.Core.List.{List, [], _∷_, _++_, map}
 use Prim.Native.Nat.{ℕ, zero, suc, _+_, _-_, _≤_, _<_}
 use native.Mathlib.Omega.{arith}
 use native.Mathlib.Nat.{le-of-suc-le-suc, not-suc-le-zero}
 use lib.Dec.{ltb}
 use lib.ListN.{length, getD}
-use Rattle.model.specs.Model.{Family, kindsOf, groupsOf}
+use Rattle.model.specs.Model.{Family, zeroCount, kindsOf, groupsOf}
 use Rattle.model.specs.Sound.{In, layoutKinds}
 use Rattle.model.proofs.BoolLaws.{cond-case}
 use Rattle.model.proofs.KindLists.{in-left, in-right}
+use Rattle.model.proofs.Shape.{plain, groupsOf-plain}
 use Rattle.group.specs.Flat.{Located, nowhere, familyGroups, groupList, located, setIn, setCount}
 use Rattle.group.proofs.Fronts.{by-family}
 
-length-setIn : (g c : ℕ) (f : Family) → length (setIn g c f) ≡ length f
-length-setIn g c [] = refl
-length-setIn zero c (r ∷ rs) = refl
-length-setIn (suc g) c (r ∷ rs) = ap suc (length-setIn g c rs)
+-- all of the layout but the counts
+plain-in : (g c : ℕ) (f : Family) → map zeroCount (setIn g c f) ≡ map zeroCount f
+plain-in g c [] = refl
+plain-in zero c (r ∷ rs) = refl
+plain-in (suc g) c (r ∷ rs) = ap {B = Family} (λ l. zeroCount r ∷ l) (plain-in g c rs)
+
+pub plain-set : (g c : ℕ) (fs : List Family) → plain (setCount g c fs) ≡ plain fs
+plain-set g c [] = refl
+plain-set g c (f ∷ fs) =
+    cond-case (λ (l : List Family). plain l ≡ plain (f ∷ fs)) (ltb g (length f)) _ _
+    (λ h. ap {B = List Family} (λ x. x ∷ plain fs) (plain-in g c f))
+    (λ h. ap {B = List Family} (λ x. map zeroCount f ∷ x) (plain-set (g - length f) c fs))
+
+pub plain-groups : (fs gs : List Family) → plain fs ≡ plain gs → groupsOf fs ≡ groupsOf gs
+plain-groups fs gs q = sym (groupsOf-plain fs) ∙ ap groupsOf q ∙ groupsOf-plain gs
 
 pub groups-set : (g c : ℕ) (fs : List Family) → groupsOf (setCount g c fs) ≡ groupsOf fs
-groups-set g c [] = refl
-groups-set g c (f ∷ fs) =
-    cond-case (λ (l : List Family). groupsOf l ≡ length f + groupsOf fs) (ltb g (length f)) _ _
-    (λ h. ap (λ (n : ℕ). n + groupsOf fs) (length-setIn g c f))
-    (λ h. ap (λ (n : ℕ). length f + n) (groups-set (g - length f) c fs))
+groups-set g c fs = plain-groups (setCount g c fs) fs (plain-set g c fs)
 
 -- ---- where a group's family begins and ends, and what has its new kinds
 

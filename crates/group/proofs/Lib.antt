@@ -14,3 +14,5 @@ pub mod Swapping
 pub mod Status
 pub mod Stepping
 pub mod Walking
+pub mod Each
+pub mod EachReady

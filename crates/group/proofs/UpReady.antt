@@ -1,24 +1,21 @@
--- What the steps of the walk upward need holds, for insertion and for each entity when a layout is applied. Assumes nothing.
-use mathlib.Core.Path.{_≡_, refl, _∙_, subst}
+-- What the steps of the walk upward need holds where the groups' first places are even; for insertion. Assumes nothing.
+use mathlib.Core.Path.{_≡_, refl, _∙_}
 use mathlib.Core.Bool.{Bool, true, false, false≢true}
 use mathlib.Core.List.{List, [], _∷_, _++_, map}
 use Prim.Native.Nat.{ℕ, suc, _≤_}
-use native.Mathlib.Omega.{arith}
 use borrow.Author.Tests.{lt-ltb, le-ltb}
-use lib.ListN.{length, length-map}
-use Rattle.model.specs.Model.{Entity, SparseSet, Group, Family, Component, Storage, meets, setOf, entityOf, held, onKinds, swapTo, allHeld, isGrouped, headKind, kindsOf, kindOf, insertAll, groupFamily, groupAll}
-use Rattle.model.proofs.Walk.{held-count, GroupRight, Chain, But, Plus, Entered, groupComponents-good, chain-low, Up, groupFamily-good, count-held}
-use Rattle.model.proofs.KindLists.{in-left, in-right, in-cases, all-in, not-both}
+use lib.ListN.{length}
+use Rattle.model.specs.Model.{Entity, SparseSet, Group, Family, Component, Storage, meets, onKinds, swapTo, isGrouped, headKind, kindsOf, kindOf, insertAll, groupFamily}
+use Rattle.model.proofs.Walk.{GroupRight, Chain, But, Entered, enters, enters-room, holds-more, chain-low, Up, groupFamily-good, count-held}
+use Rattle.model.proofs.KindLists.{in-left, in-right, not-both}
 use Rattle.model.proofs.Families.{allKinds, famKinds, chain-other, put-all, chain-put, Apart, Fams, FamsFor, Kinds, Put}
-use Rattle.model.proofs.Regroup.{FreshAll, None, UpEvery, groupFamily-every-good, fams-fresh}
 use Rattle.model.proofs.Invariant.{Fit}
 use Rattle.model.specs.Sound.{key, cnt, In}
 use Rattle.group.specs.declared.group_status.GroupStatus.{GroupStatus}
 use Rattle.group.specs.Flat.{located, withCount, positionsWhere, insertPositions}
-use Rattle.group.specs.Ready.{Swappable, ReadyIn, ReadyUp, ReadyEach}
+use Rattle.group.specs.Ready.{Swappable, ReadyIn, ReadyUp}
 use Rattle.group.proofs.Fronts.{whole, here}
-use Rattle.group.proofs.Positions.{where-all}
-use Rattle.group.proofs.Upward.{Stepwise, moves, Climb, where-climbs}
+use Rattle.group.proofs.Upward.{Stepwise, Climb, where-climbs}
 
 abbrev pub Asked : Entity → GroupStatus → ℕ → Storage → Type 0 → Type 0
 Asked e t g s A = ReadyIn t e (located (s .layout) g) (s .sets) × A
@@ -40,27 +37,22 @@ module _ (W : Entity → Type 0) (e : Entity) where
       (has : (k : ℕ) → In (acc ++ r .newKinds) k → 1 ≤ cnt e (key sets k))
       (ri : GroupRight (key sets) W (acc ++ r .newKinds) r)
       (out : isGrouped e r sets ≡ false) where
-    abbrev g : List ℕ
-    g = acc ++ r .newKinds
+    head : In (acc ++ r .newKinds) (headKind (r .newKinds))
+    head = in-right acc (r .newKinds) (headKind (r .newKinds)) (ri .head)
 
-    enters : Entered W e acc g r sets (record { sets = onKinds g (swapTo e (r .count)) sets; group = withCount (suc (r .count)) r })
-    enters =
-        subst (Entered W e acc g r sets) (moves e g r sets out)
-        (groupComponents-good W e acc r sets (in-right acc (r .newKinds) (headKind (r .newKinds)) (ri .head)) has (ri .even) (ri .full))
+    entered : Entered W e acc (acc ++ r .newKinds) r sets (record { sets = onKinds (acc ++ r .newKinds) (swapTo e (r .count)) sets; group = withCount (suc (r .count)) r })
+    entered = enters W e acc r sets head has (ri .even) (ri .full) out
 
-    swappable : Swappable e g (r .count) sets
+    swappable : Swappable e (acc ++ r .newKinds) (r .count) sets
     swappable =
         record {
           holds = λ k i. count-held e sets k (has k i);
-          room = λ k i. omega (arith, enters .even .fit k i, enters .same .lengths k, length-map (setOf sets k) entityOf);
+          room = enters-room W e acc r sets head has (ri .even) (ri .full) out;
         }
 
   -- the entity holds the kinds of the group before, and the groups are right for the entities of W
   abbrev pub Rests : List SparseSet → List ℕ → Family → Type 0
   Rests sets acc rs = ((k : ℕ) → In acc k → 1 ≤ cnt e (key sets k)) × Chain (key sets) W acc rs
-
-  holds-more : (acc : List ℕ) (sets : List SparseSet) (r : Group) → ((k : ℕ) → In acc k → 1 ≤ cnt e (key sets k)) → allHeld e (r .newKinds) sets ≡ true → (k : ℕ) → In (acc ++ r .newKinds) k → 1 ≤ cnt e (key sets k)
-  holds-more acc sets r has a k i = in-cases acc (r .newKinds) k i (has k) (λ j. held-count e sets k (all-in (λ y. held e (setOf sets y)) (r .newKinds) a k j))
 
   ready-climb : Climb (Type 0) e (Asked e) (λ x y. y → x) Rests
   ready-climb =
@@ -69,16 +61,16 @@ module _ (W : Entity → Type 0) (e : Entity) where
         both = λ f g z. f (g z);
         left = λ g s f y. (tt, f y);
         inside = λ g s f y. (tt, f y);
-        enters = λ {x} {y} {acc} H sets r rs fits c a b f z. (rw (here H r rs fits) (swappable acc r sets (holds-more acc sets r (c .0) a) (c .1 .0) b), f z);
-        past = λ acc sets r rs c a. (holds-more acc sets r (c .0) a, c .1 .2);
+        enters = λ {x} {y} {acc} H sets r rs fits c a b f z. (rw (here H r rs fits) (swappable acc r sets (holds-more e acc sets r (c .0) a) (c .1 .0) b), f z);
+        past = λ acc sets r rs c a. (holds-more e acc sets r (c .0) a, c .1 .2);
         moved = λ acc sets r rs c a b.
-            let E = enters acc r sets (holds-more acc sets r (c .0) a) (c .1 .0) b in
-            ((λ k i. rw (E .same .entities e k) (holds-more acc sets r (c .0) a k i)), chain-low W (r .count) (E .same) (E .lower) (acc ++ r .newKinds) rs (c .1 .1) (c .1 .2));
+            let E = entered acc r sets (holds-more e acc sets r (c .0) a) (c .1 .0) b in
+            ((λ k i. rw (E .same .entities e k) (holds-more e acc sets r (c .0) a k i)), chain-low W (r .count) (E .same) (E .lower) (acc ++ r .newKinds) rs (c .1 .1) (c .1 .2));
       }
 
 -- ---- all families
 
-ready-where : (t : Family → Bool) (W : Entity → Type 0) (e : Entity) (s : Storage) → Apart (famKinds (s .layout)) → FamsFor (key (s .sets)) W (s .layout) → ReadyUp e 0 (positionsWhere (λ f ks. t f) 0 (s .layout)) s
+pub ready-where : (t : Family → Bool) (W : Entity → Type 0) (e : Entity) (s : Storage) → Apart (famKinds (s .layout)) → FamsFor (key (s .sets)) W (s .layout) → ReadyUp e 0 (positionsWhere (λ f ks. t f) 0 (s .layout)) s
 unfolding ReadyUp
 ready-where t W e s apart fams = where-climbs (ready-steps e) (ready-climb W e) t Ahead on off whole (s .sets) (s .layout) (apart, fams, λ k i. refl) tt
   where
@@ -108,18 +100,3 @@ pub ready-insert : (e : Entity) (staged : List Component) (p : Storage) → Kind
 ready-insert e staged p lt f =
     ready-where (λ h. meets (map kindOf staged) (kindsOf h)) (But e) e (record { sets = insertAll e staged (p .sets); layout = p .layout }) (f .apart)
     (fams-put e (map kindOf staged) (key (p .sets)) (key (insertAll e staged (p .sets))) (put-all e staged (p .sets) lt) (p .layout) (f .fams))
-
--- ---- a layout is applied
-
-ready-each : (W : Entity → Type 0) (es : List Entity) (s : Storage) → Apart (famKinds (s .layout)) → FamsFor (key (s .sets)) W (s .layout) → ReadyEach es s
-unfolding ReadyEach
-ready-each W [] s apart fm = tt
-ready-each W (e ∷ es) s apart fm =
-    let U : UpEvery W e (s .sets) (s .layout) (groupAll e (s .sets) (s .layout)) = groupFamily-every-good W e (s .sets) (s .layout) apart fm in (
-      subst (λ (ps : List ℕ). ReadyUp e 0 ps s) (where-all 0 (s .layout)) (ready-where (λ f. true) W e s apart fm),
-      ready-each (Plus W e) es (groupAll e (s .sets) (s .layout)) (rw (U .kinds) apart) (U .fams),
-    )
-
--- the walk of each live entity in turn can be made
-pub ready-regroup : (live : List Entity) (draft : List Family) (sets : List SparseSet) → FreshAll draft → Apart (famKinds draft) → ReadyEach live (record { sets = sets; layout = draft })
-ready-regroup live draft sets fr apart = ready-each None live (record { sets = sets; layout = draft }) apart (fams-fresh (key sets) draft fr)

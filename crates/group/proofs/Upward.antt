@@ -9,6 +9,7 @@ use borrow.Author.Tests.{lt-ltb, le-ltb}
 use lib.ListN.{length}
 use Rattle.model.specs.Model.{Entity, SparseSet, Group, Family, Storage, Walked, meets, onKinds, swapTo, allHeld, isGrouped, kindsOf, groupComponents, groupFamily, groupTouched, groupAll}
 use Rattle.model.proofs.BoolLaws.{cond-case, bool-cases}
+use Rattle.model.proofs.Walk.{group-stays, group-moves}
 use Rattle.masks.specs.Masks.{upFrom}
 use Rattle.masks.proofs.Lists.{has-here, has-later}
 use Rattle.masks.proofs.Rising.{From}
@@ -85,16 +86,6 @@ module _ (e : Entity) {acc : List ℕ} {first top p : ℕ} (H : Hole acc first t
   unfolding ungroupAt
   ungroup-here = ap (λ (l : Located). movedTo e p (l .count - 1) (l .count - 1) At) (here H r rs fits) ∙ moved-here (r .count - 1) (r .count - 1)
 
--- ---- the model's steps
-
-pub stays : (e : Entity) (ks : List ℕ) (r : Group) (sets : List SparseSet) → isGrouped e r sets ≡ true → groupComponents e ks r sets ≡ record { sets = sets; group = r }
-unfolding groupComponents
-stays e ks r sets b = rw b
-
-pub moves : (e : Entity) (ks : List ℕ) (r : Group) (sets : List SparseSet) → isGrouped e r sets ≡ false → groupComponents e ks r sets ≡ record { sets = onKinds ks (swapTo e (r .count)) sets; group = withCount (suc (r .count)) r }
-unfolding groupComponents
-moves e ks r sets b = rw b
-
 -- ---- a family
 
 -- R of a walk and of what is left of it: that they are the same, or the needs of the walk from the needs of what is left. C is what the steps rest on,
@@ -114,7 +105,7 @@ abbrev pub atHole : {acc : List ℕ} {first top p : ℕ} → Hole acc first top 
 atHole H w = record { sets = w .sets; layout = H .build (w .groups) }
 
 -- the walk leaves as many groups
-pub length-up : (e : Entity) (acc : List ℕ) (sets : List SparseSet) (rs : Family) → length ((groupFamily e acc sets rs) .groups) ≡ length rs
+length-up : (e : Entity) (acc : List ℕ) (sets : List SparseSet) (rs : Family) → length ((groupFamily e acc sets rs) .groups) ≡ length rs
 unfolding groupFamily
 length-up e acc sets [] = refl
 length-up e acc sets (r ∷ rs) =
@@ -155,9 +146,9 @@ module _ {ℓ} {X : Type ℓ} {e : Entity} {step : GroupStatus → ℕ → Stora
   family-climbs {acc} {first} {top} {p} H sets (r ∷ rs) skip ps fits le f c =
       bool-cases (allHeld e (r .newKinds) sets)
       (λ a. bool-cases (isGrouped e r sets)
-      (λ b. rw (W .on skip p rest S le Grouped (grouped-here e H sets r rs fits a b), a, stays e (acc ++ r .newKinds) r sets b)
+      (λ b. rw (W .on skip p rest S le Grouped (grouped-here e H sets r rs fits a b), a, group-stays e (acc ++ r .newKinds) r sets b)
       (K .inside p S (family-climbs (next H r) sets rs skip ps (omega arith) (omega arith) f (K .past acc sets r rs c a))))
-      (λ b. rw (W .on skip p rest S le Ungrouped (ungrouped-here e H sets r rs fits a b), group-here e H sets r rs fits, a, moves e (acc ++ r .newKinds) r sets b)
+      (λ b. rw (W .on skip p rest S le Ungrouped (ungrouped-here e H sets r rs fits a b), group-here e H sets r rs fits, a, group-moves e (acc ++ r .newKinds) r sets b)
       (K .enters H sets r rs fits c a b (family-climbs (next H (withCount (suc (r .count)) r)) M rs skip ps (omega arith) (omega arith) f (K .moved acc sets r rs c a b)))))
       (λ a. rw (W .on skip p rest S le Incomplete (incomplete-here e H sets r rs fits a), top-here e H sets r rs fits, up-past W top (suc p) (length rs) ps S (omega arith), up-from W top ps S f, a)
       (K .left p S (K .same (walk 0 ps S))))

@@ -26,12 +26,12 @@ use Rattle.group.specs.Steps.{Below, leftAfter, StepsUp}
 use Rattle.group.proofs.Counts.{groups-set}
 use Rattle.group.proofs.Upward.{Stepwise, up-from, walk-steps}
 use Rattle.group.proofs.UpReady.{ready-steps}
-use Rattle.group.proofs.Storing.{becomes-then}
+use Rattle.group.proofs.Storing.{SoFar, so-far-next, so-far-is}
 
 -- ---- the invariant of the three loops: of the positions ps₀, those of ps are left
 
 pub record Walking (walk : List ℕ → Storage → Storage) (Ready : List ℕ → Storage → Type 0) (w₀ ps₀ w ps : List ℕ) : Type 0 where
-  pub soFar : Becomes w₀ w (onStorage (λ (s : Storage). meaning w .storage) (meaning w₀))
+  pub soFar : SoFar w₀ w
   pub still : walk ps (meaning w .storage) ≡ walk ps₀ (meaning w₀ .storage)
   pub ready : Ready ps (meaning w .storage)
   pub below : Below ps (meaning w .storage)
@@ -51,9 +51,7 @@ module _ {walk : List ℕ → Storage → Storage} {Ready : List ℕ → Storage
   walking-next {w₀ = w₀} {w = w} {w′ = w′} {ps′ = ps′} {f = f} W T B =
       let now : meaning w′ .storage ≡ f (meaning w .storage) = ap (λ (m : Store). m .storage) (B .means) in
       record {
-        soFar =
-            subst (λ (s : Storage). Becomes w₀ w′ (onStorage (λ (x : Storage). s) (meaning w₀))) (sym now)
-            (becomes-then w₀ w w′ (λ (x : Storage). meaning w .storage) (onStorage f) (W .soFar) B);
+        soFar = so-far-next (W .soFar) f B;
         still = ap (walk ps′) now ∙ T .walks ∙ W .still;
         ready = subst (Ready ps′) (sym now) (T .ready (W .ready));
         below = λ i h. omega (arith, W .below i (T .fewer i h), ap (λ (s : Storage). groupsOf (s .layout)) now, T .groups);
@@ -61,9 +59,7 @@ module _ {walk : List ℕ → Storage → Storage} {Ready : List ℕ → Storage
 
   walking-end : {w₀ ps₀ w ps : List ℕ} → Walking walk Ready w₀ ps₀ w ps → ps ≡ [] → ((s : Storage) → walk [] s ≡ s) → Becomes w₀ w (onStorage (walk ps₀) (meaning w₀))
   walking-end {w₀ = w₀} {w = w} W q none =
-      subst (λ (s : Storage). Becomes w₀ w (onStorage (λ (x : Storage). s) (meaning w₀)))
-      (sym (none (meaning w .storage)) ∙ ap (λ (ps : List ℕ). walk ps (meaning w .storage)) (sym q) ∙ W .still)
-      (W .soFar)
+      so-far-is (W .soFar) _ (sym (none (meaning w .storage)) ∙ ap (λ (ps : List ℕ). walk ps (meaning w .storage)) (sym q) ∙ W .still)
 
 -- ---- a turn upward
 

@@ -100,6 +100,11 @@ walkUp e skip (g ∷ ps) s =
     let on = walkUp e (skipAfter t (located (s .layout) g .top) skip) ps (stepUp t e g s) in
     cond (ltb g skip) passed on
 
+-- each of the entities in turn, over the same positions
+unfoldable pub walkEach : List Entity → List ℕ → Storage → Storage
+walkEach [] ps s = s
+walkEach (e ∷ es) ps s = walkEach es ps (walkUp e 0 ps s)
+
 abbrev pub stepDown : GroupStatus → Entity → ℕ → Storage → Storage
 stepDown Incomplete e g s = s
 stepDown Ungrouped e g s = s

@@ -5,11 +5,11 @@ use mathlib.Core.List.{List, [], _∷_}
 use Prim.Native.Nat.{ℕ, _-_, _≤_, _<_}
 use lib.Dec.{ltb}
 use lib.ListN.{length}
-use Rattle.model.specs.Model.{Entity, SparseSet, Storage, setOf, held, groupAll}
+use Rattle.model.specs.Model.{Entity, SparseSet, Storage, setOf, held}
 use Rattle.model.specs.Sound.{In}
 use Rattle.group.specs.declared.group_status.GroupStatus.{GroupStatus}
 use Rattle.group.specs.declared.group_status.GroupStatus.the-variants.{Incomplete, Ungrouped, Grouped}
-use Rattle.group.specs.Flat.{Located, located, statusAt, stepUp, skipAfter, stepDown, allPositions}
+use Rattle.group.specs.Flat.{Located, located, statusAt, stepUp, skipAfter, walkUp, stepDown}
 
 -- the entity can be swapped to place c in every sparse set of ks
 pub record Swappable (e : Entity) (ks : List ℕ) (c : ℕ) (sets : List SparseSet) : Type 0 where
@@ -48,7 +48,7 @@ ReadyDown e [] s = Unit {0}
 ReadyDown e (g ∷ ps) s =
     ReadyOut (statusAt e g s) e (located (s .layout) g) (s .sets) × ReadyDown e ps (stepDown (statusAt e g s) e g s)
 
--- each of the entities in turn, when a layout is applied
-unfoldable pub ReadyEach : List Entity → Storage → Type 0
-ReadyEach [] s = Unit {0}
-ReadyEach (e ∷ es) s = ReadyUp e 0 (allPositions (s .layout)) s × ReadyEach es (groupAll e (s .sets) (s .layout))
+-- what walks upward over the groups at ps need, each of the entities in turn
+unfoldable pub ReadyEach : List Entity → List ℕ → Storage → Type 0
+ReadyEach [] ps s = Unit {0}
+ReadyEach (e ∷ es) ps s = ReadyUp e 0 ps s × ReadyEach es ps (walkUp e 0 ps s)

@@ -14,6 +14,7 @@ use masks::group_mask::GroupMask;
 use masks::group_mask::NextBit;
 ghost use mathlib.Core.List.{reverse};
 ghost use Prim.Native.Nat.{_-_, _<_, _≤_};
+ghost use lib.ListN.{drop};
 ghost use Rattle.model.specs.Model.{groupsOf, entity};
 ghost use Rattle.model.specs.Store.{onStorage};
 ghost use Rattle.words.specs.Part.{between};
@@ -21,8 +22,8 @@ ghost use Rattle.masks.specs.Masks.{bitsOf, upFrom};
 ghost use Rattle.masks.specs.Walk.{Highest};
 ghost use Rattle.memory.specs.Meaning.{meaning};
 ghost use Rattle.memory.specs.Arranged.{Arranged, Becomes};
-ghost use Rattle.group.specs.Flat.{located, statusAt, groupAt, ungroupAt, stepDown, walkUp, walkDown};
-ghost use Rattle.group.specs.Ready.{Swappable, ReadyIn, ReadyOut, ReadyUp, ReadyDown};
+ghost use Rattle.group.specs.Flat.{located, statusAt, groupAt, ungroupAt, stepDown, walkUp, walkEach, walkDown};
+ghost use Rattle.group.specs.Ready.{Swappable, ReadyIn, ReadyOut, ReadyUp, ReadyEach, ReadyDown};
 ghost use Rattle.group.specs.Metadata.{orderOf, PlacesKnown, Stands};
 ghost use Rattle.group.specs.Steps.{swapKinds, Below, StepsUp};
 
@@ -124,6 +125,25 @@ pub fn group(words: &mut [u32], mask: GroupMask, index: u32, version: u32)
             return;
         };
         left = group_step(words, g as usize, rest, index, version);
+    }
+}
+
+// Each live entity from place start on is walked upward over the groups of a mask, one after another.
+pub fn group_each(words: &mut [u32], mask: GroupMask, start: usize)
+    requires { ⌜ Arranged (now words) ⌝ }
+    requires { ⌜ Below (bitsOf 64 (mask .0)) (meaning (now words) .storage) ⌝ }
+    requires { ⌜ ReadyEach (drop start (meaning (now words) .entities .live)) (bitsOf 64 (mask .0)) (meaning (now words) .storage) ⌝ }
+    ensures { λ _. ⌜ Becomes (now (words .entry)) (now (words .exit)) (onStorage (walkEach (drop start (meaning (now (words .entry)) .entities .live)) (bitsOf 64 (mask .0))) (meaning (now (words .entry)))) ⌝ }
+{
+    if mask.0 == 0 {
+        return;
+    }
+    let len = control::entities::live_len(words);
+    let mut place = start;
+    while place < len {
+        let entity = control::entities::live_at(words, place);
+        group(words, mask, entity.index, entity.version);
+        place += 1;
     }
 }
 

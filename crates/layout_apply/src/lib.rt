@@ -19,6 +19,7 @@ ghost use Rattle.layout.specs.Group.{InFamily, priorArity};
 ghost use Rattle.memory.specs.Header.{capacityOf};
 ghost use Rattle.memory.specs.Meaning.{layoutArrays, meaning};
 ghost use Rattle.memory.specs.Arranged.{Arranged, Becomes};
+ghost use Rattle.group.specs.Flat.{allPositions};
 ghost use Rattle.group.specs.Ready.{ReadyEach};
 ghost use Rattle.layout_apply.specs.Steps.{installed, applied, Filled, Copied, FamilyEndsAsk, Numbered, switched, Prepared};
 ghost use Rattle.layout_apply.specs.Heads.{withOwn, ClearsHeads, slotNo, HeadsReady, placeNo, Upto, HeadedUpto, HeadsGroup};
@@ -193,18 +194,12 @@ pub fn install(words: &mut [u32])
 // Each live entity in turn is walked upward over all groups.
 fn regroup(words: &mut [u32])
     requires { ⌜ Arranged (now words) ⌝ }
-    requires { ⌜ ReadyEach (meaning (now words) .entities .live) (meaning (now words) .storage) ⌝ }
+    requires { ⌜ ReadyEach (meaning (now words) .entities .live) (allPositions (meaning (now words) .storage .layout)) (meaning (now words) .storage) ⌝ }
     ensures { λ _. ⌜ Becomes (now (words .entry)) (now (words .exit)) (onStorage (regroup (meaning (now (words .entry)) .entities .live)) (meaning (now (words .entry)))) ⌝ }
 {
     let groups = group::group_metadata::group_count(words);
     let mask = GroupMask::from_to(0, groups);
-    let len = control::entities::live_len(words);
-    let mut place = 0;
-    while place < len {
-        let entity = control::entities::live_at(words, place);
-        group::group(words, mask, entity.index, entity.version);
-        place += 1;
-    }
+    group::group_each(words, mask, 0);
 }
 
 // 01's APPLY.

@@ -99,7 +99,7 @@ layoutKinds-plain : (fs : List Family) → layoutKinds (plain fs) ≡ layoutKind
 layoutKinds-plain [] = refl
 layoutKinds-plain (f ∷ fs) = ap₂ (λ (a b : List ℕ). a ++ b) (zero-kinds f) (layoutKinds-plain fs)
 
-groupsOf-plain : (fs : List Family) → groupsOf (plain fs) ≡ groupsOf fs
+pub groupsOf-plain : (fs : List Family) → groupsOf (plain fs) ≡ groupsOf fs
 groupsOf-plain [] = refl
 groupsOf-plain (f ∷ fs) = ap₂ (λ (a b : ℕ). a + b) (length-map f zeroCount) (groupsOf-plain fs)
 

@@ -139,8 +139,8 @@ module _ (W : Entity → Type 0) (e : Entity) (acc : List ℕ) (r : Group) (sets
         first = λ m k i lt le. le;
       }
 
-  moves : isGrouped e r sets ≡ false → Entered W e acc g r sets (record { sets = onKinds g (swapTo e c) sets; group = record { newKinds = r .newKinds; count = suc c } })
-  moves t =
+  pub enters : isGrouped e r sets ≡ false → Entered W e acc g r sets (record { sets = onKinds g (swapTo e c) sets; group = record { newKinds = r .newKinds; count = suc c } })
+  enters t =
       let ge : c ≤ plc e (key sets hd) = ltb-false _ _ t in
       let out : (k : ℕ) → In g k → c ≤ plc e (key sets k) = λ k i.
       let no : ¬ (plc e (key sets k) < c) = λ q.
@@ -167,7 +167,23 @@ module _ (W : Entity → Type 0) (e : Entity) (acc : List ℕ) (r : Group) (sets
 
   pub groupComponents-good : Entered W e acc g r sets (groupComponents e g r sets)
   unfolding groupComponents
-  groupComponents-good = cond-case (Entered W e acc g r sets) (isGrouped e r sets) _ _ stays moves
+  groupComponents-good = cond-case (Entered W e acc g r sets) (isGrouped e r sets) _ _ stays enters
+
+  -- each of the group's sparse sets goes on past the count
+  pub enters-room : isGrouped e r sets ≡ false → (k : ℕ) → In g k → r .count < length (setOf sets k)
+  enters-room t k i = let E = enters t in omega (arith, E .even .fit k i, E .same .lengths k, length-map (setOf sets k) entityOf)
+
+pub group-stays : (e : Entity) (ks : List ℕ) (r : Group) (sets : List SparseSet) → isGrouped e r sets ≡ true → groupComponents e ks r sets ≡ record { sets = sets; group = r }
+unfolding groupComponents
+group-stays e ks r sets b = rw b
+
+pub group-moves : (e : Entity) (ks : List ℕ) (r : Group) (sets : List SparseSet) → isGrouped e r sets ≡ false → groupComponents e ks r sets ≡ record { sets = onKinds ks (swapTo e (r .count)) sets; group = record { newKinds = r .newKinds; count = suc (r .count) } }
+unfolding groupComponents
+group-moves e ks r sets b = rw b
+
+-- the entity holds the group's kinds, if it holds those of the group before and the new ones
+pub holds-more : (e : Entity) (acc : List ℕ) (sets : List SparseSet) (r : Group) → ((k : ℕ) → In acc k → 1 ≤ cnt e (key sets k)) → allHeld e (r .newKinds) sets ≡ true → (k : ℕ) → In (acc ++ r .newKinds) k → 1 ≤ cnt e (key sets k)
+holds-more e acc sets r has a k i = in-cases acc (r .newKinds) k i (has k) (λ j. held-count e sets k (all-in (λ y. held e (setOf sets y)) (r .newKinds) a k j))
 
 -- ---- the walk
 
@@ -211,8 +227,7 @@ module _ (W : Entity → Type 0) (e : Entity) (acc : List ℕ) (sets : List Spar
   groupFamily-step rec t =
       let hd = headKind (r .newKinds) in
       let head = in-right acc (r .newKinds) hd (ch .0 .head) in
-      let hasg : (k : ℕ) → In g′ k → 1 ≤ cnt e (key sets k) = λ k i.
-      in-cases acc (r .newKinds) k i (has k) (λ j. held-count e sets k (all-in (λ k. held e (setOf sets k)) (r .newKinds) t k j)) in
+      let hasg : (k : ℕ) → In g′ k → 1 ≤ cnt e (key sets k) = holds-more e acc sets r has t in
       let E : Entered W e acc g′ r sets s′ = groupComponents-good W e acc r sets head hasg (ch .0 .even) (ch .0 .full) in
       let U : Up W e g′ (s′ .sets) rs (groupFamily e g′ (s′ .sets) rs) = rec (λ k i. rw (E .same .entities e k) (hasg k i)) (chain-low W (r .count) (E .same) (E .lower) g′ rs (ch .1) (ch .2)) in
       let K = U .smaller g′ (s′ .group .count) (λ k i. i) (E .even) (E .within) in
