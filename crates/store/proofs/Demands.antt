@@ -12,14 +12,15 @@ use Rattle.model.specs.Numbers.{BEYOND, KIND, MANY, NOROOM, UNKNOWN, UNSOUND, W
 use Rattle.model.specs.Store.{Store, empty}
 use Rattle.model.specs.Commands.{Command}
 use Rattle.model.specs.Refusals.{numberOf, firstLine, BeforeCommand, beforeLines, linesOf, startLines, rollLines, columnLines}
-use Rattle.model.specs.Run.{refuses, halt, run}
+use Rattle.model.specs.Run.{Outcome, refuses, accepts, does, storeAfter, answerOf, halt, run}
 use Rattle.model.specs.Snapshot.{snapshot, Same}
 use Rattle.model.specs.History.{retired}
 use Rattle.model.specs.Entries.{Started, refusesStart, makes, start, columnRefusal, column, roll}
 use Rattle.model.proofs.Demand.{all-between}
 use Rattle.model.proofs.Entries.{start-makes, column-refused}
 use Rattle.model.proofs.Lengths.{run-fits}
-use Rattle.model.proofs.Lines.{first-exact, none-exact, refusal-exact, lines-numbers, wide-never}
+use Rattle.model.proofs.Lines.{first-exact, none-exact, refusal-exact, accepted-exact, lines-numbers, wide-never}
+use Rattle.model.specs.Sound.{StoreSound}
 use Rattle.model.proofs.Retired.{run-balanced}
 use Rattle.model.specs.Theorems.{Balanced}
 use Rattle.model.proofs.Snapshots.{snapshots-of-sound}
@@ -30,7 +31,7 @@ use Rattle.run.specs.declared.Ran.{Ran}
 use Rattle.snapshot.proofs.Rolled.{roll-fits}
 use Rattle.store.specs.declared.Rolled.{Rolled}
 use Rattle.store.specs.Entries.{startNumber, StartLeaves, Starts, columnRefused, ColumnNumbered, columnWords, partPlace, ColumnPart, ranOf, RunLeaves, Runs, Rolls}
-use Rattle.store.specs.Course.{before, commandOn, Course, ended, stopped, refused, done, AfterEach, BeforeEach, EachAnswer, EachRefusal, Reached, started, ran, retiredIn}
+use Rattle.store.specs.Course.{before, commandOn, Course, ended, stopped, refused, done, AfterEach, BeforeEach, EachDone, EachAnswer, EachRefusal, Reached, started, ran, retiredIn}
 use Rattle.store.proofs.Starting.{start-number}
 use Rattle.store.proofs.Tables.{tabled, judged, start-tabled}
 use Rattle.store.specs.Theorems.{Tabled, Judged, RefusalAlone, GroupsHold}
@@ -105,6 +106,24 @@ answers-in (done w w₁ {t = t} {b = b} h n m s c) =
 
 pub answers-exact : (w w′ t o o′ : List ℕ) (r : Ran) (R : Runs w w′ t o o′ r) (S : Sound w) → EachAnswer (λ v k l. Tabled (linesOf k) (meaning v) (getD l 0 0)) (run-course w w′ t o o′ r R S)
 answers-exact w w′ t o o′ r R S = answers-in (run-course w w′ t o o′ r R S)
+
+-- What the model's `does` says of each command in a sound store holds of each command of a run: of the stores before and after it, and of its answer with
+-- those that come after it.
+module _ (P : Command → Store → Store → List ℕ → Type 0) (says : (k : Command) (s : Store) (rest : List ℕ) → StoreSound s → P k s (storeAfter s (does k s)) (answerOf (does k s) ++ rest)) where
+  told-by : (k : Command) (s s′ : Store) (x : Outcome) (rest : List ℕ) → StoreSound s → does k s ≡ x → s′ ≡ storeAfter s x → P k s s′ (answerOf x ++ rest)
+  told-by k s s′ x rest S d m =
+      subst (λ (t : Store). P k s t (answerOf x ++ rest)) (sym m) (subst (λ (y : Outcome). P k s (storeAfter s y) (answerOf y ++ rest)) d (says k s rest S))
+
+  told-in : {w t w′ bytes : List ℕ} {room stop commands read : ℕ} → Sound w → (c : Course w t room w′ stop commands read bytes) → EachDone (λ v k v′ l. P k (meaning v) (meaning v′) l) c
+  told-in S ended = tt
+  told-in S (stopped f) = tt
+  told-in S (refused w {t = t} {bytes = bytes} {b = b} {n = n} h f m s c) =
+      (told-by (commandOn b t) (meaning w) (meaning (withRefusal w)) (refuses n) bytes (S .means) (refusal-exact (commandOn b t) (meaning w) n .1 f) (m .means), told-in s c)
+  told-in S (done w w₁ {t = t} {bytes = bytes} {b = b} h n m s c) =
+      (told-by (commandOn b t) (meaning w) (meaning w₁) (accepts _ _) bytes (S .means) (accepted-exact (commandOn b t) (meaning w) _ _ .1 (n, refl, refl)) (m .means), told-in s c)
+
+  pub told-in-run : (w w′ t o o′ : List ℕ) (r : Ran) (R : Runs w w′ t o o′ r) (S : Sound w) → EachDone (λ v k v′ l. P k (meaning v) (meaning v′) l) (run-course w w′ t o o′ r R S)
+  told-in-run w w′ t o o′ r R S = told-in S (run-course w w′ t o o′ r R S)
 
 -- 02, No. 3: "WIDE then never occurs": no command of a run is answered 13.
 wide-in : {w t w′ bytes : List ℕ} {room stop commands read : ℕ} → Sound w → (c : Course w t room w′ stop commands read bytes) → EachAnswer (λ v k l. getD l 0 0 ≡ WIDE → ⊥) c

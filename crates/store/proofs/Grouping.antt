@@ -1,6 +1,6 @@
 -- GROUP over the words: what each GROUP of a run answers and leaves, and the groups of a job sheet in any order. Theorems over the contract of *run* alone
 -- (specs/Entries.antt). Assumes nothing.
-use mathlib.Core.Path.{_≡_, refl, sym, ap, _∙_, subst}
+use mathlib.Core.Path.{_≡_, sym, ap, _∙_, subst}
 use mathlib.Core.Bool.{Bool, true}
 use mathlib.Core.List.{List, [], _++_}
 use Prim.Native.Nat.{ℕ, _≤_}
@@ -9,9 +9,7 @@ use Rattle.model.specs.Model.{Component}
 use Rattle.model.specs.Forms.{SameGroups}
 use Rattle.model.specs.Store.{Store}
 use Rattle.model.specs.Commands.{Command, GROUP}
-use Rattle.model.specs.Run.{Outcome, refuses, accepts, does, storeAfter, answerOf}
-use Rattle.model.specs.Sound.{StoreSound}
-use Rattle.model.proofs.Lines.{refusal-exact, accepted-exact}
+use Rattle.model.specs.Run.{does, storeAfter, answerOf}
 use Rattle.words.proofs.Decides.{decides-same}
 use Rattle.tapes.specs.Tapes.{AllEncodable, tapeOf, afterAll, roomFor, ranAll}
 use Rattle.tapes.proofs.Tapes.{run-commands}
@@ -20,32 +18,19 @@ use Rattle.drafts.specs.Drafted.{twoOrMore}
 use Rattle.drafts.specs.Sheets.{sheetCommands, sheetGroups, SheetSound, NoneRefused, SameSheet}
 use Rattle.drafts.proofs.Grouping.{group-told}
 use Rattle.drafts.proofs.Sheets.{sheet-encodable, sheets-in-any-order}
-use Rattle.memory.specs.Meaning.{meaning, withRefusal}
+use Rattle.memory.specs.Meaning.{meaning}
 use Rattle.memory.specs.Arranged.{Sound}
 use Rattle.run.specs.declared.Ran.{Ran}
-use Rattle.store.specs.Course.{Course, ended, stopped, refused, done, EachDone}
+use Rattle.store.specs.Course.{EachDone}
 use Rattle.store.specs.Entries.{ranOf, Runs}
-use Rattle.store.proofs.Demands.{run-course}
+use Rattle.store.proofs.Demands.{run-course, told-in-run}
 
 -- ---- each GROUP of a run
 
--- by what the model's GROUP does
-told-by : (k : Command) (s s′ : Store) (x : Outcome) (rest : List ℕ) → StoreSound s → does k s ≡ x → s′ ≡ storeAfter s x → k ≡ GROUP → GroupTold s s′ (answerOf x ++ rest)
-told-by k s s′ x rest S d m e =
-    let g : does GROUP s ≡ x = ap (λ (c : Command). does c s) (sym e) ∙ d in
-    subst (λ (t : Store). GroupTold s t (answerOf x ++ rest)) (sym m) (subst (λ (y : Outcome). GroupTold s (storeAfter s y) (answerOf y ++ rest)) g (group-told s S rest))
-
-groups-in : {w t w′ bytes : List ℕ} {room stop commands read : ℕ} → Sound w → (c : Course w t room w′ stop commands read bytes) → EachDone (λ v k v′ l. k ≡ GROUP → GroupTold (meaning v) (meaning v′) l) c
-groups-in S ended = tt
-groups-in S (stopped f) = tt
-groups-in S (refused w {t = t} {bytes = bytes} {b = b} {n = n} h f m s c) =
-    (told-by _ (meaning w) (meaning (withRefusal w)) (refuses n) bytes (S .means) (refusal-exact _ (meaning w) n .1 f) (m .means), groups-in s c)
-groups-in S (done w w₁ {t = t} {bytes = bytes} {b = b} h n m s c) =
-    (told-by _ (meaning w) (meaning w₁) (accepts _ _) bytes (S .means) (accepted-exact _ (meaning w) _ _ .1 (n, refl, refl)) (m .means), groups-in s c)
-
 -- wherever it stands in the run: for the hand and the draft before it
 pub groups-in-run : (w w′ t o o′ : List ℕ) (r : Ran) (R : Runs w w′ t o o′ r) (S : Sound w) → EachDone (λ v k v′ l. k ≡ GROUP → GroupTold (meaning v) (meaning v′) l) (run-course w w′ t o o′ r R S)
-groups-in-run w w′ t o o′ r R S = groups-in S (run-course w w′ t o o′ r R S)
+groups-in-run w w′ t o o′ r R S =
+    told-in-run (λ k s s′ l. k ≡ GROUP → GroupTold s s′ l) (λ k s rest M e. subst (λ (c : Command). GroupTold s (storeAfter s (does c s)) (answerOf (does c s) ++ rest)) (sym e) (group-told s M rest)) w w′ t o o′ r R S
 
 -- ---- a job sheet
 
