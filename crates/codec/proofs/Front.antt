@@ -20,6 +20,9 @@ take-part zero t i h = refl
 take-part (suc n) t i h =
     ap (take (suc n)) (drop-cons t i 0 (omega arith)) ∙ ap (λ (l : List ℕ). getD t i 0 ∷ l) (take-part n t (suc i) (omega arith))
 
+pub number-2 : (t : List ℕ) (i : ℕ) → i + 2 ≤ length t → getD t i 0 + 256 * getD t (i + 1) 0 ≡ number (take 2 (drop i t))
+number-2 t i h = rw (take-part 2 t i h) (simp (add-one, add-zero))
+
 pub number-4 : (t : List ℕ) (i : ℕ) → i + 4 ≤ length t
     → getD t i 0 + 256 * (getD t (i + 1) 0 + 256 * (getD t (i + 2) 0 + 256 * getD t (i + 3) 0)) ≡ number (take 4 (drop i t))
 number-4 t i h = rw (take-part 4 t i h) (simp (add-one, add-two, add-three, add-zero))

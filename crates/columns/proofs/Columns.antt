@@ -65,7 +65,7 @@ unfolding meaning
 row-alike w v A B e values k a i = go values
   where
     slot : slotOf w k ≡ slotOf v k
-    slot = slot-alike w v A B e k i
+    slot = slot-alike w v A B (λ j. e j .kinds) k i
 
     capacity : capacityOf w ≡ capacityOf v
     capacity = ap (λ (x : Store). x .settings .capacity) e

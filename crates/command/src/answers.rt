@@ -37,6 +37,16 @@ pub fn ack_byte(out: &mut [u8], at: usize, byte: u8) -> usize
     2
 }
 
+// Accepted, with a count of two bytes to tell.
+pub fn ack_count(out: &mut [u8], at: usize, count: u32) -> usize
+    requires { ⌜ at + 3 ≤ length (now out) ⌝ }
+    ensures { λ r. ⌜ Written (now (out .entry)) (now (out .exit)) at r (0 ∷ bytesOf 2 count) ⌝ }
+{
+    out[at] = 0;
+    codec::put_u16(out, at + 1, count);
+    3
+}
+
 // Accepted, with a number of four bytes to tell.
 pub fn ack_number(out: &mut [u8], at: usize, number: u32) -> usize
     requires { ⌜ at + 5 ≤ length (now out) ⌝ }

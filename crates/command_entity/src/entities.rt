@@ -1,5 +1,6 @@
-// NEW and KILL: an entity comes, or goes.
+// NEW, TRAY and KILL: an entity comes, many come, or one goes.
 use command::answers::ack;
+use command::answers::ack_count;
 use command::answers::ack_number;
 use command::answers::refuse;
 use entity::Found;
@@ -9,7 +10,7 @@ ghost use mathlib.Core.List.{_∷_, _++_};
 ghost use Prim.Native.Nat.{_+_, _≤_};
 ghost use lib.ListN.{length};
 ghost use Rattle.model.specs.Store.{bytesOf};
-ghost use Rattle.model.specs.Commands.{NEW, KILL};
+ghost use Rattle.model.specs.Commands.{NEW, TRAY, KILL};
 ghost use Rattle.model.specs.Run.{does};
 ghost use Rattle.model.specs.Model.{entity};
 ghost use Rattle.memory.specs.Meaning.{meaning};
@@ -49,4 +50,18 @@ pub fn new(words: &mut [u32], out: &mut [u8], at: usize) -> usize
     let e = world::create(words);
     control::staged::clear_staged(words);
     ack_entity(out, at, e.index, e.version)
+}
+
+// TRAY: that many entities with the staged components.
+pub fn tray(words: &mut [u32], count: u32, out: &mut [u8], at: usize) -> usize
+    requires { ⌜ Ready (now words) (now out) at (TRAY count) ⌝ }
+    ensures { λ r. ⌜ Acted (now (words .entry)) (now (words .exit)) (now (out .entry)) (now (out .exit)) at r (does (TRAY count) (meaning (now (words .entry)))) ⌝ }
+{
+    let many = count as usize;
+    if control::entities::free_numbers(words) < many {
+        return refuse(words, out, at, FULL);
+    }
+    world::extend(words, many);
+    control::staged::clear_staged(words);
+    ack_count(out, at, count)
 }

@@ -11,7 +11,7 @@ ghost use mathlib.Core.Path.{_≡_};
 ghost use mathlib.Core.Bool.{false};
 ghost use Prim.Native.Nat.{_<_};
 ghost use lib.ListN.{length, getD};
-ghost use Rattle.model.specs.Model.{noEntity, destroy, entity, isFull};
+ghost use Rattle.model.specs.Model.{noEntity, destroy, entity, isFull, freeNumbers};
 ghost use Rattle.model.specs.Store.{withEntities};
 ghost use Rattle.model.specs.Snapshot.{liveVersion};
 ghost use Rattle.entity.specs.Answers.{entityOfAnswer, foundOf, LiveAt};
@@ -45,6 +45,16 @@ pub fn is_full(words: &[u32]) -> bool
     let n = capacity(words);
     let end = ENTITIES + model::ENTITY_LEN * n;
     entity_allocator::is_full(&words[ENTITIES..end], n)
+}
+
+// How many numbers are left: those that wait, and those not yet issued.
+pub fn free_numbers(words: &[u32]) -> usize
+    requires { ⌜ Arranged (now words) ⌝ }
+    ensures { λ r. ⌜ r ≡ freeNumbers (meaning (now (words .entry)) .settings .capacity) (meaning (now (words .entry)) .entities) ⌝ }
+{
+    let n = capacity(words);
+    let end = ENTITIES + model::ENTITY_LEN * n;
+    entity_allocator::free_numbers(&words[ENTITIES..end], n)
 }
 
 // A new entity. The caller has seen that there is a number left.

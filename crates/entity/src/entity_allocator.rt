@@ -7,7 +7,7 @@ ghost use Rattle.entity.specs.Queue.{wrapped};
 ghost use Rattle.entity.specs.Meaning.{EntityPartSound, entitiesOf, recycledLen, issuedOf};
 ghost use Rattle.entity.specs.Change.{Idle, EntitiesChanged, queued, recycledAs};
 ghost use Rattle.entity.specs.Answers.{Allocated, Unqueued, Issued};
-ghost use Rattle.model.specs.Model.{entity, isFull};
+ghost use Rattle.model.specs.Model.{entity, isFull, freeNumbers};
 
 // How many numbers are issued.
 pub fn issued(part: &[u32], n: usize) -> usize
@@ -30,6 +30,16 @@ pub fn is_full(part: &[u32], n: usize) -> bool
         return false;
     }
     true
+}
+
+// How many numbers are left: those that wait, and those not yet issued.
+pub fn free_numbers(part: &[u32], n: usize) -> usize
+    requires { ⌜ EntityPartSound n (now part) ⌝ }
+    ensures { λ r. ⌜ r ≡ freeNumbers n (entitiesOf n (now (part .entry))) ⌝ }
+{
+    let waiting = part[words::RECYCLED_LEN] as usize;
+    let issued = part[words::ISSUED] as usize;
+    waiting + (n - issued)
 }
 
 // The queue's place k, counted on past the end.

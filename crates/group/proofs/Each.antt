@@ -1,13 +1,15 @@
 -- Entities one after another over the same groups: what it is in the model, and the loop over the live list from a place on. Assumes nothing.
-use mathlib.Core.Path.{_≡_, refl, ap, sym, _∙_, subst}
-use mathlib.Core.List.{List, [], _∷_}
+use mathlib.Core.Path.{_≡_, refl, ap, ap₂, sym, _∙_, subst}
+use mathlib.Core.Bool.{Bool}
+use mathlib.Core.List.{List, [], _∷_, _++_, map}
 use Prim.Native.Nat.{ℕ, _+_, _≤_, _<_}
 use native.Mathlib.Omega.{arith}
 use lib.Dec.{ltb}
-use lib.ListN.{length, getD, drop, drop-of-length-le}
-use Rattle.model.specs.Model.{Entity, Storage, noEntity, groupsOf, regroup}
+use lib.ListN.{length, getD, drop, drop-of-length-le, length-map}
+use Rattle.model.specs.Model.{Entity, Family, Storage, noEntity, zeroCount, meets, kindsOf, groupsOf, groupEach, regroup}
 use Rattle.model.specs.Store.{Store, onStorage}
-use Rattle.model.proofs.BoolLaws.{cond-case}
+use Rattle.model.proofs.BoolLaws.{bool-cases, cond-case}
+use Rattle.model.proofs.Regroup.{zero-kinds}
 use Rattle.model.proofs.Shape.{plain}
 use Rattle.masks.specs.Masks.{upFrom}
 use Rattle.memory.specs.Meaning.{meaning}
@@ -15,11 +17,12 @@ use Rattle.memory.specs.Arranged.{Arranged, Becomes}
 use Rattle.memory.proofs.Becomes.{stays}
 use Rattle.group.specs.declared.group_status.GroupStatus.{GroupStatus}
 use Rattle.group.specs.declared.group_status.GroupStatus.the-variants.{Incomplete, Ungrouped, Grouped}
-use Rattle.group.specs.Flat.{located, statusAt, groupAt, stepUp, skipAfter, walkUp, walkEach, allPositions}
+use Rattle.group.specs.Flat.{located, statusAt, groupAt, stepUp, skipAfter, walkUp, walkEach, passing, familyMembers, positionsWhere, insertPositions, allPositions}
 use Rattle.group.specs.Ready.{ReadyUp, ReadyEach}
 use Rattle.group.specs.Steps.{Below}
 use Rattle.group.proofs.Counts.{plain-set, plain-groups}
-use Rattle.group.proofs.Upward.{walk-all}
+use Rattle.group.proofs.Positions.{where-family, family-all, family-none}
+use Rattle.group.proofs.Upward.{walk-touched, walk-all}
 use Rattle.group.proofs.Storing.{SoFar, so-far-next, so-far-is, live-next}
 
 -- ---- a walk changes counts alone, so that the positions stay
@@ -41,6 +44,27 @@ walk-plain e skip (g ∷ ps) s =
 
 walk-groups : (e : Entity) (ps : List ℕ) (s : Storage) → groupsOf (walkUp e 0 ps s .layout) ≡ groupsOf (s .layout)
 walk-groups e ps s = plain-groups (walkUp e 0 ps s .layout) (s .layout) (walk-plain e 0 ps s)
+
+module _ (ks : List ℕ) where
+  abbrev touched : Family → List ℕ → Bool
+  touched f js = meets ks (kindsOf f)
+
+  family-plain : (p : ℕ) (f : Family) → passing touched p (familyMembers (map zeroCount f) [] (map zeroCount f)) ≡ passing touched p (familyMembers f [] f)
+  family-plain p f =
+      let q : meets ks (kindsOf (map zeroCount f)) ≡ meets ks (kindsOf f) = ap (meets ks) (zero-kinds f) in
+      bool-cases (meets ks (kindsOf f))
+      (λ h. family-all touched (map zeroCount f) (λ js. q ∙ h) p [] (map zeroCount f) ∙ ap (upFrom p) (length-map f zeroCount) ∙ sym (family-all touched f (λ js. h) p [] f))
+      (λ h. family-none touched (map zeroCount f) (λ js. q ∙ h) p [] (map zeroCount f) ∙ sym (family-none touched f (λ js. h) p [] f))
+
+  positions-plain : (p : ℕ) (fs : List Family) → positionsWhere touched p (plain fs) ≡ positionsWhere touched p fs
+  positions-plain p [] = refl
+  positions-plain p (f ∷ fs) =
+      where-family touched p (map zeroCount f) (plain fs)
+      ∙ ap₂ (λ (a b : List ℕ). a ++ b) (family-plain p f) (ap (λ (n : ℕ). positionsWhere touched (p + n) (plain fs)) (length-map f zeroCount) ∙ positions-plain (p + length f) fs)
+      ∙ sym (where-family touched p f fs)
+
+  pub touched-kept : (e : Entity) (ps : List ℕ) (s : Storage) → insertPositions ks (walkUp e 0 ps s .layout) ≡ insertPositions ks (s .layout)
+  touched-kept e ps s = sym (positions-plain 0 (walkUp e 0 ps s .layout)) ∙ ap (positionsWhere touched 0) (walk-plain e 0 ps s) ∙ positions-plain 0 (s .layout)
 
 pub all-kept : (e : Entity) (ps : List ℕ) (s : Storage) → allPositions (walkUp e 0 ps s .layout) ≡ allPositions (s .layout)
 all-kept e ps s = ap (upFrom 0) (walk-groups e ps s)
@@ -64,7 +88,18 @@ each-empty (e ∷ es) s = each-empty es s
 pub none-grouped : (w ps : List ℕ) (es : List Entity) → Arranged w → ps ≡ [] → Becomes w w (onStorage (walkEach es ps) (meaning w))
 none-grouped w ps es A q = subst (λ (x : Storage). Becomes w w (onStorage (λ (y : Storage). x) (meaning w))) (sym (ap (λ (l : List ℕ). walkEach es l (meaning w .storage)) q ∙ each-empty es (meaning w .storage))) (stays A)
 
--- over all groups
+-- over the touched families
+pub each-touched : (es : List Entity) (ks : List ℕ) (s : Storage) → walkEach es (insertPositions ks (s .layout)) s ≡ groupEach es ks s
+unfolding groupEach
+each-touched [] ks s = each-none (insertPositions ks (s .layout)) s
+each-touched (e ∷ es) ks s =
+    let ps : List ℕ = insertPositions ks (s .layout) in
+    each-next e es ps s
+    ∙ ap (λ (qs : List ℕ). walkEach es qs (walkUp e 0 ps s)) (sym (touched-kept ks e ps s))
+    ∙ each-touched es ks (walkUp e 0 ps s)
+    ∙ ap (groupEach es ks) (walk-touched e ks s)
+
+-- over all of them
 pub each-all : (es : List Entity) (s : Storage) → walkEach es (allPositions (s .layout)) s ≡ regroup es s
 unfolding regroup
 each-all [] s = each-none (allPositions (s .layout)) s

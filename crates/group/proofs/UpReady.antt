@@ -8,7 +8,7 @@ use lib.ListN.{length}
 use Rattle.model.specs.Model.{Entity, SparseSet, Group, Family, Component, Storage, meets, onKinds, swapTo, isGrouped, headKind, kindsOf, kindOf, insertAll, groupFamily}
 use Rattle.model.proofs.Walk.{GroupRight, Chain, But, Entered, enters, enters-room, holds-more, chain-low, Up, groupFamily-good, count-held}
 use Rattle.model.proofs.KindLists.{in-left, in-right, not-both}
-use Rattle.model.proofs.Families.{allKinds, famKinds, chain-other, put-all, chain-put, Apart, Fams, FamsFor, Kinds, Put}
+use Rattle.model.proofs.Families.{allKinds, famKinds, chain-other, put-all, fams-put, Apart, FamsFor, Kinds}
 use Rattle.model.proofs.Invariant.{Fit}
 use Rattle.model.specs.Sound.{key, cnt, In}
 use Rattle.group.specs.declared.group_status.GroupStatus.{GroupStatus}
@@ -89,10 +89,6 @@ ready-where t W e s apart fams = where-climbs (ready-steps e) (ready-climb W e) 
     off sets f fs a = (a .0 .1, a .1 .1, λ k i. a .2 k (in-right (kindsOf f) (allKinds (famKinds fs)) k i))
 
 -- ---- insertion
-
-fams-put : (e : Entity) (ks : List ℕ) (key new : ℕ → List Entity) → Put e ks key new → (fs : List Family) → Fams key fs → FamsFor new (But e) fs
-fams-put e ks key new p [] fm = tt
-fams-put e ks key new p (f ∷ fs) fm = (chain-put e ks key new p [] f (fm .0), fams-put e ks key new p fs (fm .1))
 
 -- all parts are in: the walk over the touched families can be made
 pub ready-insert : (e : Entity) (staged : List Component) (p : Storage) → Kinds (length (p .sets)) staged → Fit p

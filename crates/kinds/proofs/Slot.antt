@@ -8,7 +8,7 @@ use native.Mathlib.Omega.{arith}
 use lib.ListN.{length, getD}
 use Rattle.model.specs.Numbers.{MAX-KINDS}
 use Rattle.model.specs.Model.{SparseSet, mem}
-use Rattle.model.specs.Store.{Store, onSet, onStorage}
+use Rattle.model.specs.Store.{onSet, onStorage}
 use Rattle.model.specs.Sound.{In}
 use Rattle.model.proofs.BoolLaws.{not-true}
 use Rattle.words.specs.Offsets.{columnStart, ENTITIES, ROWS, UNREGISTERED}
@@ -57,13 +57,13 @@ module _ (w : List ℕ) (A : Arranged w) where
   pub header-long : (i : ℕ) → i < ENTITIES → i < length w
   header-long i h = omega (arith, long w A)
 
--- a kind's slot is its place in the order of registration, so that words of equal meaning have it alike
-pub slot-alike : (w v : List ℕ) → Arranged w → Arranged v → meaning w ≡ meaning v → (k : ℕ) → In (meaning v .kinds) k → slotOf w k ≡ slotOf v k
+-- a kind's slot is its place in the order of registration, so that words with the same kinds have it alike
+pub slot-alike : (w v : List ℕ) → Arranged w → Arranged v → meaning w .kinds ≡ meaning v .kinds → (k : ℕ) → In (meaning v .kinds) k → slotOf w k ≡ slotOf v k
 unfolding meaning kindsIn
 slot-alike w v A B e k i =
     let s = slotOf v k in
     let K = known-slot v B k i in
-    let kinds : table (registeredOf w) (kindAt w) ≡ table (registeredOf v) (kindAt v) = ap (λ (x : Store). x .kinds) e in
+    let kinds : table (registeredOf w) (kindAt w) ≡ table (registeredOf v) (kindAt v) = e in
     let many : registeredOf w ≡ registeredOf v = sym (length-table (registeredOf w) (kindAt w)) ∙ ap (λ (l : List ℕ). length l) kinds ∙ length-table (registeredOf v) (kindAt v) in
     let real : s < registeredOf w = omega (arith, many, K .real) in
     let kind : kindAt w s ≡ k = sym (getD-table (registeredOf w) (kindAt w) s 0 real) ∙ ap (λ (l : List ℕ). getD l s 0) kinds ∙ getD-table (registeredOf v) (kindAt v) s 0 (K .real) ∙ K .kind in

@@ -36,7 +36,7 @@ pub fn is_registered(words: &[u32], kind: usize) -> bool
 }
 
 // The slot of a registered kind's column.
-fn slot_of(words: &[u32], kind: usize) -> usize
+pub fn slot_of(words: &[u32], kind: usize) -> usize
     requires { ⌜ Arranged (now words) ⌝ }
     requires { ⌜ In (meaning (now words) .kinds) kind ⌝ }
     ensures { λ r. ⌜ InSlot (now (words .entry)) kind r ⌝ }

@@ -164,6 +164,10 @@ chain-put e ks key new p acc (r ∷ rs) ch =
       chain-put e ks key new p (acc ++ r .newKinds) rs (ch .2),
     )
 
+pub fams-put : (e : Entity) (ks : List ℕ) (key new : ℕ → List Entity) → Put e ks key new → (fs : List Family) → Fams key fs → FamsFor new (But e) fs
+fams-put e ks key new p [] fm = tt
+fams-put e ks key new p (f ∷ fs) fm = (chain-put e ks key new p [] f (fm .0), fams-put e ks key new p fs (fm .1))
+
 -- ---- all families are walked
 
 -- before the walk: right for the other entities where the staged components have a kind of the family, else right for all

@@ -37,7 +37,7 @@ kinds-of [] n h = tt
 kinds-of (p ∷ ps) n h = (h (p .kind) (rw (eq-eqb (p .kind) (p .kind) refl)), kinds-of ps n (λ k i. h k (rw i (or-true (eqb k (p .kind))))))
 
 module _ (entities : Entities) (kinds : List ℕ) (storage : Storage) (H : Held entities kinds storage) where
-  staged-kinds : (staged : List Component) → ((k : ℕ) → In (map kindOf staged) k → In kinds k) → Kinds (length (storage .sets)) staged
+  pub staged-kinds : (staged : List Component) → ((k : ℕ) → In (map kindOf staged) k → In kinds k) → Kinds (length (storage .sets)) staged
   staged-kinds staged h = kinds-of staged (length (storage .sets)) (λ k i. omega (arith, H .small k (h k i), H .fit .wide))
 
   -- insertion into an entity that is live in entities′, where those live before still are

@@ -49,7 +49,7 @@ length-groupFamily-all e ks sets (f ∷ fs) =
     (λ t. length-groupFamily-all e ks ((groupFamily e [] sets f) .sets) fs ∙ length-groupFamily e [] sets f)
     (λ t. length-groupFamily-all e ks sets fs)
 
-length-put : (e : Entity) (staged : List Component) (sets : List SparseSet) → length (insertAll e staged sets) ≡ length sets
+pub length-put : (e : Entity) (staged : List Component) (sets : List SparseSet) → length (insertAll e staged sets) ≡ length sets
 length-put e [] sets = refl
 length-put e (p ∷ ps) sets = length-put e ps (set sets (p .kind) (insertRow e (p .value) (setOf sets (p .kind)))) ∙ length-set sets (p .kind) (insertRow e (p .value) (setOf sets (p .kind)))
 

@@ -10,6 +10,7 @@ pub mod KindLists
 pub mod Invariant
 pub mod Removal
 pub mod Regroup
+pub mod Behind
 pub mod Shape
 pub mod Draft
 pub mod Numbers
@@ -18,6 +19,7 @@ pub mod Held
 pub mod Operations
 pub mod Lines
 pub mod Outcomes
+pub mod Extending
 pub mod Emitting
 pub mod Entries
 pub mod Sound

@@ -11,7 +11,7 @@ use lib.ListN.{length, take, length-map}
 use Rattle.model.specs.Numbers.{KIND, LIST-CAPACITY, MANY, MAX-GROUP-ARITY, MAX-REFUSALS, NOROOM, UNKNOWN, WIDE}
 use Rattle.model.specs.Model.{kindOf}
 use Rattle.model.specs.Store.{Store, stagedKinds}
-use Rattle.model.specs.Commands.{Command, REG, HOLD, NEW, PUT, TAKE, DROP, KILL, WIPE, GROUP, APPLY, BAR, RANGE, EMPTY, TALLY, Done, accepted, width, commandAt}
+use Rattle.model.specs.Commands.{Command, REG, HOLD, NEW, PUT, TAKE, DROP, KILL, WIPE, GROUP, APPLY, BAR, RANGE, EMPTY, TALLY, TRAY, Done, accepted, width, commandAt}
 use Rattle.model.specs.Refusals.{Line, firstLine, NoneHolds, First, linesOf, beforeLines}
 use Rattle.model.specs.Run.{Outcome, refuses, accepts, outcome, does, Step, stops, storeAfter, stepOf, stepIf, step}
 use Rattle.model.specs.Sound.{StoreSound}
@@ -117,6 +117,7 @@ lines-numbers (BAR k) = omega arith
 lines-numbers RANGE = tt
 lines-numbers EMPTY = tt
 lines-numbers TALLY = tt
+lines-numbers (TRAY n) = omega arith
 
 -- a command's refusal is one of 7 to 15
 pub refusal-number : (c : Command) (s : Store) (n : ℕ) → does c s ≡ refuses n → (KIND ≤ n) × (n ≤ MANY)
@@ -163,6 +164,7 @@ lines-wide (BAR k) s S = (other _ _ (λ e. omega arith), (other _ _ (λ e. omega
 lines-wide RANGE s S = tt
 lines-wide EMPTY s S = tt
 lines-wide TALLY s S = tt
+lines-wide (TRAY n) s S = (other _ _ (λ e. omega arith), tt)
 
 -- 02, No. 3: "WIDE then never occurs"
 pub wide-never : (c : Command) (s : Store) → StoreSound s → does c s ≡ refuses WIDE → ⊥

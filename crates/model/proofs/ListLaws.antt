@@ -7,8 +7,8 @@ use Prim.Native.Nat.{ℕ, zero, suc, _+_, _-_, _≤_, _<_, zero-le, suc-le-suc}
 use native.Mathlib.Omega.{arith}
 use native.Mathlib.Nat.{le-of-suc-le-suc, not-suc-le-zero, suc-add, add-suc, add-zero, zero-add}
 use native.Mathlib.Decide.{ℕ-discrete}
-use lib.ListN.{length, take, drop, getD, set, length-set, take-append-drop, length-map, List·getD-map, length-drop, length-append}
-use lib.Seq.{set-set, take-set-lt, take-set-le, getD-take, getD-set-same, getD-set-other, take-suc, take-suc-set, set-getD, lt-length-set, length-take-le, take-all, sets, take-take, drop-drop, drop-cons, getD-drop, ext-getD, sets-eq, take-at, drop-at, take-add, set-comm, paste, paste-suc, take-length, append-snoc, drop-append-le}
+use lib.ListN.{length, take, drop, getD, set, length-set, take-append-drop, length-map, List·getD-map, List·getD-append, length-drop, length-append}
+use lib.Seq.{set-set, set-append-left, take-set-lt, take-set-le, getD-take, getD-set-same, getD-set-other, take-suc, take-suc-set, set-getD, lt-length-set, length-take-le, take-all, sets, take-take, drop-drop, drop-cons, getD-drop, ext-getD, sets-eq, take-at, drop-at, take-add, set-comm, paste, paste-suc, take-length, append-snoc, drop-append-le}
 use borrow.Author.Tests.{eq-eqb, eqb-true}
 use lib.Dec.{eqb}
 use native.Mathlib.Numerals.{add-one}
@@ -39,6 +39,15 @@ module _ {A : Type 0} where
   pub swap-equal : (d : A) (a b : ℕ) (xs : List A) → a ≡ b → xs ≡ swap d a b xs
   swap-equal d a b xs e = sym (ap (λ (k : ℕ). swap d a k xs) (sym e) ∙ swap-same d a xs)
 
+  -- a swap in front of further elements
+  pub swap-append : (d : A) (i j : ℕ) (a b : List A) → i < length a → j < length a → swap d i j (a ++ b) ≡ swap d i j a ++ b
+  swap-append d i j a b hi hj =
+      let p : getD (a ++ b) i d ≡ getD a i d = List·getD-append a b d i hi in
+      let q : getD (a ++ b) j d ≡ getD a j d = List·getD-append a b d j hj in
+      ap₂ (λ (u v : A). set (set (a ++ b) i u) j v) q p
+      ∙ ap (λ (l : List A). set l j (getD a i d)) (set-append-left a b i (getD a j d) hi)
+      ∙ set-append-left (set a i (getD a j d)) b j (getD a i d) (lt-length-set a i (getD a j d) hj)
+
 module _ {A : Type 0} (same : A → A → Bool) where
   pub count-append : (x : A) (s t : List A) → countOf same x (s ++ t) ≡ countOf same x s + countOf same x t
   count-append x [] t = omega arith
@@ -66,6 +75,14 @@ module _ {A : Type 0} (same : A → A → Bool) where
   place-take x (suc n) (y ∷ l) h = go (same x y) (place-take x n l) h
     where
       go : (b : Bool) → (place same x l < n → place same x (take n l) ≡ place same x l) → after b (place same x l) < suc n → after b (place same x (take n l)) ≡ after b (place same x l)
+      go true r h = refl
+      go false r h = ap suc (r (le-of-suc-le-suc h))
+
+  pub place-append : (x : A) (a b : List A) → place same x a < length a → place same x (a ++ b) ≡ place same x a
+  place-append x [] b h = absurd (not-suc-le-zero h)
+  place-append x (y ∷ a) b h = go (same x y) (place-append x a b) h
+    where
+      go : (c : Bool) → (place same x a < length a → place same x (a ++ b) ≡ place same x a) → after c (place same x a) < suc (length a) → after c (place same x (a ++ b)) ≡ after c (place same x a)
       go true r h = refl
       go false r h = ap suc (r (le-of-suc-le-suc h))
 
@@ -106,6 +123,11 @@ module _ {A : Type 0} (same : A → A → Bool) where
       go : (b : Bool) → (1 ≤ countOf same x (take n l) → place same x l < n) → 1 ≤ one b + countOf same x (take n l) → after b (place same x l) < suc n
       go true r h = suc-le-suc zero-le
       go false r h = suc-le-suc (r (omega arith))
+
+  pub count-drop-le : (x : A) (n : ℕ) (l : List A) → countOf same x (drop n l) ≤ countOf same x l
+  count-drop-le x zero l = omega arith
+  count-drop-le x (suc n) [] = omega arith
+  count-drop-le x (suc n) (y ∷ l) = omega (arith, count-drop-le x n l)
 
   pub count-take-le : (x : A) (n : ℕ) (l : List A) → countOf same x (take n l) ≤ countOf same x l
   count-take-le x n l = omega (arith, count-append x (take n l) (drop n l), ap (countOf same x) (take-append-drop n l))

@@ -10,9 +10,9 @@ use lib.ListN.{length, getD, replicate, length-append, length-replicate}
 use Rattle.model.specs.Numbers.{LIST-CAPACITY, MAX-KINDS, MAX-REFUSALS}
 use Rattle.model.specs.Lists.{one}
 use Rattle.model.proofs.ListLaws.{place-count, count-place, map-append, all-snoc}
-use Rattle.model.specs.Model.{Entity, Entities, SparseSet, Family, Component, sameEntity, mem, setOf, keys, kindOf, isLive, insertComponents, remove, clearAll, setLayout, create, createWith, destroy, Row, noRow}
+use Rattle.model.specs.Model.{Entity, Entities, SparseSet, Family, Component, sameEntity, mem, setOf, keys, kindOf, isLive, isFull, insertComponents, remove, clearAll, setLayout, create, createWith, destroy, Row, noRow}
 use Rattle.model.specs.Store.{Control, Store, empty, withKinds, withEntities, withStorage, withControl, withAll, emptyStaged, emptyBoth, withStaged, withExcluded, withDraft, counted}
-use Rattle.model.specs.Sound.{Eight, noComponent, Limits, KindsSound, StagedSound, ExcludedSound, Buildable, StoreSound, key, cnt, In}
+use Rattle.model.specs.Sound.{Eight, noComponent, Limits, KindsSound, EntitiesSound, StagedSound, ExcludedSound, Buildable, StoreSound, key, cnt, In}
 use Rattle.model.proofs.SparseSets.{entity-same}
 use Rattle.model.proofs.BoolLaws.{cond-case, or-false}
 use Rattle.model.proofs.Numbers.{create-ok, create-live}
@@ -173,6 +173,11 @@ issued-new : (c : Entities) (n : ℕ) → c .issued ≤ n → (eqb (length (c .r
 unfolding create
 issued-new c n le t = issued-with (c .recycled) c n le t
 
+pub entities-created : (n : ℕ) (c : Entities) → EntitiesSound n c → isFull n c ≡ false → EntitiesSound n ((create c) .entities)
+entities-created n c E room =
+    let O = create-ok c (record { few = omega arith; below = E .below; single = E .single; positive = E .positive; small = E .small }) in
+    record { few = issued-new c n (E .few) room; below = O .below; single = O .single; positive = O .positive; small = O .small }
+
 issued-old : (e : Entity) (c : Entities) (n : ℕ) → c .issued ≤ n → (destroy e c) .issued ≤ n
 unfolding destroy
 issued-old e c n le = le
@@ -186,6 +191,10 @@ module _ (s : Store) (S : StoreSound s) where
 
   pub control-sound : (d : Control) → ControlSound (s .kinds) d → StoreSound (withControl s d)
   control-sound d D = make (withControl s d) (S .limits) (S .kinds) (S .entities .few) H (S .sets .values) (S .layout) D
+
+  -- the hand is emptied
+  pub emptied : StoreSound (withControl s (emptyStaged (s .control)))
+  emptied = control-sound (emptyStaged (s .control)) (emptyStaged-sound (s .kinds) (s .control) C)
 
   -- REG of a new kind
   pub register-sound : (k : ℕ) → k < MAX-KINDS → mem k (s .kinds) ≡ false → length (s .kinds) < s .settings .kindCapacity → StoreSound (withKinds s (s .kinds ++ (k ∷ [])))

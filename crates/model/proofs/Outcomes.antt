@@ -6,10 +6,10 @@ use Prim.Native.Nat.{ℕ}
 use lib.Dec.{leb, ltb}
 use lib.ListN.{length}
 use Rattle.model.specs.Numbers.{AGAIN, DEAD, FULL, HANDFUL, KIND, KINDS, LAST-KIND, LIST-CAPACITY, MAX-GROUP-ARITY, MAX-GROUP-COUNT}
-use Rattle.model.specs.Model.{Entity, mem, isFull, isLive, groupsOf, addsNothing, joins, destroy, insertComponents, remove}
+use Rattle.model.specs.Model.{Entity, mem, isFull, freeNumbers, isLive, groupsOf, addsNothing, joins, destroy, insertComponents, remove}
 use Rattle.model.specs.Adding.{addGroup}
 use Rattle.model.specs.Store.{Store, bytesOf, stagedKinds, isKind, withControl, withStorage, withAll, withKinds, withStaged, withExcluded, emptyStaged, emptyBoth}
-use Rattle.model.specs.Commands.{REG, HOLD, NEW, PUT, TAKE, DROP, KILL, WIPE, GROUP, APPLY, BAR, RANGE, EMPTY, TALLY, heldBytes, accepted}
+use Rattle.model.specs.Commands.{REG, HOLD, NEW, PUT, TAKE, DROP, KILL, WIPE, GROUP, APPLY, BAR, RANGE, EMPTY, TALLY, TRAY, heldBytes, accepted}
 use Rattle.model.specs.Refusals.{linesOf, unknownKind}
 use Rattle.model.specs.Run.{refuses, accepts, does}
 use Rattle.model.proofs.BoolLaws.{bool-cases}
@@ -79,6 +79,16 @@ module _ (s : Store) where
   pub new-created : isFull (s .settings .capacity) (s .entities) ≡ false → does NEW s ≡ accepts ((accepted NEW s) .store) ((accepted NEW s) .answer)
   unfolding does linesOf
   new-created h = rw h
+
+  -- ---- TRAY
+
+  pub tray-full : (n : ℕ) → ltb (freeNumbers (s .settings .capacity) (s .entities)) n ≡ true → does (TRAY n) s ≡ refuses FULL
+  unfolding does linesOf
+  tray-full n h = rw h
+
+  pub tray-made : (n : ℕ) → ltb (freeNumbers (s .settings .capacity) (s .entities)) n ≡ false → does (TRAY n) s ≡ accepts ((accepted (TRAY n) s) .store) ((accepted (TRAY n) s) .answer)
+  unfolding does linesOf
+  tray-made n h = rw h
 
   -- ---- PUT, TAKE, DROP, KILL
 

@@ -1,5 +1,5 @@
 -- "From an empty store, numbers issued = live + waiting + retired; retired counts past destructions at the last version." Assumes nothing.
-use mathlib.Core.Path.{_≡_, refl, ap, sym, _∙_}
+use mathlib.Core.Path.{_≡_, refl, ap, sym, _∙_, subst}
 use mathlib.Core.Bool.{true, _&&_}
 use mathlib.Core.List.{List, [], _∷_}
 use Prim.Native.Nat.{ℕ, zero, suc, _+_, _-_, _<_}
@@ -10,15 +10,16 @@ use lib.Dec.{ltb, leb}
 use lib.ListN.{length, take, drop, getD, set, length-append, length-set}
 use lib.Seq.{length-take-le}
 use Rattle.model.specs.Lists.{one, place}
-use Rattle.model.specs.Model.{Entity, Entities, sameEntity, noEntity, isLive, addsNothing, lastVersion, create, createWith, destroy}
+use Rattle.model.specs.Model.{Entity, Entities, sameEntity, noEntity, isLive, addsNothing, lastVersion, Component, Storage, Extended, create, createWith, extend, destroy}
 use Rattle.model.specs.Store.{Store, empty, stagedKinds, isKind}
-use Rattle.model.specs.Commands.{Command, REG, HOLD, NEW, PUT, TAKE, DROP, KILL, WIPE, GROUP, APPLY, BAR, RANGE, EMPTY, TALLY, Done, accepted, width, commandAt}
+use Rattle.model.specs.Commands.{Command, REG, HOLD, NEW, PUT, TAKE, DROP, KILL, WIPE, GROUP, APPLY, BAR, RANGE, EMPTY, TALLY, TRAY, Done, accepted, width, commandAt}
 use Rattle.model.specs.Refusals.{NoneHolds, linesOf}
 use Rattle.model.specs.Run.{Outcome, refuses, accepts, does, Step, stops, goes, stepOf, step, Ran, halt, more, runFor, run}
 use Rattle.model.specs.History.{retires, retiredFor, retired}
 use Rattle.model.proofs.BoolLaws.{cond-case, bool-cases}
 use Rattle.model.proofs.Lines.{accepted-exact}
 use Rattle.model.proofs.Lengths.{step-case, clash}
+use Rattle.model.proofs.Extending.{each-created, new-keeps}
 use Rattle.model.specs.Theorems.{Balanced, IfGoes}
 
 -- ---- creation and destruction
@@ -30,6 +31,11 @@ create-with (e ∷ es) c r p b = omega (arith, b, ap length p, length-append (c 
 create-balanced : (c : Entities) (r : ℕ) → Balanced c r → Balanced ((create c) .entities) r
 unfolding create
 create-balanced c r b = create-with (c .recycled) c r refl b
+
+extend-balanced : (n : ℕ) (h : List Component) (c : Entities) (p : Storage) (r : ℕ) → Balanced c r → Balanced ((extend n h c p) .entities) r
+unfolding extend
+extend-balanced n h c p r b =
+    subst (λ (x : Extended). Balanced (x .entities) r) (sym (each-created n h c p)) (new-keeps (λ (d : Entities). Balanced d r) (λ (d : Entities). create-balanced d r) n c b)
 
 destroy-balanced : (e : Entity) (c : Entities) (r : ℕ) → isLive e c ≡ true → Balanced c r → Balanced (destroy e c) (r + one (isLive e c && leb lastVersion (e .version)))
 unfolding destroy
@@ -62,6 +68,7 @@ accepted-balanced (BAR k) s r n b = kept (s .entities) r b
 accepted-balanced RANGE s r n b = kept (s .entities) r b
 accepted-balanced EMPTY s r n b = kept (s .entities) r b
 accepted-balanced TALLY s r n b = kept (s .entities) r b
+accepted-balanced (TRAY k) s r n b = kept ((extend k (s .control .staged) (s .entities) (s .storage)) .entities) r (extend-balanced k (s .control .staged) (s .entities) (s .storage) r b)
 
 -- a refused command retires nothing
 refused-retires : (c : Command) (s : Store) → (NoneHolds (linesOf c) s → ⊥) → retires c s ≡ 0
@@ -80,6 +87,7 @@ refused-retires (BAR k) s f = refl
 refused-retires RANGE s f = refl
 refused-retires EMPTY s f = refl
 refused-retires TALLY s f = refl
+refused-retires (TRAY n) s f = refl
 
 -- ---- steps and runs
 

@@ -10,9 +10,9 @@ use borrow.Author.Tests.{ltb-false, leb-false, not-false}
 use lib.Dec.{ltb, leb, lit<}
 use lib.ListN.{length, take, drop, getD, length-take, length-drop}
 use Rattle.model.specs.Numbers.{LAST-KIND, LIST-CAPACITY, MAX-GROUP-ARITY, MAX-GROUP-COUNT}
-use Rattle.model.specs.Model.{Created, isLive, addsNothing, joins, withGroup, groupsOf, create}
-use Rattle.model.specs.Store.{Bytes, Store, empty, number, stagedKinds, isKind, withControl, withEntities, counted, emptyStaged, emptyBoth}
-use Rattle.model.specs.Commands.{Command, REG, HOLD, NEW, PUT, TAKE, DROP, KILL, WIPE, GROUP, APPLY, BAR, RANGE, EMPTY, TALLY, Done, accepted, widths, width, commands, commandAt}
+use Rattle.model.specs.Model.{isLive, addsNothing, joins, withGroup, groupsOf, freeNumbers}
+use Rattle.model.specs.Store.{Bytes, Store, empty, number, stagedKinds, isKind, withControl, counted, emptyStaged, emptyBoth}
+use Rattle.model.specs.Commands.{Command, REG, HOLD, NEW, PUT, TAKE, DROP, KILL, WIPE, GROUP, APPLY, BAR, RANGE, EMPTY, TALLY, TRAY, Done, accepted, widths, width, commands, commandAt}
 use Rattle.model.specs.Refusals.{firstLine, linesOf, beforeLines, NoneHolds}
 use Rattle.model.specs.Run.{Outcome, refuses, accepts, does, Step, stops, goes, stepOf, stepIf, step, Ran, halt, more, runFor, run}
 use Rattle.model.specs.History.{trailFor, trail, EachStore}
@@ -20,8 +20,9 @@ use Rattle.model.specs.Sound.{Limits, StoreSound}
 use Rattle.model.proofs.BoolLaws.{cond-case, or-false-right, not-and, not-not}
 use Rattle.model.proofs.KindLists.{all-most}
 use Rattle.model.proofs.Draft.{withGroup-sound}
-use Rattle.model.proofs.Operations.{control-of, control-sound, register-sound, create-sound, create-is-live, insert-sound, remove-sound, kill-sound, clearAll-sound, setLayout-sound, stage-sound, exclude-sound, draft-sound, emptyStaged-sound, emptyBoth-sound, counted-sound, no-draft, empty-sound}
+use Rattle.model.proofs.Operations.{control-of, control-sound, register-sound, insert-sound, remove-sound, kill-sound, clearAll-sound, setLayout-sound, stage-sound, exclude-sound, draft-sound, emptyStaged-sound, emptied, emptyBoth-sound, counted-sound, no-draft, empty-sound}
 use Rattle.model.proofs.Lines.{none-to, outcome-case}
+use Rattle.model.proofs.Extending.{new-sound, tray-sound}
 use Rattle.model.specs.Theorems.{DraftSound, Fits, OutSound}
 
 -- ---- accepted commands
@@ -30,10 +31,6 @@ known-kind : (k : ℕ) (s : Store) → (ltb LAST-KIND k || not (isKind k s)) ≡
 known-kind k s h = not-false (isKind k s) (or-false-right (ltb LAST-KIND k) (not (isKind k s)) h)
 
 module _ (s : Store) (S : StoreSound s) where
-  -- the hand is emptied beside a change of the components
-  emptied : StoreSound (withControl s (emptyStaged (s .control)))
-  emptied = control-sound s S (emptyStaged (s .control)) (emptyStaged-sound (s .kinds) (s .control) (control-of s S))
-
   both-emptied : StoreSound (withControl s (emptyBoth (s .control)))
   both-emptied = control-sound s S (emptyBoth (s .control)) (emptyBoth-sound (s .kinds) (s .control) (control-of s S))
 
@@ -43,11 +40,7 @@ accepted-sound (REG k) s f S n =
     cond-case (λ (d : Done). StoreSound (d .store)) (isKind k s) _ _ (λ t. S)
     (λ t. register-sound s S k (omega (arith, ltb-false LAST-KIND k (n .0))) t (omega (arith, leb-false (s .settings .kindCapacity) (length (s .kinds)) (not-and (isKind k s) (leb (s .settings .kindCapacity) (length (s .kinds))) (n .1 .0) t))))
 accepted-sound (HOLD k v) s f S n = control-sound s S _ (stage-sound (s .kinds) (s .control) (control-of s S) k v (known-kind k s (n .0)) (n .1 .0) (omega (arith, leb-false LIST-CAPACITY (length (s .control .staged)) (n .1 .1 .0))) f)
-accepted-sound NEW s f S n =
-    let c : Created = create (s .entities) in
-    let A : StoreSound (withEntities s (c .entities)) = create-sound s S (n .0) in
-    let B = insert-sound (withEntities s (c .entities)) A (c .entity) (s .control .staged) (create-is-live (s .entities)) (S .staged) in
-    emptied _ B
+accepted-sound NEW s f S n = new-sound s S (n .0)
 accepted-sound (PUT e) s f S n = emptied _ (insert-sound s S e (s .control .staged) (not-false (isLive e (s .entities)) (n .0)) (S .staged))
 accepted-sound (TAKE e) s f S n = emptied _ (remove-sound s S e (stagedKinds s))
 accepted-sound (DROP e) s f S n = emptied _ (remove-sound s S e (stagedKinds s))
@@ -65,6 +58,7 @@ accepted-sound (BAR k) s f S n = control-sound s S _ (exclude-sound (s .kinds) (
 accepted-sound RANGE s f S n = both-emptied s S
 accepted-sound EMPTY s f S n = both-emptied s S
 accepted-sound TALLY s f S n = S
+accepted-sound (TRAY k) s f S n = tray-sound k s S (ltb-false (freeNumbers (s .settings .capacity) (s .entities)) k (n .0))
 
 -- every command keeps a sound store sound
 pub does-sound : (c : Command) (s : Store) → Fits c → StoreSound s → OutSound (does c s)
@@ -106,7 +100,7 @@ fit-at (c ∷ cs) h (suc j) = fit-at cs (h .1) j
 pub command-fits : (b : ℕ) (ops : List ℕ) → Bytes ops → length ops ≤ 9 → Fits (commandAt b ops)
 command-fits b ops h le =
     fit-at (commands ops)
-    (tt, (tt, (number-lt 8 (drop 1 ops) (bytes-drop 1 ops h) (rw (length-drop 1 ops) (omega arith)), (tt, (tt, (tt, (tt, (tt, (tt, (tt, (tt, (tt, (tt, (tt, (tt, tt)))))))))))))))
+    (tt, (tt, (number-lt 8 (drop 1 ops) (bytes-drop 1 ops h) (rw (length-drop 1 ops) (omega arith)), (tt, (tt, (tt, (tt, (tt, (tt, (tt, (tt, (tt, (tt, (tt, (tt, (tt, tt))))))))))))))))
     b
 
 pub width-le : (b : ℕ) → width b ≤ 9

@@ -1,11 +1,11 @@
--- The fourteen commands: how they are read, what an accepted one does and answers, and how long its answer is. Assumes nothing.
+-- The fifteen commands, 01's fourteen and TRAY of 02's No. 4: how they are read, what an accepted one does and answers, and how long its answer is. Assumes nothing.
 use mathlib.Core.Bool.{Bool, cond, _&&_}
 use mathlib.Core.List.{List, [], _∷_, _++_}
 use Prim.Native.Nat.{ℕ, _+_, _*_}
 use lib.Dec.{leb}
 use lib.ListN.{length, take, drop, getD}
 use Rattle.model.specs.Numbers.{LAST-COMMAND}
-use Rattle.model.specs.Model.{Entity, SparseSet, Storage, Range, none, found, noRow, setOf, at, held, insertComponents, remove, clearAll, setLayout, rangeFor, addsNothing, withGroup, create, destroy}
+use Rattle.model.specs.Model.{Entity, SparseSet, Storage, Range, none, found, noRow, setOf, at, held, insertComponents, remove, clearAll, setLayout, rangeFor, addsNothing, withGroup, create, extend, destroy}
 use Rattle.model.specs.Store.{Store, bytesOf, number, stagedKinds, isKind, withControl, withStorage, withAll, withKinds, emptyStaged, emptyBoth, withStaged, withExcluded, withDraft}
 
 -- a command with its operands
@@ -17,17 +17,18 @@ pub data Command : Type 0 where
   WIPE GROUP APPLY : Command
   BAR : ℕ → Command
   RANGE EMPTY TALLY : Command
+  TRAY : ℕ → Command
 
 -- ---- reading a command off the tape: "One command byte, then operands"
 
--- "Operand widths: a constant table by command byte", from byte 0, which is no command
+-- "Operand widths: a constant table by command byte", from byte 0, which is no command; of TRAY "count 2 bytes"
 abbrev pub widths : List ℕ
-widths = 0 ∷ 1 ∷ 9 ∷ 0 ∷ 8 ∷ 8 ∷ 8 ∷ 8 ∷ 0 ∷ 0 ∷ 0 ∷ 1 ∷ 0 ∷ 0 ∷ 0 ∷ []
+widths = 0 ∷ 1 ∷ 9 ∷ 0 ∷ 8 ∷ 8 ∷ 8 ∷ 8 ∷ 0 ∷ 0 ∷ 0 ∷ 1 ∷ 0 ∷ 0 ∷ 0 ∷ 2 ∷ []
 
 abbrev pub width : ℕ → ℕ
 width b = getD widths b 0
 
--- "byte not 01 to 0E" is UNKNOWN
+-- "byte not 01 to 0E" is UNKNOWN; 02, No. 4: "4 now begins above 0F"
 abbrev pub isCommand : ℕ → Bool
 isCommand b = leb 1 b && leb b LAST-COMMAND
 
@@ -35,7 +36,7 @@ isCommand b = leb 1 b && leb b LAST-COMMAND
 abbrev pub entityOfBytes : List ℕ → Entity
 entityOfBytes bs = record { index = number (take 4 bs); version = number (drop 4 bs) }
 
--- the commands by byte, in the order of 01's table, with their operand bytes; from byte 0
+-- the commands by byte, in the order of 01's table, then TRAY, with their operand bytes; from byte 0
 abbrev pub commands : List ℕ → List Command
 commands ops =
     TALLY
@@ -53,6 +54,7 @@ commands ops =
     ∷ RANGE
     ∷ EMPTY
     ∷ TALLY
+    ∷ TRAY (number ops)
     ∷ []
 
 -- the command of a byte from 1 to LAST-COMMAND
@@ -93,6 +95,7 @@ answerLength (BAR k) s = 1
 answerLength RANGE s = 10
 answerLength EMPTY s = 1
 answerLength TALLY s = 5
+answerLength (TRAY n) s = 3
 
 -- ---- accepted commands
 
@@ -143,3 +146,8 @@ accepted RANGE s = done (withControl s (emptyBoth (s .control))) (rangeBytes (ra
 accepted EMPTY s = done (withControl s (emptyBoth (s .control))) []
 -- "4 bytes"
 accepted TALLY s = done s (bytesOf 4 (s .control .counts .refusals))
+-- 02, No. 4: "creates that many cards with the hand's parts, as `extend` does"; "Answer: 0 and the count, 2 bytes." "Count 0 empties the hand and does
+-- nothing else."
+accepted (TRAY n) s =
+    let x = extend n (s .control .staged) (s .entities) (s .storage) in
+    done (withAll s (x .entities) (x .storage) (emptyStaged (s .control))) (bytesOf 2 n)

@@ -4,8 +4,8 @@ use mathlib.Core.Path.{_≡_, refl}
 use mathlib.Core.List.{List, [], _∷_, _++_, map}
 use Prim.Native.Nat.{ℕ}
 use lib.ListN.{length}
-use Rattle.model.specs.Numbers.{REG-BYTE, HOLD-BYTE, NEW-BYTE, GROUP-BYTE, APPLY-BYTE, BAR-BYTE, RANGE-BYTE}
-use Rattle.model.specs.Model.{Entity, Storage, Group, Family, groupAll, groupComponents, ungroupComponents, groupFamily, ungroupFamily, groupTouched, ungroup, insertComponents, remove, rangeFor, setLayout, regroup, create, destroy, entity, keys, setOf}
+use Rattle.model.specs.Numbers.{REG-BYTE, HOLD-BYTE, NEW-BYTE, KILL-BYTE, GROUP-BYTE, APPLY-BYTE, BAR-BYTE, RANGE-BYTE, TRAY-BYTE}
+use Rattle.model.specs.Model.{Entity, Storage, Group, Family, groupAll, groupComponents, ungroupComponents, groupFamily, ungroupFamily, groupTouched, ungroup, insertComponents, remove, rangeFor, setLayout, regroup, create, createEach, groupEach, extend, destroy, entity, keys, setOf}
 use Rattle.model.specs.Store.{Store, empty, bytesOf}
 use Rattle.model.specs.Commands.{NEW, KILL, GROUP, RANGE, accepted}
 use Rattle.model.specs.Refusals.{linesOf}
@@ -164,7 +164,7 @@ pub stream-example : written (run sample ANSWER-ROOM (empty 64 8)) ≡ answer
 unfolding sample answer run runFor step does accepted linesOf empty insertComponents groupTouched groupFamily groupComponents setLayout regroup groupAll rangeFor create
 stream-example = refl
 
--- ---- what proofs/Faults.antt looks at
+-- ---- what proofs/Faults.antt looks at, and the last example
 
 -- the groups' counts, family by family
 unfoldable pub countsOf : List Family → List ℕ
@@ -174,3 +174,29 @@ countsOf (f ∷ fs) = map (λ (r : Group). r .count) f ++ countsOf fs
 -- the indexes of kind k's sparse set, in order
 unfoldable pub indexes : ℕ → Storage → List ℕ
 indexes k p = map (λ (e : Entity). e .index) (keys (setOf (p .sets) k))
+
+-- ---- 02's No. 4, in the store of the examples
+
+-- KILL of entity 1, HOLD of {1,2}, a tray of 62; then a tray of 2, RANGE of {1,2}; then HOLD of {1} and a tray of none, RANGE of no kind
+abbrev pub trayTape : List ℕ
+trayTape =
+    (KILL-BYTE ∷ bytesOf 4 1 ++ bytesOf 4 1) ++ holdAll (1 ∷ 2 ∷ []) ++ (TRAY-BYTE ∷ bytesOf 2 62) ++ (TRAY-BYTE ∷ bytesOf 2 2) ++ holding (1 ∷ 2 ∷ []) RANGE-BYTE
+    ++ holdAll (1 ∷ []) ++ (TRAY-BYTE ∷ bytesOf 2 0) ++ (RANGE-BYTE ∷ [])
+
+-- one number waits and 60 are not yet issued, so that 62 are refused; the hand stays, and two are made: {1,2} is held by 0, 2 and those two
+pub trayAnswer : List ℕ
+trayAnswer =
+    (0 ∷ 0 ∷ 0 ∷ 12 ∷ [])
+    ++ (0 ∷ 2 ∷ 0 ∷ [])
+    ++ (0 ∷ 0 ∷ 0 ∷ 1 ∷ 0 ∷ 0 ∷ 0 ∷ 0 ∷ 4 ∷ 0 ∷ 0 ∷ 0 ∷ [])
+    ++ (0 ∷ 0 ∷ 0 ∷ 0 ∷ [])
+    ++ (0 ∷ 0 ∷ 0 ∷ 0 ∷ 0 ∷ 0 ∷ 0 ∷ 0 ∷ 0 ∷ 0 ∷ [])
+
+pub tray-example : (run trayTape ANSWER-ROOM exampleStore) .bytes ≡ trayAnswer
+unfolding trayAnswer afterKill run runFor step does accepted linesOf rangeFor extend createEach groupEach
+tray-example = refl
+
+-- the rows of kinds 1 and 2 then: the number that waited stands before the next index, and both before entity 3, which lacks kind 2
+pub tray-rows : indexes 1 ((run trayTape ANSWER-ROOM exampleStore) .store .storage) ++ indexes 2 ((run trayTape ANSWER-ROOM exampleStore) .store .storage) ≡ (2 ∷ 0 ∷ 1 ∷ 4 ∷ 3 ∷ []) ++ (2 ∷ 0 ∷ 1 ∷ 4 ∷ [])
+unfolding indexes afterKill run runFor step does accepted linesOf rangeFor extend createEach groupEach
+tray-rows = refl

@@ -8,7 +8,7 @@ use lib.ListN.{length, take, drop}
 use Rattle.model.specs.Model.{isLive, lastVersion}
 use Rattle.model.specs.Lists.{one}
 use Rattle.model.specs.Store.{Store}
-use Rattle.model.specs.Commands.{Command, REG, HOLD, NEW, PUT, TAKE, DROP, KILL, WIPE, GROUP, APPLY, BAR, RANGE, EMPTY, TALLY, width, commandAt}
+use Rattle.model.specs.Commands.{Command, REG, HOLD, NEW, PUT, TAKE, DROP, KILL, WIPE, GROUP, APPLY, BAR, RANGE, EMPTY, TALLY, TRAY, width, commandAt}
 use Rattle.model.specs.Run.{stops, goes, step}
 
 -- the store after each command of a run, in order
@@ -40,6 +40,7 @@ retires (BAR k) s = 0
 retires RANGE s = 0
 retires EMPTY s = 0
 retires TALLY s = 0
+retires (TRAY n) s = 0
 
 -- and of a run
 unfoldable pub retiredFor : ℕ → List ℕ → ℕ → Store → ℕ

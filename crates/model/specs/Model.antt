@@ -1,10 +1,10 @@
 -- The store's model: entities, sparse sets, families, and the operations on them as functions that compute. Assumes nothing.
--- A comment quotes the sentence of document 01 that its definition is; under GROUP also of 02's No. 1.
+-- A comment quotes the sentence of document 01 that its definition is; under GROUP also of 02's No. 1, under TRAY of its No. 4.
 use mathlib.Core.Bool.{Bool, true, false, cond, not, _&&_, _||_}
 use mathlib.Core.List.{List, [], _∷_, _++_, map}
-use Prim.Native.Nat.{ℕ, suc, _+_, _-_}
+use Prim.Native.Nat.{ℕ, zero, suc, _+_, _-_}
 use lib.Dec.{eqb, leb, ltb}
-use lib.ListN.{length, getD, set}
+use lib.ListN.{length, getD, set, drop}
 use Rattle.model.specs.Lists.{swap, place, cutAt}
 
 -- ---- entities, rows, components, groups
@@ -431,3 +431,32 @@ unfoldable pub destroy : Entity → Entities → Entities
 destroy e s =
     let next = s .recycled ++ (record { index = e .index; version = suc (e .version) } ∷ []) in
     record { live = cutAt noEntity (place sameEntity e (s .live)) (s .live); recycled = cond (ltb (e .version) lastVersion) next (s .recycled); issued = s .issued }
+
+-- ---- TRAY: many new entities
+
+-- "the numbers waiting and those not yet issued .. together"; a retired one is neither
+abbrev pub freeNumbers : ℕ → Entities → ℕ
+freeNumbers n s = length (s .recycled) + (n - s .issued)
+
+-- entities and components, once new ones have come
+pub record Extended : Type 0 where
+  pub entities : Entities
+  pub storage : Storage
+
+-- "all insertions first": n new entities, each with the staged components, and no group is walked
+unfoldable pub createEach : ℕ → List Component → Entities → Storage → Extended
+createEach zero staged s p = record { entities = s; storage = p }
+createEach (suc n) staged s p =
+    let c = create s in
+    createEach n staged (c .entities) (record { sets = insertAll (c .entity) staged (p .sets); layout = p .layout })
+
+-- "then grouping": the entities in their order; ks are the kinds that went in
+unfoldable pub groupEach : List Entity → List ℕ → Storage → Storage
+groupEach [] ks p = p
+groupEach (e ∷ es) ks p = groupEach es ks (groupTouched e ks (p .sets) (p .layout))
+
+-- "creates that many cards with the hand's parts, as `extend` does: all insertions first, then grouping". The new ones are the last of the live list.
+unfoldable pub extend : ℕ → List Component → Entities → Storage → Extended
+extend n staged s p =
+    let x = createEach n staged s p in
+    record { entities = x .entities; storage = groupEach (drop (length (s .live)) (x .entities .live)) (map kindOf staged) (x .storage) }

@@ -95,9 +95,13 @@ EMPTY-BYTE = 13
 abbrev pub TALLY-BYTE : ℕ
 TALLY-BYTE = 14
 
--- "byte not 01 to 0E" is UNKNOWN
+-- 02, No. 4: "Command 0F"
+abbrev pub TRAY-BYTE : ℕ
+TRAY-BYTE = 15
+
+-- "byte not 01 to 0E" is UNKNOWN; 02, No. 4: "4 now begins above 0F"
 abbrev pub LAST-COMMAND : ℕ
-LAST-COMMAND = TALLY-BYTE
+LAST-COMMAND = TRAY-BYTE
 
 -- ---- "Refusals by place": their numbers
 

@@ -7,9 +7,9 @@ use Prim.Native.Nat.{ℕ}
 use lib.Dec.{eqb, leb, ltb}
 use lib.ListN.{length, take}
 use Rattle.model.specs.Numbers.{HANDFUL, KIND, LAST-KIND, LIST-CAPACITY, MANY, MAX-ENTITIES, MAX-GROUP-ARITY, MAX-GROUP-COUNT, MAX-KINDS, SIZE, WIDE, SHORT, UNSOUND, UNKNOWN, CUT, NOROOM, KINDS, AGAIN, DEAD, FULL, CLASH, BEYOND}
-use Rattle.model.specs.Model.{Entity, mem, setOf, groupsOf, addsNothing, joins, isFull, isLive}
+use Rattle.model.specs.Model.{Entity, mem, setOf, groupsOf, addsNothing, joins, isFull, freeNumbers, isLive}
 use Rattle.model.specs.Store.{Store, stagedKinds, isKind, wordsNeeded}
-use Rattle.model.specs.Commands.{Command, REG, HOLD, NEW, PUT, TAKE, DROP, KILL, WIPE, GROUP, APPLY, BAR, RANGE, EMPTY, TALLY, width, isCommand, commandAt, answerLength}
+use Rattle.model.specs.Commands.{Command, REG, HOLD, NEW, PUT, TAKE, DROP, KILL, WIPE, GROUP, APPLY, BAR, RANGE, EMPTY, TALLY, TRAY, width, isCommand, commandAt, answerLength}
 use Rattle.model.specs.Snapshot.{snapshot}
 
 -- ---- lines
@@ -86,7 +86,7 @@ commandOf r = commandAt (r .byte) (take (width (r .byte)) (r .rest))
 
 abbrev pub beforeLines : List (Line BeforeCommand)
 beforeLines =
-    -- "byte not 01 to 0E"
+    -- "byte not 01 to 0E"; 02, No. 4: "4 now begins above 0F"
     line UNKNOWN (λ r. not (isCommand (r .byte)))
     -- "operands incomplete"
     ∷ line CUT (λ r. ltb (length (r .rest)) (width (r .byte)))
@@ -158,6 +158,10 @@ linesOf APPLY = []
 linesOf RANGE = []
 linesOf EMPTY = []
 linesOf TALLY = []
+linesOf (TRAY n) =
+    -- 02, No. 4: "12 if the numbers waiting and those not yet issued are together fewer than the count, and then no card is made"
+    line FULL (λ s. ltb (freeNumbers (s .settings .capacity) (s .entities)) n)
+    ∷ []
 
 -- ---- column
 

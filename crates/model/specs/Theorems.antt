@@ -3,15 +3,15 @@ use mathlib.Core.Path.{_≡_}
 use mathlib.Core.Logic.{_⊎_}
 use mathlib.Core.Bool.{Bool, true}
 use mathlib.Core.List.{List, [], _∷_}
-use Prim.Native.Nat.{ℕ, suc, _≤_, _<_, _+_, _-_, _*_}
+use Prim.Native.Nat.{ℕ, zero, suc, _≤_, _<_, _+_, _-_, _*_}
 use lib.ListN.{length, take}
 use Rattle.model.specs.Numbers.{LAST-KIND, MAX-REFUSALS, NOROOM, UNKNOWN}
-use Rattle.model.specs.Model.{Family, Entities, setOf}
+use Rattle.model.specs.Model.{Family, Component, Entities, setOf}
 use Rattle.model.specs.Adding.{Added, nothing, added, refused}
-use Rattle.model.specs.Store.{Control, Store, empty, wordsNeeded, isKind, withControl, withDraft, emptyStaged}
-use Rattle.model.specs.Commands.{Command, REG, HOLD, NEW, PUT, TAKE, DROP, KILL, WIPE, GROUP, APPLY, BAR, RANGE, EMPTY, TALLY, width, commandAt, answerLength}
+use Rattle.model.specs.Store.{Control, Store, empty, wordsNeeded, isKind, withControl, withStaged, withDraft, emptyStaged}
+use Rattle.model.specs.Commands.{Command, REG, HOLD, NEW, PUT, TAKE, DROP, KILL, WIPE, GROUP, APPLY, BAR, RANGE, EMPTY, TALLY, TRAY, width, commandAt, answerLength}
 use Rattle.model.specs.Refusals.{Unchanged}
-use Rattle.model.specs.Run.{Outcome, refuses, accepts, does, Step, stops, goes, Ran}
+use Rattle.model.specs.Run.{Outcome, refuses, accepts, storeAfter, does, Step, stops, goes, Ran}
 use Rattle.model.specs.Entries.{partWords, column}
 use Rattle.model.specs.Sound.{Eight, Limits, Buildable, AllUncounted, StagedSound, ExcludedSound, StoreSound}
 
@@ -56,6 +56,7 @@ Fits (BAR k) = Unit {0}
 Fits RANGE = Unit {0}
 Fits EMPTY = Unit {0}
 Fits TALLY = Unit {0}
+Fits (TRAY n) = Unit {0}
 
 -- what an accepted one leaves is sound
 abbrev pub OutSound : Outcome → Type 0
@@ -73,6 +74,15 @@ abbrev pub grouped : Store → Added → Outcome
 grouped s nothing = accepts (withControl s (emptyStaged (s .control))) (0 ∷ [])
 grouped s (added fs) = accepts (withControl s (withDraft (emptyStaged (s .control)) fs)) (1 ∷ [])
 grouped s (refused n) = refuses n
+
+-- 02, No. 4: "that many NEWs, each with the same hand": the hand is h
+abbrev pub restaged : List Component → Store → Store
+restaged h s = withControl s (withStaged (s .control) h)
+
+-- NEW n times, each with the hand h; a refused one would be counted
+unfoldable pub news : ℕ → List Component → Store → Store
+news zero h s = s
+news (suc n) h s = news n h (storeAfter (restaged h s) (does NEW (restaged h s)))
 
 -- ---- one step
 

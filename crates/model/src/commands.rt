@@ -1,4 +1,4 @@
-// Commands, by their names in 01's table.
+// Commands, by their names in 01's table; 02's No. 4 has the last.
 pub const REG: u8 = 1;
 
 pub const HOLD: u8 = 2;
@@ -26,5 +26,7 @@ pub const RANGE: u8 = 12;
 pub const EMPTY: u8 = 13;
 
 pub const TALLY: u8 = 14;
+
+pub const TRAY: u8 = 15;
 // The last of them.
-pub const LAST_COMMAND: u8 = TALLY;
+pub const LAST_COMMAND: u8 = TRAY;

@@ -1,7 +1,7 @@
 // Commands with operands: they are read off the tape, at `at`.
 use model::commands;
 ghost use Prim.Native.Nat.{_≤_};
-ghost use Rattle.model.specs.Numbers.{REG-BYTE, HOLD-BYTE, BAR-BYTE};
+ghost use Rattle.model.specs.Numbers.{REG-BYTE, HOLD-BYTE, BAR-BYTE, TRAY-BYTE};
 ghost use Rattle.model.specs.Run.{does};
 ghost use Rattle.memory.specs.Meaning.{meaning};
 ghost use Rattle.command.specs.Acted.{Acted};
@@ -54,4 +54,12 @@ pub fn bar(words: &mut [u32], tape: &[u8], at: usize, out: &mut [u8], to: usize)
 {
     let kind = tape[at];
     command_list::lists::bar(words, kind, out, to)
+}
+
+pub fn tray(words: &mut [u32], tape: &[u8], at: usize, out: &mut [u8], to: usize) -> usize
+    requires { ⌜ Given (now words) TRAY-BYTE (now tape) at (now out) to ⌝ }
+    ensures { λ r. ⌜ Acted (now (words .entry)) (now (words .exit)) (now (out .entry)) (now (out .exit)) to r (does (commandIn TRAY-BYTE (now (tape .entry)) at) (meaning (now (words .entry)))) ⌝ }
+{
+    let count = codec::get_u16(tape, at);
+    command_entity::entities::tray(words, count, out, to)
 }

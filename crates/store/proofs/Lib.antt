@@ -13,3 +13,4 @@ pub mod Pieces
 pub mod Ranging
 pub mod Grouping
 pub mod Built
+pub mod Traying

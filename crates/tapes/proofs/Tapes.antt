@@ -12,7 +12,7 @@ use lib.Seq.{take-at, drop-at}
 use Rattle.model.specs.Numbers.{LAST-COMMAND}
 use Rattle.model.specs.Model.{Entity}
 use Rattle.model.specs.Store.{Store, Bytes, bytesOf, number}
-use Rattle.model.specs.Commands.{Command, REG, HOLD, NEW, PUT, TAKE, DROP, KILL, WIPE, GROUP, APPLY, BAR, RANGE, EMPTY, TALLY, width, isCommand, entityOfBytes, commandAt, answerLength}
+use Rattle.model.specs.Commands.{Command, REG, HOLD, NEW, PUT, TAKE, DROP, KILL, WIPE, GROUP, APPLY, BAR, RANGE, EMPTY, TALLY, TRAY, width, isCommand, entityOfBytes, commandAt, answerLength}
 use Rattle.model.specs.Run.{does, goes, step, answerOf, more, runFor, run}
 use Rattle.model.proofs.BoolLaws.{and-right}
 use Rattle.model.proofs.Encoding.{number-bytes, bytes-of, bytes-append}
@@ -50,6 +50,7 @@ command-back (BAR k) h = refl
 command-back RANGE h = refl
 command-back EMPTY h = refl
 command-back TALLY h = refl
+command-back (TRAY n) h = ap TRAY (number-bytes 2 n h)
 
 is-command : (c : Command) → isCommand (byteOf c) ≡ true
 is-command (REG k) = refl
@@ -66,6 +67,7 @@ is-command (BAR k) = refl
 is-command RANGE = refl
 is-command EMPTY = refl
 is-command TALLY = refl
+is-command (TRAY n) = refl
 
 -- it has all its operands
 is-whole : (c : Command) → length (operandsOf c) ≡ width (byteOf c)
@@ -83,6 +85,7 @@ is-whole (BAR k) = refl
 is-whole RANGE = refl
 is-whole EMPTY = refl
 is-whole TALLY = refl
+is-whole (TRAY n) = bytesOf-length 2 n
 
 byte-small : (c : Command) → byteOf c < 256
 byte-small c = omega (arith, leb-true (byteOf c) LAST-COMMAND (and-right (leb 1 (byteOf c)) (leb (byteOf c) LAST-COMMAND) (is-command c)))
@@ -102,6 +105,7 @@ operand-bytes (BAR k) h = (h, tt)
 operand-bytes RANGE h = tt
 operand-bytes EMPTY h = tt
 operand-bytes TALLY h = tt
+operand-bytes (TRAY n) h = bytes-of 2 n
 
 -- a tape of commands is of bytes
 pub tape-bytes : (cs : List Command) → AllEncodable cs → Bytes (tapeOf cs)

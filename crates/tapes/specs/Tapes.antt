@@ -2,10 +2,10 @@
 use mathlib.Core.List.{List, [], _∷_, _++_}
 use Prim.Native.Nat.{ℕ, _+_, _^_, _<_}
 use lib.ListN.{length}
-use Rattle.model.specs.Numbers.{REG-BYTE, HOLD-BYTE, NEW-BYTE, PUT-BYTE, TAKE-BYTE, DROP-BYTE, KILL-BYTE, WIPE-BYTE, GROUP-BYTE, APPLY-BYTE, BAR-BYTE, RANGE-BYTE, EMPTY-BYTE, TALLY-BYTE}
+use Rattle.model.specs.Numbers.{REG-BYTE, HOLD-BYTE, NEW-BYTE, PUT-BYTE, TAKE-BYTE, DROP-BYTE, KILL-BYTE, WIPE-BYTE, GROUP-BYTE, APPLY-BYTE, BAR-BYTE, RANGE-BYTE, EMPTY-BYTE, TALLY-BYTE, TRAY-BYTE}
 use Rattle.model.specs.Model.{Entity}
 use Rattle.model.specs.Store.{Store, bytesOf}
-use Rattle.model.specs.Commands.{Command, REG, HOLD, NEW, PUT, TAKE, DROP, KILL, WIPE, GROUP, APPLY, BAR, RANGE, EMPTY, TALLY, answerLength}
+use Rattle.model.specs.Commands.{Command, REG, HOLD, NEW, PUT, TAKE, DROP, KILL, WIPE, GROUP, APPLY, BAR, RANGE, EMPTY, TALLY, TRAY, answerLength}
 use Rattle.model.specs.Run.{does, storeAfter, answerOf, Ran}
 use Rattle.model.specs.Sound.{Eight}
 
@@ -26,12 +26,13 @@ byteOf (BAR k) = BAR-BYTE
 byteOf RANGE = RANGE-BYTE
 byteOf EMPTY = EMPTY-BYTE
 byteOf TALLY = TALLY-BYTE
+byteOf (TRAY n) = TRAY-BYTE
 
 -- "index 4, version 4"
 abbrev pub entityBytes : Entity → List ℕ
 entityBytes e = bytesOf 4 (e .index) ++ bytesOf 4 (e .version)
 
--- "kind 1", "kind 1, value 8"
+-- "kind 1", "kind 1, value 8"; 02, No. 4: "count 2 bytes"
 abbrev pub operandsOf : Command → List ℕ
 operandsOf (REG k) = k ∷ []
 operandsOf (HOLD k v) = k ∷ bytesOf 8 v
@@ -47,6 +48,7 @@ operandsOf (BAR k) = k ∷ []
 operandsOf RANGE = []
 operandsOf EMPTY = []
 operandsOf TALLY = []
+operandsOf (TRAY n) = bytesOf 2 n
 
 -- an entity's two numbers are of four bytes
 abbrev pub EntityFits : Entity → Type 0
@@ -68,6 +70,7 @@ Encodable (BAR k) = k < 256
 Encodable RANGE = Unit {0}
 Encodable EMPTY = Unit {0}
 Encodable TALLY = Unit {0}
+Encodable (TRAY n) = n < 256 ^ 2
 
 abbrev pub AllEncodable : List Command → Type 0
 AllEncodable [] = Unit {0}

@@ -1,18 +1,17 @@
 -- The loop that puts the staged components in, one kind after another. Assumes nothing.
 use mathlib.Core.Path.{_≡_, refl, ap, sym, _∙_, subst}
-use mathlib.Core.List.{List, [], _∷_, _++_, map}
+use mathlib.Core.List.{List, [], _∷_, _++_}
 use Prim.Native.Nat.{ℕ, _+_, _≤_, _<_}
 use native.Mathlib.Omega.{arith}
 use native.Mathlib.Numerals.{add-one}
 use native.Mathlib.Decide.{decLt}
 use borrow.Author.Tests.{ltb-true}
-use lib.ListN.{length, getD, set, take, length-set, length-append, length-map, List·getD-append, List·getD-map}
+use lib.ListN.{length, getD, set, take, length-set, length-append, List·getD-append}
 use lib.Seq.{getD-set-same, getD-set-other, set-out, take-all, take-suc, getD-at}
-use Rattle.model.specs.Model.{Entity, Row, Component, SparseSet, Storage, noRow, setOf, at, held, kindOf, insertRow, insertAll, entity}
+use Rattle.model.specs.Model.{Entity, Row, Component, SparseSet, Storage, noRow, setOf, at, held, insertRow, insertAll, entity}
 use Rattle.model.specs.Store.{Store, stagedKinds, onStorage}
 use Rattle.model.specs.Sound.{In, noComponent}
 use Rattle.model.proofs.BoolLaws.{by-eq, cond-case}
-use Rattle.model.proofs.KindLists.{at-in}
 use Rattle.component.specs.Stored.{Current}
 use Rattle.memory.specs.Meaning.{meaning}
 use Rattle.memory.specs.Arranged.{Becomes}
@@ -100,8 +99,3 @@ module _ (w₀ : List ℕ) (x v : ℕ) (I : Insertable w₀ x v) where
 
   pub insert-count : (w : List ℕ) (ps : List Component) → Done w ps → (i : ℕ) → i < length staged → i < length (meaning w .control .staged)
   insert-count w ps B i h = rw (insert-staged w ps B) h
-
-  -- the kind of a staged component is registered
-  pub staged-known : (i : ℕ) → i < length staged → (k : ℕ) → k ≡ getD staged i noComponent .kind → In (meaning w₀ .kinds) k
-  staged-known i h k e =
-      I .known k (subst (In (stagedKinds (meaning w₀))) (List·getD-map kindOf staged i noComponent ∙ sym e) (at-in (map kindOf staged) i (rw (length-map staged kindOf) h)))

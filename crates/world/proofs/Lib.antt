@@ -6,3 +6,5 @@ pub mod Masking
 pub mod Live
 pub mod Whole
 pub mod Lifetimes
+pub mod Columns
+pub mod Extending

@@ -11,16 +11,17 @@ use Rattle.model.specs.Lists.{one}
 use Rattle.model.proofs.ListLaws.{count-at}
 use Rattle.model.specs.Model.{Entity, SparseSet, sameEntity, noEntity, noRow, setOf, keys, entityOf, isLive, entity}
 use Rattle.model.specs.Store.{Store, stagedKinds}
-use Rattle.model.specs.Sound.{cnt, num, key, In, EntitiesSound, StoreSound}
+use Rattle.model.specs.Sound.{cnt, num, In, StoreSound}
 use Rattle.model.proofs.SparseSets.{entity-eq, entity-same}
 use Rattle.model.proofs.BoolLaws.{bool-cases}
 use Rattle.model.proofs.Numbers.{cnt-num}
 use Rattle.model.proofs.Operations.{live-count}
 use Rattle.component.specs.Stored.{Current}
+use Rattle.memory.specs.Header.{capacityOf}
 use Rattle.memory.specs.Meaning.{meaning}
 use Rattle.memory.specs.Arranged.{Arranged}
 use Rattle.memory.proofs.Becomes.{capacity-means}
-use Rattle.world.specs.Insert.{Insertable}
+use Rattle.world.specs.Insert.{OnlyLive, Insertable}
 
 -- one of the index at most
 once-index : (x y z : Entity) → x .index ≡ y .index → sameEntity x y ≡ false → one (sameEntity x z) + one (sameEntity y z) ≤ one (eqb (x .index) (z .index))
@@ -48,12 +49,6 @@ row-count : (rows : SparseSet) (i : ℕ) → i < length rows → 1 ≤ cnt (getD
 row-count rows i h =
     subst (λ (e : Entity). 1 ≤ cnt e (keys rows)) (List·getD-map entityOf rows i noRow) (count-at sameEntity entity-same noEntity (keys rows) i (rw (length-map rows entityOf) h))
 
--- of soundness, what insertion into a live entity rests on: numbers by which an index is live once, and sparse sets that hold live entities only. The
--- groups have no part in it: they need not be right
-pub record OnlyLive (s : Store) : Type 0 where
-  pub entities : EntitiesSound (s .settings .capacity) (s .entities)
-  pub alive : (x : Entity) (k : ℕ) → 1 ≤ cnt x (key (s .storage .sets) k) → 1 ≤ cnt x (s .entities .live)
-
 pub sound-live : (s : Store) → StoreSound s → OnlyLive s
 sound-live s S = record { entities = S .entities; alive = S .sets .alive }
 
@@ -65,16 +60,23 @@ current s L e live k i h q =
     (λ t. ap (λ (x : Entity). x .version) (entity-eq y e t))
     (λ t. absurd (omega (arith, alive, live-count e (s .entities) live, two-live y e (s .entities .live) q t, L .entities .single (y .index))))
 
+module _ (w : List ℕ) (L : OnlyLive (meaning w)) (x v : ℕ) (live : isLive (entity x v) (meaning w .entities) ≡ true) where
+  pub live-index : x < capacityOf w
+  live-index =
+      let i : x < meaning w .entities .issued = L .entities .below x (omega (arith, live-count (entity x v) (meaning w .entities) live, cnt-num (entity x v) (meaning w .entities .live))) in
+      omega (arith, i, L .entities .few, capacity-means w)
+
+  pub live-version : 1 ≤ v
+  live-version = L .entities .positive (entity x v) (omega (arith, live-count (entity x v) (meaning w .entities) live))
+
 -- the staged components can go into a live entity
 pub live-insertable : (w : List ℕ) → Arranged w → OnlyLive (meaning w) → ((k : ℕ) → In (stagedKinds (meaning w)) k → In (meaning w .kinds) k)
     → (x v : ℕ) → isLive (entity x v) (meaning w .entities) ≡ true → Insertable w x v
 live-insertable w A L known x v live =
-    let n = live-count (entity x v) (meaning w .entities) live in
-    let i : x < meaning w .entities .issued = L .entities .below x (omega (arith, n, cnt-num (entity x v) (meaning w .entities .live))) in
     record {
       arranged = A;
-      below = omega (arith, i, L .entities .few, capacity-means w);
-      version = L .entities .positive (entity x v) (omega (arith, n));
+      below = live-index w L x v live;
+      version = live-version w L x v live;
       current = current (meaning w) L (entity x v) live;
       known = known;
     }

@@ -74,14 +74,12 @@ module _ (w₀ : List ℕ) (e : Entity) (ks : List ℕ) where
 pub kind-at : (l : List Component) (i : ℕ) → getD l i noComponent .kind ≡ getD (map kindOf l) i 0
 kind-at l i = sym (List·getD-map kindOf l i noComponent)
 
+-- it is registered
+pub staged-in : (s : Store) → ((k : ℕ) → In (stagedKinds s) k → In (s .kinds) k) → (i k : ℕ) → i < length (s .control .staged) → k ≡ getD (s .control .staged) i noComponent .kind → In (s .kinds) k
+staged-in s known i k h q =
+    known k (subst (In (stagedKinds s)) (sym (q ∙ kind-at (s .control .staged) i)) (at-in (stagedKinds s) i (omega (arith, length-map (s .control .staged) kindOf))))
+
 module _ (w : List ℕ) (S : Staged w) where
-  abbrev kinds : List ℕ
-  kinds = stagedKinds (meaning w)
-
-  pub staged-in : (i k : ℕ) → i < length (meaning w .control .staged) → k ≡ getD (meaning w .control .staged) i noComponent .kind → In (meaning w .kinds) k
-  staged-in i k h q =
-      S .known k (subst (In kinds) (sym (q ∙ kind-at (meaning w .control .staged) i)) (at-in kinds i (omega (arith, length-map (meaning w .control .staged) kindOf))))
-
   pub staged-small : (k : ℕ) → In (stagedKinds (meaning w)) k → k < MAX-KINDS
   staged-small k i = known-small w (S .arranged) k (S .known k i)
 

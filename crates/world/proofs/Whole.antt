@@ -11,7 +11,7 @@ use Rattle.model.specs.Sound.{Distinct}
 use Rattle.model.proofs.Families.{Kinds}
 use Rattle.model.proofs.Invariant.{Fit}
 use Rattle.model.proofs.Operations.{sound-held}
-use Rattle.model.proofs.Held.{kinds-of}
+use Rattle.model.proofs.Held.{staged-kinds}
 use Rattle.masks.specs.Masks.{bitsOf, has, upFrom}
 use Rattle.memory.specs.Meaning.{meaning}
 use Rattle.memory.specs.Arranged.{Sound, Becomes}
@@ -28,18 +28,24 @@ use Rattle.group.proofs.Storing.{becomes-then, storage-becomes}
 use Rattle.world.proofs.Removing.{staged-kept}
 use Rattle.world.proofs.Live.{sound-live, live-insertable}
 
+-- the groups of the touched families are groups of the layout
+pub touched-below : (ks ps : List ℕ) (s : Storage) → ps ≡ insertPositions ks (s .layout) → Below ps s
+touched-below ks ps s b g h =
+    let l : g < 0 + groupsOf (s .layout) = where-within (λ (f : Family) (js : List ℕ). meets ks (kindsOf f)) 0 (s .layout) g (ap (has g) (sym b) ∙ h) .1 in
+    omega (arith, l)
+
 module _ (w : List ℕ) (S : Sound w) where
   abbrev m : Store
   m = meaning w
 
-  fit : Fit (meaning w .storage)
+  pub fit : Fit (meaning w .storage)
   fit = sound-held (meaning w) (S .means) .fit
 
   pub staged-sound : Staged w
   staged-sound = record { arranged = S .arranged; once = S .means .staged .once; known = S .means .staged .known }
 
-  staged-kinds : Kinds (length (meaning w .storage .sets)) (meaning w .control .staged)
-  staged-kinds = kinds-of (meaning w .control .staged) (length (meaning w .storage .sets)) (λ k i. omega (arith, S .means .kinds .small k (S .means .staged .known k i), S .means .sets .wide))
+  pub known-kinds : Kinds (length (meaning w .storage .sets)) (meaning w .control .staged)
+  known-kinds = staged-kinds (meaning w .entities) (meaning w .kinds) (meaning w .storage) (sound-held (meaning w) (S .means)) (meaning w .control .staged) (S .means .staged .known)
 
   pub insertable : (x v : ℕ) → isLive (entity x v) (meaning w .entities) ≡ true → Insertable w x v
   insertable = live-insertable w (S .arranged) (sound-live (meaning w) (S .means)) (S .means .staged .known)
@@ -48,15 +54,15 @@ module _ (w : List ℕ) (S : Sound w) where
 
   module _ (x v mask : ℕ) (b : bitsOf 64 mask ≡ insertPositions (stagedKinds (meaning w)) (meaning w .storage .layout)) (w₁ : List ℕ) (B : Becomes w w₁ (onStorage (inserted (entity x v) (meaning w .control .staged)) (meaning w))) where
     pub insert-below : Below (bitsOf 64 mask) (meaning w₁ .storage)
-    insert-below g h =
-        let l : g < 0 + groupsOf (meaning w .storage .layout) = where-within (λ (f : Family) (ks : List ℕ). meets (stagedKinds (meaning w)) (kindsOf f)) 0 (meaning w .storage .layout) g (ap (has g) (sym b) ∙ h) .1 in
-        subst (λ (s : Store). g < groupsOf (s .storage .layout)) (sym (B .means)) (omega (arith, l))
+    insert-below =
+        subst (λ (s : Store). Below (bitsOf 64 mask) (s .storage)) (sym (B .means))
+        (touched-below (stagedKinds (meaning w)) (bitsOf 64 mask) (inserted (entity x v) (meaning w .control .staged) (meaning w .storage)) b)
 
     pub insert-ready : ReadyUp (entity x v) 0 (bitsOf 64 mask) (meaning w₁ .storage)
     insert-ready =
         subst (λ (s : Store). ReadyUp (entity x v) 0 (bitsOf 64 mask) (s .storage)) (sym (B .means))
         (subst (λ (ps : List ℕ). ReadyUp (entity x v) 0 ps (inserted (entity x v) (meaning w .control .staged) (meaning w .storage))) (sym b)
-        (ready-insert (entity x v) (meaning w .control .staged) (meaning w .storage) staged-kinds fit))
+        (ready-insert (entity x v) (meaning w .control .staged) (meaning w .storage) known-kinds fit))
 
     whole : walkUp (entity x v) 0 (bitsOf 64 mask) (inserted (entity x v) (meaning w .control .staged) (meaning w .storage)) ≡ insertComponents (entity x v) (meaning w .control .staged) (meaning w .storage)
     unfolding insertComponents

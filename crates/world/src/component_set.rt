@@ -6,14 +6,14 @@ use component::Removed;
 ghost use mathlib.Core.Path.{_≡_};
 ghost use mathlib.Core.Bool.{true};
 ghost use Prim.Native.Nat.{_<_};
-ghost use lib.ListN.{length, getD};
+ghost use lib.ListN.{length, getD, drop};
 ghost use Rattle.model.specs.Model.{isLive, insertComponents, remove, entity};
 ghost use Rattle.model.specs.Store.{stagedKinds, onStorage};
 ghost use Rattle.model.specs.Sound.{noComponent};
 ghost use Rattle.memory.specs.Meaning.{meaning};
 ghost use Rattle.memory.specs.Arranged.{Becomes, Sound};
 ghost use Rattle.kinds.specs.Kinds.{RemovesKind};
-ghost use Rattle.world.specs.Insert.{Insertable, insertOne, inserted};
+ghost use Rattle.world.specs.Insert.{Insertable, insertOne, inserted, AllInsertable, insertColumn, insertedEach};
 ghost use Rattle.world.specs.Remove.{Staged, ungrouped, removed};
 
 // The staged component at i goes into the entity.
@@ -48,6 +48,37 @@ pub fn insert(words: &mut [u32], index: u32, version: u32)
     let mask = staged_mask(words, Walk::Insert);
     insert_staged(words, index, version);
     group::group(words, mask, index, version);
+}
+
+// The staged component at i goes into each live entity from place start on.
+fn insert_column(words: &mut [u32], i: usize, start: usize)
+    requires { ⌜ AllInsertable (now words) ⌝ }
+    requires { ⌜ i < length (meaning (now words) .control .staged) ⌝ }
+    ensures { λ _. ⌜ Becomes (now (words .entry)) (now (words .exit)) (onStorage (insertColumn (drop start (meaning (now (words .entry)) .entities .live)) (getD (meaning (now (words .entry)) .control .staged) i noComponent)) (meaning (now (words .entry)))) ⌝ }
+{
+    let c = control::staged::staged_at(words, i);
+    let n = words::word(words, words::CAPACITY);
+    let slot = kinds::slot_of(words, c.kind);
+    let len = control::entities::live_len(words);
+    let mut place = start;
+    while place < len {
+        let e = control::entities::live_at(words, place);
+        component::slots::insert_in(words, n, slot, e.index, e.version, c.low, c.high);
+        place += 1;
+    }
+}
+
+// All staged components go into each live entity from place start on, kind by kind; no group is walked yet.
+pub fn insert_each(words: &mut [u32], start: usize)
+    requires { ⌜ AllInsertable (now words) ⌝ }
+    ensures { λ _. ⌜ Becomes (now (words .entry)) (now (words .exit)) (onStorage (insertedEach (drop start (meaning (now (words .entry)) .entities .live)) (meaning (now (words .entry)) .control .staged)) (meaning (now (words .entry)))) ⌝ }
+{
+    let n = control::staged::staged_len(words);
+    let mut i = 0;
+    while i < n {
+        insert_column(words, i, start);
+        i += 1;
+    }
 }
 
 // The entity leaves the groups that have a staged kind, highest first.

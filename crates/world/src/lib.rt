@@ -3,14 +3,18 @@ pub mod component_set;
 pub mod component_storage;
 pub mod mask;
 
+use crate::mask::Walk;
+use crate::mask::staged_mask;
 use entity::Entity;
 ghost use mathlib.Core.Path.{_≡_};
 ghost use mathlib.Core.Bool.{false};
+ghost use Prim.Native.Nat.{_≤_};
 ghost use Rattle.entity.specs.Answers.{LiveAt};
 ghost use Rattle.memory.specs.Meaning.{meaning};
-ghost use Rattle.memory.specs.Arranged.{Becomes, Sound};
+ghost use Rattle.memory.specs.Arranged.{Arranged, Becomes, Sound};
 ghost use Rattle.world.specs.World.{NewEntity, killed};
-ghost use Rattle.model.specs.Model.{entity, isFull};
+ghost use Rattle.world.specs.Insert.{withCreated, extended};
+ghost use Rattle.model.specs.Model.{entity, isFull, freeNumbers};
 
 // A new entity with the staged components. The caller has seen that there is a number left.
 pub fn create(words: &mut [u32]) -> Entity
@@ -21,6 +25,32 @@ pub fn create(words: &mut [u32]) -> Entity
     let e = control::entities::create(words);
     component_set::insert(words, e.index, e.version);
     e
+}
+
+// That many new entities, which have no component yet.
+fn create_each(words: &mut [u32], count: usize)
+    requires { ⌜ Arranged (now words) ⌝ }
+    requires { ⌜ count ≤ freeNumbers (meaning (now words) .settings .capacity) (meaning (now words) .entities) ⌝ }
+    ensures { λ _. ⌜ Becomes (now (words .entry)) (now (words .exit)) (withCreated count (meaning (now (words .entry)))) ⌝ }
+{
+    let mut left = count;
+    while 0 < left {
+        control::entities::create(words);
+        left -= 1;
+    }
+}
+
+// Many new entities, each with the staged components: all insertions first, then grouping. The caller has seen that there are numbers left.
+pub fn extend(words: &mut [u32], count: usize)
+    requires { ⌜ Sound (now words) ⌝ }
+    requires { ⌜ count ≤ freeNumbers (meaning (now words) .settings .capacity) (meaning (now words) .entities) ⌝ }
+    ensures { λ _. ⌜ Becomes (now (words .entry)) (now (words .exit)) (extended count (meaning (now (words .entry)))) ⌝ }
+{
+    let mask = staged_mask(words, Walk::Insert);
+    let start = control::entities::live_len(words);
+    create_each(words, count);
+    component_set::insert_each(words, start);
+    group::group_each(words, mask, start);
 }
 
 // A live entity goes, with all its components. The caller has looked up its place in the live list, which stays while the components go.

@@ -2,8 +2,8 @@ use mathlib.Core.Path.{_≡_}
 use mathlib.Core.Logic.{⊎-elim}
 use native.Mathlib.Omega.{arith}
 use borrow.Author.Needs.{needs}
-use Rattle.model.specs.Numbers.{LAST-COMMAND, REG-BYTE, HOLD-BYTE, NEW-BYTE, WIPE-BYTE, GROUP-BYTE, APPLY-BYTE, BAR-BYTE, RANGE-BYTE, EMPTY-BYTE}
-use Rattle.run_command.proofs.Reading.{given-as, acts-as, on-entity, is-tally}
+use Rattle.model.specs.Numbers.{LAST-COMMAND, REG-BYTE, HOLD-BYTE, NEW-BYTE, WIPE-BYTE, GROUP-BYTE, APPLY-BYTE, BAR-BYTE, RANGE-BYTE, EMPTY-BYTE, TALLY-BYTE}
+use Rattle.run_command.proofs.Reading.{given-as, acts-as, on-entity, is-last}
 use Rattle.run_command.proofs.act.Statement.{statement}
 use Rattle.run_command.proofs.act.Tie as tie
 
@@ -34,6 +34,9 @@ range-requires c κs = given-as RANGE-BYTE (c .before .before .match .keys8) (c 
 empty-requires : tie.Need-empty-requires
 empty-requires c κs = given-as EMPTY-BYTE (c .before .before .match .keys9) (c .before .before .before .before .before .before .pre .1) .ready
 
+tally-requires : tie.Need-tally-requires
+tally-requires c κs = given-as TALLY-BYTE (c .before .before .match .keys10) (c .before .before .before .before .before .before .pre .1) .ready
+
 on-entity-requires : tie.Need-on-entity-requires
 on-entity-requires c κs = let s = c .before .before .before .before .before .before .before .before in (on-entity (s .args .op) (c .before .before .before .if1 .left) (c .before .before .if2 .taken) (c .before .before .before .before .match .rest), s .pre .1)
 
@@ -41,10 +44,10 @@ on-entity-requires c κs = let s = c .before .before .before .before .before .be
 last-arm : (c : tie.Joined1) → c .before .before .before .before .before .args .op ≡ LAST-COMMAND
 last-arm c =
     let s = c .before .before .before .before .before in
-    ⊎-elim (λ l. absurd (omega (arith, l .taken, s .pre .0))) (λ l. is-tally (s .args .op) (l .1 .left) (s .pre .0 .1) (c .before .match .rest)) (c .if1 .came)
+    ⊎-elim (λ l. absurd (omega (arith, l .taken, s .pre .0))) (λ l. is-last (s .args .op) (l .1 .left) (s .pre .0 .1) (c .before .match .rest)) (c .if1 .came)
 
-tally-requires : tie.Need-tally-requires
-tally-requires c κs = given-as LAST-COMMAND (last-arm (c .before .before)) (c .before .before .before .before .before .before .before .pre .1) .ready
+tray-requires : tie.Need-tray-requires
+tray-requires c κs = given-as LAST-COMMAND (last-arm (c .before .before)) (c .before .before .before .before .before .before .before .pre .1)
 
 returns : tie.Need-returns
 returns c = let s = c .before .before .before .before .before .before .before .before .before .before .before .args in acts-as (s .op) REG-BYTE (c .before .before .before .before .before .before .before .match .keys1) (s .tape .now) (s .at) (c .before .before .before .before .reg .ensures)
@@ -73,8 +76,11 @@ returns-8 c = let s = c .before .before .before .before .before .before .before 
 returns-9 : tie.Need-returns-9
 returns-9 c = let s = c .before .before .before .before .before .before .before .before .before .before .before .args in acts-as (s .op) EMPTY-BYTE (c .before .before .before .before .before .before .before .match .keys9) (s .tape .now) (s .at) (c .before .before .before .before .empty .ensures)
 
-returns-11 : tie.Need-returns-11
-returns-11 c = let s = c .before .before .before .before .before .before .before .before .before .before .args in acts-as (s .op) LAST-COMMAND (last-arm (c .before .before .before .before .before)) (s .tape .now) (s .at) (c .before .before .tally .ensures)
+returns-10 : tie.Need-returns-10
+returns-10 c = let s = c .before .before .before .before .before .before .before .before .before .args in acts-as (s .op) TALLY-BYTE (c .before .before .before .before .before .match .keys10) (s .tape .now) (s .at) (c .before .before .tally .ensures)
+
+returns-12 : tie.Need-returns-12
+returns-12 c = let s = c .before .before .before .before .before .before .before .before .before .before .before .before .args in acts-as (s .op) LAST-COMMAND (last-arm (c .before .before .before .before .before .before .before)) (s .tape .now) (s .at) (c .before .before .before .before .tray .ensures)
 
 pub act-spec : {M : Type 1} → statement M
 act-spec =
@@ -89,8 +95,9 @@ act-spec =
     bar-requires
     range-requires
     empty-requires
-    on-entity-requires
     tally-requires
+    on-entity-requires
+    tray-requires
     (λ c. c .before .before .before .before .reg .kept .0)
     (λ c. c .before .before .before .before .reg .kept .1 .1 .1 .0)
     returns
@@ -118,9 +125,12 @@ act-spec =
     (λ c. c .before .before .before .before .empty .kept .0)
     (λ c. c .before .before .before .before .empty .kept .1 .0)
     returns-9
+    (λ c. search needs)
+    (λ c. c .before .before .tally .kept .1 .0)
+    returns-10
     (λ c. c .before .before .before .before .on-entity .kept .0)
     (λ c. c .before .before .before .before .on-entity .kept .1 .1 .1 .1 .0)
     (λ c. c .before .before .before .before .on-entity .ensures)
-    (λ c. search needs)
-    (λ c. c .before .before .tally .kept .1 .0)
-    returns-11)
+    (λ c. c .before .before .before .before .tray .kept .0)
+    (λ c. c .before .before .before .before .tray .kept .1 .1 .1 .0)
+    returns-12)

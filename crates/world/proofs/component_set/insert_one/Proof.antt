@@ -4,7 +4,7 @@ use Rattle.model.specs.Store.{onStorage}
 use Rattle.memory.specs.Meaning.{meaning}
 use Rattle.memory.specs.Arranged.{Becomes}
 use Rattle.world.specs.Insert.{insertOne}
-use Rattle.world.proofs.Inserting.{staged-known}
+use Rattle.world.proofs.Removing.{staged-in}
 use Rattle.world.proofs.component_set.insert_one.Statement.{statement}
 use Rattle.world.proofs.component_set.insert_one.Tie as tie
 
@@ -13,7 +13,7 @@ insert-requires c κs =
     let a = c .before .before .before .before .args in
     let I = c .before .before .before .before .pre .0 in
     let e = c .before .staged-at .ensures in
-    (I .arranged, (staged-known (a .words .now) (a .index) (a .version) I (a .i) (c .before .before .before .before .pre .1) _ (ap (λ (p : Component). p .kind) e), ((I .below, I .version), I .current _)))
+    (I .arranged, (staged-in (meaning (a .words .now)) (I .known) (a .i) _ (c .before .before .before .before .pre .1) (ap (λ (p : Component). p .kind) e), ((I .below, I .version), I .current _)))
 
 returns : tie.Need-returns
 returns c =

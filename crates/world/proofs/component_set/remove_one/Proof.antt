@@ -13,7 +13,7 @@ staged-kind-requires c κs = (c .before .before .pre .0 .arranged, c .before .be
 remove-requires : tie.Need-remove-requires
 remove-requires c κs =
     let s = c .before .before .before .before in
-    (s .pre .0 .arranged, staged-in (s .args .words .now) (s .pre .0) (s .args .i) (c .before .staged-kind .result) (s .pre .1) (c .before .staged-kind .ensures))
+    (s .pre .0 .arranged, staged-in (meaning (s .args .words .now)) (s .pre .0 .known) (s .args .i) (c .before .staged-kind .result) (s .pre .1) (c .before .staged-kind .ensures))
 
 returns : tie.Need-returns
 returns c =
