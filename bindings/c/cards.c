@@ -26,7 +26,7 @@ static const uint8_t station_kind[STATIONS] = {SERIAL, KEY, APPLETS, PRINT};
 static const char *const station_name[STATIONS] = {"serial", "key", "applets", "print"};
 enum { WITH_KEY = 2, PRINTED = STATIONS };
 
-/* The commands used here: byte, name, and the length of the accepted answer (docs/COMMANDS.md, "The fourteen
+/* The commands used here: byte, name, and the length of the accepted answer (docs/COMMANDS.md, "The fifteen
  * commands"). */
 struct command {
     uint8_t byte;

@@ -99,7 +99,7 @@ static void test_run(void)
     CHECK(all(words, 4 * NEEDED, sizeof words, 0xa5));
 
     /* A refused command, a byte that is none. */
-    const uint8_t more[] = {0x07, 9, 0, 0, 0, 1, 0, 0, 0, 0x0e, 0x0f};
+    const uint8_t more[] = {0x07, 9, 0, 0, 0, 1, 0, 0, 0, 0x0e, 0x10};
     ran = yirbarn_run(words, NEEDED, more, sizeof more, out, OUT);
     CHECK(ran.stop == YIRBARN_UNKNOWN && ran.commands == 2 && ran.read == 10 && ran.written == 6);
     CHECK(out[0] == YIRBARN_DEAD && out[1] == 0 && out[2] == 1 && all(out, 3, 6, 0));
@@ -121,6 +121,90 @@ static void test_run(void)
         CHECK(rest.stop == YIRBARN_OK && ran.commands + rest.commands == 14);
         CHECK(!memcmp(out, ANSWERS + ran.written, rest.written) && ran.written + rest.written == sizeof ANSWERS);
     }
+}
+
+/* Runs a tape to its end, and compares all its answers. */
+static bool answers(const uint8_t *tape, size_t tape_len, const uint8_t *expected, size_t expected_len)
+{
+    struct yirbarn_ran ran = yirbarn_run(words, NEEDED, tape, tape_len, out, OUT);
+    return ran.stop == YIRBARN_OK && ran.read == tape_len && ran.written == expected_len &&
+           !memcmp(out, expected, expected_len);
+}
+
+/* A row of a column: index, version, value. */
+static bool row(uint8_t kind, size_t at, uint32_t index, uint32_t version, uint32_t value)
+{
+    uint32_t entity[2], number[2];
+    yirbarn_column(words, NEEDED, kind, false, at, at + 1, entity, 2);
+    struct yirbarn_written copied = yirbarn_column(words, NEEDED, kind, true, at, at + 1, number, 2);
+    return copied.number == YIRBARN_OK && entity[0] == index && entity[1] == version && number[0] == value &&
+           number[1] == 0;
+}
+
+#define HOLD_BOTH 0x02, 2, 8, 0, 0, 0, 0, 0, 0, 0, 0x02, 1, 9, 0, 0, 0, 0, 0, 0, 0 /* HOLD 2 = 8, HOLD 1 = 9 */
+#define KILL_0 0x07, 0, 0, 0, 0, 1, 0, 0, 0
+
+/* A tray: none, some, too many with the list kept, and the rest of the store. */
+static void test_tray(void)
+{
+    const uint8_t none[] = {HOLD_BOTH, 0x0f, 0, 0, HOLD_BOTH};
+    const uint8_t three[] = {KILL_0, 0x0f, 3, 0, 0x0e};
+    const uint8_t many[] = {HOLD_BOTH, 0x0f, 61, 0, 0x0f, 0xff, 0xff, 0x0e, 0x0f, 60, 0, 0x0f, 1, 0, 0x0f, 0, 0};
+    used();
+    CHECK(answers(none, sizeof none, (const uint8_t[]){0, 0, 0, 0, 0, 0, 0}, 7));
+    CHECK(answers(three, sizeof three, (const uint8_t[]){0, 0, 3, 0, 0, 0, 0, 0, 0}, 9));
+    /* The index that waits, and two new ones; the group of both kinds in front, in order. */
+    CHECK(row(1, 0, 1, 1, 6) && row(1, 1, 0, 2, 9) && row(1, 2, 2, 1, 9) && row(1, 3, 3, 1, 9));
+    CHECK(row(2, 0, 1, 1, 7) && row(2, 1, 0, 2, 8) && row(2, 2, 2, 1, 8) && row(2, 3, 3, 1, 8));
+    CHECK(yirbarn_column_number(words, NEEDED, 1, false, 0, 5) == YIRBARN_BEYOND);
+    CHECK(answers(many, sizeof many, (const uint8_t[]){0, 0, 12, 12, 0, 2, 0, 0, 0, 0, 60, 0, 12, 0, 0, 0}, 16));
+    CHECK(row(1, 63, 63, 1, 9) && row(2, 63, 63, 1, 8));
+    CHECK(all(words, 4 * NEEDED, sizeof words, 0xa5));
+}
+
+/* The words' roll and both columns, for a comparison. */
+static size_t whole(uint8_t *roll, size_t room, uint32_t *columns, size_t rows)
+{
+    for (size_t i = 0; i < 4; i++)
+        CHECK(yirbarn_column(words, NEEDED, 1 + i / 2, i % 2, 0, rows, columns + 2 * rows * i, 2 * rows).number == 0);
+    struct yirbarn_rolled rolled = yirbarn_roll(words, NEEDED, roll, room);
+    CHECK(rolled.number == YIRBARN_OK);
+    return rolled.written;
+}
+
+/* A tray leaves what as many NEWs leave, each with the same list. */
+static void test_tray_is_news(void)
+{
+    const uint8_t tray[] = {KILL_0, HOLD_BOTH, 0x0f, 4, 0};
+    const uint8_t news[] = {KILL_0, HOLD_BOTH, 3, HOLD_BOTH, 3, HOLD_BOTH, 3, HOLD_BOTH, 3};
+    static uint8_t rolls[2][512];
+    static uint32_t columns[2][4 * 2 * 5];
+    used();
+    CHECK(yirbarn_run(words, NEEDED, tray, sizeof tray, out, OUT).commands == 4);
+    size_t length = whole(rolls[0], sizeof *rolls, columns[0], 5);
+    used();
+    CHECK(yirbarn_run(words, NEEDED, news, sizeof news, out, OUT).commands == 13);
+    CHECK(whole(rolls[1], sizeof *rolls, columns[1], 5) == length);
+    CHECK(length == 4 + 5 * 27 && !memcmp(rolls[0], rolls[1], length));
+    CHECK(!memcmp(columns[0], columns[1], sizeof *columns));
+}
+
+/* Too few bytes of the count, and too little room, also where it would be refused. */
+static void test_tray_stops(void)
+{
+    static uint32_t before[NEEDED + GUARD];
+    const uint8_t one[] = {0x0f, 1, 0}, many[] = {0x0f, 65, 0};
+    used();
+    memcpy(before, words, sizeof words);
+    for (size_t length = 1; length < 3; length++)
+        CHECK(yirbarn_run(words, NEEDED, one, length, out, 0).stop == YIRBARN_CUT);
+    for (size_t room = 0; room < 3; room++) {
+        CHECK(yirbarn_run(words, NEEDED, one, sizeof one, out, room).stop == YIRBARN_NOROOM);
+        CHECK(yirbarn_run(words, NEEDED, many, sizeof many, out, room).stop == YIRBARN_NOROOM);
+    }
+    CHECK(!memcmp(words, before, sizeof words) && all(out, 0, OUT, 0x5a));
+    struct yirbarn_ran ran = yirbarn_run(words, NEEDED, many, sizeof many, out, 3);
+    CHECK(ran.stop == YIRBARN_OK && ran.written == 1 && out[0] == YIRBARN_FULL);
 }
 
 static void test_column(void)
@@ -264,6 +348,9 @@ int main(void)
     test_words_needed();
     test_start();
     test_run();
+    test_tray();
+    test_tray_is_news();
+    test_tray_stops();
     test_column();
     test_copy();
     test_roll();

@@ -2,7 +2,7 @@
  *
  * A store keeps up to 4,096 entities (an index and a version, 32 bits each) and their components: a value of eight
  * bytes for each of up to 128 kinds. It lives in the words alone: no allocation, no hidden state. A tape of commands
- * changes it (docs/COMMANDS.md has all fourteen: their bytes, answers, refusals and limits), and it is read by column
+ * changes it (docs/COMMANDS.md has all fifteen: their bytes, answers, refusals and limits), and it is read by column
  * and as a whole.
  *
  * What a caller owes, and nothing else: no pointer is null, also where its length is 0; each points to as many items as
@@ -22,9 +22,9 @@
 
 /* Of this header and what it declares (CHANGELOG.md). */
 #define YIRBARN_VERSION_MAJOR 0
-#define YIRBARN_VERSION_MINOR 4
+#define YIRBARN_VERSION_MINOR 5
 #define YIRBARN_VERSION_PATCH 0
-#define YIRBARN_VERSION "0.4.0"
+#define YIRBARN_VERSION "0.5.0"
 
 #ifdef __cplusplus
 extern "C" {
@@ -43,7 +43,7 @@ enum yirbarn_number {
     YIRBARN_AGAIN = 9,    /* the kind is in that list already */
     YIRBARN_HANDFUL = 10, /* the list has 16 kinds */
     YIRBARN_DEAD = 11,    /* the entity is not live */
-    YIRBARN_FULL = 12,    /* no index is left */
+    YIRBARN_FULL = 12,    /* no index is left, or for a tray too few */
     YIRBARN_WIDE = 13,    /* a group of more than 16 kinds: never, the list has 16 at most */
     YIRBARN_CLASH = 14,   /* the group shares kinds with more than one family, or with one that it is no chain with */
     YIRBARN_MANY = 15,    /* the draft has 64 groups */

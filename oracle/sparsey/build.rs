@@ -118,6 +118,14 @@ fn tuples() -> String {
     );
     arms(
         &mut code,
+        "pub fn extend(world: &mut World, kinds: &[u8], values: &[Value], count: usize) -> Option<usize> {\n",
+        &|list| {
+            let values = values(list);
+            format!("Some(world.extend(iter::repeat(({values})).take(count)).len())")
+        },
+    );
+    arms(
+        &mut code,
         "pub fn insert(world: &mut World, entity: Entity, kinds: &[u8], values: &[Value]) -> Option<bool> {\n",
         &|list| format!("Some(world.insert(entity, ({})))", values(list)),
     );

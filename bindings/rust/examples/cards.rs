@@ -31,7 +31,7 @@ const PRINTED: usize = LINE.len();
 /// A roll is 4 bytes, 9 for each card and 9 for each of its values.
 const ROLL_BYTES: usize = 4 + 9 * (CARDS + CARDS * LINE.len());
 
-/// The commands used here: byte, name, and the length of the accepted answer (docs/COMMANDS.md, "The fourteen
+/// The commands used here: byte, name, and the length of the accepted answer (docs/COMMANDS.md, "The fifteen
 /// commands").
 type Command = (u8, &'static str, usize);
 const REG: Command = (0x01, "REG", 2);

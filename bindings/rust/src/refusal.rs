@@ -64,7 +64,7 @@ impl Refusal {
             Refusal::Again => "the kind is in the list already",
             Refusal::Handful => "the list has 16 kinds",
             Refusal::Dead => "the entity is not live",
-            Refusal::Full => "no index is left",
+            Refusal::Full => "no index is left, or for a tray too few",
             Refusal::Wide => "a group of more than 16 kinds",
             Refusal::Clash => "the group shares kinds with more than one family, or with one that it is no chain with",
             Refusal::Many => "the draft has 64 groups",

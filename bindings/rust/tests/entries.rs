@@ -106,7 +106,7 @@ fn run() {
     assert_eq!(answers[42..], [0x5a; 22]);
 
     // A dead entity, the count of refusals, a byte that is no command.
-    let ran = store.run(&[0x07, 9, 0, 0, 0, 1, 0, 0, 0, 0x0e, 0x0f], &mut answers);
+    let ran = store.run(&[0x07, 9, 0, 0, 0, 1, 0, 0, 0, 0x0e, 0x10], &mut answers);
     assert_eq!(ran.stop, Some(Refusal::Unknown));
     assert_eq!((ran.commands, ran.read, ran.written), (2, 10, 6));
     assert_eq!(answers[..6], [Refusal::Dead as u8, 0, 1, 0, 0, 0]);
@@ -262,6 +262,88 @@ fn most_kinds_and_groups() {
     assert_eq!(last_answer(&mut store, &holding(&sixteen, &[0x0c]), 10), one);
     assert_eq!(last_answer(&mut store, &holding(&[112, 113], &[0x0c]), 10), one);
     assert!(Store::open(&mut words).is_ok());
+}
+
+/// All answers to a tape that is run to its end.
+fn answers(store: &mut Store, tape: &[u8]) -> Vec<u8> {
+    let mut answers = [0x5a; 512];
+    let ran = store.run(tape, &mut answers);
+    assert_eq!((ran.stop, ran.read), (None, tape.len()));
+    answers[..ran.written].to_vec()
+}
+
+/// TRAY of none, of some, of too many with the list kept, of all that are left, and of none in a full store.
+#[test]
+fn trays() {
+    let mut words = used();
+    let mut store = Store::open(&mut words).unwrap();
+    let full = Refusal::Full as u8;
+    let none = [holding(&[2, 1], &[0x0f, 0, 0]), holding(&[2, 1], &[])].concat();
+    assert_eq!(answers(&mut store, &none), [0; 7]);
+    // The index that waits, and a new one.
+    let two = [0x07, 0, 0, 0, 0, 1, 0, 0, 0, 0x0f, 2, 0];
+    assert_eq!(answers(&mut store, &two), [0, 0, 2, 0]);
+    let entities = [(1, 1), (0, 2), (2, 1)].map(|(index, version)| Entity { index, version });
+    for kind in [1, 2] {
+        assert!(store.entities(kind, 0, 3).unwrap().eq(entities));
+        assert_eq!(store.column(kind, Part::Entities, 0, 4), Err(Refusal::Beyond));
+    }
+    // 61 are left.
+    let many = holding(
+        &[1],
+        &[0x0f, 62, 0, 0x0f, 0xff, 0xff, 0x0f, 61, 0, 0x0f, 0, 0, 0x0f, 1, 0],
+    );
+    assert_eq!(answers(&mut store, &many), [0, full, full, 0, 61, 0, 0, 0, 0, full]);
+    assert!(store
+        .entities(1, 0, 64)
+        .unwrap()
+        .skip(3)
+        .map(|entity| entity.index)
+        .eq(3..64));
+    assert_eq!(store.column(2, Part::Entities, 0, 4), Err(Refusal::Beyond));
+    assert_eq!(answers(&mut store, &[0x0e]), [0, 3, 0, 0, 0]);
+    assert!(Store::open(&mut words).is_ok());
+}
+
+/// A tray leaves the roll and the columns that as many NEWs leave, each with the same list.
+#[test]
+fn a_tray_is_as_many_news() {
+    let seen = |tape: &[u8]| {
+        let mut words = used();
+        let mut store = Store::open(&mut words).unwrap();
+        answers(&mut store, &[0x07, 0, 0, 0, 0, 1, 0, 0, 0]);
+        answers(&mut store, tape);
+        let mut roll = vec![0; 1024];
+        let length = store.roll(&mut roll).unwrap();
+        roll.truncate(length);
+        let columns = [1, 2].map(|kind| store.rows(kind, 0, 6).unwrap().collect::<Vec<Row>>());
+        (roll, columns)
+    };
+    let tray = seen(&holding(&[2, 1], &[0x0f, 5, 0]));
+    assert_eq!(tray, seen(&holding(&[2, 1], &[0x03]).repeat(5)));
+    assert_eq!(tray.0[..4], [6, 0, 0, 0]);
+}
+
+/// The run stops before a tray whose count is cut short, or whose answer has no room, also where it would be refused.
+#[test]
+fn trays_that_are_not_done() {
+    let sound = used();
+    let mut words = sound.clone();
+    let mut store = Store::open(&mut words).unwrap();
+    for tape in [&[0x0f][..], &[0x0f, 1]] {
+        assert_eq!(store.run(tape, &mut []).stop, Some(Refusal::Cut));
+    }
+    for (count, room) in [1, 65]
+        .into_iter()
+        .flat_map(|count| (0..3).map(move |room| (count, room)))
+    {
+        let ran = store.run(&[0x0f, count, 0], &mut [0; 3][..room]);
+        assert_eq!((ran.stop, ran.read), (Some(Refusal::NoRoom), 0));
+    }
+    assert_eq!(store.words(), sound);
+    let mut out = [0x5a; 3];
+    assert_eq!(store.run(&[0x0f, 65, 0], &mut out).written, 1);
+    assert_eq!(out, [Refusal::Full as u8, 0x5a, 0x5a]);
 }
 
 /// The header and the crate have one version.

@@ -22,15 +22,30 @@ fn now() -> f64 {
     time.seconds as f64 + time.nanoseconds as f64 * 1e-9
 }
 
-/// Runs from its start.
-pub struct Clock(f64);
+/// Runs from its start, but for the times when it is stopped.
+pub struct Clock {
+    /// When it was started, moved on by the times that it was stopped.
+    start: f64,
+    stopped: f64,
+}
 
 impl Clock {
     pub fn start() -> Self {
-        Self(now())
+        Self {
+            start: now(),
+            stopped: 0.0,
+        }
+    }
+
+    pub fn stop(&mut self) {
+        self.stopped = now();
+    }
+
+    pub fn go_on(&mut self) {
+        self.start += now() - self.stopped;
     }
 
     pub fn seconds(&self) -> f64 {
-        now() - self.0
+        now() - self.start
     }
 }

@@ -16,29 +16,23 @@ use yirbarn::Store;
 /// Rounds of each work.
 const ROUNDS: usize = 41;
 
-/// Processor times of both for one work, round by round.
+/// Processor times for one work, round by round: ours, the Rust's, and ours by other commands, where there are such.
 #[derive(Default)]
 struct Times {
     ours: Vec<f64>,
     rust: Vec<f64>,
+    otherwise: Vec<f64>,
 }
 
 fn least(times: &[f64]) -> f64 {
     times.iter().copied().fold(f64::INFINITY, f64::min)
 }
 
-impl Times {
-    /// The middle one of the rounds' ratios.
-    fn ratio(&self) -> f64 {
-        let mut ratios: Vec<f64> = self
-            .ours
-            .iter()
-            .zip(&self.rust)
-            .map(|(ours, rust)| ours / rust)
-            .collect();
-        ratios.sort_by(f64::total_cmp);
-        ratios[ratios.len() / 2]
-    }
+/// The middle one of the rounds' ratios.
+fn ratio(ours: &[f64], others: &[f64]) -> f64 {
+    let mut ratios: Vec<f64> = ours.iter().zip(others).map(|(ours, other)| ours / other).collect();
+    ratios.sort_by(f64::total_cmp);
+    ratios[ratios.len() / 2]
 }
 
 fn run_ours(store: &mut Store, tape: &[u8], out: &mut [u8]) -> usize {
@@ -60,13 +54,18 @@ fn room(tape: &[u8]) -> usize {
 
 /// A side through the setup, and then timed through the runs, their answers one after the other; or, if there are none,
 /// through rolls. The answers' length.
-fn time_ours(work: &Work, words: &mut [u32], out: &mut [u8], times: &mut Vec<f64>) -> usize {
+fn time_ours(work: &Work, runs: &[Vec<u8>], words: &mut [u32], out: &mut [u8], times: &mut Vec<f64>) -> usize {
     let mut store = Store::start(words, work.n, work.k).unwrap();
     run_ours(&mut store, &work.setup, out);
-    let mut written = 0;
-    let clock = Clock::start();
-    for run in &work.runs {
+    let (mut written, mut between) = (0, work.between.iter());
+    let mut clock = Clock::start();
+    for run in runs {
         written += run_ours(&mut store, run, &mut out[written..]);
+        if let Some(between) = between.next() {
+            clock.stop();
+            run_ours(&mut store, between, &mut out[written..]);
+            clock.go_on();
+        }
     }
     for _ in 0..work.rolls() {
         written = store.roll(out).unwrap();
@@ -79,10 +78,15 @@ fn time_rust(work: &Work, out: &mut [u8], times: &mut Vec<f64>) -> usize {
     let mut rust = Oracle::new(Sets::Tuples);
     assert_eq!(rust.start(usize::MAX, work.n, work.k), 0);
     run_rust(&mut rust, &work.setup, out);
-    let mut written = 0;
-    let clock = Clock::start();
+    let (mut written, mut between) = (0, work.between.iter());
+    let mut clock = Clock::start();
     for run in &work.runs {
         written += run_rust(&mut rust, run, &mut out[written..]);
+        if let Some(between) = between.next() {
+            clock.stop();
+            run_rust(&mut rust, between, &mut out[written..]);
+            clock.go_on();
+        }
     }
     for _ in 0..work.rolls() {
         written = rust.roll(out).1;
@@ -91,24 +95,55 @@ fn time_rust(work: &Work, out: &mut [u8], times: &mut Vec<f64>) -> usize {
     written
 }
 
-/// Both, turn about.
+/// The room that the answers of a work take.
+fn work_room(work: &Work) -> usize {
+    let otherwise = work.otherwise.iter().flat_map(|otherwise| &otherwise.runs);
+    let tapes = work.runs.iter().chain(&work.between).chain(otherwise);
+    let tapes = tapes.map(|run| room(run)).sum();
+    room(&work.setup).max(tapes).max(9 * work.n * (work.k + 1) + 4)
+}
+
+/// All sides, turn about.
 fn measure(work: &Work) -> Times {
     let mut times = Times::default();
-    let mut words = vec![0; Store::words_needed(work.n, work.k).unwrap()];
-    let tapes = work.runs.iter().map(|run| room(run)).sum();
-    let length = room(&work.setup).max(tapes).max(9 * work.n * (work.k + 1) + 4);
-    let (mut ours, mut theirs) = (vec![0; length], vec![0; length]);
+    let needed = Store::words_needed(work.n, work.k).unwrap();
+    let (mut words, mut others) = (vec![0; needed], vec![0; needed]);
+    let length = work_room(work);
+    let (mut ours, mut theirs, mut again) = (vec![0; length], vec![0; length], vec![0; length]);
+    let sides = if work.otherwise.is_some() { 3 } else { 2 };
     for round in 0..ROUNDS {
         let (mut written, mut same) = (0, 0);
-        for turn in 0..2 {
-            match (round + turn) % 2 {
-                0 => written = time_ours(work, &mut words, &mut ours, &mut times.ours),
-                _ => same = time_rust(work, &mut theirs, &mut times.rust),
+        for turn in 0..sides {
+            match ((round + turn) % sides, &work.otherwise) {
+                (0, _) => written = time_ours(work, &work.runs, &mut words, &mut ours, &mut times.ours),
+                (1, _) => same = time_rust(work, &mut theirs, &mut times.rust),
+                (_, Some(otherwise)) => {
+                    time_ours(work, &otherwise.runs, &mut others, &mut again, &mut times.otherwise);
+                }
+                _ => unreachable!("two sides"),
             }
         }
         assert!(ours[..written] == theirs[..same], "{}: other answers", work.name);
+        assert!(
+            sides == 2 || are_same(&mut words, &mut others, work),
+            "{}: another store",
+            work.name
+        );
     }
     times
+}
+
+/// Whether two stores have the same roll, and the same columns in row order, those that have a row for each entity.
+fn are_same(one: &mut [u32], other: &mut [u32], work: &Work) -> bool {
+    let (one, other) = (Store::open(one).unwrap(), Store::open(other).unwrap());
+    let roll = |store: &Store| {
+        let mut out = vec![0; work_room(work)];
+        let length = store.roll(&mut out).unwrap();
+        out.truncate(length);
+        out
+    };
+    let column = |store: &Store, kind: usize| store.rows(kind as u8, 0, work.n).map(Iterator::collect::<Vec<_>>);
+    roll(&one) == roll(&other) && (0..work.k).all(|kind| column(&one, kind) == column(&other, kind))
 }
 
 fn main() {
@@ -125,19 +160,26 @@ fn main() {
             _ => ("ns", 1e9),
         };
         let each = |times: &[f64]| least(times) * scale / work.commands as f64;
-        println!(
-            "| {} | {} | {} | {} | {:.1} {unit} | {:.1} {unit} | {:.2} | {} |",
-            work.letter,
-            work.name,
-            work.n,
-            work.commands,
-            each(&times.ours),
-            each(&times.rust),
-            times.ratio(),
-            work.bound,
-        );
+        let line = |name: &str, others: &[f64], bound: &str| {
+            println!(
+                "| {} | {name} | {} | {} | {:.1} {unit} | {:.1} {unit} | {:.2} | {bound} |",
+                work.letter,
+                work.n,
+                work.commands,
+                each(&times.ours),
+                each(others),
+                ratio(&times.ours, others),
+            );
+        };
+        line(&work.name, &times.rust, work.bound);
+        if let Some(otherwise) = &work.otherwise {
+            line(otherwise.name, &times.otherwise, otherwise.bound);
+        }
     }
     if wanted("f") {
         soundness::show();
+    }
+    if wanted("i") {
+        soundness::show_emptied();
     }
 }

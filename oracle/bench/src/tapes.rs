@@ -12,8 +12,20 @@ pub struct Work {
     pub setup: Vec<u8>,
     /// One for each run; none where rolls are timed.
     pub runs: Vec<Vec<u8>>,
+    /// Done off the clock behind each run but the last; none for most works.
+    pub between: Vec<Vec<u8>>,
+    /// What the runs do, in other commands: timed on our side too.
+    pub otherwise: Option<Otherwise>,
     /// By which the time is divided.
     pub commands: usize,
+    pub bound: &'static str,
+}
+
+/// The same runs in other commands.
+pub struct Otherwise {
+    pub name: &'static str,
+    pub runs: Vec<Vec<u8>>,
+    /// What the runs' time is to reach, of these runs'.
     pub bound: &'static str,
 }
 
@@ -36,6 +48,7 @@ const DROP: u8 = 6;
 const KILL: u8 = 7;
 const GROUP: u8 = 9;
 const APPLY: u8 = 10;
+const TRAY: u8 = 15;
 
 /// Numbers that look random and are the same each time (xorshift).
 struct Rng(u64);
@@ -242,6 +255,65 @@ fn relayouts(n: usize, times: usize) -> Tapes {
     (setup, vec![tape])
 }
 
+/// How many entities a tray makes, and how often the store is filled in a round.
+const IN_TRAY: usize = 64;
+const FILLINGS: usize = 25;
+
+/// An empty store is filled by trays of three kinds, two of them a group, or by as many NEWs; between the runs all are
+/// destroyed, in an order by chance. The first run takes new indexes, the others those that wait.
+fn trays(n: usize) -> Work {
+    let mut setup = vec![];
+    registered(&mut setup, 16);
+    layout(&mut setup, &[&[0, 1]]);
+    let kinds = [0, 1, 2];
+    let mut work = Work {
+        letter: "i",
+        name: "trays of 64, three kinds".to_string(),
+        n,
+        k: 16,
+        setup,
+        runs: vec![],
+        between: vec![],
+        otherwise: None,
+        commands: n * FILLINGS,
+        bound: "1.0",
+    };
+    let mut news = vec![];
+    let mut rng = Rng(0x9e37_79b9_7f4a_7c15);
+    for filling in 0..FILLINGS {
+        let (mut by_trays, mut by_news) = (vec![], vec![]);
+        for tray in 0..n / IN_TRAY {
+            let value = (filling * n + tray) as u64;
+            with(&mut by_trays, &kinds, TRAY, None, value);
+            by_trays.extend((IN_TRAY as u16).to_le_bytes());
+            (0..IN_TRAY).for_each(|_| with(&mut by_news, &kinds, NEW, None, value));
+        }
+        work.runs.push(by_trays);
+        news.push(by_news);
+        work.between.push(all_destroyed(&mut rng, n, filling as u32 + 1));
+    }
+    work.between.pop();
+    work.otherwise = Some(Otherwise {
+        name: "the same by NEW",
+        runs: news,
+        bound: "0.8",
+    });
+    work
+}
+
+/// KILL of every index, each at this version.
+fn all_destroyed(rng: &mut Rng, n: usize, version: u32) -> Vec<u8> {
+    let mut indexes: Vec<u32> = (0..n as u32).collect();
+    for i in (1..n).rev() {
+        indexes.swap(i, rng.below(i + 1));
+    }
+    let mut tape = vec![];
+    for index in indexes {
+        with(&mut tape, &[], KILL, Some((index, version)), 0);
+    }
+    tape
+}
+
 pub fn works() -> Vec<Work> {
     let work = |letter, name: &str, n, (setup, runs): Tapes, commands, bound| Work {
         letter,
@@ -250,6 +322,8 @@ pub fn works() -> Vec<Work> {
         k: 16,
         setup,
         runs,
+        between: vec![],
+        otherwise: None,
         commands,
         bound,
     };
@@ -274,5 +348,6 @@ pub fn works() -> Vec<Work> {
     }
     works.push(work("h", "line mix, 10,000 in a run", 4096, line(10_000), 300_000, ""));
     works.push(work("h", "line mix, 1,000 in a run", 4096, line(1_000), 300_000, ""));
+    works.push(trays(4096));
     works
 }

@@ -5,7 +5,7 @@ use crate::past;
 use crate::reference::Reference;
 use crate::side::{Known, Seen, Side};
 use crate::tape::{self, Case, Chunk, Run, ROOMY};
-use sparsey::harness::{arranged, kinds_of, words_needed, Families, Oracle, Ran, Sets, JUDGEMENTS};
+use sparsey::harness::{arranged, kinds_of, words_needed, Families, Oracle, Ran, Sets, COMMANDS, JUDGEMENTS};
 use std::fmt::Write;
 
 /// What was compared.
@@ -57,7 +57,7 @@ impl Figures {
             .map(|i| format!("{i}: {}", self.stops[i]))
             .collect();
         writeln!(text, "runs by stop number: {}", stops.join(", ")).unwrap();
-        for byte in 1..15 {
+        for byte in 1..COMMANDS {
             let answers: Vec<String> = (0..16)
                 .filter(|&number| self.seen[byte][number] > 0)
                 .map(|number| format!("{number}: {}", self.seen[byte][number]))

@@ -5,6 +5,7 @@ use crate::drafts;
 use crate::past::{self, is_within_reach};
 use crate::rng::Rng;
 use crate::tape::{self, Case, Chunk, Run};
+use crate::trays;
 use sparsey::harness::{words_needed, Preset};
 
 /// A name and the cases under it.
@@ -116,6 +117,8 @@ pub fn limits(most: usize) -> Vec<Part> {
             "every list staged and excluded of 4 kinds, 6 layouts",
             staged_and_excluded(),
         ),
+        part("trays", trays::cases().filter(move |case| case.n <= most)),
+        part("trays at the last version", trays::at_the_last_version()),
         part("rooms", rooms()),
         part("versions run out", versions_run_out()),
     ]
@@ -630,9 +633,17 @@ fn rooms() -> impl Iterator<Item = Case> {
         (10, vec![tape::range()]),
         (1, vec![tape::empty()]),
         (5, vec![tape::tally()]),
+        (3, vec![tape::tray(0)]),
+        (3, vec![tape::tray(1)]),
+        (3, vec![tape::tray(2)]),
+        (3, vec![tape::tray(u16::MAX)]),
+        (5, vec![tape::tray(1), tape::tray(1)]),
+        (6, vec![tape::tray(1), tape::tray(0)]),
         (0, vec![vec![0]]),
-        (0, vec![vec![15]]),
+        (0, vec![vec![16]]),
         (0, vec![vec![2, 1, 0]]),
+        (0, vec![vec![15]]),
+        (0, vec![vec![15, 1]]),
         (0, vec![]),
     ];
     commands.into_iter().flat_map(|(needed, chunks)| {
@@ -748,7 +759,7 @@ pub fn exhaustive() -> Vec<Part> {
         ),
         part("all tapes of 0 to 2 bytes", short_tapes()),
         part(
-            "all tapes of 4 commands over 15",
+            "all tapes of 4 commands over 16",
             words_over(commands(), 4, vec![vec![tape::reg(0), tape::reg(1)]], 2, 2),
         ),
         part(
@@ -762,7 +773,7 @@ pub fn exhaustive() -> Vec<Part> {
             ),
         ),
         part(
-            "all lists of 4 steps over 17, two entities, 6 layouts",
+            "all lists of 4 steps over 18, two entities, 6 layouts",
             words_over(steps(), 4, two_entities(), 4, 4),
         ),
         part(
@@ -770,7 +781,7 @@ pub fn exhaustive() -> Vec<Part> {
             words_over(few_steps(), 5, layouts(), 3, 4),
         ),
         part(
-            "all lists of 3 relayouts and steps over 28, three entities",
+            "all lists of 3 relayouts and steps over 29, three entities",
             words_over(relayouts(), 3, three_entities(), 6, 4),
         ),
     ]
@@ -806,6 +817,7 @@ fn commands() -> Vec<Vec<Chunk>> {
         tape::bar(1),
         tape::range(),
         tape::empty(),
+        tape::tray(2),
     ]
     .into_iter()
     .map(|chunk| vec![chunk])
@@ -908,6 +920,7 @@ fn steps() -> Vec<Vec<Chunk>> {
         vec![tape::kill((0, 1))],
         vec![tape::kill((1, 1))],
         vec![tape::wipe()],
+        tape::with(&[2, 0, 1], tape::tray(2)),
         [
             tape::with(&[0, 1], tape::group()),
             tape::with(&[0, 1, 2], tape::group()),
@@ -956,6 +969,7 @@ fn relayouts() -> Vec<Vec<Chunk>> {
         vec![tape::kill((3, 1))],
         vec![tape::kill((0, 2))],
         vec![tape::wipe()],
+        tape::with(&[3, 0, 2, 1], tape::tray(2)),
         [tape::with(&[3, 1], tape::new()), tape::with(&[0, 1, 2], tape::new())].concat(),
     ]);
     steps

@@ -14,7 +14,7 @@ struct Profile {
     /// Kinds that the case registers, or tries to.
     kinds: Vec<u8>,
     /// How often each of `STEPS` comes.
-    weights: [usize; 12],
+    weights: [usize; 13],
     /// One command in so many is out of place; 0 for none.
     noise: usize,
     /// One run in so many is damaged; 0 for none.
@@ -32,12 +32,14 @@ struct Profile {
 }
 
 // The steps, in the order of the weights: create, put, take, drop, kill, wipe, relayout, range, register, empty,
-// tally, group without apply.
-const EVEN: [usize; 12] = [6, 8, 4, 4, 4, 1, 2, 4, 1, 1, 1, 1];
-const CHURN: [usize; 12] = [10, 4, 1, 1, 10, 0, 1, 1, 0, 0, 0, 0];
-const RELAYOUT: [usize; 12] = [6, 6, 2, 2, 2, 0, 8, 4, 1, 0, 0, 2];
-const REMOVE: [usize; 12] = [6, 10, 8, 8, 2, 1, 1, 2, 0, 0, 0, 0];
-const DRAFT: [usize; 12] = [2, 2, 0, 0, 1, 0, 3, 6, 3, 1, 1, 10];
+// tally, group without apply, tray.
+const EVEN: [usize; 13] = [6, 8, 4, 4, 4, 1, 2, 4, 1, 1, 1, 1, 3];
+const CHURN: [usize; 13] = [10, 4, 1, 1, 10, 0, 1, 1, 0, 0, 0, 0, 3];
+const RELAYOUT: [usize; 13] = [6, 6, 2, 2, 2, 0, 8, 4, 1, 0, 0, 2, 2];
+const REMOVE: [usize; 13] = [6, 10, 8, 8, 2, 1, 1, 2, 0, 0, 0, 0, 2];
+const DRAFT: [usize; 13] = [2, 2, 0, 0, 1, 0, 3, 6, 3, 1, 1, 10, 1];
+/// Trays of all sizes, and room made for them again.
+const TRAYS: [usize; 13] = [3, 3, 1, 2, 14, 0, 2, 1, 0, 0, 1, 0, 10];
 
 fn profile(rng: &mut Rng, beside: Beside) -> (Profile, usize, usize) {
     match beside {
@@ -59,7 +61,7 @@ fn past_reach(rng: &mut Rng) -> (Profile, usize, usize) {
     kinds.truncate(k);
     let profile = Profile {
         kinds,
-        weights: *rng.pick(&[EVEN, CHURN, RELAYOUT, REMOVE, DRAFT]),
+        weights: *rng.pick(&[EVEN, CHURN, RELAYOUT, REMOVE, DRAFT, TRAYS]),
         noise: *rng.pick(&[0, 0, 40]),
         damage: *rng.pick(&[0, 0, 0, 12]),
         tight: *rng.pick(&[0, 0, 0, 6]),
@@ -117,7 +119,7 @@ fn within_reach(rng: &mut Rng) -> (Profile, usize, usize) {
 
     let profile = Profile {
         kinds,
-        weights: *rng.pick(&[EVEN, EVEN, CHURN, RELAYOUT, REMOVE, DRAFT]),
+        weights: *rng.pick(&[EVEN, EVEN, CHURN, RELAYOUT, REMOVE, DRAFT, TRAYS]),
         noise: *rng.pick(&[0, 0, 40, 12, 5]),
         damage: *rng.pick(&[0, 0, 12, 4]),
         tight: *rng.pick(&[0, 0, 0, 6, 2]),
@@ -159,6 +161,8 @@ struct Steps<'a> {
     rng: &'a mut Rng,
     profile: &'a Profile,
     live: Vec<Id>,
+    /// How many entities can likely still be created.
+    free: usize,
     registered: Vec<u8>,
     groups: Vec<Vec<u8>>,
     /// The groups that the draft is likely to have.
@@ -179,6 +183,7 @@ impl<'a> Steps<'a> {
             rng,
             profile,
             live: known.live(),
+            free: known.free(),
             registered: known.registered(),
             groups,
             drafted,
@@ -238,7 +243,7 @@ impl<'a> Steps<'a> {
     fn hold(&mut self, kinds: &[u8]) {
         // A refused command leaves behind what was staged.
         let last = self.chunks.last().map_or(0, |chunk| chunk[0]);
-        let refused = matches!(last, 4..=6) && self.rng.once_in(3);
+        let refused = matches!(last, 4..=6 | 15) && self.rng.once_in(3);
         if refused || self.rng.once_in(6) {
             self.chunks.push(tape::empty());
         }
@@ -249,9 +254,11 @@ impl<'a> Steps<'a> {
         }
     }
 
-    fn hold_some(&mut self) {
+    /// The command, with some kinds staged.
+    fn holding(&mut self, command: Chunk) {
         let kinds = self.kinds();
         self.hold(&kinds);
+        self.chunks.push(command);
     }
 
     /// Now and then a command that is likely to be refused, or out of place.
@@ -261,7 +268,7 @@ impl<'a> Steps<'a> {
         }
         let any = *self.rng.pick(&[0, 1, 2, 5, 127, 128, 200, 255]);
         let (kind, id) = (self.kind(), self.id());
-        let chunk = match self.rng.below(14) {
+        let chunk = match self.rng.below(15) {
             0 => tape::reg(any),
             1 => tape::hold(any, 1),
             2 => tape::hold(kind, 2),
@@ -274,9 +281,44 @@ impl<'a> Steps<'a> {
             10 => tape::range(),
             11 => tape::tally(),
             12 => tape::new(),
+            13 => tape::tray(any.into()),
             _ => tape::apply(),
         };
         self.chunks.push(chunk);
+    }
+
+    /// How many entities a tray is to make: few, as many as there is room for or about that many, or far too many.
+    fn count(&mut self) -> u16 {
+        let free = self.free as u16;
+        match self.rng.below(16) {
+            0 => 0,
+            1 | 2 => 1,
+            3 => free.saturating_sub(1),
+            4 => free,
+            5 => free + 1,
+            6 => *self.rng.pick(&[256, 257, 256 + free, free << 8, 4096, 4097, u16::MAX]),
+            _ => self.rng.between(1, 4).min(self.free) as u16,
+        }
+    }
+
+    fn tray(&mut self) {
+        let count = self.count();
+        self.free = self.free.checked_sub(count.into()).unwrap_or(self.free);
+        self.holding(tape::tray(count));
+    }
+
+    fn create(&mut self) {
+        self.free = self.free.saturating_sub(1);
+        self.holding(tape::new());
+    }
+
+    fn kill(&mut self, id: Id) {
+        let before = self.live.len();
+        self.live.retain(|&live| live != id);
+        if id.1 < u32::MAX {
+            self.free += before - self.live.len();
+        }
+        self.chunks.push(tape::kill(id));
     }
 
     /// The groups of a layout, each after those inside it.
@@ -474,26 +516,11 @@ impl<'a> Steps<'a> {
         }
         let id = self.id();
         match step {
-            0 => {
-                self.hold_some();
-                self.chunks.push(tape::new());
-            }
-            1 => {
-                self.hold_some();
-                self.chunks.push(tape::put(id));
-            }
-            2 => {
-                self.hold_some();
-                self.chunks.push(tape::take(id));
-            }
-            3 => {
-                self.hold_some();
-                self.chunks.push(tape::drop(id));
-            }
-            4 => {
-                self.live.retain(|&live| live != id);
-                self.chunks.push(tape::kill(id));
-            }
+            0 => self.create(),
+            1 => self.holding(tape::put(id)),
+            2 => self.holding(tape::take(id)),
+            3 => self.holding(tape::drop(id)),
+            4 => self.kill(id),
             5 => self.chunks.push(tape::wipe()),
             6 => {
                 self.draft();
@@ -507,7 +534,8 @@ impl<'a> Steps<'a> {
             }
             9 => self.chunks.push(tape::empty()),
             10 => self.chunks.push(tape::tally()),
-            _ => self.group(),
+            11 => self.group(),
+            _ => self.tray(),
         }
         self.noise();
     }

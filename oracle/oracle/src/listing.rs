@@ -26,6 +26,7 @@ fn command(words: &[&str]) -> Option<Chunk> {
         (1 | 11, [kind]) => vec![byte, kind.parse().ok()?],
         (2, [kind, "=", value]) => tape::hold(kind.parse().ok()?, value.parse().ok()?),
         (4..=7, [index, "version", version]) => tape::with_id(byte, (index.parse().ok()?, version.parse().ok()?)),
+        (15, [count]) => tape::tray(count.parse().ok()?),
         (3 | 8..=10 | 12..=14, []) => vec![byte],
         _ => return None,
     };
@@ -62,6 +63,7 @@ fn meaning(byte: u8, answer: &[u8]) -> String {
         (12, 0) if told[0] == 0 => "none".to_string(),
         (12, 0) => format!("rows {} to {}", number(&told[1..5]), number(&told[5..])),
         (14, 0) => format!("{} refused", number(told)),
+        (15, 0) => format!("entities: {}", number(told)),
         (_, 0) => String::new(),
         (_, refusal) => format!("refused: {refusal}"),
     }

@@ -18,6 +18,7 @@ mod side;
 mod tape;
 #[cfg(test)]
 mod tests;
+mod trays;
 
 use compare::{shrink, Beside, Difference, Figures, Make, Pair};
 use fixed::Part;

@@ -3,7 +3,7 @@
 
 use crate::compare::Beside;
 use crate::fixed::{
-    self, chains_of, drafted, families_of, family_walks, grouped, in_orders, part, run_of, valued, Part,
+    self, chains_of, drafted, families_of, family_walks, grouped, high_entity, in_orders, part, run_of, valued, Part,
 };
 use crate::reference::Reference;
 use crate::rng::Rng;
@@ -85,6 +85,8 @@ pub fn parts() -> Vec<Part> {
         part("walks through position 63", walks()),
         part("drafts of 62 to 64 groups", drafts()),
         part("relayouts of 64 groups", relayouts()),
+        part("trays through 16 kinds", chain_trays()),
+        part("trays under 64 groups", group_trays()),
     ];
     parts.extend(fixed::past_limits());
     parts
@@ -95,7 +97,7 @@ pub fn few() -> Vec<Part> {
     let few = |whole: Part| {
         let every = match whole.name {
             "all chains through 16 kinds" => 1001,
-            "chains of few groups through 16 kinds" => 101,
+            "chains of few groups through 16 kinds" | "trays through 16 kinds" => 101,
             "16 staged, then a group" => 1,
             _ => 7,
         };
@@ -123,8 +125,12 @@ fn chain(sizes: &[u8], is_falling: bool) -> Vec<Chunk> {
 
 /// NEW with all sixteen kinds but one; with all of them where that is the seventeenth.
 fn lacking(kind: u8, index: u32) -> Vec<Chunk> {
-    let kinds: Vec<u8> = (0..MOST_KINDS).filter(|&held| held != kind).collect();
-    valued(&kinds, index, tape::new())
+    valued(&all_but(kind), index, tape::new())
+}
+
+/// All sixteen kinds but one; all of them where that is the seventeenth.
+fn all_but(kind: u8) -> Vec<u8> {
+    (0..MOST_KINDS).filter(|&held| held != kind).collect()
 }
 
 fn registered(count: u8) -> Vec<Chunk> {
@@ -169,10 +175,14 @@ fn all_chains() -> impl Iterator<Item = Case> {
     })
 }
 
-/// The chains of up to four groups, and the one with all sizes; entities that lack each kind in turn, before and behind.
+/// The chains of up to four groups, and the one with all sizes.
+fn short_chains() -> impl Iterator<Item = (u32, bool)> {
+    every_chain().filter(|&(set, _)| set.count_ones() < 4 || sizes(set).len() == 15)
+}
+
+/// Entities that lack each kind in turn, before these chains and behind.
 fn few_chains() -> impl Iterator<Item = Case> {
-    let few = |&(set, _): &(u32, bool)| set.count_ones() < 4 || sizes(set).len() == 15;
-    every_chain().filter(few).map(|(set, is_falling)| {
+    short_chains().map(|(set, is_falling)| {
         let count = u32::from(MOST_KINDS) + 1;
         // The kind that the entity of an index lacks.
         let lacks = move |index: u32| ((index * 7 + set) % count) as u8;
@@ -426,4 +436,77 @@ fn scattered(rng: &mut Rng, index: u32) -> Run {
     let puts = kinds.chunks(MOST_KINDS.into());
     let puts = puts.flat_map(|kinds| valued(kinds, index, tape::put((index, 1))));
     run_of([tape::new()].into_iter().chain(puts).collect())
+}
+
+/// Stands in the values of a tray's components in an entity's place.
+const TRAYED: u32 = 9_000;
+
+/// Trays of all sixteen kinds and of all but one, behind entities that lack one, under these chains; then with numbers that
+/// wait; the sixteenth kind goes and comes; then a tray too many, and one that fills the store.
+fn chain_trays() -> impl Iterator<Item = Case> {
+    short_chains().map(|(set, is_falling)| {
+        let place = (set % u32::from(MOST_KINDS)) as u8;
+        let tray = |kind: u8, count: u16| valued(&all_but(kind), TRAYED, tape::tray(count));
+        let kills = [6, 0, 3].map(|index| tape::kill((index, 1)));
+        let runs = [
+            [registered(MOST_KINDS), lacking(15, 0), lacking(MOST_KINDS, 1)].concat(),
+            chain(&sizes(set), is_falling),
+            tray(MOST_KINDS, 3),
+            tray(place, 2),
+            kills.to_vec(),
+            tray(MOST_KINDS, 4),
+            tape::with(&[15], tape::drop((4, 1))),
+            valued(&[15, place], 4, tape::put((4, 1))),
+            tray(15, 5),
+            tape::with(&[15, place], tape::take((1, 1))),
+            vec![tape::tray(4)],
+        ];
+        Case {
+            n: 12,
+            k: MOST_KINDS.into(),
+            preset: None,
+            runs: runs.into_iter().map(run_of).collect(),
+        }
+    })
+}
+
+/// Trays under each layout of 64 groups, in three orders: of the kinds of a family, the last, the first and a wide one, and
+/// of kinds of many families; then again with numbers that wait.
+fn group_trays() -> impl Iterator<Item = Case> {
+    layouts().into_iter().flat_map(|layout| {
+        let orders = in_orders(&layout.groups);
+        let orders = [layout.groups.clone(), orders[0].clone(), orders[4].clone()];
+        orders.map(|groups| group_tray_case(&layout.in_order(groups)))
+    })
+}
+
+fn group_tray_case(layout: &Layout) -> Case {
+    let families = &layout.families;
+    let wide = families.iter().max_by_key(|family| family.len()).unwrap();
+    // Pairs, or as many kinds, of families from the first to the last.
+    let spread = families.iter().step_by(families.len().div_ceil(8));
+    let mut spread: Vec<u8> = spread.flat_map(|family| family[..2].to_vec()).collect();
+    spread.reverse();
+    let lists = [&families[families.len() - 1], &spread, wide, &families[0]];
+    let trays = |count: u16| {
+        let tray = move |list: &&Vec<u8>| run_of(valued(list, TRAYED, tape::tray(count)));
+        lists.iter().map(tray).collect::<Vec<Run>>()
+    };
+    let mut runs = vec![
+        run_of(registered(ALL_KINDS)),
+        high_entity(families, 0),
+        run_of(layout.chunks()),
+        high_entity(families, 1),
+    ];
+    runs.extend(trays(2));
+    runs.push(run_of([9, 0, 4, 2].map(|index| tape::kill((index, 1))).to_vec()));
+    runs.push(run_of(tape::with(&wide[wide.len() - 1..], tape::drop((6, 1)))));
+    runs.extend(trays(3));
+    runs.extend(trays(1));
+    Case {
+        n: 20,
+        k: ALL_KINDS.into(),
+        preset: None,
+        runs,
+    }
 }

@@ -107,6 +107,27 @@ faults! {
     RingFifteen: "RANGE finds nothing where the excluded ring ends at the sixteenth kind",
     KindsBeforeKnown: "KINDS is answered for a known kind too",
     FullByLive: "FULL goes by the entities live",
+    TrayUngrouped: "TRAY groups none of its entities",
+    TrayFirstGrouped: "TRAY groups its first entity only",
+    TrayFirstPassedOver: "TRAY groups all its entities but the first",
+    TrayLastFirst: "TRAY groups its last entity first",
+    TrayLastKind: "TRAY walks the groups of the last staged kind only",
+    TrayNewFirst: "TRAY takes new indexes before those that wait",
+    TrayValuesOnce: "TRAY gives the staged values to its first entity only",
+    TrayRetiredFree: "TRAY takes retired numbers for free ones",
+    TrayWaitingNotFree: "TRAY does not count the numbers that wait as free",
+    TrayExactRefused: "TRAY is refused where it would fill the store exactly",
+    TrayPartly: "a refused TRAY makes as many entities as there is room for",
+    TrayTooManyAccepted: "TRAY makes as many entities as there is room for, and is never refused",
+    TrayRefusedEmpties: "a refused TRAY empties the staged components",
+    TrayKeepsStaged: "TRAY keeps the staged components",
+    TrayNoneKeepsStaged: "TRAY of none keeps the staged components",
+    TrayNoneRefused: "TRAY of none is refused in a full store",
+    TrayEmptiesExcluded: "TRAY empties the excluded kinds",
+    TrayHighestFirst: "TRAY reads its count highest byte first",
+    TrayOneByte: "TRAY goes by the lower byte of its count",
+    TrayTellsLive: "TRAY answers with the number of entities live",
+    TrayTellsNothing: "TRAY answers by one byte",
     RefusalCountWraps: "the refusal count starts over after 4,294,967,295",
     RefusalCountHasStops: "the refusal count has stops too",
     RollByLiveList: "the roll follows the live list",
@@ -307,6 +328,10 @@ impl Known for Reference {
         Some(self.store.as_ref()?.columns.get(&kind)?.len())
     }
 
+    fn free(&self) -> usize {
+        self.store.as_ref().map_or(0, Store::free)
+    }
+
     fn seen(&self) -> Seen {
         self.store.as_ref().map_or(Seen::default(), |store| store.seen)
     }
@@ -318,6 +343,7 @@ fn width(byte: u8) -> usize {
         0x01 | 0x0b => 1,
         0x02 => 9,
         0x04 | 0x05 | 0x06 | 0x07 => 8,
+        0x0f => 2,
         _ => 0,
     }
 }
@@ -363,7 +389,7 @@ impl Store {
 
     /// 4, 5 or 6 where the run stops before the next command, else 0.
     fn stop(&self, rest: &[u8], free: usize) -> u32 {
-        if rest[0] < 0x01 || rest[0] > 0x0e {
+        if rest[0] < 0x01 || rest[0] > 0x0f {
             return match self.has(Fault::CutBeforeUnknown) && rest.len() == 1 {
                 true => 5,
                 false => 4,
@@ -390,6 +416,7 @@ impl Store {
             0x09 => 1,
             0x0c => 9,
             0x0e => 4,
+            0x0f => 2,
             _ => 0,
         }
     }
@@ -442,7 +469,8 @@ impl Store {
             0x0b => self.exclude(operands[0]),
             0x0c => self.range(),
             0x0d => self.empty(),
-            _ => Ok(self.refusals.to_le_bytes().to_vec()),
+            0x0e => Ok(self.refusals.to_le_bytes().to_vec()),
+            _ => self.tray(operands),
         }
     }
 
@@ -525,17 +553,153 @@ impl Store {
         if self.recycled.is_empty() && full {
             return Err(12);
         }
+        let entity = self.issue();
+        self.insert(entity);
+        Ok([entity.0.to_le_bytes(), entity.1.to_le_bytes()].concat())
+    }
+
+    /// The longest waiting number, else the next index at version 1, at the end of the live list.
+    fn issue(&mut self) -> Id {
         let longest = match self.has(Fault::LastInFirstOut) {
             true => self.recycled.pop_back(),
             false => self.recycled.pop_front(),
         };
-        let entity = longest.unwrap_or_else(|| {
-            self.issued += 1;
-            (self.issued as u32 - 1, 1)
-        });
+        let entity = longest.unwrap_or_else(|| self.next_index());
         self.live.push(entity);
-        self.insert(entity);
-        Ok([entity.0.to_le_bytes(), entity.1.to_le_bytes()].concat())
+        entity
+    }
+
+    fn next_index(&mut self) -> Id {
+        self.issued += 1;
+        (self.issued as u32 - 1, 1)
+    }
+
+    /// The numbers waiting and those not yet issued.
+    fn free(&self) -> usize {
+        self.recycled.len() + self.n.saturating_sub(self.issued)
+    }
+
+    /// As many NEWs, each with the same list staged; none of them where there are too few numbers.
+    fn tray(&mut self, operands: &[u8]) -> Answer {
+        let count = self.tray_count(operands);
+        let free = self.tray_free();
+        if free < count && !self.has(Fault::TrayTooManyAccepted) || self.is_wrongly_full(count, free) {
+            return self.refused_tray(free);
+        }
+        let keeps = self.has(Fault::TrayKeepsStaged) || count == 0 && self.has(Fault::TrayNoneKeepsStaged);
+        let staged = self.staged.clone();
+        // Fewer only where a fault lets too many pass.
+        let made = count.min(free);
+        match self.groups_tray_wrongly() {
+            false => self.news(made, &staged),
+            true => self.extend(made, &staged),
+        }
+        self.staged = if keeps { staged } else { vec![] };
+        if self.has(Fault::TrayEmptiesExcluded) {
+            self.excluded.clear();
+        }
+        Ok(self.tray_answer(count))
+    }
+
+    fn tray_count(&self, operands: &[u8]) -> usize {
+        let count = match self.fault {
+            Some(Fault::TrayHighestFirst) => number(&[operands[1], operands[0]]),
+            Some(Fault::TrayOneByte) => number(&operands[..1]),
+            _ => number(operands),
+        };
+        count as usize
+    }
+
+    fn tray_free(&self) -> usize {
+        match self.fault {
+            Some(Fault::TrayRetiredFree) => self.n.saturating_sub(self.live.len()),
+            Some(Fault::TrayWaitingNotFree) => self.free() - self.recycled.len(),
+            _ => self.free(),
+        }
+    }
+
+    fn is_wrongly_full(&self, count: usize, free: usize) -> bool {
+        match self.fault {
+            Some(Fault::TrayExactRefused) => count > 0 && count == free,
+            Some(Fault::TrayNoneRefused) => count == 0 && free == 0,
+            _ => false,
+        }
+    }
+
+    fn refused_tray(&mut self, free: usize) -> Answer {
+        if self.has(Fault::TrayPartly) {
+            let staged = self.staged.clone();
+            self.news(free, &staged);
+            self.staged = staged;
+        }
+        if self.has(Fault::TrayRefusedEmpties) {
+            self.staged.clear();
+        }
+        Err(12)
+    }
+
+    fn tray_answer(&self, count: usize) -> Vec<u8> {
+        match self.fault {
+            Some(Fault::TrayTellsLive) => (self.live.len() as u16).to_le_bytes().to_vec(),
+            Some(Fault::TrayTellsNothing) => vec![],
+            _ => (count as u16).to_le_bytes().to_vec(),
+        }
+    }
+
+    /// NEW so many times, each time with these components.
+    fn news(&mut self, count: usize, staged: &[(u8, u64)]) {
+        for i in 0..count {
+            self.staged = staged.to_vec();
+            if i > 0 && self.has(Fault::TrayValuesOnce) {
+                self.staged.iter_mut().for_each(|held| held.1 = 0);
+            }
+            let entity = match self.has(Fault::TrayNewFirst) && self.issued < self.n {
+                true => self.new_index(),
+                false => self.issue(),
+            };
+            self.insert(entity);
+        }
+    }
+
+    fn new_index(&mut self) -> Id {
+        let entity = self.next_index();
+        self.live.push(entity);
+        entity
+    }
+
+    fn groups_tray_wrongly(&self) -> bool {
+        matches!(
+            self.fault,
+            Some(
+                Fault::TrayUngrouped
+                    | Fault::TrayFirstGrouped
+                    | Fault::TrayFirstPassedOver
+                    | Fault::TrayLastFirst
+                    | Fault::TrayLastKind
+            )
+        )
+    }
+
+    /// All insertions first, and then grouping that has a fault.
+    fn extend(&mut self, count: usize, staged: &[(u8, u64)]) {
+        let mut made = vec![];
+        for _ in 0..count {
+            let entity = self.issue();
+            self.insert_rows(entity, staged);
+            made.push(entity);
+        }
+        let mut touching = staged;
+        match self.fault {
+            Some(Fault::TrayUngrouped) => made.clear(),
+            Some(Fault::TrayFirstGrouped) => made.truncate(1),
+            Some(Fault::TrayFirstPassedOver) if count > 0 => made = made.split_off(1),
+            Some(Fault::TrayLastFirst) => made.reverse(),
+            Some(Fault::TrayLastKind) => touching = &staged[staged.len().saturating_sub(1)..],
+            _ => {}
+        }
+        for entity in made {
+            self.enter_touched(entity, touching);
+        }
     }
 
     fn put(&mut self, entity: Id) -> Answer {
@@ -549,7 +713,12 @@ impl Store {
     /// All parts go in, then the touched families' groups are walked upward.
     fn insert(&mut self, entity: Id) {
         let staged = std::mem::take(&mut self.staged);
-        for &(kind, value) in &staged {
+        self.insert_rows(entity, &staged);
+        self.enter_touched(entity, &staged);
+    }
+
+    fn insert_rows(&mut self, entity: Id, staged: &[(u8, u64)]) {
+        for &(kind, value) in staged {
             let held = self.place(kind, entity);
             let (appends, keeps) = (self.has(Fault::ReplaceAppends), self.has(Fault::ReplaceKeepsValue));
             let rows = self.columns.get_mut(&kind).unwrap();
@@ -563,6 +732,9 @@ impl Store {
                 None => rows.push(Row { entity, value }),
             }
         }
+    }
+
+    fn enter_touched(&mut self, entity: Id, staged: &[(u8, u64)]) {
         for family in 0..self.layout.len() {
             let touches = |&(kind, _): &(u8, u64)| {
                 self.layout[family].own_group(kind).is_some()

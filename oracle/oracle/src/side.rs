@@ -1,6 +1,6 @@
 //! The entries of document 01, as either side of the comparison offers them.
 
-use sparsey::harness::{Families, Id, Oracle, Preset, Ran, JUDGEMENTS};
+use sparsey::harness::{Families, Id, Oracle, Preset, Ran, COMMANDS, JUDGEMENTS};
 
 /// One side of the comparison: a store, lent or of its own, and the entries on it.
 pub trait Side {
@@ -36,7 +36,7 @@ pub trait Side {
 }
 
 /// How often each command byte was answered by each number.
-pub type Seen = [[u64; 16]; 15];
+pub type Seen = [[u64; 16]; COMMANDS];
 
 /// A side that others are held to.
 pub trait Known: Side {
@@ -45,6 +45,9 @@ pub trait Known: Side {
 
     /// The length of a registered kind's column.
     fn length(&self, kind: u8) -> Option<usize>;
+
+    /// How many entities can still be created.
+    fn free(&self) -> usize;
 
     fn seen(&self) -> Seen;
 
@@ -61,6 +64,10 @@ impl Known for Oracle {
 
     fn length(&self, kind: u8) -> Option<usize> {
         Oracle::length(self, kind)
+    }
+
+    fn free(&self) -> usize {
+        Oracle::free(self)
     }
 
     fn seen(&self) -> Seen {

@@ -1,14 +1,15 @@
 //! Tapes as lists of commands, to be built, read by people and cut down.
 
-use sparsey::harness::{Id, Preset};
+use sparsey::harness::{Id, Preset, COMMANDS};
 use std::fmt::Write;
 
-pub const NAMES: [&str; 15] = [
-    "", "REG", "HOLD", "NEW", "PUT", "TAKE", "DROP", "KILL", "WIPE", "GROUP", "APPLY", "BAR", "RANGE", "EMPTY", "TALLY",
+pub const NAMES: [&str; COMMANDS] = [
+    "", "REG", "HOLD", "NEW", "PUT", "TAKE", "DROP", "KILL", "WIPE", "GROUP", "APPLY", "BAR", "RANGE", "EMPTY",
+    "TALLY", "TRAY",
 ];
 
 /// Operand bytes by command byte.
-pub const OPERANDS: [usize; 15] = [0, 1, 9, 0, 8, 8, 8, 8, 0, 0, 0, 1, 0, 0, 0];
+pub const OPERANDS: [usize; COMMANDS] = [0, 1, 9, 0, 8, 8, 8, 8, 0, 0, 0, 1, 0, 0, 0, 2];
 
 /// A command with its operands, or damaged bytes.
 pub type Chunk = Vec<u8>;
@@ -71,6 +72,10 @@ pub fn empty() -> Chunk {
 
 pub fn tally() -> Chunk {
     vec![14]
+}
+
+pub fn tray(count: u16) -> Chunk {
+    [vec![15], count.to_le_bytes().to_vec()].concat()
 }
 
 /// HOLD for each kind, value 0.
@@ -160,7 +165,7 @@ pub fn disassemble(tape: &[u8]) -> Vec<String> {
     let mut at = 0;
     while at < tape.len() {
         let byte = usize::from(tape[at]);
-        let Some(operands) = (1..15)
+        let Some(operands) = (1..COMMANDS)
             .contains(&byte)
             .then(|| tape.get(at + 1..at + 1 + OPERANDS[byte]))
             .flatten()
@@ -177,6 +182,7 @@ pub fn disassemble(tape: &[u8]) -> Vec<String> {
                 u64::from_le_bytes(operands[1..].try_into().unwrap())
             ),
             4..=7 => format!("{} {} version {}", NAMES[byte], word(0), word(4)),
+            15 => format!("TRAY {}", u16::from_le_bytes([operands[0], operands[1]])),
             _ => NAMES[byte].to_string(),
         });
         at += 1 + operands.len();

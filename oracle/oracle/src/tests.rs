@@ -1,16 +1,18 @@
 //! The harness held to document 01's own examples and to the library's own ways, and the tools to themselves.
 
 use crate::compare::{compare, shrink, Beside, Look, Make, Pair};
+use crate::demand;
 use crate::drafts::{self, Ours, Sorted, Theirs};
 use crate::fixed;
 use crate::generate;
 use crate::past;
 use crate::record;
 use crate::reference::{Fault, Reference};
+use crate::rng::Rng;
 use crate::side::Side;
 use crate::tape::{self, Case, Run};
 use sparsey::component::GroupLayout;
-use sparsey::harness::{add_group, families_of, is_within_reach, words_needed, Oracle, Preset, Sets};
+use sparsey::harness::{add_group, families_of, is_within_reach, words_needed, Id, Oracle, Preset, Sets};
 use std::panic::{catch_unwind, AssertUnwindSafe};
 
 const TUPLES: Beside = Beside::Rust(Sets::Tuples);
@@ -179,6 +181,10 @@ fn the_definition_judges_alone() {
         Fault::WipeOneShort,
         Fault::RangeFifteen,
         Fault::RingFifteen,
+        Fault::TrayUngrouped,
+        Fault::TrayFirstGrouped,
+        Fault::TrayFirstPassedOver,
+        Fault::TrayLastKind,
     ] {
         let mut cases = past::few().into_iter().flat_map(|part| part.cases);
         assert!(cases.any(|case| by_definition(&case, fault).is_err()), "{fault:?}");
@@ -261,6 +267,86 @@ fn run_all(side: &mut dyn Side, case: &Case) {
     for run in &case.runs {
         side.run(&run.tape(), &mut vec![0; run.room]);
     }
+}
+
+/// TRAY's answers: an exact fill, one too many with the list kept, none in a full store, and numbers that wait.
+#[test]
+fn answers_of_trays() {
+    let id = |index: u8, version: u8| [vec![0, index, 0, 0, 0, version], vec![0; 3]].concat();
+    let expected = [
+        (
+            vec![tape::reg(1), tape::tray(0), tape::tray(65535)],
+            vec![0, 1, 0, 0, 0, 12],
+        ),
+        (tape::with(&[1], tape::tray(3)), vec![0, 0, 3, 0]),
+        (tape::with(&[1], tape::tray(2)), vec![0, 12]),
+        (
+            vec![tape::hold(1, 0), tape::tray(1), tape::tray(1)],
+            vec![9, 0, 1, 0, 12],
+        ),
+        (
+            vec![tape::hold(1, 0), tape::tray(0), tape::hold(1, 0)],
+            vec![0, 0, 0, 0, 0],
+        ),
+        (
+            vec![tape::kill((2, 1)), tape::kill((0, 1)), tape::tray(3)],
+            vec![0, 0, 12],
+        ),
+        (vec![tape::tray(1), tape::new()], [vec![0, 1, 0], id(0, 2)].concat()),
+        (vec![tape::tally(), tape::kill((2, 2))], vec![0, 5, 0, 0, 0, 0]),
+        (tape::with(&[1], tape::range()), vec![0, 0, 1, 0, 0, 0, 0, 2, 0, 0, 0]),
+    ];
+    let (chunks, bytes): (Vec<_>, Vec<_>) = expected.into_iter().unzip();
+    let case = Case {
+        n: 4,
+        k: 1,
+        preset: None,
+        runs: chunks.into_iter().map(Run::new).collect(),
+    };
+    for mut side in sides() {
+        assert_eq!(answers(&mut *side, &case), bytes, "{}", side.name());
+    }
+}
+
+/// Everything that can be seen of a store: live list, columns in row order, and the ranges of all groups.
+fn seen(rust: &mut Oracle) -> (Vec<Id>, Vec<Option<(Vec<Id>, Vec<u64>)>>, Vec<u8>) {
+    let [_, layout] = rust.families();
+    let mut out = vec![0; 1 << 16];
+    let ran = rust.run(&demand::run(&demand::rings(&layout)).tape(), &mut out);
+    assert_eq!(ran.stop, 0);
+    out.truncate(ran.written);
+    let columns = rust.registered().into_iter().map(|kind| rust.column(kind));
+    (rust.live(), columns.collect(), out)
+}
+
+/// 02's sentence of the Rust alone: its `extend` leaves what as many calls of `create` leave, with the same components.
+#[test]
+fn extend_is_as_many_creates() {
+    let mut made = 0;
+    for seed in 0..800 {
+        let Ok((case, _)) = generate::random_case(seed, STAGED, &plain) else {
+            panic!()
+        };
+        let rng = &mut Rng::new(seed);
+        let mut stores = [Sets::Tuples, Sets::Staged, Sets::Tuples].map(Oracle::new);
+        stores.iter_mut().for_each(|rust| run_all(rust, &case));
+        let count = rng.below(9).min(stores[0].free());
+        let mut list = stores[0].registered();
+        rng.shuffle(&mut list);
+        list.truncate(rng.below(17));
+        let staged = fixed::valued(&list, 7, tape::tray(count as u16)).concat();
+        let tray = [tape::empty(), staged].concat();
+        let new = fixed::valued(&list, 7, tape::new()).concat();
+        let news = [tape::empty(), new.repeat(count)].concat();
+        let [first, second, third] = &mut stores;
+        for (rust, tape) in [(&mut *first, &tray), (&mut *second, &tray), (&mut *third, &news)] {
+            assert_eq!(rust.run(tape, &mut [0; 1024]).stop, 0);
+        }
+        let [one, other, plain] = stores.each_mut().map(seen);
+        assert!(one == plain && other == plain, "seed {seed}, {count} with {list:?}");
+        made += count;
+    }
+    assert!(made > 800, "few entities were made");
 }
 
 /// RANGE by the harness finds what the library's own query finds, for every list staged and excluded of four kinds.
@@ -358,8 +444,10 @@ fn recorded_answers_replay() {
     let file = record::write(3, 60_000);
     let whole = record::replay(&file, &plain);
     assert!(whole.cases > 30 && whole.agree == whole.cases);
-    let faulty = record::replay(&file, &|| Box::new(Reference::with(Some(Fault::SwapNewKindsOnly))));
-    assert!(faulty.agree < whole.cases);
+    for fault in [Fault::SwapNewKindsOnly, Fault::TrayLastFirst, Fault::TrayExactRefused] {
+        let faulty = record::replay(&file, &|| Box::new(Reference::with(Some(fault))));
+        assert!(faulty.agree < whole.cases, "{fault:?}");
+    }
     // Of the bytes of answers, none may be other.
     let mut damaged = file.clone();
     let at = damaged.len() - 1;

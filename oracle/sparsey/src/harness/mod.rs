@@ -14,6 +14,7 @@ use self::staged::{with_kinds, Staged};
 use crate::component::{ComponentMetadata, ComponentSet, GroupLayout, QueryGroupInfo, ViewGroupInfo};
 use crate::entity::{Entity, Version};
 use crate::World;
+use core::iter;
 use core::num::NonZeroU32;
 
 /// What *run* answers.
@@ -37,7 +38,10 @@ pub enum Sets {
     Staged,
 }
 
-const OPERANDS: [usize; 15] = [0, 1, 9, 0, 8, 8, 8, 8, 0, 0, 0, 1, 0, 0, 0];
+/// Operand bytes by command byte.
+const OPERANDS: [usize; COMMANDS] = [0, 1, 9, 0, 8, 8, 8, 8, 0, 0, 0, 1, 0, 0, 0, 2];
+/// The command bytes, with the 0 that is none.
+pub const COMMANDS: usize = 16;
 const MOST_STAGED: usize = 16;
 const MOST_GROUPS: usize = 64;
 
@@ -94,7 +98,7 @@ pub struct Oracle {
     store: Option<Store>,
     sets: Sets,
     /// How often each command byte was answered by each number, for the figures.
-    pub seen: [[u64; 16]; 15],
+    pub seen: [[u64; 16]; COMMANDS],
 }
 
 impl Oracle {
@@ -103,7 +107,7 @@ impl Oracle {
         Self {
             store: None,
             sets,
-            seen: [[0; 16]; 15],
+            seen: [[0; 16]; COMMANDS],
         }
     }
 
@@ -152,7 +156,7 @@ impl Oracle {
 
         let mut ran = Ran::default();
         while let Some(&byte) = tape.get(ran.read) {
-            if !(1..=14).contains(&byte) {
+            if !(1..COMMANDS).contains(&usize::from(byte)) {
                 ran.stop = 4;
                 break;
             }
@@ -198,6 +202,11 @@ impl Oracle {
             None => (6, 0),
             Some(length) => (0, length),
         }
+    }
+
+    /// How many entities can still be created.
+    pub fn free(&self) -> usize {
+        self.store.as_ref().map_or(0, Store::free)
     }
 
     /// The live entities in the order of the library's list.
@@ -269,6 +278,7 @@ impl Store {
             5 => 1 + 9 * self.staged.len(),
             12 => 10,
             14 => 5,
+            15 => 3,
             _ => 1,
         }
     }
@@ -304,6 +314,7 @@ impl Store {
                 self.excluded.clear();
             }
             14 => self.tell(self.refusals),
+            15 => self.extend(u16::from_le_bytes([operands[0], operands[1]]), sets)?,
             _ => unreachable!("refused before"),
         }
         Ok(())
@@ -379,8 +390,18 @@ impl Store {
         Staged(self.staged.iter().copied().zip(self.values.iter().copied()).collect())
     }
 
+    /// How many numbers wait.
+    fn recycled(&self) -> usize {
+        self.issued - self.retired - self.world.entities().len()
+    }
+
+    /// How many entities can still be created: the numbers that wait, and those not yet issued.
+    fn free(&self) -> usize {
+        self.recycled() + self.n - self.issued
+    }
+
     fn create(&mut self, sets: Sets) -> Result<(), u8> {
-        let recycled = self.issued - self.retired - self.world.entities().len();
+        let recycled = self.recycled();
         if recycled == 0 && self.issued == self.n {
             return Err(12);
         }
@@ -405,6 +426,43 @@ impl Store {
         self.tell(entity.index);
         self.tell(entity.version.0.get());
         Ok(())
+    }
+
+    /// TRAY: the library's `extend` with what is staged, so many times.
+    fn extend(&mut self, count: u16, sets: Sets) -> Result<(), u8> {
+        let told = count.to_le_bytes();
+        let count = usize::from(count);
+        if self.free() < count {
+            return Err(12);
+        }
+        let (live, recycled) = (self.world.entities().len(), self.recycled().min(count));
+        let by_tuple = match sets {
+            Sets::Tuples if self.staged.is_empty() => Some(self.world.extend(iter::repeat(()).take(count)).len()),
+            Sets::Tuples => tuples::extend(&mut self.world, &self.staged, &self.values, count),
+            Sets::Staged => None,
+        };
+        let made = by_tuple.unwrap_or_else(|| {
+            let staged = self.as_staged();
+            with_kinds(&self.staged, || {
+                self.world.extend(iter::repeat(staged).take(count)).len()
+            })
+        });
+        assert_eq!(made, count, "extend gives other entities");
+        debug_assert!(self.follow(live, recycled), "extend takes other numbers");
+        self.issued += count - recycled;
+        self.clear_staged();
+        self.answer.extend(told);
+        Ok(())
+    }
+
+    /// Whether the entities from a place of the live list on have numbers that waited, so many, and then the next indexes.
+    fn follow(&self, live: usize, recycled: usize) -> bool {
+        let (waited, new) = self.world.entities()[live..].split_at(recycled);
+        waited.iter().all(|entity| entity.sparse() < self.issued)
+            && new
+                .iter()
+                .zip(self.issued..)
+                .all(|(entity, next)| entity.sparse() == next)
     }
 
     fn put(&mut self, operands: &[u8], sets: Sets) -> Result<(), u8> {

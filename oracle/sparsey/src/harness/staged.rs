@@ -8,18 +8,19 @@ use crate::World;
 use core::cell::RefCell;
 
 /// Components by kind, at most one of each.
+#[derive(Clone)]
 pub(super) struct Staged(pub Vec<(u8, Value)>);
 
 thread_local! {
-    /// The kinds that `remove` and `delete` take, which for a tuple are part of its type.
-    static REMOVED: RefCell<Vec<u8>> = const { RefCell::new(Vec::new()) };
+    /// The kinds of `extend`, `remove` and `delete`, which for a tuple are part of its type.
+    static KINDS: RefCell<Vec<u8>> = const { RefCell::new(Vec::new()) };
 }
 
-/// Calls `f` with `kinds` as those that `Staged::remove` and `Staged::delete` take.
+/// Calls `f` with `kinds` as those of `Staged::extend`, `Staged::remove` and `Staged::delete`.
 pub(super) fn with_kinds<R>(kinds: &[u8], f: impl FnOnce() -> R) -> R {
-    REMOVED.with_borrow_mut(|removed| {
-        removed.clear();
-        removed.extend_from_slice(kinds);
+    KINDS.with_borrow_mut(|all| {
+        all.clear();
+        all.extend_from_slice(kinds);
     });
     f()
 }
@@ -32,16 +33,19 @@ fn metadata(world: &World, number: u8) -> ComponentMetadata {
         .unwrap_or_else(|| panic!("kind {number} was not registered"))
 }
 
-/// The sparse sets of the kinds to be removed, and the groups to be left.
-unsafe fn sparse_sets(world: &World) -> (Vec<(u8, *mut ComponentSparseSet)>, GroupMask) {
+/// A kind with its sparse set.
+type Set = (u8, *mut ComponentSparseSet);
+
+/// The sparse sets of the kinds, and the groups by one mask of each.
+unsafe fn sparse_sets(world: &World, mask: fn(&ComponentMetadata) -> GroupMask) -> (Vec<Set>, GroupMask) {
     let mut group_mask = GroupMask::EMPTY;
 
-    let sparse_sets = REMOVED.with_borrow(|removed| {
-        removed
+    let sparse_sets = KINDS.with_borrow(|kinds| {
+        kinds
             .iter()
             .map(|&number| {
                 let metadata = metadata(world, number);
-                group_mask |= metadata.delete_mask;
+                group_mask |= mask(&metadata);
                 let set = world
                     .components
                     .components
@@ -87,15 +91,43 @@ unsafe impl ComponentSet for Staged {
         }
     }
 
-    fn extend<TComponents>(_world: &mut World, _components: TComponents) -> &[Entity]
+    fn extend<TComponents>(world: &mut World, components: TComponents) -> &[Entity]
     where
         TComponents: IntoIterator<Item = Self>,
     {
-        unimplemented!("no command of the tape extends")
+        let (sparse_sets, group_mask) = unsafe { sparse_sets(world, |metadata| metadata.insert_mask) };
+
+        let start_entity = world.entities.len();
+
+        components.into_iter().for_each(|components| {
+            let entity = world.entities.create();
+
+            for (&(number, set), (held, value)) in sparse_sets.iter().zip(components.0) {
+                assert_eq!(number, held, "a set of other kinds");
+                unsafe { (kind(number).insert)(&mut *set, entity, value) };
+            }
+        });
+
+        let new_entities = unsafe { world.entities.as_slice().get_unchecked(start_entity..) };
+
+        if group_mask != GroupMask::EMPTY {
+            for &entity in new_entities {
+                unsafe {
+                    group(
+                        &mut world.components.components,
+                        &mut world.components.groups,
+                        group_mask,
+                        entity,
+                    );
+                }
+            }
+        }
+
+        new_entities
     }
 
     unsafe fn remove(world: &mut World, entity: Entity) -> Self::Remove {
-        let (sparse_sets, group_mask) = sparse_sets(world);
+        let (sparse_sets, group_mask) = sparse_sets(world, |metadata| metadata.delete_mask);
 
         if group_mask != GroupMask::EMPTY {
             ungroup(
@@ -113,7 +145,7 @@ unsafe impl ComponentSet for Staged {
     }
 
     unsafe fn delete(world: &mut World, entity: Entity) {
-        let (sparse_sets, group_mask) = sparse_sets(world);
+        let (sparse_sets, group_mask) = sparse_sets(world, |metadata| metadata.delete_mask);
 
         if group_mask != GroupMask::EMPTY {
             ungroup(

@@ -3,6 +3,7 @@
 use super::kinds::{Comp, Value};
 use crate::entity::Entity;
 use crate::World;
+use core::iter;
 
 /// Where a slice of rows stands in its column.
 fn place<const K: u8>(world: &World, rows: &[Comp<K>]) -> (usize, usize) {
