@@ -369,6 +369,12 @@ fn wear(make: Make) -> ExitCode {
         tape::kill((0, 1)),
         tape::new(),
         tape::new(),
+        // One number is retired, one waits.
+        tape::kill((1, 2)),
+        tape::tray(2),
+        tape::tray(1),
+        tape::tray(0),
+        tape::tray(1),
     ]);
     for chunk in chunks {
         if let Err(what) = pair.step(&Run::new(vec![chunk]), true) {

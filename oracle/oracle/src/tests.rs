@@ -308,15 +308,18 @@ fn answers_of_trays() {
     }
 }
 
+/// A column's entities and values.
+type Column = Option<(Vec<Id>, Vec<u64>)>;
+
 /// Everything that can be seen of a store: live list, columns in row order, and the ranges of all groups.
-fn seen(rust: &mut Oracle) -> (Vec<Id>, Vec<Option<(Vec<Id>, Vec<u64>)>>, Vec<u8>) {
-    let [_, layout] = rust.families();
+fn seen(rust: &mut Oracle) -> (Vec<Id>, Vec<Column>, Vec<u8>) {
+    let [_, layout] = Oracle::families(rust);
     let mut out = vec![0; 1 << 16];
-    let ran = rust.run(&demand::run(&demand::rings(&layout)).tape(), &mut out);
+    let ran = Oracle::run(rust, &demand::run(&demand::rings(&layout)).tape(), &mut out);
     assert_eq!(ran.stop, 0);
     out.truncate(ran.written);
-    let columns = rust.registered().into_iter().map(|kind| rust.column(kind));
-    (rust.live(), columns.collect(), out)
+    let columns = rust.registered().into_iter().map(|kind| Oracle::column(rust, kind));
+    (Oracle::live(rust), columns.collect(), out)
 }
 
 /// 02's sentence of the Rust alone: its `extend` leaves what as many calls of `create` leave, with the same components.
@@ -330,6 +333,12 @@ fn extend_is_as_many_creates() {
         let rng = &mut Rng::new(seed);
         let mut stores = [Sets::Tuples, Sets::Staged, Sets::Tuples].map(Oracle::new);
         stores.iter_mut().for_each(|rust| run_all(rust, &case));
+        // Every other one goes, so that there is room, and numbers wait.
+        let live = Oracle::live(&stores[0]);
+        let kills: Vec<u8> = live.into_iter().step_by(2).flat_map(tape::kill).collect();
+        for rust in &mut stores {
+            assert_eq!(rust.run(&kills, &mut [0; 256]).stop, 0);
+        }
         let count = rng.below(9).min(stores[0].free());
         let mut list = stores[0].registered();
         rng.shuffle(&mut list);
@@ -433,9 +442,9 @@ fn a_difference_is_cut_down() {
         })
         .expect("the fault is found");
     let least = shrink(&difference.case, STAGED, faulty).expect("it comes again");
-    // Two created, both destroyed, one created.
-    assert_eq!(least.case.runs.len(), 1);
-    assert_eq!(least.case.runs[0].chunks.len(), 5);
+    // Two created, by one tray, both destroyed, one created.
+    let expected = [tape::tray(2), tape::kill((0, 1)), tape::kill((1, 1)), tape::new()];
+    assert_eq!(least.case.runs, [Run::new(expected.to_vec())]);
     assert!(compare(&least.case, STAGED, &plain, Look::EachRun).is_ok());
 }
 
