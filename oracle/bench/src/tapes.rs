@@ -259,46 +259,55 @@ fn relayouts(n: usize, times: usize) -> Tapes {
 const IN_TRAY: usize = 64;
 const FILLINGS: usize = 25;
 
-/// An empty store is filled by trays of three kinds, two of them a group, or by as many NEWs; between the runs all are
-/// destroyed, in an order by chance. The first run takes new indexes, the others those that wait.
+/// An empty store filled with entities of three kinds, by trays.
+fn by_trays(n: usize, filling: usize) -> Vec<u8> {
+    let mut tape = vec![];
+    for tray in 0..n / IN_TRAY {
+        with(&mut tape, &[0, 1, 2], TRAY, None, (filling * n + tray) as u64);
+        tape.extend((IN_TRAY as u16).to_le_bytes());
+    }
+    tape
+}
+
+/// The same by NEW, each with its own three kinds staged.
+fn by_news(n: usize, filling: usize) -> Vec<u8> {
+    let mut tape = vec![];
+    for entity in 0..n {
+        with(
+            &mut tape,
+            &[0, 1, 2],
+            NEW,
+            None,
+            (filling * n + entity / IN_TRAY) as u64,
+        );
+    }
+    tape
+}
+
+/// The store is filled and emptied in turn; only the filling is timed. Two of the three kinds are a group. The first run
+/// takes new indexes, the others those that wait, in an order by chance.
 fn trays(n: usize) -> Work {
     let mut setup = vec![];
     registered(&mut setup, 16);
     layout(&mut setup, &[&[0, 1]]);
-    let kinds = [0, 1, 2];
-    let mut work = Work {
+    let mut rng = Rng(0x9e37_79b9_7f4a_7c15);
+    let emptied = |filling: usize| all_destroyed(&mut rng, n, filling as u32);
+    Work {
         letter: "i",
         name: "trays of 64, three kinds".to_string(),
         n,
         k: 16,
         setup,
-        runs: vec![],
-        between: vec![],
-        otherwise: None,
+        runs: (0..FILLINGS).map(|filling| by_trays(n, filling)).collect(),
+        between: (1..FILLINGS).map(emptied).collect(),
+        otherwise: Some(Otherwise {
+            name: "the same by NEW",
+            runs: (0..FILLINGS).map(|filling| by_news(n, filling)).collect(),
+            bound: "0.8",
+        }),
         commands: n * FILLINGS,
         bound: "1.0",
-    };
-    let mut news = vec![];
-    let mut rng = Rng(0x9e37_79b9_7f4a_7c15);
-    for filling in 0..FILLINGS {
-        let (mut by_trays, mut by_news) = (vec![], vec![]);
-        for tray in 0..n / IN_TRAY {
-            let value = (filling * n + tray) as u64;
-            with(&mut by_trays, &kinds, TRAY, None, value);
-            by_trays.extend((IN_TRAY as u16).to_le_bytes());
-            (0..IN_TRAY).for_each(|_| with(&mut by_news, &kinds, NEW, None, value));
-        }
-        work.runs.push(by_trays);
-        news.push(by_news);
-        work.between.push(all_destroyed(&mut rng, n, filling as u32 + 1));
     }
-    work.between.pop();
-    work.otherwise = Some(Otherwise {
-        name: "the same by NEW",
-        runs: news,
-        bound: "0.8",
-    });
-    work
 }
 
 /// KILL of every index, each at this version.

@@ -682,12 +682,8 @@ impl Store {
 
     /// All insertions first, and then grouping that has a fault.
     fn extend(&mut self, count: usize, staged: &[(u8, u64)]) {
-        let mut made = vec![];
-        for _ in 0..count {
-            let entity = self.issue();
-            self.insert_rows(entity, staged);
-            made.push(entity);
-        }
+        let mut made: Vec<Id> = (0..count).map(|_| self.issue()).collect();
+        made.iter().for_each(|&entity| self.insert_rows(entity, staged));
         let mut touching = staged;
         match self.fault {
             Some(Fault::TrayUngrouped) => made.clear(),

@@ -112,24 +112,59 @@ fn counts(free: usize) -> [u16; 8] {
 /// Stores for so many entities, each with every so many of the cases.
 const SIZES: [(usize, usize); 8] = [(1, 5), (2, 5), (3, 5), (5, 1), (16, 1), (64, 7), (500, 17), (4096, 29)];
 
-/// Each layout with each list and each count; the state before goes round.
+/// Each layout with each list and each count; the state before goes round. Then a few of the largest stores.
 pub fn cases() -> impl Iterator<Item = Case> {
-    SIZES.into_iter().flat_map(|(n, every)| {
+    let all = SIZES.into_iter().flat_map(|(n, every)| {
         let count = layouts().len() * lists().len() * counts(0).len();
-        (0..count).step_by(every).map(move |place| case(n, place))
+        (0..count)
+            .step_by(every)
+            .map(move |place| tray_case(n, &picked(n, place)))
+    });
+    all.chain(large())
+}
+
+/// Places in `layouts` and `lists`, the state before, and the place in `counts`.
+struct Picked {
+    layout: usize,
+    list: usize,
+    before: Before,
+    count: usize,
+}
+
+/// What is picked at a place among the cases of one size.
+fn picked(n: usize, place: usize) -> Picked {
+    let (lists, counts) = (lists().len(), counts(0).len());
+    let rest = place / counts;
+    Picked {
+        layout: rest / lists,
+        list: rest % lists,
+        before: BEFORE[(place + rest + n) % BEFORE.len()],
+        count: place % counts,
+    }
+}
+
+/// The largest store with trays of two and of 16 kinds that nearly fill it, fill it, and are one too many.
+fn large() -> impl Iterator<Item = Case> {
+    let picks = [(3, 4, Before::Empty), (4, 2, Before::Waiting), (2, 5, Before::Mixed)];
+    picks.into_iter().flat_map(|(layout, list, before)| {
+        (2..5).map(move |count| {
+            let picked = Picked {
+                layout,
+                list,
+                before,
+                count,
+            };
+            tray_case(4096, &picked)
+        })
     })
 }
 
-/// The case at a place among those of one size.
-fn case(n: usize, place: usize) -> Case {
-    let (layouts, lists) = (layouts(), lists());
-    let (count, rest) = (place % 8, place / 8);
-    let (list, layout) = (&lists[rest % lists.len()], &layouts[rest / lists.len()]);
-    let before = BEFORE[(place + rest + n) % BEFORE.len()];
-    let (made, free) = before.runs(n);
-    let mut runs = vec![run_of((0..KINDS).map(tape::reg).collect()), run_of(layout.clone())];
+fn tray_case(n: usize, picked: &Picked) -> Case {
+    let (layout, list) = (layouts().swap_remove(picked.layout), &lists()[picked.list]);
+    let (made, free) = picked.before.runs(n);
+    let mut runs = vec![run_of((0..KINDS).map(tape::reg).collect()), run_of(layout)];
     runs.extend(made);
-    let tray = valued(list, TRAYED, tape::tray(counts(free)[count]));
+    let tray = valued(list, TRAYED, tape::tray(counts(free)[picked.count]));
     runs.push(run_of([vec![tape::bar(3)], tray].concat()));
     runs.extend(after(n, list));
     Case {
