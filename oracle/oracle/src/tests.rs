@@ -311,21 +311,29 @@ fn answers_of_trays() {
 /// A column's entities and values.
 type Column = Option<(Vec<Id>, Vec<u64>)>;
 
-/// Everything that can be seen of a store: live list, columns in row order, and the ranges of all groups.
-fn seen(rust: &mut Oracle) -> (Vec<Id>, Vec<Column>, Vec<u8>) {
+/// Everything that can be seen of a store: how many are free, live list, columns in row order, and the ranges of all groups.
+fn seen(rust: &mut Oracle) -> (usize, Vec<Id>, Vec<Column>, Vec<u8>) {
     let [_, layout] = Oracle::families(rust);
     let mut out = vec![0; 1 << 16];
     let ran = Oracle::run(rust, &demand::run(&demand::rings(&layout)).tape(), &mut out);
     assert_eq!(ran.stop, 0);
     out.truncate(ran.written);
     let columns = rust.registered().into_iter().map(|kind| Oracle::column(rust, kind));
-    (Oracle::live(rust), columns.collect(), out)
+    (rust.free(), Oracle::live(rust), columns.collect(), out)
+}
+
+/// What is seen when all that are free are made: the numbers that waited are then in the live list, in their order.
+fn filled(rust: &mut Oracle) -> (usize, Vec<Id>, Vec<Column>, Vec<u8>) {
+    let fill = [tape::empty(), tape::tray(rust.free() as u16)].concat();
+    assert_eq!(rust.run(&fill, &mut [0; 4]).stop, 0);
+    assert_eq!(rust.free(), 0);
+    seen(rust)
 }
 
 /// 02's sentence of the Rust alone: its `extend` leaves what as many calls of `create` leave, with the same components.
 #[test]
 fn extend_is_as_many_creates() {
-    let mut made = 0;
+    let (mut made, mut waited) = (0, 0);
     for seed in 0..800 {
         let Ok((case, _)) = generate::random_case(seed, STAGED, &plain) else {
             panic!()
@@ -353,9 +361,14 @@ fn extend_is_as_many_creates() {
         }
         let [one, other, plain] = stores.each_mut().map(seen);
         assert!(one == plain && other == plain, "seed {seed}, {count} with {list:?}");
+        let live = plain.1.len();
+        let [one, other, plain] = stores.each_mut().map(filled);
+        assert!(one == plain && other == plain, "seed {seed}, filled after {count}");
+        waited += plain.1[live..].iter().filter(|id| id.1 > 1).count();
         made += count;
     }
     assert!(made > 800, "few entities were made");
+    assert!(waited > 800, "few numbers waited");
 }
 
 /// RANGE by the harness finds what the library's own query finds, for every list staged and excluded of four kinds.
