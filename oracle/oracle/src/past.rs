@@ -9,6 +9,7 @@ use crate::reference::Reference;
 use crate::rng::Rng;
 use crate::side::Side;
 use crate::tape::{self, Case, Chunk, Run, OPERANDS};
+use crate::trays::TRAYED;
 use sparsey::harness::{is_within_reach as can_take, words_needed};
 
 const MOST_KINDS: u8 = 16;
@@ -437,9 +438,6 @@ fn scattered(rng: &mut Rng, index: u32) -> Run {
     let puts = puts.flat_map(|kinds| valued(kinds, index, tape::put((index, 1))));
     run_of([tape::new()].into_iter().chain(puts).collect())
 }
-
-/// Stands in the values of a tray's components in an entity's place.
-const TRAYED: u32 = 9_000;
 
 /// Trays of all sixteen kinds and of all but one, behind entities that lack one, under these chains; then with numbers that
 /// wait; the sixteenth kind goes and comes; then a tray too many, and one that fills the store.

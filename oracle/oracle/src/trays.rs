@@ -1,5 +1,5 @@
-//! TRAY at its limits: every count that matters, lists of none to 16 kinds, several layouts, and stores that are empty, in
-//! use, full, or at their last versions.
+//! TRAY at its limits: every count that matters, lists of 0, 1, 2, 5 and 16 kinds, several layouts, and stores that are
+//! empty, in use, full, or at their last versions. Lists of other lengths come by chance, and in tests.rs.
 
 use crate::fixed::{layout, run_of, valued};
 use crate::rng::Rng;
@@ -10,7 +10,7 @@ const KINDS: u8 = 16;
 const LAST: u32 = u32::MAX;
 
 /// Stands in the values of a tray's components in an entity's place.
-const TRAYED: u32 = 9_000;
+pub const TRAYED: u32 = 9_000;
 
 /// How a store stands before the tray.
 #[derive(Clone, Copy, Debug)]
