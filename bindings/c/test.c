@@ -135,7 +135,8 @@ static bool answers(const uint8_t *tape, size_t tape_len, const uint8_t *expecte
 static bool row(uint8_t kind, size_t at, uint32_t index, uint32_t version, uint32_t value)
 {
     uint32_t entity[2], number[2];
-    yirbarn_column(words, NEEDED, kind, false, at, at + 1, entity, 2);
+    if (yirbarn_column(words, NEEDED, kind, false, at, at + 1, entity, 2).number != YIRBARN_OK)
+        return false;
     struct yirbarn_written copied = yirbarn_column(words, NEEDED, kind, true, at, at + 1, number, 2);
     return copied.number == YIRBARN_OK && entity[0] == index && entity[1] == version && number[0] == value &&
            number[1] == 0;
