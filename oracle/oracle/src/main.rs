@@ -60,7 +60,7 @@ fn options() -> (String, Options) {
         quick: false,
         show: false,
         file: "../crates/replay/data/answers.bin".to_string(),
-        kilobytes: 160,
+        kilobytes: 200,
         reference: false,
         write: false,
     };
