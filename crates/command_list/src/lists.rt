@@ -1,12 +1,11 @@
-// HOLD, BAR, EMPTY and TALLY: the staged components, the excluded kinds and the count of refusals.
+// HOLD, BAR and EMPTY: the staged components and the excluded kinds.
 use command::answers::ack;
-use command::answers::ack_number;
 use command::answers::refuse;
 use model::refusals::AGAIN;
 use model::refusals::HANDFUL;
 use model::refusals::KIND;
 ghost use mathlib.Core.Path.{_≡_};
-ghost use Rattle.model.specs.Commands.{HOLD, BAR, EMPTY, TALLY};
+ghost use Rattle.model.specs.Commands.{HOLD, BAR, EMPTY};
 ghost use Rattle.model.specs.Refusals.{unknownKind};
 ghost use Rattle.model.specs.Run.{does};
 ghost use Rattle.component.specs.SparseSet.{valueOf};
@@ -73,13 +72,4 @@ pub fn empty(words: &mut [u32], out: &mut [u8], at: usize) -> usize
 {
     control::staged::clear_lists(words);
     ack(out, at)
-}
-
-// TALLY: how many commands were refused.
-pub fn tally(words: &[u32], out: &mut [u8], at: usize) -> usize
-    requires { ⌜ Ready (now words) (now out) at TALLY ⌝ }
-    ensures { λ r. ⌜ Acted (now (words .entry)) (now (words .entry)) (now (out .entry)) (now (out .exit)) at r (does TALLY (meaning (now (words .entry)))) ⌝ }
-{
-    let count = control::refusals::refusals(words);
-    ack_number(out, at, count)
 }

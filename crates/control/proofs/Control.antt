@@ -1,33 +1,34 @@
--- The staged components, the excluded kinds and the refusal count: what is read of them, and what a few stores there make of the store. Assumes nothing.
+-- The staged components, the excluded kinds, the caller and the refusal counts: what is read of them, and what a few stores there make of the store. Assumes nothing.
 use mathlib.Core.Path.{_≡_, refl, sym, ap, _∙_, subst}
+use mathlib.Core.Logic.{_≢_}
 use mathlib.Core.List.{List, [], _∷_, _++_}
 use Prim.Native.Nat.{ℕ, _+_, _*_, _-_, _≤_, _<_}
 use native.Mathlib.Numerals.{add-one}
 use native.Mathlib.Omega.{arith}
 use mir.Val.{Fits}
 use mir.Syntax.{w32}
-use borrow.Author.Tests.{lt-ltb, le-ltb}
 use lib.ListN.{length, getD, set, drop}
-use lib.Seq.{set-getD}
-use Rattle.model.specs.Numbers.{LIST-CAPACITY, MAX-REFUSALS, MAX-KINDS}
+use lib.Seq.{set-getD, getD-set-same, getD-set-other}
+use Rattle.model.specs.Numbers.{CALLERS, LAST-CALLER, LIST-CAPACITY, MAX-REFUSALS, MAX-KINDS}
 use Rattle.words.specs.Offsets.{CALLER, DRAFT, DRAFT-FAMILIES, DRAFT-GROUPS, ENTITIES, EXCLUDED-KINDS, EXCLUDED-LEN, MORE-SETTINGS, REFUSALS, STAGED-KINDS, STAGED-LEN, STAGED-VALUE-LEN, STAGED-VALUES, TABLE}
 use Rattle.model.specs.Model.{Component, Family, kindOf}
 use Rattle.model.specs.Sound.{noComponent}
-use Rattle.model.specs.Store.{Counts, Control, stagedKinds, withControl, withCounts, emptyStaged, emptyBoth, counted}
+use Rattle.model.specs.Store.{Counts, Control, stagedKinds, withControl, withCounts, withCaller, emptyStaged, emptyBoth, ownRefusals, oneMore, counted}
+use Rattle.model.proofs.Counts.{one-more-up, one-more-full}
 use Rattle.words.specs.Table.{table}
-use Rattle.words.proofs.Tables.{length-table, getD-table, table-snoc, words-table, map-table}
+use Rattle.words.proofs.Tables.{length-table, getD-table, table-same, table-set, table-snoc, words-table, map-table}
 use Rattle.words.specs.Stores.{stores}
 use Rattle.words.proofs.Stores.{length-stores, miss, hit, Misses, StoresBelow, drop-stores}
 use Rattle.words.specs.Part.{between}
 use Rattle.component.specs.SparseSet.{valueOf}
 use Rattle.layout.specs.Layout.{WellFormed, groupCount, familiesOf}
-use Rattle.memory.specs.Header.{stagedLen, excludedLen, refusalsOf, stagedKindAt, excludedAt}
+use Rattle.memory.specs.Header.{stagedLen, excludedLen, callerOf, refusalsAt, stagedKindAt, excludedAt}
 use Rattle.memory.specs.Meaning.{draftArrays, draftIn, stagedAt, stagedIn, excludedIn, countsIn, controlIn, meaning, withRefusal}
 use Rattle.memory.specs.Arranged.{Arranged, Becomes}
 use Rattle.memory.proofs.Frames.{draft-arrays-same, staged-same, excluded-same, counts-kept, long}
 use Rattle.memory.proofs.Becomes.{Static, control-becomes}
 use Rattle.control.specs.Lists.{staging, excluding}
-use Rattle.control.specs.Refusals.{CountsRefusal}
+use Rattle.control.specs.Refusals.{Caller, CountsRefusal}
 
 -- ---- what is read
 
@@ -106,12 +107,13 @@ module _ (w w′ : List ℕ) (A : Arranged w) (L : ListsOnly w w′) where
   arrays : draftArrays w′ ≡ draftArrays w
   arrays = draft-arrays-same w w′ (L .size) (long w A) (L .layouts DRAFT-FAMILIES (omega arith) (omega arith)) (λ i a b. L .blocks i a (omega arith))
 
-  listed-becomes : (s : List Component) (e : List ℕ) (c : Counts) → stagedLen w′ ≤ LIST-CAPACITY → excludedLen w′ ≤ LIST-CAPACITY → stagedIn w′ ≡ s → excludedIn w′ ≡ e → countsIn w′ ≡ c
+  listed-becomes : (s : List Component) (e : List ℕ) (c : Counts) → stagedLen w′ ≤ LIST-CAPACITY → excludedLen w′ ≤ LIST-CAPACITY → c .caller ≤ LAST-CALLER → stagedIn w′ ≡ s → excludedIn w′ ≡ e → countsIn w′ ≡ c
       → Becomes w w′ (withControl (meaning w) (control s e (meaning w .control .draft) c))
   unfolding meaning draftIn
-  listed-becomes s e c st ex es ee ec =
+  listed-becomes s e c st ex ca es ee ec =
+      let called : callerOf w′ ≡ c .caller = λ i. ec i .caller in
       let B =
-      control-becomes w w′ A static (λ i a b. L .blocks i (omega arith) b) st ex (subst WellFormed (sym arrays) (A .draft))
+      control-becomes w w′ A static (λ i a b. L .blocks i (omega arith) b) st ex (rw called ca) (subst WellFormed (sym arrays) (A .draft))
       (L .layouts DRAFT-GROUPS (omega arith) (omega arith) ∙ A .draftCount ∙ sym (ap groupCount arrays)) in
       let d : draftIn w′ ≡ draftIn w = ap (familiesOf []) arrays in
       let k : controlIn w′ ≡ control s e (draftIn w) c = λ i. record { staged = es i; excluded = ee i; draft = d i; counts = ec i } in
@@ -158,6 +160,7 @@ module _ (w : List ℕ) (A : Arranged w) (k l h : ℕ) (few : stagedLen w < LIST
       listed-becomes w (stores w ss) A stage-listed (stagedIn w ++ (record { kind = k; value = valueOf l h } ∷ [])) (excludedIn w) (countsIn w)
       (omega (arith, stage-length))
       (omega (arith, miss w ss EXCLUDED-LEN (omega arith), A .excluded))
+      (A .caller)
       stage-staged
       (excluded-same w (stores w ss) (length-stores w ss) (A .excluded) (miss w ss EXCLUDED-LEN (omega arith)) (λ i a b. miss w ss i (omega arith)))
       (counts-kept w (stores w ss) (λ i a b. miss w ss i (omega arith)))
@@ -191,6 +194,7 @@ module _ (w : List ℕ) (A : Arranged w) (k : ℕ) (few : excludedLen w < LIST-C
       listed-becomes w (stores w ts) A exclude-listed (stagedIn w) (excludedIn w ++ (k ∷ [])) (countsIn w)
       (omega (arith, miss w ts STAGED-LEN (omega arith), A .staged))
       (omega (arith, exclude-length))
+      (A .caller)
       (staged-same w (stores w ts) (length-stores w ts) (A .staged) (miss w ts STAGED-LEN (omega arith)) (λ i a b. miss w ts i (omega arith)))
       exclude-excluded
       (counts-kept w (stores w ts) (λ i a b. miss w ts i (omega arith)))
@@ -221,6 +225,7 @@ module _ (w : List ℕ) (A : Arranged w) where
       [] (excludedIn w) (countsIn w)
       (omega arith)
       (omega (arith, miss w us EXCLUDED-LEN (omega arith), A .excluded))
+      (A .caller)
       (staged-none us z)
       (excluded-same w (stores w us) (length-stores w us) (A .excluded) (miss w us EXCLUDED-LEN (omega arith)) (λ i a b. miss w us i (omega arith)))
       (counts-kept w (stores w us) (λ i a b. miss w us i (omega arith)))
@@ -235,42 +240,79 @@ module _ (w : List ℕ) (A : Arranged w) where
       [] [] (countsIn w)
       (omega arith)
       (omega arith)
+      (A .caller)
       (staged-none vs z)
       (excluded-none vs y)
       (counts-kept w (stores w vs) (λ i a b. miss w vs i (omega arith)))
 
--- ---- one refusal more
+-- ---- the caller and the counts
 
 module _ (w : List ℕ) (A : Arranged w) where
-  refusal-becomes : (r : ℕ) → Becomes w (set w REFUSALS r) (withControl (meaning w) (withCounts (meaning w .control) (record { refusals = r })))
+  -- the caller's word, or a count's
+  word-becomes : (i x : ℕ) → CALLER ≤ i → i < TABLE → ((j : ℕ) → MORE-SETTINGS ≤ j → j < REFUSALS → j ≢ i) → (c : Counts) → c .caller ≤ LAST-CALLER → countsIn (set w i x) ≡ c
+      → Becomes w (set w i x) (withControl (meaning w) (withCounts (meaning w .control) c))
   unfolding meaning
-  refusal-becomes r =
-      let rs : List (ℕ × ℕ) = (REFUSALS, r) ∷ [] in
-      let q : refusalsOf (set w REFUSALS r) ≡ r = hit w rs 0 REFUSALS r (omega arith) (omega (arith, long w A)) in
-      listed-becomes w (set w REFUSALS r) A
-      (stores-listed w rs (λ i a. omega arith) (λ i a b. omega arith) (λ i a b. omega arith) (λ i a b. omega arith) (λ i a b. omega arith) (omega arith))
-      (stagedIn w) (excludedIn w) (record { refusals = r })
+  word-becomes i x from below apart c ca e =
+      let rs : List (ℕ × ℕ) = (i, x) ∷ [] in
+      listed-becomes w (set w i x) A
+      (stores-listed w rs (λ j a. omega arith) (λ j a b. omega arith) (λ j a b. (apart j a b, tt)) (λ j a b. omega arith) (λ j a b. omega arith) (omega arith))
+      (stagedIn w) (excludedIn w) c
       (omega (arith, miss w rs STAGED-LEN (omega arith), A .staged))
       (omega (arith, miss w rs EXCLUDED-LEN (omega arith), A .excluded))
-      (staged-same w (set w REFUSALS r) (length-stores w rs) (A .staged) (miss w rs STAGED-LEN (omega arith)) (λ i a b. miss w rs i (omega arith)))
-      (excluded-same w (set w REFUSALS r) (length-stores w rs) (A .excluded) (miss w rs EXCLUDED-LEN (omega arith)) (λ i a b. miss w rs i (omega arith)))
-      (λ i. record { refusals = q i })
+      ca
+      (staged-same w (set w i x) (length-stores w rs) (A .staged) (miss w rs STAGED-LEN (omega arith)) (λ j a b. miss w rs j (omega arith)))
+      (excluded-same w (set w i x) (length-stores w rs) (A .excluded) (miss w rs EXCLUDED-LEN (omega arith)) (λ j a b. miss w rs j (omega arith)))
+      e
+
+  pub caller-read : Caller w (callerOf w)
+  unfolding meaning
+  caller-read = record { is = refl; word = refl; low = A .caller }
+
+  pub refusals-read : refusalsAt w (callerOf w) ≡ ownRefusals (meaning w .control)
+  unfolding meaning
+  refusals-read = sym (getD-table CALLERS (refusalsAt w) (callerOf w) 0 (omega (arith, A .caller)))
+
+  -- another caller
+  pub called-becomes : (c : ℕ) → c ≤ LAST-CALLER → Becomes w (set w CALLER c) (withControl (meaning w) (withCaller (meaning w .control) c))
+  unfolding meaning
+  called-becomes c h =
+      let is : callerOf (set w CALLER c) ≡ c = getD-set-same w CALLER c 0 (omega (arith, long w A)) in
+      let same = table-same 0 CALLERS (refusalsAt w) (refusalsAt (set w CALLER c)) (λ i b. getD-set-other w CALLER (REFUSALS + i) c 0 (omega arith)) in
+      word-becomes CALLER c (omega arith) (omega arith) (λ j a b. omega arith) (record { caller = c; refusals = table CALLERS (refusalsAt w) }) h
+      (λ i. record { caller = is i; refusals = same i })
+
+  -- one refusal more
+  refusal-becomes : Becomes w (withRefusal w) (withControl (meaning w) (counted (meaning w .control)))
+  unfolding meaning
+  refusal-becomes =
+      let c = callerOf w in
+      let x = oneMore (refusalsAt w c) in
+      let y = oneMore (ownRefusals (meaning w .control)) in
+      let up : x ≡ y = ap oneMore refusals-read in
+      let v = set w (REFUSALS + c) x in
+      let is : callerOf v ≡ c = getD-set-other w (REFUSALS + c) CALLER x 0 (omega arith) in
+      let more : table CALLERS (refusalsAt v) ≡ set (table CALLERS (refusalsAt w)) c y =
+      table-set 0 y CALLERS (refusalsAt w) (refusalsAt v) c (omega (arith, A .caller)) (getD-set-same w (REFUSALS + c) x 0 (omega (arith, A .caller, long w A)) ∙ up) (λ i b ne. getD-set-other w (REFUSALS + c) (REFUSALS + i) x 0 (omega arith)) in
+      word-becomes (REFUSALS + c) x (omega arith) (omega (arith, A .caller)) (λ j a b. omega arith) (record { caller = c; refusals = set (table CALLERS (refusalsAt w)) c y }) (A .caller)
+      (λ i. record { caller = is i; refusals = more i })
 
   counts : (w′ : List ℕ) → w′ ≡ withRefusal w → CountsRefusal w w′
-  counts w′ e =
-      record {
-        becomes = subst (λ (u : List ℕ). Becomes w u (withControl (meaning w) (counted (meaning w .control)))) (sym e) (refusal-becomes (counted (meaning w .control) .counts .refusals));
-        word = e;
-      }
+  counts w′ e = record { becomes = subst (λ (u : List ℕ). Becomes w u (withControl (meaning w) (counted (meaning w .control)))) (sym e) refusal-becomes; word = e }
 
-  pub refusals-read : refusalsOf w ≡ meaning w .control .counts .refusals
-  unfolding meaning
-  refusals-read = refl
+  -- the count of the caller that was read
+  module _ (c : ℕ) (R : Caller w c) where
+    pub count-inside : REFUSALS + c < length w
+    count-inside = omega (arith, R .low, long w A)
 
-  pub counts-more : refusalsOf w < MAX-REFUSALS → CountsRefusal w (set w REFUSALS (refusalsOf w + 1))
-  unfolding meaning
-  counts-more h = counts (set w REFUSALS (refusalsOf w + 1)) (rw (lt-ltb (refusalsOf w) MAX-REFUSALS h, add-one (refusalsOf w)))
+    pub count-read : getD w (REFUSALS + c) 0 ≡ ownRefusals (meaning w .control)
+    count-read = ap (refusalsAt w) (R .word) ∙ refusals-read
 
-  pub counts-most : MAX-REFUSALS ≤ refusalsOf w → CountsRefusal w w
-  unfolding meaning
-  counts-most h = counts w (rw (le-ltb (refusalsOf w) MAX-REFUSALS h) (sym (set-getD w REFUSALS 0)))
+    pub counts-more : getD w (REFUSALS + c) 0 < MAX-REFUSALS → CountsRefusal w (set w (REFUSALS + c) (getD w (REFUSALS + c) 0 + 1))
+    counts-more h =
+        counts (set w (REFUSALS + c) (refusalsAt w c + 1))
+        (ap (set w (REFUSALS + c)) (add-one (refusalsAt w c) ∙ sym (one-more-up (refusalsAt w c) h)) ∙ ap (λ (d : ℕ). set w (REFUSALS + d) (oneMore (refusalsAt w d))) (R .word))
+
+    pub counts-most : MAX-REFUSALS ≤ getD w (REFUSALS + c) 0 → CountsRefusal w w
+    counts-most h =
+        counts w
+        (sym (set-getD w (REFUSALS + c) 0) ∙ ap (set w (REFUSALS + c)) (sym (one-more-full (refusalsAt w c) h)) ∙ ap (λ (d : ℕ). set w (REFUSALS + d) (oneMore (refusalsAt w d))) (R .word))

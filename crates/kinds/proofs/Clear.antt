@@ -11,7 +11,7 @@ use Rattle.model.specs.Numbers.{ENTITY-LEN, MAX-KINDS, columnLen}
 use Rattle.model.specs.Model.{SparseSet, Storage}
 use Rattle.model.proofs.BoolLaws.{bool-cases}
 use Rattle.model.specs.Store.{onStorage}
-use Rattle.words.specs.Offsets.{columnStart, ENTITIES, EXCLUDED-LEN, STAGED-LEN}
+use Rattle.words.specs.Offsets.{columnStart, CALLER, ENTITIES, EXCLUDED-LEN, STAGED-LEN}
 use Rattle.words.proofs.Offsets.{columnStart-mono}
 use Rattle.words.proofs.Part.{between-rest}
 use Rattle.words.specs.Table.{table}
@@ -126,7 +126,7 @@ module _ (w w′ : List ℕ) (A : Arranged w) (f : SparseSet → SparseSet) (z :
         arranged =
             arranged-kept A K (subst (entity.EntityPartSound n) (sym each-entities) (A .entities)) (o .columns)
             (λ s l h. o .becomes s h ∙ ap f (A .vacant s l h) ∙ z)
-            (rw (same STAGED-LEN (omega arith)) (A .staged)) (rw (same EXCLUDED-LEN (omega arith)) (A .excluded)) (D .0) (D .1);
+            (rw (same STAGED-LEN (omega arith)) (A .staged)) (rw (same EXCLUDED-LEN (omega arith)) (A .excluded)) (rw (same CALLER (omega arith)) (A .caller)) (D .0) (D .1);
         means =
             reads-means
             (record {

@@ -256,6 +256,7 @@ module _ (w₀ w₁ : List ℕ) (A : Arranged w₀) (M : StoreSound (meaning w�
               rw cap (row s h₀ ∙ A .vacant s l₀ h₀);
           staged = rw (low STAGED-LEN (omega arith)) (A .staged);
           excluded = rw (low EXCLUDED-LEN (omega arith)) (A .excluded);
+          caller = rw (lists CALLER (omega arith) (omega arith)) (A .caller);
           draft = subst (λ (m : ℕ). WellFormed (blockArrays (between DRAFT LAYOUT w) m)) (sym no-draft) (none-formed (between DRAFT LAYOUT w));
           draftCount = same DRAFT-GROUPS (omega arith) ∙ P .noGroups ∙ sym (ap (λ (m : ℕ). groupCount (blockArrays (between DRAFT LAYOUT w) m)) no-draft);
           layout = layout-sound;

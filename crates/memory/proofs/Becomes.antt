@@ -8,7 +8,7 @@ use borrow.Author.Tests.{lt-ltb, ltb-true}
 use lib.Dec.{ltb}
 use lib.ListN.{length, getD, set, drop, length-set}
 use lib.Seq.{getD-set-same, getD-set-other, drop-set-lt, ext-getD}
-use Rattle.model.specs.Numbers.{ENTITY-LEN, LIST-CAPACITY, MAX-KINDS, columnLen}
+use Rattle.model.specs.Numbers.{ENTITY-LEN, LAST-CALLER, LIST-CAPACITY, MAX-KINDS, columnLen}
 use Rattle.model.specs.Model.{Entities, SparseSet, Storage, setOf}
 use Rattle.model.specs.Store.{onSet, withEntities, onStorage, withLayout, Settings, Store, wordsNeeded, withEntities, withControl, onStorage, withLayout, onSet}
 use Rattle.words.specs.Offsets.{columnStart, CALLER, DRAFT-FAMILIES, DRAFT-GROUPS, ENTITIES, EXCLUDED-LEN, GROUP-COUNTS, GROUP-FAMILIES, GROUP-PLACES, LAYOUT, LAYOUT-FAMILIES, LAYOUT-GROUPS, MORE-SETTINGS, REFUSALS, REGISTERED, STAGED-KINDS, STAGED-LEN, TABLE, UNREGISTERED}
@@ -24,7 +24,7 @@ use Rattle.component.specs.Changes.{One}
 use Rattle.entity.specs.Change.{EntityChange}
 use Rattle.entity.specs.Meaning.{entityPart}
 use Rattle.layout.specs.Layout.{WellFormed, groupCount, familiesOf}
-use Rattle.memory.specs.Header.{capacityOf, kindCapacityOf, registeredOf, stagedLen, excludedLen, draftGroups, slotOf}
+use Rattle.memory.specs.Header.{capacityOf, kindCapacityOf, registeredOf, stagedLen, excludedLen, draftGroups, callerOf, slotOf}
 use Rattle.memory.specs.Meaning.{kindAt, setAt, setsIn, draftArrays, layoutArrays, layoutIn, controlIn, settingsOf, meaning, kindsIn}
 use Rattle.memory.specs.Arranged.{Arranged, Becomes}
 use Rattle.memory.proofs.Kept.{Kept, capacity-kept, kinds-kept, arranged-kept}
@@ -112,7 +112,7 @@ module _ (w w′ : List ℕ) (A : Arranged w) (s : ℕ) (hs : s < registeredOf w
         arranged =
             arranged-kept A K (subst (entity.EntityPartSound n) (sym one-entities) (A .entities)) (o .columns)
             (λ j l h. rows-other j h (omega arith) ∙ A .vacant j l h)
-            (rw (same STAGED-LEN (omega arith)) (A .staged)) (rw (same EXCLUDED-LEN (omega arith)) (A .excluded)) (D .0) (D .1);
+            (rw (same STAGED-LEN (omega arith)) (A .staged)) (rw (same EXCLUDED-LEN (omega arith)) (A .excluded)) (rw (same CALLER (omega arith)) (A .caller)) (D .0) (D .1);
         means =
             reads-means
             (record {
@@ -172,7 +172,7 @@ module _ (w w′ : List ℕ) (A : Arranged w) (f : Entities → Entities) (o : E
       record {
         arranged =
             arranged-kept A K (o .sound) (columns-rest w w′ A (o .size) e le (o .rest)) (vacant-rest w w′ A (o .size) e le (o .rest))
-            (rw (entity-word STAGED-LEN (omega arith)) (A .staged)) (rw (entity-word EXCLUDED-LEN (omega arith)) (A .excluded)) (D .0) (D .1);
+            (rw (entity-word STAGED-LEN (omega arith)) (A .staged)) (rw (entity-word EXCLUDED-LEN (omega arith)) (A .excluded)) (rw (entity-word CALLER (omega arith)) (A .caller)) (D .0) (D .1);
         means =
             reads-means
             (record {
@@ -220,15 +220,15 @@ module _ (w w′ : List ℕ) (A : Arranged w) (S : Static w w′) where
   static-entities = between-rest ENTITIES ENTITIES (ENTITIES + ENTITY-LEN * capacityOf w) w w′ (omega arith) (S .rest)
 
   -- a change of the control and of the counts
-  static-becomes : (c : List ℕ) → between GROUP-COUNTS ENTITIES w′ ≡ c → stagedLen w′ ≤ LIST-CAPACITY → excludedLen w′ ≤ LIST-CAPACITY → WellFormed (draftArrays w′) → draftGroups w′ ≡ groupCount (draftArrays w′)
+  static-becomes : (c : List ℕ) → between GROUP-COUNTS ENTITIES w′ ≡ c → stagedLen w′ ≤ LIST-CAPACITY → excludedLen w′ ≤ LIST-CAPACITY → callerOf w′ ≤ LAST-CALLER → WellFormed (draftArrays w′) → draftGroups w′ ≡ groupCount (draftArrays w′)
       → Becomes w w′ (withControl (onStorage (λ (s : Storage). withLayout s (familiesOf c (layoutArrays w))) (meaning w)) (controlIn w′))
   unfolding meaning layoutIn
-  static-becomes c counts st ex d g =
+  static-becomes c counts st ex ca d g =
       let K = static-kept in
       record {
         arranged =
             arranged-kept A K (subst (entity.EntityPartSound (capacityOf w)) (sym static-entities) (A .entities)) (columns-rest w w′ A (S .size) ENTITIES static-le (S .rest))
-            (vacant-rest w w′ A (S .size) ENTITIES static-le (S .rest)) st ex d g;
+            (vacant-rest w w′ A (S .size) ENTITIES static-le (S .rest)) st ex ca d g;
         means =
             reads-means
             (record {
@@ -244,10 +244,10 @@ module _ (w w′ : List ℕ) (A : Arranged w) (S : Static w w′) where
       }
 
   -- a change of the control alone
-  pub control-becomes : ((i : ℕ) → GROUP-COUNTS ≤ i → i < ENTITIES → getD w′ i 0 ≡ getD w i 0) → stagedLen w′ ≤ LIST-CAPACITY → excludedLen w′ ≤ LIST-CAPACITY → WellFormed (draftArrays w′) → draftGroups w′ ≡ groupCount (draftArrays w′)
+  pub control-becomes : ((i : ℕ) → GROUP-COUNTS ≤ i → i < ENTITIES → getD w′ i 0 ≡ getD w i 0) → stagedLen w′ ≤ LIST-CAPACITY → excludedLen w′ ≤ LIST-CAPACITY → callerOf w′ ≤ LAST-CALLER → WellFormed (draftArrays w′) → draftGroups w′ ≡ groupCount (draftArrays w′)
       → Becomes w w′ (withControl (meaning w) (controlIn w′))
   unfolding meaning layoutIn
-  control-becomes counts st ex d g = static-becomes (between GROUP-COUNTS ENTITIES w) (part-same w w′ (S .size) GROUP-COUNTS ENTITIES (long w A) counts) st ex d g
+  control-becomes counts st ex ca d g = static-becomes (between GROUP-COUNTS ENTITIES w) (part-same w w′ (S .size) GROUP-COUNTS ENTITIES (long w A) counts) st ex ca d g
 
 -- a group's count
 module _ (w : List ℕ) (A : Arranged w) (g c : ℕ) (hg : g < GROUP-PLACES) where
@@ -286,6 +286,7 @@ module _ (w : List ℕ) (A : Arranged w) (g c : ℕ) (hg : g < GROUP-PLACES) whe
   count-becomes =
       let D = draft-arrays-same w w′ (count-static .size) (long w A) (set-other DRAFT-FAMILIES (omega arith)) (λ i a b. set-other i (omega arith)) in
       let B = static-becomes w w′ A count-static (set (between GROUP-COUNTS ENTITIES w) g c) counts-set (rw (set-other STAGED-LEN (omega arith)) (A .staged)) (rw (set-other EXCLUDED-LEN (omega arith)) (A .excluded))
+      (rw (set-other CALLER (omega arith)) (A .caller))
       (subst WellFormed (sym D) (A .draft)) (set-other DRAFT-GROUPS (omega arith) ∙ A .draftCount ∙ sym (ap groupCount D)) in
       let k : controlIn w′ ≡ controlIn w = count-control in
       record { arranged = B .arranged; means = B .means ∙ ap (withControl (onStorage (λ (s : Storage). withLayout s (familiesOf (set (between GROUP-COUNTS ENTITIES w) g c) (layoutArrays w))) (meaning w))) k; size = B .size; past = B .past }

@@ -5,11 +5,11 @@ use Prim.Native.Nat.{ℕ, zero, _+_, _*_, _-_, _≤_, _<_}
 use native.Mathlib.Omega.{arith}
 use lib.ListN.{length, getD, set, replicate, length-set, length-replicate, getD-replicate}
 use lib.Seq.{getD-set-same, getD-set-other, drop-set-lt}
-use Rattle.model.specs.Numbers.{ENTITY-LEN, MAX-KINDS, columnLen}
+use Rattle.model.specs.Numbers.{CALLERS, ENTITY-LEN, MAX-KINDS, columnLen}
 use Rattle.model.specs.Model.{Entities, SparseSet, noEntities}
 use Rattle.model.specs.Store.{empty}
 use Rattle.model.specs.Sound.{Limits}
-use Rattle.words.specs.Offsets.{columnStart, CAPACITY, DRAFT, DRAFT-FAMILIES, DRAFT-GROUPS, ENTITIES, EXCLUDED-LEN, GROUP-COUNTS, GROUP-FAMILIES, KIND-CAPACITY, LAYOUT, LAYOUT-FAMILIES, LAYOUT-GROUPS, REFUSALS, REGISTERED, ROWS, STAGED-KINDS, STAGED-LEN, TABLE, UNREGISTERED}
+use Rattle.words.specs.Offsets.{columnStart, CALLER, CAPACITY, DRAFT, DRAFT-FAMILIES, DRAFT-GROUPS, ENTITIES, EXCLUDED-LEN, GROUP-COUNTS, GROUP-FAMILIES, KIND-CAPACITY, LAYOUT, LAYOUT-FAMILIES, LAYOUT-GROUPS, REFUSALS, REGISTERED, ROWS, STAGED-KINDS, STAGED-LEN, TABLE, UNREGISTERED}
 use Rattle.words.proofs.Offsets.{columnStart-mono, columnStart-apart}
 use Rattle.words.specs.Part.{between}
 use Rattle.words.proofs.Part.{length-between, getD-between}
@@ -22,7 +22,7 @@ use Rattle.entity.specs.Meaning.{entityPart}
 use Rattle.entity.proofs.Zeros.{zeros-changed}
 use Rattle.layout.specs.Layout.{blockArrays, WellFormed, groupCount, familiesOf}
 use Rattle.layout.proofs.Arrays.{none-formed}
-use Rattle.memory.specs.Header.{capacityOf, kindCapacityOf, registeredOf, slotOf}
+use Rattle.memory.specs.Header.{capacityOf, kindCapacityOf, registeredOf, callerOf, refusalsAt, slotOf}
 use Rattle.memory.specs.Meaning.{kindAt, kindsIn, setAt, setsIn, draftIn, layoutIn, stagedAt, stagedIn, excludedIn, meaning}
 use Rattle.memory.specs.Arranged.{TableSound, LayoutSound, Arranged}
 use Rattle.memory.proofs.Frames.{start-header, reads-means}
@@ -124,6 +124,7 @@ module _ (n k : ℕ) (w w₁ w₂ : List ℕ) (L : Limits n k) (enough : columnS
         vacant = λ s r h. rw cap (fresh-rows n s w′ (column-head s (rw kcap at h)));
         staged = omega (arith, low STAGED-LEN (omega arith) (omega arith));
         excluded = omega (arith, low EXCLUDED-LEN (omega arith) (omega arith));
+        caller = omega (arith, low CALLER (omega arith) (omega arith));
         draft = formed (between DRAFT LAYOUT w′) (getD w′ DRAFT-FAMILIES 0) f;
         draftCount = low DRAFT-GROUPS (omega arith) (omega arith) ∙ sym (none-count (between DRAFT LAYOUT w′) (getD w′ DRAFT-FAMILIES 0) f);
         layout = layouts;
@@ -141,7 +142,9 @@ module _ (n k : ℕ) (w w₁ w₂ : List ℕ) (L : Limits n k) (enough : columnS
       let st : stagedIn w′ ≡ [] = table-none (getD w′ STAGED-LEN 0) (stagedAt w′) (low STAGED-LEN (omega arith) (omega arith)) in
       let ex : excludedIn w′ ≡ [] = table-none (getD w′ EXCLUDED-LEN 0) _ (low EXCLUDED-LEN (omega arith) (omega arith)) in
       let dr : draftIn w′ ≡ [] = no-families [] (between DRAFT LAYOUT w′) (getD w′ DRAFT-FAMILIES 0) (low DRAFT-FAMILIES (omega arith) (omega arith)) in
-      let re : getD w′ REFUSALS 0 ≡ 0 = low REFUSALS (omega arith) (omega arith) in
+      let ca : callerOf w′ ≡ 0 = low CALLER (omega arith) (omega arith) in
+      let re : table CALLERS (refusalsAt w′) ≡ replicate CALLERS 0 =
+      is-table 0 CALLERS (refusalsAt w′) (replicate CALLERS 0) (length-replicate {A = ℕ} CALLERS 0) (λ c h. low (REFUSALS + c) (omega arith) (omega arith) ∙ sym (getD-replicate {A = ℕ} CALLERS c 0 0 h)) in
       reads-means
       (record {
         settings = λ i. record { capacity = cap i; kindCapacity = kcap i };
@@ -149,7 +152,7 @@ module _ (n k : ℕ) (w w₁ w₂ : List ℕ) (L : Limits n k) (enough : columnS
         entities = entities .becomes;
         sets = sets;
         layout = no-families (between GROUP-COUNTS ENTITIES w′) (between LAYOUT GROUP-FAMILIES w′) (getD w′ LAYOUT-FAMILIES 0) (low LAYOUT-FAMILIES (omega arith) (omega arith));
-        control = λ i. record { staged = st i; excluded = ex i; draft = dr i; counts = record { refusals = re i } };
+        control = λ i. record { staged = st i; excluded = ex i; draft = dr i; counts = record { caller = ca i; refusals = re i } };
       })
 
   pub made : Made n k w w′

@@ -4,7 +4,7 @@ use mathlib.Core.List.{List, []}
 use Prim.Native.Nat.{ℕ, _+_, _*_, _≤_, _<_}
 use native.Mathlib.Omega.{arith}
 use lib.ListN.{length, getD}
-use Rattle.model.specs.Numbers.{ENTITY-LEN, LIST-CAPACITY}
+use Rattle.model.specs.Numbers.{CALLERS, ENTITY-LEN, LIST-CAPACITY}
 use Rattle.model.specs.Store.{Store}
 use Rattle.memory.proofs.LayoutWords.{words-sized}
 use Rattle.words.specs.Offsets.{columnStart, BLOCK-LEN, CALLER, CAPACITY, DRAFT, DRAFT-FAMILIES, DRAFT-GROUPS, ENTITIES, EXCLUDED-KINDS, EXCLUDED-LEN, GROUP-COUNTS, GROUP-FAMILIES, KIND-CAPACITY, LAYOUT, LAYOUT-FAMILIES, LAYOUT-GROUPS, MORE-SETTINGS, REFUSALS, REGISTERED, ROWS, STAGED-KINDS, STAGED-LEN, STAGED-VALUE-LEN, STAGED-VALUES, TABLE}
@@ -17,7 +17,7 @@ use Rattle.component.specs.Columns.{columnOf}
 use Rattle.entity.specs.Meaning.{entitiesIn}
 use Rattle.layout.specs.Layout.{blockArrays, WellFormed, groupCount, familiesOf}
 use Rattle.layout.specs.ByValue.{ArraysSized}
-use Rattle.memory.specs.Header.{capacityOf, kindCapacityOf, stagedLen, excludedLen, draftGroups, excludedAt}
+use Rattle.memory.specs.Header.{capacityOf, kindCapacityOf, stagedLen, excludedLen, draftGroups, refusalsAt, excludedAt}
 use Rattle.memory.specs.Meaning.{kindsIn, setsIn, draftArrays, layoutArrays, draftIn, layoutIn, stagedAt, stagedIn, excludedIn, countsIn, controlIn, settingsOf, meaning}
 use Rattle.memory.specs.Arranged.{Arranged}
 use Rattle.memory.proofs.Kept.{Kept}
@@ -66,7 +66,10 @@ settings-kept w w′ size more = λ j. record { capacity = size CAPACITY (omega 
 
 -- the counts stay if the words from the caller to the table of kinds do
 pub counts-kept : (w w′ : List ℕ) → ((i : ℕ) → CALLER ≤ i → i < TABLE → getD w′ i 0 ≡ getD w i 0) → countsIn w′ ≡ countsIn w
-counts-kept w w′ same = λ j. record { refusals = same REFUSALS (omega arith) (omega arith) j }
+counts-kept w w′ same =
+    let c = same CALLER (omega arith) (omega arith) in
+    let r = table-same 0 CALLERS (refusalsAt w) (refusalsAt w′) (λ i h. same (REFUSALS + i) (omega arith) (omega arith)) in
+    λ j. record { caller = c j; refusals = r j }
 
 -- well-arranged words have a header
 pub long : (w : List ℕ) → Arranged w → ENTITIES ≤ length w

@@ -5,7 +5,7 @@ use mathlib.Core.List.{List, []}
 use Prim.Native.Nat.{ℕ, _-_, _≤_, _<_}
 use native.Mathlib.Omega.{arith}
 use lib.ListN.{length, getD, take}
-use Rattle.model.specs.Numbers.{LIST-CAPACITY, MAX-KINDS}
+use Rattle.model.specs.Numbers.{LAST-CALLER, LIST-CAPACITY, MAX-KINDS}
 use Rattle.words.specs.Offsets.{COLUMN-KIND, GROUP-PLACES, OWN-GROUP, PLACE-IN-FAMILY, ROWS, UNREGISTERED}
 use Rattle.words.specs.Table.{table}
 use Rattle.words.proofs.Tables.{table-same}
@@ -14,7 +14,7 @@ use Rattle.entity.specs.Meaning.{entityPart}
 use Rattle.layout.specs.Layout.{Arrays, WellFormed, widthOf, groupCount}
 use Rattle.layout.specs.Group.{memberAt}
 use Rattle.model.specs.Sound.{In}
-use Rattle.memory.specs.Header.{capacityOf, kindCapacityOf, registeredOf, stagedLen, excludedLen, draftGroups, layoutGroups, slotOf, groupFamilyAt}
+use Rattle.memory.specs.Header.{capacityOf, kindCapacityOf, registeredOf, stagedLen, excludedLen, draftGroups, layoutGroups, callerOf, slotOf, groupFamilyAt}
 use Rattle.memory.specs.Meaning.{kindAt, ownAt, localAt, kindsIn, draftArrays, layoutArrays, settingsOf}
 use Rattle.memory.specs.Arranged.{TableSound, Registered, GroupSound, LayoutSound, Arranged}
 use Rattle.entity.specs.Meaning as entity
@@ -112,8 +112,8 @@ module _ {w w′ : List ℕ} (A : Arranged w) (K : Kept w w′) where
 
   pub arranged-kept : entity.EntityPartSound (capacityOf w) (entityPart (capacityOf w) w′) → Columns (capacityOf w) (kindCapacityOf w) w′
       → ((s : ℕ) → registeredOf w ≤ s → s < kindCapacityOf w → rowsOf (capacityOf w) s w′ ≡ [])
-      → stagedLen w′ ≤ LIST-CAPACITY → excludedLen w′ ≤ LIST-CAPACITY → WellFormed (draftArrays w′) → draftGroups w′ ≡ groupCount (draftArrays w′) → Arranged w′
-  arranged-kept e c v st ex d g =
+      → stagedLen w′ ≤ LIST-CAPACITY → excludedLen w′ ≤ LIST-CAPACITY → callerOf w′ ≤ LAST-CALLER → WellFormed (draftArrays w′) → draftGroups w′ ≡ groupCount (draftArrays w′) → Arranged w′
+  arranged-kept e c v st ex ca d g =
       record {
         limits = rw (capacity-kept K, kind-capacity-kept K) (A .limits);
         enough = rw (capacity-kept K, kind-capacity-kept K, K .size) (A .enough);
@@ -123,6 +123,7 @@ module _ {w w′ : List ℕ} (A : Arranged w) (K : Kept w w′) where
         vacant = λ s r h. rw (capacity-kept K) (v s (rw (K .registered) at r) (rw (kind-capacity-kept K) at h));
         staged = st;
         excluded = ex;
+        caller = ca;
         draft = d;
         draftCount = g;
         layout = layout-kept;

@@ -2,7 +2,7 @@
 use mathlib.Core.List.{List}
 use Prim.Native.Nat.{ℕ, _+_, _*_}
 use lib.ListN.{getD}
-use Rattle.words.specs.Offsets.{CAPACITY, DRAFT-FAMILIES, DRAFT-GROUPS, EXCLUDED-KINDS, EXCLUDED-LEN, GROUP-COUNTS, GROUP-FAMILIES, KIND-CAPACITY, LAYOUT-FAMILIES, LAYOUT-GROUPS, REFUSALS, REGISTERED, STAGED-KINDS, STAGED-LEN, STAGED-VALUE-LEN, STAGED-VALUES, TABLE}
+use Rattle.words.specs.Offsets.{CALLER, CAPACITY, DRAFT-FAMILIES, DRAFT-GROUPS, EXCLUDED-KINDS, EXCLUDED-LEN, GROUP-COUNTS, GROUP-FAMILIES, KIND-CAPACITY, LAYOUT-FAMILIES, LAYOUT-GROUPS, REFUSALS, REGISTERED, STAGED-KINDS, STAGED-LEN, STAGED-VALUE-LEN, STAGED-VALUES, TABLE}
 
 -- capacity N (entities) and K (kinds), and how many kinds are registered
 abbrev pub capacityOf : List ℕ → ℕ
@@ -34,8 +34,12 @@ layoutFamilies w = getD w LAYOUT-FAMILIES 0
 abbrev pub layoutGroups : List ℕ → ℕ
 layoutGroups w = getD w LAYOUT-GROUPS 0
 
-abbrev pub refusalsOf : List ℕ → ℕ
-refusalsOf w = getD w REFUSALS 0
+-- the caller, and the refusal count of caller c
+abbrev pub callerOf : List ℕ → ℕ
+callerOf w = getD w CALLER 0
+
+abbrev pub refusalsAt : List ℕ → ℕ → ℕ
+refusalsAt w c = getD w (REFUSALS + c) 0
 
 -- the slot of kind k's column, 255 where the kind is not registered
 abbrev pub slotOf : List ℕ → ℕ → ℕ

@@ -1,20 +1,20 @@
 -- The model's store, read off the lent words (docs/WORDS.md). Assumes nothing.
 use mathlib.Core.Bool.{cond}
 use mathlib.Core.List.{List, []}
-use Prim.Native.Nat.{ℕ}
+use Prim.Native.Nat.{ℕ, _+_}
 use lib.Dec.{ltb}
 use lib.ListN.{getD, set}
-use Rattle.model.specs.Numbers.{MAX-KINDS}
+use Rattle.model.specs.Numbers.{CALLERS, MAX-KINDS}
 use Rattle.words.specs.Offsets.{COLUMN-KIND, DRAFT, ENTITIES, GROUP-COUNTS, GROUP-FAMILIES, LAYOUT, OWN-GROUP, PLACE-IN-FAMILY, REFUSALS}
 use Rattle.model.specs.Model.{Component, SparseSet, Family, Storage}
-use Rattle.model.specs.Store.{Counts, Control, Settings, Store, counted}
+use Rattle.model.specs.Store.{Counts, Control, Settings, Store, oneMore}
 use Rattle.words.specs.Table.{table}
 use Rattle.words.specs.Part.{between}
 use Rattle.component.specs.SparseSet.{valueOf}
 use Rattle.component.specs.Columns.{columnOf, rowsOf}
 use Rattle.entity.specs.Meaning.{entitiesIn}
 use Rattle.layout.specs.Layout.{Arrays, blockArrays, familiesOf}
-use Rattle.memory.specs.Header.{capacityOf, kindCapacityOf, registeredOf, stagedLen, excludedLen, draftFamilies, layoutFamilies, refusalsOf, slotOf, stagedKindAt, stagedLowAt, stagedHighAt, excludedAt}
+use Rattle.memory.specs.Header.{capacityOf, kindCapacityOf, registeredOf, stagedLen, excludedLen, draftFamilies, layoutFamilies, callerOf, refusalsAt, slotOf, stagedKindAt, stagedLowAt, stagedHighAt, excludedAt}
 
 -- ---- kinds and their columns
 
@@ -67,9 +67,9 @@ stagedIn w = table (stagedLen w) (stagedAt w)
 unfoldable pub excludedIn : List ℕ → List ℕ
 excludedIn w = table (excludedLen w) (excludedAt w)
 
--- of words 9 to 31
+-- of word 9, and of words 16 to 31
 abbrev pub countsIn : List ℕ → Counts
-countsIn w = record { refusals = refusalsOf w }
+countsIn w = record { caller = callerOf w; refusals = table CALLERS (refusalsAt w) }
 
 abbrev pub controlIn : List ℕ → Control
 controlIn w = record { staged = stagedIn w; excluded = excludedIn w; draft = draftIn w; counts = countsIn w }
@@ -90,7 +90,7 @@ meaning w =
       control = controlIn w;
     }
 
--- ---- "7 to 15 in a run .. add to the tally, change no other word": the words with a refusal more
+-- ---- "7 to 15 in a run .. add to the tally, change no other word": the words with a refusal more of the caller
 
 abbrev pub withRefusal : List ℕ → List ℕ
-withRefusal w = set w REFUSALS (counted (meaning w .control) .counts .refusals)
+withRefusal w = set w (REFUSALS + callerOf w) (oneMore (refusalsAt w (callerOf w)))

@@ -187,7 +187,7 @@ new-sound s S room =
 restaged-sound : (h : List Component) (s : Store) → StagedSound (s .kinds) h → StoreSound s → StoreSound (restaged h s)
 restaged-sound h s H S =
     let C = control-of s S in
-    control-sound s S (withStaged (s .control) h) (record { staged = H; excluded = C .excluded; draft = C .draft; refusals = C .refusals })
+    control-sound s S (withStaged (s .control) h) (record { staged = H; excluded = C .excluded; draft = C .draft; counts = C .counts })
 
 news-sound : (n : ℕ) (h : List Component) (s : Store) → StagedSound (s .kinds) h → StoreSound s → n ≤ freeNumbers (s .settings .capacity) (s .entities) → StoreSound (news n h s)
 unfolding accepted

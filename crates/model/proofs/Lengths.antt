@@ -10,8 +10,8 @@ use borrow.Author.Tests.{ltb-false}
 use lib.Dec.{ltb}
 use lib.ListN.{length, take, drop, getD, length-append, length-map, length-drop}
 use Rattle.model.specs.Model.{Entity, SparseSet, Storage, Range, none, found, noRow, setOf, at, held, kindOf, rangeFor, addsNothing, create}
-use Rattle.model.specs.Store.{Store, bytesOf, stagedKinds, isKind}
-use Rattle.model.specs.Commands.{Command, REG, HOLD, NEW, PUT, TAKE, DROP, KILL, WIPE, GROUP, APPLY, BAR, RANGE, EMPTY, TALLY, TRAY, Done, accepted, answerLength, takenBytes, heldBytes, rangeBytes, width, commandAt}
+use Rattle.model.specs.Store.{Store, bytesOf, stagedKinds, isKind, ownRefusals}
+use Rattle.model.specs.Commands.{Command, REG, HOLD, NEW, PUT, TAKE, DROP, KILL, WIPE, GROUP, APPLY, BAR, RANGE, EMPTY, TALLY, TRAY, SETCALLER, Done, accepted, answerLength, takenBytes, heldBytes, rangeBytes, width, commandAt}
 use Rattle.model.specs.Refusals.{firstLine, NoneHolds, beforeLines}
 use Rattle.model.specs.Run.{Outcome, refuses, accepts, does, Step, stops, goes, stepOf, stepIf, step, answerOf, Ran, halt, more, runFor, run}
 use Rattle.model.proofs.BoolLaws.{cond-case}
@@ -39,7 +39,7 @@ range-length none = refl
 range-length (found a b) = ap suc (pair-length a b)
 
 -- an accepted answer, with its 0 byte, has the length that the room is judged by
-accepted-length : (c : Command) (s : Store) → suc (length ((accepted c s) .answer)) ≡ answerLength c s
+pub accepted-length : (c : Command) (s : Store) → suc (length ((accepted c s) .answer)) ≡ answerLength c s
 unfolding accepted
 accepted-length (REG k) s = cond-case (λ (d : Done). suc (length (d .answer)) ≡ 2) (isKind k s) _ _ (λ t. refl) (λ t. refl)
 accepted-length (HOLD k v) s = refl
@@ -54,8 +54,9 @@ accepted-length APPLY s = refl
 accepted-length (BAR k) s = refl
 accepted-length RANGE s = ap suc (range-length (rangeFor (stagedKinds s) (s .control .excluded) (s .storage)))
 accepted-length EMPTY s = refl
-accepted-length TALLY s = ap suc (bytesOf-length 4 (s .control .counts .refusals))
+accepted-length TALLY s = ap suc (bytesOf-length 4 (ownRefusals (s .control)))
 accepted-length (TRAY n) s = ap suc (bytesOf-length 2 n)
+accepted-length (SETCALLER c) s = refl
 
 pub answer-length : (c : Command) (s s′ : Store) (a : List ℕ) → does c s ≡ accepts s′ a → suc (length a) ≡ answerLength c s
 answer-length c s s′ a e = sym (ap (λ (b : List ℕ). suc (length b)) (accepted-exact c s s′ a .0 e .2)) ∙ accepted-length c s

@@ -17,6 +17,7 @@ pub mod Numbers
 pub mod Values
 pub mod Held
 pub mod Operations
+pub mod Counts
 pub mod Lines
 pub mod Outcomes
 pub mod Extending
@@ -29,5 +30,6 @@ pub mod Listing
 pub mod Snapshots
 pub mod Lengths
 pub mod Retired
+pub mod Callers
 pub mod Ranges
 pub mod Bounds

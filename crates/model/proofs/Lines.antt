@@ -1,22 +1,23 @@
 -- The table of refusals: a refusal is the number of the first line that holds, and what a refused command changes. Assumes nothing.
-use mathlib.Core.Path.{_≡_, refl, ap, ap₂, sym, _∙_}
-use mathlib.Core.Logic.{_↔_}
+use mathlib.Core.Path.{_≡_, refl, ap, ap₂, sym, _∙_, subst}
+use mathlib.Core.Logic.{_↔_, inl, inr, ⊎-elim}
 use mathlib.Core.Bool.{true}
 use mathlib.Core.Option.{Option, some, none}
 use mathlib.Core.List.{List, [], _∷_, _++_}
 use Prim.Native.Nat.{ℕ, suc, _≤_}
 use native.Mathlib.Omega.{arith}
-use borrow.Author.Tests.{ltb-true, lt-ltb, le-ltb}
+use borrow.Author.Tests.{ltb-true}
 use lib.ListN.{length, take, length-map}
-use Rattle.model.specs.Numbers.{KIND, LIST-CAPACITY, MANY, MAX-GROUP-ARITY, MAX-REFUSALS, NOROOM, UNKNOWN, WIDE}
+use Rattle.model.specs.Numbers.{CALLER, KIND, LIST-CAPACITY, MAX-GROUP-ARITY, NOROOM, UNKNOWN, WIDE}
 use Rattle.model.specs.Model.{kindOf}
-use Rattle.model.specs.Store.{Store, stagedKinds}
-use Rattle.model.specs.Commands.{Command, REG, HOLD, NEW, PUT, TAKE, DROP, KILL, WIPE, GROUP, APPLY, BAR, RANGE, EMPTY, TALLY, TRAY, Done, accepted, width, commandAt}
+use Rattle.model.specs.Store.{Store, stagedKinds, ownRefusals}
+use Rattle.model.specs.Commands.{Command, REG, HOLD, NEW, PUT, TAKE, DROP, KILL, WIPE, GROUP, APPLY, BAR, RANGE, EMPTY, TALLY, TRAY, SETCALLER, Done, accepted, width, commandAt}
 use Rattle.model.specs.Refusals.{Line, firstLine, NoneHolds, First, linesOf, beforeLines}
 use Rattle.model.specs.Run.{Outcome, refuses, accepts, outcome, does, Step, stops, storeAfter, stepOf, stepIf, step}
-use Rattle.model.specs.Sound.{StoreSound}
+use Rattle.model.specs.Sound.{CountsSound, StoreSound}
 use Rattle.model.proofs.BoolLaws.{bool-cases}
-use Rattle.model.specs.Theorems.{RefusedStep}
+use Rattle.model.proofs.Counts.{refusal-unchanged, own-counted, one-more-up, one-more-full}
+use Rattle.model.specs.Theorems.{InRun, RefusedStep}
 
 -- ---- the first line that holds
 
@@ -89,7 +90,16 @@ accepted-exact c s s′ a = (
   (λ h. rw (none-from (linesOf c) s (h .0)) (ap₂ accepts (h .1) (h .2))),
 )
 
--- the numbers of a list of lines
+-- the numbers of a list of lines, each such as P says
+abbrev EachNumber : {A : Type 0} → (ℕ → Type 0) → List (Line A) → Type 0
+EachNumber P [] = Unit {0}
+EachNumber P (l ∷ ls) = P (l .number) × EachNumber P ls
+
+first-such : {A : Type 0} (P : ℕ → Type 0) (ls : List (Line A)) (x : A) (n : ℕ) → EachNumber P ls → firstLine ls x ≡ some n → P n
+first-such P [] x n h e = absurd (some-none (sym e))
+first-such P (l ∷ ls) x n h e = bool-cases (l .holds x) (λ t. subst P (some-eq (rw t at e)) (h .0)) (λ t. first-such P ls x n (h .1) (rw t at e))
+
+-- the numbers of a list of lines, from a to b
 abbrev pub NumbersIn : {A : Type 0} → ℕ → ℕ → List (Line A) → Type 0
 NumbersIn a b [] = Unit {0}
 NumbersIn a b (l ∷ ls) = (a ≤ l .number) × (l .number ≤ b) × NumbersIn a b ls
@@ -101,28 +111,38 @@ first-number (l ∷ ls) x a b n h e =
     (λ t. let p : l .number ≡ n = some-eq (rw t at e) in (omega (arith, h .0), omega (arith, h .1)))
     (λ t. first-number ls x a b n (h .2) (rw t at e))
 
-pub lines-numbers : (c : Command) → NumbersIn KIND MANY (linesOf c)
+lines-in-run : (c : Command) → EachNumber InRun (linesOf c)
 unfolding linesOf
-lines-numbers (REG k) = omega arith
-lines-numbers (HOLD k v) = omega arith
-lines-numbers NEW = omega arith
-lines-numbers (PUT e) = omega arith
-lines-numbers (TAKE e) = omega arith
-lines-numbers (DROP e) = omega arith
-lines-numbers (KILL e) = omega arith
-lines-numbers WIPE = tt
-lines-numbers GROUP = omega arith
-lines-numbers APPLY = tt
-lines-numbers (BAR k) = omega arith
-lines-numbers RANGE = tt
-lines-numbers EMPTY = tt
-lines-numbers TALLY = tt
-lines-numbers (TRAY n) = omega arith
+lines-in-run (REG k) = (inl (omega arith), (inl (omega arith), tt))
+lines-in-run (HOLD k v) = (inl (omega arith), (inl (omega arith), (inl (omega arith), tt)))
+lines-in-run NEW = (inl (omega arith), tt)
+lines-in-run (PUT e) = (inl (omega arith), tt)
+lines-in-run (TAKE e) = (inl (omega arith), tt)
+lines-in-run (DROP e) = (inl (omega arith), tt)
+lines-in-run (KILL e) = (inl (omega arith), tt)
+lines-in-run WIPE = tt
+lines-in-run GROUP = (inl (omega arith), (inl (omega arith), (inl (omega arith), tt)))
+lines-in-run APPLY = tt
+lines-in-run (BAR k) = (inl (omega arith), (inl (omega arith), (inl (omega arith), tt)))
+lines-in-run RANGE = tt
+lines-in-run EMPTY = tt
+lines-in-run TALLY = tt
+lines-in-run (TRAY n) = (inl (omega arith), tt)
+lines-in-run (SETCALLER c) = (inr refl, tt)
 
--- a command's refusal is one of 7 to 15
-pub refusal-number : (c : Command) (s : Store) (n : ℕ) → does c s ≡ refuses n → (KIND ≤ n) × (n ≤ MANY)
+in-run-numbers : {A : Type 0} (ls : List (Line A)) → EachNumber InRun ls → NumbersIn KIND CALLER ls
+in-run-numbers [] h = tt
+in-run-numbers (l ∷ ls) h =
+    let n : (KIND ≤ l .number) × (l .number ≤ CALLER) = ⊎-elim (λ p. (p .0, omega (arith, p .1))) (λ e. (omega (arith, e), omega (arith, e))) (h .0) in
+    (n .0, n .1, in-run-numbers ls (h .1))
+
+pub lines-numbers : (c : Command) → NumbersIn KIND CALLER (linesOf c)
+lines-numbers c = in-run-numbers (linesOf c) (lines-in-run c)
+
+-- a command's refusal is one of 7 to 15, or 19
+pub refusal-number : (c : Command) (s : Store) (n : ℕ) → does c s ≡ refuses n → InRun n
 unfolding does
-refusal-number c s n e = first-number (linesOf c) s KIND MANY n (lines-numbers c) (outcome-refuses (firstLine (linesOf c) s) (accepted c s) n e)
+refusal-number c s n e = first-such InRun (linesOf c) s n (lines-in-run c) (outcome-refuses (firstLine (linesOf c) s) (accepted c s) n e)
 
 -- ---- 13 WIDE
 
@@ -165,23 +185,24 @@ lines-wide RANGE s S = tt
 lines-wide EMPTY s S = tt
 lines-wide TALLY s S = tt
 lines-wide (TRAY n) s S = (other _ _ (λ e. omega arith), tt)
+lines-wide (SETCALLER c) s S = (other _ _ (λ e. omega arith), tt)
 
 -- 02, No. 3: "WIDE then never occurs"
 pub wide-never : (c : Command) (s : Store) → StoreSound s → does c s ≡ refuses WIDE → ⊥
 unfolding does
 wide-never c s S e = first-by (linesOf c) s WIDE (lines-wide c s S) (outcome-refuses (firstLine (linesOf c) s) (accepted c s) WIDE e)
 
--- ---- what a refused command changes: the refusal count alone, which saturates
+-- ---- what a refused command changes: the refusal count of the caller alone, which saturates
 
 -- "7 to 15 in a run write their number as one byte, add to the tally, change no other word, and the run goes on."
-pub refused-step : (w : ℕ) (c : Command) (s : Store) (n : ℕ) → does c s ≡ refuses n → RefusedStep n w s (stepOf w s (does c s))
-refused-step w c s n e =
+pub refused-step : (w : ℕ) (c : Command) (s : Store) (n : ℕ) → CountsSound (s .control .counts) → does c s ≡ refuses n → RefusedStep n w s (stepOf w s (does c s))
+refused-step w c s n N e =
     record {
       after = storeAfter s (refuses n);
       step = rw e;
-      same = record { settings = refl; kinds = refl; entities = refl; storage = refl; staged = refl; excluded = refl; draft = refl };
-      more = λ h. rw (lt-ltb (s .control .counts .refusals) MAX-REFUSALS h);
-      full = λ h. rw (le-ltb (s .control .counts .refusals) MAX-REFUSALS h);
+      same = refusal-unchanged s;
+      more = λ h. own-counted (s .control) N ∙ one-more-up (ownRefusals (s .control)) h;
+      full = λ h. own-counted (s .control) N ∙ one-more-full (ownRefusals (s .control)) h;
     }
 
 -- ---- stops

@@ -7,7 +7,7 @@ use Prim.Native.Nat.{ℕ, zero, suc, _+_, _-_, _≤_, _<_, zero-le, suc-le-suc}
 use native.Mathlib.Omega.{arith}
 use native.Mathlib.Nat.{le-of-suc-le-suc, not-suc-le-zero, suc-add, add-suc, add-zero, zero-add}
 use native.Mathlib.Decide.{ℕ-discrete}
-use lib.ListN.{length, take, drop, getD, set, length-set, take-append-drop, length-map, List·getD-map, List·getD-append, length-drop, length-append}
+use lib.ListN.{length, take, drop, getD, set, replicate, length-set, take-append-drop, length-map, List·getD-map, List·getD-append, length-drop, length-append}
 use lib.Seq.{set-set, set-append-left, take-set-lt, take-set-le, getD-take, getD-set-same, getD-set-other, take-suc, take-suc-set, set-getD, lt-length-set, length-take-le, take-all, sets, take-take, drop-drop, drop-cons, getD-drop, ext-getD, sets-eq, take-at, drop-at, take-add, set-comm, paste, paste-suc, take-length, append-snoc, drop-append-le}
 use borrow.Author.Tests.{eq-eqb, eqb-true}
 use lib.Dec.{eqb}
@@ -407,6 +407,12 @@ word-rest m w w′ e i h = from w′ ∙ ap (λ (l : List ℕ). getD l (i - m) 0
   where
     from : (u : List ℕ) → getD u i 0 ≡ getD (drop m u) (i - m) 0
     from u = let k : i ≡ m + (i - m) = omega arith in ap (λ (j : ℕ). getD u j 0) k ∙ sym (getD-drop m u (i - m) 0)
+
+-- a list that has the default in every place has it everywhere
+pub default-at : {A : Type 0} (d : A) (n i : ℕ) → getD (replicate n d) i d ≡ d
+default-at d zero i = refl
+default-at d (suc n) zero = refl
+default-at d (suc n) (suc i) = default-at d n i
 
 pub default-any : (l : List ℕ) (i d e : ℕ) → i < length l → getD l i d ≡ getD l i e
 default-any [] i d e h = absurd (omega arith)

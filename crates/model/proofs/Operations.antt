@@ -2,19 +2,20 @@
 use mathlib.Core.Path.{_≡_, refl, ap, sym, _∙_}
 use mathlib.Core.Bool.{true, false, _&&_, false≢true}
 use mathlib.Core.List.{List, [], _∷_, _++_, map}
-use Prim.Native.Nat.{ℕ, zero, suc, _≤_, _<_}
+use Prim.Native.Nat.{ℕ, suc, _≤_, _<_}
 use native.Mathlib.Omega.{arith}
 use borrow.Author.Tests.{ltb-true, leb-false, lt-ltb}
-use lib.Dec.{ltb, leb, eqb, lit<}
+use lib.Dec.{leb, eqb, lit<}
 use lib.ListN.{length, getD, replicate, length-append, length-replicate}
-use Rattle.model.specs.Numbers.{LIST-CAPACITY, MAX-KINDS, MAX-REFUSALS}
+use Rattle.model.specs.Numbers.{LAST-CALLER, LIST-CAPACITY, MAX-KINDS}
 use Rattle.model.specs.Lists.{one}
-use Rattle.model.proofs.ListLaws.{place-count, count-place, map-append, all-snoc}
+use Rattle.model.proofs.ListLaws.{place-count, count-place, map-append, all-snoc, default-at}
 use Rattle.model.specs.Model.{Entity, Entities, SparseSet, Family, Component, sameEntity, mem, setOf, keys, kindOf, isLive, isFull, insertComponents, remove, clearAll, setLayout, create, createWith, destroy, Row, noRow}
-use Rattle.model.specs.Store.{Control, Store, empty, withKinds, withEntities, withStorage, withControl, withAll, emptyStaged, emptyBoth, withStaged, withExcluded, withDraft, counted}
+use Rattle.model.specs.Store.{Control, Store, empty, withKinds, withEntities, withStorage, withControl, withAll, emptyStaged, emptyBoth, withStaged, withExcluded, withDraft, counted, withCaller}
 use Rattle.model.specs.Sound.{Eight, noComponent, Limits, KindsSound, EntitiesSound, StagedSound, ExcludedSound, Buildable, StoreSound, key, cnt, In}
 use Rattle.model.proofs.SparseSets.{entity-same}
-use Rattle.model.proofs.BoolLaws.{cond-case, or-false}
+use Rattle.model.proofs.BoolLaws.{or-false}
+use Rattle.model.proofs.Counts as counts
 use Rattle.model.proofs.Numbers.{create-ok, create-live}
 use Rattle.model.proofs.Values.{ColsOk, StagedOk, insert-ok, remove-ok, setLayout-ok, clearAll-ok}
 use Rattle.model.proofs.KindLists.{distinct-snoc, in-cases, in-left, mem-append, in-one, known-snoc}
@@ -55,7 +56,7 @@ sound-held s S =
     }
 
 pub control-of : (s : Store) → StoreSound s → ControlSound (s .kinds) (s .control)
-control-of s S = record { staged = S .staged; excluded = S .excluded; draft = record { buildable = S .draft; uncounted = S .uncounted }; refusals = S .refusals }
+control-of s S = record { staged = S .staged; excluded = S .excluded; draft = record { buildable = S .draft; uncounted = S .uncounted }; counts = S .counts }
 
 -- a store whose parts are sound
 make : (s : Store) → Limits (s .settings .capacity) (s .settings .kindCapacity) → KindsSound (s .settings .kindCapacity) (s .kinds) → s .entities .issued ≤ s .settings .capacity → Held (s .entities) (s .kinds) (s .storage) → ColsOk EightRow no-row (s .storage .sets) → Buildable (s .kinds) (s .storage .layout) → ControlSound (s .kinds) (s .control) → StoreSound s
@@ -71,7 +72,7 @@ make s limits kinds few H values layout C =
       uncounted = C .draft .uncounted;
       layout = layout;
       groups = held-right (s .entities) (s .kinds) (s .storage) H;
-      refusals = C .refusals;
+      counts = C .counts;
     }
 
 -- ---- live entities
@@ -86,7 +87,7 @@ count-live e c h = lt-ltb _ _ (count-place sameEntity e (c .live) h)
 pub create-is-live : (c : Entities) → isLive ((create c) .entity) ((create c) .entities) ≡ true
 create-is-live c = count-live ((create c) .entity) ((create c) .entities) (omega (arith, create-live c ((create c) .entity), ap one (entity-same ((create c) .entity))))
 
--- ---- hand, bar, draft, refusal count
+-- ---- hand, bar, draft, caller and refusal counts
 
 staged-ok : (e : Entity) (l : List Component) → ((j : ℕ) → Eight (getD l j noComponent .value)) → StagedOk EightRow no-row e l
 staged-ok e [] h = tt
@@ -103,10 +104,10 @@ no-draft kinds = record { buildable = record { families = tt; once = λ k. omega
 
 module _ (kinds : List ℕ) (d : Control) (C : ControlSound kinds d) where
   pub emptyStaged-sound : ControlSound kinds (emptyStaged d)
-  emptyStaged-sound = record { staged = no-staged kinds; excluded = C .excluded; draft = C .draft; refusals = C .refusals }
+  emptyStaged-sound = record { staged = no-staged kinds; excluded = C .excluded; draft = C .draft; counts = C .counts }
 
   pub emptyBoth-sound : ControlSound kinds (emptyBoth d)
-  emptyBoth-sound = record { staged = no-staged kinds; excluded = no-excluded kinds; draft = C .draft; refusals = C .refusals }
+  emptyBoth-sound = record { staged = no-staged kinds; excluded = no-excluded kinds; draft = C .draft; counts = C .counts }
 
   -- one component more in the hand
   pub stage-sound : (k v : ℕ) → In kinds k → mem k (map kindOf (d .staged)) ≡ false → length (d .staged) < LIST-CAPACITY → Eight v → ControlSound kinds (withStaged d (d .staged ++ (record { kind = k; value = v } ∷ [])))
@@ -120,7 +121,7 @@ module _ (kinds : List ℕ) (d : Control) (C : ControlSound kinds d) where
         };
         excluded = C .excluded;
         draft = C .draft;
-        refusals = C .refusals;
+        counts = C .counts;
       }
 
   -- one kind more in the bar
@@ -134,20 +135,17 @@ module _ (kinds : List ℕ) (d : Control) (C : ControlSound kinds d) where
           known = known-snoc kinds (d .excluded) k known (C .excluded .known);
         };
         draft = C .draft;
-        refusals = C .refusals;
+        counts = C .counts;
       }
 
   pub draft-sound : (fs : List Family) → DraftSound kinds fs → ControlSound kinds (withDraft d fs)
-  draft-sound fs D = record { staged = C .staged; excluded = C .excluded; draft = D; refusals = C .refusals }
+  draft-sound fs D = record { staged = C .staged; excluded = C .excluded; draft = D; counts = C .counts }
 
   pub counted-sound : ControlSound kinds (counted d)
-  counted-sound =
-      record {
-        staged = C .staged;
-        excluded = C .excluded;
-        draft = C .draft;
-        refusals = cond-case (λ (n : ℕ). n ≤ MAX-REFUSALS) (ltb (d .counts .refusals) MAX-REFUSALS) _ _ (λ t. omega (arith, ltb-true (d .counts .refusals) MAX-REFUSALS t)) (λ t. omega (arith, C .refusals));
-      }
+  counted-sound = record { staged = C .staged; excluded = C .excluded; draft = C .draft; counts = counts.counted-sound d (C .counts) }
+
+  pub caller-sound : (c : ℕ) → c ≤ LAST-CALLER → ControlSound kinds (withCaller d c)
+  caller-sound c h = record { staged = C .staged; excluded = C .excluded; draft = C .draft; counts = counts.called-sound d (C .counts) c h }
 
 -- ---- more kinds are registered
 
@@ -160,7 +158,7 @@ control-more kinds more sub d C =
       staged = record { few = C .staged .few; once = C .staged .once; known = λ j i. sub j (C .staged .known j i); values = C .staged .values };
       excluded = record { few = C .excluded .few; once = C .excluded .once; known = λ j i. sub j (C .excluded .known j i) };
       draft = record { buildable = buildable-more kinds more sub (d .draft) (C .draft .buildable); uncounted = C .draft .uncounted };
-      refusals = C .refusals;
+      counts = C .counts;
     }
 
 -- ---- the store
@@ -270,9 +268,7 @@ kill-sound s S e live = destroy-sound (withStorage s (remove e (s .kinds) (s .st
 -- ---- the empty store
 
 setOf-empty : (n k : ℕ) → setOf (replicate n []) k ≡ []
-setOf-empty zero k = refl
-setOf-empty (suc n) zero = refl
-setOf-empty (suc n) (suc k) = setOf-empty n k
+setOf-empty n k = default-at [] n k
 
 pub empty-sound : (n k : ℕ) → Limits n k → StoreSound (empty n k)
 unfolding empty
@@ -294,7 +290,7 @@ empty-sound n k limits =
       uncounted = tt;
       layout = no-draft [] .buildable;
       groups = tt;
-      refusals = omega arith;
+      counts = counts.none-sound;
     }
   where
     none : (x : Entity) (j : ℕ) → cnt x (key (replicate MAX-KINDS []) j) ≡ 0

@@ -5,11 +5,11 @@ use mathlib.Core.List.{[], _∷_, _++_}
 use Prim.Native.Nat.{ℕ}
 use lib.Dec.{leb, ltb}
 use lib.ListN.{length}
-use Rattle.model.specs.Numbers.{AGAIN, DEAD, FULL, HANDFUL, KIND, KINDS, LAST-KIND, LIST-CAPACITY, MAX-GROUP-ARITY, MAX-GROUP-COUNT}
+use Rattle.model.specs.Numbers.{AGAIN, CALLER, DEAD, FULL, HANDFUL, KIND, KINDS, LAST-CALLER, LAST-KIND, LIST-CAPACITY, MAX-GROUP-ARITY, MAX-GROUP-COUNT}
 use Rattle.model.specs.Model.{Entity, mem, isFull, freeNumbers, isLive, groupsOf, addsNothing, joins, destroy, insertComponents, remove}
 use Rattle.model.specs.Adding.{addGroup}
-use Rattle.model.specs.Store.{Store, bytesOf, stagedKinds, isKind, withControl, withStorage, withAll, withKinds, withStaged, withExcluded, emptyStaged, emptyBoth}
-use Rattle.model.specs.Commands.{REG, HOLD, NEW, PUT, TAKE, DROP, KILL, WIPE, GROUP, APPLY, BAR, RANGE, EMPTY, TALLY, TRAY, heldBytes, accepted}
+use Rattle.model.specs.Store.{Store, bytesOf, stagedKinds, isKind, withControl, withStorage, withAll, withKinds, withStaged, withExcluded, withCaller, ownRefusals, emptyStaged, emptyBoth}
+use Rattle.model.specs.Commands.{REG, HOLD, NEW, PUT, TAKE, DROP, KILL, WIPE, GROUP, APPLY, BAR, RANGE, EMPTY, TALLY, TRAY, SETCALLER, heldBytes, accepted}
 use Rattle.model.specs.Refusals.{linesOf, unknownKind}
 use Rattle.model.specs.Run.{refuses, accepts, does}
 use Rattle.model.proofs.BoolLaws.{bool-cases}
@@ -124,6 +124,16 @@ module _ (s : Store) where
   unfolding does linesOf accepted
   kill-live e h = rw h
 
+  -- ---- SETCALLER
+
+  pub caller-above : (c : ℕ) → ltb LAST-CALLER c ≡ true → does (SETCALLER c) s ≡ refuses CALLER
+  unfolding does linesOf
+  caller-above c h = rw h
+
+  pub caller-set : (c : ℕ) → ltb LAST-CALLER c ≡ false → does (SETCALLER c) s ≡ accepts (withControl s (withCaller (s .control) c)) []
+  unfolding does linesOf accepted
+  caller-set c h = rw h
+
   -- ---- commands that are never refused
 
   pub wipe-does : does WIPE s ≡ accepts ((accepted WIPE s) .store) []
@@ -142,7 +152,7 @@ module _ (s : Store) where
   unfolding does linesOf accepted
   empty-does = refl
 
-  pub tally-does : does TALLY s ≡ accepts s (bytesOf 4 (s .control .counts .refusals))
+  pub tally-does : does TALLY s ≡ accepts s (bytesOf 4 (ownRefusals (s .control)))
   unfolding does linesOf accepted
   tally-does = refl
 

@@ -12,7 +12,7 @@ use lib.Seq.{length-take-le}
 use Rattle.model.specs.Lists.{one, place}
 use Rattle.model.specs.Model.{Entity, Entities, sameEntity, noEntity, isLive, addsNothing, lastVersion, Component, Storage, Extended, create, createWith, extend, destroy}
 use Rattle.model.specs.Store.{Store, empty, stagedKinds, isKind}
-use Rattle.model.specs.Commands.{Command, REG, HOLD, NEW, PUT, TAKE, DROP, KILL, WIPE, GROUP, APPLY, BAR, RANGE, EMPTY, TALLY, TRAY, Done, accepted, width, commandAt}
+use Rattle.model.specs.Commands.{Command, REG, HOLD, NEW, PUT, TAKE, DROP, KILL, WIPE, GROUP, APPLY, BAR, RANGE, EMPTY, TALLY, TRAY, SETCALLER, Done, accepted, width, commandAt}
 use Rattle.model.specs.Refusals.{NoneHolds, linesOf}
 use Rattle.model.specs.Run.{Outcome, refuses, accepts, does, Step, stops, goes, stepOf, step, Ran, halt, more, runFor, run}
 use Rattle.model.specs.History.{retires, retiredFor, retired}
@@ -68,6 +68,7 @@ accepted-balanced (BAR k) s r n b = kept (s .entities) r b
 accepted-balanced RANGE s r n b = kept (s .entities) r b
 accepted-balanced EMPTY s r n b = kept (s .entities) r b
 accepted-balanced TALLY s r n b = kept (s .entities) r b
+accepted-balanced (SETCALLER k) s r n b = kept (s .entities) r b
 accepted-balanced (TRAY k) s r n b = kept ((extend k (s .control .staged) (s .entities) (s .storage)) .entities) r (extend-balanced k (s .control .staged) (s .entities) (s .storage) r b)
 
 -- a refused command retires nothing
@@ -88,6 +89,7 @@ refused-retires RANGE s f = refl
 refused-retires EMPTY s f = refl
 refused-retires TALLY s f = refl
 refused-retires (TRAY n) s f = refl
+refused-retires (SETCALLER c) s f = refl
 
 -- ---- steps and runs
 

@@ -9,10 +9,10 @@ use native.Mathlib.Nat.{pow-suc, one-le-pow}
 use borrow.Author.Tests.{ltb-false, leb-false, not-false}
 use lib.Dec.{ltb, leb, lit<}
 use lib.ListN.{length, take, drop, getD, length-take, length-drop}
-use Rattle.model.specs.Numbers.{LAST-KIND, LIST-CAPACITY, MAX-GROUP-ARITY, MAX-GROUP-COUNT}
+use Rattle.model.specs.Numbers.{LAST-CALLER, LAST-KIND, LIST-CAPACITY, MAX-GROUP-ARITY, MAX-GROUP-COUNT}
 use Rattle.model.specs.Model.{isLive, addsNothing, joins, withGroup, groupsOf, freeNumbers}
 use Rattle.model.specs.Store.{Bytes, Store, empty, number, stagedKinds, isKind, withControl, counted, emptyStaged, emptyBoth}
-use Rattle.model.specs.Commands.{Command, REG, HOLD, NEW, PUT, TAKE, DROP, KILL, WIPE, GROUP, APPLY, BAR, RANGE, EMPTY, TALLY, TRAY, Done, accepted, widths, width, commands, commandAt}
+use Rattle.model.specs.Commands.{Command, REG, HOLD, NEW, PUT, TAKE, DROP, KILL, WIPE, GROUP, APPLY, BAR, RANGE, EMPTY, TALLY, TRAY, SETCALLER, Done, accepted, widths, width, commands, commandAt}
 use Rattle.model.specs.Refusals.{firstLine, linesOf, beforeLines, NoneHolds}
 use Rattle.model.specs.Run.{Outcome, refuses, accepts, does, Step, stops, goes, stepOf, stepIf, step, Ran, halt, more, runFor, run}
 use Rattle.model.specs.History.{trailFor, trail, EachStore}
@@ -20,7 +20,7 @@ use Rattle.model.specs.Sound.{Limits, StoreSound}
 use Rattle.model.proofs.BoolLaws.{cond-case, or-false-right, not-and, not-not}
 use Rattle.model.proofs.KindLists.{all-most}
 use Rattle.model.proofs.Draft.{withGroup-sound}
-use Rattle.model.proofs.Operations.{control-of, control-sound, register-sound, insert-sound, remove-sound, kill-sound, clearAll-sound, setLayout-sound, stage-sound, exclude-sound, draft-sound, emptyStaged-sound, emptied, emptyBoth-sound, counted-sound, no-draft, empty-sound}
+use Rattle.model.proofs.Operations.{control-of, control-sound, register-sound, insert-sound, remove-sound, kill-sound, clearAll-sound, setLayout-sound, stage-sound, exclude-sound, draft-sound, emptyStaged-sound, emptied, emptyBoth-sound, counted-sound, caller-sound, no-draft, empty-sound}
 use Rattle.model.proofs.Lines.{none-to, outcome-case}
 use Rattle.model.proofs.Extending.{new-sound, tray-sound}
 use Rattle.model.specs.Theorems.{DraftSound, Fits, OutSound}
@@ -58,6 +58,7 @@ accepted-sound (BAR k) s f S n = control-sound s S _ (exclude-sound (s .kinds) (
 accepted-sound RANGE s f S n = both-emptied s S
 accepted-sound EMPTY s f S n = both-emptied s S
 accepted-sound TALLY s f S n = S
+accepted-sound (SETCALLER c) s f S n = control-sound s S _ (caller-sound (s .kinds) (s .control) (control-of s S) c (ltb-false LAST-CALLER c (n .0)))
 accepted-sound (TRAY k) s f S n = tray-sound k s S (ltb-false (freeNumbers (s .settings .capacity) (s .entities)) k (n .0))
 
 -- every command keeps a sound store sound
@@ -100,7 +101,7 @@ fit-at (c ∷ cs) h (suc j) = fit-at cs (h .1) j
 pub command-fits : (b : ℕ) (ops : List ℕ) → Bytes ops → length ops ≤ 9 → Fits (commandAt b ops)
 command-fits b ops h le =
     fit-at (commands ops)
-    (tt, (tt, (number-lt 8 (drop 1 ops) (bytes-drop 1 ops h) (rw (length-drop 1 ops) (omega arith)), (tt, (tt, (tt, (tt, (tt, (tt, (tt, (tt, (tt, (tt, (tt, (tt, (tt, tt))))))))))))))))
+    (tt, (tt, (number-lt 8 (drop 1 ops) (bytes-drop 1 ops h) (rw (length-drop 1 ops) (omega arith)), (tt, (tt, (tt, (tt, (tt, (tt, (tt, (tt, (tt, (tt, (tt, (tt, (tt, (tt, tt)))))))))))))))))
     b
 
 pub width-le : (b : ℕ) → width b ≤ 9

@@ -1,4 +1,4 @@
--- The fifteen commands, 01's fourteen and TRAY of 02's No. 4: how they are read, what an accepted one does and answers, and how long its answer is. Assumes nothing.
+-- The sixteen commands, 01's fourteen, TRAY of 02's No. 4 and SETCALLER of its No. 7: how they are read, what an accepted one does and answers, and how long its answer is. Assumes nothing.
 use mathlib.Core.Bool.{Bool, cond, _&&_}
 use mathlib.Core.List.{List, [], _∷_, _++_}
 use Prim.Native.Nat.{ℕ, _+_, _*_}
@@ -6,7 +6,7 @@ use lib.Dec.{leb}
 use lib.ListN.{length, take, drop, getD}
 use Rattle.model.specs.Numbers.{LAST-COMMAND}
 use Rattle.model.specs.Model.{Entity, SparseSet, Storage, Range, none, found, noRow, setOf, at, held, insertComponents, remove, clearAll, setLayout, rangeFor, addsNothing, withGroup, create, extend, destroy}
-use Rattle.model.specs.Store.{Store, bytesOf, number, stagedKinds, isKind, withControl, withStorage, withAll, withKinds, emptyStaged, emptyBoth, withStaged, withExcluded, withDraft}
+use Rattle.model.specs.Store.{Store, bytesOf, number, stagedKinds, isKind, withControl, withStorage, withAll, withKinds, emptyStaged, emptyBoth, withStaged, withExcluded, withDraft, withCaller, ownRefusals}
 
 -- a command with its operands
 pub data Command : Type 0 where
@@ -18,17 +18,18 @@ pub data Command : Type 0 where
   BAR : ℕ → Command
   RANGE EMPTY TALLY : Command
   TRAY : ℕ → Command
+  SETCALLER : ℕ → Command
 
 -- ---- reading a command off the tape: "One command byte, then operands"
 
--- "Operand widths: a constant table by command byte", from byte 0, which is no command; of TRAY "count 2 bytes"
+-- "Operand widths: a constant table by command byte", from byte 0, which is no command; of TRAY "count 2 bytes", of SETCALLER "caller 1 byte"
 abbrev pub widths : List ℕ
-widths = 0 ∷ 1 ∷ 9 ∷ 0 ∷ 8 ∷ 8 ∷ 8 ∷ 8 ∷ 0 ∷ 0 ∷ 0 ∷ 1 ∷ 0 ∷ 0 ∷ 0 ∷ 2 ∷ []
+widths = 0 ∷ 1 ∷ 9 ∷ 0 ∷ 8 ∷ 8 ∷ 8 ∷ 8 ∷ 0 ∷ 0 ∷ 0 ∷ 1 ∷ 0 ∷ 0 ∷ 0 ∷ 2 ∷ 1 ∷ []
 
 abbrev pub width : ℕ → ℕ
 width b = getD widths b 0
 
--- "byte not 01 to 0E" is UNKNOWN; 02, No. 4: "4 now begins above 0F"
+-- "byte not 01 to 0E" is UNKNOWN; 02, No. 7: "4 begins above 10"
 abbrev pub isCommand : ℕ → Bool
 isCommand b = leb 1 b && leb b LAST-COMMAND
 
@@ -36,7 +37,7 @@ isCommand b = leb 1 b && leb b LAST-COMMAND
 abbrev pub entityOfBytes : List ℕ → Entity
 entityOfBytes bs = record { index = number (take 4 bs); version = number (drop 4 bs) }
 
--- the commands by byte, in the order of 01's table, then TRAY, with their operand bytes; from byte 0
+-- the commands by byte, in the order of 01's table, then TRAY and SETCALLER, with their operand bytes; from byte 0
 abbrev pub commands : List ℕ → List Command
 commands ops =
     TALLY
@@ -55,6 +56,7 @@ commands ops =
     ∷ EMPTY
     ∷ TALLY
     ∷ TRAY (number ops)
+    ∷ SETCALLER (getD ops 0 0)
     ∷ []
 
 -- the command of a byte from 1 to LAST-COMMAND
@@ -96,6 +98,7 @@ answerLength RANGE s = 10
 answerLength EMPTY s = 1
 answerLength TALLY s = 5
 answerLength (TRAY n) s = 3
+answerLength (SETCALLER c) s = 1
 
 -- ---- accepted commands
 
@@ -144,10 +147,12 @@ accepted (BAR k) s = done (withControl s (withExcluded (s .control) (s .control 
 accepted RANGE s = done (withControl s (emptyBoth (s .control))) (rangeBytes (rangeFor (stagedKinds s) (s .control .excluded) (s .storage)))
 -- "empties hand and bar"
 accepted EMPTY s = done (withControl s (emptyBoth (s .control))) []
--- "4 bytes"
-accepted TALLY s = done s (bytesOf 4 (s .control .counts .refusals))
+-- "4 bytes"; 02, No. 7: "TALLY answers the current one"
+accepted TALLY s = done s (bytesOf 4 (ownRefusals (s .control)))
 -- 02, No. 4: "creates that many cards with the hand's parts, as `extend` does"; "Answer: 0 and the count, 2 bytes." "Count 0 empties the hand and does
 -- nothing else."
 accepted (TRAY n) s =
     let x = extend n (s .control .staged) (s .entities) (s .storage) in
     done (withAll s (x .entities) (x .storage) (emptyStaged (s .control))) (bytesOf 2 n)
+-- 02, No. 7: "Command 10, caller 1 byte (0 to 15), sets the caller for what follows"
+accepted (SETCALLER c) s = done (withControl s (withCaller (s .control) c)) []

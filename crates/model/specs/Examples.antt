@@ -4,7 +4,7 @@ use mathlib.Core.Path.{_≡_, refl}
 use mathlib.Core.List.{List, [], _∷_, _++_, map}
 use Prim.Native.Nat.{ℕ}
 use lib.ListN.{length}
-use Rattle.model.specs.Numbers.{REG-BYTE, HOLD-BYTE, NEW-BYTE, KILL-BYTE, GROUP-BYTE, APPLY-BYTE, BAR-BYTE, RANGE-BYTE, TRAY-BYTE}
+use Rattle.model.specs.Numbers.{REG-BYTE, HOLD-BYTE, NEW-BYTE, KILL-BYTE, GROUP-BYTE, APPLY-BYTE, BAR-BYTE, RANGE-BYTE, TALLY-BYTE, TRAY-BYTE, SETCALLER-BYTE}
 use Rattle.model.specs.Model.{Entity, Storage, Group, Family, groupAll, groupComponents, ungroupComponents, groupFamily, ungroupFamily, groupTouched, ungroup, insertComponents, remove, rangeFor, setLayout, regroup, create, createEach, groupEach, extend, destroy, entity, keys, setOf}
 use Rattle.model.specs.Store.{Store, empty, bytesOf}
 use Rattle.model.specs.Commands.{NEW, KILL, GROUP, RANGE, accepted}
@@ -200,3 +200,29 @@ tray-example = refl
 pub tray-rows : indexes 1 ((run trayTape ANSWER-ROOM exampleStore) .store .storage) ++ indexes 2 ((run trayTape ANSWER-ROOM exampleStore) .store .storage) ≡ (2 ∷ 0 ∷ 1 ∷ 4 ∷ 3 ∷ []) ++ (2 ∷ 0 ∷ 1 ∷ 4 ∷ [])
 unfolding indexes afterKill run runFor step does accepted linesOf rangeFor extend createEach groupEach
 tray-rows = refl
+
+-- ---- 02's No. 7, in the store of the examples
+
+abbrev pub call : ℕ → List ℕ
+call c = SETCALLER-BYTE ∷ c ∷ []
+
+-- caller 2, a REG that is refused, TALLY; caller 16, TALLY; caller 0, TALLY; caller 2, TALLY
+abbrev pub callerTape : List ℕ
+callerTape = call 2 ++ reg 128 ++ (TALLY-BYTE ∷ []) ++ call 16 ++ (TALLY-BYTE ∷ []) ++ call 0 ++ (TALLY-BYTE ∷ []) ++ call 2 ++ (TALLY-BYTE ∷ [])
+
+-- 7 and 19 are both counted against caller 2, and none against caller 0
+pub callerAnswer : List ℕ
+callerAnswer =
+    (0 ∷ 7 ∷ 0 ∷ 1 ∷ 0 ∷ 0 ∷ 0 ∷ [])
+    ++ (19 ∷ 0 ∷ 2 ∷ 0 ∷ 0 ∷ 0 ∷ [])
+    ++ (0 ∷ 0 ∷ 0 ∷ 0 ∷ 0 ∷ 0 ∷ [])
+    ++ (0 ∷ 0 ∷ 2 ∷ 0 ∷ 0 ∷ 0 ∷ [])
+
+pub caller-example : (run callerTape ANSWER-ROOM exampleStore) .bytes ≡ callerAnswer
+unfolding callerAnswer exampleStore
+caller-example = refl
+
+-- "4 begins above 10": the byte 11 stops a run
+pub eleven-stops : (run (17 ∷ []) ANSWER-ROOM exampleStore) .stop ≡ 4
+unfolding exampleStore
+eleven-stops = refl

@@ -27,9 +27,16 @@ MAX-GROUP-ARITY = 16
 abbrev pub MAX-GROUP-COUNT : ℕ
 MAX-GROUP-COUNT = 64
 
--- "a tally of refused commands that stays at 4,294,967,295"
+-- "a tally of refused commands that stays at 4,294,967,295"; 02, No. 7: "Each caller has a tally of its own"
 abbrev pub MAX-REFUSALS : ℕ
 MAX-REFUSALS = 4294967295
+
+-- 02, No. 7: "caller 1 byte (0 to 15)"
+abbrev pub CALLERS : ℕ
+CALLERS = 16
+
+abbrev pub LAST-CALLER : ℕ
+LAST-CALLER = 15
 
 -- ---- a store "needs 1,024 + 16 × N + K × (8 + 6 × N) words"
 
@@ -99,9 +106,13 @@ TALLY-BYTE = 14
 abbrev pub TRAY-BYTE : ℕ
 TRAY-BYTE = 15
 
--- "byte not 01 to 0E" is UNKNOWN; 02, No. 4: "4 now begins above 0F"
+-- 02, No. 7: "Command 10"
+abbrev pub SETCALLER-BYTE : ℕ
+SETCALLER-BYTE = 16
+
+-- "byte not 01 to 0E" is UNKNOWN; 02, No. 7: "4 begins above 10"
 abbrev pub LAST-COMMAND : ℕ
-LAST-COMMAND = TRAY-BYTE
+LAST-COMMAND = SETCALLER-BYTE
 
 -- ---- "Refusals by place": their numbers
 
@@ -152,3 +163,7 @@ MANY = 15
 
 abbrev pub BEYOND : ℕ
 BEYOND = 16
+
+-- 02, No. 7: "19 CALLER"
+abbrev pub CALLER : ℕ
+CALLER = 19

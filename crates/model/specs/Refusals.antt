@@ -1,15 +1,16 @@
 -- "Refusals by place": 01's table, place by place in its order. Assumes nothing.
 use mathlib.Core.Path.{_≡_}
+use mathlib.Core.Logic.{_≢_}
 use mathlib.Core.Bool.{Bool, true, false, cond, not, _&&_, _||_}
 use mathlib.Core.Option.{Option, some, none}
 use mathlib.Core.List.{List, [], _∷_, _++_}
 use Prim.Native.Nat.{ℕ}
 use lib.Dec.{eqb, leb, ltb}
 use lib.ListN.{length, take}
-use Rattle.model.specs.Numbers.{HANDFUL, KIND, LAST-KIND, LIST-CAPACITY, MANY, MAX-ENTITIES, MAX-GROUP-ARITY, MAX-GROUP-COUNT, MAX-KINDS, SIZE, WIDE, SHORT, UNSOUND, UNKNOWN, CUT, NOROOM, KINDS, AGAIN, DEAD, FULL, CLASH, BEYOND}
+use Rattle.model.specs.Numbers.{CALLER, HANDFUL, KIND, LAST-CALLER, LAST-KIND, LIST-CAPACITY, MANY, MAX-ENTITIES, MAX-GROUP-ARITY, MAX-GROUP-COUNT, MAX-KINDS, SIZE, WIDE, SHORT, UNSOUND, UNKNOWN, CUT, NOROOM, KINDS, AGAIN, DEAD, FULL, CLASH, BEYOND}
 use Rattle.model.specs.Model.{Entity, mem, setOf, groupsOf, addsNothing, joins, isFull, freeNumbers, isLive}
-use Rattle.model.specs.Store.{Store, stagedKinds, isKind, wordsNeeded}
-use Rattle.model.specs.Commands.{Command, REG, HOLD, NEW, PUT, TAKE, DROP, KILL, WIPE, GROUP, APPLY, BAR, RANGE, EMPTY, TALLY, TRAY, width, isCommand, commandAt, answerLength}
+use Rattle.model.specs.Store.{Store, stagedKinds, isKind, refusalsBy, wordsNeeded}
+use Rattle.model.specs.Commands.{Command, REG, HOLD, NEW, PUT, TAKE, DROP, KILL, WIPE, GROUP, APPLY, BAR, RANGE, EMPTY, TALLY, TRAY, SETCALLER, width, isCommand, commandAt, answerLength}
 use Rattle.model.specs.Snapshot.{snapshot}
 
 -- ---- lines
@@ -86,7 +87,7 @@ commandOf r = commandAt (r .byte) (take (width (r .byte)) (r .rest))
 
 abbrev pub beforeLines : List (Line BeforeCommand)
 beforeLines =
-    -- "byte not 01 to 0E"; 02, No. 4: "4 now begins above 0F"
+    -- "byte not 01 to 0E"; 02, No. 7: "4 begins above 10"
     line UNKNOWN (λ r. not (isCommand (r .byte)))
     -- "operands incomplete"
     ∷ line CUT (λ r. ltb (length (r .rest)) (width (r .byte)))
@@ -162,6 +163,10 @@ linesOf (TRAY n) =
     -- 02, No. 4: "12 if the numbers waiting and those not yet issued are together fewer than the count, and then no card is made"
     line FULL (λ s. ltb (freeNumbers (s .settings .capacity) (s .entities)) n)
     ∷ []
+linesOf (SETCALLER c) =
+    -- 02, No. 7: "19 CALLER for 16 or above"
+    line CALLER (λ s. ltb LAST-CALLER c)
+    ∷ []
 
 -- ---- column
 
@@ -181,7 +186,7 @@ columnLines =
 
 -- ---- a refused command inside a run
 
--- "change no other word": all but the refusal count is as it was
+-- "change no other word": all but the refusal count of the caller is as it was
 pub record Unchanged (s t : Store) : Type 0 where
   pub settings : t .settings ≡ s .settings
   pub kinds : t .kinds ≡ s .kinds
@@ -190,3 +195,6 @@ pub record Unchanged (s t : Store) : Type 0 where
   pub staged : t .control .staged ≡ s .control .staged
   pub excluded : t .control .excluded ≡ s .control .excluded
   pub draft : t .control .draft ≡ s .control .draft
+  pub caller : t .control .counts .caller ≡ s .control .counts .caller
+  -- 02, No. 7: "no caller's refusals alter another's"
+  pub others : (c : ℕ) → c ≢ s .control .counts .caller → refusalsBy c (t .control) ≡ refusalsBy c (s .control)

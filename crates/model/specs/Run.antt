@@ -27,7 +27,8 @@ pub data Step : Type 0 where
   stops : ℕ → Step
   goes : ℕ → List ℕ → Store → Step
 
--- the store after a command: "7 to 15 in a run .. add to the tally, change no other word"
+-- the store after a command: "7 to 15 in a run .. add to the tally, change no other word"; 02, No. 7: 19 is "answered in a run as 7 to 15 are and counted
+-- against the caller then set"
 abbrev pub storeAfter : Store → Outcome → Store
 storeAfter s (refuses n) = withControl s (counted (s .control))
 storeAfter s (accepts s′ a) = s′

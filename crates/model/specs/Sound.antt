@@ -6,10 +6,10 @@ use mathlib.Core.List.{List, [], _∷_, _++_, map}
 use Prim.Native.Nat.{ℕ, _+_, _^_, _≤_, _<_}
 use lib.Dec.{eqb}
 use lib.ListN.{length, take, drop, getD}
-use Rattle.model.specs.Numbers.{LIST-CAPACITY, MAX-ENTITIES, MAX-GROUP-ARITY, MAX-GROUP-COUNT, MAX-KINDS, MAX-REFUSALS}
+use Rattle.model.specs.Numbers.{CALLERS, LAST-CALLER, LIST-CAPACITY, MAX-ENTITIES, MAX-GROUP-ARITY, MAX-GROUP-COUNT, MAX-KINDS, MAX-REFUSALS}
 use Rattle.model.specs.Lists.{countOf}
 use Rattle.model.specs.Model.{Entity, Entities, SparseSet, Component, Family, sameEntity, noRow, mem, setOf, keys, kindOf, kindsOf, groupsOf, allHeld, lastVersion}
-use Rattle.model.specs.Store.{Store}
+use Rattle.model.specs.Store.{Counts, Store}
 
 -- ---- words for what follows
 
@@ -94,6 +94,13 @@ pub record ExcludedSound (kinds excluded : List ℕ) : Type 0 where
   pub once : Distinct excluded
   pub known : (k : ℕ) → In excluded k → In kinds k
 
+-- ---- 02, No. 7: "a sound one a caller of 0 to 15"; each of the sixteen tallies "stays at 4,294,967,295"
+
+pub record CountsSound (n : Counts) : Type 0 where
+  pub caller : n .caller ≤ LAST-CALLER
+  pub callers : length (n .refusals) ≡ CALLERS
+  pub most : (c : ℕ) → getD (n .refusals) c 0 ≤ MAX-REFUSALS
+
 -- ---- "draft and layout of registered kinds, such as commands can build"
 
 -- the kinds of all families, in order
@@ -173,8 +180,7 @@ pub record StoreSound (s : Store) : Type 0 where
   pub uncounted : AllUncounted (s .control .draft)
   pub layout : Buildable (s .kinds) (s .storage .layout)
   pub groups : AllRight (s .storage .sets) (s .entities .live) (s .storage .layout)
-  -- "a tally of refused commands that stays at 4,294,967,295"
-  pub refusals : s .control .counts .refusals ≤ MAX-REFUSALS
+  pub counts : CountsSound (s .control .counts)
 
 -- ---- demand 3 of a store, for the theorems on runs
 

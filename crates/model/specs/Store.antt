@@ -3,8 +3,8 @@ use mathlib.Core.Bool.{Bool, cond}
 use mathlib.Core.List.{List, [], _∷_, map}
 use Prim.Native.Nat.{ℕ, zero, suc, _+_, _*_, _/_, _%_, _<_}
 use lib.Dec.{ltb}
-use lib.ListN.{replicate, set}
-use Rattle.model.specs.Numbers.{ENTITY-LEN, HEADER-LEN, MAX-KINDS, MAX-REFUSALS, columnLen}
+use lib.ListN.{getD, replicate, set}
+use Rattle.model.specs.Numbers.{CALLERS, ENTITY-LEN, HEADER-LEN, MAX-KINDS, MAX-REFUSALS, columnLen}
 use Rattle.model.specs.Model.{SparseSet, Family, Component, Storage, Entities, noEntities, mem, setOf, kindOf}
 
 -- ---- bytes: "numbers in bytes are little-endian"
@@ -26,9 +26,15 @@ Bytes (b ∷ bs) = (b < 256) × Bytes bs
 
 -- ---- the store
 
--- what is counted: "a tally of refused commands"
+-- what is counted: "a tally of refused commands". 02, No. 7: "Command 10 .. sets the caller for what follows"; "Each caller has a tally of its own": the
+-- refusals of callers 0 to 15, in this order
 pub record Counts : Type 0 where
-  pub refusals : ℕ
+  pub caller : ℕ
+  pub refusals : List ℕ
+
+-- 02, No. 7: "a store from start .. has caller 0 and every tally 0"
+abbrev pub noCounts : Counts
+noCounts = record { caller = 0; refusals = replicate CALLERS 0 }
 
 -- "It also holds a hand (up to 16 distinct kinds with values), a bar (up to 16 distinct kinds), a draft layout and a tally of refused commands"
 pub record Control : Type 0 where
@@ -58,7 +64,7 @@ empty n k =
       kinds = [];
       entities = noEntities;
       storage = record { sets = replicate MAX-KINDS []; layout = [] };
-      control = record { staged = []; excluded = []; draft = []; counts = record { refusals = 0 } };
+      control = record { staged = []; excluded = []; draft = []; counts = noCounts };
     }
 
 -- a store "needs 1,024 + 16 × N + K × (8 + 6 × N) words"
@@ -93,9 +99,27 @@ emptyStaged d = withStaged d []
 abbrev pub emptyBoth : Control → Control
 emptyBoth d = withExcluded (withStaged d []) []
 
--- "a tally of refused commands that stays at 4,294,967,295": a refusal more
+-- ---- refusals by their caller
+
+-- how many are counted against caller c
+abbrev pub refusalsBy : ℕ → Control → ℕ
+refusalsBy c d = getD (d .counts .refusals) c 0
+
+-- and against the caller that is set: "TALLY answers the current one"
+abbrev pub ownRefusals : Control → ℕ
+ownRefusals d = refusalsBy (d .counts .caller) d
+
+-- "a tally of refused commands that stays at 4,294,967,295": one more
+abbrev pub oneMore : ℕ → ℕ
+oneMore n = cond (ltb n MAX-REFUSALS) (suc n) n
+
+-- a refusal more of the caller that is set: "no caller's refusals alter another's"
 abbrev pub counted : Control → Control
-counted d = let n = d .counts .refusals in withCounts d (record { refusals = cond (ltb n MAX-REFUSALS) (suc n) n })
+counted d = withCounts d (record { caller = d .counts .caller; refusals = set (d .counts .refusals) (d .counts .caller) (oneMore (ownRefusals d)) })
+
+-- "sets the caller for what follows"
+abbrev pub withCaller : Control → ℕ → Control
+withCaller d c = withCounts d (record { caller = c; refusals = d .counts .refusals })
 
 -- ---- the store with one field replaced
 

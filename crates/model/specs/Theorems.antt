@@ -1,19 +1,20 @@
 -- What the theorems on commands, runs and entries say. Assumes nothing.
 use mathlib.Core.Path.{_≡_}
-use mathlib.Core.Logic.{_⊎_}
+use mathlib.Core.Logic.{_≢_, _⊎_}
 use mathlib.Core.Bool.{Bool, true}
 use mathlib.Core.List.{List, [], _∷_}
 use Prim.Native.Nat.{ℕ, zero, suc, _≤_, _<_, _+_, _-_, _*_}
 use lib.ListN.{length, take}
-use Rattle.model.specs.Numbers.{LAST-KIND, MAX-REFUSALS, NOROOM, UNKNOWN}
+use Rattle.model.specs.Numbers.{CALLER, KIND, LAST-CALLER, LAST-KIND, MANY, MAX-REFUSALS, NOROOM, UNKNOWN}
 use Rattle.model.specs.Model.{Family, Component, Entities, setOf}
 use Rattle.model.specs.Adding.{Added, nothing, added, refused}
-use Rattle.model.specs.Store.{Control, Store, empty, wordsNeeded, isKind, withControl, withStaged, withDraft, emptyStaged}
-use Rattle.model.specs.Commands.{Command, REG, HOLD, NEW, PUT, TAKE, DROP, KILL, WIPE, GROUP, APPLY, BAR, RANGE, EMPTY, TALLY, TRAY, width, commandAt, answerLength}
+use Rattle.model.specs.Store.{Counts, Control, Store, bytesOf, empty, wordsNeeded, isKind, withControl, withStaged, withDraft, withCounts, withCaller, emptyStaged, refusalsBy, ownRefusals, counted}
+use Rattle.model.specs.Commands.{Command, REG, HOLD, NEW, PUT, TAKE, DROP, KILL, WIPE, GROUP, APPLY, BAR, RANGE, EMPTY, TALLY, TRAY, SETCALLER, width, commandAt, answerLength}
 use Rattle.model.specs.Refusals.{Unchanged}
 use Rattle.model.specs.Run.{Outcome, refuses, accepts, storeAfter, does, Step, stops, goes, Ran}
+use Rattle.model.specs.History.{moreBy}
 use Rattle.model.specs.Entries.{partWords, column}
-use Rattle.model.specs.Sound.{Eight, Limits, Buildable, AllUncounted, StagedSound, ExcludedSound, StoreSound}
+use Rattle.model.specs.Sound.{Eight, Limits, Buildable, AllUncounted, StagedSound, ExcludedSound, CountsSound, StoreSound}
 
 -- ---- parts of a sound store
 
@@ -22,12 +23,12 @@ pub record DraftSound (kinds : List ℕ) (fs : List Family) : Type 0 where
   pub buildable : Buildable kinds fs
   pub uncounted : AllUncounted fs
 
--- staged and excluded list, draft and refusal count
+-- staged and excluded list, draft, caller and refusal counts
 pub record ControlSound (kinds : List ℕ) (d : Control) : Type 0 where
   pub staged : StagedSound kinds (d .staged)
   pub excluded : ExcludedSound kinds (d .excluded)
   pub draft : DraftSound kinds (d .draft)
-  pub refusals : d .counts .refusals ≤ MAX-REFUSALS
+  pub counts : CountsSound (d .counts)
 
 -- each group's count is at most n
 abbrev pub CountsTo : ℕ → Family → Type 0
@@ -57,6 +58,7 @@ Fits RANGE = Unit {0}
 Fits EMPTY = Unit {0}
 Fits TALLY = Unit {0}
 Fits (TRAY n) = Unit {0}
+Fits (SETCALLER c) = Unit {0}
 
 -- what an accepted one leaves is sound
 abbrev pub OutSound : Outcome → Type 0
@@ -84,16 +86,32 @@ unfoldable pub news : ℕ → List Component → Store → Store
 news zero h s = s
 news (suc n) h s = news n h (storeAfter (restaged h s) (does NEW (restaged h s)))
 
+-- 02, No. 7: command 10 with caller c in the store s leaves t, and answers at the front of a
+pub record CallTold (c : ℕ) (s t : Store) (a : List ℕ) : Type 0 where
+  -- "19 CALLER for 16 or above, answered in a run as 7 to 15 are and counted against the caller then set"
+  pub above : LAST-CALLER < c → (take 1 a ≡ CALLER ∷ []) × (t ≡ withControl s (counted (s .control)))
+  -- "sets the caller for what follows", and changes nothing else
+  pub sets : c ≤ LAST-CALLER → (take 1 a ≡ 0 ∷ []) × (t ≡ withControl s (withCaller (s .control) c))
+
+-- "TALLY answers the current one", and changes nothing
+pub record TallyTold (s t : Store) (a : List ℕ) : Type 0 where
+  pub answer : take 5 a ≡ 0 ∷ bytesOf 4 (ownRefusals (s .control))
+  pub same : t ≡ s
+
+-- the numbers by which a command is refused: "7 to 15 in a run"; 02, No. 7: 19 CALLER is "answered in a run as 7 to 15 are"
+abbrev pub InRun : ℕ → Type 0
+InRun n = ((KIND ≤ n) × (n ≤ MANY)) ⊎ (n ≡ CALLER)
+
 -- ---- one step
 
--- "7 to 15 in a run write their number as one byte, add to the tally, change no other word, and the run goes on": the refusal count alone is changed,
--- "that stays at 4,294,967,295"
+-- "7 to 15 in a run write their number as one byte, add to the tally, change no other word, and the run goes on", and so 19: the refusal count of the caller
+-- alone is changed, "that stays at 4,294,967,295"
 pub record RefusedStep (n w : ℕ) (s : Store) (p : Step) : Type 0 where
   pub after : Store
   pub step : p ≡ goes w (n ∷ []) after
   pub same : Unchanged s after
-  pub more : s .control .counts .refusals < MAX-REFUSALS → after .control .counts .refusals ≡ suc (s .control .counts .refusals)
-  pub full : MAX-REFUSALS ≤ s .control .counts .refusals → after .control .counts .refusals ≡ s .control .counts .refusals
+  pub more : ownRefusals (s .control) < MAX-REFUSALS → ownRefusals (after .control) ≡ suc (ownRefusals (s .control))
+  pub full : MAX-REFUSALS ≤ ownRefusals (s .control) → ownRefusals (after .control) ≡ ownRefusals (s .control)
 
 -- Q of a step that does not stop the run
 abbrev pub IfGoes : (ℕ → List ℕ → Store → Type 0) → Step → Type 0
@@ -109,6 +127,29 @@ pub record StepFits (b : ℕ) (t : List ℕ) (room : ℕ) (s : Store) (w : ℕ) 
   pub accepted : (s′ : Store) (x : List ℕ) → does (commandAt b (take (width b) t)) s ≡ accepts s′ x → length a ≡ answerLength (commandAt b (take (width b) t)) s
 
 -- ---- a run
+
+-- 02, No. 7: from s to t the caller is kept, n refusals more are counted against him, and none against another
+pub record OneCaller (n : ℕ) (s t : Store) : Type 0 where
+  pub caller : t .control .counts .caller ≡ s .control .counts .caller
+  pub own : ownRefusals (t .control) ≡ moreBy n (ownRefusals (s .control))
+  pub others : (c : ℕ) → c ≢ s .control .counts .caller → refusalsBy c (t .control) ≡ refusalsBy c (s .control)
+
+-- the stores differ in their callers and counts alone
+abbrev pub recounted : Counts → Store → Store
+recounted n s = withControl s (withCounts (s .control) n)
+
+-- and the refusals of the two callers that are set are as many
+pub record ButCallers (s t : Store) : Type 0 where
+  pub same : t ≡ recounted (t .control .counts) s
+  pub own : ownRefusals (t .control) ≡ ownRefusals (s .control)
+
+-- two runs of one tape: the same stop, commands, bytes read and answers, and stores that differ so again
+pub record SameButCallers (r q : Ran) : Type 0 where
+  pub stop : q .stop ≡ r .stop
+  pub commands : q .commands ≡ r .commands
+  pub read : q .read ≡ r .read
+  pub bytes : q .bytes ≡ r .bytes
+  pub store : ButCallers (r .store) (q .store)
 
 -- the stores after each command: one for each, the last one the run's
 abbrev pub lastOf : Store → List Store → Store

@@ -1,4 +1,4 @@
-// Commands, by their names in 01's table; 02's No. 4 has the last.
+// Commands, by their names in 01's table; 02's Nos. 4 and 7 have the last two.
 pub const REG: u8 = 1;
 
 pub const HOLD: u8 = 2;
@@ -28,5 +28,7 @@ pub const EMPTY: u8 = 13;
 pub const TALLY: u8 = 14;
 
 pub const TRAY: u8 = 15;
+
+pub const SETCALLER: u8 = 16;
 // The last of them.
-pub const LAST_COMMAND: u8 = TRAY;
+pub const LAST_COMMAND: u8 = SETCALLER;

@@ -1,4 +1,4 @@
-// Refusals, by their names in 01's table.
+// Refusals, by their names in 01's table; 02's No. 7 has the last.
 pub const SIZE: u8 = 1;
 
 pub const SHORT: u8 = 2;
@@ -31,3 +31,5 @@ pub const CLASH: u8 = 14;
 pub const MANY: u8 = 15;
 
 pub const BEYOND: u8 = 16;
+
+pub const CALLER: u8 = 19;

@@ -14,7 +14,7 @@ use Rattle.model.specs.Numbers.{TAKE-BYTE, LAST-COMMAND}
 
 -- by command byte; TAKE's is for no staged component
 abbrev pub answers : List ℕ
-answers = 5 ∷ 2 ∷ 1 ∷ 9 ∷ 1 ∷ 1 ∷ 1 ∷ 1 ∷ 1 ∷ 2 ∷ 1 ∷ 1 ∷ 10 ∷ 1 ∷ 5 ∷ 3 ∷ []
+answers = 5 ∷ 2 ∷ 1 ∷ 9 ∷ 1 ∷ 1 ∷ 1 ∷ 1 ∷ 1 ∷ 2 ∷ 1 ∷ 1 ∷ 10 ∷ 1 ∷ 5 ∷ 3 ∷ 1 ∷ []
 
 pub answers-small : (b : ℕ) → getD answers b 0 ≤ 10
 answers-small b = all-most 10 answers refl b

@@ -10,7 +10,7 @@ use lib.ListN.{length, getD, take, drop, length-drop}
 use Rattle.model.specs.Numbers.{CUT, NOROOM, UNKNOWN, LAST-COMMAND}
 use Rattle.model.specs.Model.{addsNothing}
 use Rattle.model.specs.Store.{Store, Bytes, isKind, stagedKinds}
-use Rattle.model.specs.Commands.{Command, REG, HOLD, NEW, PUT, TAKE, DROP, KILL, WIPE, GROUP, APPLY, BAR, RANGE, EMPTY, TALLY, TRAY, Done, accepted, width, commandAt, answerLength}
+use Rattle.model.specs.Commands.{Command, REG, HOLD, NEW, PUT, TAKE, DROP, KILL, WIPE, GROUP, APPLY, BAR, RANGE, EMPTY, TALLY, TRAY, SETCALLER, Done, accepted, width, commandAt, answerLength}
 use Rattle.model.specs.Run.{Outcome, refuses, accepts, does, Step, stops, goes, stepOf, step, storeAfter, answerOf}
 use Rattle.model.proofs.BoolLaws.{cond-case}
 use Rattle.model.proofs.Lines.{accepted-exact}
@@ -75,6 +75,7 @@ accepted-size RANGE s = refl
 accepted-size EMPTY s = refl
 accepted-size TALLY s = refl
 accepted-size (TRAY n) s = refl
+accepted-size (SETCALLER c) s = refl
 
 after-size : (c : Command) (s : Store) (x : Outcome) → does c s ≡ x → SameSettings s (storeAfter s x)
 after-size c s (refuses n) e = refl

@@ -18,9 +18,9 @@ ghost use Rattle.model.specs.Numbers.{LAST-COMMAND};
 // How many bytes there are up to the last command's.
 const BYTES: usize = LAST_COMMAND as usize + 1;
 // Operand bytes by command byte.
-const WIDTHS: [u8; BYTES] = [0, 1, 9, 0, 8, 8, 8, 8, 0, 0, 0, 1, 0, 0, 0, 2];
+const WIDTHS: [u8; BYTES] = [0, 1, 9, 0, 8, 8, 8, 8, 0, 0, 0, 1, 0, 0, 0, 2, 1];
 // Bytes of the accepted answer by command byte. TAKE has nine more for each staged component.
-const ANSWERS: [u8; BYTES] = [5, 2, 1, 9, 1, 1, 1, 1, 1, 2, 1, 1, 10, 1, 5, 3];
+const ANSWERS: [u8; BYTES] = [5, 2, 1, 9, 1, 1, 1, 1, 1, 2, 1, 1, 10, 1, 5, 3, 1];
 
 // One command is done, and the tape goes on at the first number, the answers at the second; or the run stops.
 pub enum Went {

@@ -17,7 +17,7 @@ use Rattle.memory.specs.Meaning.{meaning}
 use Rattle.command.specs.Acted.{Ready, Acted}
 use Rattle.run_command.specs.Given.{commandIn, Given}
 use Rattle.codec.proofs.Numbers.{number-join}
-use Rattle.model.specs.Numbers.{LAST-COMMAND, REG-BYTE, HOLD-BYTE, NEW-BYTE, PUT-BYTE, TAKE-BYTE, DROP-BYTE, KILL-BYTE, WIPE-BYTE, GROUP-BYTE, APPLY-BYTE, BAR-BYTE, RANGE-BYTE, EMPTY-BYTE, TALLY-BYTE}
+use Rattle.model.specs.Numbers.{LAST-COMMAND, REG-BYTE, HOLD-BYTE, NEW-BYTE, PUT-BYTE, TAKE-BYTE, DROP-BYTE, KILL-BYTE, WIPE-BYTE, GROUP-BYTE, APPLY-BYTE, BAR-BYTE, RANGE-BYTE, EMPTY-BYTE, TALLY-BYTE, TRAY-BYTE}
 
 -- ---- operands
 
@@ -79,16 +79,22 @@ entity-whole {t = t} {at = at} b h g =
     (λ n5. by-eq b DROP-BYTE (λ e. given-as DROP-BYTE e g .whole)
     (λ n6. given-as KILL-BYTE (is-kill b h (((tt, n4), n5), n6)) g .whole)))
 
--- none of REG, HOLD and NEW, and none of WIPE to TALLY
+-- none of REG, HOLD and NEW, and none of WIPE to TRAY
 abbrev pub NoArm : ℕ → Type 0
 NoArm b =
-    (((((((((Unit {0} × (b ≡ REG-BYTE → ⊥)) × (b ≡ HOLD-BYTE → ⊥)) × (b ≡ NEW-BYTE → ⊥)) × (b ≡ WIPE-BYTE → ⊥)) × (b ≡ GROUP-BYTE → ⊥)) × (b ≡ APPLY-BYTE → ⊥)) × (b ≡ BAR-BYTE → ⊥)) × (b ≡ RANGE-BYTE → ⊥)) × (b ≡ EMPTY-BYTE → ⊥)) × (b ≡ TALLY-BYTE → ⊥)
+    ((((((((((Unit {0} × (b ≡ REG-BYTE → ⊥)) × (b ≡ HOLD-BYTE → ⊥)) × (b ≡ NEW-BYTE → ⊥)) × (b ≡ WIPE-BYTE → ⊥)) × (b ≡ GROUP-BYTE → ⊥)) × (b ≡ APPLY-BYTE → ⊥)) × (b ≡ BAR-BYTE → ⊥)) × (b ≡ RANGE-BYTE → ⊥)) × (b ≡ EMPTY-BYTE → ⊥)) × (b ≡ TALLY-BYTE → ⊥)) × (b ≡ TRAY-BYTE → ⊥)
 
 pub on-entity : (b : ℕ) → REG-BYTE ≤ b → b < WIPE-BYTE → NoArm b → (PUT-BYTE ≤ b) × (b ≤ KILL-BYTE)
 on-entity b h l n =
-    let m = n .0 .0 .0 .0 .0 .0 .0 in
+    let m = n .0 .0 .0 .0 .0 .0 .0 .0 in
     (above NEW-BYTE (above HOLD-BYTE (above REG-BYTE h (m .0 .0 .1)) (m .0 .1)) (m .1), omega arith)
 
 pub is-last : (b : ℕ) → WIPE-BYTE ≤ b → b ≤ LAST-COMMAND → NoArm b → b ≡ LAST-COMMAND
 is-last b h l n =
-    omega (arith, above TALLY-BYTE (above EMPTY-BYTE (above RANGE-BYTE (above BAR-BYTE (above APPLY-BYTE (above GROUP-BYTE (above WIPE-BYTE h (n .0 .0 .0 .0 .0 .0 .1)) (n .0 .0 .0 .0 .0 .1)) (n .0 .0 .0 .0 .1)) (n .0 .0 .0 .1)) (n .0 .0 .1)) (n .0 .1)) (n .1))
+    let m = n .0 in
+    omega (
+      arith,
+      above TRAY-BYTE
+          (above TALLY-BYTE (above EMPTY-BYTE (above RANGE-BYTE (above BAR-BYTE (above APPLY-BYTE (above GROUP-BYTE (above WIPE-BYTE h (m .0 .0 .0 .0 .0 .0 .1)) (m .0 .0 .0 .0 .0 .1)) (m .0 .0 .0 .0 .1)) (m .0 .0 .0 .1)) (m .0 .0 .1)) (m .0 .1)) (m .1))
+          (n .1),
+    )

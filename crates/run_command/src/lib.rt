@@ -26,7 +26,8 @@ pub fn act(words: &mut [u32], op: u8, tape: &[u8], at: usize, out: &mut [u8], to
         commands::BAR => operands::bar(words, tape, at, out, to),
         commands::RANGE => command_range::range(words, out, to),
         commands::EMPTY => command_list::lists::empty(words, out, to),
-        commands::TALLY => command_list::lists::tally(words, out, to),
-        _ => operands::tray(words, tape, at, out, to),
+        commands::TALLY => command_list::callers::tally(words, out, to),
+        commands::TRAY => operands::tray(words, tape, at, out, to),
+        _ => operands::set_caller(words, tape, at, out, to),
     }
 }

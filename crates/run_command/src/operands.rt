@@ -1,7 +1,7 @@
 // Commands with operands: they are read off the tape, at `at`.
 use model::commands;
 ghost use Prim.Native.Nat.{_≤_};
-ghost use Rattle.model.specs.Numbers.{REG-BYTE, HOLD-BYTE, BAR-BYTE, TRAY-BYTE};
+ghost use Rattle.model.specs.Numbers.{REG-BYTE, HOLD-BYTE, BAR-BYTE, TRAY-BYTE, SETCALLER-BYTE};
 ghost use Rattle.model.specs.Run.{does};
 ghost use Rattle.memory.specs.Meaning.{meaning};
 ghost use Rattle.command.specs.Acted.{Acted};
@@ -62,4 +62,12 @@ pub fn tray(words: &mut [u32], tape: &[u8], at: usize, out: &mut [u8], to: usize
 {
     let count = codec::get_u16(tape, at);
     command_entity::entities::tray(words, count, out, to)
+}
+
+pub fn set_caller(words: &mut [u32], tape: &[u8], at: usize, out: &mut [u8], to: usize) -> usize
+    requires { ⌜ Given (now words) SETCALLER-BYTE (now tape) at (now out) to ⌝ }
+    ensures { λ r. ⌜ Acted (now (words .entry)) (now (words .exit)) (now (out .entry)) (now (out .exit)) to r (does (commandIn SETCALLER-BYTE (now (tape .entry)) at) (meaning (now (words .entry)))) ⌝ }
+{
+    let caller = tape[at];
+    command_list::callers::set_caller(words, caller, out, to)
 }

@@ -6,12 +6,12 @@ use Prim.Native.Nat.{ℕ, _+_, _*_, _-_, _≤_, _<_}
 use native.Mathlib.Decide.{decLe, decLt}
 use native.Mathlib.Omega.{arith}
 use lib.Dec.{eqb}
-use lib.ListN.{length, getD, take, List·getD-map}
+use lib.ListN.{length, getD, take, List·getD-map, List·getD-eq-default}
 use lib.Seq.{getD-take, length-take-le}
-use Rattle.model.specs.Numbers.{ENTITY-LEN, LIST-CAPACITY, MAX-GROUP-COUNT, MAX-KINDS, columnLen}
+use Rattle.model.specs.Numbers.{CALLERS, ENTITY-LEN, LAST-CALLER, LIST-CAPACITY, MAX-GROUP-COUNT, MAX-KINDS, columnLen}
 use Rattle.model.specs.Lists.{countOf}
 use Rattle.model.specs.Model.{Entity, noRow, kindOf, entityOf}
-use Rattle.model.specs.Sound.{cnt, In, Distinct, KindsSound, EntitiesSound, SetsSound, StagedSound, ExcludedSound, Buildable, AllRight}
+use Rattle.model.specs.Sound.{cnt, In, Distinct, KindsSound, EntitiesSound, SetsSound, StagedSound, ExcludedSound, CountsSound, Buildable, AllRight}
 use Rattle.model.proofs.Numbers.{live-once}
 use Rattle.model.proofs.Operations.{live-count, count-live}
 use Rattle.model.proofs.KindLists.{in-count, count-in, at-in}
@@ -35,8 +35,8 @@ use Rattle.layout.specs.Reading.{ReadStart}
 use Rattle.layout.proofs.Arrays.{layout-kinds, block-sized}
 use Rattle.layout_block.specs.Checks.{BlockSound, KindsOk}
 use Rattle.layout_block.proofs.Buildable.{block-buildable, uncounted}
-use Rattle.memory.specs.Header.{capacityOf, kindCapacityOf, registeredOf, stagedLen, excludedLen, draftFamilies, draftGroups, layoutFamilies, layoutGroups, slotOf, stagedLowAt, stagedHighAt, groupFamilyAt}
-use Rattle.memory.specs.Meaning.{kindAt, kindsIn, setsIn, draftArrays, layoutArrays, draftIn, layoutIn, stagedAt, stagedIn, excludedIn, meaning}
+use Rattle.memory.specs.Header.{capacityOf, kindCapacityOf, registeredOf, stagedLen, excludedLen, draftFamilies, draftGroups, layoutFamilies, layoutGroups, callerOf, refusalsAt, slotOf, stagedLowAt, stagedHighAt, groupFamilyAt}
+use Rattle.memory.specs.Meaning.{kindAt, kindsIn, setsIn, draftArrays, layoutArrays, draftIn, layoutIn, stagedAt, stagedIn, excludedIn, countsIn, meaning}
 use Rattle.memory.specs.Arranged.{TableSound, Registered, LayoutSound, Arranged, Sound as StoreSound}
 use Rattle.memory.proofs.Frames.{start-header}
 use Rattle.memory.proofs.LayoutWords.{words-sized, kind-word, kind-start-word}
@@ -50,7 +50,7 @@ use Rattle.soundness.specs.Parts.{SizeOk, PartsOk, ListsOk, LayoutOk, Co
 use Rattle.soundness.proofs.TableLaws.{TableLinks, registered-slot, registered-small, slot-registered, kinds-sound, sets-sound, sets-alive}
 use Rattle.soundness.proofs.ColumnLaws.{rows-once, rows-values, value-eight}
 use Rattle.soundness.proofs.StagedLaws.{staged-sound}
-use Rattle.words.proofs.Tables.{map-table, words-table}
+use Rattle.words.proofs.Tables.{length-table, getD-table, map-table, words-table}
 use Rattle.soundness.proofs.GroupLaws.{families-right, right-families}
 use Rattle.soundness.proofs.FlatLaws.{families-each, each-families, prior-fits}
 use Rattle.soundness.proofs.WordLaws.{layout-words}
@@ -272,6 +272,17 @@ module _ (w : List ℕ) where
         small = e .small;
       }
 
+  counts-are : Bits w → callerOf w ≤ LAST-CALLER → CountsSound (countsIn w)
+  counts-are bits low =
+      record {
+        caller = low;
+        callers = length-table CALLERS (refusalsAt w);
+        most = λ c. elim (decLt c CALLERS) [
+          | yes h ↦ omega (arith, getD-table CALLERS (refusalsAt w) c 0 h, bits (REFUSALS + c))
+          | no h ↦ omega (arith, List·getD-eq-default (table CALLERS (refusalsAt w)) 0 {n = c} (omega (arith, length-table CALLERS (refusalsAt w))))
+        ];
+      }
+
   -- ---- the layout in force
 
   abbrev a : Arrays
@@ -378,6 +389,7 @@ module _ (w : List ℕ) where
             vacant = λ s r h. empty-rows n (columnOf n s w) (P .columns s h .vacant r);
             staged = L .staged .few;
             excluded = L .excluded .few;
+            caller = L .caller;
             draft = L .draft .formed .good;
             draftCount = L .draft .formed .groups;
             layout = layout-sound;
@@ -416,7 +428,7 @@ module _ (w : List ℕ) where
               uncounted = uncounted-are;
               layout = layout-build;
               groups = groups-are long (Y .block .formed .good) (layout-known T most long (Y .block)) arranged-of S (live-once (entitiesIn n w) (E .single)) layout-build K;
-              refusals = omega (arith, bits REFUSALS);
+              counts = counts-are bits (L .caller);
             }
 
         pub sound-of : StoreSound w
@@ -488,6 +500,7 @@ module _ (w : List ℕ) where
         record {
           staged = are-staged (A .table) small far (A .staged) (M .staged);
           excluded = are-excluded (A .table) small far (A .excluded) (M .excluded);
+          caller = A .caller;
           draft = draft-of;
         }
 

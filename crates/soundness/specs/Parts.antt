@@ -3,6 +3,7 @@
 use mathlib.Core.List.{List}
 use Prim.Native.Nat.{ℕ, _+_, _≤_}
 use lib.ListN.{length}
+use Rattle.model.specs.Numbers.{LAST-CALLER}
 use Rattle.model.specs.Sound.{Limits}
 use Rattle.words.specs.Offsets.{columnStart, DRAFT, EXCLUDED-KINDS, GROUP-FAMILIES, LAYOUT, STAGED-KINDS, TABLE}
 use Rattle.words.specs.Part.{between}
@@ -11,7 +12,7 @@ use Rattle.entity.specs.Meaning as entity
 use Rattle.entity.specs.Meaning.{entityPart}
 use Rattle.layout.specs.Layout.{widthOf}
 use Rattle.layout_block.specs.Checks.{BlockSound}
-use Rattle.memory.specs.Header.{capacityOf, kindCapacityOf, registeredOf, stagedLen, excludedLen, draftFamilies, draftGroups, layoutFamilies, layoutGroups}
+use Rattle.memory.specs.Header.{capacityOf, kindCapacityOf, registeredOf, stagedLen, excludedLen, draftFamilies, draftGroups, layoutFamilies, layoutGroups, callerOf}
 use Rattle.memory.specs.Meaning.{layoutArrays}
 use Rattle.sound_columns.specs.Table.{TableOk}
 use Rattle.sound_columns.specs.Rows.{ColumnOk}
@@ -30,10 +31,11 @@ pub record PartsOk (n k : ℕ) (w : List ℕ) : Type 0 where
   pub entities : entity.EntityPartSound n (entityPart n w)
   pub columns : Each k (ColumnOk n (registeredOf w) w)
 
--- "hand, bar, draft .. of registered kinds, such as commands can build"
+-- "hand, bar, draft .. of registered kinds, such as commands can build"; 02, No. 7: "a caller of 0 to 15"
 pub record ListsOk (w : List ℕ) : Type 0 where
   pub staged : ListOk w STAGED-KINDS (stagedLen w)
   pub excluded : ListOk w EXCLUDED-KINDS (excludedLen w)
+  pub caller : callerOf w ≤ LAST-CALLER
   pub draft : BlockSound (between DRAFT LAYOUT w) (between TABLE STAGED-KINDS w) (draftFamilies w) (draftGroups w)
 
 -- what the clauses on the layout stand on

@@ -7,6 +7,7 @@ use sound_columns::table::is_table;
 use sound_groups::counts::are_counts;
 use sound_groups::heads::are_heads;
 use sound_groups::heads::are_own;
+use words::CALLER;
 use words::CAPACITY;
 use words::DRAFT;
 use words::DRAFT_FAMILIES;
@@ -71,7 +72,7 @@ fn has_parts(words: &[u32], n: usize, k: usize) -> bool
     true
 }
 
-// The staged and the excluded kinds, and the draft.
+// The staged and the excluded kinds, the caller, and the draft.
 fn has_lists(words: &[u32]) -> bool
     requires { ⌜ ENTITIES ≤ length (now words) ⌝ }
     ensures { λ r. ⌜ Decides r (ListsOk (now (words .entry))) ⌝ }
@@ -80,6 +81,9 @@ fn has_lists(words: &[u32]) -> bool
         return false;
     }
     if !is_list(words, EXCLUDED_KINDS, words[EXCLUDED_LEN] as usize) {
+        return false;
+    }
+    if model::LAST_CALLER < words[CALLER] {
         return false;
     }
     let families = words[DRAFT_FAMILIES] as usize;

@@ -8,7 +8,7 @@ use Prim.Native.Nat.{ℕ, _+_, _*_, _≤_}
 use native.Mathlib.Omega.{arith}
 use lib.ListN.{length, take, drop, getD}
 use denote.Ref.{RefT}
-use Rattle.model.specs.Numbers.{BEYOND, KIND, MANY, NOROOM, UNKNOWN, UNSOUND, WIDE}
+use Rattle.model.specs.Numbers.{BEYOND, CALLER, KIND, NOROOM, UNKNOWN, UNSOUND, WIDE}
 use Rattle.model.specs.Store.{Store, empty}
 use Rattle.model.specs.Commands.{Command}
 use Rattle.model.specs.Refusals.{numberOf, firstLine, BeforeCommand, beforeLines, linesOf, startLines, rollLines, columnLines}
@@ -16,6 +16,7 @@ use Rattle.model.specs.Run.{Outcome, refuses, accepts, does, storeAfter, answer
 use Rattle.model.specs.Snapshot.{snapshot, Same}
 use Rattle.model.specs.History.{retired}
 use Rattle.model.specs.Entries.{Started, refusesStart, makes, start, columnRefusal, column, roll}
+use Rattle.model.proofs.Counts.{refusal-unchanged}
 use Rattle.model.proofs.Demand.{all-between}
 use Rattle.model.proofs.Entries.{start-makes, column-refused}
 use Rattle.model.proofs.Lengths.{run-fits}
@@ -94,7 +95,7 @@ stops-exact w w′ t o o′ r R S = stops-in (run-course w w′ t o o′ r R S)
 
 -- And the command is answered n exactly if line n of its own is the first that holds, and accepted, with 0, exactly if none does.
 answer-tabled : (k : Command) (s : Store) (n : ℕ) → n ≡ numberOf (firstLine (linesOf k) s) → Tabled (linesOf k) s n
-answer-tabled k s n e = tabled (linesOf k) s KIND MANY (omega arith) (lines-numbers k) n e
+answer-tabled k s n e = tabled (linesOf k) s KIND CALLER (omega arith) (lines-numbers k) n e
 
 answers-in : {w t w′ bytes : List ℕ} {room stop commands read : ℕ} (c : Course w t room w′ stop commands read bytes) → EachAnswer (λ v k l. Tabled (linesOf k) (meaning v) (getD l 0 0)) c
 answers-in ended = tt
@@ -143,7 +144,7 @@ refusals-in ended = tt
 refusals-in (stopped f) = tt
 refusals-in (refused w h f m s c) = (
   subst (RefusalAlone (meaning w)) (sym (m .means))
-      (record { same = record { settings = refl; kinds = refl; entities = refl; storage = refl; staged = refl; excluded = refl; draft = refl }; counts = refl }),
+      (record { same = refusal-unchanged (meaning w); counts = refl }),
   refusals-in c,
 )
 refusals-in (done w w₁ h n m s c) = refusals-in c

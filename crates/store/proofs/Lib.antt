@@ -14,3 +14,4 @@ pub mod Ranging
 pub mod Grouping
 pub mod Built
 pub mod Traying
+pub mod Calling

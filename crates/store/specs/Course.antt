@@ -7,7 +7,7 @@ use Rattle.model.specs.Store.{counted, withControl}
 use Rattle.model.specs.Commands.{Command, width, commandAt, accepted}
 use Rattle.model.specs.Refusals.{NoneHolds, First, BeforeCommand, beforeLines, linesOf}
 use Rattle.model.specs.Run as modelRun
-use Rattle.model.specs.History.{retired}
+use Rattle.model.specs.History.{retired, refusedBy, refusedAll, calls}
 use Rattle.memory.specs.Meaning.{meaning, withRefusal}
 use Rattle.memory.specs.Arranged.{Sound, Becomes}
 use Rattle.run.specs.declared.Ran.{Ran}
@@ -27,8 +27,8 @@ pub data Course : List ℕ → List ℕ → ℕ → List ℕ → ℕ → ℕ →
   ended : {w : List ℕ} {room : ℕ} → Course w [] room w 0 0 0 []
   -- "4 to 6 stop a run before the command and aren't tallied": a line before the command holds, and no line above it does
   stopped : {w t : List ℕ} {b room n : ℕ} → First beforeLines (before w b t room) n → Course w (b ∷ t) room w n 0 0 []
-  -- "7 to 15 in a run write their number as one byte, add to the tally, change no other word, and the run goes on": a line of the command holds, and
-  -- no line above it does
+  -- "7 to 15 in a run write their number as one byte, add to the tally, change no other word, and the run goes on", and so 19: a line of the command
+  -- holds, and no line above it does
   refused : (w : List ℕ) {w′ t bytes : List ℕ} {b room n stop commands read : ℕ} → NoneHolds beforeLines (before w b t room) → First (linesOf (commandOn b t)) (meaning w) n
       → Becomes w (withRefusal w) (withControl (meaning w) (counted (meaning w .control))) → Sound (withRefusal w)
       → Course (withRefusal w) (drop (width b) t) (room - 1) w′ stop commands read bytes → Course w (b ∷ t) room w′ stop (suc commands) (suc (width b) + read) (n ∷ bytes)
@@ -84,3 +84,16 @@ pub data Reached : List ℕ → Type 0 where
 abbrev pub retiredIn : {w : List ℕ} → Reached w → ℕ
 retiredIn (started S) = 0
 retiredIn (ran {w} {w′} {t} {o} c R) = retiredIn c + retired t (length o) (meaning w)
+
+-- 02, No. 7: the commands refused on the way while c was the caller, all that were refused, and how often command 10 was met
+abbrev pub refusedIn : ℕ → {w : List ℕ} → Reached w → ℕ
+refusedIn c (started S) = 0
+refusedIn c (ran {w} {w′} {t} {o} d R) = refusedIn c d + refusedBy c t (length o) (meaning w)
+
+abbrev pub allRefusedIn : {w : List ℕ} → Reached w → ℕ
+allRefusedIn (started S) = 0
+allRefusedIn (ran {w} {w′} {t} {o} d R) = allRefusedIn d + refusedAll t (length o) (meaning w)
+
+abbrev pub callsIn : {w : List ℕ} → Reached w → ℕ
+callsIn (started S) = 0
+callsIn (ran {w} {w′} {t} {o} d R) = callsIn d + calls t (length o) (meaning w)

@@ -1,18 +1,21 @@
 -- What the theorems on the entries say of an answer: by its table, of two answers to the same call, of a store that is reached. Assumes nothing.
 use mathlib.Core.Path.{_≡_}
-use mathlib.Core.Logic.{_↔_}
+use mathlib.Core.Logic.{_≢_, _↔_}
 use mathlib.Core.List.{List}
-use Prim.Native.Nat.{ℕ, suc, _+_, _≤_}
+use Prim.Native.Nat.{ℕ, suc, _+_, _≤_, _<_}
 use Rattle.model.specs.Refusals.{Line, NoneHolds, First, Unchanged}
 use Rattle.memory.specs.Arranged.{Sound}
-use lib.ListN.{take}
+use lib.ListN.{length, getD, take}
+use Rattle.memory.specs.Header.{callerOf, refusalsAt}
 use Rattle.memory.specs.Meaning.{meaning}
 use Rattle.run.specs.declared.Ran.{Ran}
 use Rattle.store.specs.declared.Rolled.{Rolled}
 use Rattle.store.specs.declared.Reply.{Reply}
-use Rattle.model.specs.Store.{Store, counted}
+use Rattle.model.specs.Store.{Store, oneMore, counted}
 use Rattle.model.specs.Sound.{GroupsRight, GroupsBetween}
-use Rattle.model.specs.Numbers.{UNSOUND}
+use Rattle.model.specs.Numbers.{CALLERS, LAST-CALLER, MAX-REFUSALS, UNSOUND}
+use Rattle.model.specs.Theorems.{ButCallers}
+use Rattle.words.specs.Offsets.{REFUSALS}
 
 -- r is the number of the first line that holds, 0 where none does
 pub record Tabled {A : Type 0} (ls : List (Line A)) (x : A) (r : ℕ) : Type 0 where
@@ -24,11 +27,35 @@ pub record Judged {A : Type 0} (w : List ℕ) (ls : List (Line A)) (x : A) (r : 
   pub unsound : (r ≡ UNSOUND) ↔ (Sound w → ⊥)
   pub sound : Sound w → Tabled ls x r
 
--- what a refused command inside a run leaves: all that the words mean is as it was, but for the count of refusals, which is counted up
+-- what a refused command inside a run leaves: all that the words mean is as it was, but for the caller's count of refusals, which is counted up
 pub record RefusalAlone (s t : Store) : Type 0 where
   pub same : Unchanged s t
   -- "a tally of refused commands that stays at 4,294,967,295"
   pub counts : t .control .counts ≡ counted (s .control) .counts
+
+-- the same of the words themselves. 02, No. 7: "no caller's refusals alter another's"; "change no other word"
+pub record RefusalWord (w v : List ℕ) : Type 0 where
+  pub size : length v ≡ length w
+  pub caller : callerOf w ≤ LAST-CALLER
+  pub own : refusalsAt v (callerOf w) ≡ oneMore (refusalsAt w (callerOf w))
+  pub others : (i : ℕ) → i ≢ REFUSALS + callerOf w → getD v i 0 ≡ getD w i 0
+
+-- a count that was m, after n refusals more: "stays at 4,294,967,295"
+pub record CountedUp (n m r : ℕ) : Type 0 where
+  pub up : m + n ≤ MAX-REFUSALS → r ≡ m + n
+  pub full : MAX-REFUSALS ≤ m + n → r ≡ MAX-REFUSALS
+
+-- 02, No. 7: "A store from start .. that never meets command 10": the caller is 0, n refusals are counted against him, and none against another
+pub record NeverCalled (n : ℕ) (w : List ℕ) : Type 0 where
+  pub caller : callerOf w ≡ 0
+  pub own : CountedUp n 0 (refusalsAt w 0)
+  pub others : (c : ℕ) → 1 ≤ c → c < CALLERS → refusalsAt w c ≡ 0
+
+-- two runs of one tape over words that differ in callers and counts alone: the same result, the same answers, and words that differ so again
+pub record RunButCallers (w′ v′ o′ p′ : List ℕ) (r q : Ran) : Type 0 where
+  pub result : q ≡ r
+  pub answers : take (q .written) p′ ≡ take (r .written) o′
+  pub store : ButCallers (meaning w′) (meaning v′)
 
 -- words of one meaning, sound or not alike: *run*, *roll* and *column*, its number, place and copy do not tell them apart (proofs/Determined.antt);
 -- *start* looks at nothing but how many they are

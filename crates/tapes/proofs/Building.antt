@@ -4,25 +4,27 @@ use mathlib.Core.Bool.{false}
 use mathlib.Core.List.{List, [], _∷_, _++_, map, append-assoc, append-nil}
 use Prim.Native.Nat.{ℕ, zero, suc, _+_, _≤_, _<_}
 use native.Mathlib.Omega.{arith}
-use borrow.Author.Tests.{le-ltb, lt-ltb, lt-leb, eq-eqb}
+use borrow.Author.Tests.{le-ltb, lt-leb, eq-eqb}
 use lib.Dec.{lit<}
-use lib.ListN.{length, getD, replicate, length-append, length-map}
-use Rattle.model.specs.Numbers.{LAST-KIND, LIST-CAPACITY, MAX-GROUP-ARITY, MAX-GROUP-COUNT, MAX-KINDS, MAX-REFUSALS}
+use lib.ListN.{length, getD, set, replicate, length-append, length-map}
+use lib.Seq.{set-append-seam}
+use Rattle.model.specs.Numbers.{CALLERS, LAST-CALLER, LAST-KIND, LIST-CAPACITY, MAX-GROUP-ARITY, MAX-GROUP-COUNT, MAX-KINDS, MAX-REFUSALS}
 use Rattle.model.specs.Model.{Entity, Group, Family, Component, mem, kindOf, kindsOf, groupsOf, setLayout, regroup}
 use Rattle.model.specs.Adding.{added, addGroup}
-use Rattle.model.specs.Store.{Store, empty, stagedKinds, counted, withControl, withStorage, withKinds, withLayout, withStaged, withExcluded, withDraft, withCounts, emptyStaged}
-use Rattle.model.specs.Commands.{Command, REG, GROUP, APPLY, BAR, accepted}
+use Rattle.model.specs.Store.{Counts, Store, empty, noCounts, oneMore, stagedKinds, withControl, withStorage, withKinds, withLayout, withStaged, withExcluded, withDraft, emptyStaged}
+use Rattle.model.specs.Commands.{Command, REG, GROUP, APPLY, BAR, SETCALLER, accepted}
 use Rattle.model.specs.Refusals.{unknownKind}
 use Rattle.model.specs.Run.{Outcome, storeAfter}
-use Rattle.model.specs.Sound.{In, Distinct, Eight, noComponent, layoutKinds, Rising, BuildableFamily, BuildableFamilies, Uncounted, AllUncounted}
-use Rattle.model.specs.Theorems.{DraftSound, grouped}
+use Rattle.model.specs.Sound.{In, Distinct, Eight, noComponent, CountsSound, layoutKinds, Rising, BuildableFamily, BuildableFamilies, Uncounted, AllUncounted}
+use Rattle.model.specs.Theorems.{DraftSound, recounted, grouped}
 use Rattle.model.proofs.ListLaws.{map-append}
 use Rattle.model.proofs.KindLists.{distinct-left, distinct-right, in-left, in-right, before-free}
 use Rattle.model.proofs.Draft.{family-joined, kinds-append, groups-append}
 use Rattle.model.proofs.Regroup.{zeroed, zeroed-families}
-use Rattle.model.proofs.Outcomes.{reg-above, reg-new, hold-staged, bar-excluded, apply-does, group-does}
+use Rattle.model.proofs.Counts.{one-more-up}
+use Rattle.model.proofs.Outcomes.{reg-above, reg-new, caller-set, hold-staged, bar-excluded, apply-does, group-does}
 use Rattle.tapes.specs.Tapes.{AllEncodable, afterOne, afterAll}
-use Rattle.tapes.specs.Built.{Build, builtStore, BuildSound, refusedCommand, valueless, holdCommands, groupCommands, familyCommands, buildCommands}
+use Rattle.tapes.specs.Built.{Build, builtStore, BuildSound, refusedCommand, callerCommands, countCommands, valueless, holdCommands, groupCommands, familyCommands, buildCommands}
 use Rattle.tapes.proofs.Tapes.{encodable-append, after-append}
 use Rattle.tapes.proofs.Drafts.{own-added, wider-added}
 
@@ -45,19 +47,58 @@ one-by-one l m x = append-assoc l (x ∷ []) m
 first : (a b : List Command) (s t : Store) → afterAll a s ≡ t → afterAll (a ++ b) s ≡ afterAll b t
 first a b s t e = after-append a b s ∙ ap (afterAll b) e
 
--- ---- refused commands: the tally grows by one each
+-- ---- the tallies and the caller
 
-refusals-after : (t : ℕ) (s : Store) → t + s .control .counts .refusals ≤ MAX-REFUSALS
-    → afterAll (replicate t refusedCommand) s ≡ withControl s (withCounts (s .control) (record { refusals = t + s .control .counts .refusals }))
-refusals-after zero s h = let e : s .control .counts .refusals ≡ 0 + s .control .counts .refusals = omega arith in ap (λ (n : ℕ). withControl s (withCounts (s .control) (record { refusals = n }))) e
-refusals-after (suc t) s h =
-    let n = s .control .counts .refusals in
-    let up : counted (s .control) ≡ withCounts (s .control) (record { refusals = suc n }) = rw (lt-ltb n MAX-REFUSALS (omega arith)) in
-    let e : t + suc n ≡ suc t + n = omega arith in
-    ap (λ (x : Outcome). afterAll (replicate t refusedCommand) (storeAfter s x)) (reg-above s (suc LAST-KIND) refl)
-    ∙ ap (λ d. afterAll (replicate t refusedCommand) (withControl s d)) up
-    ∙ refusals-after t (withControl s (withCounts (s .control) (record { refusals = suc n }))) (omega arith)
-    ∙ ap (λ (m : ℕ). withControl s (withCounts (s .control) (record { refusals = m }))) e
+-- the store with caller c and the counts l
+abbrev counting : Store → ℕ → List ℕ → Store
+counting s c l = recounted (record { caller = c; refusals = l }) s
+
+seam-at : (a z : List ℕ) (m : ℕ) → getD (a ++ (m ∷ z)) (length a) 0 ≡ m
+seam-at [] z m = refl
+seam-at (x ∷ a) z m = seam-at a z m
+
+-- SETCALLER, of a caller that there is
+call-after : (s : Store) (c d : ℕ) (l : List ℕ) → d ≤ LAST-CALLER → afterOne (SETCALLER d) (counting s c l) ≡ counting s d l
+call-after s c d l h = ap (storeAfter (counting s c l)) (caller-set (counting s c l) d (le-ltb LAST-CALLER d h))
+
+-- refused commands: the caller's count grows by one each
+refusals-after : (t m : ℕ) (a z : List ℕ) (s : Store) → t + m ≤ MAX-REFUSALS → afterAll (replicate t refusedCommand) (counting s (length a) (a ++ (m ∷ z))) ≡ counting s (length a) (a ++ ((t + m) ∷ z))
+refusals-after zero m a z s h = let e : m ≡ 0 + m = omega arith in ap (λ (n : ℕ). counting s (length a) (a ++ (n ∷ z))) e
+refusals-after (suc t) m a z s h =
+    let x = counting s (length a) (a ++ (m ∷ z)) in
+    let up : set (a ++ (m ∷ z)) (length a) (oneMore (getD (a ++ (m ∷ z)) (length a) 0)) ≡ a ++ (suc m ∷ z) =
+    ap (λ (n : ℕ). set (a ++ (m ∷ z)) (length a) (oneMore n)) (seam-at a z m) ∙ ap (set (a ++ (m ∷ z)) (length a)) (one-more-up m (omega arith)) ∙ set-append-seam a m z (suc m) in
+    let e : t + suc m ≡ suc t + m = omega arith in
+    ap (λ (o : Outcome). afterAll (replicate t refusedCommand) (storeAfter x o)) (reg-above x (suc LAST-KIND) refl)
+    ∙ ap (λ (l : List ℕ). afterAll (replicate t refusedCommand) (counting s (length a) l)) up
+    ∙ refusals-after t (suc m) a z s (omega arith)
+    ∙ ap (λ (n : ℕ). counting s (length a) (a ++ (n ∷ z))) e
+
+-- the callers from i on, whose counts are to be ns, and then caller d; those below i have the counts a
+callers-after : (ns a : List ℕ) (i c d : ℕ) (s : Store) → i ≡ length a → length a + length ns ≤ CALLERS → d ≤ LAST-CALLER → ((j : ℕ) → getD ns j 0 ≤ MAX-REFUSALS)
+    → afterAll (callerCommands i ns ++ (SETCALLER d ∷ [])) (counting s c (a ++ replicate (length ns) 0)) ≡ counting s d (a ++ ns)
+callers-after [] a i c d s e few low most = call-after s c d (a ++ []) low
+callers-after (n ∷ ns) a i c d s e few low most =
+    let last = SETCALLER d ∷ [] in
+    let zeros = replicate {A = ℕ} (length ns) 0 in
+    let rest = callerCommands (suc i) ns ++ last in
+    let next : suc i ≡ length (a ++ (n ∷ [])) = omega (arith, length-append a (n ∷ [])) in
+    let sum : n + 0 ≡ n = omega arith in
+    ap (afterAll ((replicate n refusedCommand ++ callerCommands (suc i) ns) ++ last)) (call-after s c i (a ++ (0 ∷ zeros)) (omega arith))
+    ∙ ap (λ (l : List Command). afterAll l (counting s i (a ++ (0 ∷ zeros)))) (append-assoc (replicate n refusedCommand) (callerCommands (suc i) ns) last)
+    ∙ first (replicate n refusedCommand) rest (counting s i (a ++ (0 ∷ zeros))) (counting s i ((a ++ (n ∷ [])) ++ zeros))
+    (ap (λ (j : ℕ). afterAll (replicate n refusedCommand) (counting s j (a ++ (0 ∷ zeros)))) e
+    ∙ refusals-after n 0 a zeros s (omega (arith, most 0))
+    ∙ ap₂ (λ (j : ℕ) (l : List ℕ). counting s j l) (sym e) (ap (λ (m : ℕ). a ++ (m ∷ zeros)) sum ∙ sym (one-by-one a zeros n)))
+    ∙ callers-after ns (a ++ (n ∷ [])) (suc i) i d s next (omega (arith, length-append a (n ∷ []))) low (λ j. most (suc j))
+    ∙ ap (counting s d) (one-by-one a ns n)
+
+-- from the counts of a start
+counts-after : (n : Counts) (s : Store) → CountsSound n → s .control .counts ≡ noCounts → afterAll (countCommands n) s ≡ recounted n s
+counts-after n s N e =
+    let z : noCounts .refusals ≡ [] ++ replicate (length (n .refusals)) 0 = ap (λ (k : ℕ). replicate k 0) (sym (N .callers)) in
+    let is : s ≡ counting s 0 ([] ++ replicate (length (n .refusals)) 0) = ap (λ (x : Counts). recounted x s) (e ∙ ap (λ (l : List ℕ). record { caller = 0; refusals = l }) z) in
+    ap (afterAll (countCommands n)) is ∙ callers-after (n .refusals) [] 0 0 (n .caller) s refl (omega (arith, N .callers)) (N .caller) (N .most)
 
 -- ---- REG: the kinds in their order
 
@@ -181,7 +222,7 @@ apply-after s none uncounted =
 pub commands-after : (n k : ℕ) (b : Build) → BuildSound k b → afterAll (buildCommands b) (empty n k) ≡ builtStore n k b
 unfolding empty
 commands-after n k b B =
-    let s₀ = withControl (empty n k) (withCounts (empty n k .control) (record { refusals = b .refusals })) in
+    let s₀ = recounted (b .counts) (empty n k) in
     let s₁ = withKinds s₀ (b .kinds) in
     let s₂ = withStorage s₁ (withLayout (empty n k .storage) (b .layout)) in
     let s₃ = onDraft s₂ (b .draft) in
@@ -191,9 +232,7 @@ commands-after n k b B =
     let drafting = familyCommands (b .draft) ++ holding in
     let applying = familyCommands (b .layout) ++ (APPLY ∷ drafting) in
     let small = B .kinds .small in
-    let tally : b .refusals + 0 ≡ b .refusals = omega arith in
-    first (replicate (b .refusals) refusedCommand) (map REG (b .kinds) ++ applying) (empty n k) s₀
-    (refusals-after (b .refusals) (empty n k) (omega (arith, B .refusals)) ∙ ap (λ (m : ℕ). withControl (empty n k) (withCounts (empty n k .control) (record { refusals = m }))) tally)
+    first (countCommands (b .counts)) (map REG (b .kinds) ++ applying) (empty n k) s₀ (counts-after (b .counts) (empty n k) (B .counts) refl)
     ∙ first (map REG (b .kinds)) applying s₀ s₁ (regs-after (b .kinds) s₀ (B .kinds .once) (B .kinds .few) small)
     ∙ first (familyCommands (b .layout)) (APPLY ∷ drafting) s₁ (onDraft s₁ (b .layout)) (draft-after s₁ small (b .layout) (B .layout))
     ∙ first (APPLY ∷ []) drafting (onDraft s₁ (b .layout)) s₂ (apply-after (onDraft s₁ (b .layout)) refl (B .layout .uncounted))
@@ -209,6 +248,10 @@ OneByte ks = (k : ℕ) → In ks k → k < 256
 refused-encodable : (t : ℕ) → AllEncodable (replicate t refusedCommand)
 refused-encodable zero = tt
 refused-encodable (suc t) = (lit< tt, refused-encodable t)
+
+callers-encodable : (ns : List ℕ) (c : ℕ) → c + length ns ≤ CALLERS → AllEncodable (callerCommands c ns)
+callers-encodable [] c h = tt
+callers-encodable (n ∷ ns) c h = (omega arith, encodable-append (replicate n refusedCommand) (callerCommands (suc c) ns) (refused-encodable n) (callers-encodable ns (suc c) (omega arith)))
 
 regs-encodable : (ks : List ℕ) → OneByte ks → AllEncodable (map REG ks)
 regs-encodable [] h = tt
@@ -243,7 +286,8 @@ families-encodable (f ∷ fs) h =
 
 pub commands-encodable : (k : ℕ) (b : Build) → BuildSound k b → AllEncodable (buildCommands b)
 commands-encodable k b B =
-    encodable-append (replicate (b .refusals) refusedCommand) _ (refused-encodable (b .refusals))
+    encodable-append (countCommands (b .counts)) _
+    (encodable-append (callerCommands 0 (b .counts .refusals)) (SETCALLER (b .counts .caller) ∷ []) (callers-encodable (b .counts .refusals) 0 (omega (arith, B .counts .callers))) (omega (arith, B .counts .caller), tt))
     (encodable-append (map REG (b .kinds)) _ (regs-encodable (b .kinds) small)
     (encodable-append (familyCommands (b .layout)) _ (families-encodable (b .layout) (λ j i. small j (B .layout .buildable .known j i))) (
       tt,

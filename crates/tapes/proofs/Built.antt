@@ -57,7 +57,7 @@ sound-build n k b S =
       draft = record { buildable = S .draft; uncounted = S .uncounted };
       staged = S .staged;
       excluded = S .excluded;
-      refusals = S .refusals;
+      counts = S .counts;
     }
 
 -- both ways
@@ -84,10 +84,10 @@ module _ (s : Store) (S : StoreSound s) where
         draft = record { buildable = S .draft; uncounted = S .uncounted };
         staged = S .staged;
         excluded = S .excluded;
-        refusals = S .refusals;
+        counts = S .counts;
       }
 
-  -- its kinds, hand, bar, draft, tally and its layout but for the counts are what some tape leaves
+  -- its kinds, hand, bar, draft, caller, tallies and its layout but for the counts are what some tape leaves
   pub own-built : LeftBy (s .settings .capacity) (s .settings .kindCapacity) (builtStore (s .settings .capacity) (s .settings .kindCapacity) (buildOf s))
   own-built = every-built (s .settings .capacity) (s .settings .kindCapacity) (buildOf s) own-sound
 

@@ -12,7 +12,7 @@ use lib.Seq.{take-at, drop-at}
 use Rattle.model.specs.Numbers.{LAST-COMMAND}
 use Rattle.model.specs.Model.{Entity}
 use Rattle.model.specs.Store.{Store, Bytes, bytesOf, number}
-use Rattle.model.specs.Commands.{Command, REG, HOLD, NEW, PUT, TAKE, DROP, KILL, WIPE, GROUP, APPLY, BAR, RANGE, EMPTY, TALLY, TRAY, width, isCommand, entityOfBytes, commandAt, answerLength}
+use Rattle.model.specs.Commands.{Command, REG, HOLD, NEW, PUT, TAKE, DROP, KILL, WIPE, GROUP, APPLY, BAR, RANGE, EMPTY, TALLY, TRAY, SETCALLER, width, isCommand, entityOfBytes, commandAt, answerLength}
 use Rattle.model.specs.Run.{does, goes, step, answerOf, more, runFor, run}
 use Rattle.model.proofs.BoolLaws.{and-right}
 use Rattle.model.proofs.Encoding.{number-bytes, bytes-of, bytes-append}
@@ -51,6 +51,7 @@ command-back RANGE h = refl
 command-back EMPTY h = refl
 command-back TALLY h = refl
 command-back (TRAY n) h = ap TRAY (number-bytes 2 n h)
+command-back (SETCALLER c) h = refl
 
 is-command : (c : Command) → isCommand (byteOf c) ≡ true
 is-command (REG k) = refl
@@ -68,6 +69,7 @@ is-command RANGE = refl
 is-command EMPTY = refl
 is-command TALLY = refl
 is-command (TRAY n) = refl
+is-command (SETCALLER c) = refl
 
 -- it has all its operands
 is-whole : (c : Command) → length (operandsOf c) ≡ width (byteOf c)
@@ -86,6 +88,7 @@ is-whole RANGE = refl
 is-whole EMPTY = refl
 is-whole TALLY = refl
 is-whole (TRAY n) = bytesOf-length 2 n
+is-whole (SETCALLER c) = refl
 
 byte-small : (c : Command) → byteOf c < 256
 byte-small c = omega (arith, leb-true (byteOf c) LAST-COMMAND (and-right (leb 1 (byteOf c)) (leb (byteOf c) LAST-COMMAND) (is-command c)))
@@ -106,6 +109,7 @@ operand-bytes RANGE h = tt
 operand-bytes EMPTY h = tt
 operand-bytes TALLY h = tt
 operand-bytes (TRAY n) h = bytes-of 2 n
+operand-bytes (SETCALLER c) h = (h, tt)
 
 -- a tape of commands is of bytes
 pub tape-bytes : (cs : List Command) → AllEncodable cs → Bytes (tapeOf cs)

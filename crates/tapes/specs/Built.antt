@@ -4,32 +4,32 @@ use mathlib.Core.Path.{_≡_}
 use mathlib.Core.List.{List, [], _∷_, _++_, map}
 use Prim.Native.Nat.{ℕ, suc, _≤_}
 use lib.ListN.{replicate}
-use Rattle.model.specs.Numbers.{LAST-KIND, MAX-REFUSALS}
+use Rattle.model.specs.Numbers.{LAST-KIND}
 use Rattle.model.specs.Model.{Family, Component, zeroCount}
-use Rattle.model.specs.Store.{Store, Bytes, empty, withControl, withStorage, withKinds, withLayout}
-use Rattle.model.specs.Commands.{Command, REG, HOLD, GROUP, APPLY, BAR}
+use Rattle.model.specs.Store.{Counts, Store, Bytes, empty, withControl, withStorage, withKinds, withLayout}
+use Rattle.model.specs.Commands.{Command, REG, HOLD, GROUP, APPLY, BAR, SETCALLER}
 use Rattle.model.specs.Run.{run}
-use Rattle.model.specs.Sound.{KindsSound, StagedSound, ExcludedSound}
+use Rattle.model.specs.Sound.{KindsSound, StagedSound, ExcludedSound, CountsSound}
 use Rattle.model.specs.Theorems.{DraftSound}
 use Rattle.tapes.specs.Tapes.{tapeOf, roomFor}
 
 -- ---- what is built
 
--- the registered kinds in their order, the layout in force, draft, hand, bar and tally
+-- the registered kinds in their order, the layout in force, draft, hand, bar, and the caller with all tallies
 pub record Build : Type 0 where
   pub kinds : List ℕ
   pub layout : List Family
   pub draft : List Family
   pub staged : List Component
   pub excluded : List ℕ
-  pub refusals : ℕ
+  pub counts : Counts
 
 -- the empty store with these in it: no number is issued
 abbrev pub builtStore : ℕ → ℕ → Build → Store
 builtStore n k b =
     let s = empty n k in
     withControl (withStorage (withKinds s (b .kinds)) (withLayout (s .storage) (b .layout)))
-    (record { staged = b .staged; excluded = b .excluded; draft = b .draft; counts = record { refusals = b .refusals } })
+    (record { staged = b .staged; excluded = b .excluded; draft = b .draft; counts = b .counts })
 
 -- the clauses of a sound store. No entity is live, so that the groups of the layout in force count nothing, as those of a draft.
 pub record BuildSound (k : ℕ) (b : Build) : Type 0 where
@@ -38,7 +38,7 @@ pub record BuildSound (k : ℕ) (b : Build) : Type 0 where
   pub draft : DraftSound (b .kinds) (b .draft)
   pub staged : StagedSound (b .kinds) (b .staged)
   pub excluded : ExcludedSound (b .kinds) (b .excluded)
-  pub refusals : b .refusals ≤ MAX-REFUSALS
+  pub counts : CountsSound (b .counts)
 
 -- a store's own, but for the counts of its groups
 abbrev pub buildOf : Store → Build
@@ -49,7 +49,7 @@ buildOf s =
       draft = s .control .draft;
       staged = s .control .staged;
       excluded = s .control .excluded;
-      refusals = s .control .counts .refusals;
+      counts = s .control .counts;
     }
 
 -- ---- what a tape leaves
@@ -72,6 +72,15 @@ pub record LeftBy (n k : ℕ) (s : Store) : Type 0 where
 abbrev pub refusedCommand : Command
 refusedCommand = REG (suc LAST-KIND)
 
+-- 02, No. 7: each caller in turn, from caller c on, and after him as many refused commands as are to be counted against him
+abbrev pub callerCommands : ℕ → List ℕ → List Command
+callerCommands c [] = []
+callerCommands c (n ∷ ns) = SETCALLER c ∷ (replicate n refusedCommand ++ callerCommands (suc c) ns)
+
+-- and then the caller that is to be set
+abbrev pub countCommands : Counts → List Command
+countCommands n = callerCommands 0 (n .refusals) ++ (SETCALLER (n .caller) ∷ [])
+
 -- into the hand, in its order
 abbrev pub holdCommands : List Component → List Command
 holdCommands [] = []
@@ -91,9 +100,9 @@ abbrev pub familyCommands : List Family → List Command
 familyCommands [] = []
 familyCommands (f ∷ fs) = groupCommands [] f ++ familyCommands fs
 
--- the tally, the kinds, the layout as a draft that is applied, the draft, the hand, the bar
+-- the tallies and the caller, the kinds, the layout as a draft that is applied, the draft, the hand, the bar
 abbrev pub buildCommands : Build → List Command
-buildCommands b = replicate (b .refusals) refusedCommand ++ (map REG (b .kinds) ++ (familyCommands (b .layout) ++ (APPLY ∷ (familyCommands (b .draft) ++ (holdCommands (b .staged) ++ map BAR (b .excluded))))))
+buildCommands b = countCommands (b .counts) ++ (map REG (b .kinds) ++ (familyCommands (b .layout) ++ (APPLY ∷ (familyCommands (b .draft) ++ (holdCommands (b .staged) ++ map BAR (b .excluded))))))
 
 abbrev pub buildTape : Build → List ℕ
 buildTape b = tapeOf (buildCommands b)

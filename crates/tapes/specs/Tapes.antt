@@ -2,10 +2,10 @@
 use mathlib.Core.List.{List, [], _∷_, _++_}
 use Prim.Native.Nat.{ℕ, _+_, _^_, _<_}
 use lib.ListN.{length}
-use Rattle.model.specs.Numbers.{REG-BYTE, HOLD-BYTE, NEW-BYTE, PUT-BYTE, TAKE-BYTE, DROP-BYTE, KILL-BYTE, WIPE-BYTE, GROUP-BYTE, APPLY-BYTE, BAR-BYTE, RANGE-BYTE, EMPTY-BYTE, TALLY-BYTE, TRAY-BYTE}
+use Rattle.model.specs.Numbers.{REG-BYTE, HOLD-BYTE, NEW-BYTE, PUT-BYTE, TAKE-BYTE, DROP-BYTE, KILL-BYTE, WIPE-BYTE, GROUP-BYTE, APPLY-BYTE, BAR-BYTE, RANGE-BYTE, EMPTY-BYTE, TALLY-BYTE, TRAY-BYTE, SETCALLER-BYTE}
 use Rattle.model.specs.Model.{Entity}
 use Rattle.model.specs.Store.{Store, bytesOf}
-use Rattle.model.specs.Commands.{Command, REG, HOLD, NEW, PUT, TAKE, DROP, KILL, WIPE, GROUP, APPLY, BAR, RANGE, EMPTY, TALLY, TRAY, answerLength}
+use Rattle.model.specs.Commands.{Command, REG, HOLD, NEW, PUT, TAKE, DROP, KILL, WIPE, GROUP, APPLY, BAR, RANGE, EMPTY, TALLY, TRAY, SETCALLER, answerLength}
 use Rattle.model.specs.Run.{does, storeAfter, answerOf, Ran}
 use Rattle.model.specs.Sound.{Eight}
 
@@ -27,12 +27,13 @@ byteOf RANGE = RANGE-BYTE
 byteOf EMPTY = EMPTY-BYTE
 byteOf TALLY = TALLY-BYTE
 byteOf (TRAY n) = TRAY-BYTE
+byteOf (SETCALLER c) = SETCALLER-BYTE
 
 -- "index 4, version 4"
 abbrev pub entityBytes : Entity → List ℕ
 entityBytes e = bytesOf 4 (e .index) ++ bytesOf 4 (e .version)
 
--- "kind 1", "kind 1, value 8"; 02, No. 4: "count 2 bytes"
+-- "kind 1", "kind 1, value 8"; 02, No. 4: "count 2 bytes"; No. 7: "caller 1 byte"
 abbrev pub operandsOf : Command → List ℕ
 operandsOf (REG k) = k ∷ []
 operandsOf (HOLD k v) = k ∷ bytesOf 8 v
@@ -49,6 +50,7 @@ operandsOf RANGE = []
 operandsOf EMPTY = []
 operandsOf TALLY = []
 operandsOf (TRAY n) = bytesOf 2 n
+operandsOf (SETCALLER c) = c ∷ []
 
 -- an entity's two numbers are of four bytes
 abbrev pub EntityFits : Entity → Type 0
@@ -71,6 +73,7 @@ Encodable RANGE = Unit {0}
 Encodable EMPTY = Unit {0}
 Encodable TALLY = Unit {0}
 Encodable (TRAY n) = n < 256 ^ 2
+Encodable (SETCALLER c) = c < 256
 
 abbrev pub AllEncodable : List Command → Type 0
 AllEncodable [] = Unit {0}

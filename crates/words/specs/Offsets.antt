@@ -35,14 +35,15 @@ LAYOUT-FAMILIES = 7
 abbrev pub LAYOUT-GROUPS : ℕ
 LAYOUT-GROUPS = 8
 
--- kept: for a caller, and from the next word on, up to the refusal count, for what else a start is told. No code reads or writes them yet
+-- the caller
 abbrev pub CALLER : ℕ
 CALLER = 9
 
+-- kept, up to the refusal counts, for what else a start is told. No code reads or writes them yet
 abbrev pub MORE-SETTINGS : ℕ
 MORE-SETTINGS = 10
 
--- the refusal count
+-- the refusal counts of the sixteen callers
 abbrev pub REFUSALS : ℕ
 REFUSALS = 16
 

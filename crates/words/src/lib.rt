@@ -25,7 +25,9 @@ pub const DRAFT_GROUPS: usize = 6;
 pub const LAYOUT_FAMILIES: usize = 7;
 
 pub const LAYOUT_GROUPS: usize = 8;
-// The refusal count.
+// The caller, and the refusal counts of the sixteen callers.
+pub const CALLER: usize = 9;
+
 pub const REFUSALS: usize = 16;
 // The slot of each of the 128 kinds, and the word of a kind that has none.
 pub const TABLE: usize = 32;

@@ -22,17 +22,27 @@ cast-is-list-2 c = omega (arith, c .before .before .before .before .shared-slice
 returns-2 : tie.Need-returns-2
 returns-2 c = let a = c .before .before .before .before .before .before .before .args in λ T. denied {P = ListOk (a .words .now) EXCLUDED-KINDS (excludedLen (a .words .now))} (c .before .is-list2 .result) (c .before .is-list2 .ensures) (c .if2 .taken) (T .excluded)
 
+returns-3 : tie.Need-returns-3
+returns-3 c = λ T. omega (arith, c .if3 .taken, T .caller)
+
 cast-families : tie.Need-cast-families
-cast-families c = omega (arith, c .before .before .before .before .before .before .before .shared-slice-known .given DRAFT-FAMILIES)
+cast-families c = omega (arith, c .before .before .before .before .before .before .before .before .before .shared-slice-known .given DRAFT-FAMILIES)
 
 cast-groups : tie.Need-cast-groups
-cast-groups c = omega (arith, c .before .before .before .before .before .before .before .before .shared-slice-known .given DRAFT-GROUPS)
-
-returns-3 : tie.Need-returns-3
-returns-3 c = let a = c .before .before .before .before .before .before .before .before .before .before .before .before .before .args in λ T. denied {P = BlockSound (between DRAFT LAYOUT (a .words .now)) (between TABLE STAGED-KINDS (a .words .now)) (draftFamilies (a .words .now)) (draftGroups (a .words .now))} (c .before .block-ok .result) (c .before .block-ok .ensures) (c .if3 .taken) (T .draft)
+cast-groups c = omega (arith, c .before .before .before .before .before .before .before .before .before .before .shared-slice-known .given DRAFT-GROUPS)
 
 returns-4 : tie.Need-returns-4
-returns-4 c = let a = c .before .before .before .before .before .before .before .before .before .before .before .before .before .args in record { staged = granted {P = ListOk (a .words .now) STAGED-KINDS (stagedLen (a .words .now))} (c .before .before .before .before .before .before .before .before .before .before .is-list .result) (c .before .before .before .before .before .before .before .before .before .before .is-list .ensures) (c .before .before .before .before .before .before .before .before .before .if1 .left); excluded = granted {P = ListOk (a .words .now) EXCLUDED-KINDS (excludedLen (a .words .now))} (c .before .before .before .before .before .before .before .is-list2 .result) (c .before .before .before .before .before .before .before .is-list2 .ensures) (c .before .before .before .before .before .before .if2 .left); draft = granted {P = BlockSound (between DRAFT LAYOUT (a .words .now)) (between TABLE STAGED-KINDS (a .words .now)) (draftFamilies (a .words .now)) (draftGroups (a .words .now))} (c .before .block-ok .result) (c .before .block-ok .ensures) (c .if3 .left) }
+returns-4 c = let a = c .before .before .before .before .before .before .before .before .before .before .before .before .before .before .before .args in λ T. denied {P = BlockSound (between DRAFT LAYOUT (a .words .now)) (between TABLE STAGED-KINDS (a .words .now)) (draftFamilies (a .words .now)) (draftGroups (a .words .now))} (c .before .block-ok .result) (c .before .block-ok .ensures) (c .if4 .taken) (T .draft)
+
+returns-5 : tie.Need-returns-5
+returns-5 c =
+    let a = c .before .before .before .before .before .before .before .before .before .before .before .before .before .before .before .args in
+    record {
+      staged = granted {P = ListOk (a .words .now) STAGED-KINDS (stagedLen (a .words .now))} (c .before .before .before .before .before .before .before .before .before .before .before .before .is-list .result) (c .before .before .before .before .before .before .before .before .before .before .before .before .is-list .ensures) (c .before .before .before .before .before .before .before .before .before .before .before .if1 .left);
+      excluded = granted {P = ListOk (a .words .now) EXCLUDED-KINDS (excludedLen (a .words .now))} (c .before .before .before .before .before .before .before .before .before .is-list2 .result) (c .before .before .before .before .before .before .before .before .before .is-list2 .ensures) (c .before .before .before .before .before .before .before .before .if2 .left);
+      caller = c .before .before .before .before .before .before .if3 .left;
+      draft = granted {P = BlockSound (between DRAFT LAYOUT (a .words .now)) (between TABLE STAGED-KINDS (a .words .now)) (draftFamilies (a .words .now)) (draftGroups (a .words .now))} (c .before .block-ok .result) (c .before .block-ok .ensures) (c .if4 .left);
+    }
 
 pub has-lists-spec : {M : Type 1} → statement M
 has-lists-spec =
@@ -47,6 +57,8 @@ has-lists-spec =
     (λ c κs. search needs)
     returns-2
     (λ c. search needs)
+    returns-3
+    (λ c. search needs)
     cast-families
     (λ c. search needs)
     cast-groups
@@ -57,5 +69,5 @@ has-lists-spec =
     (λ c. search needs)
     (λ c. search needs)
     (λ c κs. search needs)
-    returns-3
-    returns-4)
+    returns-4
+    returns-5)

@@ -9,9 +9,11 @@ use borrow.Author.Tests.{le-leb, lt-leb}
 use native.Mathlib.Omega.{arith}
 use Prim.Native.Nat.{_≤_, _<_}
 use mathlib.Core.Path.{sym, _∙_}
-use borrow.Author.Needs.{needs}
 use Rattle.command_list.proofs.lists.hold.Statement.{statement}
 use Rattle.command_list.proofs.lists.hold.Tie as tie
+
+refuse-requires : tie.Need-refuse-requires
+refuse-requires c κs = (c .before .before .before .before .before .before .before .pre .sound .arranged, omega (arith, c .before .before .before .before .before .before .before .pre .room))
 
 returns : tie.Need-returns
 returns c = let a = c .before .before .before .before .before .before .before .before .before .before .before .before .args in
@@ -46,7 +48,7 @@ hold-spec =
     tie.close
     (tie.spec
     (λ c κs. c .before .before .before .pre .sound .arranged)
-    (λ c κs. search needs)
+    refuse-requires
     (λ c. c .before .before .before .before .refuse .kept .0)
     (λ c. c .before .before .before .before .refuse .kept .1 .0)
     returns

@@ -3,8 +3,8 @@ use Rattle.memory.specs.Meaning.{meaning}
 use Rattle.model.proofs.Outcomes.{tally-does}
 use Rattle.memory.proofs.Becomes.{stays}
 use borrow.Author.Needs.{needs}
-use Rattle.command_list.proofs.lists.tally.Statement.{statement}
-use Rattle.command_list.proofs.lists.tally.Tie as tie
+use Rattle.command_list.proofs.callers.tally.Statement.{statement}
+use Rattle.command_list.proofs.callers.tally.Tie as tie
 
 returns : tie.Need-returns
 returns c = accepted-by (tally-does (meaning (c .before .before .before .before .before .before .before .args .words .now))) (stays (c .before .before .before .before .before .before .before .pre .sound .arranged)) (rw (c .before .before .before .before .refusals .ensures) at (c .before .before .ack-number .ensures))
