@@ -4,7 +4,7 @@
  * it writes on the card is a value of eight bytes. Two groups are kept: the cards with serial and key, and among them
  * those with all four. So the two questions at the end need no search.
  *
- * Every answer is checked (docs/COMMANDS.md, "What a caller must check"); at the first that is not as expected, the
+ * Every answer is checked (docs/COMMANDS.md, "What a program must check"); at the first that is not as expected, the
  * program says which and ends with status 1. bindings/rust/examples/cards.rs does the same work, and both write what
  * bindings/cards.txt has.
  */
@@ -26,7 +26,7 @@ static const uint8_t station_kind[STATIONS] = {SERIAL, KEY, APPLETS, PRINT};
 static const char *const station_name[STATIONS] = {"serial", "key", "applets", "print"};
 enum { WITH_KEY = 2, PRINTED = STATIONS };
 
-/* The commands used here: byte, name, and the length of the accepted answer (docs/COMMANDS.md, "The fifteen
+/* The commands used here: byte, name, and the length of the accepted answer (docs/COMMANDS.md, "The sixteen
  * commands"). */
 struct command {
     uint8_t byte;

@@ -4,7 +4,7 @@
 //! it writes on the card is a value of eight bytes. Two groups are kept: the cards with serial and key, and among them
 //! those with all four. So the two questions at the end need no search.
 //!
-//! Every answer is checked (docs/COMMANDS.md, "What a caller must check"); at the first that is not as expected, the
+//! Every answer is checked (docs/COMMANDS.md, "What a program must check"); at the first that is not as expected, the
 //! program says which and ends with status 1. bindings/c/cards.c does the same work, and both write what
 //! bindings/cards.txt has.
 
@@ -31,7 +31,7 @@ const PRINTED: usize = LINE.len();
 /// A roll is 4 bytes, 9 for each card and 9 for each of its values.
 const ROLL_BYTES: usize = 4 + 9 * (CARDS + CARDS * LINE.len());
 
-/// The commands used here: byte, name, and the length of the accepted answer (docs/COMMANDS.md, "The fifteen
+/// The commands used here: byte, name, and the length of the accepted answer (docs/COMMANDS.md, "The sixteen
 /// commands").
 type Command = (u8, &'static str, usize);
 const REG: Command = (0x01, "REG", 2);
