@@ -2,7 +2,7 @@
  *
  * A store keeps up to 4,096 entities (an index and a version, 32 bits each) and their components: a value of eight
  * bytes for each of up to 128 kinds. It lives in the words alone: no allocation, no hidden state. A tape of commands
- * changes it (docs/COMMANDS.md has all fifteen: their bytes, answers, refusals and limits), and it is read by column
+ * changes it (docs/COMMANDS.md has all sixteen: their bytes, answers, refusals and limits), and it is read by column
  * and as a whole.
  *
  * What a caller owes, and nothing else: no pointer is null, also where its length is 0; each points to as many items as
@@ -22,9 +22,9 @@
 
 /* Of this header and what it declares (CHANGELOG.md). */
 #define YIRBARN_VERSION_MAJOR 0
-#define YIRBARN_VERSION_MINOR 5
+#define YIRBARN_VERSION_MINOR 6
 #define YIRBARN_VERSION_PATCH 0
-#define YIRBARN_VERSION "0.5.0"
+#define YIRBARN_VERSION "0.6.0"
 
 #ifdef __cplusplus
 extern "C" {
@@ -47,7 +47,8 @@ enum yirbarn_number {
     YIRBARN_WIDE = 13,    /* a group of more than 16 kinds: never, the list has 16 at most */
     YIRBARN_CLASH = 14,   /* the group shares kinds with more than one family, or with one that it is no chain with */
     YIRBARN_MANY = 15,    /* the draft has 64 groups */
-    YIRBARN_BEYOND = 16   /* rows that are not there */
+    YIRBARN_BEYOND = 16,  /* rows that are not there */
+    YIRBARN_CALLER = 19   /* a caller above 15; no refusal has 17 or 18 */
 };
 
 /* How many words a store for n entities and k kinds takes: 1,024 + 16 n + k (8 + 6 n); 0 where yirbarn_start would
@@ -68,8 +69,9 @@ struct yirbarn_ran {
 };
 
 /* Does the tape's commands one after the other, and writes their answers to the front of out: a 0 byte and what the
- * command tells, or a refusal's number (7 to 15) alone. A refused command adds one to the tally, which TALLY tells, and
- * changes no other word.
+ * command tells, or a refusal's number (7 to 15, or 19) alone. A refused command adds one to the tally of the store's
+ * caller, which TALLY tells, and changes no other word. The store's caller says whose commands these are: a number 0 to
+ * 15, which SETCALLER sets for what follows, in later runs too; 0 after yirbarn_start.
  * stop: YIRBARN_UNSOUND, with zeros beside it and nothing changed; or what stops the run before a command:
  * YIRBARN_UNKNOWN, YIRBARN_CUT, YIRBARN_NOROOM (judged by the accepted answer's length); or 0. The store stays sound.
  * A run of the tape from `read` on goes on where this one stopped. So a long tape can be fed in pieces, cut anywhere:

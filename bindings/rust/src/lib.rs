@@ -128,10 +128,13 @@ impl<'a> Store<'a> {
     ///
     /// It stops before a command that is [`Refusal::Unknown`], [`Refusal::Cut`] or whose accepted answer has
     /// [`Refusal::NoRoom`]; what came before is done, and a run of the tape from `read` on goes on. A refused command
-    /// answers its number alone, and changes nothing but the count of refusals.
+    /// answers its number alone, and changes nothing but the refusals counted for the store's caller.
     ///
     /// So a long tape can be fed in pieces, cut anywhere: after each run, take its answers, and go on with the bytes from
     /// `read` on, the next piece behind them ([`Refusal::Cut`]: the last command of the piece goes on in the next).
+    ///
+    /// The store's caller says whose commands these are: a number 0 to 15, which SETCALLER sets for what follows, in
+    /// later runs too; 0 after [`Store::start`]. Each has a count of its own, and TALLY tells that of the one that is set.
     ///
     /// ```
     /// use yirbarn::{Refusal, Store};
@@ -144,6 +147,11 @@ impl<'a> Store<'a> {
     /// assert_eq!(ran.stop, Some(Refusal::Unknown));
     /// assert_eq!((ran.commands, ran.read, ran.written), (3, 5, 8));
     /// assert_eq!(answers[..8], [0, 1, Refusal::Kinds as u8, 0, 1, 0, 0, 0]);
+    ///
+    /// // SETCALLER 3, TALLY: of caller 3 nothing was refused. SETCALLER 16 is, and caller 3 stays.
+    /// let ran = store.run(&[0x10, 3, 0x0e, 0x10, 16, 0x0e], &mut answers);
+    /// assert_eq!((ran.stop, ran.commands, ran.written), (None, 4, 12));
+    /// assert_eq!(answers[..12], [0, 0, 0, 0, 0, 0, Refusal::Caller as u8, 0, 1, 0, 0, 0]);
     /// # Ok::<(), Refusal>(())
     /// ```
     pub fn run(&mut self, tape: &[u8], answers: &mut [u8]) -> Ran {

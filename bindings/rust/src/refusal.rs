@@ -11,6 +11,7 @@ use core::fmt;
 /// assert_eq!(Refusal::of(11), Some(Refusal::Dead));
 /// assert_eq!(Refusal::Dead as u8, 11);
 /// assert_eq!(Refusal::of(0), None);
+/// assert_eq!((Refusal::of(17), Refusal::of(19)), (None, Some(Refusal::Caller)));
 /// for refusal in Refusal::ALL {
 ///     println!("{refusal}");
 /// }
@@ -35,18 +36,19 @@ pub enum Refusal {
     Clash = 14,
     Many = 15,
     Beyond = 16,
+    Caller = 19,
 }
 
 impl Refusal {
-    pub const ALL: [Refusal; 16] = {
+    pub const ALL: [Refusal; 17] = {
         use Refusal::*;
         [
             Size, Short, Unsound, Unknown, Cut, NoRoom, Kind, Kinds, Again, Handful, Dead, Full, Wide, Clash, Many,
-            Beyond,
+            Beyond, Caller,
         ]
     };
 
-    /// The refusal with this number; 0, which says that nothing was refused, and numbers above 16 are none.
+    /// The refusal with this number; 0, which says that nothing was refused, 17, 18 and numbers above 19 are none.
     pub fn of(number: u8) -> Option<Refusal> {
         Refusal::ALL.into_iter().find(|&refusal| refusal as u8 == number)
     }
@@ -69,6 +71,7 @@ impl Refusal {
             Refusal::Clash => "the group shares kinds with more than one family, or with one that it is no chain with",
             Refusal::Many => "the draft has 64 groups",
             Refusal::Beyond => "rows that are not there",
+            Refusal::Caller => "a caller above 15",
         }
     }
 }
