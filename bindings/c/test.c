@@ -99,7 +99,7 @@ static void test_run(void)
     CHECK(all(words, 4 * NEEDED, sizeof words, 0xa5));
 
     /* A refused command, a byte that is none. */
-    const uint8_t more[] = {0x07, 9, 0, 0, 0, 1, 0, 0, 0, 0x0e, 0x10};
+    const uint8_t more[] = {0x07, 9, 0, 0, 0, 1, 0, 0, 0, 0x0e, 0x11};
     ran = yirbarn_run(words, NEEDED, more, sizeof more, out, OUT);
     CHECK(ran.stop == YIRBARN_UNKNOWN && ran.commands == 2 && ran.read == 10 && ran.written == 6);
     CHECK(out[0] == YIRBARN_DEAD && out[1] == 0 && out[2] == 1 && all(out, 3, 6, 0));
@@ -208,6 +208,190 @@ static void test_tray_stops(void)
     CHECK(ran.stop == YIRBARN_OK && ran.written == 1 && out[0] == YIRBARN_FULL);
 }
 
+/* Where the words have the caller, and the refusals of each (docs/WORDS.md). */
+enum { CALLER_AT = 9, REFUSALS_AT = 16, CALLERS = 16 };
+
+#define SETCALLER 0x10
+#define TALLY 0x0e
+#define KILL_NONE 0x07, 9, 0, 0, 0, 1, 0, 0, 0 /* refused: DEAD */
+
+/* What all words must be: as they were at keep(), but for the caller and the refusals that a test writes here. */
+static uint32_t kept[NEEDED + GUARD];
+
+static void keep(void)
+{
+    memcpy(kept, words, sizeof words);
+}
+
+static bool as_kept(void)
+{
+    return !memcmp(words, kept, sizeof words);
+}
+
+/* Sets the caller, in a run of its own; its word must be that from then on. */
+static bool sets(uint8_t caller)
+{
+    const uint8_t tape[] = {SETCALLER, caller};
+    kept[CALLER_AT] = caller;
+    return answers(tape, sizeof tape, (const uint8_t[]){0}, 1);
+}
+
+/* A refused command, in a run of its own, for the caller that is set. */
+static bool refuses(void)
+{
+    const uint8_t tape[] = {KILL_NONE};
+    return answers(tape, sizeof tape, (const uint8_t[]){YIRBARN_DEAD}, 1);
+}
+
+/* TALLY, in a run of its own, tells this number. */
+static bool tells(uint32_t refusals)
+{
+    const uint8_t tape[] = {TALLY};
+    const uint8_t told[] = {0, refusals, refusals >> 8, refusals >> 16, refusals >> 24};
+    return answers(tape, sizeof tape, told, sizeof told);
+}
+
+/* Each caller has as many commands refused as its number, in runs of their own: these words change, and no others. */
+static void test_callers(void)
+{
+    used();
+    keep();
+    for (uint8_t caller = 0; caller < CALLERS; caller++) {
+        CHECK(sets(caller) && as_kept());
+        for (uint8_t i = 0; i < caller; i++)
+            CHECK(tells(i) && refuses());
+        kept[REFUSALS_AT + caller] = caller;
+        CHECK(tells(caller) && as_kept());
+    }
+    for (uint8_t caller = CALLERS; caller-- > 0;)
+        CHECK(sets(caller) && sets(caller) && tells(caller) && as_kept());
+}
+
+/* In one run: every refusal counts for the caller that is set, whatever refuses, and TALLY sees those of its run. */
+static void test_callers_in_a_run(void)
+{
+    const uint8_t bar[] = {0x0b, 1};
+    const uint8_t tape[] = {
+        KILL_NONE, SETCALLER, 6,         /* DEAD, for caller 0; the next five are caller 6's */
+        0x02, 9, 0, 0, 0, 0, 0, 0, 0, 0, /* HOLD 9: KIND */
+        0x0b, 1, 0x0f, 65, 0,            /* BAR 1: AGAIN; TRAY 65: FULL */
+        KILL_NONE, SETCALLER, 16, TALLY, /* DEAD; CALLER */
+        SETCALLER, 15, KILL_NONE, TALLY, /* DEAD, for caller 15 */
+        SETCALLER, 0, TALLY,
+    };
+    const uint8_t told[] = {
+        11, 0, 7, 9, 12, 11, 0x13, 0, 5, 0, 0, 0, 0, 11, 0, 1, 0, 0, 0, 0, 0, 1, 0, 0, 0,
+    };
+    used();
+    CHECK(answers(bar, sizeof bar, (const uint8_t[]){0}, 1));
+    keep();
+    CHECK(answers(tape, sizeof tape, told, sizeof told));
+    kept[REFUSALS_AT] = 1;
+    kept[REFUSALS_AT + 6] = 5;
+    kept[REFUSALS_AT + 15] = 1;
+    CHECK(as_kept());
+}
+
+/* From 16 on: refused, counted for the caller of before, which stays; no other word changes. */
+static void test_no_caller(void)
+{
+    used();
+    keep();
+    CHECK(sets(15));
+    for (unsigned operand = CALLERS; operand < 256; operand++) {
+        const uint8_t tape[] = {SETCALLER, operand};
+        CHECK(answers(tape, sizeof tape, (const uint8_t[]){YIRBARN_CALLER}, 1));
+        kept[REFUSALS_AT + 15]++;
+        CHECK(as_kept());
+    }
+    CHECK(tells(240) && YIRBARN_CALLER == 0x13);
+}
+
+/* Every other command, accepted, leaves the caller and all refusals. */
+static void test_callers_stay(void)
+{
+    const uint8_t tape[] = {
+        0x01, 3, HOLD_BOTH, 0x09, 0x0a, HOLD_BOTH, 0x03,  /* REG, GROUP, APPLY, NEW */
+        HOLD_BOTH, 0x04, 0, 0, 0, 0, 1, 0, 0, 0,          /* PUT */
+        HOLD_BOTH, 0x05, 0, 0, 0, 0, 1, 0, 0, 0, 0x0b, 1, /* TAKE, BAR */
+        0x0d, 0x06, 0, 0, 0, 0, 1, 0, 0, 0, KILL_0,       /* EMPTY, DROP, KILL */
+        0x0f, 2, 0, 0x0c, 0x08, TALLY,                    /* TRAY, RANGE, WIPE */
+    };
+    used();
+    keep();
+    CHECK(sets(7) && refuses() && refuses() && sets(8) && refuses());
+    kept[REFUSALS_AT + 7] = 2;
+    kept[REFUSALS_AT + 8] = 1;
+    CHECK(as_kept());
+    struct yirbarn_ran ran = yirbarn_run(words, NEEDED, tape, sizeof tape, out, OUT);
+    CHECK(ran.stop == YIRBARN_OK && ran.commands == 22 && ran.read == sizeof tape && ran.written == 65);
+    CHECK(words[CALLER_AT] == 8 && !memcmp(words + REFUSALS_AT, kept + REFUSALS_AT, 4 * CALLERS));
+    CHECK(tells(1) && sets(7) && tells(2) && sets(0) && tells(0));
+}
+
+/* A count that is at the last number stays, and the others go on. The words may have any numbers: word 16 alone is a
+ * store of before there were callers, caller 0's. */
+static void test_last_refusals(void)
+{
+    used();
+    memset(words + REFUSALS_AT, 0xff, 4 * CALLERS);
+    words[REFUSALS_AT] = 5;
+    words[REFUSALS_AT + 4] = 0xfffffffe;
+    keep();
+    CHECK(tells(5) && sets(3) && tells(0xffffffff) && refuses() && tells(0xffffffff) && as_kept());
+    CHECK(sets(4) && refuses() && tells(0xffffffff) && refuses() && tells(0xffffffff));
+    CHECK(sets(0) && refuses() && tells(6));
+    kept[REFUSALS_AT + 4] = 0xffffffff;
+    kept[REFUSALS_AT] = 6;
+    CHECK(as_kept());
+}
+
+/* What stops a run comes first, whatever the operand, and is counted for nobody: 4, then 5, then 6. */
+static void test_caller_stops(void)
+{
+    const uint8_t byte[] = {0x11, 1}, good[] = {SETCALLER, 1}, bad[] = {SETCALLER, 16};
+    used();
+    CHECK(sets(2));
+    memset(out, 0x5a, sizeof out);
+    keep();
+    CHECK(yirbarn_run(words, NEEDED, byte, 1, out, 0).stop == YIRBARN_UNKNOWN);
+    CHECK(yirbarn_run(words, NEEDED, byte, sizeof byte, out, OUT).stop == YIRBARN_UNKNOWN);
+    CHECK(yirbarn_run(words, NEEDED, good, 1, out, 0).stop == YIRBARN_CUT);
+    CHECK(yirbarn_run(words, NEEDED, good, 1, out, OUT).stop == YIRBARN_CUT);
+    CHECK(yirbarn_run(words, NEEDED, good, sizeof good, out, 0).stop == YIRBARN_NOROOM);
+    CHECK(yirbarn_run(words, NEEDED, bad, sizeof bad, out, 0).stop == YIRBARN_NOROOM);
+    CHECK(as_kept() && all(out, 0, OUT, 0x5a));
+    struct yirbarn_ran ran = yirbarn_run(words, NEEDED, bad, sizeof bad, out, 1);
+    CHECK(ran.stop == YIRBARN_OK && ran.commands == 1 && ran.read == 2 && ran.written == 1);
+    CHECK(out[0] == YIRBARN_CALLER && all(out, 1, OUT, 0x5a) && tells(1));
+    ran = yirbarn_run(words, NEEDED, good, sizeof good, out, 1);
+    CHECK(ran.stop == YIRBARN_OK && ran.written == 1 && out[0] == 0 && words[CALLER_AT] == 1);
+}
+
+/* A start sets caller 0 and no refusals, whatever the words held. */
+static void test_start_clears_callers(void)
+{
+    used();
+    CHECK(sets(9) && refuses() && words[CALLER_AT] == 9 && words[REFUSALS_AT + 9] == 1);
+    CHECK(yirbarn_start(words, NEEDED, N, K) == YIRBARN_OK);
+    CHECK(words[CALLER_AT] == 0 && all(words + REFUSALS_AT, 0, 4 * CALLERS, 0) && tells(0));
+    fresh();
+    CHECK(words[CALLER_AT] == 0 && all(words + REFUSALS_AT, 0, 4 * CALLERS, 0) && tells(0));
+}
+
+/* Roll and columns show neither caller nor refusals. */
+static void test_callers_do_not_show(void)
+{
+    static uint8_t rolls[2][256];
+    static uint32_t columns[2][4 * 2];
+    used();
+    size_t length = whole(rolls[0], sizeof *rolls, columns[0], 1);
+    CHECK(sets(12) && refuses() && refuses() && sets(3) && refuses());
+    CHECK(whole(rolls[1], sizeof *rolls, columns[1], 1) == length);
+    CHECK(length == 49 && !memcmp(rolls[0], rolls[1], length));
+    CHECK(!memcmp(columns[0], columns[1], sizeof *columns));
+}
+
 static void test_column(void)
 {
     const uint32_t entities[] = {1, 1, 0, 1}, values[] = {6, 0, 5, 0};
@@ -298,10 +482,30 @@ static void test_unsound(const uint32_t *before)
     struct yirbarn_rolled rolled = yirbarn_roll(words, NEEDED, out, OUT);
     CHECK(ran.stop == YIRBARN_UNSOUND && ran.commands == 0 && ran.read == 0 && ran.written == 0);
     CHECK(rolled.number == YIRBARN_UNSOUND && rolled.written == 0);
+    CHECK(yirbarn_column_number(words, NEEDED, 1, false, 0, 1) == YIRBARN_UNSOUND);
     CHECK(yirbarn_column_at(words, NEEDED, 1, false, 0, 1) == 0);
     CHECK(copies(yirbarn_column(words, NEEDED, 1, false, 0, 1, copy, 4), YIRBARN_UNSOUND, 0));
     CHECK(all(out, 0, OUT, 0x5a) && all(copy, 0, sizeof copy, 0x5a));
     CHECK(!memcmp(words, before, sizeof words));
+}
+
+/* Words with a caller of 0 to 15 are sound, whatever was refused; with any other they are not. */
+static void test_sound_callers(void)
+{
+    const uint32_t none[] = {16, 17, 255, 256, 0x10000, 0x80000000, 0xffffffff};
+    used();
+    memset(words + REFUSALS_AT, 0xa5, 4 * CALLERS);
+    for (uint32_t caller = 0; caller < CALLERS; caller++) {
+        words[CALLER_AT] = caller;
+        CHECK(yirbarn_column_number(words, NEEDED, 1, false, 0, 1) == YIRBARN_OK);
+        CHECK(yirbarn_roll(words, NEEDED, out, OUT).number == YIRBARN_OK);
+        CHECK(tells(0xa5a5a5a5) && refuses() && tells(0xa5a5a5a6));
+    }
+    for (size_t i = 0; i < sizeof none / sizeof *none; i++) {
+        words[CALLER_AT] = none[i];
+        keep();
+        test_unsound(kept);
+    }
 }
 
 /* Each word of a store in use, damaged in several ways. */
@@ -352,6 +556,15 @@ int main(void)
     test_tray();
     test_tray_is_news();
     test_tray_stops();
+    test_callers();
+    test_callers_in_a_run();
+    test_no_caller();
+    test_callers_stay();
+    test_last_refusals();
+    test_caller_stops();
+    test_start_clears_callers();
+    test_callers_do_not_show();
+    test_sound_callers();
     test_column();
     test_copy();
     test_roll();

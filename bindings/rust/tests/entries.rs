@@ -106,7 +106,7 @@ fn run() {
     assert_eq!(answers[42..], [0x5a; 22]);
 
     // A dead entity, the count of refusals, a byte that is no command.
-    let ran = store.run(&[0x07, 9, 0, 0, 0, 1, 0, 0, 0, 0x0e, 0x10], &mut answers);
+    let ran = store.run(&[0x07, 9, 0, 0, 0, 1, 0, 0, 0, 0x0e, 0x11], &mut answers);
     assert_eq!(ran.stop, Some(Refusal::Unknown));
     assert_eq!((ran.commands, ran.read, ran.written), (2, 10, 6));
     assert_eq!(answers[..6], [Refusal::Dead as u8, 0, 1, 0, 0, 0]);
@@ -346,6 +346,246 @@ fn trays_that_are_not_done() {
     assert_eq!(out, [Refusal::Full as u8, 0x5a, 0x5a]);
 }
 
+/// Where the words have the caller, and the refusals of each (docs/WORDS.md).
+const CALLER: usize = 9;
+const REFUSALS: usize = 16;
+
+const SETCALLER: u8 = 0x10;
+const TALLY: u8 = 0x0e;
+
+/// KILL of an entity that is not live.
+const KILL_NONE: [u8; 9] = [0x07, 9, 0, 0, 0, 1, 0, 0, 0];
+
+/// Sets the caller, in a run of its own.
+fn set_caller(store: &mut Store, caller: u8) {
+    assert_eq!(answers(store, &[SETCALLER, caller]), [0]);
+}
+
+/// A refused command, in a run of its own, for the caller that is set.
+fn refuse(store: &mut Store) {
+    assert_eq!(answers(store, &KILL_NONE), [Refusal::Dead as u8]);
+}
+
+/// What TALLY tells, in a run of its own.
+fn tally(store: &mut Store) -> u32 {
+    let told = answers(store, &[TALLY]);
+    assert_eq!((told.len(), told[0]), (5, 0));
+    u32::from_le_bytes(told[1..].try_into().unwrap())
+}
+
+/// Each caller has as many commands refused as its number, in runs of their own: these words change, and no others.
+#[test]
+fn callers() {
+    let mut words = used();
+    let mut kept = words.clone();
+    let mut store = Store::open(&mut words).unwrap();
+    for caller in 0..16 {
+        set_caller(&mut store, caller);
+        kept[CALLER] = u32::from(caller);
+        assert_eq!(store.words(), kept);
+        for refused in 0..caller {
+            assert_eq!(tally(&mut store), u32::from(refused));
+            refuse(&mut store);
+        }
+        kept[REFUSALS + usize::from(caller)] = u32::from(caller);
+        assert_eq!(store.words(), kept);
+    }
+    for caller in (0..16).rev() {
+        set_caller(&mut store, caller);
+        assert_eq!(tally(&mut store), u32::from(caller));
+    }
+    kept[CALLER] = 0;
+    assert_eq!(store.words(), kept);
+}
+
+/// In one run: every refusal counts for the caller that is set, whatever refuses, and TALLY sees those of its run.
+#[test]
+fn callers_in_a_run() {
+    let mut words = used();
+    let mut store = Store::open(&mut words).unwrap();
+    assert_eq!(answers(&mut store, &[0x0b, 1]), [0]);
+    let mut kept = store.words().to_vec();
+    // For caller 0 a dead entity; for caller 6 HOLD 9, BAR 1, TRAY 65, a dead entity, caller 16; for 15 a dead entity.
+    let tape = [
+        KILL_NONE.to_vec(),
+        vec![SETCALLER, 6],
+        holding(&[9], &[0x0b, 1, 0x0f, 65, 0]),
+        KILL_NONE.to_vec(),
+        vec![SETCALLER, 16, TALLY, SETCALLER, 15],
+        KILL_NONE.to_vec(),
+        vec![TALLY, SETCALLER, 0, TALLY],
+    ]
+    .concat();
+    let told = [
+        vec![11, 0, 7, 9, 12, 11, 19],
+        vec![0, 5, 0, 0, 0, 0],
+        vec![11, 0, 1, 0, 0, 0],
+        vec![0, 0, 1, 0, 0, 0],
+    ]
+    .concat();
+    assert_eq!(answers(&mut store, &tape), told);
+    kept[REFUSALS] = 1;
+    kept[REFUSALS + 6] = 5;
+    kept[REFUSALS + 15] = 1;
+    assert_eq!(store.words(), kept);
+}
+
+/// From 16 on: refused, counted for the caller of before, which stays; no other word changes.
+#[test]
+fn no_caller() {
+    let mut words = used();
+    let mut kept = words.clone();
+    let mut store = Store::open(&mut words).unwrap();
+    set_caller(&mut store, 15);
+    kept[CALLER] = 15;
+    for operand in 16..=255 {
+        assert_eq!(answers(&mut store, &[SETCALLER, operand]), [Refusal::Caller as u8]);
+        kept[REFUSALS + 15] += 1;
+        assert_eq!(store.words(), kept);
+    }
+    assert_eq!(tally(&mut store), 240);
+}
+
+/// Every other command, accepted, leaves the caller and all refusals.
+#[test]
+fn callers_stay() {
+    let mut words = used();
+    let mut store = Store::open(&mut words).unwrap();
+    set_caller(&mut store, 7);
+    refuse(&mut store);
+    set_caller(&mut store, 8);
+    let on_first = |byte: u8| [byte, 0, 0, 0, 0, 1, 0, 0, 0];
+    // REG, GROUP, APPLY, NEW, PUT, TAKE, BAR, EMPTY, DROP, KILL, TRAY, RANGE, WIPE, TALLY.
+    let tape = [
+        vec![0x01, 3],
+        holding(&[2, 1], &[0x09, 0x0a]),
+        holding(&[2, 1], &[0x03]),
+        holding(&[2, 1], &on_first(0x04)),
+        holding(&[2, 1], &on_first(0x05)),
+        vec![0x0b, 1, 0x0d],
+        on_first(0x06).to_vec(),
+        on_first(0x07).to_vec(),
+        vec![0x0f, 2, 0, 0x0c, 0x08, TALLY],
+    ]
+    .concat();
+    // Of the answers' length when all are accepted.
+    assert_eq!(answers(&mut store, &tape).len(), 65);
+    let mut refusals = [0; 16];
+    refusals[7] = 1;
+    assert_eq!(
+        (store.words()[CALLER], &store.words()[REFUSALS..][..16]),
+        (8, &refusals[..])
+    );
+    assert_eq!(tally(&mut store), 0);
+}
+
+/// A count that is at the last number stays, and the others go on. The words may have any numbers: word 16 alone is a
+/// store of before there were callers, caller 0's.
+#[test]
+fn last_refusals() {
+    let mut words = used();
+    words[REFUSALS] = 5;
+    words[REFUSALS + 3] = u32::MAX;
+    words[REFUSALS + 4] = u32::MAX - 1;
+    let mut kept = words.clone();
+    let mut store = Store::open(&mut words).unwrap();
+    assert_eq!(tally(&mut store), 5);
+    for (caller, tallies) in [
+        (3, [u32::MAX; 3]),
+        (4, [u32::MAX - 1, u32::MAX, u32::MAX]),
+        (5, [0, 1, 2]),
+        (0, [5, 6, 7]),
+    ] {
+        set_caller(&mut store, caller);
+        assert_eq!(tally(&mut store), tallies[0]);
+        refuse(&mut store);
+        assert_eq!(tally(&mut store), tallies[1]);
+        refuse(&mut store);
+        assert_eq!(tally(&mut store), tallies[2]);
+        kept[REFUSALS + usize::from(caller)] = tallies[2];
+    }
+    assert_eq!(store.words(), kept);
+}
+
+/// What stops a run comes first, whatever the operand, and is counted for nobody: 4, then 5, then 6.
+#[test]
+fn callers_that_are_not_set() {
+    let mut words = used();
+    let mut store = Store::open(&mut words).unwrap();
+    set_caller(&mut store, 2);
+    let kept = store.words().to_vec();
+    for (tape, room, stop) in [
+        (vec![0x11], 0, Refusal::Unknown),
+        (vec![0x11, 1], 1, Refusal::Unknown),
+        (vec![SETCALLER], 0, Refusal::Cut),
+        (vec![SETCALLER], 1, Refusal::Cut),
+        (vec![SETCALLER, 1], 0, Refusal::NoRoom),
+        (vec![SETCALLER, 16], 0, Refusal::NoRoom),
+    ] {
+        let mut out = [0x5a];
+        let ran = store.run(&tape, &mut out[..room]);
+        assert_eq!((ran.stop, ran.commands, ran.read, ran.written), (Some(stop), 0, 0, 0));
+        assert_eq!((store.words(), out), (&kept[..], [0x5a]));
+    }
+    let mut out = [0x5a; 2];
+    assert_eq!(store.run(&[SETCALLER, 16], &mut out[..1]).written, 1);
+    assert_eq!(out, [Refusal::Caller as u8, 0x5a]);
+    assert_eq!(tally(&mut store), 1);
+    assert_eq!(store.run(&[SETCALLER, 1], &mut out[..1]).written, 1);
+    assert_eq!((out, tally(&mut store)), ([0, 0x5a], 0));
+}
+
+/// A start sets caller 0 and no refusals, whatever the words held.
+#[test]
+fn start_clears_callers() {
+    let mut words = vec![7; NEEDED];
+    for _ in 0..2 {
+        let mut store = Store::start(&mut words, N, K).unwrap();
+        assert_eq!(store.words()[CALLER], 0);
+        assert_eq!(store.words()[REFUSALS..][..16], [0; 16]);
+        assert_eq!(tally(&mut store), 0);
+        // In use, for the second start.
+        set_caller(&mut store, 9);
+        refuse(&mut store);
+        assert_eq!((store.words()[CALLER], store.words()[REFUSALS + 9]), (9, 1));
+    }
+}
+
+/// Roll and columns show neither caller nor refusals.
+#[test]
+fn callers_do_not_show() {
+    let mut words = used();
+    let mut store = Store::open(&mut words).unwrap();
+    for caller in [12, 3] {
+        set_caller(&mut store, caller);
+        refuse(&mut store);
+    }
+    let mut out = [0x5a; 64];
+    let length = store.roll(&mut out).unwrap();
+    assert_eq!(out[..length], roll());
+    assert!(store.rows(1, 0, 2).unwrap().eq([FIRST, SECOND]));
+}
+
+/// Words with a caller of 0 to 15 are sound, whatever was refused; with any other they are not.
+#[test]
+fn sound_callers() {
+    let mut words = used();
+    words[REFUSALS..][..16].fill(0xa5a5_a5a5);
+    for caller in 0..16 {
+        words[CALLER] = caller;
+        let mut store = Store::open(&mut words).unwrap();
+        assert_eq!(store.roll(&mut [0; 64]), Ok(roll().len()));
+        assert_eq!(store.column(1, Part::Values, 0, 2), Ok(&[6, 0, 5, 0][..]));
+        refuse(&mut store);
+        assert_eq!(tally(&mut store), 0xa5a5_a5a6);
+    }
+    for caller in [16, 17, 255, 256, 1 << 16, 1 << 31, u32::MAX] {
+        words[CALLER] = caller;
+        unsound(&mut words);
+        assert_eq!(Store::open(&mut words).unwrap_err(), Refusal::Unsound);
+    }
+}
+
 /// The header and the crate have one version.
 #[test]
 fn version() {
@@ -430,11 +670,14 @@ fn no_store() {
 
 #[test]
 fn refusals() {
-    for (number, refusal) in (1..).zip(Refusal::ALL) {
-        assert_eq!(refusal as u8, number);
-        assert_eq!(Refusal::of(number), Some(refusal));
+    let numbers: Vec<u8> = (1..=16).chain([19]).collect();
+    assert_eq!(Refusal::ALL.map(|refusal| refusal as u8)[..], numbers);
+    for (number, refusal) in numbers.iter().zip(Refusal::ALL) {
         assert!(refusal.to_string().ends_with(&format!("({number})")));
     }
-    assert_eq!(Refusal::of(0), None);
-    assert_eq!(Refusal::of(17), None);
+    // 0, 17, 18 and all above 19 are none.
+    for number in 0..=255 {
+        let found = Refusal::of(number).map(|refusal| refusal as u8);
+        assert_eq!(found, numbers.contains(&number).then_some(number));
+    }
 }
