@@ -5,7 +5,7 @@ use crate::past;
 use crate::reference::Reference;
 use crate::side::{Known, Seen, Side};
 use crate::tape::{self, Case, Chunk, Run, ROOMY};
-use sparsey::harness::{arranged, kinds_of, words_needed, Families, Oracle, Ran, Sets, COMMANDS, JUDGEMENTS};
+use sparsey::harness::{arranged, kinds_of, words_needed, Families, Oracle, Ran, Sets, COMMANDS, JUDGEMENTS, NUMBERS};
 use std::fmt::Write;
 
 /// What was compared.
@@ -58,11 +58,11 @@ impl Figures {
             .collect();
         writeln!(text, "runs by stop number: {}", stops.join(", ")).unwrap();
         for byte in 1..COMMANDS {
-            let answers: Vec<String> = (0..16)
+            let answers: Vec<String> = (0..NUMBERS)
                 .filter(|&number| self.seen[byte][number] > 0)
                 .map(|number| format!("{number}: {}", self.seen[byte][number]))
                 .collect();
-            writeln!(text, "  {:<6} {}", tape::NAMES[byte], answers.join(", ")).unwrap();
+            writeln!(text, "  {:<9} {}", tape::NAMES[byte], answers.join(", ")).unwrap();
         }
         let all = self.judged.iter().sum::<u64>() as f64;
         if all == 0.0 {
@@ -160,7 +160,20 @@ impl Pair {
         let other = self.other.start(words, n, k);
         same!(format!("start N {n}, K {k}, {words} words"), known, other, names);
         self.complaint()?;
+        self.counts()?;
         Ok(known)
+    }
+
+    /// The caller and all refusal counts.
+    fn counts(&mut self) -> Result<(), String> {
+        let names = self.names();
+        same!(
+            "caller and refusal counts",
+            self.known.counts(),
+            self.other.counts(),
+            names
+        );
+        Ok(())
     }
 
     fn names(&self) -> [&'static str; 2] {
@@ -171,7 +184,7 @@ impl Pair {
         self.other.complaint().map_or(Ok(()), Err)
     }
 
-    /// One run on both sides: stop, counts, answer bytes, and the bytes past them.
+    /// One run on both sides: stop, lengths, answer bytes, the bytes past them, and then caller and refusal counts.
     pub fn run(&mut self, run: &Run) -> Result<Ran, String> {
         Ok(self.answered(run)?.0)
     }
@@ -195,6 +208,7 @@ impl Pair {
             names
         );
         self.complaint()?;
+        self.counts()?;
 
         self.figures.runs += 1;
         self.figures.commands += ran.commands as u64;
@@ -235,6 +249,10 @@ impl Pair {
             self.no_columns(&registered)?;
         }
         self.roll(closely)?;
+        // It takes long, and cases of few states are many.
+        if closely && self.figures.states >= 7 {
+            self.other.probe();
+        }
         self.complaint()?;
         self.figures.states += 1;
         Ok(())

@@ -1,5 +1,6 @@
 //! Cases that no chance is left to: every limit, and all tapes of a few steps over small alphabets.
 
+use crate::callers;
 use crate::compare::{compare, Beside, Difference, Figures, Look, Make, Pair};
 use crate::drafts;
 use crate::past::{self, is_within_reach};
@@ -76,6 +77,13 @@ pub fn starts(beside: Beside, make: Make) -> Result<Figures, String> {
         pair.start_number(small, 4, 3)?;
         pair.run(&Run::new(vec![tape::tally()]))?;
         pair.state()?;
+        // Whose refusal it was, and then another caller, whom the next start forgets.
+        let called = [
+            vec![tape::hold(9, 9)],
+            tape::tallies(),
+            vec![tape::set_caller(3 * round)],
+        ];
+        pair.run(&Run::new(called.concat()))?;
         let chunks = [
             vec![tape::reg(2), tape::reg(7), tape::bar(2)],
             tape::with(&[2, 7], tape::group()),
@@ -119,6 +127,7 @@ pub fn limits(most: usize) -> Vec<Part> {
         ),
         part("trays", trays::cases().filter(move |case| case.n <= most)),
         part("trays at the last version", trays::at_the_last_version()),
+        part("callers", callers::cases()),
         part("rooms", rooms()),
         part("versions run out", versions_run_out()),
     ]
@@ -640,11 +649,14 @@ fn rooms() -> impl Iterator<Item = Case> {
         (5, vec![tape::tray(1), tape::tray(1)]),
         (6, vec![tape::tray(1), tape::tray(0)]),
         (0, vec![vec![0]]),
-        (0, vec![vec![16]]),
+        (0, vec![vec![17]]),
         (0, vec![vec![2, 1, 0]]),
         (0, vec![vec![15]]),
         (0, vec![vec![15, 1]]),
         (0, vec![]),
+        (1, vec![tape::set_caller(5)]),
+        (1, vec![tape::set_caller(16)]),
+        (0, vec![vec![16]]),
     ];
     commands.into_iter().flat_map(|(needed, chunks)| {
         // The list has none, two or three kinds at the time.
@@ -705,17 +717,19 @@ fn versions_run_out() -> impl Iterator<Item = Case> {
             issued: 3,
             live: vec![(1, LAST)],
             recycled: vec![(2, LAST), (0, LAST - 1)],
-            refusals: LAST - 1,
+            refusals: callers::counts_of_first(LAST - 1),
+            ..Preset::default()
         },
         Preset {
             issued: 3,
             live: vec![(1, 4)],
             recycled: vec![(0, LAST)],
-            refusals: LAST,
+            refusals: callers::counts_of_first(LAST),
+            ..Preset::default()
         },
         Preset {
             issued: 3,
-            refusals: LAST - 3,
+            refusals: callers::counts_of_first(LAST - 3),
             ..Preset::default()
         },
     ];
@@ -759,8 +773,12 @@ pub fn exhaustive() -> Vec<Part> {
         ),
         part("all tapes of 0 to 2 bytes", short_tapes()),
         part(
-            "all tapes of 4 commands over 16",
+            "all tapes of 4 commands over 17",
             words_over(commands(), 4, vec![vec![tape::reg(0), tape::reg(1)]], 2, 2),
+        ),
+        part(
+            "all tapes of 5 commands over 9, with callers",
+            words_over(callers::commands(), 5, vec![vec![tape::reg(0)]], 1, 1),
         ),
         part(
             "all tapes of 5 commands over 11",
@@ -818,6 +836,7 @@ fn commands() -> Vec<Vec<Chunk>> {
         tape::range(),
         tape::empty(),
         tape::tray(2),
+        tape::set_caller(1),
     ]
     .into_iter()
     .map(|chunk| vec![chunk])

@@ -1,13 +1,15 @@
 //! Random cases: they lean to commands that are accepted, and change layouts while entities exist, remove, destroy
-//! and reuse. Some are damaged, some get too little room, some start where versions run out.
+//! and reuse. Some are damaged, some get too little room, some start where versions or refusal counts run out. One in three
+//! has several callers; the others never meet the command that sets one.
 
+use crate::callers::counts_of_first;
 use crate::compare::{Beside, Difference, Figures, Make, Pair};
 use crate::drafts;
 use crate::past::{self, Scout};
 use crate::rng::Rng;
 use crate::side::Known;
 use crate::tape::{self, Case, Chunk, Run, ROOMY};
-use sparsey::harness::{kinds_of, set_of, Id, Preset};
+use sparsey::harness::{kinds_of, set_of, Id, Preset, CALLERS};
 
 /// What a case is like.
 struct Profile {
@@ -29,6 +31,8 @@ struct Profile {
     widest: usize,
     /// One family in so many is a layout's last.
     families: usize,
+    /// The callers that the case sets; none where it never sets one.
+    callers: Vec<u8>,
 }
 
 // The steps, in the order of the weights: create, put, take, drop, kill, wipe, relayout, range, register, empty,
@@ -41,11 +45,25 @@ const DRAFT: [usize; 13] = [2, 2, 0, 0, 1, 0, 3, 6, 3, 1, 1, 10, 1];
 /// Trays of all sizes, and room made for them again.
 const TRAYS: [usize; 13] = [3, 3, 1, 2, 14, 0, 2, 1, 0, 0, 1, 0, 10];
 
-fn profile(rng: &mut Rng, beside: Beside) -> (Profile, usize, usize) {
-    match beside {
+/// Profile, N and K. The callers are drawn apart, so that without them a case is the same.
+fn profile(rng: &mut Rng, calls: &mut Rng, beside: Beside) -> (Profile, usize, usize) {
+    let (mut profile, n, k) = match beside {
         Beside::Rust(_) => within_reach(rng),
         Beside::Reference => past_reach(rng),
+    };
+    profile.callers = callers(calls);
+    (profile, n, k)
+}
+
+/// A few callers, in one case of three.
+fn callers(rng: &mut Rng) -> Vec<u8> {
+    if !rng.once_in(3) {
+        return vec![];
     }
+    let mut callers: Vec<u8> = (0..CALLERS as u8).collect();
+    rng.shuffle(&mut callers);
+    callers.truncate(rng.between(2, 5));
+    callers
 }
 
 /// Families of 16 kinds, and many groups.
@@ -70,6 +88,7 @@ fn past_reach(rng: &mut Rng) -> (Profile, usize, usize) {
         bits: *rng.pick(&[4, 64]),
         widest: 16,
         families: if is_wide { 6 } else { 200 },
+        callers: vec![],
     };
     (profile, rng.between(3, 12), k)
 }
@@ -128,8 +147,26 @@ fn within_reach(rng: &mut Rng) -> (Profile, usize, usize) {
         bits: *rng.pick(&[0, 4, 40, 64]),
         widest: 15,
         families: 4,
+        callers: vec![],
     };
     (profile, n, k)
+}
+
+/// A refusal count that is small, near the last number, or there.
+fn preset_count(rng: &mut Rng) -> u32 {
+    *rng.pick(&[0, 7, u32::MAX - 2, u32::MAX - 1, u32::MAX])
+}
+
+/// Sets the count of one more caller in a preset; every other time that is the caller, if the case has callers.
+fn preset_caller(preset: &mut Preset, calls: &mut Rng, callers: &[u8]) {
+    let other = match callers {
+        [] => calls.between(1, CALLERS - 1) as u8,
+        callers => *calls.pick(callers),
+    };
+    preset.refusals[usize::from(other)] = preset_count(calls);
+    if !callers.is_empty() && calls.once_in(2) {
+        preset.caller = other;
+    }
 }
 
 /// A store whose numbers are close to their last versions, or whose refusal count is full.
@@ -137,7 +174,7 @@ fn preset(rng: &mut Rng, n: usize) -> Preset {
     let issued = rng.between(0, n);
     let mut preset = Preset {
         issued,
-        refusals: *rng.pick(&[0, 7, u32::MAX - 2, u32::MAX - 1, u32::MAX]),
+        refusals: counts_of_first(preset_count(rng)),
         ..Preset::default()
     };
     for index in 0..issued as u32 {
@@ -261,8 +298,24 @@ impl<'a> Steps<'a> {
         self.chunks.push(command);
     }
 
-    /// Now and then a command that is likely to be refused, or out of place.
+    /// Now and then another caller, or one that is none, and then mostly its count.
+    fn call(&mut self) {
+        if self.profile.callers.is_empty() || !self.rng.once_in(8) {
+            return;
+        }
+        let caller = match self.rng.below(5) {
+            0 => *self.rng.pick(&[16, 17, 18, 31, 32, 128, 240, 255]),
+            _ => *self.rng.pick(&self.profile.callers),
+        };
+        self.chunks.push(tape::set_caller(caller));
+        if !self.rng.once_in(3) {
+            self.chunks.push(tape::tally());
+        }
+    }
+
+    /// Now and then another caller, and a command that is likely to be refused, or out of place.
     fn noise(&mut self) {
+        self.call();
         if self.profile.noise == 0 || !self.rng.once_in(self.profile.noise) {
             return;
         }
@@ -589,22 +642,26 @@ fn random_run(rng: &mut Rng, profile: &Profile, pair: &mut Pair) -> Run {
     steps.finish()
 }
 
-/// The first such run that the scout can follow.
+/// The first such run that the scout can follow. Damaged bytes set no caller in a case that has none.
 fn next_run(rng: &mut Rng, profile: &Profile, pair: &mut Pair, scout: &mut Scout) -> Run {
     loop {
         let run = random_run(rng, profile, pair);
-        if scout.follows(&run) {
+        let is_called = profile.callers.is_empty() && tape::sets_caller(&run.tape());
+        if !is_called && scout.follows(&run) {
             return run;
         }
     }
 }
 
 /// One random case, compared as it grows. `Err` has the case and where the sides part. Beside the Rust no run takes the
-/// draft past its reach.
+/// draft past its reach. A case with callers ends by asking for all their counts.
 pub fn random_case(seed: u64, beside: Beside, make: Make) -> Result<(Case, Figures), Difference> {
-    let rng = &mut Rng::new(seed);
-    let (profile, n, k) = profile(rng, beside);
-    let preset = rng.once_in(6).then(|| preset(rng, n));
+    let (rng, calls) = (&mut Rng::new(seed), &mut Rng::new(!seed));
+    let (profile, n, k) = profile(rng, calls, beside);
+    let mut preset = rng.once_in(6).then(|| preset(rng, n));
+    if let Some(preset) = &mut preset {
+        preset_caller(preset, calls, &profile.callers);
+    }
     let mut case = Case {
         n,
         k,
@@ -626,6 +683,11 @@ pub fn random_case(seed: u64, beside: Beside, make: Make) -> Result<(Case, Figur
         if i < profile.runs {
             case.runs.push(next_run(rng, &profile, &mut pair, &mut scout));
         }
+    }
+    if !profile.callers.is_empty() {
+        case.runs.push(Run::new(tape::tallies()));
+        pair.step(&case.runs[profile.runs + 1], true)
+            .map_err(|what| part(&case, what))?;
     }
     pair.ranges().map_err(|what| part(&case, what))?;
     Ok((case, pair.finish()))

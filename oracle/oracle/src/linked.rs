@@ -3,14 +3,15 @@
 
 use crate::rng::Rng;
 use crate::side::Side;
-use sparsey::harness::{words_needed, Families, Id, Preset, Ran};
+use crate::tape;
+use crate::words;
+use sparsey::harness::{words_needed, Counts, Families, Id, Preset, Ran, CALLERS};
 use yirbarn::sys;
 
 // The arrangement of the words, for what no entry shows and for presets (docs/WORDS.md).
 const N: usize = 0;
 const DRAFT_FAMILIES: usize = 5;
 const LAYOUT_FAMILIES: usize = 7;
-const REFUSALS: usize = 16;
 const DRAFT: usize = 256;
 const LAYOUT: usize = 576;
 const ENTITIES: usize = 1024;
@@ -24,6 +25,9 @@ const LISTS: usize = ENTITIES + 8;
 const ARITIES: usize = 128;
 const KIND_ENDS: usize = 192;
 const ENDS: usize = 256;
+
+/// Callers that no sound store has.
+const UNSOUND: [u32; 8] = [16, 17, 31, 255, 256, 1 << 16, 1 << 31, u32::MAX];
 
 /// Words past those that a store is lent, which must stay as they are.
 const BEYOND: usize = 3;
@@ -71,12 +75,58 @@ impl Linked {
         self.complaint.get_or_insert(what);
     }
 
-    /// Holds the words from `from` on to what they were.
-    fn unchanged(&mut self, before: &[u32], from: usize, what: &str) {
-        if let Some(at) = (from..before.len()).find(|&at| before[at] != self.words[at]) {
-            let (old, new) = (before[at], self.words[at]);
-            self.complain(format!("{what}: word {at} of {} was {old}, is {new}", self.lent));
+    /// Holds the words from `from` on to what they must be.
+    fn hold_words(&mut self, expected: &[u32], from: usize, what: &str) {
+        if let Some(at) = (from..expected.len()).find(|&at| expected[at] != self.words[at]) {
+            let (expected, word) = (expected[at], self.words[at]);
+            self.complain(format!("{what}: word {at} of {} is {word}, not {expected}", self.lent));
         }
+    }
+
+    /// Holds the words to those before a run, as far as its answers tell what it does to them.
+    fn hold_run(&mut self, before: Vec<u32>, tape: &[u8], answers: &[u8], commands: usize) {
+        self.hold_words(&before, self.needed, "a run, past the words needed");
+        match (commands, answers) {
+            (0, _) => self.hold_words(&before, 0, "a run of no command"),
+            (1, [0]) if tape[0] == tape::SETCALLER => {
+                self.hold_words(&words::after_set_caller(before, tape[1]), 0, "SETCALLER");
+            }
+            (1, [number]) if *number != 0 => {
+                self.hold_words(&words::after_refusal(before), 0, "a refused command");
+            }
+            _ => {}
+        }
+    }
+
+    /// The entry *run* itself.
+    fn enter(&mut self, tape: &[u8], out: &mut [u8]) -> sys::Ran {
+        unsafe {
+            sys::yirbarn_run(
+                self.words.as_mut_ptr(),
+                self.lent,
+                tape.as_ptr(),
+                tape.len(),
+                out.as_mut_ptr(),
+                out.len(),
+            )
+        }
+    }
+
+    /// With another caller for the time: the numbers of TALLY's run, of *column*, of a copy, and of *roll* into no room;
+    /// and what TALLY tells. None of them changes a word.
+    fn entries(&mut self, caller: u32) -> ([u32; 4], [u8; 8]) {
+        let kept = std::mem::replace(&mut self.words[words::CALLER], caller);
+        let before = self.words.clone();
+        let mut told = [FILL as u8; 8];
+        let numbers = [
+            self.enter(&tape::tally(), &mut told).stop.into(),
+            self.column_number(0, false, 0, 0),
+            self.copy(0, false, 0, 0, &mut []).0.into(),
+            self.roll(&mut []).0,
+        ];
+        self.hold_words(&before, 0, "entries with another caller");
+        self.words[words::CALLER] = kept;
+        (numbers, told)
     }
 
     fn word(&self, at: usize) -> usize {
@@ -146,7 +196,7 @@ impl Side for Linked {
         let before = self.words.clone();
         let number = unsafe { sys::yirbarn_start(self.words.as_mut_ptr(), words, n, k) };
         if number != 0 {
-            self.unchanged(&before, 0, "a refused start");
+            self.hold_words(&before, 0, "a refused start");
             return u32::from(number);
         }
         self.lent = words;
@@ -155,13 +205,13 @@ impl Side for Linked {
         if needed != self.needed {
             self.complain(format!("words needed for N {n}, K {k}: {needed}"));
         }
-        self.unchanged(&before, self.needed, "start");
+        self.hold_words(&before, self.needed, "start");
         0
     }
 
     fn preset(&mut self, preset: &Preset) {
         let n = self.word(N);
-        self.words[REFUSALS] = preset.refusals;
+        words::set_counts(&mut self.words, (preset.caller, preset.refusals));
         self.words[LIVE] = preset.live.len() as u32;
         self.words[ISSUED] = preset.issued as u32;
         self.words[RING_HEAD] = 0;
@@ -182,29 +232,12 @@ impl Side for Linked {
         let watched = self.words.len() <= WATCHED;
         let before = if watched { self.words.clone() } else { vec![] };
         let beyond = self.words[self.lent..].to_vec();
-        let ran = unsafe {
-            sys::yirbarn_run(
-                self.words.as_mut_ptr(),
-                self.lent,
-                tape.as_ptr(),
-                tape.len(),
-                out.as_mut_ptr(),
-                out.len(),
-            )
-        };
+        let ran = self.enter(tape, out);
         if beyond != self.words[self.lent..] {
             self.complain("a run changed words that were not lent".to_string());
         }
         if watched {
-            self.unchanged(&before, self.needed, "a run, past the words needed");
-            if ran.commands == 0 {
-                self.unchanged(&before, 0, "a run of no command");
-            }
-            if ran.commands == 1 && ran.written == 1 && out[0] != 0 {
-                let mut before = before;
-                before[REFUSALS] = self.words[REFUSALS];
-                self.unchanged(&before, 0, "a refused command");
-            }
+            self.hold_run(before, tape, &out[..ran.written], ran.commands);
         }
         Ran {
             stop: u32::from(ran.stop),
@@ -254,6 +287,33 @@ impl Side for Linked {
             self.block(DRAFT, self.word(DRAFT_FAMILIES)),
             self.block(LAYOUT, self.word(LAYOUT_FAMILIES)),
         ]
+    }
+
+    fn counts(&mut self) -> Counts {
+        match self.needed {
+            0 => Counts::default(),
+            _ => words::counts(&self.words),
+        }
+    }
+
+    /// The callers 0 to 15 are taken, each with its count, and others are refused at every entry.
+    fn probe(&mut self) {
+        let (_, refusals) = self.counts();
+        for caller in 0..CALLERS {
+            let (numbers, told) = self.entries(caller as u32);
+            let count = refusals[caller].to_le_bytes();
+            if numbers.contains(&3) || told[0] != 0 || told[1..5] != count {
+                self.complain(format!(
+                    "caller {caller}: numbers {numbers:?}, TALLY {told:?}, not {count:?}"
+                ));
+            }
+        }
+        for caller in UNSOUND {
+            let (numbers, told) = self.entries(caller);
+            if numbers != [3; 4] || told != [FILL as u8; 8] {
+                self.complain(format!("caller {caller}: numbers {numbers:?}, TALLY {told:?}"));
+            }
+        }
     }
 
     fn complaint(&mut self) -> Option<String> {

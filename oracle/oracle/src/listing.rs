@@ -23,7 +23,7 @@ fn command(words: &[&str]) -> Option<Chunk> {
     }
     let byte = tape::NAMES[1..].iter().position(|&name| name == words[0])? as u8 + 1;
     let bytes = match (byte, &words[1..]) {
-        (1 | 11, [kind]) => vec![byte, kind.parse().ok()?],
+        (1 | 11 | 16, [number]) => vec![byte, number.parse().ok()?],
         (2, [kind, "=", value]) => tape::hold(kind.parse().ok()?, value.parse().ok()?),
         (4..=7, [index, "version", version]) => tape::with_id(byte, (index.parse().ok()?, version.parse().ok()?)),
         (15, [count]) => tape::tray(count.parse().ok()?),

@@ -1,5 +1,6 @@
 //! Runs document 01's tapes on the Rust and on another side, and compares.
 
+mod callers;
 mod compare;
 mod demand;
 mod drafts;
@@ -19,6 +20,8 @@ mod tape;
 #[cfg(test)]
 mod tests;
 mod trays;
+#[cfg(any(feature = "linked", test))]
+mod words;
 
 use compare::{shrink, Beside, Difference, Figures, Make, Pair};
 use fixed::Part;
@@ -60,7 +63,7 @@ fn options() -> (String, Options) {
         quick: false,
         show: false,
         file: "../crates/replay/data/answers.bin".to_string(),
-        kilobytes: 200,
+        kilobytes: 220,
         reference: false,
         write: false,
     };

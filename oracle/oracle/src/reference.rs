@@ -2,7 +2,7 @@
 //! papers' definitions and shares no code with the harness. A fault can be switched on, to see whether the comparison finds it.
 
 use crate::side::{Known, Seen, Side};
-use sparsey::harness::{Families, Id, Preset, Ran};
+use sparsey::harness::{Counts, Families, Id, Preset, Ran};
 use std::collections::{BTreeMap, BTreeSet, VecDeque};
 
 /// The faults, each once: its name and what is wrong, in a line.
@@ -130,13 +130,48 @@ faults! {
     TrayTellsNothing: "TRAY answers by one byte",
     RefusalCountWraps: "the refusal count starts over after 4,294,967,295",
     RefusalCountHasStops: "the refusal count has stops too",
+    CountsOfFirst: "every refusal counts against caller 0",
+    SixteenAccepted: "16 is accepted as a caller",
+    FifteenRefused: "15 is refused as a caller",
+    CallerFolded: "a caller is taken by its lower four bits, and none is refused",
+    SameCallerRefused: "setting the caller that is set is refused",
+    CallerNotCounted: "19 is not counted",
+    CallerCountsFirst: "19 counts against caller 0",
+    CallerCountsAsked: "19 counts against the caller asked for, by its lower four bits",
+    RefusedCallerSet: "a refused SETCALLER sets the caller, by its lower four bits",
+    CallerStops: "19 stops the run",
+    UnknownAboveTray: "4 begins above 0F",
+    CallerOfRun: "the caller is forgotten at the end of a run",
+    CallerFromNextRun: "SETCALLER sets the caller from the next run on",
+    StopForgetsCaller: "a run that stops forgets the caller",
+    RefusalForgetsCaller: "a refused command forgets the caller",
+    WipeForgetsCaller: "WIPE forgets the caller",
+    ApplyForgetsCaller: "APPLY forgets the caller",
+    KillForgetsCaller: "KILL forgets the caller",
+    EmptyForgetsCaller: "EMPTY forgets the caller",
+    SetCallerWithoutRoom: "SETCALLER sets the caller also where there is no room for its answer",
+    SetCallerEmptiesStaged: "SETCALLER empties the staged components",
+    SetCallerEmptiesExcluded: "SETCALLER empties the excluded kinds",
+    SetCallerEmptiesDraft: "SETCALLER empties the draft",
+    SetCallerClearsCount: "SETCALLER clears the count of the caller that it sets",
+    SetCallerTellsBefore: "SETCALLER answers with the caller before, a byte more",
+    TallyOfFirst: "TALLY always answers caller 0's count",
+    TallyOfAll: "TALLY answers the sum of all counts",
+    EightCounts: "callers with the same lower three bits share a count",
+    FullCountStopsAll: "a count at 4,294,967,295 stops those of all callers",
     RollByLiveList: "the roll follows the live list",
     RollByRegistration: "the roll's parts follow the order of registration",
     StartKeepsRefusalCount: "a second start keeps the refusal count",
+    StartKeepsOthers: "a second start keeps the counts of the callers above 0",
+    StartKeepsCaller: "a second start keeps the caller",
 }
 
 const MOST_KINDS: usize = 16;
 const MOST_GROUPS: usize = 64;
+const CALLERS: usize = 16;
+
+/// The refusal of a caller that is none.
+const NO_CALLER: u8 = 0x13;
 
 #[derive(Clone, Debug)]
 struct Row {
@@ -199,7 +234,10 @@ struct Store {
     draft: Vec<Family>,
     staged: Vec<(u8, u64)>,
     excluded: Vec<u8>,
-    refusals: u32,
+    caller: u8,
+    /// The caller set last, which a fault makes the caller at the end of the run only.
+    set_last: u8,
+    refusals: [u32; CALLERS],
     commands: u64,
     seen: Seen,
 }
@@ -219,6 +257,20 @@ impl Reference {
     pub fn with(fault: Option<Fault>) -> Self {
         Self { fault, store: None }
     }
+
+    /// Caller and counts after a start: all 0, but for faults.
+    fn started_counts(&self) -> Counts {
+        let (mut caller, mut refusals) = (0, [0; CALLERS]);
+        if let Some(old) = &self.store {
+            match self.fault {
+                Some(Fault::StartKeepsRefusalCount) => refusals[0] = old.refusals[0],
+                Some(Fault::StartKeepsOthers) => refusals[1..].copy_from_slice(&old.refusals[1..]),
+                Some(Fault::StartKeepsCaller) => caller = old.caller,
+                _ => {}
+            }
+        }
+        (caller, refusals)
+    }
 }
 
 impl Side for Reference {
@@ -233,7 +285,7 @@ impl Side for Reference {
         if words < 1024 + 16 * n + k * (8 + 6 * n) {
             return 2;
         }
-        let old = self.store.take();
+        let (caller, refusals) = self.started_counts();
         self.store = Some(Store {
             fault: self.fault,
             n,
@@ -247,9 +299,9 @@ impl Side for Reference {
             draft: vec![],
             staged: vec![],
             excluded: vec![],
-            refusals: old
-                .filter(|_| self.fault == Some(Fault::StartKeepsRefusalCount))
-                .map_or(0, |old| old.refusals),
+            caller,
+            set_last: caller,
+            refusals,
             commands: 0,
             seen: Seen::default(),
         });
@@ -261,6 +313,8 @@ impl Side for Reference {
         store.live = preset.live.clone();
         store.recycled = preset.recycled.iter().copied().collect();
         store.issued = preset.issued;
+        store.caller = preset.caller;
+        store.set_last = preset.caller;
         store.refusals = preset.refusals;
     }
 
@@ -316,6 +370,12 @@ impl Side for Reference {
             .as_ref()
             .map_or([vec![], vec![]], |store| [sets(&store.draft), sets(&store.layout)])
     }
+
+    fn counts(&mut self) -> Counts {
+        self.store
+            .as_ref()
+            .map_or((0, [0; CALLERS]), |store| (store.caller, store.refusals))
+    }
 }
 
 impl Known for Reference {
@@ -340,7 +400,7 @@ impl Known for Reference {
 /// Operand bytes by command byte.
 fn width(byte: u8) -> usize {
     match byte {
-        0x01 | 0x0b => 1,
+        0x01 | 0x0b | 0x10 => 1,
         0x02 => 9,
         0x04 | 0x05 | 0x06 | 0x07 => 8,
         0x0f => 2,
@@ -363,6 +423,17 @@ impl Store {
     }
 
     fn run(&mut self, tape: &[u8], out: &mut [u8]) -> Ran {
+        let ran = self.run_commands(tape, out);
+        match self.fault {
+            Some(Fault::CallerOfRun) => self.caller = 0,
+            Some(Fault::CallerFromNextRun) => self.caller = self.set_last,
+            Some(Fault::StopForgetsCaller) if ran.stop != 0 => self.caller = 0,
+            _ => {}
+        }
+        ran
+    }
+
+    fn run_commands(&mut self, tape: &[u8], out: &mut [u8]) -> Ran {
         let mut ran = Ran::default();
         loop {
             let rest = &tape[ran.read..];
@@ -372,7 +443,10 @@ impl Store {
             let stop = self.stop(rest, out.len() - ran.written);
             if stop != 0 || self.has(Fault::StopAtOnce) {
                 if self.has(Fault::RefusalCountHasStops) {
-                    self.refusals = self.refusals.saturating_add(1);
+                    self.count_refusal(self.caller);
+                }
+                if stop == 6 && rest[0] == 0x10 && self.has(Fault::SetCallerWithoutRoom) {
+                    self.caller = rest[1] % CALLERS as u8;
                 }
                 ran.stop = stop.max(u32::from(self.has(Fault::StopAtOnce)) * 4);
                 return ran;
@@ -389,7 +463,8 @@ impl Store {
 
     /// 4, 5 or 6 where the run stops before the next command, else 0.
     fn stop(&self, rest: &[u8], free: usize) -> u32 {
-        if rest[0] < 0x01 || rest[0] > 0x0f {
+        let last = if self.has(Fault::UnknownAboveTray) { 0x0f } else { 0x10 };
+        if rest[0] < 0x01 || rest[0] > last {
             return match self.has(Fault::CutBeforeUnknown) && rest.len() == 1 {
                 true => 5,
                 false => 4,
@@ -404,6 +479,7 @@ impl Store {
         };
         match free < needed {
             true => 6,
+            false if self.has(Fault::CallerStops) && rest[0] == 0x10 && self.is_no_caller(rest[1]) => NO_CALLER.into(),
             false => 0,
         }
     }
@@ -417,6 +493,7 @@ impl Store {
             0x0c => 9,
             0x0e => 4,
             0x0f => 2,
+            0x10 if self.has(Fault::SetCallerTellsBefore) => 1,
             _ => 0,
         }
     }
@@ -424,7 +501,7 @@ impl Store {
     fn answer(&mut self, byte: u8, operands: &[u8]) -> Vec<u8> {
         self.commands += 1;
         if self.has(Fault::RefuseAll) {
-            self.refusals = self.refusals.saturating_add(1);
+            self.count_refusal(self.caller);
             return vec![7];
         }
         if self.has(Fault::AcknowledgeAfterFirst) && self.commands > 1 {
@@ -437,13 +514,7 @@ impl Store {
                 bytes
             }
             Err(refusal) => {
-                self.refusals = match self.has(Fault::RefusalCountWraps) {
-                    true => self.refusals.wrapping_add(1),
-                    false => self.refusals.saturating_add(1),
-                };
-                if self.has(Fault::RefusalEmptiesStaged) {
-                    self.staged.clear();
-                }
+                self.refused(refusal, operands);
                 vec![refusal]
             }
         };
@@ -451,6 +522,89 @@ impl Store {
             *self = before;
         }
         answer
+    }
+
+    /// A refusal counts against the caller that is set, and does nothing else.
+    fn refused(&mut self, refusal: u8, operands: &[u8]) {
+        match self.fault {
+            Some(Fault::CountsOfFirst) => self.count_refusal(0),
+            Some(Fault::CallerCountsFirst) if refusal == NO_CALLER => self.count_refusal(0),
+            Some(Fault::CallerCountsAsked) if refusal == NO_CALLER => self.count_refusal(operands[0]),
+            Some(Fault::CallerNotCounted) if refusal == NO_CALLER => {}
+            _ => self.count_refusal(self.caller),
+        }
+        match self.fault {
+            Some(Fault::RefusalEmptiesStaged) => self.staged.clear(),
+            Some(Fault::RefusalForgetsCaller) => self.caller = 0,
+            _ => {}
+        }
+    }
+
+    /// One more, unless it is the last number.
+    fn count_refusal(&mut self, caller: u8) {
+        let at = self.count_place(caller);
+        let is_stopped = self.has(Fault::FullCountStopsAll) && self.refusals.contains(&u32::MAX);
+        self.refusals[at] = match self.refusals[at].checked_add(1) {
+            Some(count) if !is_stopped => count,
+            None if self.has(Fault::RefusalCountWraps) => 0,
+            _ => self.refusals[at],
+        };
+    }
+
+    /// Where a caller's count stands. A caller above 15 comes by faults alone.
+    fn count_place(&self, caller: u8) -> usize {
+        let counts = if self.has(Fault::EightCounts) { 8 } else { CALLERS };
+        usize::from(caller) % counts
+    }
+
+    fn tally(&self) -> u32 {
+        match self.fault {
+            Some(Fault::TallyOfFirst) => self.refusals[0],
+            Some(Fault::TallyOfAll) => self.refusals.iter().fold(0, |sum, &count| sum.saturating_add(count)),
+            _ => self.refusals[self.count_place(self.caller)],
+        }
+    }
+
+    fn is_no_caller(&self, caller: u8) -> bool {
+        match self.fault {
+            Some(Fault::SixteenAccepted) => caller > 16,
+            Some(Fault::FifteenRefused) => caller > 14,
+            Some(Fault::CallerFolded) => false,
+            Some(Fault::SameCallerRefused) => caller > 15 || caller == self.caller,
+            _ => caller > 15,
+        }
+    }
+
+    fn set_caller(&mut self, caller: u8) -> Answer {
+        if self.is_no_caller(caller) {
+            if self.has(Fault::RefusedCallerSet) {
+                self.caller = caller % CALLERS as u8;
+            }
+            return Err(NO_CALLER);
+        }
+        let before = self.caller;
+        self.set_last = caller;
+        match self.fault {
+            Some(Fault::CallerFromNextRun) => {}
+            Some(Fault::CallerFolded) => self.caller = caller % CALLERS as u8,
+            _ => self.caller = caller,
+        }
+        match self.fault {
+            Some(Fault::SetCallerEmptiesStaged) => self.staged.clear(),
+            Some(Fault::SetCallerEmptiesExcluded) => self.excluded.clear(),
+            Some(Fault::SetCallerEmptiesDraft) => self.draft.clear(),
+            Some(Fault::SetCallerClearsCount) => self.refusals[usize::from(caller)] = 0,
+            Some(Fault::SetCallerTellsBefore) => return Ok(vec![before]),
+            _ => {}
+        }
+        Ok(vec![])
+    }
+
+    /// The caller is 0 again, where there is the fault.
+    fn forget_caller(&mut self, fault: Fault) {
+        if self.has(fault) {
+            self.caller = 0;
+        }
     }
 
     fn command(&mut self, byte: u8, operands: &[u8]) -> Answer {
@@ -469,8 +623,9 @@ impl Store {
             0x0b => self.exclude(operands[0]),
             0x0c => self.range(),
             0x0d => self.empty(),
-            0x0e => Ok(self.refusals.to_le_bytes().to_vec()),
-            _ => self.tray(operands),
+            0x0e => Ok(self.tally().to_le_bytes().to_vec()),
+            0x0f => self.tray(operands),
+            _ => self.set_caller(operands[0]),
         }
     }
 
@@ -519,6 +674,7 @@ impl Store {
     }
 
     fn empty(&mut self) -> Answer {
+        self.forget_caller(Fault::EmptyForgetsCaller);
         self.staged.clear();
         if !self.has(Fault::EmptyKeepsExcluded) {
             self.excluded.clear();
@@ -936,6 +1092,7 @@ impl Store {
             None if self.has(Fault::RetiredForgotten) => self.issued -= 1,
             None => {}
         }
+        self.forget_caller(Fault::KillForgetsCaller);
         Ok(vec![])
     }
 
@@ -953,6 +1110,7 @@ impl Store {
         if self.has(Fault::WipeKillsAll) {
             self.live.clear();
         }
+        self.forget_caller(Fault::WipeForgetsCaller);
         Ok(vec![])
     }
 
@@ -1089,6 +1247,7 @@ impl Store {
     }
 
     fn apply(&mut self) -> Answer {
+        self.forget_caller(Fault::ApplyForgetsCaller);
         self.layout = self.draft.clone();
         if !self.has(Fault::ApplyKeepsDraft) {
             self.draft.clear();

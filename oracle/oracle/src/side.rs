@@ -1,6 +1,6 @@
 //! The entries of document 01, as either side of the comparison offers them.
 
-use sparsey::harness::{Families, Id, Oracle, Preset, Ran, COMMANDS, JUDGEMENTS};
+use sparsey::harness::{Counts, Families, Id, Oracle, Preset, Ran, COMMANDS, JUDGEMENTS, NUMBERS};
 
 /// One side of the comparison: a store, lent or of its own, and the entries on it.
 pub trait Side {
@@ -29,6 +29,12 @@ pub trait Side {
     /// The families of the draft and of the layout in force, in any order.
     fn families(&mut self) -> [Families; 2];
 
+    /// The caller and the refusal counts; of no store, those of an empty one.
+    fn counts(&mut self) -> Counts;
+
+    /// Looks at what can be seen of this side alone, at the cost of many runs. The store is as before then.
+    fn probe(&mut self) {}
+
     /// What the side found wrong with itself since the last call.
     fn complaint(&mut self) -> Option<String> {
         None
@@ -36,7 +42,7 @@ pub trait Side {
 }
 
 /// How often each command byte was answered by each number.
-pub type Seen = [[u64; 16]; COMMANDS];
+pub type Seen = [[u64; NUMBERS]; COMMANDS];
 
 /// A side that others are held to.
 pub trait Known: Side {
@@ -127,5 +133,9 @@ impl Side for Oracle {
 
     fn families(&mut self) -> [Families; 2] {
         Oracle::families(self)
+    }
+
+    fn counts(&mut self) -> Counts {
+        Oracle::counts(self)
     }
 }

@@ -1,15 +1,33 @@
 //! Tapes as lists of commands, to be built, read by people and cut down.
 
-use sparsey::harness::{Id, Preset, COMMANDS};
+use sparsey::harness::{Id, Preset, CALLERS, COMMANDS};
 use std::fmt::Write;
 
 pub const NAMES: [&str; COMMANDS] = [
-    "", "REG", "HOLD", "NEW", "PUT", "TAKE", "DROP", "KILL", "WIPE", "GROUP", "APPLY", "BAR", "RANGE", "EMPTY",
-    "TALLY", "TRAY",
+    "",
+    "REG",
+    "HOLD",
+    "NEW",
+    "PUT",
+    "TAKE",
+    "DROP",
+    "KILL",
+    "WIPE",
+    "GROUP",
+    "APPLY",
+    "BAR",
+    "RANGE",
+    "EMPTY",
+    "TALLY",
+    "TRAY",
+    "SETCALLER",
 ];
 
 /// Operand bytes by command byte.
-pub const OPERANDS: [usize; COMMANDS] = [0, 1, 9, 0, 8, 8, 8, 8, 0, 0, 0, 1, 0, 0, 0, 2];
+pub const OPERANDS: [usize; COMMANDS] = [0, 1, 9, 0, 8, 8, 8, 8, 0, 0, 0, 1, 0, 0, 0, 2, 1];
+
+/// The command's byte.
+pub const SETCALLER: u8 = 16;
 
 /// A command with its operands, or damaged bytes.
 pub type Chunk = Vec<u8>;
@@ -78,6 +96,16 @@ pub fn tray(count: u16) -> Chunk {
     [vec![15], count.to_le_bytes().to_vec()].concat()
 }
 
+pub fn set_caller(caller: u8) -> Chunk {
+    vec![SETCALLER, caller]
+}
+
+/// TALLY for every caller, the last of whom is the caller then.
+pub fn tallies() -> Vec<Chunk> {
+    let callers = 0..CALLERS as u8;
+    callers.flat_map(|caller| [set_caller(caller), tally()]).collect()
+}
+
 /// HOLD for each kind, value 0.
 pub fn hold_all(kinds: &[u8]) -> Vec<Chunk> {
     kinds.iter().map(|&kind| hold(kind, 0)).collect()
@@ -138,11 +166,12 @@ impl Case {
                 issued,
                 live,
                 recycled,
+                caller,
                 refusals,
             } = preset;
             writeln!(
                 text,
-                "preset issued {issued}, live {live:?}, recycled {recycled:?}, refusals {refusals}"
+                "preset issued {issued}, live {live:?}, recycled {recycled:?}, caller {caller}, refusals {refusals:?}"
             )
             .unwrap();
         }
@@ -157,6 +186,18 @@ impl Case {
         }
         text
     }
+}
+
+/// Whether the tape, read to its end, has a command that sets the caller, whole or cut short.
+pub fn sets_caller(tape: &[u8]) -> bool {
+    let mut at = 0;
+    while let Some(&byte) = tape.get(at) {
+        match OPERANDS.get(usize::from(byte)) {
+            Some(operands) if byte != 0 && byte != SETCALLER => at += 1 + operands,
+            _ => return byte == SETCALLER,
+        }
+    }
+    false
 }
 
 /// The tape's commands in words. From a byte that is no command, or operands cut short, on: the bytes.
@@ -175,7 +216,7 @@ pub fn disassemble(tape: &[u8]) -> Vec<String> {
         };
         let word = |i: usize| u32::from_le_bytes(operands[i..i + 4].try_into().unwrap());
         lines.push(match byte {
-            1 | 11 => format!("{} {}", NAMES[byte], operands[0]),
+            1 | 11 | 16 => format!("{} {}", NAMES[byte], operands[0]),
             2 => format!(
                 "HOLD {} = {}",
                 operands[0],

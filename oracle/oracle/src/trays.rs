@@ -209,7 +209,7 @@ fn presets() -> Vec<Preset> {
         issued,
         live: live.to_vec(),
         recycled: recycled.to_vec(),
-        refusals: 0,
+        ..Preset::default()
     };
     vec![
         preset(1, &[], &[]),

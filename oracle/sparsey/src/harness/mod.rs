@@ -39,9 +39,13 @@ pub enum Sets {
 }
 
 /// Operand bytes by command byte.
-const OPERANDS: [usize; COMMANDS] = [0, 1, 9, 0, 8, 8, 8, 8, 0, 0, 0, 1, 0, 0, 0, 2];
+const OPERANDS: [usize; COMMANDS] = [0, 1, 9, 0, 8, 8, 8, 8, 0, 0, 0, 1, 0, 0, 0, 2, 1];
 /// The command bytes, with the 0 that is none.
-pub const COMMANDS: usize = 16;
+pub const COMMANDS: usize = 17;
+/// The numbers that a command may answer with are below this.
+pub const NUMBERS: usize = 20;
+/// The callers are 0 to one less than this.
+pub const CALLERS: usize = 16;
 const MOST_STAGED: usize = 16;
 const MOST_GROUPS: usize = 64;
 
@@ -69,7 +73,9 @@ struct Store {
     layout: GroupLayout,
     issued: usize,
     retired: usize,
-    refusals: u32,
+    caller: u8,
+    /// How many commands of each caller were refused.
+    refusals: [u32; CALLERS],
     /// How often GROUP judged each of `JUDGEMENTS`.
     judged: [u64; JUDGEMENTS.len()],
     /// The answer to the command under way: one buffer for all, so that times are not those of an allocator.
@@ -83,6 +89,9 @@ struct Draft {
     /// What was staged at each GROUP that was accepted, those that added nothing too: how many kinds, and these in front.
     kept: Vec<(usize, [u8; MOST_STAGED])>,
 }
+
+/// The caller, and the refusal count of each.
+pub type Counts = (u8, [u32; CALLERS]);
 
 /// Groups as sets of kinds, one list a family, by size.
 pub type Families = Vec<Vec<u128>>;
@@ -98,7 +107,7 @@ pub struct Oracle {
     store: Option<Store>,
     sets: Sets,
     /// How often each command byte was answered by each number, for the figures.
-    pub seen: [[u64; 16]; COMMANDS],
+    pub seen: [[u64; NUMBERS]; COMMANDS],
 }
 
 impl Oracle {
@@ -107,7 +116,7 @@ impl Oracle {
         Self {
             store: None,
             sets,
-            seen: [[0; 16]; COMMANDS],
+            seen: [[0; NUMBERS]; COMMANDS],
         }
     }
 
@@ -130,6 +139,7 @@ impl Oracle {
         store.world.entities = preset::entities(preset);
         store.issued = preset.issued;
         store.retired = preset.issued - preset.live.len() - preset.recycled.len();
+        store.caller = preset.caller;
         store.refusals = preset.refusals;
     }
 
@@ -232,6 +242,13 @@ impl Oracle {
         })
     }
 
+    /// The caller and the refusal counts; of no store, those of an empty one.
+    pub fn counts(&self) -> Counts {
+        self.store
+            .as_ref()
+            .map_or(Counts::default(), |store| (store.caller, store.refusals))
+    }
+
     /// How often GROUP judged each of `JUDGEMENTS`, since the start.
     pub fn judged(&self) -> [u64; JUDGEMENTS.len()] {
         self.store.as_ref().map_or([0; JUDGEMENTS.len()], |store| store.judged)
@@ -264,7 +281,8 @@ impl Store {
             layout: GroupLayout::default(),
             issued: 0,
             retired: 0,
-            refusals: 0,
+            caller: 0,
+            refusals: [0; CALLERS],
             judged: [0; JUDGEMENTS.len()],
             answer: vec![],
         }
@@ -288,7 +306,8 @@ impl Store {
         self.answer.clear();
         self.answer.push(0);
         if let Err(number) = self.accepted(byte, operands, sets) {
-            self.refusals = self.refusals.saturating_add(1);
+            let refusals = &mut self.refusals[usize::from(self.caller)];
+            *refusals = refusals.saturating_add(1);
             self.answer[0] = number;
         }
         &self.answer
@@ -313,10 +332,19 @@ impl Store {
                 self.clear_staged();
                 self.excluded.clear();
             }
-            14 => self.tell(self.refusals),
+            14 => self.tell(self.refusals[usize::from(self.caller)]),
             15 => self.extend(u16::from_le_bytes([operands[0], operands[1]]), sets)?,
+            16 => self.set_caller(operands[0])?,
             _ => unreachable!("refused before"),
         }
+        Ok(())
+    }
+
+    fn set_caller(&mut self, caller: u8) -> Result<(), u8> {
+        if usize::from(caller) >= CALLERS {
+            return Err(19);
+        }
+        self.caller = caller;
         Ok(())
     }
 

@@ -1,26 +1,29 @@
 //! Entity stores in states that an empty one reaches only by very many commands, as with versions that run out.
 
-use super::Id;
+use super::{Id, CALLERS};
 use crate::entity::{Entity, EntityAllocator, EntitySparseSet, EntityStorage, Version};
 use core::num::NonZeroU32;
 
 /// The numbers of a store without components: what is live, in the order of the live list, what waits, the longest
-/// waiting first, and how many numbers were issued. Those that are neither live nor waiting are retired.
+/// waiting first, and how many numbers were issued. Those that are neither live nor waiting are retired. And the caller,
+/// with the refusal count of each.
 #[derive(Clone, PartialEq, Eq, Default, Debug)]
 pub struct Preset {
     pub issued: usize,
     pub live: Vec<Id>,
     pub recycled: Vec<Id>,
-    pub refusals: u32,
+    pub caller: u8,
+    pub refusals: [u32; CALLERS],
 }
 
-/// A preset names each issued number once at most, and a number that waits has had a version before.
+/// A preset names each issued number once at most, and a number that waits has had a version before. Its caller is one.
 pub(super) fn check(preset: &Preset, n: usize) {
     let mut seen = vec![false; preset.issued];
     for &(index, version) in preset.live.iter().chain(&preset.recycled) {
         assert!(version > 0 && !core::mem::replace(&mut seen[index as usize], true));
     }
     assert!(preset.issued <= n && preset.recycled.iter().all(|&(_, version)| version > 1));
+    assert!(usize::from(preset.caller) < CALLERS);
 }
 
 fn entity((index, version): Id) -> Entity {

@@ -1,0 +1,31 @@
+//! The words of a store that caller and refusal counts stand in (docs/WORDS.md), and what a command makes of them.
+
+use sparsey::harness::{Counts, CALLERS};
+
+pub const CALLER: usize = 9;
+/// The count of caller 0; the others' follow.
+const REFUSALS: usize = 16;
+
+/// Caller and counts by the words. A caller above 255, which no sound store has, is told as 255.
+pub fn counts(words: &[u32]) -> Counts {
+    let refusals = std::array::from_fn(|caller| words[REFUSALS + caller]);
+    (words[CALLER].min(255) as u8, refusals)
+}
+
+pub fn set_counts(words: &mut [u32], (caller, refusals): Counts) {
+    words[CALLER] = caller.into();
+    words[REFUSALS..REFUSALS + CALLERS].copy_from_slice(&refusals);
+}
+
+/// The words after a refused command: the caller's count is one more, or stays at the last number.
+pub fn after_refusal(mut words: Vec<u32>) -> Vec<u32> {
+    let caller = usize::from(counts(&words).0);
+    words[REFUSALS + caller] = words[REFUSALS + caller].saturating_add(1);
+    words
+}
+
+/// The words after an accepted SETCALLER.
+pub fn after_set_caller(mut words: Vec<u32>, caller: u8) -> Vec<u32> {
+    words[CALLER] = caller.into();
+    words
+}
