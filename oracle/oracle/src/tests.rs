@@ -5,14 +5,18 @@ use crate::demand;
 use crate::drafts::{self, Ours, Sorted, Theirs};
 use crate::fixed;
 use crate::generate;
+use crate::listing;
 use crate::past;
 use crate::record;
 use crate::reference::{Fault, Reference};
 use crate::rng::Rng;
 use crate::side::Side;
-use crate::tape::{self, Case, Run};
+use crate::tape::{self, Case, Chunk, Run};
+use crate::words;
 use sparsey::component::GroupLayout;
-use sparsey::harness::{add_group, families_of, is_within_reach, words_needed, Id, Oracle, Preset, Sets};
+use sparsey::harness::{
+    add_group, families_of, is_within_reach, words_needed, Counts, Id, Oracle, Preset, Ran, Sets, CALLERS,
+};
 use std::panic::{catch_unwind, AssertUnwindSafe};
 
 const TUPLES: Beside = Beside::Rust(Sets::Tuples);
@@ -296,16 +300,186 @@ fn answers_of_trays() {
         (vec![tape::tally(), tape::kill((2, 2))], vec![0, 5, 0, 0, 0, 0]),
         (tape::with(&[1], tape::range()), vec![0, 0, 1, 0, 0, 0, 0, 2, 0, 0, 0]),
     ];
+    hold_answers(4, 1, expected.to_vec());
+}
+
+/// Holds every side to runs and their answers.
+fn hold_answers(n: usize, k: usize, expected: Vec<(Vec<Chunk>, Vec<u8>)>) {
     let (chunks, bytes): (Vec<_>, Vec<_>) = expected.into_iter().unzip();
     let case = Case {
-        n: 4,
-        k: 1,
+        n,
+        k,
         preset: None,
         runs: chunks.into_iter().map(Run::new).collect(),
     };
     for mut side in sides() {
         assert_eq!(answers(&mut *side, &case), bytes, "{}", side.name());
     }
+}
+
+/// SETCALLER's answers, and TALLY's by caller: 19 counts against the caller before, and nothing else changes the caller.
+#[test]
+fn answers_of_callers() {
+    let ends = |answers: &[u8], tally: u8| [answers, &[0, tally, 0, 0, 0]].concat();
+    let called = |caller: u8| vec![tape::set_caller(caller), tape::tally()];
+    let expected = vec![
+        (called(0), ends(&[0], 0)),
+        (vec![tape::bar(9), tape::tally()], ends(&[7], 1)),
+        (called(15), ends(&[0], 0)),
+        (called(16), ends(&[19], 1)),
+        (called(255), ends(&[19], 2)),
+        (
+            vec![
+                tape::kill((0, 1)),
+                tape::wipe(),
+                tape::apply(),
+                tape::empty(),
+                tape::tally(),
+            ],
+            ends(&[11, 0, 0, 0], 3),
+        ),
+        (called(15), ends(&[0], 3)),
+        (called(0), ends(&[0], 1)),
+        (called(31), ends(&[19], 2)),
+        (called(7), ends(&[0], 0)),
+        (vec![tape::reg(1), tape::hold(1, 4), tape::bar(1)], vec![0, 1, 0, 0]),
+        (vec![tape::set_caller(8), tape::bar(1), tape::hold(1, 0)], vec![0, 9, 9]),
+        (called(8), ends(&[0], 2)),
+        (
+            vec![tape::new(), tape::take((0, 1))],
+            vec![0, 0, 0, 0, 0, 1, 0, 0, 0, 0],
+        ),
+        (called(15), ends(&[0], 3)),
+    ];
+    hold_answers(1, 1, expected);
+}
+
+/// Without its operand, or a byte for its answer, SETCALLER stops the run, also where 19 would come; 4 begins above it.
+#[test]
+fn stops_of_callers() {
+    for mut side in sides() {
+        side.start(words_needed(1, 1), 1, 1);
+        for (tape, room, stop) in [
+            (&[16][..], 8, 5),
+            (&[16], 0, 5),
+            (&[16, 3], 0, 6),
+            (&[16, 16], 0, 6),
+            (&[17], 8, 4),
+            (&[17, 3], 8, 4),
+            (&[0, 3], 8, 4),
+        ] {
+            let ran = side.run(tape, &mut vec![0; room]);
+            let expected = Ran { stop, ..Ran::default() };
+            assert_eq!(ran, expected, "{}: {tape:?} in {room} bytes", side.name());
+            assert_eq!(side.counts(), Counts::default());
+        }
+        let mut out = [5; 3];
+        assert_eq!(side.run(&[16, 3, 16, 16, 16], &mut out).stop, 5);
+        assert_eq!(out, [0, 19, 5]);
+        assert_eq!(side.counts().0, 3);
+    }
+}
+
+/// A start makes caller and counts 0 again, a refused one leaves them.
+#[test]
+fn a_start_forgets_callers() {
+    let needed = words_needed(1, 1);
+    let chunks = [3, 20, 5, 16, 16].map(tape::set_caller);
+    let mut counts = (5, [0; CALLERS]);
+    counts.1[3] = 1;
+    counts.1[5] = 2;
+    for mut side in sides() {
+        side.start(needed, 1, 1);
+        side.run(&chunks.concat(), &mut [0; 8]);
+        assert_eq!(side.counts(), counts);
+        assert_eq!(side.start(needed - 1, 1, 1), 2);
+        assert_eq!(side.counts(), counts);
+        assert_eq!(side.start(needed, 1, 1), 0);
+        assert_eq!(side.counts(), Counts::default());
+    }
+}
+
+/// One random case in three has callers, mostly several with refusals. All counts together tell how many commands were
+/// refused; where no caller is set, that of caller 0 alone.
+#[test]
+fn random_cases_with_callers() {
+    let (mut called, mut several) = (0, 0);
+    for seed in 0..900 {
+        let Ok((case, _)) = generate::random_case(seed, STAGED, &plain) else {
+            panic!()
+        };
+        let mut rust = Oracle::new(Sets::Staged);
+        run_all(&mut rust, &case);
+        let sets_caller = case.runs.iter().any(|run| tape::sets_caller(&run.tape()));
+        assert_eq!(sets_caller, rust.seen[16][0] > 0, "seed {seed}");
+        called += usize::from(sets_caller);
+        if case.preset.is_some() {
+            continue;
+        }
+        let (caller, refusals) = rust.counts();
+        let refused: u64 = rust.seen.iter().flat_map(|numbers| &numbers[1..]).sum();
+        assert_eq!(refusals.map(u64::from).iter().sum::<u64>(), refused);
+        if !sets_caller {
+            assert_eq!((caller, &refusals[1..]), (0, &[0; CALLERS - 1][..]));
+        }
+        several += usize::from(refusals.iter().filter(|&&count| count > 0).count() > 1);
+    }
+    assert!((270..330).contains(&called), "{called} of 900 cases have callers");
+    assert!(several > 180, "{several} have refusals of several callers");
+}
+
+/// A tape that sets a caller is told from one that has the byte elsewhere, or does not get there.
+#[test]
+fn tapes_that_set_a_caller() {
+    let sets = |chunks: &[Chunk]| tape::sets_caller(&chunks.concat());
+    assert!(sets(&[tape::set_caller(0)]) && sets(&[vec![16]]));
+    assert!(sets(&[tape::tray(0x1010), tape::kill((16, 16)), tape::set_caller(255)]));
+    assert!(!sets(&[
+        tape::reg(16),
+        tape::hold(16, u64::MAX / 255 * 16),
+        tape::tray(0x1010)
+    ]));
+    assert!(!sets(&[vec![0], tape::set_caller(1)]) && !sets(&[vec![17], tape::set_caller(1)]));
+    assert!(!sets(&[]) && !sets(&[vec![2, 16, 16]]));
+}
+
+/// The words that the linked store is held to: a refusal changes the caller's count alone, up to the last number, and
+/// SETCALLER the caller alone.
+#[test]
+fn words_of_callers() {
+    let mut counts: Counts = (3, std::array::from_fn(|caller| caller as u32));
+    counts.1[3] = u32::MAX - 1;
+    let mut store: Vec<u32> = (5000..6024).collect();
+    words::set_counts(&mut store, counts);
+    assert_eq!(words::counts(&store), counts);
+    let changed = |before: &[u32], after: &[u32]| -> Vec<(usize, u32)> {
+        let words = after.iter().copied().enumerate();
+        words.filter(|&(at, word)| before[at] != word).collect()
+    };
+    let once = words::after_refusal(store.clone());
+    assert_eq!(changed(&store, &once), [(19, u32::MAX)]);
+    assert_eq!(words::after_refusal(once.clone()), once);
+    let called = words::after_set_caller(once.clone(), 15);
+    assert_eq!(changed(&once, &called), [(9, 15)]);
+    assert_eq!(words::after_set_caller(called.clone(), 15), called);
+    assert_eq!(changed(&called, &words::after_refusal(called.clone())), [(31, 16)]);
+}
+
+/// Every command is read back from its text.
+#[test]
+fn commands_as_text() {
+    let id = (3, u32::MAX);
+    let mut chunks = vec![tape::reg(1), tape::hold(2, u64::MAX), tape::new(), tape::bar(128)];
+    chunks.extend([tape::put(id), tape::take(id), tape::drop(id), tape::kill(id)]);
+    chunks.extend([tape::wipe(), tape::group(), tape::apply(), tape::range(), tape::empty()]);
+    chunks.extend([
+        tape::tally(),
+        tape::tray(65535),
+        tape::set_caller(15),
+        tape::set_caller(255),
+    ]);
+    let text = tape::disassemble(&chunks.concat()).join("\n");
+    assert_eq!(listing::assemble(&text), Ok(chunks));
 }
 
 /// A column's entities and values.
@@ -466,7 +640,15 @@ fn recorded_answers_replay() {
     let file = record::write(3, 60_000);
     let whole = record::replay(&file, &plain);
     assert!(whole.cases > 30 && whole.agree == whole.cases);
-    for fault in [Fault::SwapNewKindsOnly, Fault::TrayLastFirst, Fault::TrayExactRefused] {
+    for fault in [
+        Fault::SwapNewKindsOnly,
+        Fault::TrayLastFirst,
+        Fault::TrayExactRefused,
+        Fault::CountsOfFirst,
+        Fault::CallerOfRun,
+        Fault::CallerCountsAsked,
+        Fault::TallyOfAll,
+    ] {
         let faulty = record::replay(&file, &|| Box::new(Reference::with(Some(fault))));
         assert!(faulty.agree < whole.cases, "{fault:?}");
     }
