@@ -98,10 +98,23 @@ fn refusal_case(caller: u8) -> Case {
     }
 }
 
-/// Runs of one command, accepted or refused, and runs that stop; all but two keep the caller.
+/// Runs of one command, accepted or refused, of none, and such that stop. All keep the caller, but those that set one.
 fn keeping() -> Vec<Run> {
-    let commands = [
-        vec![],
+    let (none, stops) = ([vec![]], [vec![0], vec![17], vec![255], vec![16], vec![2, 1, 0]]);
+    let chunks = none.into_iter().chain(each_command()).chain(stops);
+    let mut runs: Vec<Run> = chunks.map(|chunk| run_of(vec![chunk])).collect();
+    // Without room.
+    let chunks = vec![refused(), tape::tally()];
+    runs.extend((0..6).map(|room| Run {
+        chunks: chunks.clone(),
+        room,
+    }));
+    runs
+}
+
+/// Each command, and most of them refused as well.
+fn each_command() -> Vec<Chunk> {
+    vec![
         tape::reg(3),
         tape::reg(9),
         tape::hold(1, 5),
@@ -129,21 +142,7 @@ fn keeping() -> Vec<Run> {
         tape::set_caller(9),
         tape::set_caller(16),
         tape::set_caller(24),
-        // Stops by 4 and 5.
-        vec![0],
-        vec![17],
-        vec![255],
-        vec![16],
-        vec![2, 1, 0],
-    ];
-    let mut runs: Vec<Run> = commands.into_iter().map(|chunk| run_of(vec![chunk])).collect();
-    // And by 6.
-    let chunks = vec![refused(), tape::tally()];
-    runs.extend((0..6).map(|room| Run {
-        chunks: chunks.clone(),
-        room,
-    }));
-    runs
+    ]
 }
 
 /// A layout, entities, a draft, and something staged and excluded; a caller is set, something is done, and it all shows.

@@ -71,7 +71,12 @@ pub fn starts(beside: Beside, make: Make) -> Result<Figures, String> {
             }
         }
     }
-    // A refused start leaves the store, an accepted one makes it empty again.
+    start_again(&mut pair)?;
+    Ok(pair.finish())
+}
+
+/// A refused start leaves the store, an accepted one makes it empty again.
+fn start_again(pair: &mut Pair) -> Result<(), String> {
     for round in 0..4 {
         let small = words_needed(4, 3);
         pair.start_number(small, 4, 3)?;
@@ -101,7 +106,7 @@ pub fn starts(beside: Beside, make: Make) -> Result<Figures, String> {
         }
         pair.ranges()?;
     }
-    Ok(pair.finish())
+    Ok(())
 }
 
 /// Every limit of document 01, with stores for up to `most` entities.
