@@ -161,7 +161,8 @@ pub fn write(seed: u64, budget: usize) -> Vec<u8> {
             "63 groups" => (2, 5),
             "rooms" => (0, 17),
             "trays" => (24, 72),
-            "callers" => (20, 47),
+            // Refused callers, unknown bytes, and little room.
+            "callers" => (42, 40),
             "groups below and between" => (1, 4),
             // {0,1} and {0,1,2,3,4}, in one order and in the other.
             "drafts of up to 2 groups over 5 kinds with every further group" => (37, 225),
