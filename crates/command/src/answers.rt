@@ -7,7 +7,7 @@ ghost use Rattle.model.specs.Run.{refuses};
 ghost use Rattle.memory.specs.Arranged.{Arranged};
 ghost use Rattle.command.specs.Acted.{Written, Acted};
 
-// The number is the answer, and the count of refusals grows. No other word changes.
+// The number is the answer, and the caller's count of refusals grows, or stays at its largest. No other word changes.
 pub fn refuse(words: &mut [u32], out: &mut [u8], at: usize, number: u8) -> usize
     requires { ⌜ Arranged (now words) ⌝ }
     requires { ⌜ at < length (now out) ⌝ }

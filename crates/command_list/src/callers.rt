@@ -1,4 +1,4 @@
-// SETCALLER and TALLY: the caller, and the count of his refusals.
+// SETCALLER and TALLY: the caller, and the count of its refusals.
 use command::answers::ack;
 use command::answers::ack_number;
 use command::answers::refuse;

@@ -1,4 +1,5 @@
--- The staged components, the excluded kinds, the caller and the refusal counts: what is read of them, and what a few stores there make of the store. Assumes nothing.
+-- The staged components, the excluded kinds, the caller and the refusal counts: what is read of them, and what a few stores there make of the store.
+-- Assumes nothing.
 use mathlib.Core.Path.{_≡_, refl, sym, ap, _∙_, subst}
 use mathlib.Core.Logic.{_≢_}
 use mathlib.Core.List.{List, [], _∷_, _++_}

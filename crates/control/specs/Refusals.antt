@@ -14,7 +14,7 @@ pub record Caller (w : List ℕ) (r : ℕ) : Type 0 where
   pub word : r ≡ callerOf w
   pub low : r ≤ LAST-CALLER
 
--- "7 to 15 in a run .. add to the tally, change no other word": of the model's store, and of the words
+-- "7 to 15 in a run .. add to the tally, change no other word", and so 19: of the model's store, and of the words
 pub record CountsRefusal (w w′ : List ℕ) : Type 0 where
   pub becomes : Becomes w w′ (withControl (meaning w) (counted (meaning w .control)))
   pub word : w′ ≡ withRefusal w

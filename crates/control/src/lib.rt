@@ -1,4 +1,4 @@
-// What a store keeps besides its sparse sets: entities, staged components, excluded kinds, the refusal count and the draft layout.
+// What a store keeps besides its sparse sets: entities, staged components, excluded kinds, the caller, the refusal counts and the draft layout.
 pub mod draft;
 pub mod entities;
 pub mod excluded;

@@ -1,4 +1,4 @@
-// The caller, and the refusal counts of the callers: 01's tally, of which 02's No. 7 gives each caller his own.
+// The caller, and the refusal counts of the callers: 01's tally, of which 02's No. 7 gives each caller one.
 use words::CALLER;
 use words::REFUSALS;
 ghost use mathlib.Core.Path.{_≡_};

@@ -90,7 +90,7 @@ meaning w =
       control = controlIn w;
     }
 
--- ---- "7 to 15 in a run .. add to the tally, change no other word": the words with a refusal more of the caller
+-- ---- "7 to 15 in a run .. add to the tally, change no other word", and so 19: the words with a refusal more of the caller
 
 abbrev pub withRefusal : List ℕ → List ℕ
 withRefusal w = set w (REFUSALS + callerOf w) (oneMore (refusalsAt w (callerOf w)))

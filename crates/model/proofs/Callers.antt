@@ -154,7 +154,7 @@ module _ (b : ℕ) (t : List ℕ) (room : ℕ) (s : Store) where
   step-caller : IfGoes (λ w a s′. callOne (callsTo k) ≡ 0 → s′ .control .counts .caller ≡ s .control .counts .caller) (step b t room s)
   step-caller = step-case (IfGoes (λ w a s′. callOne (callsTo k) ≡ 0 → s′ .control .counts .caller ≡ s .control .counts .caller)) b t room s (λ n. tt) (λ h. after-caller k s)
 
--- ---- "Each caller has a tally of its own": after a run it has gone up by what was refused while he was the caller
+-- ---- "Each caller has a tally of its own": after a run it has gone up by what was refused while that one was the caller
 
 refusals-for : (c fuel : ℕ) (t : List ℕ) (room : ℕ) (s : Store) → Bytes t → StoreSound s → refusalsBy c (runFor fuel t room s .store .control) ≡ moreBy (refusedFor (callerIs c) fuel t room s) (refusalsBy c (s .control))
 unfolding runFor refusedFor
@@ -181,7 +181,7 @@ pub refusals-after : (c : ℕ) (t : List ℕ) (room : ℕ) (s : Store) → Bytes
 unfolding run refusedBy
 refusals-after c t room s B S = refusals-for c (length t) t room s B S
 
--- ---- a run that never meets command 10 keeps the caller, and counts all its refusals against him
+-- ---- a run that never meets command 10 keeps the caller, and counts all its refusals against it
 
 caller-for : (fuel : ℕ) (t : List ℕ) (room : ℕ) (s : Store) → callsFor fuel t room s ≡ 0 → runFor fuel t room s .store .control .counts .caller ≡ s .control .counts .caller
 unfolding runFor callsFor

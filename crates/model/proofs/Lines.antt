@@ -194,7 +194,7 @@ wide-never c s S e = first-by (linesOf c) s WIDE (lines-wide c s S) (outcome-ref
 
 -- ---- what a refused command changes: the refusal count of the caller alone, which saturates
 
--- "7 to 15 in a run write their number as one byte, add to the tally, change no other word, and the run goes on."
+-- "7 to 15 in a run write their number as one byte, add to the tally, change no other word, and the run goes on", and so 19
 pub refused-step : (w : ℕ) (c : Command) (s : Store) (n : ℕ) → CountsSound (s .control .counts) → does c s ≡ refuses n → RefusedStep n w s (stepOf w s (does c s))
 refused-step w c s n N e =
     record {

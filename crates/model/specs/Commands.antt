@@ -1,4 +1,5 @@
--- The sixteen commands, 01's fourteen, TRAY of 02's No. 4 and SETCALLER of its No. 7: how they are read, what an accepted one does and answers, and how long its answer is. Assumes nothing.
+-- The sixteen commands, 01's fourteen, TRAY of 02's No. 4 and SETCALLER of its No. 7: how they are read, what an accepted one does and answers, and how
+-- long its answer is. Assumes nothing.
 use mathlib.Core.Bool.{Bool, cond, _&&_}
 use mathlib.Core.List.{List, [], _∷_, _++_}
 use Prim.Native.Nat.{ℕ, _+_, _*_}

@@ -1,5 +1,5 @@
--- What a run passes through: the store after each command, the numbers it retires, and whose commands it refuses. Said beside the run, for the theorems on runs; no store holds it.
--- Assumes nothing.
+-- What a run passes through: the store after each command, the numbers it retires, and whose commands it refuses. Said beside the run, for the theorems
+-- on runs; no store holds it. Assumes nothing.
 use mathlib.Core.Bool.{Bool, true, false, _&&_}
 use mathlib.Core.Option.{Option, some, none}
 use mathlib.Core.List.{List, [], _∷_}
@@ -121,7 +121,8 @@ abbrev pub callOne : Option ℕ → ℕ
 callOne none = 0
 callOne (some c) = 1
 
--- how many commands of a run are command 10, accepted or refused: none where it "never meets command 10"
+-- how many commands of a run are command 10, accepted or refused: none where it "never meets command 10". One before which the run stops changes
+-- nothing, and is not counted
 unfoldable pub callsFor : ℕ → List ℕ → ℕ → Store → ℕ
 callsFor zero t room s = 0
 callsFor (suc fuel) [] room s = 0

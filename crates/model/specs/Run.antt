@@ -33,7 +33,7 @@ abbrev pub storeAfter : Store → Outcome → Store
 storeAfter s (refuses n) = withControl s (counted (s .control))
 storeAfter s (accepts s′ a) = s′
 
--- its answer: "7 to 15 in a run write their number as one byte", an accepted one "after a 0 byte"
+-- its answer: "7 to 15 in a run write their number as one byte", and so 19; an accepted one "after a 0 byte"
 abbrev pub answerOf : Outcome → List ℕ
 answerOf (refuses n) = n ∷ []
 answerOf (accepts s a) = 0 ∷ a

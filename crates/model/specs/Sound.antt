@@ -94,7 +94,7 @@ pub record ExcludedSound (kinds excluded : List ℕ) : Type 0 where
   pub once : Distinct excluded
   pub known : (k : ℕ) → In excluded k → In kinds k
 
--- ---- 02, No. 7: "a sound one a caller of 0 to 15"; each of the sixteen tallies "stays at 4,294,967,295"
+-- ---- 02, No. 7: "a sound one a caller of 0 to 15"; each of the sixteen counts "stays at 4,294,967,295"
 
 pub record CountsSound (n : Counts) : Type 0 where
   pub caller : n .caller ≤ LAST-CALLER

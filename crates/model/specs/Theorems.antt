@@ -128,7 +128,7 @@ pub record StepFits (b : ℕ) (t : List ℕ) (room : ℕ) (s : Store) (w : ℕ) 
 
 -- ---- a run
 
--- 02, No. 7: from s to t the caller is kept, n refusals more are counted against him, and none against another
+-- 02, No. 7: from s to t the caller is kept, n refusals more are counted against it, and none against another
 pub record OneCaller (n : ℕ) (s t : Store) : Type 0 where
   pub caller : t .control .counts .caller ≡ s .control .counts .caller
   pub own : ownRefusals (t .control) ≡ moreBy n (ownRefusals (s .control))

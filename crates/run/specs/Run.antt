@@ -9,7 +9,7 @@ use Rattle.model.specs.Run.{refuses, does, Step, stops, goes, step}
 use Rattle.memory.specs.Meaning.{meaning, withRefusal}
 use Rattle.memory.specs.Arranged.{Becomes}
 
--- "7 to 15 in a run .. add to the tally, change no other word": of the words themselves
+-- "7 to 15 in a run .. add to the tally, change no other word", and so 19: of the words themselves
 abbrev pub Refused : List ℕ → List ℕ → Command → Type 0
 Refused w w′ c = (n : ℕ) → does c (meaning w) ≡ refuses n → w′ ≡ withRefusal w
 

@@ -1,25 +1,31 @@
 -- 02, No. 7, for the words: whose count a refusal changes, what the counts are after runs, and that a store that never meets command 10 answers as by one
 -- count. Theorems over the contracts of the public entries alone (specs/Entries.antt). Assumes nothing.
 use mathlib.Core.Path.{_≡_, refl, sym, ap, _∙_, subst}
+use mathlib.Core.Logic.{_≢_}
 use mathlib.Core.Bool.{Bool, true, false}
-use mathlib.Core.List.{List, _++_}
+use mathlib.Core.Option.{Option}
+use mathlib.Core.List.{List, [], _++_}
 use Prim.Native.Nat.{ℕ, _+_, _≤_, _<_}
 use native.Mathlib.Omega.{arith}
 use lib.ListN.{length, take, length-set}
-use lib.Seq.{getD-set-same, getD-set-other}
+use lib.Seq.{getD-set-same, getD-set-other, take-at}
+use denote.Ref.{RefT}
 use Rattle.model.specs.Numbers.{CALLERS, LAST-CALLER, MAX-REFUSALS, UNSOUND}
 use Rattle.model.specs.Store.{Counts, Store, empty, refusalsBy, oneMore}
 use Rattle.model.specs.Commands.{Command, TALLY, SETCALLER}
 use Rattle.model.specs.Run.{does, storeAfter, answerOf}
 use Rattle.model.specs.Run as model
-use Rattle.model.specs.Snapshot.{Same}
+use Rattle.model.specs.Refusals.{numberOf, firstLine, otherLines}
+use Rattle.model.specs.Snapshot.{snapshot}
+use Rattle.model.specs.Entries.{columnRefusal, column, roll}
 use Rattle.model.specs.History.{refusedBy, refusedAll, moreBy, calls}
 use Rattle.model.specs.Theorems.{CallTold, TallyTold, OneCaller, ButCallers, SameButCallers, recounted}
 use Rattle.model.proofs.ListLaws.{default-at}
 use Rattle.model.proofs.Counts.{more-up, more-full, more-more}
-use Rattle.model.proofs.Callers.{call-told, tally-told, refusals-after, one-caller, runs-same}
+use Rattle.model.proofs.Callers.{call-told, tally-told, refusals-after, one-caller, answers-same, runs-same}
 use Rattle.words.specs.Offsets.{REFUSALS}
 use Rattle.words.specs.Decides.{Decides}
+use Rattle.words.proofs.Decides.{decides-same}
 use Rattle.words.proofs.Tables.{getD-table}
 use Rattle.memory.specs.Header.{callerOf, refusalsAt}
 use Rattle.memory.specs.Meaning.{meaning, withRefusal}
@@ -28,12 +34,12 @@ use Rattle.memory.proofs.Frames.{long}
 use Rattle.run.specs.declared.Ran.{Ran}
 use Rattle.store.specs.declared.Rolled.{Rolled}
 use Rattle.store.specs.declared.Reply.{Reply}
-use Rattle.store.specs.Course.{Course, ended, stopped, refused, done, EachDone, EachRefusal, Reached, started, ran, refusedIn, allRefusedIn, callsIn}
-use Rattle.store.specs.Entries.{ColumnNumbered, ranOf, Runs, Rolls}
-use Rattle.store.specs.Linked.{ColumnCopied}
-use Rattle.store.specs.Theorems.{RefusalWord, CountedUp, NeverCalled, RunButCallers}
-use Rattle.store.proofs.Determined.{answer-bytes}
-use Rattle.store.proofs.Demands.{run-course, told-in-run, run-unsound, roll-refusals, column-refusals, rolls-equal, started-empty, reached-sound}
+use Rattle.store.specs.Course.{Course, ended, stopped, refused, done, EachDone, EachAnswer, EachRefusal, Reached, started, ran, refusedIn, allRefusedIn, callsIn}
+use Rattle.store.specs.Entries.{firstRefusal, columnRefused, ColumnNumbered, columnWords, partPlace, ColumnPart, ranOf, Runs, Rolls}
+use Rattle.store.specs.Linked.{ColumnPlaced, copyTold, copied, ColumnCopied}
+use Rattle.store.specs.Theorems.{RefusalWord, CountedUp, NeverCalled, RunButCallers, AlikeButCallers, SameRolled, SameCopied}
+use Rattle.store.proofs.Determined.{answer-bytes, over-determined, same-rolled, same-copied}
+use Rattle.store.proofs.Demands.{run-course, told-in-run, run-unsound, roll-refusals, column-refusals, refused-column-is-empty, started-empty, reached-sound}
 use Rattle.store.proofs.Exported.{column-copy-refusals}
 
 -- ---- a refused command: the caller's word and no other
@@ -104,16 +110,16 @@ counted-up n m r most e = record { up = λ h. e ∙ more-up n m h; full = λ h. 
 count-most : (w : List ℕ) → Sound w → (c : ℕ) → c < CALLERS → refusalsAt w c ≤ MAX-REFUSALS
 count-most w S c h = rw (count-word w c h) at (S .means .counts .most c)
 
--- after a run each count has gone up by what was refused while he was the caller
+-- after a run each count has gone up by what was refused while that one was the caller
 pub counts-after-run : (w w′ t o o′ : List ℕ) (r : Ran) → Runs w w′ t o o′ r → Sound w → (c : ℕ) → c < CALLERS → CountedUp (refusedBy c t (length o) (meaning w)) (refusalsAt w c) (refusalsAt w′ c)
 counts-after-run w w′ t o o′ r R S c h = counted-up (refusedBy c t (length o) (meaning w)) (refusalsAt w c) (refusalsAt w′ c) (count-most w S c h) (more-in-run w w′ t o o′ r R S c h)
 
 -- "a store from start .. has caller 0 and every tally 0"
-started-caller : (n k : ℕ) (w : List ℕ) → meaning w ≡ empty n k → callerOf w ≡ 0
+pub started-caller : (n k : ℕ) (w : List ℕ) → meaning w ≡ empty n k → callerOf w ≡ 0
 unfolding empty
 started-caller n k w e = sym (caller-word w) ∙ ap (λ (s : Store). s .control .counts .caller) e
 
-started-count : (n k : ℕ) (w : List ℕ) → meaning w ≡ empty n k → (c : ℕ) → c < CALLERS → refusalsAt w c ≡ 0
+pub started-count : (n k : ℕ) (w : List ℕ) → meaning w ≡ empty n k → (c : ℕ) → c < CALLERS → refusalsAt w c ≡ 0
 unfolding empty
 started-count n k w e c h = sym (count-word w c h) ∙ ap (λ (s : Store). refusalsBy c (s .control)) e ∙ default-at {A = ℕ} 0 CALLERS c
 
@@ -130,7 +136,7 @@ counts-reached {w} d c h = counted-up (refusedIn c d) 0 (refusalsAt w c) (omega 
 
 -- ---- "A store from start .. that never meets command 10 answers as before"
 
--- a run that never meets it keeps the caller, and counts all its refusals against him
+-- a run that never meets it keeps the caller, and counts all its refusals against it
 pub one-caller-in-run : (w w′ t o o′ : List ℕ) (r : Ran) → Runs w w′ t o o′ r → Sound w → calls t (length o) (meaning w) ≡ 0 → OneCaller (refusedAll t (length o) (meaning w)) (meaning w) (meaning w′)
 one-caller-in-run w w′ t o o′ r R S h =
     subst (OneCaller (refusedAll t (length o) (meaning w)) (meaning w)) (sym (ran-means w w′ t o o′ r R S)) (one-caller t (length o) (meaning w) (R .tape) (S .means) h)
@@ -167,7 +173,7 @@ never-called {w} d h =
     let U = uncalled d h in
     record { caller = U .caller; own = counted-up (allRefusedIn d) 0 (refusalsAt w 0) (omega arith) (U .own); others = U .others }
 
--- such a run looks at the count of the caller alone: not at who he is, nor at another's count
+-- such a run looks at the count of the caller alone: not at who it is, nor at another's count
 pub callers-unseen : (w v w′ v′ t o p o′ p′ : List ℕ) (r q : Ran) → Sound w → Sound v → ButCallers (meaning w) (meaning v) → length o ≡ length p → Runs w w′ t o o′ r → Runs v v′ t p p′ q
     → calls t (length o) (meaning w) ≡ 0 → RunButCallers w′ v′ o′ p′ r q
 callers-unseen w v w′ v′ t o p o′ p′ r q S T B e R Q h = go (R .sound) (R .decides) refl (Q .sound) (Q .decides) refl
@@ -192,9 +198,65 @@ callers-unseen w v w′ v′ t o p o′ p′ r q S T B e R Q h = go (R .sound) (
           store = subst (λ (s : Store). ButCallers s (meaning v′)) (sym (ran-means w w′ t o o′ r R S)) (subst (ButCallers (model.run t (length o) (meaning w) .store)) (sym (ran-means v v′ t p p′ q Q T)) (same .store));
         }
 
--- a roll shows neither caller nor counts
-pub roll-unseen : (w v o p o′ p′ : List ℕ) (r q : Rolled) (n : Counts) → meaning v ≡ recounted n (meaning w) → Rolls w o o′ r → Rolls v p p′ q → r .number ≡ 0 → q .number ≡ 0 → take (r .written) o′ ≡ take (q .written) p′
-roll-unseen w v o p o′ p′ r q n e R Q zr zq = rolls-equal w v o p o′ p′ r q R Q zr zq .1 (subst (Same (meaning w)) (sym e) (record { live = λ x. refl; values = λ x h k. refl }))
+-- and no answer of a run but TALLY's looks at the caller or any count: with others it would be the same
+pub answers-unseen : (w w′ t o o′ : List ℕ) (r : Ran) (R : Runs w w′ t o o′ r) (S : Sound w)
+    → EachAnswer (λ v k l. (n : Counts) → k ≢ TALLY → take (length (answerOf (does k (recounted n (meaning v))))) l ≡ answerOf (does k (recounted n (meaning v)))) (run-course w w′ t o o′ r R S)
+answers-unseen w w′ t o o′ r R S =
+    told-in-run (λ k s s′ l. (n : Counts) → k ≢ TALLY → take (length (answerOf (does k (recounted n s)))) l ≡ answerOf (does k (recounted n s)))
+    (λ k s rest M n ne. rw (answers-same n k s (λ e. absurd (ne e))) (take-at (answerOf (does k s)) rest (length (answerOf (does k s))) refl)) w w′ t o o′ r R S
+
+-- ---- *roll* and *column* show neither caller nor counts
+
+module _ (n : Counts) (s : Store) where
+  roll-same : (room : ℕ) → roll room (recounted n s) ≡ roll room s
+  unfolding roll snapshot
+  roll-same room = refl
+
+  refusal-same : (k a e : ℕ) → columnRefusal k a e (recounted n s) ≡ columnRefusal k a e s
+  unfolding columnRefusal
+  refusal-same k a e = refl
+
+  words-same : (b values : Bool) (k a e : ℕ) → columnWords b values k a e (recounted n s) ≡ columnWords b values k a e s
+  unfolding column columnRefusal
+  words-same true values k a e = refl
+  words-same false values k a e = refl
+
+  copied-same : (values : Bool) (k a e room : ℕ) → copied (copyTold values k a e room (recounted n s)) ≡ copied (copyTold values k a e room s)
+  unfolding column columnRefusal
+  copied-same values k a e room = refl
+
+module _ (w v : List ℕ) (A : AlikeButCallers w v) where
+  -- what is the same of a store with other counts is the same of both
+  same-of : {X : Type 0} (f : Store → X) → ((n : Counts) (s : Store) → f (recounted n s) ≡ f s) → f (meaning w) ≡ f (meaning v)
+  same-of f h = sym (ap f (A .means) ∙ h (meaning v .control .counts) (meaning w))
+
+  pub roll-unseen : (o p o′ p′ : List ℕ) (r q : Rolled) → length o ≡ length p → Rolls w o o′ r → Rolls v p p′ q → SameRolled o p o′ p′ r q
+  roll-unseen o p o′ p′ r q l R Q =
+      same-rolled o p o′ p′ r q
+      (over-determined w v o p o′ p′ (r .number) (r .written) (q .number) (q .written) (roll (length o) (meaning w)) (roll (length p) (meaning v)) (A .sound)
+      (same-of (roll (length o)) (λ n s. roll-same n s (length o)) ∙ ap (λ (m : ℕ). roll m (meaning v)) l) R Q)
+
+  pub column-number-unseen : (k a e r q : ℕ) → ColumnNumbered w k a e r → ColumnNumbered v k a e q → r ≡ q
+  column-number-unseen k a e r q R Q =
+      let b : R .sound ≡ Q .sound = decides-same (R .sound) (Q .sound) (R .decides) (Q .decides) (A .sound) in
+      R .number
+      ∙ ap (λ (c : Bool). numberOf (columnRefused c k a e (meaning w))) b
+      ∙ same-of (λ (s : Store). numberOf (columnRefused (Q .sound) k a e s)) (λ n s. ap (λ (x : Option ℕ). numberOf (firstRefusal (firstLine otherLines (Q .sound)) x)) (refusal-same n s k a e))
+      ∙ sym (Q .number)
+
+  pub column-copy-unseen : (o p o′ p′ : List ℕ) (values : Bool) (k a e : ℕ) (r q : Reply) → length o ≡ length p → ColumnCopied w o o′ values k a e r → ColumnCopied v p p′ values k a e q → SameCopied o p o′ p′ r q
+  column-copy-unseen o p o′ p′ values k a e r q l R Q =
+      same-copied o p o′ p′ r q
+      (over-determined w v o p o′ p′ (r .number) (r .written) (q .number) (q .written) (copied (copyTold values k a e (length o) (meaning w))) (copied (copyTold values k a e (length p) (meaning v))) (A .sound)
+      (same-of (λ (s : Store). copied (copyTold values k a e (length o) s)) (λ n s. copied-same n s values k a e (length o)) ∙ ap (λ (m : ℕ). copied (copyTold values k a e m (meaning v))) l) R Q)
+
+pub column-unseen : (u v r q : RefT (List ℕ)) (values : Bool) (k a e : ℕ) → AlikeButCallers (u .now) (v .now) → ColumnPart u r values k a e → ColumnPart v q values k a e → r .now ≡ q .now
+column-unseen u v r q values k a e A R Q =
+    let b : R .sound ≡ Q .sound = decides-same (R .sound) (Q .sound) (R .decides) (Q .decides) (A .sound) in
+    R .words
+    ∙ ap (λ (c : Bool). columnWords c values k a e (meaning (u .now))) b
+    ∙ same-of (u .now) (v .now) A (λ (s : Store). columnWords (Q .sound) values k a e s) (λ n s. words-same n s (Q .sound) values k a e)
+    ∙ sym (Q .words)
 
 -- ---- "a sound one a caller of 0 to 15": 16 in word 9 is 3 at every entry
 
@@ -211,5 +273,16 @@ module _ (w : List ℕ) (h : LAST-CALLER < callerOf w) where
   pub high-caller-column : (k a e r : ℕ) → ColumnNumbered w k a e r → r ≡ UNSOUND
   high-caller-column k a e r C = column-refusals w k a e r C .unsound .1 (high-unsound w h)
 
+  pub high-caller-place : (values : Bool) (k a e r : ℕ) → ColumnPlaced w values k a e r → r ≡ 0
+  high-caller-place values k a e r C = go (C .sound) (C .decides) (C .place)
+    where
+      go : (b : Bool) → Decides b (Sound w) → r ≡ partPlace (columnRefused b k a e (meaning w)) values w k a → r ≡ 0
+      go true d p = absurd (high-unsound w h d)
+      go false d p = p
+
   pub high-caller-copy : (o o′ : List ℕ) (values : Bool) (k a e : ℕ) (r : Reply) → ColumnCopied w o o′ values k a e r → r .number ≡ UNSOUND
   high-caller-copy o o′ values k a e r C = column-copy-refusals w o o′ values k a e r C .unsound .1 (high-unsound w h)
+
+-- "A refused column is the empty part at the front"
+pub high-caller-part : (v r : RefT (List ℕ)) (values : Bool) (k a e n : ℕ) → LAST-CALLER < callerOf (v .now) → ColumnPart v r values k a e → ColumnNumbered (v .now) k a e n → (r .now ≡ []) × (r .ptr ≡ v .ptr)
+high-caller-part v r values k a e n h P C = refused-column-is-empty v r values k a e n P C (omega (arith, high-caller-column (v .now) h k a e n C))

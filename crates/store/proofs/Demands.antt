@@ -65,7 +65,7 @@ run-unsound w w′ t o o′ r R = go (R .sound) (R .decides) (R .answered .stop)
         ((λ q. absurd (⊎-elim (λ z. omega (arith, q, e, z)) (λ z. omega (arith, q, e, z .0)) (run-fits t (length o) (meaning w) .stop))), (λ n. absurd (n d)))
 
 -- Inside a run the same holds of each command (specs/Course.antt): every run over sound words stops where a line before a command holds and none above
--- does, or at the tape's end with 0; refuses a command where a line of it holds and none above does, which changes the refusal count's word alone and
+-- does, or at the tape's end with 0; refuses a command where a line of it holds and none above does, which changes the word of the caller's refusal count alone and
 -- writes the number as one byte; and does every other command as the model has it. `Course` has no other case.
 pub run-course : (w w′ t o o′ : List ℕ) (r : Ran) → Runs w w′ t o o′ r → Sound w → Course w t (length o) w′ (r .stop) (r .commands) (r .read) (take (r .written) o′)
 run-course w w′ t o o′ r R S = go (R .sound) (R .decides) (R .leaves) refl
@@ -137,8 +137,8 @@ wide-in S (done w w₁ h n m s c) = ((λ e. omega arith), wide-in s c)
 pub wide-never-in-run : (w w′ t o o′ : List ℕ) (r : Ran) (R : Runs w w′ t o o′ r) (S : Sound w) → EachAnswer (λ v k l. getD l 0 0 ≡ WIDE → ⊥) (run-course w w′ t o o′ r R S)
 wide-never-in-run w w′ t o o′ r R S = wide-in S (run-course w w′ t o o′ r R S)
 
--- A refused command changes, of what the words mean, the count of refusals alone: settings, kinds, entities, components, groups, draft and both lists
--- are as they were.
+-- A refused command changes, of what the words mean, the caller's count of refusals alone: settings, kinds, entities, components, groups, draft, both
+-- lists, the caller and the other counts are as they were.
 refusals-in : {w t w′ bytes : List ℕ} {room stop commands read : ℕ} (c : Course w t room w′ stop commands read bytes) → EachRefusal (λ v u. RefusalAlone (meaning v) (meaning u)) c
 refusals-in ended = tt
 refusals-in (stopped f) = tt

@@ -124,26 +124,26 @@ run-determined w v w′ v′ t o p o′ p′ r q A e R Q =
     left true false z l k = absurd (true≢false z)
     left false true z l k = absurd (false≢true z)
 
--- ---- an entry that writes: over words alike, and equal lengths of the buffers
+-- ---- an entry that writes: over words that are sound or not alike, the same bytes to write
 
-pub over-determined : (w v o p o′ p′ : List ℕ) (n k m j : ℕ) (x y : Emitted) → Alike w v → x ≡ y → EmitsOver w o o′ n k x → EmitsOver v p p′ m j y → SameEmitted o p o′ p′ n k m j
-over-determined w v o p o′ p′ n k m j x y A e R Q =
-    let b : R .sound ≡ Q .sound = decides-same (R .sound) (Q .sound) (R .decides) (Q .decides) (A .sound) in
+pub over-determined : (w v o p o′ p′ : List ℕ) (n k m j : ℕ) (x y : Emitted) → Sound w ↔ Sound v → x ≡ y → EmitsOver w o o′ n k x → EmitsOver v p p′ m j y → SameEmitted o p o′ p′ n k m j
+over-determined w v o p o′ p′ n k m j x y S e R Q =
+    let b : R .sound ≡ Q .sound = decides-same (R .sound) (Q .sound) (R .decides) (Q .decides) S in
     emits-determined o p o′ p′ n k m j (emittedOver (R .sound) x) (emittedOver (Q .sound) y) (λ i. emittedOver (b i) (e i)) (R .emits) (Q .emits)
 
-same-rolled : (o p o′ p′ : List ℕ) (r q : Rolled) → SameEmitted o p o′ p′ (r .number) (r .written) (q .number) (q .written) → SameRolled o p o′ p′ r q
+pub same-rolled : (o p o′ p′ : List ℕ) (r q : Rolled) → SameEmitted o p o′ p′ (r .number) (r .written) (q .number) (q .written) → SameRolled o p o′ p′ r q
 same-rolled o p o′ p′ r q E = record { result = λ i. record { number = E .number i; written = E .written i }; answers = E .answers; bytes = E .bytes }
 
 pub roll-determined : (w v o p o′ p′ : List ℕ) (r q : Rolled) → Alike w v → length o ≡ length p → Rolls w o o′ r → Rolls v p p′ q → SameRolled o p o′ p′ r q
 roll-determined w v o p o′ p′ r q A e R Q =
     same-rolled o p o′ p′ r q
-    (over-determined w v o p o′ p′ (r .number) (r .written) (q .number) (q .written) (roll (length o) (meaning w)) (roll (length p) (meaning v)) A (λ i. roll (e i) (A .means i)) R Q)
+    (over-determined w v o p o′ p′ (r .number) (r .written) (q .number) (q .written) (roll (length o) (meaning w)) (roll (length p) (meaning v)) (A .sound) (λ i. roll (e i) (A .means i)) R Q)
 
-same-copied : (o p o′ p′ : List ℕ) (r q : Reply) → SameEmitted o p o′ p′ (r .number) (r .written) (q .number) (q .written) → SameCopied o p o′ p′ r q
+pub same-copied : (o p o′ p′ : List ℕ) (r q : Reply) → SameEmitted o p o′ p′ (r .number) (r .written) (q .number) (q .written) → SameCopied o p o′ p′ r q
 same-copied o p o′ p′ r q E = record { result = λ i. record { number = E .number i; written = E .written i }; answers = E .answers; words = E .bytes }
 
 pub column-copy-determined : (w v o p o′ p′ : List ℕ) (values : Bool) (k a e : ℕ) (r q : Reply) → Alike w v → length o ≡ length p → ColumnCopied w o o′ values k a e r → ColumnCopied v p p′ values k a e q → SameCopied o p o′ p′ r q
 column-copy-determined w v o p o′ p′ values k a e r q A l R Q =
     same-copied o p o′ p′ r q
-    (over-determined w v o p o′ p′ (r .number) (r .written) (q .number) (q .written) (copied (copyTold values k a e (length o) (meaning w))) (copied (copyTold values k a e (length p) (meaning v))) A
+    (over-determined w v o p o′ p′ (r .number) (r .written) (q .number) (q .written) (copied (copyTold values k a e (length o) (meaning w))) (copied (copyTold values k a e (length p) (meaning v))) (A .sound)
     (λ i. copied (copyTold values k a e (l i) (A .means i))) R Q)

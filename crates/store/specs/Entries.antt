@@ -99,7 +99,7 @@ pub record Answered (o o′ : List ℕ) (r : Ran) (x : model.Ran) : Type 0 where
   pub bytes : o′ ≡ x .bytes ++ drop (length (x .bytes)) o
 
 -- "1 to 3 .. change no lent memory"; a run leaves sound words, and `Traced` says of each command in turn that an accepted one leaves words that mean the
--- model's store after it, and that a refused one changes the refusal count's word and "no other word"
+-- model's store after it, and that a refused one changes the word of the caller's refusal count and "no other word"
 abbrev pub RunLeaves : Bool → List ℕ → ℕ → List ℕ → List ℕ → Type 0
 RunLeaves false t room w w′ = w′ ≡ w
 RunLeaves true t room w w′ = Sound w′ × Traced (length t) t room w w′

@@ -14,7 +14,7 @@ use Rattle.store.specs.declared.Reply.{Reply}
 use Rattle.model.specs.Store.{Store, oneMore, counted}
 use Rattle.model.specs.Sound.{GroupsRight, GroupsBetween}
 use Rattle.model.specs.Numbers.{CALLERS, LAST-CALLER, MAX-REFUSALS, UNSOUND}
-use Rattle.model.specs.Theorems.{ButCallers}
+use Rattle.model.specs.Theorems.{recounted, ButCallers}
 use Rattle.words.specs.Offsets.{REFUSALS}
 
 -- r is the number of the first line that holds, 0 where none does
@@ -45,7 +45,7 @@ pub record CountedUp (n m r : ℕ) : Type 0 where
   pub up : m + n ≤ MAX-REFUSALS → r ≡ m + n
   pub full : MAX-REFUSALS ≤ m + n → r ≡ MAX-REFUSALS
 
--- 02, No. 7: "A store from start .. that never meets command 10": the caller is 0, n refusals are counted against him, and none against another
+-- 02, No. 7: "A store from start .. that never meets command 10": the caller is 0, n refusals are counted against it, and none against another
 pub record NeverCalled (n : ℕ) (w : List ℕ) : Type 0 where
   pub caller : callerOf w ≡ 0
   pub own : CountedUp n 0 (refusalsAt w 0)
@@ -61,6 +61,12 @@ pub record RunButCallers (w′ v′ o′ p′ : List ℕ) (r q : Ran) : Type 0 w
 -- *start* looks at nothing but how many they are
 pub record Alike (w v : List ℕ) : Type 0 where
   pub means : meaning w ≡ meaning v
+  pub sound : Sound w ↔ Sound v
+
+-- 02, No. 7: words that differ in callers and counts alone, sound or not alike: *roll* and *column*, its number and copy do not tell them apart
+-- (proofs/Calling.antt)
+pub record AlikeButCallers (w v : List ℕ) : Type 0 where
+  pub means : meaning v ≡ recounted (meaning v .control .counts) (meaning w)
   pub sound : Sound w ↔ Sound v
 
 -- two starts over as many words: the same number, and where it is 0 the same store; refused, nothing changed

@@ -72,7 +72,7 @@ pub record LeftBy (n k : ℕ) (s : Store) : Type 0 where
 abbrev pub refusedCommand : Command
 refusedCommand = REG (suc LAST-KIND)
 
--- 02, No. 7: each caller in turn, from caller c on, and after him as many refused commands as are to be counted against him
+-- 02, No. 7: each caller in turn, from caller c on, and after it as many refused commands as are to be counted against it
 abbrev pub callerCommands : ℕ → List ℕ → List Command
 callerCommands c [] = []
 callerCommands c (n ∷ ns) = SETCALLER c ∷ (replicate n refusedCommand ++ callerCommands (suc c) ns)

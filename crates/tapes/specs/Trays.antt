@@ -26,7 +26,7 @@ freeIn s = freeNumbers (s .settings .capacity) (s .entities)
 
 -- a TRAY of n in the store s leaves t and answers at the front of a
 pub record TrayTold (n : ℕ) (s t : Store) (a : List ℕ) : Type 0 where
-  -- "12 if the numbers waiting and those not yet issued are together fewer than the count, and then no card is made": the refusal count alone differs
+  -- "12 if the numbers waiting and those not yet issued are together fewer than the count, and then no card is made": the caller's refusal count alone differs
   pub full : freeIn s < n → (take 1 a ≡ FULL ∷ []) × (t ≡ withControl s (counted (s .control)))
   -- "Answer: 0 and the count, 2 bytes."
   pub answer : n ≤ freeIn s → take 3 a ≡ 0 ∷ bytesOf 2 n
