@@ -169,7 +169,7 @@ fn preset_caller(preset: &mut Preset, calls: &mut Rng, callers: &[u8]) {
     }
 }
 
-/// A store whose numbers are close to their last versions, or whose refusal count is full.
+/// A store whose numbers are close to their last versions, or whose first caller's refusal count is full.
 fn preset(rng: &mut Rng, n: usize) -> Preset {
     let issued = rng.between(0, n);
     let mut preset = Preset {
