@@ -1,5 +1,6 @@
 -- How large the parts of a sound store are: none has more items than N, so that each has room in the words and each number fits four bytes. Assumes nothing.
 use mathlib.Core.Path.{_≡_, refl, ap, _∙_}
+use mathlib.Core.Bool.{Bool}
 use mathlib.Core.List.{List, [], _∷_, _++_, map}
 use Prim.Native.Nat.{ℕ, zero, suc, _+_, _≤_}
 use native.Mathlib.Omega.{arith}
@@ -7,12 +8,13 @@ use lib.Dec.{eqb}
 use lib.ListN.{length, length-map, length-append}
 use Rattle.model.specs.Lists.{countOf}
 use Rattle.model.proofs.ListLaws.{count-append, count-length-le, map-append, few-below}
-use Rattle.model.specs.Model.{Entity, Entities, SparseSet, Family, found, sameEntity, setOf, entityOf, allHeld, rangeFor}
+use Rattle.model.specs.Model.{Entity, Entities, SparseSet, Family, found, sameEntity, setOf, entityOf, allHeld, rangeUnder}
 use Rattle.model.specs.Store.{Store}
 use Rattle.model.specs.Sound.{cnt, num, indexOf, key, holders, EntitiesSound, RightFrom, AllRight, StoreSound}
 use Rattle.model.proofs.SparseSets.{entity-eq, entity-same}
 use Rattle.model.proofs.BoolLaws.{cond-case}
 use Rattle.model.proofs.Ranges.{range-shows}
+use Rattle.model.proofs.Rules.{under-range}
 use Rattle.model.specs.Theorems.{AllCountsTo, CountsTo}
 
 -- ---- numbers
@@ -64,7 +66,7 @@ module _ (s : Store) (S : StoreSound s) where
   counts-bounded = counts-all (s .storage .layout) (S .groups)
 
   -- a range stands in order and ends by N
-  pub range-bounded : (h b : List ℕ) (a e : ℕ) → rangeFor h b (s .storage) ≡ found a e → (a ≤ e) × (e ≤ s .settings .capacity)
-  range-bounded h b a e p =
-      let W = range-shows s S h b a e p in
+  pub range-bounded : (newer : Bool) (h b : List ℕ) (a e : ℕ) → rangeUnder newer h b (s .storage) ≡ found a e → (a ≤ e) × (e ≤ s .settings .capacity)
+  range-bounded newer h b a e p =
+      let W = range-shows s S h b a e (under-range newer h b (s .storage) a e p) in
       (omega (arith, W .start), omega (arith, W .end, holders-few h (s .storage .sets) (s .entities .live), live-bounded))

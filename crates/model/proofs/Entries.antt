@@ -13,10 +13,10 @@ use lib.ListN.{length, take, length-map, length-drop}
 use lib.Seq.{length-take-le}
 use Rattle.model.specs.Numbers.{LAST-KIND, MAX-ENTITIES, MAX-KINDS}
 use Rattle.model.specs.Model.{Entity, SparseSet, setOf, keys, entityOf}
-use Rattle.model.specs.Store.{Store, empty, wordsNeeded, isKind}
+use Rattle.model.specs.Store.{Settings, Store, emptyWith, wordsNeeded, isKind}
 use Rattle.model.specs.Snapshot.{snapshot}
 use Rattle.model.specs.Refusals.{firstLine, NoneHolds, First, startLines, rollLines, columnLines}
-use Rattle.model.specs.Entries.{refusesStart, makes, startedBy, start, entityWords, valueWords, rowValue, part, partWords, columnRefusal, column, refusesEmit, writes, roll}
+use Rattle.model.specs.Entries.{refusesStart, makes, startedBy, startTold, startWith, entityWords, valueWords, rowValue, part, partWords, columnRefusal, column, refusesEmit, writes, roll}
 use Rattle.model.specs.Sound.{Limits, StoreSound}
 use Rattle.model.proofs.BoolLaws.{or-false, or-false-right}
 use Rattle.model.proofs.Operations.{empty-sound}
@@ -35,11 +35,11 @@ started-made (some m) s t e = let z : _≡_ {A = ℕ} 0 1 = cc in absurd (omega 
 started-made none s t e = (refl, cc)
 
 -- start is refused by a number exactly where the table gives it
-pub start-exact : (n k words m : ℕ) → (start n k words ≡ refusesStart m) ↔ First startLines (record { capacity = n; kindCapacity = k; words = words }) m
-unfolding start
-start-exact n k words m = (
-  (λ e. first-exact startLines (record { capacity = n; kindCapacity = k; words = words }) m .0 (started-refused (firstLine startLines (record { capacity = n; kindCapacity = k; words = words })) (empty n k) m e)),
-  (λ f. ap (λ (r : Option ℕ). startedBy r (empty n k)) (first-exact startLines (record { capacity = n; kindCapacity = k; words = words }) m .1 f)),
+pub start-exact : (c : Settings) (words m : ℕ) → (startWith c words ≡ refusesStart m) ↔ First startLines (startTold c words) m
+unfolding startWith
+start-exact c words m = (
+  (λ e. first-exact startLines (startTold c words) m .0 (started-refused (firstLine startLines (startTold c words)) (emptyWith c) m e)),
+  (λ f. ap (λ (r : Option ℕ). startedBy r (emptyWith c)) (first-exact startLines (startTold c words) m .1 f)),
 )
 
 within-limits : (n k : ℕ) → ((eqb n 0 || ltb MAX-ENTITIES n) || (eqb k 0 || ltb MAX-KINDS k)) ≡ false → Limits n k
@@ -55,14 +55,14 @@ within-limits n k h =
       mostKinds = ltb-false MAX-KINDS k (or-false-right (eqb k 0) (ltb MAX-KINDS k) b);
     }
 
-pub start-makes : (n k words : ℕ) (s : Store) → start n k words ≡ makes s → Makes n k words s
-unfolding start
-start-makes n k words s e =
-    let p = started-made (firstLine startLines (record { capacity = n; kindCapacity = k; words = words })) (empty n k) s e in
-    let h : NoneHolds startLines (record { capacity = n; kindCapacity = k; words = words }) = none-to startLines (record { capacity = n; kindCapacity = k; words = words }) (p .0) in
-    let l : Limits n k = within-limits n k (h .0) in
-    let S : StoreSound (empty n k) = empty-sound n k l in
-    record { store = sym (p .1); limits = l; words-enough = ltb-false words (wordsNeeded n k) (h .1 .0); sound = rw (← (p .1)) S }
+pub start-makes : (c : Settings) (words : ℕ) (s : Store) → startWith c words ≡ makes s → Makes c words s
+unfolding startWith
+start-makes c words s e =
+    let p = started-made (firstLine startLines (startTold c words)) (emptyWith c) s e in
+    let h : NoneHolds startLines (startTold c words) = none-to startLines (startTold c words) (p .0) in
+    let l : Limits (c .capacity) (c .kindCapacity) = within-limits (c .capacity) (c .kindCapacity) (h .0) in
+    let S : StoreSound (emptyWith c) = empty-sound c l in
+    record { store = sym (p .1); limits = l; words-enough = ltb-false words (wordsNeeded (c .capacity) (c .kindCapacity)) (h .1 .0); sound = rw (← (p .1)) S }
 
 -- ---- column
 

@@ -9,7 +9,7 @@ use native.Mathlib.Omega.{arith}
 use borrow.Author.Tests.{ltb-false}
 use lib.Dec.{ltb}
 use lib.ListN.{length, take, drop, getD, length-append, length-map, length-drop}
-use Rattle.model.specs.Model.{Entity, SparseSet, Storage, Range, none, found, noRow, setOf, at, held, kindOf, rangeFor, addsNothing, create}
+use Rattle.model.specs.Model.{Entity, SparseSet, Storage, Range, none, found, noRow, setOf, at, held, kindOf, rangeUnder, addsNothing, create}
 use Rattle.model.specs.Store.{Store, bytesOf, stagedKinds, isKind, ownRefusals}
 use Rattle.model.specs.Commands.{Command, REG, HOLD, NEW, PUT, TAKE, DROP, KILL, WIPE, GROUP, APPLY, BAR, RANGE, EMPTY, TALLY, TRAY, SETCALLER, Done, accepted, answerLength, takenBytes, heldBytes, rangeBytes, width, commandAt}
 use Rattle.model.specs.Refusals.{firstLine, NoneHolds, beforeLines}
@@ -52,7 +52,7 @@ accepted-length WIPE s = refl
 accepted-length GROUP s = cond-case (λ (d : Done). suc (length (d .answer)) ≡ 2) (addsNothing (stagedKinds s) (s .control .draft)) _ _ (λ t. refl) (λ t. refl)
 accepted-length APPLY s = refl
 accepted-length (BAR k) s = refl
-accepted-length RANGE s = ap suc (range-length (rangeFor (stagedKinds s) (s .control .excluded) (s .storage)))
+accepted-length RANGE s = ap suc (range-length (rangeUnder (s .settings .newer) (stagedKinds s) (s .control .excluded) (s .storage)))
 accepted-length EMPTY s = refl
 accepted-length TALLY s = ap suc (bytesOf-length 4 (ownRefusals (s .control)))
 accepted-length (TRAY n) s = ap suc (bytesOf-length 2 n)

@@ -32,4 +32,6 @@ pub mod Lengths
 pub mod Retired
 pub mod Callers
 pub mod Ranges
+pub mod Rules
+pub mod Settings
 pub mod Bounds

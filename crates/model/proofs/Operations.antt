@@ -11,7 +11,7 @@ use Rattle.model.specs.Numbers.{LAST-CALLER, LIST-CAPACITY, MAX-KINDS}
 use Rattle.model.specs.Lists.{one}
 use Rattle.model.proofs.ListLaws.{place-count, count-place, map-append, all-snoc, default-at}
 use Rattle.model.specs.Model.{Entity, Entities, SparseSet, Family, Component, sameEntity, mem, setOf, keys, kindOf, isLive, isFull, insertComponents, remove, clearAll, setLayout, create, createWith, destroy, Row, noRow}
-use Rattle.model.specs.Store.{Control, Store, empty, withKinds, withEntities, withStorage, withControl, withAll, emptyStaged, emptyBoth, withStaged, withExcluded, withDraft, counted, withCaller}
+use Rattle.model.specs.Store.{Control, Settings, Store, emptyWith, withKinds, withEntities, withStorage, withControl, withAll, emptyStaged, emptyBoth, withStaged, withExcluded, withDraft, counted, withCaller}
 use Rattle.model.specs.Sound.{Eight, noComponent, Limits, KindsSound, EntitiesSound, StagedSound, ExcludedSound, Buildable, StoreSound, key, cnt, In}
 use Rattle.model.proofs.SparseSets.{entity-same}
 use Rattle.model.proofs.BoolLaws.{or-false}
@@ -270,9 +270,9 @@ kill-sound s S e live = destroy-sound (withStorage s (remove e (s .kinds) (s .st
 setOf-empty : (n k : ℕ) → setOf (replicate n []) k ≡ []
 setOf-empty n k = default-at [] n k
 
-pub empty-sound : (n k : ℕ) → Limits n k → StoreSound (empty n k)
-unfolding empty
-empty-sound n k limits =
+pub empty-sound : (c : Settings) → Limits (c .capacity) (c .kindCapacity) → StoreSound (emptyWith c)
+unfolding emptyWith
+empty-sound c limits =
     record {
       limits = limits;
       kinds = record { few = omega arith; once = λ j. omega arith; small = λ j i. absurd (false≢true i) };

@@ -1,5 +1,5 @@
--- What RANGE shows: exactly the entities that its hand and bar describe, with the values that they hold; none exactly where 01 says none; and what the
--- bytes of its answer tell. Assumes nothing.
+-- 01's range: it shows exactly the entities that hand and bar describe, with the values that they hold; none exactly where 01 says none. Both rules rest
+-- on these (Rules.antt). Assumes nothing.
 use mathlib.Core.Path.{_≡_, refl, ap, ap₂, sym, _∙_, subst}
 use mathlib.Core.Logic.{_↔_, _⊎_, inl, inr, ⊎-elim}
 use mathlib.Core.Bool.{true, false, cond, not, _&&_}
@@ -11,24 +11,20 @@ use borrow.Author.Tests.{eqb-true, eq-eqb, lt-ltb}
 use lib.Dec.{eqb}
 use lib.ListN.{length, take, drop, getD, length-drop, length-map, List·getD-map, take-append-drop}
 use lib.Seq.{length-take-le, take-all, drop-cons}
-use Rattle.model.proofs.ListLaws.{count-append, count-kept, count-length, count-length-le, length-zero, map-at, map-drop, map-take, place-once}
-use Rattle.model.specs.Numbers.{MAX-ENTITIES}
-use Rattle.model.specs.Model.{Entity, Row, SparseSet, Storage, Group, Family, Range, none, found, sameEntity, noEntity, noRow, sameSet, setOf, entityOf, keys, at, held, allHeld, headKind, kindsOf, newGroup, firstRange, rangeAt, rangeIn, rangeAll, single, rangeFor}
-use Rattle.model.specs.Store.{Store, bytesOf, number, stagedKinds}
-use Rattle.model.specs.Commands.{RANGE, rangeBytes, accepted}
+use Rattle.model.proofs.ListLaws.{count-append, count-kept, count-length, length-zero, map-at, map-drop, map-take, place-once}
+use Rattle.model.specs.Model.{Entity, Row, SparseSet, Group, Family, Range, none, found, sameEntity, noEntity, noRow, sameSet, setOf, entityOf, keys, at, held, allHeld, headKind, kindsOf, newGroup, firstRange, rangeAt, rangeIn, rangeAll, single, rangeFor}
+use Rattle.model.specs.Store.{Store}
 use Rattle.model.specs.Snapshot.{valueAt}
 use Rattle.model.specs.Entries.{rowValue, part}
 use Rattle.model.specs.Sound.{cnt, In, key, holders, Distinct, layoutKinds, Rising, BuildableFamilies, Right, RightFrom, AllRight, Between, StoreSound}
-use Rattle.model.specs.Shown.{lacking, described, Showing, EqualGroup, EqualNewKinds, Shows, oneKind, aGroup, twoGroups, foundIn, startIn, endIn, RangeAnswer, Hold}
+use Rattle.model.specs.Shown.{lacking, described, Showing, EqualGroup, EqualNewKinds, Shows, oneKind, aGroup, twoGroups, Hold}
 use Rattle.model.proofs.SparseSets.{entity-eq, entity-same}
 use Rattle.model.proofs.BoolLaws.{cond-case, cond-not, and-left, and-right, bool-cases}
 use Rattle.model.proofs.Walk.{held-count, lacks-count}
 use Rattle.model.proofs.KindLists.{in-left, in-right, in-one, not-both, all-same, same-to, same-from, differ-left, head-in, length-one, distinct-left, distinct-right, distinct-apart, all-joined}
 use Rattle.model.proofs.Invariant.{holders-count}
-use Rattle.model.proofs.Numbers.{live-once, live-few}
-use Rattle.model.proofs.Operations.{sound-held}
+use Rattle.model.proofs.Numbers.{live-once}
 use Rattle.model.proofs.Demand.{between}
-use Rattle.model.proofs.Encoding.{number-bytes}
 
 -- ---- equal sets
 
@@ -52,13 +48,13 @@ module _ (sets : List SparseSet) (live : List Entity) where
   showing : (h b : List ℕ) (a e k : ℕ) → In h k → a ≤ e → e ≡ length (holders h sets live)
       → ((k : ℕ) → In h k → e ≤ length (key sets k))
       → ((j k : ℕ) → In h j → In h k → take e (key sets j) ≡ take e (key sets k))
-      → ((k : ℕ) → In h k → (x : Entity) → cnt x (drop a (take e (key sets k))) ≡ cnt x (described h b sets live))
+      → ((k : ℕ) → In h k → (x : Entity) → cnt x (drop a (take e (key sets k))) ≡ cnt x (described false h b sets live))
       → ((k : ℕ) → In h k → (x : Entity) → cnt x (take e (key sets k)) ≤ 1)
-      → Showing sets live h b a e
+      → Showing false sets live h b a e
   showing h b a e k i le end places aligned exact once =
       let n : length (drop a (take e (key sets k))) ≡ length (take e (key sets k)) - a = length-drop a (take e (key sets k)) in
       let m : length (take e (key sets k)) ≡ e = length-take-le e (key sets k) (places k i) in
-      let c : length (drop a (take e (key sets k))) ≡ length (described h b sets live) = count-length sameEntity entity-eq entity-same (drop a (take e (key sets k))) (described h b sets live) (exact k i) in
+      let c : length (drop a (take e (key sets k))) ≡ length (described false h b sets live) = count-length sameEntity entity-eq entity-same (drop a (take e (key sets k))) (described false h b sets live) (exact k i) in
       record {
         start = omega arith;
         end = end;
@@ -69,7 +65,7 @@ module _ (sets : List SparseSet) (live : List Entity) where
       }
 
   -- a hand equal to a group, no bar
-  group-shown : (h g : List ℕ) (c k : ℕ) → In g k → sameSet h g ≡ true → Right sets live g c → Showing sets live h [] 0 c
+  group-shown : (h g : List ℕ) (c k : ℕ) → In g k → sameSet h g ≡ true → Right sets live g c → Showing false sets live h [] 0 c
   group-shown h g c k i s R =
       showing h [] 0 c k (same-from h g s k i) (omega arith) (R .number ∙ ap (λ (l : List Entity). length l) (sym (holders-same sets h g s live)))
       (λ j u. R .places j (same-to h g s j u))
@@ -78,7 +74,7 @@ module _ (sets : List SparseSet) (live : List Entity) where
       (λ j u x. R .once j (same-to h g s j u) x)
 
   -- and a bar equal to the next larger group's ring
-  bar-shown : (h g b more : List ℕ) (c d k : ℕ) → In g k → 1 ≤ length b → sameSet h g ≡ true → sameSet b more ≡ true → Right sets live g c → Right sets live (g ++ more) d → Showing sets live h b d c
+  bar-shown : (h g b more : List ℕ) (c d k : ℕ) → In g k → 1 ≤ length b → sameSet h g ≡ true → sameSet b more ≡ true → Right sets live g c → Right sets live (g ++ more) d → Showing false sets live h b d c
   bar-shown h g [] more c d k i nb s z R Q = absurd (omega arith)
   bar-shown h g (b₀ ∷ bs) more c d k i nb s z R Q =
       let B : Between sets live g more c d = between sets live g more c d R Q in
@@ -109,7 +105,7 @@ module _ (sets : List SparseSet) (live : List Entity) where
 module _ (sets : List SparseSet) (live : List Entity) (h : List ℕ) where
   abbrev ShownBy : List ℕ → Range → Type 0
   ShownBy b none = Unit {0}
-  ShownBy b (found a e) = Showing sets live h b a e
+  ShownBy b (found a e) = Showing false sets live h b a e
 
   at-shown : (b g : List ℕ) (c k : ℕ) (rs : Family) → In g k → sameSet h g ≡ true → Right sets live g c → RightFrom sets live g rs → ShownBy b (rangeAt b c rs)
   at-shown [] g c k rs i s R Q = group-shown sets live h g c k i s R
@@ -134,7 +130,7 @@ module _ (sets : List SparseSet) (live : List Entity) (h : List ℕ) where
       else-shown b (rangeIn h b [] (r ∷ rs)) (rangeAll h b fs) (in-shown b [] (r ∷ rs) (omega (arith, B .0 .0), B .0 .1) (R .0)) (all-shown b fs (B .1) (R .1))
 
   -- a hand of one kind, no bar: the whole sparse set
-  one-shown : (k : ℕ) → ((x : Entity) (j : ℕ) → cnt x (key sets j) ≤ 1) → ((x : Entity) → cnt x live ≤ 1) → ((x : Entity) (j : ℕ) → 1 ≤ cnt x (key sets j) → 1 ≤ cnt x live) → Showing sets live (k ∷ []) [] 0 (length (setOf sets k))
+  one-shown : (k : ℕ) → ((x : Entity) (j : ℕ) → cnt x (key sets j) ≤ 1) → ((x : Entity) → cnt x live ≤ 1) → ((x : Entity) (j : ℕ) → 1 ≤ cnt x (key sets j) → 1 ≤ cnt x live) → Showing false sets live (k ∷ []) [] 0 (length (setOf sets k))
   one-shown k once lonce alive =
       let whole : (j : ℕ) → In (k ∷ []) j → take (length (setOf sets k)) (key sets j) ≡ key sets k = λ j i. rw (in-one j k i) (take-all (length (setOf sets k)) (key sets k) (omega (arith, length-map (setOf sets k) entityOf))) in
       let ex : (x : Entity) → cnt x (key sets k) ≡ cnt x (holders (k ∷ []) sets live) = exact in
@@ -166,11 +162,11 @@ module _ (s : Store) (S : StoreSound s) (h b : List ℕ) where
       (λ t.
       let p : length h ≡ 1 = eqb-true (length h) 1 (and-left (eqb (length h) 1) (eqb (length b) 0) t) in
       let q : length b ≡ 0 = eqb-true (length b) 0 (and-right (eqb (length h) 1) (eqb (length b) 0) t) in
-      rw (length-zero b q) (subst (λ (l : List ℕ). Showing C L l [] 0 (length (setOf C (headKind h)))) (sym (length-one h p)) (one-shown C L h (headKind h) (S .sets .once) (live-once (s .entities) (S .entities .single)) (S .sets .alive))))
+      rw (length-zero b q) (subst (λ (l : List ℕ). Showing false C L l [] 0 (length (setOf C (headKind h)))) (sym (length-one h p)) (one-shown C L h (headKind h) (S .sets .once) (live-once (s .entities) (S .entities .single)) (S .sets .alive))))
       (λ t. all-shown C L h b (s .storage .layout) (S .layout .families) (S .groups))
 
   -- the range found shows exactly the entities that hand and bar describe
-  pub range-shows : (a e : ℕ) → rangeFor h b (s .storage) ≡ found a e → Showing C L h b a e
+  pub range-shows : (a e : ℕ) → rangeFor h b (s .storage) ≡ found a e → Showing false C L h b a e
   range-shows a e p = subst (ShownBy C L h b) p shown
 
 -- ---- a range is found only where 01 says so
@@ -182,7 +178,7 @@ record FoundInFamily (h b acc : List ℕ) (rs : Family) : Type 0 where
   pub equal : sameSet h (acc ++ kindsOf (take (suc group) rs)) ≡ true
   pub newKinds : (length b ≡ 0) ⊎ ((1 ≤ length b) × EqualNewKinds b rs group)
 
-none-found : (a e : ℕ) → none ≡ found a e → ⊥
+pub none-found : (a e : ℕ) → none ≡ found a e → ⊥
 none-found a e p = let z : _≡_ {A = ℕ} 0 1 = cc in omega arith
 
 at-where : (b : List ℕ) (c : ℕ) (r : Group) (rs : Family) (a e : ℕ) → rangeAt b c rs ≡ found a e → (length b ≡ 0) ⊎ ((1 ≤ length b) × EqualNewKinds b (r ∷ rs) 0)
@@ -283,7 +279,7 @@ family-rising ([] ∷ fs) B i = absurd (B .0)
 family-rising ((r ∷ rs) ∷ fs) B zero = (omega (arith, B .0 .0), B .0 .1)
 family-rising ((r ∷ rs) ∷ fs) B (suc i) = family-rising fs (B .1) i
 
-family-distinct : (fs : List Family) → Distinct (layoutKinds fs) → (i : ℕ) → Distinct (kindsOf (getD fs i []))
+pub family-distinct : (fs : List Family) → Distinct (layoutKinds fs) → (i : ℕ) → Distinct (kindsOf (getD fs i []))
 family-distinct [] d i k = omega arith
 family-distinct (f ∷ fs) d zero k = distinct-left (kindsOf f) (layoutKinds fs) d k
 family-distinct (f ∷ fs) d (suc i) k = family-distinct fs (distinct-right (kindsOf f) (layoutKinds fs) d) i k
@@ -308,7 +304,7 @@ module _ (s : Store) (S : StoreSound s) (h b : List ℕ) where
   shows-found (aGroup p g) = searched (hit g (inl p))
   shows-found (twoGroups p g q) = searched (hit g (inr q))
 
-  range-where : (a e : ℕ) → rangeFor h b (s .storage) ≡ found a e → Shows h b F
+  pub range-where : (a e : ℕ) → rangeFor h b (s .storage) ≡ found a e → Shows h b F
   unfolding rangeFor
   range-where a e p =
       bool-cases (single h b)
@@ -326,58 +322,6 @@ module _ (s : Store) (S : StoreSound s) (h b : List ℕ) where
       go : (r : Range) → ((a e : ℕ) → r ≡ found a e → ⊥) → r ≡ none
       go none f = refl
       go (found a e) f = absurd (f a e refl)
-
--- ---- the answer: its bytes tell the range that was found
-
--- RANGE's answer, after its 0 byte, in a sound store
-pub range-answer : (s : Store) → StoreSound s → RangeAnswer (stagedKinds s) (s .control .excluded) s (0 ∷ accepted RANGE s .answer)
-unfolding accepted
-range-answer s S = go (rangeFor (stagedKinds s) (s .control .excluded) (s .storage)) refl
-  where
-    h : List ℕ
-    h = stagedKinds s
-
-    b : List ℕ
-    b = s .control .excluded
-
-    -- no more hold the hand than are live
-    few : length (holders h (s .storage .sets) (s .entities .live)) ≤ MAX-ENTITIES
-    few =
-        let all : (x : Entity) → cnt x (holders h (s .storage .sets) (s .entities .live)) ≤ cnt x (s .entities .live) =
-        λ x. rw (holders-count h (s .storage .sets) (s .entities .live) x) (cond-case (λ (n : ℕ). n ≤ cnt x (s .entities .live)) (allHeld x h (s .storage .sets)) _ _ (λ t. omega arith) (λ t. omega arith)) in
-        omega (arith, count-length-le sameEntity entity-eq entity-same (holders h (s .storage .sets) (s .entities .live)) (s .entities .live) all, live-few (s .entities) (sound-held s S .numbers), S .entities .few, S .limits .most)
-
-    go : (r : Range) → rangeFor h b (s .storage) ≡ r → RangeAnswer h b s (0 ∷ rangeBytes r)
-    go none p =
-        record {
-          size = refl;
-          either = inr refl;
-          found = ((λ z. absurd (omega (arith, z))), (λ w. absurd (range-none s S h b .0 p w)));
-          shows = λ z. absurd (omega (arith, z));
-        }
-    go (found a e) p =
-        let W : Showing (s .storage .sets) (s .entities .live) h b a e = range-shows s S h b a e p in
-        let starts : number (bytesOf 4 a) ≡ a = number-bytes 4 a (omega (arith, W .start, W .end, few)) in
-        let ends : number (bytesOf 4 e) ≡ e = number-bytes 4 e (omega (arith, W .end, few)) in
-        record {
-          size = refl;
-          either = inl (rw (starts, ends) refl);
-          found = ((λ z. range-where s S h b a e p), (λ w. refl));
-          shows = λ z. rw (starts, ends) W;
-        }
-
--- and in every other store with the same components, groups and live entities
-pub range-stays : (h b : List ℕ) (s s′ : Store) (bytes : List ℕ) → s .storage ≡ s′ .storage → s .entities .live ≡ s′ .entities .live → RangeAnswer h b s bytes → RangeAnswer h b s′ bytes
-range-stays h b s s′ bytes p q A =
-    record {
-      size = A .size;
-      either = A .either;
-      found = subst (λ (c : Storage). (foundIn bytes ≡ 1) ↔ Shows h b (c .layout)) p (A .found);
-      shows =
-          λ f.
-          subst (λ (l : List Entity). Showing (s′ .storage .sets) l h b (startIn bytes) (endIn bytes)) q
-          (subst (λ (c : Storage). Showing (c .sets) (s .entities .live) h b (startIn bytes) (endIn bytes)) p (A .shows f));
-    }
 
 -- ---- the values at a range's places are those of the entities there, since an entity stands once in a sparse set
 

@@ -11,7 +11,7 @@ use lib.ListN.{length, take, drop, getD, set, length-append, length-set}
 use lib.Seq.{length-take-le}
 use Rattle.model.specs.Lists.{one, place}
 use Rattle.model.specs.Model.{Entity, Entities, sameEntity, noEntity, isLive, addsNothing, lastVersion, Component, Storage, Extended, create, createWith, extend, destroy}
-use Rattle.model.specs.Store.{Store, empty, stagedKinds, isKind}
+use Rattle.model.specs.Store.{Settings, Store, emptyWith, stagedKinds, isKind}
 use Rattle.model.specs.Commands.{Command, REG, HOLD, NEW, PUT, TAKE, DROP, KILL, WIPE, GROUP, APPLY, BAR, RANGE, EMPTY, TALLY, TRAY, SETCALLER, Done, accepted, width, commandAt}
 use Rattle.model.specs.Refusals.{NoneHolds, linesOf}
 use Rattle.model.specs.Run.{Outcome, refuses, accepts, does, Step, stops, goes, stepOf, step, Ran, halt, more, runFor, run}
@@ -121,6 +121,6 @@ unfolding run retired
 run-balanced t room s r h = run-balanced-for (length t) t room s r h
 
 -- after every tape from an empty store
-pub issued-balance : (t : List ℕ) (room n k : ℕ) → Balanced ((run t room (empty n k)) .store .entities) (retired t room (empty n k))
-unfolding empty
-issued-balance t room n k = rw (zero-add (retired t room (empty n k))) at (run-balanced t room (empty n k) 0 refl)
+pub issued-balance : (t : List ℕ) (room : ℕ) (c : Settings) → Balanced ((run t room (emptyWith c)) .store .entities) (retired t room (emptyWith c))
+unfolding emptyWith
+issued-balance t room c = rw (zero-add (retired t room (emptyWith c))) at (run-balanced t room (emptyWith c) 0 refl)

@@ -12,7 +12,7 @@ use lib.ListN.{getD}
 use Rattle.model.specs.Numbers.{MAX-ENTITIES}
 use Rattle.model.specs.Lists.{one}
 use Rattle.model.specs.Model.{Entity, SparseSet, sameEntity, noRow, at, held, lastVersion}
-use Rattle.model.specs.Store.{Store, empty, Bytes}
+use Rattle.model.specs.Store.{Settings, Store, emptyWith, Bytes}
 use Rattle.model.specs.Run.{run}
 use Rattle.model.specs.Snapshot.{addComponent, componentsOf, liveVersion, entryOf, entries, snapshot, Same}
 use Rattle.model.specs.Sound.{Limits, StoreSound, cnt, num}
@@ -92,7 +92,7 @@ pub snapshots-of-sound : (s t : Store) → StoreSound s → StoreSound t → (sn
 snapshots-of-sound s t S T = snapshot-iff s t (listed s S) (listed t T)
 
 -- and so do the stores after any two tapes from empty stores
-pub snapshots-of-runs : (t u : List ℕ) (room room′ n n′ k k′ : ℕ) → Bytes t → Bytes u → Limits n k → Limits n′ k′
-    → (snapshot ((run t room (empty n k)) .store) ≡ snapshot ((run u room′ (empty n′ k′)) .store)) ↔ Same ((run t room (empty n k)) .store) ((run u room′ (empty n′ k′)) .store)
-snapshots-of-runs t u room room′ n n′ k k′ ht hu l l′ =
-    snapshots-of-sound ((run t room (empty n k)) .store) ((run u room′ (empty n′ k′)) .store) (run-sound t room n k ht l) (run-sound u room′ n′ k′ hu l′)
+pub snapshots-of-runs : (t u : List ℕ) (room room′ : ℕ) (c c′ : Settings) → Bytes t → Bytes u → Limits (c .capacity) (c .kindCapacity) → Limits (c′ .capacity) (c′ .kindCapacity)
+    → (snapshot ((run t room (emptyWith c)) .store) ≡ snapshot ((run u room′ (emptyWith c′)) .store)) ↔ Same ((run t room (emptyWith c)) .store) ((run u room′ (emptyWith c′)) .store)
+snapshots-of-runs t u room room′ c c′ ht hu l l′ =
+    snapshots-of-sound ((run t room (emptyWith c)) .store) ((run u room′ (emptyWith c′)) .store) (run-sound t room c ht l) (run-sound u room′ c′ hu l′)

@@ -11,7 +11,7 @@ use lib.Dec.{ltb, leb, lit<}
 use lib.ListN.{length, take, drop, getD, length-take, length-drop}
 use Rattle.model.specs.Numbers.{LAST-CALLER, LAST-KIND, LIST-CAPACITY, MAX-GROUP-ARITY, MAX-GROUP-COUNT}
 use Rattle.model.specs.Model.{isLive, addsNothing, joins, withGroup, groupsOf, freeNumbers}
-use Rattle.model.specs.Store.{Bytes, Store, empty, number, stagedKinds, isKind, withControl, counted, emptyStaged, emptyBoth}
+use Rattle.model.specs.Store.{Bytes, Settings, Store, emptyWith, number, stagedKinds, isKind, withControl, counted, emptyStaged, emptyBoth}
 use Rattle.model.specs.Commands.{Command, REG, HOLD, NEW, PUT, TAKE, DROP, KILL, WIPE, GROUP, APPLY, BAR, RANGE, EMPTY, TALLY, TRAY, SETCALLER, Done, accepted, widths, width, commands, commandAt}
 use Rattle.model.specs.Refusals.{firstLine, linesOf, beforeLines, NoneHolds}
 use Rattle.model.specs.Run.{Outcome, refuses, accepts, does, Step, stops, goes, stepOf, stepIf, step, Ran, halt, more, runFor, run}
@@ -131,40 +131,47 @@ step-sound b t room s h S =
     stepIf-after StoreSound (firstLine beforeLines (record { byte = b; rest = t; room = room; store = s })) (stepOf (suc (width b)) s (does (commandAt b (take (width b) t)) s))
     (stepOf-sound (suc (width b)) s (does (commandAt b (take (width b) t)) s) S (does-sound (commandAt b (take (width b) t)) s (tape-fits b t h) S))
 
--- the stores after the commands of a run are sound
-pub trail-sound-for : (fuel : ℕ) (t : List ℕ) (room : ℕ) (s : Store) → Bytes t → StoreSound s → EachStore StoreSound (trailFor fuel t room s)
-unfolding trailFor
-trail-sound-for zero t room s h S = tt
-trail-sound-for (suc fuel) [] room s h S = tt
-trail-sound-for (suc fuel) (b ∷ t) room s h S = go (step b t room s) (step-sound b t room s (h .1) S) (λ w r s′. trail-sound-for fuel (drop w (b ∷ t)) r s′ (bytes-drop w (b ∷ t) h))
-  where
-    go : (p : Step) → After StoreSound p → ((w r : ℕ) (s′ : Store) → StoreSound s′ → EachStore StoreSound (trailFor fuel (drop w (b ∷ t)) r s′)) → EachStore StoreSound (elim p as (λ p. List Store) [ stops n ↦ [] | goes w a s′ ↦ s′ ∷ trailFor fuel (drop w (b ∷ t)) (room - length a) s′ ])
-    go (stops n) k rec = tt
-    go (goes w a s′) k rec = (k, rec w (room - length a) s′ k)
+-- what each step keeps, holds of the stores after the commands of a run, and of the one that it leaves
+module _ (P : Store → Type 0) (keeps : (b : ℕ) (t : List ℕ) (room : ℕ) (s : Store) → Bytes t → P s → After P (step b t room s)) where
+  trail-for : (fuel : ℕ) (t : List ℕ) (room : ℕ) (s : Store) → Bytes t → P s → EachStore P (trailFor fuel t room s)
+  unfolding trailFor
+  trail-for zero t room s h S = tt
+  trail-for (suc fuel) [] room s h S = tt
+  trail-for (suc fuel) (b ∷ t) room s h S = go (step b t room s) (keeps b t room s (h .1) S) (λ w r s′. trail-for fuel (drop w (b ∷ t)) r s′ (bytes-drop w (b ∷ t) h))
+    where
+      go : (p : Step) → After P p → ((w r : ℕ) (s′ : Store) → P s′ → EachStore P (trailFor fuel (drop w (b ∷ t)) r s′)) → EachStore P (elim p as (λ p. List Store) [ stops n ↦ [] | goes w a s′ ↦ s′ ∷ trailFor fuel (drop w (b ∷ t)) (room - length a) s′ ])
+      go (stops n) k rec = tt
+      go (goes w a s′) k rec = (k, rec w (room - length a) s′ k)
 
-pub run-sound-for : (fuel : ℕ) (t : List ℕ) (room : ℕ) (s : Store) → Bytes t → StoreSound s → StoreSound ((runFor fuel t room s) .store)
-unfolding runFor
-run-sound-for zero t room s h S = S
-run-sound-for (suc fuel) [] room s h S = S
-run-sound-for (suc fuel) (b ∷ t) room s h S = go (step b t room s) (step-sound b t room s (h .1) S) (λ w r s′. run-sound-for fuel (drop w (b ∷ t)) r s′ (bytes-drop w (b ∷ t) h))
-  where
-    go : (p : Step) → After StoreSound p → ((w r : ℕ) (s′ : Store) → StoreSound s′ → StoreSound ((runFor fuel (drop w (b ∷ t)) r s′) .store)) → StoreSound ((elim p as (λ p. Ran) [ stops n ↦ halt n s | goes w a s′ ↦ more w a (runFor fuel (drop w (b ∷ t)) (room - length a) s′) ]) .store)
-    go (stops n) k rec = S
-    go (goes w a s′) k rec = rec w (room - length a) s′ k
+  run-for : (fuel : ℕ) (t : List ℕ) (room : ℕ) (s : Store) → Bytes t → P s → P ((runFor fuel t room s) .store)
+  unfolding runFor
+  run-for zero t room s h S = S
+  run-for (suc fuel) [] room s h S = S
+  run-for (suc fuel) (b ∷ t) room s h S = go (step b t room s) (keeps b t room s (h .1) S) (λ w r s′. run-for fuel (drop w (b ∷ t)) r s′ (bytes-drop w (b ∷ t) h))
+    where
+      go : (p : Step) → After P p → ((w r : ℕ) (s′ : Store) → P s′ → P ((runFor fuel (drop w (b ∷ t)) r s′) .store)) → P ((elim p as (λ p. Ran) [ stops n ↦ halt n s | goes w a s′ ↦ more w a (runFor fuel (drop w (b ∷ t)) (room - length a) s′) ]) .store)
+      go (stops n) k rec = S
+      go (goes w a s′) k rec = rec w (room - length a) s′ k
+
+  pub each-keeps : (t : List ℕ) (room : ℕ) (s : Store) → Bytes t → P s → EachStore P (trail t room s)
+  unfolding trail
+  each-keeps t room s h S = trail-for (length t) t room s h S
+
+  pub all-keeps : (t : List ℕ) (room : ℕ) (s : Store) → Bytes t → P s → P ((run t room s) .store)
+  unfolding run
+  all-keeps t room s h S = run-for (length t) t room s h S
 
 -- every run keeps a sound store sound
 pub run-keeps : (t : List ℕ) (room : ℕ) (s : Store) → Bytes t → StoreSound s → StoreSound ((run t room s) .store)
-unfolding run
-run-keeps t room s h S = run-sound-for (length t) t room s h S
+run-keeps = all-keeps StoreSound step-sound
 
 -- and so does each command of it
 pub trail-keeps : (t : List ℕ) (room : ℕ) (s : Store) → Bytes t → StoreSound s → EachStore StoreSound (trail t room s)
-unfolding trail
-trail-keeps t room s h S = trail-sound-for (length t) t room s h S
+trail-keeps = each-keeps StoreSound step-sound
 
--- from an empty store
-pub run-sound : (t : List ℕ) (room n k : ℕ) → Bytes t → Limits n k → StoreSound ((run t room (empty n k)) .store)
-run-sound t room n k h l = run-keeps t room (empty n k) h (empty-sound n k l)
+-- from an empty store, under either rule
+pub run-sound : (t : List ℕ) (room : ℕ) (c : Settings) → Bytes t → Limits (c .capacity) (c .kindCapacity) → StoreSound ((run t room (emptyWith c)) .store)
+run-sound t room c h l = run-keeps t room (emptyWith c) h (empty-sound c l)
 
-pub trail-sound : (t : List ℕ) (room n k : ℕ) → Bytes t → Limits n k → EachStore StoreSound (trail t room (empty n k))
-trail-sound t room n k h l = trail-keeps t room (empty n k) h (empty-sound n k l)
+pub trail-sound : (t : List ℕ) (room : ℕ) (c : Settings) → Bytes t → Limits (c .capacity) (c .kindCapacity) → EachStore StoreSound (trail t room (emptyWith c))
+trail-sound t room c h l = trail-keeps t room (emptyWith c) h (empty-sound c l)

@@ -6,7 +6,7 @@ use Prim.Native.Nat.{ℕ, _+_, _*_}
 use lib.Dec.{leb}
 use lib.ListN.{length, take, drop, getD}
 use Rattle.model.specs.Numbers.{LAST-COMMAND}
-use Rattle.model.specs.Model.{Entity, SparseSet, Storage, Range, none, found, noRow, setOf, at, held, insertComponents, remove, clearAll, setLayout, rangeFor, addsNothing, withGroup, create, extend, destroy}
+use Rattle.model.specs.Model.{Entity, SparseSet, Storage, Range, none, found, noRow, setOf, at, held, insertComponents, remove, clearAll, setLayout, rangeUnder, addsNothing, withGroup, create, extend, destroy}
 use Rattle.model.specs.Store.{Store, bytesOf, number, stagedKinds, isKind, withControl, withStorage, withAll, withKinds, emptyStaged, emptyBoth, withStaged, withExcluded, withDraft, withCaller, ownRefusals}
 
 -- a command with its operands
@@ -144,8 +144,8 @@ accepted GROUP s =
 accepted APPLY s = done (withControl (withStorage s (setLayout (s .entities .live) (s .control .draft) (s .storage))) (withDraft (s .control) [])) []
 -- "into the bar"
 accepted (BAR k) s = done (withControl s (withExcluded (s .control) (s .control .excluded ++ (k ∷ [])))) []
--- "1 byte found, start 4, end 4 (zeros if none)"
-accepted RANGE s = done (withControl s (emptyBoth (s .control))) (rangeBytes (rangeFor (stagedKinds s) (s .control .excluded) (s .storage)))
+-- "1 byte found, start 4, end 4 (zeros if none)", by the store's rule
+accepted RANGE s = done (withControl s (emptyBoth (s .control))) (rangeBytes (rangeUnder (s .settings .newer) (stagedKinds s) (s .control .excluded) (s .storage)))
 -- "empties hand and bar"
 accepted EMPTY s = done (withControl s (emptyBoth (s .control))) []
 -- "4 bytes"; 02, No. 7: "TALLY answers the current one"

@@ -7,9 +7,9 @@ use mathlib.Core.List.{List, [], _∷_, _++_, map}
 use Prim.Native.Nat.{ℕ, _/_, _%_}
 use lib.ListN.{length, take, drop}
 use Rattle.model.specs.Model.{Entity, Row, SparseSet, setOf, keys}
-use Rattle.model.specs.Store.{Store, empty}
+use Rattle.model.specs.Store.{Settings, Store, older, emptyWith}
 use Rattle.model.specs.Snapshot.{snapshot}
-use Rattle.model.specs.Refusals.{Line, firstLine, startLines, rollLines, columnLines}
+use Rattle.model.specs.Refusals.{Line, firstLine, StartTold, startLines, rollLines, columnLines}
 
 -- ---- start: "whatever the words held, makes an empty store"
 
@@ -23,9 +23,17 @@ abbrev pub startedBy : Option ℕ → Store → Started
 startedBy (some n) s = refusesStart n
 startedBy none s = makes s
 
--- told N, K and how many words are lent
-unfoldable pub start : ℕ → ℕ → ℕ → Started
-start n k words = startedBy (firstLine startLines (record { capacity = n; kindCapacity = k; words = words })) (empty n k)
+-- what the lines look at, of the settings and how many words are lent: no line is of the rule
+abbrev pub startTold : Settings → ℕ → StartTold
+startTold c words = record { capacity = c .capacity; kindCapacity = c .kindCapacity; words = words }
+
+-- 02, No. 8: "A store may be started under the newer rule, told by a bool"
+unfoldable pub startWith : Settings → ℕ → Started
+startWith c words = startedBy (firstLine startLines (startTold c words)) (emptyWith c)
+
+-- 01's *start*, told N and K: the older rule
+abbrev pub start : ℕ → ℕ → ℕ → Started
+start n k words = startWith (older n k) words
 
 -- ---- column: "a kind's cards (index word, version word) or values (low word, high word) from start to end"
 

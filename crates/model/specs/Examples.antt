@@ -1,12 +1,13 @@
 -- "Marked examples of the definitions": 01's fourteen, as a list under one theorem, each by what commands answer in a store that commands have built; and its
 -- byte-exact tape. All computed. Assumes nothing.
 use mathlib.Core.Path.{_≡_, refl}
+use mathlib.Core.Bool.{true}
 use mathlib.Core.List.{List, [], _∷_, _++_, map}
 use Prim.Native.Nat.{ℕ}
 use lib.ListN.{length}
 use Rattle.model.specs.Numbers.{REG-BYTE, HOLD-BYTE, NEW-BYTE, KILL-BYTE, GROUP-BYTE, APPLY-BYTE, BAR-BYTE, RANGE-BYTE, TALLY-BYTE, TRAY-BYTE, SETCALLER-BYTE}
 use Rattle.model.specs.Model.{Entity, Storage, Group, Family, groupAll, groupComponents, ungroupComponents, groupFamily, ungroupFamily, groupTouched, ungroup, insertComponents, remove, rangeFor, setLayout, regroup, create, createEach, groupEach, extend, destroy, entity, keys, setOf}
-use Rattle.model.specs.Store.{Store, empty, bytesOf}
+use Rattle.model.specs.Store.{Store, told, emptyWith, empty, bytesOf}
 use Rattle.model.specs.Commands.{NEW, KILL, GROUP, RANGE, accepted}
 use Rattle.model.specs.Refusals.{linesOf}
 use Rattle.model.specs.Run.{Ran, run, runFor, step, does, storeAfter, answerOf}
@@ -59,7 +60,7 @@ unfoldable pub exampleTape : List ℕ
 exampleTape = reg 1 ++ reg 2 ++ reg 3 ++ reg 4 ++ reg 5 ++ reg 6 ++ groupsTape ++ (APPLY-BYTE ∷ []) ++ entitiesTape
 
 unfoldable pub exampleStore : Store
-unfolding exampleTape run runFor step does accepted linesOf empty insertComponents groupTouched groupFamily groupComponents setLayout regroup groupAll create
+unfolding exampleTape run runFor step does accepted linesOf emptyWith insertComponents groupTouched groupFamily groupComponents setLayout regroup groupAll create
 exampleStore = afterTape exampleTape (empty 64 8)
 
 -- its answers, each command accepted; then stop 0, commands 29, read 179, written 69
@@ -161,7 +162,7 @@ answer =
     ∷ 0 ∷ 14 ∷ 0 ∷ 0 ∷ 0 ∷ 79 ∷ 0 ∷ 0 ∷ 0 ∷ 42 ∷ 0 ∷ 0 ∷ 0 ∷ []
 
 pub stream-example : written (run sample ANSWER-ROOM (empty 64 8)) ≡ answer
-unfolding sample answer run runFor step does accepted linesOf empty insertComponents groupTouched groupFamily groupComponents setLayout regroup groupAll rangeFor create
+unfolding sample answer run runFor step does accepted linesOf emptyWith insertComponents groupTouched groupFamily groupComponents setLayout regroup groupAll rangeFor create
 stream-example = refl
 
 -- ---- what proofs/Faults.antt looks at, and the last example
@@ -226,3 +227,33 @@ caller-example = refl
 pub eleven-stops : (run (17 ∷ []) ANSWER-ROOM exampleStore) .stop ≡ 4
 unfolding exampleStore
 eleven-stops = refl
+
+-- ---- 02's No. 8: the store of the examples under the newer rule
+
+unfoldable pub newerStore : Store
+unfolding exampleTape run runFor step does accepted linesOf emptyWith insertComponents groupTouched groupFamily groupComponents setLayout regroup groupAll create
+newerStore = afterTape exampleTape (emptyWith (told 64 8 true))
+
+-- and both with "the larger group's ring" of one kind: groups {1,2}, then {1,2,3}
+abbrev pub oneRingTape : List ℕ
+oneRingTape = holding (1 ∷ 2 ∷ []) GROUP-BYTE ++ holding (1 ∷ 2 ∷ 3 ∷ []) GROUP-BYTE ++ (APPLY-BYTE ∷ [])
+
+pub ruled : List Example
+unfolding ranges
+ruled =
+    -- {1,2} bar {3,4} is none, and the others are 01's
+    record { got = ranges newerStore (1 ∷ 2 ∷ []) (3 ∷ 4 ∷ []); want = 0 ∷ 0 ∷ 0 ∷ 0 ∷ 0 ∷ 0 ∷ 0 ∷ 0 ∷ 0 ∷ 0 ∷ [] }
+    ∷ record { got = ranges newerStore (1 ∷ 2 ∷ []) []; want = 0 ∷ 1 ∷ 0 ∷ 0 ∷ 0 ∷ 0 ∷ 3 ∷ 0 ∷ 0 ∷ 0 ∷ [] }
+    ∷ record { got = ranges newerStore (1 ∷ 2 ∷ 3 ∷ 4 ∷ []) []; want = 0 ∷ 1 ∷ 0 ∷ 0 ∷ 0 ∷ 0 ∷ 1 ∷ 0 ∷ 0 ∷ 0 ∷ [] }
+    ∷ record { got = ranges newerStore (1 ∷ []) []; want = 0 ∷ 1 ∷ 0 ∷ 0 ∷ 0 ∷ 0 ∷ 4 ∷ 0 ∷ 0 ∷ 0 ∷ [] }
+    ∷ record { got = ranges newerStore (1 ∷ 3 ∷ []) []; want = 0 ∷ 0 ∷ 0 ∷ 0 ∷ 0 ∷ 0 ∷ 0 ∷ 0 ∷ 0 ∷ 0 ∷ [] }
+    ∷ record { got = ranges newerStore (1 ∷ 2 ∷ []) (3 ∷ []); want = 0 ∷ 0 ∷ 0 ∷ 0 ∷ 0 ∷ 0 ∷ 0 ∷ 0 ∷ 0 ∷ 0 ∷ [] }
+    ∷ record { got = ranges newerStore [] []; want = 0 ∷ 0 ∷ 0 ∷ 0 ∷ 0 ∷ 0 ∷ 0 ∷ 0 ∷ 0 ∷ 0 ∷ [] }
+    -- of entities 0 {1,2,3}, 1 {1,2,3,4}, 2 {1,2}, the last alone has 1 and 2 and not 3: 2..3 under both rules
+    ∷ record { got = ranges (afterTape oneRingTape newerStore) (1 ∷ 2 ∷ []) (3 ∷ []); want = 0 ∷ 1 ∷ 2 ∷ 0 ∷ 0 ∷ 0 ∷ 3 ∷ 0 ∷ 0 ∷ 0 ∷ [] }
+    ∷ record { got = ranges (afterTape oneRingTape exampleStore) (1 ∷ 2 ∷ []) (3 ∷ []); want = 0 ∷ 1 ∷ 2 ∷ 0 ∷ 0 ∷ 0 ∷ 3 ∷ 0 ∷ 0 ∷ 0 ∷ [] }
+    ∷ []
+
+pub rule-examples : gots ruled ≡ wants ruled
+unfolding ruled newerStore exampleStore
+rule-examples = refl

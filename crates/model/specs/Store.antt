@@ -1,5 +1,5 @@
 -- The whole store, and numbers in bytes. Assumes nothing.
-use mathlib.Core.Bool.{Bool, cond}
+use mathlib.Core.Bool.{Bool, false, cond}
 use mathlib.Core.List.{List, [], _∷_, map}
 use Prim.Native.Nat.{ℕ, zero, suc, _+_, _*_, _/_, _%_, _<_}
 use lib.Dec.{ltb}
@@ -43,10 +43,20 @@ pub record Control : Type 0 where
   pub draft : List Family
   pub counts : Counts
 
--- "A store .. has capacity N (cards) and K (kinds)": what a start is told, and nothing changes
+-- "A store .. has capacity N (cards) and K (kinds)": what a start is told, and nothing changes. 02, No. 8: "A store may be started under the newer rule,
+-- told by a bool and fixed for its life": true is the newer, false the older
 pub record Settings : Type 0 where
   pub capacity : ℕ
   pub kindCapacity : ℕ
+  pub newer : Bool
+
+-- N, K and the rule, as a start is told them
+abbrev pub told : ℕ → ℕ → Bool → Settings
+told n k newer = record { capacity = n; kindCapacity = k; newer = newer }
+
+-- 01's start is told N and K: "Stores under the older rule keep 01's reading"
+abbrev pub older : ℕ → ℕ → Settings
+older n k = told n k false
 
 -- kinds are those registered, in the order of their registration
 pub record Store : Type 0 where
@@ -56,16 +66,20 @@ pub record Store : Type 0 where
   pub storage : Storage
   pub control : Control
 
--- "an empty store: N and K as told, no kind registered, no number issued, no groups, empty hand, bar and draft, tally 0"
-unfoldable pub empty : ℕ → ℕ → Store
-empty n k =
+-- "an empty store: N and K as told, no kind registered, no number issued, no groups, empty hand, bar and draft, tally 0"; the rule as told
+unfoldable pub emptyWith : Settings → Store
+emptyWith c =
     record {
-      settings = record { capacity = n; kindCapacity = k };
+      settings = c;
       kinds = [];
       entities = noEntities;
       storage = record { sets = replicate MAX-KINDS []; layout = [] };
       control = record { staged = []; excluded = []; draft = []; counts = noCounts };
     }
+
+-- of N entities and K kinds, by 01's start
+abbrev pub empty : ℕ → ℕ → Store
+empty n k = emptyWith (older n k)
 
 -- a store "needs 1,024 + 16 × N + K × (8 + 6 × N) words"
 unfoldable pub wordsNeeded : ℕ → ℕ → ℕ

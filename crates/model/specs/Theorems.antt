@@ -8,7 +8,7 @@ use lib.ListN.{length, take}
 use Rattle.model.specs.Numbers.{CALLER, KIND, LAST-CALLER, LAST-KIND, MANY, MAX-REFUSALS, NOROOM, UNKNOWN}
 use Rattle.model.specs.Model.{Family, Component, Entities, setOf}
 use Rattle.model.specs.Adding.{Added, nothing, added, refused}
-use Rattle.model.specs.Store.{Counts, Control, Store, bytesOf, empty, wordsNeeded, isKind, withControl, withStaged, withDraft, withCounts, withCaller, emptyStaged, refusalsBy, ownRefusals, counted}
+use Rattle.model.specs.Store.{Counts, Control, Settings, Store, bytesOf, emptyWith, wordsNeeded, isKind, withControl, withStaged, withDraft, withCounts, withCaller, emptyStaged, refusalsBy, ownRefusals, counted}
 use Rattle.model.specs.Commands.{Command, REG, HOLD, NEW, PUT, TAKE, DROP, KILL, WIPE, GROUP, APPLY, BAR, RANGE, EMPTY, TALLY, TRAY, SETCALLER, width, commandAt, answerLength}
 use Rattle.model.specs.Refusals.{Unchanged}
 use Rattle.model.specs.Run.{Outcome, refuses, accepts, storeAfter, does, Step, stops, goes, Ran}
@@ -38,6 +38,10 @@ CountsTo n (r ∷ rs) = (r .count ≤ n) × CountsTo n rs
 abbrev pub AllCountsTo : ℕ → List Family → Type 0
 AllCountsTo n [] = Unit {0}
 AllCountsTo n (f ∷ fs) = CountsTo n f × AllCountsTo n fs
+
+-- what a start was told is the same
+abbrev pub SameSettings : Store → Store → Type 0
+SameSettings s t = t .settings ≡ s .settings
 
 -- ---- one command
 
@@ -182,10 +186,10 @@ pub record SameEmitted (o p o′ p′ : List ℕ) (n k m j : ℕ) : Type 0 where
   pub bytes : o ≡ p → o′ ≡ p′
 
 -- what an accepted start makes: the empty store, which is sound and for which the words are enough
-pub record Makes (n k words : ℕ) (s : Store) : Type 0 where
-  pub store : s ≡ empty n k
-  pub limits : Limits n k
-  pub words-enough : wordsNeeded n k ≤ words
+pub record Makes (c : Settings) (words : ℕ) (s : Store) : Type 0 where
+  pub store : s ≡ emptyWith c
+  pub limits : Limits (c .capacity) (c .kindCapacity)
+  pub words-enough : wordsNeeded (c .capacity) (c .kindCapacity) ≤ words
   pub sound : StoreSound s
 
 -- an accepted one is the rows from start to end, two words each
