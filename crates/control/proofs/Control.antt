@@ -23,7 +23,7 @@ use Rattle.words.proofs.Stores.{length-stores, miss, hit, Misses, StoresBelow, 
 use Rattle.words.specs.Part.{between}
 use Rattle.component.specs.SparseSet.{valueOf}
 use Rattle.layout.specs.Layout.{WellFormed, groupCount, familiesOf}
-use Rattle.memory.specs.Header.{stagedLen, excludedLen, callerOf, refusalsAt, stagedKindAt, excludedAt}
+use Rattle.memory.specs.Header.{stagedLen, excludedLen, callerOf, refusalsAt, newerOf, stagedKindAt, excludedAt}
 use Rattle.memory.specs.Meaning.{draftArrays, draftIn, stagedAt, stagedIn, excludedIn, countsIn, controlIn, meaning, withRefusal}
 use Rattle.memory.specs.Arranged.{Arranged, Becomes}
 use Rattle.memory.proofs.Frames.{draft-arrays-same, staged-same, excluded-same, counts-kept, long}
@@ -264,6 +264,10 @@ module _ (w : List ℕ) (A : Arranged w) where
       (staged-same w (set w i x) (length-stores w rs) (A .staged) (miss w rs STAGED-LEN (omega arith)) (λ j a b. miss w rs j (omega arith)))
       (excluded-same w (set w i x) (length-stores w rs) (A .excluded) (miss w rs EXCLUDED-LEN (omega arith)) (λ j a b. miss w rs j (omega arith)))
       e
+
+  pub newer-read : newerOf w ≡ meaning w .settings .newer
+  unfolding meaning
+  newer-read = refl
 
   pub caller-read : Caller w (callerOf w)
   unfolding meaning

@@ -12,7 +12,7 @@ use lib.Seq.{getD-set-same, getD-set-other, drop-set-lt}
 use Rattle.model.specs.Numbers.{ENTITY-LEN, MAX-KINDS}
 use Rattle.model.specs.Model.{mem}
 use Rattle.model.specs.Sound.{In}
-use Rattle.words.specs.Offsets.{columnStart, CALLER, CAPACITY, COLUMN-KIND, DRAFT-FAMILIES, DRAFT-GROUPS, ENTITIES, EXCLUDED-LEN, GROUP-COUNTS, GROUP-FAMILIES, GROUP-PLACES, KIND-CAPACITY, LAYOUT-FAMILIES, LAYOUT-GROUPS, OWN-GROUP, PLACE-IN-FAMILY, REGISTERED, STAGED-LEN, TABLE, UNREGISTERED}
+use Rattle.words.specs.Offsets.{columnStart, CALLER, CAPACITY, COLUMN-KIND, DRAFT-FAMILIES, DRAFT-GROUPS, ENTITIES, EXCLUDED-LEN, GROUP-COUNTS, GROUP-FAMILIES, GROUP-PLACES, KIND-CAPACITY, LAYOUT-FAMILIES, LAYOUT-GROUPS, OWN-GROUP, PLACE-IN-FAMILY, REGISTERED, RULE, STAGED-LEN, TABLE, UNREGISTERED}
 use Rattle.words.proofs.Offsets.{columnStart-mono}
 use Rattle.words.specs.Part.{between}
 use Rattle.words.specs.Table.{table}
@@ -276,6 +276,7 @@ module _ (w w′ : List ℕ) (A : Arranged w) (k : ℕ) (hk : k < MAX-KINDS) (ne
         staged = rw (R .header STAGED-LEN (omega arith) (omega arith) (omega arith)) (A .staged);
         excluded = rw (R .header EXCLUDED-LEN (omega arith) (omega arith) (omega arith)) (A .excluded);
         caller = rw (R .header CALLER (omega arith) (omega arith) (omega arith)) (A .caller);
+        rule = rw (R .header RULE (omega arith) (omega arith) (omega arith)) (A .rule);
         draft = subst WellFormed (sym draft-is) (A .draft);
         draftCount = R .header DRAFT-GROUPS (omega arith) (omega arith) (omega arith) ∙ A .draftCount ∙ sym (ap groupCount draft-is);
         layout = layout-new;

@@ -12,7 +12,7 @@ use lib.Seq.{ext-getD}
 use Rattle.model.specs.Numbers.{ENTITY-LEN, MAX-KINDS}
 use Rattle.model.specs.Sound.{In, StoreSound}
 use Rattle.model.proofs.BoolLaws.{bool-cases}
-use Rattle.words.specs.Offsets.{columnStart, BLOCK-LEN, CALLER, CAPACITY, COLUMN-KIND, DRAFT, DRAFT-FAMILIES, DRAFT-GROUPS, ENTITIES, EXCLUDED-LEN, GROUP-COUNTS, GROUP-FAMILIES, GROUP-PLACES, KIND-CAPACITY, LAYOUT, LAYOUT-FAMILIES, LAYOUT-GROUPS, OWN-GROUP, REGISTERED, STAGED-LEN, TABLE, UNREGISTERED}
+use Rattle.words.specs.Offsets.{columnStart, BLOCK-LEN, CALLER, CAPACITY, COLUMN-KIND, DRAFT, DRAFT-FAMILIES, DRAFT-GROUPS, ENTITIES, EXCLUDED-LEN, GROUP-COUNTS, GROUP-FAMILIES, GROUP-PLACES, KIND-CAPACITY, LAYOUT, LAYOUT-FAMILIES, LAYOUT-GROUPS, OWN-GROUP, REGISTERED, RULE, STAGED-LEN, TABLE, UNREGISTERED}
 use Rattle.words.proofs.Offsets.{columnStart-mono}
 use Rattle.words.specs.Part.{between}
 use Rattle.words.proofs.Part.{between-front, between-rest, length-between, getD-between}
@@ -257,6 +257,7 @@ module _ (w₀ w₁ : List ℕ) (A : Arranged w₀) (M : StoreSound (meaning w�
           staged = rw (low STAGED-LEN (omega arith)) (A .staged);
           excluded = rw (low EXCLUDED-LEN (omega arith)) (A .excluded);
           caller = rw (lists CALLER (omega arith) (omega arith)) (A .caller);
+          rule = rw (lists RULE (omega arith) (omega arith)) (A .rule);
           draft = subst (λ (m : ℕ). WellFormed (blockArrays (between DRAFT LAYOUT w) m)) (sym no-draft) (none-formed (between DRAFT LAYOUT w));
           draftCount = same DRAFT-GROUPS (omega arith) ∙ P .noGroups ∙ sym (ap (λ (m : ℕ). groupCount (blockArrays (between DRAFT LAYOUT w) m)) no-draft);
           layout = layout-sound;

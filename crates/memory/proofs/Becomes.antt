@@ -11,7 +11,8 @@ use lib.Seq.{getD-set-same, getD-set-other, drop-set-lt, ext-getD}
 use Rattle.model.specs.Numbers.{ENTITY-LEN, LAST-CALLER, LIST-CAPACITY, MAX-KINDS, columnLen}
 use Rattle.model.specs.Model.{Entities, SparseSet, Storage, setOf}
 use Rattle.model.specs.Store.{onSet, withEntities, onStorage, withLayout, Settings, Store, wordsNeeded, withEntities, withControl, onStorage, withLayout, onSet}
-use Rattle.words.specs.Offsets.{columnStart, CALLER, DRAFT-FAMILIES, DRAFT-GROUPS, ENTITIES, EXCLUDED-LEN, GROUP-COUNTS, GROUP-FAMILIES, GROUP-PLACES, LAYOUT, LAYOUT-FAMILIES, LAYOUT-GROUPS, MORE-SETTINGS, REFUSALS, REGISTERED, STAGED-KINDS, STAGED-LEN, TABLE, UNREGISTERED}
+use Rattle.model.specs.Theorems.{SameSettings}
+use Rattle.words.specs.Offsets.{columnStart, CALLER, DRAFT-FAMILIES, DRAFT-GROUPS, ENTITIES, EXCLUDED-LEN, GROUP-COUNTS, GROUP-FAMILIES, GROUP-PLACES, LAYOUT, LAYOUT-FAMILIES, LAYOUT-GROUPS, MORE-SETTINGS, REFUSALS, REGISTERED, RULE, STAGED-KINDS, STAGED-LEN, TABLE, UNREGISTERED}
 use Rattle.words.proofs.Offsets.{columnStart-mono}
 use Rattle.words.specs.Part.{between}
 use Rattle.words.proofs.Part.{between-rest, length-between, getD-between}
@@ -208,6 +209,7 @@ module _ (w w′ : List ℕ) (A : Arranged w) (S : Static w w′) where
       record {
         size = S .size;
         settings = settings-kept w w′ (λ i h. S .limits i (omega arith)) (S .told);
+        rule = S .told RULE (omega arith) (omega arith);
         registered = S .limits REGISTERED (omega arith);
         slots = λ k h. S .table (TABLE + k) (omega arith) (omega arith);
         heads = λ s h i a b. ap (λ (u : List ℕ). getD u i 0) (column-rest w w′ A (S .size) ENTITIES static-le (S .rest) s);
@@ -307,10 +309,6 @@ capacity-means w = refl
 settings-mean : (w : List ℕ) → meaning w .settings ≡ settingsOf w
 unfolding meaning
 settings-mean w = refl
-
--- a store with the settings as before
-abbrev pub SameSettings : Store → Store → Type 0
-SameSettings s t = t .settings ≡ s .settings
 
 pub becomes-next : {w₀ w w′ : List ℕ} (s : Store) (h : Store → Store) → Becomes w₀ w s → SameSettings (meaning w₀) s → Becomes w w′ (h (meaning w)) → Becomes w₀ w′ (h s)
 becomes-next {w₀} {w} {w′} s h B z C =

@@ -3,11 +3,12 @@ use mathlib.Core.Path.{_≡_, sym, ap, _∙_, subst}
 use mathlib.Core.List.{List, []}
 use Prim.Native.Nat.{ℕ, _+_, _*_, _≤_, _<_}
 use native.Mathlib.Omega.{arith}
+use lib.Dec.{eqb}
 use lib.ListN.{length, getD}
 use Rattle.model.specs.Numbers.{CALLERS, ENTITY-LEN, LIST-CAPACITY}
 use Rattle.model.specs.Store.{Store}
 use Rattle.memory.proofs.LayoutWords.{words-sized}
-use Rattle.words.specs.Offsets.{columnStart, BLOCK-LEN, CALLER, CAPACITY, DRAFT, DRAFT-FAMILIES, DRAFT-GROUPS, ENTITIES, EXCLUDED-KINDS, EXCLUDED-LEN, GROUP-COUNTS, GROUP-FAMILIES, KIND-CAPACITY, LAYOUT, LAYOUT-FAMILIES, LAYOUT-GROUPS, MORE-SETTINGS, REFUSALS, REGISTERED, ROWS, STAGED-KINDS, STAGED-LEN, STAGED-VALUE-LEN, STAGED-VALUES, TABLE}
+use Rattle.words.specs.Offsets.{columnStart, BLOCK-LEN, CALLER, CAPACITY, DRAFT, DRAFT-FAMILIES, DRAFT-GROUPS, ENTITIES, EXCLUDED-KINDS, EXCLUDED-LEN, GROUP-COUNTS, GROUP-FAMILIES, KIND-CAPACITY, LAYOUT, LAYOUT-FAMILIES, LAYOUT-GROUPS, MORE-SETTINGS, NEWER, REFUSALS, REGISTERED, RULE, ROWS, STAGED-KINDS, STAGED-LEN, STAGED-VALUE-LEN, STAGED-VALUES, TABLE}
 use Rattle.words.proofs.Offsets.{columnStart-needed, columnStart-mono}
 use Rattle.words.specs.Part.{between}
 use Rattle.words.proofs.Part.{between-same}
@@ -62,7 +63,7 @@ module _ (w w′ : List ℕ) (size : length w′ ≡ length w) where
 
 -- the settings stay if their words do, and those that are kept for more of them
 pub settings-kept : (w w′ : List ℕ) → ((i : ℕ) → i < REGISTERED → getD w′ i 0 ≡ getD w i 0) → ((i : ℕ) → MORE-SETTINGS ≤ i → i < REFUSALS → getD w′ i 0 ≡ getD w i 0) → settingsOf w′ ≡ settingsOf w
-settings-kept w w′ size more = λ j. record { capacity = size CAPACITY (omega arith) j; kindCapacity = size KIND-CAPACITY (omega arith) j }
+settings-kept w w′ size more = λ j. record { capacity = size CAPACITY (omega arith) j; kindCapacity = size KIND-CAPACITY (omega arith) j; newer = eqb (more RULE (omega arith) (omega arith) j) NEWER }
 
 -- the counts stay if the words from the caller to the table of kinds do
 pub counts-kept : (w w′ : List ℕ) → ((i : ℕ) → CALLER ≤ i → i < TABLE → getD w′ i 0 ≡ getD w i 0) → countsIn w′ ≡ countsIn w
@@ -112,6 +113,7 @@ module _ (w w′ : List ℕ) (A : Arranged w) (size : length w′ ≡ length w) 
       record {
         size = size;
         settings = settings-kept w w′ (λ i h. same i (omega arith)) (λ i a b. same i (omega arith));
+        rule = same RULE (omega arith);
         registered = same REGISTERED (omega arith);
         slots = λ k h. same (TABLE + k) (omega arith);
         heads = heads;

@@ -14,7 +14,7 @@ use Rattle.entity.specs.Meaning.{entityPart}
 use Rattle.layout.specs.Layout.{Arrays, WellFormed, widthOf, groupCount}
 use Rattle.layout.specs.Group.{memberAt}
 use Rattle.model.specs.Sound.{In}
-use Rattle.memory.specs.Header.{capacityOf, kindCapacityOf, registeredOf, stagedLen, excludedLen, draftGroups, layoutGroups, callerOf, slotOf, groupFamilyAt}
+use Rattle.memory.specs.Header.{capacityOf, kindCapacityOf, registeredOf, stagedLen, excludedLen, draftGroups, layoutGroups, callerOf, ruleOf, slotOf, groupFamilyAt}
 use Rattle.memory.specs.Meaning.{kindAt, ownAt, localAt, kindsIn, draftArrays, layoutArrays, settingsOf}
 use Rattle.memory.specs.Arranged.{TableSound, Registered, GroupSound, LayoutSound, Arranged}
 use Rattle.entity.specs.Meaning as entity
@@ -22,6 +22,7 @@ use Rattle.entity.specs.Meaning as entity
 pub record Kept (w w′ : List ℕ) : Type 0 where
   pub size : length w′ ≡ length w
   pub settings : settingsOf w′ ≡ settingsOf w
+  pub rule : ruleOf w′ ≡ ruleOf w
   pub registered : registeredOf w′ ≡ registeredOf w
   pub slots : (k : ℕ) → k < MAX-KINDS → slotOf w′ k ≡ slotOf w k
   pub heads : (s : ℕ) → s < kindCapacityOf w → (i : ℕ) → 1 ≤ i → i < ROWS → getD (columnOf (capacityOf w) s w′) i 0 ≡ getD (columnOf (capacityOf w) s w) i 0
@@ -124,6 +125,7 @@ module _ {w w′ : List ℕ} (A : Arranged w) (K : Kept w w′) where
         staged = st;
         excluded = ex;
         caller = ca;
+        rule = rw (K .rule) (A .rule);
         draft = d;
         draftCount = g;
         layout = layout-kept;

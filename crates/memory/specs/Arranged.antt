@@ -5,7 +5,7 @@ use mathlib.Core.List.{List, []}
 use Prim.Native.Nat.{ℕ, suc, _≤_, _<_}
 use lib.ListN.{length, take, drop}
 use Rattle.model.specs.Numbers.{LAST-CALLER, LIST-CAPACITY, MAX-KINDS}
-use Rattle.words.specs.Offsets.{UNREGISTERED}
+use Rattle.words.specs.Offsets.{NEWER, UNREGISTERED}
 use Rattle.model.specs.Store.{Store, wordsNeeded}
 use Rattle.model.specs.Sound.{In, Limits}
 use Rattle.model.specs.Sound as modelSound
@@ -14,7 +14,7 @@ use Rattle.entity.specs.Meaning as entity
 use Rattle.entity.specs.Meaning.{entityPart}
 use Rattle.layout.specs.Layout.{Arrays, WellFormed, widthOf, groupCount}
 use Rattle.layout.specs.Group.{InFamily, arityOf, priorArity, memberAt}
-use Rattle.memory.specs.Header.{capacityOf, kindCapacityOf, registeredOf, stagedLen, excludedLen, draftGroups, layoutGroups, callerOf, slotOf, groupFamilyAt}
+use Rattle.memory.specs.Header.{capacityOf, kindCapacityOf, registeredOf, stagedLen, excludedLen, draftGroups, layoutGroups, callerOf, ruleOf, slotOf, groupFamilyAt}
 use Rattle.memory.specs.Meaning.{kindAt, ownAt, localAt, draftArrays, layoutArrays, meaning}
 
 -- "at most K registered kinds, each with a column of its own": the table of kinds and the columns' heads point to each other
@@ -55,6 +55,8 @@ pub record Arranged (w : List ℕ) : Type 0 where
   pub staged : stagedLen w ≤ LIST-CAPACITY
   pub excluded : excludedLen w ≤ LIST-CAPACITY
   pub caller : callerOf w ≤ LAST-CALLER
+  -- 02, No. 8: "a sound one has one of the two rules"
+  pub rule : ruleOf w ≤ NEWER
   pub draft : WellFormed (draftArrays w)
   pub draftCount : draftGroups w ≡ groupCount (draftArrays w)
   pub layout : LayoutSound w

@@ -3,7 +3,7 @@ use mathlib.Core.Path.{_≡_}
 use mathlib.Core.List.{List}
 use Prim.Native.Nat.{ℕ, _+_, _<_}
 use lib.ListN.{length, getD, drop}
-use Rattle.model.specs.Store.{empty}
+use Rattle.model.specs.Store.{Settings, emptyWith}
 use Rattle.words.specs.Offsets.{columnStart, TABLE, UNREGISTERED}
 use Rattle.memory.specs.Arranged.{Arranged}
 use Rattle.memory.specs.Meaning.{meaning}
@@ -22,8 +22,8 @@ pub record TableCleared (w : List ℕ) (n : ℕ) (w′ : List ℕ) : Type 0 wher
   pub rest : drop (TABLE + n) w′ ≡ drop (TABLE + n) w
 
 -- 01: "whatever the words held, makes an empty store"; the words past the needed ones are as they were
-pub record Made (n k : ℕ) (w w′ : List ℕ) : Type 0 where
+pub record Made (c : Settings) (w w′ : List ℕ) : Type 0 where
   pub arranged : Arranged w′
-  pub means : meaning w′ ≡ empty n k
+  pub means : meaning w′ ≡ emptyWith c
   pub size : length w′ ≡ length w
-  pub past : drop (columnStart n k) w′ ≡ drop (columnStart n k) w
+  pub past : drop (columnStart (c .capacity) (c .kindCapacity)) w′ ≡ drop (columnStart (c .capacity) (c .kindCapacity)) w

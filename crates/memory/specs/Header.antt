@@ -1,8 +1,10 @@
 -- The header's words, by name (docs/WORDS.md). Assumes nothing.
+use mathlib.Core.Bool.{Bool}
 use mathlib.Core.List.{List}
 use Prim.Native.Nat.{ℕ, _+_, _*_}
+use lib.Dec.{eqb}
 use lib.ListN.{getD}
-use Rattle.words.specs.Offsets.{CALLER, CAPACITY, DRAFT-FAMILIES, DRAFT-GROUPS, EXCLUDED-KINDS, EXCLUDED-LEN, GROUP-COUNTS, GROUP-FAMILIES, KIND-CAPACITY, LAYOUT-FAMILIES, LAYOUT-GROUPS, REFUSALS, REGISTERED, STAGED-KINDS, STAGED-LEN, STAGED-VALUE-LEN, STAGED-VALUES, TABLE}
+use Rattle.words.specs.Offsets.{CALLER, CAPACITY, DRAFT-FAMILIES, DRAFT-GROUPS, EXCLUDED-KINDS, EXCLUDED-LEN, GROUP-COUNTS, GROUP-FAMILIES, KIND-CAPACITY, LAYOUT-FAMILIES, LAYOUT-GROUPS, NEWER, REFUSALS, REGISTERED, RULE, STAGED-KINDS, STAGED-LEN, STAGED-VALUE-LEN, STAGED-VALUES, TABLE}
 
 -- capacity N (entities) and K (kinds), and how many kinds are registered
 abbrev pub capacityOf : List ℕ → ℕ
@@ -40,6 +42,13 @@ callerOf w = getD w CALLER 0
 
 abbrev pub refusalsAt : List ℕ → ℕ → ℕ
 refusalsAt w c = getD w (REFUSALS + c) 0
+
+-- the rule's word, and whether it is the newer rule's
+abbrev pub ruleOf : List ℕ → ℕ
+ruleOf w = getD w RULE 0
+
+abbrev pub newerOf : List ℕ → Bool
+newerOf w = eqb (ruleOf w) NEWER
 
 -- the slot of kind k's column, 255 where the kind is not registered
 abbrev pub slotOf : List ℕ → ℕ → ℕ

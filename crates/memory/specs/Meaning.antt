@@ -14,7 +14,7 @@ use Rattle.component.specs.SparseSet.{valueOf}
 use Rattle.component.specs.Columns.{columnOf, rowsOf}
 use Rattle.entity.specs.Meaning.{entitiesIn}
 use Rattle.layout.specs.Layout.{Arrays, blockArrays, familiesOf}
-use Rattle.memory.specs.Header.{capacityOf, kindCapacityOf, registeredOf, stagedLen, excludedLen, draftFamilies, layoutFamilies, callerOf, refusalsAt, slotOf, stagedKindAt, stagedLowAt, stagedHighAt, excludedAt}
+use Rattle.memory.specs.Header.{capacityOf, kindCapacityOf, registeredOf, stagedLen, excludedLen, draftFamilies, layoutFamilies, callerOf, refusalsAt, newerOf, slotOf, stagedKindAt, stagedLowAt, stagedHighAt, excludedAt}
 
 -- ---- kinds and their columns
 
@@ -76,9 +76,9 @@ controlIn w = record { staged = stagedIn w; excluded = excludedIn w; draft = dra
 
 -- ---- the store
 
--- of words 0 and 1
+-- of words 0, 1 and 10
 abbrev pub settingsOf : List ℕ → Settings
-settingsOf w = record { capacity = capacityOf w; kindCapacity = kindCapacityOf w }
+settingsOf w = record { capacity = capacityOf w; kindCapacity = kindCapacityOf w; newer = newerOf w }
 
 unfoldable pub meaning : List ℕ → Store
 meaning w =

@@ -2,6 +2,7 @@
 ghost use Prim.Native.Nat.{_≤_};
 ghost use lib.ListN.{length};
 ghost use Rattle.model.specs.Numbers.{MAX-KINDS};
+ghost use Rattle.model.specs.Store.{told};
 ghost use Rattle.model.specs.Sound.{Limits};
 ghost use Rattle.words.specs.Offsets.{columnStart, STAGED-KINDS};
 ghost use Rattle.words.specs.Decides.{Decides};
@@ -51,15 +52,16 @@ fn put_table(words: &mut [u32])
     }
 }
 
-// The empty store of n entities and k kinds.
-pub fn make(words: &mut [u32], n: usize, k: usize)
+// The empty store of n entities and k kinds, under the rule that is told.
+pub fn make(words: &mut [u32], n: usize, k: usize, newer: bool)
     requires { ⌜ Limits n k ⌝ }
     requires { ⌜ columnStart n k ≤ length (now words) ⌝ }
-    ensures { λ _. ⌜ Made n k (now (words .entry)) (now (words .exit)) ⌝ }
+    ensures { λ _. ⌜ Made (told n k newer) (now (words .entry)) (now (words .exit)) ⌝ }
 {
     let end = words::column_start(n, k);
     clear(words, end);
     put_table(words);
     words[words::CAPACITY] = n as u32;
     words[words::KIND_CAPACITY] = k as u32;
+    words[words::RULE] = newer as u32;
 }

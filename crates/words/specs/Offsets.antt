@@ -39,9 +39,16 @@ LAYOUT-GROUPS = 8
 abbrev pub CALLER : ℕ
 CALLER = 9
 
--- kept, up to the refusal counts, for what else a start is told. No code reads or writes them yet
+-- from here to the refusal counts stands what else a start is told: the rule. The other words are kept for more, and no code reads or writes them yet
 abbrev pub MORE-SETTINGS : ℕ
 MORE-SETTINGS = 10
+
+abbrev pub RULE : ℕ
+RULE = 10
+
+-- the word of the newer rule; that of the older is 0
+abbrev pub NEWER : ℕ
+NEWER = 1
 
 -- the refusal counts of the sixteen callers
 abbrev pub REFUSALS : ℕ

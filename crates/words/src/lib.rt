@@ -29,6 +29,10 @@ pub const LAYOUT_GROUPS: usize = 8;
 pub const CALLER: usize = 9;
 
 pub const REFUSALS: usize = 16;
+// The rule, 0 the older, and the word of the newer.
+pub const RULE: usize = 10;
+
+pub const NEWER: u32 = 1;
 // The slot of each of the 128 kinds, and the word of a kind that has none.
 pub const TABLE: usize = 32;
 

@@ -1,8 +1,9 @@
 use mathlib.Core.Path.{_∙_, subst}
-use Prim.Native.Nat.{ℕ}
+use Prim.Native.Nat.{ℕ, _≤_}
 use native.Mathlib.Omega.{arith}
 use borrow.Author.Needs.{needs}
-use lib.ListN.{length-set}
+use lib.ListN.{length, length-set}
+use Rattle.words.specs.Offsets.{ENTITIES}
 use Rattle.words.proofs.Offsets.{columnStart-mono}
 use Rattle.memory.proofs.Frames.{start-header}
 use Rattle.memory.specs.Fresh.{Cleared}
@@ -16,17 +17,21 @@ put-table-requires c κs =
     let h = c .before .before .before .before .before .before .before .pre in
     omega (arith, c .before .before .before .clear .ensures .size, h .1, start-header (a .n), columnStart-mono (a .n) 0 (a .k) (omega arith))
 
-slice-write-words : tie.Need-slice-write-words
-slice-write-words c =
+-- the words with the table of kinds have a header
+header : (c : tie.After-slice-known3) → ENTITIES ≤ length (c .before .before .put-table .last .0)
+header c =
     let a = c .before .before .before .before .before .before .before .before .before .before .args in
     let h = c .before .before .before .before .before .before .before .before .before .before .pre in
     omega (arith, c .before .before .put-table .ensures .size, c .before .before .before .before .before .before .clear .ensures .size, h .1, start-header (a .n), columnStart-mono (a .n) 0 (a .k) (omega arith))
 
+slice-write-words : tie.Need-slice-write-words
+slice-write-words c = omega (arith, header c)
+
 slice-write-words-2 : tie.Need-slice-write-words-2
-slice-write-words-2 c =
-    let a = c .before .before .before .before .before .before .before .before .before .before .args in
-    let h = c .before .before .before .before .before .before .before .before .before .before .pre in
-    simp length-set (omega (arith, c .before .before .put-table .ensures .size, c .before .before .before .before .before .before .clear .ensures .size, h .1, start-header (a .n), columnStart-mono (a .n) 0 (a .k) (omega arith)))
+slice-write-words-2 c = simp length-set (omega (arith, header c))
+
+slice-write-words-3 : tie.Need-slice-write-words-3
+slice-write-words-3 c = simp length-set (omega (arith, header c))
 
 same-length : tie.Need-same-length
 same-length c = simp length-set (c .before .before .put-table .ensures .size ∙ c .before .before .before .before .before .before .clear .ensures .size)
@@ -35,11 +40,11 @@ returns : tie.Need-returns
 returns c =
     let a = c .before .before .before .before .before .before .before .before .before .before .args in
     let h = c .before .before .before .before .before .before .before .before .before .before .pre in
-    made (a .n) (a .k) (a .words .now) (c .before .before .before .before .before .before .clear .last .0) (c .before .before .put-table .last .0) (h .0) (h .1)
+    made (a .n) (a .k) (a .newer) (a .words .now) (c .before .before .before .before .before .before .clear .last .0) (c .before .before .put-table .last .0) (h .0) (h .1)
     (subst (λ (e : ℕ). Cleared (c .before .before .before .before .before .before .before .before .before .before .args .words .now) e (c .before .before .before .before .before .before .clear .last .0)) (c .before .before .before .before .before .before .before .before .column-start .ensures) (c .before .before .before .before .before .before .clear .ensures))
     (c .before .before .put-table .ensures)
 
 pub make-spec : {M : Type 1} → statement M
 make-spec =
     tie.close
-    (tie.spec (λ c κs. search needs) (λ c κs. search needs) put-table-requires (λ c. search needs) slice-write-words (λ c. search needs) slice-write-words-2 same-length returns)
+    (tie.spec (λ c κs. search needs) (λ c κs. search needs) put-table-requires (λ c. search needs) slice-write-words (λ c. search needs) slice-write-words-2 (λ c. search needs) slice-write-words-3 same-length returns)
