@@ -12,7 +12,8 @@ use Rattle.model.specs.Theorems.{Fits, OutSound}
 use Rattle.memory.specs.Meaning.{meaning}
 use Rattle.memory.specs.Arranged.{Sound, Becomes}
 use Rattle.command.specs.Acted.{Written, Acted}
-use Rattle.memory.proofs.Becomes.{SameSettings, becomes-next}
+use Rattle.model.specs.Theorems.{SameSettings}
+use Rattle.memory.proofs.Becomes.{becomes-next}
 
 pub refused-by : {w w′ o o′ : List ℕ} {at r n : ℕ} {x : Outcome} → x ≡ refuses n → Acted w w′ o o′ at r (refuses n) → Acted w w′ o o′ at r x
 refused-by e a = rw e a

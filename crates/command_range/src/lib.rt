@@ -28,7 +28,7 @@ pub fn range(words: &mut [u32], out: &mut [u8], at: usize) -> usize
     requires { ⌜ Ready (now words) (now out) at RANGE ⌝ }
     ensures { λ r. ⌜ Acted (now (words .entry)) (now (words .exit)) (now (out .entry)) (now (out .exit)) at r (does RANGE (meaning (now (words .entry)))) ⌝ }
 {
-    let found = query::group_range(words);
+    let found = query::range_under(words);
     control::staged::clear_lists(words);
     let GroupRange::Found(start, end) = found else {
         return ack_range(out, at, 0, 0, 0);

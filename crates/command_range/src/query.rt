@@ -7,7 +7,7 @@ use group_info::GroupRange;
 use group_info::QueryGroupInfo;
 use group_info::ViewGroupInfo;
 ghost use mathlib.Core.Path.{_≡_};
-ghost use Rattle.model.specs.Model.{rangeFor};
+ghost use Rattle.model.specs.Model.{rangeFor, rangeUnder};
 ghost use Rattle.model.specs.Sound.{In};
 ghost use Rattle.model.specs.Store.{stagedKinds};
 ghost use Rattle.words.specs.Part.{between};
@@ -105,4 +105,18 @@ pub fn group_range(words: &[u32]) -> GroupRange
         &words[words::LAYOUT_ARITIES..words::LAYOUT_KIND_ENDS],
         &words[words::GROUP_COUNTS..words::ENTITIES],
     )
+}
+
+// 02, No. 8: by the store's rule. The newer finds nothing for two or more excluded kinds.
+pub fn range_under(words: &[u32]) -> GroupRange
+    requires { ⌜ Sound (now words) ⌝ }
+    ensures { λ r. ⌜ rangeOf r ≡ rangeUnder (meaning (now (words .entry)) .settings .newer) (stagedKinds (meaning (now (words .entry)))) (meaning (now (words .entry)) .control .excluded) (meaning (now (words .entry)) .storage) ⌝ }
+{
+    if !control::rule::is_newer(words) {
+        return group_range(words);
+    }
+    if 1 < control::excluded::excluded_len(words) {
+        return GroupRange::Nothing;
+    }
+    group_range(words)
 }

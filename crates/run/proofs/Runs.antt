@@ -8,17 +8,17 @@ use lib.ListN.{length, getD, take, drop, length-drop, drop-of-length-le, take-ap
 use lib.Seq.{sets, length-sets, drop-drop, length-take-le}
 use Rattle.model.specs.Store.{Store}
 use Rattle.model.specs.Run.{Step, stops, goes, step, Ran, halt, more, runFor, run}
-use Rattle.model.specs.Theorems.{StepFits}
+use Rattle.model.specs.Theorems.{StepFits, SameSettings}
 use Rattle.model.proofs.Lengths.{step-lengths}
+use Rattle.model.proofs.Settings.{step-settings}
 use Rattle.model.proofs.ListLaws.{take-sets, drop-sets, drop-step}
-use Rattle.memory.proofs.Becomes.{SameSettings, stays, becomes-next}
+use Rattle.memory.proofs.Becomes.{stays, becomes-next}
 use Rattle.memory.specs.Meaning.{meaning}
 use Rattle.memory.specs.Arranged.{Sound, Becomes}
 use Rattle.run_command.specs.Given.{commandIn}
 use Rattle.run.specs.Run.{Refused, Traced}
 use Rattle.run.specs.Stepping.{stepAt, resultOf, Stepped, Completed}
 use Rattle.run.specs.declared.Went.the-variants.{Done, Stop}
-use Rattle.run.proofs.Steps.{step-same}
 use Rattle.run.proofs.Traces.{traced-end, traced-stop, traced-more}
 
 -- ---- the model's run, unrolled once
@@ -80,7 +80,7 @@ step-size s t at room k a s′ h e =
     (omega (arith, z .read), omega (arith, z .whole, length-drop (at + 1) t))
 
 step-kept : (s : Store) (t : List ℕ) (at room k : ℕ) (a : List ℕ) (s′ : Store) → stepAt s t at room ≡ goes k a s′ → SameSettings s s′
-step-kept s t at room k a s′ e = rw e at (step-same (getD t at 0) (drop (at + 1) t) room s)
+step-kept s t at room k a s′ e = rw e at (step-settings (getD t at 0) (drop (at + 1) t) room s)
 
 -- ---- between two commands: k are done, the tape is read up to `at`, the answers stand before p
 

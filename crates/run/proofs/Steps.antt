@@ -6,17 +6,14 @@ use Prim.Native.Nat.{ℕ, suc, _+_, _-_, _≤_, _<_}
 use native.Mathlib.Omega.{arith}
 use borrow.Author.Tests.{lt-ltb, le-ltb, le-leb, lt-leb}
 use lib.Dec.{ltb}
-use lib.ListN.{length, getD, take, drop, length-drop}
+use lib.ListN.{length, getD, drop, length-drop}
 use Rattle.model.specs.Numbers.{CUT, NOROOM, UNKNOWN, LAST-COMMAND}
-use Rattle.model.specs.Model.{addsNothing}
-use Rattle.model.specs.Store.{Store, Bytes, isKind, stagedKinds}
-use Rattle.model.specs.Commands.{Command, REG, HOLD, NEW, PUT, TAKE, DROP, KILL, WIPE, GROUP, APPLY, BAR, RANGE, EMPTY, TALLY, TRAY, SETCALLER, Done, accepted, width, commandAt, answerLength}
-use Rattle.model.specs.Run.{Outcome, refuses, accepts, does, Step, stops, goes, stepOf, step, storeAfter, answerOf}
-use Rattle.model.proofs.BoolLaws.{cond-case}
-use Rattle.model.proofs.Lines.{accepted-exact}
-use Rattle.model.proofs.Lengths.{answer-fits, step-case}
-use Rattle.model.proofs.Sound.{After, bytes-drop, tape-fits}
-use Rattle.memory.proofs.Becomes.{SameSettings, stays}
+use Rattle.model.specs.Store.{Store, Bytes}
+use Rattle.model.specs.Commands.{width, answerLength}
+use Rattle.model.specs.Run.{does, Step, stops, goes, stepOf, step, storeAfter, answerOf}
+use Rattle.model.proofs.Lengths.{answer-fits}
+use Rattle.model.proofs.Sound.{bytes-drop, tape-fits}
+use Rattle.memory.proofs.Becomes.{stays}
 use Rattle.memory.specs.Meaning.{meaning}
 use Rattle.memory.specs.Arranged.{Sound}
 use Rattle.command.specs.Acted.{Acted}
@@ -55,40 +52,6 @@ module _ (s : Store) (t : List ℕ) (at room : ℕ) where
         pub step-did : answerLength (commandIn (getD t at 0) t (at + 1)) s ≤ room → stepAt s t at room ≡ stepOf (suc (width (getD t at 0))) s (does (commandIn (getD t at 0) t (at + 1)) s)
         unfolding step
         step-did h = rw (le-leb 1 (getD t at 0) low, le-leb (getD t at 0) LAST-COMMAND high, fits, le-ltb room (answerLength (commandIn (getD t at 0) t (at + 1)) s) h)
-
--- ---- commands keep N and K
-
-accepted-size : (c : Command) (s : Store) → SameSettings s ((accepted c s) .store)
-unfolding accepted
-accepted-size (REG k) s = cond-case (λ (d : Done). SameSettings s (d .store)) (isKind k s) _ _ (λ t. refl) (λ t. refl)
-accepted-size (HOLD k v) s = refl
-accepted-size NEW s = refl
-accepted-size (PUT e) s = refl
-accepted-size (TAKE e) s = refl
-accepted-size (DROP e) s = refl
-accepted-size (KILL e) s = refl
-accepted-size WIPE s = refl
-accepted-size GROUP s = cond-case (λ (d : Done). SameSettings s (d .store)) (addsNothing (stagedKinds s) (s .control .draft)) _ _ (λ t. refl) (λ t. refl)
-accepted-size APPLY s = refl
-accepted-size (BAR k) s = refl
-accepted-size RANGE s = refl
-accepted-size EMPTY s = refl
-accepted-size TALLY s = refl
-accepted-size (TRAY n) s = refl
-accepted-size (SETCALLER c) s = refl
-
-after-size : (c : Command) (s : Store) (x : Outcome) → does c s ≡ x → SameSettings s (storeAfter s x)
-after-size c s (refuses n) e = refl
-after-size c s (accepts s′ a) e = rw (accepted-exact c s s′ a .0 e .1) at (accepted-size c s)
-
-size-by : (k : ℕ) (c : Command) (s : Store) (x : Outcome) → does c s ≡ x → After (SameSettings s) (stepOf k s x)
-size-by k c s (refuses n) e = after-size c s (refuses n) e
-size-by k c s (accepts s′ a) e = after-size c s (accepts s′ a) e
-
-pub step-same : (b : ℕ) (t : List ℕ) (room : ℕ) (s : Store) → After (SameSettings s) (step b t room s)
-step-same b t room s =
-    step-case (After (SameSettings s)) b t room s (λ n. tt)
-    (λ h. size-by (suc (width b)) (commandAt b (take (width b) t)) s (does (commandAt b (take (width b) t)) s) refl)
 
 -- ---- the code's step
 

@@ -390,6 +390,7 @@ module _ (w : List ℕ) where
             staged = L .staged .few;
             excluded = L .excluded .few;
             caller = L .caller;
+            rule = L .rule;
             draft = L .draft .formed .good;
             draftCount = L .draft .formed .groups;
             layout = layout-sound;
@@ -501,6 +502,7 @@ module _ (w : List ℕ) where
           staged = are-staged (A .table) small far (A .staged) (M .staged);
           excluded = are-excluded (A .table) small far (A .excluded) (M .excluded);
           caller = A .caller;
+          rule = A .rule;
           draft = draft-of;
         }
 

@@ -5,14 +5,14 @@ use Prim.Native.Nat.{ℕ, _+_, _≤_}
 use lib.ListN.{length}
 use Rattle.model.specs.Numbers.{LAST-CALLER}
 use Rattle.model.specs.Sound.{Limits}
-use Rattle.words.specs.Offsets.{columnStart, DRAFT, EXCLUDED-KINDS, GROUP-FAMILIES, LAYOUT, STAGED-KINDS, TABLE}
+use Rattle.words.specs.Offsets.{columnStart, DRAFT, EXCLUDED-KINDS, GROUP-FAMILIES, LAYOUT, NEWER, STAGED-KINDS, TABLE}
 use Rattle.words.specs.Part.{between}
 use Rattle.words.specs.Decides.{Each}
 use Rattle.entity.specs.Meaning as entity
 use Rattle.entity.specs.Meaning.{entityPart}
 use Rattle.layout.specs.Layout.{widthOf}
 use Rattle.layout_block.specs.Checks.{BlockSound}
-use Rattle.memory.specs.Header.{capacityOf, kindCapacityOf, registeredOf, stagedLen, excludedLen, draftFamilies, draftGroups, layoutFamilies, layoutGroups, callerOf}
+use Rattle.memory.specs.Header.{capacityOf, kindCapacityOf, registeredOf, stagedLen, excludedLen, draftFamilies, draftGroups, layoutFamilies, layoutGroups, callerOf, ruleOf}
 use Rattle.memory.specs.Meaning.{layoutArrays}
 use Rattle.sound_columns.specs.Table.{TableOk}
 use Rattle.sound_columns.specs.Rows.{ColumnOk}
@@ -31,11 +31,12 @@ pub record PartsOk (n k : ℕ) (w : List ℕ) : Type 0 where
   pub entities : entity.EntityPartSound n (entityPart n w)
   pub columns : Each k (ColumnOk n (registeredOf w) w)
 
--- "hand, bar, draft .. of registered kinds, such as commands can build"; 02, No. 7: "a caller of 0 to 15"
+-- "hand, bar, draft .. of registered kinds, such as commands can build"; 02, No. 7: "a caller of 0 to 15"; No. 8: "one of the two rules"
 pub record ListsOk (w : List ℕ) : Type 0 where
   pub staged : ListOk w STAGED-KINDS (stagedLen w)
   pub excluded : ListOk w EXCLUDED-KINDS (excludedLen w)
   pub caller : callerOf w ≤ LAST-CALLER
+  pub rule : ruleOf w ≤ NEWER
   pub draft : BlockSound (between DRAFT LAYOUT w) (between TABLE STAGED-KINDS w) (draftFamilies w) (draftGroups w)
 
 -- what the clauses on the layout stand on

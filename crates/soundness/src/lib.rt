@@ -21,7 +21,9 @@ use words::LAYOUT;
 use words::LAYOUT_FAMILIES;
 use words::LAYOUT_GROUPS;
 use words::LAYOUT_KIND_ENDS;
+use words::NEWER;
 use words::REGISTERED;
+use words::RULE;
 use words::STAGED_KINDS;
 use words::STAGED_LEN;
 use words::TABLE;
@@ -72,7 +74,7 @@ fn has_parts(words: &[u32], n: usize, k: usize) -> bool
     true
 }
 
-// The staged and the excluded kinds, the caller, and the draft.
+// The staged and the excluded kinds, the caller, the rule, and the draft.
 fn has_lists(words: &[u32]) -> bool
     requires { ⌜ ENTITIES ≤ length (now words) ⌝ }
     ensures { λ r. ⌜ Decides r (ListsOk (now (words .entry))) ⌝ }
@@ -84,6 +86,9 @@ fn has_lists(words: &[u32]) -> bool
         return false;
     }
     if model::LAST_CALLER < words[CALLER] {
+        return false;
+    }
+    if NEWER < words[RULE] {
         return false;
     }
     let families = words[DRAFT_FAMILIES] as usize;

@@ -11,12 +11,12 @@ use Rattle.command_range.proofs.range.Tie as tie
 returns : tie.Need-returns
 returns c =
     let s = meaning (c .before .before .before .before .before .before .before .before .before .before .before .before .before .before .args .words .now) in
-    let q : none ≡ rangeTold s = sym (ap rangeOf (c .before .before .before .before .enum-told .given .1)) ∙ c .before .before .before .before .before .before .before .before .before .before .group-range .ensures in
+    let q : none ≡ rangeTold s = sym (ap rangeOf (c .before .before .before .before .enum-told .given .1)) ∙ c .before .before .before .before .before .before .before .before .before .before .range-under .ensures in
     accepted-by (range-told s q) (c .before .before .before .before .before .before .before .before .clear-lists .ensures) (c .before .before .ack-range .ensures)
 
 -- start and end, as the model has them
 told : (c : tie.After-found) → found (c .found .given .0 .0) (c .found .given .0 .1 .0) ≡ rangeTold (meaning (c .before .before .before .before .before .before .before .before .before .before .args .words .now))
-told c = sym (ap rangeOf (c .found .given .1)) ∙ c .before .before .before .before .before .before .group-range .ensures
+told c = sym (ap rangeOf (c .found .given .1)) ∙ c .before .before .before .before .before .before .range-under .ensures
 
 cast-ack-range : tie.Need-cast-ack-range
 cast-ack-range c =

@@ -25,23 +25,27 @@ returns-2 c = let a = c .before .before .before .before .before .before .before 
 returns-3 : tie.Need-returns-3
 returns-3 c = λ T. omega (arith, c .if3 .taken, T .caller)
 
+returns-4 : tie.Need-returns-4
+returns-4 c = λ T. omega (arith, c .if4 .taken, T .rule)
+
 cast-families : tie.Need-cast-families
-cast-families c = omega (arith, c .before .before .before .before .before .before .before .before .before .shared-slice-known .given DRAFT-FAMILIES)
+cast-families c = omega (arith, c .before .before .before .before .before .before .before .before .before .before .before .shared-slice-known .given DRAFT-FAMILIES)
 
 cast-groups : tie.Need-cast-groups
-cast-groups c = omega (arith, c .before .before .before .before .before .before .before .before .before .before .shared-slice-known .given DRAFT-GROUPS)
-
-returns-4 : tie.Need-returns-4
-returns-4 c = let a = c .before .before .before .before .before .before .before .before .before .before .before .before .before .before .before .args in λ T. denied {P = BlockSound (between DRAFT LAYOUT (a .words .now)) (between TABLE STAGED-KINDS (a .words .now)) (draftFamilies (a .words .now)) (draftGroups (a .words .now))} (c .before .block-ok .result) (c .before .block-ok .ensures) (c .if4 .taken) (T .draft)
+cast-groups c = omega (arith, c .before .before .before .before .before .before .before .before .before .before .before .before .shared-slice-known .given DRAFT-GROUPS)
 
 returns-5 : tie.Need-returns-5
-returns-5 c =
-    let a = c .before .before .before .before .before .before .before .before .before .before .before .before .before .before .before .args in
+returns-5 c = let a = c .before .before .before .before .before .before .before .before .before .before .before .before .before .before .before .before .before .args in λ T. denied {P = BlockSound (between DRAFT LAYOUT (a .words .now)) (between TABLE STAGED-KINDS (a .words .now)) (draftFamilies (a .words .now)) (draftGroups (a .words .now))} (c .before .block-ok .result) (c .before .block-ok .ensures) (c .if5 .taken) (T .draft)
+
+returns-6 : tie.Need-returns-6
+returns-6 c =
+    let a = c .before .before .before .before .before .before .before .before .before .before .before .before .before .before .before .before .before .args in
     record {
-      staged = granted {P = ListOk (a .words .now) STAGED-KINDS (stagedLen (a .words .now))} (c .before .before .before .before .before .before .before .before .before .before .before .before .is-list .result) (c .before .before .before .before .before .before .before .before .before .before .before .before .is-list .ensures) (c .before .before .before .before .before .before .before .before .before .before .before .if1 .left);
-      excluded = granted {P = ListOk (a .words .now) EXCLUDED-KINDS (excludedLen (a .words .now))} (c .before .before .before .before .before .before .before .before .before .is-list2 .result) (c .before .before .before .before .before .before .before .before .before .is-list2 .ensures) (c .before .before .before .before .before .before .before .before .if2 .left);
-      caller = c .before .before .before .before .before .before .if3 .left;
-      draft = granted {P = BlockSound (between DRAFT LAYOUT (a .words .now)) (between TABLE STAGED-KINDS (a .words .now)) (draftFamilies (a .words .now)) (draftGroups (a .words .now))} (c .before .block-ok .result) (c .before .block-ok .ensures) (c .if4 .left);
+      staged = granted {P = ListOk (a .words .now) STAGED-KINDS (stagedLen (a .words .now))} (c .before .before .before .before .before .before .before .before .before .before .before .before .before .before .is-list .result) (c .before .before .before .before .before .before .before .before .before .before .before .before .before .before .is-list .ensures) (c .before .before .before .before .before .before .before .before .before .before .before .before .before .if1 .left);
+      excluded = granted {P = ListOk (a .words .now) EXCLUDED-KINDS (excludedLen (a .words .now))} (c .before .before .before .before .before .before .before .before .before .before .before .is-list2 .result) (c .before .before .before .before .before .before .before .before .before .before .before .is-list2 .ensures) (c .before .before .before .before .before .before .before .before .before .before .if2 .left);
+      caller = c .before .before .before .before .before .before .before .before .if3 .left;
+      rule = c .before .before .before .before .before .before .if4 .left;
+      draft = granted {P = BlockSound (between DRAFT LAYOUT (a .words .now)) (between TABLE STAGED-KINDS (a .words .now)) (draftFamilies (a .words .now)) (draftGroups (a .words .now))} (c .before .block-ok .result) (c .before .block-ok .ensures) (c .if5 .left);
     }
 
 pub has-lists-spec : {M : Type 1} → statement M
@@ -59,6 +63,8 @@ has-lists-spec =
     (λ c. search needs)
     returns-3
     (λ c. search needs)
+    returns-4
+    (λ c. search needs)
     cast-families
     (λ c. search needs)
     cast-groups
@@ -69,5 +75,5 @@ has-lists-spec =
     (λ c. search needs)
     (λ c. search needs)
     (λ c κs. search needs)
-    returns-4
-    returns-5)
+    returns-5
+    returns-6)
