@@ -10,7 +10,7 @@ use borrow.Author.Tests.{eqb-true}
 use lib.ListN.{length, getD, take, drop, length-append}
 use lib.Seq.{length-take-le}
 use denote.Ref.{RefT}
-use Rattle.model.specs.Store.{Store, empty}
+use Rattle.model.specs.Store.{Store, older, empty}
 use Rattle.model.specs.Entries.{Started, refusesStart, makes, start, roll}
 use Rattle.model.proofs.ListLaws.{front-of}
 use Rattle.model.proofs.Entries.{start-makes}
@@ -161,8 +161,8 @@ column-agrees f w at n a b size fits h k =
 -- ---- a start
 
 started-zero : (n k m : ℕ) (x : Started) → start n k m ≡ x → startNumber x ≡ 0 → start n k m ≡ makes (empty n k)
-started-zero n k m (refusesStart r) e z = absurd (omega (arith, start-number n k m r e .0, z))
-started-zero n k m (makes s) e z = e ∙ ap makes (start-makes n k m s e .store)
+started-zero n k m (refusesStart r) e z = absurd (omega (arith, start-number (older n k) m r e .0, z))
+started-zero n k m (makes s) e z = e ∙ ap makes (start-makes (older n k) m s e .store)
 
 pub started : (n k : ℕ) (w w′ : List ℕ) (r : ℕ) → Starts n k w w′ r → r ≡ 0 → start n k (length w) ≡ makes (empty n k)
 started n k w w′ r h z = started-zero n k (length w) (start n k (length w)) refl (sym (h .number) ∙ z)

@@ -4,14 +4,14 @@ use mathlib.Core.Path.{_≡_, refl, sym, ap, _∙_, subst}
 use mathlib.Core.Logic.{_≢_}
 use mathlib.Core.Bool.{Bool, true, false}
 use mathlib.Core.Option.{Option}
-use mathlib.Core.List.{List, [], _++_}
+use mathlib.Core.List.{List, _++_}
 use Prim.Native.Nat.{ℕ, _+_, _≤_, _<_}
 use native.Mathlib.Omega.{arith}
 use lib.ListN.{length, take, length-set}
 use lib.Seq.{getD-set-same, getD-set-other, take-at}
 use denote.Ref.{RefT}
-use Rattle.model.specs.Numbers.{CALLERS, LAST-CALLER, MAX-REFUSALS, UNSOUND}
-use Rattle.model.specs.Store.{Counts, Store, empty, refusalsBy, oneMore}
+use Rattle.model.specs.Numbers.{CALLERS, LAST-CALLER, MAX-REFUSALS}
+use Rattle.model.specs.Store.{Counts, Settings, Store, emptyWith, refusalsBy, oneMore}
 use Rattle.model.specs.Commands.{Command, TALLY, SETCALLER}
 use Rattle.model.specs.Run.{does, storeAfter, answerOf}
 use Rattle.model.specs.Run as model
@@ -35,12 +35,12 @@ use Rattle.run.specs.declared.Ran.{Ran}
 use Rattle.store.specs.declared.Rolled.{Rolled}
 use Rattle.store.specs.declared.Reply.{Reply}
 use Rattle.store.specs.Course.{Course, ended, stopped, refused, done, EachDone, EachAnswer, EachRefusal, Reached, started, ran, refusedIn, allRefusedIn, callsIn}
-use Rattle.store.specs.Entries.{firstRefusal, columnRefused, ColumnNumbered, columnWords, partPlace, ColumnPart, ranOf, Runs, Rolls}
-use Rattle.store.specs.Linked.{ColumnPlaced, copyTold, copied, ColumnCopied}
-use Rattle.store.specs.Theorems.{RefusalWord, CountedUp, NeverCalled, RunButCallers, AlikeButCallers, SameRolled, SameCopied}
+use Rattle.store.specs.Entries.{firstRefusal, columnRefused, ColumnNumbered, columnWords, ColumnPart, ranOf, Runs, Rolls}
+use Rattle.store.specs.Linked.{copyTold, copied, ColumnCopied}
+use Rattle.store.specs.Theorems.{UnsoundAt, RefusalWord, CountedUp, NeverCalled, RunButCallers, AlikeButCallers, SameRolled, SameCopied}
 use Rattle.store.proofs.Determined.{answer-bytes, over-determined, same-rolled, same-copied}
-use Rattle.store.proofs.Demands.{run-course, told-in-run, run-unsound, roll-refusals, column-refusals, refused-column-is-empty, started-empty, reached-sound}
-use Rattle.store.proofs.Exported.{column-copy-refusals}
+use Rattle.store.proofs.Demands.{run-course, told-in-run, started-empty, reached-sound}
+use Rattle.store.proofs.Unsound.{unsound-at}
 
 -- ---- a refused command: the caller's word and no other
 
@@ -115,17 +115,17 @@ pub counts-after-run : (w w′ t o o′ : List ℕ) (r : Ran) → Runs w w′ t 
 counts-after-run w w′ t o o′ r R S c h = counted-up (refusedBy c t (length o) (meaning w)) (refusalsAt w c) (refusalsAt w′ c) (count-most w S c h) (more-in-run w w′ t o o′ r R S c h)
 
 -- "a store from start .. has caller 0 and every tally 0"
-pub started-caller : (n k : ℕ) (w : List ℕ) → meaning w ≡ empty n k → callerOf w ≡ 0
-unfolding empty
-started-caller n k w e = sym (caller-word w) ∙ ap (λ (s : Store). s .control .counts .caller) e
+pub started-caller : (x : Settings) (w : List ℕ) → meaning w ≡ emptyWith x → callerOf w ≡ 0
+unfolding emptyWith
+started-caller x w e = sym (caller-word w) ∙ ap (λ (s : Store). s .control .counts .caller) e
 
-pub started-count : (n k : ℕ) (w : List ℕ) → meaning w ≡ empty n k → (c : ℕ) → c < CALLERS → refusalsAt w c ≡ 0
-unfolding empty
-started-count n k w e c h = sym (count-word w c h) ∙ ap (λ (s : Store). refusalsBy c (s .control)) e ∙ default-at {A = ℕ} 0 CALLERS c
+pub started-count : (x : Settings) (w : List ℕ) → meaning w ≡ emptyWith x → (c : ℕ) → c < CALLERS → refusalsAt w c ≡ 0
+unfolding emptyWith
+started-count x w e c h = sym (count-word w c h) ∙ ap (λ (s : Store). refusalsBy c (s .control)) e ∙ default-at {A = ℕ} 0 CALLERS c
 
 -- from a start, after any runs
 more-reached : {w : List ℕ} (d : Reached w) (c : ℕ) → c < CALLERS → refusalsAt w c ≡ moreBy (refusedIn c d) 0
-more-reached (started {n} {k} {w} {w′} S) c h = started-count n k w′ (started-empty n k w w′ S .1) c h
+more-reached (started {c = x} {w} {w′} S) c h = started-count x w′ (started-empty x w w′ S .1) c h
 more-reached (ran {w} {w′} {t} {o} {o′} {r} d R) c h =
     more-in-run w w′ t o o′ r R (reached-sound d) c h
     ∙ ap (moreBy (refusedBy c t (length o) (meaning w))) (more-reached d c h)
@@ -148,9 +148,9 @@ record Uncalled (n : ℕ) (w : List ℕ) : Type 0 where
   pub others : (c : ℕ) → 1 ≤ c → c < CALLERS → refusalsAt w c ≡ 0
 
 uncalled : {w : List ℕ} (d : Reached w) → callsIn d ≡ 0 → Uncalled (allRefusedIn d) w
-uncalled (started {n} {k} {w} {w′} S) h =
-    let e = started-empty n k w w′ S .1 in
-    record { caller = started-caller n k w′ e; own = started-count n k w′ e 0 (omega arith); others = λ c p q. started-count n k w′ e c q }
+uncalled (started {c = x} {w} {w′} S) h =
+    let e = started-empty x w w′ S .1 in
+    record { caller = started-caller x w′ e; own = started-count x w′ e 0 (omega arith); others = λ c p q. started-count x w′ e c q }
 uncalled (ran {w} {w′} {t} {o} {o′} {r} d R) h =
     let U = uncalled d (omega (arith, h)) in
     let m = refusedAll t (length o) (meaning w) in
@@ -260,29 +260,5 @@ column-unseen u v r q values k a e A R Q =
 
 -- ---- "a sound one a caller of 0 to 15": 16 in word 9 is 3 at every entry
 
-high-unsound : (w : List ℕ) → LAST-CALLER < callerOf w → Sound w → ⊥
-high-unsound w h S = omega (arith, S .arranged .caller)
-
-module _ (w : List ℕ) (h : LAST-CALLER < callerOf w) where
-  pub high-caller-run : (w′ t o o′ : List ℕ) (r : Ran) → Runs w w′ t o o′ r → r .stop ≡ UNSOUND
-  high-caller-run w′ t o o′ r R = run-unsound w w′ t o o′ r R .1 (high-unsound w h)
-
-  pub high-caller-roll : (o o′ : List ℕ) (r : Rolled) → Rolls w o o′ r → r .number ≡ UNSOUND
-  high-caller-roll o o′ r R = roll-refusals w o o′ r R .unsound .1 (high-unsound w h)
-
-  pub high-caller-column : (k a e r : ℕ) → ColumnNumbered w k a e r → r ≡ UNSOUND
-  high-caller-column k a e r C = column-refusals w k a e r C .unsound .1 (high-unsound w h)
-
-  pub high-caller-place : (values : Bool) (k a e r : ℕ) → ColumnPlaced w values k a e r → r ≡ 0
-  high-caller-place values k a e r C = go (C .sound) (C .decides) (C .place)
-    where
-      go : (b : Bool) → Decides b (Sound w) → r ≡ partPlace (columnRefused b k a e (meaning w)) values w k a → r ≡ 0
-      go true d p = absurd (high-unsound w h d)
-      go false d p = p
-
-  pub high-caller-copy : (o o′ : List ℕ) (values : Bool) (k a e : ℕ) (r : Reply) → ColumnCopied w o o′ values k a e r → r .number ≡ UNSOUND
-  high-caller-copy o o′ values k a e r C = column-copy-refusals w o o′ values k a e r C .unsound .1 (high-unsound w h)
-
--- "A refused column is the empty part at the front"
-pub high-caller-part : (v r : RefT (List ℕ)) (values : Bool) (k a e n : ℕ) → LAST-CALLER < callerOf (v .now) → ColumnPart v r values k a e → ColumnNumbered (v .now) k a e n → (r .now ≡ []) × (r .ptr ≡ v .ptr)
-high-caller-part v r values k a e n h P C = refused-column-is-empty v r values k a e n P C (omega (arith, high-caller-column (v .now) h k a e n C))
+pub high-caller : (w : List ℕ) → LAST-CALLER < callerOf w → UnsoundAt w
+high-caller w h = unsound-at w (λ S. omega (arith, S .arranged .caller))

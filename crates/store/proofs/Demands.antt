@@ -9,13 +9,13 @@ use native.Mathlib.Omega.{arith}
 use lib.ListN.{length, take, drop, getD}
 use denote.Ref.{RefT}
 use Rattle.model.specs.Numbers.{BEYOND, CALLER, KIND, NOROOM, UNKNOWN, UNSOUND, WIDE}
-use Rattle.model.specs.Store.{Store, empty}
+use Rattle.model.specs.Store.{Settings, Store, emptyWith}
 use Rattle.model.specs.Commands.{Command}
 use Rattle.model.specs.Refusals.{numberOf, firstLine, BeforeCommand, beforeLines, linesOf, startLines, rollLines, columnLines}
 use Rattle.model.specs.Run.{Outcome, refuses, accepts, does, storeAfter, answerOf, halt, run}
 use Rattle.model.specs.Snapshot.{snapshot, Same}
 use Rattle.model.specs.History.{retired}
-use Rattle.model.specs.Entries.{Started, refusesStart, makes, start, columnRefusal, column, roll}
+use Rattle.model.specs.Entries.{Started, refusesStart, makes, startTold, startWith, columnRefusal, column, roll}
 use Rattle.model.proofs.Counts.{refusal-unchanged}
 use Rattle.model.proofs.Demand.{all-between}
 use Rattle.model.proofs.Entries.{start-makes, column-refused}
@@ -31,7 +31,7 @@ use Rattle.memory.specs.Arranged.{Sound}
 use Rattle.run.specs.declared.Ran.{Ran}
 use Rattle.snapshot.proofs.Rolled.{roll-fits}
 use Rattle.store.specs.declared.Rolled.{Rolled}
-use Rattle.store.specs.Entries.{startNumber, StartLeaves, Starts, columnRefused, ColumnNumbered, columnWords, partPlace, ColumnPart, ranOf, RunLeaves, Runs, Rolls}
+use Rattle.store.specs.Entries.{startNumber, StartLeaves, StartsWith, columnRefused, ColumnNumbered, columnWords, partPlace, ColumnPart, ranOf, RunLeaves, Runs, Rolls}
 use Rattle.store.specs.Course.{before, commandOn, Course, ended, stopped, refused, done, AfterEach, BeforeEach, EachDone, EachAnswer, EachRefusal, Reached, started, ran, retiredIn}
 use Rattle.store.proofs.Starting.{start-number}
 use Rattle.store.proofs.Tables.{tabled, judged, start-tabled}
@@ -44,8 +44,8 @@ use Rattle.words.proofs.Decides.{decides-same}
 -- ---- Demand 1: "A refusal comes when its line holds and no line above does, else never". Each entry's number is that of the first line of its table
 -- that holds, and 0 where none does; run, column and roll give 3 exactly where the store is not sound.
 
-pub start-refusals : (n k : ℕ) (w w′ : List ℕ) (r : ℕ) → Starts n k w w′ r → Tabled startLines (record { capacity = n; kindCapacity = k; words = length w }) r
-start-refusals n k w w′ r S = tabled startLines (record { capacity = n; kindCapacity = k; words = length w }) 1 2 (omega arith) (omega arith) r (S .number ∙ start-tabled n k (length w))
+pub start-refusals : (c : Settings) (w w′ : List ℕ) (r : ℕ) → StartsWith c w w′ r → Tabled startLines (startTold c (length w)) r
+start-refusals c w w′ r S = tabled startLines (startTold c (length w)) 1 2 (omega arith) (omega arith) r (S .number ∙ start-tabled c (length w))
 
 pub column-refusals : (w : List ℕ) (k a e r : ℕ) → ColumnNumbered w k a e r → Judged w columnLines (record { kind = k; start = a; end = e; store = meaning w }) r
 unfolding columnRefusal
@@ -154,8 +154,8 @@ refused-command-keeps w w′ t o o′ r R S = refusals-in (run-course w w′ t o
 
 -- "1 to 3, and every refusal outside a run, change no lent memory, with zeros beside the number."
 
-pub refused-start-changes-nothing : (n k : ℕ) (w w′ : List ℕ) (r : ℕ) → Starts n k w w′ r → 1 ≤ r → w′ ≡ w
-refused-start-changes-nothing n k w w′ r S h = go (start n k (length w)) (S .number) (S .leaves)
+pub refused-start-changes-nothing : (c : Settings) (w w′ : List ℕ) (r : ℕ) → StartsWith c w w′ r → 1 ≤ r → w′ ≡ w
+refused-start-changes-nothing c w w′ r S h = go (startWith c (length w)) (S .number) (S .leaves)
   where
     go : (x : Started) → r ≡ startNumber x → StartLeaves w w′ x → w′ ≡ w
     go (refusesStart m) e l = l
@@ -209,15 +209,15 @@ run-keeps-sound w w′ t o o′ r R S = go (R .sound) (R .decides) (R .leaves)
     go true d l = l .0
 
 -- the empty store
-pub started-empty : (n k : ℕ) (w w′ : List ℕ) → Starts n k w w′ 0 → Sound w′ × (meaning w′ ≡ empty n k)
-started-empty n k w w′ S = go (start n k (length w)) refl (S .number) (S .leaves)
+pub started-empty : (c : Settings) (w w′ : List ℕ) → StartsWith c w w′ 0 → Sound w′ × (meaning w′ ≡ emptyWith c)
+started-empty c w w′ S = go (startWith c (length w)) refl (S .number) (S .leaves)
   where
-    go : (x : Started) → start n k (length w) ≡ x → 0 ≡ startNumber x → StartLeaves w w′ x → Sound w′ × (meaning w′ ≡ empty n k)
-    go (refusesStart m) p e l = absurd (omega (arith, e, start-number n k (length w) m p .0))
-    go (makes s) p e l = (l .0, l .1 ∙ start-makes n k (length w) s p .store)
+    go : (x : Started) → startWith c (length w) ≡ x → 0 ≡ startNumber x → StartLeaves w w′ x → Sound w′ × (meaning w′ ≡ emptyWith c)
+    go (refusesStart m) p e l = absurd (omega (arith, e, start-number c (length w) m p .0))
+    go (makes s) p e l = (l .0, l .1 ∙ start-makes c (length w) s p .store)
 
 pub reached-sound : {w : List ℕ} → Reached w → Sound w
-reached-sound (started {n} {k} {w} {w′} S) = started-empty n k w w′ S .0
+reached-sound (started {c} {w} {w′} S) = started-empty c w w′ S .0
 reached-sound (ran {w} {w′} {t} {o} {o′} {r} c R) = run-keeps-sound w w′ t o o′ r R (reached-sound c)
 
 -- ---- Demand 3: after each command each group's count is the number of live entities holding all its kinds, and the first that many places of each of
@@ -272,8 +272,8 @@ reached-rolls-equal {w} {v} o p o′ p′ r q c d h k R Q = rolls-equal w v o p 
 -- ---- "From an empty store, numbers issued = live + waiting + retired; retired counts past destructions at the last version": after any runs
 
 pub issued-reached : {w : List ℕ} (c : Reached w) → Balanced (meaning w .entities) (retiredIn c)
-unfolding empty
-issued-reached (started {n} {k} {w} {w′} S) = subst (λ (s : Store). Balanced (s .entities) 0) (sym (started-empty n k w w′ S .1)) refl
+unfolding emptyWith
+issued-reached (started {c} {w} {w′} S) = subst (λ (s : Store). Balanced (s .entities) 0) (sym (started-empty c w w′ S .1)) refl
 issued-reached (ran {w} {w′} {t} {o} {o′} {r} c R) = go (R .sound) (R .decides) (R .means) (issued-reached c)
   where
     go : (b : Bool) → Decides b (Sound w) → meaning w′ ≡ ranOf b t (length o) (meaning w) .store → Balanced (meaning w .entities) (retiredIn c)

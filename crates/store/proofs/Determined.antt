@@ -10,9 +10,9 @@ use native.Mathlib.Omega.{arith}
 use lib.ListN.{length, take, drop}
 use lib.Seq.{take-at}
 use denote.Ref.{RefT}
-use Rattle.model.specs.Store.{Store}
+use Rattle.model.specs.Store.{Settings, Store}
 use Rattle.model.specs.Refusals.{numberOf}
-use Rattle.model.specs.Entries.{Started, refusesStart, makes, start, columnRefusal, Emitted, roll}
+use Rattle.model.specs.Entries.{Started, refusesStart, makes, startWith, columnRefusal, Emitted, roll}
 use Rattle.model.specs.Sound.{Limits}
 use Rattle.model.proofs.Entries.{column-accepted}
 use Rattle.model.proofs.Emitting.{emits-determined}
@@ -24,7 +24,7 @@ use Rattle.memory.specs.Arranged.{Sound}
 use Rattle.run.specs.declared.Ran.{Ran}
 use Rattle.store.specs.declared.Rolled.{Rolled}
 use Rattle.store.specs.declared.Reply.{Reply}
-use Rattle.store.specs.Entries.{Needs, startNumber, StartLeaves, Starts, columnRefused, ColumnNumbered, columnWords, partPlace, ColumnPart, ranOf, Answered, RunLeaves, Runs, emittedOver, EmitsOver, Rolls}
+use Rattle.store.specs.Entries.{Needs, startNumber, StartLeaves, StartsWith, columnRefused, ColumnNumbered, columnWords, partPlace, ColumnPart, ranOf, Answered, RunLeaves, Runs, emittedOver, EmitsOver, Rolls}
 use Rattle.store.specs.Linked.{ColumnPlaced, copyTold, copied, ColumnCopied}
 use Rattle.columns.proofs.Columns.{row-alike}
 use Rattle.store.proofs.Starting.{start-number}
@@ -42,16 +42,16 @@ pub needs-determined : (n k r q : ℕ) (b : Bool) → Decides b (Limits n k) →
 needs-determined n k r q true d R Q = R .within d ∙ sym (Q .within d)
 needs-determined n k r q false d R Q = R .outside d ∙ sym (Q .outside d)
 
--- ---- start: over as many words the same number, whatever they held; and where it is 0, the same store
+-- ---- start, under either rule: over as many words the same number, whatever they held; and where it is 0, the same store
 
-pub start-determined : (n k : ℕ) (w v w′ v′ : List ℕ) (r q : ℕ) → length w ≡ length v → Starts n k w w′ r → Starts n k v v′ q → SameStart w v w′ v′ r q
-start-determined n k w v w′ v′ r q e R Q =
-    let f : start n k (length v) ≡ start n k (length w) = ap (start n k) (sym e) in
-    go (start n k (length w)) refl (R .number) (rw f at (Q .number)) (R .leaves) (rw f at (Q .leaves))
+pub start-determined : (c : Settings) (w v w′ v′ : List ℕ) (r q : ℕ) → length w ≡ length v → StartsWith c w w′ r → StartsWith c v v′ q → SameStart w v w′ v′ r q
+start-determined c w v w′ v′ r q e R Q =
+    let f : startWith c (length v) ≡ startWith c (length w) = ap (startWith c) (sym e) in
+    go (startWith c (length w)) refl (R .number) (rw f at (Q .number)) (R .leaves) (rw f at (Q .leaves))
   where
-    go : (x : Started) → start n k (length w) ≡ x → r ≡ startNumber x → q ≡ startNumber x → StartLeaves w w′ x → StartLeaves v v′ x → SameStart w v w′ v′ r q
+    go : (x : Started) → startWith c (length w) ≡ x → r ≡ startNumber x → q ≡ startNumber x → StartLeaves w w′ x → StartLeaves v v′ x → SameStart w v w′ v′ r q
     go (refusesStart m) p a b l o =
-        record { number = a ∙ sym b; made = λ z. absurd (omega (arith, a, z, start-number n k (length w) m p .0)); refused = λ h. (l, o) }
+        record { number = a ∙ sym b; made = λ z. absurd (omega (arith, a, z, start-number c (length w) m p .0)); refused = λ h. (l, o) }
     go (makes s) p a b l o = record { number = a ∙ sym b; made = λ z. l .1 ∙ sym (o .1); refused = λ h. absurd (omega (arith, a, h)) }
 
 -- ---- column

@@ -9,9 +9,11 @@ pub mod Courses
 pub mod Determined
 pub mod Demands
 pub mod Exported
+pub mod Unsound
 pub mod Pieces
 pub mod Ranging
 pub mod Grouping
 pub mod Built
 pub mod Traying
 pub mod Calling
+pub mod Ruling

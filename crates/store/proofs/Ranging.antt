@@ -30,7 +30,8 @@ use Rattle.model.proofs.Entries.{column-accepted}
 use Rattle.model.proofs.Lengths.{run-fits}
 use Rattle.model.proofs.Lines.{first-exact}
 use Rattle.model.proofs.Outcomes.{range-does}
-use Rattle.model.proofs.Ranges.{range-answer, range-stays, rows-hold}
+use Rattle.model.proofs.Ranges.{rows-hold}
+use Rattle.model.proofs.Rules.{range-answer, range-stays}
 use Rattle.model.proofs.Sound.{bytes-take, run-keeps}
 use Rattle.words.specs.Decides.{Decides}
 use Rattle.words.proofs.Decides.{decides-same}
@@ -181,7 +182,7 @@ module _ (w w′ t o o′ : List ℕ) (r : Ran) (S : Sound w) (R : Runs w w′ (
           store = means;
           answer =
               rw told
-              (range-stays (stagedKinds s₁) (s₁ .control .excluded) s₁ (meaning w′) ten (sym (λ i. means i .storage)) (sym (λ i. means i .entities .live)) answers);
+              (range-stays (stagedKinds s₁) (s₁ .control .excluded) s₁ (meaning w′) ten (sym (λ i. means i .settings)) (sym (λ i. means i .storage)) (sym (λ i. means i .entities .live)) answers);
           known = λ k i. subst (λ (y : Store). In (y .kinds) k) (sym means) (sound-before .staged .known k i);
         }
 
@@ -200,7 +201,7 @@ hold-at rows (x ∷ es) (y ∷ vs) H (suc i) h = hold-at rows es vs (tail-eq-of-
 
 -- ---- the columns of a kind in a range that shows
 
-module _ (v : RefT (List ℕ)) (S : Sound (v .now)) (h b : List ℕ) (k a e : ℕ) (i : In h k) (known : In (meaning (v .now) .kinds) k) (W : Showing (meaning (v .now) .storage .sets) (meaning (v .now) .entities .live) h b a e) where
+module _ (v : RefT (List ℕ)) (S : Sound (v .now)) (h b : List ℕ) (k a e : ℕ) (i : In h k) (known : In (meaning (v .now) .kinds) k) (W : Showing (meaning (v .now) .settings .newer) (meaning (v .now) .storage .sets) (meaning (v .now) .entities .live) h b a e) where
   abbrev s : Store
   s = meaning (v .now)
 
@@ -261,7 +262,7 @@ module _ (v : RefT (List ℕ)) (S : Sound (v .now)) (h b bytes : List ℕ) (A : 
   abbrev left : Store
   left = meaning (v .now)
 
-  shows : Showing (left .storage .sets) (left .entities .live) h b a e
+  shows : Showing (left .settings .newer) (left .storage .sets) (left .entities .live) h b a e
   shows = A .shows f
 
   -- it is accepted, its entities are those at these places, and its values are those that these entities hold

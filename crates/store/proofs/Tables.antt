@@ -5,9 +5,9 @@ use mathlib.Core.Option.{Option, some, none}
 use mathlib.Core.List.{List}
 use Prim.Native.Nat.{suc, _<_, _≤_, ℕ}
 use native.Mathlib.Omega.{arith}
-use Rattle.model.specs.Store.{Store, empty}
+use Rattle.model.specs.Store.{Settings, Store, emptyWith}
 use Rattle.model.specs.Refusals.{Line, firstLine, numberOf, startLines, otherLines}
-use Rattle.model.specs.Entries.{startedBy, start}
+use Rattle.model.specs.Entries.{startedBy, startTold, startWith}
 use Rattle.model.proofs.Lines.{first-exact, none-exact, NumbersIn, first-number}
 use Rattle.model.specs.Numbers.{UNSOUND}
 use Rattle.words.specs.Decides.{Decides}
@@ -50,6 +50,6 @@ start-by : (o : Option ℕ) (s : Store) → startNumber (startedBy o s) ≡ numb
 start-by (some n) s = refl
 start-by none s = refl
 
-pub start-tabled : (n k words : ℕ) → startNumber (start n k words) ≡ numberOf (firstLine startLines (record { capacity = n; kindCapacity = k; words = words }))
-unfolding start
-start-tabled n k words = start-by (firstLine startLines (record { capacity = n; kindCapacity = k; words = words })) (empty n k)
+pub start-tabled : (c : Settings) (words : ℕ) → startNumber (startWith c words) ≡ numberOf (firstLine startLines (startTold c words))
+unfolding startWith
+start-tabled c words = start-by (firstLine startLines (startTold c words)) (emptyWith c)

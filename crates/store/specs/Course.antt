@@ -3,7 +3,7 @@
 use mathlib.Core.List.{List, [], _∷_, _++_}
 use Prim.Native.Nat.{ℕ, suc, _+_, _-_}
 use lib.ListN.{length, take, drop}
-use Rattle.model.specs.Store.{counted, withControl}
+use Rattle.model.specs.Store.{Settings, counted, withControl}
 use Rattle.model.specs.Commands.{Command, width, commandAt, accepted}
 use Rattle.model.specs.Refusals.{NoneHolds, First, BeforeCommand, beforeLines, linesOf}
 use Rattle.model.specs.Run as modelRun
@@ -11,7 +11,7 @@ use Rattle.model.specs.History.{retired, refusedBy, refusedAll, calls}
 use Rattle.memory.specs.Meaning.{meaning, withRefusal}
 use Rattle.memory.specs.Arranged.{Sound, Becomes}
 use Rattle.run.specs.declared.Ran.{Ran}
-use Rattle.store.specs.Entries.{Starts, Runs}
+use Rattle.store.specs.Entries.{StartsWith, Runs}
 
 -- what the lines before a command are told: its byte, the tape after it, the free answer bytes, and the store that the words mean
 abbrev pub before : List ℕ → ℕ → List ℕ → ℕ → BeforeCommand
@@ -75,10 +75,15 @@ EachRefusal P (stopped f) = Unit {0}
 EachRefusal P (refused w h f m s c) = P w (withRefusal w) × EachRefusal P c
 EachRefusal P (done w w₁ h n m s c) = EachRefusal P c
 
--- the words that an accepted start and then any runs leave
+-- the words that an accepted start, under either rule, and then any runs leave
 pub data Reached : List ℕ → Type 0 where
-  started : {n k : ℕ} {w w′ : List ℕ} → Starts n k w w′ 0 → Reached w′
+  started : {c : Settings} {w w′ : List ℕ} → StartsWith c w w′ 0 → Reached w′
   ran : {w w′ t o o′ : List ℕ} {r : Ran} → Reached w → Runs w w′ t o o′ r → Reached w′
+
+-- what that start was told
+abbrev pub settingsIn : {w : List ℕ} → Reached w → Settings
+settingsIn (started {c} S) = c
+settingsIn (ran d R) = settingsIn d
 
 -- the numbers retired on the way: "retired counts past destructions at the last version"
 abbrev pub retiredIn : {w : List ℕ} → Reached w → ℕ

@@ -6,10 +6,10 @@ use mathlib.Core.List.{List, [], _++_}
 use Prim.Native.Nat.{ℕ}
 use lib.ListN.{length, drop}
 use denote.Ref.{RefT}
-use Rattle.model.specs.Store.{Store, Bytes, wordsNeeded}
+use Rattle.model.specs.Store.{Settings, Store, older, Bytes, wordsNeeded}
 use Rattle.model.specs.Refusals.{numberOf, firstLine, otherLines}
 use Rattle.model.specs.Run.{halt, run}
-use Rattle.model.specs.Entries.{Started, refusesStart, makes, start, columnRefusal, column, roll, Emitted, refusesEmit, Emits}
+use Rattle.model.specs.Entries.{Started, refusesStart, makes, startWith, columnRefusal, column, roll, Emitted, refusesEmit, Emits}
 use Rattle.model.specs.Sound.{Limits}
 use Rattle.words.specs.Decides.{Decides}
 use Rattle.memory.specs.Meaning.{meaning}
@@ -40,13 +40,17 @@ abbrev pub StartLeaves : List ℕ → List ℕ → Started → Type 0
 StartLeaves w w′ (refusesStart m) = w′ ≡ w
 StartLeaves w w′ (makes s) = Sound w′ × (meaning w′ ≡ s)
 
--- told n and k over the words w, which it leaves as w′, with number r
-pub record Starts (n k : ℕ) (w w′ : List ℕ) (r : ℕ) : Type 0 where
-  pub number : r ≡ startNumber (start n k (length w))
-  pub leaves : StartLeaves w w′ (start n k (length w))
+-- told the settings c over the words w, which it leaves as w′, with number r
+pub record StartsWith (c : Settings) (w w′ : List ℕ) (r : ℕ) : Type 0 where
+  pub number : r ≡ startNumber (startWith c (length w))
+  pub leaves : StartLeaves w w′ (startWith c (length w))
   pub size : length w′ ≡ length w
   -- "Words past the needed ones never change."
-  pub past : drop (wordsNeeded n k) w′ ≡ drop (wordsNeeded n k) w
+  pub past : drop (wordsNeeded (c .capacity) (c .kindCapacity)) w′ ≡ drop (wordsNeeded (c .capacity) (c .kindCapacity)) w
+
+-- 01's *start*, told N and K
+abbrev pub Starts : ℕ → ℕ → List ℕ → List ℕ → ℕ → Type 0
+Starts n k w w′ r = StartsWith (older n k) w w′ r
 
 -- ---- column
 

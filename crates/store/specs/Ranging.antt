@@ -48,6 +48,6 @@ pub record RowOf (s : Store) (x : Entity) (k i : ℕ) (entities values : List �
 -- rows i of the parts of kinds j and k are of one entity, which hand h and bar b describe
 pub record OneEntity (s : Store) (h b : List ℕ) (j k i : ℕ) (entities values entities′ values′ : List ℕ) : Type 0 where
   pub entity : Entity
-  pub among : 1 ≤ cnt entity (described h b (s .storage .sets) (s .entities .live))
+  pub among : 1 ≤ cnt entity (described (s .settings .newer) h b (s .storage .sets) (s .entities .live))
   pub first : RowOf s entity j i entities values
   pub second : RowOf s entity k i entities′ values′

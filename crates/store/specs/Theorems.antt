@@ -1,21 +1,26 @@
 -- What the theorems on the entries say of an answer: by its table, of two answers to the same call, of a store that is reached. Assumes nothing.
 use mathlib.Core.Path.{_≡_}
 use mathlib.Core.Logic.{_≢_, _↔_}
-use mathlib.Core.List.{List}
+use mathlib.Core.Bool.{Bool}
+use mathlib.Core.List.{List, []}
 use Prim.Native.Nat.{ℕ, suc, _+_, _≤_, _<_}
 use Rattle.model.specs.Refusals.{Line, NoneHolds, First, Unchanged}
 use Rattle.memory.specs.Arranged.{Sound}
+use mir.Val.{boolByte}
 use lib.ListN.{length, getD, take}
-use Rattle.memory.specs.Header.{callerOf, refusalsAt}
+use Rattle.memory.specs.Header.{callerOf, refusalsAt, ruleOf}
 use Rattle.memory.specs.Meaning.{meaning}
 use Rattle.run.specs.declared.Ran.{Ran}
 use Rattle.store.specs.declared.Rolled.{Rolled}
 use Rattle.store.specs.declared.Reply.{Reply}
-use Rattle.model.specs.Store.{Store, oneMore, counted}
+use Rattle.model.specs.Store.{Settings, Store, oneMore, counted}
 use Rattle.model.specs.Sound.{GroupsRight, GroupsBetween}
 use Rattle.model.specs.Numbers.{CALLERS, LAST-CALLER, MAX-REFUSALS, UNSOUND}
 use Rattle.model.specs.Theorems.{recounted, ButCallers}
 use Rattle.words.specs.Offsets.{REFUSALS}
+use denote.Ref.{RefT}
+use Rattle.store.specs.Entries.{ColumnNumbered, ColumnPart, Runs, Rolls}
+use Rattle.store.specs.Linked.{ColumnPlaced, ColumnCopied}
 
 -- r is the number of the first line that holds, 0 where none does
 pub record Tabled {A : Type 0} (ls : List (Line A)) (x : A) (r : ℕ) : Type 0 where
@@ -26,6 +31,15 @@ pub record Tabled {A : Type 0} (ls : List (Line A)) (x : A) (r : ℕ) : Type 0 w
 pub record Judged {A : Type 0} (w : List ℕ) (ls : List (Line A)) (x : A) (r : ℕ) : Type 0 where
   pub unsound : (r ≡ UNSOUND) ↔ (Sound w → ⊥)
   pub sound : Sound w → Tabled ls x r
+
+-- words that are no sound store, at every entry: 3, place 0, and "A refused column is the empty part at the front"
+pub record UnsoundAt (w : List ℕ) : Type 0 where
+  pub run : (w′ t o o′ : List ℕ) (r : Ran) → Runs w w′ t o o′ r → r .stop ≡ UNSOUND
+  pub roll : (o o′ : List ℕ) (r : Rolled) → Rolls w o o′ r → r .number ≡ UNSOUND
+  pub column : (k a e r : ℕ) → ColumnNumbered w k a e r → r ≡ UNSOUND
+  pub place : (values : Bool) (k a e r : ℕ) → ColumnPlaced w values k a e r → r ≡ 0
+  pub copy : (o o′ : List ℕ) (values : Bool) (k a e : ℕ) (r : Reply) → ColumnCopied w o o′ values k a e r → r .number ≡ UNSOUND
+  pub part : (v r : RefT (List ℕ)) (values : Bool) (k a e n : ℕ) → v .now ≡ w → ColumnPart v r values k a e → ColumnNumbered (v .now) k a e n → (r .now ≡ []) × (r .ptr ≡ v .ptr)
 
 -- what a refused command inside a run leaves: all that the words mean is as it was, but for the caller's count of refusals, which is counted up
 pub record RefusalAlone (s t : Store) : Type 0 where
@@ -120,3 +134,8 @@ pub record LeftInWords (s : Store) (w : List ℕ) (r : Ran) : Type 0 where
   pub stop : r .stop ≡ 0
   pub sound : Sound w
   pub means : meaning w ≡ s
+
+-- 02, No. 8: "told by a bool and fixed for its life": the words w mean a store of these settings, and the rule's word says its rule
+pub record Ruled (c : Settings) (w : List ℕ) : Type 0 where
+  pub settings : meaning w .settings ≡ c
+  pub word : ruleOf w ≡ boolByte (c .newer)

@@ -3,7 +3,8 @@
 use crate::Reply;
 use crate::Rolled;
 use model::refusals::NOROOM;
-ghost use Rattle.store.specs.Entries.{Needs, Starts, Runs, ColumnNumbered, Rolls};
+ghost use Rattle.model.specs.Store.{told};
+ghost use Rattle.store.specs.Entries.{Needs, Starts, StartsWith, Runs, ColumnNumbered, Rolls};
 ghost use Rattle.store.specs.Linked.{asRan, ColumnPlaced, ColumnCopied};
 
 // What run answers, with C's layout.
@@ -27,6 +28,13 @@ pub extern "C" fn yirbarn_start(words: &mut [u32], n: usize, k: usize) -> u8
     ensures { λ r. ⌜ Starts n k (now (words .entry)) (now (words .exit)) r ⌝ }
 {
     crate::start(words, n, k)
+}
+
+#[no_mangle]
+pub extern "C" fn yirbarn_start_with(words: &mut [u32], n: usize, k: usize, newer: bool) -> u8
+    ensures { λ r. ⌜ StartsWith (told n k newer) (now (words .entry)) (now (words .exit)) r ⌝ }
+{
+    crate::start_with(words, n, k, newer)
 }
 
 #[no_mangle]

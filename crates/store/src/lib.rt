@@ -1,4 +1,4 @@
-// The public entries of document 01: *start*, *run*, *column* and its number, *roll*. None asks anything of its caller.
+// The public entries of document 01: *start*, *run*, *column* and its number, *roll*; and *start_with* of 02. None asks anything of its caller.
 pub mod exports;
 
 use memory::empty;
@@ -8,7 +8,8 @@ use model::refusals::SHORT;
 use model::refusals::SIZE;
 use model::refusals::UNSOUND;
 use run::Ran;
-ghost use Rattle.store.specs.Entries.{Needs, Starts, Runs, ColumnNumbered, ColumnPart, Rolls};
+ghost use Rattle.model.specs.Store.{told};
+ghost use Rattle.store.specs.Entries.{Needs, Starts, StartsWith, Runs, ColumnNumbered, ColumnPart, Rolls};
 
 // What roll answers: 0 and how many bytes, or the number of a refusal and 0.
 #[repr(C)]
@@ -34,9 +35,16 @@ pub fn words_needed(n: usize, k: usize) -> usize
     model::words_needed(n, k)
 }
 
-// An empty store of n entities and k kinds, whatever the words held.
+// An empty store of n entities and k kinds under the older rule, whatever the words held.
 pub fn start(words: &mut [u32], n: usize, k: usize) -> u8
     ensures { λ r. ⌜ Starts n k (now (words .entry)) (now (words .exit)) r ⌝ }
+{
+    start_with(words, n, k, false)
+}
+
+// 02, No. 8: under the rule that is told.
+pub fn start_with(words: &mut [u32], n: usize, k: usize, newer: bool) -> u8
+    ensures { λ r. ⌜ StartsWith (told n k newer) (now (words .entry)) (now (words .exit)) r ⌝ }
 {
     if !within_limits(n, k) {
         return SIZE;
@@ -44,7 +52,7 @@ pub fn start(words: &mut [u32], n: usize, k: usize) -> u8
     if words.len() < model::words_needed(n, k) {
         return SHORT;
     }
-    empty::make(words, n, k);
+    empty::make(words, n, k, newer);
     0
 }
 

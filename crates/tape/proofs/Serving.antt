@@ -10,7 +10,7 @@ use lib.Seq.{sets, length-take-le}
 use Rattle.model.specs.Store.{Store, bytesOf, empty, wordsNeeded}
 use Rattle.model.specs.Run.{run}
 use Rattle.model.specs.Examples.{sample, answer, stream-example}
-use Rattle.model.specs.Entries.{makes, start}
+use Rattle.model.specs.Entries.{makes, startWith, start}
 use Rattle.model.proofs.Lengths.{run-fits}
 use Rattle.model.proofs.ListLaws.{sets-join, front-sets, front-back}
 use Rattle.memory.specs.Meaning.{meaning}
@@ -24,7 +24,7 @@ use Rattle.tape.specs.Output.{numbers, ranOn, output, Served}
 
 -- 5,184 words are enough for 64 entities and 8 kinds
 started : start 64 8 5184 ≡ makes (empty 64 8)
-unfolding start wordsNeeded
+unfolding startWith wordsNeeded
 started = refl
 
 pub fresh : (w w′ : List ℕ) (r : ℕ) → Starts 64 8 w w′ r → length w ≡ 5184 → Sound w′ × (meaning w′ ≡ empty 64 8)

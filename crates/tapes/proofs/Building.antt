@@ -11,7 +11,7 @@ use lib.Seq.{set-append-seam}
 use Rattle.model.specs.Numbers.{CALLERS, LAST-CALLER, LAST-KIND, LIST-CAPACITY, MAX-GROUP-ARITY, MAX-GROUP-COUNT, MAX-KINDS, MAX-REFUSALS}
 use Rattle.model.specs.Model.{Entity, Group, Family, Component, mem, kindOf, kindsOf, groupsOf, setLayout, regroup}
 use Rattle.model.specs.Adding.{added, addGroup}
-use Rattle.model.specs.Store.{Counts, Store, empty, noCounts, oneMore, stagedKinds, withControl, withStorage, withKinds, withLayout, withStaged, withExcluded, withDraft, emptyStaged}
+use Rattle.model.specs.Store.{Counts, Settings, Store, emptyWith, noCounts, oneMore, stagedKinds, withControl, withStorage, withKinds, withLayout, withStaged, withExcluded, withDraft, emptyStaged}
 use Rattle.model.specs.Commands.{Command, REG, GROUP, APPLY, BAR, SETCALLER, accepted}
 use Rattle.model.specs.Refusals.{unknownKind}
 use Rattle.model.specs.Run.{Outcome, storeAfter}
@@ -219,12 +219,12 @@ apply-after s none uncounted =
 
 -- ---- all of them, from the empty store
 
-pub commands-after : (n k : ℕ) (b : Build) → BuildSound k b → afterAll (buildCommands b) (empty n k) ≡ builtStore n k b
-unfolding empty
-commands-after n k b B =
-    let s₀ = recounted (b .counts) (empty n k) in
+pub commands-after : (c : Settings) (b : Build) → BuildSound (c .kindCapacity) b → afterAll (buildCommands b) (emptyWith c) ≡ builtStore c b
+unfolding emptyWith
+commands-after c b B =
+    let s₀ = recounted (b .counts) (emptyWith c) in
     let s₁ = withKinds s₀ (b .kinds) in
-    let s₂ = withStorage s₁ (withLayout (empty n k .storage) (b .layout)) in
+    let s₂ = withStorage s₁ (withLayout (emptyWith c .storage) (b .layout)) in
     let s₃ = onDraft s₂ (b .draft) in
     let s₄ = withControl s₃ (withStaged (s₃ .control) (b .staged)) in
     let barring = map BAR (b .excluded) in
@@ -232,7 +232,7 @@ commands-after n k b B =
     let drafting = familyCommands (b .draft) ++ holding in
     let applying = familyCommands (b .layout) ++ (APPLY ∷ drafting) in
     let small = B .kinds .small in
-    first (countCommands (b .counts)) (map REG (b .kinds) ++ applying) (empty n k) s₀ (counts-after (b .counts) (empty n k) (B .counts) refl)
+    first (countCommands (b .counts)) (map REG (b .kinds) ++ applying) (emptyWith c) s₀ (counts-after (b .counts) (emptyWith c) (B .counts) refl)
     ∙ first (map REG (b .kinds)) applying s₀ s₁ (regs-after (b .kinds) s₀ (B .kinds .once) (B .kinds .few) small)
     ∙ first (familyCommands (b .layout)) (APPLY ∷ drafting) s₁ (onDraft s₁ (b .layout)) (draft-after s₁ small (b .layout) (B .layout))
     ∙ first (APPLY ∷ []) drafting (onDraft s₁ (b .layout)) s₂ (apply-after (onDraft s₁ (b .layout)) refl (B .layout .uncounted))

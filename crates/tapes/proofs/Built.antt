@@ -8,7 +8,7 @@ use native.Mathlib.Omega.{arith}
 use lib.ListN.{length, replicate}
 use Rattle.model.specs.Numbers.{MAX-KINDS}
 use Rattle.model.specs.Model.{Entity, SparseSet, Family, setOf, zeroCount}
-use Rattle.model.specs.Store.{Store, empty}
+use Rattle.model.specs.Store.{Settings, Store, emptyWith}
 use Rattle.model.specs.Run.{Ran}
 use Rattle.model.specs.Sound.{Limits, Uncounted, AllUncounted, RightFrom, AllRight, StoreSound}
 use Rattle.model.proofs.Bounds.{numbers-few, rows-live}
@@ -22,22 +22,22 @@ use Rattle.tapes.proofs.Building.{commands-after, commands-encodable}
 
 -- ---- each is what a tape leaves: that of specs/Built.antt, with room for its answers
 
-pub tape-builds : (n k : ℕ) (b : Build) → BuildSound k b → TapeLeaves n k (buildTape b) (buildRoom n k b) (builtStore n k b)
-tape-builds n k b B =
-    let E = commands-encodable k b B in
+pub tape-builds : (c : Settings) (b : Build) → BuildSound (c .kindCapacity) b → TapeLeaves c (buildTape b) (buildRoom c b) (builtStore c b)
+tape-builds c b B =
+    let E = commands-encodable (c .kindCapacity) b B in
     record {
       bytes = tape-bytes (buildCommands b) E;
-      stop = λ r h. ap (λ (x : Ran). x .stop) (run-commands (buildCommands b) r (empty n k) E h);
-      store = λ r h. ap (λ (x : Ran). x .store) (run-commands (buildCommands b) r (empty n k) E h) ∙ commands-after n k b B;
+      stop = λ r h. ap (λ (x : Ran). x .stop) (run-commands (buildCommands b) r (emptyWith c) E h);
+      store = λ r h. ap (λ (x : Ran). x .store) (run-commands (buildCommands b) r (emptyWith c) E h) ∙ commands-after c b B;
     }
 
-pub every-built : (n k : ℕ) (b : Build) → BuildSound k b → LeftBy n k (builtStore n k b)
-every-built n k b B = record { tape = buildTape b; room = buildRoom n k b; leaves = tape-builds n k b B }
+pub every-built : (c : Settings) (b : Build) → BuildSound (c .kindCapacity) b → LeftBy c (builtStore c b)
+every-built c b B = record { tape = buildTape b; room = buildRoom c b; leaves = tape-builds c b B }
 
 -- ---- what a tape leaves is such
 
-pub left-sound : (n k : ℕ) (s : Store) → Limits n k → LeftBy n k s → StoreSound s
-left-sound n k s L T = subst StoreSound (T .leaves .store (T .room) (omega arith)) (run-sound (T .tape) (T .room) n k (T .leaves .bytes) L)
+pub left-sound : (c : Settings) (s : Store) → Limits (c .capacity) (c .kindCapacity) → LeftBy c s → StoreSound s
+left-sound c s L T = subst StoreSound (T .leaves .store (T .room) (omega arith)) (run-sound (T .tape) (T .room) c (T .leaves .bytes) L)
 
 -- with no entity live, groups that are right count nothing
 right-uncounted : (sets : List SparseSet) (acc : List ℕ) (f : Family) → RightFrom sets [] acc f → Uncounted f
@@ -48,12 +48,12 @@ all-uncounted : (sets : List SparseSet) (fs : List Family) → AllRight sets [] 
 all-uncounted sets [] R = tt
 all-uncounted sets (f ∷ fs) R = (right-uncounted sets [] f (R .0), all-uncounted sets fs (R .1))
 
-sound-build : (n k : ℕ) (b : Build) → StoreSound (builtStore n k b) → BuildSound k b
-unfolding empty
-sound-build n k b S =
+sound-build : (c : Settings) (b : Build) → StoreSound (builtStore c b) → BuildSound (c .kindCapacity) b
+unfolding emptyWith
+sound-build c b S =
     record {
       kinds = S .kinds;
-      layout = record { buildable = S .layout; uncounted = all-uncounted (builtStore n k b .storage .sets) (b .layout) (S .groups) };
+      layout = record { buildable = S .layout; uncounted = all-uncounted (builtStore c b .storage .sets) (b .layout) (S .groups) };
       draft = record { buildable = S .draft; uncounted = S .uncounted };
       staged = S .staged;
       excluded = S .excluded;
@@ -61,8 +61,8 @@ sound-build n k b S =
     }
 
 -- both ways
-pub built-exactly : (n k : ℕ) (b : Build) → Limits n k → BuildSound k b ↔ LeftBy n k (builtStore n k b)
-built-exactly n k b L = (every-built n k b, λ T. sound-build n k b (left-sound n k (builtStore n k b) L T))
+pub built-exactly : (c : Settings) (b : Build) → Limits (c .capacity) (c .kindCapacity) → BuildSound (c .kindCapacity) b ↔ LeftBy c (builtStore c b)
+built-exactly c b L = (every-built c b, λ T. sound-build c b (left-sound c (builtStore c b) L T))
 
 -- ---- the parts of every sound store
 
@@ -88,8 +88,8 @@ module _ (s : Store) (S : StoreSound s) where
       }
 
   -- its kinds, hand, bar, draft, caller, tallies and its layout but for the counts are what some tape leaves
-  pub own-built : LeftBy (s .settings .capacity) (s .settings .kindCapacity) (builtStore (s .settings .capacity) (s .settings .kindCapacity) (buildOf s))
-  own-built = every-built (s .settings .capacity) (s .settings .kindCapacity) (buildOf s) own-sound
+  pub own-built : LeftBy (s .settings) (builtStore (s .settings) (buildOf s))
+  own-built = every-built (s .settings) (buildOf s) own-sound
 
 -- ---- sound stores in which no number is issued: they are what tapes leave, the whole store
 
@@ -112,8 +112,8 @@ module _ (s : Store) (S : StoreSound s) (none : s .entities .issued ≡ 0) where
   layout-zeroed : map (map zeroCount) (s .storage .layout) ≡ s .storage .layout
   layout-zeroed = zeroed-families (s .storage .layout) (all-uncounted (s .storage .sets) (s .storage .layout) (subst (λ (l : List Entity). AllRight (s .storage .sets) l (s .storage .layout)) no-live (S .groups)))
 
-  pub own-whole : builtStore (s .settings .capacity) (s .settings .kindCapacity) (buildOf s) ≡ s
-  unfolding empty
+  pub own-whole : builtStore (s .settings) (buildOf s) ≡ s
+  unfolding emptyWith
   own-whole = λ i. record {
     settings = s .settings;
     kinds = s .kinds;
@@ -122,8 +122,8 @@ module _ (s : Store) (S : StoreSound s) (none : s .entities .issued ≡ 0) where
     control = s .control;
   }
 
-pub sound-exactly : (s : Store) → Limits (s .settings .capacity) (s .settings .kindCapacity) → s .entities .issued ≡ 0 → StoreSound s ↔ LeftBy (s .settings .capacity) (s .settings .kindCapacity) s
+pub sound-exactly : (s : Store) → Limits (s .settings .capacity) (s .settings .kindCapacity) → s .entities .issued ≡ 0 → StoreSound s ↔ LeftBy (s .settings) s
 sound-exactly s L none = (
-  (λ S. subst (LeftBy (s .settings .capacity) (s .settings .kindCapacity)) (own-whole s S none) (own-built s S)),
-  left-sound (s .settings .capacity) (s .settings .kindCapacity) s L,
+  (λ S. subst (LeftBy (s .settings)) (own-whole s S none) (own-built s S)),
+  left-sound (s .settings) s L,
 )

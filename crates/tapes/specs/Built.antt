@@ -6,7 +6,7 @@ use Prim.Native.Nat.{ℕ, suc, _≤_}
 use lib.ListN.{replicate}
 use Rattle.model.specs.Numbers.{LAST-KIND}
 use Rattle.model.specs.Model.{Family, Component, zeroCount}
-use Rattle.model.specs.Store.{Counts, Store, Bytes, empty, withControl, withStorage, withKinds, withLayout}
+use Rattle.model.specs.Store.{Counts, Settings, Store, Bytes, emptyWith, withControl, withStorage, withKinds, withLayout}
 use Rattle.model.specs.Commands.{Command, REG, HOLD, GROUP, APPLY, BAR, SETCALLER}
 use Rattle.model.specs.Run.{run}
 use Rattle.model.specs.Sound.{KindsSound, StagedSound, ExcludedSound, CountsSound}
@@ -25,9 +25,9 @@ pub record Build : Type 0 where
   pub counts : Counts
 
 -- the empty store with these in it: no number is issued
-abbrev pub builtStore : ℕ → ℕ → Build → Store
-builtStore n k b =
-    let s = empty n k in
+abbrev pub builtStore : Settings → Build → Store
+builtStore c b =
+    let s = emptyWith c in
     withControl (withStorage (withKinds s (b .kinds)) (withLayout (s .storage) (b .layout)))
     (record { staged = b .staged; excluded = b .excluded; draft = b .draft; counts = b .counts })
 
@@ -55,16 +55,16 @@ buildOf s =
 -- ---- what a tape leaves
 
 -- every run of it from the empty store that has the room, or more, goes to the tape's end and leaves s
-pub record TapeLeaves (n k : ℕ) (tape : List ℕ) (room : ℕ) (s : Store) : Type 0 where
+pub record TapeLeaves (c : Settings) (tape : List ℕ) (room : ℕ) (s : Store) : Type 0 where
   pub bytes : Bytes tape
-  pub stop : (r : ℕ) → room ≤ r → run tape r (empty n k) .stop ≡ 0
-  pub store : (r : ℕ) → room ≤ r → run tape r (empty n k) .store ≡ s
+  pub stop : (r : ℕ) → room ≤ r → run tape r (emptyWith c) .stop ≡ 0
+  pub store : (r : ℕ) → room ≤ r → run tape r (emptyWith c) .store ≡ s
 
 -- some tape leaves s
-pub record LeftBy (n k : ℕ) (s : Store) : Type 0 where
+pub record LeftBy (c : Settings) (s : Store) : Type 0 where
   pub tape : List ℕ
   pub room : ℕ
-  pub leaves : TapeLeaves n k tape room s
+  pub leaves : TapeLeaves c tape room s
 
 -- ---- the tape that builds
 
@@ -108,5 +108,5 @@ abbrev pub buildTape : Build → List ℕ
 buildTape b = tapeOf (buildCommands b)
 
 -- the room that its answers take
-abbrev pub buildRoom : ℕ → ℕ → Build → ℕ
-buildRoom n k b = roomFor (buildCommands b) (empty n k)
+abbrev pub buildRoom : Settings → Build → ℕ
+buildRoom c b = roomFor (buildCommands b) (emptyWith c)

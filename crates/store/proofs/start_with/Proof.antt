@@ -1,15 +1,16 @@
 use native.Mathlib.Omega.{arith}
 use lib.ListN.{length}
+use Rattle.model.specs.Store.{told}
 use Rattle.model.specs.Sound.{Limits}
 use Rattle.words.proofs.Decides.{granted, denied}
 use Rattle.store.proofs.Starting.{start-size, start-short, refused-start, made-start}
-use Rattle.store.proofs.start.Statement.{statement}
-use Rattle.store.proofs.start.Tie as tie
+use Rattle.store.proofs.start_with.Statement.{statement}
+use Rattle.store.proofs.start_with.Tie as tie
 
 returns : tie.Need-returns
 returns c =
     let a = c .before .before .before .args in
-    refused-start (a .n) (a .k) 1 (a .words .now) (start-size (a .n) (a .k) (length (a .words .now)) (denied {P = Limits (a .n) (a .k)} (c .before .within-limits .result) (c .before .within-limits .ensures) (c .if1 .taken)))
+    refused-start (told (a .n) (a .k) (a .newer)) 1 (a .words .now) (start-size (told (a .n) (a .k) (a .newer)) (length (a .words .now)) (denied {P = Limits (a .n) (a .k)} (c .before .within-limits .result) (c .before .within-limits .ensures) (c .if1 .taken)))
 
 words-needed-requires : tie.Need-words-needed-requires
 words-needed-requires c κs =
@@ -21,7 +22,7 @@ returns-2 : tie.Need-returns-2
 returns-2 c =
     let a = c .before .before .before .before .before .args in
     let l : Limits (a .n) (a .k) = granted {P = Limits (a .n) (a .k)} (c .before .before .before .within-limits .result) (c .before .before .before .within-limits .ensures) (c .before .before .if1 .left) in
-    refused-start (a .n) (a .k) 2 (a .words .now) (start-short (a .n) (a .k) (length (a .words .now)) l (omega (arith, c .before .words-needed .ensures, c .if2 .taken)))
+    refused-start (told (a .n) (a .k) (a .newer)) 2 (a .words .now) (start-short (told (a .n) (a .k) (a .newer)) (length (a .words .now)) l (omega (arith, c .before .words-needed .ensures, c .if2 .taken)))
 
 make-requires : tie.Need-make-requires
 make-requires c κs =
@@ -33,7 +34,7 @@ returns-3 : tie.Need-returns-3
 returns-3 c =
     let a = c .before .before .before .before .before .before .before .before .before .args in
     let l : Limits (a .n) (a .k) = granted {P = Limits (a .n) (a .k)} (c .before .before .before .before .before .before .before .within-limits .result) (c .before .before .before .before .before .before .before .within-limits .ensures) (c .before .before .before .before .before .before .if1 .left) in
-    made-start (a .n) (a .k) (a .words .now) (c .before .before .make .last .0) l (omega (arith, c .before .before .before .before .before .words-needed .ensures, c .before .before .before .before .if2 .left)) (c .before .before .make .ensures)
+    made-start (told (a .n) (a .k) (a .newer)) (a .words .now) (c .before .before .make .last .0) l (omega (arith, c .before .before .before .before .before .words-needed .ensures, c .before .before .before .before .if2 .left)) (c .before .before .make .ensures)
 
-pub start-spec : {M : Type 1} → statement M
-start-spec = tie.close (tie.spec (λ c κs. tt) returns words-needed-requires returns-2 make-requires (λ c. c .before .before .make .kept .0) returns-3)
+pub start-with-spec : {M : Type 1} → statement M
+start-with-spec = tie.close (tie.spec (λ c κs. tt) returns words-needed-requires returns-2 make-requires (λ c. c .before .before .make .kept .0) returns-3)

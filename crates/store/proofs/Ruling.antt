@@ -1,0 +1,108 @@
+-- 02, No. 8, over the words: "A store may be started under the newer rule, told by a bool and fixed for its life, and a sound one has one of the two
+-- rules"; where the newer finds a range and what it shows. Theorems over the entries' contracts alone (specs/Entries.antt). Assumes nothing.
+use mathlib.Core.Path.{_≡_, refl, ap, _∙_, subst}
+use mathlib.Core.Logic.{_↔_}
+use mathlib.Core.Bool.{Bool, true, false}
+use mathlib.Core.List.{List}
+use Prim.Native.Nat.{ℕ, zero, suc, _≤_, _<_}
+use native.Mathlib.Omega.{arith}
+use mir.Val.{boolByte}
+use lib.Dec.{eqb}
+use lib.ListN.{length}
+use Rattle.model.specs.Store.{Settings, Store, emptyWith}
+use Rattle.model.specs.Run.{run}
+use Rattle.model.specs.Entries.{part}
+use Rattle.model.specs.Sound.{cnt, In, key}
+use Rattle.model.specs.Model.{Entity}
+use Rattle.model.specs.Shown.{AllAndNone, described, ShowsUnder, ShowsNewer, Showing, foundIn, startIn, endIn, RangeAnswer}
+use Rattle.model.proofs.Settings.{accepted-settings, run-settings}
+use Rattle.model.proofs.Rules.{newer-describes, newer-exactly}
+use Rattle.words.specs.Offsets.{NEWER}
+use Rattle.memory.specs.Header.{ruleOf}
+use Rattle.memory.specs.Meaning.{meaning, withRefusal}
+use Rattle.memory.specs.Arranged.{Sound}
+use Rattle.run.specs.declared.Ran.{Ran}
+use Rattle.store.specs.Course.{Course, ended, stopped, refused, done, commandOn, AfterEach, Reached, started, ran, settingsIn}
+use Rattle.store.specs.Entries.{StartsWith, ranOf, Runs}
+use Rattle.store.specs.Ranging.{OneEntity}
+use Rattle.store.specs.Theorems.{UnsoundAt, Ruled}
+use Rattle.store.proofs.Demands.{run-course, run-keeps-sound, started-empty, reached-sound}
+use Rattle.store.proofs.Unsound.{unsound-at}
+
+-- ---- "a sound one has one of the two rules": 2 or more in word 10 is 3 at every entry
+
+pub other-rule : (w : List ℕ) → NEWER < ruleOf w → UnsoundAt w
+other-rule w h = unsound-at w (λ S. omega (arith, S .arranged .rule))
+
+-- and 0 or 1 there says which
+rule-word : (w : List ℕ) → Sound w → ruleOf w ≡ boolByte (meaning w .settings .newer)
+unfolding meaning
+rule-word w S = go (ruleOf w) (S .arranged .rule)
+  where
+    go : (x : ℕ) → x ≤ NEWER → x ≡ boolByte (eqb x NEWER)
+    go zero h = refl
+    go (suc zero) h = refl
+    go (suc (suc x)) h = absurd (omega arith)
+
+pub sound-ruled : (w : List ℕ) → Sound w → Ruled (meaning w .settings) w
+sound-ruled w S = record { settings = refl; word = rule-word w S }
+
+ruled-as : (w : List ℕ) (c : Settings) → Sound w → meaning w .settings ≡ c → Ruled c w
+ruled-as w c S e = subst (λ (x : Settings). Ruled x w) e (sound-ruled w S)
+
+-- ---- "told by a bool": the store that an accepted start makes
+
+pub started-ruled : (c : Settings) (w w′ : List ℕ) → StartsWith c w w′ 0 → Ruled c w′
+unfolding emptyWith
+started-ruled c w w′ S = let e = started-empty c w w′ S in ruled-as w′ c (e .0) (ap (λ (s : Store). s .settings) (e .1))
+
+-- ---- "and fixed for its life": after each command of a run, and after the run
+
+ruled-in : (c : Settings) {w t w′ bytes : List ℕ} {room stop commands read : ℕ} (d : Course w t room w′ stop commands read bytes) → meaning w .settings ≡ c → AfterEach (Ruled c) d
+ruled-in c ended e = tt
+ruled-in c (stopped f) e = tt
+ruled-in c (refused w h f m s d) e = let is = ap (λ (x : Store). x .settings) (m .means) ∙ e in (ruled-as (withRefusal w) c s is, ruled-in c d is)
+ruled-in c (done w w₁ {t = t} {b = b} h n m s d) e =
+    let is = ap (λ (x : Store). x .settings) (m .means) ∙ accepted-settings (commandOn b t) (meaning w) ∙ e in
+    (ruled-as w₁ c s is, ruled-in c d is)
+
+pub ruled-after-each-command : (w w′ t o o′ : List ℕ) (r : Ran) (R : Runs w w′ t o o′ r) (S : Sound w) → AfterEach (Ruled (meaning w .settings)) (run-course w w′ t o o′ r R S)
+ruled-after-each-command w w′ t o o′ r R S = ruled-in (meaning w .settings) (run-course w w′ t o o′ r R S) refl
+
+settings-after-run : (w w′ t o o′ : List ℕ) (r : Ran) → Runs w w′ t o o′ r → meaning w′ .settings ≡ meaning w .settings
+settings-after-run w w′ t o o′ r R = ap (λ (s : Store). s .settings) (R .means) ∙ go (R .sound)
+  where
+    go : (b : Bool) → ranOf b t (length o) (meaning w) .store .settings ≡ meaning w .settings
+    go true = run-settings (meaning w) t (length o) (R .tape)
+    go false = refl
+
+pub ruled-after-run : (w w′ t o o′ : List ℕ) (r : Ran) → Runs w w′ t o o′ r → Sound w → Ruled (meaning w .settings) w′
+ruled-after-run w w′ t o o′ r R S = ruled-as w′ (meaning w .settings) (run-keeps-sound w w′ t o o′ r R S) (settings-after-run w w′ t o o′ r R)
+
+-- from a start, after any runs: what that start was told
+settings-reached : {w : List ℕ} (d : Reached w) → meaning w .settings ≡ settingsIn d
+settings-reached (started {c} {w} {w′} S) = started-ruled c w w′ S .settings
+settings-reached (ran {w} {w′} {t} {o} {o′} {r} d R) = settings-after-run w w′ t o o′ r R ∙ settings-reached d
+
+pub ruled-reached : {w : List ℕ} (d : Reached w) → Ruled (settingsIn d) w
+ruled-reached {w} d = ruled-as w (settingsIn d) (reached-sound d) (settings-reached d)
+
+-- ---- a store under the newer rule: RANGE's ten bytes, of the hand h and the bar b (proofs/Ranging.antt has where such bytes are written)
+
+module _ (s : Store) (newer : s .settings .newer ≡ true) (h b bytes : List ℕ) (A : RangeAnswer h b s bytes) where
+  -- found exactly where 01 does and the larger group's ring is one kind
+  pub newer-found : (foundIn bytes ≡ 1) ↔ ShowsNewer h b (s .storage .layout)
+  newer-found = subst (λ (x : Bool). (foundIn bytes ≡ 1) ↔ ShowsUnder x h b (s .storage .layout)) newer (A .found)
+
+  -- and then exactly the live entities with all of the hand and none of the barred stand there, in each sparse set of the hand
+  pub newer-there : foundIn bytes ≡ 1 → (k : ℕ) → In h k → (x : Entity) → (1 ≤ cnt x (part (startIn bytes) (endIn bytes) (key (s .storage .sets) k))) ↔ AllAndNone (s .storage .sets) (s .entities .live) h b x
+  newer-there f k i x =
+      newer-exactly (s .storage .sets) (s .entities .live) h b (startIn bytes) (endIn bytes)
+      (subst (λ (y : Bool). Showing y (s .storage .sets) (s .entities .live) h b (startIn bytes) (endIn bytes)) newer (A .shows f)) k i x
+
+-- so is the one of a row that two columns show side by side, with its values of both kinds (same-entity in proofs/Ranging.antt)
+pub newer-row : (s : Store) (h b : List ℕ) (j k i : ℕ) (entities values entities′ values′ : List ℕ) → s .settings .newer ≡ true → (E : OneEntity s h b j k i entities values entities′ values′)
+    → AllAndNone (s .storage .sets) (s .entities .live) h b (E .entity)
+newer-row s h b j k i entities values entities′ values′ newer E =
+    newer-describes h b (s .storage .sets) (s .entities .live) (E .entity) .0
+    (subst (λ (y : Bool). 1 ≤ cnt (E .entity) (described y h b (s .storage .sets) (s .entities .live))) newer (E .among))
