@@ -8,8 +8,8 @@
  * What a caller owes, and nothing else: no pointer is null, also where its length is 0; each points to as many items as
  * the length after it says; what one call may write (`words` where not const, `out`) overlaps nothing else that the
  * call is given; and meanwhile no other thread writes any of it, or reads what the call may write. What the words hold
- * is free: yirbarn_start makes a store of any words, and every other function that is given words first tests whether
- * they hold a sound one. yirbarn_words_needed is given none.
+ * is free: a start (yirbarn_start, yirbarn_start_with) makes a store of any words, and every other function that is
+ * given words first tests whether they hold a sound one. yirbarn_words_needed is given none.
  *
  * Numbers are those of the refusals below, 0 where nothing is refused. Link with libstore.a (`rt staticlib store`).
  */
@@ -22,9 +22,9 @@
 
 /* Of this header and what it declares (CHANGELOG.md). */
 #define YIRBARN_VERSION_MAJOR 0
-#define YIRBARN_VERSION_MINOR 6
+#define YIRBARN_VERSION_MINOR 7
 #define YIRBARN_VERSION_PATCH 0
-#define YIRBARN_VERSION "0.6.0"
+#define YIRBARN_VERSION "0.7.0"
 
 #ifdef __cplusplus
 extern "C" {
@@ -51,14 +51,24 @@ enum yirbarn_number {
     YIRBARN_CALLER = 19   /* a caller above 15; no refusal has 17 or 18 */
 };
 
-/* How many words a store for n entities and k kinds takes: 1,024 + 16 n + k (8 + 6 n); 0 where yirbarn_start would
- * refuse n or k (YIRBARN_SIZE). */
+/* How many words a store for n entities and k kinds takes: 1,024 + 16 n + k (8 + 6 n); 0 where a start would refuse n
+ * or k (YIRBARN_SIZE). */
 size_t yirbarn_words_needed(size_t n, size_t k);
 
-/* Makes an empty store for n entities and k kinds, whatever the words held.
+/* Makes an empty store for n entities and k kinds, whatever the words held, under the older rule (below).
  * Number: YIRBARN_SIZE, YIRBARN_SHORT, in this order, or 0. Where it is not 0, no word changes. Words past the needed
  * ones never change, here and in every run. */
 uint8_t yirbarn_start(uint32_t *words, size_t words_len, size_t n, size_t k);
+
+/* The same, under the rule that it is told: the older where `newer` is false, and the store is then the one that
+ * yirbarn_start makes; the newer where it is true. A store keeps its rule for life: no run changes it, only another
+ * start over its words. A sound one has one of the two, and words kept from before there were two have the older.
+ * The rule says how RANGE reads a bar (excluded kinds); without one, RANGE is the same under both. "Without 3 and 4" is
+ * to lack one or more of them under the older rule, and to have neither under the newer. For a bar of one kind that is
+ * the same, and so is the answer. A bar of two kinds or more finds nothing under the newer rule: the entities with none
+ * of them need not stand together.
+ * Number: as of yirbarn_start; none is for the rule. */
+uint8_t yirbarn_start_with(uint32_t *words, size_t words_len, size_t n, size_t k, bool newer);
 
 /* What a run answers. */
 struct yirbarn_ran {
@@ -71,7 +81,7 @@ struct yirbarn_ran {
 /* Does the tape's commands one after the other, and writes their answers to the front of out: a 0 byte and what the
  * command tells, or a refusal's number (7 to 15, or 19) alone. A refused command adds one to the tally of the store's
  * caller, which TALLY tells, and changes no other word. The store's caller says whose commands these are: a number 0 to
- * 15, which SETCALLER sets for what follows, in later runs too; 0 after yirbarn_start.
+ * 15, which SETCALLER sets for what follows, in later runs too; 0 after a start.
  * stop: YIRBARN_UNSOUND, with zeros beside it and nothing changed; or what stops the run before a command:
  * YIRBARN_UNKNOWN, YIRBARN_CUT, YIRBARN_NOROOM (judged by the accepted answer's length); or 0. The store stays sound.
  * A run of the tape from `read` on goes on where this one stopped. So a long tape can be fed in pieces, cut anywhere:

@@ -31,9 +31,11 @@ pub mod sys;
 
 mod refusal;
 mod rows;
+mod settings;
 
 pub use refusal::Refusal;
 pub use rows::{Entities, Entity, Row, Rows, Values};
+pub use settings::Rule;
 
 /// This crate's version, which is that of `yirbarn.h` too.
 pub const VERSION: &str = env!("CARGO_PKG_VERSION");
@@ -88,8 +90,8 @@ impl<'a> Store<'a> {
         }
     }
 
-    /// An empty store, whatever the words held. Refused: [`Refusal::Size`], [`Refusal::Short`]; the words are then as
-    /// they were. Words past the needed ones never change.
+    /// An empty store under [`Rule::Older`], whatever the words held. Refused: [`Refusal::Size`], [`Refusal::Short`];
+    /// the words are then as they were. Words past the needed ones never change.
     ///
     /// ```
     /// use yirbarn::{Refusal, Store};
@@ -101,6 +103,48 @@ impl<'a> Store<'a> {
     /// ```
     pub fn start(words: &'a mut [u32], entities: usize, kinds: usize) -> Result<Self, Refusal> {
         refused(unsafe { sys::yirbarn_start(words.as_mut_ptr(), words.len(), entities, kinds) })?;
+        Ok(Self { words })
+    }
+
+    /// An empty store under the rule that is told, otherwise as [`Store::start`] makes it; refusals as there, and none
+    /// for the rule. The words keep it: [`Store::open`] is not told, and only another start over them gives another.
+    ///
+    /// ```
+    /// use yirbarn::{Refusal, Rule, Store};
+    ///
+    /// // HOLD of each kind, with value 0.
+    /// let hold = |kinds: &[u8]| -> Vec<u8> {
+    ///     kinds.iter().flat_map(|&kind| [0x02, kind, 0, 0, 0, 0, 0, 0, 0, 0]).collect()
+    /// };
+    /// // REG 1 to 4; GROUP {1,2}, GROUP {1,2,3,4}, APPLY; NEW with 1, 2 and 3; RANGE of {1,2} without 3 and 4.
+    /// let tape = [
+    ///     vec![0x01, 1, 0x01, 2, 0x01, 3, 0x01, 4],
+    ///     hold(&[1, 2]),
+    ///     vec![0x09],
+    ///     hold(&[1, 2, 3, 4]),
+    ///     vec![0x09, 0x0a],
+    ///     hold(&[1, 2, 3]),
+    ///     vec![0x03],
+    ///     hold(&[1, 2]),
+    ///     vec![0x0b, 3, 0x0b, 4, 0x0c],
+    /// ]
+    /// .concat();
+    ///
+    /// // The entity has 3 and lacks 4. Older: found, from 0 to 1. Newer: none.
+    /// let (found, none) = ([0, 1, 0, 0, 0, 0, 1, 0, 0, 0], [0; 10]);
+    /// for (rule, range) in [(Rule::Older, found), (Rule::Newer, none)] {
+    ///     let mut words = vec![0; Store::words_needed(8, 4).unwrap()];
+    ///     let mut store = Store::start_with(&mut words, 8, 4, rule)?;
+    ///     let mut answers = [0; 64];
+    ///     let ran = store.run(&tape, &mut answers);
+    ///     assert_eq!((ran.stop, ran.commands), (None, 22));
+    ///     assert_eq!(answers[ran.written - 10..ran.written], range);
+    /// }
+    /// # Ok::<(), Refusal>(())
+    /// ```
+    pub fn start_with(words: &'a mut [u32], entities: usize, kinds: usize, rule: Rule) -> Result<Self, Refusal> {
+        let newer = rule == Rule::Newer;
+        refused(unsafe { sys::yirbarn_start_with(words.as_mut_ptr(), words.len(), entities, kinds, newer) })?;
         Ok(Self { words })
     }
 
@@ -134,7 +178,7 @@ impl<'a> Store<'a> {
     /// `read` on, the next piece behind them ([`Refusal::Cut`]: the last command of the piece goes on in the next).
     ///
     /// The store's caller says whose commands these are: a number 0 to 15, which SETCALLER sets for what follows, in
-    /// later runs too; 0 after [`Store::start`]. Each has a count of its own, and TALLY tells that of the one that is set.
+    /// later runs too; 0 after a start. Each has a count of its own, and TALLY tells that of the one that is set.
     ///
     /// ```
     /// use yirbarn::{Refusal, Store};

@@ -36,6 +36,8 @@ extern "C" {
 
     pub fn yirbarn_start(words: *mut u32, words_len: usize, n: usize, k: usize) -> u8;
 
+    pub fn yirbarn_start_with(words: *mut u32, words_len: usize, n: usize, k: usize, newer: bool) -> u8;
+
     pub fn yirbarn_run(
         words: *mut u32,
         words_len: usize,
