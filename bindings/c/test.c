@@ -307,24 +307,33 @@ static void test_no_caller(void)
     CHECK(tells(240) && YIRBARN_CALLER == 0x13);
 }
 
+/* Every command but SETCALLER, all of them accepted where kinds 1 and 2 are registered, entity 0 is at version 1 and
+ * three more fit. */
+static const uint8_t EVERY[] = {
+    0x01, 3, HOLD_BOTH, 0x09, 0x0a, HOLD_BOTH, 0x03,  /* REG, GROUP, APPLY, NEW */
+    HOLD_BOTH, 0x04, 0, 0, 0, 0, 1, 0, 0, 0,          /* PUT */
+    HOLD_BOTH, 0x05, 0, 0, 0, 0, 1, 0, 0, 0, 0x0b, 1, /* TAKE, BAR */
+    0x0d, 0x06, 0, 0, 0, 0, 1, 0, 0, 0, KILL_0,       /* EMPTY, DROP, KILL */
+    0x0f, 2, 0, 0x0c, 0x08, TALLY,                    /* TRAY, RANGE, WIPE */
+};
+
+/* Runs them: the answers have the length of accepted ones. */
+static bool runs_every(void)
+{
+    struct yirbarn_ran ran = yirbarn_run(words, NEEDED, EVERY, sizeof EVERY, out, OUT);
+    return ran.stop == YIRBARN_OK && ran.commands == 22 && ran.read == sizeof EVERY && ran.written == 65;
+}
+
 /* Every other command, accepted, leaves the caller and all refusals. */
 static void test_callers_stay(void)
 {
-    const uint8_t tape[] = {
-        0x01, 3, HOLD_BOTH, 0x09, 0x0a, HOLD_BOTH, 0x03,  /* REG, GROUP, APPLY, NEW */
-        HOLD_BOTH, 0x04, 0, 0, 0, 0, 1, 0, 0, 0,          /* PUT */
-        HOLD_BOTH, 0x05, 0, 0, 0, 0, 1, 0, 0, 0, 0x0b, 1, /* TAKE, BAR */
-        0x0d, 0x06, 0, 0, 0, 0, 1, 0, 0, 0, KILL_0,       /* EMPTY, DROP, KILL */
-        0x0f, 2, 0, 0x0c, 0x08, TALLY,                    /* TRAY, RANGE, WIPE */
-    };
     used();
     keep();
     CHECK(sets(7) && refuses() && refuses() && sets(8) && refuses());
     kept[REFUSALS_AT + 7] = 2;
     kept[REFUSALS_AT + 8] = 1;
     CHECK(as_kept());
-    struct yirbarn_ran ran = yirbarn_run(words, NEEDED, tape, sizeof tape, out, OUT);
-    CHECK(ran.stop == YIRBARN_OK && ran.commands == 22 && ran.read == sizeof tape && ran.written == 65);
+    CHECK(runs_every());
     CHECK(words[CALLER_AT] == 8 && !memcmp(words + REFUSALS_AT, kept + REFUSALS_AT, 4 * CALLERS));
     CHECK(tells(1) && sets(7) && tells(2) && sets(0) && tells(0));
 }
@@ -508,6 +517,380 @@ static void test_sound_callers(void)
     }
 }
 
+/* Where the words have the rule, 0 the older and 1 the newer, and how many are staged and excluded (docs/WORDS.md). */
+enum { RULE_AT = 10, STAGED_AT = 3, EXCLUDED_AT = 4 };
+
+/* A start that is refused, told either rule, changes no word. */
+static void test_start_with_refused(void)
+{
+    memset(words, 0xa5, sizeof words);
+    for (int newer = 0; newer < 2; newer++) {
+        CHECK(yirbarn_start_with(words, NEEDED, 0, K, newer) == YIRBARN_SIZE);
+        CHECK(yirbarn_start_with(words, NEEDED, 4097, K, newer) == YIRBARN_SIZE);
+        CHECK(yirbarn_start_with(words, NEEDED, N, 0, newer) == YIRBARN_SIZE);
+        CHECK(yirbarn_start_with(words, NEEDED, N, 129, newer) == YIRBARN_SIZE);
+        CHECK(yirbarn_start_with(words, 0, SIZE_MAX, SIZE_MAX, newer) == YIRBARN_SIZE);
+        CHECK(yirbarn_start_with(words, NEEDED - 1, N, K, newer) == YIRBARN_SHORT);
+        CHECK(yirbarn_start_with(words, 0, N, K, newer) == YIRBARN_SHORT);
+    }
+    CHECK(all(words, 0, sizeof words, 0xa5));
+}
+
+/* As many words as are needed, and one fewer. Told false, a start leaves the very words that yirbarn_start leaves; told
+ * true, the same but for the rule. Words past them stay. */
+static void starts_at(size_t n, size_t k)
+{
+    size_t needed = yirbarn_words_needed(n, k), bytes = 4 * (needed + GUARD);
+    uint32_t *plain = malloc(bytes), *told = malloc(bytes);
+    if (!plain || !told) {
+        perror("test.c: words for a start");
+        exit(1);
+    }
+    memset(plain, 0xa5, bytes);
+    CHECK(yirbarn_start(plain, needed, n, k) == YIRBARN_OK && plain[RULE_AT] == 0);
+    for (uint32_t newer = 0; newer < 2; newer++) {
+        memset(told, 0xa5, bytes);
+        CHECK(yirbarn_start_with(told, needed - 1, n, k, newer) == YIRBARN_SHORT && all(told, 0, bytes, 0xa5));
+        CHECK(yirbarn_start_with(told, needed, n, k, newer) == YIRBARN_OK && told[RULE_AT] == newer);
+        CHECK(yirbarn_run(told, needed, TAPE, 0, out, 0).stop == YIRBARN_OK);
+        plain[RULE_AT] = newer;
+        CHECK(!memcmp(told, plain, bytes) && all(told, 4 * needed, bytes, 0xa5));
+        /* More words than are needed. */
+        memset(told, 0xa5, bytes);
+        CHECK(yirbarn_start_with(told, needed + GUARD, n, k, newer) == YIRBARN_OK && !memcmp(told, plain, bytes));
+    }
+    free(plain);
+    free(told);
+}
+
+static void test_start_with(void)
+{
+    const size_t entities[] = {1, N, 4096}, kinds[] = {1, K, 128};
+    for (size_t i = 0; i < 9; i++)
+        starts_at(entities[i / 3], kinds[i % 3]);
+}
+
+/* Sets of the kinds 1 to 4: kind k is bit k. */
+enum { K1 = 1 << 1, K2 = 1 << 2, K3 = 1 << 3, K4 = 1 << 4, PAIR = K1 | K2, THREE = PAIR | K3, FOUR = THREE | K4 };
+enum { LAST_KIND = 4, ALL_SETS = 16, MOST = 16 };
+
+/* A layout of one family, its groups smallest first and then 0; and the kinds of each entity, by its index. */
+struct example {
+    uint8_t groups[4];
+    size_t entities;
+    uint8_t kinds[MOST];
+};
+
+/* Document 01's example, whose larger group has two kinds more; and the same entities where it has one more. */
+static const struct example RING_OF_TWO = {{PAIR, FOUR}, 4, {THREE, FOUR, PAIR, K1}};
+static const struct example RING_OF_ONE = {{PAIR, THREE}, 4, {THREE, FOUR, PAIR, K1}};
+
+static size_t size_of(uint8_t set)
+{
+    size_t kinds = 0;
+    for (uint8_t kind = 1; kind <= LAST_KIND; kind++)
+        kinds += set >> kind & 1;
+    return kinds;
+}
+
+/* Writes a command of so many bytes for each kind of the set, zeros behind the kind; gives where the next stands. */
+static uint8_t *each(uint8_t *to, uint8_t command, size_t length, uint8_t set)
+{
+    for (uint8_t kind = 1; kind <= LAST_KIND; kind++) {
+        if (!(set >> kind & 1))
+            continue;
+        memset(to, 0, length);
+        to[0] = command;
+        to[1] = kind;
+        to += length;
+    }
+    return to;
+}
+
+static uint8_t *hold(uint8_t *to, uint8_t set)
+{
+    return each(to, 0x02, 10, set);
+}
+
+/* Registers the kinds, applies the layout and makes the entities, in an empty store. */
+static void fill(const struct example *example)
+{
+    uint8_t tape[1024], *to = each(tape, 0x01, 2, FOUR);
+    for (const uint8_t *group = example->groups; *group; group++) {
+        to = hold(to, *group);
+        *to++ = 0x09;
+    }
+    *to++ = 0x0a;
+    for (size_t i = 0; i < example->entities; i++) {
+        to = hold(to, example->kinds[i]);
+        *to++ = 0x03;
+    }
+    struct yirbarn_ran ran = yirbarn_run(words, NEEDED, tape, to - tape, out, OUT);
+    CHECK(ran.stop == YIRBARN_OK && ran.read == (size_t)(to - tape) && words[REFUSALS_AT] == 0);
+}
+
+static void filled(const struct example *example, bool newer)
+{
+    memset(words, 0xa5, sizeof words);
+    CHECK(yirbarn_start_with(words, NEEDED, N, K, newer) == YIRBARN_OK);
+    fill(example);
+}
+
+/* What RANGE tells: whether there is one, from where, and before where it ends. */
+struct range {
+    bool found;
+    uint32_t start, end;
+};
+
+static bool same(struct range one, struct range other)
+{
+    return one.found == other.found && one.start == other.start && one.end == other.end;
+}
+
+static uint32_t number_at(const uint8_t *bytes)
+{
+    return bytes[0] | bytes[1] << 8 | bytes[2] << 16 | (uint32_t)bytes[3] << 24;
+}
+
+/* Asks for hand and bar. Ten bytes of answer, nine of them zeros where there is none, and both lists are empty then. */
+static struct range ask(uint8_t hand, uint8_t barred)
+{
+    uint8_t tape[64], *to = each(hold(tape, hand), 0x0b, 2, barred);
+    size_t listed = size_of(hand) + size_of(barred);
+    *to++ = 0x0c;
+    struct yirbarn_ran ran = yirbarn_run(words, NEEDED, tape, to - tape, out, OUT);
+    CHECK(ran.stop == YIRBARN_OK && ran.commands == listed + 1 && ran.written == listed + 10);
+    CHECK(words[STAGED_AT] == 0 && words[EXCLUDED_AT] == 0 && all(out, 0, listed + 1, 0));
+    const uint8_t *told = out + listed + 1;
+    CHECK(told[0] == 1 || all(told, 0, 9, 0));
+    return (struct range){told[0] == 1, number_at(told + 1), number_at(told + 5)};
+}
+
+static uint32_t holders(const struct example *example, uint8_t set)
+{
+    uint32_t count = 0;
+    for (size_t i = 0; i < example->entities; i++)
+        count += (example->kinds[i] & set) == set;
+    return count;
+}
+
+/* What RANGE is to tell (docs/COMMANDS.md), by the layout and the entities' own kinds. */
+static struct range expected(const struct example *example, bool newer, uint8_t hand, uint8_t barred)
+{
+    const struct range none = {false, 0, 0};
+    if (newer && size_of(barred) > 1)
+        return none;
+    if (!barred && size_of(hand) == 1)
+        return (struct range){true, 0, holders(example, hand)};
+    for (const uint8_t *group = example->groups; *group; group++) {
+        if (*group != hand)
+            continue;
+        if (!barred)
+            return (struct range){true, 0, holders(example, hand)};
+        if (barred == (group[1] & ~hand))
+            return (struct range){true, holders(example, group[1]), holders(example, hand)};
+    }
+    return none;
+}
+
+/* The entities with all of the hand and, of the barred, none under the newer rule, under the older not all; as bits. */
+static uint32_t described(const struct example *example, bool newer, uint8_t hand, uint8_t barred)
+{
+    uint32_t entities = 0;
+    for (size_t i = 0; i < example->entities; i++) {
+        uint8_t kinds = example->kinds[i], both = kinds & barred;
+        bool without = newer ? both == 0 : both != barred;
+        if ((kinds & hand) == hand && (without || !barred))
+            entities |= 1u << i;
+    }
+    return entities;
+}
+
+static const uint32_t *rows_of(uint8_t kind, struct range range)
+{
+    size_t at = yirbarn_column_at(words, NEEDED, kind, false, range.start, range.end);
+    CHECK(at > 0);
+    return words + at;
+}
+
+/* The range has these entities, once each, in every column of the hand, the same at the same place. */
+static bool shows(struct range range, uint8_t hand, uint32_t entities)
+{
+    size_t length = range.end - range.start;
+    const uint32_t *rows = NULL;
+    for (uint8_t kind = 1; kind <= LAST_KIND; kind++) {
+        if (!(hand >> kind & 1))
+            continue;
+        const uint32_t *others = rows_of(kind, range);
+        if (rows && memcmp(rows, others, 8 * length))
+            return false;
+        rows = others;
+    }
+    for (size_t i = 0; rows && i < length; i++) {
+        uint32_t index = rows[2 * i], version = rows[2 * i + 1];
+        if (index >= MOST || version != 1 || !(entities >> index & 1))
+            return false;
+        entities &= ~(1u << index);
+    }
+    return rows && !entities;
+}
+
+static bool answers_right(const struct example *example, bool newer, uint8_t hand, uint8_t barred)
+{
+    struct range range = ask(hand, barred);
+    if (!same(range, expected(example, newer, hand, barred)))
+        return false;
+    return !range.found || shows(range, hand, described(example, newer, hand, barred));
+}
+
+/* A hand and a bar, and what RANGE tells under each rule. */
+struct asked {
+    uint8_t hand, barred;
+    struct range older, newer;
+};
+
+static void test_asked(const struct example *example, const struct asked *asked, size_t count)
+{
+    for (int newer = 0; newer < 2; newer++) {
+        filled(example, newer);
+        for (size_t i = 0; i < count; i++) {
+            CHECK(same(ask(asked[i].hand, asked[i].barred), newer ? asked[i].newer : asked[i].older));
+            CHECK(answers_right(example, newer, asked[i].hand, asked[i].barred));
+        }
+    }
+}
+
+#define NONE {false, 0, 0}
+
+/* 01's own questions, then those for the ring of one kind. */
+static void test_range_examples(void)
+{
+    const struct asked of_two[] = {
+        {PAIR, 0, {true, 0, 3}, {true, 0, 3}},
+        {FOUR, 0, {true, 0, 1}, {true, 0, 1}},
+        {K1, 0, {true, 0, 4}, {true, 0, 4}},
+        {K1 | K3, 0, NONE, NONE},
+        {PAIR, K3 | K4, {true, 1, 3}, NONE},
+        {PAIR, K3, NONE, NONE},
+        {0, 0, NONE, NONE},
+    };
+    const struct asked of_one[] = {
+        {PAIR, 0, {true, 0, 3}, {true, 0, 3}},
+        {THREE, 0, {true, 0, 2}, {true, 0, 2}},
+        {PAIR, K3, {true, 2, 3}, {true, 2, 3}},
+        {PAIR, K4, NONE, NONE},
+        {PAIR, K3 | K4, NONE, NONE},
+    };
+    test_asked(&RING_OF_TWO, of_two, sizeof of_two / sizeof *of_two);
+    test_asked(&RING_OF_ONE, of_one, sizeof of_one / sizeof *of_one);
+}
+
+/* An entity with each set of the four kinds. */
+#define EACH_SET \
+    {THREE, FOUR, PAIR, K1, 0, K2 | K4, PAIR | K4, K3, K1 | K3, K2, K3 | K4, FOUR - K2, K2 | K3, K4, K1 | K4, FOUR - K1}
+
+/* Every hand and every bar of the four kinds, under both rules, for rings of one kind and of more. */
+static void test_every_range(void)
+{
+    const struct example layouts[] = {
+        {{PAIR, FOUR}, MOST, EACH_SET},
+        {{PAIR, THREE}, MOST, EACH_SET},
+        {{PAIR, THREE, FOUR}, MOST, EACH_SET},
+        {{K3 | K4, FOUR - K2}, MOST, EACH_SET},
+        {{FOUR}, MOST, EACH_SET},
+        {{0}, MOST, EACH_SET},
+    };
+    for (size_t i = 0; i < 2 * sizeof layouts / sizeof *layouts; i++) {
+        filled(&layouts[i / 2], i % 2);
+        for (unsigned asked = 0; asked < ALL_SETS * ALL_SETS; asked++)
+            CHECK(answers_right(&layouts[i / 2], i % 2, asked / ALL_SETS << 1, asked % ALL_SETS << 1));
+        CHECK(words[RULE_AT] == i % 2);
+    }
+}
+
+/* Without a bar RANGE tells the same under both rules. */
+static void test_range_without_bar(void)
+{
+    const struct example *examples[] = {&RING_OF_TWO, &RING_OF_ONE};
+    struct range older[ALL_SETS];
+    for (size_t i = 0; i < 2; i++) {
+        filled(examples[i], false);
+        for (unsigned set = 0; set < ALL_SETS; set++)
+            older[set] = ask(set << 1, 0);
+        filled(examples[i], true);
+        for (unsigned set = 0; set < ALL_SETS; set++)
+            CHECK(same(ask(set << 1, 0), older[set]));
+        CHECK(older[PAIR >> 1].found && older[K1 >> 1].found && !older[0].found);
+    }
+}
+
+/* All commands, accepted and refused, leave the rule; and the words are the same under both, but for it. */
+static void test_rule_stays(void)
+{
+    for (uint32_t newer = 0; newer < 2; newer++) {
+        filled(&RING_OF_TWO, newer);
+        CHECK(ask(PAIR, K3 | K4).found == !newer && words[RULE_AT] == newer);
+        CHECK(sets(3) && refuses() && runs_every() && words[RULE_AT] == newer);
+        if (!newer)
+            keep();
+    }
+    kept[RULE_AT] = 1;
+    CHECK(as_kept());
+}
+
+/* Only another start over the words changes the rule, and a refused one does not. */
+static void test_another_start(void)
+{
+    filled(&RING_OF_TWO, true);
+    keep();
+    CHECK(yirbarn_start(words, NEEDED - 1, N, K) == YIRBARN_SHORT);
+    CHECK(yirbarn_start(words, NEEDED, N, 129) == YIRBARN_SIZE);
+    CHECK(yirbarn_start_with(words, NEEDED - 1, N, K, false) == YIRBARN_SHORT);
+    CHECK(yirbarn_start_with(words, NEEDED, 0, K, false) == YIRBARN_SIZE && as_kept());
+    CHECK(yirbarn_start(words, NEEDED, N, K) == YIRBARN_OK && words[RULE_AT] == 0);
+    fill(&RING_OF_TWO);
+    CHECK(ask(PAIR, K3 | K4).found);
+    CHECK(yirbarn_start_with(words, NEEDED, N, K, true) == YIRBARN_OK && words[RULE_AT] == 1);
+    fill(&RING_OF_TWO);
+    CHECK(!ask(PAIR, K3 | K4).found);
+    CHECK(yirbarn_start_with(words, NEEDED, N, K, false) == YIRBARN_OK && words[RULE_AT] == 0);
+    fill(&RING_OF_TWO);
+    CHECK(ask(PAIR, K3 | K4).found);
+}
+
+/* Roll and columns do not show the rule. */
+static void test_rule_does_not_show(void)
+{
+    static uint8_t rolls[2][256];
+    static uint32_t columns[2][4 * 2 * 3];
+    filled(&RING_OF_TWO, false);
+    size_t length = whole(rolls[0], sizeof *rolls, columns[0], 3);
+    filled(&RING_OF_TWO, true);
+    CHECK(whole(rolls[1], sizeof *rolls, columns[1], 3) == length);
+    CHECK(length == 4 + 9 * (4 + 10) && !memcmp(rolls[0], rolls[1], length));
+    CHECK(!memcmp(columns[0], columns[1], sizeof *columns));
+}
+
+/* Words with 0 or 1 for the rule are sound, and read by it, whichever start made them; with any other they are not. */
+static void test_sound_rules(void)
+{
+    const uint32_t none[] = {2, 3, 255, 256, 257, 0x10000, 0x10001, 0x80000000, 0x80000001, 0xffffffff};
+    for (int newer = 0; newer < 2; newer++) {
+        filled(&RING_OF_TWO, newer);
+        for (size_t i = 0; i < sizeof none / sizeof *none; i++) {
+            words[RULE_AT] = none[i];
+            keep();
+            test_unsound(kept);
+        }
+        for (uint32_t rule = 0; rule < 2; rule++) {
+            words[RULE_AT] = rule;
+            CHECK(yirbarn_column_number(words, NEEDED, 1, false, 0, 4) == YIRBARN_OK);
+            CHECK(yirbarn_roll(words, NEEDED, out, OUT).number == YIRBARN_OK);
+            CHECK(ask(PAIR, K3 | K4).found == !rule && words[RULE_AT] == rule);
+        }
+    }
+}
+
 /* Each word of a store in use, damaged in several ways. */
 static void test_damaged(void)
 {
@@ -565,6 +948,15 @@ int main(void)
     test_start_clears_callers();
     test_callers_do_not_show();
     test_sound_callers();
+    test_start_with_refused();
+    test_start_with();
+    test_range_examples();
+    test_every_range();
+    test_range_without_bar();
+    test_rule_stays();
+    test_another_start();
+    test_rule_does_not_show();
+    test_sound_rules();
     test_column();
     test_copy();
     test_roll();
