@@ -2,7 +2,7 @@
 //! library.
 
 use yirbarn::sys;
-use yirbarn::{Entity, Part, Ran, Refusal, Row, Store};
+use yirbarn::{Entity, Part, Ran, Refusal, Row, Rule, Store};
 
 const N: usize = 64;
 const K: usize = 8;
@@ -446,14 +446,9 @@ fn no_caller() {
     assert_eq!(tally(&mut store), 240);
 }
 
-/// Every other command, accepted, leaves the caller and all refusals.
-#[test]
-fn callers_stay() {
-    let mut words = used();
-    let mut store = Store::open(&mut words).unwrap();
-    set_caller(&mut store, 7);
-    refuse(&mut store);
-    set_caller(&mut store, 8);
+/// Runs every command but SETCALLER: all are accepted where kinds 1 and 2 are registered, entity 0 is at version 1 and
+/// three more fit.
+fn run_every(store: &mut Store) {
     let on_first = |byte: u8| [byte, 0, 0, 0, 0, 1, 0, 0, 0];
     // REG, GROUP, APPLY, NEW, PUT, TAKE, BAR, EMPTY, DROP, KILL, TRAY, RANGE, WIPE, TALLY.
     let tape = [
@@ -469,7 +464,18 @@ fn callers_stay() {
     ]
     .concat();
     // Of the answers' length when all are accepted.
-    assert_eq!(answers(&mut store, &tape).len(), 65);
+    assert_eq!(answers(store, &tape).len(), 65);
+}
+
+/// Every other command, accepted, leaves the caller and all refusals.
+#[test]
+fn callers_stay() {
+    let mut words = used();
+    let mut store = Store::open(&mut words).unwrap();
+    set_caller(&mut store, 7);
+    refuse(&mut store);
+    set_caller(&mut store, 8);
+    run_every(&mut store);
     let mut refusals = [0; 16];
     refusals[7] = 1;
     assert_eq!(
@@ -583,6 +589,336 @@ fn sound_callers() {
         words[CALLER] = caller;
         unsound(&mut words);
         assert_eq!(Store::open(&mut words).unwrap_err(), Refusal::Unsound);
+    }
+}
+
+/// Where the words have the rule, and how many are staged and excluded (docs/WORDS.md).
+const RULE: usize = 10;
+const LISTED: std::ops::Range<usize> = 3..5;
+
+/// The rules with their words.
+const RULES: [(Rule, u32); 2] = [(Rule::Older, 0), (Rule::Newer, 1)];
+
+/// A start that is refused, told either rule, changes no word.
+#[test]
+fn start_with() {
+    assert_eq!(Rule::default(), Rule::Older);
+    for (rule, word) in RULES {
+        let mut words = vec![7; NEEDED + 3];
+        for (entities, kinds) in [(0, K), (4097, K), (N, 0), (N, 129), (usize::MAX, usize::MAX)] {
+            for length in [0, NEEDED] {
+                let refused = Store::start_with(&mut words[..length], entities, kinds, rule).unwrap_err();
+                assert_eq!(refused, Refusal::Size);
+            }
+        }
+        for length in [0, 1, 1024, NEEDED - 1] {
+            let refused = Store::start_with(&mut words[..length], N, K, rule).unwrap_err();
+            assert_eq!(refused, Refusal::Short);
+        }
+        assert!(words.iter().all(|&word| word == 7));
+        Store::start_with(&mut words, N, K, rule).unwrap();
+        assert_eq!((words[RULE], &words[NEEDED..]), (word, &[7; 3][..]));
+        assert!(Store::open(&mut words[..NEEDED]).is_ok());
+        assert_eq!(Store::open(&mut words[..NEEDED - 1]).unwrap_err(), Refusal::Unsound);
+    }
+}
+
+/// At the limits of both sizes: as many words as are needed, and one fewer. Under the older rule these are the very
+/// words that a plain start leaves, under the newer the same but for the rule.
+#[test]
+fn start_with_at_the_limits() {
+    for (entities, kinds) in [(1, 1), (1, 128), (4096, 1), (4096, 128), (N, K)] {
+        let needed = Store::words_needed(entities, kinds).unwrap();
+        let mut plain = vec![7; needed];
+        Store::start(&mut plain, entities, kinds).unwrap();
+        assert_eq!(plain[RULE], 0);
+        for (rule, word) in RULES {
+            let mut words = vec![7; needed];
+            let refused = Store::start_with(&mut words[..needed - 1], entities, kinds, rule).unwrap_err();
+            assert_eq!(refused, Refusal::Short);
+            assert!(words.iter().all(|&word| word == 7));
+            Store::start_with(&mut words, entities, kinds, rule).unwrap();
+            plain[RULE] = word;
+            assert!(words == plain && Store::open(&mut words).is_ok());
+        }
+    }
+}
+
+/// The rows that RANGE tells, from a place to before another, if there are such.
+type Rows = Option<(usize, usize)>;
+
+/// Asks for hand and bar. Ten bytes of answer, nine of them zeros where there is none, and both lists are empty then.
+fn range(store: &mut Store, hand: &[u8], bar: &[u8]) -> Rows {
+    let barred: Vec<u8> = bar.iter().flat_map(|&kind| [0x0b, kind]).collect();
+    let told = answers(store, &[holding(hand, &barred), vec![0x0c]].concat());
+    assert_eq!(store.words()[LISTED], [0, 0]);
+    let (listed, told) = told.split_at(hand.len() + bar.len());
+    assert!(listed.iter().all(|&byte| byte == 0));
+    assert_eq!((told.len(), told[0]), (10, 0));
+    if told[1] == 0 {
+        assert_eq!(told, [0; 10]);
+        return None;
+    }
+    assert_eq!(told[1], 1);
+    let place = |at: usize| u32::from_le_bytes(told[at..at + 4].try_into().unwrap()) as usize;
+    Some((place(2), place(6)))
+}
+
+fn has_all(entity: &[u8], kinds: &[u8]) -> bool {
+    kinds.iter().all(|kind| entity.contains(kind))
+}
+
+/// A layout of one family, its groups smallest first, and the kinds of each entity, by its index. Kinds are 1 to 4, and
+/// every list of them rises.
+struct Example {
+    groups: Vec<Vec<u8>>,
+    entities: Vec<Vec<u8>>,
+}
+
+impl Example {
+    /// The entities of document 01's example.
+    fn with(groups: &[&[u8]]) -> Self {
+        let entities: [&[u8]; 4] = [&[1, 2, 3], &[1, 2, 3, 4], &[1, 2], &[1]];
+        Self {
+            groups: groups.iter().map(|group| group.to_vec()).collect(),
+            entities: entities.map(|kinds| kinds.to_vec()).into(),
+        }
+    }
+
+    /// Registers the kinds, applies the layout and makes the entities, in an empty store.
+    fn fill(&self, store: &mut Store) {
+        let mut tape = vec![0x01, 1, 0x01, 2, 0x01, 3, 0x01, 4];
+        tape.extend(self.groups.iter().flat_map(|group| holding(group, &[0x09])));
+        tape.push(0x0a);
+        tape.extend(self.entities.iter().flat_map(|kinds| holding(kinds, &[0x03])));
+        answers(store, &tape);
+        assert_eq!(tally(store), 0);
+    }
+
+    /// Words of such a store under the rule.
+    fn words(&self, rule: Rule) -> Vec<u32> {
+        let mut words = vec![7; NEEDED];
+        self.fill(&mut Store::start_with(&mut words, N, K, rule).unwrap());
+        words
+    }
+
+    /// What RANGE is to tell (docs/COMMANDS.md), by the layout and the entities' own kinds.
+    fn expected(&self, rule: Rule, hand: &[u8], bar: &[u8]) -> Rows {
+        let holders = |kinds: &[u8]| self.entities.iter().filter(|entity| has_all(entity, kinds)).count();
+        let group = self.groups.iter().position(|group| group == hand);
+        if bar.is_empty() {
+            return (hand.len() == 1 || group.is_some()).then(|| (0, holders(hand)));
+        }
+        let larger = self.groups.get(group? + 1)?;
+        let ring: Vec<u8> = larger.iter().copied().filter(|kind| !hand.contains(kind)).collect();
+        let ruled = rule == Rule::Older || ring.len() == 1;
+        (ring == bar && ruled).then(|| (holders(larger), holders(hand)))
+    }
+
+    /// The indexes of the entities with all of the hand and, of the barred, none under the newer rule, under the older
+    /// not all.
+    fn described(&self, rule: Rule, hand: &[u8], bar: &[u8]) -> Vec<u32> {
+        let without = |kinds: &[u8]| match rule {
+            Rule::Older => bar.is_empty() || !has_all(kinds, bar),
+            Rule::Newer => bar.iter().all(|kind| !kinds.contains(kind)),
+        };
+        let indexes = (0..).zip(&self.entities);
+        let found = indexes.filter(|(_, kinds)| has_all(kinds, hand) && without(kinds));
+        found.map(|(index, _)| index).collect()
+    }
+
+    /// RANGE tells what it is to tell. The rows found are the entities described, once each, in every column of the
+    /// hand, the same at the same place.
+    fn check(&self, store: &mut Store, rule: Rule, hand: &[u8], bar: &[u8]) {
+        let rows = range(store, hand, bar);
+        assert_eq!(rows, self.expected(rule, hand, bar), "{rule:?} {hand:?} {bar:?}");
+        let Some((start, end)) = rows else { return };
+        let entities: Vec<Entity> = store.entities(hand[0], start, end).unwrap().collect();
+        for &kind in hand {
+            assert!(store.entities(kind, start, end).unwrap().eq(entities.iter().copied()));
+        }
+        assert!(entities.iter().all(|entity| entity.version == 1));
+        let mut indexes: Vec<u32> = entities.iter().map(|entity| entity.index).collect();
+        indexes.sort();
+        assert_eq!(indexes, self.described(rule, hand, bar));
+    }
+}
+
+/// Document 01's layout, whose larger group has two kinds more.
+fn ring_of_two() -> Example {
+    Example::with(&[&[1, 2], &[1, 2, 3, 4]])
+}
+
+/// The same entities where it has one kind more.
+fn ring_of_one() -> Example {
+    Example::with(&[&[1, 2], &[1, 2, 3]])
+}
+
+/// Of each question, what RANGE tells under the older and under the newer rule.
+fn ask_all(example: &Example, asked: &[(&[u8], &[u8], [Rows; 2])]) {
+    for (i, (rule, _)) in RULES.into_iter().enumerate() {
+        let mut words = example.words(rule);
+        let mut store = Store::open(&mut words).unwrap();
+        for (hand, bar, rows) in asked {
+            assert_eq!(range(&mut store, hand, bar), rows[i]);
+            example.check(&mut store, rule, hand, bar);
+        }
+    }
+}
+
+/// 01's own questions, then those for the ring of one kind.
+#[test]
+fn range_examples() {
+    ask_all(
+        &ring_of_two(),
+        &[
+            (&[1, 2], &[], [Some((0, 3)); 2]),
+            (&[1, 2, 3, 4], &[], [Some((0, 1)); 2]),
+            (&[1], &[], [Some((0, 4)); 2]),
+            (&[1, 3], &[], [None; 2]),
+            (&[1, 2], &[3, 4], [Some((1, 3)), None]),
+            (&[1, 2], &[3], [None; 2]),
+            (&[], &[], [None; 2]),
+        ],
+    );
+    ask_all(
+        &ring_of_one(),
+        &[
+            (&[1, 2], &[], [Some((0, 3)); 2]),
+            (&[1, 2, 3], &[], [Some((0, 2)); 2]),
+            (&[1, 2], &[3], [Some((2, 3)); 2]),
+            (&[1, 2], &[4], [None; 2]),
+            (&[1, 2], &[3, 4], [None; 2]),
+        ],
+    );
+}
+
+/// Every set of the kinds 1 to 4.
+fn sets() -> Vec<Vec<u8>> {
+    let set = |bits: u8| (1..=4).filter(|&kind: &u8| bits >> kind & 1 == 1).collect();
+    (0..32).step_by(2).map(set).collect()
+}
+
+/// Every hand and every bar of the four kinds, under both rules, for rings of one kind and of more; an entity with each
+/// set of them.
+#[test]
+fn every_range() {
+    let layouts: [&[&[u8]]; 6] = [
+        &[&[1, 2], &[1, 2, 3, 4]],
+        &[&[1, 2], &[1, 2, 3]],
+        &[&[1, 2], &[1, 2, 3], &[1, 2, 3, 4]],
+        &[&[3, 4], &[1, 3, 4]],
+        &[&[1, 2, 3, 4]],
+        &[],
+    ];
+    for (groups, (rule, word)) in layouts.into_iter().flat_map(|groups| RULES.map(|rule| (groups, rule))) {
+        let example = Example {
+            entities: sets(),
+            ..Example::with(groups)
+        };
+        let mut words = example.words(rule);
+        let mut store = Store::open(&mut words).unwrap();
+        for hand in sets() {
+            for bar in sets() {
+                example.check(&mut store, rule, &hand, &bar);
+            }
+        }
+        assert_eq!(words[RULE], word);
+    }
+}
+
+/// Without a bar RANGE tells the same under both rules.
+#[test]
+fn ranges_without_bar() {
+    for example in [ring_of_two(), ring_of_one()] {
+        let [older, newer] = RULES.map(|(rule, _)| {
+            let mut words = example.words(rule);
+            let mut store = Store::open(&mut words).unwrap();
+            let told = sets().into_iter().map(|hand| range(&mut store, &hand, &[]));
+            told.collect::<Vec<Rows>>()
+        });
+        assert_eq!(older, newer);
+        // Four single kinds and two groups.
+        assert_eq!(older.iter().flatten().count(), 6);
+    }
+}
+
+/// All commands, accepted and refused, leave the rule; and the words are the same under both, but for it.
+#[test]
+fn rule_stays() {
+    let [mut older, newer] = RULES.map(|(rule, word)| {
+        let mut words = ring_of_two().words(rule);
+        let mut store = Store::open(&mut words).unwrap();
+        assert_eq!(range(&mut store, &[1, 2], &[3, 4]).is_some(), rule == Rule::Older);
+        set_caller(&mut store, 3);
+        refuse(&mut store);
+        run_every(&mut store);
+        assert_eq!(words[RULE], word);
+        words
+    });
+    older[RULE] = 1;
+    assert_eq!(older, newer);
+}
+
+/// Only another start over the words changes the rule, and a refused one does not.
+#[test]
+fn another_start() {
+    let example = ring_of_two();
+    let mut words = example.words(Rule::Newer);
+    let kept = words.clone();
+    assert!(Store::start(&mut words, N, 129).is_err());
+    assert!(Store::start(&mut words[..NEEDED - 1], N, K).is_err());
+    assert!(Store::start_with(&mut words, 0, K, Rule::Older).is_err());
+    assert!(Store::start_with(&mut words[..NEEDED - 1], N, K, Rule::Older).is_err());
+    assert_eq!(words, kept);
+
+    let mut store = Store::start(&mut words, N, K).unwrap();
+    example.fill(&mut store);
+    assert_eq!(range(&mut store, &[1, 2], &[3, 4]), Some((1, 3)));
+    assert_eq!(words[RULE], 0);
+    for (rule, word) in RULES.into_iter().rev() {
+        let mut store = Store::start_with(&mut words, N, K, rule).unwrap();
+        example.fill(&mut store);
+        assert_eq!(range(&mut store, &[1, 2], &[3, 4]).is_some(), rule == Rule::Older);
+        assert_eq!(words[RULE], word);
+    }
+}
+
+/// Roll and columns do not show the rule.
+#[test]
+fn rule_does_not_show() {
+    let [older, newer] = RULES.map(|(rule, _)| {
+        let mut words = ring_of_two().words(rule);
+        let store = Store::open(&mut words).unwrap();
+        let mut roll = vec![0x5a; 256];
+        let length = store.roll(&mut roll).unwrap();
+        let columns = [(1, 4), (2, 3), (3, 2), (4, 1)];
+        let rows = columns.map(|(kind, rows)| store.rows(kind, 0, rows).unwrap().collect::<Vec<Row>>());
+        (length, roll, rows)
+    });
+    assert_eq!(older, newer);
+    // Four entities and ten components.
+    assert_eq!(older.0, 4 + 9 * (4 + 10));
+}
+
+/// Words with 0 or 1 for the rule are sound, and read by it, whichever start made them; with any other they are not.
+#[test]
+fn sound_rules() {
+    for (rule, _) in RULES {
+        let mut words = ring_of_two().words(rule);
+        for none in [2, 3, 255, 256, 257, 65_536, 65_537, 1 << 31, u32::MAX] {
+            words[RULE] = none;
+            unsound(&mut words);
+            assert_eq!(Store::open(&mut words).unwrap_err(), Refusal::Unsound);
+        }
+        for (rule, word) in RULES {
+            words[RULE] = word;
+            let mut store = Store::open(&mut words).unwrap();
+            assert_eq!(store.column(4, Part::Entities, 0, 1), Ok(&[1, 1][..]));
+            assert_eq!(store.roll(&mut [0; 256]), Ok(4 + 9 * (4 + 10)));
+            assert_eq!(range(&mut store, &[1, 2], &[3, 4]).is_some(), rule == Rule::Older);
+            assert_eq!(words[RULE], word);
+        }
     }
 }
 
