@@ -52,11 +52,11 @@ as-told true = refl
 as-told false = refl
 
 module _ (n k : ℕ) (newer : Bool) (w w₁ w₂ : List ℕ) (L : Limits n k) (enough : columnStart n k ≤ length w) (C : Cleared w (columnStart n k) w₁) (T : TableCleared w₁ MAX-KINDS w₂) where
-  abbrev w′ : List ℕ
-  w′ = set (set (set w₂ CAPACITY n) KIND-CAPACITY k) RULE (boolByte newer)
-
   abbrev v : List ℕ
   v = set (set w₂ CAPACITY n) KIND-CAPACITY k
+
+  abbrev w′ : List ℕ
+  w′ = set v RULE (boolByte newer)
 
   abbrev end : ℕ
   end = columnStart n k

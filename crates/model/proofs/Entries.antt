@@ -1,4 +1,4 @@
--- The entries *start*, *column* and *roll*: refused exactly where the table gives it, and what an accepted one gives. Assumes nothing.
+-- The entries *start* (and *start_with*), *column* and *roll*: refused exactly where the table gives it, and what an accepted one gives. Assumes nothing.
 use mathlib.Core.Path.{_≡_, refl, ap, sym, _∙_}
 use mathlib.Core.Logic.{_↔_}
 use mathlib.Core.Bool.{Bool, true, false, not, _||_}

@@ -9,10 +9,10 @@ use lib.Dec.{eqb, leb}
 use lib.ListN.{length, getD, take, drop, set, take-append-drop, length-append}
 use lib.Seq.{drop-cons, take-take, drop-length}
 use Rattle.model.specs.Lists.{one, countOf, place}
-use Rattle.model.proofs.ListLaws.{count-append, count-kept, self-count, count-at, count-place, getD-place, shorter, as-long, drop-step, put-next}
+use Rattle.model.proofs.ListLaws.{count-append, count-kept, count-left-out, self-count, count-at, count-place, getD-place, shorter, as-long, drop-step, put-next}
 use Rattle.model.specs.Model.{mem, allOf, anyOf, within, meets, sameSet, without, common, headKind}
 use Rattle.model.specs.Sound.{In, Distinct}
-use Rattle.model.proofs.BoolLaws.{by-lt, bool-cases, cond-not, or-cases, or-false, or-false-right, not-true, and-left, and-right}
+use Rattle.model.proofs.BoolLaws.{by-lt, bool-cases, or-cases, or-false, or-false-right, not-true, and-left, and-right}
 
 pub in-count : (l : List ℕ) (k : ℕ) → In l k → 1 ≤ countOf eqb k l
 in-count [] k i = absurd (false≢true i)
@@ -47,8 +47,7 @@ distinct-snoc l k d n j =
 
 pub count-without : (ks js : List ℕ) (k : ℕ) → countOf eqb k (without ks js) ≡ cond (mem k js) 0 (countOf eqb k ks)
 count-without ks js k =
-    count-kept eqb eqb-true (λ j. not (mem j js)) (λ l. without l js) refl (λ j l. cond-not (mem j js) (without l js) (j ∷ without l js)) ks k
-    ∙ sym (cond-not (mem k js) 0 (countOf eqb k ks))
+    count-left-out eqb eqb-true (λ j. mem j js) (λ l. without l js) refl (λ j l. refl) ks k
 
 pub count-without-le : (ks js : List ℕ) (k : ℕ) → countOf eqb k (without ks js) ≤ countOf eqb k ks
 count-without-le ks js k = bool-cases (mem k js) (λ t. omega (arith, rw t at (count-without ks js k))) (λ t. omega (arith, rw t at (count-without ks js k)))
@@ -270,6 +269,11 @@ unmet-in ks js m k i = not-true (mem k ks) (λ t. true≢false (sym (any-in (λ 
 pub within-counts : (js ks : List ℕ) → Distinct js → within js ks ≡ true → (k : ℕ) → countOf eqb k js ≤ countOf eqb k ks
 within-counts js ks d w k =
     by-lt 0 (countOf eqb k js) (λ h. omega (arith, d k, in-count ks k (all-in (λ j. mem j ks) js w k (count-in js k h)))) (λ h. omega arith)
+
+-- lists of the same kinds, each once, are as long
+pub same-length : (ks js : List ℕ) → Distinct ks → Distinct js → sameSet ks js ≡ true → length ks ≡ length js
+same-length ks js dk dj s =
+    as-long ks js (λ k. omega (arith, within-counts ks js dk (and-left (within ks js) (within js ks) s) k, within-counts js ks dj (and-right (within ks js) (within js ks) s) k))
 
 -- ks is as long as js and what js lacks
 pub without-length : (ks js : List ℕ) → Distinct ks → Distinct js → within js ks ≡ true → length js + length (without ks js) ≡ length ks

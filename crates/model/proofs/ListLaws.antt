@@ -1,7 +1,7 @@
 -- Laws on lists that speak of nothing else: counts, places and swaps; what a list has in front and behind; bytes stored. Assumes nothing.
 use mathlib.Core.Path.{_≡_, refl, ap, ap₂, sym, _∙_, subst}
 use mathlib.Core.Logic.{_≢_}
-use mathlib.Core.Bool.{Bool, true, false, cond}
+use mathlib.Core.Bool.{Bool, true, false, cond, not}
 use mathlib.Core.List.{List, [], _∷_, _++_, map, append-assoc, append-nil}
 use Prim.Native.Nat.{ℕ, zero, suc, _+_, _-_, _≤_, _<_, zero-le, suc-le-suc}
 use native.Mathlib.Omega.{arith}
@@ -13,7 +13,7 @@ use borrow.Author.Tests.{eq-eqb, eqb-true}
 use lib.Dec.{eqb}
 use native.Mathlib.Numerals.{add-one}
 use Rattle.model.specs.Lists.{swap, one, after, countOf, place, cutAt}
-use Rattle.model.proofs.BoolLaws.{bool-cases, by-eq, by-lt, cond-same}
+use Rattle.model.proofs.BoolLaws.{bool-cases, by-eq, by-lt, cond-same, cond-not}
 
 module _ {A : Type 0} where
   pub length-swap : (d : A) (i j : ℕ) (l : List A) → length (swap d i j l) ≡ length l
@@ -226,6 +226,12 @@ count-kept same sound p f none more (y ∷ l) x = ap (countOf same x) (more y l)
     go true e false u r = let v : p x ≡ false = ap p (sound x y e) ∙ u in rw v (rw v at r)
     go false e true u r = rw (e, zero-add (countOf same x (f l)), zero-add (countOf same x l)) r
     go false e false u r = rw (zero-add (countOf same x l)) r
+
+-- and where f leaves those out
+pub count-left-out : {A : Type 0} (same : A → A → Bool) → ((x y : A) → same x y ≡ true → x ≡ y) → (p : A → Bool) (f : List A → List A) → f [] ≡ [] → ((y : A) (l : List A) → f (y ∷ l) ≡ cond (p y) (f l) (y ∷ f l))
+    → (l : List A) (x : A) → countOf same x (f l) ≡ cond (p x) 0 (countOf same x l)
+count-left-out same sound p f none more l x =
+    count-kept same sound (λ y. not (p y)) f none (λ y m. more y m ∙ cond-not (p y) (f m) (y ∷ f m)) l x ∙ sym (cond-not (p x) 0 (countOf same x l))
 
 -- ---- the element at p goes, and the last takes its place
 

@@ -2,7 +2,7 @@
 -- on these (Rules.antt). Assumes nothing.
 use mathlib.Core.Path.{_≡_, refl, ap, ap₂, sym, _∙_, subst}
 use mathlib.Core.Logic.{_↔_, _⊎_, inl, inr, ⊎-elim}
-use mathlib.Core.Bool.{true, false, cond, not, _&&_}
+use mathlib.Core.Bool.{true, false, cond, _&&_}
 use mathlib.Core.Option.{Option, some, none}
 use mathlib.Core.List.{List, [], _∷_, _++_, map, map-map, append-assoc, append-nil}
 use Prim.Native.Nat.{ℕ, zero, suc, _+_, _-_, _≤_, _<_}
@@ -11,7 +11,7 @@ use borrow.Author.Tests.{eqb-true, eq-eqb, lt-ltb}
 use lib.Dec.{eqb}
 use lib.ListN.{length, take, drop, getD, length-drop, length-map, List·getD-map, take-append-drop}
 use lib.Seq.{length-take-le, take-all, drop-cons}
-use Rattle.model.proofs.ListLaws.{count-append, count-kept, count-length, length-zero, map-at, map-drop, map-take, place-once}
+use Rattle.model.proofs.ListLaws.{count-append, count-left-out, count-length, length-zero, map-at, map-drop, map-take, place-once}
 use Rattle.model.specs.Model.{Entity, Row, SparseSet, Group, Family, Range, none, found, sameEntity, noEntity, noRow, sameSet, setOf, entityOf, keys, at, held, allHeld, headKind, kindsOf, newGroup, firstRange, rangeAt, rangeIn, rangeAll, single, rangeFor}
 use Rattle.model.specs.Store.{Store}
 use Rattle.model.specs.Snapshot.{valueAt}
@@ -19,7 +19,7 @@ use Rattle.model.specs.Entries.{rowValue, part}
 use Rattle.model.specs.Sound.{cnt, In, key, holders, Distinct, layoutKinds, Rising, BuildableFamilies, Right, RightFrom, AllRight, Between, StoreSound}
 use Rattle.model.specs.Shown.{lacking, described, Showing, EqualGroup, EqualNewKinds, Shows, oneKind, aGroup, twoGroups, Hold}
 use Rattle.model.proofs.SparseSets.{entity-eq, entity-same}
-use Rattle.model.proofs.BoolLaws.{cond-case, cond-not, and-left, and-right, bool-cases}
+use Rattle.model.proofs.BoolLaws.{cond-case, and-left, and-right, bool-cases}
 use Rattle.model.proofs.Walk.{held-count, lacks-count}
 use Rattle.model.proofs.KindLists.{in-left, in-right, in-one, not-both, all-same, same-to, same-from, differ-left, head-in, length-one, distinct-left, distinct-right, distinct-apart, all-joined}
 use Rattle.model.proofs.Invariant.{holders-count}
@@ -37,9 +37,7 @@ module _ (sets : List SparseSet) where
   holders-same h g s (e ∷ l) = rw (held-same e h g s, holders-same h g s l)
 
   lacking-count : (b : List ℕ) (l : List Entity) (x : Entity) → cnt x (lacking b sets l) ≡ cond (allHeld x b sets) 0 (cnt x l)
-  lacking-count b l x =
-      count-kept sameEntity entity-eq (λ e. not (allHeld e b sets)) (lacking b sets) refl (λ e r. cond-not (allHeld e b sets) (lacking b sets r) (e ∷ lacking b sets r)) l x
-      ∙ sym (cond-not (allHeld x b sets) 0 (cnt x l))
+  lacking-count b l x = count-left-out sameEntity entity-eq (λ e. allHeld e b sets) (lacking b sets) refl (λ e r. refl) l x
 
 -- ---- a range that is right shows them
 

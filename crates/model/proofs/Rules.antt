@@ -2,24 +2,23 @@
 -- Assumes nothing.
 use mathlib.Core.Path.{_≡_, refl, ap, sym, _∙_, subst}
 use mathlib.Core.Logic.{_↔_, inl, inr}
-use mathlib.Core.Bool.{Bool, true, false, cond, not, _&&_, _||_}
+use mathlib.Core.Bool.{Bool, true, false, cond, _&&_, _||_}
 use mathlib.Core.List.{List, [], _∷_}
 use Prim.Native.Nat.{ℕ, zero, suc, _+_, _≤_}
 use native.Mathlib.Omega.{arith}
-use borrow.Author.Tests.{eqb-true, eq-eqb, le-ltb, ltb-false}
-use lib.Dec.{eqb, ltb}
+use borrow.Author.Tests.{le-ltb, ltb-false}
+use lib.Dec.{ltb}
 use lib.ListN.{length, getD, take, drop}
 use Rattle.model.specs.Numbers.{MAX-ENTITIES}
-use Rattle.model.specs.Lists.{countOf}
-use Rattle.model.specs.Model.{Entity, SparseSet, Family, Storage, Range, none, found, sameEntity, anyOf, sameSet, setOf, held, allHeld, kindsOf, newGroup, rangeFor, rangeUnder}
+use Rattle.model.specs.Model.{Entity, SparseSet, Family, Storage, Range, none, found, sameEntity, anyOf, setOf, held, allHeld, kindsOf, newGroup, rangeFor, rangeUnder}
 use Rattle.model.specs.Store.{Settings, Store, bytesOf, number, stagedKinds}
 use Rattle.model.specs.Commands.{RANGE, rangeBytes, accepted}
 use Rattle.model.specs.Sound.{cnt, In, key, Distinct, holders, StoreSound}
 use Rattle.model.specs.Shown.{lacking, lackingAll, AllAndNone, described, Showing, EqualGroup, EqualNewKinds, Shows, oneKind, aGroup, twoGroups, OneNewKind, ShowsUnder, foundIn, startIn, endIn, RangeAnswer}
-use Rattle.model.proofs.ListLaws.{count-kept, count-length, count-length-le}
-use Rattle.model.proofs.BoolLaws.{bool-cases, cond-case, cond-not}
+use Rattle.model.proofs.ListLaws.{count-left-out, count-length-le}
+use Rattle.model.proofs.BoolLaws.{bool-cases, cond-case}
 use Rattle.model.proofs.SparseSets.{entity-eq, entity-same}
-use Rattle.model.proofs.KindLists.{in-count, count-in, same-to, same-from, distinct-left, distinct-right}
+use Rattle.model.proofs.KindLists.{same-length, distinct-left, distinct-right}
 use Rattle.model.proofs.Invariant.{holders-count}
 use Rattle.model.proofs.Numbers.{live-few}
 use Rattle.model.proofs.Operations.{sound-held}
@@ -32,14 +31,19 @@ use Rattle.model.proofs.Ranges.{range-shows, range-where, range-none, f
 pub older-range : (h b : List ℕ) (p : Storage) → rangeUnder false h b p ≡ rangeFor h b p
 older-range h b p = refl
 
--- what is found under either is 01's
-pub under-range : (newer : Bool) (h b : List ℕ) (p : Storage) (a e : ℕ) → rangeUnder newer h b p ≡ found a e → rangeFor h b p ≡ found a e
-under-range newer h b p a e q = bool-cases (newer && ltb 1 (length b)) (λ t. absurd (none-found a e (rw t at q))) (λ t. rw t at q)
-
 -- with a bar of one kind, or with none, both find it
 pub one-under : (newer : Bool) (h b : List ℕ) (p : Storage) → length b ≤ 1 → rangeUnder newer h b p ≡ rangeFor h b p
 one-under false h b p le = refl
-one-under true h b p le = rw (le-ltb 1 (length b) le)
+one-under true h b p le = ap (λ (t : Bool). cond t none (rangeFor h b p)) (le-ltb 1 (length b) le)
+
+-- a range that may be hidden: one that is found is not
+not-hidden : (t : Bool) (r : Range) (a e : ℕ) → cond t none r ≡ found a e → (t ≡ false) × (r ≡ found a e)
+not-hidden true r a e q = absurd (none-found a e q)
+not-hidden false r a e q = (refl, q)
+
+-- what is found under either is 01's
+pub under-range : (newer : Bool) (h b : List ℕ) (p : Storage) (a e : ℕ) → rangeUnder newer h b p ≡ found a e → rangeFor h b p ≡ found a e
+under-range newer h b p a e q = not-hidden (newer && ltb 1 (length b)) (rangeFor h b p) a e q .1
 
 -- ---- a bar of one kind: to lack one or more of it is to have none of it
 
@@ -72,10 +76,7 @@ one-showing sets live h b a e le W =
 -- ---- whom the newer rule describes
 
 all-lacking-count : (b : List ℕ) (sets : List SparseSet) (l : List Entity) (x : Entity) → cnt x (lackingAll b sets l) ≡ cond (anyOf (λ k. held x (setOf sets k)) b) 0 (cnt x l)
-all-lacking-count b sets l x =
-    let some : Entity → Bool = λ e. anyOf (λ k. held e (setOf sets k)) b in
-    count-kept sameEntity entity-eq (λ e. not (some e)) (lackingAll b sets) refl (λ e r. cond-not (some e) (lackingAll b sets r) (e ∷ lackingAll b sets r)) l x
-    ∙ sym (cond-not (some x) 0 (cnt x l))
+all-lacking-count b sets l x = count-left-out sameEntity entity-eq (λ e. anyOf (λ k. held e (setOf sets k)) b) (lackingAll b sets) refl (λ e r. refl) l x
 
 newer-count : (h b : List ℕ) (sets : List SparseSet) (live : List Entity) (x : Entity) → cnt x (described true h b sets live) ≡ cond (anyOf (λ k. held x (setOf sets k)) b) 0 (cnt x (holders h sets live))
 newer-count h [] sets live x = refl
@@ -101,20 +102,12 @@ newer-exactly sets live h b a e W k i x =
     let d = newer-describes h b sets live x in
     ((λ l. d .0 (omega (arith, l, W .exact k i x))), (λ A. omega (arith, d .1 A, W .exact k i x)))
 
--- ---- lists of the same kinds, each once, are as long
+-- ---- the new kinds of a group of a family
 
-same-length : (b r : List ℕ) → Distinct b → Distinct r → sameSet b r ≡ true → length b ≡ length r
-same-length b r db dr s = count-length eqb (λ x y. eqb-true x y) (λ x. eq-eqb x x refl) b r (λ k. each k (countOf eqb k b) refl (countOf eqb k r) refl)
-  where
-    each : (k m : ℕ) → countOf eqb k b ≡ m → (n : ℕ) → countOf eqb k r ≡ n → countOf eqb k b ≡ countOf eqb k r
-    each k zero p zero q = p ∙ sym q
-    each k zero p (suc n) q = absurd (omega (arith, p, in-count b k (same-from b r s k (count-in r k (omega (arith, q))))))
-    each k (suc m) p n q = omega (arith, p, db k, dr k, in-count r k (same-to b r s k (count-in b k (omega (arith, p)))))
-
-ring-distinct : (f : Family) → Distinct (kindsOf f) → (j : ℕ) → Distinct (getD f j (newGroup []) .newKinds)
-ring-distinct [] d j = λ k. omega arith
-ring-distinct (r ∷ f) d zero = distinct-left (r .newKinds) (kindsOf f) d
-ring-distinct (r ∷ f) d (suc j) = ring-distinct f (distinct-right (r .newKinds) (kindsOf f) d) j
+new-kinds-distinct : (f : Family) → Distinct (kindsOf f) → (j : ℕ) → Distinct (getD f j (newGroup []) .newKinds)
+new-kinds-distinct [] d j = λ k. omega arith
+new-kinds-distinct (r ∷ f) d zero = distinct-left (r .newKinds) (kindsOf f) d
+new-kinds-distinct (r ∷ f) d (suc j) = new-kinds-distinct f (distinct-right (r .newKinds) (kindsOf f) d) j
 
 -- ---- where a range is found, and what it shows
 
@@ -122,37 +115,37 @@ module _ (s : Store) (S : StoreSound s) (h b : List ℕ) (once : Distinct b) whe
   abbrev F : List Family
   F = s .storage .layout
 
-  -- the bar is as long as the ring that it is equal to
-  bar-length : (g : EqualGroup h F) → EqualNewKinds b (getD F (g .family) []) (g .group) → length b ≡ length (getD (getD F (g .family) []) (suc (g .group)) (newGroup []) .newKinds)
-  bar-length g e =
+  -- the excluded kinds are as many as the new kinds that they are equal to
+  excluded-length : (g : EqualGroup h F) → EqualNewKinds b (getD F (g .family) []) (g .group) → length b ≡ length (getD (getD F (g .family) []) (suc (g .group)) (newGroup []) .newKinds)
+  excluded-length g e =
       same-length b (getD (getD F (g .family) []) (suc (g .group)) (newGroup []) .newKinds) once
-      (ring-distinct (getD F (g .family) []) (family-distinct F (S .layout .once) (g .family)) (suc (g .group))) (e .equal)
+      (new-kinds-distinct (getD F (g .family) []) (family-distinct F (S .layout .once) (g .family)) (suc (g .group))) (e .equal)
 
-  -- where 01 finds one, the larger group's ring is one kind exactly if the bar is, or is empty
-  ring-bar : (w : Shows h b F) → OneNewKind h b F w ↔ (length b ≤ 1)
-  ring-bar (oneKind p q) = ((λ z. omega (arith, q)), (λ z. tt))
-  ring-bar (aGroup p g) = ((λ z. omega (arith, p)), (λ z. tt))
-  ring-bar (twoGroups p g e) = ((λ z. omega (arith, bar-length g e, z)), (λ z. omega (arith, bar-length g e, p, z)))
+  -- where 01 finds one, the larger group has one new kind exactly if one kind at most is excluded
+  one-new-kind : (w : Shows h b F) → OneNewKind h b F w ↔ (length b ≤ 1)
+  one-new-kind (oneKind p q) = ((λ z. omega (arith, q)), (λ z. tt))
+  one-new-kind (aGroup p g) = ((λ z. omega (arith, p)), (λ z. tt))
+  one-new-kind (twoGroups p g e) = ((λ z. omega (arith, excluded-length g e, z)), (λ z. omega (arith, excluded-length g e, p, z)))
 
-  -- a bar that passes under the newer rule
+  -- how many are excluded where the newer rule finds one
   passes : (a e : ℕ) → rangeUnder true h b (s .storage) ≡ found a e → length b ≤ 1
-  passes a e p = bool-cases (ltb 1 (length b)) (λ t. absurd (none-found a e (rw t at p))) (λ t. ltb-false 1 (length b) t)
+  passes a e p = ltb-false 1 (length b) (not-hidden (ltb 1 (length b)) (rangeFor h b (s .storage)) a e p .0)
 
   -- found only where the rule says so
   pub under-where : (newer : Bool) (a e : ℕ) → rangeUnder newer h b (s .storage) ≡ found a e → ShowsUnder newer h b F
   under-where false a e p = range-where s S h b a e p
   under-where true a e p =
       let w : Shows h b F = range-where s S h b a e (under-range true h b (s .storage) a e p) in
-      record { shows = w; one = ring-bar w .1 (passes a e p) }
+      record { shows = w; one = one-new-kind w .1 (passes a e p) }
 
   -- none exactly where it says none
   pub under-none : (newer : Bool) → (rangeUnder newer h b (s .storage) ≡ none) ↔ (ShowsUnder newer h b F → ⊥)
   under-none false = range-none s S h b
   under-none true = (
-    (λ e w. range-none s S h b .0 (sym (one-under true h b (s .storage) (ring-bar (w .shows) .0 (w .one))) ∙ e) (w .shows)),
-    (λ f. bool-cases (ltb 1 (length b)) (λ t. rw t) (λ t.
+    (λ e w. range-none s S h b .0 (sym (one-under true h b (s .storage) (one-new-kind (w .shows) .0 (w .one))) ∙ e) (w .shows)),
+    (λ f. bool-cases (ltb 1 (length b)) (λ t. ap (λ (x : Bool). cond x none (rangeFor h b (s .storage))) t) (λ t.
         let le : length b ≤ 1 = ltb-false 1 (length b) t in
-        one-under true h b (s .storage) le ∙ range-none s S h b .1 (λ w. f (record { shows = w; one = ring-bar w .1 le })))),
+        one-under true h b (s .storage) le ∙ range-none s S h b .1 (λ w. f (record { shows = w; one = one-new-kind w .1 le })))),
   )
 
   -- what is found shows exactly the entities that hand and bar describe under the rule

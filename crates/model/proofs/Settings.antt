@@ -58,8 +58,8 @@ module _ (s : Store) where
       go (goes w a s₂) k = k ∙ e
 
   -- after each command of every run
-  pub settings-kept : (t : List ℕ) (room : ℕ) → Bytes t → EachStore (SameSettings s) (trail t room s)
-  settings-kept t room h = each-keeps (SameSettings s) still t room s h refl
+  pub trail-settings : (t : List ℕ) (room : ℕ) → Bytes t → EachStore (SameSettings s) (trail t room s)
+  trail-settings t room h = each-keeps (SameSettings s) still t room s h refl
 
   pub run-settings : (t : List ℕ) (room : ℕ) → Bytes t → SameSettings s ((run t room s) .store)
   run-settings t room h = all-keeps (SameSettings s) still t room s h refl

@@ -1,4 +1,4 @@
--- The other entries: *start*, *column*, *roll*. Each gives its number, and zeros beside it where it is refused. Refusal 3 is of the words and is judged
+-- The other entries: *start*, and told more *start_with*; *column*, *roll*. Each gives its number, and zeros beside it where it is refused. Refusal 3 is of the words and is judged
 -- before these (otherLines). Assumes nothing.
 use mathlib.Core.Path.{_≡_}
 use mathlib.Core.Bool.{Bool, true, false}

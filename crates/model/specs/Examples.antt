@@ -1,5 +1,5 @@
--- "Marked examples of the definitions": 01's fourteen, as a list under one theorem, each by what commands answer in a store that commands have built; and its
--- byte-exact tape. All computed. Assumes nothing.
+-- "Marked examples of the definitions": 01's fourteen, as a list under one theorem, each by what commands answer in a store that commands have built; its
+-- byte-exact tape; and in that store a tray, callers and the newer rule of 02. All computed. Assumes nothing.
 use mathlib.Core.Path.{_≡_, refl}
 use mathlib.Core.Bool.{true}
 use mathlib.Core.List.{List, [], _∷_, _++_, map}

@@ -317,8 +317,8 @@ rangeFor staged excluded s =
     let many = rangeAll staged excluded (s .layout) in
     cond (single staged excluded) one many
 
--- 02, No. 8: under the newer rule "RANGE with a bar finds something exactly where 01 does and the larger group's ring is one kind, and 01's range then";
--- 01 finds where the bar is equal to that ring, and so it is one kind where the bar is (under-none in proofs/Rules.antt has the sentence)
+-- 02, No. 8: under the newer rule "RANGE with a bar finds something exactly where 01 does and the larger group's ring is one kind". 01 finds where the bar
+-- is equal to that ring, and so it is one kind where the bar is (under-none in proofs/Rules.antt has the sentence)
 abbrev pub rangeUnder : Bool → List ℕ → List ℕ → Storage → Range
 rangeUnder newer staged excluded s = cond (newer && ltb 1 (length excluded)) none (rangeFor staged excluded s)
 

@@ -39,7 +39,7 @@ LAYOUT-GROUPS = 8
 abbrev pub CALLER : ℕ
 CALLER = 9
 
--- from here to the refusal counts stands what else a start is told: the rule. The other words are kept for more, and no code reads or writes them yet
+-- from here to the refusal counts stands what else a start is told: the rule. The other words are kept for more, and nothing reads them yet
 abbrev pub MORE-SETTINGS : ℕ
 MORE-SETTINGS = 10
 

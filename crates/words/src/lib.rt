@@ -25,14 +25,14 @@ pub const DRAFT_GROUPS: usize = 6;
 pub const LAYOUT_FAMILIES: usize = 7;
 
 pub const LAYOUT_GROUPS: usize = 8;
-// The caller, and the refusal counts of the sixteen callers.
+// The caller.
 pub const CALLER: usize = 9;
-
-pub const REFUSALS: usize = 16;
 // The rule, 0 the older, and the word of the newer.
 pub const RULE: usize = 10;
 
 pub const NEWER: u32 = 1;
+// The refusal counts of the sixteen callers.
+pub const REFUSALS: usize = 16;
 // The slot of each of the 128 kinds, and the word of a kind that has none.
 pub const TABLE: usize = 32;
 
