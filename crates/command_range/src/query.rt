@@ -112,10 +112,7 @@ pub fn range_under(words: &[u32]) -> GroupRange
     requires { ⌜ Sound (now words) ⌝ }
     ensures { λ r. ⌜ rangeOf r ≡ rangeUnder (meaning (now (words .entry)) .settings .newer) (stagedKinds (meaning (now (words .entry)))) (meaning (now (words .entry)) .control .excluded) (meaning (now (words .entry)) .storage) ⌝ }
 {
-    if !control::rule::is_newer(words) {
-        return group_range(words);
-    }
-    if 1 < control::excluded::excluded_len(words) {
+    if control::rule::is_newer(words) && 1 < control::excluded::excluded_len(words) {
         return GroupRange::Nothing;
     }
     group_range(words)

@@ -2,15 +2,14 @@
 -- rules"; where the newer finds a range and what it shows. Theorems over the entries' contracts alone (specs/Entries.antt). Assumes nothing.
 use mathlib.Core.Path.{_≡_, refl, ap, _∙_, subst}
 use mathlib.Core.Logic.{_↔_}
-use mathlib.Core.Bool.{Bool, true, false}
-use mathlib.Core.List.{List}
+use mathlib.Core.Bool.{Bool, true, false, cond}
+use mathlib.Core.List.{List, _∷_, _++_}
 use Prim.Native.Nat.{ℕ, zero, suc, _≤_, _<_}
 use native.Mathlib.Omega.{arith}
-use mir.Val.{boolByte}
 use lib.Dec.{eqb}
-use lib.ListN.{length}
-use Rattle.model.specs.Store.{Settings, Store, emptyWith}
-use Rattle.model.specs.Run.{run}
+use lib.ListN.{length, take}
+use Rattle.model.specs.Store.{Settings, Store, emptyWith, stagedKinds}
+use Rattle.model.specs.Commands.{Command, RANGE, accepted}
 use Rattle.model.specs.Entries.{part}
 use Rattle.model.specs.Sound.{cnt, In, key}
 use Rattle.model.specs.Model.{Entity}
@@ -22,11 +21,12 @@ use Rattle.memory.specs.Header.{ruleOf}
 use Rattle.memory.specs.Meaning.{meaning, withRefusal}
 use Rattle.memory.specs.Arranged.{Sound}
 use Rattle.run.specs.declared.Ran.{Ran}
-use Rattle.store.specs.Course.{Course, ended, stopped, refused, done, commandOn, AfterEach, Reached, started, ran, settingsIn}
+use Rattle.store.specs.Course.{Course, ended, stopped, refused, done, commandOn, EachDone, EachAnswer, Reached, started, ran, settingsIn}
 use Rattle.store.specs.Entries.{StartsWith, ranOf, Runs}
-use Rattle.store.specs.Ranging.{OneEntity}
+use Rattle.store.specs.Ranging.{NewerTold, OneEntity}
 use Rattle.store.specs.Theorems.{UnsoundAt, Ruled}
 use Rattle.store.proofs.Demands.{run-course, run-keeps-sound, started-empty, reached-sound}
+use Rattle.store.proofs.Ranging.{ranges-in-run}
 use Rattle.store.proofs.Unsound.{unsound-at}
 
 -- ---- "a sound one has one of the two rules": 2 or more in word 10 is 3 at every entry
@@ -35,11 +35,11 @@ pub other-rule : (w : List ℕ) → NEWER < ruleOf w → UnsoundAt w
 other-rule w h = unsound-at w (λ S. omega (arith, S .arranged .rule))
 
 -- and 0 or 1 there says which
-rule-word : (w : List ℕ) → Sound w → ruleOf w ≡ boolByte (meaning w .settings .newer)
+rule-word : (w : List ℕ) → Sound w → ruleOf w ≡ cond (meaning w .settings .newer) NEWER 0
 unfolding meaning
 rule-word w S = go (ruleOf w) (S .arranged .rule)
   where
-    go : (x : ℕ) → x ≤ NEWER → x ≡ boolByte (eqb x NEWER)
+    go : (x : ℕ) → x ≤ NEWER → x ≡ cond (eqb x NEWER) NEWER 0
     go zero h = refl
     go (suc zero) h = refl
     go (suc (suc x)) h = absurd (omega arith)
@@ -56,18 +56,19 @@ pub started-ruled : (c : Settings) (w w′ : List ℕ) → StartsWith c w w′ 0
 unfolding emptyWith
 started-ruled c w w′ S = let e = started-empty c w w′ S in ruled-as w′ c (e .0) (ap (λ (s : Store). s .settings) (e .1))
 
--- ---- "and fixed for its life": after each command of a run, and after the run
+-- ---- "and fixed for its life": at each command of a run, and after the run
 
-ruled-in : (c : Settings) {w t w′ bytes : List ℕ} {room stop commands read : ℕ} (d : Course w t room w′ stop commands read bytes) → meaning w .settings ≡ c → AfterEach (Ruled c) d
-ruled-in c ended e = tt
-ruled-in c (stopped f) e = tt
-ruled-in c (refused w h f m s d) e = let is = ap (λ (x : Store). x .settings) (m .means) ∙ e in (ruled-as (withRefusal w) c s is, ruled-in c d is)
-ruled-in c (done w w₁ {t = t} {b = b} h n m s d) e =
+ruled-in : (c : Settings) {w t w′ bytes : List ℕ} {room stop commands read : ℕ} (d : Course w t room w′ stop commands read bytes) → Sound w → meaning w .settings ≡ c → EachDone (λ v k v′ l. Ruled c v × Ruled c v′) d
+ruled-in c ended S e = tt
+ruled-in c (stopped f) S e = tt
+ruled-in c (refused w h f m s d) S e = let is = ap (λ (x : Store). x .settings) (m .means) ∙ e in ((ruled-as w c S e, ruled-as (withRefusal w) c s is), ruled-in c d s is)
+ruled-in c (done w w₁ {t = t} {b = b} h n m s d) S e =
     let is = ap (λ (x : Store). x .settings) (m .means) ∙ accepted-settings (commandOn b t) (meaning w) ∙ e in
-    (ruled-as w₁ c s is, ruled-in c d is)
+    ((ruled-as w c S e, ruled-as w₁ c s is), ruled-in c d s is)
 
-pub ruled-after-each-command : (w w′ t o o′ : List ℕ) (r : Ran) (R : Runs w w′ t o o′ r) (S : Sound w) → AfterEach (Ruled (meaning w .settings)) (run-course w w′ t o o′ r R S)
-ruled-after-each-command w w′ t o o′ r R S = ruled-in (meaning w .settings) (run-course w w′ t o o′ r R S) refl
+-- before each command and after it
+pub ruled-in-run : (w w′ t o o′ : List ℕ) (r : Ran) (R : Runs w w′ t o o′ r) (S : Sound w) → EachDone (λ v k v′ l. Ruled (meaning w .settings) v × Ruled (meaning w .settings) v′) (run-course w w′ t o o′ r R S)
+ruled-in-run w w′ t o o′ r R S = ruled-in (meaning w .settings) (run-course w w′ t o o′ r R S) S refl
 
 settings-after-run : (w w′ t o o′ : List ℕ) (r : Ran) → Runs w w′ t o o′ r → meaning w′ .settings ≡ meaning w .settings
 settings-after-run w w′ t o o′ r R = ap (λ (s : Store). s .settings) (R .means) ∙ go (R .sound)
@@ -87,7 +88,7 @@ settings-reached (ran {w} {w′} {t} {o} {o′} {r} d R) = settings-after-run w 
 pub ruled-reached : {w : List ℕ} (d : Reached w) → Ruled (settingsIn d) w
 ruled-reached {w} d = ruled-as w (settingsIn d) (reached-sound d) (settings-reached d)
 
--- ---- a store under the newer rule: RANGE's ten bytes, of the hand h and the bar b (proofs/Ranging.antt has where such bytes are written)
+-- ---- a store under the newer rule: RANGE's ten bytes, of the hand h and the bar b
 
 module _ (s : Store) (newer : s .settings .newer ≡ true) (h b bytes : List ℕ) (A : RangeAnswer h b s bytes) where
   -- found exactly where 01 does and the larger group's ring is one kind
@@ -106,3 +107,27 @@ pub newer-row : (s : Store) (h b : List ℕ) (j k i : ℕ) (entities values enti
 newer-row s h b j k i entities values entities′ values′ newer E =
     newer-describes h b (s .storage .sets) (s .entities .live) (E .entity) .0
     (subst (λ (y : Bool). 1 ≤ cnt (E .entity) (described y h b (s .storage .sets) (s .entities .live))) newer (E .among))
+
+-- ---- and of every RANGE in every run of such a store
+
+-- what is said of each command by two statements
+each-both : {P Q R : List ℕ → Command → List ℕ → List ℕ → Type 0} → ((v : List ℕ) (k : Command) (v′ l : List ℕ) → P v k v′ l → Q v k v′ l → R v k v′ l)
+    → {w t w′ bytes : List ℕ} {room stop commands read : ℕ} (c : Course w t room w′ stop commands read bytes) → EachDone P c → EachDone Q c → EachDone R c
+each-both f ended p q = tt
+each-both f (stopped g) p q = tt
+each-both f (refused w {t = t} {bytes = bytes} {b = b} {n = n} h g m s c) p q = (f w (commandOn b t) (withRefusal w) (n ∷ bytes) (p .0) (q .0), each-both f c (p .1) (q .1))
+each-both f (done w w₁ {t = t} {bytes = bytes} {b = b} h n m s c) p q =
+    (f w (commandOn b t) w₁ (0 ∷ accepted (commandOn b t) (meaning w) .answer ++ bytes) (p .0) (q .0), each-both f c (p .1) (q .1))
+
+pub newer-in-run : (w w′ t o o′ : List ℕ) (r : Ran) (R : Runs w w′ t o o′ r) (S : Sound w) → meaning w .settings .newer ≡ true
+    → EachAnswer (λ v k l. k ≡ RANGE → NewerTold (meaning v) (take 10 l)) (run-course w w′ t o o′ r R S)
+newer-in-run w w′ t o o′ r R S newer = each-both told (run-course w w′ t o o′ r R S) (ruled-in-run w w′ t o o′ r R S) (ranges-in-run w w′ t o o′ r R S)
+  where
+    told : (v : List ℕ) (k : Command) (v′ l : List ℕ) → Ruled (meaning w .settings) v × Ruled (meaning w .settings) v′
+        → (k ≡ RANGE → RangeAnswer (stagedKinds (meaning v)) (meaning v .control .excluded) (meaning v) (take 10 l)) → k ≡ RANGE → NewerTold (meaning v) (take 10 l)
+    told v k v′ l p A e =
+        let is : meaning v .settings .newer ≡ true = ap (λ (x : Settings). x .newer) (p .0 .settings) ∙ newer in
+        record {
+          found = newer-found (meaning v) is (stagedKinds (meaning v)) (meaning v .control .excluded) (take 10 l) (A e);
+          there = newer-there (meaning v) is (stagedKinds (meaning v)) (meaning v .control .excluded) (take 10 l) (A e);
+        }

@@ -40,7 +40,7 @@ abbrev pub StartLeaves : List ℕ → List ℕ → Started → Type 0
 StartLeaves w w′ (refusesStart m) = w′ ≡ w
 StartLeaves w w′ (makes s) = Sound w′ × (meaning w′ ≡ s)
 
--- told the settings c over the words w, which it leaves as w′, with number r
+-- told the settings c over the words w, which it leaves as w′, with number r. 02, No. 8: "A store may be started under the newer rule, told by a bool"
 pub record StartsWith (c : Settings) (w w′ : List ℕ) (r : ℕ) : Type 0 where
   pub number : r ≡ startNumber (startWith c (length w))
   pub leaves : StartLeaves w w′ (startWith c (length w))

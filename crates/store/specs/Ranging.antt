@@ -1,6 +1,7 @@
 -- What RANGE and *column* show together, over the words: the answer's ten bytes, and the columns of the hand's kinds from the start to the end that those
 -- bytes tell. Assumes nothing.
 use mathlib.Core.Path.{_≡_}
+use mathlib.Core.Logic.{_↔_}
 use mathlib.Core.Option.{some}
 use mathlib.Core.List.{List}
 use Prim.Native.Nat.{ℕ, _+_, _*_, _-_, _≤_}
@@ -11,7 +12,7 @@ use Rattle.model.specs.Run as model
 use Rattle.model.specs.Snapshot.{valueAt}
 use Rattle.model.specs.Entries.{entityWords, valueWords, part}
 use Rattle.model.specs.Sound.{cnt, In, key}
-use Rattle.model.specs.Shown.{described, RangeAnswer, Hold}
+use Rattle.model.specs.Shown.{AllAndNone, described, ShowsNewer, foundIn, startIn, endIn, RangeAnswer, Hold}
 use Rattle.component.specs.SparseSet.{valueOf}
 use Rattle.memory.specs.Meaning.{meaning}
 use Rattle.memory.specs.Arranged.{Sound}
@@ -30,6 +31,13 @@ pub record RangeRan (x : model.Ran) (w′ o o′ : List ℕ) (r : Ran) : Type 0 
   -- the last ten bytes written tell of the hand and the bar as they were, of the store that is left, which knows all kinds of that hand
   pub answer : RangeAnswer (stagedKinds (x .store)) (x .store .control .excluded) (meaning w′) (take 10 (drop (r .written - 10) o′))
   pub known : (k : ℕ) → In (stagedKinds (x .store)) k → In (meaning w′ .kinds) k
+
+-- 02, No. 8: what RANGE's ten bytes tell of a store under the newer rule, for its hand and its bar: found "exactly where 01 does and the larger group's
+-- ring is one kind", and then, from start to end in each sparse set of the hand, "exactly the cards with all of the hand and none of the barred"
+pub record NewerTold (s : Store) (bytes : List ℕ) : Type 0 where
+  pub found : (foundIn bytes ≡ 1) ↔ ShowsNewer (stagedKinds s) (s .control .excluded) (s .storage .layout)
+  pub there : foundIn bytes ≡ 1 → (k : ℕ) → In (stagedKinds s) k → (x : Entity)
+      → (1 ≤ cnt x (part (startIn bytes) (endIn bytes) (key (s .storage .sets) k))) ↔ AllAndNone (s .storage .sets) (s .entities .live) (stagedKinds s) (s .control .excluded) x
 
 -- column of kind k from a to e over words that mean the store s, with number n: the entities there, and the values that these entities hold
 pub record ColumnsShown (s : Store) (k a e n : ℕ) (entities values : List ℕ) : Type 0 where

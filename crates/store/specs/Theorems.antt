@@ -1,12 +1,11 @@
 -- What the theorems on the entries say of an answer: by its table, of two answers to the same call, of a store that is reached. Assumes nothing.
 use mathlib.Core.Path.{_≡_}
 use mathlib.Core.Logic.{_≢_, _↔_}
-use mathlib.Core.Bool.{Bool}
+use mathlib.Core.Bool.{Bool, cond}
 use mathlib.Core.List.{List, []}
 use Prim.Native.Nat.{ℕ, suc, _+_, _≤_, _<_}
 use Rattle.model.specs.Refusals.{Line, NoneHolds, First, Unchanged}
 use Rattle.memory.specs.Arranged.{Sound}
-use mir.Val.{boolByte}
 use lib.ListN.{length, getD, take}
 use Rattle.memory.specs.Header.{callerOf, refusalsAt, ruleOf}
 use Rattle.memory.specs.Meaning.{meaning}
@@ -17,7 +16,7 @@ use Rattle.model.specs.Store.{Settings, Store, oneMore, counted}
 use Rattle.model.specs.Sound.{GroupsRight, GroupsBetween}
 use Rattle.model.specs.Numbers.{CALLERS, LAST-CALLER, MAX-REFUSALS, UNSOUND}
 use Rattle.model.specs.Theorems.{recounted, ButCallers}
-use Rattle.words.specs.Offsets.{REFUSALS}
+use Rattle.words.specs.Offsets.{NEWER, REFUSALS}
 use denote.Ref.{RefT}
 use Rattle.store.specs.Entries.{ColumnNumbered, ColumnPart, Runs, Rolls}
 use Rattle.store.specs.Linked.{ColumnPlaced, ColumnCopied}
@@ -72,7 +71,7 @@ pub record RunButCallers (w′ v′ o′ p′ : List ℕ) (r q : Ran) : Type 0 w
   pub store : ButCallers (meaning w′) (meaning v′)
 
 -- words of one meaning, sound or not alike: *run*, *roll* and *column*, its number, place and copy do not tell them apart (proofs/Determined.antt);
--- *start* looks at nothing but how many they are
+-- the two starts look at nothing but how many they are
 pub record Alike (w v : List ℕ) : Type 0 where
   pub means : meaning w ≡ meaning v
   pub sound : Sound w ↔ Sound v
@@ -138,4 +137,4 @@ pub record LeftInWords (s : Store) (w : List ℕ) (r : Ran) : Type 0 where
 -- 02, No. 8: "told by a bool and fixed for its life": the words w mean a store of these settings, and the rule's word says its rule
 pub record Ruled (c : Settings) (w : List ℕ) : Type 0 where
   pub settings : meaning w .settings ≡ c
-  pub word : ruleOf w ≡ boolByte (c .newer)
+  pub word : ruleOf w ≡ cond (c .newer) NEWER 0
