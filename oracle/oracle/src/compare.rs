@@ -1,9 +1,10 @@
-//! Runs one case on the Rust, or past its reach on the plain reference, and on another side, and says where they part.
+//! Runs one case on the Rust, or past its reach and under the newer rule on the plain reference, and on another side, and
+//! says where they part.
 
 use crate::demand;
 use crate::past;
 use crate::reference::Reference;
-use crate::side::{Known, Seen, Side};
+use crate::side::{Known, Ranged, Rule, Seen, Side, EXCLUDED};
 use crate::tape::{self, Case, Chunk, Run, ROOMY};
 use sparsey::harness::{arranged, kinds_of, words_needed, Families, Oracle, Ran, Sets, COMMANDS, JUDGEMENTS, NUMBERS};
 use std::fmt::Write;
@@ -24,6 +25,8 @@ pub struct Figures {
     pub seen: Seen,
     /// What GROUP made of what was staged.
     pub judged: [u64; JUDGEMENTS.len()],
+    /// What RANGE found, by what was excluded.
+    pub ranged: Ranged,
 }
 
 impl Figures {
@@ -42,6 +45,9 @@ impl Figures {
             *mine += theirs;
         }
         for (mine, theirs) in self.judged.iter_mut().zip(other.judged) {
+            *mine += theirs;
+        }
+        for (mine, theirs) in self.ranged.iter_mut().flatten().zip(other.ranged.iter().flatten()) {
             *mine += theirs;
         }
     }
@@ -64,33 +70,88 @@ impl Figures {
                 .collect();
             writeln!(text, "  {:<9} {}", tape::NAMES[byte], answers.join(", ")).unwrap();
         }
-        let all = self.judged.iter().sum::<u64>() as f64;
-        if all == 0.0 {
-            return text;
-        }
-        let judged: Vec<String> = JUDGEMENTS
-            .iter()
-            .zip(self.judged)
-            .map(|(name, count)| format!("{name}: {count} ({:.1} %)", 100.0 * count as f64 / all))
+        text + &self.judged_text() + &self.ranged_text()
+    }
+
+    /// What GROUP made of what was staged, if that was counted.
+    fn judged_text(&self) -> String {
+        let all = self.judged.iter().sum();
+        let judged = JUDGEMENTS.iter().zip(self.judged);
+        let judged: Vec<String> = judged
+            .map(|(name, count)| format!("{name}: {}", share(count, all)))
             .collect();
-        writeln!(text, "GROUP by place: {}", judged.join(", ")).unwrap();
-        text
+        match all {
+            0 => String::new(),
+            _ => format!("GROUP by place: {}\n", judged.join(", ")),
+        }
+    }
+
+    /// What RANGE found, if that was counted.
+    fn ranged_text(&self) -> String {
+        let all = self.ranged.iter().flatten().sum();
+        let ranged = EXCLUDED.iter().zip(self.ranged);
+        let ranged: Vec<String> = ranged
+            .map(|(name, [found, none])| format!("{name}: {} and {}", share(found, all), share(none, all)))
+            .collect();
+        match all {
+            0 => String::new(),
+            _ => format!("RANGE by what is excluded, found and none: {}\n", ranged.join(", ")),
+        }
     }
 }
 
-/// What the other side stands beside: the Rust, or past its reach the plain reference.
+/// A count, and its share of all.
+fn share(count: u64, all: u64) -> String {
+    format!("{count} ({:.1} %)", 100.0 * count as f64 / all as f64)
+}
+
+/// What the other side stands beside, and under which rule. The Rust has the older alone.
 #[derive(Clone, Copy, PartialEq, Eq, Debug)]
 pub enum Beside {
     Rust(Sets),
-    Reference,
+    Reference(Rule),
 }
 
 impl Beside {
+    /// Past the Rust's reach.
+    pub const PAST: Beside = Beside::Reference(Rule::Older);
+    /// Under the newer rule.
+    pub const NEWER: Beside = Beside::Reference(Rule::Newer);
+
     /// That side, with no store yet.
     pub fn known(self) -> Box<dyn Known> {
         match self {
             Beside::Rust(sets) => Box::new(Oracle::new(sets)),
-            Beside::Reference => Box::new(Reference::new()),
+            Beside::Reference(_) => Box::new(Reference::new()),
+        }
+    }
+
+    pub fn is_rust(self) -> bool {
+        matches!(self, Beside::Rust(_))
+    }
+
+    /// The rule of the stores.
+    pub fn rule(self) -> Rule {
+        match self {
+            Beside::Rust(_) => Rule::Older,
+            Beside::Reference(rule) => rule,
+        }
+    }
+
+    /// What its starts are told: nothing where plain *start* does.
+    pub fn told(self) -> Option<Rule> {
+        match self.rule() {
+            Rule::Older => None,
+            Rule::Newer => Some(Rule::Newer),
+        }
+    }
+
+    /// In words, for reports.
+    pub fn text(self) -> &'static str {
+        match self {
+            Beside::Rust(_) => "beside the Rust",
+            Beside::PAST => "beside the reference",
+            Beside::NEWER => "beside the reference, under the newer rule",
         }
     }
 
@@ -98,9 +159,18 @@ impl Beside {
     fn close_state(self) -> u64 {
         match self {
             Beside::Rust(_) => 0,
-            Beside::Reference => 7,
+            Beside::Reference(_) => 7,
         }
     }
+}
+
+/// Starts a side by the case, told a rule or none: the number.
+pub fn begin(side: &mut (impl Side + ?Sized), case: &Case, told: Option<Rule>) -> u32 {
+    let number = side.start_told(told, words_needed(case.n, case.k), case.n, case.k);
+    if let Some(preset) = &case.preset {
+        side.preset(preset);
+    }
+    number
 }
 
 /// Makes the other side of a comparison, with no store yet.
@@ -112,6 +182,8 @@ pub struct Pair {
     pub other: Box<dyn Side>,
     pub figures: Figures,
     beside: Beside,
+    /// The rule that the last start was told.
+    rule: Rule,
     k: usize,
     /// What an answer buffer holds before a run.
     fill: u8,
@@ -134,6 +206,7 @@ impl Pair {
             other: make(),
             figures: Figures::default(),
             beside,
+            rule: Rule::Older,
             k: 0,
             fill: 0xa5,
         }
@@ -144,7 +217,7 @@ impl Pair {
         let mut pair = Self::new(beside, make);
         pair.k = case.k;
         pair.figures.cases = 1;
-        let number = pair.start_number(words_needed(case.n, case.k), case.n, case.k)?;
+        let number = pair.start_number(beside.told(), words_needed(case.n, case.k), case.n, case.k)?;
         assert_eq!(number, 0, "a case starts a store");
         if let Some(preset) = &case.preset {
             pair.known.preset(preset);
@@ -153,15 +226,28 @@ impl Pair {
         Ok(pair)
     }
 
-    /// *start* on both sides.
-    pub fn start_number(&mut self, words: usize, n: usize, k: usize) -> Result<u32, String> {
+    /// *start* on both sides, told a rule or none.
+    pub fn start_number(&mut self, told: Option<Rule>, words: usize, n: usize, k: usize) -> Result<u32, String> {
         let names = self.names();
-        let known = self.known.start(words, n, k);
-        let other = self.other.start(words, n, k);
-        same!(format!("start N {n}, K {k}, {words} words"), known, other, names);
+        let known = self.known.start_told(told, words, n, k);
+        let other = self.other.start_told(told, words, n, k);
+        let what = format!("start N {n}, K {k}, {words} words, told {told:?}");
+        same!(what, known, other, names);
+        if known == 0 {
+            self.rule = told.unwrap_or_default();
+        }
         self.complaint()?;
         self.counts()?;
+        self.same_rule()?;
         Ok(known)
+    }
+
+    /// Both sides have the rule that the start was told.
+    fn same_rule(&mut self) -> Result<(), String> {
+        let [known, other] = self.names();
+        same!("rule", Some(self.rule), self.known.rule(), ["told", known]);
+        same!("rule", Some(self.rule), self.other.rule(), ["told", other]);
+        Ok(())
     }
 
     /// The caller and all refusal counts.
@@ -184,7 +270,7 @@ impl Pair {
         self.other.complaint().map_or(Ok(()), Err)
     }
 
-    /// One run on both sides: stop, lengths, answer bytes, the bytes past them, and then caller and refusal counts.
+    /// One run on both sides: stop, lengths, answer bytes, the bytes past them, and then caller, refusal counts and rule.
     pub fn run(&mut self, run: &Run) -> Result<Ran, String> {
         Ok(self.answered(run)?.0)
     }
@@ -209,6 +295,7 @@ impl Pair {
         );
         self.complaint()?;
         self.counts()?;
+        self.same_rule()?;
 
         self.figures.runs += 1;
         self.figures.commands += ran.commands as u64;
@@ -359,16 +446,16 @@ impl Pair {
     /// group's new kinds excluded, and every kind alone. It empties what is staged and excluded.
     pub fn range_run(&mut self) -> Run {
         let [_, layout] = self.known.families();
-        let asked = [demand::rings(&layout), demand::kinds(&self.known.registered())].concat();
-        demand::run(&asked)
+        let rings = demand::rings(&layout, self.rule);
+        demand::run(&[rings, demand::kinds(&self.known.registered())].concat())
     }
 
-    /// The ranges of all groups, and of every kind alone; past the Rust also those that there are none of.
+    /// The ranges of all groups, and of every kind alone; beside the reference also those that there are none of.
     pub fn ranges(&mut self) -> Result<(), String> {
         let [_, layout] = self.known.families();
         let registered = self.known.registered();
-        let mut asked = [demand::rings(&layout), demand::kinds(&registered)].concat();
-        if self.beside == Beside::Reference {
+        let mut asked = [demand::rings(&layout, self.rule), demand::kinds(&registered)].concat();
+        if !self.beside.is_rust() {
             asked.extend(demand::none(&layout, &registered));
         }
         self.ask(&asked)
@@ -377,20 +464,20 @@ impl Pair {
     /// The ranges of all groups.
     fn group_ranges(&mut self) -> Result<(), String> {
         let [_, layout] = self.known.families();
-        self.ask(&demand::rings(&layout))
+        self.ask(&demand::rings(&layout, self.rule))
     }
 
     /// Asks both sides for ranges, and holds what they answer to the definition, by the columns of the side that the
-    /// other is held to; past the Rust by those of both.
+    /// other is held to; where that is the reference, by those of both.
     fn ask(&mut self, asked: &[demand::Asked]) -> Result<(), String> {
         let (ran, answers) = self.answered(&demand::run(asked))?;
         assert_eq!(ran.stop, 0);
         self.figures.ranges += asked.len() as u64;
         let (lengths, found) = (self.lengths(), demand::found(asked, &answers));
-        demand::hold(&mut *self.known, &lengths, asked, &found)?;
+        demand::hold(&mut *self.known, self.rule, &lengths, asked, &found)?;
         match self.beside {
             Beside::Rust(_) => Ok(()),
-            Beside::Reference => demand::hold(&mut *self.other, &lengths, asked, &found),
+            Beside::Reference(_) => demand::hold(&mut *self.other, self.rule, &lengths, asked, &found),
         }
     }
 
@@ -407,6 +494,7 @@ impl Pair {
     pub fn finish(mut self) -> Figures {
         self.figures.seen = self.known.seen();
         self.figures.judged = self.known.judged();
+        self.figures.ranged = self.known.ranged();
         self.figures
     }
 }
@@ -442,7 +530,7 @@ impl Look {
     /// How closely a case is looked at as a rule.
     pub fn at(case: &Case, beside: Beside) -> Self {
         match beside {
-            Beside::Reference => Look::EachRange,
+            Beside::Reference(_) => Look::EachRange,
             Beside::Rust(_) if case.n > 400 => Look::AtEnd,
             Beside::Rust(_) => Look::EachRun,
         }
@@ -482,10 +570,10 @@ impl Difference {
 pub fn shrink(case: &Case, beside: Beside, make: Make) -> Option<Difference> {
     let look = match beside {
         Beside::Rust(_) => Look::EachRun,
-        Beside::Reference => Look::EachRange,
+        Beside::Reference(_) => Look::EachRange,
     };
     let parts = |case: &Case| -> Option<String> {
-        let is_past = beside != Beside::Reference && !past::is_within_reach(case);
+        let is_past = beside.is_rust() && !past::is_within_reach(case);
         (!is_past).then(|| compare(case, beside, make, look).err())?
     };
     let mut best = Difference {

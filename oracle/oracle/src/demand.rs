@@ -1,7 +1,8 @@
 //! Demand 3 by the definition alone: a group's range has the live entities with all its kinds, in the same rows of each of
-//! its columns; what the next larger group holds stands in front.
+//! its columns; what the next larger group holds stands in front. Under the newer rule the others have none of the kinds
+//! that the larger has more, and where these are several there is no such range.
 
-use crate::side::Side;
+use crate::side::{Rule, Side};
 use crate::tape::{self, Chunk, Run};
 use sparsey::harness::{kinds_of, Families, Id};
 use std::collections::{BTreeMap, BTreeSet};
@@ -17,18 +18,28 @@ pub struct Asked {
 /// The rows that a RANGE answers, if it finds any.
 type Rows = Option<(usize, usize)>;
 
+/// Whether a rule finds a group's rows without those of the next larger group, whose ring is given.
+fn is_found(rule: Rule, ring: u128) -> bool {
+    rule == Rule::Older || ring.count_ones() == 1
+}
+
 /// Every group, and every one with the next larger group's new kinds excluded.
-pub fn rings(layout: &Families) -> Vec<Asked> {
+pub fn rings(layout: &Families, rule: Rule) -> Vec<Asked> {
     let mut asked = vec![];
     for family in layout {
         for (at, &kinds) in family.iter().enumerate() {
-            let next = family.get(at + 1).map(|next| next & !kinds);
-            let excluded = [0].into_iter().chain(next);
-            asked.extend(excluded.map(|excluded| Asked {
+            let whole = Asked {
+                kinds,
+                excluded: 0,
+                finds: true,
+            };
+            let ring = family.get(at + 1).map(|next| next & !kinds);
+            let without = ring.map(|excluded| Asked {
                 kinds,
                 excluded,
-                finds: true,
-            }));
+                finds: is_found(rule, excluded),
+            });
+            asked.extend([whole].into_iter().chain(without));
         }
     }
     asked
@@ -78,28 +89,29 @@ pub fn run(asked: &[Asked]) -> Run {
     Run::new(chunks)
 }
 
-/// The rows by the answers of that run.
+/// The rows by the answers of that run. Only nine zeros behind the number are none.
 pub fn found(asked: &[Asked], answers: &[u8]) -> Vec<Rows> {
     let number = |at: usize| u32::from_le_bytes(answers[at..at + 4].try_into().unwrap()) as usize;
     // TALLY answers by five bytes, EMPTY, BAR and HOLD by one, RANGE by ten.
     let mut at = 6;
     let rows = |asked: &Asked| {
         at += (asked.excluded.count_ones() + asked.kinds.count_ones()) as usize + 10;
-        (answers[at - 9] == 1).then(|| (number(at - 8), number(at - 4)))
+        (answers[at - 9..at] != [0; 9]).then(|| (number(at - 8), number(at - 4)))
     };
     asked.iter().map(rows).collect()
 }
 
-/// Holds what was found to the columns of a side, whose kinds and lengths are given.
+/// Holds what was found under a rule to the columns of a side, whose kinds and lengths are given.
 pub fn hold(
     side: &mut (impl Side + ?Sized),
+    rule: Rule,
     lengths: &[(u8, usize)],
     asked: &[Asked],
     found: &[Rows],
 ) -> Result<(), String> {
     let columns = Columns::of(side, lengths)?;
     for (asked, rows) in asked.iter().zip(found) {
-        if !columns.agree(asked, *rows) {
+        if !columns.agree(rule, asked, *rows) {
             let Asked { kinds, excluded, .. } = *asked;
             let (kinds, excluded) = (kinds_of(kinds), kinds_of(excluded));
             return Err(format!(
@@ -144,7 +156,7 @@ impl Columns {
         self.held.values().filter(|&held| held & kinds == kinds).count()
     }
 
-    fn agree(&self, asked: &Asked, rows: Rows) -> bool {
+    fn agree(&self, rule: Rule, asked: &Asked, rows: Rows) -> bool {
         let Some((start, end)) = rows.filter(|_| asked.finds) else {
             return rows.is_none() && !asked.finds;
         };
@@ -153,6 +165,14 @@ impl Columns {
         (start, end) == (before, self.count(asked.kinds))
             && self.begin(asked.kinds, asked.kinds, end)
             && self.begin(asked.kinds, larger, start)
+            && (rule == Rule::Older || self.lack(asked, start, end))
+    }
+
+    /// Whether the entities of these rows have none of the excluded kinds.
+    fn lack(&self, asked: &Asked, start: usize, end: usize) -> bool {
+        let kinds = kinds_of(asked.kinds);
+        let rows = &self.rows[&kinds[0]][start..end];
+        rows.iter().all(|id| self.held[id] & asked.excluded == 0)
     }
 
     /// Whether the columns of the kinds begin with the same so many entities, each with all of the larger kinds.

@@ -135,8 +135,8 @@ pub fn find(fault: Option<Fault>, seed: u64, tried: usize) -> Found {
     };
     search.found.fixed = search.parts(limits, rust);
     search.found.random = search.random(seed, tried as u64, rust);
-    search.found.past = search.parts(past, Beside::Reference);
-    if search.random(seed, (tried as u64).div_ceil(PAST_SHARE), Beside::Reference) > 0 {
+    search.found.past = search.parts(past, Beside::PAST);
+    if search.random(seed, (tried as u64).div_ceil(PAST_SHARE), Beside::PAST) > 0 {
         search.found.past.push("random");
     }
     let Search {

@@ -5,6 +5,7 @@ use crate::compare::{compare, Beside, Difference, Figures, Look, Make, Pair};
 use crate::drafts;
 use crate::past::{self, is_within_reach};
 use crate::rng::Rng;
+use crate::side::Rule;
 use crate::tape::{self, Case, Chunk, Run};
 use crate::trays;
 use sparsey::harness::{words_needed, Preset};
@@ -52,34 +53,36 @@ pub fn starts(beside: Beside, make: Make) -> Result<Figures, String> {
         return Err(format!("column of no store: Rust {rust}, {name} {other}"));
     }
 
-    for n in [0, 1, 2, 64, 4095, 4096, 4097, usize::MAX] {
-        for k in [0, 1, 2, 127, 128, 129, 256, usize::MAX] {
-            let fits = (1..=4096).contains(&n) && (1..=128).contains(&k);
-            let needed = if fits { words_needed(n, k) } else { 1024 };
-            for words in [0, 1, 1023, needed - 1, needed, needed + 5] {
-                let number = pair.start_number(words, n, k)?;
-                assert_eq!(
-                    number,
-                    if !fits {
-                        1
-                    } else if words < needed {
-                        2
-                    } else {
-                        0
-                    }
-                );
-            }
-        }
-    }
+    start_sizes(&mut pair, &[None])?;
     start_again(&mut pair)?;
     Ok(pair.finish())
+}
+
+/// *start* with every N, K and number of words at a limit, told each of these in turn.
+pub fn start_sizes(pair: &mut Pair, told: &[Option<Rule>]) -> Result<(), String> {
+    let sizes = [0, 1, 2, 64, 4095, 4096, 4097, usize::MAX].into_iter();
+    let sizes = sizes.flat_map(|n| [0, 1, 2, 127, 128, 129, 256, usize::MAX].map(|k| (n, k)));
+    for (n, k) in sizes {
+        let fits = (1..=4096).contains(&n) && (1..=128).contains(&k);
+        let needed = if fits { words_needed(n, k) } else { 1024 };
+        let lengths = [0, 1, 1023, needed - 1, needed, needed + 5].into_iter();
+        for (words, &told) in lengths.flat_map(|words| told.iter().map(move |told| (words, told))) {
+            let number = match fits {
+                false => 1,
+                true if words < needed => 2,
+                true => 0,
+            };
+            assert_eq!(pair.start_number(told, words, n, k)?, number);
+        }
+    }
+    Ok(())
 }
 
 /// A refused start leaves the store, an accepted one makes it empty again.
 fn start_again(pair: &mut Pair) -> Result<(), String> {
     for round in 0..4 {
         let small = words_needed(4, 3);
-        pair.start_number(small, 4, 3)?;
+        pair.start_number(None, small, 4, 3)?;
         pair.run(&Run::new(vec![tape::tally()]))?;
         pair.state()?;
         // Whose refusal it was, and then another caller, whom the next start forgets.
@@ -99,8 +102,8 @@ fn start_again(pair: &mut Pair) -> Result<(), String> {
         ))?;
         pair.state()?;
         if round % 2 == 0 {
-            pair.start_number(small - 1, 4, 3)?;
-            pair.start_number(small, 4, 0)?;
+            pair.start_number(None, small - 1, 4, 3)?;
+            pair.start_number(None, small, 4, 0)?;
             pair.state()?;
             pair.run(&Run::new(vec![tape::apply(), tape::tally()]))?;
         }
@@ -432,9 +435,12 @@ pub fn high_entity(families: &[Vec<u8>], index: u32) -> Run {
 
 /// HOLD for each kind, with a value that tells kind and entity, then the command.
 pub fn valued(kinds: &[u8], index: u32, command: Chunk) -> Vec<Chunk> {
-    let value = |kind: u8| u64::from(index + 1) << 32 | u64::from(kind);
-    let holds = kinds.iter().map(|&kind| tape::hold(kind, value(kind)));
+    let holds = kinds.iter().map(|&kind| tape::hold(kind, value(kind, index)));
     holds.chain([command]).collect()
+}
+
+pub fn value(kind: u8, index: u32) -> u64 {
+    u64::from(index + 1) << 32 | u64::from(kind)
 }
 
 /// Groups below and between at the limits of their kinds and of their number, and walks over the families made so.
@@ -864,20 +870,20 @@ fn group_commands() -> Vec<Vec<Chunk>> {
     ]
 }
 
+/// Six layouts of four kinds, each as the list of its groups.
+pub const LAYOUTS: [&[&[u8]]; 6] = [
+    &[],
+    &[&[0, 1]],
+    &[&[0, 1], &[0, 1, 2]],
+    &[&[0, 1, 2, 3], &[0, 1]],
+    &[&[0, 1], &[0, 1, 2, 3], &[0, 1, 2]],
+    &[&[1, 2], &[0, 3]],
+];
+
 fn layouts() -> Vec<Vec<Chunk>> {
     let kinds: Vec<Chunk> = (0..4).map(tape::reg).collect();
-    let groups: [&[&[u8]]; 6] = [
-        &[],
-        &[&[0, 1]],
-        &[&[0, 1], &[0, 1, 2]],
-        &[&[0, 1, 2, 3], &[0, 1]],
-        &[&[0, 1], &[0, 1, 2, 3], &[0, 1, 2]],
-        &[&[1, 2], &[0, 3]],
-    ];
-    groups
-        .iter()
-        .map(|groups| [kinds.clone(), layout(groups)].concat())
-        .collect()
+    let layouts = LAYOUTS.iter().map(|groups| [kinds.clone(), layout(groups)].concat());
+    layouts.collect()
 }
 
 /// The layouts, and then two entities.

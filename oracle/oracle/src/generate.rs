@@ -3,7 +3,7 @@
 //! has several callers; the others never meet the command that sets one.
 
 use crate::callers::counts_of_first;
-use crate::compare::{Beside, Difference, Figures, Make, Pair};
+use crate::compare::{begin, Beside, Difference, Figures, Make, Pair};
 use crate::drafts;
 use crate::past::{self, Scout};
 use crate::rng::Rng;
@@ -49,7 +49,7 @@ const TRAYS: [usize; 13] = [3, 3, 1, 2, 14, 0, 2, 1, 0, 0, 1, 0, 10];
 fn profile(rng: &mut Rng, calls: &mut Rng, beside: Beside) -> (Profile, usize, usize) {
     let (mut profile, n, k) = match beside {
         Beside::Rust(_) => within_reach(rng),
-        Beside::Reference => past_reach(rng),
+        Beside::Reference(_) => past_reach(rng),
     };
     profile.callers = callers(calls);
     (profile, n, k)
@@ -696,10 +696,7 @@ pub fn random_case(seed: u64, beside: Beside, make: Make) -> Result<(Case, Figur
 /// The bytes that the run of this number answers with, on the known side alone.
 fn written(case: &Case, at: usize, beside: Beside) -> usize {
     let mut known = beside.known();
-    known.start(usize::MAX, case.n, case.k);
-    if let Some(preset) = &case.preset {
-        known.preset(preset);
-    }
+    begin(&mut *known, case, beside.told());
     let mut written = 0;
     for run in &case.runs[..=at] {
         let mut out = vec![0; run.room.min(1 << 20)];
@@ -732,7 +729,7 @@ pub fn tight_case(seed: u64, case: &Case, beside: Beside, make: Make) -> Result<
         let rest = tight.runs[at].tape()[read..].to_vec();
         tight.runs.push(Run::new(vec![rest]));
         // The case itself may have had no room for the rest.
-        if beside == Beside::Reference || past::is_within_reach(&tight) {
+        if !beside.is_rust() || past::is_within_reach(&tight) {
             pair.step(&tight.runs[at + 1], true)
                 .map_err(|what| part(what, &tight))?;
         }

@@ -2,7 +2,7 @@
 //! be seen of its words.
 
 use crate::rng::Rng;
-use crate::side::Side;
+use crate::side::{Rule, Side};
 use crate::tape;
 use crate::words;
 use sparsey::harness::{words_needed, Counts, Families, Id, Preset, Ran, CALLERS};
@@ -10,6 +10,7 @@ use yirbarn::sys;
 
 // The arrangement of the words, for what no entry shows and for presets (docs/WORDS.md).
 const N: usize = 0;
+const REGISTERED: usize = 2;
 const DRAFT_FAMILIES: usize = 5;
 const LAYOUT_FAMILIES: usize = 7;
 const DRAFT: usize = 256;
@@ -27,7 +28,13 @@ const KIND_ENDS: usize = 192;
 const ENDS: usize = 256;
 
 /// Callers that no sound store has.
-const UNSOUND: [u32; 8] = [16, 17, 31, 255, 256, 1 << 16, 1 << 31, u32::MAX];
+const NO_CALLERS: [u32; 8] = [16, 17, 31, 255, 256, 1 << 16, 1 << 31, u32::MAX];
+
+/// What no sound store has in the word of the rule.
+const NO_RULES: [u32; 7] = [2, 3, 255, 256, 1 << 16, 1 << 31, u32::MAX];
+
+/// The number of words that hold no sound store.
+const UNSOUND: u32 = 3;
 
 /// Words past those that a store is lent, which must stay as they are.
 const BEYOND: usize = 3;
@@ -37,6 +44,16 @@ const FILL: u32 = 0x5a5a_5a5a;
 
 /// Stores of up to this many words are compared as a whole before and after each entry.
 const WATCHED: usize = 1 << 14;
+
+/// The start that is told a rule, or *start*, on so many of the words.
+fn enter_start(words: &mut [u32], told: Option<Rule>, lent: usize, n: usize, k: usize) -> u8 {
+    assert!(lent <= words.len());
+    let at = words.as_mut_ptr();
+    match told {
+        None => unsafe { sys::yirbarn_start(at, lent, n, k) },
+        Some(rule) => unsafe { sys::yirbarn_start_with(at, lent, n, k, rule == Rule::Newer) },
+    }
+}
 
 pub struct Linked {
     words: Vec<u32>,
@@ -98,6 +115,48 @@ impl Linked {
         }
     }
 
+    /// The start that is told a rule, or *start*. The other of the two, under the older rule and on a copy, must do the
+    /// same, word for word, but for the rule.
+    fn start_by(&mut self, told: Option<Rule>, words: usize, n: usize, k: usize) -> u32 {
+        self.reach(words + BEYOND);
+        let before = self.words.clone();
+        let mut twin = before.clone();
+        let other = told.is_none().then_some(Rule::Older);
+        let number = enter_start(&mut self.words, told, words, n, k);
+        let again = enter_start(&mut twin, other, words, n, k);
+        if number != again {
+            self.complain(format!("start told {told:?}: {number}, told {other:?}: {again}"));
+        }
+        if number != 0 {
+            self.hold_words(&before, 0, "a refused start");
+            self.hold_words(&twin, 0, "a refused start beside the other");
+            return u32::from(number);
+        }
+        self.hold_twin(twin, told.unwrap_or_default());
+        self.hold_words(&before, words_needed(n, k), "start");
+        self.started(words, n, k);
+        0
+    }
+
+    /// Holds the words of a start to those of the other under the older rule.
+    fn hold_twin(&mut self, mut twin: Vec<u32>, rule: Rule) {
+        let older = words::rule_word(Rule::Older);
+        let was = std::mem::replace(&mut twin[words::RULE], words::rule_word(rule));
+        if was != older {
+            self.complain(format!("word {} is {was} under the older rule", words::RULE));
+        }
+        self.hold_words(&twin, 0, "a start beside the other");
+    }
+
+    fn started(&mut self, words: usize, n: usize, k: usize) {
+        self.lent = words;
+        self.needed = words_needed(n, k);
+        let needed = unsafe { sys::yirbarn_words_needed(n, k) };
+        if needed != self.needed {
+            self.complain(format!("words needed for N {n}, K {k}: {needed}"));
+        }
+    }
+
     /// The entry *run* itself.
     fn enter(&mut self, tape: &[u8], out: &mut [u8]) -> sys::Ran {
         unsafe {
@@ -112,10 +171,10 @@ impl Linked {
         }
     }
 
-    /// With another caller for the time: the numbers of TALLY's run, of *column*, of a copy, and of *roll* into no room;
-    /// and what TALLY tells. None of them changes a word.
-    fn entries(&mut self, caller: u32) -> ([u32; 4], [u8; 8]) {
-        let kept = std::mem::replace(&mut self.words[words::CALLER], caller);
+    /// With another word at a place for the time: the numbers of TALLY's run, of *column*, of a copy, and of *roll* into no
+    /// room; and what TALLY tells. None of them changes a word.
+    fn entries(&mut self, at: usize, word: u32) -> ([u32; 4], [u8; 8]) {
+        let kept = std::mem::replace(&mut self.words[at], word);
         let before = self.words.clone();
         let mut told = [FILL as u8; 8];
         let numbers = [
@@ -124,9 +183,61 @@ impl Linked {
             self.copy(0, false, 0, 0, &mut []).0.into(),
             self.roll(&mut []).0,
         ];
-        self.hold_words(&before, 0, "entries with another caller");
-        self.words[words::CALLER] = kept;
+        self.hold_words(&before, 0, "entries with another word");
+        self.words[at] = kept;
         (numbers, told)
+    }
+
+    /// With this word at the place, which a sound store can have, every entry takes the store, and TALLY tells the count.
+    fn probe_sound(&mut self, at: usize, word: u32, count: u32) {
+        let (numbers, told) = self.entries(at, word);
+        let count = count.to_le_bytes();
+        if numbers.contains(&UNSOUND) || told[0] != 0 || told[1..5] != count {
+            self.complain(format!(
+                "word {at} set to {word}: numbers {numbers:?}, TALLY {told:?}, not {count:?}"
+            ));
+        }
+    }
+
+    /// With this word at the place no store is sound, and every entry says so.
+    fn probe_unsound(&mut self, at: usize, word: u32) {
+        let (numbers, told) = self.entries(at, word);
+        if numbers != [UNSOUND; 4] || told != [FILL as u8; 8] {
+            self.complain(format!("word {at} set to {word}: numbers {numbers:?}, TALLY {told:?}"));
+        }
+    }
+
+    /// The same store under this rule for the time: what an empty run answers, and the roll, which changes no word either.
+    fn under(&mut self, rule: Rule) -> (sys::Ran, u32, Vec<u8>) {
+        let kept = std::mem::replace(&mut self.words[words::RULE], words::rule_word(rule));
+        let before = self.words.clone();
+        let ran = self.enter(&[], &mut []);
+        let mut out = vec![FILL as u8; self.roll_length()];
+        let (number, _) = self.roll(&mut out);
+        self.hold_words(&before, 0, "an empty run and the roll under another rule");
+        self.words[words::RULE] = kept;
+        (ran, number, out)
+    }
+
+    /// Both rules are taken, with the same roll, and nothing else is.
+    fn probe_rules(&mut self, count: u32) {
+        let [older, newer] = [Rule::Older, Rule::Newer].map(|rule| {
+            self.probe_sound(words::RULE, words::rule_word(rule), count);
+            self.under(rule)
+        });
+        if older != newer || older.0.stop != 0 || older.1 != 0 {
+            self.complain(format!("under the older rule {older:?}, under the newer {newer:?}"));
+        }
+        for word in NO_RULES {
+            self.probe_unsound(words::RULE, word);
+        }
+    }
+
+    /// How many bytes the roll takes: a column's rows are counted in its first word.
+    fn roll_length(&self) -> usize {
+        let column = |slot: usize| words_needed(self.word(N), slot);
+        let rows: usize = (0..self.word(REGISTERED)).map(|slot| self.word(column(slot))).sum();
+        4 + 9 * self.word(LIVE) + 9 * rows
     }
 
     fn word(&self, at: usize) -> usize {
@@ -192,21 +303,11 @@ impl Side for Linked {
     }
 
     fn start(&mut self, words: usize, n: usize, k: usize) -> u32 {
-        self.reach(words + BEYOND);
-        let before = self.words.clone();
-        let number = unsafe { sys::yirbarn_start(self.words.as_mut_ptr(), words, n, k) };
-        if number != 0 {
-            self.hold_words(&before, 0, "a refused start");
-            return u32::from(number);
-        }
-        self.lent = words;
-        self.needed = words_needed(n, k);
-        let needed = unsafe { sys::yirbarn_words_needed(n, k) };
-        if needed != self.needed {
-            self.complain(format!("words needed for N {n}, K {k}: {needed}"));
-        }
-        self.hold_words(&before, self.needed, "start");
-        0
+        self.start_by(None, words, n, k)
+    }
+
+    fn start_with(&mut self, words: usize, n: usize, k: usize, rule: Rule) -> u32 {
+        self.start_by(Some(rule), words, n, k)
     }
 
     fn preset(&mut self, preset: &Preset) {
@@ -296,24 +397,24 @@ impl Side for Linked {
         }
     }
 
-    /// The callers 0 to 15 are taken, each with its count, and others are refused at every entry.
+    /// The rule by its word.
+    fn rule(&mut self) -> Option<Rule> {
+        match self.needed {
+            0 => Some(Rule::Older),
+            _ => words::rule(&self.words),
+        }
+    }
+
+    /// The callers 0 to 15 are taken, each with its count, and others are refused at every entry; and so with the rules.
     fn probe(&mut self) {
-        let (_, refusals) = self.counts();
+        let (caller, refusals) = self.counts();
         for caller in 0..CALLERS {
-            let (numbers, told) = self.entries(caller as u32);
-            let count = refusals[caller].to_le_bytes();
-            if numbers.contains(&3) || told[0] != 0 || told[1..5] != count {
-                self.complain(format!(
-                    "caller {caller}: numbers {numbers:?}, TALLY {told:?}, not {count:?}"
-                ));
-            }
+            self.probe_sound(words::CALLER, caller as u32, refusals[caller]);
         }
-        for caller in UNSOUND {
-            let (numbers, told) = self.entries(caller);
-            if numbers != [3; 4] || told != [FILL as u8; 8] {
-                self.complain(format!("caller {caller}: numbers {numbers:?}, TALLY {told:?}"));
-            }
+        for caller in NO_CALLERS {
+            self.probe_unsound(words::CALLER, caller);
         }
+        self.probe_rules(refusals[usize::from(caller)]);
     }
 
     fn complaint(&mut self) -> Option<String> {

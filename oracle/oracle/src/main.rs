@@ -133,7 +133,7 @@ fn progress(name: &str, figures: &Figures, since: Instant) {
 }
 
 fn report(difference: &Difference, beside: Beside, make: Make) {
-    println!("DIFFERENCE\n{}", difference.text());
+    println!("DIFFERENCE {}\n{}", beside.text(), difference.text());
     match shrink(&difference.case, beside, make) {
         Some(least) => println!("cut down to\n{}", least.text()),
         None => println!("it did not come again when the case was run anew"),
@@ -239,8 +239,8 @@ fn compare_beside_the_rust(options: &Options, make: Make) -> Option<()> {
 /// Without the library that is the reference beside itself, and only the definition judges.
 fn compare_past_the_rust(options: &Options, make: Make) -> Option<()> {
     let since = Instant::now();
-    let fixed = compare_parts(past::parts(), Beside::Reference, make, since)?;
-    let random = compare_randoms(options.seed, options.past, |_| Beside::Reference, make, since)?;
+    let fixed = compare_parts(past::parts(), Beside::PAST, make, since)?;
+    let random = compare_randoms(options.seed, options.past, |_| Beside::PAST, make, since)?;
     println!("past the Rust, fixed: {}", fixed.text());
     println!("past the Rust, random, seed {}: {}", options.seed, random.text());
     println!(

@@ -1,7 +1,7 @@
 //! Past the Rust's reach: families of 16 kinds and layouts of 64 groups. The plain reference stands beside the other side,
 //! and both are held to the definition.
 
-use crate::compare::Beside;
+use crate::compare::{begin, Beside};
 use crate::fixed::{
     self, chains_of, drafted, families_of, family_walks, grouped, high_entity, in_orders, part, run_of, valued, Part,
 };
@@ -10,7 +10,7 @@ use crate::rng::Rng;
 use crate::side::Side;
 use crate::tape::{self, Case, Chunk, Run, OPERANDS};
 use crate::trays::TRAYED;
-use sparsey::harness::{is_within_reach as can_take, words_needed};
+use sparsey::harness::is_within_reach as can_take;
 
 const MOST_KINDS: u8 = 16;
 const MOST_GROUPS: usize = 64;
@@ -25,10 +25,7 @@ pub fn is_within_reach(case: &Case) -> bool {
 
 fn started(case: &Case) -> Reference {
     let mut side = Reference::new();
-    side.start(words_needed(case.n, case.k), case.n, case.k);
-    if let Some(preset) = &case.preset {
-        side.preset(preset);
-    }
+    begin(&mut side, case, None);
     side
 }
 
@@ -62,7 +59,7 @@ pub struct Scout {
 impl Scout {
     pub fn start(case: &Case, beside: Beside) -> Self {
         Self {
-            side: (beside != Beside::Reference).then(|| started(case)),
+            side: beside.is_rust().then(|| started(case)),
         }
     }
 
@@ -95,16 +92,21 @@ pub fn parts() -> Vec<Part> {
 
 /// All parts with few of their cases, the first among them.
 pub fn few() -> Vec<Part> {
-    let few = |whole: Part| {
+    thinned(1001, 101, 7)
+}
+
+/// All parts, the first case of each and then one in so many: of all chains, of those of few groups, and of the others.
+pub fn thinned(chains: usize, few_groups: usize, others: usize) -> Vec<Part> {
+    let thin = |whole: Part| {
         let every = match whole.name {
-            "all chains through 16 kinds" => 1001,
-            "chains of few groups through 16 kinds" | "trays through 16 kinds" => 101,
+            "all chains through 16 kinds" => chains,
+            "chains of few groups through 16 kinds" | "trays through 16 kinds" => few_groups,
             "16 staged, then a group" => 1,
-            _ => 7,
+            _ => others,
         };
         part(whole.name, whole.cases.step_by(every))
     };
-    parts().into_iter().map(few).collect()
+    parts().into_iter().map(thin).collect()
 }
 
 /// The sizes of a chain through 16 kinds: of 2 to 15 those in the set.

@@ -1,7 +1,7 @@
 //! Documents 01 and 02 again, in plain lists: no sparse sets, no masks, every lookup a search. It is written after the
 //! papers' definitions and shares no code with the harness. A fault can be switched on, to see whether the comparison finds it.
 
-use crate::side::{Known, Seen, Side};
+use crate::side::{Known, Ranged, Rule, Seen, Side};
 use sparsey::harness::{Counts, Families, Id, Preset, Ran};
 use std::collections::{BTreeMap, BTreeSet, VecDeque};
 
@@ -173,6 +173,11 @@ const CALLERS: usize = 16;
 /// The refusal of a caller that is none.
 const NO_CALLER: u8 = 0x13;
 
+/// Places in `EXCLUDED`.
+const NOTHING: usize = 0;
+const RING_OF_THREE: usize = 3;
+const OTHERS: usize = 4;
+
 #[derive(Clone, Debug)]
 struct Row {
     entity: Id,
@@ -220,9 +225,33 @@ fn sets(families: &[Family]) -> Families {
     families.iter().map(family).collect()
 }
 
+/// What 01 finds for a RANGE.
+#[derive(Clone, Copy, Debug)]
+struct Found {
+    start: usize,
+    end: usize,
+    /// How many kinds the larger group's ring has; 0 where nothing is excluded.
+    ring: usize,
+    /// Whether the store's rule finds it too.
+    is_found: bool,
+}
+
+impl Found {
+    /// All rows from the first, with nothing excluded, under either rule.
+    fn whole(end: usize) -> Self {
+        Self {
+            start: 0,
+            end,
+            ring: 0,
+            is_found: true,
+        }
+    }
+}
+
 #[derive(Clone, Debug)]
 struct Store {
     fault: Option<Fault>,
+    rule: Rule,
     n: usize,
     k: usize,
     live: Vec<Id>,
@@ -240,6 +269,7 @@ struct Store {
     refusals: [u32; CALLERS],
     commands: u64,
     seen: Seen,
+    ranged: Ranged,
 }
 
 /// The plain side.
@@ -279,6 +309,10 @@ impl Side for Reference {
     }
 
     fn start(&mut self, words: usize, n: usize, k: usize) -> u32 {
+        self.start_with(words, n, k, Rule::Older)
+    }
+
+    fn start_with(&mut self, words: usize, n: usize, k: usize, rule: Rule) -> u32 {
         if n < 1 || n > 4096 || k < 1 || k > 128 {
             return 1;
         }
@@ -288,6 +322,7 @@ impl Side for Reference {
         let (caller, refusals) = self.started_counts();
         self.store = Some(Store {
             fault: self.fault,
+            rule,
             n,
             k,
             live: vec![],
@@ -304,6 +339,7 @@ impl Side for Reference {
             refusals,
             commands: 0,
             seen: Seen::default(),
+            ranged: Ranged::default(),
         });
         0
     }
@@ -376,6 +412,10 @@ impl Side for Reference {
             .as_ref()
             .map_or((0, [0; CALLERS]), |store| (store.caller, store.refusals))
     }
+
+    fn rule(&mut self) -> Option<Rule> {
+        Some(self.store.as_ref().map_or(Rule::Older, |store| store.rule))
+    }
 }
 
 impl Known for Reference {
@@ -394,6 +434,10 @@ impl Known for Reference {
 
     fn seen(&self) -> Seen {
         self.store.as_ref().map_or(Seen::default(), |store| store.seen)
+    }
+
+    fn ranged(&self) -> Ranged {
+        self.store.as_ref().map_or(Ranged::default(), |store| store.ranged)
     }
 }
 
@@ -1270,57 +1314,84 @@ impl Store {
     }
 
     fn range(&mut self) -> Answer {
-        let found = match self.fault {
-            Some(Fault::FixedRange) => Some((0, 1)),
-            _ => self.find_range(),
-        };
+        let found = self.find_range();
+        self.count_range(found);
         self.staged.clear();
         if !self.has(Fault::RangeKeepsExcluded) {
             self.excluded.clear();
         }
-        let (start, end) = found.unwrap_or((0, 0));
-        let mut answer = vec![u8::from(found.is_some())];
+        let told = found.filter(|found| found.is_found);
+        let (start, end) = told.map_or((0, 0), |found| (found.start, found.end));
+        let mut answer = vec![u8::from(told.is_some())];
         answer.extend((start as u32).to_le_bytes());
         answer.extend((end as u32).to_le_bytes());
         Ok(answer)
     }
 
-    fn find_range(&self) -> Option<(usize, usize)> {
+    fn count_range(&mut self, found: Option<Found>) {
+        let excluded = match found {
+            Some(found) => found.ring.min(RING_OF_THREE),
+            None if self.excluded.is_empty() => NOTHING,
+            None => OTHERS,
+        };
+        let is_found = found.is_some_and(|found| found.is_found);
+        self.ranged[excluded][usize::from(!is_found)] += 1;
+    }
+
+    /// What 01 finds.
+    fn find_range(&self) -> Option<Found> {
+        if self.has(Fault::FixedRange) {
+            return Some(Found::whole(1));
+        }
         let staged: BTreeSet<u8> = self.staged.iter().map(|held| held.0).collect();
         let excluded = set(&self.excluded);
         if staged.len() == 1 && (excluded.is_empty() || self.has(Fault::OneKindWithExcluded)) {
-            return Some((0, self.columns[&self.staged[0].0].len()));
+            let length = self.columns[&self.staged[0].0].len();
+            return Some(Found::whole(length));
         }
         let drafted = self.draft.iter().filter(|_| self.has(Fault::RangeOfDraft));
-        for family in self.layout.iter().chain(drafted) {
-            for group in 0..family.new_kinds.len() {
-                if family.arity(group) != staged.len() || set(&family.kinds(group)) != staged {
-                    continue;
-                }
-                if family.arity(group) == MOST_KINDS && self.has(Fault::RangeFifteen) {
-                    continue;
-                }
-                let count = match self.has(Fault::InventedCounts) {
-                    true => group,
-                    false => family.counts[group],
-                };
-                if excluded.is_empty() {
-                    return Some((0, count));
-                }
-                for larger in group + 1..family.new_kinds.len() {
-                    if family.arity(larger) == MOST_KINDS && self.has(Fault::RingFifteen) {
-                        continue;
-                    }
-                    let more = set(&family.new_kinds[group + 1..=larger].concat());
-                    let next = larger == group + 1;
-                    let part = next && self.has(Fault::ExcludePart) && excluded.is_subset(&more);
-                    if excluded == more && (next || self.has(Fault::ExcludeAnyLarger)) || part {
-                        return Some((family.counts[larger], count));
-                    }
-                }
-            }
+        self.layout.iter().chain(drafted).find_map(|family| {
+            let mut groups = (0..family.new_kinds.len()).filter(|&group| self.is_staged(family, group, &staged));
+            groups.find_map(|group| self.group_range(family, group, &excluded))
+        })
+    }
+
+    /// Whether the staged kinds are the group.
+    fn is_staged(&self, family: &Family, group: usize, staged: &BTreeSet<u8>) -> bool {
+        let is_missed = family.arity(group) == MOST_KINDS && self.has(Fault::RangeFifteen);
+        family.arity(group) == staged.len() && set(&family.kinds(group)) == *staged && !is_missed
+    }
+
+    /// A group's rows; where kinds are excluded, without those of the next larger group, if they are its ring.
+    fn group_range(&self, family: &Family, group: usize, excluded: &BTreeSet<u8>) -> Option<Found> {
+        let count = match self.has(Fault::InventedCounts) {
+            true => group,
+            false => family.counts[group],
+        };
+        if excluded.is_empty() {
+            return Some(Found::whole(count));
         }
-        None
+        let mut larger = group + 1..family.new_kinds.len();
+        let larger = larger.find(|&larger| self.is_excluded(family, group, larger, excluded))?;
+        let ring = family.new_kinds[larger].len();
+        Some(Found {
+            start: family.counts[larger],
+            end: count,
+            ring,
+            // 02: the newer rule finds what 01 does where the larger group's ring is one kind.
+            is_found: self.rule == Rule::Older || ring == 1,
+        })
+    }
+
+    /// Whether the excluded kinds are what the larger group has more, and it is the next.
+    fn is_excluded(&self, family: &Family, group: usize, larger: usize, excluded: &BTreeSet<u8>) -> bool {
+        if family.arity(larger) == MOST_KINDS && self.has(Fault::RingFifteen) {
+            return false;
+        }
+        let more = set(&family.new_kinds[group + 1..=larger].concat());
+        let is_next = larger == group + 1;
+        let is_part = is_next && self.has(Fault::ExcludePart) && excluded.is_subset(&more);
+        *excluded == more && (is_next || self.has(Fault::ExcludeAnyLarger)) || is_part
     }
 
     fn roll(&self) -> Vec<u8> {

@@ -1,13 +1,34 @@
-//! The entries of document 01, as either side of the comparison offers them.
+//! The entries of documents 01 and 02, as either side of the comparison offers them.
 
 use sparsey::harness::{Counts, Families, Id, Oracle, Preset, Ran, COMMANDS, JUDGEMENTS, NUMBERS};
+
+/// How RANGE reads excluded kinds (02, No. 8): told at the start, and kept.
+#[derive(Clone, Copy, PartialEq, Eq, Default, Debug)]
+pub enum Rule {
+    /// 01's: entities that lack one or more of them.
+    #[default]
+    Older,
+    /// Entities that have none of them.
+    Newer,
+}
 
 /// One side of the comparison: a store, lent or of its own, and the entries on it.
 pub trait Side {
     fn name(&self) -> &'static str;
 
-    /// *start* on `words` words: the number.
+    /// *start* on `words` words: the number. Its store has the older rule.
     fn start(&mut self, words: usize, n: usize, k: usize) -> u32;
+
+    /// The start that is told the rule.
+    fn start_with(&mut self, words: usize, n: usize, k: usize, rule: Rule) -> u32;
+
+    /// One or the other.
+    fn start_told(&mut self, told: Option<Rule>, words: usize, n: usize, k: usize) -> u32 {
+        match told {
+            None => self.start(words, n, k),
+            Some(rule) => self.start_with(words, n, k, rule),
+        }
+    }
 
     /// Puts the started store into a state that an empty one reaches only by very many commands.
     fn preset(&mut self, preset: &Preset);
@@ -32,6 +53,9 @@ pub trait Side {
     /// The caller and the refusal counts; of no store, those of an empty one.
     fn counts(&mut self) -> Counts;
 
+    /// The rule, if it is one; of no store, the older.
+    fn rule(&mut self) -> Option<Rule>;
+
     /// Looks at what can be seen of this side alone, at the cost of many runs. The store is as before then.
     fn probe(&mut self) {}
 
@@ -43,6 +67,18 @@ pub trait Side {
 
 /// How often each command byte was answered by each number.
 pub type Seen = [[u64; NUMBERS]; COMMANDS];
+
+/// What a RANGE has excluded, for the figures. A ring is the next larger group's, and a group is staged then.
+pub const EXCLUDED: [&str; 5] = [
+    "nothing",
+    "a ring of one kind",
+    "a ring of two",
+    "a ring of three or more",
+    "other kinds",
+];
+
+/// How often RANGE found something with each of these excluded, and how often nothing.
+pub type Ranged = [[u64; 2]; EXCLUDED.len()];
 
 /// A side that others are held to.
 pub trait Known: Side {
@@ -60,6 +96,11 @@ pub trait Known: Side {
     /// How often GROUP judged each of `JUDGEMENTS`, where the side counts it.
     fn judged(&self) -> [u64; JUDGEMENTS.len()] {
         [0; JUDGEMENTS.len()]
+    }
+
+    /// What RANGE found, where the side counts it.
+    fn ranged(&self) -> Ranged {
+        Ranged::default()
     }
 }
 
@@ -91,6 +132,11 @@ impl Side for Oracle {
     }
 
     fn start(&mut self, words: usize, n: usize, k: usize) -> u32 {
+        Oracle::start(self, words, n, k)
+    }
+
+    fn start_with(&mut self, words: usize, n: usize, k: usize, rule: Rule) -> u32 {
+        assert_eq!(rule, Rule::Older, "the Rust has the older rule alone");
         Oracle::start(self, words, n, k)
     }
 
@@ -137,5 +183,9 @@ impl Side for Oracle {
 
     fn counts(&mut self) -> Counts {
         Oracle::counts(self)
+    }
+
+    fn rule(&mut self) -> Option<Rule> {
+        Some(Rule::Older)
     }
 }

@@ -10,7 +10,7 @@ use crate::past;
 use crate::record;
 use crate::reference::{Fault, Reference};
 use crate::rng::Rng;
-use crate::side::Side;
+use crate::side::{Rule, Side};
 use crate::tape::{self, Case, Chunk, Run};
 use crate::words;
 use sparsey::component::GroupLayout;
@@ -198,7 +198,7 @@ fn the_definition_judges_alone() {
 /// The case on two sides with the same fault.
 fn by_definition(case: &Case, fault: Fault) -> Result<(), String> {
     let faulty: Make = &|| Box::new(Reference::with(Some(fault))) as Box<dyn Side>;
-    let mut pair = Pair::start(case, Beside::Reference, faulty)?;
+    let mut pair = Pair::start(case, Beside::PAST, faulty)?;
     pair.known = Box::new(Reference::with(Some(fault)));
     pair.known.start(words_needed(case.n, case.k), case.n, case.k);
     for run in &case.runs {
@@ -465,6 +465,24 @@ fn words_of_callers() {
     assert_eq!(changed(&called, &words::after_refusal(called.clone())), [(31, 16)]);
 }
 
+/// The rule by its word: 0 or 1, and nothing else.
+#[test]
+fn words_of_rules() {
+    let mut store = vec![7; 1024];
+    for (word, rule) in [
+        (0, Some(Rule::Older)),
+        (1, Some(Rule::Newer)),
+        (2, None),
+        (255, None),
+        (256, None),
+        (u32::MAX, None),
+    ] {
+        store[words::RULE] = word;
+        assert_eq!(words::rule(&store), rule);
+        assert!(rule.is_none_or(|rule| words::rule_word(rule) == word));
+    }
+}
+
 /// Every command is read back from its text.
 #[test]
 fn commands_as_text() {
@@ -489,7 +507,11 @@ type Column = Option<(Vec<Id>, Vec<u64>)>;
 fn seen(rust: &mut Oracle) -> (usize, Vec<Id>, Vec<Column>, Vec<u8>) {
     let [_, layout] = Oracle::families(rust);
     let mut out = vec![0; 1 << 16];
-    let ran = Oracle::run(rust, &demand::run(&demand::rings(&layout)).tape(), &mut out);
+    let ran = Oracle::run(
+        rust,
+        &demand::run(&demand::rings(&layout, Rule::Older)).tape(),
+        &mut out,
+    );
     assert_eq!(ran.stop, 0);
     out.truncate(ran.written);
     let columns = rust.registered().into_iter().map(|kind| Oracle::column(rust, kind));

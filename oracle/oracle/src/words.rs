@@ -1,8 +1,10 @@
-//! The words of a store that caller and refusal counts stand in (docs/WORDS.md), and what a command makes of them.
+//! The words of a store that caller, rule and refusal counts stand in (docs/WORDS.md), and what a command makes of them.
 
+use crate::side::Rule;
 use sparsey::harness::{Counts, CALLERS};
 
 pub const CALLER: usize = 9;
+pub const RULE: usize = 10;
 /// The count of caller 0; the others' follow.
 const REFUSALS: usize = 16;
 
@@ -10,6 +12,21 @@ const REFUSALS: usize = 16;
 pub fn counts(words: &[u32]) -> Counts {
     let refusals = std::array::from_fn(|caller| words[REFUSALS + caller]);
     (words[CALLER].min(255) as u8, refusals)
+}
+
+/// The rule by its word; none where the word is neither.
+pub fn rule(words: &[u32]) -> Option<Rule> {
+    [Rule::Older, Rule::Newer]
+        .into_iter()
+        .find(|&rule| words[RULE] == rule_word(rule))
+}
+
+/// What stands in the word under a rule.
+pub fn rule_word(rule: Rule) -> u32 {
+    match rule {
+        Rule::Older => 0,
+        Rule::Newer => 1,
+    }
 }
 
 pub fn set_counts(words: &mut [u32], (caller, refusals): Counts) {
