@@ -242,6 +242,11 @@ impl Pair {
         Ok(known)
     }
 
+    /// The rule that the last start was told.
+    pub fn rule(&self) -> Rule {
+        self.rule
+    }
+
     /// Both sides have the rule that the start was told.
     fn same_rule(&mut self) -> Result<(), String> {
         let [known, other] = self.names();
@@ -276,7 +281,7 @@ impl Pair {
     }
 
     /// The same, with the answers.
-    fn answered(&mut self, run: &Run) -> Result<(Ran, Vec<u8>), String> {
+    pub fn answered(&mut self, run: &Run) -> Result<(Ran, Vec<u8>), String> {
         let tape = run.tape();
         let names = self.names();
         self.fill = self.fill.wrapping_add(0x3b);
@@ -511,7 +516,7 @@ fn column_name(kind: u8, values: bool) -> String {
 }
 
 /// The length of buffer past which more room makes no difference.
-fn usable(tape: &[u8]) -> usize {
+pub fn usable(tape: &[u8]) -> usize {
     8 + 145 * tape.len()
 }
 

@@ -10,17 +10,32 @@ use std::collections::{BTreeMap, BTreeSet};
 /// RANGE of some kinds with others excluded, and whether it finds anything.
 #[derive(Clone, Copy, Debug)]
 pub struct Asked {
-    kinds: u128,
-    excluded: u128,
-    finds: bool,
+    pub kinds: u128,
+    pub excluded: u128,
+    pub finds: bool,
 }
 
 /// The rows that a RANGE answers, if it finds any.
-type Rows = Option<(usize, usize)>;
+pub type Rows = Option<(usize, usize)>;
 
 /// Whether a rule finds a group's rows without those of the next larger group, whose ring is given.
 fn is_found(rule: Rule, ring: u128) -> bool {
     rule == Rule::Older || ring.count_ones() == 1
+}
+
+impl Asked {
+    /// What 01 and 02 say of any two lists: a kind alone or a group is found where nothing is excluded; a group where the
+    /// ring of the next larger is, and the rule finds it.
+    pub fn by_definition(groups: &[u128], rule: Rule, kinds: u128, excluded: u128) -> Self {
+        let larger = groups.iter().filter(|&&group| group != kinds && group & kinds == kinds);
+        let ring = larger.min_by_key(|group| group.count_ones()).map(|next| next & !kinds);
+        let is_group = groups.contains(&kinds);
+        let finds = match excluded {
+            0 => is_group || kinds.count_ones() == 1,
+            excluded => is_group && ring == Some(excluded) && is_found(rule, excluded),
+        };
+        Self { kinds, excluded, finds }
+    }
 }
 
 /// Every group, and every one with the next larger group's new kinds excluded.

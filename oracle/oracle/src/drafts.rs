@@ -35,6 +35,23 @@ pub fn formed(groups: &[u128]) -> Option<Families> {
     families.iter().all(is_chain).then(|| arranged(families))
 }
 
+/// Every layout of the first `width` kinds, each as the set of its groups. What is left of a layout's groups forms one too.
+pub fn layouts(width: u32) -> Vec<Vec<u128>> {
+    let groups: Vec<u128> = (0..1u128 << width).filter(|group| group.count_ones() > 1).collect();
+    let mut layouts: Vec<Vec<u128>> = vec![vec![]];
+    let mut at = 0;
+    while at < layouts.len() {
+        let layout = layouts[at].clone();
+        at += 1;
+        let further = groups
+            .iter()
+            .filter(|&group| layout.last().is_none_or(|last| group > last));
+        let larger = further.map(|&group| [&layout[..], &[group]].concat());
+        layouts.extend(larger.filter(|groups| formed(groups).is_some()));
+    }
+    layouts
+}
+
 /// What GROUP does.
 #[derive(Clone, Copy, PartialEq, Eq, PartialOrd, Ord, Debug)]
 pub enum Ours {

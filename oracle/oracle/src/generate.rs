@@ -7,7 +7,7 @@ use crate::compare::{begin, Beside, Difference, Figures, Make, Pair};
 use crate::drafts;
 use crate::past::{self, Scout};
 use crate::rng::Rng;
-use crate::side::Known;
+use crate::side::{Known, Rule};
 use crate::tape::{self, Case, Chunk, Run, ROOMY};
 use sparsey::harness::{kinds_of, set_of, Id, Preset, CALLERS};
 
@@ -31,9 +31,14 @@ struct Profile {
     widest: usize,
     /// One family in so many is a layout's last.
     families: usize,
+    /// Whether RANGE mostly excludes a ring.
+    rings: bool,
     /// The callers that the case sets; none where it never sets one.
     callers: Vec<u8>,
 }
+
+/// The place of RANGE among the weights.
+const RANGE: usize = 7;
 
 // The steps, in the order of the weights: create, put, take, drop, kill, wipe, relayout, range, register, empty,
 // tally, group without apply, tray.
@@ -49,7 +54,8 @@ const TRAYS: [usize; 13] = [3, 3, 1, 2, 14, 0, 2, 1, 0, 0, 1, 0, 10];
 fn profile(rng: &mut Rng, calls: &mut Rng, beside: Beside) -> (Profile, usize, usize) {
     let (mut profile, n, k) = match beside {
         Beside::Rust(_) => within_reach(rng),
-        Beside::Reference(_) => past_reach(rng),
+        Beside::Reference(Rule::Older) => past_reach(rng),
+        Beside::Reference(Rule::Newer) => with_rings(rng),
     };
     profile.callers = callers(calls);
     (profile, n, k)
@@ -64,6 +70,17 @@ fn callers(rng: &mut Rng) -> Vec<u8> {
     rng.shuffle(&mut callers);
     callers.truncate(rng.between(2, 5));
     callers
+}
+
+/// Mostly like the cases beside the Rust, else like those past it, with more RANGEs, which mostly exclude a ring.
+fn with_rings(rng: &mut Rng) -> (Profile, usize, usize) {
+    let (mut profile, n, k) = match rng.once_in(8) {
+        true => past_reach(rng),
+        false => within_reach(rng),
+    };
+    profile.rings = true;
+    profile.weights[RANGE] += 12;
+    (profile, n, k)
 }
 
 /// Families of 16 kinds, and many groups.
@@ -88,6 +105,7 @@ fn past_reach(rng: &mut Rng) -> (Profile, usize, usize) {
         bits: *rng.pick(&[4, 64]),
         widest: 16,
         families: if is_wide { 6 } else { 200 },
+        rings: false,
         callers: vec![],
     };
     (profile, rng.between(3, 12), k)
@@ -147,6 +165,7 @@ fn within_reach(rng: &mut Rng) -> (Profile, usize, usize) {
         bits: *rng.pick(&[0, 4, 40, 64]),
         widest: 15,
         families: 4,
+        rings: false,
         callers: vec![],
     };
     (profile, n, k)
@@ -210,6 +229,18 @@ struct Steps<'a> {
 /// Whether the one has all kinds of the other.
 fn holds(outer: &[u8], inner: &[u8]) -> bool {
     inner.iter().all(|kind| outer.contains(kind))
+}
+
+/// For each of the groups the largest one inside it, if there is one, and what it has more.
+fn rings(groups: &[Vec<u8>]) -> Vec<(Vec<u8>, Vec<u8>)> {
+    let ring = |group: &Vec<u8>| {
+        let inside = |other: &&Vec<u8>| other.len() < group.len() && holds(group, other);
+        let smaller = groups.iter().filter(inside).max_by_key(|other| other.len());
+        let smaller = smaller.cloned().unwrap_or_default();
+        let ring = group.iter().copied().filter(|kind| !smaller.contains(kind)).collect();
+        (smaller, ring)
+    };
+    groups.iter().map(ring).collect()
 }
 
 impl<'a> Steps<'a> {
@@ -468,19 +499,10 @@ impl<'a> Steps<'a> {
         kinds
     }
 
-    /// The largest group of the draft inside this one, and what this one has more.
-    fn ring(&self, group: &[u8]) -> (Vec<u8>, Vec<u8>) {
-        let inside = |other: &&Vec<u8>| other.len() < group.len() && holds(group, other);
-        let smaller = self.drafted.iter().filter(inside).max_by_key(|other| other.len());
-        let smaller = smaller.cloned().unwrap_or_default();
-        let ring = group.iter().copied().filter(|kind| !smaller.contains(kind)).collect();
-        (smaller, ring)
-    }
-
     /// A group for which there is room between this one and the next smaller, or below this one.
     fn gap(&mut self) -> Vec<u8> {
-        let rings = self.drafted.iter().map(|group| self.ring(group));
-        let gaps: Vec<_> = rings.filter(|(_, ring)| ring.len() > 1).collect();
+        let gaps = rings(&self.drafted).into_iter().filter(|(_, ring)| ring.len() > 1);
+        let gaps: Vec<_> = gaps.collect();
         let between: Vec<_> = gaps.iter().filter(|gap| !gap.0.is_empty()).cloned().collect();
         let (smaller, ring) = match (between.is_empty(), gaps.is_empty()) {
             (_, true) => return self.kinds(),
@@ -535,8 +557,40 @@ impl<'a> Steps<'a> {
         self.group_of(kinds);
     }
 
+    /// A group and the next larger one's ring, of one, two or three kinds about as often; more where there is no such.
+    fn ring(&mut self) -> Option<(Vec<u8>, Vec<u8>)> {
+        let mut rings = rings(&self.groups);
+        rings.retain(|(smaller, _)| !smaller.is_empty());
+        let size = self.rng.between(1, 3);
+        if rings.iter().any(|(_, ring)| ring.len() == size) {
+            rings.retain(|(_, ring)| ring.len() == size);
+        }
+        (!rings.is_empty()).then(|| self.rng.pick(&rings).clone())
+    }
+
+    /// RANGE of a group without the next larger one's ring, or now and then a kind more or less; mostly with nothing staged
+    /// and excluded before.
+    fn ring_range(&mut self, kinds: Vec<u8>, mut bar: Vec<u8>) {
+        if !self.rng.once_in(8) {
+            self.chunks.push(tape::empty());
+        }
+        self.vary(&mut bar);
+        self.rng.shuffle(&mut bar);
+        self.range_of(&kinds, bar);
+    }
+
+    fn range_of(&mut self, kinds: &[u8], bar: Vec<u8>) {
+        self.hold(kinds);
+        self.chunks.extend(bar.into_iter().map(tape::bar));
+        self.chunks.push(tape::range());
+    }
+
     /// RANGE, with a bar of what a larger group has more, of some kinds, or none.
     fn range(&mut self) {
+        let wants_ring = self.profile.rings && !self.rng.once_in(4);
+        if let Some((kinds, ring)) = wants_ring.then(|| self.ring()).flatten() {
+            return self.ring_range(kinds, ring);
+        }
         let mut kinds = self.kinds();
         let mut bar = vec![];
         match self.rng.below(4) {
@@ -557,9 +611,7 @@ impl<'a> Steps<'a> {
             2 if self.rng.once_in(3) => bar = self.kinds(),
             _ => {}
         }
-        self.hold(&kinds);
-        self.chunks.extend(bar.into_iter().map(tape::bar));
-        self.chunks.push(tape::range());
+        self.range_of(&kinds, bar);
     }
 
     fn step(&mut self) {

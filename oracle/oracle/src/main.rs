@@ -15,6 +15,7 @@ mod past;
 mod record;
 mod reference;
 mod rng;
+mod rules;
 mod side;
 mod tape;
 #[cfg(test)]
@@ -26,7 +27,8 @@ mod words;
 use compare::{shrink, Beside, Difference, Figures, Make, Pair};
 use fixed::Part;
 use reference::Reference;
-use side::Side;
+use rules::Enumerated;
+use side::{Rule, Side};
 use sparsey::harness::{words_needed, Oracle, Preset, Sets};
 use std::path::Path;
 use std::process::ExitCode;
@@ -38,6 +40,8 @@ struct Options {
     count: u64,
     /// Commands of random cases past the Rust's reach.
     past: u64,
+    /// Commands of random cases under the newer rule.
+    newer: u64,
     /// Random cases for each fault.
     cases: usize,
     quick: bool,
@@ -52,21 +56,28 @@ struct Options {
     write: bool,
 }
 
+impl Default for Options {
+    fn default() -> Self {
+        Self {
+            seed: 1,
+            count: 2_000_000,
+            past: 1_000_000,
+            newer: 1_000_000,
+            cases: 300,
+            quick: false,
+            show: false,
+            file: "../crates/replay/data/answers.bin".to_string(),
+            kilobytes: 220,
+            reference: false,
+            write: false,
+        }
+    }
+}
+
 fn options() -> (String, Options) {
     let mut args = std::env::args().skip(1);
     let command = args.next().unwrap_or_else(|| "help".to_string());
-    let mut options = Options {
-        seed: 1,
-        count: 2_000_000,
-        past: 1_000_000,
-        cases: 300,
-        quick: false,
-        show: false,
-        file: "../crates/replay/data/answers.bin".to_string(),
-        kilobytes: 220,
-        reference: false,
-        write: false,
-    };
+    let mut options = Options::default();
     while let Some(arg) = args.next() {
         if arg == "--file" {
             options.file = args.next().expect("--file wants a name");
@@ -81,6 +92,7 @@ fn options() -> (String, Options) {
             "--seed" => options.seed = number(),
             "--count" => options.count = number(),
             "--past" => options.past = number(),
+            "--newer" => options.newer = number(),
             "--cases" => options.cases = number() as usize,
             "--kilobytes" => options.kilobytes = number() as usize,
             "--quick" => options.quick = true,
@@ -105,10 +117,11 @@ fn main() -> ExitCode {
         "past" => code(compare_past_the_rust(&options, make)),
         "record" => record_answers(&options),
         "replay" => replay_answers(&options, make),
+        "rules" => code(compare_the_rules(&options, make)),
         "wear" => wear(make),
         _ => {
             eprintln!(
-                "oracle all | compare | drafts | examples | faults | past | record | replay | wear: see README.md"
+                "oracle all | compare | drafts | examples | faults | past | record | replay | rules | wear: see README.md"
             );
             ExitCode::from(2)
         }
@@ -163,12 +176,15 @@ fn compare_parts(parts: Vec<Part>, beside: Beside, make: Make, since: Instant) -
     Some(figures)
 }
 
-/// One random case, and one in five again with little room.
+/// One random case, and one in five again with little room. One of the newer rule runs also on stores of both rules.
 fn compare_random(seed: u64, case: u64, beside: Beside, make: Make) -> Result<Figures, Difference> {
     let seed = seed.wrapping_mul(0x1_0000_0000).wrapping_add(case);
     let (compared, mut figures) = generate::random_case(seed, beside, make)?;
     if case % 5 == 4 {
         figures.add(&generate::tight_case(seed, &compared, beside, make)?);
+    }
+    if beside.rule() == Rule::Newer {
+        rules::same_but_for_ranges(&compared, make).map_err(|what| Difference { case: compared, what })?;
     }
     Ok(figures)
 }
@@ -197,9 +213,13 @@ fn compare_randoms(seed: u64, count: u64, beside: fn(u64) -> Beside, make: Make,
     Some(figures)
 }
 
-/// Everything that is fixed, then random cases until `count` commands of them are compared; then both past the Rust.
+/// Everything that is fixed, then random cases until `count` commands of them are compared; then both past the Rust, and
+/// under the newer rule.
 fn compare_everything(options: &Options, make: Make) -> ExitCode {
-    code(compare_beside_the_rust(options, make).and_then(|()| compare_past_the_rust(options, make)))
+    let compared = compare_beside_the_rust(options, make)
+        .and_then(|()| compare_past_the_rust(options, make))
+        .and_then(|()| compare_the_rules(options, make));
+    code(compared)
 }
 
 /// Success where nothing differs.
@@ -250,6 +270,44 @@ fn compare_past_the_rust(options: &Options, make: Make) -> Option<()> {
         since.elapsed().as_secs_f64()
     );
     Some(())
+}
+
+/// Stores of the newer rule: the reference beside the linked store, both held to the definition; without the library the
+/// reference beside itself. The same lists are also asked for on stores of the older rule, beside the Rust.
+fn compare_the_rules(options: &Options, make: Make) -> Option<()> {
+    let since = Instant::now();
+    let mut fixed = rules::starts(make)
+        .inspect_err(|what| println!("DIFFERENCE at start: {what}"))
+        .ok()?;
+    let mut lists = vec![(4, rules::six_layouts())];
+    if !options.quick {
+        lists.push((5, rules::all_layouts(5)));
+    }
+    for (width, layouts) in lists {
+        fixed.add(&enumerate_lists(width, &layouts, make, since)?.newer);
+    }
+    fixed.add(&compare_parts(rules::parts(), Beside::NEWER, make, since)?);
+    let random = compare_randoms(options.seed, options.newer, |_| Beside::NEWER, make, since)?;
+    println!("newer rule, fixed: {}", fixed.text());
+    println!("newer rule, random, seed {}: {}", options.seed, random.text());
+    println!(
+        "no difference between the reference, the {} and the definition under the newer rule in {} commands, {:.0} s",
+        make().name(),
+        fixed.commands + random.commands,
+        since.elapsed().as_secs_f64()
+    );
+    Some(())
+}
+
+/// RANGE with every two lists on stores of both rules, which must differ somewhere.
+fn enumerate_lists(width: u8, layouts: &[Vec<Vec<u8>>], make: Make, since: Instant) -> Option<Enumerated> {
+    let found = rules::enumerate(width, layouts, make)
+        .inspect_err(|(beside, difference)| report(difference, *beside, make))
+        .ok()?;
+    println!("{width} kinds: {}", found.text());
+    assert!(found.differ > 0, "the rules do not differ");
+    progress("every two lists, both rules", &found.newer, since);
+    Some(found)
 }
 
 /// Runs `f` with panics kept quiet, for panics that are looked for.

@@ -1,0 +1,461 @@
+//! The newer rule (02, No. 8), which the Rust does not have: the plain reference stands beside the other side, and both are
+//! held to the definition. For every two lists of few kinds that goes by what was put, apart from both sides.
+
+use crate::compare::{begin, usable, Beside, Difference, Figures, Make, Pair};
+use crate::demand::{self, Asked, Rows};
+use crate::drafts;
+use crate::fixed::{self, in_orders, layout, part, run_of, value, valued, Part};
+use crate::past;
+use crate::reference::Reference;
+use crate::rng::Rng;
+use crate::side::{Known, Rule, Side};
+use crate::tape::{self, Case, Chunk, Run};
+use sparsey::harness::{kinds_of, set_of, words_needed, Counts, Families, Id, Ran, Sets};
+use std::collections::{BTreeMap, BTreeSet};
+
+/// The limits are tried with stores for up to so many entities.
+const MOST_ENTITIES: usize = 16;
+
+/// Chains with rings of many sizes, some of the cases past the Rust, and those at the limits.
+pub fn parts() -> Vec<Part> {
+    let chains = vec![part("chains with rings of every size", chains())];
+    let limits = fixed::limits(MOST_ENTITIES);
+    chains
+        .into_iter()
+        .chain(past::thinned(31, 11, 3))
+        .chain(limits)
+        .collect()
+}
+
+/// The sizes of chains of up to 16 kinds: rings of one kind, of two, of three, of more, and mixed.
+const SIZES: [&[u8]; 9] = [
+    &[2, 3, 4, 5, 6, 7, 8, 9, 10, 11, 12, 13, 14, 15, 16],
+    &[2, 4, 6, 8, 10, 12, 14, 16],
+    &[3, 5, 7, 9, 11, 13, 15],
+    &[2, 5, 8, 11, 14],
+    &[3, 7, 11, 16],
+    &[2, 16],
+    &[2, 3, 5, 6, 9, 10, 14, 15],
+    &[3, 5, 6, 8, 9, 12, 13, 16],
+    &[2, 4, 5, 7, 10, 11, 15, 16],
+];
+
+const KINDS: u8 = 16;
+
+/// Each chain, the smallest first and in other orders.
+fn chains() -> impl Iterator<Item = Case> {
+    SIZES.into_iter().flat_map(|sizes| {
+        let groups: Vec<Vec<u8>> = sizes.iter().map(|&size| (0..size).collect()).collect();
+        let orders = [vec![groups.clone()], in_orders(&groups)].concat();
+        orders.into_iter().enumerate().map(chain_case)
+    })
+}
+
+/// Entities with the first kinds, of every number, and such that lack one, before the layout and behind it; then kinds go
+/// and come, and entities too. The ranges of all groups are asked for after each run.
+fn chain_case((seed, groups): (usize, Vec<Vec<u8>>)) -> Case {
+    let rng = &mut Rng::new(seed as u64);
+    let first = (1..=KINDS).map(|count| (0..count).collect::<Vec<u8>>());
+    let lacking = (0..KINDS).map(|lacked| (0..KINDS).filter(|&kind| kind != lacked).collect());
+    let mut lists: Vec<Vec<u8>> = first.chain(lacking).collect();
+    rng.shuffle(&mut lists);
+    let news = |lists: &[Vec<u8>], from: u32| {
+        let news = lists.iter().zip(from..);
+        run_of(
+            news.flat_map(|(list, index)| valued(list, index, tape::new()))
+                .collect(),
+        )
+    };
+    let (before, behind) = lists.split_at(lists.len() / 2);
+    let groups: Vec<&[u8]> = groups.iter().map(|group| &group[..]).collect();
+    let mut runs = vec![
+        run_of((0..KINDS).map(tape::reg).collect()),
+        news(before, 0),
+        run_of(layout(&groups)),
+        news(behind, before.len() as u32),
+    ];
+    for kind in 0..KINDS {
+        let (index, other) = (rng.below(lists.len()) as u32, rng.below(KINDS.into()) as u8);
+        runs.push(run_of(tape::with(&[kind], tape::drop((index, 1)))));
+        runs.push(run_of(valued(&[other], index, tape::put((index, 1)))));
+    }
+    runs.push(run_of((0..8).map(|index| tape::kill((3 * index, 1))).collect()));
+    runs.push(news(&lists[..8], 0));
+    Case {
+        n: lists.len(),
+        k: KINDS.into(),
+        preset: None,
+        runs,
+    }
+}
+
+/// The start that is told a rule, at every limit, over stores of either rule; and every start over every other.
+pub fn starts(make: Make) -> Result<Figures, String> {
+    let mut pair = Pair::new(Beside::NEWER, make);
+    fixed::start_sizes(&mut pair, &[Some(Rule::Newer), Some(Rule::Older)])?;
+    let mut figures = pair.finish();
+    let told = [None, Some(Rule::Older), Some(Rule::Newer)];
+    for (first, second) in told.into_iter().flat_map(|first| told.map(|second| (first, second))) {
+        let mut pair = Pair::new(Beside::NEWER, make);
+        start_over(&mut pair, first, second).map_err(|what| format!("told {first:?}, then {second:?}: {what}"))?;
+        figures.add(&pair.finish());
+    }
+    Ok(figures)
+}
+
+/// A store in use, on which a refused start leaves everything, and an accepted one makes an empty store under its own rule.
+fn start_over(pair: &mut Pair, first: Option<Rule>, second: Option<Rule>) -> Result<(), String> {
+    let (n, k) = (4, 5);
+    let words = words_needed(n, k);
+    pair.start_number(first, words, n, k)?;
+    used(pair)?;
+    for (words, n, k) in [(words - 1, n, k), (1023, n, k), (words, 0, k), (words, n, 129)] {
+        pair.start_number(second, words, n, k)?;
+        pair.state()?;
+        pair.ranges()?;
+    }
+    pair.start_number(second, words, n, k)?;
+    pair.state()?;
+    used(pair)?;
+    pair.ranges()
+}
+
+/// Uses both stores: a layout with rings of one kind and of two, entities, a draft, another caller, and something staged
+/// and excluded.
+fn used(pair: &mut Pair) -> Result<(), String> {
+    let lists: [&[u8]; 4] = [&[0, 1], &[0, 1, 2], &[0, 1, 2, 3, 4], &[0, 1, 3]];
+    let news = lists.into_iter().zip(0..);
+    let ask = |bars: &[u8], staged: &[u8]| {
+        let bars = bars.iter().map(|&kind| tape::bar(kind));
+        bars.chain(tape::with(staged, tape::range())).collect::<Vec<Chunk>>()
+    };
+    let runs = [
+        (0..5).map(tape::reg).collect(),
+        layout(&[&[0, 1], &[0, 1, 2], &[0, 1, 2, 3, 4]]),
+        news.flat_map(|(list, index)| valued(list, index, tape::new()))
+            .collect(),
+        ask(&[2], &[1, 0]),
+        ask(&[4, 3], &[0, 1, 2]),
+        [tape::with(&[3, 4], tape::group()), vec![tape::set_caller(5)]].concat(),
+        vec![tape::hold(3, 9), tape::bar(4), tape::bar(200)],
+    ];
+    runs.map(run_of)
+        .iter()
+        .try_for_each(|run| pair.step(run, true).map(|_| ()))
+}
+
+/// What was put: the components of every live entity, by the list that the commands are made from.
+#[derive(Default)]
+pub struct Put(BTreeMap<Id, BTreeMap<u8, u64>>);
+
+impl Put {
+    /// HOLD of these kinds, with values of their own, and the command that gives them to the entity.
+    fn give(&mut self, id: Id, kinds: &[u8], mark: u32, command: Chunk) -> Vec<Chunk> {
+        let held = self.0.entry(id).or_default();
+        held.extend(kinds.iter().map(|&kind| (kind, value(kind, mark))));
+        valued(kinds, mark, command)
+    }
+
+    fn drop(&mut self, id: Id, kinds: &[u8]) -> Vec<Chunk> {
+        let held = self.0.entry(id).or_default();
+        held.retain(|kind, _| !kinds.contains(kind));
+        tape::with(kinds, tape::drop(id))
+    }
+
+    /// The entity goes, and its index comes again with other kinds. No other number waits.
+    fn replace(&mut self, id: Id, kinds: &[u8], mark: u32) -> Vec<Chunk> {
+        self.0.remove(&id);
+        let next = (id.0, id.1 + 1);
+        [vec![tape::kill(id)], self.give(next, kinds, mark, tape::new())].concat()
+    }
+
+    /// The entities that a range shows: all of the kinds, and of the excluded ones not all, or under the newer rule none.
+    fn shown(&self, rule: Rule, asked: &Asked) -> BTreeSet<Id> {
+        let shown = |held: &BTreeMap<u8, u64>| {
+            let held = set_of(&held.keys().copied().collect::<Vec<u8>>());
+            let lacks = match (asked.excluded, rule) {
+                (0, _) => true,
+                (excluded, Rule::Older) => held & excluded != excluded,
+                (excluded, Rule::Newer) => held & excluded == 0,
+            };
+            lacks && held & asked.kinds == asked.kinds
+        };
+        let ids = self.0.iter().filter(|(_, held)| shown(held));
+        ids.map(|(&id, _)| id).collect()
+    }
+
+    /// Whether there are rows where there must be, and in every column of the kinds they have exactly the entities that are
+    /// shown, once each, at the same places, with the values that they were given.
+    fn agrees(&self, side: &mut (impl Side + ?Sized), rule: Rule, asked: &Asked, rows: Rows) -> bool {
+        let Some((start, end)) = rows.filter(|_| asked.finds) else {
+            return rows.is_none() && !asked.finds;
+        };
+        let kinds = kinds_of(asked.kinds);
+        let first = ids(&side.column(kinds[0], false, start, end));
+        let shown = self.shown(rule, asked);
+        let is_once = first.len() == shown.len();
+        let mut has_rows = |&kind: &u8| {
+            ids(&side.column(kind, false, start, end)) == first
+                && side.column(kind, true, start, end) == self.values(kind, &first)
+        };
+        is_once && first.iter().copied().collect::<BTreeSet<Id>>() == shown && kinds.iter().all(&mut has_rows)
+    }
+
+    /// The words of the values that the entities were given of a kind.
+    fn values(&self, kind: u8, ids: &[Id]) -> Vec<u32> {
+        let given = ids.iter().filter_map(|id| self.0.get(id)?.get(&kind));
+        given.flat_map(|&value| [value as u32, (value >> 32) as u32]).collect()
+    }
+}
+
+/// The entities in the words of a column.
+fn ids(words: &[u32]) -> Vec<Id> {
+    words.chunks_exact(2).map(|words| (words[0], words[1])).collect()
+}
+
+/// A layout and entities with every set of the first kinds under it.
+pub struct Filled {
+    width: u8,
+    groups: Vec<u128>,
+    pub case: Case,
+    put: Put,
+}
+
+/// Marks the values of a later command.
+const LATER: u32 = 1_000;
+
+impl Filled {
+    /// Every set of kinds once before the layout, shuffled; these change behind it, and each set comes once more.
+    pub fn new(width: u8, groups: &[Vec<u8>], seed: u64) -> Self {
+        let rng = &mut Rng::new(seed);
+        let sets = 1 << width;
+        let mut put = Put::default();
+        let before = every_set(&mut put, rng, width, 0);
+        let changes = (0..sets)
+            .flat_map(|index| change(&mut put, rng, width, index))
+            .collect();
+        let behind = every_set(&mut put, rng, width, sets);
+        let lists: Vec<&[u8]> = groups.iter().map(|group| &group[..]).collect();
+        let kinds = (0..width).map(tape::reg).collect();
+        let runs = [kinds, before, layout(&lists), changes, behind];
+        Self {
+            width,
+            groups: groups.iter().map(|group| set_of(group)).collect(),
+            case: Case {
+                n: 2 * sets as usize,
+                k: width.into(),
+                preset: None,
+                runs: runs.map(run_of).to_vec(),
+            },
+            put,
+        }
+    }
+
+    /// RANGE with every list staged, and each with another excluded. Behind a ring comes one of its kinds alone, which is
+    /// found if nothing is left staged or excluded.
+    fn asked(&self, rule: Rule, shift: u128) -> Vec<Asked> {
+        let lists = 1 << self.width;
+        let asked =
+            |rule: Rule, staged: u128, excluded: u128| Asked::by_definition(&self.groups, rule, staged, excluded);
+        let pair = |staged: u128| {
+            let excluded = (staged + shift) % lists;
+            let is_ring = excluded != 0 && asked(Rule::Older, staged, excluded).finds;
+            let alone = is_ring.then(|| asked(rule, excluded & excluded.wrapping_neg(), 0));
+            [asked(rule, staged, excluded)].into_iter().chain(alone)
+        };
+        (0..lists).flat_map(pair).collect()
+    }
+
+    /// Both sides filled, and what they answer then.
+    fn compare(&self, beside: Beside, make: Make, figures: &mut Figures) -> Result<Answers, String> {
+        let mut pair = Pair::start(&self.case, beside, make)?;
+        for run in &self.case.runs {
+            pair.step(run, true)?;
+        }
+        let answers = self.ask(&mut pair)?;
+        pair.state()?;
+        figures.add(&pair.finish());
+        Ok(answers)
+    }
+
+    /// What both sides of a filled pair answer to every two lists, held to the definition and to what was put.
+    pub fn ask(&self, pair: &mut Pair) -> Result<Answers, String> {
+        let rule = pair.rule();
+        let mut all = Answers::new();
+        for shift in 0..1 << self.width {
+            let asked = self.asked(rule, shift);
+            let (_, answers) = pair.answered(&demand::run(&asked))?;
+            let found = demand::found(&asked, &answers);
+            self.hold(pair, &asked, &found)?;
+            pair.figures.ranges += asked.len() as u64;
+            let lists = asked.iter().map(|asked| (asked.kinds, asked.excluded));
+            all.extend(lists.zip(found));
+        }
+        Ok(all)
+    }
+
+    fn hold(&self, pair: &mut Pair, asked: &[Asked], found: &[Rows]) -> Result<(), String> {
+        let rule = pair.rule();
+        for (asked, &rows) in asked.iter().zip(found) {
+            let known = self.put.agrees(&mut *pair.known, rule, asked, rows);
+            if !known || !self.put.agrees(&mut *pair.other, rule, asked, rows) {
+                return Err(format!("{rule:?} rule, {asked:?} finds {rows:?}: not what was put"));
+            }
+        }
+        Ok(())
+    }
+}
+
+/// The rows for each list staged and each excluded.
+type Answers = BTreeMap<(u128, u128), Rows>;
+
+/// NEW with every set of kinds, in any order, from this index on.
+fn every_set(put: &mut Put, rng: &mut Rng, width: u8, from: u32) -> Vec<Chunk> {
+    let mut sets: Vec<u128> = (0..1 << width).collect();
+    rng.shuffle(&mut sets);
+    let news = sets.into_iter().zip(from..);
+    news.flat_map(|(set, index)| put.give((index, 1), &kinds_of(set), index, tape::new()))
+        .collect()
+}
+
+/// One entity in two is changed: kinds come, kinds go, or the entity goes and another comes.
+fn change(put: &mut Put, rng: &mut Rng, width: u8, index: u32) -> Vec<Chunk> {
+    let (id, mark) = ((index, 1), index + LATER);
+    let mut kinds: Vec<u8> = (0..width).collect();
+    rng.shuffle(&mut kinds);
+    kinds.truncate(rng.between(1, width.into()));
+    match rng.below(6) {
+        0 => put.give(id, &kinds, mark, tape::put(id)),
+        1 => put.drop(id, &kinds),
+        2 => put.replace(id, &kinds, mark),
+        _ => vec![],
+    }
+}
+
+/// What RANGE answered to every two lists, on stores of both rules.
+#[derive(Default)]
+pub struct Enumerated {
+    pub layouts: u64,
+    pub pairs: u64,
+    /// Pairs of lists with which something is found, by the older rule and by the newer.
+    pub found: [u64; 2],
+    /// Pairs of lists that the rules answer differently.
+    pub differ: u64,
+    /// What was compared on stores of the older rule, and of the newer.
+    pub older: Figures,
+    pub newer: Figures,
+}
+
+impl Enumerated {
+    pub fn text(&self) -> String {
+        let [older, newer] = self.found;
+        format!(
+            "RANGE with every two lists under {} layouts, {} pairs of lists: {older} found by the older rule, {newer} by \
+             the newer; {} answered differently, each with two or more kinds excluded; {} commands on stores of the older \
+             rule, beside the Rust, {} on those of the newer",
+            self.layouts, self.pairs, self.differ, self.older.commands, self.newer.commands
+        )
+    }
+
+    /// Counts the answers by the older rule and by the newer. They differ only with several kinds excluded.
+    fn count(&mut self, older: &Answers, newer: &Answers) -> Result<(), String> {
+        assert!(older.keys().eq(newer.keys()));
+        for ((&(staged, excluded), older), newer) in older.iter().zip(newer.values()) {
+            self.pairs += 1;
+            self.found[0] += u64::from(older.is_some());
+            self.found[1] += u64::from(newer.is_some());
+            self.differ += u64::from(older != newer);
+            if older != newer && excluded.count_ones() < 2 {
+                return Err(format!(
+                    "{staged:b} without {excluded:b}: older {older:?}, newer {newer:?}"
+                ));
+            }
+        }
+        Ok(())
+    }
+
+    /// Every two lists under one layout: the older rule beside the Rust, the newer beside the reference.
+    fn fill(&mut self, filled: &Filled, make: Make) -> Result<(), (Beside, String)> {
+        let rust = Beside::Rust(Sets::Tuples);
+        let older = filled.compare(rust, make, &mut self.older);
+        let older = older.map_err(|what| (rust, what))?;
+        let newer = filled.compare(Beside::NEWER, make, &mut self.newer);
+        let newer = newer.map_err(|what| (Beside::NEWER, what))?;
+        self.layouts += 1;
+        self.count(&older, &newer).map_err(|what| (Beside::NEWER, what))
+    }
+}
+
+/// RANGE with every two lists of so many kinds, under each of the layouts. Where sides part, also what they stand beside.
+pub fn enumerate(width: u8, layouts: &[Vec<Vec<u8>>], make: Make) -> Result<Enumerated, (Beside, Difference)> {
+    let mut found = Enumerated::default();
+    for (seed, groups) in layouts.iter().enumerate() {
+        let filled = Filled::new(width, groups, seed as u64);
+        let outcome = found.fill(&filled, make);
+        let case = filled.case;
+        outcome.map_err(|(beside, what)| (beside, Difference { case, what }))?;
+    }
+    Ok(found)
+}
+
+/// The six layouts of four kinds that the older rule is tried with.
+pub fn six_layouts() -> Vec<Vec<Vec<u8>>> {
+    let layout = |groups: &&[&[u8]]| groups.iter().map(|group| group.to_vec()).collect();
+    fixed::LAYOUTS.iter().map(layout).collect()
+}
+
+/// Every layout of so many kinds, its groups in any order.
+pub fn all_layouts(width: u32) -> Vec<Vec<Vec<u8>>> {
+    let rng = &mut Rng::new(u64::from(width));
+    let mut lists = |groups: Vec<u128>| {
+        let mut lists: Vec<Vec<u8>> = groups.into_iter().map(kinds_of).collect();
+        rng.shuffle(&mut lists);
+        lists
+    };
+    drafts::layouts(width).into_iter().map(&mut lists).collect()
+}
+
+/// The case on two stores of the same side, one of each rule: every run stops alike and answers as many bytes, with the
+/// same roll then; at the end live list, families, caller, counts and columns are the same too.
+pub fn same_but_for_ranges(case: &Case, make: Make) -> Result<(), String> {
+    let mut known = Reference::new();
+    let (mut older, mut newer) = (make(), make());
+    begin(&mut known, case, Some(Rule::Newer));
+    begin(&mut *older, case, None);
+    begin(&mut *newer, case, Some(Rule::Newer));
+    for (i, run) in case.runs.iter().enumerate() {
+        known.run(&run.tape(), &mut vec![0; run.room.min(usable(&run.tape()))]);
+        let [one, other] = [&mut older, &mut newer].map(|side| ran(&mut **side, &known, run));
+        if one != other {
+            return Err(format!("run {}: older {one:?}, newer {other:?}", i + 1));
+        }
+    }
+    let [one, other] = [&mut older, &mut newer].map(|side| state(&mut **side, &known));
+    match one == other {
+        true => Ok(()),
+        false => Err(format!("at the end: older {one:?}, newer {other:?}")),
+    }
+}
+
+/// What a run does, and the roll then.
+fn ran(side: &mut dyn Side, known: &Reference, run: &Run) -> (Ran, u32, Vec<u8>) {
+    let tape = run.tape();
+    let ran = side.run(&tape, &mut vec![0; run.room.min(usable(&tape))]);
+    let rows: usize = known.registered().iter().filter_map(|&kind| known.length(kind)).sum();
+    let mut out = vec![0; 4 + 9 * side.live().len() + 9 * rows];
+    let (number, _) = side.roll(&mut out);
+    (ran, number, out)
+}
+
+/// Live list, families, caller and counts, and the words of all columns.
+type State = (Vec<Id>, [Families; 2], Counts, Vec<Vec<u32>>);
+
+/// The state of a side, by the kinds and lengths of another.
+fn state(side: &mut dyn Side, known: &Reference) -> State {
+    let mut columns = vec![];
+    for kind in known.registered() {
+        let length = known.length(kind).unwrap_or(0);
+        columns.extend([false, true].map(|values| side.column(kind, values, 0, length)));
+    }
+    (side.live(), side.families(), side.counts(), columns)
+}
