@@ -5,6 +5,7 @@ use crate::fixed::{self, Part};
 use crate::generate;
 use crate::past;
 use crate::reference::{Fault, Reference};
+use crate::rules;
 use crate::side::Side;
 use crate::tape::Run;
 use sparsey::harness::Sets;
@@ -24,20 +25,24 @@ pub struct Found {
     /// Names of the parts past the Rust's reach with a case that differs; the random cases there are one.
     pub past: Vec<&'static str>,
     pub past_parts: usize,
-    /// Whether the comparison of *start* differs.
+    /// The same under the newer rule; every two lists of kinds are one more there.
+    pub newer: Vec<&'static str>,
+    pub newer_parts: usize,
+    /// Whether the comparison of the starts differs.
     pub at_start: bool,
-    /// The smallest tape found.
-    pub least: Option<Difference>,
+    /// The smallest tape found, and what it stands beside.
+    pub least: Option<(Beside, Difference)>,
 }
 
 impl Found {
     pub fn is_found(&self) -> bool {
-        self.random > 0 || !self.fixed.is_empty() || !self.past.is_empty() || self.at_start
+        let parts = self.fixed.len() + self.past.len() + self.newer.len();
+        self.random > 0 || parts > 0 || self.at_start
     }
 
     /// Commands of the smallest tape.
     pub fn commands(&self) -> usize {
-        self.least.as_ref().map_or(0, |least| {
+        self.least.as_ref().map_or(0, |(_, least)| {
             least.case.runs.iter().map(|run: &Run| run.chunks.len()).sum()
         })
     }
@@ -49,7 +54,7 @@ impl Found {
         };
         let start = if self.at_start { 1 } else { 0 };
         format!(
-            "| {} | {} of {} | {} of {} | {} of {} | {start} | {least} |",
+            "| {} | {} of {} | {} of {} | {} of {} | {} of {} | {start} | {least} |",
             self.fault.map_or("none", Fault::text),
             self.random,
             self.tried,
@@ -57,12 +62,14 @@ impl Found {
             self.parts,
             self.past.len(),
             self.past_parts,
+            self.newer.len(),
+            self.newer_parts,
         )
     }
 }
 
-/// One random case past the Rust for so many beside it.
-const PAST_SHARE: u64 = 20;
+/// One random case past the Rust, and one under the newer rule, for so many beside the Rust.
+const SHARE: u64 = 20;
 
 /// A search for one fault under way.
 struct Search<'a> {
@@ -74,10 +81,15 @@ struct Search<'a> {
 impl Search<'_> {
     /// Whether the sides part; the smallest case is kept.
     fn differs<T>(&mut self, beside: Beside, outcome: impl FnOnce(Make) -> Result<T, Difference>) -> bool {
+        self.parts_somewhere(|make| outcome(make).map_err(|difference| (beside, difference)))
+    }
+
+    /// The same where the outcome tells what the sides stand beside.
+    fn parts_somewhere<T>(&mut self, outcome: impl FnOnce(Make) -> Result<T, (Beside, Difference)>) -> bool {
         let make = self.make;
         match catch_unwind(AssertUnwindSafe(|| outcome(make))) {
             Ok(Ok(_)) => false,
-            Ok(Err(difference)) => {
+            Ok(Err((beside, difference))) => {
                 self.keep(beside, difference);
                 true
             }
@@ -111,13 +123,48 @@ impl Search<'_> {
         let differ = seeds.filter(|&seed| self.differs(beside, |make| generate::random_case(seed, beside, make)));
         differ.count()
     }
+
+    /// The names of those of the parts that differ, and of the random cases, of which one is taken for so many.
+    fn beside_reference(&mut self, parts: Vec<Part>, seed: u64, beside: Beside) -> Vec<&'static str> {
+        let cases = (self.found.tried as u64).div_ceil(SHARE);
+        let mut differ = self.parts(parts, beside);
+        if self.random(seed, cases, beside) > 0 {
+            differ.push("random");
+        }
+        differ
+    }
+
+    /// Whether every two lists of four kinds tell the fault.
+    fn lists(&mut self) -> bool {
+        self.parts_somewhere(|make| rules::enumerate(4, &rules::six_layouts(), make))
+    }
+
+    /// What was found, with the smallest case cut down.
+    fn finish(self) -> Found {
+        let (make, mut found) = (self.make, self.found);
+        found.least = self.smallest.and_then(|(beside, least)| {
+            let least = catch_unwind(AssertUnwindSafe(|| shrink(&least.case, beside, make)));
+            least.ok().flatten().map(|least| (beside, least))
+        });
+        found
+    }
+}
+
+/// Whether the comparison of the starts differs, plain or told a rule.
+fn differs_at_start(make: Make) -> bool {
+    let starts = || -> Result<(), String> {
+        fixed::starts(Beside::Rust(Sets::Staged), make)?;
+        rules::starts(make)?;
+        Ok(())
+    };
+    !matches!(catch_unwind(AssertUnwindSafe(starts)), Ok(Ok(())))
 }
 
 /// Searches for a fault; with none there is nothing to be found.
 pub fn find(fault: Option<Fault>, seed: u64, tried: usize) -> Found {
     let make = &move || Box::new(Reference::with(fault)) as Box<dyn Side>;
     let rust = Beside::Rust(Sets::Staged);
-    let (limits, past) = (fixed::limits(16), past::few());
+    let (limits, past, newer) = (fixed::limits(16), past::few(), rules::few());
     let mut search = Search {
         make,
         found: Found {
@@ -128,24 +175,19 @@ pub fn find(fault: Option<Fault>, seed: u64, tried: usize) -> Found {
             parts: limits.len(),
             past: vec![],
             past_parts: past.len() + 1,
-            at_start: !matches!(catch_unwind(AssertUnwindSafe(|| fixed::starts(rust, make))), Ok(Ok(_))),
+            newer: vec![],
+            newer_parts: newer.len() + 2,
+            at_start: differs_at_start(make),
             least: None,
         },
         smallest: None,
     };
     search.found.fixed = search.parts(limits, rust);
     search.found.random = search.random(seed, tried as u64, rust);
-    search.found.past = search.parts(past, Beside::PAST);
-    if search.random(seed, (tried as u64).div_ceil(PAST_SHARE), Beside::PAST) > 0 {
-        search.found.past.push("random");
+    search.found.past = search.beside_reference(past, seed, Beside::PAST);
+    search.found.newer = search.beside_reference(newer, seed, Beside::NEWER);
+    if search.lists() {
+        search.found.newer.push("every two lists");
     }
-    let Search {
-        mut found, smallest, ..
-    } = search;
-    found.least = smallest.and_then(|(beside, least)| {
-        catch_unwind(AssertUnwindSafe(|| shrink(&least.case, beside, make)))
-            .ok()
-            .flatten()
-    });
-    found
+    search.finish()
 }

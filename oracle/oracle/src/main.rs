@@ -323,15 +323,15 @@ fn show_faults(options: &Options) -> ExitCode {
     let plain = faults::find(None, options.seed, options.cases);
     assert!(!plain.is_found(), "the reference as it is differs: {}", plain.line());
     let (mut missed, since) = (0, Instant::now());
-    println!("| fault | random cases | limits | past the Rust | start | commands in the smallest tape |");
-    println!("|---|---|---|---|---|---|");
+    println!("| fault | random cases | limits | past the Rust | newer rule | start | commands in the smallest tape |");
+    println!("|---|---|---|---|---|---|---|");
     for &fault in reference::Fault::ALL {
         let found = quietly(|| faults::find(Some(fault), options.seed, options.cases));
         println!("{}", found.line());
         eprintln!("{:>7.1} s  {}", since.elapsed().as_secs_f64(), fault.text());
         missed += usize::from(!found.is_found());
-        if let Some(least) = found.least.filter(|_| options.show) {
-            println!("{}", least.text());
+        if let Some((beside, least)) = found.least.filter(|_| options.show) {
+            println!("{}\n{}", beside.text(), least.text());
         }
     }
     println!("{} faults, {missed} not found", reference::Fault::ALL.len());

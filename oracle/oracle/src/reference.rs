@@ -159,11 +159,42 @@ faults! {
     TallyOfAll: "TALLY answers the sum of all counts",
     EightCounts: "callers with the same lower three bits share a count",
     FullCountStopsAll: "a count at 4,294,967,295 stops those of all callers",
+    TwoExcludedFound: "under the newer rule a ring of two kinds can be excluded",
+    OneExcludedNone: "under the newer rule nothing is found with any kind excluded",
+    RangeByOlder: "RANGE goes by the older rule in every store",
+    RangeByNewer: "RANGE goes by the newer rule in every store",
+    NewerGroupAlone: "under the newer rule, with nothing excluded, a group is found only if its ring is one kind",
+    NewerKindAlone: "under the newer rule a kind alone is not found",
+    NewerByStaged: "the newer rule goes by how many kinds are staged: two at most",
+    NewerBySmaller: "the newer rule goes by the smaller group's ring",
+    NewerByLargest: "the newer rule goes by the ring of the family's largest group",
+    NewerCountsBare: "under the newer rule a ring of several kinds gives as many rows as entities have none of them",
+    NewerNoneKeepsStaged: "where the newer rule finds nothing, RANGE keeps the staged components",
+    NewerNoneKeepsExcluded: "where the newer rule finds nothing, RANGE keeps the excluded kinds",
+    NewerNoneOneByte: "where the newer rule finds nothing, RANGE answers by one byte",
+    NewerNoneFiveBytes: "where the newer rule finds nothing, RANGE answers by five bytes",
+    NewerNoneFound: "where the newer rule finds nothing, RANGE answers found, and zeros",
+    NewerNoneRows: "where the newer rule finds nothing, RANGE answers none, and the older rule's rows",
+    NewerNoneRefused: "where the newer rule finds nothing, RANGE is refused",
+    RuleOfRun: "the rule is forgotten at the end of a run",
+    RefusalForgetsRule: "a refused command forgets the rule",
+    WipeForgetsRule: "WIPE forgets the rule",
+    ApplyForgetsRule: "APPLY forgets the rule",
+    KillForgetsRule: "KILL forgets the rule",
+    SetCallerForgetsRule: "SETCALLER forgets the rule",
+    SetCallerSetsRule: "SETCALLER sets the rule too, by the caller's lowest bit",
+    RuleInRoll: "the roll of a newer store has a byte more",
     RollByLiveList: "the roll follows the live list",
     RollByRegistration: "the roll's parts follow the order of registration",
     StartKeepsRefusalCount: "a second start keeps the refusal count",
     StartKeepsOthers: "a second start keeps the counts of the callers above 0",
     StartKeepsCaller: "a second start keeps the caller",
+    StartKeepsNewer: "a second start keeps the newer rule",
+    StartKeepsOlder: "a second start keeps the older rule",
+    StartTurned: "a start takes the rule that it is not told",
+    StartAlwaysOlder: "a start takes the older rule, whatever it is told",
+    PlainStartNewer: "a start that is told no rule takes the newer",
+    RefusedStartSetsRule: "a refused start sets the rule that it is told",
 }
 
 const MOST_KINDS: usize = 16;
@@ -172,6 +203,9 @@ const CALLERS: usize = 16;
 
 /// The refusal of a caller that is none.
 const NO_CALLER: u8 = 0x13;
+
+/// A refusal that never comes, for a fault.
+const WIDE: u8 = 0x0d;
 
 /// Places in `EXCLUDED`.
 const NOTHING: usize = 0;
@@ -236,18 +270,6 @@ struct Found {
     is_found: bool,
 }
 
-impl Found {
-    /// All rows from the first, with nothing excluded, under either rule.
-    fn whole(end: usize) -> Self {
-        Self {
-            start: 0,
-            end,
-            ring: 0,
-            is_found: true,
-        }
-    }
-}
-
 #[derive(Clone, Debug)]
 struct Store {
     fault: Option<Fault>,
@@ -301,6 +323,26 @@ impl Reference {
         }
         (caller, refusals)
     }
+
+    /// The rule after a start: the one told, but for faults.
+    fn started_rule(&self, told: Rule) -> Rule {
+        let before = self.store.as_ref().map(|store| store.rule);
+        match (self.fault, told) {
+            (Some(Fault::StartKeepsNewer), _) if before == Some(Rule::Newer) => Rule::Newer,
+            (Some(Fault::StartKeepsOlder), _) if before == Some(Rule::Older) => Rule::Older,
+            (Some(Fault::StartAlwaysOlder), _) | (Some(Fault::StartTurned), Rule::Newer) => Rule::Older,
+            (Some(Fault::StartTurned), Rule::Older) => Rule::Newer,
+            _ => told,
+        }
+    }
+
+    /// A refused start leaves all as it is.
+    fn refused_start(&mut self, number: u32, told: Rule) -> u32 {
+        if let (Some(Fault::RefusedStartSetsRule), Some(store)) = (self.fault, &mut self.store) {
+            store.rule = told;
+        }
+        number
+    }
 }
 
 impl Side for Reference {
@@ -309,20 +351,24 @@ impl Side for Reference {
     }
 
     fn start(&mut self, words: usize, n: usize, k: usize) -> u32 {
-        self.start_with(words, n, k, Rule::Older)
+        let rule = match self.fault {
+            Some(Fault::PlainStartNewer) => Rule::Newer,
+            _ => Rule::Older,
+        };
+        self.start_with(words, n, k, rule)
     }
 
     fn start_with(&mut self, words: usize, n: usize, k: usize, rule: Rule) -> u32 {
         if n < 1 || n > 4096 || k < 1 || k > 128 {
-            return 1;
+            return self.refused_start(1, rule);
         }
         if words < 1024 + 16 * n + k * (8 + 6 * n) {
-            return 2;
+            return self.refused_start(2, rule);
         }
         let (caller, refusals) = self.started_counts();
         self.store = Some(Store {
             fault: self.fault,
-            rule,
+            rule: self.started_rule(rule),
             n,
             k,
             live: vec![],
@@ -474,6 +520,7 @@ impl Store {
             Some(Fault::StopForgetsCaller) if ran.stop != 0 => self.caller = 0,
             _ => {}
         }
+        self.forget_rule(Fault::RuleOfRun);
         ran
     }
 
@@ -582,6 +629,7 @@ impl Store {
             Some(Fault::RefusalForgetsCaller) => self.caller = 0,
             _ => {}
         }
+        self.forget_rule(Fault::RefusalForgetsRule);
     }
 
     /// One more, unless it is the last number.
@@ -639,8 +687,10 @@ impl Store {
             Some(Fault::SetCallerEmptiesDraft) => self.draft.clear(),
             Some(Fault::SetCallerClearsCount) => self.refusals[usize::from(caller)] = 0,
             Some(Fault::SetCallerTellsBefore) => return Ok(vec![before]),
+            Some(Fault::SetCallerSetsRule) => self.rule = [Rule::Older, Rule::Newer][usize::from(caller % 2)],
             _ => {}
         }
+        self.forget_rule(Fault::SetCallerForgetsRule);
         Ok(vec![])
     }
 
@@ -648,6 +698,13 @@ impl Store {
     fn forget_caller(&mut self, fault: Fault) {
         if self.has(fault) {
             self.caller = 0;
+        }
+    }
+
+    /// The rule is the older, where there is the fault.
+    fn forget_rule(&mut self, fault: Fault) {
+        if self.has(fault) {
+            self.rule = Rule::Older;
         }
     }
 
@@ -1137,6 +1194,7 @@ impl Store {
             None => {}
         }
         self.forget_caller(Fault::KillForgetsCaller);
+        self.forget_rule(Fault::KillForgetsRule);
         Ok(vec![])
     }
 
@@ -1155,6 +1213,7 @@ impl Store {
             self.live.clear();
         }
         self.forget_caller(Fault::WipeForgetsCaller);
+        self.forget_rule(Fault::WipeForgetsRule);
         Ok(vec![])
     }
 
@@ -1292,6 +1351,7 @@ impl Store {
 
     fn apply(&mut self) -> Answer {
         self.forget_caller(Fault::ApplyForgetsCaller);
+        self.forget_rule(Fault::ApplyForgetsRule);
         self.layout = self.draft.clone();
         if !self.has(Fault::ApplyKeepsDraft) {
             self.draft.clear();
@@ -1316,16 +1376,37 @@ impl Store {
     fn range(&mut self) -> Answer {
         let found = self.find_range();
         self.count_range(found);
-        self.staged.clear();
-        if !self.has(Fault::RangeKeepsExcluded) {
+        // 01 finds something, and the newer rule does not.
+        let is_hidden = found.is_some_and(|found| !found.is_found);
+        if is_hidden && self.has(Fault::NewerNoneRefused) {
+            return Err(WIDE);
+        }
+        let keeps = |fault: Fault| is_hidden && self.has(fault);
+        let keeps_staged = keeps(Fault::NewerNoneKeepsStaged);
+        let keeps_excluded = keeps(Fault::NewerNoneKeepsExcluded) || self.has(Fault::RangeKeepsExcluded);
+        if !keeps_staged {
+            self.staged.clear();
+        }
+        if !keeps_excluded {
             self.excluded.clear();
         }
-        let told = found.filter(|found| found.is_found);
+        Ok(self.range_answer(found))
+    }
+
+    fn range_answer(&self, found: Option<Found>) -> Vec<u8> {
+        let is_hidden = found.is_some_and(|found| !found.is_found);
+        let is_told = found.is_some_and(|found| found.is_found || self.has(Fault::NewerNoneFound));
+        let told = found.filter(|found| found.is_found || self.has(Fault::NewerNoneRows));
         let (start, end) = told.map_or((0, 0), |found| (found.start, found.end));
-        let mut answer = vec![u8::from(told.is_some())];
+        let mut answer = vec![u8::from(is_told)];
         answer.extend((start as u32).to_le_bytes());
         answer.extend((end as u32).to_le_bytes());
-        Ok(answer)
+        match self.fault {
+            Some(Fault::NewerNoneOneByte) if is_hidden => answer.clear(),
+            Some(Fault::NewerNoneFiveBytes) if is_hidden => answer.truncate(4),
+            _ => {}
+        }
+        answer
     }
 
     fn count_range(&mut self, found: Option<Found>) {
@@ -1341,19 +1422,29 @@ impl Store {
     /// What 01 finds.
     fn find_range(&self) -> Option<Found> {
         if self.has(Fault::FixedRange) {
-            return Some(Found::whole(1));
+            return Some(self.whole(1, true));
         }
         let staged: BTreeSet<u8> = self.staged.iter().map(|held| held.0).collect();
         let excluded = set(&self.excluded);
         if staged.len() == 1 && (excluded.is_empty() || self.has(Fault::OneKindWithExcluded)) {
             let length = self.columns[&self.staged[0].0].len();
-            return Some(Found::whole(length));
+            return Some(self.whole(length, !self.has(Fault::NewerKindAlone)));
         }
         let drafted = self.draft.iter().filter(|_| self.has(Fault::RangeOfDraft));
         self.layout.iter().chain(drafted).find_map(|family| {
             let mut groups = (0..family.new_kinds.len()).filter(|&group| self.is_staged(family, group, &staged));
             groups.find_map(|group| self.group_range(family, group, &excluded))
         })
+    }
+
+    /// All rows from the first, with nothing excluded. Under the newer rule too, but for faults.
+    fn whole(&self, end: usize, is_found: bool) -> Found {
+        Found {
+            start: 0,
+            end,
+            ring: 0,
+            is_found: is_found || self.rule == Rule::Older,
+        }
     }
 
     /// Whether the staged kinds are the group.
@@ -1369,17 +1460,19 @@ impl Store {
             false => family.counts[group],
         };
         if excluded.is_empty() {
-            return Some(Found::whole(count));
+            let is_missed = family.new_kinds[group].len() > 1 && self.has(Fault::NewerGroupAlone);
+            return Some(self.whole(count, !is_missed));
         }
         let mut larger = group + 1..family.new_kinds.len();
         let larger = larger.find(|&larger| self.is_excluded(family, group, larger, excluded))?;
-        let ring = family.new_kinds[larger].len();
+        let start = family.counts[larger];
+        let is_found = self.is_found(family, group, larger);
+        let is_bare = !is_found && self.has(Fault::NewerCountsBare);
         Some(Found {
-            start: family.counts[larger],
-            end: count,
-            ring,
-            // 02: the newer rule finds what 01 does where the larger group's ring is one kind.
-            is_found: self.rule == Rule::Older || ring == 1,
+            start,
+            end: if is_bare { start + self.bare() } else { count },
+            ring: family.new_kinds[larger].len(),
+            is_found: is_found || is_bare,
         })
     }
 
@@ -1392,6 +1485,34 @@ impl Store {
         let is_next = larger == group + 1;
         let is_part = is_next && self.has(Fault::ExcludePart) && excluded.is_subset(&more);
         *excluded == more && (is_next || self.has(Fault::ExcludeAnyLarger)) || is_part
+    }
+
+    /// Whether the store's rule finds what 01 finds: the newer does if the larger group's ring is one kind.
+    fn is_found(&self, family: &Family, group: usize, larger: usize) -> bool {
+        let ring = |group: usize| family.new_kinds[group].len();
+        let newer = match self.fault {
+            Some(Fault::TwoExcludedFound) => ring(larger) <= 2,
+            Some(Fault::OneExcludedNone) => false,
+            Some(Fault::NewerByStaged) => self.staged.len() <= 2,
+            Some(Fault::NewerBySmaller) => ring(group) == 1,
+            Some(Fault::NewerByLargest) => ring(family.new_kinds.len() - 1) == 1,
+            _ => ring(larger) == 1,
+        };
+        match self.fault {
+            Some(Fault::RangeByOlder) => true,
+            Some(Fault::RangeByNewer) => newer,
+            _ => newer || self.rule == Rule::Older,
+        }
+    }
+
+    /// How many entities have all of the staged kinds and none of the excluded ones.
+    fn bare(&self) -> usize {
+        let has = |entity: Id, kind: u8| self.place(kind, entity).is_some();
+        let is_bare = |entity: &&Id| {
+            let has_all = self.staged.iter().all(|held| has(**entity, held.0));
+            has_all && !self.excluded.iter().any(|&kind| has(**entity, kind))
+        };
+        self.live.iter().filter(is_bare).count()
     }
 
     fn roll(&self) -> Vec<u8> {
@@ -1416,6 +1537,9 @@ impl Store {
                 roll.push(kind);
                 roll.extend(value.to_le_bytes());
             }
+        }
+        if self.has(Fault::RuleInRoll) && self.rule == Rule::Newer {
+            roll.push(1);
         }
         roll
     }

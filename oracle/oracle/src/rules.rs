@@ -27,6 +27,15 @@ pub fn parts() -> Vec<Part> {
         .collect()
 }
 
+/// Few of these parts, with few of their cases.
+pub fn few() -> Vec<Part> {
+    let chains = vec![part("chains with rings of every size", chains().step_by(5))];
+    let names = ["walks through position 63", "callers", "rooms"];
+    let others = past::few().into_iter().chain(fixed::limits(MOST_ENTITIES));
+    let others = others.filter(|part| names.contains(&part.name));
+    chains.into_iter().chain(others).collect()
+}
+
 /// The sizes of chains of up to 16 kinds: rings of one kind, of two, of three, of more, and mixed.
 const SIZES: [&[u8]; 9] = [
     &[2, 3, 4, 5, 6, 7, 8, 9, 10, 11, 12, 13, 14, 15, 16],
