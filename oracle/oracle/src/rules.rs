@@ -260,47 +260,58 @@ impl Filled {
         }
     }
 
+    /// How many lists there are, each to be staged and excluded.
+    pub fn lists(&self) -> u128 {
+        1 << self.width
+    }
+
     /// RANGE with every list staged, and each with another excluded. Behind a ring comes one of its kinds alone, which is
     /// found if nothing is left staged or excluded.
     fn asked(&self, rule: Rule, shift: u128) -> Vec<Asked> {
-        let lists = 1 << self.width;
         let asked =
             |rule: Rule, staged: u128, excluded: u128| Asked::by_definition(&self.groups, rule, staged, excluded);
         let pair = |staged: u128| {
-            let excluded = (staged + shift) % lists;
+            let excluded = (staged + shift) % self.lists();
             let is_ring = excluded != 0 && asked(Rule::Older, staged, excluded).finds;
             let alone = is_ring.then(|| asked(rule, excluded & excluded.wrapping_neg(), 0));
             [asked(rule, staged, excluded)].into_iter().chain(alone)
         };
-        (0..lists).flat_map(pair).collect()
+        (0..self.lists()).flat_map(pair).collect()
     }
 
-    /// Both sides filled, and what they answer then.
-    fn compare(&self, beside: Beside, make: Make, figures: &mut Figures) -> Result<Answers, String> {
-        let mut pair = Pair::start(&self.case, beside, make)?;
+    /// Both sides filled, and what they answer then to every two lists.
+    fn compare(&self, beside: Beside, make: Make, figures: &mut Figures) -> Result<Answers, Difference> {
+        let part = |what: String| self.difference(vec![], what);
+        let mut pair = Pair::start(&self.case, beside, make).map_err(part)?;
         for run in &self.case.runs {
-            pair.step(run, true)?;
+            pair.step(run, true).map_err(part)?;
         }
-        let answers = self.ask(&mut pair)?;
-        pair.state()?;
+        let mut all = Answers::new();
+        for shift in 0..self.lists() {
+            let answers = self.ask(&mut pair, shift);
+            all.extend(answers.map_err(|what| self.difference(self.asked(beside.rule(), shift), what))?);
+        }
+        pair.state().map_err(part)?;
         figures.add(&pair.finish());
-        Ok(answers)
+        Ok(all)
     }
 
-    /// What both sides of a filled pair answer to every two lists, held to the definition and to what was put.
-    pub fn ask(&self, pair: &mut Pair) -> Result<Answers, String> {
-        let rule = pair.rule();
-        let mut all = Answers::new();
-        for shift in 0..1 << self.width {
-            let asked = self.asked(rule, shift);
-            let (_, answers) = pair.answered(&demand::run(&asked))?;
-            let found = demand::found(&asked, &answers);
-            self.hold(pair, &asked, &found)?;
-            pair.figures.ranges += asked.len() as u64;
-            let lists = asked.iter().map(|asked| (asked.kinds, asked.excluded));
-            all.extend(lists.zip(found));
-        }
-        Ok(all)
+    /// Where the sides part, behind what was asked last.
+    fn difference(&self, asked: Vec<Asked>, what: String) -> Difference {
+        let mut case = self.case.clone();
+        case.runs.extend((!asked.is_empty()).then(|| demand::run(&asked)));
+        Difference { case, what }
+    }
+
+    /// What both sides of a filled pair answer, held to the definition and to what was put.
+    pub fn ask(&self, pair: &mut Pair, shift: u128) -> Result<Answers, String> {
+        let asked = self.asked(pair.rule(), shift);
+        let (_, answers) = pair.answered(&demand::run(&asked))?;
+        let found = demand::found(&asked, &answers);
+        self.hold(pair, &asked, &found)?;
+        pair.figures.ranges += asked.len() as u64;
+        let lists = asked.iter().map(|asked| (asked.kinds, asked.excluded));
+        Ok(lists.zip(found).collect())
     }
 
     fn hold(&self, pair: &mut Pair, asked: &[Asked], found: &[Rows]) -> Result<(), String> {
@@ -384,14 +395,15 @@ impl Enumerated {
     }
 
     /// Every two lists under one layout: the older rule beside the Rust, the newer beside the reference.
-    fn fill(&mut self, filled: &Filled, make: Make) -> Result<(), (Beside, String)> {
+    fn fill(&mut self, filled: &Filled, make: Make) -> Result<(), (Beside, Difference)> {
         let rust = Beside::Rust(Sets::Tuples);
         let older = filled.compare(rust, make, &mut self.older);
-        let older = older.map_err(|what| (rust, what))?;
+        let older = older.map_err(|difference| (rust, difference))?;
         let newer = filled.compare(Beside::NEWER, make, &mut self.newer);
-        let newer = newer.map_err(|what| (Beside::NEWER, what))?;
+        let newer = newer.map_err(|difference| (Beside::NEWER, difference))?;
         self.layouts += 1;
-        self.count(&older, &newer).map_err(|what| (Beside::NEWER, what))
+        self.count(&older, &newer)
+            .map_err(|what| (Beside::NEWER, filled.difference(vec![], what)))
     }
 }
 
@@ -400,9 +412,7 @@ pub fn enumerate(width: u8, layouts: &[Vec<Vec<u8>>], make: Make) -> Result<Enum
     let mut found = Enumerated::default();
     for (seed, groups) in layouts.iter().enumerate() {
         let filled = Filled::new(width, groups, seed as u64);
-        let outcome = found.fill(&filled, make);
-        let case = filled.case;
-        outcome.map_err(|(beside, what)| (beside, Difference { case, what }))?;
+        found.fill(&filled, make)?;
     }
     Ok(found)
 }
