@@ -1,7 +1,7 @@
 //! The harness held to document 01's own examples and to the library's own ways, and the tools to themselves.
 
-use crate::compare::{compare, shrink, Beside, Look, Make, Pair};
-use crate::demand;
+use crate::compare::{begin, compare, shrink, Beside, Figures, Look, Make, Pair};
+use crate::demand::{self, Asked};
 use crate::drafts::{self, Ours, Sorted, Theirs};
 use crate::fixed;
 use crate::generate;
@@ -10,12 +10,13 @@ use crate::past;
 use crate::record;
 use crate::reference::{Fault, Reference};
 use crate::rng::Rng;
+use crate::rules::{self, Filled};
 use crate::side::{Rule, Side};
 use crate::tape::{self, Case, Chunk, Run};
 use crate::words;
 use sparsey::component::GroupLayout;
 use sparsey::harness::{
-    add_group, families_of, is_within_reach, words_needed, Counts, Id, Oracle, Preset, Ran, Sets, CALLERS,
+    add_group, families_of, is_within_reach, set_of, words_needed, Counts, Id, Oracle, Preset, Ran, Sets, CALLERS,
 };
 use std::panic::{catch_unwind, AssertUnwindSafe};
 
@@ -36,7 +37,12 @@ fn sides() -> Vec<Box<dyn Side>> {
 
 /// The answers of the case's runs.
 fn answers(side: &mut dyn Side, case: &Case) -> Vec<Vec<u8>> {
-    assert_eq!(side.start(words_needed(case.n, case.k), case.n, case.k), 0);
+    answers_under(side, case, None)
+}
+
+/// The answers on a store whose start is told a rule or none.
+fn answers_under(side: &mut dyn Side, case: &Case, told: Option<Rule>) -> Vec<Vec<u8>> {
+    assert_eq!(begin(side, case, told), 0);
     let answer = |run: &Run| {
         let mut out = vec![0; 4096];
         let ran = side.run(&run.tape(), &mut out);
@@ -264,10 +270,7 @@ fn tuples_and_staged_agree() {
 
 /// The whole case on one side.
 fn run_all(side: &mut dyn Side, case: &Case) {
-    side.start(words_needed(case.n, case.k), case.n, case.k);
-    if let Some(preset) = &case.preset {
-        side.preset(preset);
-    }
+    begin(side, case, None);
     for run in &case.runs {
         side.run(&run.tape(), &mut vec![0; run.room]);
     }
@@ -463,6 +466,266 @@ fn words_of_callers() {
     assert_eq!(changed(&once, &called), [(9, 15)]);
     assert_eq!(words::after_set_caller(called.clone(), 15), called);
     assert_eq!(changed(&called, &words::after_refusal(called.clone())), [(31, 16)]);
+}
+
+/// The reference's answers to the runs, by the older rule and by the newer.
+fn by_both_rules(case: &Case) -> [Vec<Vec<u8>>; 2] {
+    [None, Some(Rule::Newer)].map(|told| answers_under(&mut Reference::new(), case, told))
+}
+
+/// Of 01's examples {1,2} without {3,4} is none under the newer rule, and all others are as they were.
+#[test]
+fn examples_under_the_newer_rule() {
+    let [marked, killed, written] = &record::examples()[..] else {
+        panic!()
+    };
+    let [older, mut newer] = by_both_rules(marked);
+    let bars = [0, 0, 0, 0];
+    assert_eq!(older[5], [&bars[..], &range(true, 1, 3)].concat());
+    assert_eq!(newer[5], [&bars[..], &range(false, 0, 0)].concat());
+    newer[5] = older[5].clone();
+    assert_eq!(older, newer);
+    for case in [killed, written] {
+        let [older, newer] = by_both_rules(case);
+        assert_eq!(older, newer);
+    }
+}
+
+/// Under {1,2} and {1,2,3} both rules find {1,2} without {3}; a plain start and one told the older rule do the same.
+#[test]
+fn a_ring_of_one_kind_is_found_by_both_rules() {
+    let lists = [&[1u8, 2, 3][..], &[1, 2], &[1, 2], &[1]];
+    let news = lists.iter().flat_map(|list| tape::with(list, tape::new()));
+    let begin = [
+        (1..4).map(tape::reg).collect(),
+        fixed::layout(&[&[1, 2], &[1, 2, 3]]),
+        news.collect(),
+    ];
+    let asked = [vec![tape::bar(3)], tape::with(&[1, 2], tape::range())].concat();
+    let case = Case::new(4, 3, [begin.concat(), asked].concat());
+    for told in [None, Some(Rule::Older), Some(Rule::Newer)] {
+        let answers = answers_under(&mut Reference::new(), &case, told);
+        assert!(answers[0].ends_with(&range(true, 1, 3)), "{told:?}: {answers:?}");
+    }
+}
+
+/// A family of groups with these numbers of the first kinds, and an entity for each number of kinds: what RANGE answers to
+/// each group without the next larger one's ring, by a rule.
+fn ring_answers(sizes: &[u8], told: Option<Rule>) -> Vec<Vec<u8>> {
+    let first = |count: u8| -> Vec<u8> { (0..count).collect() };
+    let groups: Vec<Vec<u8>> = sizes.iter().map(|&size| first(size)).collect();
+    let groups: Vec<&[u8]> = groups.iter().map(|group| &group[..]).collect();
+    let begin = [
+        first(16).into_iter().map(tape::reg).collect(),
+        fixed::layout(&groups),
+        (1..=16)
+            .flat_map(|count| tape::with(&first(count), tape::new()))
+            .collect(),
+    ];
+    let asked = sizes.windows(2).map(|next| {
+        let bars = (next[0]..next[1]).map(tape::bar);
+        bars.chain(tape::with(&first(next[0]), tape::range())).collect()
+    });
+    let case = Case {
+        n: 16,
+        k: 16,
+        preset: None,
+        runs: begin.into_iter().chain(asked).map(Run::new).collect(),
+    };
+    let answers = answers_under(&mut Reference::new(), &case, told).split_off(3);
+    let last = |answer: &Vec<u8>| answer[answer.len() - 10..].to_vec();
+    answers.iter().map(last).collect()
+}
+
+/// Every ring of one kind is found by the newer rule, up to 16 kinds, and none of more; the older finds all.
+#[test]
+fn rings_of_every_size() {
+    let every: Vec<u8> = (2..=16).collect();
+    let even: Vec<u8> = (2..=16).step_by(2).collect();
+    for sizes in [&every[..], &even, &[2, 5, 8, 16], &[2, 3, 5, 6, 9, 10, 15, 16]] {
+        let rows = |rule: Rule| -> Vec<Vec<u8>> {
+            let rows = |next: &[u8]| match rule == Rule::Older || next[1] - next[0] == 1 {
+                true => range(true, 17 - next[1], 17 - next[0]),
+                false => range(false, 0, 0),
+            };
+            sizes.windows(2).map(rows).collect()
+        };
+        assert_eq!(ring_answers(sizes, None), rows(Rule::Older));
+        assert_eq!(ring_answers(sizes, Some(Rule::Newer)), rows(Rule::Newer));
+    }
+    let found = |sizes: &[u8]| {
+        let answers = ring_answers(sizes, Some(Rule::Newer));
+        answers.iter().filter(|answer| answer[1] == 1).count()
+    };
+    assert_eq!((found(&every), found(&even)), (14, 0));
+    assert_eq!(found(&[2, 3, 5, 6, 9, 10, 15, 16]), 4);
+}
+
+/// Two of the six layouts have rings of one kind, one has a ring of two, the others none; and there are 387 layouts of five
+/// kinds, with rings of one, two and three.
+#[test]
+fn rings_of_the_layouts() {
+    let rings = |lists: &Vec<Vec<u8>>| -> Vec<u32> {
+        let groups: Vec<u128> = lists.iter().map(|list| set_of(list)).collect();
+        let families = drafts::formed(&groups).expect("a layout");
+        let sizes = |family: &Vec<u128>| {
+            family
+                .windows(2)
+                .map(|next| (next[1] & !next[0]).count_ones())
+                .collect()
+        };
+        families
+            .iter()
+            .flat_map(|family| -> Vec<u32> { sizes(family) })
+            .collect()
+    };
+    let six: Vec<Vec<u32>> = rules::six_layouts().iter().map(rings).collect();
+    assert_eq!(six, [vec![], vec![], vec![1], vec![2], vec![1, 1], vec![]]);
+    let all: Vec<Vec<u32>> = rules::all_layouts(5).iter().map(rings).collect();
+    assert_eq!(all.len(), 387);
+    let with = |size: u32| all.iter().filter(|rings| rings.contains(&size)).count();
+    assert!((1..=3).all(|size| with(size) > 0) && with(4) == 0);
+}
+
+/// What is asked of every group is what the definition says of any two lists, under all layouts of five kinds.
+#[test]
+fn rings_by_the_definition() {
+    let registered: Vec<u8> = (0..6).collect();
+    for groups in drafts::layouts(5) {
+        let families = drafts::formed(&groups).expect("a layout");
+        for rule in [Rule::Older, Rule::Newer] {
+            let none = demand::none(&families, &registered);
+            for asked in [demand::rings(&families, rule), none].concat() {
+                let same = Asked::by_definition(&groups, rule, asked.kinds, asked.excluded);
+                assert_eq!(asked.finds, same.finds, "{rule:?}, {groups:?}: {asked:?}");
+            }
+        }
+    }
+}
+
+/// RANGE with every two lists of four kinds: the rules answer one pair differently, {0,1} without {2,3}.
+#[test]
+fn every_two_lists_by_both_rules() {
+    let found = rules::enumerate(4, &rules::six_layouts(), &plain);
+    let found = found.unwrap_or_else(|(_, difference)| panic!("{}", difference.text()));
+    assert_eq!((found.layouts, found.pairs), (6, 6 * 256));
+    assert_eq!((found.found, found.differ), ([38, 37], 1));
+}
+
+/// Every two lists of so many kinds, under the newer rule, on two sides with the same fault.
+fn by_what_was_put(width: u8, layouts: &[Vec<Vec<u8>>], fault: Fault) -> Result<(), String> {
+    let faulty: Make = &|| Box::new(Reference::with(Some(fault))) as Box<dyn Side>;
+    for groups in layouts {
+        let filled = Filled::new(width, groups, 1);
+        let mut pair = Pair::start(&filled.case, Beside::NEWER, faulty)?;
+        pair.known = Box::new(Reference::with(Some(fault)));
+        begin(&mut *pair.known, &filled.case, Some(Rule::Newer));
+        for run in &filled.case.runs {
+            pair.run(run)?;
+        }
+        (0..filled.lists()).try_for_each(|shift| filled.ask(&mut pair, shift).map(|_| ()))?;
+    }
+    Ok(())
+}
+
+/// Faults in RANGE, and in what it shows, are found by what was put also where both sides have them.
+#[test]
+fn what_was_put_judges_alone() {
+    let (six, five) = (rules::six_layouts(), rules::all_layouts(5));
+    for fault in [
+        Fault::TwoExcludedFound,
+        Fault::OneExcludedNone,
+        Fault::RangeByOlder,
+        Fault::NewerGroupAlone,
+        Fault::NewerKindAlone,
+        Fault::NewerByStaged,
+        Fault::NewerBySmaller,
+        Fault::NewerCountsBare,
+        Fault::NewerNoneKeepsStaged,
+        Fault::NewerNoneKeepsExcluded,
+        Fault::NewerNoneFound,
+        Fault::NewerNoneRows,
+        Fault::InventedCounts,
+        Fault::SwapNewKindsOnly,
+        Fault::ReplaceKeepsValue,
+        Fault::ExcludeAnyLarger,
+    ] {
+        assert!(by_what_was_put(4, &six, fault).is_err(), "{fault:?}");
+    }
+    // A family with rings of one kind and of several.
+    assert!(by_what_was_put(5, &five, Fault::NewerByLargest).is_err());
+    // A fault that does not touch any of it.
+    assert_eq!(by_what_was_put(4, &six, Fault::RollByLiveList), Ok(()));
+}
+
+/// Where two lists tell a fault, the case has the RANGE that shows it, and is cut down, beside the Rust and the reference.
+#[test]
+fn lists_that_differ_are_cut_down() {
+    for (fault, is_rust) in [(Fault::ExcludePart, true), (Fault::TwoExcludedFound, false)] {
+        let faulty: Make = &|| Box::new(Reference::with(Some(fault))) as Box<dyn Side>;
+        let Err((beside, difference)) = rules::enumerate(4, &rules::six_layouts(), faulty) else {
+            panic!("{fault:?}")
+        };
+        assert_eq!(beside.is_rust(), is_rust);
+        let least = shrink(&difference.case, beside, faulty).expect("it comes again");
+        assert!(least.case.runs.len() == 1 && least.case.n == 1);
+    }
+}
+
+/// Random cases of the newer rule exclude rings of one, two and three kinds often, and leave the same store as those of the
+/// older, but for what RANGE answers.
+#[test]
+fn random_cases_of_the_newer_rule() {
+    let mut figures = Figures::default();
+    for seed in 0..400 {
+        let Ok((case, more)) = generate::random_case(seed, Beside::NEWER, &plain) else {
+            panic!()
+        };
+        figures.add(&more);
+        assert_eq!(rules::same_but_for_ranges(&case, &plain), Ok(()), "seed {seed}");
+    }
+    let [nothing, one, two, more, other] = figures.ranged;
+    assert!(one[0] > 1000 && two[1] > 500 && more[1] > 200, "{:?}", figures.ranged);
+    assert!(nothing[0] > 1000 && other[1] > 1000, "{:?}", figures.ranged);
+    assert_eq!((one[1], two[0], more[0], other[0]), (0, 0, 0, 0));
+}
+
+/// Where the rule leaves something else than RANGE's answers, the two stores tell it.
+#[test]
+fn stores_of_both_rules_are_told_apart() {
+    for fault in [
+        Fault::RuleInRoll,
+        Fault::NewerNoneKeepsStaged,
+        Fault::NewerNoneKeepsExcluded,
+        Fault::NewerNoneOneByte,
+        Fault::NewerNoneFiveBytes,
+        Fault::NewerNoneRefused,
+    ] {
+        let faulty: Make = &|| Box::new(Reference::with(Some(fault))) as Box<dyn Side>;
+        let mut cases = (0..100).filter_map(|seed| generate::random_case(seed, Beside::NEWER, &plain).ok());
+        let is_told = cases.any(|(case, _)| rules::same_but_for_ranges(&case, faulty).is_err());
+        assert!(is_told, "{fault:?}");
+    }
+}
+
+/// The rule is the one that the last accepted start was told; a refused start and commands leave it.
+#[test]
+fn the_rule_is_fixed_at_the_start() {
+    let needed = words_needed(2, 2);
+    let mut side = Reference::new();
+    assert_eq!(side.rule(), Some(Rule::Older));
+    for told in [Rule::Newer, Rule::Older, Rule::Newer] {
+        let other = [Rule::Newer, Rule::Older][usize::from(told == Rule::Newer)];
+        assert_eq!(side.start_with(needed, 2, 2, told), 0);
+        assert_eq!(side.start_with(needed - 1, 2, 2, other), 2);
+        assert_eq!(side.start_with(needed, 2, 129, other), 1);
+        assert_eq!(side.start(needed, 0, 2), 1);
+        let chunks = [tape::set_caller(3), tape::kill((0, 1)), tape::wipe(), tape::apply()];
+        assert_eq!(side.run(&chunks.concat(), &mut [0; 8]).stop, 0);
+        assert_eq!(side.rule(), Some(told));
+    }
+    assert_eq!(side.start(needed, 2, 2), 0);
+    assert_eq!(side.rule(), Some(Rule::Older));
 }
 
 /// The rule by its word: 0 or 1, and nothing else.
