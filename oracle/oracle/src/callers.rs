@@ -99,7 +99,7 @@ fn refusal_case(caller: u8) -> Case {
 }
 
 /// Runs of one command, accepted or refused, of none, and such that stop. All keep the caller, but those that set one.
-fn keeping() -> Vec<Run> {
+pub fn keeping() -> Vec<Run> {
     let (none, stops) = ([vec![]], [vec![0], vec![17], vec![255], vec![16], vec![2, 1, 0]]);
     let chunks = none.into_iter().chain(each_command()).chain(stops);
     let mut runs: Vec<Run> = chunks.map(|chunk| run_of(vec![chunk])).collect();

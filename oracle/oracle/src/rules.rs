@@ -1,6 +1,7 @@
 //! The newer rule (02, No. 8), which the Rust does not have: the plain reference stands beside the other side, and both are
 //! held to the definition. For every two lists of few kinds that goes by what was put, apart from both sides.
 
+use crate::callers;
 use crate::compare::{begin, usable, Beside, Difference, Figures, Make, Pair};
 use crate::demand::{self, Asked, Rows};
 use crate::drafts;
@@ -16,24 +17,27 @@ use std::collections::{BTreeMap, BTreeSet};
 /// The limits are tried with stores for up to so many entities.
 const MOST_ENTITIES: usize = 16;
 
-/// Chains with rings of many sizes, some of the cases past the Rust, and those at the limits.
+/// Chains with rings of many sizes, and every command; then some of the cases past the Rust, and those at the limits.
 pub fn parts() -> Vec<Part> {
-    let chains = vec![part("chains with rings of every size", chains())];
+    let own = own_parts(1).into_iter();
     let limits = fixed::limits(MOST_ENTITIES);
-    chains
-        .into_iter()
-        .chain(past::thinned(31, 11, 3))
-        .chain(limits)
-        .collect()
+    own.chain(past::thinned(31, 11, 3)).chain(limits).collect()
 }
 
 /// Few of these parts, with few of their cases.
 pub fn few() -> Vec<Part> {
-    let chains = vec![part("chains with rings of every size", chains().step_by(5))];
     let names = ["walks through position 63", "callers", "rooms"];
     let others = past::few().into_iter().chain(fixed::limits(MOST_ENTITIES));
     let others = others.filter(|part| names.contains(&part.name));
-    chains.into_iter().chain(others).collect()
+    own_parts(5).into_iter().chain(others).collect()
+}
+
+/// The parts that there are for the newer rule alone, with one in so many of the chains.
+fn own_parts(every: usize) -> Vec<Part> {
+    vec![
+        part("chains with rings of every size", chains().step_by(every)),
+        part("every command, then rings of one kind and of two", kept()),
+    ]
 }
 
 /// The sizes of chains of up to 16 kinds: rings of one kind, of two, of three, of more, and mixed.
@@ -98,6 +102,33 @@ fn chain_case((seed, groups): (usize, Vec<Vec<u8>>)) -> Case {
     }
 }
 
+/// A layout with rings of one kind and of two, and entities.
+fn in_use() -> [Vec<Chunk>; 3] {
+    let lists: [&[u8]; 4] = [&[0, 1], &[0, 1, 2], &[0, 1, 2, 3, 4], &[0, 1, 3]];
+    let news = lists.into_iter().zip(0..);
+    [
+        (0..5).map(tape::reg).collect(),
+        layout(&[&[0, 1], &[0, 1, 2], &[0, 1, 2, 3, 4]]),
+        news.flat_map(|(list, index)| valued(list, index, tape::new()))
+            .collect(),
+    ]
+}
+
+/// Every command, accepted and refused, runs of none and such that stop: they keep the rule, which the rings tell behind
+/// each, and again with the layout anew, since APPLY is among them.
+fn kept() -> impl Iterator<Item = Case> {
+    callers::keeping().into_iter().map(|kept| {
+        let [_, layout, _] = in_use();
+        let again = run_of([vec![tape::empty()], layout].concat());
+        Case {
+            n: 6,
+            k: 5,
+            preset: None,
+            runs: in_use().map(run_of).into_iter().chain([kept, again]).collect(),
+        }
+    })
+}
+
 /// The start that is told a rule, at every limit, over stores of either rule; and every start over every other.
 pub fn starts(make: Make) -> Result<Figures, String> {
     let mut pair = Pair::new(Beside::NEWER, make);
@@ -129,28 +160,20 @@ fn start_over(pair: &mut Pair, first: Option<Rule>, second: Option<Rule>) -> Res
     pair.ranges()
 }
 
-/// Uses both stores: a layout with rings of one kind and of two, entities, a draft, another caller, and something staged
-/// and excluded.
+/// Uses both stores: rings are asked for, and there are a draft, another caller, and something staged and excluded.
 fn used(pair: &mut Pair) -> Result<(), String> {
-    let lists: [&[u8]; 4] = [&[0, 1], &[0, 1, 2], &[0, 1, 2, 3, 4], &[0, 1, 3]];
-    let news = lists.into_iter().zip(0..);
     let ask = |bars: &[u8], staged: &[u8]| {
         let bars = bars.iter().map(|&kind| tape::bar(kind));
         bars.chain(tape::with(staged, tape::range())).collect::<Vec<Chunk>>()
     };
-    let runs = [
-        (0..5).map(tape::reg).collect(),
-        layout(&[&[0, 1], &[0, 1, 2], &[0, 1, 2, 3, 4]]),
-        news.flat_map(|(list, index)| valued(list, index, tape::new()))
-            .collect(),
+    let more = [
         ask(&[2], &[1, 0]),
         ask(&[4, 3], &[0, 1, 2]),
         [tape::with(&[3, 4], tape::group()), vec![tape::set_caller(5)]].concat(),
         vec![tape::hold(3, 9), tape::bar(4), tape::bar(200)],
     ];
-    runs.map(run_of)
-        .iter()
-        .try_for_each(|run| pair.step(run, true).map(|_| ()))
+    let mut runs = in_use().into_iter().chain(more).map(run_of);
+    runs.try_for_each(|run| pair.step(&run, true).map(|_| ()))
 }
 
 /// What was put: the components of every live entity, by the list that the commands are made from.
