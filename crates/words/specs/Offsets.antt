@@ -153,6 +153,10 @@ PLACE-IN-FAMILY = 3
 abbrev pub ROWS : ℕ
 ROWS = COLUMN-HEAD
 
+-- the words of a value: 01's eight bytes
+abbrev pub STRIDE : ℕ
+STRIDE = 2
+
 -- ---- where the columns start
 
 -- the column in slot k of a store of capacity n: it starts where the words of a store with k kinds end

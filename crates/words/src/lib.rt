@@ -91,6 +91,14 @@ pub const OWN_GROUP: usize = 2;
 pub const PLACE_IN_FAMILY: usize = 3;
 
 pub const ROWS: usize = model::COLUMN_HEAD;
+// The words of a value.
+pub const STRIDE: usize = 2;
+
+// What a column is made for: so many entities, and so many words for each value.
+pub struct Shape {
+    pub capacity: usize,
+    pub stride: usize,
+}
 
 // Where the column in slot k starts.
 pub fn column_start(n: usize, k: usize) -> usize
