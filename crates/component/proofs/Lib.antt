@@ -6,3 +6,4 @@ pub mod Several
 pub mod Frames
 pub mod Fresh
 pub mod Sums
+pub mod Valued

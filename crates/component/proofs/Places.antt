@@ -12,6 +12,7 @@ use Rattle.model.specs.Lists.{cutAt}
 use Rattle.model.proofs.ListLaws.{getD-place, place-first}
 use Rattle.model.specs.Model.{Entity, SparseSet, sameEntity, noEntity, noRow, keys, entityOf, at, held, insertRow, removeRow, swapTo, entity}
 use Rattle.model.proofs.SparseSets.{entity-eq, entity-same}
+use Rattle.words.specs.declared.Shape.{Shape}
 use Rattle.component.specs.declared.Found.the-variants as found
 use Rattle.component.specs.SparseSet.{lengthOf, indexAt, versionAt, placeOf, heldOf, rows, ColumnSound}
 use Rattle.component.specs.Stored.{Current, swapRows, Absent, valued}
@@ -49,53 +50,61 @@ module _ (e : Entity) (rs : SparseSet) where
 
 -- ---- a search in sound words
 
-module _ (n : ℕ) (w : List ℕ) (s : ColumnSound n w) (x v : ℕ) where
+module _ (z : Shape) (w : List ℕ) (s : ColumnSound z w) (x v : ℕ) where
   -- a row that is the entity's
-  of-entity : (i : ℕ) → i < lengthOf w → getD (rows n w) i noRow .entity ≡ entity x v → (indexAt w i ≡ x) × (versionAt w i ≡ v)
+  of-entity : (i : ℕ) → i < lengthOf w → getD (rows z w) i noRow .entity ≡ entity x v → (indexAt w i ≡ x) × (versionAt w i ≡ v)
   of-entity i h q =
-      let r = ap entityOf (getD-rows n w i h) in (
+      let r = ap entityOf (getD-rows z w i h) in (
         ap (λ (d : Entity). d .index) (sym r ∙ q),
         ap (λ (d : Entity). d .version) (sym r ∙ q),
       )
 
-  pub finds-at : x < n → 1 ≤ v → heldOf n w x ≡ v → Finds n (entity x v) (rows n w) (found.At (placeOf n w x))
+  pub finds-at : x < z .capacity → 1 ≤ v → heldOf z w x ≡ v → Finds z (entity x v) (rows z w) (found.At (placeOf z w x))
   finds-at hx hv e =
       let L = s .linked in
-      let h : 1 ≤ heldOf n w x = omega arith in
-      let k = placeOf n w x in
+      let h : 1 ≤ heldOf z w x = omega arith in
+      let k = placeOf z w x in
       let p : k < lengthOf w = L .inside x hx h in
       let b : indexAt w k ≡ x = L .back x hx h in
-      let c : versionAt w k ≡ v = sym (L .tied k p .agreed) ∙ ap (heldOf n w) b ∙ e in
-      let i : k < length (rows n w) = omega (arith, length-rows n w) in
-      let q : getD (rows n w) k noRow .entity ≡ entity x v = ap entityOf (getD-rows n w k p) ∙ (λ j. entity (b j) (c j)) in
+      let c : versionAt w k ≡ v = sym (L .tied k p .agreed) ∙ ap (heldOf z w) b ∙ e in
+      let i : k < length (rows z w) = omega (arith, length-rows z w) in
+      let q : getD (rows z w) k noRow .entity ≡ entity x v = ap entityOf (getD-rows z w k p) ∙ (λ j. entity (b j) (c j)) in
       record {
-        holds = held-some (entity x v) (rows n w) k i q;
+        holds = held-some (entity x v) (rows z w) k i q;
         place =
-            held-first (entity x v) (rows n w) k i q
-            (λ j hj z. rows-apart n w s j k (omega arith) p (omega arith) (of-entity j (omega arith) z .0 ∙ sym b));
+            held-first (entity x v) (rows z w) k i q
+            (λ j hj y. rows-apart z w s j k (omega arith) p (omega arith) (of-entity j (omega arith) y .0 ∙ sym b));
         inside = i;
         below = omega (arith, L .room);
       }
 
   -- a row of the entity would have its index held
-  finds-none : ((i : ℕ) → i < lengthOf w → indexAt w i ≡ x → versionAt w i ≡ v → ⊥) → Finds n (entity x v) (rows n w) found.Nothing
+  finds-none : ((i : ℕ) → i < lengthOf w → indexAt w i ≡ x → versionAt w i ≡ v → ⊥) → Finds z (entity x v) (rows z w) found.Nothing
   finds-none f =
-      held-none (entity x v) (rows n w)
-      (λ i hi q. let h : i < lengthOf w = omega (arith, length-rows n w) in let z = of-entity i h q in f i h (z .0) (z .1))
+      held-none (entity x v) (rows z w)
+      (λ i hi q. let h : i < lengthOf w = omega (arith, length-rows z w) in let y = of-entity i h q in f i h (y .0) (y .1))
 
-  pub finds-beyond : n ≤ x → Finds n (entity x v) (rows n w) found.Nothing
+  pub finds-beyond : z .capacity ≤ x → Finds z (entity x v) (rows z w) found.Nothing
   finds-beyond h = finds-none (λ i hi ei ev. omega (arith, s .linked .tied i hi .below))
 
-  pub finds-unissued : v ≡ 0 → Finds n (entity x v) (rows n w) found.Nothing
+  pub finds-unissued : v ≡ 0 → Finds z (entity x v) (rows z w) found.Nothing
   finds-unissued h = finds-none (λ i hi ei ev. omega (arith, s .linked .tied i hi .issued))
 
-  pub finds-nothing : (heldOf n w x ≡ v → ⊥) → Finds n (entity x v) (rows n w) found.Nothing
-  finds-nothing ne = finds-none (λ i hi ei ev. ne (ap (heldOf n w) (sym ei) ∙ s .linked .tied i hi .agreed ∙ ev))
+  pub finds-nothing : (heldOf z w x ≡ v → ⊥) → Finds z (entity x v) (rows z w) found.Nothing
+  finds-nothing ne = finds-none (λ i hi ei ev. ne (ap (heldOf z w) (sym ei) ∙ s .linked .tied i hi .agreed ∙ ev))
+
+  -- where it was found
+  pub held-at : (p : ℕ) → HeldAt z (entity x v) (rows z w) p → (p < lengthOf w) × (indexAt w p ≡ x) × (versionAt w p ≡ v)
+  held-at p f =
+      let h : p < lengthOf w = omega (arith, f .inside, length-rows z w) in
+      let q = ap (λ (i : ℕ). getD (rows z w) i noRow .entity) (f .place) ∙ at-entity (entity x v) (rows z w) (ltb-true _ _ (f .holds)) in
+      let r = of-entity p h q in
+      (h, r .0, r .1)
 
 -- ---- the model's operations, where a search found the entity at p and where it found none
 
-module _ (n : ℕ) (e : Entity) (rs : SparseSet) where
-  module _ (p : ℕ) (f : HeldAt n e rs p) where
+module _ (z : Shape) (e : Entity) (rs : SparseSet) where
+  module _ (p : ℕ) (f : HeldAt z e rs p) where
     pub insert-held : (v : ℕ) → valued p v rs ≡ insertRow e v rs
     insert-held v =
         let q : getD rs p noRow .entity ≡ e = ap (λ (i : ℕ). getD rs i noRow .entity) (f .place) ∙ at-entity e rs (ltb-true _ _ (f .holds)) in

@@ -10,27 +10,28 @@ use borrow.Author.Tests.{lt-ltb, le-ltb}
 use lib.Dec.{ltb}
 use lib.ListN.{getD}
 use Rattle.model.specs.Model.{SparseSet}
+use Rattle.words.specs.declared.Shape.{Shape}
 use Rattle.model.proofs.BoolLaws.{by-eq}
 use Rattle.component.specs.SparseSet.{rows}
 use Rattle.component.specs.Columns.{rowsOf, Columns}
 use Rattle.component.specs.Changes.{One, Changes}
 
 -- nothing changed, where the change is none; and a change under another name
-pub changes-none : (n m : ℕ) (w : List ℕ) → Columns n m w → Changes n m (λ (s : ℕ) (rs : SparseSet). rs) w w
-changes-none n m w c =
+pub changes-none : (z : Shape) (m : ℕ) (w : List ℕ) → Columns z m w → Changes z m (λ (s : ℕ) (rs : SparseSet). rs) w w
+changes-none z m w c =
     record { columns = c; size = refl; becomes = λ s h. refl; heads = λ s h i l k. refl; front = refl; past = refl }
 
-pub changes-as : (n m : ℕ) (g h : ℕ → SparseSet → SparseSet) (w w′ : List ℕ) → Changes n m g w w′
-    → ((s : ℕ) → s < m → g s (rowsOf n s w) ≡ h s (rowsOf n s w)) → Changes n m h w w′
-changes-as n m g h w w′ c e =
+pub changes-as : (z : Shape) (m : ℕ) (g h : ℕ → SparseSet → SparseSet) (w w′ : List ℕ) → Changes z m g w w′
+    → ((s : ℕ) → s < m → g s (rowsOf z s w) ≡ h s (rowsOf z s w)) → Changes z m h w w′
+changes-as z m g h w w′ c e =
     record { columns = c .columns; size = c .size; becomes = λ s k. c .becomes s k ∙ e s k; heads = c .heads; front = c .front; past = c .past }
 
 -- one slot more: h is f after g there, and g elsewhere
-pub changes-one : (n m s : ℕ) (f : SparseSet → SparseSet) (g h : ℕ → SparseSet → SparseSet) (w₀ w w′ : List ℕ)
-    → Changes n m g w₀ w → One n m s f w w′
-    → f (g s (rowsOf n s w₀)) ≡ h s (rowsOf n s w₀) → ((j : ℕ) → j < m → j ≢ s → g j (rowsOf n j w₀) ≡ h j (rowsOf n j w₀))
-    → s < m → Changes n m h w₀ w′
-changes-one n m s f g h w₀ w w′ c o here there hs =
+pub changes-one : (z : Shape) (m s : ℕ) (f : SparseSet → SparseSet) (g h : ℕ → SparseSet → SparseSet) (w₀ w w′ : List ℕ)
+    → Changes z m g w₀ w → One z m s f w w′
+    → f (g s (rowsOf z s w₀)) ≡ h s (rowsOf z s w₀) → ((j : ℕ) → j < m → j ≢ s → g j (rowsOf z j w₀) ≡ h j (rowsOf z j w₀))
+    → s < m → Changes z m h w₀ w′
+changes-one z m s f g h w₀ w w′ c o here there hs =
     record {
       columns = o .columns;
       size = o .size ∙ c .size;
@@ -38,7 +39,7 @@ changes-one n m s f g h w₀ w w′ c o here there hs =
           λ j hj.
           by-eq j s
           (λ e. rw e (o .becomes ∙ ap f (c .becomes s hs) ∙ here))
-          (λ ne. ap (rows n) (o .others j hj ne) ∙ c .becomes j hj ∙ there j hj ne);
+          (λ ne. ap (rows z) (o .others j hj ne) ∙ c .becomes j hj ∙ there j hj ne);
       heads =
           λ j hj i l k.
           by-eq j s
@@ -53,14 +54,14 @@ changes-one n m s f g h w₀ w w′ c o here there hs =
 abbrev pub upTo : ℕ → (SparseSet → SparseSet) → ℕ → SparseSet → SparseSet
 upTo k f s rs = cond (ltb s k) (f rs) rs
 
-pub upTo-none : (n m : ℕ) (f : SparseSet → SparseSet) (w : List ℕ) → Columns n m w → Changes n m (upTo 0 f) w w
-upTo-none n m f w c =
-    changes-as n m (λ (s : ℕ) (rs : SparseSet). rs) (upTo 0 f) w w (changes-none n m w c) (λ s h. rw (le-ltb s 0 (omega arith)))
+pub upTo-none : (z : Shape) (m : ℕ) (f : SparseSet → SparseSet) (w : List ℕ) → Columns z m w → Changes z m (upTo 0 f) w w
+upTo-none z m f w c =
+    changes-as z m (λ (s : ℕ) (rs : SparseSet). rs) (upTo 0 f) w w (changes-none z m w c) (λ s h. rw (le-ltb s 0 (omega arith)))
 
-pub upTo-more : (n m k : ℕ) (f : SparseSet → SparseSet) (w₀ w w′ : List ℕ) → k < m → Changes n m (upTo k f) w₀ w → One n m k f w w′
-    → Changes n m (upTo (k + 1) f) w₀ w′
-upTo-more n m k f w₀ w w′ h c o =
-    changes-one n m k f (upTo k f) (upTo (k + 1) f) w₀ w w′ c o
+pub upTo-more : (z : Shape) (m k : ℕ) (f : SparseSet → SparseSet) (w₀ w w′ : List ℕ) → k < m → Changes z m (upTo k f) w₀ w → One z m k f w w′
+    → Changes z m (upTo (k + 1) f) w₀ w′
+upTo-more z m k f w₀ w w′ h c o =
+    changes-one z m k f (upTo k f) (upTo (k + 1) f) w₀ w w′ c o
     (rw (le-ltb k k (omega arith), lt-ltb k (k + 1) (omega arith)))
     (λ j hj ne.
     elim (decLt j k) [
@@ -69,5 +70,5 @@ upTo-more n m k f w₀ w w′ h c o =
     ])
     h
 
-pub upTo-all : (n m : ℕ) (f : SparseSet → SparseSet) (w w′ : List ℕ) → Changes n m (upTo m f) w w′ → Changes n m (λ (s : ℕ). f) w w′
-upTo-all n m f w w′ c = changes-as n m (upTo m f) (λ (s : ℕ). f) w w′ c (λ s h. rw (lt-ltb s m h))
+pub upTo-all : (z : Shape) (m : ℕ) (f : SparseSet → SparseSet) (w w′ : List ℕ) → Changes z m (upTo m f) w w′ → Changes z m (λ (s : ℕ). f) w w′
+upTo-all z m f w w′ c = changes-as z m (upTo m f) (λ (s : ℕ). f) w w′ c (λ s h. rw (lt-ltb s m h))

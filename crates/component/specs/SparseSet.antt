@@ -1,16 +1,18 @@
--- A component sparse set (01: a column) over its part of the lent words: what the words mean, when they are sound, what a change keeps.
--- The part (docs/WORDS.md) has how many rows there are, then words that are the storage's (the rest of the head); then, in 2 * n words each, the
--- rows' entities (index, version), their values (low, high), and the lookups by index (place, version; version 0 where the index is not held).
+-- A component sparse set (01: a column) over its part of the lent words: what the words mean, when they are sound.
+-- The part (docs/WORDS.md) has how many rows there are, then words that are the storage's (the rest of the head); then, at two words each, the
+-- rows' entities (index, version) and the lookups by index (place, version; version 0 where the index is not held); then the rows' values.
 -- Assumes nothing.
 use mathlib.Core.Path.{_≡_}
 use mathlib.Core.List.{List}
-use Prim.Native.Nat.{ℕ, _+_, _*_, _≤_}
+use Prim.Native.Nat.{ℕ, _+_}
 use lib.ListN.{length, getD}
-use Rattle.model.specs.Numbers.{MAX-ENTITIES, columnLen}
-use Rattle.words.specs.Offsets.{ROWS, ROWS-LEN}
-use Rattle.model.specs.Model.{Row, SparseSet, entity}
+use Rattle.words.specs.Offsets.{ROWS-LEN}
+use Rattle.words.specs.declared.Shape.{Shape}
+use Rattle.words.specs.Shape.{Shaped, entityPlace, lookupPlace, columnLen}
 use Rattle.words.specs.Table.{table}
 use Rattle.words.specs.Links.{Linked}
+use Rattle.values.specs.Values.{valueAt}
+use Rattle.model.specs.Model.{Row, SparseSet, entity}
 
 -- ---- the words of a part
 
@@ -19,44 +21,34 @@ lengthOf w = getD w ROWS-LEN 0
 
 -- row i
 abbrev pub indexAt : List ℕ → ℕ → ℕ
-indexAt w i = getD w (ROWS + 2 * i) 0
+indexAt w i = getD w (entityPlace i) 0
 
 abbrev pub versionAt : List ℕ → ℕ → ℕ
-versionAt w i = getD w (ROWS + 2 * i + 1) 0
-
-abbrev pub lowAt : ℕ → List ℕ → ℕ → ℕ
-lowAt n w i = getD w (ROWS + 2 * n + 2 * i) 0
-
-abbrev pub highAt : ℕ → List ℕ → ℕ → ℕ
-highAt n w i = getD w (ROWS + 2 * n + 2 * i + 1) 0
+versionAt w i = getD w (entityPlace i + 1) 0
 
 -- index x's lookup
-abbrev pub placeOf : ℕ → List ℕ → ℕ → ℕ
-placeOf n w x = getD w (ROWS + 4 * n + 2 * x) 0
+abbrev pub placeOf : Shape → List ℕ → ℕ → ℕ
+placeOf z w x = getD w (lookupPlace z x) 0
 
-abbrev pub heldOf : ℕ → List ℕ → ℕ → ℕ
-heldOf n w x = getD w (ROWS + 4 * n + 2 * x + 1) 0
+abbrev pub heldOf : Shape → List ℕ → ℕ → ℕ
+heldOf z w x = getD w (lookupPlace z x + 1) 0
 
 -- ---- what they mean
 
--- 01: a part's value is eight bytes, here a low and a high word
-abbrev pub valueOf : ℕ → ℕ → ℕ
-valueOf l h = l + 4294967296 * h
+abbrev pub row : ℕ → ℕ → ℕ → Row
+row x v a = record { entity = entity x v; value = a }
 
-abbrev pub row : ℕ → ℕ → ℕ → ℕ → Row
-row x v l h = record { entity = entity x v; value = valueOf l h }
-
-abbrev pub rowAt : ℕ → List ℕ → ℕ → Row
-rowAt n w i = row (indexAt w i) (versionAt w i) (lowAt n w i) (highAt n w i)
+abbrev pub rowAt : Shape → List ℕ → ℕ → Row
+rowAt z w i = row (indexAt w i) (versionAt w i) (valueAt z w i)
 
 -- 01: "A column is a kind's dense list of cards with their values"
-unfoldable pub rows : ℕ → List ℕ → SparseSet
-rows n w = table (lengthOf w) (rowAt n w)
+unfoldable pub rows : Shape → List ℕ → SparseSet
+rows z w = table (lengthOf w) (rowAt z w)
 
 -- ---- soundness
 
 -- 01, a sound store: "each column with its own lookups" agrees
-pub record ColumnSound (n : ℕ) (w : List ℕ) : Type 0 where
-  pub size : length w ≡ columnLen n
-  pub small : n ≤ MAX-ENTITIES
-  pub linked : Linked n (lengthOf w) (indexAt w) (versionAt w) (placeOf n w) (heldOf n w)
+pub record ColumnSound (z : Shape) (w : List ℕ) : Type 0 where
+  pub size : length w ≡ columnLen z
+  pub shaped : Shaped z
+  pub linked : Linked (z .capacity) (lengthOf w) (indexAt w) (versionAt w) (placeOf z w) (heldOf z w)

@@ -1,208 +1,187 @@
-// The rows (component_sparse_set.rs): entities and values one after another, and the lookups that follow them. Capacity n is the entities'
+// The rows (component_sparse_set.rs): entities one after another, the lookups that follow them, and the values. The capacity of a shape is the entities'
 // capacity, so that an append always finds room. Words 1 to 7 of the part are the storage's.
 use crate::Found;
 use crate::Removed;
-use crate::Value;
+use crate::sparse_vec::clear_lookup;
 use crate::sparse_vec::find;
 use crate::sparse_vec::put_lookup;
+use crate::sparse_vec::put_place;
+use crate::values_part::put_value;
+use crate::values_part::swap_values;
+use crate::values_part::value_of;
+use values::Value;
+use words::Entity;
+use words::Shape;
 ghost use mathlib.Core.Path.{_≡_};
 ghost use mathlib.Core.Bool.{true};
 ghost use mathlib.Core.List.{[], _∷_, _++_};
-ghost use Prim.Native.Nat.{ℕ, _<_, _≤_};
+ghost use Prim.Native.Nat.{_<_, _≤_};
 ghost use lib.ListN.{length, getD};
 ghost use Rattle.model.specs.Lists.{cutAt};
 ghost use Rattle.model.specs.Model.{SparseSet, noRow, held, insertRow, swapTo, entity};
+ghost use Rattle.words.specs.declared.Shape.{Shape};
 ghost use Rattle.words.specs.Stores.{stores};
-ghost use Rattle.component.specs.SparseSet.{lengthOf, valueOf, row, rows, ColumnSound};
-ghost use Rattle.component.specs.Stored.{ColumnSized, RowsChanged, swapRows, Current, wordsAt, rowStores, Absent, valued, popped};
+ghost use Rattle.values.specs.Values.{valueOf};
+ghost use Rattle.component.specs.SparseSet.{lengthOf, indexAt, versionAt, row, rows, ColumnSound};
+ghost use Rattle.component.specs.Stored.{ColumnSized, RowsChanged, swapRows, Current, rowEntity, entityStores, Absent, valued, popped};
 ghost use Rattle.component.specs.Answers.{Removes};
 
-// The words of a row.
-struct RowWords {
-    index: u32,
-    version: u32,
-    low: u32,
-    high: u32,
-}
-
-fn read_row(part: &[u32], n: usize, i: usize) -> RowWords
-    requires { ⌜ ColumnSized n (now part) × (i < n) ⌝ }
-    ensures { λ r. ⌜ r ≡ wordsAt n (now (part .entry)) i ⌝ }
+// The entity of row i.
+fn entity_at(part: &[u32], z: Shape, i: usize) -> Entity
+    requires { ⌜ ColumnSized z (now part) × (i < z .capacity) ⌝ }
+    ensures { λ r. ⌜ r ≡ rowEntity (now (part .entry)) i ⌝ }
 {
-    let c = words::ROWS + 2 * i;
-    let v = words::ROWS + 2 * n + 2 * i;
-    RowWords {
+    let c = words::entity_place(i);
+    Entity {
         index: part[c],
         version: part[c + 1],
-        low: part[v],
-        high: part[v + 1],
     }
 }
 
-fn put_row(part: &mut [u32], n: usize, i: usize, r: RowWords)
-    requires { ⌜ ColumnSized n (now part) × (i < n) ⌝ }
-    ensures { λ _. ⌜ now (part .exit) ≡ stores (now (part .entry)) (rowStores n i r) ⌝ }
+fn put_entity(part: &mut [u32], z: Shape, i: usize, index: u32, version: u32)
+    requires { ⌜ ColumnSized z (now part) × (i < z .capacity) ⌝ }
+    ensures { λ _. ⌜ now (part .exit) ≡ stores (now (part .entry)) (entityStores i index version) ⌝ }
 {
-    let c = words::ROWS + 2 * i;
-    let v = words::ROWS + 2 * n + 2 * i;
-    part[c] = r.index;
-    part[c + 1] = r.version;
-    part[v] = r.low;
-    part[v + 1] = r.high;
+    let c = words::entity_place(i);
+    part[c] = index;
+    part[c + 1] = version;
 }
 
 // How many rows there are.
 pub fn len(part: &[u32]) -> usize
     requires { ⌜ 1 ≤ length (now part) ⌝ }
-    ensures { λ r. ⌜ ((n : ℕ) → length (rows n (now (part .entry))) ≡ r) ⌝ }
+    ensures { λ r. ⌜ ((z : Shape) → length (rows z (now (part .entry))) ≡ r) ⌝ }
 {
     part[words::ROWS_LEN] as usize
 }
 
 // The value of the row at a place.
-pub fn value_at(part: &[u32], n: usize, place: usize) -> Value
-    requires { ⌜ ColumnSound n (now part) × (place < length (rows n (now part))) ⌝ }
-    ensures { λ r. ⌜ valueOf (r .low) (r .high) ≡ getD (rows n (now (part .entry))) place noRow .value ⌝ }
+pub fn value_at(part: &[u32], z: Shape, place: usize) -> Value
+    requires { ⌜ ColumnSound z (now part) × (place < length (rows z (now part))) ⌝ }
+    ensures { λ r. ⌜ valueOf (z .stride) r ≡ getD (rows z (now (part .entry))) place noRow .value ⌝ }
 {
-    let r = read_row(part, n, place);
-    Value {
-        low: r.low,
-        high: r.high,
-    }
+    value_of(part, z, place)
 }
 
-// Exchanges the rows at a and b.
-pub fn swap(part: &mut [u32], n: usize, a: usize, b: usize)
-    requires { ⌜ ColumnSound n (now part) ⌝ }
-    requires { ⌜ (a < length (rows n (now part))) × (b < length (rows n (now part))) ⌝ }
-    ensures { λ _. ⌜ RowsChanged n (swapRows a b) (now (part .entry)) (now (part .exit)) ⌝ }
+// Exchanges the row at a, which is the entity's, with the one at b. The lookups keep their versions.
+fn swap(part: &mut [u32], z: Shape, a: usize, b: usize, index: u32, version: u32)
+    requires { ⌜ ColumnSound z (now part) ⌝ }
+    requires { ⌜ (a < lengthOf (now part)) × (b < lengthOf (now part)) ⌝ }
+    requires { ⌜ (indexAt (now part) a ≡ index) × (versionAt (now part) a ≡ version) ⌝ }
+    ensures { λ _. ⌜ RowsChanged z (swapRows a b) (now (part .entry)) (now (part .exit)) ⌝ }
 {
     if a == b {
         return;
     }
-    let ra = read_row(part, n, a);
-    let rb = read_row(part, n, b);
-    put_row(part, n, a, rb);
-    put_row(part, n, b, ra);
-    put_lookup(part, n, ra.index, b, ra.version);
-    put_lookup(part, n, rb.index, a, rb.version);
+    let other = entity_at(part, z, b);
+    put_entity(part, z, b, index, version);
+    put_entity(part, z, a, other.index, other.version);
+    put_place(part, z, index, b);
+    put_place(part, z, other.index, a);
+    swap_values(part, z, a, b);
 }
 
 // Exchanges the entity's row with the one at place.
-pub fn swap_to(part: &mut [u32], n: usize, index: u32, version: u32, place: usize)
-    requires { ⌜ ColumnSound n (now part) ⌝ }
-    requires { ⌜ (held (entity index version) (rows n (now part)) ≡ true) × (place < length (rows n (now part))) ⌝ }
-    ensures { λ _. ⌜ RowsChanged n (swapTo (entity index version) place) (now (part .entry)) (now (part .exit)) ⌝ }
+pub fn swap_to(part: &mut [u32], z: Shape, index: u32, version: u32, place: usize)
+    requires { ⌜ ColumnSound z (now part) ⌝ }
+    requires { ⌜ (held (entity index version) (rows z (now part)) ≡ true) × (place < length (rows z (now part))) ⌝ }
+    ensures { λ _. ⌜ RowsChanged z (swapTo (entity index version) place) (now (part .entry)) (now (part .exit)) ⌝ }
 {
-    let found = find(part, n, index, version);
+    let found = find(part, z, index, version);
     let Found::At(at) = found else {
         return;
     };
-    swap(part, n, at, place);
+    swap(part, z, at, place, index, version);
 }
 
 // One more row, of an index that no row has.
-fn append(part: &mut [u32], n: usize, index: u32, version: u32, low: u32, high: u32)
-    requires { ⌜ ColumnSound n (now part) ⌝ }
-    requires { ⌜ (index < n) × (1 ≤ version) ⌝ }
-    requires { ⌜ Absent index (rows n (now part)) ⌝ }
-    ensures { λ _. ⌜ RowsChanged n (λ (rs : SparseSet). rs ++ (row index version low high ∷ [])) (now (part .entry)) (now (part .exit)) ⌝ }
+fn append(part: &mut [u32], z: Shape, index: u32, version: u32, x: Value)
+    requires { ⌜ ColumnSound z (now part) ⌝ }
+    requires { ⌜ (index < z .capacity) × (1 ≤ version) ⌝ }
+    requires { ⌜ Absent index (rows z (now part)) ⌝ }
+    ensures { λ _. ⌜ RowsChanged z (λ (rs : SparseSet). rs ++ (row index version (valueOf (z .stride) x) ∷ [])) (now (part .entry)) (now (part .exit)) ⌝ }
 {
     let k = part[words::ROWS_LEN];
     let at = k as usize;
-    put_row(
-        part,
-        n,
-        at,
-        RowWords {
-            index,
-            version,
-            low,
-            high,
-        },
-    );
-    put_lookup(part, n, index, at, version);
+    put_entity(part, z, at, index, version);
+    put_lookup(part, z, index, at, version);
     part[words::ROWS_LEN] = k + 1;
+    put_value(part, z, at, x);
 }
 
 // Another value in the row at place.
-fn replace(part: &mut [u32], n: usize, place: usize, low: u32, high: u32)
-    requires { ⌜ ColumnSound n (now part) ⌝ }
+fn replace(part: &mut [u32], z: Shape, place: usize, x: Value)
+    requires { ⌜ ColumnSound z (now part) ⌝ }
     requires { ⌜ place < lengthOf (now part) ⌝ }
-    ensures { λ _. ⌜ RowsChanged n (valued place (valueOf low high)) (now (part .entry)) (now (part .exit)) ⌝ }
+    ensures { λ _. ⌜ RowsChanged z (valued place (valueOf (z .stride) x)) (now (part .entry)) (now (part .exit)) ⌝ }
 {
-    let v = words::ROWS + 2 * n + 2 * place;
-    part[v] = low;
-    part[v + 1] = high;
+    put_value(part, z, place, x);
 }
 
 // Puts a value with an entity: in the entity's row, or in a new one at the end.
-pub fn insert(part: &mut [u32], n: usize, index: u32, version: u32, low: u32, high: u32)
-    requires { ⌜ ColumnSound n (now part) ⌝ }
-    requires { ⌜ (index < n) × (1 ≤ version) ⌝ }
-    requires { ⌜ Current index version (rows n (now part)) ⌝ }
-    ensures { λ _. ⌜ RowsChanged n (insertRow (entity index version) (valueOf low high)) (now (part .entry)) (now (part .exit)) ⌝ }
+pub fn insert(part: &mut [u32], z: Shape, index: u32, version: u32, x: Value)
+    requires { ⌜ ColumnSound z (now part) ⌝ }
+    requires { ⌜ (index < z .capacity) × (1 ≤ version) ⌝ }
+    requires { ⌜ Current index version (rows z (now part)) ⌝ }
+    ensures { λ _. ⌜ RowsChanged z (insertRow (entity index version) (valueOf (z .stride) x)) (now (part .entry)) (now (part .exit)) ⌝ }
 {
-    let found = find(part, n, index, version);
+    let found = find(part, z, index, version);
     let Found::At(place) = found else {
-        append(part, n, index, version, low, high);
+        append(part, z, index, version, x);
         return;
     };
-    replace(part, n, place, low, high);
+    replace(part, z, place, x);
 }
 
-// The row at place goes, and the last row takes its place.
-fn remove_at(part: &mut [u32], n: usize, place: usize)
-    requires { ⌜ ColumnSound n (now part) ⌝ }
-    requires { ⌜ place < lengthOf (now part) ⌝ }
-    ensures { λ _. ⌜ RowsChanged n (cutAt noRow place) (now (part .entry)) (now (part .exit)) ⌝ }
+// The row at place, whose entity has this index, goes, and the last row takes its place.
+fn remove_at(part: &mut [u32], z: Shape, place: usize, index: u32)
+    requires { ⌜ ColumnSound z (now part) ⌝ }
+    requires { ⌜ (place < lengthOf (now part)) × (indexAt (now part) place ≡ index) ⌝ }
+    ensures { λ _. ⌜ RowsChanged z (cutAt noRow place) (now (part .entry)) (now (part .exit)) ⌝ }
 {
     let k = part[words::ROWS_LEN] - 1;
-    let gone = read_row(part, n, place);
-    let last = read_row(part, n, k as usize);
-    put_row(part, n, place, last);
-    let sl = words::ROWS + 4 * n + 2 * (last.index as usize);
-    let sp = words::ROWS + 4 * n + 2 * (gone.index as usize);
-    part[sl] = place as u32;
-    part[sp + 1] = 0;
-    part[words::ROWS_LEN] = k;
+    let last = k as usize;
+    let moved = entity_at(part, z, last);
+    let value = value_of(part, z, last);
+    put_entity(part, z, place, moved.index, moved.version);
+    put_place(part, z, moved.index, place);
+    clear_lookup(part, z, index, k);
+    put_value(part, z, place, value);
 }
 
 // The entity's row goes, if it has one, and its value is handed back.
-pub fn remove(part: &mut [u32], n: usize, index: u32, version: u32) -> Removed
-    requires { ⌜ ColumnSound n (now part) ⌝ }
-    ensures { λ r. ⌜ Removes n (entity index version) (now (part .entry)) (now (part .exit)) r ⌝ }
+pub fn remove(part: &mut [u32], z: Shape, index: u32, version: u32) -> Removed
+    requires { ⌜ ColumnSound z (now part) ⌝ }
+    ensures { λ r. ⌜ Removes z (entity index version) (now (part .entry)) (now (part .exit)) r ⌝ }
 {
-    let found = find(part, n, index, version);
+    let found = find(part, z, index, version);
     let Found::At(place) = found else {
         return Removed::Nothing;
     };
-    let v = value_at(part, n, place);
-    remove_at(part, n, place);
-    Removed::Value(v.low, v.high)
+    let x = value_at(part, z, place);
+    remove_at(part, z, place, index);
+    Removed::Value(x)
 }
 
 // The last row goes.
-fn pop(part: &mut [u32], n: usize)
-    requires { ⌜ ColumnSound n (now part) ⌝ }
+fn pop(part: &mut [u32], z: Shape)
+    requires { ⌜ ColumnSound z (now part) ⌝ }
     requires { ⌜ 1 ≤ lengthOf (now part) ⌝ }
-    ensures { λ _. ⌜ RowsChanged n popped (now (part .entry)) (now (part .exit)) ⌝ }
+    ensures { λ _. ⌜ RowsChanged z popped (now (part .entry)) (now (part .exit)) ⌝ }
 {
     let k = part[words::ROWS_LEN] - 1;
-    let last = read_row(part, n, k as usize);
-    let s = words::ROWS + 4 * n + 2 * (last.index as usize);
-    part[s + 1] = 0;
-    part[words::ROWS_LEN] = k;
+    let last = entity_at(part, z, k as usize);
+    clear_lookup(part, z, last.index, k);
 }
 
 // Every row goes, one by one from the end: the cost is that of the rows held.
-pub fn clear(part: &mut [u32], n: usize)
-    requires { ⌜ ColumnSound n (now part) ⌝ }
-    ensures { λ _. ⌜ RowsChanged n (λ (rs : SparseSet). []) (now (part .entry)) (now (part .exit)) ⌝ }
+pub fn clear(part: &mut [u32], z: Shape)
+    requires { ⌜ ColumnSound z (now part) ⌝ }
+    ensures { λ _. ⌜ RowsChanged z (λ (rs : SparseSet). []) (now (part .entry)) (now (part .exit)) ⌝ }
 {
     let mut k = part[words::ROWS_LEN];
     while 0 < k {
-        pop(part, n);
+        pop(part, z);
         k -= 1;
     }
 }

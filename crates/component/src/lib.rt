@@ -2,6 +2,9 @@
 pub mod component_sparse_set;
 pub mod slots;
 pub mod sparse_vec;
+pub mod values_part;
+
+use values::Value;
 
 // Where what was looked up is: an entity's row in a sparse set, or a kind's own group among the groups.
 pub enum Found {
@@ -9,14 +12,8 @@ pub enum Found {
     Nothing,
 }
 
-// A value that was held: its low and its high word.
+// A value that was held.
 pub enum Removed {
-    Value(u32, u32),
+    Value(Value),
     Nothing,
-}
-
-// A row's value.
-pub struct Value {
-    pub low: u32,
-    pub high: u32,
 }

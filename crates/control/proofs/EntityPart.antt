@@ -9,7 +9,7 @@ use Rattle.model.specs.Store.{withEntities}
 use Rattle.model.proofs.Operations.{create-is-live}
 use Rattle.words.specs.Offsets.{CAPACITY}
 use Rattle.words.proofs.Offsets.{columnStart-mono}
-use Rattle.entity.specs.declared.Entity.{Entity as Answer}
+use Rattle.words.specs.declared.Entity.{Entity as Answer}
 use Rattle.entity.specs.Meaning.{entityPart, entitiesIn}
 use Rattle.entity.specs.Change.{SoundIn, EntityChange}
 use Rattle.entity.specs.Answers.{entityOfAnswer, withCreated, CreatedIn}

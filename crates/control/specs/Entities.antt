@@ -7,7 +7,7 @@ use Rattle.model.specs.Numbers.{ENTITY-LEN, MAX-ENTITIES}
 use Rattle.words.specs.Offsets.{ENTITIES}
 use Rattle.model.specs.Model.{create}
 use Rattle.model.specs.Store.{withEntities}
-use Rattle.entity.specs.declared.Entity.{Entity}
+use Rattle.words.specs.declared.Entity.{Entity}
 use Rattle.entity.specs.Answers.{entityOfAnswer}
 use Rattle.memory.specs.Header.{capacityOf}
 use Rattle.memory.specs.Meaning.{meaning}

@@ -1,5 +1,5 @@
 // The entities of a store.
-use entity::Entity;
+use words::Entity;
 use entity::Found;
 use entity::entity_allocator;
 use entity::entity_sparse_set;

@@ -6,7 +6,7 @@ use Prim.Native.Nat.{ℕ, _≤_}
 use Rattle.model.specs.Lists.{place}
 use lib.ListN.{getD}
 use Rattle.model.specs.Model.{Entity, Entities, noEntity, sameEntity, isLive, create, entity}
-use Rattle.entity.specs.declared.Entity.{Entity as Answer}
+use Rattle.words.specs.declared.Entity.{Entity as Answer}
 use Rattle.entity.specs.declared.Found.{Found}
 use Rattle.entity.specs.declared.Found.the-variants.{At, Nothing}
 use Rattle.entity.specs.Meaning.{entitiesOf, entitiesIn}

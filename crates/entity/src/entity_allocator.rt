@@ -1,5 +1,5 @@
 // The numbers: those issued, and the queue of those that wait to be used again.
-use crate::Entity;
+use words::Entity;
 ghost use mathlib.Core.Path.{_≡_};
 ghost use mathlib.Core.Bool.{false};
 ghost use Prim.Native.Nat.{_≤_, _<_, _+_};

@@ -1,5 +1,5 @@
 // The live list: a sparse set of entities.
-use crate::Entity;
+use words::Entity;
 ghost use mathlib.Core.Path.{_≡_};
 ghost use Prim.Native.Nat.{_≤_, _<_};
 ghost use lib.ListN.{length, getD};

@@ -1,5 +1,5 @@
 // Entities: created, looked up, destroyed.
-use crate::Entity;
+use words::Entity;
 use crate::Found;
 use crate::entity_allocator;
 use crate::entity_sparse_set;

@@ -1,5 +1,5 @@
 // What changes the entities, on the whole lent words: the entity part is lent on, and the words around it stay.
-use crate::Entity;
+use words::Entity;
 use crate::entity_storage;
 ghost use mathlib.Core.Path.{_≡_};
 ghost use mathlib.Core.Bool.{false};

@@ -6,12 +6,6 @@ pub mod entity_storage;
 pub mod in_words;
 pub mod sparse_vec;
 
-// An entity (01: card): an index and a version. Versions start at 1.
-pub struct Entity {
-    pub index: u32,
-    pub version: u32,
-}
-
 // Where an entity is in the live list.
 pub enum Found {
     At(usize),

@@ -8,16 +8,18 @@ use borrow.Author.Tests.{lt-ltb, ltb-true}
 use lib.Dec.{ltb}
 use lib.ListN.{length, getD, set, drop, length-set}
 use lib.Seq.{getD-set-same, getD-set-other, drop-set-lt, ext-getD}
-use Rattle.model.specs.Numbers.{ENTITY-LEN, LAST-CALLER, LIST-CAPACITY, MAX-KINDS, columnLen}
+use Rattle.model.specs.Numbers.{ENTITY-LEN, LAST-CALLER, LIST-CAPACITY, MAX-KINDS}
 use Rattle.model.specs.Model.{Entities, SparseSet, Storage, setOf}
 use Rattle.model.specs.Store.{onSet, withEntities, onStorage, withLayout, Settings, Store, wordsNeeded, withEntities, withControl, onStorage, withLayout, onSet}
 use Rattle.model.specs.Theorems.{SameSettings}
-use Rattle.words.specs.Offsets.{columnStart, CALLER, DRAFT-FAMILIES, DRAFT-GROUPS, ENTITIES, EXCLUDED-LEN, GROUP-COUNTS, GROUP-FAMILIES, GROUP-PLACES, LAYOUT, LAYOUT-FAMILIES, LAYOUT-GROUPS, MORE-SETTINGS, REFUSALS, REGISTERED, RULE, STAGED-KINDS, STAGED-LEN, TABLE, UNREGISTERED}
+use Rattle.words.specs.Offsets.{CALLER, DRAFT-FAMILIES, DRAFT-GROUPS, ENTITIES, EXCLUDED-LEN, GROUP-COUNTS, GROUP-FAMILIES, GROUP-PLACES, LAYOUT, LAYOUT-FAMILIES, LAYOUT-GROUPS, MORE-SETTINGS, REFUSALS, REGISTERED, RULE, STAGED-KINDS, STAGED-LEN, TABLE, UNREGISTERED}
 use Rattle.words.proofs.Offsets.{columnStart-mono}
 use Rattle.words.specs.Part.{between}
 use Rattle.words.proofs.Part.{between-rest, length-between, getD-between}
 use Rattle.words.specs.Table.{table}
 use Rattle.words.proofs.Tables.{table-same, table-set, getD-table, length-table}
+use Rattle.words.specs.Shape.{columnStart, columnLen, shapeOf}
+use Rattle.words.specs.declared.Shape.{Shape}
 use Rattle.model.proofs.BoolLaws.{by-eq, bool-cases}
 use Rattle.component.specs.SparseSet.{rows, ColumnSound}
 use Rattle.component.specs.Columns.{columnOf, rowsOf, Columns}
@@ -29,7 +31,7 @@ use Rattle.memory.specs.Header.{capacityOf, kindCapacityOf, registeredOf
 use Rattle.memory.specs.Meaning.{kindAt, setAt, setsIn, draftArrays, layoutArrays, layoutIn, controlIn, settingsOf, meaning, kindsIn}
 use Rattle.memory.specs.Arranged.{Arranged, Becomes}
 use Rattle.memory.proofs.Kept.{Kept, capacity-kept, kinds-kept, arranged-kept}
-use Rattle.memory.proofs.Frames.{start-header, part-same, draft-arrays-same, layout-arrays-same, long, control-parts, control-same, layout-same, header-kept, draft-formed, settings-kept, reads-means}
+use Rattle.memory.proofs.Frames.{columnStart-first, part-same, draft-arrays-same, layout-arrays-same, long, control-parts, control-same, layout-same, header-kept, draft-formed, settings-kept, reads-means}
 use Rattle.model.proofs.ListLaws.{drop-later, word-front}
 use Rattle.entity.specs.Meaning as entity
 
@@ -40,7 +42,7 @@ module _ (w : List ℕ) (A : Arranged w) where
   kinds-few = A .limits .mostKinds
 
   -- slot s's rows are its kind's sparse set
-  pub set-at : (s : ℕ) → s < registeredOf w → setAt w (kindAt w s) ≡ rowsOf (capacityOf w) s w
+  pub set-at : (s : ℕ) → s < registeredOf w → setAt w (kindAt w s) ≡ rowsOf (shapeOf w) s w
   set-at s h = rw (A .table .own s h, lt-ltb s (registeredOf w) h)
 
   pub set-in : (k : ℕ) → k < MAX-KINDS → setOf (setsIn w) k ≡ setAt w k
@@ -53,20 +55,23 @@ module _ (w : List ℕ) (A : Arranged w) where
 
 -- the sparse sets, from the registered columns
 module _ (w w′ : List ℕ) (K : Kept w w′) where
-  set-same : (k : ℕ) → k < MAX-KINDS → (slotOf w k < registeredOf w → rowsOf (capacityOf w) (slotOf w k) w′ ≡ rowsOf (capacityOf w) (slotOf w k) w) → setAt w′ k ≡ setAt w k
+  set-same : (k : ℕ) → k < MAX-KINDS → (slotOf w k < registeredOf w → rowsOf (shapeOf w) (slotOf w k) w′ ≡ rowsOf (shapeOf w) (slotOf w k) w) → setAt w′ k ≡ setAt w k
   set-same k h r =
       rw (K .slots k h, K .registered, capacity-kept K)
       (bool-cases (ltb (slotOf w k) (registeredOf w)) (λ t. rw (t, r (ltb-true (slotOf w k) (registeredOf w) t))) (λ t. rw t))
 
-  pub sets-same : ((s : ℕ) → s < registeredOf w → rowsOf (capacityOf w) s w′ ≡ rowsOf (capacityOf w) s w) → setsIn w′ ≡ setsIn w
+  pub sets-same : ((s : ℕ) → s < registeredOf w → rowsOf (shapeOf w) s w′ ≡ rowsOf (shapeOf w) s w) → setsIn w′ ≡ setsIn w
   unfolding setsIn
   sets-same r = table-same [] MAX-KINDS (setAt w) (setAt w′) (λ k h. set-same k h (r (slotOf w k)))
 
 -- ---- one column
 
-module _ (w w′ : List ℕ) (A : Arranged w) (s : ℕ) (hs : s < registeredOf w) (f : SparseSet → SparseSet) (o : One (capacityOf w) (kindCapacityOf w) s f w w′) where
+module _ (w w′ : List ℕ) (A : Arranged w) (s : ℕ) (hs : s < registeredOf w) (f : SparseSet → SparseSet) (o : One (shapeOf w) (kindCapacityOf w) s f w w′) where
   abbrev n : ℕ
   n = capacityOf w
+
+  abbrev z : Shape
+  z = shapeOf w
 
   abbrev k : ℕ
   k = kindAt w s
@@ -75,21 +80,21 @@ module _ (w w′ : List ℕ) (A : Arranged w) (s : ℕ) (hs : s < registeredOf w
   few = A .table .few
 
   same : (i : ℕ) → i < ENTITIES → getD w′ i 0 ≡ getD w i 0
-  same i h = word-front (columnStart n 0) w w′ (o .front) i (omega (arith, start-header n))
+  same i h = word-front (columnStart z 0) w w′ (o .front) i (omega (arith, columnStart-first z))
 
   one-kept : Kept w w′
   one-kept =
       header-kept w w′ A (o .size) same
       (λ j hj i a b. by-eq j s (λ e. rw e (o .head i a b)) (λ ne. ap (λ (u : List ℕ). getD u i 0) (o .others j hj ne)))
 
-  rows-other : (j : ℕ) → j < kindCapacityOf w → j ≢ s → rowsOf n j w′ ≡ rowsOf n j w
-  rows-other j h ne = ap (rows n) (o .others j h ne)
+  rows-other : (j : ℕ) → j < kindCapacityOf w → j ≢ s → rowsOf z j w′ ≡ rowsOf z j w
+  rows-other j h ne = ap (rows z) (o .others j h ne)
 
   one-sets : setsIn w′ ≡ set (setsIn w) k (f (setOf (setsIn w) k))
   unfolding setsIn
   one-sets =
       let hk : k < MAX-KINDS = A .table .small s hs in
-      let was : setOf (setsIn w) k ≡ rowsOf n s w = set-in w A k hk ∙ set-at w A s hs in
+      let was : setOf (setsIn w) k ≡ rowsOf z s w = set-in w A k hk ∙ set-at w A s hs in
       let sl : slotOf w′ k ≡ s = one-kept .slots k hk ∙ A .table .own s hs in
       let here : setAt w′ k ≡ f (setOf (setsIn w) k) =
       rw (sl, one-kept .registered, capacity-kept one-kept, lt-ltb s (registeredOf w) hs) (o .becomes ∙ ap f (sym was)) in
@@ -99,10 +104,10 @@ module _ (w w′ : List ℕ) (A : Arranged w) (s : ℕ) (hs : s < registeredOf w
       (λ l. rows-other (slotOf w j) (omega arith) (λ e. ne (sym (A .table .back j h (slot-real w A j l)) ∙ ap (kindAt w) e))))
 
   one-entities : entityPart n w′ ≡ entityPart n w
-  one-entities = part-same w w′ (o .size) ENTITIES (ENTITIES + ENTITY-LEN * n) enough (λ i a b. word-front (columnStart n 0) w w′ (o .front) i (omega (arith, start-header n)))
+  one-entities = part-same w w′ (o .size) ENTITIES (ENTITIES + ENTITY-LEN * n) enough (λ i a b. word-front (columnStart z 0) w w′ (o .front) i (omega (arith, columnStart-first z)))
     where
       enough : ENTITIES + ENTITY-LEN * n ≤ length w
-      enough = omega (arith, A .enough, start-header n, columnStart-mono n 0 (kindCapacityOf w) (omega arith))
+      enough = omega (arith, A .enough, columnStart-first z, columnStart-mono z 0 (kindCapacityOf w) (omega arith))
 
   pub one-becomes : Becomes w w′ (onStorage (onSet k f) (meaning w))
   unfolding meaning
@@ -131,31 +136,31 @@ module _ (w w′ : List ℕ) (A : Arranged w) (s : ℕ) (hs : s < registeredOf w
 -- ---- words from 1,024 + 16 * N on as they were
 
 module _ (w w′ : List ℕ) (A : Arranged w) (size : length w′ ≡ length w) (m : ℕ) (le : m ≤ ENTITIES + ENTITY-LEN * capacityOf w) (rest : drop m w′ ≡ drop m w) where
-  pub column-rest : (s : ℕ) → columnOf (capacityOf w) s w′ ≡ columnOf (capacityOf w) s w
+  pub column-rest : (s : ℕ) → columnOf (shapeOf w) s w′ ≡ columnOf (shapeOf w) s w
   unfolding columnOf
   column-rest s =
-      between-rest m (columnStart (capacityOf w) s) (columnStart (capacityOf w) s + columnLen (capacityOf w)) w w′
-      (omega (arith, start-header (capacityOf w), columnStart-mono (capacityOf w) 0 s (omega arith))) rest
+      between-rest m (columnStart (shapeOf w) s) (columnStart (shapeOf w) s + columnLen (shapeOf w)) w w′
+      (omega (arith, columnStart-first (shapeOf w), columnStart-mono (shapeOf w) 0 s (omega arith))) rest
 
-  rows-rest : (s : ℕ) → rowsOf (capacityOf w) s w′ ≡ rowsOf (capacityOf w) s w
-  rows-rest s = ap (rows (capacityOf w)) (column-rest s)
+  rows-rest : (s : ℕ) → rowsOf (shapeOf w) s w′ ≡ rowsOf (shapeOf w) s w
+  rows-rest s = ap (rows (shapeOf w)) (column-rest s)
 
-  pub columns-rest : Columns (capacityOf w) (kindCapacityOf w) w′
+  pub columns-rest : Columns (shapeOf w) (kindCapacityOf w) w′
   columns-rest =
       record {
-        small = A .columns .small;
+        shaped = A .columns .shaped;
         few = A .columns .few;
         size = omega (arith, A .columns .size);
-        columns = λ s h. subst (ColumnSound (capacityOf w)) (sym (column-rest s)) (A .columns .columns s h);
+        columns = λ s h. subst (ColumnSound (shapeOf w)) (sym (column-rest s)) (A .columns .columns s h);
       }
 
-  vacant-rest : (s : ℕ) → registeredOf w ≤ s → s < kindCapacityOf w → rowsOf (capacityOf w) s w′ ≡ []
+  vacant-rest : (s : ℕ) → registeredOf w ≤ s → s < kindCapacityOf w → rowsOf (shapeOf w) s w′ ≡ []
   vacant-rest s l h = rows-rest s ∙ A .vacant s l h
 
-  past-rest : drop (columnStart (capacityOf w) (kindCapacityOf w)) w′ ≡ drop (columnStart (capacityOf w) (kindCapacityOf w)) w
+  past-rest : drop (columnStart (shapeOf w) (kindCapacityOf w)) w′ ≡ drop (columnStart (shapeOf w) (kindCapacityOf w)) w
   past-rest =
-      drop-later m (columnStart (capacityOf w) (kindCapacityOf w)) w w′
-      (omega (arith, start-header (capacityOf w), columnStart-mono (capacityOf w) 0 (kindCapacityOf w) (omega arith))) rest
+      drop-later m (columnStart (shapeOf w) (kindCapacityOf w)) w w′
+      (omega (arith, columnStart-first (shapeOf w), columnStart-mono (shapeOf w) 0 (kindCapacityOf w) (omega arith))) rest
 
 -- ---- the entities
 

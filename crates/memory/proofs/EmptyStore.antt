@@ -9,16 +9,17 @@ use mir.Val.{boolByte}
 use lib.Dec.{eqb}
 use lib.ListN.{length, getD, set, replicate, length-set, length-replicate, getD-replicate}
 use lib.Seq.{getD-set-same, getD-set-other, drop-set-lt}
-use Rattle.model.specs.Numbers.{CALLERS, ENTITY-LEN, MAX-KINDS, columnLen}
+use Rattle.model.specs.Numbers.{CALLERS, ENTITY-LEN, MAX-KINDS}
 use Rattle.model.specs.Model.{Entities, SparseSet, noEntities}
 use Rattle.model.specs.Store.{told, emptyWith}
 use Rattle.model.specs.Sound.{Limits}
-use Rattle.words.specs.Offsets.{columnStart, CALLER, CAPACITY, DRAFT, DRAFT-FAMILIES, DRAFT-GROUPS, ENTITIES, EXCLUDED-LEN, GROUP-COUNTS, GROUP-FAMILIES, KIND-CAPACITY, LAYOUT, LAYOUT-FAMILIES, LAYOUT-GROUPS, NEWER, REFUSALS, REGISTERED, ROWS, RULE, STAGED-KINDS, STAGED-LEN, TABLE, UNREGISTERED}
-use Rattle.words.proofs.Offsets.{columnStart-mono, columnStart-apart}
+use Rattle.words.specs.Offsets.{CALLER, CAPACITY, DRAFT, DRAFT-FAMILIES, DRAFT-GROUPS, ENTITIES, EXCLUDED-LEN, GROUP-COUNTS, GROUP-FAMILIES, KIND-CAPACITY, LAYOUT, LAYOUT-FAMILIES, LAYOUT-GROUPS, NEWER, REFUSALS, REGISTERED, ROWS, RULE, STAGED-KINDS, STAGED-LEN, TABLE, UNREGISTERED}
+use Rattle.words.proofs.Offsets.{columnStart-mono, columnStart-apart, shaped-of}
 use Rattle.words.specs.Part.{between}
 use Rattle.words.proofs.Part.{length-between, getD-between}
 use Rattle.words.specs.Table.{table}
 use Rattle.words.proofs.Tables.{is-table, table-none}
+use Rattle.words.specs.Shape.{columnStart, columnLen, shape, lookupPlace}
 use Rattle.component.specs.Columns.{Columns}
 use Rattle.component.proofs.Fresh.{fresh-columns, fresh-rows}
 use Rattle.entity.specs.Change.{EntitiesChanged}
@@ -29,7 +30,7 @@ use Rattle.layout.proofs.Arrays.{none-formed}
 use Rattle.memory.specs.Header.{capacityOf, kindCapacityOf, registeredOf, callerOf, refusalsAt, ruleOf, newerOf, slotOf}
 use Rattle.memory.specs.Meaning.{kindAt, kindsIn, setAt, setsIn, draftIn, layoutIn, stagedAt, stagedIn, excludedIn, meaning}
 use Rattle.memory.specs.Arranged.{TableSound, LayoutSound, Arranged}
-use Rattle.memory.proofs.Frames.{start-header, reads-means}
+use Rattle.memory.proofs.Frames.{columnStart-first, reads-means}
 use Rattle.model.proofs.ListLaws.{drop-later, word-rest}
 use Rattle.memory.specs.Fresh.{Cleared, TableCleared, Made}
 
@@ -51,7 +52,7 @@ as-told : (newer : Bool) → eqb (boolByte newer) NEWER ≡ newer
 as-told true = refl
 as-told false = refl
 
-module _ (n k : ℕ) (newer : Bool) (w w₁ w₂ : List ℕ) (L : Limits n k) (enough : columnStart n k ≤ length w) (C : Cleared w (columnStart n k) w₁) (T : TableCleared w₁ MAX-KINDS w₂) where
+module _ (n k : ℕ) (newer : Bool) (w w₁ w₂ : List ℕ) (L : Limits n k) (enough : columnStart (shape n) k ≤ length w) (C : Cleared w (columnStart (shape n) k) w₁) (T : TableCleared w₁ MAX-KINDS w₂) where
   abbrev v : List ℕ
   v = set (set w₂ CAPACITY n) KIND-CAPACITY k
 
@@ -59,10 +60,10 @@ module _ (n k : ℕ) (newer : Bool) (w w₁ w₂ : List ℕ) (L : Limits n k) (e
   w′ = set v RULE (boolByte newer)
 
   abbrev end : ℕ
-  end = columnStart n k
+  end = columnStart (shape n) k
 
   past-header : ENTITIES + ENTITY-LEN * n ≤ end
-  past-header = omega (arith, start-header n, columnStart-mono n 0 k (omega arith))
+  past-header = omega (arith, columnStart-first (shape n), columnStart-mono (shape n) 0 k (omega arith))
 
   size : length w′ ≡ length w
   size = length-set v RULE (boolByte newer) ∙ length-set (set w₂ CAPACITY n) KIND-CAPACITY k ∙ length-set w₂ CAPACITY n ∙ T .size ∙ C .size
@@ -104,14 +105,14 @@ module _ (n k : ℕ) (newer : Bool) (w w₁ w₂ : List ℕ) (L : Limits n k) (e
       (record { size = l; some = L .some; small = L .most }) refl
       (λ i h. getD-between ENTITIES (ENTITIES + ENTITY-LEN * n) i w′ 0 (omega arith) ∙ high (ENTITIES + i) (omega arith) (omega (arith, past-header)))
 
-  column-zero : (s : ℕ) → s < k → (i : ℕ) → i < columnLen n → getD w′ (columnStart n s + i) 0 ≡ 0
-  column-zero s h i b = high (columnStart n s + i) (omega (arith, start-header n, columnStart-mono n 0 s (omega arith))) (omega (arith, columnStart-apart n s k h))
+  column-zero : (s : ℕ) → s < k → (i : ℕ) → i < columnLen (shape n) → getD w′ (columnStart (shape n) s + i) 0 ≡ 0
+  column-zero s h i b = high (columnStart (shape n) s + i) (omega (arith, columnStart-first (shape n), columnStart-mono (shape n) 0 s (omega arith))) (omega (arith, columnStart-apart (shape n) s k h))
 
-  column-head : (s : ℕ) → s < k → getD w′ (columnStart n s) 0 ≡ 0
-  column-head s h = high (columnStart n s) (omega (arith, start-header n, columnStart-mono n 0 s (omega arith))) (omega (arith, columnStart-apart n s k h))
+  column-head : (s : ℕ) → s < k → getD w′ (columnStart (shape n) s) 0 ≡ 0
+  column-head s h = high (columnStart (shape n) s) (omega (arith, columnStart-first (shape n), columnStart-mono (shape n) 0 s (omega arith))) (omega (arith, columnStart-apart (shape n) s k h))
 
-  columns : Columns n k w′
-  columns = fresh-columns n k w′ (L .most) (L .mostKinds) long column-head (λ s x h hx. column-zero s h (ROWS + 4 * n + 2 * x + 1) (omega arith))
+  columns : Columns (shape n) k w′
+  columns = fresh-columns (shape n) k w′ (shaped-of n (L .most)) (L .mostKinds) long column-head (λ s x h hx. column-zero s h (lookupPlace (shape n) x + 1) (omega arith))
 
   tables : TableSound w′
   tables =

@@ -8,12 +8,14 @@ use lib.ListN.{length, getD}
 use Rattle.model.specs.Numbers.{CALLERS, ENTITY-LEN, LIST-CAPACITY}
 use Rattle.model.specs.Store.{Store}
 use Rattle.memory.proofs.LayoutWords.{words-sized}
-use Rattle.words.specs.Offsets.{columnStart, BLOCK-LEN, CALLER, CAPACITY, DRAFT, DRAFT-FAMILIES, DRAFT-GROUPS, ENTITIES, EXCLUDED-KINDS, EXCLUDED-LEN, GROUP-COUNTS, GROUP-FAMILIES, KIND-CAPACITY, LAYOUT, LAYOUT-FAMILIES, LAYOUT-GROUPS, MORE-SETTINGS, NEWER, REFUSALS, REGISTERED, RULE, ROWS, STAGED-KINDS, STAGED-LEN, STAGED-VALUE-LEN, STAGED-VALUES, TABLE}
-use Rattle.words.proofs.Offsets.{columnStart-needed, columnStart-mono}
+use Rattle.words.specs.Offsets.{BLOCK-LEN, CALLER, CAPACITY, DRAFT, DRAFT-FAMILIES, DRAFT-GROUPS, ENTITIES, EXCLUDED-KINDS, EXCLUDED-LEN, GROUP-COUNTS, GROUP-FAMILIES, KIND-CAPACITY, LAYOUT, LAYOUT-FAMILIES, LAYOUT-GROUPS, MORE-SETTINGS, NEWER, REFUSALS, REGISTERED, RULE, ROWS, STAGED-KINDS, STAGED-LEN, STAGED-VALUE-LEN, STAGED-VALUES, STRIDE, TABLE}
+use Rattle.words.proofs.Offsets.{columnStart-mono, columnStart-first}
 use Rattle.words.specs.Part.{between}
-use Rattle.words.proofs.Part.{between-same}
+use Rattle.words.proofs.Part.{run-same, between-same}
 use Rattle.words.specs.Table.{table}
 use Rattle.words.proofs.Tables.{table-same}
+use Rattle.words.specs.Shape.{shapeOf}
+use Rattle.values.specs.Values.{digits}
 use Rattle.component.specs.Columns.{columnOf}
 use Rattle.entity.specs.Meaning.{entitiesIn}
 use Rattle.layout.specs.Layout.{blockArrays, WellFormed, groupCount, familiesOf}
@@ -22,11 +24,6 @@ use Rattle.memory.specs.Header.{capacityOf, kindCapacityOf, stagedLen, e
 use Rattle.memory.specs.Meaning.{kindsIn, setsIn, draftArrays, layoutArrays, draftIn, layoutIn, stagedAt, stagedIn, excludedIn, countsIn, controlIn, settingsOf, meaning}
 use Rattle.memory.specs.Arranged.{Arranged}
 use Rattle.memory.proofs.Kept.{Kept}
-
--- ---- words that agree up to a place, or from one on
-
-pub start-header : (n : ℕ) → columnStart n 0 ≡ ENTITIES + ENTITY-LEN * n
-start-header n = columnStart-needed n 0 ∙ omega arith
 
 -- ---- parts of the meaning, from the words that they are read from
 
@@ -53,7 +50,10 @@ module _ (w w′ : List ℕ) (size : length w′ ≡ length w) where
   staged-same few e same =
       ap (λ (n : ℕ). table n (stagedAt w′)) e
       ∙ table-same (record { kind = 0; value = 0 }) (stagedLen w) (stagedAt w) (stagedAt w′)
-      (λ i h. rw (same (STAGED-KINDS + i) (omega arith) (omega arith), same (STAGED-VALUES + STAGED-VALUE-LEN * i) (omega arith) (omega arith), same (STAGED-VALUES + STAGED-VALUE-LEN * i + 1) (omega arith) (omega arith)))
+      (λ i h.
+      let k = same (STAGED-KINDS + i) (omega arith) (omega arith) in
+      let v = ap digits (run-same (STAGED-VALUES + STAGED-VALUE-LEN * i) STRIDE w w′ size (λ j a b. same j (omega arith) (omega arith))) in
+      λ t. record { kind = k t; value = v t })
 
   pub excluded-same : excludedLen w ≤ LIST-CAPACITY → getD w′ EXCLUDED-LEN 0 ≡ getD w EXCLUDED-LEN 0 → ((i : ℕ) → EXCLUDED-KINDS ≤ i → i < DRAFT → getD w′ i 0 ≡ getD w i 0) → excludedIn w′ ≡ excludedIn w
   unfolding excludedIn
@@ -78,8 +78,8 @@ long w A =
     omega (
       arith,
       A .enough,
-      start-header (capacityOf w),
-      columnStart-mono (capacityOf w) 0 (kindCapacityOf w) (omega arith),
+      columnStart-first (shapeOf w),
+      columnStart-mono (shapeOf w) 0 (kindCapacityOf w) (omega arith),
     )
 
 pub layout-sized : (w : List ℕ) → Arranged w → ArraysSized (layoutArrays w)
@@ -108,7 +108,7 @@ module _ (w w′ : List ℕ) (A : Arranged w) (size : length w′ ≡ length w) 
       ap (λ (c : List ℕ). familiesOf c (layoutArrays w′)) (counts-same w w′ size (long w A) (λ i a b. same i (omega arith)))
       ∙ ap (familiesOf (between GROUP-COUNTS ENTITIES w)) (layout-arrays-same w w′ size (long w A) (same LAYOUT-FAMILIES (omega arith)) (λ i a b. same i (omega arith)))
 
-  pub header-kept : ((s : ℕ) → s < kindCapacityOf w → (i : ℕ) → 1 ≤ i → i < ROWS → getD (columnOf (capacityOf w) s w′) i 0 ≡ getD (columnOf (capacityOf w) s w) i 0) → Kept w w′
+  pub header-kept : ((s : ℕ) → s < kindCapacityOf w → (i : ℕ) → 1 ≤ i → i < ROWS → getD (columnOf (shapeOf w) s w′) i 0 ≡ getD (columnOf (shapeOf w) s w) i 0) → Kept w w′
   header-kept heads =
       record {
         size = size;

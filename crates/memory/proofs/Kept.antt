@@ -9,6 +9,7 @@ use Rattle.model.specs.Numbers.{LAST-CALLER, LIST-CAPACITY, MAX-KINDS}
 use Rattle.words.specs.Offsets.{COLUMN-KIND, GROUP-PLACES, OWN-GROUP, PLACE-IN-FAMILY, ROWS, UNREGISTERED}
 use Rattle.words.specs.Table.{table}
 use Rattle.words.proofs.Tables.{table-same}
+use Rattle.words.specs.Shape.{shapeOf}
 use Rattle.component.specs.Columns.{columnOf, rowsOf, Columns}
 use Rattle.entity.specs.Meaning.{entityPart}
 use Rattle.layout.specs.Layout.{Arrays, WellFormed, widthOf, groupCount}
@@ -25,7 +26,7 @@ pub record Kept (w w′ : List ℕ) : Type 0 where
   pub rule : ruleOf w′ ≡ ruleOf w
   pub registered : registeredOf w′ ≡ registeredOf w
   pub slots : (k : ℕ) → k < MAX-KINDS → slotOf w′ k ≡ slotOf w k
-  pub heads : (s : ℕ) → s < kindCapacityOf w → (i : ℕ) → 1 ≤ i → i < ROWS → getD (columnOf (capacityOf w) s w′) i 0 ≡ getD (columnOf (capacityOf w) s w) i 0
+  pub heads : (s : ℕ) → s < kindCapacityOf w → (i : ℕ) → 1 ≤ i → i < ROWS → getD (columnOf (shapeOf w) s w′) i 0 ≡ getD (columnOf (shapeOf w) s w) i 0
   pub layout : layoutArrays w′ ≡ layoutArrays w
   pub groups : layoutGroups w′ ≡ layoutGroups w
   pub families : (g : ℕ) → g < GROUP-PLACES → groupFamilyAt w′ g ≡ groupFamilyAt w g
@@ -38,7 +39,7 @@ module _ {w w′ : List ℕ} (K : Kept w w′) where
   kind-capacity-kept = λ i. K .settings i .kindCapacity
 
 module _ {w w′ : List ℕ} (A : Arranged w) (K : Kept w w′) where
-  head-kept : (s : ℕ) → s < kindCapacityOf w → (i : ℕ) → 1 ≤ i → i < ROWS → getD (columnOf (capacityOf w′) s w′) i 0 ≡ getD (columnOf (capacityOf w) s w) i 0
+  head-kept : (s : ℕ) → s < kindCapacityOf w → (i : ℕ) → 1 ≤ i → i < ROWS → getD (columnOf (shapeOf w′) s w′) i 0 ≡ getD (columnOf (shapeOf w) s w) i 0
   head-kept s h i a b = ap (λ (c : ℕ). getD (columnOf c s w′) i 0) (capacity-kept K) ∙ K .heads s h i a b
 
   registered-slot : (s : ℕ) → s < registeredOf w → s < kindCapacityOf w
@@ -111,8 +112,8 @@ module _ {w w′ : List ℕ} (A : Arranged w) (K : Kept w w′) where
             rw (kind-kept s h₀) (subst (λ (a : Arrays). In (take (widthOf a) (a .kinds)) (kindAt w s)) (sym (K .layout)) (L .none s h₀ o₀));
       }
 
-  pub arranged-kept : entity.EntityPartSound (capacityOf w) (entityPart (capacityOf w) w′) → Columns (capacityOf w) (kindCapacityOf w) w′
-      → ((s : ℕ) → registeredOf w ≤ s → s < kindCapacityOf w → rowsOf (capacityOf w) s w′ ≡ [])
+  pub arranged-kept : entity.EntityPartSound (capacityOf w) (entityPart (capacityOf w) w′) → Columns (shapeOf w) (kindCapacityOf w) w′
+      → ((s : ℕ) → registeredOf w ≤ s → s < kindCapacityOf w → rowsOf (shapeOf w) s w′ ≡ [])
       → stagedLen w′ ≤ LIST-CAPACITY → excludedLen w′ ≤ LIST-CAPACITY → callerOf w′ ≤ LAST-CALLER → WellFormed (draftArrays w′) → draftGroups w′ ≡ groupCount (draftArrays w′) → Arranged w′
   arranged-kept e c v st ex ca d g =
       record {

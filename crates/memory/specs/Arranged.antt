@@ -6,7 +6,8 @@ use Prim.Native.Nat.{ℕ, suc, _≤_, _<_}
 use lib.ListN.{length, take, drop}
 use Rattle.model.specs.Numbers.{LAST-CALLER, LIST-CAPACITY, MAX-KINDS}
 use Rattle.words.specs.Offsets.{NEWER, UNREGISTERED}
-use Rattle.model.specs.Store.{Store, wordsNeeded}
+use Rattle.words.specs.Shape.{columnStart, shapeOf}
+use Rattle.model.specs.Store.{Store}
 use Rattle.model.specs.Sound.{In, Limits}
 use Rattle.model.specs.Sound as modelSound
 use Rattle.component.specs.Columns.{Columns, rowsOf}
@@ -47,11 +48,11 @@ pub record LayoutSound (w : List ℕ) : Type 0 where
 -- all that the words must be besides meaning a sound store: enough of them, and tables, lookups and blocks that agree
 pub record Arranged (w : List ℕ) : Type 0 where
   pub limits : Limits (capacityOf w) (kindCapacityOf w)
-  pub enough : wordsNeeded (capacityOf w) (kindCapacityOf w) ≤ length w
+  pub enough : columnStart (shapeOf w) (kindCapacityOf w) ≤ length w
   pub table : TableSound w
   pub entities : entity.EntityPartSound (capacityOf w) (entityPart (capacityOf w) w)
-  pub columns : Columns (capacityOf w) (kindCapacityOf w) w
-  pub vacant : (s : ℕ) → registeredOf w ≤ s → s < kindCapacityOf w → rowsOf (capacityOf w) s w ≡ []
+  pub columns : Columns (shapeOf w) (kindCapacityOf w) w
+  pub vacant : (s : ℕ) → registeredOf w ≤ s → s < kindCapacityOf w → rowsOf (shapeOf w) s w ≡ []
   pub staged : stagedLen w ≤ LIST-CAPACITY
   pub excluded : excludedLen w ≤ LIST-CAPACITY
   pub caller : callerOf w ≤ LAST-CALLER
@@ -71,4 +72,4 @@ pub record Becomes (w w′ : List ℕ) (s : Store) : Type 0 where
   pub arranged : Arranged w′
   pub means : meaning w′ ≡ s
   pub size : length w′ ≡ length w
-  pub past : drop (wordsNeeded (capacityOf w) (kindCapacityOf w)) w′ ≡ drop (wordsNeeded (capacityOf w) (kindCapacityOf w)) w
+  pub past : drop (columnStart (shapeOf w) (kindCapacityOf w)) w′ ≡ drop (columnStart (shapeOf w) (kindCapacityOf w)) w

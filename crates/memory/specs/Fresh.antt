@@ -4,7 +4,8 @@ use mathlib.Core.List.{List}
 use Prim.Native.Nat.{ℕ, _+_, _<_}
 use lib.ListN.{length, getD, drop}
 use Rattle.model.specs.Store.{Settings, emptyWith}
-use Rattle.words.specs.Offsets.{columnStart, TABLE, UNREGISTERED}
+use Rattle.words.specs.Offsets.{TABLE, UNREGISTERED}
+use Rattle.words.specs.Shape.{columnStart, shape}
 use Rattle.memory.specs.Arranged.{Arranged}
 use Rattle.memory.specs.Meaning.{meaning}
 
@@ -26,4 +27,4 @@ pub record Made (c : Settings) (w w′ : List ℕ) : Type 0 where
   pub arranged : Arranged w′
   pub means : meaning w′ ≡ emptyWith c
   pub size : length w′ ≡ length w
-  pub past : drop (columnStart (c .capacity) (c .kindCapacity)) w′ ≡ drop (columnStart (c .capacity) (c .kindCapacity)) w
+  pub past : drop (columnStart (shape (c .capacity)) (c .kindCapacity)) w′ ≡ drop (columnStart (shape (c .capacity)) (c .kindCapacity)) w

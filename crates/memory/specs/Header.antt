@@ -3,8 +3,10 @@ use mathlib.Core.Bool.{Bool}
 use mathlib.Core.List.{List}
 use Prim.Native.Nat.{ℕ, _+_, _*_}
 use lib.Dec.{eqb}
-use lib.ListN.{getD}
+use lib.ListN.{getD, take, drop}
 use Rattle.words.specs.Offsets.{CALLER, CAPACITY, DRAFT-FAMILIES, DRAFT-GROUPS, EXCLUDED-KINDS, EXCLUDED-LEN, GROUP-COUNTS, GROUP-FAMILIES, KIND-CAPACITY, LAYOUT-FAMILIES, LAYOUT-GROUPS, NEWER, REFUSALS, REGISTERED, RULE, STAGED-KINDS, STAGED-LEN, STAGED-VALUE-LEN, STAGED-VALUES, TABLE}
+use Rattle.words.specs.Shape.{shapeOf}
+use Rattle.values.specs.Values.{digits}
 
 -- capacity N (entities) and K (kinds), and how many kinds are registered
 abbrev pub capacityOf : List ℕ → ℕ
@@ -57,11 +59,8 @@ slotOf w k = getD w (TABLE + k) 0
 abbrev pub stagedKindAt : List ℕ → ℕ → ℕ
 stagedKindAt w i = getD w (STAGED-KINDS + i) 0
 
-abbrev pub stagedLowAt : List ℕ → ℕ → ℕ
-stagedLowAt w i = getD w (STAGED-VALUES + STAGED-VALUE-LEN * i) 0
-
-abbrev pub stagedHighAt : List ℕ → ℕ → ℕ
-stagedHighAt w i = getD w (STAGED-VALUES + STAGED-VALUE-LEN * i + 1) 0
+abbrev pub stagedValueAt : List ℕ → ℕ → ℕ
+stagedValueAt w i = digits (take (shapeOf w .stride) (drop (STAGED-VALUES + STAGED-VALUE-LEN * i) w))
 
 abbrev pub excludedAt : List ℕ → ℕ → ℕ
 excludedAt w i = getD w (EXCLUDED-KINDS + i) 0

@@ -10,23 +10,23 @@ use Rattle.model.specs.Model.{Component, SparseSet, Family, Storage}
 use Rattle.model.specs.Store.{Counts, Control, Settings, Store, oneMore}
 use Rattle.words.specs.Table.{table}
 use Rattle.words.specs.Part.{between}
-use Rattle.component.specs.SparseSet.{valueOf}
+use Rattle.words.specs.Shape.{shapeOf}
 use Rattle.component.specs.Columns.{columnOf, rowsOf}
 use Rattle.entity.specs.Meaning.{entitiesIn}
 use Rattle.layout.specs.Layout.{Arrays, blockArrays, familiesOf}
-use Rattle.memory.specs.Header.{capacityOf, kindCapacityOf, registeredOf, stagedLen, excludedLen, draftFamilies, layoutFamilies, callerOf, refusalsAt, newerOf, slotOf, stagedKindAt, stagedLowAt, stagedHighAt, excludedAt}
+use Rattle.memory.specs.Header.{capacityOf, kindCapacityOf, registeredOf, stagedLen, excludedLen, draftFamilies, layoutFamilies, callerOf, refusalsAt, newerOf, slotOf, stagedKindAt, stagedValueAt, excludedAt}
 
 -- ---- kinds and their columns
 
 -- the head of the column in slot s: its kind; its own group plus one, 0 where it is in none; its place among its family's kinds
 abbrev pub kindAt : List ℕ → ℕ → ℕ
-kindAt w s = getD (columnOf (capacityOf w) s w) COLUMN-KIND 0
+kindAt w s = getD (columnOf (shapeOf w) s w) COLUMN-KIND 0
 
 abbrev pub ownAt : List ℕ → ℕ → ℕ
-ownAt w s = getD (columnOf (capacityOf w) s w) OWN-GROUP 0
+ownAt w s = getD (columnOf (shapeOf w) s w) OWN-GROUP 0
 
 abbrev pub localAt : List ℕ → ℕ → ℕ
-localAt w s = getD (columnOf (capacityOf w) s w) PLACE-IN-FAMILY 0
+localAt w s = getD (columnOf (shapeOf w) s w) PLACE-IN-FAMILY 0
 
 -- the registered kinds, in the order of their slots
 unfoldable pub kindsIn : List ℕ → List ℕ
@@ -34,7 +34,7 @@ kindsIn w = table (registeredOf w) (kindAt w)
 
 -- kind k's sparse set: the rows of its column, none where it is not registered
 abbrev pub setAt : List ℕ → ℕ → SparseSet
-setAt w k = cond (ltb (slotOf w k) (registeredOf w)) (rowsOf (capacityOf w) (slotOf w k) w) []
+setAt w k = cond (ltb (slotOf w k) (registeredOf w)) (rowsOf (shapeOf w) (slotOf w k) w) []
 
 unfoldable pub setsIn : List ℕ → List SparseSet
 setsIn w = table MAX-KINDS (setAt w)
@@ -59,7 +59,7 @@ storageIn w = record { sets = setsIn w; layout = layoutIn w }
 -- ---- what a run keeps besides
 
 abbrev pub stagedAt : List ℕ → ℕ → Component
-stagedAt w i = record { kind = stagedKindAt w i; value = valueOf (stagedLowAt w i) (stagedHighAt w i) }
+stagedAt w i = record { kind = stagedKindAt w i; value = stagedValueAt w i }
 
 unfoldable pub stagedIn : List ℕ → List Component
 stagedIn w = table (stagedLen w) (stagedAt w)

@@ -4,8 +4,9 @@ ghost use lib.ListN.{length};
 ghost use Rattle.model.specs.Numbers.{MAX-KINDS};
 ghost use Rattle.model.specs.Store.{told};
 ghost use Rattle.model.specs.Sound.{Limits};
-ghost use Rattle.words.specs.Offsets.{columnStart, STAGED-KINDS};
+ghost use Rattle.words.specs.Offsets.{STAGED-KINDS};
 ghost use Rattle.words.specs.Decides.{Decides};
+ghost use Rattle.words.specs.Shape.{columnStart, shape};
 ghost use Rattle.memory.specs.Fresh.{Cleared, TableCleared, Made};
 
 // N from 1 to 4,096 and K from 1 to 128.
@@ -55,10 +56,10 @@ fn put_table(words: &mut [u32])
 // The empty store of n entities and k kinds, under the rule that is told.
 pub fn make(words: &mut [u32], n: usize, k: usize, newer: bool)
     requires { ⌜ Limits n k ⌝ }
-    requires { ⌜ columnStart n k ≤ length (now words) ⌝ }
+    requires { ⌜ columnStart (shape n) k ≤ length (now words) ⌝ }
     ensures { λ _. ⌜ Made (told n k newer) (now (words .entry)) (now (words .exit)) ⌝ }
 {
-    let end = words::column_start(n, k);
+    let end = model::words_needed(n, k);
     clear(words, end);
     put_table(words);
     words[words::CAPACITY] = n as u32;

@@ -1,7 +1,6 @@
 -- Where things stand in the lent words (docs/WORDS.md): the header, the entity part, and a column for each slot. Assumes nothing.
 use Prim.Native.Nat.{ℕ, _+_}
 use Rattle.model.specs.Numbers.{HEADER-LEN, COLUMN-HEAD}
-use Rattle.model.specs.Store.{wordsNeeded}
 
 -- ---- the header, word by word
 
@@ -156,9 +155,3 @@ ROWS = COLUMN-HEAD
 -- the words of a value: 01's eight bytes
 abbrev pub STRIDE : ℕ
 STRIDE = 2
-
--- ---- where the columns start
-
--- the column in slot k of a store of capacity n: it starts where the words of a store with k kinds end
-abbrev pub columnStart : ℕ → ℕ → ℕ
-columnStart n k = wordsNeeded n k

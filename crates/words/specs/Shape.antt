@@ -1,8 +1,9 @@
 -- What a column is made for, and where things stand in it (docs/WORDS.md). Only the values depend on how many words a value has, and they stand at the
 -- column's end. Assumes nothing.
-use mathlib.Core.List.{List}
+use mathlib.Core.Path.{_≡_}
 use mathlib.Core.Logic.{_≢_}
-use Prim.Native.Nat.{ℕ, _+_, _*_, _≤_}
+use mathlib.Core.List.{List}
+use Prim.Native.Nat.{ℕ, _+_, _*_, _≤_, _<_}
 use lib.ListN.{getD}
 use Rattle.model.specs.Numbers.{ENTITY-LEN, HEADER-LEN, MAX-ENTITIES}
 use Rattle.words.specs.declared.Shape.{Shape}
@@ -19,9 +20,12 @@ pub record Shaped (z : Shape) : Type 0 where
   pub small : z .capacity ≤ MAX-ENTITIES
   pub words : TwoOrFour (z .stride)
 
+abbrev pub shape : ℕ → Shape
+shape n = record { capacity = n; stride = STRIDE }
+
 -- that of a store, by its words
 abbrev pub shapeOf : List ℕ → Shape
-shapeOf w = record { capacity = getD w CAPACITY 0; stride = STRIDE }
+shapeOf w = shape (getD w CAPACITY 0)
 
 -- ---- in a column: its head, then two words for each row's entity, then two for each index's lookup, then the values
 
@@ -45,3 +49,20 @@ columnLen z = valuePlace z (z .capacity)
 
 unfoldable pub columnStart : Shape → ℕ → ℕ
 columnStart z s = HEADER-LEN + ENTITY-LEN * z .capacity + s * columnLen z
+
+-- ---- what the code finds
+
+-- the shape of a store's columns
+pub record Shapes (w : List ℕ) (z : Shape) : Type 0 where
+  pub is : z ≡ shapeOf w
+  pub small : z .capacity < 4294967296
+
+-- a place in a column: the next few words' places are small numbers too
+pub record InColumn (place r : ℕ) : Type 0 where
+  pub is : r ≡ place
+  pub small : r ≤ 40000
+
+-- a place among all words
+pub record InWords (place r : ℕ) : Type 0 where
+  pub is : r ≡ place
+  pub small : r ≤ 4300000

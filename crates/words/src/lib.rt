@@ -1,10 +1,9 @@
 // The arrangement of the lent words (docs/WORDS.md): the offsets of the header, of a layout's block, of the entity part and of a column, and where the
 // columns start.
-ghost use mathlib.Core.Path.{_≡_};
 ghost use Prim.Native.Nat.{_<_, _≤_};
 ghost use lib.ListN.{length};
 ghost use Rattle.model.specs.Numbers.{MAX-ENTITIES, MAX-KINDS};
-ghost use Rattle.words.specs.Offsets.{columnStart};
+ghost use Rattle.words.specs.Shape.{Shaped, entityPlace, lookupPlace, valuePlace, columnLen, columnStart, Shapes, InColumn, InWords};
 ghost use Rattle.words.specs.Word.{Word};
 
 // The header: capacity, most kinds, kinds registered, lengths of the lists.
@@ -100,12 +99,62 @@ pub struct Shape {
     pub stride: usize,
 }
 
-// Where the column in slot k starts.
-pub fn column_start(n: usize, k: usize) -> usize
-    requires { ⌜ (n ≤ MAX-ENTITIES) × (k ≤ MAX-KINDS) ⌝ }
-    ensures { λ r. ⌜ r ≡ columnStart n k ⌝ }
+// What the columns of a store are made for.
+pub fn shape_of(words: &[u32]) -> Shape
+    requires { ⌜ 1 ≤ length (now words) ⌝ }
+    ensures { λ r. ⌜ Shapes (now (words .entry)) r ⌝ }
 {
-    model::words_needed(n, k)
+    Shape {
+        capacity: words[CAPACITY] as usize,
+        stride: STRIDE,
+    }
+}
+
+// In a column: where the entity of row i stands, its index and its version.
+pub fn entity_place(i: usize) -> usize
+    requires { ⌜ i ≤ MAX-ENTITIES ⌝ }
+    ensures { λ r. ⌜ InColumn (entityPlace i) r ⌝ }
+{
+    ROWS + 2 * i
+}
+
+// Where the lookup of index x stands, its place and its version.
+pub fn lookup_place(z: Shape, x: usize) -> usize
+    requires { ⌜ Shaped z × (x ≤ z .capacity) ⌝ }
+    ensures { λ r. ⌜ InColumn (lookupPlace z x) r ⌝ }
+{
+    ROWS + 2 * z.capacity + 2 * x
+}
+
+// Where the value of row i stands.
+pub fn value_place(z: Shape, i: usize) -> usize
+    requires { ⌜ Shaped z × (i ≤ z .capacity) ⌝ }
+    ensures { λ r. ⌜ InColumn (valuePlace z i) r ⌝ }
+{
+    ROWS + 4 * z.capacity + z.stride * i
+}
+
+// How many words a column has: the values are its last.
+pub fn column_len(z: Shape) -> usize
+    requires { ⌜ Shaped z ⌝ }
+    ensures { λ r. ⌜ InColumn (columnLen z) r ⌝ }
+{
+    value_place(z, z.capacity)
+}
+
+// Where the column in slot s starts.
+pub fn column_start(z: Shape, s: usize) -> usize
+    requires { ⌜ Shaped z × (s ≤ MAX-KINDS) ⌝ }
+    ensures { λ r. ⌜ InWords (columnStart z s) r ⌝ }
+{
+    let len = column_len(z);
+    ENTITIES + model::ENTITY_LEN * z.capacity + s * len
+}
+
+// An entity (01: card): an index and a version. Versions start at 1.
+pub struct Entity {
+    pub index: u32,
+    pub version: u32,
 }
 
 // The word at i, as a number for counting.

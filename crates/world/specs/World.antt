@@ -4,7 +4,7 @@ use mathlib.Core.List.{List}
 use Prim.Native.Nat.{ℕ}
 use Rattle.model.specs.Model.{Entity, insertComponents, remove, create, destroy}
 use Rattle.model.specs.Store.{Store, withAll}
-use Rattle.entity.specs.declared.Entity.{Entity as Answer}
+use Rattle.words.specs.declared.Entity.{Entity as Answer}
 use Rattle.entity.specs.Answers.{entityOfAnswer}
 use Rattle.memory.specs.Meaning.{meaning}
 use Rattle.memory.specs.Arranged.{Becomes}

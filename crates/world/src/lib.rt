@@ -5,7 +5,7 @@ pub mod mask;
 
 use crate::mask::Walk;
 use crate::mask::staged_mask;
-use entity::Entity;
+use words::Entity;
 ghost use mathlib.Core.Path.{_≡_};
 ghost use mathlib.Core.Bool.{false};
 ghost use Prim.Native.Nat.{_≤_};

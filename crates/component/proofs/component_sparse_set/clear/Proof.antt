@@ -12,13 +12,13 @@ use Rattle.component.proofs.component_sparse_set.clear.Statement.{state
 use Rattle.component.proofs.component_sparse_set.clear.Tie as tie
 
 abbrev Inv-loop : tie.InvT-loop
-Inv-loop part₀ n k₀ part k = (k ≡ lengthOf part) × RowsChanged n (take k) part₀ part
+Inv-loop part₀ z k₀ part k = (k ≡ lengthOf part) × RowsChanged z (take k) part₀ part
 
 abbrev μ-loop : tie.MeasureT-loop
-μ-loop part₀ n k₀ part k = k
+μ-loop part₀ z k₀ part k = k
 
 loop-holds : tie.Need-loop-holds Inv-loop μ-loop
-loop-holds c = let s = c .before .before in (refl, clear-none (s .args .n) (s .args .part .now) (s .pre))
+loop-holds c = let s = c .before .before in (refl, clear-none (s .args .z) (s .args .part .now) (s .pre))
 
 pop-requires : tie.Need-pop-requires Inv-loop μ-loop
 pop-requires c κs = (c .before .before .loop .inv .1 .sound, omega arith)
@@ -30,8 +30,8 @@ loop-again c =
     let w = s .args .part .now in
     let d = c .before .before .pop in
     let h : 1 ≤ l .k = omega arith in (
-      clear-left (s .args .n) (l .k) w (l .part) (d .last .0) (l .inv .0) h (l .inv .1) (d .ensures),
-      clear-more (s .args .n) (l .k) w (l .part) (d .last .0) (l .inv .0) h (l .inv .1) (d .ensures),
+      clear-left (s .args .z) (l .k) w (l .part) (d .last .0) (l .inv .0) h (l .inv .1) (d .ensures),
+      clear-more (s .args .z) (l .k) w (l .part) (d .last .0) (l .inv .0) h (l .inv .1) (d .ensures),
     )
 
 same-length : tie.Need-same-length Inv-loop μ-loop
@@ -42,7 +42,7 @@ returns c =
     let s = c .before .before .before .before in
     let l = c .before .loop in
     let e : l .k ≡ 0 = omega arith in
-    changed-as (s .args .n) (take (l .k)) (λ (rs : SparseSet). []) (s .args .part .now) (l .part) (l .inv .1) (ap (λ (j : ℕ). take j (rows (s .args .n) (s .args .part .now))) e)
+    changed-as (s .args .z) (take (l .k)) (λ (rs : SparseSet). []) (s .args .part .now) (l .part) (l .inv .1) (ap (λ (j : ℕ). take j (rows (s .args .z) (s .args .part .now))) e)
 
 pub clear-spec : {M : Type 1} → statement M
 clear-spec =

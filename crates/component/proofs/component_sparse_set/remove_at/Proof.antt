@@ -1,60 +1,52 @@
-use mir.Facts.{fits-32-64}
-use mathlib.Core.Path.{ap, sym, subst, _∙_}
+use mathlib.Core.Path.{ap, sym, subst}
 use Prim.Native.Nat.{ℕ, _-_, _<_}
-use lib.ListN.{length-set}
-use Rattle.component.specs.declared.component_sparse_set.RowWords.{RowWords}
+use native.Mathlib.Omega.{arith}
+use Rattle.words.specs.declared.Entity.{Entity}
 use Rattle.component.specs.SparseSet.{lengthOf}
-use Rattle.component.proofs.Meaning.{sized}
 use Rattle.component.proofs.Moves.{removed-by}
-use Rattle.component.proofs.Sums.{first-in, last-row, lookup-sums, lookup-in}
+use borrow.Author.Needs.{needs}
 use Rattle.component.proofs.component_sparse_set.remove_at.Statement.{statement}
 use Rattle.component.proofs.component_sparse_set.remove_at.Tie as tie
 
--- the indexes of the row at the place and of the last row
-gone-below : (c : tie.After-read-row) → c .read-row .result .index < c .before .before .before .before .args .n
-gone-below c =
-    let s = c .before .before .before .before in
-    subst (λ (x : ℕ). x < s .args .n) (sym (ap (λ (r : RowWords). r .index) (c .read-row .ensures))) (s .pre .0 .linked .tied (s .args .place) (s .pre .1) .below)
+put-place-requires : tie.Need-put-place-requires
+put-place-requires c κs =
+    let s = c .before .before .before .before .before .before .before .before .before .before .before in
+    let a = s .args in
+    let k : lengthOf (a .part .now) - 1 < lengthOf (a .part .now) = omega (arith, s .pre .1 .0) in
+    let q : c .before .before .before .before .before .before .before .entity-at .result .index < a .z .capacity = subst (λ (x : ℕ). x < a .z .capacity) (sym (ap (λ (r : Entity). r .index) (c .before .before .before .before .before .before .before .entity-at .ensures))) (s .pre .0 .linked .tied (lengthOf (a .part .now) - 1) k .below) in
+    (record { size = omega (arith, s .pre .0 .size, c .before .before .before .put-entity .kept .0); shaped = s .pre .0 .shaped }, q, omega (arith, s .pre .1 .0, s .pre .0 .linked .room))
 
-last-below : (c : tie.After-read-row2) → c .read-row2 .result .index < c .before .before .before .before .before .before .args .n
-last-below c =
-    let s = c .before .before .before .before .before .before in
-    let k = last-row _ _ _ (s .pre .1) (s .pre .0 .linked .room) (s .pre .0 .small) .1 in
-    subst (λ (x : ℕ). x < s .args .n) (sym (ap (λ (r : RowWords). r .index) (c .read-row2 .ensures))) (s .pre .0 .linked .tied (lengthOf (s .args .part .now) - 1) k .below)
+clear-lookup-requires : tie.Need-clear-lookup-requires
+clear-lookup-requires c κs =
+    let s = c .before .before .before .before .before .before .before .before .before .before .before .before .before .before .before in
+    let a = s .args in
+    (record { size = omega (arith, s .pre .0 .size, c .before .before .before .before .before .before .before .put-entity .kept .0, c .before .before .before .put-place .kept .0); shaped = s .pre .0 .shaped }, omega (arith, s .pre .1 .1, s .pre .0 .linked .tied (a .place) (s .pre .1 .0) .below))
+
+put-value-requires : tie.Need-put-value-requires
+put-value-requires c κs =
+    let s = c .before .before .before .before .before .before .before .before .before .before .before .before .before .before .before .before .before .before .before in
+    let a = s .args in
+    (record { size = omega (arith, s .pre .0 .size, c .before .before .before .before .before .before .before .before .before .before .before .put-entity .kept .0, c .before .before .before .before .before .before .before .put-place .kept .0, c .before .before .before .clear-lookup .kept .0); shaped = s .pre .0 .shaped }, omega (arith, s .pre .1 .0, s .pre .0 .linked .room))
 
 returns : tie.Need-returns
 returns c =
-    let s = c .before .before .before .before .before .before .before .before .before .before .before .before in
+    let s = c .before .before .before .before .before .before .before .before .before .before .before .before .before .before .before .before .before .before .before .before .before .before in
     let a = s .args in
-    removed-by (a .n) (a .part .now) (s .pre .0) (a .place) (s .pre .1) (c .before .before .before .before .put-row .last .0) (c .before .before .before .before .before .before .before .before .read-row .result) (c .before .before .before .before .before .before .read-row2 .result)
-    (c .before .before .before .before .before .before .before .before .read-row .ensures) (c .before .before .before .before .before .before .read-row2 .ensures) (c .before .before .before .before .put-row .ensures)
+    removed-by (a .z) (a .part .now) (s .pre .0) (a .place) (s .pre .1 .0) (c .before .before .before .before .before .before .before .before .before .before .before .before .before .before .put-entity .last .0) (c .before .before .before .before .before .before .before .before .before .before .put-place .last .0) (c .before .before .before .before .before .before .clear-lookup .last .0) (c .before .before .put-value .last .0) (a .index) _ (c .before .before .before .before .before .before .before .before .before .before .before .before .before .before .before .before .before .before .entity-at .result)
+    (s .pre .1 .1) (c .before .before .before .before .before .before .before .before .before .before .before .before .before .before .before .before .before .before .entity-at .ensures) (c .before .before .before .before .before .before .before .before .before .before .before .before .before .before .before .before .value-of .ensures) (c .before .before .before .before .before .before .before .before .before .before .before .before .before .before .put-entity .ensures) (c .before .before .before .before .before .before .before .before .before .before .put-place .ensures) (c .before .before .before .before .before .before .clear-lookup .ensures) (c .before .before .put-value .ensures)
 
 pub remove-at-spec : {M : Type 1} → statement M
 remove-at-spec =
     tie.close
     (tie.spec
-    (λ c. first-in (c .before .before .args .n) _ (c .before .before .pre .0 .size))
-    (λ c. last-row _ _ _ (c .before .before .pre .1) (c .before .before .pre .0 .linked .room) (c .before .before .pre .0 .small) .0)
-    (λ c κs. (sized (c .before .before .before .args .n) (c .before .before .before .args .part .now) (c .before .before .before .pre .0), last-row _ _ _ (c .before .before .before .pre .1) (c .before .before .before .pre .0 .linked .room) (c .before .before .before .pre .0 .small) .4))
-    (λ c. last-row _ _ _ (c .before .before .before .before .before .pre .1) (c .before .before .before .before .before .pre .0 .linked .room) (c .before .before .before .before .before .pre .0 .small) .3)
-    (λ c κs. (sized (c .before .before .before .before .before .args .n) (c .before .before .before .before .before .args .part .now) (c .before .before .before .before .before .pre .0), last-row _ _ _ (c .before .before .before .before .before .pre .1) (c .before .before .before .before .before .pre .0 .linked .room) (c .before .before .before .before .before .pre .0 .small) .2))
-    (λ c κs. (sized (c .before .before .before .before .before .before .before .args .n) (c .before .before .before .before .before .before .before .args .part .now) (c .before .before .before .before .before .before .before .pre .0), last-row _ _ _ (c .before .before .before .before .before .before .before .pre .1) (c .before .before .before .before .before .before .before .pre .0 .linked .room) (c .before .before .before .before .before .before .before .pre .0 .small) .4))
-    (λ c. lookup-sums (c .before .before .before .before .before .before .before .before .before .before .args .n) _ (c .before .before .before .before .before .before .before .before .before .before .pre .0 .small) (last-below (c .before .before .before .before)) .0)
-    (λ c. lookup-sums (c .before .before .before .before .before .before .before .before .before .before .args .n) _ (c .before .before .before .before .before .before .before .before .before .before .pre .0 .small) (last-below (c .before .before .before .before)) .1)
-    (λ c. fits-32-64 (c .struct-known .given .0))
-    (λ c. lookup-sums (c .before .before .before .before .before .before .before .before .before .before .before .args .n) _ (c .before .before .before .before .before .before .before .before .before .before .before .pre .0 .small) (last-below (c .before .before .before .before .before)) .2)
-    (λ c. lookup-sums (c .before .before .before .before .before .before .before .before .before .before .before .args .n) _ (c .before .before .before .before .before .before .before .before .before .before .before .pre .0 .small) (last-below (c .before .before .before .before .before)) .3)
-    (λ c. lookup-sums (c .before .before .before .before .before .before .before .before .before .before .before .args .n) _ (c .before .before .before .before .before .before .before .before .before .before .before .pre .0 .small) (gone-below (c .before .before .before .before .before .before .before)) .0)
-    (λ c. lookup-sums (c .before .before .before .before .before .before .before .before .before .before .before .args .n) _ (c .before .before .before .before .before .before .before .before .before .before .before .pre .0 .small) (gone-below (c .before .before .before .before .before .before .before)) .1)
-    (λ c. fits-32-64 (c .struct-known2 .given .0))
-    (λ c. lookup-sums (c .before .before .before .before .before .before .before .before .before .before .before .before .args .n) _ (c .before .before .before .before .before .before .before .before .before .before .before .before .pre .0 .small) (gone-below (c .before .before .before .before .before .before .before .before)) .2)
-    (λ c. lookup-sums (c .before .before .before .before .before .before .before .before .before .before .before .before .args .n) _ (c .before .before .before .before .before .before .before .before .before .before .before .before .pre .0 .small) (gone-below (c .before .before .before .before .before .before .before .before)) .3)
-    (λ c. last-row _ _ _ (c .before .before .before .before .before .before .before .before .before .before .before .before .pre .1) (c .before .before .before .before .before .before .before .before .before .before .before .before .pre .0 .linked .room) (c .before .before .before .before .before .before .before .before .before .before .before .before .pre .0 .small) .5)
-    (λ c. lookup-sums (c .before .before .before .before .before .before .before .before .before .before .before .before .args .n) _ (c .before .before .before .before .before .before .before .before .before .before .before .before .pre .0 .small) (last-below (c .before .before .before .before .before .before)) .4)
-    (λ c. lookup-in (c .before .before .before .before .before .before .before .before .before .before .before .before .args .n) _ _ (c .before .before .before .before .put-row .kept .0 ∙ c .before .before .before .before .before .before .before .before .before .before .before .before .pre .0 .size) (last-below (c .before .before .before .before .before .before)) .0)
-    (λ c. lookup-sums (c .before .before .before .before .before .before .before .before .before .before .before .before .args .n) _ (c .before .before .before .before .before .before .before .before .before .before .before .before .pre .0 .small) (gone-below (c .before .before .before .before .before .before .before .before)) .5)
-    (λ c. lookup-sums (c .before .before .before .before .before .before .before .before .before .before .before .before .args .n) _ (c .before .before .before .before .before .before .before .before .before .before .before .before .pre .0 .small) (gone-below (c .before .before .before .before .before .before .before .before)) .6)
-    (λ c. simp length-set (lookup-in (c .before .before .before .before .before .before .before .before .before .before .before .before .args .n) _ _ (c .before .before .before .before .put-row .kept .0 ∙ c .before .before .before .before .before .before .before .before .before .before .before .before .pre .0 .size) (gone-below (c .before .before .before .before .before .before .before .before)) .1))
-    (λ c. simp length-set (first-in (c .before .before .before .before .before .before .before .before .before .before .before .before .args .n) _ (c .before .before .before .before .put-row .kept .0 ∙ c .before .before .before .before .before .before .before .before .before .before .before .before .pre .0 .size)))
-    (λ c. simp length-set (c .before .before .before .before .put-row .kept .0))
+    (λ c. search needs)
+    (λ c. search needs)
+    (λ c. search needs)
+    (λ c κs. search needs)
+    (λ c κs. search needs)
+    (λ c κs. search needs)
+    put-place-requires
+    clear-lookup-requires
+    put-value-requires
+    (λ c. search needs)
     returns)

@@ -1,13 +1,13 @@
-use mathlib.Core.Path.{ap, _∙_}
-use Prim.Native.Nat.{_-_}
+use mathlib.Core.Path.{ap, sym, subst}
+use Prim.Native.Nat.{ℕ, _<_}
 use native.Mathlib.Omega.{arith}
 use Rattle.model.specs.Model.{noRow}
 use Rattle.model.proofs.ListLaws.{swap-equal}
-use Rattle.component.specs.declared.component_sparse_set.RowWords.{RowWords}
+use Rattle.words.specs.declared.Entity.{Entity}
 use Rattle.component.specs.SparseSet.{rows}
 use Rattle.component.specs.Stored.{swapRows}
-use Rattle.component.proofs.Meaning.{length-rows, sized}
 use Rattle.component.proofs.Moves.{changed-none, swapped-by}
+use borrow.Author.Needs.{needs}
 use Rattle.component.proofs.component_sparse_set.swap.Statement.{statement}
 use Rattle.component.proofs.component_sparse_set.swap.Tie as tie
 
@@ -15,71 +15,39 @@ returns : tie.Need-returns
 returns c =
     let s = c .before .before in
     let a = s .args in
-    changed-none (a .n) (swapRows (a .a) (a .b)) (a .part .now) (s .pre .0) (swap-equal noRow (a .a) (a .b) (rows (a .n) (a .part .now)) (c .if1 .taken))
+    changed-none (a .z) (swapRows (a .a) (a .b)) (a .part .now) (s .pre .0) (swap-equal noRow (a .a) (a .b) (rows (a .z) (a .part .now)) (c .if1 .taken))
 
-read-row-requires : tie.Need-read-row-requires
-read-row-requires c κs =
-    let s = c .before .before .before in
+put-place-requires : tie.Need-put-place-requires
+put-place-requires c κs =
+    let s = c .before .before .before .before .before .before .before .before .before .before .before .before .before in
     let a = s .args in
-    let l = length-rows (a .n) (a .part .now) in
-    (sized (a .n) (a .part .now) (s .pre .0), omega (arith, s .pre, l))
+    (record { size = omega (arith, s .pre .0 .size, c .before .before .before .before .before .before .before .put-entity .kept .0, c .before .before .before .put-entity2 .kept .0); shaped = s .pre .0 .shaped }, omega (arith, s .pre .1 .1 .0, s .pre .0 .linked .tied (a .a) (s .pre .1 .0 .0) .below), omega (arith, s .pre .1 .0, s .pre .0 .linked .room))
 
-read-row-requires-2 : tie.Need-read-row-requires-2
-read-row-requires-2 c κs =
-    let s = c .before .before .before .before .before in
+put-place-requires-2 : tie.Need-put-place-requires-2
+put-place-requires-2 c κs =
+    let s = c .before .before .before .before .before .before .before .before .before .before .before .before .before .before .before .before .before in
     let a = s .args in
-    let l = length-rows (a .n) (a .part .now) in
-    (sized (a .n) (a .part .now) (s .pre .0), omega (arith, s .pre, l))
-
-put-row-requires : tie.Need-put-row-requires
-put-row-requires c κs =
-    let s = c .before .before .before .before .before .before .before in
-    let a = s .args in
-    let l = length-rows (a .n) (a .part .now) in
-    (sized (a .n) (a .part .now) (s .pre .0), omega (arith, s .pre, l))
-
-put-row-requires-2 : tie.Need-put-row-requires-2
-put-row-requires-2 c κs =
-    let s = c .before .before .before .before .before .before .before .before .before .before .before in
-    let a = s .args in
-    let l = length-rows (a .n) (a .part .now) in
-    (record { size = omega (arith, s .pre .0 .size, c .before .before .before .put-row .kept .0); small = s .pre .0 .small }, omega (arith, s .pre, l))
-
-put-lookup-requires : tie.Need-put-lookup-requires
-put-lookup-requires c κs =
-    let s = c .before .before .before .before .before .before .before .before .before .before .before .before .before .before .before in
-    let a = s .args in
-    let l = length-rows (a .n) (a .part .now) in
-    let q = ap (λ (r : RowWords). r .index) (c .before .before .before .before .before .before .before .before .before .before .before .read-row .ensures) in
-    (record { size = omega (arith, s .pre .0 .size, c .before .before .before .before .before .before .before .put-row .kept .0, c .before .before .before .put-row2 .kept .0); small = s .pre .0 .small }, omega (arith, q, s .pre .0 .linked .tied (a .a) (omega (arith, s .pre, l)) .below), omega (arith, s .pre, l))
-
-put-lookup-requires-2 : tie.Need-put-lookup-requires-2
-put-lookup-requires-2 c κs =
-    let s = c .before .before .before .before .before .before .before .before .before .before .before .before .before .before .before .before .before .before .before in
-    let a = s .args in
-    let l = length-rows (a .n) (a .part .now) in
-    let q = ap (λ (r : RowWords). r .index) (c .before .before .before .before .before .before .before .before .before .before .before .before .before .read-row2 .ensures) in
-    (record { size = omega (arith, s .pre .0 .size, c .before .before .before .before .before .before .before .before .before .before .before .put-row .kept .0, c .before .before .before .before .before .before .before .put-row2 .kept .0, c .before .before .before .put-lookup .kept .0); small = s .pre .0 .small }, omega (arith, q, s .pre .0 .linked .tied (a .b) (omega (arith, s .pre, l)) .below), omega (arith, s .pre, l))
+    let q : c .before .before .before .before .before .before .before .before .before .before .before .before .before .entity-at .result .index < a .z .capacity = subst (λ (x : ℕ). x < a .z .capacity) (sym (ap (λ (r : Entity). r .index) (c .before .before .before .before .before .before .before .before .before .before .before .before .before .entity-at .ensures))) (s .pre .0 .linked .tied (a .b) (s .pre .1 .0 .1) .below) in
+    (record { size = omega (arith, s .pre .0 .size, c .before .before .before .before .before .before .before .before .before .before .before .put-entity .kept .0, c .before .before .before .before .before .before .before .put-entity2 .kept .0, c .before .before .before .put-place .kept .0); shaped = s .pre .0 .shaped }, q, omega (arith, s .pre .1 .0, s .pre .0 .linked .room))
 
 returns-2 : tie.Need-returns-2
 returns-2 c =
-    let s = c .before .before .before .before .before .before .before .before .before .before .before .before .before .before .before .before .before .before .before .before .before .before in
+    let s = c .before .before .before .before .before .before .before .before .before .before .before .before .before .before .before .before .before .before .before .before .before .before .before .before in
     let a = s .args in
-    let l = length-rows (a .n) (a .part .now) in
-    swapped-by (a .n) (a .part .now) (s .pre .0) (a .a) (a .b) (omega (arith, s .pre, l)) (omega (arith, s .pre, l)) (c .before .before .before .before .before .before .before .before .before .before .before .before .before .before .before .before .before .before .before .before .if1 .left)
-    (c .before .before .before .before .before .before .before .before .before .before .before .before .before .before .put-row .last .0) (c .before .before .before .before .before .before .before .before .before .before .put-row2 .last .0) (c .before .before .before .before .before .before .put-lookup .last .0) (c .before .before .put-lookup2 .last .0) (c .before .before .before .before .before .before .before .before .before .before .before .before .before .before .before .before .before .before .read-row .result) (c .before .before .before .before .before .before .before .before .before .before .before .before .before .before .before .before .read-row2 .result)
-    (c .before .before .before .before .before .before .before .before .before .before .before .before .before .before .before .before .before .before .read-row .ensures) (c .before .before .before .before .before .before .before .before .before .before .before .before .before .before .before .before .read-row2 .ensures) (c .before .before .before .before .before .before .before .before .before .before .before .before .before .before .put-row .ensures) (c .before .before .before .before .before .before .before .before .before .before .put-row2 .ensures) (c .before .before .before .before .before .before .put-lookup .ensures) (c .before .before .put-lookup2 .ensures)
+    swapped-by (a .z) (a .part .now) (s .pre .0) (a .a) (a .b) (s .pre .1 .0 .0) (s .pre .1 .0 .1) (c .before .before .before .before .before .before .before .before .before .before .before .before .before .before .before .before .before .before .before .before .before .before .if1 .left)
+    (c .before .before .before .before .before .before .before .before .before .before .before .before .before .before .before .before .before .before .put-entity .last .0) (c .before .before .before .before .before .before .before .before .before .before .before .before .before .before .put-entity2 .last .0) (c .before .before .before .before .before .before .before .before .before .before .put-place .last .0) (c .before .before .before .before .before .before .put-place2 .last .0) (c .before .before .swap-values .last .0) (a .index) (a .version) (c .before .before .before .before .before .before .before .before .before .before .before .before .before .before .before .before .before .before .before .before .entity-at .result)
+    (s .pre .1 .1 .0) (s .pre .1 .1 .1) (c .before .before .before .before .before .before .before .before .before .before .before .before .before .before .before .before .before .before .before .before .entity-at .ensures) (c .before .before .before .before .before .before .before .before .before .before .before .before .before .before .before .before .before .before .put-entity .ensures) (c .before .before .before .before .before .before .before .before .before .before .before .before .before .before .put-entity2 .ensures) (c .before .before .before .before .before .before .before .before .before .before .put-place .ensures) (c .before .before .before .before .before .before .put-place2 .ensures) (c .before .before .swap-values .ensures)
 
 pub swap-spec : {M : Type 1} → statement M
 swap-spec =
     tie.close
     (tie.spec
     returns
-    read-row-requires
-    read-row-requires-2
-    put-row-requires
-    put-row-requires-2
-    put-lookup-requires
-    put-lookup-requires-2
-    (λ c. c .before .before .put-lookup2 .kept .0 ∙ c .before .before .before .before .before .before .put-lookup .kept .0 ∙ c .before .before .before .before .before .before .before .before .before .before .put-row2 .kept .0 ∙ c .before .before .before .before .before .before .before .before .before .before .before .before .before .before .put-row .kept .0)
+    (λ c κs. search needs)
+    (λ c κs. search needs)
+    (λ c κs. search needs)
+    put-place-requires
+    put-place-requires-2
+    (λ c κs. search needs)
+    (λ c. search needs)
     returns-2)

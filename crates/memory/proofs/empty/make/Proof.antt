@@ -1,11 +1,11 @@
-use mathlib.Core.Path.{_∙_, subst}
+use mathlib.Core.Path.{_∙_, sym, subst}
 use Prim.Native.Nat.{ℕ, _≤_}
 use native.Mathlib.Omega.{arith}
 use borrow.Author.Needs.{needs}
 use lib.ListN.{length, length-set}
 use Rattle.words.specs.Offsets.{ENTITIES}
-use Rattle.words.proofs.Offsets.{columnStart-mono}
-use Rattle.memory.proofs.Frames.{start-header}
+use Rattle.words.proofs.Offsets.{columnStart-mono, columnStart-first, columnStart-needed}
+use Rattle.words.specs.Shape.{shape}
 use Rattle.memory.specs.Fresh.{Cleared}
 use Rattle.memory.proofs.EmptyStore.{made}
 use Rattle.memory.proofs.empty.make.Statement.{statement}
@@ -15,14 +15,14 @@ put-table-requires : tie.Need-put-table-requires
 put-table-requires c κs =
     let a = c .before .before .before .before .before .before .before .args in
     let h = c .before .before .before .before .before .before .before .pre in
-    omega (arith, c .before .before .before .clear .ensures .size, h .1, start-header (a .n), columnStart-mono (a .n) 0 (a .k) (omega arith))
+    omega (arith, c .before .before .before .clear .ensures .size, h .1, columnStart-first (shape (a .n)), columnStart-mono (shape (a .n)) 0 (a .k) (omega arith))
 
 -- the words with the table of kinds have a header
 header : (c : tie.After-slice-known3) → ENTITIES ≤ length (c .before .before .put-table .last .0)
 header c =
     let a = c .before .before .before .before .before .before .before .before .before .before .args in
     let h = c .before .before .before .before .before .before .before .before .before .before .pre in
-    omega (arith, c .before .before .put-table .ensures .size, c .before .before .before .before .before .before .clear .ensures .size, h .1, start-header (a .n), columnStart-mono (a .n) 0 (a .k) (omega arith))
+    omega (arith, c .before .before .put-table .ensures .size, c .before .before .before .before .before .before .clear .ensures .size, h .1, columnStart-first (shape (a .n)), columnStart-mono (shape (a .n)) 0 (a .k) (omega arith))
 
 slice-write-words : tie.Need-slice-write-words
 slice-write-words c = omega (arith, header c)
@@ -41,7 +41,7 @@ returns c =
     let a = c .before .before .before .before .before .before .before .before .before .before .args in
     let h = c .before .before .before .before .before .before .before .before .before .before .pre in
     made (a .n) (a .k) (a .newer) (a .words .now) (c .before .before .before .before .before .before .clear .last .0) (c .before .before .put-table .last .0) (h .0) (h .1)
-    (subst (λ (e : ℕ). Cleared (c .before .before .before .before .before .before .before .before .before .before .args .words .now) e (c .before .before .before .before .before .before .clear .last .0)) (c .before .before .before .before .before .before .before .before .column-start .ensures) (c .before .before .before .before .before .before .clear .ensures))
+    (subst (λ (e : ℕ). Cleared (c .before .before .before .before .before .before .before .before .before .before .args .words .now) e (c .before .before .before .before .before .before .clear .last .0)) (c .before .before .before .before .before .before .before .before .words-needed .ensures ∙ sym (columnStart-needed (a .n) (a .k))) (c .before .before .before .before .before .before .clear .ensures))
     (c .before .before .put-table .ensures)
 
 pub make-spec : {M : Type 1} → statement M
