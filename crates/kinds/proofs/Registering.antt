@@ -12,11 +12,13 @@ use lib.Seq.{getD-set-same, getD-set-other, drop-set-lt}
 use Rattle.model.specs.Numbers.{ENTITY-LEN, MAX-KINDS}
 use Rattle.model.specs.Model.{mem}
 use Rattle.model.specs.Sound.{In}
-use Rattle.words.specs.Offsets.{columnStart, CALLER, CAPACITY, COLUMN-KIND, DRAFT-FAMILIES, DRAFT-GROUPS, ENTITIES, EXCLUDED-LEN, GROUP-COUNTS, GROUP-FAMILIES, GROUP-PLACES, KIND-CAPACITY, LAYOUT-FAMILIES, LAYOUT-GROUPS, OWN-GROUP, PLACE-IN-FAMILY, REGISTERED, RULE, STAGED-LEN, TABLE, UNREGISTERED}
-use Rattle.words.proofs.Offsets.{columnStart-mono}
+use Rattle.words.specs.Offsets.{CALLER, CAPACITY, COLUMN-KIND, DRAFT-FAMILIES, DRAFT-GROUPS, ENTITIES, EXCLUDED-LEN, GROUP-COUNTS, GROUP-FAMILIES, GROUP-PLACES, KIND-CAPACITY, LAYOUT-FAMILIES, LAYOUT-GROUPS, OWN-GROUP, PLACE-IN-FAMILY, REGISTERED, RULE, STAGED-LEN, TABLE, UNREGISTERED}
+use Rattle.words.proofs.Offsets.{columnStart-mono, columnStart-first}
 use Rattle.words.specs.Part.{between}
 use Rattle.words.specs.Table.{table}
 use Rattle.words.proofs.Tables.{table-same, table-snoc, length-table}
+use Rattle.words.specs.Shape.{columnStart, shapeOf}
+use Rattle.words.specs.declared.Shape.{Shape}
 use Rattle.model.proofs.BoolLaws.{by-eq}
 use Rattle.component.specs.SparseSet.{rows}
 use Rattle.component.specs.Columns.{columnOf, rowsOf, Columns}
@@ -29,7 +31,7 @@ use Rattle.layout.specs.Group.{memberAt}
 use Rattle.memory.specs.Header.{capacityOf, kindCapacityOf, registeredOf, layoutGroups, slotOf, groupFamilyAt}
 use Rattle.memory.specs.Meaning.{kindAt, ownAt, kindsIn, setAt, setsIn, draftArrays, layoutArrays, draftIn, layoutIn, controlIn, meaning}
 use Rattle.memory.specs.Arranged.{TableSound, Registered, GroupSound, LayoutSound, Arranged, Becomes}
-use Rattle.memory.proofs.Frames.{start-header, part-same, draft-arrays-same, layout-arrays-same, counts-same, staged-same, excluded-same, settings-kept, counts-kept, long, reads-means}
+use Rattle.memory.proofs.Frames.{part-same, draft-arrays-same, layout-arrays-same, counts-same, staged-same, excluded-same, settings-kept, counts-kept, long, reads-means}
 use Rattle.model.proofs.ListLaws.{drop-later, word-front}
 use Rattle.model.specs.Store.{withKinds}
 use Rattle.kinds.specs.Steps.{withHead}
@@ -48,16 +50,19 @@ pub record Registers (w w′ : List ℕ) (k : ℕ) : Type 0 where
   pub count : registeredOf w′ ≡ registeredOf w + 1
   pub slot : slotOf w′ k ≡ registeredOf w
   pub header : (i : ℕ) → i < ENTITIES + ENTITY-LEN * capacityOf w → i ≢ REGISTERED → i ≢ TABLE + k → getD w′ i 0 ≡ getD w i 0
-  pub columns : Columns (capacityOf w) (kindCapacityOf w) w′
-  pub same : (j : ℕ) → j < kindCapacityOf w → rowsOf (capacityOf w) j w′ ≡ rowsOf (capacityOf w) j w
-  pub kind : getD (columnOf (capacityOf w) (registeredOf w) w′) COLUMN-KIND 0 ≡ k
-  pub own : getD (columnOf (capacityOf w) (registeredOf w) w′) OWN-GROUP 0 ≡ 0
-  pub others : (j : ℕ) → j < kindCapacityOf w → j ≢ registeredOf w → columnOf (capacityOf w) j w′ ≡ columnOf (capacityOf w) j w
-  pub past : drop (columnStart (capacityOf w) (kindCapacityOf w)) w′ ≡ drop (columnStart (capacityOf w) (kindCapacityOf w)) w
+  pub columns : Columns (shapeOf w) (kindCapacityOf w) w′
+  pub same : (j : ℕ) → j < kindCapacityOf w → rowsOf (shapeOf w) j w′ ≡ rowsOf (shapeOf w) j w
+  pub kind : getD (columnOf (shapeOf w) (registeredOf w) w′) COLUMN-KIND 0 ≡ k
+  pub own : getD (columnOf (shapeOf w) (registeredOf w) w′) OWN-GROUP 0 ≡ 0
+  pub others : (j : ℕ) → j < kindCapacityOf w → j ≢ registeredOf w → columnOf (shapeOf w) j w′ ≡ columnOf (shapeOf w) j w
+  pub past : drop (columnStart (shapeOf w) (kindCapacityOf w)) w′ ≡ drop (columnStart (shapeOf w) (kindCapacityOf w)) w
 
 module _ (w : List ℕ) (A : Arranged w) (k : ℕ) (hk : k < MAX-KINDS) (room : registeredOf w < kindCapacityOf w) where
   abbrev n : ℕ
   n = capacityOf w
+
+  abbrev z : Shape
+  z = shapeOf w
 
   abbrev m : ℕ
   m = kindCapacityOf w
@@ -65,39 +70,39 @@ module _ (w : List ℕ) (A : Arranged w) (k : ℕ) (hk : k < MAX-KINDS) (room : 
   abbrev s : ℕ
   s = registeredOf w
 
-  pub registers : Registers w (withSlot s k (withHead n s k w)) k
+  pub registers : Registers w (withSlot s k (withHead z s k w)) k
   registers =
-      let b = columnStart n s in
+      let b = columnStart z s in
       let w₁ = set w (b + 1) k in
       let w₂ = set w₁ (b + OWN-GROUP) 0 in
-      let w₃ = withHead n s k w in
+      let w₃ = withHead z s k w in
       let w₄ = set w₃ (TABLE + k) s in
       let w₅ = set w₄ REGISTERED (s + 1) in
-      let h₁ = headed n m s COLUMN-KIND k w (A .columns) room (omega arith) (omega arith) in
-      let h₂ = headed n m s OWN-GROUP 0 w₁ (h₁ .columns) room (omega arith) (omega arith) in
-      let h₃ = headed n m s PLACE-IN-FAMILY 0 w₂ (h₂ .columns) room (omega arith) (omega arith) in
+      let h₁ = headed z m s COLUMN-KIND k w (A .columns) room (omega arith) (omega arith) in
+      let h₂ = headed z m s OWN-GROUP 0 w₁ (h₁ .columns) room (omega arith) (omega arith) in
+      let h₃ = headed z m s PLACE-IN-FAMILY 0 w₂ (h₂ .columns) room (omega arith) (omega arith) in
       let z₃ : length w₃ ≡ length w = h₃ .size ∙ h₂ .size ∙ h₁ .size in
       let z₄ : length w₄ ≡ length w = length-set w₃ (TABLE + k) s ∙ z₃ in
       let z₅ : length w₅ ≡ length w = length-set w₄ REGISTERED (s + 1) ∙ z₄ in
       let l : ENTITIES ≤ length w = long w A in
-      let f : take (columnStart n 0) w₃ ≡ take (columnStart n 0) w = h₃ .front ∙ h₂ .front ∙ h₁ .front in
-      let q = start-header n in
-      let d : drop (columnStart n 0) w₅ ≡ drop (columnStart n 0) w₃ =
-      drop-set-lt (columnStart n 0) w₄ REGISTERED (s + 1) (omega arith) ∙ drop-set-lt (columnStart n 0) w₃ (TABLE + k) s (omega arith) in
-      let c : (j : ℕ) → columnOf n j w₅ ≡ columnOf n j w₃ = front-column n w₃ w₅ d in
+      let f : take (columnStart z 0) w₃ ≡ take (columnStart z 0) w = h₃ .front ∙ h₂ .front ∙ h₁ .front in
+      let q = columnStart-first z in
+      let d : drop (columnStart z 0) w₅ ≡ drop (columnStart z 0) w₃ =
+      drop-set-lt (columnStart z 0) w₄ REGISTERED (s + 1) (omega arith) ∙ drop-set-lt (columnStart z 0) w₃ (TABLE + k) s (omega arith) in
+      let c : (j : ℕ) → columnOf z j w₅ ≡ columnOf z j w₃ = front-column z w₃ w₅ d in
       record {
         size = z₅;
         count = getD-set-same w₄ REGISTERED (s + 1) 0 (omega arith);
         slot = getD-set-other w₄ REGISTERED (TABLE + k) (s + 1) 0 (omega arith) ∙ getD-set-same w₃ (TABLE + k) s 0 (omega arith);
         header =
             λ i h two ne.
-            getD-set-other w₄ REGISTERED i (s + 1) 0 two ∙ getD-set-other w₃ (TABLE + k) i s 0 ne ∙ word-front (columnStart n 0) w w₃ f i (omega arith);
-        columns = front-columns n w₃ w₅ d m (z₅ ∙ sym z₃) (h₃ .columns);
-        same = λ j h. ap (rows n) (c j) ∙ h₃ .same j h ∙ h₂ .same j h ∙ h₁ .same j h;
+            getD-set-other w₄ REGISTERED i (s + 1) 0 two ∙ getD-set-other w₃ (TABLE + k) i s 0 ne ∙ word-front (columnStart z 0) w w₃ f i (omega arith);
+        columns = front-columns z w₃ w₅ d m (z₅ ∙ sym z₃) (h₃ .columns);
+        same = λ j h. ap (rows z) (c j) ∙ h₃ .same j h ∙ h₂ .same j h ∙ h₁ .same j h;
         kind = ap (λ (u : List ℕ). getD u COLUMN-KIND 0) (c s) ∙ h₃ .words COLUMN-KIND (omega arith) ∙ h₂ .words COLUMN-KIND (omega arith) ∙ h₁ .word;
         own = ap (λ (u : List ℕ). getD u OWN-GROUP 0) (c s) ∙ h₃ .words OWN-GROUP (omega arith) ∙ h₂ .word;
         others = λ j h ne. c j ∙ h₃ .others j h ne ∙ h₂ .others j h ne ∙ h₁ .others j h ne;
-        past = drop-later (columnStart n 0) (columnStart n m) w₃ w₅ (columnStart-mono n 0 m (omega arith)) d ∙ h₃ .past ∙ h₂ .past ∙ h₁ .past;
+        past = drop-later (columnStart z 0) (columnStart z m) w₃ w₅ (columnStart-mono z 0 m (omega arith)) d ∙ h₃ .past ∙ h₂ .past ∙ h₁ .past;
       }
 
 -- ---- the table of kinds and the layout
@@ -116,7 +121,7 @@ module _ (w w′ : List ℕ) (A : Arranged w) (k : ℕ) (hk : k < MAX-KINDS) (ne
   slot-other j h ne = R .header (TABLE + j) (omega arith) (omega arith) (omega arith)
 
   -- the head of a column that was there, and of the new one
-  head-other : (t : ℕ) → t < registeredOf w → (i : ℕ) → getD (columnOf (capacityOf w′) t w′) i 0 ≡ getD (columnOf (capacityOf w) t w) i 0
+  head-other : (t : ℕ) → t < registeredOf w → (i : ℕ) → getD (columnOf (shapeOf w′) t w′) i 0 ≡ getD (columnOf (shapeOf w) t w) i 0
   head-other t h i = ap (λ (c : ℕ). getD (columnOf c t w′) i 0) cap ∙ ap (λ (u : List ℕ). getD u i 0) (R .others t (omega arith) (omega arith))
 
   kind-new : kindAt w′ (registeredOf w) ≡ k
@@ -170,9 +175,9 @@ module _ (w w′ : List ℕ) (A : Arranged w) (k : ℕ) (hk : k < MAX-KINDS) (ne
   registered-new : (j : ℕ) → Registered w j → Registered w′ j
   registered-new j r = record { small = r .small; slot = rw (slot-other j (r .small) (slot-ne j (r .slot)), R .count) (omega (arith, r .slot)) }
 
-  head-member : (j : ℕ) → Registered w j → (i : ℕ) → getD (columnOf (capacityOf w′) (slotOf w′ j) w′) i 0 ≡ getD (columnOf (capacityOf w) (slotOf w j) w) i 0
+  head-member : (j : ℕ) → Registered w j → (i : ℕ) → getD (columnOf (shapeOf w′) (slotOf w′ j) w′) i 0 ≡ getD (columnOf (shapeOf w) (slotOf w j) w) i 0
   head-member j r i =
-      ap (λ (t : ℕ). getD (columnOf (capacityOf w′) t w′) i 0) (slot-other j (r .small) (slot-ne j (r .slot))) ∙ head-other (slotOf w j) (r .slot) i
+      ap (λ (t : ℕ). getD (columnOf (shapeOf w′) t w′) i 0) (slot-other j (r .small) (slot-ne j (r .slot))) ∙ head-other (slotOf w j) (r .slot) i
 
   group-new : (a : Arrays) (g f : ℕ) → GroupSound w a g f → GroupSound w′ a g f
   group-new a g f G =
@@ -258,7 +263,7 @@ module _ (w w′ : List ℕ) (A : Arranged w) (k : ℕ) (hk : k < MAX-KINDS) (ne
   entities-are = part-same w w′ (R .size) ENTITIES (ENTITIES + ENTITY-LEN * capacityOf w) enough (λ i a b. R .header i b (omega arith) (omega arith))
     where
       enough : ENTITIES + ENTITY-LEN * capacityOf w ≤ length w
-      enough = omega (arith, A .enough, start-header (capacityOf w), columnStart-mono (capacityOf w) 0 (kindCapacityOf w) (omega arith))
+      enough = omega (arith, A .enough, columnStart-first (capacityOf w), columnStart-mono (shapeOf w) 0 (kindCapacityOf w) (omega arith))
 
   arranged-new : Arranged w′
   arranged-new =
@@ -306,11 +311,11 @@ pub vacancy : (w : List ℕ) → length (meaning w .kinds) < meaning w .settings
 unfolding meaning kindsIn
 vacancy w h = rw (length-table (registeredOf w) (kindAt w)) at h
 
-pub vacant-lent : (w : List ℕ) (n s : ℕ) → Arranged w → n ≡ capacityOf w → s ≡ registeredOf w → registeredOf w < kindCapacityOf w → Lent n s w
-vacant-lent w n s A en es room = rw (en, es) (lent (capacityOf w) (kindCapacityOf w) (registeredOf w) w (A .columns) room)
+pub vacant-lent : (w : List ℕ) (z : Shape) (s : ℕ) → Arranged w → z ≡ shapeOf w → s ≡ registeredOf w → registeredOf w < kindCapacityOf w → Lent z s w
+vacant-lent w z s A en es room = rw (en, es) (lent (shapeOf w) (kindCapacityOf w) (registeredOf w) w (A .columns) room)
 
 -- the words as the code leaves them
-pub registered : (w : List ℕ) (n s k : ℕ) → Arranged w → k < MAX-KINDS → mem k (meaning w .kinds) ≡ false → registeredOf w < kindCapacityOf w
-    → n ≡ capacityOf w → s ≡ registeredOf w → (w₃ : List ℕ) → w₃ ≡ withHead n s k w → Becomes w (withSlot s k w₃) (withKinds (meaning w) (meaning w .kinds ++ (k ∷ [])))
-registered w n s k A hk new room en es w₃ e =
-    rw (e, en, es) (registers-becomes w (withSlot (registeredOf w) k (withHead (capacityOf w) (registeredOf w) k w)) A k hk new room (registers w A k hk room))
+pub registered : (w : List ℕ) (z : Shape) (s k : ℕ) → Arranged w → k < MAX-KINDS → mem k (meaning w .kinds) ≡ false → registeredOf w < kindCapacityOf w
+    → z ≡ shapeOf w → s ≡ registeredOf w → (w₃ : List ℕ) → w₃ ≡ withHead z s k w → Becomes w (withSlot s k w₃) (withKinds (meaning w) (meaning w .kinds ++ (k ∷ [])))
+registered w z s k A hk new room en es w₃ e =
+    rw (e, en, es) (registers-becomes w (withSlot (registeredOf w) k (withHead (shapeOf w) (registeredOf w) k w)) A k hk new room (registers w A k hk room))

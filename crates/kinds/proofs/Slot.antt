@@ -11,9 +11,11 @@ use Rattle.model.specs.Model.{SparseSet, mem}
 use Rattle.model.specs.Store.{onSet, onStorage}
 use Rattle.model.specs.Sound.{In}
 use Rattle.model.proofs.BoolLaws.{not-true}
-use Rattle.words.specs.Offsets.{columnStart, ENTITIES, ROWS, UNREGISTERED}
+use Rattle.words.specs.Offsets.{ENTITIES, ROWS, UNREGISTERED}
 use Rattle.words.specs.Table.{table}
 use Rattle.words.proofs.Tables.{length-table, getD-table, table-in, in-table}
+use Rattle.words.specs.Shape.{columnStart, shapeOf}
+use Rattle.words.specs.declared.Shape.{Shape}
 use Rattle.component.specs.Columns.{rowsOf}
 use Rattle.component.specs.Changes.{Lent, Only}
 use Rattle.component.proofs.Parts.{lent, getD-column}
@@ -44,7 +46,7 @@ module _ (w : List ℕ) (A : Arranged w) where
         is = refl;
         real = real;
         kind = kind;
-        lent = lent (capacityOf w) (kindCapacityOf w) (slotOf w k) w (A .columns) (omega (arith, A .table .few));
+        lent = lent (shapeOf w) (kindCapacityOf w) (slotOf w k) w (A .columns) (omega (arith, A .table .few));
         rows = set-in w A k small ∙ ap (setAt w) (sym kind) ∙ set-at w A (slotOf w k) real;
       }
 
@@ -71,19 +73,19 @@ slot-alike w v A B e k i =
 
 -- ---- what a function on a slot says, of the kind
 
-module _ (w : List ℕ) (n k s : ℕ) (e : n ≡ capacityOf w) (at : InSlot w k s) where
-  pub lent-at : Lent n s w
+module _ (w : List ℕ) (z : Shape) (k s : ℕ) (e : z ≡ shapeOf w) (at : InSlot w k s) where
+  pub lent-at : Lent z s w
   lent-at = rw e (at .lent)
 
-  pub rows-at : rowsOf n s w ≡ kindSet w k
+  pub rows-at : rowsOf z s w ≡ kindSet w k
   rows-at = rw e (sym (at .rows))
 
-  pub only-becomes : (w′ : List ℕ) (f : SparseSet → SparseSet) → Arranged w → Only n s f w w′ → Becomes w w′ (onStorage (onSet k f) (meaning w))
+  pub only-becomes : (w′ : List ℕ) (f : SparseSet → SparseSet) → Arranged w → Only z s f w w′ → Becomes w w′ (onStorage (onSet k f) (meaning w))
   only-becomes w′ f A o =
       let few : s < kindCapacityOf w = omega (arith, at .real, A .table .few) in
       subst (λ (j : ℕ). Becomes w w′ (onStorage (onSet j f) (meaning w))) (at .kind)
       (one-becomes w w′ A s (at .real) f ((rw e at o) (kindCapacityOf w) few (A .columns)))
 
   -- word i of the column's head, where the code reads it
-  pub head-at : (i : ℕ) → i < ROWS → getD w (columnStart n s + i) 0 ≡ headWord w k i
-  head-at i h = sym (getD-column n s i w (omega arith)) ∙ rw (e, at .is)
+  pub head-at : (i : ℕ) → i < ROWS → getD w (columnStart z s + i) 0 ≡ headWord w k i
+  head-at i h = sym (getD-column z s i w (omega arith)) ∙ rw (e, at .is)

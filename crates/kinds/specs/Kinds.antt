@@ -4,6 +4,7 @@ use mathlib.Core.List.{List, [], map}
 use Prim.Native.Nat.{ℕ, suc}
 use Rattle.model.specs.Model.{Entity, SparseSet, Storage, setOf, removeRow}
 use Rattle.model.specs.Store.{onSet, onStorage}
+use Rattle.words.specs.Shape.{shapeOf}
 use Rattle.component.specs.declared.Found.{Found}
 use Rattle.component.specs.declared.Found.the-variants as found
 use Rattle.component.specs.declared.Removed.{Removed}
@@ -24,7 +25,7 @@ OwnGroup w k found.Nothing = ownAt w (slotOf w k) ≡ 0
 -- 01: "Removal puts the last row in the gap", in kind k's sparse set, and the answer
 pub record RemovesKind (w w′ : List ℕ) (k : ℕ) (e : Entity) (r : Removed) : Type 0 where
   pub becomes : Becomes w w′ (onStorage (onSet k (removeRow e)) (meaning w))
-  pub gives : Gives e (kindSet w k) r
+  pub gives : Gives (shapeOf w .stride) e (kindSet w k) r
 
 -- 01, WIPE: "all parts go", as far as the sparse sets are concerned
 abbrev pub emptied : Storage → Storage

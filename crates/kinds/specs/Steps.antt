@@ -3,7 +3,9 @@ use mathlib.Core.Path.{_≡_}
 use mathlib.Core.List.{List}
 use Prim.Native.Nat.{ℕ, _+_, _<_}
 use lib.ListN.{getD, set}
-use Rattle.words.specs.Offsets.{columnStart, COLUMN-KIND, OWN-GROUP, PLACE-IN-FAMILY}
+use Rattle.words.specs.Offsets.{COLUMN-KIND, OWN-GROUP, PLACE-IN-FAMILY}
+use Rattle.words.specs.Shape.{columnStart, shapeOf}
+use Rattle.words.specs.declared.Shape.{Shape}
 use Rattle.component.specs.Columns.{columnOf, rowsOf}
 use Rattle.component.specs.Changes.{Lent}
 use Rattle.memory.specs.Header.{capacityOf, registeredOf, slotOf}
@@ -15,13 +17,13 @@ pub record InSlot (w : List ℕ) (k s : ℕ) : Type 0 where
   pub is : s ≡ slotOf w k
   pub real : s < registeredOf w
   pub kind : kindAt w s ≡ k
-  pub lent : Lent (capacityOf w) s w
-  pub rows : kindSet w k ≡ rowsOf (capacityOf w) s w
+  pub lent : Lent (shapeOf w) s w
+  pub rows : kindSet w k ≡ rowsOf (shapeOf w) s w
 
 -- word i of the head of kind k's column
 abbrev pub headWord : List ℕ → ℕ → ℕ → ℕ
-headWord w k i = getD (columnOf (capacityOf w) (slotOf w k) w) i 0
+headWord w k i = getD (columnOf (shapeOf w) (slotOf w k) w) i 0
 
 -- the head of slot s's column: its kind k, in no group
-abbrev pub withHead : ℕ → ℕ → ℕ → List ℕ → List ℕ
-withHead n s k w = set (set (set w (columnStart n s + COLUMN-KIND) k) (columnStart n s + OWN-GROUP) 0) (columnStart n s + PLACE-IN-FAMILY) 0
+abbrev pub withHead : Shape → ℕ → ℕ → List ℕ → List ℕ
+withHead z s k w = set (set (set w (columnStart z s + COLUMN-KIND) k) (columnStart z s + OWN-GROUP) 0) (columnStart z s + PLACE-IN-FAMILY) 0

@@ -1,7 +1,8 @@
 // The table of kinds (component_storage.rs): a kind's sparse set, reached by the slot that the table has for it.
 use component::Found;
 use component::Removed;
-use component::Value;
+use values::Value;
+use words::Shape;
 ghost use mathlib.Core.Path.{_≡_};
 ghost use mathlib.Core.Bool.{true, false};
 ghost use mathlib.Core.List.{[], _∷_, _++_};
@@ -9,10 +10,11 @@ ghost use Prim.Native.Nat.{_<_, _≤_};
 ghost use lib.ListN.{length, getD};
 ghost use Rattle.model.specs.Numbers.{MAX-KINDS};
 ghost use Rattle.words.specs.Offsets.{ROWS};
+ghost use Rattle.words.specs.Shape.{shapeOf};
+ghost use Rattle.values.specs.Values.{valueOf};
 ghost use Rattle.model.specs.Model.{noRow, mem, held, insertRow, swapTo, entity};
 ghost use Rattle.model.specs.Store.{onSet, onStorage, withKinds};
 ghost use Rattle.model.specs.Sound.{In};
-ghost use Rattle.component.specs.SparseSet.{valueOf};
 ghost use Rattle.component.specs.Stored.{Current};
 ghost use Rattle.component.specs.Answers.{Finds};
 ghost use Rattle.component.specs.Changes.{Lent};
@@ -49,20 +51,20 @@ pub fn set_len(words: &[u32], kind: usize) -> usize
     requires { ⌜ In (meaning (now words) .kinds) kind ⌝ }
     ensures { λ r. ⌜ length (kindSet (now (words .entry)) kind) ≡ r ⌝ }
 {
-    let n = words::word(words, words::CAPACITY);
+    let z = words::shape_of(words);
     let slot = slot_of(words, kind);
-    component::slots::len_in(words, n, slot)
+    component::slots::len_in(words, z, slot)
 }
 
 // Any index and version may be asked for.
 pub fn find(words: &[u32], kind: usize, index: u32, version: u32) -> Found
     requires { ⌜ Arranged (now words) ⌝ }
     requires { ⌜ In (meaning (now words) .kinds) kind ⌝ }
-    ensures { λ r. ⌜ Finds (capacityOf (now (words .entry))) (entity index version) (kindSet (now (words .entry)) kind) r ⌝ }
+    ensures { λ r. ⌜ Finds (shapeOf (now (words .entry))) (entity index version) (kindSet (now (words .entry)) kind) r ⌝ }
 {
-    let n = words::word(words, words::CAPACITY);
+    let z = words::shape_of(words);
     let slot = slot_of(words, kind);
-    component::slots::find_in(words, n, slot, index, version)
+    component::slots::find_in(words, z, slot, index, version)
 }
 
 // Whether the entity holds the kind.
@@ -71,9 +73,9 @@ pub fn holds(words: &[u32], kind: usize, index: u32, version: u32) -> bool
     requires { ⌜ In (meaning (now words) .kinds) kind ⌝ }
     ensures { λ r. ⌜ r ≡ held (entity index version) (kindSet (now (words .entry)) kind) ⌝ }
 {
-    let n = words::word(words, words::CAPACITY);
+    let z = words::shape_of(words);
     let slot = slot_of(words, kind);
-    component::slots::holds_in(words, n, slot, index, version)
+    component::slots::holds_in(words, z, slot, index, version)
 }
 
 // Exchanges the entity's row with the one at place.
@@ -84,9 +86,9 @@ pub fn swap_to(words: &mut [u32], kind: usize, index: u32, version: u32, place: 
     requires { ⌜ place < length (kindSet (now words) kind) ⌝ }
     ensures { λ _. ⌜ Becomes (now (words .entry)) (now (words .exit)) (onStorage (onSet kind (swapTo (entity index version) place)) (meaning (now (words .entry)))) ⌝ }
 {
-    let n = words::word(words, words::CAPACITY);
+    let z = words::shape_of(words);
     let slot = slot_of(words, kind);
-    component::slots::swap_to_in(words, n, slot, index, version, place);
+    component::slots::swap_to_in(words, z, slot, index, version, place);
 }
 
 // The value of the row at a place.
@@ -94,24 +96,24 @@ pub fn value_of(words: &[u32], kind: usize, place: usize) -> Value
     requires { ⌜ Arranged (now words) ⌝ }
     requires { ⌜ In (meaning (now words) .kinds) kind ⌝ }
     requires { ⌜ place < length (kindSet (now words) kind) ⌝ }
-    ensures { λ r. ⌜ valueOf (r .low) (r .high) ≡ getD (kindSet (now (words .entry)) kind) place noRow .value ⌝ }
+    ensures { λ r. ⌜ valueOf (shapeOf (now (words .entry)) .stride) r ≡ getD (kindSet (now (words .entry)) kind) place noRow .value ⌝ }
 {
-    let n = words::word(words, words::CAPACITY);
+    let z = words::shape_of(words);
     let slot = slot_of(words, kind);
-    component::slots::value_in(words, n, slot, place)
+    component::slots::value_in(words, z, slot, place)
 }
 
 // Puts a value with an entity: in the entity's row, or in a new one at the end.
-pub fn insert(words: &mut [u32], kind: usize, index: u32, version: u32, low: u32, high: u32)
+pub fn insert(words: &mut [u32], kind: usize, index: u32, version: u32, x: Value)
     requires { ⌜ Arranged (now words) ⌝ }
     requires { ⌜ In (meaning (now words) .kinds) kind ⌝ }
     requires { ⌜ (index < capacityOf (now words)) × (1 ≤ version) ⌝ }
     requires { ⌜ Current index version (kindSet (now words) kind) ⌝ }
-    ensures { λ _. ⌜ Becomes (now (words .entry)) (now (words .exit)) (onStorage (onSet kind (insertRow (entity index version) (valueOf low high))) (meaning (now (words .entry)))) ⌝ }
+    ensures { λ _. ⌜ Becomes (now (words .entry)) (now (words .exit)) (onStorage (onSet kind (insertRow (entity index version) (valueOf (shapeOf (now (words .entry)) .stride) x))) (meaning (now (words .entry)))) ⌝ }
 {
-    let n = words::word(words, words::CAPACITY);
+    let z = words::shape_of(words);
     let slot = slot_of(words, kind);
-    component::slots::insert_in(words, n, slot, index, version, low, high);
+    component::slots::insert_in(words, z, slot, index, version, x);
 }
 
 // The entity's row goes, if it has one, and its value is handed back.
@@ -120,9 +122,9 @@ pub fn remove(words: &mut [u32], kind: usize, index: u32, version: u32) -> Remov
     requires { ⌜ In (meaning (now words) .kinds) kind ⌝ }
     ensures { λ r. ⌜ RemovesKind (now (words .entry)) (now (words .exit)) kind (entity index version) r ⌝ }
 {
-    let n = words::word(words, words::CAPACITY);
+    let z = words::shape_of(words);
     let slot = slot_of(words, kind);
-    component::slots::remove_in(words, n, slot, index, version)
+    component::slots::remove_in(words, z, slot, index, version)
 }
 
 // Every kind's rows go. A slot that no kind has is empty as it is.
@@ -130,9 +132,9 @@ pub fn clear_sets(words: &mut [u32])
     requires { ⌜ Arranged (now words) ⌝ }
     ensures { λ _. ⌜ Becomes (now (words .entry)) (now (words .exit)) (onStorage emptied (meaning (now (words .entry)))) ⌝ }
 {
-    let n = words::word(words, words::CAPACITY);
+    let z = words::shape_of(words);
     let m = words::word(words, words::REGISTERED);
-    component::slots::clear_all(words, n, m);
+    component::slots::clear_all(words, z, m);
 }
 
 // A word of the head of the kind's column.
@@ -142,9 +144,9 @@ fn head(words: &[u32], kind: usize, i: usize) -> usize
     requires { ⌜ i < ROWS ⌝ }
     ensures { λ r. ⌜ r ≡ headWord (now (words .entry)) kind i ⌝ }
 {
-    let n = words::word(words, words::CAPACITY);
+    let z = words::shape_of(words);
     let slot = slot_of(words, kind);
-    let base = words::column_start(n, slot);
+    let base = words::column_start(z, slot);
     words::word(words, base + i)
 }
 
@@ -171,12 +173,12 @@ pub fn place_in_family(words: &[u32], kind: usize) -> usize
 }
 
 // The head of a column that a kind gets: the kind, in no group.
-fn put_head(words: &mut [u32], n: usize, slot: usize, kind: usize)
-    requires { ⌜ Lent n slot (now words) ⌝ }
+fn put_head(words: &mut [u32], z: Shape, slot: usize, kind: usize)
+    requires { ⌜ Lent z slot (now words) ⌝ }
     requires { ⌜ kind < MAX-KINDS ⌝ }
-    ensures { λ _. ⌜ now (words .exit) ≡ withHead n slot kind (now (words .entry)) ⌝ }
+    ensures { λ _. ⌜ now (words .exit) ≡ withHead z slot kind (now (words .entry)) ⌝ }
 {
-    let base = words::column_start(n, slot);
+    let base = words::column_start(z, slot);
     words[base + words::COLUMN_KIND] = kind as u32;
     words[base + words::OWN_GROUP] = 0;
     words[base + words::PLACE_IN_FAMILY] = 0;
@@ -190,9 +192,9 @@ pub fn register(words: &mut [u32], kind: usize)
     requires { ⌜ length (meaning (now words) .kinds) < meaning (now words) .settings .kindCapacity ⌝ }
     ensures { λ _. ⌜ Becomes (now (words .entry)) (now (words .exit)) (withKinds (meaning (now (words .entry))) (meaning (now (words .entry)) .kinds ++ (kind ∷ []))) ⌝ }
 {
-    let n = words::word(words, words::CAPACITY);
+    let z = words::shape_of(words);
     let slot = words::word(words, words::REGISTERED);
-    put_head(words, n, slot, kind);
+    put_head(words, z, slot, kind);
     words[words::TABLE + kind] = slot as u32;
     words[words::REGISTERED] = slot as u32 + 1;
 }

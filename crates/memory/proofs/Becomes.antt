@@ -13,7 +13,7 @@ use Rattle.model.specs.Model.{Entities, SparseSet, Storage, setOf}
 use Rattle.model.specs.Store.{onSet, withEntities, onStorage, withLayout, Settings, Store, wordsNeeded, withEntities, withControl, onStorage, withLayout, onSet}
 use Rattle.model.specs.Theorems.{SameSettings}
 use Rattle.words.specs.Offsets.{CALLER, DRAFT-FAMILIES, DRAFT-GROUPS, ENTITIES, EXCLUDED-LEN, GROUP-COUNTS, GROUP-FAMILIES, GROUP-PLACES, LAYOUT, LAYOUT-FAMILIES, LAYOUT-GROUPS, MORE-SETTINGS, REFUSALS, REGISTERED, RULE, STAGED-KINDS, STAGED-LEN, TABLE, UNREGISTERED}
-use Rattle.words.proofs.Offsets.{columnStart-mono}
+use Rattle.words.proofs.Offsets.{columnStart-mono, columnStart-first}
 use Rattle.words.specs.Part.{between}
 use Rattle.words.proofs.Part.{between-rest, length-between, getD-between}
 use Rattle.words.specs.Table.{table}
@@ -31,7 +31,7 @@ use Rattle.memory.specs.Header.{capacityOf, kindCapacityOf, registeredOf
 use Rattle.memory.specs.Meaning.{kindAt, setAt, setsIn, draftArrays, layoutArrays, layoutIn, controlIn, settingsOf, meaning, kindsIn}
 use Rattle.memory.specs.Arranged.{Arranged, Becomes}
 use Rattle.memory.proofs.Kept.{Kept, capacity-kept, kinds-kept, arranged-kept}
-use Rattle.memory.proofs.Frames.{columnStart-first, part-same, draft-arrays-same, layout-arrays-same, long, control-parts, control-same, layout-same, header-kept, draft-formed, settings-kept, reads-means}
+use Rattle.memory.proofs.Frames.{part-same, draft-arrays-same, layout-arrays-same, long, control-parts, control-same, layout-same, header-kept, draft-formed, settings-kept, reads-means}
 use Rattle.model.proofs.ListLaws.{drop-later, word-front}
 use Rattle.entity.specs.Meaning as entity
 

@@ -14,7 +14,7 @@ use Rattle.model.specs.Model.{Entities, SparseSet, noEntities}
 use Rattle.model.specs.Store.{told, emptyWith}
 use Rattle.model.specs.Sound.{Limits}
 use Rattle.words.specs.Offsets.{CALLER, CAPACITY, DRAFT, DRAFT-FAMILIES, DRAFT-GROUPS, ENTITIES, EXCLUDED-LEN, GROUP-COUNTS, GROUP-FAMILIES, KIND-CAPACITY, LAYOUT, LAYOUT-FAMILIES, LAYOUT-GROUPS, NEWER, REFUSALS, REGISTERED, ROWS, RULE, STAGED-KINDS, STAGED-LEN, TABLE, UNREGISTERED}
-use Rattle.words.proofs.Offsets.{columnStart-mono, columnStart-apart, shaped-of}
+use Rattle.words.proofs.Offsets.{columnStart-mono, columnStart-apart, shaped-of, columnStart-first}
 use Rattle.words.specs.Part.{between}
 use Rattle.words.proofs.Part.{length-between, getD-between}
 use Rattle.words.specs.Table.{table}
@@ -30,7 +30,7 @@ use Rattle.layout.proofs.Arrays.{none-formed}
 use Rattle.memory.specs.Header.{capacityOf, kindCapacityOf, registeredOf, callerOf, refusalsAt, ruleOf, newerOf, slotOf}
 use Rattle.memory.specs.Meaning.{kindAt, kindsIn, setAt, setsIn, draftIn, layoutIn, stagedAt, stagedIn, excludedIn, meaning}
 use Rattle.memory.specs.Arranged.{TableSound, LayoutSound, Arranged}
-use Rattle.memory.proofs.Frames.{columnStart-first, reads-means}
+use Rattle.memory.proofs.Frames.{reads-means}
 use Rattle.model.proofs.ListLaws.{drop-later, word-rest}
 use Rattle.memory.specs.Fresh.{Cleared, TableCleared, Made}
 

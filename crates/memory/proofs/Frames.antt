@@ -11,7 +11,8 @@ use Rattle.memory.proofs.LayoutWords.{words-sized}
 use Rattle.words.specs.Offsets.{BLOCK-LEN, CALLER, CAPACITY, DRAFT, DRAFT-FAMILIES, DRAFT-GROUPS, ENTITIES, EXCLUDED-KINDS, EXCLUDED-LEN, GROUP-COUNTS, GROUP-FAMILIES, KIND-CAPACITY, LAYOUT, LAYOUT-FAMILIES, LAYOUT-GROUPS, MORE-SETTINGS, NEWER, REFUSALS, REGISTERED, RULE, ROWS, STAGED-KINDS, STAGED-LEN, STAGED-VALUE-LEN, STAGED-VALUES, STRIDE, TABLE}
 use Rattle.words.proofs.Offsets.{columnStart-mono, columnStart-first}
 use Rattle.words.specs.Part.{between}
-use Rattle.words.proofs.Part.{run-same, between-same}
+use Rattle.values.proofs.Places.{run-same}
+use Rattle.words.proofs.Part.{between-same}
 use Rattle.words.specs.Table.{table}
 use Rattle.words.proofs.Tables.{table-same}
 use Rattle.words.specs.Shape.{shapeOf}
@@ -52,7 +53,7 @@ module _ (w w′ : List ℕ) (size : length w′ ≡ length w) where
       ∙ table-same (record { kind = 0; value = 0 }) (stagedLen w) (stagedAt w) (stagedAt w′)
       (λ i h.
       let k = same (STAGED-KINDS + i) (omega arith) (omega arith) in
-      let v = ap digits (run-same (STAGED-VALUES + STAGED-VALUE-LEN * i) STRIDE w w′ size (λ j a b. same j (omega arith) (omega arith))) in
+      let v = ap digits (run-same w w′ (STAGED-VALUES + STAGED-VALUE-LEN * i) STRIDE size (λ j a b. same j (omega arith) (omega arith))) in
       λ t. record { kind = k t; value = v t })
 
   pub excluded-same : excludedLen w ≤ LIST-CAPACITY → getD w′ EXCLUDED-LEN 0 ≡ getD w EXCLUDED-LEN 0 → ((i : ℕ) → EXCLUDED-KINDS ≤ i → i < DRAFT → getD w′ i 0 ≡ getD w i 0) → excludedIn w′ ≡ excludedIn w

@@ -9,7 +9,8 @@ use Rattle.model.specs.Numbers.{LAST-CALLER, LIST-CAPACITY, MAX-KINDS}
 use Rattle.words.specs.Offsets.{COLUMN-KIND, GROUP-PLACES, OWN-GROUP, PLACE-IN-FAMILY, ROWS, UNREGISTERED}
 use Rattle.words.specs.Table.{table}
 use Rattle.words.proofs.Tables.{table-same}
-use Rattle.words.specs.Shape.{shapeOf}
+use Rattle.words.specs.Shape.{shapeOf, shape}
+use Rattle.words.specs.declared.Shape.{Shape}
 use Rattle.component.specs.Columns.{columnOf, rowsOf, Columns}
 use Rattle.entity.specs.Meaning.{entityPart}
 use Rattle.layout.specs.Layout.{Arrays, WellFormed, widthOf, groupCount}
@@ -35,12 +36,15 @@ module _ {w w′ : List ℕ} (K : Kept w w′) where
   pub capacity-kept : capacityOf w′ ≡ capacityOf w
   capacity-kept = λ i. K .settings i .capacity
 
+  pub shape-kept : shapeOf w′ ≡ shapeOf w
+  shape-kept = ap shape capacity-kept
+
   pub kind-capacity-kept : kindCapacityOf w′ ≡ kindCapacityOf w
   kind-capacity-kept = λ i. K .settings i .kindCapacity
 
 module _ {w w′ : List ℕ} (A : Arranged w) (K : Kept w w′) where
   head-kept : (s : ℕ) → s < kindCapacityOf w → (i : ℕ) → 1 ≤ i → i < ROWS → getD (columnOf (shapeOf w′) s w′) i 0 ≡ getD (columnOf (shapeOf w) s w) i 0
-  head-kept s h i a b = ap (λ (c : ℕ). getD (columnOf c s w′) i 0) (capacity-kept K) ∙ K .heads s h i a b
+  head-kept s h i a b = ap (λ (z : Shape). getD (columnOf z s w′) i 0) (shape-kept K) ∙ K .heads s h i a b
 
   registered-slot : (s : ℕ) → s < registeredOf w → s < kindCapacityOf w
   registered-slot s h = omega (arith, A .table .few)

@@ -2,11 +2,11 @@
 use mathlib.Core.Path.{_≡_, refl, sym, ap, _∙_, ap₂, subst}
 use mathlib.Core.List.{List, [], _∷_, _++_}
 use native.Mathlib.Decide.{decLe}
-use Prim.Native.Nat.{ℕ, zero, suc, _+_, _-_, _≤_, _<_, min}
+use Prim.Native.Nat.{ℕ, zero, suc, _+_, _-_, _≤_, _<_}
 use native.Mathlib.Omega.{arith}
-use lib.ListN.{length, getD, take, drop, length-append, length-take, length-drop, take-append-drop}
+use lib.ListN.{length, getD, take, drop, length-append, length-drop, take-append-drop}
 use lib.Seq.{length-take-le, take-at, drop-at, drop-drop, take-take, getD-take, getD-drop, take-add, take-append-le, drop-append-seam, take-length, take-nil, take-suc, drop-cons, ext-getD}
-use native.Mathlib.Nat.{sub-zero, suc-sub-suc, min-le-left}
+use native.Mathlib.Nat.{sub-zero, suc-sub-suc}
 use native.Mathlib.Numerals.{add-one}
 use lib.Dec.{eqb}
 use Rattle.model.specs.Lists.{countOf}
@@ -161,12 +161,3 @@ between-in a e p l h k n =
     let q : a + (p - a) ≡ p = omega arith in
     subst (In (between a e l)) (getD-between a e (p - a) l 0 (omega arith) ∙ ap (λ (m : ℕ). getD l m 0) q)
     (at-in (between a e l) (p - a) (omega (arith, length-between a e l n)))
-
--- d words from p on, of lists that agree there
-pub run-same : (p d : ℕ) (w v : List ℕ) → length v ≡ length w → ((i : ℕ) → p ≤ i → i < p + d → getD v i 0 ≡ getD w i 0) → take d (drop p v) ≡ take d (drop p w)
-run-same p d w v size same =
-    let l : length (drop p v) ≡ length (drop p w) = length-drop p v ∙ ap (λ (n : ℕ). n - p) size ∙ sym (length-drop p w) in
-    ext-getD 0 (take d (drop p v)) (take d (drop p w)) (length-take d (drop p v) ∙ ap (min d) l ∙ sym (length-take d (drop p w)))
-    (λ i h.
-    let b : i < d = omega (arith, length-take d (drop p v), min-le-left d (length (drop p v))) in
-    getD-take d (drop p v) i 0 b ∙ getD-drop p v i 0 ∙ same (p + i) (omega arith) (omega arith) ∙ sym (getD-drop p w i 0) ∙ sym (getD-take d (drop p w) i 0 b))

@@ -3,6 +3,7 @@ use native.Mathlib.Omega.{arith}
 use Prim.Native.Nat.{ℕ}
 use mathlib.Core.Path.{subst}
 use Rattle.words.specs.Offsets.{CAPACITY}
+use Rattle.words.specs.declared.Shape.{Shape}
 use Rattle.component.specs.Answers.{Finds}
 use Rattle.kinds.specs.Kinds.{kindSet}
 use Rattle.kinds.proofs.Slot.{header-long, lent-at, rows-at}
@@ -10,21 +11,21 @@ use Rattle.kinds.proofs.find.Statement.{statement}
 use Rattle.kinds.proofs.find.Tie as tie
 use Rattle.model.specs.Model.{entity}
 
-word-requires : tie.Need-word-requires
-word-requires c κs = let s = c .before in header-long (s .args .words .now) (s .pre .0) CAPACITY (omega arith)
+shape-of-requires : tie.Need-shape-of-requires
+shape-of-requires c κs = let s = «start» in header-long (s .args .words .now) (s .pre .0) CAPACITY (omega arith)
 
 find-in-requires : tie.Need-find-in-requires
 find-in-requires c κs =
-    let a = c .before .before .before .args in
-    lent-at (a .words .now) (c .before .word .result) (a .kind) (c .slot-of .result) (c .before .word .ensures .is) (c .slot-of .ensures)
+    let a = «start» .args in
+    lent-at (a .words .now) («shape-of» .result) (a .kind) («slot-of» .result) («shape-of» .ensures .is) («slot-of» .ensures)
 
 returns : tie.Need-returns
 returns c =
-    let a = c .before .before .before .before .args in
+    let a = «start» .args in
     let w = a .words .now in
     let e = entity (a .index) (a .version) in
-    subst (λ (n : ℕ). Finds n e (kindSet w (a .kind)) (c .find-in .result)) (c .before .before .word .ensures .is)
-    (rw (rows-at w (c .before .before .word .result) (a .kind) (c .before .slot-of .result) (c .before .before .word .ensures .is) (c .before .slot-of .ensures)) at (c .find-in .ensures))
+    subst (λ (z : Shape). Finds z e (kindSet w (a .kind)) («find-in» .result)) («shape-of» .ensures .is)
+    (rw (rows-at w («shape-of» .result) (a .kind) («slot-of» .result) («shape-of» .ensures .is) («slot-of» .ensures)) at («find-in» .ensures))
 
 pub find-spec : {M : Type 1} → statement M
-find-spec = tie.close (tie.spec word-requires (λ c κs. search needs) find-in-requires returns)
+find-spec = tie.close (tie.spec shape-of-requires (λ c κs. search needs) find-in-requires returns)

@@ -11,7 +11,7 @@ slice-write-words-3 : tie.Need-slice-write-words-3
 slice-write-words-3 c = simp length-set (omega arith)
 
 returns : tie.Need-returns
-returns c = rw (c .column-start .ensures)
+returns c = rw (c .column-start .ensures .is)
 
 pub put-head-spec : {M : Type 1} → statement M
 put-head-spec =
