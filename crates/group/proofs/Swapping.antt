@@ -12,15 +12,19 @@ use Rattle.model.specs.Sound.{In, Distinct}
 use Rattle.model.proofs.KindLists.{in-left, not-both, distinct-apart}
 use Rattle.words.specs.Part.{between}
 use Rattle.words.proofs.Part.{between-none, between-split, between-more, between-in}
+use Rattle.component.specs.Columns.{rowsOf}
+use Rattle.component.specs.Changes.{Lent, Only}
+use Rattle.memory.specs.Header.{capacityOf}
 use Rattle.memory.specs.Meaning.{meaning}
 use Rattle.memory.specs.Arranged.{Arranged, Becomes}
 use Rattle.memory.proofs.Becomes.{stays, sets-wide}
-use Rattle.kinds.proofs.Slot.{known-small}
+use Rattle.kinds.specs.Steps.{InSlot}
+use Rattle.kinds.proofs.Slot.{known-small, lent-at, rows-at, only-becomes}
 use Rattle.group.specs.Ready.{Swappable}
 use Rattle.group.specs.Metadata.{orderOf, PlacesKnown}
 use Rattle.group.specs.Steps.{swapKinds}
 use Rattle.group.proofs.EachKind.{eachKind, each-append, setOf-each, each-kinds}
-use Rattle.group.proofs.Storing.{becomes-then}
+use Rattle.group.proofs.Storing.{becomes-then, capacity-kept}
 use Rattle.group.proofs.InWords.{order-part-once}
 
 abbrev pub eachSwap : Entity → ℕ → List ℕ → Storage → Storage
@@ -31,12 +35,6 @@ pub record Swapping (w₀ : List ℕ) (e : Entity) (start end c : ℕ) (w : List
   pub low : start ≤ p
   pub high : p ≤ end
   pub soFar : Becomes w₀ w (onStorage (eachSwap e c (between start p (orderOf (meaning w₀)))) (meaning w₀))
-
--- what the swap in kind j's sparse set asks
-pub record SwapAsk (w : List ℕ) (e : Entity) (c j : ℕ) : Type 0 where
-  pub known : In (meaning w .kinds) j
-  pub holds : held e (setOf (meaning w .storage .sets) j) ≡ true
-  pub room : c < length (setOf (meaning w .storage .sets) j)
 
 module _ {w₀ : List ℕ} {e : Entity} {start end c : ℕ} (A : Arranged w₀) (L : PlacesKnown (meaning w₀) start end) (R : Swappable e (between start end (orderOf (meaning w₀))) c (meaning w₀ .storage .sets)) where
   pub swap-start : Swapping w₀ e start end c w₀ start
@@ -84,28 +82,41 @@ module _ {w₀ : List ℕ} {e : Entity} {start end c : ℕ} (A : Arranged w₀) 
       pub place-there : p < length (orderOf (meaning w))
       place-there = let n : length (orderOf (meaning w)) ≡ length (orderOf (meaning w₀)) = ap (λ (m : Store). length (orderOf m)) (S .soFar .means) in omega (arith, L .within)
 
-      pub swap-ask : {j : ℕ} → j ≡ getD (orderOf (meaning w)) p 0 → SwapAsk w e c j
-      swap-ask q =
-          subst (SwapAsk w e c) (sym (q ∙ kind-is))
-          (record {
-            known = subst (λ (m : Store). In (m .kinds) k) (sym (S .soFar .means)) (L .known k inside);
-            holds = subst (λ (rs : SparseSet). held e rs ≡ true) (sym same-set) (R .holds k inside);
-            room = subst (λ (rs : SparseSet). c < length rs) (sym same-set) (R .room k inside);
-          })
+      module _ {j : ℕ} (q : j ≡ getD (orderOf (meaning w)) p 0) where
+        is-kind : j ≡ k
+        is-kind = q ∙ kind-is
 
-      pub swap-turn : {w′ : List ℕ} {j : ℕ} → j ≡ getD (orderOf (meaning w)) p 0 → Becomes w w′ (onStorage (onSet j (swapTo e c)) (meaning w)) → Swapping w₀ e start end c w′ (p + 1)
-      swap-turn {w′} {j} q C =
-          let was : List SparseSet = eachKind (swapTo e c) before (meaning w₀ .storage .sets) in
-          let sets : set was j (swapTo e c (setOf was j)) ≡ eachKind (swapTo e c) (between start (p + 1) (orderOf (meaning w₀))) (meaning w₀ .storage .sets) =
-          ap (λ (x : ℕ). set was x (swapTo e c (setOf was x))) (q ∙ kind-is)
-          ∙ sym (ap (λ (ks : List ℕ). eachKind (swapTo e c) ks (meaning w₀ .storage .sets)) more ∙ each-append (swapTo e c) before (k ∷ []) (meaning w₀ .storage .sets)) in
-          record {
-            low = omega (arith, S .low);
-            high = omega arith;
-            soFar =
-                subst (λ (ss : List SparseSet). Becomes w₀ w′ (onStorage (λ (s : Storage). record { sets = ss; layout = s .layout }) (meaning w₀))) sets
-                (becomes-then w₀ w w′ (eachSwap e c before) (onStorage (onSet j (swapTo e c))) (S .soFar) C);
-          }
+        pub swap-known : In (meaning w .kinds) j
+        swap-known = subst (λ (m : Store). In (m .kinds) j) (sym (S .soFar .means)) (subst (In (meaning w₀ .kinds)) (sym is-kind) (L .known k inside))
+
+        -- n is the capacity, as it was read before the loop
+        module _ {n slot : ℕ} (m : n ≡ capacityOf w₀) (at : InSlot w j slot) where
+          capacity : n ≡ capacityOf w
+          capacity = m ∙ sym (capacity-kept w₀ w (eachSwap e c before) (S .soFar))
+
+          rows : rowsOf n slot w ≡ setOf (meaning w₀ .storage .sets) k
+          rows = rows-at w n j slot capacity at ∙ ap (setOf (meaning w .storage .sets)) is-kind ∙ same-set
+
+          pub swap-lent : Lent n slot w
+          swap-lent = lent-at w n j slot capacity at
+
+          pub swap-asks : (held e (rowsOf n slot w) ≡ true) × (c < length (rowsOf n slot w))
+          swap-asks = rw rows (R .holds k inside, R .room k inside)
+
+          pub swap-turn : {w′ : List ℕ} → Only n slot (swapTo e c) w w′ → Swapping w₀ e start end c w′ (p + 1)
+          swap-turn {w′} o =
+              let C : Becomes w w′ (onStorage (onSet j (swapTo e c)) (meaning w)) = only-becomes w n j slot capacity at w′ (swapTo e c) (S .soFar .arranged) o in
+              let was : List SparseSet = eachKind (swapTo e c) before (meaning w₀ .storage .sets) in
+              let sets : set was j (swapTo e c (setOf was j)) ≡ eachKind (swapTo e c) (between start (p + 1) (orderOf (meaning w₀))) (meaning w₀ .storage .sets) =
+              ap (λ (x : ℕ). set was x (swapTo e c (setOf was x))) is-kind
+              ∙ sym (ap (λ (ks : List ℕ). eachKind (swapTo e c) ks (meaning w₀ .storage .sets)) more ∙ each-append (swapTo e c) before (k ∷ []) (meaning w₀ .storage .sets)) in
+              record {
+                low = omega (arith, S .low);
+                high = omega arith;
+                soFar =
+                    subst (λ (ss : List SparseSet). Becomes w₀ w′ (onStorage (λ (s : Storage). record { sets = ss; layout = s .layout }) (meaning w₀))) sets
+                    (becomes-then w₀ w w′ (eachSwap e c before) (onStorage (onSet j (swapTo e c))) (S .soFar) C);
+              }
 
     pub swap-done : end ≤ p → Becomes w₀ w (onStorage (swapKinds e c (between start end (orderOf (meaning w₀)))) (meaning w₀))
     swap-done h =

@@ -12,7 +12,7 @@ ghost use Rattle.model.specs.Numbers.{MAX-KINDS};
 ghost use Rattle.words.specs.Offsets.{ROWS};
 ghost use Rattle.words.specs.Shape.{shapeOf};
 ghost use Rattle.values.specs.Values.{valueOf};
-ghost use Rattle.model.specs.Model.{noRow, mem, held, insertRow, swapTo, entity};
+ghost use Rattle.model.specs.Model.{noRow, mem, held, insertRow, entity};
 ghost use Rattle.model.specs.Store.{onSet, onStorage, withKinds};
 ghost use Rattle.model.specs.Sound.{In};
 ghost use Rattle.component.specs.Stored.{Current};
@@ -76,19 +76,6 @@ pub fn holds(words: &[u32], kind: usize, index: u32, version: u32) -> bool
     let z = words::shape_of(words);
     let slot = slot_of(words, kind);
     component::slots::holds_in(words, z, slot, index, version)
-}
-
-// Exchanges the entity's row with the one at place.
-pub fn swap_to(words: &mut [u32], kind: usize, index: u32, version: u32, place: usize)
-    requires { ⌜ Arranged (now words) ⌝ }
-    requires { ⌜ In (meaning (now words) .kinds) kind ⌝ }
-    requires { ⌜ held (entity index version) (kindSet (now words) kind) ≡ true ⌝ }
-    requires { ⌜ place < length (kindSet (now words) kind) ⌝ }
-    ensures { λ _. ⌜ Becomes (now (words .entry)) (now (words .exit)) (onStorage (onSet kind (swapTo (entity index version) place)) (meaning (now (words .entry)))) ⌝ }
-{
-    let z = words::shape_of(words);
-    let slot = slot_of(words, kind);
-    component::slots::swap_to_in(words, z, slot, index, version, place);
 }
 
 // The value of the row at a place.

@@ -25,7 +25,7 @@ use Rattle.memory.proofs.Becomes.{one-becomes, stays, sets-wide, kinds-count}
 use Rattle.kinds.proofs.Slot.{known-small}
 use Rattle.group.proofs.EachKind.{eachKind, each-append, each-kinds}
 use Rattle.world.specs.Remove.{Staged, removed}
-use Rattle.group.proofs.Storing.{becomes-then}
+use Rattle.group.proofs.Storing.{becomes-then, capacity-kept}
 
 abbrev pub eachGone : Entity → List ℕ → Storage → Storage
 eachGone e ks s = record { sets = eachKind (removeRow e) ks (s .sets); layout = s .layout }
@@ -44,6 +44,9 @@ module _ (w₀ : List ℕ) (e : Entity) (ks : List ℕ) where
 
   pub gone-none : Arranged w₀ → Gone w₀ 0
   gone-none A = stays A
+
+  pub gone-capacity : (w : List ℕ) (i : ℕ) → Gone w i → capacityOf w₀ ≡ capacityOf w
+  gone-capacity w i B = sym (capacity-kept w₀ w (eachGone e (take i ks)) B)
 
   pub gone-turn : (w w′ : List ℕ) (i k : ℕ) → i < length ks → k ≡ getD ks i 0 → Gone w i → Becomes w w′ (onStorage (onSet k (removeRow e)) (meaning w)) → Gone w′ (i + 1)
   gone-turn w w′ i k h q B C =

@@ -1,42 +1,56 @@
 use Prim.Native.Nat.{_-_}
 use native.Mathlib.Omega.{arith}
-use Rattle.group.proofs.Swapping.{Swapping, swap-start, place-there, swap-ask, swap-turn, swap-done}
+use Rattle.words.specs.Offsets.{CAPACITY}
+use Rattle.kinds.proofs.Slot.{header-long}
+use Rattle.group.proofs.Swapping.{Swapping, swap-start, place-there, swap-known, swap-lent, swap-asks, swap-turn, swap-done}
 use Rattle.group.proofs.swap_kinds.Statement.{statement}
 use Rattle.group.proofs.swap_kinds.Tie as tie
 use Rattle.model.specs.Model.{entity}
 
 abbrev Inv-loop : tie.InvT-loop
-Inv-loop words₀ index version swap-index end place₀ words place = Swapping words₀ (entity index version) place₀ end swap-index words place
+Inv-loop words₀ index version swap-index n end place₀ words place = Swapping words₀ (entity index version) place₀ end swap-index words place
 
 abbrev μ-loop : tie.MeasureT-loop
-μ-loop words₀ index version swap-index end place₀ words place = end - place
+μ-loop words₀ index version swap-index n end place₀ words place = end - place
+
+word-requires : tie.Need-word-requires Inv-loop μ-loop
+word-requires c κs = let s = c .before .before in header-long (s .args .words .now) (s .pre .0) CAPACITY (omega arith)
 
 loop-holds : tie.Need-loop-holds Inv-loop μ-loop
-loop-holds c = let p = c .before .pre in swap-start (p .0) (p .1 .0) (p .1 .1)
+loop-holds c = let p = c .before .before .before .pre in swap-start (p .0) (p .1 .0) (p .1 .1)
 
 kind-at-requires : tie.Need-kind-at-requires Inv-loop μ-loop
 kind-at-requires c κs =
-    let p = c .before .before .before .before .pre in
-    let i = c .before .before .loop in
-    (i .inv .soFar .arranged, place-there (p .0) (p .1 .0) (p .1 .1) (i .inv) (omega (arith, c .before .loop-test)))
-
-swap-to-requires : tie.Need-swap-to-requires Inv-loop μ-loop
-swap-to-requires c κs =
     let p = c .before .before .before .before .before .before .pre in
+    let i = c .before .before .loop in
+    (i .inv .soFar .arranged, place-there (p .0) (p .1 .0) (p .1 .1) (i .inv) (c .before .loop-test .taken))
+
+slot-of-requires : tie.Need-slot-of-requires Inv-loop μ-loop
+slot-of-requires c κs =
+    let p = c .before .before .before .before .before .before .before .before .pre in
     let i = c .before .before .before .before .loop in
-    let q = swap-ask (p .0) (p .1 .0) (p .1 .1) (i .inv) (omega (arith, c .before .before .before .loop-test)) (c .before .kind-at .ensures) in
-    (i .inv .soFar .arranged, (q .known, (q .holds, q .room)))
+    (i .inv .soFar .arranged, swap-known (p .0) (p .1 .0) (p .1 .1) (i .inv) (c .before .before .before .loop-test .taken) (c .before .kind-at .ensures))
+
+swap-to-in-requires : tie.Need-swap-to-in-requires Inv-loop μ-loop
+swap-to-in-requires c κs =
+    let p = c .before .before .before .before .before .before .before .before .before .before .pre in
+    let i = c .before .before .before .before .before .before .loop in
+    let lt = c .before .before .before .before .before .loop-test .taken in
+    let q = c .before .before .before .kind-at .ensures in
+    let n = c .before .before .before .before .before .before .before .word .ensures .is in
+    let at = c .before .slot-of .ensures in
+    (swap-lent (p .0) (p .1 .0) (p .1 .1) (i .inv) lt q n at, swap-asks (p .0) (p .1 .0) (p .1 .1) (i .inv) lt q n at)
 
 loop-again : tie.Need-loop-again Inv-loop μ-loop
 loop-again c =
-    let p = c .before .before .before .before .before .before .before .before .before .pre in
-    let i = c .before .before .before .before .before .before .before .loop in
-    swap-turn (p .0) (p .1 .0) (p .1 .1) (i .inv) (omega (arith, c .before .before .before .before .before .before .loop-test)) (c .before .before .before .before .kind-at .ensures) (c .before .before .swap-to .ensures)
+    let p = c .before .before .before .before .before .before .before .before .before .before .before .before .before .pre in
+    let i = c .before .before .before .before .before .before .before .before .before .loop in
+    swap-turn (p .0) (p .1 .0) (p .1 .1) (i .inv) (c .before .before .before .before .before .before .before .before .loop-test .taken) (c .before .before .before .before .before .before .kind-at .ensures) (c .before .before .before .before .before .before .before .before .before .before .word .ensures .is) (c .before .before .before .before .slot-of .ensures) (c .before .before .swap-to-in .ensures)
 
 returns : tie.Need-returns Inv-loop μ-loop
 returns c =
-    let p = c .before .before .before .pre in
-    swap-done (p .0) (p .1 .0) (p .1 .1) (c .before .loop .inv) (omega (arith, c .loop-test))
+    let p = c .before .before .before .before .before .pre in
+    swap-done (p .0) (p .1 .0) (p .1 .1) (c .before .loop .inv) (c .loop-test .left)
 
 pub swap-kinds-spec : {M : Type 1} → statement M
 swap-kinds-spec =
@@ -44,11 +58,13 @@ swap-kinds-spec =
     (tie.spec
     Inv-loop
     μ-loop
+    word-requires
     loop-holds
     kind-at-requires
-    swap-to-requires
-    (λ c. omega (arith, c .before .before .before .before .before .before .loop-test))
-    (λ c. omega (arith, c .before .before .before .before .before .before .loop-test))
+    slot-of-requires
+    swap-to-in-requires
+    (λ c. omega (arith, c .before .before .before .before .before .before .before .before .loop-test))
+    (λ c. omega (arith, c .before .before .before .before .before .before .before .before .loop-test))
     loop-again
     (λ c. c .before .loop .inv .soFar .size)
     returns)

@@ -6,55 +6,63 @@ use borrow.Author.Count.{falls}
 use lib.ListN.{length, getD}
 use Rattle.model.specs.Store.{Store}
 use Rattle.model.specs.Model.{entity}
-use Rattle.words.specs.Offsets.{REGISTERED}
+use Rattle.words.specs.Offsets.{CAPACITY, REGISTERED}
 use Rattle.component.proofs.Sums.{next-fits}
 use Rattle.memory.specs.Meaning.{meaning}
 use Rattle.memory.proofs.Becomes.{kinds-count}
 use Rattle.kinds.proofs.Slot.{header-long, known-small}
-use Rattle.world.proofs.Removing.{Gone, gone-none, gone-turn, gone-all}
+use Rattle.world.proofs.Removing.{Gone, gone-none, gone-capacity, gone-turn, gone-all}
 use Rattle.world.proofs.component_storage.strip_sets.Statement.{statement}
 use Rattle.world.proofs.component_storage.strip_sets.Tie as tie
 
 abbrev Inv-loop : tie.InvT-loop
-Inv-loop words₀ index version m slot₀ words slot =
+Inv-loop words₀ index version n m slot₀ words slot =
     (slot ≤ m) × (m ≡ length (meaning words₀ .kinds)) × Gone words₀ (entity index version) (meaning words₀ .kinds) words slot
 
 abbrev μ-loop : tie.MeasureT-loop
-μ-loop words₀ index version m slot₀ words slot = m - slot
+μ-loop words₀ index version n m slot₀ words slot = m - slot
 
 word-requires : tie.Need-word-requires Inv-loop μ-loop
-word-requires c κs = let s = c .before .before in header-long (s .args .words .now) (s .pre .0) REGISTERED (lit< tt)
+word-requires c κs = let s = c .before .before in header-long (s .args .words .now) (s .pre .0) CAPACITY (lit< tt)
+
+word-requires-2 : tie.Need-word-requires-2 Inv-loop μ-loop
+word-requires-2 c κs = let s = c .before .before .before .before in header-long (s .args .words .now) (s .pre .0) REGISTERED (lit< tt)
 
 loop-holds : tie.Need-loop-holds Inv-loop μ-loop
 loop-holds c =
-    let a = c .before .before .before .args in
-    (zero-le, c .word .ensures .is ∙ sym (kinds-count (a .words .now)), gone-none (a .words .now) (entity (a .index) (a .version)) (meaning (a .words .now) .kinds) (c .before .before .before .pre .0))
+    let s = c .before .before .before .before .before in
+    let a = s .args in
+    (zero-le, c .word2 .ensures .is ∙ sym (kinds-count (a .words .now)), gone-none (a .words .now) (entity (a .index) (a .version)) (meaning (a .words .now) .kinds) (s .pre .0))
 
 strip-slot-requires : tie.Need-strip-slot-requires Inv-loop μ-loop
 strip-slot-requires c κs =
-    let v = c .before .before .loop .inv in
-    let n : length (meaning (c .before .before .loop .words) .kinds) ≡ length (meaning (c .before .before .before .before .before .before .args .words .now) .kinds) = ap (λ (m : Store). length (m .kinds)) (v .2 .means) in
-    (v .2 .arranged, subst (λ (m : ℕ). c .before .before .loop .slot < m) (v .1 ∙ sym n) (c .before .loop-test .taken))
+    let a = c .before .before .before .before .before .before .before .before .args in
+    let l = c .before .before .loop in
+    let v = l .inv in
+    let k : length (meaning (l .words) .kinds) ≡ length (meaning (a .words .now) .kinds) = ap (λ (m : Store). length (m .kinds)) (v .2 .means) in
+    (v .2 .arranged, (c .before .before .before .before .before .word .ensures .is ∙ gone-capacity (a .words .now) (entity (a .index) (a .version)) (meaning (a .words .now) .kinds) (l .words) (l .slot) (v .2), subst (λ (m : ℕ). l .slot < m) (v .1 ∙ sym k) (c .before .loop-test .taken)))
 
 loop-again : tie.Need-loop-again Inv-loop μ-loop
 loop-again c =
-    let a = c .before .before .before .before .before .before .before .before .before .args in
-    let v = c .before .before .before .before .before .loop .inv in
-    let w = c .before .before .before .before .before .loop .words in
-    let i = c .before .before .before .before .before .loop .slot in
-    let same = ap (λ (m : Store). getD (m .kinds) (c .before .before .before .before .before .loop .slot) 0) (v .2 .means) in
-    (add-one-le (c .before .before .before .before .loop-test .taken), v .1, gone-turn (a .words .now) (entity (a .index) (a .version)) (meaning (a .words .now) .kinds) w (c .before .before .strip-slot .last .0) i (getD (meaning w .kinds) i 0) (subst (λ (m : ℕ). c .before .before .before .before .before .loop .slot < m) (v .1) (c .before .before .before .before .loop-test .taken)) same (v .2) (c .before .before .strip-slot .ensures))
+    let a = c .before .before .before .before .before .before .before .before .before .before .before .args in
+    let l = c .before .before .before .before .before .loop in
+    let v = l .inv in
+    let t = c .before .before .before .before .loop-test .taken in
+    let same = ap (λ (m : Store). getD (m .kinds) (l .slot) 0) (v .2 .means) in
+    (add-one-le t, v .1, gone-turn (a .words .now) (entity (a .index) (a .version)) (meaning (a .words .now) .kinds) (l .words) (c .before .before .strip-slot .last .0) (l .slot) (getD (meaning (l .words) .kinds) (l .slot) 0) (subst (λ (m : ℕ). l .slot < m) (v .1) t) same (v .2) (c .before .before .strip-slot .ensures))
 
 same-length : tie.Need-same-length Inv-loop μ-loop
 same-length c = c .before .loop .inv .2 .size
 
 returns : tie.Need-returns Inv-loop μ-loop
 returns c =
-    let a = c .before .before .before .before .before .args in
-    let v = c .before .loop .inv in
-    gone-all (a .words .now) (entity (a .index) (a .version)) (meaning (a .words .now) .kinds) (c .before .loop .words) (c .before .loop .slot) (subst (λ (m : ℕ). m ≤ c .before .loop .slot) (v .1) (c .loop-test .left)) (c .before .before .before .before .before .pre .1) (known-small (a .words .now) (c .before .before .before .before .before .pre .0)) (v .2)
+    let s = c .before .before .before .before .before .before .before in
+    let a = s .args in
+    let l = c .before .loop in
+    let v = l .inv in
+    gone-all (a .words .now) (entity (a .index) (a .version)) (meaning (a .words .now) .kinds) (l .words) (l .slot) (subst (λ (m : ℕ). m ≤ l .slot) (v .1) (c .loop-test .left)) (s .pre .1) (known-small (a .words .now) (s .pre .0)) (v .2)
 
 pub strip-sets-spec : {M : Type 1} → statement M
 strip-sets-spec =
     tie.close
-    (tie.spec Inv-loop μ-loop word-requires loop-holds strip-slot-requires (λ c. next-fits _ _ (c .before .before .before .before .loop-test .taken) (c .before .before .before .before .before .before .word .ensures .small)) (λ c. falls _ _ (c .before .before .before .before .loop-test .taken)) loop-again same-length returns)
+    (tie.spec Inv-loop μ-loop word-requires word-requires-2 loop-holds strip-slot-requires (λ c. next-fits _ _ (c .before .before .before .before .loop-test .taken) (c .before .before .before .before .before .before .word2 .ensures .small)) (λ c. falls _ _ (c .before .before .before .before .loop-test .taken)) loop-again same-length returns)
