@@ -3,6 +3,7 @@ pub mod Stores
 pub mod Links
 pub mod Part
 pub mod Pigeon
+pub mod Counted
 pub mod Offsets
 pub mod Decides
 pub mod Passes

@@ -1,10 +1,15 @@
--- How the links of a sparse set stay sound when rows are exchanged, appended, removed. Assumes nothing.
+-- How the links of a sparse set stay sound when rows are exchanged, appended, removed; and that a count tells them sound. Assumes nothing.
 use mathlib.Core.Path.{_≡_, sym, ap, _∙_}
 use mathlib.Core.Logic.{_≢_}
 use Prim.Native.Nat.{ℕ, _+_, _-_, _≤_, _<_}
 use native.Mathlib.Omega.{arith}
+use borrow.Author.Tests.{lt-ltb, ltb-true}
+use lib.Dec.{ltb}
+use mathlib.Core.Bool.{true}
 use Rattle.model.proofs.BoolLaws.{by-eq}
 use Rattle.words.specs.Links.{Tied, Linked}
+use Rattle.words.specs.Counted.{filled}
+use Rattle.words.proofs.Counted.{counted-all, all-counted}
 
 -- rows that are tied, and each held index a row's, are linked
 pub link : (n k : ℕ) (idx ver place held : ℕ → ℕ) → k ≤ n → ((i : ℕ) → i < k → Tied n idx ver place held i)
@@ -19,10 +24,28 @@ link n k idx ver place held r t c =
       back = λ x hx hh. ap idx (at x hx hh) ∙ c x hx hh .2;
     }
 
-module _ (n k : ℕ) (idx ver place held : ℕ → ℕ) (L : Linked n k idx ver place held) where
+module _ (n k : ℕ) (idx ver place held : ℕ → ℕ) (t : (i : ℕ) → i < k → Tied n idx ver place held i) where
   -- two rows have two indices
+  tied-apart : (i j : ℕ) → i < k → j < k → i ≢ j → idx i ≢ idx j
+  tied-apart i j hi hj ne e = ne (sym (t i hi .placed) ∙ ap place e ∙ t j hj .placed)
+
+  tied-held : (i : ℕ) → i < k → ltb 0 (held (idx i)) ≡ true
+  tied-held i h = lt-ltb 0 (held (idx i)) (omega (arith, t i h .agreed, t i h .issued))
+
+  -- rows that are tied are linked if as many indices are held, and only then
+  pub held-linked : k ≤ n → filled n held ≡ k → Linked n k idx ver place held
+  held-linked r e =
+      link n k idx ver place held r t
+      (λ x hx hh. all-counted n k idx (λ y. ltb 0 (held y)) (λ i h. t i h .below) tied-apart tied-held e x hx (lt-ltb 0 (held x) hh))
+
+pub linked-held : (n k : ℕ) (idx ver place held : ℕ → ℕ) → Linked n k idx ver place held → filled n held ≡ k
+linked-held n k idx ver place held L =
+    counted-all n k idx (λ y. ltb 0 (held y)) (λ i h. L .tied i h .below) (tied-apart n k idx ver place held (L .tied)) (tied-held n k idx ver place held (L .tied))
+    (λ x hx h. let hh = ltb-true 0 (held x) h in (place x, L .inside x hx hh, L .back x hx hh))
+
+module _ (n k : ℕ) (idx ver place held : ℕ → ℕ) (L : Linked n k idx ver place held) where
   pub apart : (i j : ℕ) → i < k → j < k → i ≢ j → idx i ≢ idx j
-  apart i j hi hj ne e = ne (sym (L .tied i hi .placed) ∙ ap place e ∙ L .tied j hj .placed)
+  apart = tied-apart n k idx ver place held (L .tied)
 
   module _ (idx′ ver′ place′ held′ : ℕ → ℕ) where
     -- the old row j, now at i

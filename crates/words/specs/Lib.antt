@@ -5,4 +5,5 @@ pub mod Part
 pub mod Offsets
 pub mod Shape
 pub mod Decides
+pub mod Counted
 pub mod Word

@@ -1,9 +1,11 @@
 // The arrangement of the lent words (docs/WORDS.md): the offsets of the header, of a layout's block, of the entity part and of a column, and where the
 // columns start.
-ghost use Prim.Native.Nat.{_<_, _≤_};
-ghost use lib.ListN.{length};
+ghost use mathlib.Core.Path.{_≡_};
+ghost use Prim.Native.Nat.{_+_, _*_, _<_, _≤_};
+ghost use lib.ListN.{length, getD};
 ghost use Rattle.model.specs.Numbers.{MAX-ENTITIES, MAX-KINDS};
 ghost use Rattle.words.specs.Shape.{Shaped, entityPlace, lookupPlace, valuePlace, columnLen, columnStart, Shapes, InColumn, InWords};
+ghost use Rattle.words.specs.Counted.{filled};
 ghost use Rattle.words.specs.Word.{Word};
 
 // The header: capacity, most kinds, kinds registered, lengths of the lists.
@@ -163,4 +165,18 @@ pub fn word(words: &[u32], i: usize) -> usize
     ensures { λ r. ⌜ Word (now (words .entry)) i r ⌝ }
 {
     words[i] as usize
+}
+
+// Of n pairs of words from a place on, how many have a second word that is not 0. No branch on what they hold, so that several are passed at once.
+pub fn count_held(words: &[u32], from: usize, n: usize) -> u32
+    requires { ⌜ (from + 2 * n ≤ length (now words)) × (n ≤ MAX-ENTITIES) ⌝ }
+    ensures { λ r. ⌜ r ≡ filled n (λ x. getD (now (words .entry)) (from + 2 * x + 1) 0) ⌝ }
+{
+    let mut count = 0u32;
+    let mut x = 0;
+    while x < n {
+        count += (0 < words[from + 2 * x + 1]) as u32;
+        x += 1;
+    }
+    count
 }
