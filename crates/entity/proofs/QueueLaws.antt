@@ -3,8 +3,12 @@ use mathlib.Core.Path.{_≡_, sym, ap, _∙_}
 use mathlib.Core.Logic.{_≢_}
 use Prim.Native.Nat.{ℕ, suc, _+_, _-_, _≤_, _<_}
 use native.Mathlib.Omega.{arith}
-use borrow.Author.Tests.{lt-ltb, le-ltb, le-leb, lt-leb}
+use borrow.Author.Tests.{lt-ltb, le-ltb, le-leb, lt-leb, ltb-true}
+use lib.Dec.{ltb}
+use mathlib.Core.Bool.{true}
 use Rattle.model.proofs.BoolLaws.{by-eq, by-lt}
+use Rattle.words.specs.Counted.{filled}
+use Rattle.words.proofs.Counted.{counted-all, all-counted}
 use Rattle.words.proofs.Pigeon.{pigeon-free}
 use Rattle.entity.specs.Queue.{wrapped, since, Waits, Queued, Queue}
 
@@ -70,6 +74,40 @@ module _ (n h : ℕ) (b : h < n) where
       let e : wrapped n (h + 1) ≡ 0 = omega (arith, wrapped-high n (h + 1) l) in
       since-high n h p (omega arith) ∙ rw e (omega (arith, since-low n 0 p (omega arith))))
 
+module _ (n issued h c : ℕ) (idx ver back held : ℕ → ℕ) (b : h < n) (few : c ≤ n) (w : (j : ℕ) → j < c → Waits issued idx ver back held (wrapped n (h + j))) where
+  -- two waiting numbers have two indices
+  waits-apart : (i j : ℕ) → i < c → j < c → i ≢ j → idx (wrapped n (h + i)) ≢ idx (wrapped n (h + j))
+  waits-apart i j hi hj ne e =
+      let q = ap back e in
+      wrapped-apart n h b i j (omega arith) (omega arith) ne (omega (arith, w i hi .pointed, w j hj .pointed, q))
+
+  waits-filled : (j : ℕ) → j < c → ltb 0 (back (idx (wrapped n (h + j)))) ≡ true
+  waits-filled j hj = lt-ltb 0 (back (idx (wrapped n (h + j)))) (omega (arith, w j hj .pointed))
+
+  -- the number that waits behind j others is listed
+  waits-listed : (x j : ℕ) → j < c → idx (wrapped n (h + j)) ≡ x → Queued n h c idx back x
+  waits-listed x j hj e =
+      let q : back x ≡ wrapped n (h + j) + 1 = ap back (sym e) ∙ w j hj .pointed in
+      let p : back x - 1 ≡ wrapped n (h + j) = omega arith in
+      record {
+        inside = omega (arith, wrapped-below n h b j (omega arith));
+        used = rw p (omega (arith, since-wrapped n h b j (omega arith)));
+        found = ap idx p ∙ e;
+      }
+
+  -- numbers that wait are a queue if as many indexes say that they wait
+  pub filled-queue : issued ≤ n → filled n back ≡ c → Queue n issued h c idx ver back held
+  filled-queue le e =
+      record {
+        start = b;
+        few = few;
+        waits = w;
+        listed =
+            λ x hx hb.
+            let r = all-counted n c (λ j. idx (wrapped n (h + j))) (λ y. ltb 0 (back y)) (λ j hj. omega (arith, w j hj .below)) waits-apart waits-filled e x hx (lt-ltb 0 (back x) hb) in
+            waits-listed x (r .0) (r .1) (r .2);
+      }
+
 module _ (n issued h c : ℕ) (idx ver back held : ℕ → ℕ) (R : Queue n issued h c idx ver back held) where
   -- a place in use has a number that waits
   pub waits-at : (p : ℕ) → p < n → since n h p < c → Waits issued idx ver back held p
@@ -85,12 +123,19 @@ module _ (n issued h c : ℕ) (idx ver back held : ℕ → ℕ) (R : Queue n iss
   pub listed-below : (x : ℕ) → x < n → 1 ≤ back x → x < issued
   listed-below x hx b = rw (R .listed x hx b .found) at (listed-waits x hx b .below)
 
-  -- two waiting numbers have two indices
   pub queue-apart : (i j : ℕ) → i < c → j < c → i ≢ j → idx (wrapped n (h + i)) ≢ idx (wrapped n (h + j))
-  queue-apart i j hi hj ne e =
-      let q = ap back e in
-      wrapped-apart n h (R .start) i j (omega (arith, R .few)) (omega (arith, R .few)) ne
-      (omega (arith, R .waits i hi .pointed, R .waits j hj .pointed, q))
+  queue-apart = waits-apart n issued h c idx ver back held (R .start) (R .few) (R .waits)
+
+  -- as many indexes say that they wait as numbers wait
+  pub queue-filled : issued ≤ n → filled n back ≡ c
+  queue-filled le =
+      counted-all n c (λ j. idx (wrapped n (h + j))) (λ y. ltb 0 (back y))
+      (λ j hj. omega (arith, R .waits j hj .below))
+      queue-apart
+      (waits-filled n issued h c idx ver back held (R .start) (R .few) (R .waits))
+      (λ x hx q.
+      let l = R .listed x hx (ltb-true 0 (back x) q) in
+      (since n h (back x - 1), l .used, ap idx (wrapped-since n h (R .start) (back x - 1) (omega (arith, ltb-true 0 (back x) q, l .inside))) ∙ l .found))
 
   -- where an issued index does not wait, there is room for it
   pub queue-has-room : (x : ℕ) → x < issued → issued ≤ n → back x ≡ 0 → c < n
