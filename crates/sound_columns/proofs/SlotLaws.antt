@@ -4,7 +4,7 @@ use mathlib.Core.List.{List}
 use Prim.Native.Nat.{ℕ, _+_, _*_, _≤_, _<_}
 use native.Mathlib.Omega.{arith}
 use lib.ListN.{length, getD, List·getD-map}
-use Rattle.model.specs.Model.{Row, noRow, entityOf}
+use Rattle.model.specs.Model.{Row, noRow, entity, entityOf}
 use Rattle.words.specs.Offsets.{columnStart, ENTITIES, ROWS}
 use Rattle.words.proofs.Offsets.{columnStart-apart, columnStart-mono}
 use Rattle.component.specs.SparseSet.{lengthOf, indexAt, versionAt}
@@ -39,6 +39,13 @@ head-read n s i b w h e = ap (λ (x : ℕ). getD w (x + i) 0) e ∙ sym (getD-co
 pub length-read : (n s b : ℕ) (w : List ℕ) → b ≡ columnStart n s → getD w b 0 ≡ lengthOf (columnOf n s w)
 length-read n s b w e = ap (λ (x : ℕ). getD w x 0) (omega arith) ∙ head-read n s 0 b w (omega arith) e
 
+-- the entity of row i, in the column and among all words
+pub row-entity : (n s i : ℕ) (w : List ℕ) → i < n → entity (indexAt (columnOf n s w) i) (versionAt (columnOf n s w) i) ≡ entityIn w (columnStart n s + ROWS + 2 * i)
+row-entity n s i w h =
+    let x : indexAt (columnOf n s w) i ≡ getD w (columnStart n s + ROWS + 2 * i) 0 = getD-column n s (ROWS + 2 * i) w (omega arith) ∙ ap (λ (a : ℕ). getD w a 0) (omega arith) in
+    let v : versionAt (columnOf n s w) i ≡ getD w (columnStart n s + ROWS + 2 * i + 1) 0 = getD-column n s (ROWS + 2 * i + 1) w (omega arith) ∙ ap (λ (a : ℕ). getD w a 0) (omega arith) in
+    λ j. record { index = x j; version = v j }
+
 module _ (n s : ℕ) (w : List ℕ) (L : Lent n s w) where
   abbrev col : List ℕ
   col = columnOf n s w
@@ -50,6 +57,4 @@ module _ (n s : ℕ) (w : List ℕ) (L : Lent n s w) where
   key-word i h =
       let len = length-rows n col in
       let m = rows-most in
-      let x : indexAt col i ≡ getD w (columnStart n s + ROWS + 2 * i) 0 = getD-column n s (ROWS + 2 * i) w (omega arith) ∙ ap (λ (a : ℕ). getD w a 0) (omega arith) in
-      let v : versionAt col i ≡ getD w (columnStart n s + ROWS + 2 * i + 1) 0 = getD-column n s (ROWS + 2 * i + 1) w (omega arith) ∙ ap (λ (a : ℕ). getD w a 0) (omega arith) in
-      List·getD-map entityOf (rowsOf n s w) i noRow ∙ ap (λ (r : Row). r .entity) (getD-rows n col i (omega arith)) ∙ (λ j. record { index = x j; version = v j })
+      List·getD-map entityOf (rowsOf n s w) i noRow ∙ ap (λ (r : Row). r .entity) (getD-rows n col i (omega arith)) ∙ row-entity n s i w (omega arith)

@@ -1,14 +1,24 @@
--- The parts of a sparse set's soundness. Assumes nothing.
+-- A column's part of the words, by itself, and the entity part e. Assumes nothing.
 use mathlib.Core.Path.{_≡_}
+use mathlib.Core.Bool.{true}
 use mathlib.Core.List.{List}
-use Prim.Native.Nat.{ℕ, _≤_, _<_}
+use Prim.Native.Nat.{ℕ}
+use Rattle.model.specs.Model.{entity, isLive}
+use Rattle.words.specs.Decides.{Each}
 use Rattle.words.specs.Links.{Tied}
-use Rattle.component.specs.SparseSet.{lengthOf, indexAt, versionAt, placeOf, heldOf}
+use Rattle.component.specs.SparseSet.{ColumnSound, lengthOf, indexAt, versionAt, placeOf, heldOf}
+use Rattle.entity.specs.Meaning.{entitiesOf}
 
 -- row i and its index's lookup agree
-abbrev pub RowOk : ℕ → List ℕ → ℕ → Type 0
-RowOk n w i = Tied n (indexAt w) (versionAt w) (placeOf n w) (heldOf n w) i
+abbrev pub RowTied : ℕ → List ℕ → ℕ → Type 0
+RowTied n w i = Tied n (indexAt w) (versionAt w) (placeOf n w) (heldOf n w) i
 
--- index x's lookup, where it is held, points to a row of x
-abbrev pub LookupOk : ℕ → List ℕ → ℕ → Type 0
-LookupOk n w x = 1 ≤ heldOf n w x → (placeOf n w x < lengthOf w) × (indexAt w (placeOf n w x) ≡ x)
+-- and its entity is live
+pub record RowOk (n : ℕ) (e w : List ℕ) (i : ℕ) : Type 0 where
+  pub tied : RowTied n w i
+  pub live : isLive (entity (indexAt w i) (versionAt w i)) (entitiesOf n e) ≡ true
+
+-- a sound sparse set whose entities are live
+pub record LiveSet (n : ℕ) (e w : List ℕ) : Type 0 where
+  pub sound : ColumnSound n w
+  pub rows : Each (lengthOf w) (RowOk n e w)

@@ -1,13 +1,14 @@
-// Whether a part is a sound sparse set, in time linear in its words.
-ghost use Prim.Native.Nat.{_+_, _*_, _<_, _≤_};
-ghost use Rattle.component.specs.SparseSet.{ColumnSound, lengthOf};
+// Whether a part is a sound sparse set of live entities, in time linear in its words.
+use entity::entity_storage::contains;
+ghost use Prim.Native.Nat.{_<_, _≤_};
 ghost use Rattle.component.specs.Stored.{ColumnSized};
 ghost use Rattle.words.specs.Decides.{Decides, Each};
-ghost use Rattle.sound_columns.specs.Checks.{RowOk, LookupOk};
+ghost use Rattle.entity.specs.Meaning.{EntityPartSound};
+ghost use Rattle.sound_columns.specs.Checks.{RowTied, RowOk, LiveSet};
 
-fn row_ok(part: &[u32], n: usize, i: usize) -> bool
+fn row_tied(part: &[u32], n: usize, i: usize) -> bool
     requires { ⌜ ColumnSized n (now part) × (i < n) ⌝ }
-    ensures { λ r. ⌜ Decides r (RowOk n (now (part .entry)) i) ⌝ }
+    ensures { λ r. ⌜ Decides r (RowTied n (now (part .entry)) i) ⌝ }
 {
     let c = words::ROWS + 2 * i;
     let x = part[c] as usize;
@@ -30,34 +31,30 @@ fn row_ok(part: &[u32], n: usize, i: usize) -> bool
     true
 }
 
-fn lookup_ok(part: &[u32], n: usize, x: usize) -> bool
-    requires { ⌜ ColumnSized n (now part) × (x < n) × (lengthOf (now part) ≤ n) ⌝ }
-    ensures { λ r. ⌜ Decides r (LookupOk n (now (part .entry)) x) ⌝ }
+// Do row i and its index's lookup agree, and is its entity live?
+fn row_ok(part: &[u32], entities: &[u32], n: usize, i: usize) -> bool
+    requires { ⌜ ColumnSized n (now part) × (i < n) ⌝ }
+    requires { ⌜ EntityPartSound n (now entities) ⌝ }
+    ensures { λ r. ⌜ Decides r (RowOk n (now (entities .entry)) (now (part .entry)) i) ⌝ }
 {
-    let s = words::ROWS + 4 * n + 2 * x;
-    let h = part[s + 1];
-    if h < 1 {
-        return true;
-    }
-    let p = part[s] as usize;
-    let k = part[0] as usize;
-    if k <= p {
+    if !row_tied(part, n, i) {
         return false;
     }
-    let y = part[words::ROWS + 2 * p] as usize;
-    if y != x {
+    let c = words::ROWS + 2 * i;
+    if !contains(entities, n, part[c], part[c + 1]) {
         return false;
     }
     true
 }
 
-fn rows_ok(part: &[u32], n: usize, k: usize) -> bool
+fn rows_ok(part: &[u32], entities: &[u32], n: usize, k: usize) -> bool
     requires { ⌜ ColumnSized n (now part) × (k ≤ n) ⌝ }
-    ensures { λ r. ⌜ Decides r (Each k (RowOk n (now (part .entry)))) ⌝ }
+    requires { ⌜ EntityPartSound n (now entities) ⌝ }
+    ensures { λ r. ⌜ Decides r (Each k (RowOk n (now (entities .entry)) (now (part .entry)))) ⌝ }
 {
     let mut i = 0;
     while i < k {
-        if !row_ok(part, n, i) {
+        if !row_ok(part, entities, n, i) {
             return false;
         }
         i += 1;
@@ -65,38 +62,22 @@ fn rows_ok(part: &[u32], n: usize, k: usize) -> bool
     true
 }
 
-fn lookups_ok(part: &[u32], n: usize) -> bool
-    requires { ⌜ ColumnSized n (now part) × (lengthOf (now part) ≤ n) ⌝ }
-    ensures { λ r. ⌜ Decides r (Each n (LookupOk n (now (part .entry)))) ⌝ }
+// Whether a part is a sound sparse set of entities that are live, by the entity part. Where all rows agree with their lookups, no other index is held
+// exactly if as many are held as there are rows.
+pub fn is_sound(part: &[u32], entities: &[u32], n: usize) -> bool
+    requires { ⌜ ColumnSized n (now part) ⌝ }
+    requires { ⌜ EntityPartSound n (now entities) ⌝ }
+    ensures { λ r. ⌜ Decides r (LiveSet n (now (entities .entry)) (now (part .entry))) ⌝ }
 {
-    let mut x = 0;
-    while x < n {
-        if !lookup_ok(part, n, x) {
-            return false;
-        }
-        x += 1;
-    }
-    true
-}
-
-// Whether a part is a sound sparse set of capacity n.
-pub fn is_sound(part: &[u32], n: usize) -> bool
-    ensures { λ r. ⌜ Decides r (ColumnSound n (now (part .entry))) ⌝ }
-{
-    if model::MAX_ENTITIES < n {
-        return false;
-    }
-    if part.len() != words::ROWS + model::ROW_LEN * n {
-        return false;
-    }
-    let k = part[0] as usize;
+    let k = part[words::ROWS_LEN] as usize;
     if n < k {
         return false;
     }
-    if !rows_ok(part, n, k) {
+    if !rows_ok(part, entities, n, k) {
         return false;
     }
-    if !lookups_ok(part, n) {
+    let held = words::count_held(part, words::ROWS + 4 * n, n) as usize;
+    if held != k {
         return false;
     }
     true

@@ -1,42 +1,53 @@
+use mathlib.Core.Path.{_≡_}
+use mathlib.Core.Bool.{true}
 use borrow.Author.Needs.{needs}
-use Prim.Native.Nat.{_+_, _*_, _-_, _<_}
-use native.Mathlib.Omega.{arith}
-use Rattle.words.specs.Offsets.{ROWS}
-use Rattle.component.specs.SparseSet.{indexAt}
-use Rattle.component.proofs.Sums.{row-sums, row-in, lookup-sums, lookup-in}
+use Rattle.model.specs.Model.{entity, isLive}
+use Rattle.words.proofs.Decides.{granted, denied, decides-test}
+use Rattle.component.specs.SparseSet.{indexAt, versionAt}
+use Rattle.entity.specs.Meaning.{entitiesOf}
+use Rattle.sound_columns.specs.Checks.{RowTied}
 use Rattle.sound_columns.proofs.sparse_set.row_ok.Statement.{statement}
 use Rattle.sound_columns.proofs.sparse_set.row_ok.Tie as tie
 
-cast-x : tie.Need-cast-x
-cast-x c = omega (arith, c .shared-slice-known .given (ROWS + 2 * c .before .args .i))
+returns : tie.Need-returns
+returns c =
+    let a = c .before .before .before .before .args in
+    let r = c .before .row-tied in
+    λ o. denied {P = RowTied (a .n) (a .part .now) (a .i)} (r .result) (r .ensures) (c .if1 .taken) (o .tied)
 
-cast-p : tie.Need-cast-p
-cast-p c = let a = c .before .before .before .before .before .args in omega (arith, c .shared-slice-known3 .given (ROWS + 4 * a .n + 2 * indexAt (a .part .now) (a .i)))
+returns-2 : tie.Need-returns-2
+returns-2 c =
+    let a = c .before .before .before .before .before .before .before .before .args in
+    let r = c .before .contains in
+    λ o.
+    denied {P = isLive (entity (indexAt (a .part .now) (a .i)) (versionAt (a .part .now) (a .i))) (entitiesOf (a .n) (a .entities .now)) ≡ true} (r .result)
+    (decides-test (r .result) _ (r .ensures)) (c .if2 .taken) (o .live)
+
+returns-3 : tie.Need-returns-3
+returns-3 c =
+    let a = c .before .before .before .before .before .before .before .before .args in
+    let q = c .before .before .before .before .before .row-tied in
+    let r = c .before .contains in
+    record {
+      tied = granted {P = RowTied (a .n) (a .part .now) (a .i)} (q .result) (q .ensures) (c .before .before .before .before .if1 .left);
+      live =
+          granted {P = isLive (entity (indexAt (a .part .now) (a .i)) (versionAt (a .part .now) (a .i))) (entitiesOf (a .n) (a .entities .now)) ≡ true} (r .result)
+          (decides-test (r .result) _ (r .ensures)) (c .if2 .left);
+    }
 
 pub row-ok-spec : {M : Type 1} → statement M
 row-ok-spec =
     tie.close
     (tie.spec
-    (λ c. row-sums (c .args .n) (c .args .i) (c .pre .0 .small) (c .pre .1) .0)
-    (λ c. row-sums (c .args .n) (c .args .i) (c .pre .0 .small) (c .pre .1) .1)
-    (λ c. row-sums (c .args .n) (c .args .i) (c .pre .0 .small) (c .pre .1) .2)
-    (λ c. row-in (c .before .args .n) (c .before .args .i) _ (c .before .pre .0 .size) (c .before .pre .1) .0)
-    cast-x
+    (λ c κs. search needs)
+    returns
     (λ c. search needs)
-    (λ c. row-sums (c .before .before .args .n) (c .before .before .args .i) (c .before .before .pre .0 .small) (c .before .before .pre .1) .3)
-    (λ c. row-sums (c .before .before .args .n) (c .before .before .args .i) (c .before .before .pre .0 .small) (c .before .before .pre .1) .4)
-    (λ c. row-in (c .before .before .before .args .n) (c .before .before .before .args .i) _ (c .before .before .before .pre .0 .size) (c .before .before .before .pre .1) .1)
     (λ c. search needs)
-    (λ c. lookup-sums (c .before .before .before .before .args .n) _ (c .before .before .before .before .pre .0 .small) (c .before .before .if1 .left) .0)
-    (λ c. lookup-sums (c .before .before .before .before .args .n) _ (c .before .before .before .before .pre .0 .small) (c .before .before .if1 .left) .1)
-    (λ c. lookup-sums (c .before .before .before .before .args .n) _ (c .before .before .before .before .pre .0 .small) (c .before .before .if1 .left) .2)
-    (λ c. lookup-sums (c .before .before .before .before .args .n) _ (c .before .before .before .before .pre .0 .small) (c .before .before .if1 .left) .3)
-    (λ c. lookup-sums (c .before .before .before .before .args .n) _ (c .before .before .before .before .pre .0 .small) (c .before .before .if1 .left) .4)
-    (λ c. lookup-in (c .before .before .before .before .before .args .n) _ _ (c .before .before .before .before .before .pre .0 .size) (c .before .before .before .if1 .left) .0)
-    cast-p
     (λ c. search needs)
-    (λ c. lookup-sums (c .before .before .before .before .before .before .args .n) _ (c .before .before .before .before .before .before .pre .0 .small) (c .before .before .before .before .if1 .left) .5)
-    (λ c. lookup-sums (c .before .before .before .before .before .before .args .n) _ (c .before .before .before .before .before .before .pre .0 .small) (c .before .before .before .before .if1 .left) .6)
-    (λ c. lookup-in (c .before .before .before .before .before .before .before .args .n) _ _ (c .before .before .before .before .before .before .before .pre .0 .size) (c .before .before .before .before .before .if1 .left) .1)
     (λ c. search needs)
-    (λ c. search needs))
+    (λ c. search needs)
+    (λ c. search needs)
+    (λ c. search needs)
+    (λ c κs. search needs)
+    returns-2
+    returns-3)
