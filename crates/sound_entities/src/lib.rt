@@ -6,9 +6,9 @@ ghost use lib.ListN.{length};
 ghost use Rattle.model.specs.Numbers.{ENTITY-LEN, MAX-ENTITIES};
 ghost use Rattle.words.specs.Offsets.{ENTITIES};
 ghost use Rattle.words.specs.Decides.{Decides, Each};
-ghost use Rattle.entity.specs.Queue.{since};
-ghost use Rattle.entity.specs.Meaning.{entityPart, EntityPartSized, EntityPartSound, lenOf, recycledLen};
-ghost use Rattle.sound_entities.specs.Checks.{CountsFit, LiveOk, LookupOk, WaitsOk, ListedOk, IndexOk};
+ghost use Rattle.words.specs.Counted.{filled};
+ghost use Rattle.entity.specs.Meaning.{entityPart, EntityPartSized, EntityPartSound, lenOf, recycledLen, queueSlot};
+ghost use Rattle.sound_entities.specs.Checks.{CountsFit, LiveOk, WaitsOk, IndexesOk};
 
 // The counts are within the capacity.
 fn counts_ok(part: &[u32], n: usize) -> bool
@@ -123,91 +123,33 @@ fn queue_ok(part: &[u32], n: usize) -> bool
     true
 }
 
-// A lookup that says live points to a place of the live list that has the index.
-fn lookup_ok(part: &[u32], n: usize, x: usize) -> bool
-    requires { ⌜ EntityPartSized n (now part) × (x < n) ⌝ }
-    requires { ⌜ CountsFit n (now part) ⌝ }
-    ensures { λ r. ⌜ Decides r (LookupOk n (now (part .entry)) x) ⌝ }
-{
-    let slot = words::LIVE_LIST + 2 * n + 2 * x;
-    let held = part[slot + 1];
-    if held < 1 {
-        return true;
-    }
-    let place = part[slot] as usize;
-    let k = part[words::LIVE_LEN] as usize;
-    if k <= place {
-        return false;
-    }
-    let index = part[words::LIVE_LIST + 2 * place] as usize;
-    if index != x {
-        return false;
-    }
-    true
-}
-
-// How many places after the head the place comes.
-fn behind(n: usize, head: usize, place: usize) -> usize
-    requires { ⌜ (n ≤ MAX-ENTITIES) × (head < n) × (place < n) ⌝ }
-    ensures { λ r. ⌜ r ≡ since n head place ⌝ }
-{
-    if head <= place {
-        return place - head;
-    }
-    place + n - head
-}
-
-// An index that says that it waits points to a place in use that has the index.
-fn listed_ok(part: &[u32], n: usize, x: usize) -> bool
-    requires { ⌜ EntityPartSized n (now part) × (x < n) ⌝ }
-    requires { ⌜ CountsFit n (now part) ⌝ }
-    ensures { λ r. ⌜ Decides r (ListedOk n (now (part .entry)) x) ⌝ }
-{
-    let slot = part[words::LIVE_LIST + 6 * n + x] as usize;
-    if slot < 1 {
-        return true;
-    }
-    if n < slot {
-        return false;
-    }
-    let place = slot - 1;
-    let others = behind(n, part[words::QUEUE_HEAD] as usize, place);
-    let k = part[words::RECYCLED_LEN] as usize;
-    if k <= others {
-        return false;
-    }
-    let index = part[words::LIVE_LIST + 4 * n + 2 * place] as usize;
-    if index != x {
-        return false;
-    }
-    true
-}
-
-fn index_ok(part: &[u32], n: usize, x: usize) -> bool
-    requires { ⌜ EntityPartSized n (now part) × (x < n) ⌝ }
-    requires { ⌜ CountsFit n (now part) ⌝ }
-    ensures { λ r. ⌜ Decides r (IndexOk n (now (part .entry)) x) ⌝ }
-{
-    if !lookup_ok(part, n, x) {
-        return false;
-    }
-    if !listed_ok(part, n, x) {
-        return false;
-    }
-    true
-}
-
-fn indexes_ok(part: &[u32], n: usize) -> bool
+// How many indexes say that they wait. No branch on what they say.
+fn count_waiting(part: &[u32], n: usize) -> u32
     requires { ⌜ EntityPartSized n (now part) ⌝ }
-    requires { ⌜ CountsFit n (now part) ⌝ }
-    ensures { λ r. ⌜ Decides r (Each n (IndexOk n (now (part .entry)))) ⌝ }
+    ensures { λ r. ⌜ r ≡ filled n (queueSlot n (now (part .entry))) ⌝ }
 {
+    let from = words::LIVE_LIST + 6 * n;
+    let mut count = 0u32;
     let mut x = 0;
     while x < n {
-        if !index_ok(part, n, x) {
-            return false;
-        }
+        count += (0 < part[from + x]) as u32;
         x += 1;
+    }
+    count
+}
+
+// As many lookups say live as the live list is long, and as many indexes say that they wait as the queue has numbers.
+fn indexes_ok(part: &[u32], n: usize) -> bool
+    requires { ⌜ EntityPartSized n (now part) ⌝ }
+    ensures { λ r. ⌜ Decides r (IndexesOk n (now (part .entry))) ⌝ }
+{
+    let live = words::count_held(part, words::LIVE_LIST + 2 * n, n);
+    if live != part[words::LIVE_LEN] {
+        return false;
+    }
+    let waiting = count_waiting(part, n);
+    if waiting != part[words::RECYCLED_LEN] {
+        return false;
     }
     true
 }

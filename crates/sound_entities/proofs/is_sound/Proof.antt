@@ -4,7 +4,7 @@ use borrow.Author.Needs.{needs}
 use Rattle.words.specs.Decides.{Each}
 use Rattle.words.proofs.Decides.{granted, denied}
 use Rattle.sound_entities.proofs.Checking.{counts-of, live-of, indexes-of, sound-of}
-use Rattle.sound_entities.specs.Checks.{CountsFit, LiveOk, WaitsOk, IndexOk}
+use Rattle.sound_entities.specs.Checks.{CountsFit, LiveOk, WaitsOk, IndexesOk}
 use Rattle.entity.specs.Meaning.{lenOf, recycledLen}
 use Rattle.sound_entities.proofs.is_sound.Statement.{statement}
 use Rattle.sound_entities.proofs.is_sound.Tie as tie
@@ -39,17 +39,11 @@ returns-5 c =
     let w = c .before .before .before .before .before .before .before .before .before .args .part .now in
     λ s. denied {P = Each (recycledLen w) (WaitsOk n w)} (c .before .queue-ok .result) (c .before .queue-ok .ensures) (c .if5 .taken) (s .queue .waits)
 
-indexes-ok-requires : tie.Need-indexes-ok-requires
-indexes-ok-requires c κs =
-    let n = c .before .before .before .before .before .before .before .before .before .args .n in
-    let w = c .before .before .before .before .before .before .before .before .before .args .part .now in
-    (search needs, granted {P = CountsFit n w} (c .before .before .before .before .before .counts-ok .result) (c .before .before .before .before .before .counts-ok .ensures) (c .before .before .before .before .if3 .left))
-
 returns-6 : tie.Need-returns-6
 returns-6 c =
     let n = c .before .before .before .before .before .before .before .before .before .before .before .args .n in
     let w = c .before .before .before .before .before .before .before .before .before .before .before .args .part .now in
-    λ s. denied {P = Each n (IndexOk n w)} (c .before .indexes-ok .result) (c .before .indexes-ok .ensures) (c .if6 .taken) (indexes-of n w s)
+    λ s. denied {P = IndexesOk n w} (c .before .indexes-ok .result) (c .before .indexes-ok .ensures) (c .if6 .taken) (indexes-of n w s)
 
 returns-7 : tie.Need-returns-7
 returns-7 c =
@@ -59,7 +53,7 @@ returns-7 c =
     (granted {P = CountsFit n w} (c .before .before .before .before .before .before .before .counts-ok .result) (c .before .before .before .before .before .before .before .counts-ok .ensures) (c .before .before .before .before .before .before .if3 .left))
     (granted {P = Each (lenOf w) (LiveOk n w)} (c .before .before .before .before .before .live-list-ok .result) (c .before .before .before .before .before .live-list-ok .ensures) (c .before .before .before .before .if4 .left))
     (granted {P = Each (recycledLen w) (WaitsOk n w)} (c .before .before .before .queue-ok .result) (c .before .before .before .queue-ok .ensures) (c .before .before .if5 .left))
-    (granted {P = Each n (IndexOk n w)} (c .before .indexes-ok .result) (c .before .indexes-ok .ensures) (c .if6 .left))
+    (granted {P = IndexesOk n w} (c .before .indexes-ok .result) (c .before .indexes-ok .ensures) (c .if6 .left))
 
 pub is-sound-spec : {M : Type 1} → statement M
 is-sound-spec =
@@ -74,6 +68,6 @@ is-sound-spec =
     returns-4
     queue-ok-requires
     returns-5
-    indexes-ok-requires
+    (λ c κs. search needs)
     returns-6
     returns-7)
