@@ -1,17 +1,20 @@
 -- A group's numbers as they were read; the first rows of two columns, word by word and entity by entity. Assumes nothing.
 use mathlib.Core.Path.{_≡_, sym, ap, ap₂, _∙_}
-use mathlib.Core.Bool.{Bool, true, false}
+use mathlib.Core.Bool.{Bool, true, false, not}
 use mathlib.Core.List.{List}
 use Prim.Native.Nat.{ℕ, _+_, _*_, _/_, _%_, _≤_, _<_}
 use native.Mathlib.Omega.{arith}
-use borrow.Author.Tests.{eqb-true, eq-eqb}
+use borrow.Author.Tests.{eqb-true, eq-eqb, not-false}
+use lib.Dec.{eqb}
 use lib.ListN.{length, getD}
 use Rattle.model.specs.Numbers.{MAX-KINDS}
 use Rattle.model.specs.Model.{Entity}
 use Rattle.words.specs.Offsets.{columnStart, COLUMN-KIND, GROUP-COUNTS, ROWS, ENTITIES, GROUP-PLACES, LAYOUT}
 use Rattle.words.specs.Part.{between}
 use Rattle.model.proofs.BoolLaws.{by-eq}
+use Rattle.words.specs.Counted.{howMany}
 use Rattle.words.specs.Decides.{Decides, Each}
+use Rattle.words.proofs.Counted.{none-counted, counted-none}
 use Rattle.component.specs.Columns.{rowsOf}
 use Rattle.component.specs.Changes.{Lent}
 use Rattle.sound_columns.specs.Rows.{entityIn, keyAt}
@@ -41,6 +44,18 @@ count-moved n w g f r whole prior h R e q b d =
     q .is ∙ sym (prior-count-word w (r .first) g whole h)
     ∙ ap₂ (λ (s x : ℕ). priorOf (between GROUP-COUNTS ENTITIES w) s g x) (R .first) (sym e ∙ ap (λ (i : ℕ). length (rowsAt n w (LAYOUT + i))) (R .start)) in
     rw (o, R .new, R .end, R .start) at d
+
+-- ---- words that differ, counted
+
+module _ (w : List ℕ) (a b : ℕ) where
+  abbrev pub differs : ℕ → Bool
+  differs i = not (eqb (getD w (a + i) 0) (getD w (b + i) 0))
+
+  pub none-differ : (e : ℕ) → howMany e differs ≡ 0 → Each e (SameWord w a b)
+  none-differ e q i h = eqb-true (getD w (a + i) 0) (getD w (b + i) 0) (not-false _ (none-counted differs e q i h))
+
+  pub same-counted : (e : ℕ) → Each e (SameWord w a b) → howMany e differs ≡ 0
+  same-counted e f = counted-none differs e (λ i h. ap not (eq-eqb (getD w (a + i) 0) (getD w (b + i) 0) (f i h)))
 
 -- ---- entities and their words
 

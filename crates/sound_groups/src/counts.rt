@@ -2,7 +2,7 @@
 use layout::starts::prior_of;
 ghost use Prim.Native.Nat.{_+_, _*_, _<_, _≤_};
 ghost use lib.ListN.{length};
-ghost use Rattle.model.specs.Numbers.{MAX-GROUP-COUNT};
+ghost use Rattle.model.specs.Numbers.{MAX-ENTITIES, MAX-GROUP-COUNT};
 ghost use Rattle.model.specs.Model.{entity};
 ghost use Rattle.words.specs.Offsets.{GROUP-PLACES, LAYOUT-ARITIES};
 ghost use Rattle.words.specs.Decides.{Decides, Each};
@@ -16,18 +16,20 @@ ghost use Rattle.sound_groups.specs.Spans.{KindAt, KindsAt, Force};
 ghost use Rattle.sound_columns.specs.Rows.{keyAt};
 ghost use Rattle.sound_groups.specs.Counts.{SameWord, EvenOk, HoldsAll, CountOk, GroupCounted, CountedOk};
 
-// Are c entities from two words on the same?
+// Are c entities from two words on the same? The words that differ are counted, with no end before the last, so that several are passed at once.
 fn same_rows(words: &[u32], a: usize, b: usize, c: usize) -> bool
-    requires { ⌜ (a + 2 * c ≤ length (now words)) × (b + 2 * c ≤ length (now words)) ⌝ }
+    requires { ⌜ (a + 2 * c ≤ length (now words)) × (b + 2 * c ≤ length (now words)) × (c ≤ MAX-ENTITIES) ⌝ }
     ensures { λ r. ⌜ Decides r (Each (2 * c) (SameWord (now (words .entry)) a b)) ⌝ }
 {
     let end = 2 * c;
+    let mut differ = 0u32;
     let mut i = 0;
     while i < end {
-        if words[a + i] != words[b + i] {
-            return false;
-        }
+        differ += (words[a + i] != words[b + i]) as u32;
         i += 1;
+    }
+    if 0 < differ {
+        return false;
     }
     true
 }
