@@ -4,19 +4,19 @@ use mathlib.Core.Logic.{_↔_}
 use mathlib.Core.Bool.{Bool, true, false, not, _||_}
 use mathlib.Core.Option.{Option, some, none}
 use mathlib.Core.List.{List, [], _∷_, map}
-use Prim.Native.Nat.{ℕ, _-_, _*_, _≤_}
+use Prim.Native.Nat.{ℕ, zero, suc, _-_, _*_, _/_, _≤_}
 use native.Mathlib.Omega.{arith}
 use native.Mathlib.Nat.{pos-of-ne-zero}
 use borrow.Author.Tests.{ltb-false, eqb-false, not-false}
 use lib.Dec.{eqb, ltb}
-use lib.ListN.{length, take, length-map, length-drop}
+use lib.ListN.{length, take, length-append, length-map, length-drop}
 use lib.Seq.{length-take-le}
-use Rattle.model.specs.Numbers.{LAST-KIND, MAX-ENTITIES, MAX-KINDS}
+use Rattle.model.specs.Numbers.{LAST-KIND, MAX-ENTITIES, MAX-KINDS, VALUE-WORDS}
 use Rattle.model.specs.Model.{Entity, SparseSet, setOf, keys, entityOf}
 use Rattle.model.specs.Store.{Settings, Store, emptyWith, wordsNeeded, isKind}
 use Rattle.model.specs.Snapshot.{snapshot}
 use Rattle.model.specs.Refusals.{firstLine, NoneHolds, First, startLines, rollLines, columnLines}
-use Rattle.model.specs.Entries.{refusesStart, makes, startedBy, startTold, startWith, entityWords, valueWords, rowValue, part, partWords, columnRefusal, column, refusesEmit, writes, roll}
+use Rattle.model.specs.Entries.{refusesStart, makes, startedBy, startTold, startWith, entityWords, inWords, valueWords, rowValue, part, partWords, columnRefusal, column, refusesEmit, writes, roll}
 use Rattle.model.specs.Sound.{Limits, StoreSound}
 use Rattle.model.proofs.BoolLaws.{or-false, or-false-right}
 use Rattle.model.proofs.Operations.{empty-sound}
@@ -80,9 +80,14 @@ entity-words : (l : List Entity) → length (entityWords l) ≡ 2 * length l
 entity-words [] = refl
 entity-words (e ∷ l) = omega (arith, entity-words l)
 
-value-words : (l : List ℕ) → length (valueWords l) ≡ 2 * length l
-value-words [] = refl
-value-words (v ∷ l) = omega (arith, value-words l)
+in-words : (d x : ℕ) → length (inWords d x) ≡ d
+in-words zero x = refl
+in-words (suc zero) x = refl
+in-words (suc (suc d)) x = ap suc (in-words (suc d) (x / 4294967296))
+
+value-words : (d : ℕ) (l : List ℕ) → length (valueWords d l) ≡ d * length l
+value-words d [] = omega arith
+value-words d (x ∷ l) = omega (arith, length-append (inWords d x) (valueWords d l), in-words d x, value-words d l)
 
 part-length : {A : Type 0} (a e : ℕ) (l : List A) → e ≤ length l → length (part a e l) ≡ e - a
 part-length a e l h = length-drop a (take e l) ∙ ap (λ (n : ℕ). n - a) (length-take-le e l h)
@@ -104,7 +109,7 @@ column-accepted which k a e s p =
   where
     size : (which : Bool) (rows : SparseSet) → e ≤ length rows → length (partWords which a e rows) ≡ 2 * (e - a)
     size false rows q = entity-words (part a e (keys rows)) ∙ ap (λ (n : ℕ). 2 * n) (part-length a e (keys rows) (omega (arith, length-map rows entityOf)))
-    size true rows q = value-words (part a e (map rowValue rows)) ∙ ap (λ (n : ℕ). 2 * n) (part-length a e (map rowValue rows) (omega (arith, length-map rows rowValue)))
+    size true rows q = value-words VALUE-WORDS (part a e (map rowValue rows)) ∙ ap (λ (n : ℕ). 2 * n) (part-length a e (map rowValue rows) (omega (arith, length-map rows rowValue)))
 
 -- ---- roll
 

@@ -9,6 +9,7 @@ use native.Mathlib.Omega.{arith}
 use borrow.Author.Tests.{ltb-false}
 use lib.Dec.{ltb}
 use lib.ListN.{length, take, drop, getD, length-append, length-map, length-drop}
+use Rattle.model.specs.Numbers.{VALUE-BYTES}
 use Rattle.model.specs.Model.{Entity, SparseSet, Storage, Range, none, found, noRow, setOf, at, held, kindOf, rangeUnder, addsNothing, create}
 use Rattle.model.specs.Store.{Store, bytesOf, stagedKinds, isKind, ownRefusals}
 use Rattle.model.specs.Commands.{Command, REG, HOLD, NEW, PUT, TAKE, DROP, KILL, WIPE, GROUP, APPLY, BAR, RANGE, EMPTY, TALLY, TRAY, SETCALLER, Done, accepted, answerLength, takenBytes, heldBytes, rangeBytes, width, commandAt}
@@ -27,25 +28,25 @@ bytesOf-length (suc n) x = ap suc (bytesOf-length n (x / 256))
 pair-length : (x y : ℕ) → length (bytesOf 4 x ++ bytesOf 4 y) ≡ 8
 pair-length x y = length-append (bytesOf 4 x) (bytesOf 4 y) ∙ ap₂ (λ (a b : ℕ). a + b) (bytesOf-length 4 x) (bytesOf-length 4 y)
 
-pub component-length : (e : Entity) (rows : SparseSet) → length (takenBytes e rows) ≡ 9
-component-length e rows = cond-case (λ (b : List ℕ). length b ≡ 9) (held e rows) _ _ (λ t. ap suc (bytesOf-length 8 (getD rows (at e rows) noRow .value))) (λ t. refl)
+pub component-length : (v : ℕ) (e : Entity) (rows : SparseSet) → length (takenBytes v e rows) ≡ 1 + v
+component-length v e rows = cond-case (λ (b : List ℕ). length b ≡ 1 + v) (held e rows) _ _ (λ t. omega (arith, bytesOf-length v (getD rows (at e rows) noRow .value))) (λ t. omega (arith, bytesOf-length v 0))
 
-pub held-length : (e : Entity) (ks : List ℕ) (p : Storage) → length (heldBytes e ks p) ≡ 9 * length ks
-held-length e [] p = refl
-held-length e (k ∷ ks) p = omega (arith, held-length e ks p, component-length e (setOf (p .sets) k), length-append (takenBytes e (setOf (p .sets) k)) (heldBytes e ks p))
+pub held-length : (v : ℕ) (e : Entity) (ks : List ℕ) (p : Storage) → length (heldBytes v e ks p) ≡ (1 + v) * length ks
+held-length v e [] p = omega arith
+held-length v e (k ∷ ks) p = omega (arith, held-length v e ks p, component-length v e (setOf (p .sets) k), length-append (takenBytes v e (setOf (p .sets) k)) (heldBytes v e ks p))
 
 range-length : (r : Range) → length (rangeBytes r) ≡ 9
 range-length none = refl
 range-length (found a b) = ap suc (pair-length a b)
 
 -- an accepted answer, with its 0 byte, has the length that the room is judged by
-pub accepted-length : (c : Command) (s : Store) → suc (length ((accepted c s) .answer)) ≡ answerLength c s
+pub accepted-length : (c : Command) (s : Store) → suc (length ((accepted c s) .answer)) ≡ answerLength VALUE-BYTES c s
 unfolding accepted
 accepted-length (REG k) s = cond-case (λ (d : Done). suc (length (d .answer)) ≡ 2) (isKind k s) _ _ (λ t. refl) (λ t. refl)
 accepted-length (HOLD k v) s = refl
 accepted-length NEW s = ap suc (pair-length ((create (s .entities)) .entity .index) ((create (s .entities)) .entity .version))
 accepted-length (PUT e) s = refl
-accepted-length (TAKE e) s = omega (arith, held-length e (stagedKinds s) (s .storage), length-map (s .control .staged) kindOf)
+accepted-length (TAKE e) s = omega (arith, held-length VALUE-BYTES e (stagedKinds s) (s .storage), length-map (s .control .staged) kindOf)
 accepted-length (DROP e) s = refl
 accepted-length (KILL e) s = refl
 accepted-length WIPE s = refl
@@ -58,25 +59,25 @@ accepted-length TALLY s = ap suc (bytesOf-length 4 (ownRefusals (s .control)))
 accepted-length (TRAY n) s = ap suc (bytesOf-length 2 n)
 accepted-length (SETCALLER c) s = refl
 
-pub answer-length : (c : Command) (s s′ : Store) (a : List ℕ) → does c s ≡ accepts s′ a → suc (length a) ≡ answerLength c s
+pub answer-length : (c : Command) (s s′ : Store) (a : List ℕ) → does c s ≡ accepts s′ a → suc (length a) ≡ answerLength VALUE-BYTES c s
 answer-length c s s′ a e = sym (ap (λ (b : List ℕ). suc (length b)) (accepted-exact c s s′ a .0 e .2)) ∙ accepted-length c s
 
-pub answer-positive : (c : Command) (s : Store) → 1 ≤ answerLength c s
+pub answer-positive : (c : Command) (s : Store) → 1 ≤ answerLength VALUE-BYTES c s
 answer-positive c s = omega (arith, accepted-length c s)
 
 -- the answer takes no more than the accepted one
-pub answer-fits : (c : Command) (s : Store) (x : Outcome) → does c s ≡ x → length (answerOf x) ≤ answerLength c s
+pub answer-fits : (c : Command) (s : Store) (x : Outcome) → does c s ≡ x → length (answerOf x) ≤ answerLength VALUE-BYTES c s
 answer-fits c s (refuses n) e = answer-positive c s
 answer-fits c s (accepts s′ a) e = omega (arith, answer-length c s s′ a e)
 
 -- ---- one step
 
 -- a property of a step that goes on, from that of what it does where no line before the command holds
-pub step-case : (P : Step → Type 0) (b : ℕ) (t : List ℕ) (room : ℕ) (s : Store) → ((n : ℕ) → P (stops n)) → (NoneHolds beforeLines (record { byte = b; rest = t; room = room; store = s }) → P (stepOf (suc (width b)) s (does (commandAt b (take (width b) t)) s))) → P (step b t room s)
+pub step-case : (P : Step → Type 0) (b : ℕ) (t : List ℕ) (room : ℕ) (s : Store) → ((n : ℕ) → P (stops n)) → (NoneHolds beforeLines (record { byte = b; rest = t; room = room; store = s }) → P (stepOf (suc (width VALUE-BYTES b)) s (does (commandAt b (take (width VALUE-BYTES b) t)) s))) → P (step b t room s)
 unfolding step
 step-case P b t room s f g = go (firstLine beforeLines (record { byte = b; rest = t; room = room; store = s })) (λ e. g (none-to beforeLines (record { byte = b; rest = t; room = room; store = s }) e))
   where
-    go : (r : Option ℕ) → (r ≡ none → P (stepOf (suc (width b)) s (does (commandAt b (take (width b) t)) s))) → P (stepIf r (stepOf (suc (width b)) s (does (commandAt b (take (width b) t)) s)))
+    go : (r : Option ℕ) → (r ≡ none → P (stepOf (suc (width VALUE-BYTES b)) s (does (commandAt b (take (width VALUE-BYTES b) t)) s))) → P (stepIf r (stepOf (suc (width VALUE-BYTES b)) s (does (commandAt b (take (width VALUE-BYTES b) t)) s)))
     go (some n) h = f n
     go none h = h refl
 
@@ -85,24 +86,24 @@ pub clash : (o : Outcome) (n : ℕ) (s : Store) (a : List ℕ) → o ≡ refuses
 clash o n s a p q = let z : _≡_ {A = ℕ} 0 1 = cc in omega arith
 
 pub step-lengths : (b : ℕ) (t : List ℕ) (room : ℕ) (s : Store) → IfGoes (λ w a s′. StepFits b t room s w a) (step b t room s)
-step-lengths b t room s = step-case (IfGoes (λ w a s′. StepFits b t room s w a)) b t room s (λ n. tt) (λ h. go (does (commandAt b (take (width b) t)) s) refl (h .1 .0) (h .1 .1 .0))
+step-lengths b t room s = step-case (IfGoes (λ w a s′. StepFits b t room s w a)) b t room s (λ n. tt) (λ h. go (does (commandAt b (take (width VALUE-BYTES b) t)) s) refl (h .1 .0) (h .1 .1 .0))
   where
-    go : (o : Outcome) → does (commandAt b (take (width b) t)) s ≡ o → ltb (length t) (width b) ≡ false → ltb room (answerLength (commandAt b (take (width b) t)) s) ≡ false → IfGoes (λ w a s′. StepFits b t room s w a) (stepOf (suc (width b)) s o)
+    go : (o : Outcome) → does (commandAt b (take (width VALUE-BYTES b) t)) s ≡ o → ltb (length t) (width VALUE-BYTES b) ≡ false → ltb room (answerLength VALUE-BYTES (commandAt b (take (width VALUE-BYTES b) t)) s) ≡ false → IfGoes (λ w a s′. StepFits b t room s w a) (stepOf (suc (width VALUE-BYTES b)) s o)
     go (refuses n) e v w =
         record {
           read = refl;
-          whole = omega (arith, ltb-false (length t) (width b) v);
-          fits = omega (arith, ltb-false room (answerLength (commandAt b (take (width b) t)) s) w, answer-positive (commandAt b (take (width b) t)) s);
+          whole = omega (arith, ltb-false (length t) (width VALUE-BYTES b) v);
+          fits = omega (arith, ltb-false room (answerLength VALUE-BYTES (commandAt b (take (width VALUE-BYTES b) t)) s) w, answer-positive (commandAt b (take (width VALUE-BYTES b) t)) s);
           refused = λ m p. refl;
-          accepted = λ s′ x p. absurd (clash (does (commandAt b (take (width b) t)) s) n s′ x e p);
+          accepted = λ s′ x p. absurd (clash (does (commandAt b (take (width VALUE-BYTES b) t)) s) n s′ x e p);
         }
     go (accepts s′ a) e v w =
         record {
           read = refl;
-          whole = omega (arith, ltb-false (length t) (width b) v);
-          fits = omega (arith, ltb-false room (answerLength (commandAt b (take (width b) t)) s) w, answer-length (commandAt b (take (width b) t)) s s′ a e);
-          refused = λ m p. absurd (clash (does (commandAt b (take (width b) t)) s) m s′ a p e);
-          accepted = λ q x p. answer-length (commandAt b (take (width b) t)) s s′ a e;
+          whole = omega (arith, ltb-false (length t) (width VALUE-BYTES b) v);
+          fits = omega (arith, ltb-false room (answerLength VALUE-BYTES (commandAt b (take (width VALUE-BYTES b) t)) s) w, answer-length (commandAt b (take (width VALUE-BYTES b) t)) s s′ a e);
+          refused = λ m p. absurd (clash (does (commandAt b (take (width VALUE-BYTES b) t)) s) m s′ a p e);
+          accepted = λ q x p. answer-length (commandAt b (take (width VALUE-BYTES b) t)) s s′ a e;
         }
 
 -- ---- a run

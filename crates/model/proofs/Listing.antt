@@ -11,7 +11,7 @@ use borrow.Author.Tests.{eqb-true, eq-eqb, ne-eqb, lt-ltb, ltb-true}
 use native.Mathlib.Decide.{ℕ-discrete, decLt}
 use lib.Dec.{eqb, ltb, eqb·suc-zero}
 use lib.ListN.{length, getD}
-use Rattle.model.specs.Numbers.{MAX-KINDS}
+use Rattle.model.specs.Numbers.{MAX-KINDS, VALUE-BYTES}
 use Rattle.model.specs.Lists.{countOf, one}
 use Rattle.model.proofs.ListLaws.{count-length}
 use Rattle.model.specs.Model.{sameEntity, Entity, SparseSet, Component, setOf}
@@ -160,7 +160,7 @@ record SameAt (s t : Store) : Type 0 where
 pub record Listable (s : Store) : Type 0 where
   pub live : LiveOk (s .entities .live)
   pub issued : (k : ℕ) → s .entities .issued ≤ k → liveVersion k (s .entities .live) ≡ 0
-  pub fit : FitEntries (listing s)
+  pub fit : FitEntries VALUE-BYTES (listing s)
   pub few : length (s .entities .live) < 256 ^ 4
   pub columns : length (s .storage .sets) ≡ MAX-KINDS
 
@@ -190,8 +190,8 @@ module _ (s t : Store) (ls : Listable s) (lt : Listable t) where
   snapshot-same-at : snapshot s ≡ snapshot t → SameAt s t
   unfolding snapshot
   snapshot-same-at e =
-      let h = bytesOf-inj 4 (length (s .entities .live)) (length (t .entities .live)) (flat (listing s)) (flat (listing t)) (ls .few) (lt .few) e in
-      let l = flat-inj (listing s) (listing t) (ls .fit) (lt .fit) (h .1) in
+      let h = bytesOf-inj 4 (length (s .entities .live)) (length (t .entities .live)) (flat VALUE-BYTES (listing s)) (flat VALUE-BYTES (listing t)) (ls .few) (lt .few) e in
+      let l = flat-inj VALUE-BYTES (listing s) (listing t) (ls .fit) (lt .fit) (h .1) in
       record {
         versions = λ i. entry-of (liveVersion i (s .entities .live)) (liveVersion i (t .entities .live)) i (s .storage .sets) (t .storage .sets) (at-index l i) .0;
         values = λ i k a. components-values (entityAt i (liveVersion i (s .entities .live))) (s .storage .sets) (t .storage .sets) (entry-of (liveVersion i (s .entities .live)) (liveVersion i (t .entities .live)) i (s .storage .sets) (t .storage .sets) (at-index l i) .1 a) k;
@@ -243,7 +243,7 @@ module _ (s t : Store) (ls : Listable s) (lt : Listable t) where
   pub same-snapshot : Same s t → snapshot s ≡ snapshot t
   unfolding snapshot bound
   same-snapshot h =
-      ap₂ (λ (n : ℕ) (ts : List Entry). bytesOf 4 n ++ flat ts) (count-length sameEntity entity-eq entity-same (s .entities .live) (t .entities .live) (h .live))
+      ap₂ (λ (n : ℕ) (ts : List Entry). bytesOf 4 n ++ flat VALUE-BYTES ts) (count-length sameEntity entity-eq entity-same (s .entities .live) (t .entities .live) (h .live))
       (sym wide-s ∙ entries-same h bound 0 ∙ wide-t)
 
   -- two stores write equal snapshots exactly if the same entities are live and hold the same components with the same values

@@ -4,15 +4,16 @@ use mathlib.Core.Bool.{true, false, _&&_, false≢true}
 use mathlib.Core.List.{List, [], _∷_, _++_, map}
 use Prim.Native.Nat.{ℕ, suc, _≤_, _<_}
 use native.Mathlib.Omega.{arith}
+use native.Mathlib.Nat.{one-le-pow}
 use borrow.Author.Tests.{ltb-true, leb-false, lt-ltb}
 use lib.Dec.{leb, eqb, lit<}
 use lib.ListN.{length, getD, replicate, length-append, length-replicate}
-use Rattle.model.specs.Numbers.{LAST-CALLER, LIST-CAPACITY, MAX-KINDS}
+use Rattle.model.specs.Numbers.{LAST-CALLER, LIST-CAPACITY, MAX-KINDS, VALUE-BYTES}
 use Rattle.model.specs.Lists.{one}
 use Rattle.model.proofs.ListLaws.{place-count, count-place, map-append, all-snoc, default-at}
 use Rattle.model.specs.Model.{Entity, Entities, SparseSet, Family, Component, sameEntity, mem, setOf, keys, kindOf, isLive, isFull, insertComponents, remove, clearAll, setLayout, create, createWith, destroy, Row, noRow}
 use Rattle.model.specs.Store.{Control, Settings, Store, emptyWith, withKinds, withEntities, withStorage, withControl, withAll, emptyStaged, emptyBoth, withStaged, withExcluded, withDraft, counted, withCaller}
-use Rattle.model.specs.Sound.{Eight, noComponent, Limits, KindsSound, EntitiesSound, StagedSound, ExcludedSound, Buildable, StoreSound, key, cnt, In}
+use Rattle.model.specs.Sound.{ValueFits, noComponent, Limits, KindsSound, EntitiesSound, StagedSound, ExcludedSound, Buildable, StoreSound, key, cnt, In}
 use Rattle.model.proofs.SparseSets.{entity-same}
 use Rattle.model.proofs.BoolLaws.{or-false}
 use Rattle.model.proofs.Counts as counts
@@ -23,15 +24,15 @@ use Rattle.model.proofs.Shape.{buildable-plain, insert-plain, remove-pl
 use Rattle.model.proofs.Held.{Held, insert-held, remove-held, destroy-held, removed-none, clearAll-held, apply-held, held-right, right-fams, distinct-families, buildable-fresh}
 use Rattle.model.specs.Theorems.{ControlSound, DraftSound}
 
-pub eight0 : Eight 0
-eight0 = lit< tt
+pub zero-fits : (v : ℕ) → ValueFits v 0
+zero-fits v = one-le-pow v 256 (lit< tt)
 
--- a row's value fits eight bytes
-abbrev pub EightRow : ℕ → Row → Type 0
-EightRow k r = Eight (r .value)
+-- a row's value is of v bytes
+abbrev pub RowFits : ℕ → ℕ → Row → Type 0
+RowFits v k r = ValueFits v (r .value)
 
-pub no-row : (k : ℕ) → EightRow k noRow
-no-row k = eight0
+pub no-row : (v k : ℕ) → RowFits v k noRow
+no-row v k = zero-fits v
 
 -- ---- the two forms of soundness
 
@@ -55,11 +56,11 @@ sound-held s S =
       small = S .kinds .small;
     }
 
-pub control-of : (s : Store) → StoreSound s → ControlSound (s .kinds) (s .control)
+pub control-of : (s : Store) → StoreSound s → ControlSound VALUE-BYTES (s .kinds) (s .control)
 control-of s S = record { staged = S .staged; excluded = S .excluded; draft = record { buildable = S .draft; uncounted = S .uncounted }; counts = S .counts }
 
 -- a store whose parts are sound
-make : (s : Store) → Limits (s .settings .capacity) (s .settings .kindCapacity) → KindsSound (s .settings .kindCapacity) (s .kinds) → s .entities .issued ≤ s .settings .capacity → Held (s .entities) (s .kinds) (s .storage) → ColsOk EightRow no-row (s .storage .sets) → Buildable (s .kinds) (s .storage .layout) → ControlSound (s .kinds) (s .control) → StoreSound s
+make : (s : Store) → Limits (s .settings .capacity) (s .settings .kindCapacity) → KindsSound (s .settings .kindCapacity) (s .kinds) → s .entities .issued ≤ s .settings .capacity → Held (s .entities) (s .kinds) (s .storage) → ColsOk (RowFits VALUE-BYTES) (no-row VALUE-BYTES) (s .storage .sets) → Buildable (s .kinds) (s .storage .layout) → ControlSound VALUE-BYTES (s .kinds) (s .control) → StoreSound s
 make s limits kinds few H values layout C =
     record {
       limits = limits;
@@ -89,12 +90,12 @@ create-is-live c = count-live ((create c) .entity) ((create c) .entities) (omega
 
 -- ---- hand, bar, draft, caller and refusal counts
 
-staged-ok : (e : Entity) (l : List Component) → ((j : ℕ) → Eight (getD l j noComponent .value)) → StagedOk EightRow no-row e l
-staged-ok e [] h = tt
-staged-ok e (p ∷ ps) h = (h 0, staged-ok e ps (λ j. h (suc j)))
+staged-ok : (v : ℕ) (e : Entity) (l : List Component) → ((j : ℕ) → ValueFits v (getD l j noComponent .value)) → StagedOk (RowFits v) (no-row v) e l
+staged-ok v e [] h = tt
+staged-ok v e (p ∷ ps) h = (h 0, staged-ok v e ps (λ j. h (suc j)))
 
-pub no-staged : (kinds : List ℕ) → StagedSound kinds []
-no-staged kinds = record { few = omega arith; once = λ k. omega arith; known = λ k i. absurd (false≢true i); values = λ j. eight0 }
+pub no-staged : (v : ℕ) (kinds : List ℕ) → StagedSound v kinds []
+no-staged v kinds = record { few = omega arith; once = λ k. omega arith; known = λ k i. absurd (false≢true i); values = λ j. zero-fits v }
 
 pub no-excluded : (kinds : List ℕ) → ExcludedSound kinds []
 no-excluded kinds = record { few = omega arith; once = λ k. omega arith; known = λ k i. absurd (false≢true i) }
@@ -102,22 +103,22 @@ no-excluded kinds = record { few = omega arith; once = λ k. omega arith; known 
 pub no-draft : (kinds : List ℕ) → DraftSound kinds []
 no-draft kinds = record { buildable = record { families = tt; once = λ k. omega arith; known = λ k i. absurd (false≢true i); few = omega arith }; uncounted = tt }
 
-module _ (kinds : List ℕ) (d : Control) (C : ControlSound kinds d) where
-  pub emptyStaged-sound : ControlSound kinds (emptyStaged d)
-  emptyStaged-sound = record { staged = no-staged kinds; excluded = C .excluded; draft = C .draft; counts = C .counts }
+module _ {v : ℕ} (kinds : List ℕ) (d : Control) (C : ControlSound v kinds d) where
+  pub emptyStaged-sound : ControlSound v kinds (emptyStaged d)
+  emptyStaged-sound = record { staged = no-staged v kinds; excluded = C .excluded; draft = C .draft; counts = C .counts }
 
-  pub emptyBoth-sound : ControlSound kinds (emptyBoth d)
-  emptyBoth-sound = record { staged = no-staged kinds; excluded = no-excluded kinds; draft = C .draft; counts = C .counts }
+  pub emptyBoth-sound : ControlSound v kinds (emptyBoth d)
+  emptyBoth-sound = record { staged = no-staged v kinds; excluded = no-excluded kinds; draft = C .draft; counts = C .counts }
 
   -- one component more in the hand
-  pub stage-sound : (k v : ℕ) → In kinds k → mem k (map kindOf (d .staged)) ≡ false → length (d .staged) < LIST-CAPACITY → Eight v → ControlSound kinds (withStaged d (d .staged ++ (record { kind = k; value = v } ∷ [])))
-  stage-sound k v known new few fits =
+  pub stage-sound : (k x : ℕ) → In kinds k → mem k (map kindOf (d .staged)) ≡ false → length (d .staged) < LIST-CAPACITY → ValueFits v x → ControlSound v kinds (withStaged d (d .staged ++ (record { kind = k; value = x } ∷ [])))
+  stage-sound k x known new few fits =
       record {
         staged = record {
-          few = rw (length-append (d .staged) (record { kind = k; value = v } ∷ [])) (omega arith);
-          once = rw (map-append kindOf (d .staged) (record { kind = k; value = v } ∷ [])) (distinct-snoc (map kindOf (d .staged)) k (C .staged .once) new);
-          known = rw (map-append kindOf (d .staged) (record { kind = k; value = v } ∷ [])) (known-snoc kinds (map kindOf (d .staged)) k known (C .staged .known));
-          values = all-snoc (λ (p : Component). Eight (p .value)) noComponent eight0 (d .staged) (record { kind = k; value = v }) fits (C .staged .values);
+          few = rw (length-append (d .staged) (record { kind = k; value = x } ∷ [])) (omega arith);
+          once = rw (map-append kindOf (d .staged) (record { kind = k; value = x } ∷ [])) (distinct-snoc (map kindOf (d .staged)) k (C .staged .once) new);
+          known = rw (map-append kindOf (d .staged) (record { kind = k; value = x } ∷ [])) (known-snoc kinds (map kindOf (d .staged)) k known (C .staged .known));
+          values = all-snoc (λ (p : Component). ValueFits v (p .value)) noComponent (zero-fits v) (d .staged) (record { kind = k; value = x }) fits (C .staged .values);
         };
         excluded = C .excluded;
         draft = C .draft;
@@ -125,7 +126,7 @@ module _ (kinds : List ℕ) (d : Control) (C : ControlSound kinds d) where
       }
 
   -- one kind more in the bar
-  pub exclude-sound : (k : ℕ) → In kinds k → mem k (d .excluded) ≡ false → length (d .excluded) < LIST-CAPACITY → ControlSound kinds (withExcluded d (d .excluded ++ (k ∷ [])))
+  pub exclude-sound : (k : ℕ) → In kinds k → mem k (d .excluded) ≡ false → length (d .excluded) < LIST-CAPACITY → ControlSound v kinds (withExcluded d (d .excluded ++ (k ∷ [])))
   exclude-sound k known new few =
       record {
         staged = C .staged;
@@ -138,13 +139,13 @@ module _ (kinds : List ℕ) (d : Control) (C : ControlSound kinds d) where
         counts = C .counts;
       }
 
-  pub draft-sound : (fs : List Family) → DraftSound kinds fs → ControlSound kinds (withDraft d fs)
+  pub draft-sound : (fs : List Family) → DraftSound kinds fs → ControlSound v kinds (withDraft d fs)
   draft-sound fs D = record { staged = C .staged; excluded = C .excluded; draft = D; counts = C .counts }
 
-  pub counted-sound : ControlSound kinds (counted d)
+  pub counted-sound : ControlSound v kinds (counted d)
   counted-sound = record { staged = C .staged; excluded = C .excluded; draft = C .draft; counts = counts.counted-sound d (C .counts) }
 
-  pub caller-sound : (c : ℕ) → c ≤ LAST-CALLER → ControlSound kinds (withCaller d c)
+  pub caller-sound : (c : ℕ) → c ≤ LAST-CALLER → ControlSound v kinds (withCaller d c)
   caller-sound c h = record { staged = C .staged; excluded = C .excluded; draft = C .draft; counts = counts.called-sound d (C .counts) c h }
 
 -- ---- more kinds are registered
@@ -152,7 +153,7 @@ module _ (kinds : List ℕ) (d : Control) (C : ControlSound kinds d) where
 buildable-more : (kinds more : List ℕ) → ((j : ℕ) → In kinds j → In more j) → (fs : List Family) → Buildable kinds fs → Buildable more fs
 buildable-more kinds more sub fs b = record { families = b .families; once = b .once; known = λ j i. sub j (b .known j i); few = b .few }
 
-control-more : (kinds more : List ℕ) → ((j : ℕ) → In kinds j → In more j) → (d : Control) → ControlSound kinds d → ControlSound more d
+control-more : {v : ℕ} (kinds more : List ℕ) → ((j : ℕ) → In kinds j → In more j) → (d : Control) → ControlSound v kinds d → ControlSound v more d
 control-more kinds more sub d C =
     record {
       staged = record { few = C .staged .few; once = C .staged .once; known = λ j i. sub j (C .staged .known j i); values = C .staged .values };
@@ -184,10 +185,10 @@ module _ (s : Store) (S : StoreSound s) where
   abbrev H : Held (s .entities) (s .kinds) (s .storage)
   H = sound-held s S
 
-  abbrev C : ControlSound (s .kinds) (s .control)
+  abbrev C : ControlSound VALUE-BYTES (s .kinds) (s .control)
   C = control-of s S
 
-  pub control-sound : (d : Control) → ControlSound (s .kinds) d → StoreSound (withControl s d)
+  pub control-sound : (d : Control) → ControlSound VALUE-BYTES (s .kinds) d → StoreSound (withControl s d)
   control-sound d D = make (withControl s d) (S .limits) (S .kinds) (S .entities .few) H (S .sets .values) (S .layout) D
 
   -- the hand is emptied
@@ -234,23 +235,23 @@ module _ (s : Store) (S : StoreSound s) where
       (destroy-held (s .entities) (s .kinds) (s .storage) H e (live-count e (s .entities) live) none) (S .sets .values) (S .layout) C
 
   -- components go into a live entity
-  pub insert-sound : (e : Entity) (staged : List Component) → isLive e (s .entities) ≡ true → StagedSound (s .kinds) staged → StoreSound (withStorage s (insertComponents e staged (s .storage)))
+  pub insert-sound : (e : Entity) (staged : List Component) → isLive e (s .entities) ≡ true → StagedSound VALUE-BYTES (s .kinds) staged → StoreSound (withStorage s (insertComponents e staged (s .storage)))
   insert-sound e staged live h =
       make (withStorage s (insertComponents e staged (s .storage))) (S .limits) (S .kinds) (S .entities .few)
       (insert-held (s .entities) (s .kinds) (s .storage) H (s .entities) (H .numbers) (λ x i. i) e staged (h .known) (live-count e (s .entities) live))
-      (insert-ok EightRow no-row e staged (s .storage) (staged-ok e staged (h .values)) (S .sets .values))
+      (insert-ok (RowFits VALUE-BYTES) (no-row VALUE-BYTES) e staged (s .storage) (staged-ok VALUE-BYTES e staged (h .values)) (S .sets .values))
       (buildable-plain (s .kinds) (s .storage .layout) ((insertComponents e staged (s .storage)) .layout) (insert-plain e staged (s .storage)) (S .layout)) C
 
   -- components of some kinds go; the entity need not be live
   pub remove-sound : (e : Entity) (gone : List ℕ) → StoreSound (withStorage s (remove e gone (s .storage)))
   remove-sound e gone =
       make (withStorage s (remove e gone (s .storage))) (S .limits) (S .kinds) (S .entities .few) (remove-held (s .entities) (s .kinds) (s .storage) H e gone)
-      (remove-ok EightRow no-row e gone (s .storage) (S .sets .values))
+      (remove-ok (RowFits VALUE-BYTES) (no-row VALUE-BYTES) e gone (s .storage) (S .sets .values))
       (buildable-plain (s .kinds) (s .storage .layout) ((remove e gone (s .storage)) .layout) (remove-plain e gone (s .storage)) (S .layout)) C
 
   pub clearAll-sound : StoreSound (withStorage s (clearAll (s .storage)))
   clearAll-sound =
-      make (withStorage s (clearAll (s .storage))) (S .limits) (S .kinds) (S .entities .few) (clearAll-held (s .entities) (s .kinds) (s .storage) H) (clearAll-ok EightRow no-row (s .storage))
+      make (withStorage s (clearAll (s .storage))) (S .limits) (S .kinds) (S .entities .few) (clearAll-held (s .entities) (s .kinds) (s .storage) H) (clearAll-ok (RowFits VALUE-BYTES) (no-row VALUE-BYTES) (s .storage))
       (buildable-plain (s .kinds) (s .storage .layout) ((clearAll (s .storage)) .layout) (clearAll-plain (s .storage)) (S .layout)) C
 
   -- a layout is applied
@@ -258,7 +259,7 @@ module _ (s : Store) (S : StoreSound s) where
   setLayout-sound fs D =
       make (withStorage s (setLayout (s .entities .live) fs (s .storage))) (S .limits) (S .kinds) (S .entities .few)
       (apply-held (s .entities) (s .kinds) (s .storage) H fs (buildable-fresh fs (D .buildable .families) (D .uncounted)) (distinct-families fs (D .buildable .once)))
-      (setLayout-ok EightRow no-row (s .entities .live) fs (s .storage) (S .sets .values))
+      (setLayout-ok (RowFits VALUE-BYTES) (no-row VALUE-BYTES) (s .entities .live) fs (s .storage) (S .sets .values))
       (buildable-plain (s .kinds) fs ((setLayout (s .entities .live) fs (s .storage)) .layout) (setLayout-plain (s .entities .live) fs (s .storage)) (D .buildable)) C
 
 -- a live entity is stripped of all its components and destroyed
@@ -282,9 +283,9 @@ empty-sound c limits =
         bare = λ j m. setOf-empty MAX-KINDS j;
         alive = λ x j h. absurd (omega (arith, none x j));
         once = λ x j. omega (arith, none x j);
-        values = λ j i. rw (setOf-empty MAX-KINDS j) eight0;
+        values = λ j i. rw (setOf-empty MAX-KINDS j) (zero-fits VALUE-BYTES);
       };
-      staged = no-staged [];
+      staged = no-staged VALUE-BYTES [];
       excluded = no-excluded [];
       draft = no-draft [] .buildable;
       uncounted = tt;

@@ -9,7 +9,7 @@ use native.Mathlib.Omega.{arith}
 use borrow.Author.Tests.{eq-eqb}
 use lib.Dec.{eqb}
 use lib.ListN.{getD}
-use Rattle.model.specs.Numbers.{MAX-ENTITIES}
+use Rattle.model.specs.Numbers.{MAX-ENTITIES, VALUE-BYTES}
 use Rattle.model.specs.Lists.{one}
 use Rattle.model.specs.Model.{Entity, SparseSet, sameEntity, noRow, at, held, lastVersion}
 use Rattle.model.specs.Store.{Settings, Store, emptyWith, Bytes}
@@ -20,7 +20,7 @@ use Rattle.model.proofs.SparseSets.{entity-same}
 use Rattle.model.proofs.BoolLaws.{zero-of, bool-cases}
 use Rattle.model.proofs.Numbers.{EntitiesOk, live-few}
 use Rattle.model.proofs.Values.{ColsOk}
-use Rattle.model.proofs.Operations.{EightRow, no-row, sound-held}
+use Rattle.model.proofs.Operations.{RowFits, no-row, sound-held}
 use Rattle.model.proofs.Sound.{run-sound}
 use Rattle.model.proofs.Encoding.{FitComponents, FitEntries}
 use Rattle.model.proofs.Listing.{LiveOk, Listable, snapshot-iff}
@@ -49,26 +49,26 @@ version-in i v (c ∷ cs) e =
     same-entity : eqb i (c .index) ≡ true → c .version ≡ suc v → 1 ≤ one (sameEntity (record { index = i; version = suc v }) c)
     same-entity t q = rw (t, eq-eqb (suc v) (c .version) (sym q)) (omega arith)
 
-components-fit : (e : Entity) (k : ℕ) (sets : List SparseSet) → ColsOk EightRow no-row sets → FitComponents (componentsOf e k sets)
-components-fit e k [] h = tt
-components-fit e k (c ∷ cs) h = go (held e c) (components-fit e (suc k) cs (λ j. h (suc j)))
+components-fit : (v : ℕ) (e : Entity) (k : ℕ) (sets : List SparseSet) → ColsOk (RowFits v) (no-row v) sets → FitComponents v (componentsOf e k sets)
+components-fit v e k [] h = tt
+components-fit v e k (c ∷ cs) h = go (held e c) (components-fit v e (suc k) cs (λ j. h (suc j)))
   where
-    go : (b : Bool) → FitComponents (componentsOf e (suc k) cs) → FitComponents (addComponent (cond b (some (getD c (at e c) noRow .value)) none) k (componentsOf e (suc k) cs))
+    go : (b : Bool) → FitComponents v (componentsOf e (suc k) cs) → FitComponents v (addComponent (cond b (some (getD c (at e c) noRow .value)) none) k (componentsOf e (suc k) cs))
     go true r = (h 0 (at e c), r)
     go false r = r
 
-module _ (live : List Entity) (sets : List SparseSet) (h : ColsOk EightRow no-row sets) (vs : (x : Entity) → 1 ≤ cnt x live → x .version ≤ lastVersion) where
-  entries-fit : (n i : ℕ) → i + n ≤ MAX-ENTITIES → FitEntries (entries i n live sets)
+module _ (v : ℕ) (live : List Entity) (sets : List SparseSet) (h : ColsOk (RowFits v) (no-row v) sets) (versions : (x : Entity) → 1 ≤ cnt x live → x .version ≤ lastVersion) where
+  entries-fit : (n i : ℕ) → i + n ≤ MAX-ENTITIES → FitEntries v (entries i n live sets)
   entries-fit zero i le = tt
   entries-fit (suc n) i le = go (liveVersion i live) refl (entries-fit n (suc i) (omega arith))
     where
-      go : (v : ℕ) → liveVersion i live ≡ v → FitEntries (entries (suc i) n live sets) → FitEntries (entryOf v i sets ++ entries (suc i) n live sets)
+      go : (m : ℕ) → liveVersion i live ≡ m → FitEntries v (entries (suc i) n live sets) → FitEntries v (entryOf m i sets ++ entries (suc i) n live sets)
       go zero e r = r
-      go (suc v) e r = (
+      go (suc m) e r = (
         record {
           index = omega arith;
-          version = omega (arith, vs (record { index = i; version = suc v }) (version-in i v live e));
-          components = components-fit (record { index = i; version = suc v }) 0 sets h;
+          version = omega (arith, versions (record { index = i; version = suc m }) (version-in i m live e));
+          components = components-fit v (record { index = i; version = suc m }) 0 sets h;
         },
         r,
       )
@@ -79,7 +79,7 @@ listed s S =
     record {
       live = live-ok (s .entities .live) (λ i. omega (arith, N .single i)) (λ x h. N .positive x (omega (arith, h)));
       issued = λ k le. num-zero k (s .entities .live) (zero-of (λ h. omega (arith, N .below k (omega (arith, h)))));
-      fit = entries-fit (s .entities .live) (s .storage .sets) (S .sets .values) (λ x h. N .small x (omega (arith, h))) (s .entities .issued) 0 (omega (arith, S .entities .few, S .limits .most));
+      fit = entries-fit VALUE-BYTES (s .entities .live) (s .storage .sets) (S .sets .values) (λ x h. N .small x (omega (arith, h))) (s .entities .issued) 0 (omega (arith, S .entities .few, S .limits .most));
       few = omega (arith, live-few (s .entities) N, S .entities .few, S .limits .most);
       columns = S .sets .wide;
     }

@@ -3,13 +3,13 @@ use mathlib.Core.Path.{_≡_, refl}
 use mathlib.Core.Bool.{true, false, not, _||_}
 use mathlib.Core.Option.{Option, some, none}
 use mathlib.Core.List.{List, [], _∷_}
-use Prim.Native.Nat.{ℕ, zero, suc, _-_, _^_, _≤_, _<_}
+use Prim.Native.Nat.{ℕ, zero, suc, _+_, _-_, _^_, _≤_, _<_}
 use native.Mathlib.Omega.{arith}
 use native.Mathlib.Nat.{pow-suc, one-le-pow}
-use borrow.Author.Tests.{ltb-false, leb-false, not-false}
+use borrow.Author.Tests.{ltb-false, leb-false, not-false, le-leb}
 use lib.Dec.{ltb, leb, lit<}
 use lib.ListN.{length, take, drop, getD, length-take, length-drop}
-use Rattle.model.specs.Numbers.{LAST-CALLER, LAST-KIND, LIST-CAPACITY, MAX-GROUP-ARITY, MAX-GROUP-COUNT}
+use Rattle.model.specs.Numbers.{LAST-CALLER, LAST-KIND, LIST-CAPACITY, MAX-GROUP-ARITY, MAX-GROUP-COUNT, VALUE-BYTES}
 use Rattle.model.specs.Model.{isLive, addsNothing, joins, withGroup, groupsOf, freeNumbers}
 use Rattle.model.specs.Store.{Bytes, Settings, Store, emptyWith, number, stagedKinds, isKind, withControl, counted, emptyStaged, emptyBoth}
 use Rattle.model.specs.Commands.{Command, REG, HOLD, NEW, PUT, TAKE, DROP, KILL, WIPE, GROUP, APPLY, BAR, RANGE, EMPTY, TALLY, TRAY, SETCALLER, Done, accepted, widths, width, commands, commandAt}
@@ -34,12 +34,12 @@ module _ (s : Store) (S : StoreSound s) where
   both-emptied : StoreSound (withControl s (emptyBoth (s .control)))
   both-emptied = control-sound s S (emptyBoth (s .control)) (emptyBoth-sound (s .kinds) (s .control) (control-of s S))
 
-accepted-sound : (c : Command) (s : Store) → Fits c → StoreSound s → NoneHolds (linesOf c) s → StoreSound ((accepted c s) .store)
+accepted-sound : (c : Command) (s : Store) → Fits VALUE-BYTES c → StoreSound s → NoneHolds (linesOf c) s → StoreSound ((accepted c s) .store)
 unfolding accepted linesOf
 accepted-sound (REG k) s f S n =
     cond-case (λ (d : Done). StoreSound (d .store)) (isKind k s) _ _ (λ t. S)
     (λ t. register-sound s S k (omega (arith, ltb-false LAST-KIND k (n .0))) t (omega (arith, leb-false (s .settings .kindCapacity) (length (s .kinds)) (not-and (isKind k s) (leb (s .settings .kindCapacity) (length (s .kinds))) (n .1 .0) t))))
-accepted-sound (HOLD k v) s f S n = control-sound s S _ (stage-sound (s .kinds) (s .control) (control-of s S) k v (known-kind k s (n .0)) (n .1 .0) (omega (arith, leb-false LIST-CAPACITY (length (s .control .staged)) (n .1 .1 .0))) f)
+accepted-sound (HOLD k x) s f S n = control-sound s S _ (stage-sound (s .kinds) (s .control) (control-of s S) k x (known-kind k s (n .0)) (n .1 .0) (omega (arith, leb-false LIST-CAPACITY (length (s .control .staged)) (n .1 .1 .0))) f)
 accepted-sound NEW s f S n = new-sound s S (n .0)
 accepted-sound (PUT e) s f S n = emptied _ (insert-sound s S e (s .control .staged) (not-false (isLive e (s .entities)) (n .0)) (S .staged))
 accepted-sound (TAKE e) s f S n = emptied _ (remove-sound s S e (stagedKinds s))
@@ -62,7 +62,7 @@ accepted-sound (SETCALLER c) s f S n = control-sound s S _ (caller-sound (s .kin
 accepted-sound (TRAY k) s f S n = tray-sound k s S (ltb-false (freeNumbers (s .settings .capacity) (s .entities)) k (n .0))
 
 -- every command keeps a sound store sound
-pub does-sound : (c : Command) (s : Store) → Fits c → StoreSound s → OutSound (does c s)
+pub does-sound : (c : Command) (s : Store) → Fits VALUE-BYTES c → StoreSound s → OutSound (does c s)
 unfolding does
 does-sound c s f S = outcome-case OutSound (firstLine (linesOf c) s) (accepted c s) (λ n e. tt) (λ e. accepted-sound c s f S (none-to (linesOf c) s e))
 
@@ -88,27 +88,28 @@ number-lt (suc n) [] h le = one-le-pow (suc n) 256 (lit< tt)
 number-lt zero (b ∷ bs) h le = absurd (omega arith)
 number-lt (suc n) (b ∷ bs) h le = let r = number-lt n bs (h .1) (omega arith) in rw (pow-suc 256 n) (omega (arith, h .0))
 
-abbrev AllFit : List Command → Type 0
-AllFit [] = Unit {0}
-AllFit (c ∷ cs) = Fits c × AllFit cs
+abbrev AllFit : ℕ → List Command → Type 0
+AllFit v [] = Unit {0}
+AllFit v (c ∷ cs) = Fits v c × AllFit v cs
 
-fit-at : (cs : List Command) → AllFit cs → (j : ℕ) → Fits (getD cs j TALLY)
-fit-at [] h j = tt
-fit-at (c ∷ cs) h zero = h .0
-fit-at (c ∷ cs) h (suc j) = fit-at cs (h .1) j
+fit-at : (v : ℕ) (cs : List Command) → AllFit v cs → (j : ℕ) → Fits v (getD cs j TALLY)
+fit-at v [] h j = tt
+fit-at v (c ∷ cs) h zero = h .0
+fit-at v (c ∷ cs) h (suc j) = fit-at v cs (h .1) j
 
 -- the operands of a command read off a tape are of their widths
-pub command-fits : (b : ℕ) (ops : List ℕ) → Bytes ops → length ops ≤ 9 → Fits (commandAt b ops)
-command-fits b ops h le =
-    fit-at (commands ops)
-    (tt, (tt, (number-lt 8 (drop 1 ops) (bytes-drop 1 ops h) (rw (length-drop 1 ops) (omega arith)), (tt, (tt, (tt, (tt, (tt, (tt, (tt, (tt, (tt, (tt, (tt, (tt, (tt, (tt, tt)))))))))))))))))
+pub command-fits : (v b : ℕ) (ops : List ℕ) → Bytes ops → length ops ≤ 1 + v → Fits v (commandAt b ops)
+command-fits v b ops h le =
+    fit-at v (commands ops)
+    (tt, (tt, (number-lt v (drop 1 ops) (bytes-drop 1 ops h) (rw (length-drop 1 ops) (omega arith)), (tt, (tt, (tt, (tt, (tt, (tt, (tt, (tt, (tt, (tt, (tt, (tt, (tt, (tt, tt)))))))))))))))))
     b
 
-pub width-le : (b : ℕ) → width b ≤ 9
-width-le b = all-most 9 widths refl b
+-- HOLD's are the longest where a value has as many bytes as an entity
+pub width-le : (v b : ℕ) → 8 ≤ v → width v b ≤ 1 + v
+width-le v b least = all-most (1 + v) (widths v) (simp (le-leb (1 + v) (1 + v) (omega arith), le-leb 1 (1 + v) (omega arith), le-leb 2 (1 + v) (omega arith), le-leb 8 (1 + v) (omega arith), le-leb 0 (1 + v) (omega arith))) b
 
-pub tape-fits : (b : ℕ) (t : List ℕ) → Bytes t → Fits (commandAt b (take (width b) t))
-tape-fits b t h = command-fits b (take (width b) t) (bytes-take (width b) t h) (rw (length-take (width b) t) (omega (arith, width-le b)))
+pub tape-fits : (v b : ℕ) (t : List ℕ) → 8 ≤ v → Bytes t → Fits v (commandAt b (take (width v b) t))
+tape-fits v b t least h = command-fits v b (take (width v b) t) (bytes-take (width v b) t h) (rw (length-take (width v b) t) (omega (arith, width-le v b least)))
 
 -- ---- steps and runs
 
@@ -128,8 +129,8 @@ stepOf-sound w s (accepts s′ a) S h = h
 pub step-sound : (b : ℕ) (t : List ℕ) (room : ℕ) (s : Store) → Bytes t → StoreSound s → After StoreSound (step b t room s)
 unfolding step
 step-sound b t room s h S =
-    stepIf-after StoreSound (firstLine beforeLines (record { byte = b; rest = t; room = room; store = s })) (stepOf (suc (width b)) s (does (commandAt b (take (width b) t)) s))
-    (stepOf-sound (suc (width b)) s (does (commandAt b (take (width b) t)) s) S (does-sound (commandAt b (take (width b) t)) s (tape-fits b t h) S))
+    stepIf-after StoreSound (firstLine beforeLines (record { byte = b; rest = t; room = room; store = s })) (stepOf (suc (width VALUE-BYTES b)) s (does (commandAt b (take (width VALUE-BYTES b) t)) s))
+    (stepOf-sound (suc (width VALUE-BYTES b)) s (does (commandAt b (take (width VALUE-BYTES b) t)) s) S (does-sound (commandAt b (take (width VALUE-BYTES b) t)) s (tape-fits VALUE-BYTES b t (omega arith) h) S))
 
 -- what each step keeps, holds of the stores after the commands of a run, and of the one that it leaves
 module _ (P : Store → Type 0) (keeps : (b : ℕ) (t : List ℕ) (room : ℕ) (s : Store) → Bytes t → P s → After P (step b t room s)) where

@@ -1,4 +1,4 @@
--- What holds of every row of a kind's sparse set, as that its value fits eight bytes, holds after every operation, if it holds of the rows of the
+-- What holds of every row of a kind's sparse set, as that its value fits its bytes, holds after every operation, if it holds of the rows of the
 -- staged components. Assumes nothing.
 use mathlib.Core.Path.{_≡_, refl}
 use mathlib.Core.List.{List, [], _∷_, _++_, map}

@@ -4,8 +4,9 @@ use mathlib.Core.Path.{_≡_}
 use mathlib.Core.Bool.{Bool, true, false}
 use mathlib.Core.Option.{Option, some, none}
 use mathlib.Core.List.{List, [], _∷_, _++_, map}
-use Prim.Native.Nat.{ℕ, _/_, _%_}
+use Prim.Native.Nat.{ℕ, zero, suc, _/_, _%_}
 use lib.ListN.{length, take, drop}
+use Rattle.model.specs.Numbers.{VALUE-WORDS}
 use Rattle.model.specs.Model.{Entity, Row, SparseSet, setOf, keys}
 use Rattle.model.specs.Store.{Settings, Store, older, emptyWith}
 use Rattle.model.specs.Snapshot.{snapshot}
@@ -42,10 +43,16 @@ abbrev pub entityWords : List Entity → List ℕ
 entityWords [] = []
 entityWords (e ∷ es) = e .index ∷ e .version ∷ entityWords es
 
--- "values (low word, high word)"
-abbrev pub valueWords : List ℕ → List ℕ
-valueWords [] = []
-valueWords (v ∷ vs) = v % 4294967296 ∷ v / 4294967296 ∷ valueWords vs
+-- a number in d words, lowest first; the last is what the others leave
+abbrev pub inWords : ℕ → ℕ → List ℕ
+inWords zero x = []
+inWords (suc zero) x = x ∷ []
+inWords (suc (suc d)) x = x % 4294967296 ∷ inWords (suc d) (x / 4294967296)
+
+-- "values (low word, high word)"; a value is of d words
+abbrev pub valueWords : ℕ → List ℕ → List ℕ
+valueWords d [] = []
+valueWords d (x ∷ xs) = inWords d x ++ valueWords d xs
 
 -- a row's value
 abbrev pub rowValue : Row → ℕ
@@ -58,7 +65,7 @@ part a e l = drop a (take e l)
 -- the words that column hands back, of the entities (which = false) or of the values (which = true)
 abbrev pub partWords : Bool → ℕ → ℕ → SparseSet → List ℕ
 partWords false a e rows = entityWords (part a e (keys rows))
-partWords true a e rows = valueWords (part a e (map rowValue rows))
+partWords true a e rows = valueWords VALUE-WORDS (part a e (map rowValue rows))
 
 -- "a second entry with the same operands gives column's number, 0 if accepted"
 unfoldable pub columnRefusal : ℕ → ℕ → ℕ → Store → Option ℕ

@@ -38,6 +38,14 @@ CALLERS = 16
 abbrev pub LAST-CALLER : ℕ
 LAST-CALLER = 15
 
+-- "A part is a card's value of one kind, eight bytes."
+abbrev pub VALUE-BYTES : ℕ
+VALUE-BYTES = 8
+
+-- a value in words: "values (low word, high word)"
+abbrev pub VALUE-WORDS : ℕ
+VALUE-WORDS = 2
+
 -- ---- a store "needs 1,024 + 16 × N + K × (8 + 6 × N) words"
 
 -- the header, and the words for each entity

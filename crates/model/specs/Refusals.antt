@@ -7,7 +7,7 @@ use mathlib.Core.List.{List, [], _∷_, _++_}
 use Prim.Native.Nat.{ℕ}
 use lib.Dec.{eqb, leb, ltb}
 use lib.ListN.{length, take}
-use Rattle.model.specs.Numbers.{CALLER, HANDFUL, KIND, LAST-CALLER, LAST-KIND, LIST-CAPACITY, MANY, MAX-ENTITIES, MAX-GROUP-ARITY, MAX-GROUP-COUNT, MAX-KINDS, SIZE, WIDE, SHORT, UNSOUND, UNKNOWN, CUT, NOROOM, KINDS, AGAIN, DEAD, FULL, CLASH, BEYOND}
+use Rattle.model.specs.Numbers.{CALLER, HANDFUL, KIND, LAST-CALLER, LAST-KIND, LIST-CAPACITY, MANY, MAX-ENTITIES, MAX-GROUP-ARITY, MAX-GROUP-COUNT, MAX-KINDS, SIZE, WIDE, SHORT, UNSOUND, UNKNOWN, CUT, NOROOM, KINDS, AGAIN, DEAD, FULL, CLASH, BEYOND, VALUE-BYTES}
 use Rattle.model.specs.Model.{Entity, mem, setOf, groupsOf, addsNothing, joins, isFull, freeNumbers, isLive}
 use Rattle.model.specs.Store.{Store, stagedKinds, isKind, refusalsBy, wordsNeeded}
 use Rattle.model.specs.Commands.{Command, REG, HOLD, NEW, PUT, TAKE, DROP, KILL, WIPE, GROUP, APPLY, BAR, RANGE, EMPTY, TALLY, TRAY, SETCALLER, width, isCommand, commandAt, answerLength}
@@ -83,16 +83,16 @@ pub record BeforeCommand : Type 0 where
 
 -- the command that is to be done
 abbrev pub commandOf : BeforeCommand → Command
-commandOf r = commandAt (r .byte) (take (width (r .byte)) (r .rest))
+commandOf r = commandAt (r .byte) (take (width VALUE-BYTES (r .byte)) (r .rest))
 
 abbrev pub beforeLines : List (Line BeforeCommand)
 beforeLines =
     -- "byte not 01 to 0E"; 02, No. 7: "4 begins above 10"
     line UNKNOWN (λ r. not (isCommand (r .byte)))
     -- "operands incomplete"
-    ∷ line CUT (λ r. ltb (length (r .rest)) (width (r .byte)))
+    ∷ line CUT (λ r. ltb (length (r .rest)) (width VALUE-BYTES (r .byte)))
     -- "fewer free bytes than the accepted answer .. takes"
-    ∷ line NOROOM (λ r. ltb (r .room) (answerLength (commandOf r) (r .store)))
+    ∷ line NOROOM (λ r. ltb (r .room) (answerLength VALUE-BYTES (commandOf r) (r .store)))
     ∷ []
 
 -- ---- roll

@@ -7,6 +7,7 @@ use mathlib.Core.List.{List, [], _∷_, _++_}
 use Prim.Native.Nat.{ℕ, zero, suc, _≤_}
 use lib.Dec.{eqb}
 use lib.ListN.{length, getD}
+use Rattle.model.specs.Numbers.{VALUE-BYTES}
 use Rattle.model.specs.Lists.{countOf}
 use Rattle.model.specs.Model.{Entity, SparseSet, Component, sameEntity, noRow, at, held, setOf}
 use Rattle.model.specs.Store.{Store, bytesOf}
@@ -45,19 +46,19 @@ abbrev pub entries : ℕ → ℕ → List Entity → List SparseSet → List Ent
 entries i zero live sets = []
 entries i (suc n) live sets = entryOf (liveVersion i live) i sets ++ entries (suc i) n live sets
 
--- "kind 1, value 8"
-abbrev pub componentBytes : List Component → List ℕ
-componentBytes [] = []
-componentBytes (p ∷ ps) = p .kind ∷ bytesOf 8 (p .value) ++ componentBytes ps
+-- "kind 1, value 8"; here and below v is the number of bytes of a value
+abbrev pub componentBytes : ℕ → List Component → List ℕ
+componentBytes v [] = []
+componentBytes v (p ∷ ps) = p .kind ∷ bytesOf v (p .value) ++ componentBytes v ps
 
 -- "index 4, version 4, part count 1, then each part"
-abbrev pub entryBytes : Entry → List ℕ
-entryBytes t = bytesOf 4 (t .entity .index) ++ (bytesOf 4 (t .entity .version) ++ (length (t .components) ∷ componentBytes (t .components)))
+abbrev pub entryBytes : ℕ → Entry → List ℕ
+entryBytes v t = bytesOf 4 (t .entity .index) ++ (bytesOf 4 (t .entity .version) ++ (length (t .components) ∷ componentBytes v (t .components)))
 
 -- the bytes of all entries
-abbrev pub flat : List Entry → List ℕ
-flat [] = []
-flat (t ∷ ts) = entryBytes t ++ flat ts
+abbrev pub flat : ℕ → List Entry → List ℕ
+flat v [] = []
+flat v (t ∷ ts) = entryBytes v t ++ flat v ts
 
 -- all live entities: every live index is an issued one
 abbrev pub listing : Store → List Entry
@@ -65,7 +66,7 @@ listing s = entries 0 (s .entities .issued) (s .entities .live) (s .storage .set
 
 -- "live count 4, then each live card"
 unfoldable pub snapshot : Store → List ℕ
-snapshot s = bytesOf 4 (length (s .entities .live)) ++ flat (listing s)
+snapshot s = bytesOf 4 (length (s .entities .live)) ++ flat VALUE-BYTES (listing s)
 
 -- ---- what two equal snapshots say
 

@@ -6,7 +6,7 @@ use mathlib.Core.List.{List, [], _∷_, _++_, map}
 use Prim.Native.Nat.{ℕ, _+_, _^_, _≤_, _<_}
 use lib.Dec.{eqb}
 use lib.ListN.{length, take, drop, getD}
-use Rattle.model.specs.Numbers.{CALLERS, LAST-CALLER, LIST-CAPACITY, MAX-ENTITIES, MAX-GROUP-ARITY, MAX-GROUP-COUNT, MAX-KINDS, MAX-REFUSALS}
+use Rattle.model.specs.Numbers.{CALLERS, LAST-CALLER, LIST-CAPACITY, MAX-ENTITIES, MAX-GROUP-ARITY, MAX-GROUP-COUNT, MAX-KINDS, MAX-REFUSALS, VALUE-BYTES}
 use Rattle.model.specs.Lists.{countOf}
 use Rattle.model.specs.Model.{Entity, Entities, SparseSet, Component, Family, sameEntity, noRow, mem, setOf, keys, kindOf, kindsOf, groupsOf, allHeld, lastVersion}
 use Rattle.model.specs.Store.{Counts, Store}
@@ -37,9 +37,9 @@ Distinct ks = (k : ℕ) → countOf eqb k ks ≤ 1
 abbrev pub key : List SparseSet → ℕ → List Entity
 key sets k = keys (setOf sets k)
 
--- "A part is a card's value of one kind, eight bytes."
-abbrev pub Eight : ℕ → Type 0
-Eight v = v < 256 ^ 8
+-- "A part is a card's value of one kind, eight bytes.": the value x is of v bytes
+abbrev pub ValueFits : ℕ → ℕ → Type 0
+ValueFits v x = x < 256 ^ v
 
 -- what a lookup past the staged components gives
 abbrev pub noComponent : Component
@@ -70,23 +70,23 @@ pub record EntitiesSound (n : ℕ) (c : Entities) : Type 0 where
   pub positive : (x : Entity) → 1 ≤ cnt x (c .live) + cnt x (c .recycled) → 1 ≤ x .version
   pub small : (x : Entity) → 1 ≤ cnt x (c .live) + cnt x (c .recycled) → x .version ≤ lastVersion
 
--- ---- "columns holding live cards only, once each"; a kind that is not registered has no column, which is an empty one here
+-- ---- "columns holding live cards only, once each"; a kind that is not registered has no column, which is an empty one here; values are of v bytes
 
-pub record SetsSound (kinds : List ℕ) (live : List Entity) (sets : List SparseSet) : Type 0 where
+pub record SetsSound (v : ℕ) (kinds : List ℕ) (live : List Entity) (sets : List SparseSet) : Type 0 where
   pub wide : length sets ≡ MAX-KINDS
   pub bare : (k : ℕ) → mem k kinds ≡ false → setOf sets k ≡ []
   pub alive : (x : Entity) (k : ℕ) → 1 ≤ cnt x (key sets k) → 1 ≤ cnt x live
   pub once : (x : Entity) (k : ℕ) → cnt x (key sets k) ≤ 1
-  pub values : (k j : ℕ) → Eight (getD (setOf sets k) j noRow .value)
+  pub values : (k j : ℕ) → ValueFits v (getD (setOf sets k) j noRow .value)
 
 -- ---- "hand, bar .. of registered kinds, such as commands can build": "up to 16 distinct kinds with values", "up to 16 distinct kinds"
 
--- the staged components
-pub record StagedSound (kinds : List ℕ) (staged : List Component) : Type 0 where
+-- the staged components, with values of v bytes
+pub record StagedSound (v : ℕ) (kinds : List ℕ) (staged : List Component) : Type 0 where
   pub few : length staged ≤ LIST-CAPACITY
   pub once : Distinct (map kindOf staged)
   pub known : (k : ℕ) → In (map kindOf staged) k → In kinds k
-  pub values : (j : ℕ) → Eight (getD staged j noComponent .value)
+  pub values : (j : ℕ) → ValueFits v (getD staged j noComponent .value)
 
 -- the excluded kinds
 pub record ExcludedSound (kinds excluded : List ℕ) : Type 0 where
@@ -173,8 +173,8 @@ pub record StoreSound (s : Store) : Type 0 where
   pub limits : Limits (s .settings .capacity) (s .settings .kindCapacity)
   pub kinds : KindsSound (s .settings .kindCapacity) (s .kinds)
   pub entities : EntitiesSound (s .settings .capacity) (s .entities)
-  pub sets : SetsSound (s .kinds) (s .entities .live) (s .storage .sets)
-  pub staged : StagedSound (s .kinds) (s .control .staged)
+  pub sets : SetsSound VALUE-BYTES (s .kinds) (s .entities .live) (s .storage .sets)
+  pub staged : StagedSound VALUE-BYTES (s .kinds) (s .control .staged)
   pub excluded : ExcludedSound (s .kinds) (s .control .excluded)
   pub draft : Buildable (s .kinds) (s .control .draft)
   pub uncounted : AllUncounted (s .control .draft)

@@ -5,7 +5,7 @@ use mathlib.Core.Bool.{Bool, true}
 use mathlib.Core.List.{List, [], _∷_}
 use Prim.Native.Nat.{ℕ, zero, suc, _≤_, _<_, _+_, _-_, _*_}
 use lib.ListN.{length, take}
-use Rattle.model.specs.Numbers.{CALLER, KIND, LAST-CALLER, LAST-KIND, MANY, MAX-REFUSALS, NOROOM, UNKNOWN}
+use Rattle.model.specs.Numbers.{CALLER, KIND, LAST-CALLER, LAST-KIND, MANY, MAX-REFUSALS, NOROOM, UNKNOWN, VALUE-BYTES}
 use Rattle.model.specs.Model.{Family, Component, Entities, setOf}
 use Rattle.model.specs.Adding.{Added, nothing, added, refused}
 use Rattle.model.specs.Store.{Counts, Control, Settings, Store, bytesOf, emptyWith, wordsNeeded, isKind, withControl, withStaged, withDraft, withCounts, withCaller, emptyStaged, refusalsBy, ownRefusals, counted}
@@ -14,7 +14,7 @@ use Rattle.model.specs.Refusals.{Unchanged}
 use Rattle.model.specs.Run.{Outcome, refuses, accepts, storeAfter, does, Step, stops, goes, Ran}
 use Rattle.model.specs.History.{moreBy}
 use Rattle.model.specs.Entries.{partWords, column}
-use Rattle.model.specs.Sound.{Eight, Limits, Buildable, AllUncounted, StagedSound, ExcludedSound, CountsSound, StoreSound}
+use Rattle.model.specs.Sound.{ValueFits, Limits, Buildable, AllUncounted, StagedSound, ExcludedSound, CountsSound, StoreSound}
 
 -- ---- parts of a sound store
 
@@ -23,9 +23,9 @@ pub record DraftSound (kinds : List ℕ) (fs : List Family) : Type 0 where
   pub buildable : Buildable kinds fs
   pub uncounted : AllUncounted fs
 
--- staged and excluded list, draft, caller and refusal counts
-pub record ControlSound (kinds : List ℕ) (d : Control) : Type 0 where
-  pub staged : StagedSound kinds (d .staged)
+-- staged and excluded list, draft, caller and refusal counts; values are of v bytes
+pub record ControlSound (v : ℕ) (kinds : List ℕ) (d : Control) : Type 0 where
+  pub staged : StagedSound v kinds (d .staged)
   pub excluded : ExcludedSound kinds (d .excluded)
   pub draft : DraftSound kinds (d .draft)
   pub counts : CountsSound (d .counts)
@@ -45,24 +45,24 @@ SameSettings s t = t .settings ≡ s .settings
 
 -- ---- one command
 
--- its operands are of their widths: a value is of eight bytes
-abbrev pub Fits : Command → Type 0
-Fits (REG k) = Unit {0}
-Fits (HOLD k v) = Eight v
-Fits NEW = Unit {0}
-Fits (PUT e) = Unit {0}
-Fits (TAKE e) = Unit {0}
-Fits (DROP e) = Unit {0}
-Fits (KILL e) = Unit {0}
-Fits WIPE = Unit {0}
-Fits GROUP = Unit {0}
-Fits APPLY = Unit {0}
-Fits (BAR k) = Unit {0}
-Fits RANGE = Unit {0}
-Fits EMPTY = Unit {0}
-Fits TALLY = Unit {0}
-Fits (TRAY n) = Unit {0}
-Fits (SETCALLER c) = Unit {0}
+-- its operands are of their widths: a value is of v bytes
+abbrev pub Fits : ℕ → Command → Type 0
+Fits v (REG k) = Unit {0}
+Fits v (HOLD k x) = ValueFits v x
+Fits v NEW = Unit {0}
+Fits v (PUT e) = Unit {0}
+Fits v (TAKE e) = Unit {0}
+Fits v (DROP e) = Unit {0}
+Fits v (KILL e) = Unit {0}
+Fits v WIPE = Unit {0}
+Fits v GROUP = Unit {0}
+Fits v APPLY = Unit {0}
+Fits v (BAR k) = Unit {0}
+Fits v RANGE = Unit {0}
+Fits v EMPTY = Unit {0}
+Fits v TALLY = Unit {0}
+Fits v (TRAY n) = Unit {0}
+Fits v (SETCALLER c) = Unit {0}
 
 -- what an accepted one leaves is sound
 abbrev pub OutSound : Outcome → Type 0
@@ -124,11 +124,11 @@ IfGoes Q (goes w a s) = Q w a s
 
 -- a step reads the command's bytes, all of which the tape has, and writes the accepted answer or one byte, for which there is room
 pub record StepFits (b : ℕ) (t : List ℕ) (room : ℕ) (s : Store) (w : ℕ) (a : List ℕ) : Type 0 where
-  pub read : w ≡ suc (width b)
+  pub read : w ≡ suc (width VALUE-BYTES b)
   pub whole : w ≤ suc (length t)
   pub fits : length a ≤ room
-  pub refused : (n : ℕ) → does (commandAt b (take (width b) t)) s ≡ refuses n → length a ≡ 1
-  pub accepted : (s′ : Store) (x : List ℕ) → does (commandAt b (take (width b) t)) s ≡ accepts s′ x → length a ≡ answerLength (commandAt b (take (width b) t)) s
+  pub refused : (n : ℕ) → does (commandAt b (take (width VALUE-BYTES b) t)) s ≡ refuses n → length a ≡ 1
+  pub accepted : (s′ : Store) (x : List ℕ) → does (commandAt b (take (width VALUE-BYTES b) t)) s ≡ accepts s′ x → length a ≡ answerLength VALUE-BYTES (commandAt b (take (width VALUE-BYTES b) t)) s
 
 -- ---- a run
 
