@@ -7,7 +7,7 @@ use Prim.Native.Nat.{ℕ, _≤_, _<_}
 use native.Mathlib.Omega.{arith}
 use borrow.Author.Tests.{lt-leb}
 use lib.ListN.{length}
-use Rattle.model.specs.Numbers.{LIST-CAPACITY, MAX-KINDS}
+use Rattle.model.specs.Numbers.{LIST-CAPACITY, MAX-KINDS, VALUE-BYTES}
 use Rattle.model.specs.Model.{Family, Component, kindOf}
 use Rattle.model.specs.Adding.{Added, nothing, added, refused, addGroup}
 use Rattle.model.specs.Listed.{listed}
@@ -62,14 +62,14 @@ abbrev holding : Store → List Family → List Component → Store
 holding s fs h = withControl s (withDraft (withStaged (s .control) h) fs)
 
 module _ (s : Store) (small : (k : ℕ) → In (s .kinds) k → k < MAX-KINDS) where
-  held-after : (h : List Component) (fs : List Family) → StagedSound (s .kinds) h → afterAll (holdCommands h) (onDraft s fs) ≡ holding s fs h
+  held-after : (h : List Component) (fs : List Family) → StagedSound VALUE-BYTES (s .kinds) h → afterAll (holdCommands h) (onDraft s fs) ≡ holding s fs h
   held-after h fs H = holds-after h (onDraft s fs) (H .once) (H .few) (λ k i. known-kind s small k (H .known k i))
 
-  held-none : (h : List Component) (fs : List Family) → StagedSound (s .kinds) h → NoneRefused (holdCommands h) (onDraft s fs)
+  held-none : (h : List Component) (fs : List Family) → StagedSound VALUE-BYTES (s .kinds) h → NoneRefused (holdCommands h) (onDraft s fs)
   held-none h fs H = holds-none h (onDraft s fs) (H .once) (H .few) (λ k i. known-kind s small k (H .known k i))
 
   -- a hand is held and grouped, and then come the commands cs
-  module _ (h : List Component) (cs : List Command) (fs : List Family) (H : StagedSound (s .kinds) h) where
+  module _ (h : List Component) (cs : List Command) (fs : List Family) (H : StagedSound VALUE-BYTES (s .kinds) h) where
     abbrev here : Store
     here = holding s fs h
 
@@ -110,10 +110,10 @@ module _ (s : Store) (small : (k : ℕ) → In (s .kinds) k → k < MAX-KINDS) w
 
 -- ---- on a tape
 
-pub sheet-encodable : (kinds : List ℕ) → ((k : ℕ) → In kinds k → k < MAX-KINDS) → (hs : List (List Component)) → SheetSound kinds hs → AllEncodable (sheetCommands hs)
+pub sheet-encodable : (kinds : List ℕ) → ((k : ℕ) → In kinds k → k < MAX-KINDS) → (hs : List (List Component)) → SheetSound kinds hs → AllEncodable VALUE-BYTES (sheetCommands hs)
 sheet-encodable kinds small [] H = tt
 sheet-encodable kinds small (h ∷ hs) H =
-    encodable-append (holdCommands h) (GROUP ∷ sheetCommands hs) (holds-encodable h (λ k i. omega (arith, small k (H .0 .known k i))) (H .0 .values)) (tt, sheet-encodable kinds small hs (H .1))
+    encodable-append VALUE-BYTES (holdCommands h) (GROUP ∷ sheetCommands hs) (holds-encodable VALUE-BYTES h (λ k i. omega (arith, small k (H .0 .known k i))) (H .0 .values)) (tt, sheet-encodable kinds small hs (H .1))
 
 -- ---- hands as lists of kinds
 

@@ -2,6 +2,7 @@
 use mathlib.Core.Path.{_≡_}
 use mathlib.Core.List.{List, [], _∷_, _++_, map}
 use Prim.Native.Nat.{ℕ}
+use Rattle.model.specs.Numbers.{VALUE-BYTES}
 use Rattle.model.specs.Model.{Component, kindOf}
 use Rattle.model.specs.Listed.{listed}
 use Rattle.model.specs.Store.{Store, withControl, withDraft}
@@ -23,7 +24,7 @@ sheetGroups hs = map (map kindOf) hs
 -- each is a hand that commands can build
 abbrev pub SheetSound : List ℕ → List (List Component) → Type 0
 SheetSound kinds [] = Unit {0}
-SheetSound kinds (h ∷ hs) = StagedSound kinds h × SheetSound kinds hs
+SheetSound kinds (h ∷ hs) = StagedSound VALUE-BYTES kinds h × SheetSound kinds hs
 
 -- no command is refused, each in the store that those before it leave
 abbrev pub NoneRefused : List Command → Store → Type 0

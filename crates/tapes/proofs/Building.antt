@@ -8,14 +8,14 @@ use borrow.Author.Tests.{le-ltb, lt-leb, eq-eqb}
 use lib.Dec.{lit<}
 use lib.ListN.{length, getD, set, replicate, length-append, length-map}
 use lib.Seq.{set-append-seam}
-use Rattle.model.specs.Numbers.{CALLERS, LAST-CALLER, LAST-KIND, LIST-CAPACITY, MAX-GROUP-ARITY, MAX-GROUP-COUNT, MAX-KINDS, MAX-REFUSALS}
+use Rattle.model.specs.Numbers.{CALLERS, LAST-CALLER, LAST-KIND, LIST-CAPACITY, MAX-GROUP-ARITY, MAX-GROUP-COUNT, MAX-KINDS, MAX-REFUSALS, VALUE-BYTES}
 use Rattle.model.specs.Model.{Entity, Group, Family, Component, mem, kindOf, kindsOf, groupsOf, setLayout, regroup}
 use Rattle.model.specs.Adding.{added, addGroup}
 use Rattle.model.specs.Store.{Counts, Settings, Store, emptyWith, noCounts, oneMore, stagedKinds, withControl, withStorage, withKinds, withLayout, withStaged, withExcluded, withDraft, emptyStaged}
 use Rattle.model.specs.Commands.{Command, REG, GROUP, APPLY, BAR, SETCALLER, accepted}
 use Rattle.model.specs.Refusals.{unknownKind}
 use Rattle.model.specs.Run.{Outcome, storeAfter}
-use Rattle.model.specs.Sound.{In, Distinct, Eight, noComponent, CountsSound, layoutKinds, Rising, BuildableFamily, BuildableFamilies, Uncounted, AllUncounted}
+use Rattle.model.specs.Sound.{In, Distinct, ValueFits, noComponent, CountsSound, layoutKinds, Rising, BuildableFamily, BuildableFamilies, Uncounted, AllUncounted}
 use Rattle.model.specs.Theorems.{DraftSound, recounted, grouped}
 use Rattle.model.proofs.ListLaws.{map-append}
 use Rattle.model.proofs.KindLists.{distinct-left, distinct-right, in-left, in-right, before-free}
@@ -23,6 +23,7 @@ use Rattle.model.proofs.Draft.{family-joined, kinds-append, groups-append}
 use Rattle.model.proofs.Regroup.{zeroed, zeroed-families}
 use Rattle.model.proofs.Counts.{one-more-up}
 use Rattle.model.proofs.Outcomes.{reg-above, reg-new, caller-set, hold-staged, bar-excluded, apply-does, group-does}
+use Rattle.model.proofs.Operations.{zero-fits}
 use Rattle.tapes.specs.Tapes.{AllEncodable, afterOne, afterAll}
 use Rattle.tapes.specs.Built.{Build, builtStore, BuildSound, refusedCommand, callerCommands, countCommands, valueless, holdCommands, groupCommands, familyCommands, buildCommands}
 use Rattle.tapes.proofs.Tapes.{encodable-append, after-append}
@@ -245,54 +246,55 @@ commands-after c b B =
 abbrev pub OneByte : List ℕ → Type 0
 OneByte ks = (k : ℕ) → In ks k → k < 256
 
-refused-encodable : (t : ℕ) → AllEncodable (replicate t refusedCommand)
-refused-encodable zero = tt
-refused-encodable (suc t) = (lit< tt, refused-encodable t)
+module _ (v : ℕ) where
+  refused-encodable : (t : ℕ) → AllEncodable v (replicate t refusedCommand)
+  refused-encodable zero = tt
+  refused-encodable (suc t) = (lit< tt, refused-encodable t)
 
-callers-encodable : (ns : List ℕ) (c : ℕ) → c + length ns ≤ CALLERS → AllEncodable (callerCommands c ns)
-callers-encodable [] c h = tt
-callers-encodable (n ∷ ns) c h = (omega arith, encodable-append (replicate n refusedCommand) (callerCommands (suc c) ns) (refused-encodable n) (callers-encodable ns (suc c) (omega arith)))
+  callers-encodable : (ns : List ℕ) (c : ℕ) → c + length ns ≤ CALLERS → AllEncodable v (callerCommands c ns)
+  callers-encodable [] c h = tt
+  callers-encodable (n ∷ ns) c h = (omega arith, encodable-append v (replicate n refusedCommand) (callerCommands (suc c) ns) (refused-encodable n) (callers-encodable ns (suc c) (omega arith)))
 
-regs-encodable : (ks : List ℕ) → OneByte ks → AllEncodable (map REG ks)
-regs-encodable [] h = tt
-regs-encodable (k ∷ ks) h = (h k (next-in ks k), regs-encodable ks (λ j i. h j (in-right (k ∷ []) ks j i)))
+  regs-encodable : (ks : List ℕ) → OneByte ks → AllEncodable v (map REG ks)
+  regs-encodable [] h = tt
+  regs-encodable (k ∷ ks) h = (h k (next-in ks k), regs-encodable ks (λ j i. h j (in-right (k ∷ []) ks j i)))
 
-bars-encodable : (ks : List ℕ) → OneByte ks → AllEncodable (map BAR ks)
-bars-encodable [] h = tt
-bars-encodable (k ∷ ks) h = (h k (next-in ks k), bars-encodable ks (λ j i. h j (in-right (k ∷ []) ks j i)))
+  bars-encodable : (ks : List ℕ) → OneByte ks → AllEncodable v (map BAR ks)
+  bars-encodable [] h = tt
+  bars-encodable (k ∷ ks) h = (h k (next-in ks k), bars-encodable ks (λ j i. h j (in-right (k ∷ []) ks j i)))
 
-pub holds-encodable : (ps : List Component) → OneByte (map kindOf ps) → ((j : ℕ) → Eight (getD ps j noComponent .value)) → AllEncodable (holdCommands ps)
-holds-encodable [] h v = tt
-holds-encodable (p ∷ ps) h v = ((h (p .kind) (next-in (map kindOf ps) (p .kind)), v 0), holds-encodable ps (λ j i. h j (in-right (p .kind ∷ []) (map kindOf ps) j i)) (λ j. v (suc j)))
+  pub holds-encodable : (ps : List Component) → OneByte (map kindOf ps) → ((j : ℕ) → ValueFits v (getD ps j noComponent .value)) → AllEncodable v (holdCommands ps)
+  holds-encodable [] h x = tt
+  holds-encodable (p ∷ ps) h x = ((h (p .kind) (next-in (map kindOf ps) (p .kind)), x 0), holds-encodable ps (λ j i. h j (in-right (p .kind ∷ []) (map kindOf ps) j i)) (λ j. x (suc j)))
 
-valueless-encodable : (ks : List ℕ) → OneByte ks → AllEncodable (holdCommands (map valueless ks))
-valueless-encodable [] h = tt
-valueless-encodable (k ∷ ks) h = ((h k (next-in ks k), lit< tt), valueless-encodable ks (λ j i. h j (in-right (k ∷ []) ks j i)))
+  valueless-encodable : (ks : List ℕ) → OneByte ks → AllEncodable v (holdCommands (map valueless ks))
+  valueless-encodable [] h = tt
+  valueless-encodable (k ∷ ks) h = ((h k (next-in ks k), zero-fits v), valueless-encodable ks (λ j i. h j (in-right (k ∷ []) ks j i)))
 
-groups-encodable : (rs : Family) (acc : List ℕ) → OneByte (acc ++ kindsOf rs) → AllEncodable (groupCommands acc rs)
-groups-encodable [] acc h = tt
-groups-encodable (r ∷ rs) acc h =
-    let h′ : OneByte ((acc ++ r .newKinds) ++ kindsOf rs) = rw (append-assoc acc (r .newKinds) (kindsOf rs)) h in
-    encodable-append (holdCommands (map valueless (acc ++ r .newKinds))) (GROUP ∷ groupCommands (acc ++ r .newKinds) rs)
-    (valueless-encodable (acc ++ r .newKinds) (λ k i. h′ k (in-left (acc ++ r .newKinds) (kindsOf rs) k i)))
-    (tt, groups-encodable rs (acc ++ r .newKinds) h′)
+  groups-encodable : (rs : Family) (acc : List ℕ) → OneByte (acc ++ kindsOf rs) → AllEncodable v (groupCommands acc rs)
+  groups-encodable [] acc h = tt
+  groups-encodable (r ∷ rs) acc h =
+      let h′ : OneByte ((acc ++ r .newKinds) ++ kindsOf rs) = rw (append-assoc acc (r .newKinds) (kindsOf rs)) h in
+      encodable-append v (holdCommands (map valueless (acc ++ r .newKinds))) (GROUP ∷ groupCommands (acc ++ r .newKinds) rs)
+      (valueless-encodable (acc ++ r .newKinds) (λ k i. h′ k (in-left (acc ++ r .newKinds) (kindsOf rs) k i)))
+      (tt, groups-encodable rs (acc ++ r .newKinds) h′)
 
-families-encodable : (fs : List Family) → OneByte (layoutKinds fs) → AllEncodable (familyCommands fs)
-families-encodable [] h = tt
-families-encodable (f ∷ fs) h =
-    encodable-append (groupCommands [] f) (familyCommands fs)
-    (groups-encodable f [] (λ k i. h k (in-left (kindsOf f) (layoutKinds fs) k i)))
-    (families-encodable fs (λ k i. h k (in-right (kindsOf f) (layoutKinds fs) k i)))
+  families-encodable : (fs : List Family) → OneByte (layoutKinds fs) → AllEncodable v (familyCommands fs)
+  families-encodable [] h = tt
+  families-encodable (f ∷ fs) h =
+      encodable-append v (groupCommands [] f) (familyCommands fs)
+      (groups-encodable f [] (λ k i. h k (in-left (kindsOf f) (layoutKinds fs) k i)))
+      (families-encodable fs (λ k i. h k (in-right (kindsOf f) (layoutKinds fs) k i)))
 
-pub commands-encodable : (k : ℕ) (b : Build) → BuildSound k b → AllEncodable (buildCommands b)
+pub commands-encodable : (k : ℕ) (b : Build) → BuildSound k b → AllEncodable VALUE-BYTES (buildCommands b)
 commands-encodable k b B =
-    encodable-append (countCommands (b .counts)) _
-    (encodable-append (callerCommands 0 (b .counts .refusals)) (SETCALLER (b .counts .caller) ∷ []) (callers-encodable (b .counts .refusals) 0 (omega (arith, B .counts .callers))) (omega (arith, B .counts .caller), tt))
-    (encodable-append (map REG (b .kinds)) _ (regs-encodable (b .kinds) small)
-    (encodable-append (familyCommands (b .layout)) _ (families-encodable (b .layout) (λ j i. small j (B .layout .buildable .known j i))) (
+    encodable-append VALUE-BYTES (countCommands (b .counts)) _
+    (encodable-append VALUE-BYTES (callerCommands 0 (b .counts .refusals)) (SETCALLER (b .counts .caller) ∷ []) (callers-encodable VALUE-BYTES (b .counts .refusals) 0 (omega (arith, B .counts .callers))) (omega (arith, B .counts .caller), tt))
+    (encodable-append VALUE-BYTES (map REG (b .kinds)) _ (regs-encodable VALUE-BYTES (b .kinds) small)
+    (encodable-append VALUE-BYTES (familyCommands (b .layout)) _ (families-encodable VALUE-BYTES (b .layout) (λ j i. small j (B .layout .buildable .known j i))) (
       tt,
-      encodable-append (familyCommands (b .draft)) _ (families-encodable (b .draft) (λ j i. small j (B .draft .buildable .known j i)))
-          (encodable-append (holdCommands (b .staged)) _ (holds-encodable (b .staged) (λ j i. small j (B .staged .known j i)) (B .staged .values)) (bars-encodable (b .excluded) (λ j i. small j (B .excluded .known j i)))),
+      encodable-append VALUE-BYTES (familyCommands (b .draft)) _ (families-encodable VALUE-BYTES (b .draft) (λ j i. small j (B .draft .buildable .known j i)))
+          (encodable-append VALUE-BYTES (holdCommands (b .staged)) _ (holds-encodable VALUE-BYTES (b .staged) (λ j i. small j (B .staged .known j i)) (B .staged .values)) (bars-encodable VALUE-BYTES (b .excluded) (λ j i. small j (B .excluded .known j i)))),
     )))
   where
     small : OneByte (b .kinds)

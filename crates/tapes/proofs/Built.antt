@@ -6,7 +6,7 @@ use mathlib.Core.List.{List, [], _∷_, _++_, map}
 use Prim.Native.Nat.{ℕ, suc, _+_, _≤_}
 use native.Mathlib.Omega.{arith}
 use lib.ListN.{length, replicate}
-use Rattle.model.specs.Numbers.{MAX-KINDS}
+use Rattle.model.specs.Numbers.{MAX-KINDS, VALUE-BYTES}
 use Rattle.model.specs.Model.{Entity, SparseSet, Family, setOf, zeroCount}
 use Rattle.model.specs.Store.{Settings, Store, emptyWith}
 use Rattle.model.specs.Run.{Ran}
@@ -26,7 +26,7 @@ pub tape-builds : (c : Settings) (b : Build) → BuildSound (c .kindCapacity) b 
 tape-builds c b B =
     let E = commands-encodable (c .kindCapacity) b B in
     record {
-      bytes = tape-bytes (buildCommands b) E;
+      bytes = tape-bytes VALUE-BYTES (buildCommands b) E;
       stop = λ r h. ap (λ (x : Ran). x .stop) (run-commands (buildCommands b) r (emptyWith c) E h);
       store = λ r h. ap (λ (x : Ran). x .store) (run-commands (buildCommands b) r (emptyWith c) E h) ∙ commands-after c b B;
     }

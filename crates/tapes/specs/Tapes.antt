@@ -2,12 +2,12 @@
 use mathlib.Core.List.{List, [], _∷_, _++_}
 use Prim.Native.Nat.{ℕ, _+_, _^_, _<_}
 use lib.ListN.{length}
-use Rattle.model.specs.Numbers.{REG-BYTE, HOLD-BYTE, NEW-BYTE, PUT-BYTE, TAKE-BYTE, DROP-BYTE, KILL-BYTE, WIPE-BYTE, GROUP-BYTE, APPLY-BYTE, BAR-BYTE, RANGE-BYTE, EMPTY-BYTE, TALLY-BYTE, TRAY-BYTE, SETCALLER-BYTE}
+use Rattle.model.specs.Numbers.{REG-BYTE, HOLD-BYTE, NEW-BYTE, PUT-BYTE, TAKE-BYTE, DROP-BYTE, KILL-BYTE, WIPE-BYTE, GROUP-BYTE, APPLY-BYTE, BAR-BYTE, RANGE-BYTE, EMPTY-BYTE, TALLY-BYTE, TRAY-BYTE, SETCALLER-BYTE, VALUE-BYTES}
 use Rattle.model.specs.Model.{Entity}
 use Rattle.model.specs.Store.{Store, bytesOf}
 use Rattle.model.specs.Commands.{Command, REG, HOLD, NEW, PUT, TAKE, DROP, KILL, WIPE, GROUP, APPLY, BAR, RANGE, EMPTY, TALLY, TRAY, SETCALLER, answerLength}
 use Rattle.model.specs.Run.{does, storeAfter, answerOf, Ran}
-use Rattle.model.specs.Sound.{Eight}
+use Rattle.model.specs.Sound.{ValueFits}
 
 -- ---- "One command byte, then operands"
 
@@ -33,56 +33,56 @@ byteOf (SETCALLER c) = SETCALLER-BYTE
 abbrev pub entityBytes : Entity → List ℕ
 entityBytes e = bytesOf 4 (e .index) ++ bytesOf 4 (e .version)
 
--- "kind 1", "kind 1, value 8"; 02, No. 4: "count 2 bytes"; No. 7: "caller 1 byte"
-abbrev pub operandsOf : Command → List ℕ
-operandsOf (REG k) = k ∷ []
-operandsOf (HOLD k v) = k ∷ bytesOf 8 v
-operandsOf NEW = []
-operandsOf (PUT e) = entityBytes e
-operandsOf (TAKE e) = entityBytes e
-operandsOf (DROP e) = entityBytes e
-operandsOf (KILL e) = entityBytes e
-operandsOf WIPE = []
-operandsOf GROUP = []
-operandsOf APPLY = []
-operandsOf (BAR k) = k ∷ []
-operandsOf RANGE = []
-operandsOf EMPTY = []
-operandsOf TALLY = []
-operandsOf (TRAY n) = bytesOf 2 n
-operandsOf (SETCALLER c) = c ∷ []
+-- a value being of v bytes: "kind 1", "kind 1, value 8"; 02, No. 4: "count 2 bytes"; No. 7: "caller 1 byte"
+abbrev pub operandsOf : ℕ → Command → List ℕ
+operandsOf v (REG k) = k ∷ []
+operandsOf v (HOLD k x) = k ∷ bytesOf v x
+operandsOf v NEW = []
+operandsOf v (PUT e) = entityBytes e
+operandsOf v (TAKE e) = entityBytes e
+operandsOf v (DROP e) = entityBytes e
+operandsOf v (KILL e) = entityBytes e
+operandsOf v WIPE = []
+operandsOf v GROUP = []
+operandsOf v APPLY = []
+operandsOf v (BAR k) = k ∷ []
+operandsOf v RANGE = []
+operandsOf v EMPTY = []
+operandsOf v TALLY = []
+operandsOf v (TRAY n) = bytesOf 2 n
+operandsOf v (SETCALLER c) = c ∷ []
 
 -- an entity's two numbers are of four bytes
 abbrev pub EntityFits : Entity → Type 0
 EntityFits e = (e .index < 256 ^ 4) × (e .version < 256 ^ 4)
 
 -- each operand has room in its bytes, so that the command can stand on a tape
-abbrev pub Encodable : Command → Type 0
-Encodable (REG k) = k < 256
-Encodable (HOLD k v) = (k < 256) × Eight v
-Encodable NEW = Unit {0}
-Encodable (PUT e) = EntityFits e
-Encodable (TAKE e) = EntityFits e
-Encodable (DROP e) = EntityFits e
-Encodable (KILL e) = EntityFits e
-Encodable WIPE = Unit {0}
-Encodable GROUP = Unit {0}
-Encodable APPLY = Unit {0}
-Encodable (BAR k) = k < 256
-Encodable RANGE = Unit {0}
-Encodable EMPTY = Unit {0}
-Encodable TALLY = Unit {0}
-Encodable (TRAY n) = n < 256 ^ 2
-Encodable (SETCALLER c) = c < 256
+abbrev pub Encodable : ℕ → Command → Type 0
+Encodable v (REG k) = k < 256
+Encodable v (HOLD k x) = (k < 256) × ValueFits v x
+Encodable v NEW = Unit {0}
+Encodable v (PUT e) = EntityFits e
+Encodable v (TAKE e) = EntityFits e
+Encodable v (DROP e) = EntityFits e
+Encodable v (KILL e) = EntityFits e
+Encodable v WIPE = Unit {0}
+Encodable v GROUP = Unit {0}
+Encodable v APPLY = Unit {0}
+Encodable v (BAR k) = k < 256
+Encodable v RANGE = Unit {0}
+Encodable v EMPTY = Unit {0}
+Encodable v TALLY = Unit {0}
+Encodable v (TRAY n) = n < 256 ^ 2
+Encodable v (SETCALLER c) = c < 256
 
-abbrev pub AllEncodable : List Command → Type 0
-AllEncodable [] = Unit {0}
-AllEncodable (c ∷ cs) = Encodable c × AllEncodable cs
+abbrev pub AllEncodable : ℕ → List Command → Type 0
+AllEncodable v [] = Unit {0}
+AllEncodable v (c ∷ cs) = Encodable v c × AllEncodable v cs
 
 -- the commands one behind another
-abbrev pub tapeOf : List Command → List ℕ
-tapeOf [] = []
-tapeOf (c ∷ cs) = byteOf c ∷ (operandsOf c ++ tapeOf cs)
+abbrev pub tapeOf : ℕ → List Command → List ℕ
+tapeOf v [] = []
+tapeOf v (c ∷ cs) = byteOf c ∷ (operandsOf v c ++ tapeOf v cs)
 
 -- ---- the commands done one after another, refused ones too
 
@@ -100,8 +100,8 @@ answersTo (c ∷ cs) s = answerOf (does c s) ++ answersTo cs (afterOne c s)
 -- the room that is enough for all of them: each is judged by "the accepted answer", even where it is refused
 abbrev pub roomFor : List Command → Store → ℕ
 roomFor [] s = 0
-roomFor (c ∷ cs) s = answerLength c s + roomFor cs (afterOne c s)
+roomFor (c ∷ cs) s = answerLength VALUE-BYTES c s + roomFor cs (afterOne c s)
 
 -- what their run gives, to the tape's end
 abbrev pub ranAll : List Command → Store → Ran
-ranAll cs s = record { store = afterAll cs s; stop = 0; commands = length cs; read = length (tapeOf cs); bytes = answersTo cs s }
+ranAll cs s = record { store = afterAll cs s; stop = 0; commands = length cs; read = length (tapeOf VALUE-BYTES cs); bytes = answersTo cs s }
