@@ -5,7 +5,7 @@ use mathlib.Core.Option.{Option, some, none}
 use mathlib.Core.List.{List, [], _∷_, _++_, append-nil}
 use Prim.Native.Nat.{ℕ, zero, suc, _+_, _-_, _≤_, _<_}
 use native.Mathlib.Omega.{arith}
-use native.Mathlib.Numerals.{add-one, towards-suc}
+use native.Mathlib.Numerals.{add-one}
 use lib.ListN.{length, getD, set, take, drop, drop-of-length-le}
 use lib.Seq.{sets, drop-cons}
 use Rattle.model.specs.Numbers.{MAX-KINDS}
@@ -73,22 +73,22 @@ value-none e rows h = rw h
 value-bare : (e : Entity) (rows : SparseSet) → rows ≡ [] → valueAt e rows ≡ none
 value-bare e rows h = rw h
 
-pub none-written : {o : List ℕ} {p : ℕ} {v : Option ℕ} (k : ℕ) → v ≡ none → WrittenUntil o o p p (oneBytes v k)
-none-written k e = rw e (record { bytes = refl; next = omega arith })
+pub none-written : {o : List ℕ} {p : ℕ} {y : Option ℕ} (v k : ℕ) → y ≡ none → WrittenUntil o o p p (oneBytes v y k)
+none-written v k e = rw e (record { bytes = refl; next = omega arith })
 
-pub one-room : {x n : ℕ} {v : Option ℕ} (p k : ℕ) → v ≡ some x → p + length (oneBytes v k) ≤ n → p + 9 ≤ n
-one-room {x} {n} p k e h =
-    let z : p + length (oneBytes (some x) k) ≤ n = rw e at h in
-    omega (arith, bytesOf-length 8 x)
+pub one-room : {x n : ℕ} {y : Option ℕ} (v p k : ℕ) → y ≡ some x → p + length (oneBytes v y k) ≤ n → p + (1 + v) ≤ n
+one-room {x} {n} v p k e h =
+    let z : p + length (oneBytes v (some x) k) ≤ n = rw e at h in
+    omega (arith, bytesOf-length v x)
 
-pub one-written : {o′ : List ℕ} {x : ℕ} {v : Option ℕ} (o : List ℕ) (p k : ℕ) → v ≡ some x → o′ ≡ sets (set o p k) (p + 1) (bytesOf 8 x) → WrittenUntil o o′ p (p + 9) (oneBytes v k)
-one-written {x = x} o p k e q = rw e (record { bytes = q ∙ simp towards-suc; next = omega (arith, bytesOf-length 8 x) })
+pub one-written : {o′ : List ℕ} {x : ℕ} {y : Option ℕ} (v : ℕ) (o : List ℕ) (p k : ℕ) → y ≡ some x → o′ ≡ sets (set o p k) (p + 1) (bytesOf v x) → WrittenUntil o o′ p (p + (1 + v)) (oneBytes v y k)
+one-written {x = x} v o p k e q = rw e (record { bytes = q ∙ ap (λ (i : ℕ). sets (set o p k) i (bytesOf v x)) (add-one p); next = omega (arith, bytesOf-length v x) })
 
 -- ---- the kinds of one entity
 
-bytes-add : (v : Option ℕ) (k : ℕ) (ps : List Component) → componentBytes (addComponent v k ps) ≡ oneBytes v k ++ componentBytes ps
-bytes-add none k ps = refl
-bytes-add (some x) k ps = refl
+bytes-add : (v : ℕ) (y : Option ℕ) (k : ℕ) (ps : List Component) → componentBytes v (addComponent y k ps) ≡ oneBytes v y k ++ componentBytes v ps
+bytes-add v none k ps = refl
+bytes-add v (some x) k ps = refl
 
 components-few : (e : Entity) (k : ℕ) (ss : List SparseSet) → length (componentsOf e k ss) ≤ length ss
 components-few e k [] = omega arith
@@ -102,35 +102,35 @@ pub few-components : (e : Entity) (ss : List SparseSet) → length ss ≡ MAX-KI
 few-components e ss h = omega (arith, components-few e 0 ss)
 
 -- the bytes of the components of these kinds
-abbrev pub kindsBytes : Entity → List SparseSet → List ℕ → List ℕ
-kindsBytes e ss [] = []
-kindsBytes e ss (k ∷ ks) = oneBytes (valueAt e (setOf ss k)) k ++ kindsBytes e ss ks
+abbrev pub kindsBytes : ℕ → Entity → List SparseSet → List ℕ → List ℕ
+kindsBytes v e ss [] = []
+kindsBytes v e ss (k ∷ ks) = oneBytes v (valueAt e (setOf ss k)) k ++ kindsBytes v e ss ks
 
-pub bytes-turn : (e : Entity) (ss : List SparseSet) (l : List ℕ) (i : ℕ) → i < length l
-    → kindsBytes e ss (drop i l) ≡ oneBytes (valueAt e (setOf ss (getD l i 0))) (getD l i 0) ++ kindsBytes e ss (drop (i + 1) l)
-bytes-turn e ss l i h = ap (kindsBytes e ss) (drop-cons l i 0 h ∙ ap (λ (j : ℕ). getD l i 0 ∷ drop j l) (sym (add-one i)))
+pub bytes-turn : (v : ℕ) (e : Entity) (ss : List SparseSet) (l : List ℕ) (i : ℕ) → i < length l
+    → kindsBytes v e ss (drop i l) ≡ oneBytes v (valueAt e (setOf ss (getD l i 0))) (getD l i 0) ++ kindsBytes v e ss (drop (i + 1) l)
+bytes-turn v e ss l i h = ap (kindsBytes v e ss) (drop-cons l i 0 h ∙ ap (λ (j : ℕ). getD l i 0 ∷ drop j l) (sym (add-one i)))
 
-pub bytes-end : (e : Entity) (ss : List SparseSet) (l : List ℕ) (i : ℕ) → length l ≤ i → kindsBytes e ss (drop i l) ≡ []
-bytes-end e ss l i h = ap (kindsBytes e ss) (drop-of-length-le l h)
+pub bytes-end : (v : ℕ) (e : Entity) (ss : List SparseSet) (l : List ℕ) (i : ℕ) → length l ≤ i → kindsBytes v e ss (drop i l) ≡ []
+bytes-end v e ss l i h = ap (kindsBytes v e ss) (drop-of-length-le l h)
 
-module _ (e : Entity) (ks : List ℕ) (ss : List SparseSet) (wide : length ss ≡ MAX-KINDS) (bare : (k : ℕ) → k < MAX-KINDS → mem k ks ≡ false → setOf ss k ≡ []) where
-  from-bytes : (n k : ℕ) → n + k ≡ MAX-KINDS → componentBytes (componentsOf e k (drop k ss)) ≡ kindsBytes e ss (risingFrom ks n k)
-  from-bytes zero k q = let h : length ss ≤ k = omega (arith, wide) in ap (λ (l : List SparseSet). componentBytes (componentsOf e k l)) (drop-of-length-le ss h)
+module _ (v : ℕ) (e : Entity) (ks : List ℕ) (ss : List SparseSet) (wide : length ss ≡ MAX-KINDS) (bare : (k : ℕ) → k < MAX-KINDS → mem k ks ≡ false → setOf ss k ≡ []) where
+  from-bytes : (n k : ℕ) → n + k ≡ MAX-KINDS → componentBytes v (componentsOf e k (drop k ss)) ≡ kindsBytes v e ss (risingFrom ks n k)
+  from-bytes zero k q = let h : length ss ≤ k = omega (arith, wide) in ap (λ (l : List SparseSet). componentBytes v (componentsOf e k l)) (drop-of-length-le ss h)
   from-bytes (suc n) k q =
       let h : k < length ss = omega (arith, wide) in
-      ap (λ (l : List SparseSet). componentBytes (componentsOf e k l)) (drop-cons ss k [] h)
-      ∙ bytes-add (valueAt e (setOf ss k)) k (componentsOf e (suc k) (drop (suc k) ss))
-      ∙ ap (λ (l : List ℕ). oneBytes (valueAt e (setOf ss k)) k ++ l) (from-bytes n (suc k) (omega arith))
+      ap (λ (l : List SparseSet). componentBytes v (componentsOf e k l)) (drop-cons ss k [] h)
+      ∙ bytes-add v (valueAt e (setOf ss k)) k (componentsOf e (suc k) (drop (suc k) ss))
+      ∙ ap (λ (l : List ℕ). oneBytes v (valueAt e (setOf ss k)) k ++ l) (from-bytes n (suc k) (omega arith))
       ∙ go (mem k ks) refl
     where
       r : List ℕ
       r = risingFrom ks n (suc k)
 
-      go : (b : Bool) → mem k ks ≡ b → oneBytes (valueAt e (setOf ss k)) k ++ kindsBytes e ss r ≡ kindsBytes e ss (cond b (k ∷ r) r)
+      go : (b : Bool) → mem k ks ≡ b → oneBytes v (valueAt e (setOf ss k)) k ++ kindsBytes v e ss r ≡ kindsBytes v e ss (cond b (k ∷ r) r)
       go true t = refl
       go false t = rw (value-bare e (setOf ss k) (bare k (omega arith) t))
 
   -- an entity's components are those of the registered kinds
-  pub bytes-all : (l : List ℕ) → l ≡ risingKinds ks → componentBytes (componentsOf e 0 ss) ≡ kindsBytes e ss l
+  pub bytes-all : (l : List ℕ) → l ≡ risingKinds ks → componentBytes v (componentsOf e 0 ss) ≡ kindsBytes v e ss l
   unfolding risingKinds
-  bytes-all l q = from-bytes MAX-KINDS 0 refl ∙ ap (kindsBytes e ss) (sym q)
+  bytes-all l q = from-bytes MAX-KINDS 0 refl ∙ ap (kindsBytes v e ss) (sym q)

@@ -10,6 +10,7 @@ use native.Mathlib.Numerals.{add-one}
 use borrow.Author.Tests.{eq-eqb, ne-eqb}
 use lib.ListN.{length, getD, drop, drop-of-length-le, length-append, length-map}
 use lib.Seq.{drop-cons}
+use Rattle.model.specs.Numbers.{VALUE-BYTES}
 use Rattle.model.specs.Lists.{one}
 use Rattle.model.proofs.ListLaws.{count-length}
 use Rattle.model.specs.Model.{Entity, SparseSet, sameEntity, entityOf, noRow, at, held, setOf}
@@ -36,9 +37,9 @@ sum-add : (f g h : Entity → ℕ) (l : List Entity) → ((e : Entity) → f e �
 sum-add f g h [] q = refl
 sum-add f g h (e ∷ es) q = omega (arith, q e, sum-add f g h es q)
 
-sum-nine : (f : Entity → ℕ) (l : List Entity) → sum (λ e. 9 + 9 * f e) l ≡ 9 * (length l + sum f l)
-sum-nine f [] = refl
-sum-nine f (e ∷ es) = omega (arith, sum-nine f es)
+sum-each : (n : ℕ) (f : Entity → ℕ) (l : List Entity) → sum (λ e. 9 + n * f e) l ≡ 9 * length l + n * sum f l
+sum-each n f [] = omega arith
+sum-each n f (e ∷ es) = omega (arith, sum-each n f es)
 
 sum-zero : (l : List Entity) → sum (λ e. 0) l ≡ 0
 sum-zero [] = refl
@@ -46,28 +47,28 @@ sum-zero (e ∷ es) = omega (arith, sum-zero es)
 
 -- ---- the indexes of a snapshot are those of the live list
 
-module _ (ss : List SparseSet) where
+module _ (v : ℕ) (ss : List SparseSet) where
   abbrev weight : Entity → ℕ
-  weight e = 9 + 9 * length (componentsOf e 0 ss)
+  weight e = 9 + (1 + v) * length (componentsOf e 0 ss)
 
   abbrev size : ℕ → ℕ → List Entity → ℕ
-  size i n l = length (flat (entries i n l ss))
+  size i n l = length (flat v (entries i n l ss))
 
-  size-turn : (v i : ℕ) (us : List Entry) → length (flat (entryOf v i ss ++ us)) ≡ length (flat (entryOf v i ss)) + length (flat us)
-  size-turn v i us = ap (λ (b : List ℕ). length b) (flat-append (entryOf v i ss) us) ∙ length-append (flat (entryOf v i ss)) (flat us)
+  size-turn : (m i : ℕ) (us : List Entry) → length (flat v (entryOf m i ss ++ us)) ≡ length (flat v (entryOf m i ss)) + length (flat v us)
+  size-turn m i us = ap (λ (b : List ℕ). length b) (flat-append v (entryOf m i ss) us) ∙ length-append (flat v (entryOf m i ss)) (flat v us)
 
-  one-size : (i v : ℕ) → 1 ≤ v → length (flat (entryOf v i ss)) ≡ weight (record { index = i; version = v })
+  one-size : (i m : ℕ) → 1 ≤ m → length (flat v (entryOf m i ss)) ≡ weight (record { index = i; version = m })
   one-size i zero h = absurd (omega arith)
-  one-size i (suc v) h =
-      let t : Entry = record { entity = record { index = i; version = suc v }; components = componentsOf (record { index = i; version = suc v }) 0 ss } in
-      ap (λ (b : List ℕ). length b) (append-nil (entryBytes t)) ∙ entry-length t
+  one-size i (suc m) h =
+      let t : Entry = record { entity = record { index = i; version = suc m }; components = componentsOf (record { index = i; version = suc m }) 0 ss } in
+      ap (λ (b : List ℕ). length b) (append-nil (entryBytes v t)) ∙ entry-length v t
 
   module _ (e : Entity) (l : List Entity) where
     apart : (n i : ℕ) → e .index < i → size i n (e ∷ l) ≡ size i n l
     apart zero i h = refl
     apart (suc n) i h =
         rw (ne-eqb i (e .index) (omega arith))
-        (size-turn (liveVersion i l) i (entries (suc i) n (e ∷ l) ss) ∙ ap (λ (m : ℕ). length (flat (entryOf (liveVersion i l) i ss)) + m) (apart n (suc i) (omega arith)) ∙ sym (size-turn (liveVersion i l) i (entries (suc i) n l ss)))
+        (size-turn (liveVersion i l) i (entries (suc i) n (e ∷ l) ss) ∙ ap (λ (m : ℕ). length (flat v (entryOf (liveVersion i l) i ss)) + m) (apart n (suc i) (omega arith)) ∙ sym (size-turn (liveVersion i l) i (entries (suc i) n l ss)))
 
     joins : (n i : ℕ) → i ≤ e .index → e .index < i + n → 1 ≤ e .version → liveVersion (e .index) l ≡ 0 → size i n (e ∷ l) ≡ weight e + size i n l
     joins zero i lo hi p z = absurd (omega arith)
@@ -145,8 +146,8 @@ module _ (s : Store) (S : StoreSound s) where
       omega (
         arith,
         snapshot-length s,
-        live-size ss (s .entities .issued) l (L .live) (L .issued),
-        sum-nine (λ e. length (componentsOf e 0 ss)) l,
+        live-size VALUE-BYTES ss (s .entities .issued) l (L .live) (L .issued),
+        sum-each (1 + VALUE-BYTES) (λ e. length (componentsOf e 0 ss)) l,
         components-sum l ss 0 (λ j. sym (holders-sum l ss j) ∙ holders-rows j),
       )
 

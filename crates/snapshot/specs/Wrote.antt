@@ -5,15 +5,16 @@ use mathlib.Core.List.{List, [], _∷_}
 use Prim.Native.Nat.{ℕ, _+_}
 use lib.ListN.{length}
 use lib.Seq.{sets}
+use Rattle.model.specs.Numbers.{VALUE-BYTES}
 use Rattle.model.specs.Store.{bytesOf}
 use Rattle.model.specs.Snapshot.{Entry, componentsOf, liveVersion, entryOf, flat}
 use Rattle.model.specs.Model.{entity}
 use Rattle.memory.specs.Meaning.{meaning}
 
--- the bytes of one component: "kind 1, value 8"; none where it is not held
-abbrev pub oneBytes : Option ℕ → ℕ → List ℕ
-oneBytes none k = []
-oneBytes (some v) k = k ∷ bytesOf 8 v
+-- the bytes of one component, with a value of v bytes: "kind 1, value 8"; none where it is not held
+abbrev pub oneBytes : ℕ → Option ℕ → ℕ → List ℕ
+oneBytes v none k = []
+oneBytes v (some x) k = k ∷ bytesOf v x
 
 -- the entity with this index and version, with its components
 abbrev pub entryFor : List ℕ → ℕ → ℕ → Entry
@@ -21,7 +22,7 @@ entryFor w i v = record { entity = entity i v; components = componentsOf (entity
 
 -- the bytes of the live entity with index i, none where there is none
 abbrev pub indexBytes : List ℕ → ℕ → List ℕ
-indexBytes w i = flat (entryOf (liveVersion i (meaning w .entities .live)) i (meaning w .storage .sets))
+indexBytes w i = flat VALUE-BYTES (entryOf (liveVersion i (meaning w .entities .live)) i (meaning w .storage .sets))
 
 -- the bytes a were written at `at`, and no other; r is the place after them
 pub record WrittenUntil (o o′ : List ℕ) (at r : ℕ) (a : List ℕ) : Type 0 where

@@ -4,7 +4,7 @@ use component::Found;
 ghost use mathlib.Core.Path.{_≡_};
 ghost use Prim.Native.Nat.{_+_, _*_, _<_, _≤_};
 ghost use lib.ListN.{length};
-ghost use Rattle.model.specs.Numbers.{MAX-ENTITIES, MAX-KINDS};
+ghost use Rattle.model.specs.Numbers.{MAX-ENTITIES, MAX-KINDS, VALUE-BYTES};
 ghost use Rattle.model.specs.Sound.{In};
 ghost use Rattle.model.specs.Snapshot.{valueAt, componentsOf, componentBytes, entryBytes, flat, listing, snapshot};
 ghost use Rattle.model.specs.Model.{entity};
@@ -75,8 +75,8 @@ fn write_one(
 ) -> usize
     requires { ⌜ Arranged (now words) ⌝ }
     requires { ⌜ In (meaning (now words) .kinds) kind ⌝ }
-    requires { ⌜ at + length (oneBytes (valueAt (entity index version) (kindSet (now words) kind)) kind) ≤ length (now out) ⌝ }
-    ensures { λ r. ⌜ WrittenUntil (now (out .entry)) (now (out .exit)) at r (oneBytes (valueAt (entity index version) (kindSet (now (words .entry)) kind)) kind) ⌝ }
+    requires { ⌜ at + length (oneBytes VALUE-BYTES (valueAt (entity index version) (kindSet (now words) kind)) kind) ≤ length (now out) ⌝ }
+    ensures { λ r. ⌜ WrittenUntil (now (out .entry)) (now (out .exit)) at r (oneBytes VALUE-BYTES (valueAt (entity index version) (kindSet (now (words .entry)) kind)) kind) ⌝ }
 {
     let found = kinds::find(words, kind, index, version);
     let Found::At(place) = found else {
@@ -99,8 +99,8 @@ fn write_components(
 ) -> usize
     requires { ⌜ Arranged (now words) ⌝ }
     requires { ⌜ now list ≡ risingKinds (meaning (now words) .kinds) ⌝ }
-    requires { ⌜ at + length (componentBytes (componentsOf (entity index version) 0 (meaning (now words) .storage .sets))) ≤ length (now out) ⌝ }
-    ensures { λ r. ⌜ WrittenUntil (now (out .entry)) (now (out .exit)) at r (componentBytes (componentsOf (entity index version) 0 (meaning (now (words .entry)) .storage .sets))) ⌝ }
+    requires { ⌜ at + length (componentBytes VALUE-BYTES (componentsOf (entity index version) 0 (meaning (now words) .storage .sets))) ≤ length (now out) ⌝ }
+    ensures { λ r. ⌜ WrittenUntil (now (out .entry)) (now (out .exit)) at r (componentBytes VALUE-BYTES (componentsOf (entity index version) 0 (meaning (now (words .entry)) .storage .sets))) ⌝ }
 {
     let mut next = at;
     for i in 0..list.len() {
@@ -121,8 +121,8 @@ fn write_entity(
 ) -> usize
     requires { ⌜ Arranged (now words) ⌝ }
     requires { ⌜ now list ≡ risingKinds (meaning (now words) .kinds) ⌝ }
-    requires { ⌜ at + length (entryBytes (entryFor (now words) index version)) ≤ length (now out) ⌝ }
-    ensures { λ r. ⌜ WrittenUntil (now (out .entry)) (now (out .exit)) at r (entryBytes (entryFor (now (words .entry)) index version)) ⌝ }
+    requires { ⌜ at + length (entryBytes VALUE-BYTES (entryFor (now words) index version)) ≤ length (now out) ⌝ }
+    ensures { λ r. ⌜ WrittenUntil (now (out .entry)) (now (out .exit)) at r (entryBytes VALUE-BYTES (entryFor (now (words .entry)) index version)) ⌝ }
 {
     codec::put_u32(out, at, index);
     codec::put_u32(out, at + 4, version);
@@ -151,8 +151,8 @@ fn write_index(words: &[u32], list: &[u8], index: usize, out: &mut [u8], at: usi
 fn write_entities(words: &[u32], list: &[u8], out: &mut [u8], at: usize) -> usize
     requires { ⌜ Arranged (now words) ⌝ }
     requires { ⌜ now list ≡ risingKinds (meaning (now words) .kinds) ⌝ }
-    requires { ⌜ at + length (flat (listing (meaning (now words)))) ≤ length (now out) ⌝ }
-    ensures { λ r. ⌜ WrittenUntil (now (out .entry)) (now (out .exit)) at r (flat (listing (meaning (now (words .entry))))) ⌝ }
+    requires { ⌜ at + length (flat VALUE-BYTES (listing (meaning (now words)))) ≤ length (now out) ⌝ }
+    ensures { λ r. ⌜ WrittenUntil (now (out .entry)) (now (out .exit)) at r (flat VALUE-BYTES (listing (meaning (now (words .entry))))) ⌝ }
 {
     let issued = control::entities::issued(words);
     let mut next = at;

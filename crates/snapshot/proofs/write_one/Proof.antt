@@ -3,6 +3,7 @@ use mathlib.Core.Option.{some}
 use native.Mathlib.Omega.{arith}
 use borrow.Author.Needs.{needs}
 use lib.ListN.{length-set}
+use Rattle.model.specs.Numbers.{VALUE-BYTES}
 use Rattle.model.specs.Snapshot.{valueAt}
 use Rattle.model.specs.Model.{entity}
 use Rattle.component.specs.declared.Found.{Found}
@@ -20,7 +21,7 @@ returns c =
     let a = c .before .before .before .before .before .args in
     let e = entity (a .index) (a .version) in
     let rs = kindSet (a .words .now) (a .kind) in
-    none-written (a .kind) (value-none e rs (subst (λ (r : Found). Finds (capacityOf (a .words .now)) e rs r) (c .enum-told .given .1) (c .before .before .find .ensures)))
+    none-written VALUE-BYTES (a .kind) (value-none e rs (subst (λ (r : Found). Finds (capacityOf (a .words .now)) e rs r) (c .enum-told .given .1) (c .before .before .find .ensures)))
 
 found-at : (c : tie.After-known-told) → HeldAt (capacityOf (c .before .before .before .before .before .before .args .words .now)) (entity (c .before .before .before .before .before .before .args .index) (c .before .before .before .before .before .before .args .version)) (kindSet (c .before .before .before .before .before .before .args .words .now) (c .before .before .before .before .before .before .args .kind)) (c .before .found .given .0 .0)
 found-at c =
@@ -41,16 +42,16 @@ cast-out : tie.Need-cast-out
 cast-out c = let s = c .before .before .before .before .before .before .before in omega (arith, known-small (s .args .words .now) (s .pre .0) (s .args .kind) (s .pre .1 .0))
 
 slice-write-out : tie.Need-slice-write-out
-slice-write-out c = let s = c .before .before .before .before .before .before .before in omega (arith, one-room (s .args .at) (s .args .kind) (shown c) (s .pre .1 .1))
+slice-write-out c = let s = c .before .before .before .before .before .before .before in omega (arith, one-room VALUE-BYTES (s .args .at) (s .args .kind) (shown c) (s .pre .1 .1))
 
 put-value-requires : tie.Need-put-value-requires
-put-value-requires c κs = let s = c .before .before .before .before .before .before .before .before in simp length-set (omega (arith, one-room (s .args .at) (s .args .kind) (shown (c .before)) (s .pre .1 .1)))
+put-value-requires c κs = let s = c .before .before .before .before .before .before .before .before in simp length-set (omega (arith, one-room VALUE-BYTES (s .args .at) (s .args .kind) (shown (c .before)) (s .pre .1 .1)))
 
 same-length : tie.Need-same-length
 same-length c = c .before .before .put-value .kept .0 ∙ simp length-set
 
 returns-2 : tie.Need-returns-2
-returns-2 c = let a = c .before .before .before .before .before .before .before .before .before .before .before .args in one-written (a .out .now) (a .at) (a .kind) (shown (c .before .before .before .before)) (c .before .before .put-value .ensures)
+returns-2 c = let a = c .before .before .before .before .before .before .before .before .before .before .before .args in one-written VALUE-BYTES (a .out .now) (a .at) (a .kind) (shown (c .before .before .before .before)) (c .before .before .put-value .ensures)
 
 pub write-one-spec : {M : Type 1} → statement M
 write-one-spec =
