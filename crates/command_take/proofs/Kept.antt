@@ -23,7 +23,7 @@ use Rattle.group.specs.Ready.{ReadyOut, ReadyDown}
 use Rattle.group.proofs.Downward.{walk-ungroup, ready-remove}
 use Rattle.command_take.proofs.Taking.{bytes-held}
 
-module _ (e : Entity) where
+module _ (v : ℕ) (e : Entity) where
   -- where the entity stands once, its place is that of its row
   once-at : (rs : SparseSet) (p : ℕ) → p < length rs → getD rs p noRow .entity ≡ e → cnt e (keys rs) ≤ 1 → at e rs ≡ p
   once-at rs p h q n = place-once sameEntity entity-same noEntity e (keys rs) n p (rw (length-map rs entityOf) h) (List·getD-map entityOf rs p noRow ∙ q)
@@ -31,7 +31,7 @@ module _ (e : Entity) where
   -- the rows of a kind after a step: the entity is there once at most, with the value that it had
   record Keeps (rs rs′ : SparseSet) : Type 0 where
     pub once : cnt e (keys rs′) ≤ 1
-    pub bytes : takenBytes e rs′ ≡ takenBytes e rs
+    pub bytes : takenBytes v e rs′ ≡ takenBytes v e rs
 
   keeps-swap : (c : ℕ) (rs : SparseSet) → held e rs ≡ true → c < length rs → cnt e (keys rs) ≤ 1 → Keeps rs (swapTo e c rs)
   keeps-swap c rs h l n =
@@ -46,8 +46,8 @@ module _ (e : Entity) where
       record {
         once = omega arith;
         bytes =
-            sym (bytes-held e (swapTo e c rs) (was .value) (lt-ltb (at e (swapTo e c rs)) (length (swapTo e c rs)) (omega arith)) (sym (ap (λ (i : ℕ). getD (swapTo e c rs) i noRow .value) there ∙ ap (λ (r : Row). r .value) here)))
-            ∙ bytes-held e rs (was .value) h refl;
+            sym (bytes-held v e (swapTo e c rs) (was .value) (lt-ltb (at e (swapTo e c rs)) (length (swapTo e c rs)) (omega arith)) (sym (ap (λ (i : ℕ). getD (swapTo e c rs) i noRow .value) there ∙ ap (λ (r : Row). r .value) here)))
+            ∙ bytes-held v e rs (was .value) h refl;
       }
 
   keeps-step : (t : GroupStatus) (g : ℕ) (s : Storage) → ReadyOut t e (located (s .layout) g) (s .sets) → ((k : ℕ) → cnt e (key (s .sets) k) ≤ 1) → (k : ℕ) → Keeps (setOf (s .sets) k) (setOf (stepDown t e g s .sets) k)
@@ -71,13 +71,13 @@ module _ (e : Entity) where
       let rest = keeps-walk ps (stepDown (statusAt e g s) e g s) (r .1) (λ j. step j .once) k in
       record { once = rest .once; bytes = rest .bytes ∙ step k .bytes }
 
-  held-same : (ks : List ℕ) (p q : Storage) → ((k : ℕ) → takenBytes e (setOf (q .sets) k) ≡ takenBytes e (setOf (p .sets) k)) → heldBytes e ks q ≡ heldBytes e ks p
+  held-same : (ks : List ℕ) (p q : Storage) → ((k : ℕ) → takenBytes v e (setOf (q .sets) k) ≡ takenBytes v e (setOf (p .sets) k)) → heldBytes v e ks q ≡ heldBytes v e ks p
   held-same [] p q h = refl
   held-same (k ∷ ks) p q h = ap₂ {C = List ℕ} (λ (a b : List ℕ). a ++ b) (h k) (held-same ks p q h)
 
   -- what the entity holds of the kinds of ks, once it has left the groups that have a kind of gone
-  pub ungroup-held : (gone ks : List ℕ) (s : Storage) → Fit s → heldBytes e ks (ungroup e gone (s .sets) (s .layout)) ≡ heldBytes e ks s
+  pub ungroup-held : (gone ks : List ℕ) (s : Storage) → Fit s → heldBytes v e ks (ungroup e gone (s .sets) (s .layout)) ≡ heldBytes v e ks s
   ungroup-held gone ks s f =
       let ps : List ℕ = reverse (deletePositions gone (s .layout)) in
-      subst (λ (t : Storage). heldBytes e ks t ≡ heldBytes e ks s) (walk-ungroup e gone s f)
+      subst (λ (t : Storage). heldBytes v e ks t ≡ heldBytes v e ks s) (walk-ungroup e gone s f)
       (held-same ks s (walkDown e ps s) (λ k. keeps-walk ps s (ready-remove e gone s f) (f .once e) k .bytes))

@@ -7,6 +7,7 @@ use native.Mathlib.Omega.{arith}
 use native.Mathlib.Numerals.{add-one}
 use lib.ListN.{length, getD, take, length-map}
 use lib.Seq.{sets, length-sets, take-all, take-suc, length-take-le}
+use Rattle.model.specs.Numbers.{VALUE-BYTES}
 use Rattle.model.specs.Model.{Entity, SparseSet, Storage, noRow, setOf, at, held, kindOf}
 use Rattle.model.specs.Store.{Store, stagedKinds, bytesOf}
 use Rattle.model.specs.Commands.{takenBytes, heldBytes}
@@ -17,31 +18,31 @@ use Rattle.world.specs.Remove.{Staged}
 use Rattle.command_take.specs.Take.{TakesKind, TakesStaged}
 use Rattle.world.proofs.Removing.{Gone, eachGone, gone-none, gone-next, gone-turn, gone-all, staged-kept, staged-small}
 
-pub bytes-none : (e : Entity) (rows : SparseSet) → held e rows ≡ false → 0 ∷ bytesOf 8 0 ≡ takenBytes e rows
-bytes-none e rows h = rw h
+pub bytes-none : (v : ℕ) (e : Entity) (rows : SparseSet) → held e rows ≡ false → 0 ∷ bytesOf v 0 ≡ takenBytes v e rows
+bytes-none v e rows h = rw h
 
-pub bytes-held : (e : Entity) (rows : SparseSet) (v : ℕ) → held e rows ≡ true → v ≡ getD rows (at e rows) noRow .value → 1 ∷ bytesOf 8 v ≡ takenBytes e rows
-bytes-held e rows v h q = rw h (ap {B = List ℕ} (λ (x : ℕ). 1 ∷ bytesOf 8 x) q)
+pub bytes-held : (v : ℕ) (e : Entity) (rows : SparseSet) (x : ℕ) → held e rows ≡ true → x ≡ getD rows (at e rows) noRow .value → 1 ∷ bytesOf v x ≡ takenBytes v e rows
+bytes-held v e rows x h q = rw h (ap {B = List ℕ} (λ (y : ℕ). 1 ∷ bytesOf v y) q)
 
-held-snoc : (e : Entity) (ks : List ℕ) (k : ℕ) (p : Storage) → heldBytes e (ks ++ (k ∷ [])) p ≡ heldBytes e ks p ++ takenBytes e (setOf (p .sets) k)
-held-snoc e [] k p = append-nil (takenBytes e (setOf (p .sets) k))
-held-snoc e (j ∷ ks) k p =
-    ap (λ (l : List ℕ). takenBytes e (setOf (p .sets) j) ++ l) (held-snoc e ks k p)
-    ∙ sym (append-assoc (takenBytes e (setOf (p .sets) j)) (heldBytes e ks p) (takenBytes e (setOf (p .sets) k)))
+held-snoc : (v : ℕ) (e : Entity) (ks : List ℕ) (k : ℕ) (p : Storage) → heldBytes v e (ks ++ (k ∷ [])) p ≡ heldBytes v e ks p ++ takenBytes v e (setOf (p .sets) k)
+held-snoc v e [] k p = append-nil (takenBytes v e (setOf (p .sets) k))
+held-snoc v e (j ∷ ks) k p =
+    ap (λ (l : List ℕ). takenBytes v e (setOf (p .sets) j) ++ l) (held-snoc v e ks k p)
+    ∙ sym (append-assoc (takenBytes v e (setOf (p .sets) j)) (heldBytes v e ks p) (takenBytes v e (setOf (p .sets) k)))
 
 -- one kind more
-held-turn : (e : Entity) (p : Storage) (ks out₀ : List ℕ) (a : ℕ) (out out′ : List ℕ) (i : ℕ) → i < length ks → out ≡ sets out₀ a (heldBytes e (take i ks) p)
-    → out′ ≡ sets out (a + 9 * i) (takenBytes e (setOf (p .sets) (getD ks i 0))) → out′ ≡ sets out₀ a (heldBytes e (take (i + 1) ks) p)
-held-turn e p ks out₀ a out out′ i h b q =
-    let one : List ℕ = takenBytes e (setOf (p .sets) (getD ks i 0)) in
-    let had : List ℕ = heldBytes e (take i ks) p in
-    let len : 9 * i ≡ length had = sym (held-length e (take i ks) p ∙ ap (λ (n : ℕ). 9 * n) (length-take-le i ks (omega arith))) in
+held-turn : (v : ℕ) (e : Entity) (p : Storage) (ks out₀ : List ℕ) (a : ℕ) (out out′ : List ℕ) (i : ℕ) → i < length ks → out ≡ sets out₀ a (heldBytes v e (take i ks) p)
+    → out′ ≡ sets out (a + (1 + v) * i) (takenBytes v e (setOf (p .sets) (getD ks i 0))) → out′ ≡ sets out₀ a (heldBytes v e (take (i + 1) ks) p)
+held-turn v e p ks out₀ a out out′ i h b q =
+    let one : List ℕ = takenBytes v e (setOf (p .sets) (getD ks i 0)) in
+    let had : List ℕ = heldBytes v e (take i ks) p in
+    let len : (1 + v) * i ≡ length had = sym (held-length v e (take i ks) p ∙ ap (λ (n : ℕ). (1 + v) * n) (length-take-le i ks (omega arith))) in
     let more : take (i + 1) ks ≡ take i ks ++ (getD ks i 0 ∷ []) = ap (λ (n : ℕ). take n ks) (add-one i) ∙ take-suc ks i 0 h in
     q
-    ∙ ap (λ (l : List ℕ). sets l (a + 9 * i) one) b
+    ∙ ap (λ (l : List ℕ). sets l (a + (1 + v) * i) one) b
     ∙ ap (λ (n : ℕ). sets (sets out₀ a had) (a + n) one) len
     ∙ sets-join out₀ a had one
-    ∙ ap (sets out₀ a) (sym (ap (λ (l : List ℕ). heldBytes e l p) more ∙ held-snoc e (take i ks) (getD ks i 0) p))
+    ∙ ap (sets out₀ a) (sym (ap (λ (l : List ℕ). heldBytes v e l p) more ∙ held-snoc v e (take i ks) (getD ks i 0) p))
 
 -- ---- the loop: the first i staged kinds are gone, and their bytes written
 
@@ -51,7 +52,7 @@ module _ (w₀ out₀ : List ℕ) (e : Entity) (a : ℕ) where
 
   pub record Taken (w out : List ℕ) (i : ℕ) : Type 0 where
     pub gone : Gone w₀ e (stagedKinds (meaning w₀)) w i
-    pub bytes : out ≡ sets out₀ a (heldBytes e (take i (stagedKinds (meaning w₀))) (meaning w₀ .storage))
+    pub bytes : out ≡ sets out₀ a (heldBytes VALUE-BYTES e (take i (stagedKinds (meaning w₀))) (meaning w₀ .storage))
 
   pub taken-none : Staged w₀ → Taken w₀ out₀ 0
   taken-none S = record { gone = gone-none w₀ e kinds (S .arranged); bytes = refl }
@@ -64,9 +65,9 @@ module _ (w₀ out₀ : List ℕ) (e : Entity) (a : ℕ) where
     taken-count T = ap (λ (m : Store). length (m .control .staged)) (T .gone .means)
 
     pub taken-length : Taken w out i → length out ≡ length out₀
-    taken-length T = ap length (T .bytes) ∙ length-sets out₀ a (heldBytes e (take i kinds) (meaning w₀ .storage))
+    taken-length T = ap length (T .bytes) ∙ length-sets out₀ a (heldBytes VALUE-BYTES e (take i kinds) (meaning w₀ .storage))
 
-    pub taken-turn : Staged w₀ → i < length (meaning w₀ .control .staged) → Taken w out i → (w′ out′ : List ℕ) → TakesKind w w′ out out′ e (getD (stagedKinds (meaning w)) i 0) (a + 9 * i) → Taken w′ out′ (i + 1)
+    pub taken-turn : Staged w₀ → i < length (meaning w₀ .control .staged) → Taken w out i → (w′ out′ : List ℕ) → TakesKind w w′ out out′ e (getD (stagedKinds (meaning w)) i 0) (a + (1 + VALUE-BYTES) * i) → Taken w′ out′ (i + 1)
     taken-turn S h T w′ out′ K =
         let l : i < length kinds = omega (arith, length-map (meaning w₀ .control .staged) kindOf) in
         let same : getD (stagedKinds (meaning w)) i 0 ≡ getD kinds i 0 = ap (λ (m : Store). getD (stagedKinds m) i 0) (T .gone .means) in
@@ -74,7 +75,7 @@ module _ (w₀ out₀ : List ℕ) (e : Entity) (a : ℕ) where
         ap (setOf (meaning w .storage .sets)) same ∙ gone-next w₀ e kinds w i l (S .once) (T .gone) in
         record {
           gone = gone-turn w₀ e kinds w w′ i (getD (stagedKinds (meaning w)) i 0) l same (T .gone) (K .becomes);
-          bytes = held-turn e (meaning w₀ .storage) kinds out₀ a out out′ i l (T .bytes) (K .bytes ∙ ap (λ (rs : SparseSet). sets out (a + 9 * i) (takenBytes e rs)) rows);
+          bytes = held-turn VALUE-BYTES e (meaning w₀ .storage) kinds out₀ a out out′ i l (T .bytes) (K .bytes ∙ ap (λ (rs : SparseSet). sets out (a + (1 + VALUE-BYTES) * i) (takenBytes VALUE-BYTES e rs)) rows);
         }
 
     pub taken-all : Staged w₀ → length (meaning w₀ .control .staged) ≤ i → Taken w out i → TakesStaged w₀ w out₀ out e a
@@ -82,5 +83,5 @@ module _ (w₀ out₀ : List ℕ) (e : Entity) (a : ℕ) where
         let l : length kinds ≤ i = omega (arith, length-map (meaning w₀ .control .staged) kindOf) in
         record {
           becomes = gone-all w₀ e kinds w i l (S .once) (staged-small w₀ S) (T .gone);
-          bytes = T .bytes ∙ ap (λ (ks : List ℕ). sets out₀ a (heldBytes e ks (meaning w₀ .storage))) (take-all i kinds l);
+          bytes = T .bytes ∙ ap (λ (ks : List ℕ). sets out₀ a (heldBytes VALUE-BYTES e ks (meaning w₀ .storage))) (take-all i kinds l);
         }

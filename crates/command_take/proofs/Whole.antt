@@ -3,6 +3,7 @@ use mathlib.Core.Path.{_≡_, ap, _∙_}
 use mathlib.Core.List.{List}
 use Prim.Native.Nat.{ℕ}
 use lib.Seq.{sets}
+use Rattle.model.specs.Numbers.{VALUE-BYTES}
 use Rattle.model.specs.Model.{Entity}
 use Rattle.model.specs.Store.{Store, stagedKinds, onStorage}
 use Rattle.model.specs.Commands.{heldBytes}
@@ -16,10 +17,10 @@ use Rattle.command_take.proofs.Kept.{ungroup-held}
 
 -- the words w₁, where the entity has left its groups
 module _ (w : List ℕ) (S : Sound w) (e : Entity) (w₁ : List ℕ) (B : Becomes w w₁ (onStorage (ungrouped e (stagedKinds (meaning w))) (meaning w))) where
-  held-after : heldBytes e (stagedKinds (meaning w₁)) (meaning w₁ .storage) ≡ heldBytes e (stagedKinds (meaning w)) (meaning w .storage)
+  held-after : heldBytes VALUE-BYTES e (stagedKinds (meaning w₁)) (meaning w₁ .storage) ≡ heldBytes VALUE-BYTES e (stagedKinds (meaning w)) (meaning w .storage)
   held-after =
-      ap (λ (s : Store). heldBytes e (stagedKinds s) (s .storage)) (B .means)
-      ∙ ungroup-held e (stagedKinds (meaning w)) (stagedKinds (meaning w)) (meaning w .storage) (sound-held (meaning w) (S .means) .fit)
+      ap (λ (s : Store). heldBytes VALUE-BYTES e (stagedKinds s) (s .storage)) (B .means)
+      ∙ ungroup-held VALUE-BYTES e (stagedKinds (meaning w)) (stagedKinds (meaning w)) (meaning w .storage) (sound-held (meaning w) (S .means) .fit)
 
   -- the bytes are those of the words before the walk
   pub take-whole : (w₂ out out₂ : List ℕ) (at : ℕ) → TakesStaged w₁ w₂ out out₂ e at → Takes w w₂ out out₂ e at

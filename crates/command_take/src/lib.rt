@@ -11,6 +11,7 @@ ghost use mathlib.Core.List.{_∷_};
 ghost use Prim.Native.Nat.{_+_, _*_, _≤_, _<_};
 ghost use lib.ListN.{length, getD};
 ghost use lib.Seq.{sets};
+ghost use Rattle.model.specs.Numbers.{VALUE-BYTES};
 ghost use Rattle.model.specs.Store.{stagedKinds, bytesOf};
 ghost use Rattle.model.specs.Commands.{TAKE};
 ghost use Rattle.model.specs.Run.{does};
@@ -23,8 +24,8 @@ ghost use Rattle.command_take.specs.Take.{TakesKind, TakesStaged, Takes}
 
 // The byte held and the value's eight, at `at`.
 fn put_held(out: &mut [u8], at: usize, held: u8, low: u32, high: u32)
-    requires { ⌜ at + 9 ≤ length (now out) ⌝ }
-    ensures { λ _. ⌜ now (out .exit) ≡ sets (now (out .entry)) at (held ∷ bytesOf 8 (low + 4294967296 * high)) ⌝ }
+    requires { ⌜ at + (1 + VALUE-BYTES) ≤ length (now out) ⌝ }
+    ensures { λ _. ⌜ now (out .exit) ≡ sets (now (out .entry)) at (held ∷ bytesOf VALUE-BYTES (low + 4294967296 * high)) ⌝ }
 {
     out[at] = held;
     codec::put_value(out, at + 1, low, high);
@@ -34,7 +35,7 @@ fn put_held(out: &mut [u8], at: usize, held: u8, low: u32, high: u32)
 fn take_one(words: &mut [u32], i: usize, index: u32, version: u32, out: &mut [u8], at: usize)
     requires { ⌜ Staged (now words) ⌝ }
     requires { ⌜ i < length (meaning (now words) .control .staged) ⌝ }
-    requires { ⌜ at + 9 ≤ length (now out) ⌝ }
+    requires { ⌜ at + (1 + VALUE-BYTES) ≤ length (now out) ⌝ }
     ensures { λ _. ⌜ TakesKind (now (words .entry)) (now (words .exit)) (now (out .entry)) (now (out .exit)) (entity index version) (getD (stagedKinds (meaning (now (words .entry)))) i 0) at ⌝ }
 {
     let removed = component_set::remove_one(words, i, index, version);
@@ -48,7 +49,7 @@ fn take_one(words: &mut [u32], i: usize, index: u32, version: u32, out: &mut [u8
 // Its components of all staged kinds go, and are written out; no group is walked.
 fn take_staged(words: &mut [u32], index: u32, version: u32, out: &mut [u8], at: usize)
     requires { ⌜ Staged (now words) ⌝ }
-    requires { ⌜ at + 9 * length (meaning (now words) .control .staged) ≤ length (now out) ⌝ }
+    requires { ⌜ at + (1 + VALUE-BYTES) * length (meaning (now words) .control .staged) ≤ length (now out) ⌝ }
     ensures { λ _. ⌜ TakesStaged (now (words .entry)) (now (words .exit)) (now (out .entry)) (now (out .exit)) (entity index version) at ⌝ }
 {
     let n = control::staged::staged_len(words);
@@ -62,7 +63,7 @@ fn take_staged(words: &mut [u32], index: u32, version: u32, out: &mut [u8], at: 
 // The groups that have a staged kind are left; then the components go, and are written out.
 fn take_out(words: &mut [u32], index: u32, version: u32, out: &mut [u8], at: usize)
     requires { ⌜ Sound (now words) ⌝ }
-    requires { ⌜ at + 9 * length (meaning (now words) .control .staged) ≤ length (now out) ⌝ }
+    requires { ⌜ at + (1 + VALUE-BYTES) * length (meaning (now words) .control .staged) ≤ length (now out) ⌝ }
     ensures { λ _. ⌜ Takes (now (words .entry)) (now (words .exit)) (now (out .entry)) (now (out .exit)) (entity index version) at ⌝ }
 {
     component_set::ungroup_staged(words, index, version);

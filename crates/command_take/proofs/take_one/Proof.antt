@@ -2,6 +2,7 @@ use mathlib.Core.Path.{ap, _∙_, subst}
 use borrow.Author.Needs.{needs}
 use lib.ListN.{getD}
 use lib.Seq.{sets}
+use Rattle.model.specs.Numbers.{VALUE-BYTES}
 use Rattle.model.specs.Store.{stagedKinds}
 use Rattle.model.specs.Model.{entity}
 use Rattle.component.specs.Answers.{Gives}
@@ -23,7 +24,7 @@ returns c =
     let k = getD (stagedKinds (meaning w)) (a .i) 0 in
     let r = c .before .before .before .before .before .before .before .before .remove-one in
     let g = subst (λ (x : Removed). Gives e (kindSet w k) x) (c .before .before .before .before .enum-told .given .1) (r .ensures .gives) in
-    record { becomes = r .ensures .becomes; bytes = c .before .before .put-held .ensures ∙ ap (sets (a .out .now) (a .at)) (bytes-none e (kindSet w k) g) }
+    record { becomes = r .ensures .becomes; bytes = c .before .before .put-held .ensures ∙ ap (sets (a .out .now) (a .at)) (bytes-none VALUE-BYTES e (kindSet w k) g) }
 
 returns-2 : tie.Need-returns-2
 returns-2 c =
@@ -33,7 +34,7 @@ returns-2 c =
     let k = getD (stagedKinds (meaning w)) (a .i) 0 in
     let r = c .before .before .before .before .before .before .before .before .before .remove-one in
     let g = subst (λ (x : Removed). Gives e (kindSet w k) x) (c .before .before .before .before .before .removed .given .1) (r .ensures .gives) in
-    record { becomes = r .ensures .becomes; bytes = c .before .before .put-held2 .ensures ∙ ap (sets (a .out .now) (a .at)) (bytes-held e (kindSet w k) _ (g .holds) (g .value)) }
+    record { becomes = r .ensures .becomes; bytes = c .before .before .put-held2 .ensures ∙ ap (sets (a .out .now) (a .at)) (bytes-held VALUE-BYTES e (kindSet w k) _ (g .holds) (g .value)) }
 
 pub take-one-spec : {M : Type 1} → statement M
 take-one-spec =
