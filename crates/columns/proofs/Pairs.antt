@@ -5,6 +5,7 @@ use Prim.Native.Nat.{ℕ, zero, suc, _+_, _*_, _/_, _%_, _≤_, _<_}
 use native.Mathlib.Omega.{arith}
 use lib.ListN.{length, getD, take, drop}
 use lib.Seq.{drop-cons, slice-empty, slice-cons}
+use Rattle.model.specs.Numbers.{VALUE-WORDS}
 use Rattle.model.specs.Model.{Entity}
 use Rattle.model.specs.Entries.{entityWords, valueWords, part}
 
@@ -69,6 +70,6 @@ pub entity-pairs : (l : List Entity) → entityWords l ≡ pairs indexOf version
 entity-pairs [] = refl
 entity-pairs (e ∷ l) = ap (λ (u : List ℕ). e .index ∷ e .version ∷ u) (entity-pairs l)
 
-pub value-pairs : (l : List ℕ) → valueWords l ≡ pairs lowOf highOf l
+pub value-pairs : (l : List ℕ) → valueWords VALUE-WORDS l ≡ pairs lowOf highOf l
 value-pairs [] = refl
 value-pairs (v ∷ l) = ap (λ (u : List ℕ). lowOf v ∷ highOf v ∷ u) (value-pairs l)
