@@ -5,14 +5,14 @@ use Prim.Native.Nat.{ℕ, _≤_}
 use native.Mathlib.Decide.{decLe}
 use native.Mathlib.Omega.{arith}
 use lib.ListN.{List·getD-eq-default}
-use Rattle.model.specs.Numbers.{LIST-CAPACITY}
+use Rattle.model.specs.Numbers.{LIST-CAPACITY, VALUE-BYTES}
 use Rattle.model.specs.Model.{Component, kindOf}
-use Rattle.model.specs.Sound.{In, Distinct, Eight, noComponent, StagedSound}
+use Rattle.model.specs.Sound.{In, Distinct, ValueFits, noComponent, StagedSound}
 use Rattle.words.specs.Table.{table}
 use Rattle.words.proofs.Tables.{length-table, getD-table, map-table}
 
 pub staged-sound : (kinds : List ℕ) (n : ℕ) (f : ℕ → Component) (l : List ℕ) → table n (λ i. kindOf (f i)) ≡ l
-    → n ≤ LIST-CAPACITY → Distinct l → ((k : ℕ) → In l k → In kinds k) → ((i : ℕ) → Eight (f i .value)) → StagedSound kinds (table n f)
+    → n ≤ LIST-CAPACITY → Distinct l → ((k : ℕ) → In l k → In kinds k) → ((i : ℕ) → ValueFits VALUE-BYTES (f i .value)) → StagedSound VALUE-BYTES kinds (table n f)
 staged-sound kinds n f l e few once known values =
     let m : map kindOf (table n f) ≡ l = map-table kindOf n f ∙ e in
     record {

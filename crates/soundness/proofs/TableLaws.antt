@@ -10,12 +10,12 @@ use native.Mathlib.Omega.{arith}
 use borrow.Author.Tests.{lt-ltb, le-ltb}
 use lib.Dec.{ltb}
 use lib.ListN.{length, getD, length-map, List·getD-map, List·getD-eq-default}
-use Rattle.model.specs.Numbers.{MAX-KINDS}
+use Rattle.model.specs.Numbers.{MAX-KINDS, VALUE-BYTES}
 use Rattle.words.specs.Offsets.{UNREGISTERED}
 use Rattle.model.specs.Lists.{place}
 use Rattle.model.proofs.ListLaws.{count-at, count-place, getD-place}
 use Rattle.model.specs.Model.{Entity, SparseSet, sameEntity, noEntity, noRow, mem, setOf, entityOf, keys}
-use Rattle.model.specs.Sound.{cnt, In, Distinct, Eight, KindsSound, SetsSound}
+use Rattle.model.specs.Sound.{cnt, In, Distinct, ValueFits, KindsSound, SetsSound}
 use Rattle.model.proofs.SparseSets.{entity-eq, entity-same}
 use Rattle.words.specs.Table.{table}
 use Rattle.model.proofs.BoolLaws.{by-eq}
@@ -37,7 +37,7 @@ setAt reg slotOf rowsAt k = cond (ltb (slotOf k) reg) (rowsAt (slotOf k)) []
 pub record RowsOk (live : List Entity) (rows : SparseSet) : Type 0 where
   pub once : (x : Entity) → cnt x (keys rows) ≤ 1
   pub alive : (i : ℕ) → i < length rows → 1 ≤ cnt (getD rows i noRow .entity) live
-  pub values : (i : ℕ) → Eight (getD rows i noRow .value)
+  pub values : (i : ℕ) → ValueFits VALUE-BYTES (getD rows i noRow .value)
 
 module _ (reg : ℕ) (kindAt slotOf : ℕ → ℕ) (T : TableLinks reg kindAt slotOf) where
   -- ---- the registered kinds
@@ -87,7 +87,7 @@ module _ (reg : ℕ) (kindAt slotOf : ℕ → ℕ) (T : TableLinks reg kindAt sl
         go true t = subst P (sym (set-slot k t)) (f (slotOf k) (registered-slot k t))
         go false t = subst P (sym (set-none k t)) z
 
-    pub sets-sound : (live : List Entity) → ((s : ℕ) → s < reg → RowsOk live (rowsAt s)) → SetsSound (table reg kindAt) live sets
+    pub sets-sound : (live : List Entity) → ((s : ℕ) → s < reg → RowsOk live (rowsAt s)) → SetsSound VALUE-BYTES (table reg kindAt) live sets
     sets-sound live f =
         record {
           wide = length-table MAX-KINDS (setAt reg slotOf rowsAt);
@@ -101,10 +101,10 @@ module _ (reg : ℕ) (kindAt slotOf : ℕ → ℕ) (T : TableLinks reg kindAt sl
               subst (λ (y : Entity). 1 ≤ cnt y live) e (f s h .alive i (omega (arith, length-map (rowsAt s) entityOf))))
               k;
           once = λ x k. each-set (λ (r : SparseSet). cnt x (keys r) ≤ 1) (omega arith) (λ s h. f s h .once x) k;
-          values = λ k j. each-set (λ (r : SparseSet). Eight (getD r j noRow .value)) (omega arith) (λ s h. f s h .values j) k;
+          values = λ k j. each-set (λ (r : SparseSet). ValueFits VALUE-BYTES (getD r j noRow .value)) (omega arith) (λ s h. f s h .values j) k;
         }
 
-    pub sets-alive : (live : List Entity) → SetsSound (table reg kindAt) live sets → (s : ℕ) → s < reg → (i : ℕ) → i < length (rowsAt s) → 1 ≤ cnt (getD (rowsAt s) i noRow .entity) live
+    pub sets-alive : (live : List Entity) → SetsSound VALUE-BYTES (table reg kindAt) live sets → (s : ℕ) → s < reg → (i : ℕ) → i < length (rowsAt s) → 1 ≤ cnt (getD (rowsAt s) i noRow .entity) live
     sets-alive live S s h i lt =
         let x = getD (rowsAt s) i noRow .entity in
         let e : getD (keys (rowsAt s)) i noEntity ≡ x = List·getD-map entityOf (rowsAt s) i noRow in

@@ -8,7 +8,7 @@ use native.Mathlib.Omega.{arith}
 use lib.Dec.{eqb}
 use lib.ListN.{length, getD, take, List·getD-map, List·getD-eq-default}
 use lib.Seq.{getD-take, length-take-le}
-use Rattle.model.specs.Numbers.{CALLERS, ENTITY-LEN, LAST-CALLER, LIST-CAPACITY, MAX-GROUP-COUNT, MAX-KINDS, columnLen}
+use Rattle.model.specs.Numbers.{CALLERS, ENTITY-LEN, LAST-CALLER, LIST-CAPACITY, MAX-GROUP-COUNT, MAX-KINDS, columnLen, VALUE-BYTES}
 use Rattle.model.specs.Lists.{countOf}
 use Rattle.model.specs.Model.{Entity, noRow, kindOf, entityOf}
 use Rattle.model.specs.Sound.{cnt, In, Distinct, KindsSound, EntitiesSound, SetsSound, StagedSound, ExcludedSound, CountsSound, Buildable, AllRight}
@@ -149,14 +149,14 @@ module _ (w : List ℕ) where
     staged-words : stagedLen w ≤ LIST-CAPACITY → ENTITIES ≤ length w → table (stagedLen w) (λ i. kindOf (stagedAt w i)) ≡ between STAGED-KINDS (STAGED-KINDS + stagedLen w) w
     staged-words few long = words-table w STAGED-KINDS (stagedLen w) (omega arith)
 
-    staged-are : Bits w → ENTITIES ≤ length w → ListOk w STAGED-KINDS (stagedLen w) → StagedSound (kindsIn w) (stagedIn w)
+    staged-are : Bits w → ENTITIES ≤ length w → ListOk w STAGED-KINDS (stagedLen w) → StagedSound VALUE-BYTES (kindsIn w) (stagedIn w)
     unfolding stagedIn
     staged-are bits long L =
         staged-sound (kindsIn w) (stagedLen w) (stagedAt w) (between STAGED-KINDS (STAGED-KINDS + stagedLen w) w) (staged-words (L .few) long) (L .few) (L .listed .once .once)
         (of-listed (between STAGED-KINDS (STAGED-KINDS + stagedLen w) w) (L .listed))
         (λ i. value-eight n w (stagedLowAt w i) (stagedHighAt w i) (bits (STAGED-VALUES + STAGED-VALUE-LEN * i)) (bits (STAGED-VALUES + STAGED-VALUE-LEN * i + 1)))
 
-    are-staged : ENTITIES ≤ length w → stagedLen w ≤ LIST-CAPACITY → StagedSound (kindsIn w) (stagedIn w) → ListOk w STAGED-KINDS (stagedLen w)
+    are-staged : ENTITIES ≤ length w → stagedLen w ≤ LIST-CAPACITY → StagedSound VALUE-BYTES (kindsIn w) (stagedIn w) → ListOk w STAGED-KINDS (stagedLen w)
     unfolding stagedIn
     are-staged long few S =
         let e : map kindOf (table (stagedLen w) (stagedAt w)) ≡ between STAGED-KINDS (STAGED-KINDS + stagedLen w) w = map-table kindOf (stagedLen w) (stagedAt w) ∙ staged-words few long in
@@ -238,7 +238,7 @@ module _ (w : List ℕ) where
   unfolding columnOf
   column-bits bits s = between-below 4294967296 (columnStart n s) (columnStart n s + columnLen n) w (omega arith) bits
 
-  sets-are : TableSound w → k ≤ MAX-KINDS → Bits w → Columns n k w → Each k (ColumnOk n reg w) → SetsSound (kindsIn w) live (setsIn w)
+  sets-are : TableSound w → k ≤ MAX-KINDS → Bits w → Columns n k w → Each k (ColumnOk n reg w) → SetsSound VALUE-BYTES (kindsIn w) live (setsIn w)
   unfolding kindsIn setsIn
   sets-are T most bits D C =
       sets-sound reg (kindAt w) (slotOf w) (tabled T most) (λ s. rowsOf n s w) live
@@ -252,7 +252,7 @@ module _ (w : List ℕ) where
         values = rows-values n (columnOf n s w) (column-bits bits s);
       })
 
-  alive-of : TableSound w → k ≤ MAX-KINDS → Columns n k w → SetsSound (kindsIn w) live (setsIn w) → (s : ℕ) → s < reg → Each (lengthOf (columnOf n s w)) (RowLive n w (columnStart n s + ROWS))
+  alive-of : TableSound w → k ≤ MAX-KINDS → Columns n k w → SetsSound VALUE-BYTES (kindsIn w) live (setsIn w) → (s : ℕ) → s < reg → Each (lengthOf (columnOf n s w)) (RowLive n w (columnStart n s + ROWS))
   unfolding kindsIn setsIn
   alive-of T most D S s h i lt =
       let q : s < k = omega (arith, T .few) in
@@ -309,7 +309,7 @@ module _ (w : List ℕ) where
 
       -- ---- the counts
 
-      module _ (A : Arranged w) (S : SetsSound (kindsIn w) live (setsIn w)) (once : (x : Entity) → cnt x live ≤ 1) (B : Buildable (kindsIn w) (layoutIn w)) where
+      module _ (A : Arranged w) (S : SetsSound VALUE-BYTES (kindsIn w) live (setsIn w)) (once : (x : Entity) → cnt x live ≤ 1) (B : Buildable (kindsIn w) (layoutIn w)) where
         abbrev of : ℕ → ℕ
         of g = groupFamilyAt w g
 
@@ -412,7 +412,7 @@ module _ (w : List ℕ) where
         abbrev E : EntitiesSound n (entitiesIn n w)
         E = entities-are bits (P .entities)
 
-        abbrev S : SetsSound (kindsIn w) live (setsIn w)
+        abbrev S : SetsSound VALUE-BYTES (kindsIn w) live (setsIn w)
         S = sets-are T most bits (columns-are Z (P .columns)) (P .columns)
 
         means-of : modelSound.StoreSound (meaning w)
@@ -440,8 +440,8 @@ module _ (w : List ℕ) where
   -- what the model says of the store that the words mean
   pub record Means : Type 0 where
     pub entities : EntitiesSound n (entitiesIn n w)
-    pub sets : SetsSound (kindsIn w) live (setsIn w)
-    pub staged : StagedSound (kindsIn w) (stagedIn w)
+    pub sets : SetsSound VALUE-BYTES (kindsIn w) live (setsIn w)
+    pub staged : StagedSound VALUE-BYTES (kindsIn w) (stagedIn w)
     pub excluded : ExcludedSound (kindsIn w) (excludedIn w)
     pub draft : Buildable (kindsIn w) (draftIn w)
     pub layout : Buildable (kindsIn w) (layoutIn w)
