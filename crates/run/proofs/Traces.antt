@@ -3,6 +3,7 @@ use mathlib.Core.Path.{_≡_, refl}
 use mathlib.Core.List.{List, [], _∷_}
 use Prim.Native.Nat.{ℕ, zero, suc, _+_, _-_, _≤_, _<_}
 use lib.ListN.{length, getD, take, drop, drop-of-length-le}
+use Rattle.model.specs.Numbers.{VALUE-BYTES}
 use Rattle.model.specs.Store.{Store}
 use Rattle.model.specs.Commands.{Command, width, commandAt}
 use Rattle.model.specs.Run.{Step, stops, goes, step}
@@ -33,7 +34,7 @@ module _ (m room : ℕ) (w w′ : List ℕ) (b : ℕ) (l : List ℕ) where
   unfolding Traced
   stop-first n e q = stop-by w w′ _ _ n (step b l room (meaning w)) e q
 
-  go-first : (w₁ : List ℕ) (k : ℕ) (a : List ℕ) (s : Store) → step b l room (meaning w) ≡ goes k a s → Becomes w w₁ s → Refused w w₁ (commandAt b (take (width b) l))
+  go-first : (w₁ : List ℕ) (k : ℕ) (a : List ℕ) (s : Store) → step b l room (meaning w) ≡ goes k a s → Becomes w w₁ s → Refused w w₁ (commandAt b (take (width VALUE-BYTES b) l))
       → Traced m (drop k (b ∷ l)) (room - length a) w₁ w′ → Traced (suc m) (b ∷ l) room w w′
   unfolding Traced
   go-first w₁ k a s e B R T = go-by w w₁ w′ _ _ k a s (step b l room (meaning w)) e B R T

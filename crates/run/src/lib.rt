@@ -13,7 +13,7 @@ ghost use Rattle.model.specs.Run.{run};
 ghost use Rattle.memory.specs.Meaning.{meaning};
 ghost use Rattle.memory.specs.Arranged.{Arranged, Sound};
 ghost use Rattle.run.specs.Stepping.{StepReady, stepAt, Stepped, Completed};
-ghost use Rattle.model.specs.Numbers.{LAST-COMMAND};
+ghost use Rattle.model.specs.Numbers.{LAST-COMMAND, VALUE-BYTES};
 
 // How many bytes there are up to the last command's.
 const BYTES: usize = LAST_COMMAND as usize + 1;
@@ -38,7 +38,7 @@ pub struct Ran {
 
 fn operand_bytes(op: u8) -> usize
     requires { ⌜ op ≤ LAST-COMMAND ⌝ }
-    ensures { λ r. ⌜ (r ≡ width op) × (r ≤ 9) ⌝ }
+    ensures { λ r. ⌜ (r ≡ width VALUE-BYTES op) × (r ≤ 9) ⌝ }
 {
     let i = op as usize;
     WIDTHS[i] as usize
@@ -48,7 +48,7 @@ fn operand_bytes(op: u8) -> usize
 fn answer_bytes(words: &[u32], op: u8) -> usize
     requires { ⌜ Arranged (now words) ⌝ }
     requires { ⌜ op ≤ LAST-COMMAND ⌝ }
-    ensures { λ r. ⌜ ((ops : List ℕ) → r ≡ answerLength (commandAt op ops) (meaning (now (words .entry)))) ⌝ }
+    ensures { λ r. ⌜ ((ops : List ℕ) → r ≡ answerLength VALUE-BYTES (commandAt op ops) (meaning (now (words .entry)))) ⌝ }
 {
     let i = op as usize;
     let fixed = ANSWERS[i] as usize;

@@ -2,14 +2,15 @@
 use mathlib.Core.List.{List}
 use Prim.Native.Nat.{ℕ, _+_, _≤_}
 use lib.ListN.{length, take, drop}
+use Rattle.model.specs.Numbers.{VALUE-BYTES}
 use Rattle.model.specs.Commands.{Command, width, commandAt}
 use Rattle.command.specs.Acted.{Ready}
 
 -- the command of byte b whose operands stand at `at` of the tape
 abbrev pub commandIn : ℕ → List ℕ → ℕ → Command
-commandIn b t at = commandAt b (take (width b) (drop at t))
+commandIn b t at = commandAt b (take (width VALUE-BYTES b) (drop at t))
 
 -- it may be done: its operands are there, the words w are sound, and the bytes o have room at p for its accepted answer
 pub record Given (w : List ℕ) (b : ℕ) (t : List ℕ) (at : ℕ) (o : List ℕ) (p : ℕ) : Type 0 where
-  pub whole : at + width b ≤ length t
+  pub whole : at + width VALUE-BYTES b ≤ length t
   pub ready : Ready w o p (commandIn b t at)

@@ -5,6 +5,7 @@ use mathlib.Core.List.{List, [], _∷_}
 use Prim.Native.Nat.{ℕ, zero, suc, _-_, _≤_}
 use native.Mathlib.Omega.{arith}
 use lib.ListN.{length, drop, length-drop}
+use Rattle.model.specs.Numbers.{VALUE-BYTES}
 use Rattle.model.specs.Store.{Store, Bytes, counted, withControl}
 use Rattle.model.specs.Commands.{width, accepted}
 use Rattle.model.specs.Refusals.{firstLine, NoneHolds, First, beforeLines, linesOf}
@@ -20,8 +21,8 @@ use Rattle.store.specs.Course.{commandOn, Course, CourseOf, ended, stopp
 -- ---- a step that goes on: which line refused its command, or that none did
 
 pub data Goes (b : ℕ) (t : List ℕ) (s : Store) (k : ℕ) (a : List ℕ) (s′ : Store) : Type 0 where
-  by-line : (n : ℕ) → First (linesOf (commandOn b t)) s n → does (commandOn b t) s ≡ refuses n → k ≡ suc (width b) → a ≡ n ∷ [] → s′ ≡ withControl s (counted (s .control)) → Goes b t s k a s′
-  by-effect : NoneHolds (linesOf (commandOn b t)) s → k ≡ suc (width b) → a ≡ 0 ∷ accepted (commandOn b t) s .answer → s′ ≡ accepted (commandOn b t) s .store → Goes b t s k a s′
+  by-line : (n : ℕ) → First (linesOf (commandOn b t)) s n → does (commandOn b t) s ≡ refuses n → k ≡ suc (width VALUE-BYTES b) → a ≡ n ∷ [] → s′ ≡ withControl s (counted (s .control)) → Goes b t s k a s′
+  by-effect : NoneHolds (linesOf (commandOn b t)) s → k ≡ suc (width VALUE-BYTES b) → a ≡ 0 ∷ accepted (commandOn b t) s .answer → s′ ≡ accepted (commandOn b t) s .store → Goes b t s k a s′
 
 pub record WentOn (b : ℕ) (t : List ℕ) (room : ℕ) (s : Store) (k : ℕ) (a : List ℕ) (s′ : Store) : Type 0 where
   pub passed : NoneHolds beforeLines (record { byte = b; rest = t; room = room; store = s })
@@ -31,20 +32,20 @@ step-goes : (b : ℕ) (t : List ℕ) (room : ℕ) (s : Store) (k : ℕ) (a : Lis
 unfolding step
 step-goes b t room s k a s′ e = lines (firstLine beforeLines (record { byte = b; rest = t; room = room; store = s })) refl e
   where
-    outcome : (x : Outcome) → does (commandOn b t) s ≡ x → stepOf (suc (width b)) s x ≡ goes k a s′ → Goes b t s k a s′
+    outcome : (x : Outcome) → does (commandOn b t) s ≡ x → stepOf (suc (width VALUE-BYTES b)) s x ≡ goes k a s′ → Goes b t s k a s′
     outcome (refuses n) p q =
-        let ek : k ≡ suc (width b) = cc in
+        let ek : k ≡ suc (width VALUE-BYTES b) = cc in
         let ea : a ≡ n ∷ [] = cc in
         let es : s′ ≡ withControl s (counted (s .control)) = cc in
         by-line n (refusal-exact (commandOn b t) s n .0 p) p ek ea es
     outcome (accepts s₁ x) p q =
         let h = accepted-exact (commandOn b t) s s₁ x .0 p in
-        let ek : k ≡ suc (width b) = cc in
+        let ek : k ≡ suc (width VALUE-BYTES b) = cc in
         let ea : a ≡ 0 ∷ x = cc in
         let es : s₁ ≡ s′ = cc in
         by-effect (h .0) ek (ea ∙ ap (λ (l : List ℕ). 0 ∷ l) (sym (h .2))) (sym es ∙ sym (h .1))
 
-    lines : (r : Option ℕ) → firstLine beforeLines (record { byte = b; rest = t; room = room; store = s }) ≡ r → stepIf r (stepOf (suc (width b)) s (does (commandOn b t) s)) ≡ goes k a s′ → WentOn b t room s k a s′
+    lines : (r : Option ℕ) → firstLine beforeLines (record { byte = b; rest = t; room = room; store = s }) ≡ r → stepIf r (stepOf (suc (width VALUE-BYTES b)) s (does (commandOn b t) s)) ≡ goes k a s′ → WentOn b t room s k a s′
     lines (some n) p q = let z : _≡_ {A = ℕ} 0 1 = cc in absurd (omega arith)
     lines none p q = record { passed = none-to beforeLines (record { byte = b; rest = t; room = room; store = s }) p; by = outcome (does (commandOn b t) s) refl q }
 
@@ -55,8 +56,8 @@ abbrev Rest : ℕ → List ℕ → Type 0
 Rest fuel w′ = (t : List ℕ) (room : ℕ) (w : List ℕ) → length t ≤ fuel → Bytes t → Sound w → Traced fuel t room w w′ → CourseOf w t room w′ (runFor fuel t room (meaning w))
 
 module _ (fuel : ℕ) (w′ : List ℕ) (rest : Rest fuel w′) (b : ℕ) (t : List ℕ) (room : ℕ) (w : List ℕ) (fits : length t ≤ fuel) (bytes : Bytes t) (S : Sound w) where
-  shorter : length (drop (width b) t) ≤ fuel
-  shorter = omega (arith, length-drop (width b) t)
+  shorter : length (drop (width VALUE-BYTES b) t) ≤ fuel
+  shorter = omega (arith, length-drop (width VALUE-BYTES b) t)
 
   -- a command that the run goes on after
   went : (k : ℕ) (a : List ℕ) (s : Store) → WentOn b t room (meaning w) k a s → model.StoreSound s → Leaves w (commandOn b t) s (λ w₁. Traced fuel (drop k (b ∷ t)) (room - length a) w₁ w′)
@@ -66,20 +67,20 @@ module _ (fuel : ℕ) (w′ : List ℕ) (rest : Rest fuel w′) (b : ℕ) (t : L
       let sound : Sound w₁ = record { arranged = L .becomes .arranged; means = rw (L .becomes .means) T } in
       elim (G .by) as (λ g. CourseOf w (b ∷ t) room w′ (more k a (runFor fuel (drop k (b ∷ t)) (room - length a) s))) [
         | by-line n f d ek ea es ↦
-            let tail : Traced fuel (drop (width b) t) (room - 1) w₁ w′ = rw (ek, ea) at (L .rest) in
-            let more-of : CourseOf w₁ (drop (width b) t) (room - 1) w′ (runFor fuel (drop (width b) t) (room - 1) (meaning w₁)) = rest (drop (width b) t) (room - 1) w₁ shorter (bytes-drop (width b) t bytes) sound tail in
+            let tail : Traced fuel (drop (width VALUE-BYTES b) t) (room - 1) w₁ w′ = rw (ek, ea) at (L .rest) in
+            let more-of : CourseOf w₁ (drop (width VALUE-BYTES b) t) (room - 1) w′ (runFor fuel (drop (width VALUE-BYTES b) t) (room - 1) (meaning w₁)) = rest (drop (width VALUE-BYTES b) t) (room - 1) w₁ shorter (bytes-drop (width VALUE-BYTES b) t bytes) sound tail in
             let is : w₁ ≡ withRefusal w = L .refused n d in
             rw (ek, ea)
             (refused w (G .passed) f (rw (← is, ← es) (L .becomes)) (rw (← is) sound)
-            (subst (λ (v : List ℕ). CourseOf v (drop (width b) t) (room - 1) w′ (runFor fuel (drop (width b) t) (room - 1) s)) is
-            (subst (λ (x : Store). CourseOf w₁ (drop (width b) t) (room - 1) w′ (runFor fuel (drop (width b) t) (room - 1) x)) (L .becomes .means) more-of)))
+            (subst (λ (v : List ℕ). CourseOf v (drop (width VALUE-BYTES b) t) (room - 1) w′ (runFor fuel (drop (width VALUE-BYTES b) t) (room - 1) s)) is
+            (subst (λ (x : Store). CourseOf w₁ (drop (width VALUE-BYTES b) t) (room - 1) w′ (runFor fuel (drop (width VALUE-BYTES b) t) (room - 1) x)) (L .becomes .means) more-of)))
         | by-effect h ek ea es ↦
             let r : ℕ = room - suc (length (accepted (commandOn b t) (meaning w) .answer)) in
-            let tail : Traced fuel (drop (width b) t) r w₁ w′ = rw (ek, ea) at (L .rest) in
-            let more-of : CourseOf w₁ (drop (width b) t) r w′ (runFor fuel (drop (width b) t) r (meaning w₁)) = rest (drop (width b) t) r w₁ shorter (bytes-drop (width b) t bytes) sound tail in
+            let tail : Traced fuel (drop (width VALUE-BYTES b) t) r w₁ w′ = rw (ek, ea) at (L .rest) in
+            let more-of : CourseOf w₁ (drop (width VALUE-BYTES b) t) r w′ (runFor fuel (drop (width VALUE-BYTES b) t) r (meaning w₁)) = rest (drop (width VALUE-BYTES b) t) r w₁ shorter (bytes-drop (width VALUE-BYTES b) t bytes) sound tail in
             rw (ek, ea)
             (done w w₁ (G .passed) h (rw es at (L .becomes)) sound
-            (subst (λ (x : Store). CourseOf w₁ (drop (width b) t) r w′ (runFor fuel (drop (width b) t) r x)) (L .becomes .means) more-of))
+            (subst (λ (x : Store). CourseOf w₁ (drop (width VALUE-BYTES b) t) r w′ (runFor fuel (drop (width VALUE-BYTES b) t) r x)) (L .becomes .means) more-of))
       ]
 
   at-step : (p : Step) → step b t room (meaning w) ≡ p → GoesOn p w w′ (commandOn b t) (λ k a w₁. Traced fuel (drop k (b ∷ t)) (room - length a) w₁ w′)

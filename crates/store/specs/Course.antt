@@ -3,6 +3,7 @@
 use mathlib.Core.List.{List, [], _∷_, _++_}
 use Prim.Native.Nat.{ℕ, suc, _+_, _-_}
 use lib.ListN.{length, take, drop}
+use Rattle.model.specs.Numbers.{VALUE-BYTES}
 use Rattle.model.specs.Store.{Settings, counted, withControl}
 use Rattle.model.specs.Commands.{Command, width, commandAt, accepted}
 use Rattle.model.specs.Refusals.{NoneHolds, First, BeforeCommand, beforeLines, linesOf}
@@ -19,7 +20,7 @@ before w b t room = record { byte = b; rest = t; room = room; store = meaning w 
 
 -- the command of byte b, with the tape t after it
 abbrev pub commandOn : ℕ → List ℕ → Command
-commandOn b t = commandAt b (take (width b) t)
+commandOn b t = commandAt b (take (width VALUE-BYTES b) t)
 
 -- from the words w, the tape and so many free bytes to the words w′, with stop number, commands done, tape bytes read, and answer bytes
 pub data Course : List ℕ → List ℕ → ℕ → List ℕ → ℕ → ℕ → ℕ → List ℕ → Type 0 where
@@ -31,12 +32,12 @@ pub data Course : List ℕ → List ℕ → ℕ → List ℕ → ℕ → ℕ →
   -- holds, and no line above it does
   refused : (w : List ℕ) {w′ t bytes : List ℕ} {b room n stop commands read : ℕ} → NoneHolds beforeLines (before w b t room) → First (linesOf (commandOn b t)) (meaning w) n
       → Becomes w (withRefusal w) (withControl (meaning w) (counted (meaning w .control))) → Sound (withRefusal w)
-      → Course (withRefusal w) (drop (width b) t) (room - 1) w′ stop commands read bytes → Course w (b ∷ t) room w′ stop (suc commands) (suc (width b) + read) (n ∷ bytes)
+      → Course (withRefusal w) (drop (width VALUE-BYTES b) t) (room - 1) w′ stop commands read bytes → Course w (b ∷ t) room w′ stop (suc commands) (suc (width VALUE-BYTES b) + read) (n ∷ bytes)
   -- no line holds: "effect; answer after a 0 byte"
   done : (w w₁ : List ℕ) {w′ t bytes : List ℕ} {b room stop commands read : ℕ} → NoneHolds beforeLines (before w b t room) → NoneHolds (linesOf (commandOn b t)) (meaning w)
       → Becomes w w₁ (accepted (commandOn b t) (meaning w) .store) → Sound w₁
-      → Course w₁ (drop (width b) t) (room - suc (length (accepted (commandOn b t) (meaning w) .answer))) w′ stop commands read bytes
-      → Course w (b ∷ t) room w′ stop (suc commands) (suc (width b) + read) (0 ∷ accepted (commandOn b t) (meaning w) .answer ++ bytes)
+      → Course w₁ (drop (width VALUE-BYTES b) t) (room - suc (length (accepted (commandOn b t) (meaning w) .answer))) w′ stop commands read bytes
+      → Course w (b ∷ t) room w′ stop (suc commands) (suc (width VALUE-BYTES b) + read) (0 ∷ accepted (commandOn b t) (meaning w) .answer ++ bytes)
 
 -- the same, with the model's answer for stop number, commands, bytes read and bytes
 abbrev pub CourseOf : List ℕ → List ℕ → ℕ → List ℕ → modelRun.Ran → Type 0

@@ -6,6 +6,7 @@ use mathlib.Core.Option.{some}
 use mathlib.Core.List.{List}
 use Prim.Native.Nat.{ℕ, _+_, _*_, _-_, _≤_}
 use lib.ListN.{length, getD, take, drop}
+use Rattle.model.specs.Numbers.{VALUE-WORDS}
 use Rattle.model.specs.Model.{Entity, setOf}
 use Rattle.model.specs.Store.{Store, stagedKinds, withControl, emptyBoth}
 use Rattle.model.specs.Run as model
@@ -44,7 +45,7 @@ pub record ColumnsShown (s : Store) (k a e n : ℕ) (entities values : List ℕ)
   pub number : n ≡ 0
   pub entities-are : entities ≡ entityWords (part a e (key (s .storage .sets) k))
   pub held : List ℕ
-  pub values-are : values ≡ valueWords held
+  pub values-are : values ≡ valueWords VALUE-WORDS held
   pub hold : Hold (setOf (s .storage .sets) k) (part a e (key (s .storage .sets) k)) held
 
 -- row i of the two parts is of the entity x, with the value of kind k that x holds in the store s

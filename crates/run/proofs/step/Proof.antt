@@ -5,6 +5,7 @@ use native.Mathlib.Nat.{pos-of-ne-zero, le-of-lt}
 use native.Mathlib.Numerals.{add-one-le}
 use Rattle.run.proofs.Steps.{step-zero, step-high, step-cut, step-room, step-did, stopped, given, acted-within, bytes-all, stepped}
 use Rattle.memory.specs.Meaning.{meaning}
+use Rattle.model.specs.Numbers.{VALUE-BYTES}
 use Rattle.model.specs.Commands.{width}
 use lib.ListN.{getD, take, drop, length}
 use Prim.Native.Nat.{_+_, ℕ, _-_, _<_, _≤_}
@@ -46,14 +47,14 @@ returns-4 c =
     let s = c .before .before .before .before .before .before .before .before .before .before .before in
     let t = s .args .tape .now in
     let b = getD t (s .args .at) 0 in
-    stopped (s .pre .sound) (s .pre .within) (step-room (meaning (s .args .words .now)) t (s .args .at) _ (pos-of-ne-zero (c .before .before .before .before .before .before .if1 .left)) (c .before .before .before .before .before .if2 .left) (rw (c .before .before .before .before .operand-bytes .ensures .0) at (c .before .before .before .if3 .left)) (rw (c .before .answer-bytes .ensures (take (width b) (drop (s .args .at + 1) t))) at (c .if4 .taken)))
+    stopped (s .pre .sound) (s .pre .within) (step-room (meaning (s .args .words .now)) t (s .args .at) _ (pos-of-ne-zero (c .before .before .before .before .before .before .if1 .left)) (c .before .before .before .before .before .if2 .left) (rw (c .before .before .before .before .operand-bytes .ensures .0) at (c .before .before .before .if3 .left)) (rw (c .before .answer-bytes .ensures (take (width VALUE-BYTES b) (drop (s .args .at + 1) t))) at (c .if4 .taken)))
 
 act-requires : tie.Need-act-requires
 act-requires c κs =
     let s = c .before .before .before .before .before .before .before .before .before .before .before .before .before in
     let t = s .args .tape .now in
     let b = getD t (s .args .at) 0 in
-    ((pos-of-ne-zero (c .before .before .before .before .before .before .before .before .if1 .left), c .before .before .before .before .before .before .before .if2 .left), (given b (c .before .before .before .before .before .before .operand-bytes .result) (c .before .before .before .answer-bytes .result) (s .pre) (c .before .before .before .before .before .before .operand-bytes .ensures .0) (c .before .before .before .before .before .if3 .left) (c .before .before .before .answer-bytes .ensures (take (width b) (drop (s .args .at + 1) t))) (c .before .before .if4 .left)))
+    ((pos-of-ne-zero (c .before .before .before .before .before .before .before .before .if1 .left), c .before .before .before .before .before .before .before .if2 .left), (given b (c .before .before .before .before .before .before .operand-bytes .result) (c .before .before .before .answer-bytes .result) (s .pre) (c .before .before .before .before .before .before .operand-bytes .ensures .0) (c .before .before .before .before .before .if3 .left) (c .before .before .before .answer-bytes .ensures (take (width VALUE-BYTES b) (drop (s .args .at + 1) t))) (c .before .before .if4 .left)))
 
 add-t13 : tie.Need-add-t13
 add-t13 c =
@@ -69,7 +70,7 @@ returns-5 c =
     let b = getD t (s .args .at) 0 in
     let n = d .before .before .before .before .before .before .before .operand-bytes .ensures .0 in
     stepped b refl
-    (step-did (meaning (s .args .words .now)) t (s .args .at) _ (pos-of-ne-zero (d .before .before .before .before .before .before .before .before .before .if1 .left)) (d .before .before .before .before .before .before .before .before .if2 .left) (rw n at (d .before .before .before .before .before .before .if3 .left)) (rw (d .before .before .before .before .answer-bytes .ensures (take (width b) (drop (s .args .at + 1) t))) at (d .before .before .before .if4 .left)))
+    (step-did (meaning (s .args .words .now)) t (s .args .at) _ (pos-of-ne-zero (d .before .before .before .before .before .before .before .before .before .if1 .left)) (d .before .before .before .before .before .before .before .before .if2 .left) (rw n at (d .before .before .before .before .before .before .if3 .left)) (rw (d .before .before .before .before .answer-bytes .ensures (take (width VALUE-BYTES b) (drop (s .args .at + 1) t))) at (d .before .before .before .if4 .left)))
     n (bytes-all t (λ i. omega (arith, d .before .before .before .before .before .before .before .before .before .before .before .before .shared-slice-known .given i))) (act-requires (d .before) (d .act .lifetimes) .1) (d .act .ensures)
 
 pub step-spec : {M : Type 1} → statement M
