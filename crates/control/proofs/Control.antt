@@ -9,7 +9,7 @@ use native.Mathlib.Omega.{arith}
 use mir.Val.{Fits}
 use mir.Syntax.{w32}
 use lib.ListN.{length, getD, set, drop}
-use lib.Seq.{set-getD, getD-set-same, getD-set-other}
+use lib.Seq.{sets, length-sets, set-getD, getD-set-same, getD-set-other}
 use Rattle.model.specs.Numbers.{CALLERS, LAST-CALLER, LIST-CAPACITY, MAX-REFUSALS, MAX-KINDS}
 use Rattle.words.specs.Offsets.{CALLER, DRAFT, DRAFT-FAMILIES, DRAFT-GROUPS, ENTITIES, EXCLUDED-KINDS, EXCLUDED-LEN, MORE-SETTINGS, REFUSALS, STAGED-KINDS, STAGED-LEN, STAGED-VALUE-LEN, STAGED-VALUES, TABLE}
 use Rattle.model.specs.Model.{Component, Family, kindOf}
@@ -21,9 +21,13 @@ use Rattle.words.proofs.Tables.{length-table, getD-table, table-same, table-set
 use Rattle.words.specs.Stores.{stores}
 use Rattle.words.proofs.Stores.{length-stores, miss, hit, Misses, StoresBelow, drop-stores}
 use Rattle.words.specs.Part.{between}
-use Rattle.component.specs.SparseSet.{valueOf}
+use Rattle.words.specs.Shape.{shapeOf}
+use Rattle.values.specs.declared.Value.{Value}
+use Rattle.values.specs.Values.{valueOf, digits, wordsOf}
+use Rattle.values.proofs.Numbers.{length-wordsOf}
+use Rattle.values.proofs.Places.{word-before, word-after, drop-after, run-hit, run-before, run-same}
 use Rattle.layout.specs.Layout.{WellFormed, groupCount, familiesOf}
-use Rattle.memory.specs.Header.{stagedLen, excludedLen, callerOf, refusalsAt, newerOf, stagedKindAt, excludedAt}
+use Rattle.memory.specs.Header.{stagedLen, excludedLen, callerOf, refusalsAt, newerOf, stagedKindAt, stagedValueAt, excludedAt}
 use Rattle.memory.specs.Meaning.{draftArrays, draftIn, stagedAt, stagedIn, excludedIn, countsIn, controlIn, meaning, withRefusal}
 use Rattle.memory.specs.Arranged.{Arranged, Becomes}
 use Rattle.memory.proofs.Frames.{draft-arrays-same, staged-same, excluded-same, counts-kept, long}
@@ -122,49 +126,82 @@ module _ (w w′ : List ℕ) (A : Arranged w) (L : ListsOnly w w′) where
 
 -- ---- one component more
 
-module _ (w : List ℕ) (A : Arranged w) (k l h : ℕ) (few : stagedLen w < LIST-CAPACITY) where
+module _ (w : List ℕ) (A : Arranged w) (k : ℕ) (x : Value) (few : stagedLen w < LIST-CAPACITY) where
   abbrev n : ℕ
   n = stagedLen w
 
   abbrev ss : List (ℕ × ℕ)
-  ss = (STAGED-LEN, n + 1) ∷ (STAGED-KINDS + n, k) ∷ (STAGED-VALUES + STAGED-VALUE-LEN * n, l) ∷ (STAGED-VALUES + STAGED-VALUE-LEN * n + 1, h) ∷ []
+  ss = (STAGED-LEN, n + 1) ∷ (STAGED-KINDS + n, k) ∷ []
 
-  stage-listed : ListsOnly w (stores w ss)
-  stage-listed = stores-listed w ss (λ i a. omega arith) (λ i a b. omega arith) (λ i a b. omega arith) (λ i a b. omega arith) (λ i a b. omega arith) (omega arith)
+  abbrev p : ℕ
+  p = STAGED-VALUES + STAGED-VALUE-LEN * n
 
-  stage-length : stagedLen (stores w ss) ≡ n + 1
-  stage-length = hit w ss 0 STAGED-LEN (n + 1) (omega arith) (omega (arith, long w A))
+  abbrev d : ℕ
+  d = shapeOf w .stride
 
-  stage-last : stagedAt (stores w ss) n ≡ record { kind = k; value = valueOf l h }
+  abbrev xs : List ℕ
+  xs = wordsOf d x
+
+  abbrev w′ : List ℕ
+  w′ = sets (stores w ss) p xs
+
+  narrow : d ≤ STAGED-VALUE-LEN
+  narrow = A .columns .shaped .words .most
+
+  size : length w′ ≡ length w
+  size = length-sets (stores w ss) p xs ∙ length-stores w ss
+
+  before : (i : ℕ) → i < p → getD w′ i 0 ≡ getD (stores w ss) i 0
+  before i h = word-before xs (stores w ss) p i h
+
+  after : (i : ℕ) → EXCLUDED-KINDS ≤ i → getD w′ i 0 ≡ getD (stores w ss) i 0
+  after i h = word-after xs (stores w ss) p i (omega (arith, narrow, length-wordsOf d x narrow))
+
+  stage-listed : ListsOnly w w′
+  stage-listed =
+      record {
+        size = size;
+        limits = λ i h. before i (omega arith) ∙ miss w ss i (omega arith);
+        layouts = λ i h b. before i (omega arith) ∙ miss w ss i (omega arith);
+        told = λ i h b. before i (omega arith) ∙ miss w ss i (omega arith);
+        table = λ i h b. before i (omega arith) ∙ miss w ss i (omega arith);
+        blocks = λ i h b. after i (omega arith) ∙ miss w ss i (omega arith);
+        rest = drop-after xs (stores w ss) p ENTITIES (omega (arith, narrow, length-wordsOf d x narrow)) ∙ drop-stores ENTITIES w ss (omega arith);
+      }
+
+  stage-length : stagedLen w′ ≡ n + 1
+  stage-length = before STAGED-LEN (omega arith) ∙ hit w ss 0 STAGED-LEN (n + 1) (omega arith) (omega (arith, long w A))
+
+  stage-last : stagedAt w′ n ≡ record { kind = k; value = valueOf d x }
   stage-last =
-      let a : stagedKindAt (stores w ss) n ≡ k = hit w ss 1 (STAGED-KINDS + n) k (omega arith) (omega (arith, long w A)) in
-      let b : getD (stores w ss) (STAGED-VALUES + STAGED-VALUE-LEN * n) 0 ≡ l = hit w ss 2 (STAGED-VALUES + STAGED-VALUE-LEN * n) l (omega arith) (omega (arith, long w A)) in
-      let c : getD (stores w ss) (STAGED-VALUES + STAGED-VALUE-LEN * n + 1) 0 ≡ h = hit w ss 3 (STAGED-VALUES + STAGED-VALUE-LEN * n + 1) h (omega arith) (omega (arith, long w A)) in
-      λ i. record { kind = a i; value = valueOf (b i) (c i) }
+      let a : stagedKindAt w′ n ≡ k = before (STAGED-KINDS + n) (omega arith) ∙ hit w ss 1 (STAGED-KINDS + n) k (omega arith) (omega (arith, long w A)) in
+      let b : stagedValueAt w′ n ≡ valueOf d x = ap digits (run-hit xs (stores w ss) p d (length-wordsOf d x narrow) (omega (arith, narrow, length-stores w ss, long w A))) in
+      λ i. record { kind = a i; value = b i }
 
-  stage-other : (i : ℕ) → i < n → stagedAt (stores w ss) i ≡ stagedAt w i
+  stage-other : (i : ℕ) → i < n → stagedAt w′ i ≡ stagedAt w i
   stage-other i hi =
-      let a : stagedKindAt (stores w ss) i ≡ stagedKindAt w i = miss w ss (STAGED-KINDS + i) (omega arith) in
-      let b : getD (stores w ss) (STAGED-VALUES + STAGED-VALUE-LEN * i) 0 ≡ getD w (STAGED-VALUES + STAGED-VALUE-LEN * i) 0 = miss w ss (STAGED-VALUES + STAGED-VALUE-LEN * i) (omega arith) in
-      let c : getD (stores w ss) (STAGED-VALUES + STAGED-VALUE-LEN * i + 1) 0 ≡ getD w (STAGED-VALUES + STAGED-VALUE-LEN * i + 1) 0 = miss w ss (STAGED-VALUES + STAGED-VALUE-LEN * i + 1) (omega arith) in
-      λ j. record { kind = a j; value = valueOf (b j) (c j) }
+      let q = STAGED-VALUES + STAGED-VALUE-LEN * i in
+      let a : stagedKindAt w′ i ≡ stagedKindAt w i = before (STAGED-KINDS + i) (omega arith) ∙ miss w ss (STAGED-KINDS + i) (omega arith) in
+      let b : stagedValueAt w′ i ≡ stagedValueAt w i =
+      ap digits (run-before xs (stores w ss) p q d (omega (arith, narrow)) ∙ run-same w (stores w ss) q d (length-stores w ss) (λ j l h. miss w ss j (omega (arith, narrow)))) in
+      λ j. record { kind = a j; value = b j }
 
-  stage-staged : stagedIn (stores w ss) ≡ stagedIn w ++ (record { kind = k; value = valueOf l h } ∷ [])
+  stage-staged : stagedIn w′ ≡ stagedIn w ++ (record { kind = k; value = valueOf d x } ∷ [])
   unfolding stagedIn
   stage-staged =
-      ap (λ (m : ℕ). table m (stagedAt (stores w ss))) stage-length
-      ∙ table-snoc noComponent (record { kind = k; value = valueOf l h }) n (stagedAt w) (stagedAt (stores w ss)) stage-last stage-other
+      ap (λ (m : ℕ). table m (stagedAt w′)) stage-length
+      ∙ table-snoc noComponent (record { kind = k; value = valueOf d x }) n (stagedAt w) (stagedAt w′) stage-last stage-other
 
-  pub stage-becomes : Becomes w (stores w ss) (staging k (valueOf l h) (meaning w))
+  pub stage-becomes : Becomes w w′ (staging k (valueOf d x) (meaning w))
   unfolding meaning
   stage-becomes =
-      listed-becomes w (stores w ss) A stage-listed (stagedIn w ++ (record { kind = k; value = valueOf l h } ∷ [])) (excludedIn w) (countsIn w)
+      listed-becomes w w′ A stage-listed (stagedIn w ++ (record { kind = k; value = valueOf d x } ∷ [])) (excludedIn w) (countsIn w)
       (omega (arith, stage-length))
-      (omega (arith, miss w ss EXCLUDED-LEN (omega arith), A .excluded))
+      (omega (arith, before EXCLUDED-LEN (omega arith), miss w ss EXCLUDED-LEN (omega arith), A .excluded))
       (A .caller)
       stage-staged
-      (excluded-same w (stores w ss) (length-stores w ss) (A .excluded) (miss w ss EXCLUDED-LEN (omega arith)) (λ i a b. miss w ss i (omega arith)))
-      (counts-kept w (stores w ss) (λ i a b. miss w ss i (omega arith)))
+      (excluded-same w w′ size (A .excluded) (before EXCLUDED-LEN (omega arith) ∙ miss w ss EXCLUDED-LEN (omega arith)) (λ i a b. after i a ∙ miss w ss i (omega arith)))
+      (counts-kept w w′ (λ i a b. before i (omega arith) ∙ miss w ss i (omega arith)))
 
 -- ---- one excluded kind more
 

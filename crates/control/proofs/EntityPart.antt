@@ -8,7 +8,7 @@ use Rattle.model.specs.Model.{Entities, isLive, create}
 use Rattle.model.specs.Store.{withEntities}
 use Rattle.model.proofs.Operations.{create-is-live}
 use Rattle.words.specs.Offsets.{CAPACITY}
-use Rattle.words.proofs.Offsets.{columnStart-mono}
+use Rattle.words.proofs.Offsets.{columnStart-mono, columnStart-first}
 use Rattle.words.specs.declared.Entity.{Entity as Answer}
 use Rattle.entity.specs.Meaning.{entityPart, entitiesIn}
 use Rattle.entity.specs.Change.{SoundIn, EntityChange}
@@ -16,9 +16,9 @@ use Rattle.entity.specs.Answers.{entityOfAnswer, withCreated, CreatedIn}
 use Rattle.entity.proofs.Known.{known-live}
 use Rattle.memory.specs.Header.{capacityOf, kindCapacityOf}
 use Rattle.words.specs.Word.{Word}
+use Rattle.words.specs.Shape.{shapeOf}
 use Rattle.memory.specs.Meaning.{meaning}
 use Rattle.memory.specs.Arranged.{Arranged, Becomes}
-use Rattle.memory.proofs.Frames.{start-header}
 use Rattle.memory.proofs.Becomes.{entities-become}
 use Rattle.control.specs.Entities.{Capacity, Creates}
 
@@ -30,7 +30,7 @@ capacity-is w A n r =
       some = omega (arith, r .is, A .limits .some);
       most = omega (arith, r .is, A .limits .most);
       word = r .is;
-      fits = omega (arith, r .is, A .enough, start-header (capacityOf w), columnStart-mono (capacityOf w) 0 (kindCapacityOf w) (omega arith));
+      fits = omega (arith, r .is, A .enough, columnStart-first (shapeOf w), columnStart-mono (shapeOf w) 0 (kindCapacityOf w) (omega arith));
     }
 
 -- what `entity` reads is the store's, and sound

@@ -6,7 +6,7 @@ use lib.ListN.{length}
 use Rattle.model.specs.Numbers.{LIST-CAPACITY}
 use Rattle.model.specs.Model.{Component}
 use Rattle.model.specs.Store.{Store, withControl, withStaged, withExcluded}
-use Rattle.component.specs.SparseSet.{valueOf}
+use Rattle.values.specs.Values.{valueOf}
 use Rattle.control.specs.declared.staged.Component.{Component as Answer}
 
 -- 01: a hand has "up to 16 distinct kinds with values", a bar "up to 16 distinct kinds"
@@ -14,9 +14,9 @@ pub record Few {A : Type 0} (l : List A) (r : ℕ) : Type 0 where
   pub is : r ≡ length l
   pub few : r ≤ LIST-CAPACITY
 
--- the answered component, as the model has it
-abbrev pub componentOf : Answer → Component
-componentOf r = record { kind = r .kind; value = valueOf (r .low) (r .high) }
+-- the answered component, its value having d words, as the model has it
+abbrev pub componentOf : ℕ → Answer → Component
+componentOf d r = record { kind = r .kind; value = valueOf d (r .value) }
 
 -- HOLD: "into the hand"
 abbrev pub staging : ℕ → ℕ → Store → Store

@@ -1,5 +1,6 @@
 // The staged components: 01's hand.
 use crate::lists;
+use values::Value;
 use words::EXCLUDED_LEN;
 use words::STAGED_KINDS;
 use words::STAGED_LEN;
@@ -12,16 +13,16 @@ ghost use Rattle.model.specs.Numbers.{LIST-CAPACITY, MAX-KINDS};
 ghost use Rattle.model.specs.Model.{mem};
 ghost use Rattle.model.specs.Sound.{noComponent};
 ghost use Rattle.model.specs.Store.{stagedKinds, withControl, emptyStaged, emptyBoth};
-ghost use Rattle.component.specs.SparseSet.{valueOf};
+ghost use Rattle.words.specs.Shape.{shapeOf};
+ghost use Rattle.values.specs.Values.{valueOf};
 ghost use Rattle.memory.specs.Meaning.{meaning};
 ghost use Rattle.memory.specs.Arranged.{Arranged, Becomes};
 ghost use Rattle.control.specs.Lists.{Few, componentOf, staging};
 
-// A kind with its value, in two words.
+// A kind with its value.
 pub struct Component {
     pub kind: usize,
-    pub low: u32,
-    pub high: u32,
+    pub value: Value,
 }
 
 pub fn staged_len(words: &[u32]) -> usize
@@ -42,13 +43,14 @@ pub fn staged_kind(words: &[u32], i: usize) -> usize
 pub fn staged_at(words: &[u32], i: usize) -> Component
     requires { ⌜ Arranged (now words) ⌝ }
     requires { ⌜ i < length (meaning (now words) .control .staged) ⌝ }
-    ensures { λ r. ⌜ componentOf r ≡ getD (meaning (now (words .entry)) .control .staged) i noComponent ⌝ }
+    ensures { λ r. ⌜ componentOf (shapeOf (now (words .entry)) .stride) r ≡ getD (meaning (now (words .entry)) .control .staged) i noComponent ⌝ }
 {
-    let at = STAGED_VALUES + STAGED_VALUE_LEN * i;
+    let z = words::shape_of(words);
+    let kind = words::word(words, STAGED_KINDS + i);
+    let value = values::get(words, STAGED_VALUES + STAGED_VALUE_LEN * i, z.stride);
     Component {
-        kind: words[STAGED_KINDS + i] as usize,
-        low: words[at],
-        high: words[at + 1],
+        kind,
+        value,
     }
 }
 
@@ -61,18 +63,18 @@ pub fn is_staged(words: &[u32], kind: usize) -> bool
 }
 
 // One component more.
-pub fn stage(words: &mut [u32], kind: usize, low: u32, high: u32)
+pub fn stage(words: &mut [u32], kind: usize, x: Value)
     requires { ⌜ Arranged (now words) ⌝ }
     requires { ⌜ length (meaning (now words) .control .staged) < LIST-CAPACITY ⌝ }
     requires { ⌜ kind < MAX-KINDS ⌝ }
-    ensures { λ _. ⌜ Becomes (now (words .entry)) (now (words .exit)) (staging kind (valueOf low high) (meaning (now (words .entry)))) ⌝ }
+    ensures { λ _. ⌜ Becomes (now (words .entry)) (now (words .exit)) (staging kind (valueOf (shapeOf (now (words .entry)) .stride) x) (meaning (now (words .entry)))) ⌝ }
 {
+    let z = words::shape_of(words);
     let count = words[STAGED_LEN];
     let at = STAGED_VALUES + STAGED_VALUE_LEN * (count as usize);
     words[STAGED_LEN] = count + 1;
     words[STAGED_KINDS + (count as usize)] = kind as u32;
-    words[at] = low;
-    words[at + 1] = high;
+    values::put(words, at, z.stride, x);
 }
 
 // None is staged.

@@ -1,25 +1,26 @@
 // Whether a part is a sound sparse set of live entities, in time linear in its words.
 use entity::entity_storage::contains;
+use words::Shape;
 ghost use Prim.Native.Nat.{_<_, _≤_};
 ghost use Rattle.component.specs.Stored.{ColumnSized};
 ghost use Rattle.words.specs.Decides.{Decides, Each};
 ghost use Rattle.entity.specs.Meaning.{EntityPartSound};
 ghost use Rattle.sound_columns.specs.Checks.{RowTied, RowOk, LiveSet};
 
-fn row_tied(part: &[u32], n: usize, i: usize) -> bool
-    requires { ⌜ ColumnSized n (now part) × (i < n) ⌝ }
-    ensures { λ r. ⌜ Decides r (RowTied n (now (part .entry)) i) ⌝ }
+fn row_tied(part: &[u32], z: Shape, i: usize) -> bool
+    requires { ⌜ ColumnSized z (now part) × (i < z .capacity) ⌝ }
+    ensures { λ r. ⌜ Decides r (RowTied z (now (part .entry)) i) ⌝ }
 {
-    let c = words::ROWS + 2 * i;
+    let c = words::entity_place(i);
     let x = part[c] as usize;
-    if n <= x {
+    if z.capacity <= x {
         return false;
     }
     let v = part[c + 1];
     if v < 1 {
         return false;
     }
-    let s = words::ROWS + 4 * n + 2 * x;
+    let s = words::lookup_place(z, x);
     let p = part[s] as usize;
     if p != i {
         return false;
@@ -32,29 +33,29 @@ fn row_tied(part: &[u32], n: usize, i: usize) -> bool
 }
 
 // Do row i and its index's lookup agree, and is its entity live?
-fn row_ok(part: &[u32], entities: &[u32], n: usize, i: usize) -> bool
-    requires { ⌜ ColumnSized n (now part) × (i < n) ⌝ }
-    requires { ⌜ EntityPartSound n (now entities) ⌝ }
-    ensures { λ r. ⌜ Decides r (RowOk n (now (entities .entry)) (now (part .entry)) i) ⌝ }
+fn row_ok(part: &[u32], entities: &[u32], z: Shape, i: usize) -> bool
+    requires { ⌜ ColumnSized z (now part) × (i < z .capacity) ⌝ }
+    requires { ⌜ EntityPartSound (z .capacity) (now entities) ⌝ }
+    ensures { λ r. ⌜ Decides r (RowOk z (now (entities .entry)) (now (part .entry)) i) ⌝ }
 {
-    if !row_tied(part, n, i) {
+    if !row_tied(part, z, i) {
         return false;
     }
-    let c = words::ROWS + 2 * i;
-    if !contains(entities, n, part[c], part[c + 1]) {
+    let c = words::entity_place(i);
+    if !contains(entities, z.capacity, part[c], part[c + 1]) {
         return false;
     }
     true
 }
 
-fn rows_ok(part: &[u32], entities: &[u32], n: usize, k: usize) -> bool
-    requires { ⌜ ColumnSized n (now part) × (k ≤ n) ⌝ }
-    requires { ⌜ EntityPartSound n (now entities) ⌝ }
-    ensures { λ r. ⌜ Decides r (Each k (RowOk n (now (entities .entry)) (now (part .entry)))) ⌝ }
+fn rows_ok(part: &[u32], entities: &[u32], z: Shape, k: usize) -> bool
+    requires { ⌜ ColumnSized z (now part) × (k ≤ z .capacity) ⌝ }
+    requires { ⌜ EntityPartSound (z .capacity) (now entities) ⌝ }
+    ensures { λ r. ⌜ Decides r (Each k (RowOk z (now (entities .entry)) (now (part .entry)))) ⌝ }
 {
     let mut i = 0;
     while i < k {
-        if !row_ok(part, entities, n, i) {
+        if !row_ok(part, entities, z, i) {
             return false;
         }
         i += 1;
@@ -64,19 +65,20 @@ fn rows_ok(part: &[u32], entities: &[u32], n: usize, k: usize) -> bool
 
 // Whether a part is a sound sparse set of entities that are live, by the entity part. Where all rows agree with their lookups, no other index is held
 // exactly if as many are held as there are rows.
-pub fn is_sound(part: &[u32], entities: &[u32], n: usize) -> bool
-    requires { ⌜ ColumnSized n (now part) ⌝ }
-    requires { ⌜ EntityPartSound n (now entities) ⌝ }
-    ensures { λ r. ⌜ Decides r (LiveSet n (now (entities .entry)) (now (part .entry))) ⌝ }
+pub fn is_sound(part: &[u32], entities: &[u32], z: Shape) -> bool
+    requires { ⌜ ColumnSized z (now part) ⌝ }
+    requires { ⌜ EntityPartSound (z .capacity) (now entities) ⌝ }
+    ensures { λ r. ⌜ Decides r (LiveSet z (now (entities .entry)) (now (part .entry))) ⌝ }
 {
     let k = part[words::ROWS_LEN] as usize;
-    if n < k {
+    if z.capacity < k {
         return false;
     }
-    if !rows_ok(part, entities, n, k) {
+    if !rows_ok(part, entities, z, k) {
         return false;
     }
-    let held = words::count_held(part, words::ROWS + 4 * n, n) as usize;
+    let lookups = words::lookup_place(z, 0);
+    let held = words::count_held(part, lookups, z.capacity) as usize;
     if held != k {
         return false;
     }

@@ -1,4 +1,5 @@
 // The table of kinds and the columns' heads point to each other.
+use words::Shape;
 ghost use mathlib.Core.Path.{_≡_};
 ghost use Prim.Native.Nat.{_<_};
 ghost use Rattle.model.specs.Numbers.{MAX-KINDS};
@@ -8,20 +9,20 @@ ghost use Rattle.sound_columns.specs.Slots.{Slot, Room, headAt};
 ghost use Rattle.sound_columns.specs.Table.{KindOk, SlotOk, TableOk};
 
 // Word i of the head of slot s's column.
-pub fn head(words: &[u32], n: usize, s: usize, i: usize) -> usize
-    requires { ⌜ Slot n s (now words) ⌝ }
+pub fn head(words: &[u32], z: Shape, s: usize, i: usize) -> usize
+    requires { ⌜ Slot z s (now words) ⌝ }
     requires { ⌜ i < ROWS ⌝ }
-    ensures { λ r. ⌜ r ≡ headAt n (now (words .entry)) s i ⌝ }
+    ensures { λ r. ⌜ r ≡ headAt z (now (words .entry)) s i ⌝ }
 {
-    let base = words::column_start(n, s);
+    let base = words::column_start(z, s);
     words[base + i] as usize
 }
 
 // A registered kind has a slot in use, whose column says the kind.
-fn kind_ok(words: &[u32], n: usize, registered: usize, kind: usize) -> bool
-    requires { ⌜ Room n registered (now words) ⌝ }
+fn kind_ok(words: &[u32], z: Shape, registered: usize, kind: usize) -> bool
+    requires { ⌜ Room z registered (now words) ⌝ }
     requires { ⌜ kind < MAX-KINDS ⌝ }
-    ensures { λ r. ⌜ Decides r (KindOk n registered (now (words .entry)) kind) ⌝ }
+    ensures { λ r. ⌜ Decides r (KindOk z registered (now (words .entry)) kind) ⌝ }
 {
     let s = words[words::TABLE + kind] as usize;
     if s == words::UNREGISTERED as usize {
@@ -30,18 +31,18 @@ fn kind_ok(words: &[u32], n: usize, registered: usize, kind: usize) -> bool
     if registered <= s {
         return false;
     }
-    if head(words, n, s, words::COLUMN_KIND) != kind {
+    if head(words, z, s, words::COLUMN_KIND) != kind {
         return false;
     }
     true
 }
 
 // A slot in use says a kind, and the table says the slot.
-fn slot_ok(words: &[u32], n: usize, s: usize) -> bool
-    requires { ⌜ Slot n s (now words) ⌝ }
-    ensures { λ r. ⌜ Decides r (SlotOk n (now (words .entry)) s) ⌝ }
+fn slot_ok(words: &[u32], z: Shape, s: usize) -> bool
+    requires { ⌜ Slot z s (now words) ⌝ }
+    ensures { λ r. ⌜ Decides r (SlotOk z (now (words .entry)) s) ⌝ }
 {
-    let kind = head(words, n, s, words::COLUMN_KIND);
+    let kind = head(words, z, s, words::COLUMN_KIND);
     if model::MAX_KINDS <= kind {
         return false;
     }
@@ -52,13 +53,13 @@ fn slot_ok(words: &[u32], n: usize, s: usize) -> bool
     true
 }
 
-fn kinds_ok(words: &[u32], n: usize, registered: usize) -> bool
-    requires { ⌜ Room n registered (now words) ⌝ }
-    ensures { λ r. ⌜ Decides r (Each MAX-KINDS (KindOk n registered (now (words .entry)))) ⌝ }
+fn kinds_ok(words: &[u32], z: Shape, registered: usize) -> bool
+    requires { ⌜ Room z registered (now words) ⌝ }
+    ensures { λ r. ⌜ Decides r (Each MAX-KINDS (KindOk z registered (now (words .entry)))) ⌝ }
 {
     let mut kind = 0;
     while kind < model::MAX_KINDS {
-        if !kind_ok(words, n, registered, kind) {
+        if !kind_ok(words, z, registered, kind) {
             return false;
         }
         kind += 1;
@@ -66,13 +67,13 @@ fn kinds_ok(words: &[u32], n: usize, registered: usize) -> bool
     true
 }
 
-fn slots_ok(words: &[u32], n: usize, registered: usize) -> bool
-    requires { ⌜ Room n registered (now words) ⌝ }
-    ensures { λ r. ⌜ Decides r (Each registered (SlotOk n (now (words .entry)))) ⌝ }
+fn slots_ok(words: &[u32], z: Shape, registered: usize) -> bool
+    requires { ⌜ Room z registered (now words) ⌝ }
+    ensures { λ r. ⌜ Decides r (Each registered (SlotOk z (now (words .entry)))) ⌝ }
 {
     let mut s = 0;
     while s < registered {
-        if !slot_ok(words, n, s) {
+        if !slot_ok(words, z, s) {
             return false;
         }
         s += 1;
@@ -81,18 +82,18 @@ fn slots_ok(words: &[u32], n: usize, registered: usize) -> bool
 }
 
 // Are at most k kinds registered, each with a column of its own?
-pub fn is_table(words: &[u32], n: usize, k: usize) -> bool
-    requires { ⌜ Room n k (now words) ⌝ }
-    ensures { λ r. ⌜ Decides r (TableOk n k (now (words .entry))) ⌝ }
+pub fn is_table(words: &[u32], z: Shape, k: usize) -> bool
+    requires { ⌜ Room z k (now words) ⌝ }
+    ensures { λ r. ⌜ Decides r (TableOk z k (now (words .entry))) ⌝ }
 {
     let registered = words[words::REGISTERED] as usize;
     if k < registered {
         return false;
     }
-    if !kinds_ok(words, n, registered) {
+    if !kinds_ok(words, z, registered) {
         return false;
     }
-    if !slots_ok(words, n, registered) {
+    if !slots_ok(words, z, registered) {
         return false;
     }
     true

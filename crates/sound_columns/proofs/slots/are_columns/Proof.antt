@@ -7,16 +7,16 @@ use Rattle.sound_columns.proofs.slots.are_columns.Statement.{statement}
 use Rattle.sound_columns.proofs.slots.are_columns.Tie as tie
 
 abbrev Inv-loop : tie.InvT-loop
-Inv-loop words n k registered s₀ s = Passed (ColumnOk n registered words) 0 s
+Inv-loop words z k registered s₀ s = Passed (ColumnOk z registered words) 0 s
 
 abbrev μ-loop : tie.MeasureT-loop
-μ-loop words n k registered s₀ s = k - s
+μ-loop words z k registered s₀ s = k - s
 
 column-ok-requires : tie.Need-column-ok-requires Inv-loop μ-loop
 column-ok-requires c κs =
     let a = c .before .before .before .args in
     let l = c .before .loop in
-    (slot-of (a .n) (a .k) (a .words .now) (c .before .before .before .pre .0) (l .s) (omega arith), c .before .before .before .pre .1)
+    (slot-of (a .z) (a .k) (a .words .now) (c .before .before .before .pre .0) (l .s) (omega arith), c .before .before .before .pre .1)
 
 pub are-columns-spec : {M : Type 1} → statement M
 are-columns-spec =

@@ -7,10 +7,10 @@ use Rattle.sound_columns.proofs.sparse_set.rows_ok.Statement.{statement
 use Rattle.sound_columns.proofs.sparse_set.rows_ok.Tie as tie
 
 abbrev Inv-loop : tie.InvT-loop
-Inv-loop part entities n k i₀ i = Passed (RowOk n entities part) 0 i
+Inv-loop part entities z k i₀ i = Passed (RowOk z entities part) 0 i
 
 abbrev μ-loop : tie.MeasureT-loop
-μ-loop part entities n k i₀ i = k - i
+μ-loop part entities z k i₀ i = k - i
 
 pub rows-ok-spec : {M : Type 1} → statement M
 rows-ok-spec =

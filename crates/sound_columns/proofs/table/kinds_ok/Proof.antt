@@ -7,10 +7,10 @@ use Rattle.sound_columns.proofs.table.kinds_ok.Statement.{statement}
 use Rattle.sound_columns.proofs.table.kinds_ok.Tie as tie
 
 abbrev Inv-loop : tie.InvT-loop
-Inv-loop words n registered kind₀ kind = Passed (KindOk n registered words) 0 kind
+Inv-loop words z registered kind₀ kind = Passed (KindOk z registered words) 0 kind
 
 abbrev μ-loop : tie.MeasureT-loop
-μ-loop words n registered kind₀ kind = MAX-KINDS - kind
+μ-loop words z registered kind₀ kind = MAX-KINDS - kind
 
 kind-ok-requires : tie.Need-kind-ok-requires Inv-loop μ-loop
 kind-ok-requires c κs = (c .before .before .before .pre, omega arith)

@@ -9,7 +9,7 @@ use Rattle.sound_columns.proofs.table.slot_ok.Statement.{statement}
 use Rattle.sound_columns.proofs.table.slot_ok.Tie as tie
 
 shared-slice-read-back : tie.Need-shared-slice-read-back
-shared-slice-read-back c = let a = c .before .before .before .before .args in omega (arith, slot-long (a .n) (a .s) (a .words .now) (c .before .before .before .before .pre))
+shared-slice-read-back c = let a = c .before .before .before .before .args in omega (arith, slot-long (a .z) (a .s) (a .words .now) (c .before .before .before .before .pre))
 
 cast-back : tie.Need-cast-back
 cast-back c = let a = c .before .before .before .before .args in omega (arith, c .before .before .before .shared-slice-known .given (TABLE + c .before .before .head .result))

@@ -7,16 +7,16 @@ use Rattle.sound_columns.proofs.table.slots_ok.Statement.{statement}
 use Rattle.sound_columns.proofs.table.slots_ok.Tie as tie
 
 abbrev Inv-loop : tie.InvT-loop
-Inv-loop words n registered s₀ s = Passed (SlotOk n words) 0 s
+Inv-loop words z registered s₀ s = Passed (SlotOk z words) 0 s
 
 abbrev μ-loop : tie.MeasureT-loop
-μ-loop words n registered s₀ s = registered - s
+μ-loop words z registered s₀ s = registered - s
 
 slot-ok-requires : tie.Need-slot-ok-requires Inv-loop μ-loop
 slot-ok-requires c κs =
     let a = c .before .before .before .args in
     let l = c .before .loop in
-    slot-of (a .n) (a .registered) (a .words .now) (c .before .before .before .pre) (l .s) (omega arith)
+    slot-of (a .z) (a .registered) (a .words .now) (c .before .before .before .pre) (l .s) (omega arith)
 
 pub slots-ok-spec : {M : Type 1} → statement M
 slots-ok-spec =
