@@ -54,7 +54,7 @@ module _ (v : ℕ) (e : Entity) where
   unfolding ungroupAt
   keeps-step Incomplete g s r n k = record { once = n k; bytes = refl }
   keeps-step Ungrouped g s r n k = record { once = n k; bytes = refl }
-  keeps-step Grouped g s r n k =
+  keeps-step (Grouped place) g s r n k =
       let ks : List ℕ = located (s .layout) g .kinds in
       let c : ℕ = located (s .layout) g .count - 1 in
       subst (Keeps (setOf (s .sets) k))

@@ -5,8 +5,8 @@ use mathlib.Core.List.{List, [], _∷_, _++_, reverse, reverse-cons, reverse-app
 use Prim.Native.Nat.{ℕ, suc, _+_, _-_, _≤_, _<_}
 use native.Mathlib.Omega.{arith}
 use borrow.Author.Tests.{ltb-true}
-use lib.ListN.{length, length-map}
-use Rattle.model.proofs.ListLaws.{place-count-take, count-take-le}
+use lib.ListN.{length, take, length-map}
+use Rattle.model.proofs.ListLaws.{place-take, place-count-take, count-take-place, count-take-le}
 use Rattle.model.specs.Model.{Entity, SparseSet, Group, Family, Storage, Walked, GroupStep, sameEntity, meets, setOf, keys, entityOf, at, held, onKinds, swapTo, allHeld, isGrouped, headKind, kindsOf, groupsOf, ungroupComponents, ungroupFamily, ungroup}
 use Rattle.model.specs.Sound.{layoutKinds, key, cnt, In}
 use Rattle.model.proofs.BoolLaws.{cond-case, bool-cases}
@@ -20,7 +20,7 @@ use Rattle.masks.specs.Masks.{upFrom}
 use Rattle.group.specs.declared.group_status.GroupStatus.{GroupStatus}
 use Rattle.group.specs.declared.group_status.GroupStatus.the-variants.{Incomplete, Ungrouped, Grouped}
 use Rattle.group.specs.Flat.{located, withCount, statusAt, stepDown, walkDown, familyMembers, passing, positionsWhere, deletePositions}
-use Rattle.group.specs.Ready.{ReadyOut, ReadyDown}
+use Rattle.group.specs.Ready.{StandsAt, ReadyOut, ReadyDown}
 use Rattle.group.proofs.Fronts.{Front, whole, past, Hole, opened, next, here}
 use Rattle.group.proofs.Upward.{grouped-here, ungrouped-here, incomplete-here, ungroup-here, atHole, atFront}
 use Rattle.group.proofs.Commute.{headed-all, ungroupBack, commutes, back-other}
@@ -72,15 +72,30 @@ module _ (e : Entity) where
     abbrev S : Storage
     S = record { sets = sets; layout = H .build (r ∷ rs) }
 
-    -- inside, it is held in every kind of the group
+    abbrev hd : ℕ
+    hd = headKind (r .newKinds)
+
+    hd-in : In g hd
+    hd-in = in-right acc (r .newKinds) hd head
+
+    -- inside, it is in the first places of every kind of the group
+    among : isGrouped e r sets ≡ true → (k : ℕ) → In g k → 1 ≤ cnt e (take (r .count) (key sets k))
+    among b k i =
+        let lt : plc e (key sets hd) < r .count = ltb-true _ _ b in
+        let one = place-count-take sameEntity e (r .count) (key sets hd) lt (even .fit hd hd-in) in
+        let same = ap (cnt e) (even .align k hd i hd-in) in
+        omega arith
+
     held-inside : isGrouped e r sets ≡ true → (k : ℕ) → In g k → held e (setOf sets k) ≡ true
-    held-inside b k i =
-        let hd : ℕ = headKind (r .newKinds) in
-        let j : In g (headKind (r .newKinds)) = in-right acc (r .newKinds) (headKind (r .newKinds)) head in
-        let lt : plc e (key sets (headKind (r .newKinds))) < r .count = ltb-true _ _ b in
-        let one = place-count-take sameEntity e (r .count) (key sets (headKind (r .newKinds))) lt (even .fit (headKind (r .newKinds)) j) in
-        let same = ap (cnt e) (even .align k (headKind (r .newKinds)) i j) in
-        count-held e sets k (omega (arith, count-take-le sameEntity e (r .count) (key sets k)))
+    held-inside b k i = count-held e sets k (omega (arith, among b k i, count-take-le sameEntity e (r .count) (key sets k)))
+
+    -- and at one place
+    stands : isGrouped e r sets ≡ true → StandsAt e g (at e (setOf sets hd)) sets
+    stands b k i =
+        let lt : plc e (key sets hd) < r .count = ltb-true _ _ b in
+        sym (place-take sameEntity e (r .count) (key sets k) (count-take-place sameEntity e (r .count) (key sets k) (among b k i)))
+        ∙ ap (plc e) (even .align k hd i hd-in)
+        ∙ place-take sameEntity e (r .count) (key sets hd) lt
 
     all-held : isGrouped e r sets ≡ true → allHeld e (r .newKinds) sets ≡ true
     all-held b =
@@ -89,7 +104,7 @@ module _ (e : Entity) where
         let m : Missing (λ k. held e (setOf sets k)) (r .newKinds) = all-missing (λ k. held e (setOf sets k)) (r .newKinds) a in
         absurd (true≢false (sym (held-inside b (m .kind) (in-right acc (r .newKinds) (m .kind) (m .isIn))) ∙ m .fails)))
 
-    leaves : isGrouped e r sets ≡ true → ReadyOut Grouped e (located (S .layout) p) (S .sets)
+    leaves : isGrouped e r sets ≡ true → ReadyOut (Grouped (at e (setOf sets hd))) e (located (S .layout) p) (S .sets)
     leaves b =
         let lt : at e (setOf sets (headKind (r .newKinds))) < r .count = ltb-true _ _ b in
         rw (here H r rs fits) (
@@ -98,6 +113,7 @@ module _ (e : Entity) where
             holds = held-inside b;
             room = λ k i. omega (arith, even .fit k i, length-map (setOf sets k) entityOf);
           },
+          stands b,
         )
 
     abbrev stepped : GroupStep → Storage
@@ -116,7 +132,7 @@ module _ (e : Entity) where
         bool-cases (isGrouped e r sets)
         (λ b.
         subst (Goes (p ∷ []) S) (ungroup-here e H sets r rs fits ∙ ap stepped (sym (out b)))
-        (goes-one p S Grouped (grouped-here e H sets r rs fits (all-held b) b) (leaves b)))
+        (goes-one p S (Grouped (at e (setOf sets hd))) (grouped-here e H sets r rs fits (all-held b) b) (leaves b)))
         (λ b.
         subst (Goes (p ∷ []) S) (ap stepped (sym (stays b)))
         (bool-cases (allHeld e (r .newKinds) sets)

@@ -31,7 +31,7 @@ step-plain : (t : GroupStatus) (e : Entity) (g : ℕ) (s : Storage) → plain (s
 unfolding groupAt
 step-plain Incomplete e g s = refl
 step-plain Ungrouped e g s = plain-set g (located (s .layout) g .count + 1) (s .layout)
-step-plain Grouped e g s = refl
+step-plain (Grouped place) e g s = refl
 
 walk-plain : (e : Entity) (skip : ℕ) (ps : List ℕ) (s : Storage) → plain (walkUp e skip ps s .layout) ≡ plain (s .layout)
 unfolding walkUp

@@ -11,6 +11,7 @@ use lib.ListN.{length, set, length-set}
 use lib.Seq.{ext-getD, getD-set-same, getD-set-other}
 use Rattle.model.specs.Model.{SparseSet, mem, setOf, onKinds}
 use Rattle.model.specs.Sound.{In, Distinct}
+use Rattle.model.proofs.BoolLaws.{bool-cases}
 use Rattle.model.proofs.SparseSets.{setOf-mapOn}
 use Rattle.model.proofs.Invariant.{length-mapOn}
 use Rattle.model.proofs.KindLists.{distinct-right, distinct-apart}
@@ -47,3 +48,11 @@ pub each-kinds : (f : SparseSet → SparseSet) → f [] ≡ [] → (ks : List �
 each-kinds f z ks sets d lt =
     ext-getD [] (eachKind f ks sets) (onKinds ks f sets) (length-each f ks sets ∙ sym (length-mapOn ks f 0 sets))
     (λ j h. setOf-each f ks sets d lt j ∙ sym (setOf-mapOn ks f z 0 sets j ∙ ap (λ (n : ℕ). cond (mem n ks) (f (setOf sets j)) (setOf sets j)) (zero-add j)))
+
+-- a change that leaves each of the kinds' sparse sets as it is
+pub kinds-idle : (f : SparseSet → SparseSet) → f [] ≡ [] → (ks : List ℕ) (sets : List SparseSet) → ((k : ℕ) → In ks k → f (setOf sets k) ≡ setOf sets k) → onKinds ks f sets ≡ sets
+kinds-idle f z ks sets h =
+    ext-getD [] (onKinds ks f sets) sets (length-mapOn ks f 0 sets)
+    (λ j l. setOf-mapOn ks f z 0 sets j
+    ∙ ap (λ (n : ℕ). cond (mem n ks) (f (setOf sets j)) (setOf sets j)) (zero-add j)
+    ∙ bool-cases (mem j ks) (λ t. rw t (h j t)) (λ t. rw t))

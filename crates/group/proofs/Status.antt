@@ -59,8 +59,8 @@ module _ {m : Store} {start end : ℕ} (e : Entity) (c : ℕ) (some : start < en
     pub status-first : r ≡ Nothing → Incomplete ≡ statusIn e (between start end (orderOf m)) c sets
     status-first z = rw (parts, first Nothing z)
 
-    pub status-in : {p : ℕ} → r ≡ At p → allHeld e (between (start + 1) end (orderOf m)) sets ≡ true → p < c → Grouped ≡ statusIn e (between start end (orderOf m)) c sets
-    status-in {p} z a l = let h = first (At p) z in rw (parts, h .holds, a, lt-ltb (at e (setOf sets k)) c (omega (arith, h .place)))
+    pub status-in : {p : ℕ} → r ≡ At p → allHeld e (between (start + 1) end (orderOf m)) sets ≡ true → p < c → Grouped p ≡ statusIn e (between start end (orderOf m)) c sets
+    status-in {p} z a l = let h = first (At p) z in rw (parts, h .holds, a, lt-ltb (at e (setOf sets k)) c (omega (arith, h .place))) (ap Grouped (h .place))
 
     pub status-out : {p : ℕ} → r ≡ At p → allHeld e (between (start + 1) end (orderOf m)) sets ≡ true → c ≤ p → Ungrouped ≡ statusIn e (between start end (orderOf m)) c sets
     status-out {p} z a l = let h = first (At p) z in rw (parts, h .holds, a, le-ltb (at e (setOf sets k)) c (omega (arith, h .place)))

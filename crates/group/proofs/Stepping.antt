@@ -5,9 +5,10 @@ use Prim.Native.Nat.{ℕ, _≤_, _<_}
 use native.Mathlib.Omega.{arith}
 use lib.ListN.{length, getD}
 use Rattle.model.specs.Numbers.{MAX-ENTITIES}
-use Rattle.model.specs.Model.{Entity, Storage, setOf, onKinds, swapTo, groupsOf}
+use Rattle.model.specs.Model.{Entity, SparseSet, Storage, noRow, setOf, at, onKinds, swapTo, groupsOf}
 use Rattle.model.specs.Store.{onStorage, withLayout, Store}
 use Rattle.model.specs.Sound.{In}
+use Rattle.model.proofs.ListLaws.{swap-equal}
 use Rattle.masks.specs.Masks.{bitsOf, Ordered}
 use Rattle.words.specs.Part.{between}
 use Rattle.component.specs.SparseSet.{rows}
@@ -20,11 +21,12 @@ use Rattle.kinds.proofs.Slot.{known-slot}
 use Rattle.layout.specs.declared.group_metadata.GroupMetadata.{GroupMetadata}
 use Rattle.group.specs.declared.group_status.GroupStatus.{GroupStatus}
 use Rattle.group.specs.Flat.{located, setCount, movedTo, statusAt, stepUp, stepDown}
-use Rattle.group.specs.Ready.{Swappable, ReadyIn, ReadyOut}
+use Rattle.group.specs.Ready.{Swappable, StandsAt, ReadyIn, ReadyOut}
 use Rattle.group.specs.Metadata.{orderOf, Describes, Stands}
 use Rattle.group.specs.Steps.{swapKinds, leftAfter, StepsUp}
 use Rattle.group.proofs.Counts.{placed}
 use Rattle.words.proofs.Part.{between-in}
+use Rattle.group.proofs.EachKind.{kinds-idle}
 use Rattle.group.proofs.Storing.{becomes-then, storage-becomes}
 
 -- a sparse set has no more rows than the store has room for
@@ -60,6 +62,19 @@ module _ {w₀ : List ℕ} {e : Entity} {g len c : ℕ} {d : GroupMetadata} (A :
         storage-becomes w₀ w₂ (meaning w₀) (λ (s : Storage). record { sets = onKinds ks (swapTo e n) (s .sets); layout = setCount g x (s .layout) }) (movedTo e g c y)
         (λ i. record { sets = onKinds (S .metadata .kinds i) (swapTo e (q i)) (meaning w₀ .storage .sets); layout = setCount g (z i) (meaning w₀ .storage .layout) })
         (becomes-then w₀ w₁ w₂ (swapKinds e n ks) (onStorage (λ (s : Storage). withLayout s (setCount g x (s .layout)))) B C)
+
+  -- an entity that stands at place c already: only the count changes
+  module _ (at-place : StandsAt e (located (meaning w₀ .storage .layout) g .kinds) c (meaning w₀ .storage .sets)) where
+    idle : onKinds (located (meaning w₀ .storage .layout) g .kinds) (swapTo e c) (meaning w₀ .storage .sets) ≡ meaning w₀ .storage .sets
+    idle =
+        kinds-idle (swapTo e c) refl (located (meaning w₀ .storage .layout) g .kinds) (meaning w₀ .storage .sets)
+        (λ k i. let rs : SparseSet = setOf (meaning w₀ .storage .sets) k in sym (swap-equal noRow (at e rs) c rs (at-place k i)))
+
+    pub counts : {w₁ : List ℕ} {x y : ℕ} → x ≡ y → Becomes w₀ w₁ (onStorage (λ (s : Storage). withLayout s (setCount g x (s .layout))) (meaning w₀)) → Becomes w₀ w₁ (onStorage (movedTo e g c y) (meaning w₀))
+    counts {w₁} {x} {y} z C =
+        storage-becomes w₀ w₁ (meaning w₀) (λ (s : Storage). withLayout s (setCount g x (s .layout))) (movedTo e g c y)
+        (λ i. record { sets = sym idle i; layout = setCount g (z i) (meaning w₀ .storage .layout) })
+        C
 
 -- the family's rest is past g
 pub skip-ordered : (m : Store) (g : ℕ) (d : GroupMetadata) → g < groupsOf (m .storage .layout) → Describes m g d → Ordered 64 g (d .top)

@@ -60,7 +60,7 @@ module _ (W : Entity → Type 0) (e : Entity) where
         same = λ x y. y;
         both = λ f g z. f (g z);
         left = λ g s f y. (tt, f y);
-        inside = λ g s f y. (tt, f y);
+        inside = λ place g s f y. (tt, f y);
         enters = λ {x} {y} {acc} H sets r rs fits c a b f z. (rw (here H r rs fits) (swappable acc r sets (holds-more e acc sets r (c .0) a) (c .1 .0) b), f z);
         past = λ acc sets r rs c a. (holds-more e acc sets r (c .0) a, c .1 .2);
         moved = λ acc sets r rs c a b.

@@ -7,7 +7,7 @@ use native.Mathlib.Omega.{arith}
 use native.Mathlib.Numerals.{add-one}
 use borrow.Author.Tests.{lt-ltb, le-ltb}
 use lib.ListN.{length}
-use Rattle.model.specs.Model.{Entity, SparseSet, Group, Family, Storage, Walked, meets, onKinds, swapTo, allHeld, isGrouped, kindsOf, groupComponents, groupFamily, groupTouched, groupAll}
+use Rattle.model.specs.Model.{Entity, SparseSet, Group, Family, Storage, Walked, meets, setOf, at, onKinds, swapTo, allHeld, isGrouped, headKind, kindsOf, groupComponents, groupFamily, groupTouched, groupAll}
 use Rattle.model.proofs.BoolLaws.{cond-case, bool-cases}
 use Rattle.model.proofs.Walk.{group-stays, group-moves}
 use Rattle.masks.specs.Masks.{upFrom}
@@ -42,7 +42,7 @@ module _ {ℓ} {X : Type ℓ} {e : Entity} {step : GroupStatus → ℕ → Stora
       same : (t : GroupStatus) → ((s′ : Storage) → walk skip ps s′ ≡ walk 0 ps s′) → walk (skipAfter t top skip) ps (stepUp t e g s) ≡ walk (skipAfter t top 0) ps (stepUp t e g s)
       same Incomplete r = refl
       same Ungrouped r = r (groupAt e g s)
-      same Grouped r = r s
+      same (Grouped place) r = r s
 
   -- a run of positions below skip is passed over
   up-past : (skip p n : ℕ) (ps : List ℕ) (s : Storage) → p + n ≤ skip → walk skip (upFrom p n ++ ps) s ≡ walk skip ps s
@@ -65,7 +65,7 @@ module _ (e : Entity) {acc : List ℕ} {first top p : ℕ} (H : Hole acc first t
   pub incomplete-here : allHeld e (r .newKinds) sets ≡ false → statusAt e p At ≡ Incomplete
   incomplete-here a = status-here ∙ rw a
 
-  pub grouped-here : allHeld e (r .newKinds) sets ≡ true → isGrouped e r sets ≡ true → statusAt e p At ≡ Grouped
+  pub grouped-here : allHeld e (r .newKinds) sets ≡ true → isGrouped e r sets ≡ true → statusAt e p At ≡ Grouped (at e (setOf sets (headKind (r .newKinds))))
   grouped-here a b = status-here ∙ rw (a, b)
 
   pub ungrouped-here : allHeld e (r .newKinds) sets ≡ true → isGrouped e r sets ≡ false → statusAt e p At ≡ Ungrouped
@@ -94,7 +94,7 @@ pub record Climb {ℓ} (X : Type ℓ) (e : Entity) (step : GroupStatus → ℕ �
   pub same : (x : X) → R x x
   pub both : {x y z : X} → R x y → R y z → R x z
   pub left : {x y : X} (g : ℕ) (s : Storage) → R x y → R (step Incomplete g s x) y
-  pub inside : {x y : X} (g : ℕ) (s : Storage) → R x y → R (step Grouped g s x) y
+  pub inside : {x y : X} (place g : ℕ) (s : Storage) → R x y → R (step (Grouped place) g s x) y
   pub enters : {x y : X} {acc : List ℕ} {first top p : ℕ} (H : Hole acc first top p) (sets : List SparseSet) (r : Group) (rs : Family) (fits : p + suc (length rs) ≡ top)
       → C sets acc (r ∷ rs) → allHeld e (r .newKinds) sets ≡ true → isGrouped e r sets ≡ false → R x y → R (step Ungrouped p (At e H sets r rs fits) x) y
   pub past : (acc : List ℕ) (sets : List SparseSet) (r : Group) (rs : Family) → C sets acc (r ∷ rs) → allHeld e (r .newKinds) sets ≡ true → C sets (acc ++ r .newKinds) rs
@@ -146,8 +146,8 @@ module _ {ℓ} {X : Type ℓ} {e : Entity} {step : GroupStatus → ℕ → Stora
   family-climbs {acc} {first} {top} {p} H sets (r ∷ rs) skip ps fits le f c =
       bool-cases (allHeld e (r .newKinds) sets)
       (λ a. bool-cases (isGrouped e r sets)
-      (λ b. rw (W .on skip p rest S le Grouped (grouped-here e H sets r rs fits a b), a, group-stays e (acc ++ r .newKinds) r sets b)
-      (K .inside p S (family-climbs (next H r) sets rs skip ps (omega arith) (omega arith) f (K .past acc sets r rs c a))))
+      (λ b. rw (W .on skip p rest S le (Grouped here-at) (grouped-here e H sets r rs fits a b), a, group-stays e (acc ++ r .newKinds) r sets b)
+      (K .inside here-at p S (family-climbs (next H r) sets rs skip ps (omega arith) (omega arith) f (K .past acc sets r rs c a))))
       (λ b. rw (W .on skip p rest S le Ungrouped (ungrouped-here e H sets r rs fits a b), group-here e H sets r rs fits, a, group-moves e (acc ++ r .newKinds) r sets b)
       (K .enters H sets r rs fits c a b (family-climbs (next H (withCount (suc (r .count)) r)) M rs skip ps (omega arith) (omega arith) f (K .moved acc sets r rs c a b)))))
       (λ a. rw (W .on skip p rest S le Incomplete (incomplete-here e H sets r rs fits a), top-here e H sets r rs fits, up-past W top (suc p) (length rs) ps S (omega arith), up-from W top ps S f, a)
@@ -155,6 +155,9 @@ module _ {ℓ} {X : Type ℓ} {e : Entity} {step : GroupStatus → ℕ → Stora
     where
       S : Storage
       S = record { sets = sets; layout = H .build (r ∷ rs) }
+
+      here-at : ℕ
+      here-at = at e (setOf sets (headKind (r .newKinds)))
 
       M : List SparseSet
       M = onKinds (acc ++ r .newKinds) (swapTo e (r .count)) sets
@@ -203,7 +206,7 @@ walk-climb e =
       same = λ x. refl;
       both = λ p q. p ∙ q;
       left = λ g s r. r;
-      inside = λ g s r. r;
+      inside = λ place g s r. r;
       enters = λ H sets r rs fits c a b q. q;
       past = λ acc sets r rs c a. tt;
       moved = λ acc sets r rs c a b. tt;

@@ -84,23 +84,23 @@ module _ {ℓ} {X : Type ℓ} {e : Entity} {step : GroupStatus → ℕ → Stora
       W .on 0 g ps s (omega arith) Incomplete q
       ∙ ap (step Incomplete g s) (up-keep top ps s (a .1) ∙ ap (λ (l : List ℕ). walk 0 l s) (sym (skip-rest 64 g top ps (a .0) low)))
   up-on s g ps a low Ungrouped q = W .on 0 g ps s (omega arith) Ungrouped q
-  up-on s g ps a low Grouped q = W .on 0 g ps s (omega arith) Grouped q
+  up-on s g ps a low (Grouped place) q = W .on 0 g ps s (omega arith) (Grouped place) q
 
 up-groups : (t : GroupStatus) (e : Entity) (g : ℕ) (s : Storage) → groupsOf (stepUp t e g s .layout) ≡ groupsOf (s .layout)
 unfolding groupAt
 up-groups Incomplete e g s = refl
 up-groups Ungrouped e g s = groups-set g (located (s .layout) g .count + 1) (s .layout)
-up-groups Grouped e g s = refl
+up-groups (Grouped place) e g s = refl
 
 left-length : (t : GroupStatus) (g top : ℕ) (ps : List ℕ) → length (leftAfter t g top ps) ≤ length ps
 left-length Incomplete g top ps = length-keep (λ i. has i (skipping 64 g top)) ps
 left-length Ungrouped g top ps = omega arith
-left-length Grouped g top ps = omega arith
+left-length (Grouped place) g top ps = omega arith
 
 left-has : (t : GroupStatus) (g top : ℕ) (ps : List ℕ) (i : ℕ) → has i (leftAfter t g top ps) ≡ true → has i ps ≡ true
 left-has Incomplete g top ps i h = and-parts (has i ps) (has i (skipping 64 g top)) (sym (has-common i ps (skipping 64 g top)) ∙ h) .0
 left-has Ungrouped g top ps i h = h
-left-has Grouped g top ps i h = h
+left-has (Grouped place) g top ps i h = h
 
 abbrev pub Up : Entity → List ℕ → List ℕ → List ℕ → List ℕ → Type 0
 Up e = Walking (walkUp e 0) (ReadyUp e 0)
@@ -153,7 +153,7 @@ down-groups : (t : GroupStatus) (e : Entity) (g : ℕ) (s : Storage) → groupsO
 unfolding ungroupAt
 down-groups Incomplete e g s = refl
 down-groups Ungrouped e g s = refl
-down-groups Grouped e g s = groups-set g (located (s .layout) g .count - 1) (s .layout)
+down-groups (Grouped place) e g s = groups-set g (located (s .layout) g .count - 1) (s .layout)
 
 abbrev pub Down : Entity → List ℕ → List ℕ → List ℕ → List ℕ → Type 0
 Down e = Walking (walkDown e) (ReadyDown e)

@@ -57,10 +57,11 @@ setCount g c (f ∷ fs) =
 
 -- ---- one group
 
--- Incomplete where a new kind is missing; else Grouped where the entity's place, in the first new kind's sparse set, is below the count
+-- Incomplete where a new kind is missing; else Grouped, with the entity's place in the first new kind's sparse set, where that is below the count
 abbrev pub statusOf : Entity → Located → List SparseSet → GroupStatus
 statusOf e l sets =
-    let inside = cond (ltb (at e (setOf sets (headKind (l .newKinds)))) (l .count)) Grouped Ungrouped in
+    let place = at e (setOf sets (headKind (l .newKinds))) in
+    let inside = cond (ltb place (l .count)) (Grouped place) Ungrouped in
     cond (allHeld e (l .newKinds) sets) inside Incomplete
 
 abbrev pub statusAt : Entity → ℕ → Storage → GroupStatus
@@ -83,13 +84,13 @@ ungroupAt e g s = let l = located (s .layout) g in movedTo e g (l .count - 1) (l
 abbrev pub stepUp : GroupStatus → Entity → ℕ → Storage → Storage
 stepUp Incomplete e g s = s
 stepUp Ungrouped e g s = groupAt e g s
-stepUp Grouped e g s = s
+stepUp (Grouped place) e g s = s
 
 -- "At the first group with a ring kind missing, the rest of that family is skipped."
 abbrev pub skipAfter : GroupStatus → ℕ → ℕ → ℕ
 skipAfter Incomplete top skip = top
 skipAfter Ungrouped top skip = skip
-skipAfter Grouped top skip = skip
+skipAfter (Grouped place) top skip = skip
 
 -- upward over the positions, rising; those below skip are passed over
 unfoldable pub walkUp : Entity → ℕ → List ℕ → Storage → Storage
@@ -108,7 +109,7 @@ walkEach (e ∷ es) ps s = walkEach es ps (walkUp e 0 ps s)
 abbrev pub stepDown : GroupStatus → Entity → ℕ → Storage → Storage
 stepDown Incomplete e g s = s
 stepDown Ungrouped e g s = s
-stepDown Grouped e g s = ungroupAt e g s
+stepDown (Grouped place) e g s = ungroupAt e g s
 
 -- downward over the positions, falling
 unfoldable pub walkDown : Entity → List ℕ → Storage → Storage

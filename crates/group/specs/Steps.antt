@@ -16,7 +16,8 @@ use Rattle.group.specs.Flat.{located, statusAt, stepUp}
 -- statusOf, of a group with these new kinds and this count
 abbrev pub statusIn : Entity → List ℕ → ℕ → List SparseSet → GroupStatus
 statusIn e new c sets =
-    let inside = cond (ltb (at e (setOf sets (headKind new))) c) Grouped Ungrouped in
+    let place = at e (setOf sets (headKind new)) in
+    let inside = cond (ltb place c) (Grouped place) Ungrouped in
     cond (allHeld e new sets) inside Incomplete
 
 -- the entity swapped to place c in the sparse sets of ks: "in every column of the group"
@@ -31,7 +32,7 @@ Below ps s = (g : ℕ) → has g ps ≡ true → g < groupsOf (s .layout)
 abbrev pub leftAfter : GroupStatus → ℕ → ℕ → List ℕ → List ℕ
 leftAfter Incomplete g top ps = commonOf ps (skipping 64 g top)
 leftAfter Ungrouped g top ps = ps
-leftAfter Grouped g top ps = ps
+leftAfter (Grouped place) g top ps = ps
 
 -- a step upward at group g: the storage as the model has it, and the mask that is left of rest
 pub record StepsUp (w w′ : List ℕ) (e : Entity) (g rest left : ℕ) : Type 0 where

@@ -16,7 +16,8 @@ ghost use Rattle.group.specs.Steps.{statusIn};
 pub enum GroupStatus {
     Incomplete,
     Ungrouped,
-    Grouped,
+    // with the place where the entity stands
+    Grouped(usize),
 }
 
 // Does the entity hold each of the layout's kinds from start to end?
@@ -59,7 +60,7 @@ fn get_group_status(
         return GroupStatus::Incomplete;
     }
     if place < group_len {
-        return GroupStatus::Grouped;
+        return GroupStatus::Grouped(place);
     }
     GroupStatus::Ungrouped
 }

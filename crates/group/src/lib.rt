@@ -23,7 +23,7 @@ ghost use Rattle.masks.specs.Walk.{Highest};
 ghost use Rattle.memory.specs.Meaning.{meaning};
 ghost use Rattle.memory.specs.Arranged.{Arranged, Becomes};
 ghost use Rattle.group.specs.Flat.{located, statusAt, groupAt, ungroupAt, stepDown, walkUp, walkEach, walkDown};
-ghost use Rattle.group.specs.Ready.{Swappable, ReadyIn, ReadyOut, ReadyUp, ReadyEach, ReadyDown};
+ghost use Rattle.group.specs.Ready.{Swappable, StandsAt, ReadyIn, ReadyOut, ReadyUp, ReadyEach, ReadyDown};
 ghost use Rattle.group.specs.Metadata.{orderOf, PlacesKnown, Stands};
 ghost use Rattle.group.specs.Steps.{swapKinds, Below, StepsUp};
 
@@ -69,12 +69,13 @@ fn group_components(
     set_count(words, g, group_len + 1);
 }
 
-// Brings it out again.
+// Brings it out again. It stands at the same place in every sparse set of the group; at the last counted place it needs no swap.
 fn ungroup_components(
     words: &mut [u32],
     metadata: GroupMetadata,
     g: usize,
     group_len: usize,
+    place: usize,
     index: u32,
     version: u32,
 )
@@ -82,9 +83,14 @@ fn ungroup_components(
     requires { ⌜ Stands (meaning (now words)) g metadata «group_len» ⌝ }
     requires { ⌜ 1 ≤ «group_len» ⌝ }
     requires { ⌜ Swappable (entity index version) (located (meaning (now words) .storage .layout) g .kinds) (located (meaning (now words) .storage .layout) g .count - 1) (meaning (now words) .storage .sets) ⌝ }
+    requires { ⌜ StandsAt (entity index version) (located (meaning (now words) .storage .layout) g .kinds) place (meaning (now words) .storage .sets) ⌝ }
     ensures { λ _. ⌜ Becomes (now (words .entry)) (now (words .exit)) (onStorage (ungroupAt (entity index version) g) (meaning (now (words .entry)))) ⌝ }
 {
     let swap_index = group_len - 1;
+    if place == swap_index {
+        set_count(words, g, swap_index);
+        return;
+    }
     swap_kinds(words, metadata, index, version, swap_index);
     set_count(words, g, swap_index);
 }
@@ -108,7 +114,7 @@ fn group_step(words: &mut [u32], g: usize, rest: GroupMask, index: u32, version:
             group_components(words, metadata, g, group_len, index, version);
             return rest;
         }
-        GroupStatus::Grouped => {
+        GroupStatus::Grouped(place) => {
             return rest;
         }
     }
@@ -165,9 +171,9 @@ fn ungroup_step(words: &mut [u32], g: usize, index: u32, version: u32)
         GroupStatus::Ungrouped => {
             return;
         }
-        GroupStatus::Grouped => {
+        GroupStatus::Grouped(place) => {
             let group_len = count(words, g);
-            ungroup_components(words, metadata, g, group_len, index, version);
+            ungroup_components(words, metadata, g, group_len, place, index, version);
             return;
         }
     }

@@ -20,15 +20,15 @@ returns-2 c =
 
 ungroup-components-requires : tie.Need-ungroup-components-requires
 ungroup-components-requires c κs =
-    let s = c .before .before .before .before .before .before .before .before .before .before in
+    let s = c .before .before .before .before .before .before .before .before .before .before .before in
     let a = s .args in
-    let out = ready-out (a .words .now) (entity (a .index) (a .version)) (a .g) (sym (c .before .before .before .enum-told3 .given .1) ∙ c .before .before .before .before .before .status-in .ensures) (s .pre .1 .1) in
-    (s .pre .0, (record { below = s .pre .1 .0; metadata = c .before .before .before .before .before .before .before .metadata .ensures; counted = c .before .count .ensures }, (omega (arith, out .0, c .before .count .ensures), out .1)))
+    let out = ready-out (a .words .now) (entity (a .index) (a .version)) (a .g) (sym (c .before .before .before .before .status .given .1) ∙ c .before .before .before .before .before .before .status-in .ensures) (s .pre .1 .1) in
+    (s .pre .0, (record { below = s .pre .1 .0; metadata = c .before .before .before .before .before .before .before .before .metadata .ensures; counted = c .before .count .ensures }, (omega (arith, out .0, c .before .count .ensures), (out .1, out .2))))
 
 returns-3 : tie.Need-returns-3
 returns-3 c =
-    let a = c .before .before .before .before .before .before .before .before .before .before .before .before .before .args in
-    steps-down (entity (a .index) (a .version)) (a .g) (sym (c .before .before .before .before .before .before .enum-told3 .given .1) ∙ c .before .before .before .before .before .before .before .before .status-in .ensures) (c .before .before .ungroup-components .ensures)
+    let a = c .before .before .before .before .before .before .before .before .before .before .before .before .before .before .args in
+    steps-down (entity (a .index) (a .version)) (a .g) (sym (c .before .before .before .before .before .before .before .status .given .1) ∙ c .before .before .before .before .before .before .before .before .before .status-in .ensures) (c .before .before .ungroup-components .ensures)
 
 pub ungroup-step-spec : {M : Type 1} → statement M
 ungroup-step-spec =
@@ -43,7 +43,7 @@ ungroup-step-spec =
     (λ c. refl)
     returns-2
     (λ c. c .match .keys3)
-    (λ c κs. let s = c .before .before .before .before .before .before .before .before in (s .pre .0, s .pre .1 .0))
+    (λ c κs. let s = c .before .before .before .before .before .before .before .before .before in (s .pre .0, s .pre .1 .0))
     ungroup-components-requires
     (λ c. c .before .before .ungroup-components .kept .0)
     returns-3)
