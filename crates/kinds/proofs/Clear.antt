@@ -83,7 +83,7 @@ module _ (z : Shape) (r m : ℕ) (h : r ≤ m) (w w′ : List ℕ) (all : Column
 abbrev pub onEach : (SparseSet → SparseSet) → Storage → Storage
 onEach f s = record { sets = map f (s .sets); layout = s .layout }
 
-module _ (w w′ : List ℕ) (A : Arranged w) (f : SparseSet → SparseSet) (z : f [] ≡ []) (o : Changes (shapeOf w) (kindCapacityOf w) (λ (s : ℕ). f) w w′) where
+module _ (w w′ : List ℕ) (A : Arranged w) (f : SparseSet → SparseSet) (none : f [] ≡ []) (o : Changes (shapeOf w) (kindCapacityOf w) (λ (s : ℕ). f) w w′) where
   abbrev n : ℕ
   n = capacityOf w
 
@@ -104,7 +104,7 @@ module _ (w w′ : List ℕ) (A : Arranged w) (f : SparseSet → SparseSet) (z :
       rw (each-kept .slots k h, each-kept .registered, capacity-kept each-kept)
       (bool-cases (ltb (slotOf w k) (registeredOf w))
       (λ t. rw t (o .becomes (slotOf w k) (omega (arith, ltb-true (slotOf w k) (registeredOf w) t, A .table .few))))
-      (λ t. rw t (sym z)))
+      (λ t. rw t (sym none)))
 
   each-sets : setsIn w′ ≡ map f (setsIn w)
   unfolding setsIn
@@ -114,7 +114,7 @@ module _ (w w′ : List ℕ) (A : Arranged w) (f : SparseSet → SparseSet) (z :
       each-set k h
       ∙ ap f (sym (getD-table MAX-KINDS (setAt w) k [] h))
       ∙ sym (List·getD-map f (table MAX-KINDS (setAt w)) k [])
-      ∙ ap (getD (map f (table MAX-KINDS (setAt w))) k) z)
+      ∙ ap (getD (map f (table MAX-KINDS (setAt w))) k) none)
 
   each-entities : entityPart n w′ ≡ entityPart n w
   each-entities = part-same w w′ (o .size) ENTITIES (ENTITIES + ENTITY-LEN * n) enough (λ i a b. same-before i b)
@@ -130,7 +130,7 @@ module _ (w w′ : List ℕ) (A : Arranged w) (f : SparseSet → SparseSet) (z :
       record {
         arranged =
             arranged-kept A K (subst (entity.EntityPartSound n) (sym each-entities) (A .entities)) (o .columns)
-            (λ s l h. o .becomes s h ∙ ap f (A .vacant s l h) ∙ z)
+            (λ s l h. o .becomes s h ∙ ap f (A .vacant s l h) ∙ none)
             (rw (same STAGED-LEN (omega arith)) (A .staged)) (rw (same EXCLUDED-LEN (omega arith)) (A .excluded)) (rw (same CALLER (omega arith)) (A .caller)) (D .0) (D .1);
         means =
             reads-means
@@ -151,7 +151,7 @@ pub cleared : (w w′ : List ℕ) (z : Shape) (r : ℕ) → Arranged w → z ≡
     → Becomes w w′ (onStorage emptied (meaning w))
 cleared w w′ z r A en er c =
     each-becomes w w′ A (λ (rs : SparseSet). []) refl
-    (wide (capacityOf w) (registeredOf w) (kindCapacityOf w) (A .table .few) w w′ (A .columns) (λ (rs : SparseSet). []) (rw (en, er) at c) (A .vacant))
+    (wide (shapeOf w) (registeredOf w) (kindCapacityOf w) (A .table .few) w w′ (A .columns) (λ (rs : SparseSet). []) (rw (en, er) at c) (A .vacant))
 
 pub clears : (w : List ℕ) (z : Shape) (r : ℕ) → Arranged w → z ≡ shapeOf w → r ≡ registeredOf w → Columns z r w
 clears w z r A en er = rw (en, er) (fewer (shapeOf w) (registeredOf w) (kindCapacityOf w) (A .table .few) w w (A .columns))

@@ -17,7 +17,7 @@ use Rattle.words.proofs.Offsets.{columnStart-mono, columnStart-first}
 use Rattle.words.specs.Part.{between}
 use Rattle.words.specs.Table.{table}
 use Rattle.words.proofs.Tables.{table-same, table-snoc, length-table}
-use Rattle.words.specs.Shape.{columnStart, shapeOf}
+use Rattle.words.specs.Shape.{columnStart, shapeOf, shape}
 use Rattle.words.specs.declared.Shape.{Shape}
 use Rattle.model.proofs.BoolLaws.{by-eq}
 use Rattle.component.specs.SparseSet.{rows}
@@ -122,13 +122,13 @@ module _ (w w′ : List ℕ) (A : Arranged w) (k : ℕ) (hk : k < MAX-KINDS) (ne
 
   -- the head of a column that was there, and of the new one
   head-other : (t : ℕ) → t < registeredOf w → (i : ℕ) → getD (columnOf (shapeOf w′) t w′) i 0 ≡ getD (columnOf (shapeOf w) t w) i 0
-  head-other t h i = ap (λ (c : ℕ). getD (columnOf c t w′) i 0) cap ∙ ap (λ (u : List ℕ). getD u i 0) (R .others t (omega arith) (omega arith))
+  head-other t h i = ap (λ (c : ℕ). getD (columnOf (shape c) t w′) i 0) cap ∙ ap (λ (u : List ℕ). getD u i 0) (R .others t (omega arith) (omega arith))
 
   kind-new : kindAt w′ (registeredOf w) ≡ k
-  kind-new = ap (λ (c : ℕ). getD (columnOf c (registeredOf w) w′) COLUMN-KIND 0) cap ∙ R .kind
+  kind-new = ap (λ (c : ℕ). getD (columnOf (shape c) (registeredOf w) w′) COLUMN-KIND 0) cap ∙ R .kind
 
   own-new : ownAt w′ (registeredOf w) ≡ 0
-  own-new = ap (λ (c : ℕ). getD (columnOf c (registeredOf w) w′) OWN-GROUP 0) cap ∙ R .own
+  own-new = ap (λ (c : ℕ). getD (columnOf (shape c) (registeredOf w) w′) OWN-GROUP 0) cap ∙ R .own
 
   -- a kind that was there is not the new one
   kind-ne : (t : ℕ) → t < registeredOf w → kindAt w t ≢ k
@@ -263,7 +263,7 @@ module _ (w w′ : List ℕ) (A : Arranged w) (k : ℕ) (hk : k < MAX-KINDS) (ne
   entities-are = part-same w w′ (R .size) ENTITIES (ENTITIES + ENTITY-LEN * capacityOf w) enough (λ i a b. R .header i b (omega arith) (omega arith))
     where
       enough : ENTITIES + ENTITY-LEN * capacityOf w ≤ length w
-      enough = omega (arith, A .enough, columnStart-first (capacityOf w), columnStart-mono (shapeOf w) 0 (kindCapacityOf w) (omega arith))
+      enough = omega (arith, A .enough, columnStart-first (shapeOf w), columnStart-mono (shapeOf w) 0 (kindCapacityOf w) (omega arith))
 
   arranged-new : Arranged w′
   arranged-new =

@@ -10,7 +10,7 @@ use lib.ListN.{length, getD, set, drop, length-set}
 use lib.Seq.{getD-set-same, getD-set-other, drop-set-lt, ext-getD}
 use Rattle.model.specs.Numbers.{ENTITY-LEN, LAST-CALLER, LIST-CAPACITY, MAX-KINDS}
 use Rattle.model.specs.Model.{Entities, SparseSet, Storage, setOf}
-use Rattle.model.specs.Store.{onSet, withEntities, onStorage, withLayout, Settings, Store, wordsNeeded, withEntities, withControl, onStorage, withLayout, onSet}
+use Rattle.model.specs.Store.{onSet, withEntities, onStorage, withLayout, Settings, Store, withEntities, withControl, onStorage, withLayout, onSet}
 use Rattle.model.specs.Theorems.{SameSettings}
 use Rattle.words.specs.Offsets.{CALLER, DRAFT-FAMILIES, DRAFT-GROUPS, ENTITIES, EXCLUDED-LEN, GROUP-COUNTS, GROUP-FAMILIES, GROUP-PLACES, LAYOUT, LAYOUT-FAMILIES, LAYOUT-GROUPS, MORE-SETTINGS, REFUSALS, REGISTERED, RULE, STAGED-KINDS, STAGED-LEN, TABLE, UNREGISTERED}
 use Rattle.words.proofs.Offsets.{columnStart-mono, columnStart-first}
@@ -18,7 +18,7 @@ use Rattle.words.specs.Part.{between}
 use Rattle.words.proofs.Part.{between-rest, length-between, getD-between}
 use Rattle.words.specs.Table.{table}
 use Rattle.words.proofs.Tables.{table-same, table-set, getD-table, length-table}
-use Rattle.words.specs.Shape.{columnStart, columnLen, shapeOf}
+use Rattle.words.specs.Shape.{columnStart, columnLen, shapeOf, shape}
 use Rattle.words.specs.declared.Shape.{Shape}
 use Rattle.model.proofs.BoolLaws.{by-eq, bool-cases}
 use Rattle.component.specs.SparseSet.{rows, ColumnSound}
@@ -322,7 +322,7 @@ becomes-next {w₀} {w} {w′} s h B z C =
       arranged = C .arranged;
       means = C .means ∙ ap h (B .means);
       size = C .size ∙ B .size;
-      past = subst (λ (t : Settings). drop (wordsNeeded (t .capacity) (t .kindCapacity)) w′ ≡ drop (wordsNeeded (t .capacity) (t .kindCapacity)) w) e (C .past) ∙ B .past;
+      past = subst (λ (t : Settings). drop (columnStart (shape (t .capacity)) (t .kindCapacity)) w′ ≡ drop (columnStart (shape (t .capacity)) (t .kindCapacity)) w) e (C .past) ∙ B .past;
     }
 
 -- ---- how many kinds and sparse sets there are

@@ -144,7 +144,7 @@ module _ (n k : ℕ) (newer : Bool) (w w₁ w₂ : List ℕ) (L : Limits n k) (e
         table = tables;
         entities = rw cap (entities .sound);
         columns = rw (cap, kcap) columns;
-        vacant = λ s r h. rw cap (fresh-rows n s w′ (column-head s (rw kcap at h)));
+        vacant = λ s r h. rw cap (fresh-rows (shape n) s w′ (column-head s (rw kcap at h)));
         staged = omega (arith, low STAGED-LEN (omega arith) (omega arith) (omega arith));
         excluded = omega (arith, low EXCLUDED-LEN (omega arith) (omega arith) (omega arith));
         caller = omega (arith, low CALLER (omega arith) (omega arith) (omega arith));

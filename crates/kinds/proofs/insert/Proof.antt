@@ -13,31 +13,31 @@ use Rattle.kinds.proofs.insert.Statement.{statement}
 use Rattle.kinds.proofs.insert.Tie as tie
 
 shape-of-requires : tie.Need-shape-of-requires
-shape-of-requires c κs = let s = «start» in header-long (s .args .words .now) (s .pre .0) CAPACITY (omega arith)
+shape-of-requires c κs = let s = c .before .before in header-long (s .args .words .now) (s .pre .0) CAPACITY (omega arith)
 
 insert-in-requires : tie.Need-insert-in-requires
 insert-in-requires c κs =
-    let s = «start» in
+    let s = c .before .before .before .before .before .before in
     let a = s .args in
-    let z = «shape-of» .result in
-    let slot = «slot-of» .result in
+    let z = c .before .before .before .shape-of .result in
+    let slot = c .before .slot-of .result in
     let p = s .pre .1 .1 in (
-      lent-at (a .words .now) z (a .kind) slot («shape-of» .ensures .is) («slot-of» .ensures),
+      lent-at (a .words .now) z (a .kind) slot (c .before .before .before .shape-of .ensures .is) (c .before .slot-of .ensures),
       (
-        (rw («shape-of» .ensures .is) (p .0 .0), p .0 .1),
-        rw (rows-at (a .words .now) z (a .kind) slot («shape-of» .ensures .is) («slot-of» .ensures)) (p .1),
+        (rw (c .before .before .before .shape-of .ensures .is) (p .0 .0), p .0 .1),
+        rw (rows-at (a .words .now) z (a .kind) slot (c .before .before .before .shape-of .ensures .is) (c .before .slot-of .ensures)) (p .1),
       ),
     )
 
 returns : tie.Need-returns
 returns c =
-    let s = «start» in
+    let s = c .before .before .before .before .before .before .before .before .before in
     let a = s .args in
     let w = a .words .now in
     let e = entity (a .index) (a .version) in
-    subst (λ (z : Shape). Becomes w («insert-in» .last .0) (onStorage (onSet (a .kind) (insertRow e (valueOf (z .stride) (a .x)))) (meaning w))) («shape-of» .ensures .is)
-    (only-becomes w («shape-of» .result) (a .kind) («slot-of» .result) («shape-of» .ensures .is) («slot-of» .ensures) («insert-in» .last .0)
-    (insertRow e (valueOf («shape-of» .result .stride) (a .x))) (s .pre .0) («insert-in» .ensures))
+    subst (λ (z : Shape). Becomes w (c .before .before .insert-in .last .0) (onStorage (onSet (a .kind) (insertRow e (valueOf (z .stride) (a .x)))) (meaning w))) (c .before .before .before .before .before .before .shape-of .ensures .is)
+    (only-becomes w (c .before .before .before .before .before .before .shape-of .result) (a .kind) (c .before .before .before .before .slot-of .result) (c .before .before .before .before .before .before .shape-of .ensures .is) (c .before .before .before .before .slot-of .ensures) (c .before .before .insert-in .last .0)
+    (insertRow e (valueOf (c .before .before .before .before .before .before .shape-of .result .stride) (a .x))) (s .pre .0) (c .before .before .insert-in .ensures))
 
 pub insert-spec : {M : Type 1} → statement M
 insert-spec =

@@ -11,26 +11,26 @@ use Rattle.kinds.proofs.remove.Statement.{statement}
 use Rattle.kinds.proofs.remove.Tie as tie
 
 shape-of-requires : tie.Need-shape-of-requires
-shape-of-requires c κs = let s = «start» in header-long (s .args .words .now) (s .pre .0) CAPACITY (omega arith)
+shape-of-requires c κs = let s = c .before .before in header-long (s .args .words .now) (s .pre .0) CAPACITY (omega arith)
 
 remove-in-requires : tie.Need-remove-in-requires
 remove-in-requires c κs =
-    let a = «start» .args in
-    lent-at (a .words .now) («shape-of» .result) (a .kind) («slot-of» .result) («shape-of» .ensures .is) («slot-of» .ensures)
+    let a = c .before .before .before .before .before .before .args in
+    lent-at (a .words .now) (c .before .before .before .shape-of .result) (a .kind) (c .before .slot-of .result) (c .before .before .before .shape-of .ensures .is) (c .before .slot-of .ensures)
 
 returns : tie.Need-returns
 returns c =
-    let s = «start» in
+    let s = c .before .before .before .before .before .before .before .before .before in
     let a = s .args in
     let w = a .words .now in
-    let z = «shape-of» .result in
-    let slot = «slot-of» .result in
+    let z = c .before .before .before .before .before .before .shape-of .result in
+    let slot = c .before .before .before .before .slot-of .result in
     let e = entity (a .index) (a .version) in
     record {
-      becomes = only-becomes w z (a .kind) slot («shape-of» .ensures .is) («slot-of» .ensures) («remove-in» .last .0) (removeRow e) (s .pre .0) («remove-in» .ensures .change);
+      becomes = only-becomes w z (a .kind) slot (c .before .before .before .before .before .before .shape-of .ensures .is) (c .before .before .before .before .slot-of .ensures) (c .before .before .remove-in .last .0) (removeRow e) (s .pre .0) (c .before .before .remove-in .ensures .change);
       gives =
-          subst (λ (y : Shape). Gives (y .stride) e (kindSet w (a .kind)) («remove-in» .result)) («shape-of» .ensures .is)
-          (rw (rows-at w z (a .kind) slot («shape-of» .ensures .is) («slot-of» .ensures)) at («remove-in» .ensures .answer));
+          subst (λ (y : Shape). Gives (y .stride) e (kindSet w (a .kind)) (c .before .before .remove-in .result)) (c .before .before .before .before .before .before .shape-of .ensures .is)
+          (rw (rows-at w z (a .kind) slot (c .before .before .before .before .before .before .shape-of .ensures .is) (c .before .before .before .before .slot-of .ensures)) at (c .before .before .remove-in .ensures .answer));
     }
 
 pub remove-spec : {M : Type 1} → statement M

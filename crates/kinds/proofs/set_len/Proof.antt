@@ -6,17 +6,17 @@ use Rattle.kinds.proofs.set_len.Statement.{statement}
 use Rattle.kinds.proofs.set_len.Tie as tie
 
 shape-of-requires : tie.Need-shape-of-requires
-shape-of-requires c κs = let s = «start» in header-long (s .args .words .now) (s .pre .0) CAPACITY (omega arith)
+shape-of-requires c κs = let s = c .before in header-long (s .args .words .now) (s .pre .0) CAPACITY (omega arith)
 
 len-in-requires : tie.Need-len-in-requires
 len-in-requires c κs =
-    let a = «start» .args in
-    lent-at (a .words .now) («shape-of» .result) (a .kind) («slot-of» .result) («shape-of» .ensures .is) («slot-of» .ensures)
+    let a = c .before .before .before .args in
+    lent-at (a .words .now) (c .before .shape-of .result) (a .kind) (c .slot-of .result) (c .before .shape-of .ensures .is) (c .slot-of .ensures)
 
 returns : tie.Need-returns
 returns c =
-    let a = «start» .args in
-    rw (rows-at (a .words .now) («shape-of» .result) (a .kind) («slot-of» .result) («shape-of» .ensures .is) («slot-of» .ensures)) at («len-in» .ensures)
+    let a = c .before .before .before .before .args in
+    rw (rows-at (a .words .now) (c .before .before .shape-of .result) (a .kind) (c .before .slot-of .result) (c .before .before .shape-of .ensures .is) (c .before .slot-of .ensures)) at (c .len-in .ensures)
 
 pub set-len-spec : {M : Type 1} → statement M
 set-len-spec = tie.close (tie.spec shape-of-requires (λ c κs. search needs) len-in-requires returns)

@@ -12,24 +12,24 @@ use Rattle.kinds.proofs.value_of.Statement.{statement}
 use Rattle.kinds.proofs.value_of.Tie as tie
 
 shape-of-requires : tie.Need-shape-of-requires
-shape-of-requires c κs = let s = «start» in header-long (s .args .words .now) (s .pre .0) CAPACITY (omega arith)
+shape-of-requires c κs = let s = c .before in header-long (s .args .words .now) (s .pre .0) CAPACITY (omega arith)
 
 value-in-requires : tie.Need-value-in-requires
 value-in-requires c κs =
-    let s = «start» in
+    let s = c .before .before .before in
     let a = s .args in
-    let z = «shape-of» .result in
-    let slot = «slot-of» .result in (
-      lent-at (a .words .now) z (a .kind) slot («shape-of» .ensures .is) («slot-of» .ensures),
-      rw (rows-at (a .words .now) z (a .kind) slot («shape-of» .ensures .is) («slot-of» .ensures)) (s .pre .1 .1),
+    let z = c .before .shape-of .result in
+    let slot = c .slot-of .result in (
+      lent-at (a .words .now) z (a .kind) slot (c .before .shape-of .ensures .is) (c .slot-of .ensures),
+      rw (rows-at (a .words .now) z (a .kind) slot (c .before .shape-of .ensures .is) (c .slot-of .ensures)) (s .pre .1 .1),
     )
 
 returns : tie.Need-returns
 returns c =
-    let a = «start» .args in
+    let a = c .before .before .before .before .args in
     let w = a .words .now in
-    subst (λ (z : Shape). valueOf (z .stride) («value-in» .result) ≡ getD (kindSet w (a .kind)) (a .place) noRow .value) («shape-of» .ensures .is)
-    (rw (rows-at w («shape-of» .result) (a .kind) («slot-of» .result) («shape-of» .ensures .is) («slot-of» .ensures)) at («value-in» .ensures))
+    subst (λ (z : Shape). valueOf (z .stride) (c .value-in .result) ≡ getD (kindSet w (a .kind)) (a .place) noRow .value) (c .before .before .shape-of .ensures .is)
+    (rw (rows-at w (c .before .before .shape-of .result) (a .kind) (c .before .slot-of .result) (c .before .before .shape-of .ensures .is) (c .before .slot-of .ensures)) at (c .value-in .ensures))
 
 pub value-of-spec : {M : Type 1} → statement M
 value-of-spec = tie.close (tie.spec shape-of-requires (λ c κs. search needs) value-in-requires returns)

@@ -11,6 +11,9 @@ use Rattle.memory.proofs.EmptyStore.{made}
 use Rattle.memory.proofs.empty.make.Statement.{statement}
 use Rattle.memory.proofs.empty.make.Tie as tie
 
+clear-requires : tie.Need-clear-requires
+clear-requires c κs = let s = c .before .before .before in omega (arith, c .before .words-needed .ensures, columnStart-needed (s .args .n) (s .args .k), s .pre .1)
+
 put-table-requires : tie.Need-put-table-requires
 put-table-requires c κs =
     let a = c .before .before .before .before .before .before .before .args in
@@ -47,4 +50,4 @@ returns c =
 pub make-spec : {M : Type 1} → statement M
 make-spec =
     tie.close
-    (tie.spec (λ c κs. search needs) (λ c κs. search needs) put-table-requires (λ c. search needs) slice-write-words (λ c. search needs) slice-write-words-2 (λ c. search needs) slice-write-words-3 same-length returns)
+    (tie.spec (λ c κs. search needs) clear-requires put-table-requires (λ c. search needs) slice-write-words (λ c. search needs) slice-write-words-2 (λ c. search needs) slice-write-words-3 same-length returns)
