@@ -13,6 +13,7 @@ use Rattle.model.proofs.BoolLaws.{bool-cases}
 use Rattle.model.specs.Store.{Store}
 use Rattle.words.specs.Part.{between}
 use Rattle.words.proofs.Part.{between-none, between-split, between-step, between-in}
+use Rattle.words.specs.declared.Shape.{Shape}
 use Rattle.component.specs.Answers.{Finds}
 use Rattle.component.specs.declared.Found.{Found}
 use Rattle.component.specs.declared.Found.the-variants.{At, Nothing}
@@ -52,9 +53,9 @@ module _ {m : Store} {start end : ℕ} (e : Entity) (c : ℕ) (some : start < en
   status-others h = rw parts (bool-cases (held e (setOf sets k)) (λ t. rw (t, h)) (λ t. rw t))
 
   -- r is what a lookup in the first new kind's sparse set found
-  module _ (n : ℕ) {j : ℕ} {r : Found} (q : j ≡ k) (F : Finds n e (setOf sets j) r) where
-    first : (x : Found) → r ≡ x → Finds n e (setOf sets k) x
-    first x z = subst (λ (i : ℕ). Finds n e (setOf sets i) x) q (subst (Finds n e (setOf sets j)) z F)
+  module _ (z : Shape) {j : ℕ} {r : Found} (q : j ≡ k) (F : Finds z e (setOf sets j) r) where
+    first : (x : Found) → r ≡ x → Finds z e (setOf sets k) x
+    first x t = subst (λ (i : ℕ). Finds z e (setOf sets i) x) q (subst (Finds z e (setOf sets j)) t F)
 
     pub status-first : r ≡ Nothing → Incomplete ≡ statusIn e (between start end (orderOf m)) c sets
     status-first z = rw (parts, first Nothing z)

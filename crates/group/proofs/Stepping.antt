@@ -26,6 +26,7 @@ use Rattle.group.specs.Metadata.{orderOf, Describes, Stands}
 use Rattle.group.specs.Steps.{swapKinds, leftAfter, StepsUp}
 use Rattle.group.proofs.Counts.{placed}
 use Rattle.words.proofs.Part.{between-in}
+use Rattle.words.specs.Shape.{shapeOf}
 use Rattle.group.proofs.EachKind.{kinds-idle}
 use Rattle.group.proofs.Storing.{becomes-then, storage-becomes}
 
@@ -33,8 +34,8 @@ use Rattle.group.proofs.Storing.{becomes-then, storage-becomes}
 pub set-room : (w : List ℕ) → Arranged w → (k : ℕ) → In (meaning w .kinds) k → length (setOf (meaning w .storage .sets) k) ≤ MAX-ENTITIES
 set-room w A k i =
     let S = known-slot w A k i in
-    let n : length (setOf (meaning w .storage .sets) k) ≡ length (rowsOf (capacityOf w) (slotOf w k) w) = ap length (S .rows) in
-    omega (arith, length-rows (capacityOf w) (columnOf (capacityOf w) (slotOf w k) w), S .lent .sound .linked .room, S .lent .small)
+    let n : length (setOf (meaning w .storage .sets) k) ≡ length (rowsOf (shapeOf w) (slotOf w k) w) = ap length (S .rows) in
+    omega (arith, length-rows (shapeOf w) (columnOf (shapeOf w) (slotOf w k) w), S .lent .sound .linked .room, S .lent .shaped .small)
 
 -- the entity can be swapped to place c in every kind of group g, whose metadata and count were read
 module _ {w₀ : List ℕ} {e : Entity} {g len c : ℕ} {d : GroupMetadata} (A : Arranged w₀) (S : Stands (meaning w₀) g d len) (R : Swappable e (located (meaning w₀ .storage .layout) g .kinds) c (meaning w₀ .storage .sets)) where

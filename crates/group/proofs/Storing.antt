@@ -10,6 +10,7 @@ use Rattle.memory.specs.Meaning.{meaning}
 use Rattle.memory.specs.Arranged.{Becomes}
 use Rattle.memory.proofs.Becomes.{capacity-means, becomes-next}
 use Rattle.model.proofs.ListLaws.{drop-step}
+use Rattle.words.specs.Shape.{shapeOf, shape}
 
 pub becomes-then : (w₀ w w′ : List ℕ) (f : Storage → Storage) (h : Store → Store) → Becomes w₀ w (onStorage f (meaning w₀)) → Becomes w w′ (h (meaning w))
     → Becomes w₀ w′ (h (onStorage f (meaning w₀)))
@@ -21,6 +22,9 @@ storage-becomes w w′ m f h e B = subst (λ (s : Storage). Becomes w w′ (onSt
 
 pub capacity-kept : (w₀ w : List ℕ) (f : Storage → Storage) → Becomes w₀ w (onStorage f (meaning w₀)) → capacityOf w ≡ capacityOf w₀
 capacity-kept w₀ w f B = sym (capacity-means w) ∙ ap (λ (m : Store). m .settings .capacity) (B .means) ∙ capacity-means w₀
+
+pub shape-kept : (w₀ w : List ℕ) (f : Storage → Storage) → Becomes w₀ w (onStorage f (meaning w₀)) → shapeOf w ≡ shapeOf w₀
+shape-kept w₀ w f B = ap shape (capacity-kept w₀ w f B)
 
 -- ---- loops that change the storage step by step
 

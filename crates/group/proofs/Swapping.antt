@@ -12,9 +12,10 @@ use Rattle.model.specs.Sound.{In, Distinct}
 use Rattle.model.proofs.KindLists.{in-left, not-both, distinct-apart}
 use Rattle.words.specs.Part.{between}
 use Rattle.words.proofs.Part.{between-none, between-split, between-more, between-in}
+use Rattle.words.specs.declared.Shape.{Shape}
+use Rattle.words.specs.Shape.{shapeOf}
 use Rattle.component.specs.Columns.{rowsOf}
 use Rattle.component.specs.Changes.{Lent, Only}
-use Rattle.memory.specs.Header.{capacityOf}
 use Rattle.memory.specs.Meaning.{meaning}
 use Rattle.memory.specs.Arranged.{Arranged, Becomes}
 use Rattle.memory.proofs.Becomes.{stays, sets-wide}
@@ -24,7 +25,7 @@ use Rattle.group.specs.Ready.{Swappable}
 use Rattle.group.specs.Metadata.{orderOf, PlacesKnown}
 use Rattle.group.specs.Steps.{swapKinds}
 use Rattle.group.proofs.EachKind.{eachKind, each-append, setOf-each, each-kinds}
-use Rattle.group.proofs.Storing.{becomes-then, capacity-kept}
+use Rattle.group.proofs.Storing.{becomes-then, shape-kept}
 use Rattle.group.proofs.InWords.{order-part-once}
 
 abbrev pub eachSwap : Entity → ℕ → List ℕ → Storage → Storage
@@ -89,23 +90,23 @@ module _ {w₀ : List ℕ} {e : Entity} {start end c : ℕ} (A : Arranged w₀) 
         pub swap-known : In (meaning w .kinds) j
         swap-known = subst (λ (m : Store). In (m .kinds) j) (sym (S .soFar .means)) (subst (In (meaning w₀ .kinds)) (sym is-kind) (L .known k inside))
 
-        -- n is the capacity, as it was read before the loop
-        module _ {n slot : ℕ} (m : n ≡ capacityOf w₀) (at : InSlot w j slot) where
-          capacity : n ≡ capacityOf w
-          capacity = m ∙ sym (capacity-kept w₀ w (eachSwap e c before) (S .soFar))
+        -- z is the columns' shape, as it was read before the loop
+        module _ {z : Shape} {slot : ℕ} (m : z ≡ shapeOf w₀) (at : InSlot w j slot) where
+          still : z ≡ shapeOf w
+          still = m ∙ sym (shape-kept w₀ w (eachSwap e c before) (S .soFar))
 
-          rows : rowsOf n slot w ≡ setOf (meaning w₀ .storage .sets) k
-          rows = rows-at w n j slot capacity at ∙ ap (setOf (meaning w .storage .sets)) is-kind ∙ same-set
+          rows : rowsOf z slot w ≡ setOf (meaning w₀ .storage .sets) k
+          rows = rows-at w z j slot still at ∙ ap (setOf (meaning w .storage .sets)) is-kind ∙ same-set
 
-          pub swap-lent : Lent n slot w
-          swap-lent = lent-at w n j slot capacity at
+          pub swap-lent : Lent z slot w
+          swap-lent = lent-at w z j slot still at
 
-          pub swap-asks : (held e (rowsOf n slot w) ≡ true) × (c < length (rowsOf n slot w))
+          pub swap-asks : (held e (rowsOf z slot w) ≡ true) × (c < length (rowsOf z slot w))
           swap-asks = rw rows (R .holds k inside, R .room k inside)
 
-          pub swap-turn : {w′ : List ℕ} → Only n slot (swapTo e c) w w′ → Swapping w₀ e start end c w′ (p + 1)
+          pub swap-turn : {w′ : List ℕ} → Only z slot (swapTo e c) w w′ → Swapping w₀ e start end c w′ (p + 1)
           swap-turn {w′} o =
-              let C : Becomes w w′ (onStorage (onSet j (swapTo e c)) (meaning w)) = only-becomes w n j slot capacity at w′ (swapTo e c) (S .soFar .arranged) o in
+              let C : Becomes w w′ (onStorage (onSet j (swapTo e c)) (meaning w)) = only-becomes w z j slot still at w′ (swapTo e c) (S .soFar .arranged) o in
               let was : List SparseSet = eachKind (swapTo e c) before (meaning w₀ .storage .sets) in
               let sets : set was j (swapTo e c (setOf was j)) ≡ eachKind (swapTo e c) (between start (p + 1) (orderOf (meaning w₀))) (meaning w₀ .storage .sets) =
               ap (λ (x : ℕ). set was x (swapTo e c (setOf was x))) is-kind

@@ -40,13 +40,13 @@ fn swap_kinds(
     requires { ⌜ Swappable (entity index version) (between (metadata .«storage_start») (metadata .«storage_end») (orderOf (meaning (now words)))) «swap_index» (meaning (now words) .storage .sets) ⌝ }
     ensures { λ _. ⌜ Becomes (now (words .entry)) (now (words .exit)) (onStorage (swapKinds (entity index version) «swap_index» (between (metadata .«storage_start») (metadata .«storage_end») (orderOf (meaning (now (words .entry)))))) (meaning (now (words .entry)))) ⌝ }
 {
-    let n = words::word(words, words::CAPACITY);
+    let z = words::shape_of(words);
     let end = metadata.storage_end;
     let mut place = metadata.storage_start;
     while place < end {
         let kind = kind_at(words, place);
         let slot = kinds::slot_of(words, kind);
-        component::slots::swap_to_in(words, n, slot, index, version, swap_index);
+        component::slots::swap_to_in(words, z, slot, index, version, swap_index);
         place += 1;
     }
 }

@@ -9,12 +9,14 @@ use lib.Dec.{eqb}
 use lib.ListN.{length, getD}
 use Rattle.model.specs.Numbers.{MAX-KINDS}
 use Rattle.model.specs.Model.{Entity}
-use Rattle.words.specs.Offsets.{columnStart, COLUMN-KIND, GROUP-COUNTS, ROWS, ENTITIES, GROUP-PLACES, LAYOUT}
+use Rattle.words.specs.Offsets.{COLUMN-KIND, GROUP-COUNTS, ROWS, ENTITIES, GROUP-PLACES, LAYOUT}
 use Rattle.words.specs.Part.{between}
 use Rattle.model.proofs.BoolLaws.{by-eq}
 use Rattle.words.specs.Counted.{howMany}
 use Rattle.words.specs.Decides.{Decides, Each}
 use Rattle.words.proofs.Counted.{none-counted, counted-none}
+use Rattle.words.specs.Shape.{columnStart}
+use Rattle.words.specs.declared.Shape.{Shape}
 use Rattle.component.specs.Columns.{rowsOf}
 use Rattle.component.specs.Changes.{Lent}
 use Rattle.sound_columns.specs.Rows.{entityIn, keyAt}
@@ -32,17 +34,17 @@ use Rattle.sound_columns.proofs.SlotLaws.{key-word}
 
 -- ---- a group's numbers, as they were read
 
-pub new-moved : (n : ℕ) (w : List ℕ) (g f : ℕ) (r : GroupMetadata) → ReadMetadata (layoutArrays w) f g r → (b : Bool)
-    → Decides b (Over (LAYOUT + r .«new_storage_start») (LAYOUT + r .«storage_end») (HeadOk n w g (LAYOUT + r .«storage_start»))) → Decides b (NewOk n w f g)
-new-moved n w g f r R b d = rw (R .new, R .end, R .start) at d
+pub new-moved : (z : Shape) (w : List ℕ) (g f : ℕ) (r : GroupMetadata) → ReadMetadata (layoutArrays w) f g r → (b : Bool)
+    → Decides b (Over (LAYOUT + r .«new_storage_start») (LAYOUT + r .«storage_end») (HeadOk z w g (LAYOUT + r .«storage_start»))) → Decides b (NewOk z w f g)
+new-moved z w g f r R b d = rw (R .new, R .end, R .start) at d
 
-pub count-moved : (n : ℕ) (w : List ℕ) (g f : ℕ) (r : GroupMetadata) (whole prior : ℕ) → g < GROUP-PLACES → ReadMetadata (layoutArrays w) f g r → length (rowsAt n w (LAYOUT + r .«storage_start»)) ≡ whole
+pub count-moved : (z : Shape) (w : List ℕ) (g f : ℕ) (r : GroupMetadata) (whole prior : ℕ) → g < GROUP-PLACES → ReadMetadata (layoutArrays w) f g r → length (rowsAt z w (LAYOUT + r .«storage_start»)) ≡ whole
     → ReadPrior w GROUP-COUNTS (r .first) g whole prior → (b : Bool)
-    → Decides b (CountOk n w (slotOf w (getD w (LAYOUT + r .«storage_start») 0)) (LAYOUT + r .«new_storage_start») (LAYOUT + r .«storage_end») prior (countAt w g)) → Decides b (GroupCounted n w f g)
-count-moved n w g f r whole prior h R e q b d =
-    let o : prior ≡ priorOf (between GROUP-COUNTS ENTITIES w) (startOf (layoutArrays w .ends) f) g (length (rowsAt n w (firstAt w f))) =
+    → Decides b (CountOk z w (slotOf w (getD w (LAYOUT + r .«storage_start») 0)) (LAYOUT + r .«new_storage_start») (LAYOUT + r .«storage_end») prior (countAt w g)) → Decides b (GroupCounted z w f g)
+count-moved z w g f r whole prior h R e q b d =
+    let o : prior ≡ priorOf (between GROUP-COUNTS ENTITIES w) (startOf (layoutArrays w .ends) f) g (length (rowsAt z w (firstAt w f))) =
     q .is ∙ sym (prior-count-word w (r .first) g whole h)
-    ∙ ap₂ (λ (s x : ℕ). priorOf (between GROUP-COUNTS ENTITIES w) s g x) (R .first) (sym e ∙ ap (λ (i : ℕ). length (rowsAt n w (LAYOUT + i))) (R .start)) in
+    ∙ ap₂ (λ (s x : ℕ). priorOf (between GROUP-COUNTS ENTITIES w) s g x) (R .first) (sym e ∙ ap (λ (i : ℕ). length (rowsAt z w (LAYOUT + i))) (R .start)) in
     rw (o, R .new, R .end, R .start) at d
 
 -- ---- words that differ, counted
@@ -83,29 +85,29 @@ module _ (w : List ℕ) (a b : ℕ) where
 
 -- ---- two slots, whose columns start at x and y
 
-module _ (n s h c x y : ℕ) (w : List ℕ) (ex : x ≡ columnStart n s) (ey : y ≡ columnStart n h) (S : Lent n s w) (H : Lent n h w)
-    (cs : c ≤ length (rowsOf n s w)) (ch : c ≤ length (rowsOf n h w)) where
+module _ (z : Shape) (s h c x y : ℕ) (w : List ℕ) (ex : x ≡ columnStart z s) (ey : y ≡ columnStart z h) (S : Lent z s w) (H : Lent z h w)
+    (cs : c ≤ length (rowsOf z s w)) (ch : c ≤ length (rowsOf z h w)) where
   abbrev first : ℕ → Entity
   first i = entityIn w (x + ROWS + 2 * i)
 
   abbrev second : ℕ → Entity
   second i = entityIn w (y + ROWS + 2 * i)
 
-  at-first : (i : ℕ) → i < c → keyAt n w s i ≡ first i
-  at-first i lt = key-word n s w S i (omega arith) ∙ ap (λ (z : ℕ). entityIn w (z + ROWS + 2 * i)) (sym ex)
+  at-first : (i : ℕ) → i < c → keyAt z w s i ≡ first i
+  at-first i lt = key-word z s w S i (omega arith) ∙ ap (λ (b : ℕ). entityIn w (b + ROWS + 2 * i)) (sym ex)
 
-  at-second : (i : ℕ) → i < c → keyAt n w h i ≡ second i
-  at-second i lt = key-word n h w H i (omega arith) ∙ ap (λ (z : ℕ). entityIn w (z + ROWS + 2 * i)) (sym ey)
+  at-second : (i : ℕ) → i < c → keyAt z w h i ≡ second i
+  at-second i lt = key-word z h w H i (omega arith) ∙ ap (λ (b : ℕ). entityIn w (b + ROWS + 2 * i)) (sym ey)
 
-  pub even-words : Each c (λ i. keyAt n w s i ≡ keyAt n w h i) → Each (2 * c) (SameWord w (x + ROWS) (y + ROWS))
+  pub even-words : Each c (λ i. keyAt z w s i ≡ keyAt z w h i) → Each (2 * c) (SameWord w (x + ROWS) (y + ROWS))
   even-words f = entities-words w (x + ROWS) (y + ROWS) c (λ i lt. sym (at-first i lt) ∙ f i lt ∙ at-second i lt)
 
-  pub words-even : Each (2 * c) (SameWord w (x + ROWS) (y + ROWS)) → Each c (λ i. keyAt n w s i ≡ keyAt n w h i)
+  pub words-even : Each (2 * c) (SameWord w (x + ROWS) (y + ROWS)) → Each c (λ i. keyAt z w s i ≡ keyAt z w h i)
   words-even f i lt = at-first i lt ∙ words-entities w (x + ROWS) (y + ROWS) c f i lt ∙ sym (at-second i lt)
 
 -- ---- a table of the kinds seen
 
-pub seen-own : (n : ℕ) (w seen kinds : List ℕ) (reg : ℕ) → Marked seen kinds → ((s : ℕ) → s < reg → headAt n w s COLUMN-KIND < MAX-KINDS)
-    → (b : Bool) → Decides b (Each reg (SeenOk n w seen)) → Decides b (Each reg (OwnOk n w kinds))
-seen-own n w seen kinds reg M small true O = λ s h o. sym (M (headAt n w s COLUMN-KIND) (small s h)) ∙ eq-eqb _ _ (O s h o)
-seen-own n w seen kinds reg M small false N = λ O. N (λ s h o. eqb-true (getD seen (headAt n w s COLUMN-KIND) 0) 1 (M (headAt n w s COLUMN-KIND) (small s h) ∙ O s h o))
+pub seen-own : (z : Shape) (w seen kinds : List ℕ) (reg : ℕ) → Marked seen kinds → ((s : ℕ) → s < reg → headAt z w s COLUMN-KIND < MAX-KINDS)
+    → (b : Bool) → Decides b (Each reg (SeenOk z w seen)) → Decides b (Each reg (OwnOk z w kinds))
+seen-own z w seen kinds reg M small true O = λ s h o. sym (M (headAt z w s COLUMN-KIND) (small s h)) ∙ eq-eqb _ _ (O s h o)
+seen-own z w seen kinds reg M small false N = λ O. N (λ s h o. eqb-true (getD seen (headAt z w s COLUMN-KIND) 0) 1 (M (headAt z w s COLUMN-KIND) (small s h) ∙ O s h o))

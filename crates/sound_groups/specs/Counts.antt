@@ -9,6 +9,7 @@ use Rattle.words.specs.Offsets.{ENTITIES, GROUP-COUNTS}
 use Rattle.model.specs.Model.{Entity, SparseSet, held}
 use Rattle.words.specs.Part.{between}
 use Rattle.words.specs.Decides.{Each}
+use Rattle.words.specs.declared.Shape.{Shape}
 use Rattle.component.specs.Columns.{rowsOf}
 use Rattle.layout.specs.Layout.{startOf}
 use Rattle.layout.specs.Group.{priorOf}
@@ -23,31 +24,31 @@ abbrev pub SameWord : List ℕ → ℕ → ℕ → ℕ → Type 0
 SameWord w a b i = getD w (a + i) 0 ≡ getD w (b + i) 0
 
 -- the rows of the kind at word j
-abbrev pub rowsAt : ℕ → List ℕ → ℕ → SparseSet
-rowsAt n w j = rowsOf n (slotOf w (getD w j 0)) w
+abbrev pub rowsAt : Shape → List ℕ → ℕ → SparseSet
+rowsAt z w j = rowsOf z (slotOf w (getD w j 0)) w
 
 -- the first c rows of the kind at word j have h's entities
-pub record EvenOk (n : ℕ) (w : List ℕ) (h c j : ℕ) : Type 0 where
-  pub fits : c ≤ length (rowsAt n w j)
-  pub even : Each c (λ i. keyAt n w (slotOf w (getD w j 0)) i ≡ keyAt n w h i)
+pub record EvenOk (z : Shape) (w : List ℕ) (h c j : ℕ) : Type 0 where
+  pub fits : c ≤ length (rowsAt z w j)
+  pub even : Each c (λ i. keyAt z w (slotOf w (getD w j 0)) i ≡ keyAt z w h i)
 
 -- the entity holds all these kinds
-abbrev pub HoldsAll : ℕ → List ℕ → ℕ → ℕ → Entity → Type 0
-HoldsAll n w a e x = Over a e (λ j. held x (rowsAt n w j) ≡ true)
+abbrev pub HoldsAll : Shape → List ℕ → ℕ → ℕ → Entity → Type 0
+HoldsAll z w a e x = Over a e (λ j. held x (rowsAt z w j) ≡ true)
 
 -- the group has count c, the next smaller one b (the smallest: as many as h has rows)
-pub record CountOk (n : ℕ) (w : List ℕ) (h a e b c : ℕ) : Type 0 where
+pub record CountOk (z : Shape) (w : List ℕ) (h a e b c : ℕ) : Type 0 where
   pub less : c ≤ b
-  pub inside : b ≤ length (rowsOf n h w)
-  pub even : Over a e (EvenOk n w h c)
-  pub past : Over c b (λ i. HoldsAll n w a e (keyAt n w h i) → ⊥)
+  pub inside : b ≤ length (rowsOf z h w)
+  pub even : Over a e (EvenOk z w h c)
+  pub past : Over c b (λ i. HoldsAll z w a e (keyAt z w h i) → ⊥)
 
 -- group g of family f
-abbrev pub GroupCounted : ℕ → List ℕ → ℕ → ℕ → Type 0
-GroupCounted n w f g =
-    CountOk n w (slotOf w (getD w (firstAt w f) 0)) (fromAt w f g) (toAt w f g)
-    (priorOf (between GROUP-COUNTS ENTITIES w) (startOf (layoutArrays w .ends) f) g (length (rowsAt n w (firstAt w f))))
+abbrev pub GroupCounted : Shape → List ℕ → ℕ → ℕ → Type 0
+GroupCounted z w f g =
+    CountOk z w (slotOf w (getD w (firstAt w f) 0)) (fromAt w f g) (toAt w f g)
+    (priorOf (between GROUP-COUNTS ENTITIES w) (startOf (layoutArrays w .ends) f) g (length (rowsAt z w (firstAt w f))))
     (countAt w g)
 
-abbrev pub CountedOk : ℕ → List ℕ → ℕ → Type 0
-CountedOk n w g = GroupCounted n w (groupFamilyAt w g) g
+abbrev pub CountedOk : Shape → List ℕ → ℕ → Type 0
+CountedOk z w g = GroupCounted z w (groupFamilyAt w g) g

@@ -1,5 +1,6 @@
 // The groups' counts: a group's first places hold the same entities in each of its columns, and past them each lacks a kind.
 use layout::starts::prior_of;
+use words::Shape;
 ghost use Prim.Native.Nat.{_+_, _*_, _<_, _≤_};
 ghost use lib.ListN.{length};
 ghost use Rattle.model.specs.Numbers.{MAX-ENTITIES, MAX-GROUP-COUNT};
@@ -35,33 +36,33 @@ fn same_rows(words: &[u32], a: usize, b: usize, c: usize) -> bool
 }
 
 // Has the kind at word j the entities of slot h in its first c rows?
-fn even_ok(words: &[u32], n: usize, h: usize, c: usize, j: usize) -> bool
-    requires { ⌜ (LAYOUT-ARITIES ≤ length (now words)) × (j < LAYOUT-ARITIES) × Lent n h (now words) × (c ≤ length (rowsOf n h (now words))) ⌝ }
-    requires { ⌜ KindAt n (now words) j ⌝ }
-    ensures { λ r. ⌜ Decides r (EvenOk n (now (words .entry)) h c j) ⌝ }
+fn even_ok(words: &[u32], z: Shape, h: usize, c: usize, j: usize) -> bool
+    requires { ⌜ (LAYOUT-ARITIES ≤ length (now words)) × (j < LAYOUT-ARITIES) × Lent z h (now words) × (c ≤ length (rowsOf z h (now words))) ⌝ }
+    requires { ⌜ KindAt z (now words) j ⌝ }
+    ensures { λ r. ⌜ Decides r (EvenOk z (now (words .entry)) h c j) ⌝ }
 {
     let kind = words[j] as usize;
     let s = words[words::TABLE + kind] as usize;
-    let len = component::slots::len_in(words, n, s);
+    let len = component::slots::len_in(words, z, s);
     if len < c {
         return false;
     }
-    let a = words::column_start(n, s) + words::ROWS;
-    let b = words::column_start(n, h) + words::ROWS;
+    let a = words::column_start(z, s) + words::ROWS;
+    let b = words::column_start(z, h) + words::ROWS;
     if !same_rows(words, a, b, c) {
         return false;
     }
     true
 }
 
-fn span_even(words: &[u32], n: usize, h: usize, c: usize, from: usize, to: usize) -> bool
-    requires { ⌜ (LAYOUT-ARITIES ≤ length (now words)) × Lent n h (now words) × (c ≤ length (rowsOf n h (now words))) ⌝ }
-    requires { ⌜ KindsAt n (now words) from to ⌝ }
-    ensures { λ r. ⌜ Decides r (Over from to (EvenOk n (now (words .entry)) h c)) ⌝ }
+fn span_even(words: &[u32], z: Shape, h: usize, c: usize, from: usize, to: usize) -> bool
+    requires { ⌜ (LAYOUT-ARITIES ≤ length (now words)) × Lent z h (now words) × (c ≤ length (rowsOf z h (now words))) ⌝ }
+    requires { ⌜ KindsAt z (now words) from to ⌝ }
+    ensures { λ r. ⌜ Decides r (Over from to (EvenOk z (now (words .entry)) h c)) ⌝ }
 {
     let mut j = from;
     while j < to {
-        if !even_ok(words, n, h, c, j) {
+        if !even_ok(words, z, h, c, j) {
             return false;
         }
         j += 1;
@@ -70,16 +71,16 @@ fn span_even(words: &[u32], n: usize, h: usize, c: usize, from: usize, to: usize
 }
 
 // Has the entity the kinds at the words from `from` on, below `to`?
-fn holds_all(words: &[u32], n: usize, index: u32, version: u32, from: usize, to: usize) -> bool
+fn holds_all(words: &[u32], z: Shape, index: u32, version: u32, from: usize, to: usize) -> bool
     requires { ⌜ LAYOUT-ARITIES ≤ length (now words) ⌝ }
-    requires { ⌜ KindsAt n (now words) from to ⌝ }
-    ensures { λ r. ⌜ Decides r (HoldsAll n (now (words .entry)) from to (entity index version)) ⌝ }
+    requires { ⌜ KindsAt z (now words) from to ⌝ }
+    ensures { λ r. ⌜ Decides r (HoldsAll z (now (words .entry)) from to (entity index version)) ⌝ }
 {
     let mut j = from;
     while j < to {
         let kind = words[j] as usize;
         let s = words[words::TABLE + kind] as usize;
-        if !component::slots::holds_in(words, n, s, index, version) {
+        if !component::slots::holds_in(words, z, s, index, version) {
             return false;
         }
         j += 1;
@@ -88,28 +89,28 @@ fn holds_all(words: &[u32], n: usize, index: u32, version: u32, from: usize, to:
 }
 
 // Does the entity in row i of slot h lack one of the kinds?
-fn lacks(words: &[u32], n: usize, h: usize, from: usize, to: usize, i: usize) -> bool
-    requires { ⌜ (LAYOUT-ARITIES ≤ length (now words)) × Lent n h (now words) × (i < length (rowsOf n h (now words))) ⌝ }
-    requires { ⌜ KindsAt n (now words) from to ⌝ }
-    ensures { λ r. ⌜ Decides r (HoldsAll n (now (words .entry)) from to (keyAt n (now (words .entry)) h i) → ⊥) ⌝ }
+fn lacks(words: &[u32], z: Shape, h: usize, from: usize, to: usize, i: usize) -> bool
+    requires { ⌜ (LAYOUT-ARITIES ≤ length (now words)) × Lent z h (now words) × (i < length (rowsOf z h (now words))) ⌝ }
+    requires { ⌜ KindsAt z (now words) from to ⌝ }
+    ensures { λ r. ⌜ Decides r (HoldsAll z (now (words .entry)) from to (keyAt z (now (words .entry)) h i) → ⊥) ⌝ }
 {
-    let at = words::column_start(n, h) + words::ROWS + 2 * i;
+    let at = words::column_start(z, h) + words::ROWS + 2 * i;
     let index = words[at];
     let version = words[at + 1];
-    if holds_all(words, n, index, version, from, to) {
+    if holds_all(words, z, index, version, from, to) {
         return false;
     }
     true
 }
 
-fn rows_lack(words: &[u32], n: usize, h: usize, from: usize, to: usize, c: usize, b: usize) -> bool
-    requires { ⌜ (LAYOUT-ARITIES ≤ length (now words)) × Lent n h (now words) × (b ≤ length (rowsOf n h (now words))) ⌝ }
-    requires { ⌜ KindsAt n (now words) from to ⌝ }
-    ensures { λ r. ⌜ Decides r (Over c b (λ i. HoldsAll n (now (words .entry)) from to (keyAt n (now (words .entry)) h i) → ⊥)) ⌝ }
+fn rows_lack(words: &[u32], z: Shape, h: usize, from: usize, to: usize, c: usize, b: usize) -> bool
+    requires { ⌜ (LAYOUT-ARITIES ≤ length (now words)) × Lent z h (now words) × (b ≤ length (rowsOf z h (now words))) ⌝ }
+    requires { ⌜ KindsAt z (now words) from to ⌝ }
+    ensures { λ r. ⌜ Decides r (Over c b (λ i. HoldsAll z (now (words .entry)) from to (keyAt z (now (words .entry)) h i) → ⊥)) ⌝ }
 {
     let mut i = c;
     while i < b {
-        if !lacks(words, n, h, from, to, i) {
+        if !lacks(words, z, h, from, to, i) {
             return false;
         }
         i += 1;
@@ -118,40 +119,40 @@ fn rows_lack(words: &[u32], n: usize, h: usize, from: usize, to: usize, c: usize
 }
 
 // Is c the count of the group with these new kinds, b being that of the next smaller one?
-fn count_ok(words: &[u32], n: usize, h: usize, from: usize, to: usize, b: usize, c: usize) -> bool
-    requires { ⌜ (LAYOUT-ARITIES ≤ length (now words)) × Lent n h (now words) ⌝ }
-    requires { ⌜ KindsAt n (now words) from to ⌝ }
-    ensures { λ r. ⌜ Decides r (CountOk n (now (words .entry)) h from to b c) ⌝ }
+fn count_ok(words: &[u32], z: Shape, h: usize, from: usize, to: usize, b: usize, c: usize) -> bool
+    requires { ⌜ (LAYOUT-ARITIES ≤ length (now words)) × Lent z h (now words) ⌝ }
+    requires { ⌜ KindsAt z (now words) from to ⌝ }
+    ensures { λ r. ⌜ Decides r (CountOk z (now (words .entry)) h from to b c) ⌝ }
 {
     if b < c {
         return false;
     }
-    if component::slots::len_in(words, n, h) < b {
+    if component::slots::len_in(words, z, h) < b {
         return false;
     }
-    if !span_even(words, n, h, c, from, to) {
+    if !span_even(words, z, h, c, from, to) {
         return false;
     }
-    if !rows_lack(words, n, h, from, to, c, b) {
+    if !rows_lack(words, z, h, from, to, c, b) {
         return false;
     }
     true
 }
 
-fn group_counted(words: &[u32], n: usize, families: usize, g: usize, f: usize) -> bool
-    requires { ⌜ Force n families (now words) ⌝ }
+fn group_counted(words: &[u32], z: Shape, families: usize, g: usize, f: usize) -> bool
+    requires { ⌜ Force z families (now words) ⌝ }
     requires { ⌜ (g < GROUP-PLACES) × InFamily (layoutArrays (now words)) f g ⌝ }
-    ensures { λ r. ⌜ Decides r (GroupCounted n (now (words .entry)) f g) ⌝ }
+    ensures { λ r. ⌜ Decides r (GroupCounted z (now (words .entry)) f g) ⌝ }
 {
     let metadata = layout::group_metadata::read(words, g, f);
     let first = words::LAYOUT + metadata.storage_start;
     let kind = words[first] as usize;
     let h = words[words::TABLE + kind] as usize;
-    let whole = component::slots::len_in(words, n, h);
+    let whole = component::slots::len_in(words, z, h);
     let b = prior_of(words, words::GROUP_COUNTS, metadata.first, g, whole);
     count_ok(
         words,
-        n,
+        z,
         h,
         words::LAYOUT + metadata.new_storage_start,
         words::LAYOUT + metadata.storage_end,
@@ -161,16 +162,16 @@ fn group_counted(words: &[u32], n: usize, families: usize, g: usize, f: usize) -
 }
 
 // Are all groups' counts right?
-pub fn are_counts(words: &[u32], n: usize, families: usize, groups: usize) -> bool
-    requires { ⌜ Force n families (now words) ⌝ }
+pub fn are_counts(words: &[u32], z: Shape, families: usize, groups: usize) -> bool
+    requires { ⌜ Force z families (now words) ⌝ }
     requires { ⌜ (groups ≤ MAX-GROUP-COUNT) × Each groups (λ g. InFamily (layoutArrays (now words)) (groupFamilyAt (now words) g) g) ⌝ }
-    ensures { λ r. ⌜ Decides r (Each groups (CountedOk n (now (words .entry)))) ⌝ }
+    ensures { λ r. ⌜ Decides r (Each groups (CountedOk z (now (words .entry)))) ⌝ }
 {
     let mut g = 0;
     while g < groups {
         if !group_counted(
             words,
-            n,
+            z,
             families,
             g,
             words[words::GROUP_FAMILIES + g] as usize,

@@ -1,6 +1,7 @@
 // The layout in force and the columns' heads: which group is a kind's own, and the kind's place in its family.
 use layout::starts::start_of;
 use sound_columns::table::head;
+use words::Shape;
 ghost use mathlib.Core.Path.{_≡_};
 ghost use Prim.Native.Nat.{ℕ, _+_, _<_, _≤_};
 ghost use lib.ListN.{length, getD};
@@ -15,30 +16,30 @@ ghost use Rattle.sound_columns.specs.Slots.{Slot, Room, headAt, Over};
 ghost use Rattle.sound_groups.specs.Spans.{KindAt, KindsAt, Force, HeadOk, NewOk, HeadsOk, OwnOk, Marked, SeenOk};
 
 // The head of the column of the kind at word j says its own group and its place in its family.
-fn head_ok(words: &[u32], n: usize, g: usize, first: usize, j: usize) -> bool
+fn head_ok(words: &[u32], z: Shape, g: usize, first: usize, j: usize) -> bool
     requires { ⌜ (LAYOUT-ARITIES ≤ length (now words)) × (first ≤ j) × (j < LAYOUT-ARITIES) × (g < GROUP-PLACES) ⌝ }
-    requires { ⌜ KindAt n (now words) j ⌝ }
-    ensures { λ r. ⌜ Decides r (HeadOk n (now (words .entry)) g first j) ⌝ }
+    requires { ⌜ KindAt z (now words) j ⌝ }
+    ensures { λ r. ⌜ Decides r (HeadOk z (now (words .entry)) g first j) ⌝ }
 {
     let kind = words[j] as usize;
     let s = words[words::TABLE + kind] as usize;
-    if head(words, n, s, words::OWN_GROUP) != g + 1 {
+    if head(words, z, s, words::OWN_GROUP) != g + 1 {
         return false;
     }
-    if head(words, n, s, words::PLACE_IN_FAMILY) != j - first {
+    if head(words, z, s, words::PLACE_IN_FAMILY) != j - first {
         return false;
     }
     true
 }
 
-fn span_ok(words: &[u32], n: usize, g: usize, first: usize, from: usize, to: usize) -> bool
+fn span_ok(words: &[u32], z: Shape, g: usize, first: usize, from: usize, to: usize) -> bool
     requires { ⌜ (LAYOUT-ARITIES ≤ length (now words)) × (first ≤ from) × (g < GROUP-PLACES) ⌝ }
-    requires { ⌜ KindsAt n (now words) from to ⌝ }
-    ensures { λ r. ⌜ Decides r (Over from to (HeadOk n (now (words .entry)) g first)) ⌝ }
+    requires { ⌜ KindsAt z (now words) from to ⌝ }
+    ensures { λ r. ⌜ Decides r (Over from to (HeadOk z (now (words .entry)) g first)) ⌝ }
 {
     let mut j = from;
     while j < to {
-        if !head_ok(words, n, g, first, j) {
+        if !head_ok(words, z, g, first, j) {
             return false;
         }
         j += 1;
@@ -47,15 +48,15 @@ fn span_ok(words: &[u32], n: usize, g: usize, first: usize, from: usize, to: usi
 }
 
 // The heads of the new kinds of group g of family f.
-fn new_ok(words: &[u32], n: usize, families: usize, g: usize, f: usize) -> bool
-    requires { ⌜ Force n families (now words) ⌝ }
+fn new_ok(words: &[u32], z: Shape, families: usize, g: usize, f: usize) -> bool
+    requires { ⌜ Force z families (now words) ⌝ }
     requires { ⌜ (g < GROUP-PLACES) × InFamily (layoutArrays (now words)) f g ⌝ }
-    ensures { λ r. ⌜ Decides r (NewOk n (now (words .entry)) f g) ⌝ }
+    ensures { λ r. ⌜ Decides r (NewOk z (now (words .entry)) f g) ⌝ }
 {
     let metadata = layout::group_metadata::read(words, g, f);
     span_ok(
         words,
-        n,
+        z,
         g,
         words::LAYOUT + metadata.storage_start,
         words::LAYOUT + metadata.new_storage_start,
@@ -82,30 +83,30 @@ fn family_ok(words: &[u32], families: usize, g: usize, f: usize) -> bool
     true
 }
 
-fn group_ok(words: &[u32], n: usize, families: usize, g: usize) -> bool
-    requires { ⌜ Force n families (now words) ⌝ }
+fn group_ok(words: &[u32], z: Shape, families: usize, g: usize) -> bool
+    requires { ⌜ Force z families (now words) ⌝ }
     requires { ⌜ g < GROUP-PLACES ⌝ }
-    ensures { λ r. ⌜ Decides r (HeadsOk n (now (words .entry)) g) ⌝ }
+    ensures { λ r. ⌜ Decides r (HeadsOk z (now (words .entry)) g) ⌝ }
 {
     let f = words[words::GROUP_FAMILIES + g] as usize;
     if !family_ok(words, families, g, f) {
         return false;
     }
-    if !new_ok(words, n, families, g, f) {
+    if !new_ok(words, z, families, g, f) {
         return false;
     }
     true
 }
 
 // Are the groups' families and the heads of the grouped kinds right?
-pub fn are_heads(words: &[u32], n: usize, families: usize, groups: usize) -> bool
-    requires { ⌜ Force n families (now words) ⌝ }
+pub fn are_heads(words: &[u32], z: Shape, families: usize, groups: usize) -> bool
+    requires { ⌜ Force z families (now words) ⌝ }
     requires { ⌜ groups ≤ MAX-GROUP-COUNT ⌝ }
-    ensures { λ r. ⌜ Decides r (Each groups (HeadsOk n (now (words .entry)))) ⌝ }
+    ensures { λ r. ⌜ Decides r (Each groups (HeadsOk z (now (words .entry)))) ⌝ }
 {
     let mut g = 0;
     while g < groups {
-        if !group_ok(words, n, families, g) {
+        if !group_ok(words, z, families, g) {
             return false;
         }
         g += 1;
@@ -127,29 +128,29 @@ fn mark(kinds: &[u32]) -> [u8; model::MAX_KINDS]
 }
 
 // A column that says a group has a kind that was seen.
-fn own_ok(words: &[u32], n: usize, seen: &[u8; model::MAX_KINDS], s: usize) -> bool
-    requires { ⌜ Slot n s (now words) ⌝ }
-    requires { ⌜ headAt n (now words) s COLUMN-KIND < MAX-KINDS ⌝ }
-    ensures { λ r. ⌜ Decides r (SeenOk n (now (words .entry)) (now (seen .entry)) s) ⌝ }
+fn own_ok(words: &[u32], z: Shape, seen: &[u8; model::MAX_KINDS], s: usize) -> bool
+    requires { ⌜ Slot z s (now words) ⌝ }
+    requires { ⌜ headAt z (now words) s COLUMN-KIND < MAX-KINDS ⌝ }
+    ensures { λ r. ⌜ Decides r (SeenOk z (now (words .entry)) (now (seen .entry)) s) ⌝ }
 {
-    if head(words, n, s, words::OWN_GROUP) < 1 {
+    if head(words, z, s, words::OWN_GROUP) < 1 {
         return true;
     }
-    let kind = head(words, n, s, words::COLUMN_KIND);
+    let kind = head(words, z, s, words::COLUMN_KIND);
     if seen[kind] != 1 {
         return false;
     }
     true
 }
 
-fn own_all_ok(words: &[u32], n: usize, seen: &[u8; model::MAX_KINDS], registered: usize) -> bool
-    requires { ⌜ Room n registered (now words) ⌝ }
-    requires { ⌜ ((s : ℕ) → s < registered → headAt n (now words) s COLUMN-KIND < MAX-KINDS) ⌝ }
-    ensures { λ r. ⌜ Decides r (Each registered (SeenOk n (now (words .entry)) (now (seen .entry)))) ⌝ }
+fn own_all_ok(words: &[u32], z: Shape, seen: &[u8; model::MAX_KINDS], registered: usize) -> bool
+    requires { ⌜ Room z registered (now words) ⌝ }
+    requires { ⌜ ((s : ℕ) → s < registered → headAt z (now words) s COLUMN-KIND < MAX-KINDS) ⌝ }
+    ensures { λ r. ⌜ Decides r (Each registered (SeenOk z (now (words .entry)) (now (seen .entry)))) ⌝ }
 {
     let mut s = 0;
     while s < registered {
-        if !own_ok(words, n, seen, s) {
+        if !own_ok(words, z, seen, s) {
             return false;
         }
         s += 1;
@@ -158,14 +159,14 @@ fn own_all_ok(words: &[u32], n: usize, seen: &[u8; model::MAX_KINDS], registered
 }
 
 // Does a column say a group only if its kind is one of the layout's, which has so many?
-pub fn are_own(words: &[u32], n: usize, registered: usize, width: usize) -> bool
-    requires { ⌜ Room n registered (now words) ⌝ }
-    requires { ⌜ ((s : ℕ) → s < registered → headAt n (now words) s COLUMN-KIND < MAX-KINDS) ⌝ }
+pub fn are_own(words: &[u32], z: Shape, registered: usize, width: usize) -> bool
+    requires { ⌜ Room z registered (now words) ⌝ }
+    requires { ⌜ ((s : ℕ) → s < registered → headAt z (now words) s COLUMN-KIND < MAX-KINDS) ⌝ }
     requires { ⌜ (width ≤ MAX-KINDS) × (LAYOUT-ARITIES ≤ length (now words)) ⌝ }
     requires { ⌜ ((i : ℕ) → i < width → getD (now words) (LAYOUT + i) 0 < MAX-KINDS) ⌝ }
-    ensures { λ r. ⌜ Decides r (Each registered (OwnOk n (now (words .entry)) (between LAYOUT (LAYOUT + width) (now (words .entry))))) ⌝ }
+    ensures { λ r. ⌜ Decides r (Each registered (OwnOk z (now (words .entry)) (between LAYOUT (LAYOUT + width) (now (words .entry))))) ⌝ }
 {
     let end = words::LAYOUT + width;
     let seen = mark(&words[words::LAYOUT..end]);
-    own_all_ok(words, n, &seen, registered)
+    own_all_ok(words, z, &seen, registered)
 }

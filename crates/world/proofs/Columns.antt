@@ -22,6 +22,8 @@ use Rattle.model.proofs.Families.{Kinds, put-all}
 use Rattle.model.proofs.Invariant.{length-put}
 use Rattle.model.proofs.Operations.{count-live}
 use Rattle.model.proofs.Behind.{insertEach}
+use Rattle.words.specs.declared.Shape.{Shape}
+use Rattle.words.specs.Shape.{shapeOf}
 use Rattle.component.specs.Stored.{Current}
 use Rattle.component.specs.Changes.{Lent, Only}
 use Rattle.component.specs.Columns.{rowsOf}
@@ -31,7 +33,7 @@ use Rattle.memory.specs.Arranged.{Arranged, Becomes}
 use Rattle.memory.proofs.Becomes.{stays, sets-wide}
 use Rattle.kinds.specs.Steps.{InSlot}
 use Rattle.kinds.proofs.Slot.{known-slot, known-small, slot-alike, lent-at, rows-at, only-becomes}
-use Rattle.group.proofs.Storing.{becomes-then, capacity-kept, SoFar, so-far-next, so-far-is, live-same, live-next}
+use Rattle.group.proofs.Storing.{becomes-then, shape-kept, SoFar, so-far-next, so-far-is, live-same, live-next}
 use Rattle.world.specs.Insert.{OnlyLive, AllInsertable, insertRows, insertColumn, insertColumns, insertedEach, inserted}
 use Rattle.world.proofs.Live.{current, live-index, live-version}
 use Rattle.world.proofs.Removing.{staged-in}
@@ -129,9 +131,9 @@ module _ (w₀ : List ℕ) (k v start : ℕ) (w : List ℕ) (i : ℕ) (F : Filli
       sym (rows-none k v (meaning w .storage)) ∙ ap (λ (l : List Entity). onSet k (insertRows l v) (meaning w .storage)) (sym (drop-of-length-le all {i = i} h)) ∙ F .still in
       so-far-is (F .soFar) _ (e ∙ ap (λ (c : Component). insertColumn (drop start all) c (meaning w₀ .storage)) q)
 
-  module _ (A : Arranged w₀) (known : In (meaning w₀ .kinds) k) (n slot : ℕ) (en : n ≡ capacityOf w₀) (at : InSlot w₀ k slot) where
-    capacity : n ≡ capacityOf w
-    capacity = en ∙ sym (capacity-kept w₀ w (λ (s : Storage). meaning w .storage) (F .soFar))
+  module _ (A : Arranged w₀) (known : In (meaning w₀ .kinds) k) (z : Shape) (slot : ℕ) (en : z ≡ shapeOf w₀) (at : InSlot w₀ k slot) where
+    shaped : z ≡ shapeOf w
+    shaped = en ∙ sym (shape-kept w₀ w (λ (s : Storage). meaning w .storage) (F .soFar))
 
     same-kinds : meaning w .kinds ≡ meaning w₀ .kinds
     same-kinds = ap (λ (m : Store). m .kinds) (F .soFar .means)
@@ -141,8 +143,8 @@ module _ (w₀ : List ℕ) (k v start : ℕ) (w : List ℕ) (i : ℕ) (F : Filli
         subst (InSlot w k) (slot-alike w w₀ (F .soFar .arranged) A same-kinds k known ∙ sym (at .is))
         (known-slot w (F .soFar .arranged) k (subst (λ (l : List ℕ). In l k) (sym same-kinds) known))
 
-    pub filling-lent : Lent n slot w
-    filling-lent = lent-at w n k slot capacity still-in
+    pub filling-lent : Lent z slot w
+    filling-lent = lent-at w z k slot shaped still-in
 
     module _ (x y : ℕ) (h : i < length (meaning w₀ .entities .live)) (q : entity x y ≡ getD (meaning w .entities .live) i noEntity) where
       here : 1 ≤ cnt (entity x y) (meaning w .entities .live)
@@ -151,18 +153,18 @@ module _ (w₀ : List ℕ) (k v start : ℕ) (w : List ℕ) (i : ℕ) (F : Filli
       here-live : isLive (entity x y) (meaning w .entities) ≡ true
       here-live = count-live (entity x y) (meaning w .entities) here
 
-      pub filling-bounds : (x < n) × (1 ≤ y)
-      filling-bounds = (rw capacity (live-index w (F .live) x y here-live), live-version w (F .live) x y here-live)
+      pub filling-bounds : (x < z .capacity) × (1 ≤ y)
+      filling-bounds = (rw shaped (live-index w (F .live) x y here-live), live-version w (F .live) x y here-live)
 
-      pub filling-current : Current x y (rowsOf n slot w)
-      filling-current = rw (rows-at w n k slot capacity still-in) (current (meaning w) (F .live) (entity x y) here-live k)
+      pub filling-current : Current x y (rowsOf z slot w)
+      filling-current = rw (rows-at w z k slot shaped still-in) (current (meaning w) (F .live) (entity x y) here-live k)
 
       small : k < length (meaning w .storage .sets)
       small = omega (arith, known-small w₀ A k known, sets-wide w)
 
-      pub filling-turn : (w′ : List ℕ) → Only n slot (insertRow (entity x y) v) w w′ → Filling w₀ k v start w′ (i + 1)
+      pub filling-turn : (w′ : List ℕ) → Only z slot (insertRow (entity x y) v) w w′ → Filling w₀ k v start w′ (i + 1)
       filling-turn w′ o =
-          let C : Becomes w w′ (onStorage (onSet k (insertRow (entity x y) v)) (meaning w)) = only-becomes w n k slot capacity still-in w′ (insertRow (entity x y) v) (F .soFar .arranged) o in
+          let C : Becomes w w′ (onStorage (onSet k (insertRow (entity x y) v)) (meaning w)) = only-becomes w z k slot shaped still-in w′ (insertRow (entity x y) v) (F .soFar .arranged) o in
           let left : drop i all ≡ entity x y ∷ drop (i + 1) all = live-next (F .soFar) i (entity x y) h q in
           record {
             soFar = so-far-next (F .soFar) (onSet k (insertRow (entity x y) v)) C;

@@ -16,6 +16,8 @@ use Rattle.model.specs.Sound.{In, Distinct, noComponent}
 use Rattle.model.proofs.BoolLaws.{or-false, or-false-right}
 use Rattle.model.proofs.KindLists.{at-in, distinct-new}
 use Rattle.words.proofs.Tables.{getD-table}
+use Rattle.words.specs.Shape.{shapeOf}
+use Rattle.words.specs.declared.Shape.{Shape}
 use Rattle.component.specs.Changes.{Only, Lent}
 use Rattle.component.proofs.Parts.{lent}
 use Rattle.memory.specs.Header.{capacityOf, kindCapacityOf, registeredOf}
@@ -25,7 +27,7 @@ use Rattle.memory.proofs.Becomes.{one-becomes, stays, sets-wide, kinds-count}
 use Rattle.kinds.proofs.Slot.{known-small}
 use Rattle.group.proofs.EachKind.{eachKind, each-append, each-kinds}
 use Rattle.world.specs.Remove.{Staged, removed}
-use Rattle.group.proofs.Storing.{becomes-then, capacity-kept}
+use Rattle.group.proofs.Storing.{becomes-then, shape-kept}
 
 abbrev pub eachGone : Entity → List ℕ → Storage → Storage
 eachGone e ks s = record { sets = eachKind (removeRow e) ks (s .sets); layout = s .layout }
@@ -45,8 +47,8 @@ module _ (w₀ : List ℕ) (e : Entity) (ks : List ℕ) where
   pub gone-none : Arranged w₀ → Gone w₀ 0
   gone-none A = stays A
 
-  pub gone-capacity : (w : List ℕ) (i : ℕ) → Gone w i → capacityOf w₀ ≡ capacityOf w
-  gone-capacity w i B = sym (capacity-kept w₀ w (eachGone e (take i ks)) B)
+  pub gone-shape : (w : List ℕ) (i : ℕ) → Gone w i → shapeOf w₀ ≡ shapeOf w
+  gone-shape w i B = sym (shape-kept w₀ w (eachGone e (take i ks)) B)
 
   pub gone-turn : (w w′ : List ℕ) (i k : ℕ) → i < length ks → k ≡ getD ks i 0 → Gone w i → Becomes w w′ (onStorage (onSet k (removeRow e)) (meaning w)) → Gone w′ (i + 1)
   gone-turn w w′ i k h q B C =
@@ -102,14 +104,14 @@ module _ (w : List ℕ) (A : Arranged w) where
   unfolding meaning kindsIn
   kind-of-slot s h = getD-table (registeredOf w) (kindAt w) s 0 h
 
-  module _ (n s : ℕ) (e : n ≡ capacityOf w) (h : s < length (meaning w .kinds)) where
+  module _ (z : Shape) (s : ℕ) (e : z ≡ shapeOf w) (h : s < length (meaning w .kinds)) where
     below : s < registeredOf w
     below = omega (arith, kinds-count w)
 
-    pub slot-lent : Lent n s w
-    slot-lent = rw e (lent (capacityOf w) (kindCapacityOf w) s w (A .columns) (omega (arith, below, A .table .few)))
+    pub slot-lent : Lent z s w
+    slot-lent = rw e (lent (shapeOf w) (kindCapacityOf w) s w (A .columns) (omega (arith, below, A .table .few)))
 
-    pub slot-becomes : (w′ : List ℕ) (f : SparseSet → SparseSet) → Only n s f w w′ → Becomes w w′ (onStorage (onSet (getD (meaning w .kinds) s 0) f) (meaning w))
+    pub slot-becomes : (w′ : List ℕ) (f : SparseSet → SparseSet) → Only z s f w w′ → Becomes w w′ (onStorage (onSet (getD (meaning w .kinds) s 0) f) (meaning w))
     slot-becomes w′ f o =
         let few : s < kindCapacityOf w = omega (arith, below, A .table .few) in
         subst (λ (k : ℕ). Becomes w w′ (onStorage (onSet k f) (meaning w))) (sym (kind-of-slot s below))

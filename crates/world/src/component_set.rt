@@ -23,7 +23,7 @@ fn insert_one(words: &mut [u32], i: usize, index: u32, version: u32)
     ensures { λ _. ⌜ Becomes (now (words .entry)) (now (words .exit)) (onStorage (insertOne (entity index version) (getD (meaning (now (words .entry)) .control .staged) i noComponent)) (meaning (now (words .entry)))) ⌝ }
 {
     let c = control::staged::staged_at(words, i);
-    kinds::insert(words, c.kind, index, version, c.low, c.high);
+    kinds::insert(words, c.kind, index, version, c.value);
 }
 
 // All staged components go into the entity; no group is walked yet.
@@ -57,13 +57,13 @@ fn insert_column(words: &mut [u32], i: usize, start: usize)
     ensures { λ _. ⌜ Becomes (now (words .entry)) (now (words .exit)) (onStorage (insertColumn (drop start (meaning (now (words .entry)) .entities .live)) (getD (meaning (now (words .entry)) .control .staged) i noComponent)) (meaning (now (words .entry)))) ⌝ }
 {
     let c = control::staged::staged_at(words, i);
-    let n = words::word(words, words::CAPACITY);
+    let z = words::shape_of(words);
     let slot = kinds::slot_of(words, c.kind);
     let len = control::entities::live_len(words);
     let mut place = start;
     while place < len {
         let e = control::entities::live_at(words, place);
-        component::slots::insert_in(words, n, slot, e.index, e.version, c.low, c.high);
+        component::slots::insert_in(words, z, slot, e.index, e.version, c.value);
         place += 1;
     }
 }

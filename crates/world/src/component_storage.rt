@@ -1,4 +1,5 @@
 // What concerns all kinds at once (component_storage.rs): an entity loses all its components, or all entities do.
+use words::Shape;
 ghost use mathlib.Core.Path.{_≡_};
 ghost use mathlib.Core.List.{map};
 ghost use Prim.Native.Nat.{_<_};
@@ -6,19 +7,19 @@ ghost use lib.ListN.{length, getD};
 ghost use Rattle.model.specs.Model.{Storage, zeroCount, clearAll, removeRow, remove, entity};
 ghost use Rattle.model.specs.Store.{onSet, onStorage, withLayout};
 ghost use Rattle.model.specs.Sound.{Distinct};
-ghost use Rattle.memory.specs.Header.{capacityOf};
+ghost use Rattle.words.specs.Shape.{shapeOf};
 ghost use Rattle.memory.specs.Meaning.{meaning};
 ghost use Rattle.memory.specs.Arranged.{Arranged, Becomes, Sound};
 ghost use Rattle.world.specs.Remove.{removed};
 
 // The entity's component of the kind in a slot goes: no kind needs to be looked up. n is the capacity, read once for all slots.
-fn strip_slot(words: &mut [u32], n: usize, slot: usize, index: u32, version: u32)
+fn strip_slot(words: &mut [u32], z: Shape, slot: usize, index: u32, version: u32)
     requires { ⌜ Arranged (now words) ⌝ }
-    requires { ⌜ n ≡ capacityOf (now words) ⌝ }
+    requires { ⌜ z ≡ shapeOf (now words) ⌝ }
     requires { ⌜ slot < length (meaning (now words) .kinds) ⌝ }
     ensures { λ _. ⌜ Becomes (now (words .entry)) (now (words .exit)) (onStorage (onSet (getD (meaning (now (words .entry)) .kinds) slot 0) (removeRow (entity index version))) (meaning (now (words .entry)))) ⌝ }
 {
-    component::slots::remove_in(words, n, slot, index, version);
+    component::slots::remove_in(words, z, slot, index, version);
 }
 
 // Its components of all kinds go; no group is walked.
@@ -27,11 +28,11 @@ fn strip_sets(words: &mut [u32], index: u32, version: u32)
     requires { ⌜ Distinct (meaning (now words) .kinds) ⌝ }
     ensures { λ _. ⌜ Becomes (now (words .entry)) (now (words .exit)) (onStorage (removed (entity index version) (meaning (now (words .entry)) .kinds)) (meaning (now (words .entry)))) ⌝ }
 {
-    let n = words::word(words, words::CAPACITY);
+    let z = words::shape_of(words);
     let m = words::word(words, words::REGISTERED);
     let mut slot = 0;
     while slot < m {
-        strip_slot(words, n, slot, index, version);
+        strip_slot(words, z, slot, index, version);
         slot += 1;
     }
 }

@@ -8,13 +8,13 @@ use Rattle.group.proofs.swap_kinds.Tie as tie
 use Rattle.model.specs.Model.{entity}
 
 abbrev Inv-loop : tie.InvT-loop
-Inv-loop words₀ index version swap-index n end place₀ words place = Swapping words₀ (entity index version) place₀ end swap-index words place
+Inv-loop words₀ index version swap-index z end place₀ words place = Swapping words₀ (entity index version) place₀ end swap-index words place
 
 abbrev μ-loop : tie.MeasureT-loop
-μ-loop words₀ index version swap-index n end place₀ words place = end - place
+μ-loop words₀ index version swap-index z end place₀ words place = end - place
 
-word-requires : tie.Need-word-requires Inv-loop μ-loop
-word-requires c κs = let s = c .before .before in header-long (s .args .words .now) (s .pre .0) CAPACITY (omega arith)
+shape-of-requires : tie.Need-shape-of-requires Inv-loop μ-loop
+shape-of-requires c κs = let s = c .before .before in header-long (s .args .words .now) (s .pre .0) CAPACITY (omega arith)
 
 loop-holds : tie.Need-loop-holds Inv-loop μ-loop
 loop-holds c = let p = c .before .before .before .pre in swap-start (p .0) (p .1 .0) (p .1 .1)
@@ -37,15 +37,21 @@ swap-to-in-requires c κs =
     let i = c .before .before .before .before .before .before .loop in
     let lt = c .before .before .before .before .before .loop-test .taken in
     let q = c .before .before .before .kind-at .ensures in
-    let n = c .before .before .before .before .before .before .before .word .ensures .is in
+    let m = c .before .before .before .before .before .before .before .shape-of .ensures .is in
     let at = c .before .slot-of .ensures in
-    (swap-lent (p .0) (p .1 .0) (p .1 .1) (i .inv) lt q n at, swap-asks (p .0) (p .1 .0) (p .1 .1) (i .inv) lt q n at)
+    (swap-lent (p .0) (p .1 .0) (p .1 .1) (i .inv) lt q m at, swap-asks (p .0) (p .1 .0) (p .1 .1) (i .inv) lt q m at)
+
+add-place : tie.Need-add-place Inv-loop μ-loop
+add-place c = omega (arith, c .before .before .before .before .before .before .before .before .loop-test, c .before .before .before .before .before .before .before .before .before .before .before .before .before .good)
+
+loop-less : tie.Need-loop-less Inv-loop μ-loop
+loop-less c = omega (arith, c .before .before .before .before .before .before .before .before .loop-test)
 
 loop-again : tie.Need-loop-again Inv-loop μ-loop
 loop-again c =
     let p = c .before .before .before .before .before .before .before .before .before .before .before .before .before .pre in
     let i = c .before .before .before .before .before .before .before .before .before .loop in
-    swap-turn (p .0) (p .1 .0) (p .1 .1) (i .inv) (c .before .before .before .before .before .before .before .before .loop-test .taken) (c .before .before .before .before .before .before .kind-at .ensures) (c .before .before .before .before .before .before .before .before .before .before .word .ensures .is) (c .before .before .before .before .slot-of .ensures) (c .before .before .swap-to-in .ensures)
+    swap-turn (p .0) (p .1 .0) (p .1 .1) (i .inv) (c .before .before .before .before .before .before .before .before .loop-test .taken) (c .before .before .before .before .before .before .kind-at .ensures) (c .before .before .before .before .before .before .before .before .before .before .shape-of .ensures .is) (c .before .before .before .before .slot-of .ensures) (c .before .before .swap-to-in .ensures)
 
 returns : tie.Need-returns Inv-loop μ-loop
 returns c =
@@ -58,13 +64,13 @@ swap-kinds-spec =
     (tie.spec
     Inv-loop
     μ-loop
-    word-requires
+    shape-of-requires
     loop-holds
     kind-at-requires
     slot-of-requires
     swap-to-in-requires
-    (λ c. omega (arith, c .before .before .before .before .before .before .before .before .loop-test))
-    (λ c. omega (arith, c .before .before .before .before .before .before .before .before .loop-test))
+    add-place
+    loop-less
     loop-again
     (λ c. c .before .loop .inv .soFar .size)
     returns)

@@ -2,11 +2,11 @@ use mathlib.Core.Path.{sym, _∙_}
 use native.Mathlib.Omega.{arith}
 use borrow.Author.Needs.{needs}
 use borrow.Author.Tests.{not-true, not-false}
-use Rattle.memory.specs.Header.{capacityOf}
 use Rattle.group.proofs.Status.{kind-known, status-first, status-others, status-in, status-out, listed-later}
 use Rattle.group.proofs.group_status.get_group_status.Statement.{statement}
 use Rattle.group.proofs.group_status.get_group_status.Tie as tie
 use Rattle.model.specs.Model.{entity}
+use Rattle.words.specs.Shape.{shapeOf}
 
 kind-at-requires : tie.Need-kind-at-requires
 kind-at-requires c κs = let s = c .before in (s .pre .0, omega (arith, s .pre .1 .1, s .pre .1 .0 .within))
@@ -18,7 +18,7 @@ returns : tie.Need-returns
 returns c =
     let s = c .before .before .before .before .before in
     let a = s .args in
-    status-first (entity (a .index) (a .version)) (a .group-len) (s .pre .1 .1) (s .pre .1 .0) (capacityOf (a .words .now)) (c .before .before .before .kind-at .ensures) (c .before .before .find .ensures) (c .enum-told .given .1)
+    status-first (entity (a .index) (a .version)) (a .group-len) (s .pre .1 .1) (s .pre .1 .0) (shapeOf (a .words .now)) (c .before .before .before .kind-at .ensures) (c .before .before .find .ensures) (c .enum-told .given .1)
 
 holds-all-requires : tie.Need-holds-all-requires
 holds-all-requires c κs = let s = c .before .before .before .before .before .before in (s .pre .0, listed-later (omega arith) (omega (arith, s .pre .1 .1)) (s .pre .1 .0))
@@ -33,14 +33,14 @@ returns-3 : tie.Need-returns-3
 returns-3 c =
     let s = c .before .before .before .before .before .before .before .before .before in
     let a = s .args in
-    status-in (entity (a .index) (a .version)) (a .group-len) (s .pre .1 .1) (s .pre .1 .0) (capacityOf (a .words .now)) (c .before .before .before .before .before .before .before .kind-at .ensures) (c .before .before .before .before .before .before .find .ensures)
+    status-in (entity (a .index) (a .version)) (a .group-len) (s .pre .1 .1) (s .pre .1 .0) (shapeOf (a .words .now)) (c .before .before .before .before .before .before .before .kind-at .ensures) (c .before .before .before .before .before .before .find .ensures)
     (c .before .before .before .before .found .given .1) (sym (c .before .before .holds-all .ensures) ∙ not-false (c .before .before .holds-all .result) (c .before .if1 .left)) (omega (arith, c .if2 .taken))
 
 returns-4 : tie.Need-returns-4
 returns-4 c =
     let s = c .before .before .before .before .before .before .before .before .before in
     let a = s .args in
-    status-out (entity (a .index) (a .version)) (a .group-len) (s .pre .1 .1) (s .pre .1 .0) (capacityOf (a .words .now)) (c .before .before .before .before .before .before .before .kind-at .ensures) (c .before .before .before .before .before .before .find .ensures)
+    status-out (entity (a .index) (a .version)) (a .group-len) (s .pre .1 .1) (s .pre .1 .0) (shapeOf (a .words .now)) (c .before .before .before .before .before .before .before .kind-at .ensures) (c .before .before .before .before .before .before .find .ensures)
     (c .before .before .before .before .found .given .1) (sym (c .before .before .holds-all .ensures) ∙ not-false (c .before .before .holds-all .result) (c .before .if1 .left)) (omega (arith, c .if2 .left))
 
 pub get-group-status-spec : {M : Type 1} → statement M

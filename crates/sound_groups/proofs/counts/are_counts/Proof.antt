@@ -7,10 +7,10 @@ use Rattle.sound_groups.proofs.counts.are_counts.Statement.{statement}
 use Rattle.sound_groups.proofs.counts.are_counts.Tie as tie
 
 abbrev Inv-loop : tie.InvT-loop
-Inv-loop words n families groups g₀ g = Passed (CountedOk n words) 0 g
+Inv-loop words z families groups g₀ g = Passed (CountedOk z words) 0 g
 
 abbrev μ-loop : tie.MeasureT-loop
-μ-loop words n families groups g₀ g = groups - g
+μ-loop words z families groups g₀ g = groups - g
 
 add-group-counted : tie.Need-add-group-counted Inv-loop μ-loop
 add-group-counted c = omega (arith, c .before .before .before .pre .0 .long, c .before .before .before .pre .1 .0)

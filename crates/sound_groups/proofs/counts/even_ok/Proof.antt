@@ -17,19 +17,19 @@ returns : tie.Need-returns
 returns c = λ E. omega (arith, E .fits, c .before .len-in .ensures, c .if1 .taken)
 
 add-a : tie.Need-add-a
-add-a c = let a = c .before .before .before .before .before .before .args in let w = a .words .now in let s = slotOf w (getD w (a .j) 0) in let p = c .before .before .before .before .before .before .pre in let S = p .1 .lent in let H = p .0 .2 in omega (arith, c .column-start .ensures, S .size)
+add-a c = let a = c .before .before .before .before .before .before .args in let w = a .words .now in let s = slotOf w (getD w (a .j) 0) in let p = c .before .before .before .before .before .before .pre in let S = p .1 .lent in let H = p .0 .2 in omega (arith, c .column-start .ensures .is, S .size)
 
 add-b : tie.Need-add-b
-add-b c = let a = c .before .before .before .before .before .before .before .args in let w = a .words .now in let s = slotOf w (getD w (a .j) 0) in let p = c .before .before .before .before .before .before .before .pre in let S = p .1 .lent in let H = p .0 .2 in omega (arith, c .column-start2 .ensures, H .size)
+add-b c = let a = c .before .before .before .before .before .before .before .args in let w = a .words .now in let s = slotOf w (getD w (a .j) 0) in let p = c .before .before .before .before .before .before .before .pre in let S = p .1 .lent in let H = p .0 .2 in omega (arith, c .column-start2 .ensures .is, H .size)
 
 same-rows-requires : tie.Need-same-rows-requires
-same-rows-requires c κs = let a = c .before .before .before .before .before .before .before .args in let w = a .words .now in let s = slotOf w (getD w (a .j) 0) in let p = c .before .before .before .before .before .before .before .pre in let S = p .1 .lent in let H = p .0 .2 in let m = rows-most (a .n) s w S in let l : a .c ≤ length (rowsOf (a .n) s w) = omega (arith, c .before .before .before .len-in .ensures, c .before .before .if1 .left) in (omega (arith, m, l, c .before .column-start .ensures, S .size), omega (arith, m, l, c .column-start2 .ensures, H .size), omega (arith, S .small, m, l))
+same-rows-requires c κs = let a = c .before .before .before .before .before .before .before .args in let w = a .words .now in let s = slotOf w (getD w (a .j) 0) in let p = c .before .before .before .before .before .before .before .pre in let S = p .1 .lent in let H = p .0 .2 in let m = rows-most (a .z) s w S in let l : a .c ≤ length (rowsOf (a .z) s w) = omega (arith, c .before .before .before .len-in .ensures, c .before .before .if1 .left) in (omega (arith, m, l, c .before .column-start .ensures .is, S .size), omega (arith, m, l, c .column-start2 .ensures .is, H .size), omega (arith, S .shaped .small, m, l))
 
 returns-2 : tie.Need-returns-2
-returns-2 c = let a = c .before .before .before .before .before .before .before .before .before .args in let w = a .words .now in let s = slotOf w (getD w (a .j) 0) in let p = c .before .before .before .before .before .before .before .before .before .pre in let S = p .1 .lent in let H = p .0 .2 in let m = rows-most (a .n) s w S in let l : a .c ≤ length (rowsOf (a .n) s w) = omega (arith, c .before .before .before .before .before .len-in .ensures, c .before .before .before .before .if1 .left) in λ K. denied {P = Each (2 * a .c) (SameWord w (c .before .before .before .column-start .result + ROWS) (c .before .before .column-start2 .result + ROWS))} (c .before .same-rows .result) (c .before .same-rows .ensures) (c .if2 .taken) (even-words (a .n) s (a .h) (a .c) (c .before .before .before .column-start .result) (c .before .before .column-start2 .result) w (c .before .before .before .column-start .ensures) (c .before .before .column-start2 .ensures) S H l (p .0 .3) (K .even))
+returns-2 c = let a = c .before .before .before .before .before .before .before .before .before .args in let w = a .words .now in let s = slotOf w (getD w (a .j) 0) in let p = c .before .before .before .before .before .before .before .before .before .pre in let S = p .1 .lent in let H = p .0 .2 in let m = rows-most (a .z) s w S in let l : a .c ≤ length (rowsOf (a .z) s w) = omega (arith, c .before .before .before .before .before .len-in .ensures, c .before .before .before .before .if1 .left) in λ K. denied {P = Each (2 * a .c) (SameWord w (c .before .before .before .column-start .result + ROWS) (c .before .before .column-start2 .result + ROWS))} (c .before .same-rows .result) (c .before .same-rows .ensures) (c .if2 .taken) (even-words (a .z) s (a .h) (a .c) (c .before .before .before .column-start .result) (c .before .before .column-start2 .result) w (c .before .before .before .column-start .ensures .is) (c .before .before .column-start2 .ensures .is) S H l (p .0 .3) (K .even))
 
 returns-3 : tie.Need-returns-3
-returns-3 c = let a = c .before .before .before .before .before .before .before .before .before .args in let w = a .words .now in let s = slotOf w (getD w (a .j) 0) in let p = c .before .before .before .before .before .before .before .before .before .pre in let S = p .1 .lent in let H = p .0 .2 in let m = rows-most (a .n) s w S in let l : a .c ≤ length (rowsOf (a .n) s w) = omega (arith, c .before .before .before .before .before .len-in .ensures, c .before .before .before .before .if1 .left) in record { fits = l; even = words-even (a .n) s (a .h) (a .c) (c .before .before .before .column-start .result) (c .before .before .column-start2 .result) w (c .before .before .before .column-start .ensures) (c .before .before .column-start2 .ensures) S H l (p .0 .3) (granted {P = Each (2 * a .c) (SameWord w (c .before .before .before .column-start .result + ROWS) (c .before .before .column-start2 .result + ROWS))} (c .before .same-rows .result) (c .before .same-rows .ensures) (c .if2 .left)) }
+returns-3 c = let a = c .before .before .before .before .before .before .before .before .before .args in let w = a .words .now in let s = slotOf w (getD w (a .j) 0) in let p = c .before .before .before .before .before .before .before .before .before .pre in let S = p .1 .lent in let H = p .0 .2 in let m = rows-most (a .z) s w S in let l : a .c ≤ length (rowsOf (a .z) s w) = omega (arith, c .before .before .before .before .before .len-in .ensures, c .before .before .before .before .if1 .left) in record { fits = l; even = words-even (a .z) s (a .h) (a .c) (c .before .before .before .column-start .result) (c .before .before .column-start2 .result) w (c .before .before .before .column-start .ensures .is) (c .before .before .column-start2 .ensures .is) S H l (p .0 .3) (granted {P = Each (2 * a .c) (SameWord w (c .before .before .before .column-start .result + ROWS) (c .before .before .column-start2 .result + ROWS))} (c .before .same-rows .result) (c .before .same-rows .ensures) (c .if2 .left)) }
 
 pub even-ok-spec : {M : Type 1} → statement M
 even-ok-spec =

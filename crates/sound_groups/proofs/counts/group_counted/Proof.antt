@@ -19,11 +19,11 @@ read-requires c κs = let p = c .before .pre in (p .0 .long, p .1 .0, omega (ari
 was-read : (c : tie.After-read) → ReadMetadata (layoutArrays (c .before .before .args .words .now)) (c .before .before .args .f) (c .before .before .args .g) (c .read .result)
 was-read c = let a = c .before .before .args in let p = c .before .before .pre in metadata-words (a .words .now) (a .f) (a .g) (c .read .result) (omega (arith, p .0 .few, p .0 .is, p .1 .1 .family)) (p .1 .0) (c .read .ensures)
 
-span : (c : tie.After-read) → SpanOk (c .before .before .args .n) (c .before .before .args .words .now) (c .before .before .args .f) (c .before .before .args .g)
+span : (c : tie.After-read) → SpanOk (c .before .before .args .z) (c .before .before .args .words .now) (c .before .before .args .f) (c .before .before .args .g)
 span c = let s = c .before .before in s .pre .0 .spans (s .args .f) (s .args .g) (s .pre .1 .1)
 
-first-kind : (c : tie.After-read) → KindAt (c .before .before .args .n) (c .before .before .args .words .now) (LAYOUT + c .read .result .«storage_start»)
-first-kind c = let a = c .before .before .args in subst (λ (x : ℕ). KindAt (a .n) (a .words .now) (LAYOUT + x)) (sym (was-read c .start)) (span c .first)
+first-kind : (c : tie.After-read) → KindAt (c .before .before .args .z) (c .before .before .args .words .now) (LAYOUT + c .read .result .«storage_start»)
+first-kind c = let a = c .before .before .args in subst (λ (x : ℕ). KindAt (a .z) (a .words .now) (LAYOUT + x)) (sym (was-read c .start)) (span c .first)
 
 add-first : tie.Need-add-first
 add-first c = let R = c .before .read .ensures in omega (arith, R .start, R .new, R .small .0)
@@ -53,7 +53,7 @@ len-in-requires : tie.Need-len-in-requires
 len-in-requires c κs = first-kind (c .before .before .before) .lent
 
 prior-of-requires : tie.Need-prior-of-requires
-prior-of-requires c κs = let s = c .before .before .before .before .before .before in let p = s .pre in let w = s .args .words .now in let K = first-kind (c .before .before .before .before) in (omega (arith, p .0 .long, p .1 .0), omega (arith, c .len-in .ensures, rows-most (s .args .n) (slotOf w (getD w (LAYOUT + c .before .before .before .before .read .result .«storage_start») 0)) w (K .lent), K .lent .small))
+prior-of-requires c κs = let s = c .before .before .before .before .before .before in let p = s .pre in let w = s .args .words .now in let K = first-kind (c .before .before .before .before) in (omega (arith, p .0 .long, p .1 .0), omega (arith, c .len-in .ensures, rows-most (s .args .z) (slotOf w (getD w (LAYOUT + c .before .before .before .before .read .result .«storage_start») 0)) w (K .lent), K .lent .shaped .small))
 
 add-count-ok : tie.Need-add-count-ok
 add-count-ok c = omega (arith, c .before .before .before .before .before .before .read .ensures .small .0)
@@ -77,7 +77,7 @@ count-ok-requires : tie.Need-count-ok-requires
 count-ok-requires c κs = let s = c .before .before .before .before .before .before .before .before .before .before in let p = s .pre in let R = was-read (c .before .before .before .before .before .before .before .before) in ((omega (arith, p .0 .long), first-kind (c .before .before .before .before .before .before .before .before) .lent), rw (R .new, R .end) (span (c .before .before .before .before .before .before .before .before) .new))
 
 returns : tie.Need-returns
-returns c = let s = c .before .before .before .before .before .before .before .before .before .before .before in let p = s .pre in let a = s .args in let r = c .before .before .before .before .before .before .before .before .before in count-moved (a .n) (a .words .now) (a .g) (a .f) (r .read .result) (c .before .before .before .before .before .len-in .result) (c .before .before .before .before .prior-of .result) (p .1 .0) (was-read r) (c .before .before .before .before .before .len-in .ensures) (c .before .before .before .before .prior-of .ensures) (c .count-ok .result) (c .count-ok .ensures)
+returns c = let s = c .before .before .before .before .before .before .before .before .before .before .before in let p = s .pre in let a = s .args in let r = c .before .before .before .before .before .before .before .before .before in count-moved (a .z) (a .words .now) (a .g) (a .f) (r .read .result) (c .before .before .before .before .before .len-in .result) (c .before .before .before .before .prior-of .result) (p .1 .0) (was-read r) (c .before .before .before .before .before .len-in .ensures) (c .before .before .before .before .prior-of .ensures) (c .count-ok .result) (c .count-ok .ensures)
 
 pub group-counted-spec : {M : Type 1} → statement M
 group-counted-spec =

@@ -11,31 +11,31 @@ use Rattle.sound_groups.proofs.counts.lacks.Statement.{statement}
 use Rattle.sound_groups.proofs.counts.lacks.Tie as tie
 
 mul-at : tie.Need-mul-at
-mul-at c = let a = c .before .before .args in let m = rows-most (a .n) (a .h) (a .words .now) (c .before .before .pre .0 .1) in omega (arith, m, c .before .before .pre .0)
+mul-at c = let a = c .before .before .args in let m = rows-most (a .z) (a .h) (a .words .now) (c .before .before .pre .0 .1) in omega (arith, m, c .before .before .pre .0)
 
 add-at-2 : tie.Need-add-at-2
-add-at-2 c = let a = c .before .before .args in let m = rows-most (a .n) (a .h) (a .words .now) (c .before .before .pre .0 .1) in omega (arith, m, c .before .before .pre .0, c .column-start .ensures)
+add-at-2 c = let a = c .before .before .args in let m = rows-most (a .z) (a .h) (a .words .now) (c .before .before .pre .0 .1) in omega (arith, m, c .before .before .pre .0, c .column-start .ensures .is)
 
 mul-index : tie.Need-mul-index
-mul-index c = let a = c .before .before .args in let m = rows-most (a .n) (a .h) (a .words .now) (c .before .before .pre .0 .1) in omega (arith, m, c .before .before .pre .0, c .column-start .ensures)
+mul-index c = let a = c .before .before .args in let m = rows-most (a .z) (a .h) (a .words .now) (c .before .before .pre .0 .1) in omega (arith, m, c .before .before .pre .0, c .column-start .ensures .is)
 
 shared-slice-read-index : tie.Need-shared-slice-read-index
-shared-slice-read-index c = let a = c .before .before .before .args in let m = rows-most (a .n) (a .h) (a .words .now) (c .before .before .before .pre .0 .1) in omega (arith, m, c .before .before .before .pre .0, c .before .column-start .ensures)
+shared-slice-read-index c = let a = c .before .before .before .args in let m = rows-most (a .z) (a .h) (a .words .now) (c .before .before .before .pre .0 .1) in omega (arith, m, c .before .before .before .pre .0, c .before .column-start .ensures .is)
 
 add-version : tie.Need-add-version
-add-version c = let a = c .before .before .before .args in let m = rows-most (a .n) (a .h) (a .words .now) (c .before .before .before .pre .0 .1) in omega (arith, m, c .before .before .before .pre .0, c .before .column-start .ensures)
+add-version c = let a = c .before .before .before .args in let m = rows-most (a .z) (a .h) (a .words .now) (c .before .before .before .pre .0 .1) in omega (arith, m, c .before .before .before .pre .0, c .before .column-start .ensures .is)
 
 mul-version : tie.Need-mul-version
-mul-version c = let a = c .before .before .before .args in let m = rows-most (a .n) (a .h) (a .words .now) (c .before .before .before .pre .0 .1) in omega (arith, m, c .before .before .before .pre .0, c .before .column-start .ensures)
+mul-version c = let a = c .before .before .before .args in let m = rows-most (a .z) (a .h) (a .words .now) (c .before .before .before .pre .0 .1) in omega (arith, m, c .before .before .before .pre .0, c .before .column-start .ensures .is)
 
 shared-slice-read-version : tie.Need-shared-slice-read-version
-shared-slice-read-version c = let a = c .before .before .before .before .args in let m = rows-most (a .n) (a .h) (a .words .now) (c .before .before .before .before .pre .0 .1) in omega (arith, m, c .before .before .before .before .pre .0, c .before .before .column-start .ensures)
+shared-slice-read-version c = let a = c .before .before .before .before .args in let m = rows-most (a .z) (a .h) (a .words .now) (c .before .before .before .before .pre .0 .1) in omega (arith, m, c .before .before .before .before .pre .0, c .before .before .column-start .ensures .is)
 
 returns : tie.Need-returns
-returns c = let a = c .before .before .before .before .before .before .args in let w = a .words .now in let k : keyAt (a .n) w (a .h) (a .i) ≡ entityIn w (c .before .before .before .before .column-start .result + ROWS + 2 * a .i) = key-word (a .n) (a .h) w (c .before .before .before .before .before .before .pre .0 .1) (a .i) (c .before .before .before .before .before .before .pre .0 .2) ∙ ap (λ (b : ℕ). entityIn w (b + ROWS + 2 * a .i)) (sym (c .before .before .before .before .column-start .ensures)) in λ no. no (subst (HoldsAll (a .n) w (a .from) (a .to)) (sym k) (yes-of {P = HoldsAll (a .n) w (a .from) (a .to) (entityIn w (c .before .before .before .before .column-start .result + ROWS + 2 * a .i))} (c .before .holds-all .result) (c .before .holds-all .ensures) (c .if1 .taken)))
+returns c = let a = c .before .before .before .before .before .before .args in let w = a .words .now in let k : keyAt (a .z) w (a .h) (a .i) ≡ entityIn w (c .before .before .before .before .column-start .result + ROWS + 2 * a .i) = key-word (a .z) (a .h) w (c .before .before .before .before .before .before .pre .0 .1) (a .i) (c .before .before .before .before .before .before .pre .0 .2) ∙ ap (λ (b : ℕ). entityIn w (b + ROWS + 2 * a .i)) (sym (c .before .before .before .before .column-start .ensures .is)) in λ no. no (subst (HoldsAll (a .z) w (a .from) (a .to)) (sym k) (yes-of {P = HoldsAll (a .z) w (a .from) (a .to) (entityIn w (c .before .before .before .before .column-start .result + ROWS + 2 * a .i))} (c .before .holds-all .result) (c .before .holds-all .ensures) (c .if1 .taken)))
 
 returns-2 : tie.Need-returns-2
-returns-2 c = let a = c .before .before .before .before .before .before .args in let w = a .words .now in let k : keyAt (a .n) w (a .h) (a .i) ≡ entityIn w (c .before .before .before .before .column-start .result + ROWS + 2 * a .i) = key-word (a .n) (a .h) w (c .before .before .before .before .before .before .pre .0 .1) (a .i) (c .before .before .before .before .before .before .pre .0 .2) ∙ ap (λ (b : ℕ). entityIn w (b + ROWS + 2 * a .i)) (sym (c .before .before .before .before .column-start .ensures)) in λ H. no-of {P = HoldsAll (a .n) w (a .from) (a .to) (entityIn w (c .before .before .before .before .column-start .result + ROWS + 2 * a .i))} (c .before .holds-all .result) (c .before .holds-all .ensures) (c .if1 .left) (subst (HoldsAll (a .n) w (a .from) (a .to)) k H)
+returns-2 c = let a = c .before .before .before .before .before .before .args in let w = a .words .now in let k : keyAt (a .z) w (a .h) (a .i) ≡ entityIn w (c .before .before .before .before .column-start .result + ROWS + 2 * a .i) = key-word (a .z) (a .h) w (c .before .before .before .before .before .before .pre .0 .1) (a .i) (c .before .before .before .before .before .before .pre .0 .2) ∙ ap (λ (b : ℕ). entityIn w (b + ROWS + 2 * a .i)) (sym (c .before .before .before .before .column-start .ensures .is)) in λ H. no-of {P = HoldsAll (a .z) w (a .from) (a .to) (entityIn w (c .before .before .before .before .column-start .result + ROWS + 2 * a .i))} (c .before .holds-all .result) (c .before .holds-all .ensures) (c .if1 .left) (subst (HoldsAll (a .z) w (a .from) (a .to)) k H)
 
 pub lacks-spec : {M : Type 1} → statement M
 lacks-spec =

@@ -7,10 +7,10 @@ use Rattle.sound_groups.proofs.counts.rows_lack.Statement.{statement}
 use Rattle.sound_groups.proofs.counts.rows_lack.Tie as tie
 
 abbrev Inv-loop : tie.InvT-loop
-Inv-loop words n h from to c b i₀ i = Passed (λ (i : ℕ). HoldsAll n words from to (keyAt n words h i) → ⊥) c i
+Inv-loop words z h from to c b i₀ i = Passed (λ (i : ℕ). HoldsAll z words from to (keyAt z words h i) → ⊥) c i
 
 abbrev μ-loop : tie.MeasureT-loop
-μ-loop words n h from to c b i₀ i = b - i
+μ-loop words z h from to c b i₀ i = b - i
 
 lacks-requires : tie.Need-lacks-requires Inv-loop μ-loop
 lacks-requires c κs =

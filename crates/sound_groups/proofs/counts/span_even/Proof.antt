@@ -6,10 +6,10 @@ use Rattle.sound_groups.proofs.counts.span_even.Statement.{statement}
 use Rattle.sound_groups.proofs.counts.span_even.Tie as tie
 
 abbrev Inv-loop : tie.InvT-loop
-Inv-loop words n h c from to j₀ j = Passed (EvenOk n words h c) from j
+Inv-loop words z h c from to j₀ j = Passed (EvenOk z words h c) from j
 
 abbrev μ-loop : tie.MeasureT-loop
-μ-loop words n h c from to j₀ j = to - j
+μ-loop words z h c from to j₀ j = to - j
 
 even-ok-requires : tie.Need-even-ok-requires Inv-loop μ-loop
 even-ok-requires c κs =

@@ -6,10 +6,10 @@ use Rattle.sound_groups.proofs.heads.are_heads.Statement.{statement}
 use Rattle.sound_groups.proofs.heads.are_heads.Tie as tie
 
 abbrev Inv-loop : tie.InvT-loop
-Inv-loop words n families groups g₀ g = Passed (HeadsOk n words) 0 g
+Inv-loop words z families groups g₀ g = Passed (HeadsOk z words) 0 g
 
 abbrev μ-loop : tie.MeasureT-loop
-μ-loop words n families groups g₀ g = groups - g
+μ-loop words z families groups g₀ g = groups - g
 
 group-ok-requires : tie.Need-group-ok-requires Inv-loop μ-loop
 group-ok-requires c κs = (c .before .before .before .pre .0, omega arith)

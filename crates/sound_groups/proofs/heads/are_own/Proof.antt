@@ -15,7 +15,7 @@ own-all-ok-requires : tie.Need-own-all-ok-requires
 own-all-ok-requires c κs = (c .before .before .before .before .pre .0, c .before .before .before .before .pre .1 .0)
 
 returns : tie.Need-returns
-returns c = let a = c .before .before .before .before .before .args in let w = a .words .now in let p = c .before .before .before .before .before .pre in seen-own (a .n) w (c .before .before .mark .result) (between LAYOUT (LAYOUT + a .width) w) (a .registered) (c .before .before .mark .ensures) (p .1 .0) (c .own-all-ok .result) (c .own-all-ok .ensures)
+returns c = let a = c .before .before .before .before .before .args in let w = a .words .now in let p = c .before .before .before .before .before .pre in seen-own (a .z) w (c .before .before .mark .result) (between LAYOUT (LAYOUT + a .width) w) (a .registered) (c .before .before .mark .ensures) (p .1 .0) (c .own-all-ok .result) (c .own-all-ok .ensures)
 
 pub are-own-spec : {M : Type 1} → statement M
 are-own-spec =

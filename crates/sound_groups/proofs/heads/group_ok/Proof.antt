@@ -20,10 +20,10 @@ new-ok-requires : tie.Need-new-ok-requires
 new-ok-requires c κs = let a = c .before .before .before .before .args in (c .before .before .before .before .pre .0, (c .before .before .before .before .pre .1, granted {P = InFamily (layoutArrays (a .words .now)) (groupFamilyAt (a .words .now) (a .g)) (a .g)} (c .before .family-ok .result) (c .before .family-ok .ensures) (c .if1 .left)))
 
 returns-2 : tie.Need-returns-2
-returns-2 c = let a = c .before .before .before .before .before .before .args in λ H. denied {P = NewOk (a .n) (a .words .now) (groupFamilyAt (a .words .now) (a .g)) (a .g)} (c .before .new-ok .result) (c .before .new-ok .ensures) (c .if2 .taken) (H .heads)
+returns-2 c = let a = c .before .before .before .before .before .before .args in λ H. denied {P = NewOk (a .z) (a .words .now) (groupFamilyAt (a .words .now) (a .g)) (a .g)} (c .before .new-ok .result) (c .before .new-ok .ensures) (c .if2 .taken) (H .heads)
 
 returns-3 : tie.Need-returns-3
-returns-3 c = let a = c .before .before .before .before .before .before .args in record { of = granted {P = InFamily (layoutArrays (a .words .now)) (groupFamilyAt (a .words .now) (a .g)) (a .g)} (c .before .before .before .family-ok .result) (c .before .before .before .family-ok .ensures) (c .before .before .if1 .left); heads = granted {P = NewOk (a .n) (a .words .now) (groupFamilyAt (a .words .now) (a .g)) (a .g)} (c .before .new-ok .result) (c .before .new-ok .ensures) (c .if2 .left) }
+returns-3 c = let a = c .before .before .before .before .before .before .args in record { of = granted {P = InFamily (layoutArrays (a .words .now)) (groupFamilyAt (a .words .now) (a .g)) (a .g)} (c .before .before .before .family-ok .result) (c .before .before .before .family-ok .ensures) (c .before .before .if1 .left); heads = granted {P = NewOk (a .z) (a .words .now) (groupFamilyAt (a .words .now) (a .g)) (a .g)} (c .before .new-ok .result) (c .before .new-ok .ensures) (c .if2 .left) }
 
 pub group-ok-spec : {M : Type 1} → statement M
 group-ok-spec =

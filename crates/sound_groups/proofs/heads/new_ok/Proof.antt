@@ -26,7 +26,7 @@ span-ok-requires : tie.Need-span-ok-requires
 span-ok-requires c κs = let s = c .before .before .before .before .before in let p = s .pre in let R = was-read (c .before .before .before) in ((omega (arith, p .0 .long), omega (arith, R .start, R .new), p .1 .0), rw (R .new, R .end) (p .0 .spans (s .args .f) (s .args .g) (p .1 .1) .new))
 
 returns : tie.Need-returns
-returns c = let a = c .before .before .before .before .before .before .args in new-moved (a .n) (a .words .now) (a .g) (a .f) (c .before .before .before .before .read .result) (was-read (c .before .before .before .before)) (c .span-ok .result) (c .span-ok .ensures)
+returns c = let a = c .before .before .before .before .before .before .args in new-moved (a .z) (a .words .now) (a .g) (a .f) (c .before .before .before .before .read .result) (was-read (c .before .before .before .before)) (c .span-ok .result) (c .span-ok .ensures)
 
 pub new-ok-spec : {M : Type 1} → statement M
 new-ok-spec =

@@ -7,16 +7,16 @@ use Rattle.sound_groups.proofs.heads.own_all_ok.Statement.{statement}
 use Rattle.sound_groups.proofs.heads.own_all_ok.Tie as tie
 
 abbrev Inv-loop : tie.InvT-loop
-Inv-loop words n seen registered s₀ s = Passed (SeenOk n words seen) 0 s
+Inv-loop words z seen registered s₀ s = Passed (SeenOk z words seen) 0 s
 
 abbrev μ-loop : tie.MeasureT-loop
-μ-loop words n seen registered s₀ s = registered - s
+μ-loop words z seen registered s₀ s = registered - s
 
 own-ok-requires : tie.Need-own-ok-requires Inv-loop μ-loop
 own-ok-requires c κs =
     let a = c .before .before .before .args in
     let l = c .before .loop in
-    (slot-of (a .n) (a .registered) (a .words .now) (c .before .before .before .pre .0) (l .s) (omega arith), c .before .before .before .pre .1 (l .s) (omega arith))
+    (slot-of (a .z) (a .registered) (a .words .now) (c .before .before .before .pre .0) (l .s) (omega arith), c .before .before .before .pre .1 (l .s) (omega arith))
 
 pub own-all-ok-spec : {M : Type 1} → statement M
 own-all-ok-spec =

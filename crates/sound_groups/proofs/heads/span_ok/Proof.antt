@@ -6,10 +6,10 @@ use Rattle.sound_groups.proofs.heads.span_ok.Statement.{statement}
 use Rattle.sound_groups.proofs.heads.span_ok.Tie as tie
 
 abbrev Inv-loop : tie.InvT-loop
-Inv-loop words n g first from to j₀ j = Passed (HeadOk n words g first) from j
+Inv-loop words z g first from to j₀ j = Passed (HeadOk z words g first) from j
 
 abbrev μ-loop : tie.MeasureT-loop
-μ-loop words n g first from to j₀ j = to - j
+μ-loop words z g first from to j₀ j = to - j
 
 head-ok-requires : tie.Need-head-ok-requires Inv-loop μ-loop
 head-ok-requires c κs =
