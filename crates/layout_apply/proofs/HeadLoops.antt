@@ -8,6 +8,8 @@ use native.Mathlib.Omega.{arith}
 use lib.ListN.{getD}
 use Rattle.model.specs.Numbers.{MAX-GROUP-ARITY, MAX-GROUP-COUNT, MAX-KINDS}
 use Rattle.words.specs.Offsets.{GROUP-PLACES, LAYOUT, LAYOUT-ARITIES, LAYOUT-KIND-ENDS, TABLE}
+use Rattle.words.specs.Shape.{shapeOf}
+use Rattle.words.specs.declared.Shape.{Shape}
 use Rattle.component.specs.Changes.{Lent}
 use Rattle.component.proofs.Parts.{lent}
 use Rattle.layout.specs.Layout.{Arrays, startOf, widthOf}
@@ -21,7 +23,7 @@ use Rattle.memory.specs.Meaning.{layoutArrays}
 use Rattle.memory.proofs.LayoutWords.{words-sized, kind-word, arity-word, kind-start-word}
 use Rattle.layout_apply.specs.Heads.{withOwn, Heads, slotNo, HeadsReady, NewAt, placeNo, Upto, HeadedUpto, HeadsGroup}
 use Rattle.layout_apply.proofs.Arities.{place-below}
-use Rattle.layout_apply.proofs.HeadSteps.{heads-none, heads-then, ready-kept, capacity-same, arrays-same, slot-small, upto-more}
+use Rattle.layout_apply.proofs.HeadSteps.{heads-none, heads-then, ready-kept, shape-same, arrays-same, slot-small, upto-more}
 
 -- ---- one kind's column
 
@@ -35,9 +37,9 @@ module _ (w : List ℕ) (R : HeadsReady w) (p : ℕ) (h : p < widthOf (layoutArr
   pub slot-is : (k s : ℕ) → k ≡ getD w (LAYOUT + p) 0 → s ≡ getD w (TABLE + k) 0 → s ≡ slotNo w p
   slot-is k s ek es = es ∙ ap (slotOf w) (ek ∙ sym (kind-word w p place-small))
 
-  pub member-lent : (n k s : ℕ) → n ≡ capacityOf w → k ≡ getD w (LAYOUT + p) 0 → s ≡ getD w (TABLE + k) 0 → Lent n s w
-  member-lent n k s en ek es =
-      rw (en, slot-is k s ek es) (lent (capacityOf w) (kindCapacityOf w) (slotNo w p) w (R .columns) (slot-small w R p h))
+  pub member-lent : (z : Shape) (k s : ℕ) → z ≡ shapeOf w → k ≡ getD w (LAYOUT + p) 0 → s ≡ getD w (TABLE + k) 0 → Lent z s w
+  member-lent z k s en ek es =
+      rw (en, slot-is k s ek es) (lent (shapeOf w) (kindCapacityOf w) (slotNo w p) w (R .columns) (slot-small w R p h))
 
 -- ---- a group's new kinds
 
@@ -55,24 +57,24 @@ module _ (w : List ℕ) (R : HeadsReady w) (f g : ℕ) (G : InFamily (layoutArra
   prior-few = omega (arith, groups.prior-less (layoutArrays w) (R .formed) (words-sized w (R .long)) f g G)
 
 -- w₀ are the words before group g's new kinds; the heads are set up to place j of family f
-pub record Groupwise (w₀ : List ℕ) (n f g start arity : ℕ) (w : List ℕ) (j : ℕ) : Type 0 where
+pub record Groupwise (w₀ : List ℕ) (z : Shape) (f g start arity : ℕ) (w : List ℕ) (j : ℕ) : Type 0 where
   pub ready : HeadsReady w₀
   pub group : InFamily (layoutArrays w₀) f g
-  pub capacity : n ≡ capacityOf w₀
+  pub shape : z ≡ shapeOf w₀
   pub starts : start ≡ startOf (layoutArrays w₀ .kindEnds) f
   pub ends : arity ≡ arityOf (layoutArrays w₀) g
   pub low : priorArity (layoutArrays w₀) f g ≤ j
   pub high : j ≤ arity
   pub headed : HeadedUpto w₀ w (placeNo (layoutArrays w₀) f j)
 
-pub group-none : (w : List ℕ) (n f g prior start arity : ℕ) → HeadsReady w → n ≡ capacityOf w → InFamily (layoutArrays w) f g → prior ≡ priorArity (layoutArrays w) f g
-    → Upto w (placeNo (layoutArrays w) f prior) → ReadStart w LAYOUT-KIND-ENDS f start → arity ≡ getD w (LAYOUT-ARITIES + g) 0 → Groupwise w n f g start arity w prior
-group-none w n f g prior start arity R en G ep U es ea =
+pub group-none : (w : List ℕ) (z : Shape) (f g prior start arity : ℕ) → HeadsReady w → z ≡ shapeOf w → InFamily (layoutArrays w) f g → prior ≡ priorArity (layoutArrays w) f g
+    → Upto w (placeNo (layoutArrays w) f prior) → ReadStart w LAYOUT-KIND-ENDS f start → arity ≡ getD w (LAYOUT-ARITIES + g) 0 → Groupwise w z f g start arity w prior
+group-none w z f g prior start arity R en G ep U es ea =
     let q : arity ≡ arityOf (layoutArrays w) g = ea ∙ sym (arity-word w g (omega (arith, group-few w R f g G))) in
     record {
       ready = R;
       group = G;
-      capacity = en;
+      shape = en;
       starts = es .is ∙ sym (kind-start-word w f (omega (arith, family-few w R f g G)));
       ends = q;
       low = omega arith;
@@ -81,15 +83,15 @@ group-none w n f g prior start arity R en G ep U es ea =
     }
 
 -- what the next kind's column asks
-pub record NextKind (w : List ℕ) (n g p j : ℕ) : Type 0 where
+pub record NextKind (w : List ℕ) (z : Shape) (g p j : ℕ) : Type 0 where
   pub ready : HeadsReady w
-  pub capacity : n ≡ capacityOf w
+  pub shape : z ≡ shapeOf w
   pub place : p < widthOf (layoutArrays w)
   pub group : g < GROUP-PLACES
   pub local : j < MAX-KINDS
   pub small : p < MAX-KINDS
 
-module _ (w₀ : List ℕ) (n f g start arity : ℕ) (w : List ℕ) (j : ℕ) (B : Groupwise w₀ n f g start arity w j) where
+module _ (w₀ : List ℕ) (z : Shape) (f g start arity : ℕ) (w : List ℕ) (j : ℕ) (B : Groupwise w₀ z f g start arity w j) where
   abbrev a : Arrays
   a = layoutArrays w₀
 
@@ -106,32 +108,32 @@ module _ (w₀ : List ℕ) (n f g start arity : ℕ) (w : List ℕ) (j : ℕ) (B
     new-at : NewAt a f g j
     new-at = record { group = B .group; from = B .low; to = omega (arith, B .ends) }
 
-    pub next-kind : NextKind w n g (start + j) j
+    pub next-kind : NextKind w z g (start + j) j
     next-kind =
         let p : placeNo a f j < widthOf a = place-below a (R .formed) (words-sized w₀ (R .long)) f g j new-at in
         record {
           ready = ready-kept w₀ w R H;
-          capacity = B .capacity ∙ sym (capacity-same w₀ w R H);
+          shape = B .shape ∙ sym (shape-same w₀ w R H);
           place = subst (λ (b : Arrays). start + j < widthOf b) (sym (arrays-same w₀ w R H)) (omega (arith, place-is));
           group = omega (arith, group-few w₀ R f g (B .group));
           local = omega (arith, arity-few w₀ R f g (B .group), B .ends);
           small = omega (arith, place-is, R .formed .wide);
         }
 
-    pub group-more : (w′ : List ℕ) → w′ ≡ withOwn n (slotNo w (start + j)) (g + 1) j w → Groupwise w₀ n f g start arity w′ (j + 1)
+    pub group-more : (w′ : List ℕ) → w′ ≡ withOwn z (slotNo w (start + j)) (g + 1) j w → Groupwise w₀ z f g start arity w′ (j + 1)
     group-more w′ e =
         let R′ = ready-kept w₀ w R H in
         let q = sym (arrays-same w₀ w R H) in
         let M = upto-more w R′ f g j (subst (λ (b : Arrays). NewAt b f g j) q new-at) (subst (λ (b : Arrays). Upto w (placeNo b f j)) q (B .headed .upto)) in
-        let c : n ≡ capacityOf w = next-kind .capacity in
+        let c : z ≡ shapeOf w = next-kind .shape in
         let r : start + j ≡ placeNo (layoutArrays w) f j = place-is ∙ ap (λ (b : Arrays). placeNo b f j) q in
         let t : placeNo (layoutArrays w) f j + 1 ≡ placeNo a f (j + 1) = ap (λ (b : Arrays). placeNo b f j + 1) (sym q) ∙ omega arith in
-        let W = withOwn (capacityOf w) (slotNo w (placeNo (layoutArrays w) f j)) (g + 1) j w in
-        let done : w′ ≡ W = e ∙ ap (λ (m : ℕ). withOwn m (slotNo w (start + j)) (g + 1) j w) c ∙ ap (λ (p : ℕ). withOwn (capacityOf w) (slotNo w p) (g + 1) j w) r in
+        let W = withOwn (shapeOf w) (slotNo w (placeNo (layoutArrays w) f j)) (g + 1) j w in
+        let done : w′ ≡ W = e ∙ ap (λ (m : Shape). withOwn m (slotNo w (start + j)) (g + 1) j w) c ∙ ap (λ (p : ℕ). withOwn (shapeOf w) (slotNo w p) (g + 1) j w) r in
         record {
           ready = R;
           group = B .group;
-          capacity = B .capacity;
+          shape = B .shape;
           starts = B .starts;
           ends = B .ends;
           low = omega (arith, B .low);

@@ -7,14 +7,17 @@ use native.Mathlib.Numerals.{add-one}
 use native.Mathlib.Omega.{arith}
 use lib.ListN.{getD, set, take}
 use Rattle.model.specs.Sound.{In}
-use Rattle.words.specs.Offsets.{columnStart, CAPACITY, COLUMN-KIND, ENTITIES, KIND-CAPACITY, LAYOUT-FAMILIES, OWN-GROUP, PLACE-IN-FAMILY, REGISTERED, TABLE}
+use Rattle.words.specs.Offsets.{CAPACITY, COLUMN-KIND, ENTITIES, KIND-CAPACITY, LAYOUT-FAMILIES, OWN-GROUP, PLACE-IN-FAMILY, REGISTERED, TABLE}
+use Rattle.words.proofs.Offsets.{columnStart-first}
+use Rattle.words.specs.Shape.{columnStart, shapeOf, shape}
+use Rattle.words.specs.declared.Shape.{Shape}
 use Rattle.model.proofs.BoolLaws.{by-eq}
 use Rattle.component.specs.Columns.{columnOf, Columns}
 use Rattle.component.proofs.Frames.{headed}
 use Rattle.layout.specs.Layout.{Arrays, WellFormed, widthOf}
 use Rattle.memory.specs.Header.{capacityOf, kindCapacityOf, registeredOf, slotOf}
 use Rattle.memory.specs.Meaning.{kindAt, ownAt, localAt, layoutArrays}
-use Rattle.memory.proofs.Frames.{start-header, layout-arrays-same}
+use Rattle.memory.proofs.Frames.{layout-arrays-same}
 use Rattle.memory.proofs.LayoutWords.{words-sized}
 use Rattle.model.proofs.ListLaws.{word-front}
 use Rattle.layout_apply.specs.Heads.{withOwn, Reheaded, Heads, Groupless, Slotted, kindNo, slotNo, HeadsReady, NewAt, placeNo, HeadIs, Upto, HeadedUpto}
@@ -22,11 +25,11 @@ use Rattle.layout_apply.proofs.Arities.{kinds-apart, kind-among, same-p
 
 -- ---- nothing but words 2 and 3 of the heads
 
-pub reheaded-none : (n k : ℕ) (w : List ℕ) → Columns n k w → Reheaded n k w w
-reheaded-none n k w c = record { columns = c; size = refl; rows = λ s h. refl; kinds = λ s h. refl; front = refl; past = refl }
+pub reheaded-none : (z : Shape) (k : ℕ) (w : List ℕ) → Columns z k w → Reheaded z k w w
+reheaded-none z k w c = record { columns = c; size = refl; rows = λ s h. refl; kinds = λ s h. refl; front = refl; past = refl }
 
-pub reheaded-then : (n k : ℕ) (w₀ w w′ : List ℕ) → Reheaded n k w₀ w → Reheaded n k w w′ → Reheaded n k w₀ w′
-reheaded-then n k w₀ w w′ r q =
+pub reheaded-then : (z : Shape) (k : ℕ) (w₀ w w′ : List ℕ) → Reheaded z k w₀ w → Reheaded z k w w′ → Reheaded z k w₀ w′
+reheaded-then z k w₀ w w′ r q =
     record {
       columns = q .columns;
       size = q .size ∙ r .size;
@@ -38,17 +41,17 @@ reheaded-then n k w₀ w w′ r q =
 
 -- ---- one column
 
-pub record Owned (n k s o p : ℕ) (w w′ : List ℕ) : Type 0 where
-  pub heads : Reheaded n k w w′
-  pub own : getD (columnOf n s w′) OWN-GROUP 0 ≡ o
-  pub local : getD (columnOf n s w′) PLACE-IN-FAMILY 0 ≡ p
-  pub others : (j : ℕ) → j < k → j ≢ s → columnOf n j w′ ≡ columnOf n j w
+pub record Owned (z : Shape) (k s o p : ℕ) (w w′ : List ℕ) : Type 0 where
+  pub heads : Reheaded z k w w′
+  pub own : getD (columnOf z s w′) OWN-GROUP 0 ≡ o
+  pub local : getD (columnOf z s w′) PLACE-IN-FAMILY 0 ≡ p
+  pub others : (j : ℕ) → j < k → j ≢ s → columnOf z j w′ ≡ columnOf z j w
 
-pub owned : (n k s own place : ℕ) (w : List ℕ) → Columns n k w → s < k → Owned n k s own place w (withOwn n s own place w)
-owned n k s own place w c h =
-    let w₁ = set w (columnStart n s + OWN-GROUP) own in
-    let a = headed n k s OWN-GROUP own w c h (omega arith) (omega arith) in
-    let b = headed n k s PLACE-IN-FAMILY place w₁ (a .columns) h (omega arith) (omega arith) in
+pub owned : (z : Shape) (k s own place : ℕ) (w : List ℕ) → Columns z k w → s < k → Owned z k s own place w (withOwn z s own place w)
+owned z k s own place w c h =
+    let w₁ = set w (columnStart z s + OWN-GROUP) own in
+    let a = headed z k s OWN-GROUP own w c h (omega arith) (omega arith) in
+    let b = headed z k s PLACE-IN-FAMILY place w₁ (a .columns) h (omega arith) (omega arith) in
     record {
       heads =
           record {
@@ -70,14 +73,14 @@ owned n k s own place w c h =
 
 -- ---- no column in a group
 
-pub clear-none : (n k : ℕ) (w : List ℕ) → Columns n k w → Groupless n k 0 w w
-clear-none n k w c = record { heads = reheaded-none n k w c; none = λ s h. absurd (omega arith) }
+pub clear-none : (z : Shape) (k : ℕ) (w : List ℕ) → Columns z k w → Groupless z k 0 w w
+clear-none z k w c = record { heads = reheaded-none z k w c; none = λ s h. absurd (omega arith) }
 
-pub clear-more : (n k s : ℕ) (w₀ w : List ℕ) → s < k → Groupless n k s w₀ w → Groupless n k (s + 1) w₀ (withOwn n s 0 0 w)
-clear-more n k s w₀ w h G =
-    let o = owned n k s 0 0 w (G .heads .columns) h in
+pub clear-more : (z : Shape) (k s : ℕ) (w₀ w : List ℕ) → s < k → Groupless z k s w₀ w → Groupless z k (s + 1) w₀ (withOwn z s 0 0 w)
+clear-more z k s w₀ w h G =
+    let o = owned z k s 0 0 w (G .heads .columns) h in
     record {
-      heads = reheaded-then n k w₀ w (withOwn n s 0 0 w) (G .heads) (o .heads);
+      heads = reheaded-then z k w₀ w (withOwn z s 0 0 w) (G .heads) (o .heads);
       none =
           λ j hj.
           by-eq j s (λ e. rw e (o .own)) (λ ne. ap (λ (u : List ℕ). getD u OWN-GROUP 0) (o .others j (omega arith) ne) ∙ G .none j (omega arith));
@@ -87,10 +90,13 @@ clear-more n k s w₀ w h G =
 
 module _ (w w′ : List ℕ) (R : HeadsReady w) (H : Heads w w′) where
   pub word-same : (i : ℕ) → i < ENTITIES → getD w′ i 0 ≡ getD w i 0
-  word-same i h = word-front (columnStart (capacityOf w) 0) w w′ (H .front) i (omega (arith, start-header (capacityOf w)))
+  word-same i h = word-front (columnStart (shapeOf w) 0) w w′ (H .front) i (omega (arith, columnStart-first (shapeOf w)))
 
   pub capacity-same : capacityOf w′ ≡ capacityOf w
   capacity-same = word-same CAPACITY (omega arith)
+
+  pub shape-same : shapeOf w′ ≡ shapeOf w
+  shape-same = ap shape capacity-same
 
   kind-capacity-same : kindCapacityOf w′ ≡ kindCapacityOf w
   kind-capacity-same = word-same KIND-CAPACITY (omega arith)
@@ -101,8 +107,8 @@ module _ (w w′ : List ℕ) (R : HeadsReady w) (H : Heads w w′) where
   pub arrays-same : layoutArrays w′ ≡ layoutArrays w
   arrays-same = layout-arrays-same w w′ (H .size) (R .long) (word-same LAYOUT-FAMILIES (omega arith)) (λ i a b. word-same i (omega arith))
 
-  pub head-same : (s i : ℕ) → getD (columnOf (capacityOf w′) s w′) i 0 ≡ getD (columnOf (capacityOf w) s w′) i 0
-  head-same s i = ap (λ (c : ℕ). getD (columnOf c s w′) i 0) capacity-same
+  pub head-same : (s i : ℕ) → getD (columnOf (shapeOf w′) s w′) i 0 ≡ getD (columnOf (shapeOf w) s w′) i 0
+  head-same s i = ap (λ (c : Shape). getD (columnOf c s w′) i 0) shape-same
 
   pub kind-same : (s : ℕ) → s < registeredOf w → kindAt w′ s ≡ kindAt w s
   kind-same s h = head-same s COLUMN-KIND ∙ H .kinds s (omega (arith, R .few))
@@ -131,10 +137,10 @@ module _ (w w′ : List ℕ) (R : HeadsReady w) (H : Heads w w′) where
 
   pub heads-then : (w″ : List ℕ) → Heads w′ w″ → Heads w w″
   heads-then w″ H′ =
-      reheaded-then (capacityOf w) (kindCapacityOf w) w w′ w″ H (rw (capacity-same, kind-capacity-same) at H′)
+      reheaded-then (shapeOf w) (kindCapacityOf w) w w′ w″ H (rw (capacity-same, kind-capacity-same) at H′)
 
 pub heads-none : (w : List ℕ) → HeadsReady w → Heads w w
-heads-none w R = reheaded-none (capacityOf w) (kindCapacityOf w) w (R .columns)
+heads-none w R = reheaded-none (shapeOf w) (kindCapacityOf w) w (R .columns)
 
 -- ---- the heads of the layout's kinds
 
@@ -159,20 +165,20 @@ module _ (w : List ℕ) (R : HeadsReady w) where
     s = slotNo w p
 
     abbrev w′ : List ℕ
-    w′ = withOwn (capacityOf w) s (g + 1) j w
+    w′ = withOwn (shapeOf w) s (g + 1) j w
 
     below : p < widthOf a
     below = place-below a (R .formed) (words-sized w (R .long)) f g j N
 
-    change : Owned (capacityOf w) (kindCapacityOf w) s (g + 1) j w w′
-    change = owned (capacityOf w) (kindCapacityOf w) s (g + 1) j w (R .columns) (slot-small p below)
+    change : Owned (shapeOf w) (kindCapacityOf w) s (g + 1) j w w′
+    change = owned (shapeOf w) (kindCapacityOf w) s (g + 1) j w (R .columns) (slot-small p below)
 
     slot-same : (q : ℕ) → q < widthOf a → slotNo w′ q ≡ slotNo w q
     slot-same q h =
         ap (λ (b : Arrays). slotOf w′ (getD (b .kinds) q 0)) (arrays-same w w′ R (change .heads))
         ∙ word-same w w′ R (change .heads) (TABLE + kindNo w q) (omega (arith, R .known q h .small))
 
-    head-other : (t i : ℕ) → t < kindCapacityOf w → t ≢ s → getD (columnOf (capacityOf w′) t w′) i 0 ≡ getD (columnOf (capacityOf w) t w) i 0
+    head-other : (t i : ℕ) → t < kindCapacityOf w → t ≢ s → getD (columnOf (shapeOf w′) t w′) i 0 ≡ getD (columnOf (shapeOf w) t w) i 0
     head-other t i h ne = head-same w w′ R (change .heads) t i ∙ ap (λ (u : List ℕ). getD u i 0) (change .others t h ne)
 
     right-more : Upto w p → (f′ g′ j′ : ℕ) → NewAt a f′ g′ j′ → placeNo a f′ j′ < p + 1 → HeadIs w′ (placeNo a f′ j′) g′ j′

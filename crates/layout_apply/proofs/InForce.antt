@@ -12,12 +12,14 @@ use lib.Seq.{ext-getD}
 use Rattle.model.specs.Numbers.{ENTITY-LEN, MAX-KINDS}
 use Rattle.model.specs.Sound.{In, StoreSound}
 use Rattle.model.proofs.BoolLaws.{bool-cases}
-use Rattle.words.specs.Offsets.{columnStart, BLOCK-LEN, CALLER, CAPACITY, COLUMN-KIND, DRAFT, DRAFT-FAMILIES, DRAFT-GROUPS, ENTITIES, EXCLUDED-LEN, GROUP-COUNTS, GROUP-FAMILIES, GROUP-PLACES, KIND-CAPACITY, LAYOUT, LAYOUT-FAMILIES, LAYOUT-GROUPS, OWN-GROUP, REGISTERED, RULE, STAGED-LEN, TABLE, UNREGISTERED}
-use Rattle.words.proofs.Offsets.{columnStart-mono}
+use Rattle.words.specs.Offsets.{BLOCK-LEN, CALLER, CAPACITY, COLUMN-KIND, DRAFT, DRAFT-FAMILIES, DRAFT-GROUPS, ENTITIES, EXCLUDED-LEN, GROUP-COUNTS, GROUP-FAMILIES, GROUP-PLACES, KIND-CAPACITY, LAYOUT, LAYOUT-FAMILIES, LAYOUT-GROUPS, OWN-GROUP, REGISTERED, RULE, STAGED-LEN, TABLE, UNREGISTERED}
+use Rattle.words.proofs.Offsets.{columnStart-mono, columnStart-first}
 use Rattle.words.specs.Part.{between}
 use Rattle.words.proofs.Part.{between-front, between-rest, length-between, getD-between}
 use Rattle.words.specs.Table.{table}
 use Rattle.words.proofs.Tables.{table-same, table-none}
+use Rattle.words.specs.Shape.{columnStart, shapeOf, shape}
+use Rattle.words.specs.declared.Shape.{Shape}
 use Rattle.component.specs.SparseSet.{rows}
 use Rattle.component.specs.Columns.{columnOf, rowsOf, Columns}
 use Rattle.component.proofs.Frames.{front-column, front-columns}
@@ -31,7 +33,7 @@ use Rattle.layout.proofs.Groups.{spot}
 use Rattle.memory.specs.Header.{capacityOf, kindCapacityOf, registeredOf, layoutGroups, slotOf, groupFamilyAt}
 use Rattle.memory.specs.Meaning.{kindAt, kindsIn, setAt, setsIn, draftArrays, layoutArrays, draftIn, layoutIn, meaning}
 use Rattle.memory.specs.Arranged.{TableSound, GroupSound, LayoutSound, Arranged, Becomes}
-use Rattle.memory.proofs.Frames.{start-header, staged-same, excluded-same, settings-kept, counts-kept, long, reads-means}
+use Rattle.memory.proofs.Frames.{staged-same, excluded-same, settings-kept, counts-kept, long, reads-means}
 use Rattle.model.proofs.ListLaws.{drop-later}
 use Rattle.kinds.proofs.Slot.{known-slot, known-small}
 use Rattle.kinds.proofs.Clear.{fewer}
@@ -53,6 +55,9 @@ module _ (w₀ w₁ : List ℕ) (A : Arranged w₀) (M : StoreSound (meaning w�
   abbrev n : ℕ
   n = capacityOf w₀
 
+  abbrev z : Shape
+  z = shapeOf w₀
+
   abbrev k : ℕ
   k = kindCapacityOf w₀
 
@@ -71,14 +76,14 @@ module _ (w₀ w₁ : List ℕ) (A : Arranged w₀) (M : StoreSound (meaning w�
   slot₁ : (j : ℕ) → j < MAX-KINDS → slotOf w₁ j ≡ slotOf w₀ j
   slot₁ j h = P .lists (TABLE + j) (omega arith) (omega arith)
 
-  rest₁ : drop (columnStart n 0) w₁ ≡ drop (columnStart n 0) w₀
-  rest₁ = drop-later ENTITIES (columnStart n 0) w₀ w₁ (omega (arith, start-header n)) (P .rest)
+  rest₁ : drop (columnStart z 0) w₁ ≡ drop (columnStart z 0) w₀
+  rest₁ = drop-later ENTITIES (columnStart z 0) w₀ w₁ (omega (arith, columnStart-first z)) (P .rest)
 
-  column₁ : (s : ℕ) → columnOf n s w₁ ≡ columnOf n s w₀
-  column₁ s = front-column n w₀ w₁ rest₁ s
+  column₁ : (s : ℕ) → columnOf z s w₁ ≡ columnOf z s w₀
+  column₁ s = front-column z w₀ w₁ rest₁ s
 
   kind₁ : (s : ℕ) → kindAt w₁ s ≡ kindAt w₀ s
-  kind₁ s = ap (λ (c : ℕ). getD (columnOf c s w₁) COLUMN-KIND 0) cap₁ ∙ ap (λ (u : List ℕ). getD u COLUMN-KIND 0) (column₁ s)
+  kind₁ s = ap (λ (c : ℕ). getD (columnOf (shape c) s w₁) COLUMN-KIND 0) cap₁ ∙ ap (λ (u : List ℕ). getD u COLUMN-KIND 0) (column₁ s)
 
   block₁ : between LAYOUT GROUP-FAMILIES w₁ ≡ between DRAFT LAYOUT w₀
   block₁ =
@@ -116,7 +121,7 @@ module _ (w₀ w₁ : List ℕ) (A : Arranged w₀) (M : StoreSound (meaning w�
   ready₁ =
       record {
         long = omega (arith, P .size, long w₀ A);
-        columns = rw (cap₁, kcap₁) (front-columns n w₀ w₁ rest₁ k (P .size) (A .columns));
+        columns = rw (cap₁, kcap₁) (front-columns z w₀ w₁ rest₁ k (P .size) (A .columns));
         few = rw (reg₁, kcap₁) (A .table .few);
         formed = subst WellFormed (sym arrays₁) (A .draft);
         known = subst (λ (a : Arrays). (p : ℕ) → p < widthOf a → Slotted w₁ (getD (a .kinds) p 0)) (sym arrays₁) slotted₁;
@@ -124,14 +129,14 @@ module _ (w₀ w₁ : List ℕ) (A : Arranged w₀) (M : StoreSound (meaning w�
 
   -- ---- the heads cleared
 
-  module _ (c m : ℕ) (ec : c ≡ capacityOf w₁) (em : m ≡ registeredOf w₁) where
+  module _ (c : Shape) (m : ℕ) (ec : c ≡ shapeOf w₁) (em : m ≡ registeredOf w₁) where
     pub clear-asks : Columns c m w₁
-    clear-asks = rw (ec, em) (fewer (capacityOf w₁) (registeredOf w₁) (kindCapacityOf w₁) (ready₁ .few) w₁ w₁ (ready₁ .columns))
+    clear-asks = rw (ec, em) (fewer (shapeOf w₁) (registeredOf w₁) (kindCapacityOf w₁) (ready₁ .few) w₁ w₁ (ready₁ .columns))
 
-    pub cleared : (w₂ : List ℕ) → ClearsHeads c m w₁ w₂ → ClearsHeads (capacityOf w₁) (registeredOf w₁) w₁ w₂
+    pub cleared : (w₂ : List ℕ) → ClearsHeads c m w₁ w₂ → ClearsHeads (shapeOf w₁) (registeredOf w₁) w₁ w₂
     cleared w₂ C = rw (ec, em) at C
 
-  module _ (w₂ : List ℕ) (C : ClearsHeads (capacityOf w₁) (registeredOf w₁) w₁ w₂) where
+  module _ (w₂ : List ℕ) (C : ClearsHeads (shapeOf w₁) (registeredOf w₁) w₁ w₂) where
     pub heads₂ : Heads w₁ w₂
     heads₂ = C (kindCapacityOf w₁) (ready₁ .few) (ready₁ .columns) .heads
 
@@ -149,7 +154,7 @@ module _ (w₀ w₁ : List ℕ) (A : Arranged w₀) (M : StoreSound (meaning w�
     ready : HeadsReady w
     ready = ready-kept w₁ w ready₁ H
 
-    changed : Reheaded n k w₁ w
+    changed : Reheaded z k w₁ w
     changed = rw (cap₁, kcap₁) at H
 
     same : (i : ℕ) → i < ENTITIES → getD w i 0 ≡ getD w₁ i 0
@@ -178,10 +183,10 @@ module _ (w₀ w₁ : List ℕ) (A : Arranged w₀) (M : StoreSound (meaning w�
 
     kind : (s : ℕ) → s < registeredOf w₀ → kindAt w s ≡ kindAt w₀ s
     kind s h =
-        ap (λ (c : ℕ). getD (columnOf c s w) COLUMN-KIND 0) cap ∙ changed .kinds s (omega (arith, A .table .few)) ∙ ap (λ (u : List ℕ). getD u COLUMN-KIND 0) (column₁ s)
+        ap (λ (c : ℕ). getD (columnOf (shape c) s w) COLUMN-KIND 0) cap ∙ changed .kinds s (omega (arith, A .table .few)) ∙ ap (λ (u : List ℕ). getD u COLUMN-KIND 0) (column₁ s)
 
-    row : (s : ℕ) → s < k → rowsOf n s w ≡ rowsOf n s w₀
-    row s h = changed .rows s h ∙ ap (rows n) (column₁ s)
+    row : (s : ℕ) → s < k → rowsOf z s w ≡ rowsOf z s w₀
+    row s h = changed .rows s h ∙ ap (rows z) (column₁ s)
 
     arrays : layoutArrays w ≡ d
     arrays = arrays-same w₁ w ready₁ H ∙ arrays₁
@@ -238,7 +243,7 @@ module _ (w₀ w₁ : List ℕ) (A : Arranged w₀) (M : StoreSound (meaning w�
 
     entity-part : entityPart n w ≡ entityPart n w₀
     entity-part =
-        between-front (columnStart n 0) ENTITIES (ENTITIES + ENTITY-LEN * n) w₁ w (omega (arith, start-header n)) (changed .front)
+        between-front (columnStart z 0) ENTITIES (ENTITIES + ENTITY-LEN * n) w₁ w (omega (arith, columnStart-first z)) (changed .front)
         ∙ between-rest ENTITIES ENTITIES (ENTITIES + ENTITY-LEN * n) w₀ w₁ (omega arith) (P .rest)
 
     arranged : Arranged w
@@ -317,12 +322,12 @@ module _ (w₀ w₁ : List ℕ) (A : Arranged w₀) (M : StoreSound (meaning w�
           size = size;
           past =
               changed .past
-              ∙ drop-later ENTITIES (columnStart n k) w₀ w₁ (omega (arith, start-header n, columnStart-mono n 0 k (omega arith))) (P .rest);
+              ∙ drop-later ENTITIES (columnStart z k) w₀ w₁ (omega (arith, columnStart-first z, columnStart-mono z 0 k (omega arith))) (P .rest);
         }
 
   -- ---- all of it
 
-  pub heads-set : (w₂ w : List ℕ) → ClearsHeads (capacityOf w₁) (registeredOf w₁) w₁ w₂ → HeadedUpto w₂ w (widthOf (layoutArrays w₂)) → Becomes w₀ w (installed (meaning w₀))
+  pub heads-set : (w₂ w : List ℕ) → ClearsHeads (shapeOf w₁) (registeredOf w₁) w₁ w₂ → HeadedUpto w₂ w (widthOf (layoutArrays w₂)) → Becomes w₀ w (installed (meaning w₀))
   heads-set w₂ w C D =
       let H₂ = heads₂ w₂ C in
       let H = heads-then w₁ w₂ ready₁ H₂ w (D .heads) in

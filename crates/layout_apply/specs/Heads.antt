@@ -5,7 +5,9 @@ use Prim.Native.Nat.{ℕ, suc, _+_, _≤_, _<_}
 use lib.ListN.{length, getD, set, take, drop}
 use Rattle.model.specs.Numbers.{MAX-KINDS}
 use Rattle.model.specs.Sound.{In}
-use Rattle.words.specs.Offsets.{columnStart, COLUMN-KIND, ENTITIES, OWN-GROUP, PLACE-IN-FAMILY}
+use Rattle.words.specs.Offsets.{COLUMN-KIND, ENTITIES, OWN-GROUP, PLACE-IN-FAMILY}
+use Rattle.words.specs.Shape.{columnStart, shapeOf}
+use Rattle.words.specs.declared.Shape.{Shape}
 use Rattle.component.specs.Columns.{columnOf, rowsOf, Columns}
 use Rattle.layout.specs.Layout.{Arrays, WellFormed, startOf, widthOf}
 use Rattle.layout.specs.Group.{InFamily, arityOf, priorArity}
@@ -13,29 +15,29 @@ use Rattle.memory.specs.Header.{capacityOf, kindCapacityOf, registeredOf, slotO
 use Rattle.memory.specs.Meaning.{kindAt, ownAt, localAt, layoutArrays}
 
 -- words 2 and 3 of the head of slot s's column
-abbrev pub withOwn : ℕ → ℕ → ℕ → ℕ → List ℕ → List ℕ
-withOwn n s own place w = set (set w (columnStart n s + OWN-GROUP) own) (columnStart n s + PLACE-IN-FAMILY) place
+abbrev pub withOwn : Shape → ℕ → ℕ → ℕ → List ℕ → List ℕ
+withOwn z s own place w = set (set w (columnStart z s + OWN-GROUP) own) (columnStart z s + PLACE-IN-FAMILY) place
 
--- nothing has changed but words 2 and 3 of the columns' heads, in k slots of capacity n
-pub record Reheaded (n k : ℕ) (w w′ : List ℕ) : Type 0 where
-  pub columns : Columns n k w′
+-- nothing has changed but words 2 and 3 of the columns' heads, in k slots of shape z
+pub record Reheaded (z : Shape) (k : ℕ) (w w′ : List ℕ) : Type 0 where
+  pub columns : Columns z k w′
   pub size : length w′ ≡ length w
-  pub rows : (s : ℕ) → s < k → rowsOf n s w′ ≡ rowsOf n s w
-  pub kinds : (s : ℕ) → s < k → getD (columnOf n s w′) COLUMN-KIND 0 ≡ getD (columnOf n s w) COLUMN-KIND 0
-  pub front : take (columnStart n 0) w′ ≡ take (columnStart n 0) w
-  pub past : drop (columnStart n k) w′ ≡ drop (columnStart n k) w
+  pub rows : (s : ℕ) → s < k → rowsOf z s w′ ≡ rowsOf z s w
+  pub kinds : (s : ℕ) → s < k → getD (columnOf z s w′) COLUMN-KIND 0 ≡ getD (columnOf z s w) COLUMN-KIND 0
+  pub front : take (columnStart z 0) w′ ≡ take (columnStart z 0) w
+  pub past : drop (columnStart z k) w′ ≡ drop (columnStart z k) w
 
 abbrev pub Heads : List ℕ → List ℕ → Type 0
-Heads w w′ = Reheaded (capacityOf w) (kindCapacityOf w) w w′
+Heads w w′ = Reheaded (shapeOf w) (kindCapacityOf w) w w′
 
 -- the columns of the first m slots are in no group
-pub record Groupless (n k m : ℕ) (w w′ : List ℕ) : Type 0 where
-  pub heads : Reheaded n k w w′
-  pub none : (s : ℕ) → s < m → getD (columnOf n s w′) OWN-GROUP 0 ≡ 0
+pub record Groupless (z : Shape) (k m : ℕ) (w w′ : List ℕ) : Type 0 where
+  pub heads : Reheaded z k w w′
+  pub none : (s : ℕ) → s < m → getD (columnOf z s w′) OWN-GROUP 0 ≡ 0
 
 -- of however many slots the words have
-abbrev pub ClearsHeads : ℕ → ℕ → List ℕ → List ℕ → Type 0
-ClearsHeads n m w w′ = (k : ℕ) → m ≤ k → Columns n k w → Groupless n k m w w′
+abbrev pub ClearsHeads : Shape → ℕ → List ℕ → List ℕ → Type 0
+ClearsHeads z m w w′ = (k : ℕ) → m ≤ k → Columns z k w → Groupless z k m w w′
 
 -- kind k has a slot, whose column is k's
 pub record Slotted (w : List ℕ) (k : ℕ) : Type 0 where
@@ -53,7 +55,7 @@ slotNo w p = slotOf w (kindNo w p)
 -- the words are well arranged but for the columns' heads: enough for the heads to be set
 pub record HeadsReady (w : List ℕ) : Type 0 where
   pub long : ENTITIES ≤ length w
-  pub columns : Columns (capacityOf w) (kindCapacityOf w) w
+  pub columns : Columns (shapeOf w) (kindCapacityOf w) w
   pub few : registeredOf w ≤ kindCapacityOf w
   pub formed : WellFormed (layoutArrays w)
   pub known : (p : ℕ) → p < widthOf (layoutArrays w) → Slotted w (kindNo w p)

@@ -4,11 +4,13 @@ use masks::group_mask::GroupMask;
 use words::LAYOUT_ARITIES;
 use words::LAYOUT_ENDS;
 use words::LAYOUT_KIND_ENDS;
+use words::Shape;
 ghost use mathlib.Core.Path.{_≡_};
 ghost use Prim.Native.Nat.{_+_, _≤_, _<_};
 ghost use lib.ListN.{length, getD};
 ghost use Rattle.model.specs.Numbers.{MAX-KINDS};
 ghost use Rattle.words.specs.Offsets.{BLOCK-LEN, ENTITIES, GROUP-PLACES};
+ghost use Rattle.words.specs.Shape.{shapeOf};
 ghost use Rattle.model.specs.Model.{regroup};
 ghost use Rattle.model.specs.Store.{onStorage};
 ghost use Rattle.model.specs.Sound.{StoreSound};
@@ -16,7 +18,6 @@ ghost use Rattle.component.specs.Columns.{Columns};
 ghost use Rattle.component.specs.Changes.{Lent};
 ghost use Rattle.layout.specs.Layout.{startOf, widthOf};
 ghost use Rattle.layout.specs.Group.{InFamily, priorArity};
-ghost use Rattle.memory.specs.Header.{capacityOf};
 ghost use Rattle.memory.specs.Meaning.{layoutArrays, meaning};
 ghost use Rattle.memory.specs.Arranged.{Arranged, Becomes};
 ghost use Rattle.group.specs.Flat.{allPositions};
@@ -92,45 +93,45 @@ fn prepare(words: &mut [u32])
 }
 
 // A column's own group plus one, 0 where it is in none, and its place in its family.
-fn put_own(words: &mut [u32], n: usize, slot: usize, own: usize, place: usize)
-    requires { ⌜ Lent n slot (now words) ⌝ }
+fn put_own(words: &mut [u32], z: Shape, slot: usize, own: usize, place: usize)
+    requires { ⌜ Lent z slot (now words) ⌝ }
     requires { ⌜ (own < 4294967296) × (place < 4294967296) ⌝ }
-    ensures { λ _. ⌜ now (words .exit) ≡ withOwn n slot own place (now (words .entry)) ⌝ }
+    ensures { λ _. ⌜ now (words .exit) ≡ withOwn z slot own place (now (words .entry)) ⌝ }
 {
-    let base = words::column_start(n, slot);
+    let base = words::column_start(z, slot);
     words[base + words::OWN_GROUP] = own as u32;
     words[base + words::PLACE_IN_FAMILY] = place as u32;
 }
 
 // No column of the first m is in a group.
-fn clear_heads(words: &mut [u32], n: usize, m: usize)
-    requires { ⌜ Columns n m (now words) ⌝ }
-    ensures { λ _. ⌜ ClearsHeads n m (now (words .entry)) (now (words .exit)) ⌝ }
+fn clear_heads(words: &mut [u32], z: Shape, m: usize)
+    requires { ⌜ Columns z m (now words) ⌝ }
+    ensures { λ _. ⌜ ClearsHeads z m (now (words .entry)) (now (words .exit)) ⌝ }
 {
     let mut slot = 0;
     while slot < m {
-        put_own(words, n, slot, 0, 0);
+        put_own(words, z, slot, 0, 0);
         slot += 1;
     }
 }
 
 // The column of the p-th kind: new in group g, at place j of its family.
-fn put_member(words: &mut [u32], n: usize, p: usize, g: usize, j: usize)
+fn put_member(words: &mut [u32], z: Shape, p: usize, g: usize, j: usize)
     requires { ⌜ HeadsReady (now words) ⌝ }
-    requires { ⌜ n ≡ capacityOf (now words) ⌝ }
+    requires { ⌜ z ≡ shapeOf (now words) ⌝ }
     requires { ⌜ p < widthOf (layoutArrays (now words)) ⌝ }
     requires { ⌜ (g < GROUP-PLACES) × (j < MAX-KINDS) ⌝ }
-    ensures { λ _. ⌜ now (words .exit) ≡ withOwn n (slotNo (now (words .entry)) p) (g + 1) j (now (words .entry)) ⌝ }
+    ensures { λ _. ⌜ now (words .exit) ≡ withOwn z (slotNo (now (words .entry)) p) (g + 1) j (now (words .entry)) ⌝ }
 {
     let kind = words::word(words, words::LAYOUT + p);
     let slot = words::word(words, words::TABLE + kind);
-    put_own(words, n, slot, g + 1, j);
+    put_own(words, z, slot, g + 1, j);
 }
 
 // The columns of the kinds that are new in group g, from place prior of its family on. Answers the group's arity.
-fn put_group(words: &mut [u32], n: usize, f: usize, g: usize, prior: usize) -> usize
+fn put_group(words: &mut [u32], z: Shape, f: usize, g: usize, prior: usize) -> usize
     requires { ⌜ HeadsReady (now words) ⌝ }
-    requires { ⌜ n ≡ capacityOf (now words) ⌝ }
+    requires { ⌜ z ≡ shapeOf (now words) ⌝ }
     requires { ⌜ InFamily (layoutArrays (now words)) f g ⌝ }
     requires { ⌜ prior ≡ priorArity (layoutArrays (now words)) f g ⌝ }
     requires { ⌜ Upto (now words) (placeNo (layoutArrays (now words)) f prior) ⌝ }
@@ -140,16 +141,16 @@ fn put_group(words: &mut [u32], n: usize, f: usize, g: usize, prior: usize) -> u
     let arity = words::word(words, LAYOUT_ARITIES + g);
     let mut j = prior;
     while j < arity {
-        put_member(words, n, start + j, g, j);
+        put_member(words, z, start + j, g, j);
         j += 1;
     }
     arity
 }
 
 // The columns of a family's kinds, one group after another.
-fn put_family(words: &mut [u32], n: usize, f: usize)
+fn put_family(words: &mut [u32], z: Shape, f: usize)
     requires { ⌜ HeadsReady (now words) ⌝ }
-    requires { ⌜ n ≡ capacityOf (now words) ⌝ }
+    requires { ⌜ z ≡ shapeOf (now words) ⌝ }
     requires { ⌜ f < layoutArrays (now words) .families ⌝ }
     requires { ⌜ Upto (now words) (startOf (layoutArrays (now words) .kindEnds) f) ⌝ }
     ensures { λ _. ⌜ HeadedUpto (now (words .entry)) (now (words .exit)) (getD (layoutArrays (now (words .entry)) .kindEnds) f 0) ⌝ }
@@ -158,22 +159,22 @@ fn put_family(words: &mut [u32], n: usize, f: usize)
     let mut g = start_of(words, LAYOUT_ENDS, f);
     let end = words::word(words, LAYOUT_ENDS + f);
     while g < end {
-        prior = put_group(words, n, f, g, prior);
+        prior = put_group(words, z, f, g, prior);
         g += 1;
     }
 }
 
 // The columns of all kinds of the layout.
-fn put_heads(words: &mut [u32], n: usize)
+fn put_heads(words: &mut [u32], z: Shape)
     requires { ⌜ HeadsReady (now words) ⌝ }
-    requires { ⌜ n ≡ capacityOf (now words) ⌝ }
+    requires { ⌜ z ≡ shapeOf (now words) ⌝ }
     requires { ⌜ Upto (now words) 0 ⌝ }
     ensures { λ _. ⌜ HeadedUpto (now (words .entry)) (now (words .exit)) (widthOf (layoutArrays (now (words .entry)))) ⌝ }
 {
     let families = words::word(words, words::LAYOUT_FAMILIES);
     let mut f = 0;
     while f < families {
-        put_family(words, n, f);
+        put_family(words, z, f);
         f += 1;
     }
 }
@@ -185,10 +186,10 @@ pub fn install(words: &mut [u32])
     ensures { λ _. ⌜ Becomes (now (words .entry)) (now (words .exit)) (installed (meaning (now (words .entry)))) ⌝ }
 {
     prepare(words);
-    let n = words::word(words, words::CAPACITY);
+    let z = words::shape_of(words);
     let m = words::word(words, words::REGISTERED);
-    clear_heads(words, n, m);
-    put_heads(words, n);
+    clear_heads(words, z, m);
+    put_heads(words, z);
 }
 
 // Each live entity in turn is walked upward over all groups.

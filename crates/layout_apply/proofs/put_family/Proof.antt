@@ -4,16 +4,16 @@ use native.Mathlib.Omega.{arith}
 use lib.ListN.{getD}
 use Rattle.memory.specs.Meaning.{layoutArrays}
 use Rattle.memory.proofs.LayoutWords.{start-word, end-word}
-use Rattle.layout_apply.proofs.HeadSteps.{ready-kept, capacity-same}
+use Rattle.layout_apply.proofs.HeadSteps.{ready-kept, shape-same}
 use Rattle.layout_apply.proofs.HeadLoops.{Familywise, family-none, family-group, family-prior, family-upto, family-more, family-done}
 use Rattle.layout_apply.proofs.put_family.Statement.{statement}
 use Rattle.layout_apply.proofs.put_family.Tie as tie
 
 abbrev Inv-loop : tie.InvT-loop
-Inv-loop words₀ n f prior₀ g₀ end words prior g = Familywise words₀ words f g prior
+Inv-loop words₀ z f prior₀ g₀ end words prior g = Familywise words₀ words f g prior
 
 abbrev μ-loop : tie.MeasureT-loop
-μ-loop words₀ n f prior₀ g₀ end words prior g = end - g
+μ-loop words₀ z f prior₀ g₀ end words prior g = end - g
 
 start-of-requires : tie.Need-start-of-requires Inv-loop μ-loop
 start-of-requires c κs = let s = c .before .before in omega (arith, s .pre .0 .long, s .pre .0 .formed .few, s .pre .1 .1 .0)
@@ -40,7 +40,7 @@ put-group-requires c κs =
     let h : l .g < getD (layoutArrays w .ends) (s .args .f) 0 = omega (arith, c .before .before .before .word .ensures .is, end-word w (s .args .f) (omega (arith, s .pre .0 .formed .few, hf)), c .before .loop-test .taken) in (
       ready-kept w (l .words) R (l .inv .headed .heads),
       (
-        s .pre .1 .0 ∙ sym (capacity-same w (l .words) R (l .inv .headed .heads)),
+        s .pre .1 .0 ∙ sym (shape-same w (l .words) R (l .inv .headed .heads)),
         (
           family-group w R (s .args .f) hf (l .words) (l .g) (l .prior) (l .inv) h,
           (

@@ -5,10 +5,10 @@ use Rattle.layout_apply.proofs.put_group.Statement.{statement}
 use Rattle.layout_apply.proofs.put_group.Tie as tie
 
 abbrev Inv-loop : tie.InvT-loop
-Inv-loop words₀ n f g prior start arity j₀ words j = Groupwise words₀ n f g start arity words j
+Inv-loop words₀ z f g prior start arity j₀ words j = Groupwise words₀ z f g start arity words j
 
 abbrev μ-loop : tie.MeasureT-loop
-μ-loop words₀ n f g prior start arity j₀ words j = arity - j
+μ-loop words₀ z f g prior start arity j₀ words j = arity - j
 
 start-of-requires : tie.Need-start-of-requires Inv-loop μ-loop
 start-of-requires c κs =
@@ -30,7 +30,7 @@ loop-holds c =
     let s = c .before .before .before .before .before in
     let a = s .args in
     let p = s .pre .1 .1 in
-    group-none (a .words .now) (a .n) (a .f) (a .g) (a .prior) (c .before .before .start-of .result) (c .word .result) (s .pre .0) (s .pre .1 .0) (p .0) (p .1 .0) (p .1 .1) (c .before .before .start-of .ensures) (c .word .ensures .is)
+    group-none (a .words .now) (a .z) (a .f) (a .g) (a .prior) (c .before .before .start-of .result) (c .word .result) (s .pre .0) (s .pre .1 .0) (p .0) (p .1 .0) (p .1 .1) (c .before .before .start-of .ensures) (c .word .ensures .is)
 
 add-put-member : tie.Need-add-put-member Inv-loop μ-loop
 add-put-member c = let l = c .before .before .loop in omega (arith, next-kind _ _ _ _ _ _ (l .words) (l .j) (l .inv) (c .before .loop-test .taken) .small)
@@ -39,7 +39,7 @@ put-member-requires : tie.Need-put-member-requires Inv-loop μ-loop
 put-member-requires c κs =
     let l = c .before .before .loop in
     let k = next-kind _ _ _ _ _ _ (l .words) (l .j) (l .inv) (c .before .loop-test .taken) in
-    (k .ready, (k .capacity, (k .place, (k .group, k .local))))
+    (k .ready, (k .shape, (k .place, (k .group, k .local))))
 
 loop-again : tie.Need-loop-again Inv-loop μ-loop
 loop-again c = let l = c .before .before .before .before .before .loop in group-more _ _ _ _ _ _ (l .words) (l .j) (l .inv) (c .before .before .before .before .loop-test .taken) (c .before .before .put-member .last .0) (c .before .before .put-member .ensures)

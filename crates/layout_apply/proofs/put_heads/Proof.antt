@@ -4,16 +4,16 @@ use native.Mathlib.Omega.{arith}
 use Rattle.layout.specs.Layout.{startOf}
 use Rattle.memory.specs.Meaning.{layoutArrays}
 use Rattle.layout_apply.specs.Heads.{HeadedUpto}
-use Rattle.layout_apply.proofs.HeadSteps.{ready-kept, capacity-same}
+use Rattle.layout_apply.proofs.HeadSteps.{ready-kept, shape-same}
 use Rattle.layout_apply.proofs.HeadLoops.{families-none, families-here, families-upto, families-more}
 use Rattle.layout_apply.proofs.put_heads.Statement.{statement}
 use Rattle.layout_apply.proofs.put_heads.Tie as tie
 
 abbrev Inv-loop : tie.InvT-loop
-Inv-loop words₀ n families f₀ words f = (f ≤ families) × HeadedUpto words₀ words (startOf (layoutArrays words₀ .kindEnds) f)
+Inv-loop words₀ z families f₀ words f = (f ≤ families) × HeadedUpto words₀ words (startOf (layoutArrays words₀ .kindEnds) f)
 
 abbrev μ-loop : tie.MeasureT-loop
-μ-loop words₀ n families f₀ words f = families - f
+μ-loop words₀ z families f₀ words f = families - f
 
 word-requires : tie.Need-word-requires Inv-loop μ-loop
 word-requires c κs = omega (arith, c .before .before .pre .0 .long)
@@ -30,7 +30,7 @@ put-family-requires c κs =
     let H = l .inv .1 .heads in (
       ready-kept w (l .words) R H,
       (
-        s .pre .1 .0 ∙ sym (capacity-same w (l .words) R H),
+        s .pre .1 .0 ∙ sym (shape-same w (l .words) R H),
         (families-here w R (l .words) (l .f) (l .inv .1) (omega (arith, c .before .before .before .word .ensures .is, c .before .loop-test .taken)), families-upto w R (l .words) (l .f) (l .inv .1)),
       ),
     )

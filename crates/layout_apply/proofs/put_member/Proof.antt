@@ -16,7 +16,7 @@ put-own-requires : tie.Need-put-own-requires
 put-own-requires c κs =
     let s = c .before .before .before .before .before .before in
     let a = s .args in (
-      member-lent (a .words .now) (s .pre .0) (a .p) (s .pre .1 .1 .0) (a .n) (c .before .before .before .word .result) (c .before .word2 .result) (s .pre .1 .0) (c .before .before .before .word .ensures .is) (c .before .word2 .ensures .is),
+      member-lent (a .words .now) (s .pre .0) (a .p) (s .pre .1 .1 .0) (a .z) (c .before .before .before .word .result) (c .before .word2 .result) (s .pre .1 .0) (c .before .before .before .word .ensures .is) (c .before .word2 .ensures .is),
       (omega (arith, s .pre .1 .1 .1), omega (arith, s .pre .1 .1 .1)),
     )
 
@@ -25,7 +25,7 @@ returns c =
     let s = c .before .before .before .before .before .before .before .before .before in
     let a = s .args in
     c .before .before .put-own .ensures
-    ∙ ap (λ (t : ℕ). withOwn (a .n) t (a .g + 1) (a .j) (a .words .now))
+    ∙ ap (λ (t : ℕ). withOwn (a .z) t (a .g + 1) (a .j) (a .words .now))
     (slot-is (a .words .now) (s .pre .0) (a .p) (s .pre .1 .1 .0) (c .before .before .before .before .before .before .word .result) (c .before .before .before .before .word2 .result) (c .before .before .before .before .before .before .word .ensures .is) (c .before .before .before .before .word2 .ensures .is))
 
 pub put-member-spec : {M : Type 1} → statement M

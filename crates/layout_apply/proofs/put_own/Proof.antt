@@ -5,7 +5,7 @@ use Rattle.layout_apply.proofs.put_own.Statement.{statement}
 use Rattle.layout_apply.proofs.put_own.Tie as tie
 
 returns : tie.Need-returns
-returns c = rw (c .column-start .ensures)
+returns c = rw (c .column-start .ensures .is)
 
 pub put-own-spec : {M : Type 1} → statement M
 put-own-spec =

@@ -4,13 +4,13 @@ use Rattle.world.proofs.component_storage.strip_slot.Statement.{stateme
 use Rattle.world.proofs.component_storage.strip_slot.Tie as tie
 
 remove-in-requires : tie.Need-remove-in-requires
-remove-in-requires c κs = let s = «start» in slot-lent (s .args .words .now) (s .pre .0) (s .args .z) (s .args .slot) (s .pre .1 .0) (s .pre .1 .1)
+remove-in-requires c κs = let s = c .before .before in slot-lent (s .args .words .now) (s .pre .0) (s .args .z) (s .args .slot) (s .pre .1 .0) (s .pre .1 .1)
 
 returns : tie.Need-returns
 returns c =
-    let s = «start» in
+    let s = c .before .before .before .before .before in
     let a = s .args in
-    slot-becomes (a .words .now) (s .pre .0) (a .z) (a .slot) (s .pre .1 .0) (s .pre .1 .1) («remove-in» .last .0) (removeRow (entity (a .index) (a .version))) («remove-in» .ensures .change)
+    slot-becomes (a .words .now) (s .pre .0) (a .z) (a .slot) (s .pre .1 .0) (s .pre .1 .1) (c .before .before .remove-in .last .0) (removeRow (entity (a .index) (a .version))) (c .before .before .remove-in .ensures .change)
 
 pub strip-slot-spec : {M : Type 1} → statement M
 strip-slot-spec = tie.close (tie.spec remove-in-requires (λ c. c .before .before .remove-in .kept .0) returns)
