@@ -14,6 +14,8 @@ use Rattle.model.proofs.KindLists.{all-in, all-true}
 use Rattle.model.proofs.BoolLaws.{not-true}
 use Rattle.words.specs.Part.{between}
 use Rattle.words.proofs.Part.{getD-between}
+use Rattle.words.specs.Shape.{shapeOf}
+use Rattle.words.specs.declared.Shape.{Shape}
 use Rattle.component.specs.Columns.{rowsOf, Columns}
 use Rattle.component.proofs.Parts.{lent}
 use Rattle.layout.specs.Layout.{Arrays, startOf, widthOf, WellFormed}
@@ -50,11 +52,11 @@ module _ (w : List ℕ) (long : ENTITIES ≤ length w) (good : WellFormed (layou
 
   -- ---- what the checks ask
 
-  module _ (n k : ℕ) (C : Columns n k w) (few : registeredOf w ≤ k) where
-    kind-at : (i : ℕ) → i < widthOf (layoutArrays w) → KindAt n w (LAYOUT + i)
-    kind-at i h = record { small = known i h .small; lent = lent n k (slotOf w (getD w (LAYOUT + i) 0)) w C (omega (arith, known i h .slot)) }
+  module _ (z : Shape) (k : ℕ) (C : Columns z k w) (few : registeredOf w ≤ k) where
+    kind-at : (i : ℕ) → i < widthOf (layoutArrays w) → KindAt z w (LAYOUT + i)
+    kind-at i h = record { small = known i h .small; lent = lent z k (slotOf w (getD w (LAYOUT + i) 0)) w C (omega (arith, known i h .slot)) }
 
-    span : (f g : ℕ) → InFamily (layoutArrays w) f g → SpanOk n w f g
+    span : (f g : ℕ) → InFamily (layoutArrays w) f g → SpanOk z w f g
     span f g G =
         let E = ends f g G in
         record {
@@ -64,17 +66,17 @@ module _ (w : List ℕ) (long : ENTITIES ≤ length w) (good : WellFormed (layou
               record {
                 inside = omega (arith, E .arity, E .width, E .wide);
                 kinds = λ j lo hi.
-                    let q : LAYOUT + (j - LAYOUT) ≡ j = omega arith in subst (KindAt n w) q (kind-at (j - LAYOUT) (omega (arith, E .arity, E .width)));
+                    let q : LAYOUT + (j - LAYOUT) ≡ j = omega arith in subst (KindAt z w) q (kind-at (j - LAYOUT) (omega (arith, E .arity, E .width)));
               };
         }
 
-    pub force : Force n (layoutFamilies w) w
+    pub force : Force z (layoutFamilies w) w
     force = record { long = long; few = good .few; is = refl; spans = span }
 
-  -- ---- a store's capacity is that of the header
+  -- ---- a store's columns are of the shape that the header tells
 
-  abbrev cap : ℕ
-  cap = capacityOf w
+  abbrev z : Shape
+  z = shapeOf w
 
   -- ---- a group of a family
 
@@ -90,7 +92,7 @@ module _ (w : List ℕ) (long : ENTITIES ≤ length w) (good : WellFormed (layou
 
     -- the heads
 
-    pub heads-group : NewOk cap w f g → GroupSound w (layoutArrays w) g f
+    pub heads-group : NewOk z w f g → GroupSound w (layoutArrays w) g f
     heads-group N =
         record {
           group = G;
@@ -101,7 +103,7 @@ module _ (w : List ℕ) (long : ENTITIES ≤ length w) (good : WellFormed (layou
               subst (λ (k : ℕ). localAt w (slotOf w k) ≡ j) (sym (member-at j hi)) (N (firstAt w f + j) (omega arith) (omega arith) .local ∙ omega arith);
         }
 
-    pub group-heads : GroupSound w (layoutArrays w) g f → NewOk cap w f g
+    pub group-heads : GroupSound w (layoutArrays w) g f → NewOk z w f g
     group-heads S j lo hi =
         let i = j - firstAt w f in
         let p : priorArity a f g ≤ i = omega arith in
@@ -118,7 +120,7 @@ module _ (w : List ℕ) (long : ENTITIES ≤ length w) (good : WellFormed (layou
       abbrev sets : List SparseSet
       sets = setsIn w
 
-      set-of : (k : ℕ) → Registered w k → setOf sets k ≡ rowsOf cap (slotOf w k) w
+      set-of : (k : ℕ) → Registered w k → setOf sets k ≡ rowsOf z (slotOf w k) w
       set-of k r = set-in w A k (r .small) ∙ rw (lt-ltb (slotOf w k) (registeredOf w) (r .slot))
 
       abbrev first : ℕ
@@ -130,7 +132,7 @@ module _ (w : List ℕ) (long : ENTITIES ≤ length w) (good : WellFormed (layou
       first-known : Registered w first
       first-known = let E = ends f g G in known (startOf (a .kindEnds) f) (omega (arith, E .some, E .width))
 
-      key-head : key sets (memberAt (layoutArrays w) f 0) ≡ keys (rowsOf cap (slotOf w first) w)
+      key-head : key sets (memberAt (layoutArrays w) f 0) ≡ keys (rowsOf z (slotOf w first) w)
       key-head = ap (key sets) head-is ∙ ap keys (set-of first first-known)
 
       -- the words from `fromAt` on are registered kinds
@@ -140,7 +142,7 @@ module _ (w : List ℕ) (long : ENTITIES ≤ length w) (good : WellFormed (layou
           let q : LAYOUT + (j - LAYOUT) ≡ j = omega arith in
           subst (λ (x : ℕ). Registered w (getD w x 0)) q (known (j - LAYOUT) (omega (arith, E .arity, E .width)))
 
-      set-new : (j : ℕ) → fromAt w f g ≤ j → j < toAt w f g → setOf sets (getD w j 0) ≡ rowsAt cap w j
+      set-new : (j : ℕ) → fromAt w f g ≤ j → j < toAt w f g → setOf sets (getD w j 0) ≡ rowsAt z w j
       set-new j lo hi = set-of (getD w j 0) (new-known j lo hi)
 
       module _ (b c : ℕ) where
@@ -148,10 +150,10 @@ module _ (w : List ℕ) (long : ENTITIES ≤ length w) (good : WellFormed (layou
         Ok = GroupOk sets (memberAt a f 0) (newAt a f g) b c
 
         abbrev Counted : Type 0
-        Counted = CountOk cap w (slotOf w first) (fromAt w f g) (toAt w f g) b c
+        Counted = CountOk z w (slotOf w first) (fromAt w f g) (toAt w f g) b c
 
         -- an entity of the family's first kind, as the two say it
-        at-head : (i : ℕ) → getD (key sets (memberAt a f 0)) i noEntity ≡ keyAt cap w (slotOf w first) i
+        at-head : (i : ℕ) → getD (key sets (memberAt a f 0)) i noEntity ≡ keyAt z w (slotOf w first) i
         at-head i = ap (λ (l : List Entity). getD l i noEntity) key-head
 
         count-ok : Counted → Ok
@@ -162,7 +164,7 @@ module _ (w : List ℕ) (long : ENTITIES ≤ length w) (good : WellFormed (layou
                   let q = new-at w long good f g G k t in
                   let s = set-new (q .0) (q .1) (q .2) in
                   subst (λ (x : ℕ). c ≤ length (key sets x)) (q .3)
-                  (omega (arith, ap (λ (r : SparseSet). length (keys r)) s, length-map (rowsAt cap w (q .0)) entityOf, K .even (q .0) (q .1) (q .2) .fits));
+                  (omega (arith, ap (λ (r : SparseSet). length (keys r)) s, length-map (rowsAt z w (q .0)) entityOf, K .even (q .0) (q .1) (q .2) .fits));
               even = λ k t i lt.
                   let q = new-at w long good f g G k t in
                   let s = set-new (q .0) (q .1) (q .2) in
@@ -174,12 +176,12 @@ module _ (w : List ℕ) (long : ENTITIES ≤ length w) (good : WellFormed (layou
                   (λ t.
                   K .past i lo hi
                   (λ j l h.
-                  subst (λ (y : Entity). held y (rowsAt cap w j) ≡ true) (at-head i)
+                  subst (λ (y : Entity). held y (rowsAt z w j) ≡ true) (at-head i)
                   (subst (λ (r : SparseSet). held x r ≡ true) (set-new j l h)
                   (all-in (λ (k : ℕ). held x (setOf sets k)) (newAt a f g) t (getD w j 0) (at-new w long good f g G j l h)))));
             }
 
-        ok-count : Ok → b ≤ length (rowsOf cap (slotOf w first) w) → Counted
+        ok-count : Ok → b ≤ length (rowsOf z (slotOf w first) w) → Counted
         ok-count K inside =
             record {
               less = K .less;
@@ -188,7 +190,7 @@ module _ (w : List ℕ) (long : ENTITIES ≤ length w) (good : WellFormed (layou
                   let t = at-new w long good f g G j l h in
                   let s = set-new j l h in
                   record {
-                    fits = omega (arith, ap (λ (r : SparseSet). length (keys r)) s, length-map (rowsAt cap w j) entityOf, K .fits (getD w j 0) t);
+                    fits = omega (arith, ap (λ (r : SparseSet). length (keys r)) s, length-map (rowsAt z w j) entityOf, K .fits (getD w j 0) t);
                     even = λ i lt. sym (ap (λ (r : SparseSet). getD (keys r) i noEntity) s) ∙ K .even (getD w j 0) t i lt ∙ at-head i;
                   };
               past = λ i lo hi H.
@@ -199,29 +201,29 @@ module _ (w : List ℕ) (long : ENTITIES ≤ length w) (good : WellFormed (layou
                   let q = new-at w long good f g G k t in
                   subst (λ (y : ℕ). held x (setOf sets y) ≡ true) (q .3)
                   (subst (λ (r : SparseSet). held x r ≡ true) (sym (set-new (q .0) (q .1) (q .2)))
-                  (subst (λ (y : Entity). held y (rowsAt cap w (q .0)) ≡ true) (sym (at-head i)) (H (q .0) (q .1) (q .2))))) in
+                  (subst (λ (y : Entity). held y (rowsAt z w (q .0)) ≡ true) (sym (at-head i)) (H (q .0) (q .1) (q .2))))) in
                   true≢false (sym all ∙ K .past i lo hi);
             }
 
       abbrev counts : List ℕ
       counts = between GROUP-COUNTS ENTITIES w
 
-      whole-is : length (key sets (memberAt a f 0)) ≡ length (rowsAt cap w (firstAt w f))
-      whole-is = ap length key-head ∙ length-map (rowsAt cap w (firstAt w f)) entityOf
+      whole-is : length (key sets (memberAt a f 0)) ≡ length (rowsAt z w (firstAt w f))
+      whole-is = ap length key-head ∙ length-map (rowsAt z w (firstAt w f)) entityOf
 
-      prior-is : priorOf counts (startOf (layoutArrays w .ends) f) g (length (key sets (memberAt (layoutArrays w) f 0))) ≡ priorOf counts (startOf (layoutArrays w .ends) f) g (length (rowsAt cap w (firstAt w f)))
+      prior-is : priorOf counts (startOf (layoutArrays w .ends) f) g (length (key sets (memberAt (layoutArrays w) f 0))) ≡ priorOf counts (startOf (layoutArrays w .ends) f) g (length (rowsAt z w (firstAt w f)))
       prior-is = ap (priorOf counts (startOf (a .ends) f) g) whole-is
 
       count-is : getD counts g 0 ≡ countAt w g
       count-is = getD-between GROUP-COUNTS ENTITIES g w 0 (omega (arith, group-few a good (words-sized w long) f g G))
 
-      pub counted-at : GroupCounted cap w f g → GroupAt sets counts (layoutArrays w) f g
+      pub counted-at : GroupCounted z w f g → GroupAt sets counts (layoutArrays w) f g
       counted-at K =
           subst (λ (T : Type 0). T) (sym (ap₂ (λ (x y : ℕ). GroupOk sets (memberAt a f 0) (newAt a f g) x y) prior-is count-is))
-          (count-ok (priorOf counts (startOf (a .ends) f) g (length (rowsAt cap w (firstAt w f)))) (countAt w g) K)
+          (count-ok (priorOf counts (startOf (a .ends) f) g (length (rowsAt z w (firstAt w f)))) (countAt w g) K)
 
-      pub at-counted : GroupAt sets counts (layoutArrays w) f g → priorOf counts (startOf (layoutArrays w .ends) f) g (length (key sets (memberAt (layoutArrays w) f 0))) ≤ length (key sets (memberAt (layoutArrays w) f 0)) → GroupCounted cap w f g
+      pub at-counted : GroupAt sets counts (layoutArrays w) f g → priorOf counts (startOf (layoutArrays w .ends) f) g (length (key sets (memberAt (layoutArrays w) f 0))) ≤ length (key sets (memberAt (layoutArrays w) f 0)) → GroupCounted z w f g
       at-counted K inside =
           let p = priorOf counts (startOf (a .ends) f) g (length (key sets (memberAt a f 0))) in
-          subst (λ (T : Type 0). T) (ap₂ (λ (x y : ℕ). CountOk cap w (slotOf w first) (fromAt w f g) (toAt w f g) x y) prior-is count-is)
+          subst (λ (T : Type 0). T) (ap₂ (λ (x y : ℕ). CountOk z w (slotOf w first) (fromAt w f g) (toAt w f g) x y) prior-is count-is)
           (ok-count p (getD counts g 0) K (omega (arith, whole-is)))

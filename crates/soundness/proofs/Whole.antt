@@ -6,17 +6,17 @@ use Prim.Native.Nat.{ℕ, _+_, _*_, _-_, _≤_, _<_}
 use native.Mathlib.Decide.{decLe, decLt}
 use native.Mathlib.Omega.{arith}
 use lib.Dec.{eqb}
-use lib.ListN.{length, getD, take, List·getD-map, List·getD-eq-default}
+use lib.ListN.{length, getD, take, drop, List·getD-map, List·getD-eq-default}
 use lib.Seq.{getD-take, length-take-le}
-use Rattle.model.specs.Numbers.{CALLERS, ENTITY-LEN, LAST-CALLER, LIST-CAPACITY, MAX-GROUP-COUNT, MAX-KINDS, columnLen, VALUE-BYTES}
+use Rattle.model.specs.Numbers.{CALLERS, ENTITY-LEN, LAST-CALLER, LIST-CAPACITY, MAX-GROUP-COUNT, MAX-KINDS, VALUE-BYTES}
 use Rattle.model.specs.Lists.{countOf}
 use Rattle.model.specs.Model.{Entity, noRow, kindOf, entityOf}
 use Rattle.model.specs.Sound.{cnt, In, Distinct, KindsSound, EntitiesSound, SetsSound, StagedSound, ExcludedSound, CountsSound, Buildable, AllRight}
 use Rattle.model.proofs.Numbers.{live-once}
 use Rattle.model.proofs.Operations.{live-count, count-live}
 use Rattle.model.proofs.KindLists.{in-count, count-in, at-in}
-use Rattle.words.specs.Offsets.{columnStart, BLOCK-LEN, COLUMN-KIND, DRAFT, ENTITIES, EXCLUDED-KINDS, GROUP-COUNTS, GROUP-FAMILIES, LAYOUT, LAYOUT-ARITIES, LAYOUT-KIND-ENDS, REFUSALS, ROWS, STAGED-KINDS, STAGED-VALUE-LEN, STAGED-VALUES, TABLE, UNREGISTERED}
-use Rattle.words.proofs.Offsets.{columnStart-mono}
+use Rattle.words.specs.Offsets.{BLOCK-LEN, COLUMN-KIND, DRAFT, ENTITIES, EXCLUDED-KINDS, GROUP-COUNTS, GROUP-FAMILIES, LAYOUT, LAYOUT-ARITIES, LAYOUT-KIND-ENDS, REFUSALS, ROWS, STAGED-KINDS, STAGED-VALUE-LEN, STAGED-VALUES, TABLE, UNREGISTERED}
+use Rattle.words.proofs.Offsets.{columnStart-mono, columnStart-first, shaped-of}
 use Rattle.words.specs.Part.{between}
 use Rattle.words.proofs.Part.{getD-between, length-between, between-below}
 use Rattle.words.specs.Table.{table}
@@ -35,10 +35,10 @@ use Rattle.layout.specs.Reading.{ReadStart}
 use Rattle.layout.proofs.Arrays.{layout-kinds, block-sized}
 use Rattle.layout_block.specs.Checks.{BlockSound, KindsOk}
 use Rattle.layout_block.proofs.Buildable.{block-buildable, uncounted}
-use Rattle.memory.specs.Header.{capacityOf, kindCapacityOf, registeredOf, stagedLen, excludedLen, draftFamilies, draftGroups, layoutFamilies, layoutGroups, callerOf, refusalsAt, slotOf, stagedLowAt, stagedHighAt, groupFamilyAt}
+use Rattle.memory.specs.Header.{capacityOf, kindCapacityOf, registeredOf, stagedLen, excludedLen, draftFamilies, draftGroups, layoutFamilies, layoutGroups, callerOf, refusalsAt, slotOf, groupFamilyAt}
 use Rattle.memory.specs.Meaning.{kindAt, kindsIn, setsIn, draftArrays, layoutArrays, draftIn, layoutIn, stagedAt, stagedIn, excludedIn, countsIn, meaning}
 use Rattle.memory.specs.Arranged.{TableSound, Registered, LayoutSound, Arranged, Sound as StoreSound}
-use Rattle.memory.proofs.Frames.{start-header}
+use Rattle.values.proofs.Numbers.{digits-take, words-from}
 use Rattle.memory.proofs.LayoutWords.{words-sized, kind-word, kind-start-word}
 use Rattle.sound_columns.specs.Slots.{Room, headAt}
 use Rattle.sound_columns.specs.Table.{TableOk}
@@ -48,9 +48,11 @@ use Rattle.sound_groups.specs.Spans.{Force, HeadsOk, OwnOk}
 use Rattle.sound_columns.proofs.SlotLaws.{room-long, room-less, key-word}
 use Rattle.soundness.specs.Parts.{SizeOk, PartsOk, ListsOk, LayoutOk, CountsOk}
 use Rattle.soundness.proofs.TableLaws.{TableLinks, registered-slot, registered-small, slot-registered, kinds-sound, sets-sound, sets-alive}
-use Rattle.soundness.proofs.ColumnLaws.{rows-once, rows-values, value-eight}
+use Rattle.soundness.proofs.ColumnLaws.{rows-once, rows-values}
 use Rattle.soundness.proofs.StagedLaws.{staged-sound}
 use Rattle.words.proofs.Tables.{length-table, getD-table, map-table, words-table}
+use Rattle.words.specs.declared.Shape.{Shape}
+use Rattle.words.specs.Shape.{columnStart, columnLen, shapeOf, shape}
 use Rattle.soundness.proofs.GroupLaws.{families-right, right-families}
 use Rattle.soundness.proofs.FlatLaws.{families-each, each-families, prior-fits}
 use Rattle.soundness.proofs.WordLaws.{layout-words}
@@ -65,18 +67,21 @@ abbrev pub Bits : List ℕ → Type 0
 Bits w = (i : ℕ) → getD w i 0 < 4294967296
 
 module _ (n k : ℕ) (w : List ℕ) (Z : SizeOk n k w) where
-  pub size-room : Room n k w
-  size-room = record { small = Z .limits .most; few = Z .limits .mostKinds; size = Z .enough }
+  pub size-room : Room (shape n) k w
+  size-room = record { shaped = shaped-of n (Z .limits .most); few = Z .limits .mostKinds; size = Z .enough }
 
   pub size-long : ENTITIES ≤ length w
-  size-long = room-long n k w size-room
+  size-long = room-long (shape n) k w size-room
 
   pub size-entities : ENTITIES + ENTITY-LEN * n ≤ length w
-  size-entities = omega (arith, Z .enough, start-header n, columnStart-mono n 0 k (omega arith))
+  size-entities = omega (arith, Z .enough, columnStart-first (shape n), columnStart-mono (shape n) 0 k (omega arith))
 
 module _ (w : List ℕ) where
   abbrev n : ℕ
   n = capacityOf w
+
+  abbrev z : Shape
+  z = shapeOf w
 
   abbrev k : ℕ
   k = kindCapacityOf w
@@ -91,7 +96,7 @@ module _ (w : List ℕ) where
   slot-word : (j : ℕ) → j < MAX-KINDS → getD slots j 0 ≡ slotOf w j
   slot-word j h = getD-between TABLE STAGED-KINDS j w 0 (omega arith)
 
-  table-sound : TableOk n k w → TableSound w
+  table-sound : TableOk z k w → TableSound w
   table-sound T =
       record {
         few = T .few;
@@ -101,7 +106,7 @@ module _ (w : List ℕ) where
         own = λ s h. T .slots s h .own;
       }
 
-  sound-table : TableSound w → TableOk n k w
+  sound-table : TableSound w → TableOk z k w
   sound-table T =
       record {
         few = T .few;
@@ -154,7 +159,7 @@ module _ (w : List ℕ) where
     staged-are bits long L =
         staged-sound (kindsIn w) (stagedLen w) (stagedAt w) (between STAGED-KINDS (STAGED-KINDS + stagedLen w) w) (staged-words (L .few) long) (L .few) (L .listed .once .once)
         (of-listed (between STAGED-KINDS (STAGED-KINDS + stagedLen w) w) (L .listed))
-        (λ i. value-eight n w (stagedLowAt w i) (stagedHighAt w i) (bits (STAGED-VALUES + STAGED-VALUE-LEN * i)) (bits (STAGED-VALUES + STAGED-VALUE-LEN * i + 1)))
+        (λ i. digits-take (z .stride) (drop (STAGED-VALUES + STAGED-VALUE-LEN * i) w) (words-from (STAGED-VALUES + STAGED-VALUE-LEN * i) w bits))
 
     are-staged : ENTITIES ≤ length w → stagedLen w ≤ LIST-CAPACITY → StagedSound VALUE-BYTES (kindsIn w) (stagedIn w) → ListOk w STAGED-KINDS (stagedLen w)
     unfolding stagedIn
@@ -224,42 +229,42 @@ module _ (w : List ℕ) where
 
   -- ---- columns
 
-  columns-are : SizeOk n k w → Each k (ColumnOk n reg w) → Columns n k w
-  columns-are Z C = record { small = Z .limits .most; few = Z .limits .mostKinds; size = Z .enough; columns = λ s h. C s h .sound }
+  columns-are : SizeOk n k w → Each k (ColumnOk z reg w) → Columns z k w
+  columns-are Z C = record { shaped = shaped-of n (Z .limits .most); few = Z .limits .mostKinds; size = Z .enough; columns = λ s h. C s h .sound }
 
   abbrev live : List Entity
   live = entitiesIn n w .live
 
   -- the entity of a row, as the words have it
-  row-entity : (s : ℕ) → Lent n s w → (i : ℕ) → i < length (rowsOf n s w) → getD (rowsOf n s w) i noRow .entity ≡ entityIn w (columnStart n s + ROWS + 2 * i)
-  row-entity s L i h = sym (List·getD-map entityOf (rowsOf n s w) i noRow) ∙ key-word n s w L i h
+  row-entity : (s : ℕ) → Lent z s w → (i : ℕ) → i < length (rowsOf z s w) → getD (rowsOf z s w) i noRow .entity ≡ entityIn w (columnStart z s + ROWS + 2 * i)
+  row-entity s L i h = sym (List·getD-map entityOf (rowsOf z s w) i noRow) ∙ key-word z s w L i h
 
-  column-bits : Bits w → (s : ℕ) → Bits (columnOf n s w)
+  column-bits : Bits w → (s : ℕ) → Bits (columnOf z s w)
   unfolding columnOf
-  column-bits bits s = between-below 4294967296 (columnStart n s) (columnStart n s + columnLen n) w (omega arith) bits
+  column-bits bits s = between-below 4294967296 (columnStart z s) (columnStart z s + columnLen z) w (omega arith) bits
 
-  sets-are : TableSound w → k ≤ MAX-KINDS → Bits w → Columns n k w → Each k (ColumnOk n reg w) → SetsSound VALUE-BYTES (kindsIn w) live (setsIn w)
+  sets-are : TableSound w → k ≤ MAX-KINDS → Bits w → Columns z k w → Each k (ColumnOk z reg w) → SetsSound VALUE-BYTES (kindsIn w) live (setsIn w)
   unfolding kindsIn setsIn
   sets-are T most bits D C =
-      sets-sound reg (kindAt w) (slotOf w) (tabled T most) (λ s. rowsOf n s w) live
+      sets-sound reg (kindAt w) (slotOf w) (tabled T most) (λ s. rowsOf z s w) live
       (λ s h.
       let q : s < k = omega (arith, T .few) in
       record {
-        once = rows-once n (columnOf n s w) (C s q .sound);
+        once = rows-once z (columnOf z s w) (C s q .sound);
         alive = λ i lt.
-            subst (λ (e : Entity). 1 ≤ cnt e live) (sym (row-entity s (lent n k s w D q) i lt))
-            (live-count (entityIn w (columnStart n s + ROWS + 2 * i)) (entitiesIn n w) (C s q .alive i (omega (arith, length-rows n (columnOf n s w)))));
-        values = rows-values n (columnOf n s w) (column-bits bits s);
+            subst (λ (e : Entity). 1 ≤ cnt e live) (sym (row-entity s (lent z k s w D q) i lt))
+            (live-count (entityIn w (columnStart z s + ROWS + 2 * i)) (entitiesIn n w) (C s q .alive i (omega (arith, length-rows z (columnOf z s w)))));
+        values = rows-values z (columnOf z s w) (column-bits bits s);
       })
 
-  alive-of : TableSound w → k ≤ MAX-KINDS → Columns n k w → SetsSound VALUE-BYTES (kindsIn w) live (setsIn w) → (s : ℕ) → s < reg → Each (lengthOf (columnOf n s w)) (RowLive n w (columnStart n s + ROWS))
+  alive-of : TableSound w → k ≤ MAX-KINDS → Columns z k w → SetsSound VALUE-BYTES (kindsIn w) live (setsIn w) → (s : ℕ) → s < reg → Each (lengthOf (columnOf z s w)) (RowLive n w (columnStart z s + ROWS))
   unfolding kindsIn setsIn
   alive-of T most D S s h i lt =
       let q : s < k = omega (arith, T .few) in
-      let l : i < length (rowsOf n s w) = omega (arith, length-rows n (columnOf n s w)) in
-      count-live (entityIn w (columnStart n s + ROWS + 2 * i)) (entitiesIn n w)
-      (subst (λ (e : Entity). 1 ≤ cnt e live) (row-entity s (lent n k s w D q) i l)
-      (sets-alive reg (kindAt w) (slotOf w) (tabled T most) (λ s. rowsOf n s w) live S s h i l))
+      let l : i < length (rowsOf z s w) = omega (arith, length-rows z (columnOf z s w)) in
+      count-live (entityIn w (columnStart z s + ROWS + 2 * i)) (entitiesIn n w)
+      (subst (λ (e : Entity). 1 ≤ cnt e live) (row-entity s (lent z k s w D q) i l)
+      (sets-alive reg (kindAt w) (slotOf w) (tabled T most) (λ s. rowsOf z s w) live S s h i l))
 
   entities-are : Bits w → entity.EntityPartSound n (entityPart n w) → EntitiesSound n (entitiesIn n w)
   entities-are bits s =
@@ -290,7 +295,7 @@ module _ (w : List ℕ) where
 
   module _ (long : ENTITIES ≤ length w) where
     module _ (good : WellFormed a) (known : (i : ℕ) → i < widthOf a → Registered w (getD w (LAYOUT + i) 0)) where
-      layout-are : LayoutOk n w → LayoutSound w
+      layout-are : LayoutOk z w → LayoutSound w
       layout-are Y =
           record {
             formed = good;
@@ -299,12 +304,12 @@ module _ (w : List ℕ) where
             none = λ s h o. subst (λ (l : List ℕ). In l (kindAt w s)) (sym (layout-words w long good)) (Y .own s h o);
           }
 
-      are-heads : LayoutSound w → Each (layoutGroups w) (HeadsOk n w)
+      are-heads : LayoutSound w → Each (layoutGroups w) (HeadsOk z w)
       are-heads Y g h =
           let G = Y .groups g h in
           record { of = G .group; heads = group-heads w long good known (groupFamilyAt w g) g (G .group) G }
 
-      are-own : LayoutSound w → Each (registeredOf w) (OwnOk n w (between LAYOUT (LAYOUT + widthOf (layoutArrays w)) w))
+      are-own : LayoutSound w → Each (registeredOf w) (OwnOk z w (between LAYOUT (LAYOUT + widthOf (layoutArrays w)) w))
       are-own Y s h o = subst (λ (l : List ℕ). In l (kindAt w s)) (layout-words w long good) (Y .none s h o)
 
       -- ---- the counts
@@ -319,14 +324,14 @@ module _ (w : List ℕ) where
         inside : (g : ℕ) → g < groupCount a → InFamily a (of g) g
         inside g lt = A .layout .groups g (omega (arith, A .layout .count)) .group
 
-        groups-are : CountsOk n w → AllRight (setsIn w) live (layoutIn w)
+        groups-are : CountsOk z w → AllRight (setsIn w) live (layoutIn w)
         unfolding layoutIn
         groups-are K =
             families-right (kindsIn w) live (setsIn w) S once (familiesOf counts a) (B .families)
             (each-families (setsIn w) counts a good (words-sized w long) of inside
             (λ g lt. counted-at w long good known (of g) g (inside g lt) A (K g (omega (arith, A .layout .count)))))
 
-        are-groups : AllRight (setsIn w) live (layoutIn w) → CountsOk n w
+        are-groups : AllRight (setsIn w) live (layoutIn w) → CountsOk z w
         unfolding layoutIn
         are-groups G g h =
             let F = right-families (kindsIn w) live (setsIn w) S once (familiesOf counts a) (B .families) G in
@@ -336,14 +341,14 @@ module _ (w : List ℕ) where
 
   -- ---- from the clauses
 
-  module _ (Z : SizeOk n k w) (P : PartsOk n k w) where
+  module _ (Z : SizeOk n k w) (P : PartsOk z k w) where
     abbrev T : TableSound w
     T = table-sound (P .table)
 
-    pub forced : (block : BlockSound (between LAYOUT GROUP-FAMILIES w) slots (layoutFamilies w) (layoutGroups w)) → Force n (layoutFamilies w) w
+    pub forced : (block : BlockSound (between LAYOUT GROUP-FAMILIES w) slots (layoutFamilies w) (layoutGroups w)) → Force z (layoutFamilies w) w
     forced block =
         let l = size-long n k w Z in
-        force w l (block .formed .good) (layout-known T (Z .limits .mostKinds) l block) n k (columns-are Z (P .columns)) (P .table .few)
+        force w l (block .formed .good) (layout-known T (Z .limits .mostKinds) l block) z k (columns-are Z (P .columns)) (P .table .few)
 
     -- what the check of the columns' own groups asks, with the layout's width read
     module _ (block : BlockSound (between LAYOUT GROUP-FAMILIES w) slots (layoutFamilies w) (layoutGroups w)) (width : ℕ) (e : ReadStart w LAYOUT-KIND-ENDS (layoutFamilies w) width) where
@@ -353,10 +358,10 @@ module _ (w : List ℕ) where
       pub width-is : width ≡ widthOf a
       width-is = e .is ∙ sym (kind-start-word w (layoutFamilies w) (omega (arith, block .formed .good .few)))
 
-      pub own-room : Room n reg w
-      own-room = room-less n k w (size-room n k w Z) reg (P .table .few)
+      pub own-room : Room z reg w
+      own-room = room-less z k w (size-room n k w Z) reg (P .table .few)
 
-      pub own-heads : (s : ℕ) → s < reg → headAt n w s COLUMN-KIND < MAX-KINDS
+      pub own-heads : (s : ℕ) → s < reg → headAt z w s COLUMN-KIND < MAX-KINDS
       own-heads s h = P .table .slots s h .small
 
       pub own-width : (width ≤ MAX-KINDS) × (LAYOUT-ARITIES ≤ length w)
@@ -368,7 +373,7 @@ module _ (w : List ℕ) where
     pub groups-few : BlockSound (between LAYOUT GROUP-FAMILIES w) slots (layoutFamilies w) (layoutGroups w) → layoutGroups w ≤ MAX-GROUP-COUNT
     groups-few block = omega (arith, block .formed .groups, block .formed .good .many)
 
-    module _ (L : ListsOk w) (Y : LayoutOk n w) where
+    module _ (L : ListsOk w) (Y : LayoutOk z w) where
       abbrev most : k ≤ MAX-KINDS
       most = Z .limits .mostKinds
 
@@ -386,7 +391,7 @@ module _ (w : List ℕ) where
             table = T;
             entities = P .entities;
             columns = columns-are Z (P .columns);
-            vacant = λ s r h. empty-rows n (columnOf n s w) (P .columns s h .vacant r);
+            vacant = λ s r h. empty-rows z (columnOf z s w) (P .columns s h .vacant r);
             staged = L .staged .few;
             excluded = L .excluded .few;
             caller = L .caller;
@@ -408,7 +413,7 @@ module _ (w : List ℕ) where
       unfolding draftIn
       uncounted-are = uncounted (draftArrays w)
 
-      module _ (bits : Bits w) (K : CountsOk n w) where
+      module _ (bits : Bits w) (K : CountsOk z w) where
         abbrev E : EntitiesSound n (entitiesIn n w)
         E = entities-are bits (P .entities)
 
@@ -467,19 +472,19 @@ module _ (w : List ℕ) where
     abbrev far : ENTITIES ≤ length w
     far = size-long n k w size-of
 
-    pub parts-of : PartsOk n k w
+    pub parts-of : PartsOk z k w
     parts-of =
         record {
           table = sound-table (A .table);
           entities = A .entities;
           columns = λ s h.
-              let z : reg ≤ s → lengthOf (columnOf n s w) ≡ 0 = λ r. sym (length-rows n (columnOf n s w)) ∙ ap length (A .vacant s r h) in
+              let v : reg ≤ s → lengthOf (columnOf z s w) ≡ 0 = λ r. sym (length-rows z (columnOf z s w)) ∙ ap length (A .vacant s r h) in
               record {
                 sound = A .columns .columns s h;
-                vacant = z;
+                vacant = v;
                 alive = λ i lt.
                     elim (decLe reg s) [
-                      | yes q ↦ absurd (omega (arith, z q))
+                      | yes q ↦ absurd (omega (arith, v q))
                       | no q ↦ alive-of (A .table) small (A .columns) (M .sets) s (omega arith) i lt
                     ];
               };
@@ -509,7 +514,7 @@ module _ (w : List ℕ) where
     kinds-known : (i : ℕ) → i < widthOf a → Registered w (getD w (LAYOUT + i) 0)
     kinds-known = layout-known (A .table) small far layout-block
 
-    pub layout-of : LayoutOk n w
+    pub layout-of : LayoutOk z w
     layout-of =
         record {
           block = layout-block;
@@ -517,6 +522,6 @@ module _ (w : List ℕ) where
           own = are-own far (A .layout .formed) kinds-known (A .layout);
         }
 
-    pub counts-of : CountsOk n w
+    pub counts-of : CountsOk z w
     counts-of =
         are-groups far (A .layout .formed) kinds-known A (M .sets) (live-once (entitiesIn n w) (M .entities .single)) (M .layout) (M .groups)

@@ -5,9 +5,11 @@ use Prim.Native.Nat.{ℕ, _+_, _≤_}
 use lib.ListN.{length}
 use Rattle.model.specs.Numbers.{LAST-CALLER}
 use Rattle.model.specs.Sound.{Limits}
-use Rattle.words.specs.Offsets.{columnStart, DRAFT, EXCLUDED-KINDS, GROUP-FAMILIES, LAYOUT, NEWER, STAGED-KINDS, TABLE}
+use Rattle.words.specs.Offsets.{DRAFT, EXCLUDED-KINDS, GROUP-FAMILIES, LAYOUT, NEWER, STAGED-KINDS, TABLE}
 use Rattle.words.specs.Part.{between}
 use Rattle.words.specs.Decides.{Each}
+use Rattle.words.specs.Shape.{columnStart, shape, shapeOf}
+use Rattle.words.specs.declared.Shape.{Shape}
 use Rattle.entity.specs.Meaning as entity
 use Rattle.entity.specs.Meaning.{entityPart}
 use Rattle.layout.specs.Layout.{widthOf}
@@ -23,13 +25,13 @@ use Rattle.sound_groups.specs.Counts.{CountedOk}
 -- "N and K within the limits of refusal 1, enough words for them"
 pub record SizeOk (n k : ℕ) (w : List ℕ) : Type 0 where
   pub limits : Limits n k
-  pub enough : columnStart n k ≤ length w
+  pub enough : columnStart (shape n) k ≤ length w
 
 -- "at most K registered kinds, each with a column of its own"; the entities; "each column with its own lookups", "columns holding live cards only"
-pub record PartsOk (n k : ℕ) (w : List ℕ) : Type 0 where
-  pub table : TableOk n k w
-  pub entities : entity.EntityPartSound n (entityPart n w)
-  pub columns : Each k (ColumnOk n (registeredOf w) w)
+pub record PartsOk (z : Shape) (k : ℕ) (w : List ℕ) : Type 0 where
+  pub table : TableOk z k w
+  pub entities : entity.EntityPartSound (z .capacity) (entityPart (z .capacity) w)
+  pub columns : Each k (ColumnOk z (registeredOf w) w)
 
 -- "hand, bar, draft .. of registered kinds, such as commands can build"; 02, No. 7: "a caller of 0 to 15"; No. 8: "one of the two rules"
 pub record ListsOk (w : List ℕ) : Type 0 where
@@ -42,14 +44,14 @@ pub record ListsOk (w : List ℕ) : Type 0 where
 -- what the clauses on the layout stand on
 pub record Ground (w : List ℕ) : Type 0 where
   pub size : SizeOk (capacityOf w) (kindCapacityOf w) w
-  pub parts : PartsOk (capacityOf w) (kindCapacityOf w) w
+  pub parts : PartsOk (shapeOf w) (kindCapacityOf w) w
 
 -- "layout of registered kinds, such as commands can build", and the heads of the columns that it names
-pub record LayoutOk (n : ℕ) (w : List ℕ) : Type 0 where
+pub record LayoutOk (z : Shape) (w : List ℕ) : Type 0 where
   pub block : BlockSound (between LAYOUT GROUP-FAMILIES w) (between TABLE STAGED-KINDS w) (layoutFamilies w) (layoutGroups w)
-  pub heads : Each (layoutGroups w) (HeadsOk n w)
-  pub own : Each (registeredOf w) (OwnOk n w (between LAYOUT (LAYOUT + widthOf (layoutArrays w)) w))
+  pub heads : Each (layoutGroups w) (HeadsOk z w)
+  pub own : Each (registeredOf w) (OwnOk z w (between LAYOUT (LAYOUT + widthOf (layoutArrays w)) w))
 
 -- "groups as demand 3 says"
-abbrev pub CountsOk : ℕ → List ℕ → Type 0
-CountsOk n w = Each (layoutGroups w) (CountedOk n w)
+abbrev pub CountsOk : Shape → List ℕ → Type 0
+CountsOk z w = Each (layoutGroups w) (CountedOk z w)

@@ -8,7 +8,6 @@ use sound_groups::counts::are_counts;
 use sound_groups::heads::are_heads;
 use sound_groups::heads::are_own;
 use words::CALLER;
-use words::CAPACITY;
 use words::DRAFT;
 use words::DRAFT_FAMILIES;
 use words::DRAFT_GROUPS;
@@ -27,11 +26,13 @@ use words::RULE;
 use words::STAGED_KINDS;
 use words::STAGED_LEN;
 use words::TABLE;
+use words::Shape;
+ghost use mathlib.Core.Path.{_≡_};
 ghost use Prim.Native.Nat.{_≤_};
 ghost use lib.ListN.{length};
 ghost use Rattle.words.specs.Offsets.{ENTITIES};
 ghost use Rattle.words.specs.Decides.{Decides};
-ghost use Rattle.memory.specs.Header.{capacityOf};
+ghost use Rattle.words.specs.Shape.{shapeOf};
 ghost use Rattle.memory.specs.Arranged.{Sound};
 ghost use Rattle.soundness.specs.Parts.{SizeOk, PartsOk, ListsOk, Ground, LayoutOk, CountsOk};
 
@@ -51,24 +52,25 @@ fn has_room(words: &[u32], n: usize, k: usize) -> bool
     if model::MAX_KINDS < k {
         return false;
     }
-    if words.len() < words::column_start(n, k) {
+    if words.len() < model::words_needed(n, k) {
         return false;
     }
     true
 }
 
 // The table of kinds, the entities, the columns.
-fn has_parts(words: &[u32], n: usize, k: usize) -> bool
-    requires { ⌜ SizeOk n k (now words) ⌝ }
-    ensures { λ r. ⌜ Decides r (PartsOk n k (now (words .entry))) ⌝ }
+fn has_parts(words: &[u32], z: Shape, k: usize) -> bool
+    requires { ⌜ z ≡ shapeOf (now words) ⌝ }
+    requires { ⌜ SizeOk (z .capacity) k (now words) ⌝ }
+    ensures { λ r. ⌜ Decides r (PartsOk z k (now (words .entry))) ⌝ }
 {
-    if !is_table(words, n, k) {
+    if !is_table(words, z, k) {
         return false;
     }
-    if !sound_entities::is_sound_in(words, n) {
+    if !sound_entities::is_sound_in(words, z.capacity) {
         return false;
     }
-    if !are_columns(words, n, k, words[REGISTERED] as usize) {
+    if !are_columns(words, z, k, words[REGISTERED] as usize) {
         return false;
     }
     true
@@ -107,9 +109,9 @@ fn has_lists(words: &[u32]) -> bool
 // The layout in force, and the heads of the columns that it names.
 fn has_layout(words: &[u32]) -> bool
     requires { ⌜ Ground (now words) ⌝ }
-    ensures { λ r. ⌜ Decides r (LayoutOk (capacityOf (now (words .entry))) (now (words .entry))) ⌝ }
+    ensures { λ r. ⌜ Decides r (LayoutOk (shapeOf (now (words .entry))) (now (words .entry))) ⌝ }
 {
-    let n = words[CAPACITY] as usize;
+    let z = words::shape_of(words);
     let families = words[LAYOUT_FAMILIES] as usize;
     let groups = words[LAYOUT_GROUPS] as usize;
     if !block_ok(
@@ -120,11 +122,11 @@ fn has_layout(words: &[u32]) -> bool
     ) {
         return false;
     }
-    if !are_heads(words, n, families, groups) {
+    if !are_heads(words, z, families, groups) {
         return false;
     }
     let width = start_of(words, LAYOUT_KIND_ENDS, families);
-    if !are_own(words, n, words[REGISTERED] as usize, width) {
+    if !are_own(words, z, words[REGISTERED] as usize, width) {
         return false;
     }
     true
@@ -133,13 +135,13 @@ fn has_layout(words: &[u32]) -> bool
 // The groups' counts.
 fn has_counts(words: &[u32]) -> bool
     requires { ⌜ Ground (now words) ⌝ }
-    requires { ⌜ LayoutOk (capacityOf (now words)) (now words) ⌝ }
-    ensures { λ r. ⌜ Decides r (CountsOk (capacityOf (now (words .entry))) (now (words .entry))) ⌝ }
+    requires { ⌜ LayoutOk (shapeOf (now words)) (now words) ⌝ }
+    ensures { λ r. ⌜ Decides r (CountsOk (shapeOf (now (words .entry))) (now (words .entry))) ⌝ }
 {
-    let n = words[CAPACITY] as usize;
+    let z = words::shape_of(words);
     are_counts(
         words,
-        n,
+        z,
         words[LAYOUT_FAMILIES] as usize,
         words[LAYOUT_GROUPS] as usize,
     )
@@ -152,12 +154,12 @@ pub fn is_sound(words: &[u32]) -> bool
     if words.len() < ENTITIES {
         return false;
     }
-    let n = words[CAPACITY] as usize;
+    let z = words::shape_of(words);
     let k = words[KIND_CAPACITY] as usize;
-    if !has_room(words, n, k) {
+    if !has_room(words, z.capacity, k) {
         return false;
     }
-    if !has_parts(words, n, k) {
+    if !has_parts(words, z, k) {
         return false;
     }
     if !has_lists(words) {
