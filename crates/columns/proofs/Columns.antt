@@ -10,7 +10,7 @@ use borrow.Author.Tests.{lt-ltb, le-ltb}
 use lib.ListN.{length, getD, take, drop, length-map, length-drop, List·getD-map}
 use lib.Seq.{length-take-le}
 use denote.Ref.{RefT}
-use Rattle.model.specs.Numbers.{LAST-KIND, MAX-ENTITIES, columnLen, KIND, BEYOND}
+use Rattle.model.specs.Numbers.{LAST-KIND, MAX-ENTITIES, KIND, BEYOND}
 use Rattle.model.specs.Model.{Row, SparseSet, setOf, keys, entityOf, noRow}
 use Rattle.model.specs.Store.{Store, isKind}
 use Rattle.model.specs.Entries.{columnRefusal, column, partWords}
@@ -18,9 +18,13 @@ use Rattle.model.specs.Entries as model
 use Rattle.model.specs.Sound.{In}
 use Rattle.model.proofs.Entries.{column-accepted}
 use Rattle.model.specs.Theorems.{Columned}
-use Rattle.words.specs.Offsets.{columnStart, ROWS}
-use Rattle.words.proofs.Offsets.{columnStart-fits}
-use Rattle.component.specs.SparseSet.{lengthOf, rowAt, valueOf, rows}
+use Rattle.words.specs.Offsets.{ROWS}
+use Rattle.words.proofs.Offsets.{columnStart-fits, valuesLen-fits, valuesLen-two}
+use Rattle.words.specs.Shape.{columnStart, columnLen, shapeOf, shape, entityPlace, valuePlace}
+use Rattle.words.specs.declared.Shape.{Shape}
+use Rattle.values.specs.Values.{digits}
+use Rattle.values.proofs.Places.{digits-two}
+use Rattle.component.specs.SparseSet.{lengthOf, rowAt, rows}
 use Rattle.component.proofs.Meaning.{length-rows, getD-rows}
 use Rattle.component.specs.Columns.{columnOf}
 use Rattle.component.proofs.Parts.{getD-column}
@@ -67,51 +71,53 @@ row-alike w v A B e values k a i = go values
     slot : slotOf w k ≡ slotOf v k
     slot = slot-alike w v A B (λ j. e j .kinds) k i
 
-    capacity : capacityOf w ≡ capacityOf v
-    capacity = ap (λ (x : Store). x .settings .capacity) e
+    shapes : shapeOf w ≡ shapeOf v
+    shapes = ap (λ (x : Store). shape (x .settings .capacity)) e
 
     go : (b : Bool) → rowPlace b w k a ≡ rowPlace b v k a
-    go false = λ j. columnStart (capacity j) (slot j) + ROWS + 2 * a
-    go true = λ j. columnStart (capacity j) (slot j) + ROWS + 2 * capacity j + 2 * a
+    go false = λ j. columnStart (shapes j) (slot j) + entityPlace a
+    go true = λ j. columnStart (shapes j) (slot j) + valuePlace (shapes j) a
 
 -- ---- the rows of a registered kind
 
-value-low : (l h : ℕ) → l < 4294967296 → lowOf (valueOf l h) ≡ l
+value-low : (l h : ℕ) → l < 4294967296 → lowOf (l + 4294967296 * h) ≡ l
 value-low l h b = add-mul-mod-self-left l 4294967296 h ∙ mod-eq-of-lt b
 
-value-high : (l h : ℕ) → l < 4294967296 → highOf (valueOf l h) ≡ h
+value-high : (l h : ℕ) → l < 4294967296 → highOf (l + 4294967296 * h) ≡ h
 value-high l h b = add-mul-div-left l h {y = 4294967296} (omega arith) ∙ ap (λ (n : ℕ). n + h) (div-eq-of-lt b) ∙ zero-add h
 
 module _ (w : List ℕ) (A : Arranged w) (k : ℕ) (i : In (meaning w .kinds) k) where
+  abbrev z : Shape
+  z = shapeOf w
+
   slot-at : InSlot w k (slotOf w k)
   slot-at = known-slot w A k i
 
-  rows-len : length (kindSet w k) ≡ lengthOf (columnOf (capacityOf w) (slotOf w k) w)
-  rows-len = ap length (slot-at .rows) ∙ length-rows (capacityOf w) (columnOf (capacityOf w) (slotOf w k) w)
+  rows-len : length (kindSet w k) ≡ lengthOf (columnOf z (slotOf w k) w)
+  rows-len = ap length (slot-at .rows) ∙ length-rows z (columnOf z (slotOf w k) w)
 
   pub rows-few : length (kindSet w k) ≤ capacityOf w
   rows-few = omega (arith, rows-len, slot-at .lent .sound .linked .room)
 
-  pub row-start-small : (values : Bool) (a : ℕ) → a ≤ length (kindSet w k) → rowPlace values w k a ≤ 4000000
-  row-start-small false a h = omega (arith, rows-few, A .limits .most, columnStart-fits (capacityOf w) (slotOf w k) (A .limits .most) (omega (arith, slot-at .lent .few)))
-  row-start-small true a h = omega (arith, rows-few, A .limits .most, columnStart-fits (capacityOf w) (slotOf w k) (A .limits .most) (omega (arith, slot-at .lent .few)))
+  pub row-start-small : (values : Bool) (a : ℕ) → a ≤ length (kindSet w k) → rowPlace values w k a ≤ 4340000
+  row-start-small false a h = omega (arith, rows-few, A .limits .most, columnStart-fits z (slotOf w k) (A .columns .shaped) (omega (arith, slot-at .lent .few)))
+  row-start-small true a h = omega (arith, rows-few, A .limits .most, columnStart-fits z (slotOf w k) (A .columns .shaped) (omega (arith, slot-at .lent .few)), valuesLen-fits z a (A .columns .shaped) (omega (arith, rows-few)))
 
   -- the words of a row
-  row-word : (j : ℕ) → j < columnLen (capacityOf w) → getD w (columnStart (capacityOf w) (slotOf w k) + j) 0 ≡ getD (columnOf (capacityOf w) (slotOf w k) w) j 0
-  row-word j h = sym (getD-column (capacityOf w) (slotOf w k) j w h)
+  row-word : (j : ℕ) → j < columnLen z → getD w (columnStart z (slotOf w k) + j) 0 ≡ getD (columnOf z (slotOf w k) w) j 0
+  row-word j h = sym (getD-column z (slotOf w k) j w h)
 
-  row-is : (j : ℕ) → j < length (kindSet w k) → getD (kindSet w k) j noRow ≡ rowAt (capacityOf w) (columnOf (capacityOf w) (slotOf w k) w) j
-  row-is j h = ap (λ (rs : SparseSet). getD rs j noRow) (slot-at .rows) ∙ getD-rows (capacityOf w) (columnOf (capacityOf w) (slotOf w k) w) j (omega (arith, rows-len))
+  row-is : (j : ℕ) → j < length (kindSet w k) → getD (kindSet w k) j noRow ≡ rowAt z (columnOf z (slotOf w k) w) j
+  row-is j h = ap (λ (rs : SparseSet). getD rs j noRow) (slot-at .rows) ∙ getD-rows z (columnOf z (slotOf w k) w) j (omega (arith, rows-len))
 
   module _ (small : (j : ℕ) → getD w j 0 < 4294967296) where
-    word-of : (p q j : ℕ) → p ≡ q + j → q ≡ columnStart (capacityOf w) (slotOf w k) → j < columnLen (capacityOf w) → getD w p 0 ≡ getD (columnOf (capacityOf w) (slotOf w k) w) j 0
+    word-of : (p q j : ℕ) → p ≡ q + j → q ≡ columnStart z (slotOf w k) → j < columnLen z → getD w p 0 ≡ getD (columnOf z (slotOf w k) w) j 0
     word-of p q j e b h = ap (λ (n : ℕ). getD w n 0) e ∙ ap (λ (n : ℕ). getD w (n + j) 0) b ∙ row-word j h
 
     -- the part from row a to row a + m
     pub part-there : (values : Bool) (a m : ℕ) → a + m ≤ length (kindSet w k) → partWords values a (a + m) (kindSet w k) ≡ take (2 * m) (drop (rowPlace values w k a) w)
     part-there false a m h =
-        let n : ℕ = capacityOf w in
-        let b : ℕ = columnStart (capacityOf w) (slotOf w k) in
+        let b : ℕ = columnStart z (slotOf w k) in
         let rs = kindSet w k in
         let l : length (keys rs) ≡ length rs = length-map rs entityOf in
         let key : (j : ℕ) → getD (keys rs) j (entityOf noRow) ≡ entityOf (getD rs j noRow) = λ j. List·getD-map entityOf rs j noRow in
@@ -120,41 +126,43 @@ module _ (w : List ℕ) (A : Arranged w) (k : ℕ) (i : In (meaning w .kinds) k)
         (λ j q. word-of (b + ROWS + 2 * j) b (ROWS + 2 * j) (omega arith) refl (omega (arith, rows-few)) ∙ sym (ap indexOf (key j) ∙ ap (λ (r : Row). r .entity .index) (row-is j (omega arith))))
         (λ j q. word-of (b + ROWS + 2 * j + 1) b (ROWS + 2 * j + 1) (omega arith) refl (omega (arith, rows-few)) ∙ sym (ap versionOf (key j) ∙ ap (λ (r : Row). r .entity .version) (row-is j (omega arith))))
         m a (omega arith) (omega (arith, rows-few, slot-at .lent .size))
+        ∙ (let q : b + ROWS + 2 * a ≡ b + entityPlace a = omega arith in ap (λ (n : ℕ). take (2 * m) (drop n w)) q)
     part-there true a m h =
-        let n : ℕ = capacityOf w in
-        let b : ℕ = columnStart (capacityOf w) (slotOf w k) in
+        let b : ℕ = columnStart z (slotOf w k) in
         let rs = kindSet w k in
-        let col = columnOf (capacityOf w) (slotOf w k) w in
-        let l : length (map model.rowValue rs) ≡ length rs = length-map rs model.rowValue in
+        let col = columnOf z (slotOf w k) w in
+        let at : (j : ℕ) → ℕ = λ j. ROWS + 4 * z .capacity + 2 * j in
+        let place : (j : ℕ) → valuePlace z j ≡ at j = λ j. ap (λ (n : ℕ). ROWS + 4 * z .capacity + n) (valuesLen-two j) in
+        let fits : columnLen z ≡ at (z .capacity) = place (z .capacity) in
         let val : (j : ℕ) → getD (map model.rowValue rs) j (model.rowValue noRow) ≡ model.rowValue (getD rs j noRow) = λ j. List·getD-map model.rowValue rs j noRow in
-        let lo : (j : ℕ) → j < length rs → getD w (b + ROWS + 2 * n + 2 * j) 0 ≡ getD col (ROWS + 2 * n + 2 * j) 0 =
-        λ j q. word-of (b + ROWS + 2 * n + 2 * j) b (ROWS + 2 * n + 2 * j) (omega arith) refl (omega (arith, rows-few)) in
-        let hi : (j : ℕ) → j < length rs → getD w (b + ROWS + 2 * n + 2 * j + 1) 0 ≡ getD col (ROWS + 2 * n + 2 * j + 1) 0 =
-        λ j q. word-of (b + ROWS + 2 * n + 2 * j + 1) b (ROWS + 2 * n + 2 * j + 1) (omega arith) refl (omega (arith, rows-few)) in
-        let below : (j : ℕ) → j < length rs → getD col (ROWS + 2 * n + 2 * j) 0 < 4294967296 = λ j q. omega (arith, lo j q, small (b + ROWS + 2 * n + 2 * j)) in
-        let is : (j : ℕ) → j < length rs → getD (map model.rowValue rs) j (model.rowValue noRow) ≡ valueOf (getD col (ROWS + 2 * n + 2 * j) 0) (getD col (ROWS + 2 * n + 2 * j + 1) 0) =
-        λ j q. val j ∙ ap (λ (r : Row). r .value) (row-is j q) in
+        let l : length (map model.rowValue rs) ≡ length rs = length-map rs model.rowValue in
+        let lo : (j : ℕ) → j < length rs → getD w (b + (ROWS + 4 * z .capacity) + 2 * j) 0 ≡ getD col (at j) 0 =
+        λ j q. word-of (b + (ROWS + 4 * z .capacity) + 2 * j) b (at j) (omega arith) refl (omega (arith, rows-few, fits)) in
+        let hi : (j : ℕ) → j < length rs → getD w (b + (ROWS + 4 * z .capacity) + 2 * j + 1) 0 ≡ getD col (at j + 1) 0 =
+        λ j q. word-of (b + (ROWS + 4 * z .capacity) + 2 * j + 1) b (at j + 1) (omega arith) refl (omega (arith, rows-few, fits)) in
+        let below : (j : ℕ) → j < length rs → getD col (at j) 0 < 4294967296 = λ j q. omega (arith, lo j q, small (b + (ROWS + 4 * z .capacity) + 2 * j)) in
+        let is : (j : ℕ) → j < length rs → getD (map model.rowValue rs) j (model.rowValue noRow) ≡ getD col (at j) 0 + 4294967296 * getD col (at j + 1) 0 =
+        λ j q.
+        val j ∙ ap (λ (r : Row). r .value) (row-is j q) ∙ ap (λ (n : ℕ). digits (take 2 (drop n col))) (place j)
+        ∙ digits-two col (at j) (omega (arith, rows-few, fits, slot-at .lent .sound .size)) in
         value-pairs (model.part a (a + m) (map model.rowValue rs))
-        ∙ pairs-part lowOf highOf (model.rowValue noRow) (map model.rowValue rs) w (b + ROWS + 2 * n)
-        (λ j q. let t : j < length rs = omega arith in lo j t ∙ sym (ap lowOf (is j t) ∙ value-low (getD col (ROWS + 2 * n + 2 * j) 0) (getD col (ROWS + 2 * n + 2 * j + 1) 0) (below j t)))
-        (λ j q. let t : j < length rs = omega arith in hi j t ∙ sym (ap highOf (is j t) ∙ value-high (getD col (ROWS + 2 * n + 2 * j) 0) (getD col (ROWS + 2 * n + 2 * j + 1) 0) (below j t)))
-        m a (omega arith) (omega (arith, rows-few, slot-at .lent .size))
+        ∙ pairs-part lowOf highOf (model.rowValue noRow) (map model.rowValue rs) w (b + (ROWS + 4 * z .capacity))
+        (λ j q. let t : j < length rs = omega arith in lo j t ∙ sym (ap lowOf (is j t) ∙ value-low (getD col (at j) 0) (getD col (at j + 1) 0) (below j t)))
+        (λ j q. let t : j < length rs = omega arith in hi j t ∙ sym (ap highOf (is j t) ∙ value-high (getD col (at j) 0) (getD col (at j + 1) 0) (below j t)))
+        m a (omega arith) (omega (arith, rows-few, slot-at .lent .size, fits))
+        ∙ (let q : b + (ROWS + 4 * z .capacity) + 2 * a ≡ b + valuePlace z a = omega (arith, place a) in ap (λ (n : ℕ). take (2 * m) (drop n w)) q)
 
   part-inside : (values : Bool) (a m : ℕ) → a + m ≤ length (kindSet w k) → rowPlace values w k a + 2 * m ≤ length w
   part-inside false a m h = omega (arith, rows-few, slot-at .lent .size)
-  part-inside true a m h = omega (arith, rows-few, slot-at .lent .size)
+  part-inside true a m h = omega (arith, rows-few, slot-at .lent .size, valuesLen-two a, valuesLen-two (z .capacity))
 
--- the code's place of a row, of the capacity n, the slot t and where the slot's column starts
-module _ (w : List ℕ) (k a n t b : ℕ) (en : n ≡ capacityOf w) (et : t ≡ slotOf w k) (eb : b ≡ columnStart n t) where
-  pub value-place : (values : Bool) → values ≡ true → b + ROWS + 2 * n + 2 * a ≡ rowPlace values w k a
-  value-place values q = rw q (rw (eb, en, et))
+-- the code's place of a row, of the shape z, the slot t, where the slot's column starts and where the row is in it
+module _ (w : List ℕ) (k a : ℕ) (z : Shape) (t b p : ℕ) (en : z ≡ shapeOf w) (et : t ≡ slotOf w k) (eb : b ≡ columnStart z t) where
+  pub value-place : p ≡ valuePlace z a → (values : Bool) → values ≡ true → b + p ≡ rowPlace values w k a
+  value-place ep values q = rw q (rw (eb, ep, en, et))
 
-  pub entity-place : (values : Bool) → values ≡ false → b + ROWS + 2 * a ≡ rowPlace values w k a
-  entity-place values q = rw q (rw (eb, en, et))
-
-  -- so that each sum on the way is small
-  pub sums-small : Arranged w → In (meaning w .kinds) k → a ≤ length (kindSet w k) → b + ROWS + 2 * n + 2 * a ≤ 4000000
-  sums-small A i h = rw (eb, en, et) (row-start-small w A k i true a h)
+  pub entity-place : p ≡ entityPlace a → (values : Bool) → values ≡ false → b + p ≡ rowPlace values w k a
+  entity-place ep values q = rw q (rw (eb, ep, en, et))
 
 -- ---- an accepted column
 

@@ -6,19 +6,19 @@ use Prim.Native.Nat.{ℕ, _+_, _*_, _≤_}
 use lib.ListN.{length, take, drop}
 use denote.Ref.{RefT}
 use Rattle.model.specs.Entries.{column}
-use Rattle.words.specs.Offsets.{columnStart, ROWS}
-use Rattle.memory.specs.Header.{capacityOf, slotOf}
+use Rattle.words.specs.Shape.{columnStart, shapeOf, entityPlace, valuePlace}
+use Rattle.memory.specs.Header.{slotOf}
 use Rattle.memory.specs.Meaning.{meaning}
 
 -- where row a's words stand among all words (docs/WORDS.md): "cards (index word, version word) or values (low word, high word)"
 abbrev pub rowPlace : Bool → List ℕ → ℕ → ℕ → ℕ
-rowPlace false w k a = columnStart (capacityOf w) (slotOf w k) + ROWS + 2 * a
-rowPlace true w k a = columnStart (capacityOf w) (slotOf w k) + ROWS + 2 * capacityOf w + 2 * a
+rowPlace false w k a = columnStart (shapeOf w) (slotOf w k) + entityPlace a
+rowPlace true w k a = columnStart (shapeOf w) (slotOf w k) + valuePlace (shapeOf w) a
 
 -- the code's place of that row; two words more for each row stay a small number
 pub record RowStart (values : Bool) (w : List ℕ) (k a r : ℕ) : Type 0 where
   pub is : r ≡ rowPlace values w k a
-  pub small : r ≤ 4000000
+  pub small : r ≤ 4340000
 
 -- r is a part of the words v, `size` words from place `at` on: it lies in v's memory, at four bytes a word from v's start, and is the words there
 pub record PartOf (v r : RefT (List ℕ)) (at size : ℕ) : Type 0 where

@@ -41,13 +41,13 @@ pub fn row_start(words: &[u32], kind: usize, values: bool, place: usize) -> usiz
     requires { ⌜ place ≤ length (kindSet (now words) kind) ⌝ }
     ensures { λ r. ⌜ RowStart values (now (words .entry)) kind place r ⌝ }
 {
-    let n = words::word(words, words::CAPACITY);
+    let z = words::shape_of(words);
     let slot = words::word(words, words::TABLE + kind);
-    let start = words::column_start(n, slot);
+    let start = words::column_start(z, slot);
     if values {
-        return start + words::ROWS + 2 * n + 2 * place;
+        return start + words::value_place(z, place);
     }
-    start + words::ROWS + 2 * place
+    start + words::entity_place(place)
 }
 
 // The entities, or the values, of the rows from start to end, which column accepts: where they lie in the words.
