@@ -1,7 +1,7 @@
 -- How many bytes a command's accepted answer takes. Assumes nothing.
 use mathlib.Core.Path.{_≡_, refl, sym, _∙_}
 use mathlib.Core.Logic.{_≢_}
-use mathlib.Core.List.{List, [], _∷_}
+use mathlib.Core.List.{List}
 use Prim.Native.Nat.{ℕ, _+_, _*_, _≤_}
 use native.Mathlib.Omega.{arith}
 use lib.ListN.{length, getD, set, List·getD-map}
@@ -10,11 +10,8 @@ use Rattle.model.specs.Store.{Store}
 use Rattle.model.specs.Commands.{Command, TALLY, commands, commandAt, answerLength}
 use Rattle.model.proofs.ListLaws.{default-any}
 use Rattle.model.proofs.KindLists.{all-most}
+use Rattle.run.specs.Stepping.{answers}
 use Rattle.model.specs.Numbers.{TAKE-BYTE, LAST-COMMAND, VALUE-BYTES}
-
--- by command byte; TAKE's is for no staged component
-abbrev pub answers : List ℕ
-answers = 5 ∷ 2 ∷ 1 ∷ 9 ∷ 1 ∷ 1 ∷ 1 ∷ 1 ∷ 1 ∷ 2 ∷ 1 ∷ 1 ∷ 10 ∷ 1 ∷ 5 ∷ 3 ∷ 1 ∷ []
 
 pub answers-small : (b : ℕ) → getD answers b 0 ≤ 10
 answers-small b = all-most 10 answers refl b

@@ -1,6 +1,6 @@
 -- What the functions of a run ask and promise. Working vocabulary. Assumes nothing.
 use mathlib.Core.Path.{_≡_}
-use mathlib.Core.List.{List, [], _++_}
+use mathlib.Core.List.{List, [], _∷_, _++_}
 use Prim.Native.Nat.{ℕ, _+_, _≤_, _<_}
 use lib.ListN.{length, getD, drop}
 use lib.Seq.{sets}
@@ -15,6 +15,10 @@ use Rattle.run.specs.declared.Went.{Went}
 use Rattle.run.specs.declared.Went.the-variants.{Done, Stop}
 use Rattle.run.specs.declared.Ran.{Ran}
 use Rattle.run.specs.Run.{Refused, Traced}
+
+-- bytes of the accepted answer by command byte; TAKE's is for no staged component
+abbrev pub answers : List ℕ
+answers = 5 ∷ 2 ∷ 1 ∷ 9 ∷ 1 ∷ 1 ∷ 1 ∷ 1 ∷ 1 ∷ 2 ∷ 1 ∷ 1 ∷ 10 ∷ 1 ∷ 5 ∷ 3 ∷ 1 ∷ []
 
 -- a step may be made at `at` of the tape, with answers up to p
 pub record StepReady (w t : List ℕ) (at : ℕ) (o : List ℕ) (p : ℕ) : Type 0 where

@@ -8,11 +8,11 @@ ghost use mathlib.Core.Path.{_≡_};
 ghost use mathlib.Core.List.{List};
 ghost use Prim.Native.Nat.{ℕ, _-_, _<_, _≤_};
 ghost use lib.ListN.{length};
-ghost use Rattle.model.specs.Commands.{width, commandAt, answerLength};
+ghost use Rattle.model.specs.Commands.{widths, width, commandAt, answerLength};
 ghost use Rattle.model.specs.Run.{run};
 ghost use Rattle.memory.specs.Meaning.{meaning};
 ghost use Rattle.memory.specs.Arranged.{Arranged, Sound};
-ghost use Rattle.run.specs.Stepping.{StepReady, stepAt, Stepped, Completed};
+ghost use Rattle.run.specs.Stepping.{answers, StepReady, stepAt, Stepped, Completed};
 ghost use Rattle.model.specs.Numbers.{LAST-COMMAND, VALUE-BYTES};
 
 // How many bytes there are up to the last command's.
@@ -36,22 +36,24 @@ pub struct Ran {
     pub written: usize,
 }
 
-fn operand_bytes(op: u8) -> usize
+fn operand_bytes(lengths: &[u8; BYTES], op: u8) -> usize
+    requires { ⌜ now lengths ≡ widths VALUE-BYTES ⌝ }
     requires { ⌜ op ≤ LAST-COMMAND ⌝ }
     ensures { λ r. ⌜ (r ≡ width VALUE-BYTES op) × (r ≤ 9) ⌝ }
 {
     let i = op as usize;
-    WIDTHS[i] as usize
+    lengths[i] as usize
 }
 
 // Bytes that the accepted answer takes, whatever the operands are.
-fn answer_bytes(words: &[u32], op: u8) -> usize
+fn answer_bytes(words: &[u32], rooms: &[u8; BYTES], op: u8) -> usize
     requires { ⌜ Arranged (now words) ⌝ }
+    requires { ⌜ now rooms ≡ answers ⌝ }
     requires { ⌜ op ≤ LAST-COMMAND ⌝ }
     ensures { λ r. ⌜ ((ops : List ℕ) → r ≡ answerLength VALUE-BYTES (commandAt op ops) (meaning (now (words .entry)))) ⌝ }
 {
     let i = op as usize;
-    let fixed = ANSWERS[i] as usize;
+    let fixed = rooms[i] as usize;
     if op == TAKE {
         return fixed + 9 * control::staged::staged_len(words);
     }
@@ -59,8 +61,17 @@ fn answer_bytes(words: &[u32], op: u8) -> usize
 }
 
 // One command, or the number of the stop before it.
-pub fn step(words: &mut [u32], tape: &[u8], at: usize, out: &mut [u8], to: usize) -> Went
+pub fn step(
+    words: &mut [u32],
+    lengths: &[u8; BYTES],
+    rooms: &[u8; BYTES],
+    tape: &[u8],
+    at: usize,
+    out: &mut [u8],
+    to: usize,
+) -> Went
     requires { ⌜ StepReady (now words) (now tape) at (now out) to ⌝ }
+    requires { ⌜ (now lengths ≡ widths VALUE-BYTES) × (now rooms ≡ answers) ⌝ }
     ensures { λ r. ⌜ Stepped (now (words .entry)) (now (words .exit)) (now (tape .entry)) (now (out .entry)) (now (out .exit)) at to r (stepAt (meaning (now (words .entry))) (now (tape .entry)) at (length (now (out .entry)) - to)) ⌝ }
 {
     let op = tape[at];
@@ -70,11 +81,11 @@ pub fn step(words: &mut [u32], tape: &[u8], at: usize, out: &mut [u8], to: usize
     if LAST_COMMAND < op {
         return Went::Stop(UNKNOWN);
     }
-    let read = 1 + operand_bytes(op);
+    let read = 1 + operand_bytes(lengths, op);
     if tape.len() - at < read {
         return Went::Stop(CUT);
     }
-    let need = answer_bytes(words, op);
+    let need = answer_bytes(words, rooms, op);
     if out.len() - to < need {
         return Went::Stop(NOROOM);
     }
@@ -82,16 +93,18 @@ pub fn step(words: &mut [u32], tape: &[u8], at: usize, out: &mut [u8], to: usize
     Went::Done(at + read, to + written)
 }
 
-// The whole tape, over words that are sound.
+// The whole tape, over words that are sound. The tables are made once and lent to each step: a const array is made anew where it is used.
 pub fn run_sound(words: &mut [u32], tape: &[u8], out: &mut [u8]) -> Ran
     requires { ⌜ Sound (now words) ⌝ }
     ensures { λ r. ⌜ Completed (now (words .entry)) (now (words .exit)) (now (tape .entry)) (now (out .entry)) (now (out .exit)) r (run (now (tape .entry)) (length (now (out .entry))) (meaning (now (words .entry)))) ⌝ }
 {
+    let lengths = WIDTHS;
+    let rooms = ANSWERS;
     let mut at: usize = 0;
     let mut to: usize = 0;
     let mut done: usize = 0;
     while at < tape.len() {
-        match step(words, tape, at, out, to) {
+        match step(words, &lengths, &rooms, tape, at, out, to) {
             Went::Done(next, end) => {
                 at = next;
                 to = end;

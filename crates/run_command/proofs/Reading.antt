@@ -1,5 +1,6 @@
 -- Operands off the tape, and commands by their bytes. Assumes nothing.
 use mathlib.Core.Path.{_≡_, ap, ap₂, sym, _∙_, subst}
+use mathlib.Core.Logic.{inl, inr}
 use mathlib.Core.List.{List}
 use Prim.Native.Nat.{ℕ, _+_, _≤_, _<_}
 use native.Mathlib.Omega.{arith}
@@ -15,7 +16,7 @@ use Rattle.model.specs.Run.{does}
 use Rattle.model.proofs.ListLaws.{halves}
 use Rattle.memory.specs.Meaning.{meaning}
 use Rattle.command.specs.Acted.{Ready, Acted}
-use Rattle.run_command.specs.Given.{commandIn, Given}
+use Rattle.run_command.specs.Given.{commandIn, Given, Rare}
 use Rattle.codec.proofs.Numbers.{number-join}
 use Rattle.model.specs.Numbers.{LAST-COMMAND, REG-BYTE, HOLD-BYTE, NEW-BYTE, PUT-BYTE, TAKE-BYTE, DROP-BYTE, KILL-BYTE, WIPE-BYTE, GROUP-BYTE, APPLY-BYTE, BAR-BYTE, RANGE-BYTE, EMPTY-BYTE, TALLY-BYTE, TRAY-BYTE}
 
@@ -79,22 +80,26 @@ entity-whole {t = t} {at = at} b h g =
     (λ n5. by-eq b DROP-BYTE (λ e. given-as DROP-BYTE e g .whole)
     (λ n6. given-as KILL-BYTE (is-kill b h (((tt, n4), n5), n6)) g .whole)))
 
--- none of REG, HOLD and NEW, and none of WIPE to TRAY
-abbrev pub NoArm : ℕ → Type 0
-NoArm b =
-    ((((((((((Unit {0} × (b ≡ REG-BYTE → ⊥)) × (b ≡ HOLD-BYTE → ⊥)) × (b ≡ NEW-BYTE → ⊥)) × (b ≡ WIPE-BYTE → ⊥)) × (b ≡ GROUP-BYTE → ⊥)) × (b ≡ APPLY-BYTE → ⊥)) × (b ≡ BAR-BYTE → ⊥)) × (b ≡ RANGE-BYTE → ⊥)) × (b ≡ EMPTY-BYTE → ⊥)) × (b ≡ TALLY-BYTE → ⊥)) × (b ≡ TRAY-BYTE → ⊥)
+-- none of REG, HOLD and NEW
+abbrev pub NoneOfFirst : ℕ → Type 0
+NoneOfFirst b = ((Unit {0} × (b ≡ REG-BYTE → ⊥)) × (b ≡ HOLD-BYTE → ⊥)) × (b ≡ NEW-BYTE → ⊥)
 
-pub on-entity : (b : ℕ) → REG-BYTE ≤ b → b < WIPE-BYTE → NoArm b → (PUT-BYTE ≤ b) × (b ≤ KILL-BYTE)
-on-entity b h l n =
-    let m = n .0 .0 .0 .0 .0 .0 .0 .0 in
-    (above NEW-BYTE (above HOLD-BYTE (above REG-BYTE h (m .0 .0 .1)) (m .0 .1)) (m .1), omega arith)
+pub on-entity : (b : ℕ) → REG-BYTE ≤ b → b < WIPE-BYTE → NoneOfFirst b → (PUT-BYTE ≤ b) × (b ≤ KILL-BYTE)
+on-entity b h l n = (above NEW-BYTE (above HOLD-BYTE (above REG-BYTE h (n .0 .0 .1)) (n .0 .1)) (n .1), omega arith)
 
-pub is-last : (b : ℕ) → WIPE-BYTE ≤ b → b ≤ LAST-COMMAND → NoArm b → b ≡ LAST-COMMAND
-is-last b h l n =
+-- none of REG, and of WIPE to TRAY
+abbrev pub NoneOfRare : ℕ → Type 0
+NoneOfRare b =
+    ((((((((Unit {0} × (b ≡ REG-BYTE → ⊥)) × (b ≡ WIPE-BYTE → ⊥)) × (b ≡ GROUP-BYTE → ⊥)) × (b ≡ APPLY-BYTE → ⊥)) × (b ≡ BAR-BYTE → ⊥)) × (b ≡ RANGE-BYTE → ⊥)) × (b ≡ EMPTY-BYTE → ⊥)) × (b ≡ TALLY-BYTE → ⊥)) × (b ≡ TRAY-BYTE → ⊥)
+
+pub is-last : (b : ℕ) → Rare b → NoneOfRare b → b ≡ LAST-COMMAND
+is-last b (inl e) n = absurd (n .0 .0 .0 .0 .0 .0 .0 .0 .1 e)
+is-last b (inr h) n =
     let m = n .0 in
     omega (
       arith,
+      h .1,
       above TRAY-BYTE
-          (above TALLY-BYTE (above EMPTY-BYTE (above RANGE-BYTE (above BAR-BYTE (above APPLY-BYTE (above GROUP-BYTE (above WIPE-BYTE h (m .0 .0 .0 .0 .0 .0 .1)) (m .0 .0 .0 .0 .0 .1)) (m .0 .0 .0 .0 .1)) (m .0 .0 .0 .1)) (m .0 .0 .1)) (m .0 .1)) (m .1))
+          (above TALLY-BYTE (above EMPTY-BYTE (above RANGE-BYTE (above BAR-BYTE (above APPLY-BYTE (above GROUP-BYTE (above WIPE-BYTE (h .0) (m .0 .0 .0 .0 .0 .0 .1)) (m .0 .0 .0 .0 .0 .1)) (m .0 .0 .0 .0 .1)) (m .0 .0 .0 .1)) (m .0 .0 .1)) (m .0 .1)) (m .1))
           (n .1),
     )

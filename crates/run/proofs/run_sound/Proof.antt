@@ -4,7 +4,7 @@ use mir.Syntax.{w64}
 use Rattle.run.proofs.Runs.{Going, start, ended, stops-here, goes-on, moves}
 use lib.ListN.{length}
 use native.Mathlib.Omega.{arith}
-use mathlib.Core.Path.{_∙_}
+use mathlib.Core.Path.{refl, _∙_}
 use Prim.Native.Nat.{_-_, ℕ, _+_, _<_, _≤_}
 use Rattle.run.proofs.run_sound.Statement.{statement}
 use Rattle.run.proofs.run_sound.Tie as tie
@@ -16,10 +16,10 @@ less : (a b l : ℕ) → a < b → a < l → l - b < l - a
 less a b l h m = omega arith
 
 abbrev Inv-loop : tie.InvT-loop
-Inv-loop words₀ tape out₀ at₀ to₀ done₀ words out at to done = Going words₀ tape out₀ words out at to done
+Inv-loop words₀ tape out₀ lengths rooms at₀ to₀ done₀ words out at to done = Going words₀ tape out₀ words out at to done
 
 abbrev μ-loop : tie.MeasureT-loop
-μ-loop words₀ tape out₀ at₀ to₀ done₀ words out at to done = length tape - at
+μ-loop words₀ tape out₀ lengths rooms at₀ to₀ done₀ words out at to done = length tape - at
 
 tape-fits : (s : tie.Start Inv-loop μ-loop) → Fits w64 (length (s .args .tape .now))
 tape-fits s = omega arith
@@ -28,25 +28,25 @@ loop-holds : tie.Need-loop-holds Inv-loop μ-loop
 loop-holds c = start (c .before .before .before .pre)
 
 step-requires : tie.Need-step-requires Inv-loop μ-loop
-step-requires c κs = record { sound = c .before .before .before .loop .inv .sound; more = c .before .before .loop-test .taken; within = c .before .before .before .loop .inv .within }
+step-requires c κs = (record { sound = c .before .before .before .before .before .loop .inv .sound; more = c .before .before .before .before .loop-test .taken; within = c .before .before .before .before .before .loop .inv .within }, (refl, refl))
 
 add-done : tie.Need-add-done Inv-loop μ-loop
-add-done c = fits-le (one-more _ _ _ (c .before .before .before .before .before .before .before .before .before .before .before .loop .inv .few) (c .before .before .before .before .before .before .before .before .before .before .loop-test .taken)) (tape-fits (c .before .before .before .before .before .before .before .before .before .before .before .before .before .before .before))
+add-done c = fits-le (one-more _ _ _ (c .before .before .before .before .before .before .before .before .before .before .before .before .before .loop .inv .few) (c .before .before .before .before .before .before .before .before .before .before .before .before .loop-test .taken)) (tape-fits (c .before .before .before .before .before .before .before .before .before .before .before .before .before .before .before .before .before))
 
 loop-less : tie.Need-loop-less Inv-loop μ-loop
-loop-less c = less _ _ _ (moves (c .before .before .before .before .before .before .before .before .before .before .before .loop .inv) (c .before .before .before .before .before .before .before .before .before .before .loop-test .taken) (c .before .next .given .0 .0) (c .before .next .given .0 .1 .0) (rw (c .before .next .given .1) at (c .before .before .before .before .before .before .before .step .ensures))) (c .before .before .before .before .before .before .before .before .before .before .loop-test .taken)
+loop-less c = less _ _ _ (moves (c .before .before .before .before .before .before .before .before .before .before .before .before .before .loop .inv) (c .before .before .before .before .before .before .before .before .before .before .before .before .loop-test .taken) (c .before .next .given .0 .0) (c .before .next .given .0 .1 .0) (rw (c .before .next .given .1) at (c .before .before .before .before .before .before .before .step .ensures))) (c .before .before .before .before .before .before .before .before .before .before .before .before .loop-test .taken)
 
 loop-again : tie.Need-loop-again Inv-loop μ-loop
-loop-again c = goes-on (c .before .before .before .before .before .before .before .before .before .before .before .loop .inv) (c .before .before .before .before .before .before .before .before .before .before .loop-test .taken) (c .before .next .given .0 .0) (c .before .next .given .0 .1 .0) (rw (c .before .next .given .1) at (c .before .before .before .before .before .before .before .step .ensures))
+loop-again c = goes-on (c .before .before .before .before .before .before .before .before .before .before .before .before .before .loop .inv) (c .before .before .before .before .before .before .before .before .before .before .before .before .loop-test .taken) (c .before .next .given .0 .0) (c .before .next .given .0 .1 .0) (rw (c .before .next .given .1) at (c .before .before .before .before .before .before .before .step .ensures))
 
 same-length : tie.Need-same-length Inv-loop μ-loop
-same-length c = c .before .before .before .before .before .before .before .step .kept .0 ∙ c .before .before .before .before .before .before .before .before .before .before .before .loop .inv .becomes .size
+same-length c = c .before .before .before .before .before .before .before .step .kept .0 ∙ c .before .before .before .before .before .before .before .before .before .before .before .before .before .loop .inv .becomes .size
 
 same-length-2 : tie.Need-same-length-2 Inv-loop μ-loop
-same-length-2 c = c .before .before .before .before .before .before .before .step .kept .1 .1 .1 .0 ∙ c .before .before .before .before .before .before .before .before .before .before .before .loop .inv .same-out
+same-length-2 c = c .before .before .before .before .before .before .before .step .kept .1 .1 .1 .1 .1 .0 ∙ c .before .before .before .before .before .before .before .before .before .before .before .before .before .loop .inv .same-out
 
 returns : tie.Need-returns Inv-loop μ-loop
-returns c = stops-here (c .before .before .before .before .before .before .before .before .before .before .before .loop .inv) (c .before .before .before .before .before .before .before .before .before .before .loop-test .taken) (c .before .number .given .0 .0) (rw (c .before .number .given .1) at (c .before .before .before .before .before .before .before .step .ensures))
+returns c = stops-here (c .before .before .before .before .before .before .before .before .before .before .before .before .before .loop .inv) (c .before .before .before .before .before .before .before .before .before .before .before .before .loop-test .taken) (c .before .number .given .0 .0) (rw (c .before .number .given .1) at (c .before .before .before .before .before .before .before .step .ensures))
 
 same-length-3 : tie.Need-same-length-3 Inv-loop μ-loop
 same-length-3 c = c .before .loop .inv .becomes .size

@@ -30,34 +30,34 @@ whole a n l h m = omega arith
 returns : tie.Need-returns
 returns c =
     let s = c .before .before .before .before .before in
-    stopped (s .pre .sound) (s .pre .within) (step-zero (meaning (s .args .words .now)) (s .args .tape .now) (s .args .at) _ (c .if1 .taken))
+    stopped (s .pre .0 .sound) (s .pre .0 .within) (step-zero (meaning (s .args .words .now)) (s .args .tape .now) (s .args .at) _ (c .if1 .taken))
 
 returns-2 : tie.Need-returns-2
 returns-2 c =
     let s = c .before .before .before .before .before .before in
-    stopped (s .pre .sound) (s .pre .within) (step-high (meaning (s .args .words .now)) (s .args .tape .now) (s .args .at) _ (pos-of-ne-zero (c .before .if1 .left)) (c .if2 .taken))
+    stopped (s .pre .0 .sound) (s .pre .0 .within) (step-high (meaning (s .args .words .now)) (s .args .tape .now) (s .args .at) _ (pos-of-ne-zero (c .before .if1 .left)) (c .if2 .taken))
 
 returns-3 : tie.Need-returns-3
 returns-3 c =
     let s = c .before .before .before .before .before .before .before .before in
-    stopped (s .pre .sound) (s .pre .within) (step-cut (meaning (s .args .words .now)) (s .args .tape .now) (s .args .at) _ (pos-of-ne-zero (c .before .before .before .if1 .left)) (c .before .before .if2 .left) (s .pre .more) (rw (c .before .operand-bytes .ensures .0) at (c .if3 .taken)))
+    stopped (s .pre .0 .sound) (s .pre .0 .within) (step-cut (meaning (s .args .words .now)) (s .args .tape .now) (s .args .at) _ (pos-of-ne-zero (c .before .before .before .if1 .left)) (c .before .before .if2 .left) (s .pre .0 .more) (rw (c .before .operand-bytes .ensures .0) at (c .if3 .taken)))
 
 returns-4 : tie.Need-returns-4
 returns-4 c =
     let s = c .before .before .before .before .before .before .before .before .before .before .before in
     let t = s .args .tape .now in
     let b = getD t (s .args .at) 0 in
-    stopped (s .pre .sound) (s .pre .within) (step-room (meaning (s .args .words .now)) t (s .args .at) _ (pos-of-ne-zero (c .before .before .before .before .before .before .if1 .left)) (c .before .before .before .before .before .if2 .left) (rw (c .before .before .before .before .operand-bytes .ensures .0) at (c .before .before .before .if3 .left)) (rw (c .before .answer-bytes .ensures (take (width VALUE-BYTES b) (drop (s .args .at + 1) t))) at (c .if4 .taken)))
+    stopped (s .pre .0 .sound) (s .pre .0 .within) (step-room (meaning (s .args .words .now)) t (s .args .at) _ (pos-of-ne-zero (c .before .before .before .before .before .before .if1 .left)) (c .before .before .before .before .before .if2 .left) (rw (c .before .before .before .before .operand-bytes .ensures .0) at (c .before .before .before .if3 .left)) (rw (c .before .answer-bytes .ensures (take (width VALUE-BYTES b) (drop (s .args .at + 1) t))) at (c .if4 .taken)))
 
 act-requires : tie.Need-act-requires
 act-requires c κs =
     let s = c .before .before .before .before .before .before .before .before .before .before .before .before .before in
     let t = s .args .tape .now in
     let b = getD t (s .args .at) 0 in
-    ((pos-of-ne-zero (c .before .before .before .before .before .before .before .before .if1 .left), c .before .before .before .before .before .before .before .if2 .left), (given b (c .before .before .before .before .before .before .operand-bytes .result) (c .before .before .before .answer-bytes .result) (s .pre) (c .before .before .before .before .before .before .operand-bytes .ensures .0) (c .before .before .before .before .before .if3 .left) (c .before .before .before .answer-bytes .ensures (take (width VALUE-BYTES b) (drop (s .args .at + 1) t))) (c .before .before .if4 .left)))
+    ((pos-of-ne-zero (c .before .before .before .before .before .before .before .before .if1 .left), c .before .before .before .before .before .before .before .if2 .left), (given b (c .before .before .before .before .before .before .operand-bytes .result) (c .before .before .before .answer-bytes .result) (s .pre .0) (c .before .before .before .before .before .before .operand-bytes .ensures .0) (c .before .before .before .before .before .if3 .left) (c .before .before .before .answer-bytes .ensures (take (width VALUE-BYTES b) (drop (s .args .at + 1) t))) (c .before .before .if4 .left)))
 
-add-t13 : tie.Need-add-t13
-add-t13 c =
+add-t15 : tie.Need-add-t15
+add-t15 c =
     let d = c .before .before .before .before in
     let s = d .before .before .before .before .before .before .before .before .before .before .before .before .before .before in
     fits-le (acted-within (getD (s .args .tape .now) (s .args .at) 0) (act-requires (d .before) (d .act .lifetimes) .1) (d .act .ensures)) (out-fits s)
@@ -77,21 +77,21 @@ pub step-spec : {M : Type 1} → statement M
 step-spec =
     tie.close
     (tie.spec
-    (λ c. c .before .before .before .before .pre .more)
+    (λ c. c .before .before .before .before .pre .0 .more)
     returns
     returns-2
-    (λ c κs. c .if2 .left)
+    (λ c κs. (c .before .before .before .before .before .before .pre .1 .0, c .if2 .left))
     (λ c. small (c .operand-bytes .result) (c .operand-bytes .ensures .1))
-    (λ c. le-of-lt (c .before .before .before .before .before .before .before .pre .more))
+    (λ c. le-of-lt (c .before .before .before .before .before .before .before .pre .0 .more))
     returns-3
-    (λ c κs. (c .before .before .before .before .before .before .before .before .before .pre .sound .arranged, c .before .before .before .if2 .left))
-    (λ c. c .before .before .before .before .before .before .before .before .before .before .pre .within)
+    (λ c κs. (c .before .before .before .before .before .before .before .before .before .pre .0 .sound .arranged, (c .before .before .before .before .before .before .before .before .before .pre .1 .1, c .before .before .before .if2 .left)))
+    (λ c. c .before .before .before .before .before .before .before .before .before .before .pre .0 .within)
     (λ c. refl)
     returns-4
-    (λ c. fits-le (add-one-le (c .before .before .before .before .before .before .before .before .before .before .before .before .pre .more)) (tape-fits (c .before .before .before .before .before .before .before .before .before .before .before .before)))
+    (λ c. fits-le (add-one-le (c .before .before .before .before .before .before .before .before .before .before .before .before .pre .0 .more)) (tape-fits (c .before .before .before .before .before .before .before .before .before .before .before .before)))
     act-requires
-    (λ c. fits-le (whole _ _ _ (c .before .before .before .before .before .before .before .before .before .before .before .before .before .before .before .before .before .before .pre .more) (c .before .before .before .before .before .before .before .before .before .before .if3 .left)) (tape-fits (c .before .before .before .before .before .before .before .before .before .before .before .before .before .before .before .before .before .before)))
-    add-t13
+    (λ c. fits-le (whole _ _ _ (c .before .before .before .before .before .before .before .before .before .before .before .before .before .before .before .before .before .before .pre .0 .more) (c .before .before .before .before .before .before .before .before .before .before .if3 .left)) (tape-fits (c .before .before .before .before .before .before .before .before .before .before .before .before .before .before .before .before .before .before)))
+    add-t15
     (λ c. c .before .before .before .before .act .kept .0)
     (λ c. c .before .before .before .before .act .kept .1 .1 .1 .1 .0)
     returns-5)
