@@ -32,7 +32,7 @@ use Rattle.run.specs.declared.Ran.{Ran}
 use Rattle.snapshot.proofs.Rolled.{roll-fits}
 use Rattle.store.specs.declared.Rolled.{Rolled}
 use Rattle.store.specs.Entries.{startNumber, StartLeaves, StartsWith, columnRefused, ColumnNumbered, columnWords, partPlace, ColumnPart, ranOf, RunLeaves, Runs, Rolls}
-use Rattle.store.specs.Course.{before, commandOn, Course, ended, stopped, refused, done, AfterEach, BeforeEach, EachDone, EachAnswer, EachRefusal, Reached, started, ran, retiredIn}
+use Rattle.store.specs.Course.{before, commandOn, Course, ended, stopped, refused, done, AfterEach, BeforeEach, EachDone, EachAnswer, EachRefusal, Reached, started, ran, Held, begun, opened, went-on, retiredIn}
 use Rattle.store.proofs.Starting.{start-number}
 use Rattle.store.proofs.Tables.{tabled, judged, start-tabled}
 use Rattle.store.specs.Theorems.{Tabled, Judged, RefusalAlone, GroupsHold}
@@ -219,6 +219,16 @@ started-empty c w w′ S = go (startWith c (length w)) refl (S .number) (S .leav
 pub reached-sound : {w : List ℕ} → Reached w → Sound w
 reached-sound (started {c} {w} {w′} S) = started-empty c w w′ S .0
 reached-sound (ran {w} {w′} {t} {o} {o′} {r} c R) = run-keeps-sound w w′ t o o′ r R (reached-sound c)
+
+-- and so it is of words that a caller holds, by a start, or by one run that did not answer 3 and any runs after it: what the functions of src/held.rt ask
+pub held-sound : {w : List ℕ} → Held w → Sound w
+held-sound (begun {c} {w} {w′} S) = started-empty c w w′ S .0
+held-sound (opened {w} {w′} {t} {o} {o′} {r} R n) = run-keeps-sound w w′ t o o′ r R (go (R .sound) (R .decides))
+  where
+    go : (b : Bool) → Decides b (Sound w) → Sound w
+    go false d = absurd (n (run-unsound w w′ t o o′ r R .1 d))
+    go true d = d
+held-sound (went-on {w} {w′} {t} {o} {o′} {r} h R) = run-keeps-sound w w′ t o o′ r R (held-sound h)
 
 -- ---- Demand 3: after each command each group's count is the number of live entities holding all its kinds, and the first that many places of each of
 -- its columns hold exactly those, once each, the same at the same place; between a group and the next larger stand exactly those with all kinds of the

@@ -1,9 +1,10 @@
 -- A run as 01 tells it, command by command, over the words themselves, and the words that runs reach from a start. Said beside the contracts, for the
 -- theorems of proofs/Demands.antt: every run has such a course. Assumes nothing.
+use mathlib.Core.Path.{_≡_}
 use mathlib.Core.List.{List, [], _∷_, _++_}
 use Prim.Native.Nat.{ℕ, suc, _+_, _-_}
 use lib.ListN.{length, take, drop}
-use Rattle.model.specs.Numbers.{VALUE-BYTES}
+use Rattle.model.specs.Numbers.{UNSOUND, VALUE-BYTES}
 use Rattle.model.specs.Store.{Settings, counted, withControl}
 use Rattle.model.specs.Commands.{Command, width, commandAt, accepted}
 use Rattle.model.specs.Refusals.{NoneHolds, First, BeforeCommand, beforeLines, linesOf}
@@ -103,3 +104,10 @@ allRefusedIn (ran {w} {w′} {t} {o} d R) = allRefusedIn d + refusedAll t (lengt
 abbrev pub callsIn : {w : List ℕ} → Reached w → ℕ
 callsIn (started S) = 0
 callsIn (ran {w} {w′} {t} {o} d R) = callsIn d + calls t (length o) (meaning w)
+
+-- the words that a caller may take for a sound store, with what src/held.rt asks of him: an accepted start left them, or a run that did not answer 3; and
+-- then any runs
+pub data Held : List ℕ → Type 0 where
+  begun : {c : Settings} {w w′ : List ℕ} → StartsWith c w w′ 0 → Held w′
+  opened : {w w′ t o o′ : List ℕ} {r : Ran} → Runs w w′ t o o′ r → (r .stop ≡ UNSOUND → ⊥) → Held w′
+  went-on : {w w′ t o o′ : List ℕ} {r : Ran} → Held w → Runs w w′ t o o′ r → Held w′

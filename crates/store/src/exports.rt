@@ -2,7 +2,8 @@
 // words, and as a copy.
 use crate::Reply;
 use crate::Rolled;
-use model::refusals::NOROOM;
+use crate::held;
+use model::refusals::UNSOUND;
 ghost use Rattle.model.specs.Store.{told};
 ghost use Rattle.store.specs.Entries.{Needs, Starts, StartsWith, Runs, ColumnNumbered, Rolls};
 ghost use Rattle.store.specs.Linked.{asRan, ColumnPlaced, ColumnCopied};
@@ -74,10 +75,10 @@ pub extern "C" fn yirbarn_column_at(
 ) -> usize
     ensures { λ r. ⌜ ColumnPlaced (now (words .entry)) values kind start end r ⌝ }
 {
-    if crate::column_number(words, kind, values, start, end) != 0 {
+    if !soundness::is_sound(words) {
         return 0;
     }
-    columns::row_start(words, kind as usize, values, start)
+    held::yirbarn_held_column_at(words, kind, values, start, end)
 }
 
 // The words that column hands back, copied to the front of out if they have room there.
@@ -92,26 +93,13 @@ pub extern "C" fn yirbarn_column(
 ) -> Reply
     ensures { λ r. ⌜ ColumnCopied (now (words .entry)) (now (out .entry)) (now (out .exit)) values kind start end r ⌝ }
 {
-    let number = crate::column_number(words, kind, values, start, end);
-    if number != 0 {
+    if !soundness::is_sound(words) {
         return Reply {
-            number: number,
+            number: UNSOUND,
             written: 0,
         };
     }
-    let part = columns::rows(words, kind as usize, values, start, end);
-    let count = part.len();
-    if out.len() < count {
-        return Reply {
-            number: NOROOM,
-            written: 0,
-        };
-    }
-    columns::copy(part, out);
-    Reply {
-        number: 0,
-        written: count,
-    }
+    held::yirbarn_held_column(words, kind, values, start, end, out)
 }
 
 #[no_mangle]

@@ -1,5 +1,7 @@
-// The public entries of document 01: *start*, *run*, *column* and its number, *roll*; and *start_with* of 02. None asks anything of its caller.
+// The public entries of document 01: *start*, *run*, *column* and its number, *roll*; and *start_with* of 02. None asks anything of its caller; those of
+// `held` do.
 pub mod exports;
+pub mod held;
 
 use memory::empty;
 use memory::empty::within_limits;
@@ -9,6 +11,7 @@ use model::refusals::SIZE;
 use model::refusals::UNSOUND;
 use run::Ran;
 ghost use Rattle.model.specs.Store.{told};
+ghost use Rattle.memory.specs.Arranged.{Sound};
 ghost use Rattle.store.specs.Entries.{Needs, Starts, StartsWith, Runs, ColumnNumbered, ColumnPart, Rolls};
 
 // What roll answers: 0 and how many bytes, or the number of a refusal and 0.
@@ -101,6 +104,14 @@ pub fn roll(words: &[u32], out: &mut [u8]) -> Rolled
             written: 0,
         };
     }
+    roll_sound(words, out)
+}
+
+// The same of words that are sound.
+pub fn roll_sound(words: &[u32], out: &mut [u8]) -> Rolled
+    requires { ⌜ Sound (now words) ⌝ }
+    ensures { λ r. ⌜ Rolls (now (words .entry)) (now (out .entry)) (now (out .exit)) r ⌝ }
+{
     if out.len() < snapshot::snapshot_length(words) {
         return Rolled {
             number: NOROOM,

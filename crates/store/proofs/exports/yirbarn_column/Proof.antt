@@ -1,33 +1,18 @@
-use mathlib.Core.Path.{refl}
-use native.Mathlib.Omega.{arith}
 use borrow.Author.Needs.{needs}
-use Rattle.store.proofs.Handing.{Given, given-of}
-use Rattle.store.proofs.Linking.{numbered-copy, short-copy, whole-copy}
+use Rattle.memory.specs.Arranged.{Sound}
+use Rattle.words.proofs.Decides.{granted, denied}
+use Rattle.store.proofs.Emitting.{unsound-emits}
 use Rattle.store.proofs.exports.yirbarn_column.Statement.{statement}
 use Rattle.store.proofs.exports.yirbarn_column.Tie as tie
 
 returns : tie.Need-returns
 returns c =
     let a = c .before .before .before .before .args in
-    numbered-copy (a .words .now) (a .out .now) (a .values) (a .kind) (a .start) (a .end) (c .before .column-number .result) (c .before .column-number .ensures) (c .if1 .taken)
+    unsound-emits (a .words .now) (a .out .now) _ (denied {P = Sound (a .words .now)} (c .before .is-sound .result) (c .before .is-sound .ensures) (c .if1 .taken))
 
-rows-requires : tie.Need-rows-requires
-rows-requires c κs =
-    let a = c .before .before .before .before .args in
-    let G : Given (a .words .now) (a .kind) (a .start) (a .end) = given-of (a .words .now) (a .kind) (a .start) (a .end) (c .before .column-number .result) (c .before .column-number .ensures) (c .if1 .left) in
-    (G .sound .arranged, G .taken)
-
-returns-2 : tie.Need-returns-2
-returns-2 c =
-    let a = c .before .before .before .before .before .before .args in
-    let G : Given (a .words .now) (a .kind) (a .start) (a .end) = given-of (a .words .now) (a .kind) (a .start) (a .end) (c .before .before .before .column-number .result) (c .before .before .before .column-number .ensures) (c .before .before .if1 .left) in
-    short-copy (a .words) (c .before .rows .result) (a .out .now) (a .values) (a .kind) (a .start) (a .end) G (c .before .rows .ensures) (c .if2 .taken)
-
-returns-3 : tie.Need-returns-3
-returns-3 c =
-    let a = c .before .before .before .before .before .before .before .before .before .before .args in
-    let G : Given (a .words .now) (a .kind) (a .start) (a .end) = given-of (a .words .now) (a .kind) (a .start) (a .end) (c .before .before .before .before .before .before .before .column-number .result) (c .before .before .before .before .before .before .before .column-number .ensures) (c .before .before .before .before .before .before .if1 .left) in
-    whole-copy (a .words) (c .before .before .before .before .before .rows .result) (a .out .now) (a .values) (a .kind) (a .start) (a .end) G (c .before .before .before .before .before .rows .ensures) (c .before .before .copy .last .1 .0) _ (omega (arith, c .before .before .before .before .if2 .left)) refl (c .before .before .copy .ensures)
+yirbarn-held-column-requires : tie.Need-yirbarn-held-column-requires
+yirbarn-held-column-requires c κs = granted {P = Sound (c .before .before .before .before .before .args .words .now)} (c .before .before .is-sound .result) (c .before .before .is-sound .ensures) (c .before .if1 .left)
 
 pub yirbarn-column-spec : {M : Type 1} → statement M
-yirbarn-column-spec = tie.close (tie.spec (λ c κs. tt) returns rows-requires returns-2 (λ c κs. search needs) (λ c. search needs) returns-3)
+yirbarn-column-spec =
+    tie.close (tie.spec (λ c κs. tt) returns yirbarn-held-column-requires (λ c. search needs) (λ c. c .before .before .yirbarn-held-column .ensures))

@@ -1,27 +1,20 @@
 use native.Mathlib.Omega.{arith}
-use Rattle.columns.proofs.Columns.{known-of}
-use Rattle.store.proofs.Handing.{Given, given-of}
-use Rattle.store.proofs.Linking.{refused-place, given-place}
+use Rattle.model.specs.Numbers.{UNSOUND}
+use Rattle.memory.specs.Arranged.{Sound}
+use Rattle.words.proofs.Decides.{granted, denied}
+use Rattle.store.proofs.Handing.{unsound-number}
+use Rattle.store.proofs.Linking.{refused-place}
 use Rattle.store.proofs.exports.yirbarn_column_at.Statement.{statement}
 use Rattle.store.proofs.exports.yirbarn_column_at.Tie as tie
 
 returns : tie.Need-returns
 returns c =
     let a = c .before .before .before .args in
-    refused-place (a .words .now) (a .values) (a .kind) (a .start) (a .end) (c .before .column-number .result) (c .before .column-number .ensures) (c .if1 .taken)
+    let C = unsound-number (a .words .now) (a .kind) (a .start) (a .end) (denied {P = Sound (a .words .now)} (c .before .is-sound .result) (c .before .is-sound .ensures) (c .if1 .taken)) in
+    refused-place (a .words .now) (a .values) (a .kind) (a .start) (a .end) UNSOUND C (λ z. omega (arith, z))
 
-row-start-requires : tie.Need-row-start-requires
-row-start-requires c κs =
-    let a = c .before .before .before .args in
-    let G : Given (a .words .now) (a .kind) (a .start) (a .end) = given-of (a .words .now) (a .kind) (a .start) (a .end) (c .before .column-number .result) (c .before .column-number .ensures) (c .if1 .left) in
-    let C = known-of (a .words .now) (a .values) (a .kind) (a .start) (a .end) (G .sound .arranged) (G .taken) in
-    (G .sound .arranged, (C .known, omega (arith, C .order, C .inside)))
-
-returns-2 : tie.Need-returns-2
-returns-2 c =
-    let a = c .before .before .before .before .args in
-    given-place (a .words .now) (a .values) (a .kind) (a .start) (a .end) (c .row-start .result) (given-of (a .words .now) (a .kind) (a .start) (a .end) (c .before .before .column-number .result) (c .before .before .column-number .ensures) (c .before .if1 .left))
-    (λ j. omega (arith, c .before .before .before .shared-slice-known .given j)) (c .row-start .ensures .is)
+yirbarn-held-column-at-requires : tie.Need-yirbarn-held-column-at-requires
+yirbarn-held-column-at-requires c κs = granted {P = Sound (c .before .before .before .args .words .now)} (c .before .is-sound .result) (c .before .is-sound .ensures) (c .if1 .left)
 
 pub yirbarn-column-at-spec : {M : Type 1} → statement M
-yirbarn-column-at-spec = tie.close (tie.spec (λ c κs. tt) returns row-start-requires returns-2)
+yirbarn-column-at-spec = tie.close (tie.spec (λ c κs. tt) returns yirbarn-held-column-at-requires (λ c. c .yirbarn-held-column-at .ensures))
