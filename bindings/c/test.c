@@ -481,6 +481,84 @@ static void test_roll(void)
     CHECK(rolled.number == YIRBARN_UNSOUND && rolled.written == 0);
 }
 
+/* Two answers of a run. */
+static bool same_ran(struct yirbarn_ran one, struct yirbarn_ran other)
+{
+    return one.stop == other.stop && one.commands == other.commands && one.read == other.read &&
+           one.written == other.written;
+}
+
+/* A held run and a run of as much of the tape in the same room, from the same words: the same answer, bytes and words. */
+static void test_held_run(const uint8_t *tape, size_t tape_len, size_t room)
+{
+    uint8_t answered[OUT];
+    keep();
+    memset(answered, 0x5a, sizeof answered);
+    memset(out, 0x5a, sizeof out);
+    struct yirbarn_ran ran = yirbarn_run(words, NEEDED, tape, tape_len, answered, room);
+    struct yirbarn_ran held = yirbarn_held_run(kept, NEEDED, tape, tape_len, out, room);
+    CHECK(same_ran(ran, held) && !memcmp(answered, out, OUT) && as_kept());
+}
+
+static void test_held_runs(void)
+{
+    for (size_t length = 0; length <= sizeof TAPE; length++) {
+        fresh();
+        test_held_run(TAPE, length, OUT);
+        /* The same again, over what it left: most is refused now. */
+        test_held_run(TAPE, length, OUT);
+    }
+    for (size_t room = 0; room <= sizeof ANSWERS; room++) {
+        fresh();
+        test_held_run(TAPE, sizeof TAPE, room);
+    }
+    for (int byte = 0; byte < 256; byte++) {
+        const uint8_t tape[] = {(uint8_t)byte, 1, 0, 0, 0, 1, 0, 0, 0, 0};
+        used();
+        test_held_run(tape, sizeof tape, OUT);
+    }
+}
+
+/* Number, place and copy of a column, held and not. */
+static void test_held_column(uint8_t kind, bool values, size_t start, size_t end, size_t room)
+{
+    uint32_t one[8], other[8];
+    memset(one, 0x5a, sizeof one);
+    memset(other, 0x5a, sizeof other);
+    CHECK(yirbarn_held_column_number(words, NEEDED, kind, values, start, end) ==
+          yirbarn_column_number(words, NEEDED, kind, values, start, end));
+    CHECK(yirbarn_held_column_at(words, NEEDED, kind, values, start, end) ==
+          yirbarn_column_at(words, NEEDED, kind, values, start, end));
+    struct yirbarn_written copied = yirbarn_column(words, NEEDED, kind, values, start, end, one, room);
+    CHECK(copies(yirbarn_held_column(words, NEEDED, kind, values, start, end, other, room), copied.number,
+                 copied.written));
+    CHECK(!memcmp(one, other, sizeof one));
+}
+
+static void test_held_reads(void)
+{
+    const uint8_t kinds[] = {0, 1, 2, 3, 127, 128, 255};
+    used();
+    keep();
+    for (size_t i = 0; i < sizeof kinds; i++)
+        for (size_t start = 0; start < 4; start++)
+            for (size_t end = 0; end < 4; end++)
+                for (size_t room = 0; room <= 8; room++) {
+                    test_held_column(kinds[i], false, start, end, room);
+                    test_held_column(kinds[i], true, start, end, room);
+                }
+    test_held_column(1, true, 0, SIZE_MAX, 8);
+    for (size_t room = 0; room <= 64; room++) {
+        uint8_t rolled[OUT];
+        memset(rolled, 0x5a, sizeof rolled);
+        memset(out, 0x5a, sizeof out);
+        struct yirbarn_rolled one = yirbarn_roll(words, NEEDED, rolled, room);
+        struct yirbarn_rolled other = yirbarn_held_roll(words, NEEDED, out, room);
+        CHECK(one.number == other.number && one.written == other.written && !memcmp(rolled, out, OUT));
+    }
+    CHECK(as_kept());
+}
+
 /* On words that hold no sound store every function says so, and nothing changes. */
 static void test_unsound(const uint32_t *before)
 {
@@ -960,6 +1038,8 @@ int main(void)
     test_column();
     test_copy();
     test_roll();
+    test_held_runs();
+    test_held_reads();
     test_damaged();
     printf("C: %d checks, %d failed\n", checks, failures);
     return failures != 0;

@@ -9,7 +9,8 @@
  * the length after it says; what one call may write (`words` where not const, `out`) overlaps nothing else that the
  * call is given; and meanwhile no other thread writes any of it, or reads what the call may write. What the words hold
  * is free: a start (yirbarn_start, yirbarn_start_with) makes a store of any words, and every other function that is
- * given words first tests whether they hold a sound one. yirbarn_words_needed is given none.
+ * given words first tests whether they hold a sound one. yirbarn_words_needed is given none. The functions for words
+ * that are held, yirbarn_held_.., test nothing, and who calls one owes more: it is said where they stand, at the end.
  *
  * Numbers are those of the refusals below, 0 where nothing is refused. Link with libstore.a (`rt staticlib store`).
  */
@@ -126,6 +127,28 @@ struct yirbarn_rolled {
  * Number: YIRBARN_UNSOUND, YIRBARN_NOROOM, in this order, or 0. Where it is not 0, nothing is written. Bytes of out past
  * `written` stay. */
 struct yirbarn_rolled yirbarn_roll(const uint32_t *words, size_t words_len, uint8_t *out, size_t out_len);
+
+/* Words that are held.
+ *
+ * Each function below does what the one of its name without `held` does, to the last byte, on words that hold a sound
+ * store. It does not test them, which saves time in proportion to the words. So who calls one vouches for them: a start
+ * over words and words_len gave 0, or a run did not stop by YIRBARN_UNSOUND (one of an empty tape will do, and changes
+ * nothing), and since then nothing has changed them but runs, of either form. Words that came from elsewhere, as from a
+ * file or from another process, or that other code may have written, are tested first. On words that hold no sound store
+ * the behaviour is undefined: any memory may be read and written. */
+struct yirbarn_ran yirbarn_held_run(uint32_t *words, size_t words_len, const uint8_t *tape, size_t tape_len, uint8_t *out,
+                                    size_t out_len);
+
+uint8_t yirbarn_held_column_number(const uint32_t *words, size_t words_len, uint8_t kind, bool values, size_t start,
+                                   size_t end);
+
+size_t yirbarn_held_column_at(const uint32_t *words, size_t words_len, uint8_t kind, bool values, size_t start,
+                              size_t end);
+
+struct yirbarn_written yirbarn_held_column(const uint32_t *words, size_t words_len, uint8_t kind, bool values,
+                                           size_t start, size_t end, uint32_t *out, size_t out_len);
+
+struct yirbarn_rolled yirbarn_held_roll(const uint32_t *words, size_t words_len, uint8_t *out, size_t out_len);
 
 #ifdef __cplusplus
 }

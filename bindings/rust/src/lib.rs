@@ -62,9 +62,12 @@ pub enum Part {
     Values,
 }
 
-/// A store in borrowed words. It holds the only reference to them, so that what was sound stays sound.
+/// A store in borrowed words. They held a sound store when it was made, by a start or by the test in [`Store::open`]. It
+/// holds the only reference to them and lends none to write, so that nothing but its own runs changes them, and these
+/// leave a sound store: so no other function tests them again.
 #[derive(Debug)]
 pub struct Store<'a> {
+    // A sound store, always: the functions for words that are held rest on it.
     words: &'a mut [u32],
 }
 
@@ -148,7 +151,8 @@ impl<'a> Store<'a> {
         Ok(Self { words })
     }
 
-    /// The store that the words hold already. Refused: [`Refusal::Unsound`], where they hold none.
+    /// The store that the words hold already. Refused: [`Refusal::Unsound`], where they hold none. That is tested here and
+    /// only here, in time in proportion to the words.
     ///
     /// ```
     /// use yirbarn::{Refusal, Store};
@@ -160,12 +164,10 @@ impl<'a> Store<'a> {
     /// # Ok::<(), Refusal>(())
     /// ```
     pub fn open(words: &'a mut [u32]) -> Result<Self, Refusal> {
-        let mut store = Self { words };
         // A run of no command changes nothing, and is refused on words that hold no store.
-        match store.run(&[], &mut []).stop {
-            Some(refusal) => Err(refusal),
-            None => Ok(store),
-        }
+        let ran = unsafe { sys::yirbarn_run(words.as_mut_ptr(), words.len(), [].as_ptr(), 0, [].as_mut_ptr(), 0) };
+        refused(ran.stop)?;
+        Ok(Self { words })
     }
 
     /// Does the tape's commands, one after the other, and writes their answers to the front of `answers`.
@@ -200,7 +202,7 @@ impl<'a> Store<'a> {
     /// ```
     pub fn run(&mut self, tape: &[u8], answers: &mut [u8]) -> Ran {
         let ran = unsafe {
-            sys::yirbarn_run(
+            sys::yirbarn_held_run(
                 self.words.as_mut_ptr(),
                 self.words.len(),
                 tape.as_ptr(),
@@ -236,10 +238,10 @@ impl<'a> Store<'a> {
     pub fn column(&self, kind: u8, part: Part, start: usize, end: usize) -> Result<&[u32], Refusal> {
         let values = part == Part::Values;
         let (words, len) = (self.words.as_ptr(), self.words.len());
-        match unsafe { sys::yirbarn_column_at(words, len, kind, values, start, end) } {
+        match unsafe { sys::yirbarn_held_column_at(words, len, kind, values, start, end) } {
             // No column starts there, so it is refused; the number says why.
             0 => {
-                refused(unsafe { sys::yirbarn_column_number(words, len, kind, values, start, end) })?;
+                refused(unsafe { sys::yirbarn_held_column_number(words, len, kind, values, start, end) })?;
                 Ok(&[])
             }
             at => Ok(&self.words[at..at + 2 * (end - start)]),
@@ -272,7 +274,7 @@ impl<'a> Store<'a> {
         out: &mut [u32],
     ) -> Result<usize, Refusal> {
         let copied = unsafe {
-            sys::yirbarn_column(
+            sys::yirbarn_held_column(
                 self.words.as_ptr(),
                 self.words.len(),
                 kind,
@@ -356,12 +358,13 @@ impl<'a> Store<'a> {
     /// # Ok::<(), Refusal>(())
     /// ```
     pub fn roll(&self, out: &mut [u8]) -> Result<usize, Refusal> {
-        let rolled = unsafe { sys::yirbarn_roll(self.words.as_ptr(), self.words.len(), out.as_mut_ptr(), out.len()) };
+        let (words, len) = (self.words.as_ptr(), self.words.len());
+        let rolled = unsafe { sys::yirbarn_held_roll(words, len, out.as_mut_ptr(), out.len()) };
         refused(rolled.number)?;
         Ok(rolled.written)
     }
 
-    /// The words, to be kept: [`Store::open`] takes them again.
+    /// The words, to be read and kept: [`Store::open`] takes them again.
     pub fn words(&self) -> &[u32] {
         self.words
     }

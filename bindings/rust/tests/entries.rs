@@ -945,6 +945,95 @@ fn rolls() {
     assert!(out[roll.len()..].iter().all(|&byte| byte == 0x5a));
 }
 
+/// A run by the function that tests the words, and by the one for words that are held: the same answer, bytes and words.
+fn held_run(words: &mut [u32], tape: &[u8], room: usize) {
+    let mut others = words.to_vec();
+    let (mut out, mut answers) = ([0x5a; 64], [0x5a; 64]);
+    let (ran, held) = unsafe {
+        let (bytes, length) = (tape.as_ptr(), tape.len());
+        (
+            sys::yirbarn_run(words.as_mut_ptr(), words.len(), bytes, length, out.as_mut_ptr(), room),
+            sys::yirbarn_held_run(
+                others.as_mut_ptr(),
+                others.len(),
+                bytes,
+                length,
+                answers.as_mut_ptr(),
+                room,
+            ),
+        )
+    };
+    assert_eq!((ran, out, &*words), (held, answers, &others[..]));
+}
+
+#[test]
+fn held_runs() {
+    let tape = tape();
+    for length in 0..=tape.len() {
+        let mut words = vec![7; NEEDED];
+        Store::start(&mut words, N, K).unwrap();
+        held_run(&mut words, &tape[..length], 64);
+        // The same again, over what it left: most is refused now.
+        held_run(&mut words, &tape[..length], 64);
+    }
+    for room in 0..=ANSWERS.len() {
+        let mut words = vec![7; NEEDED];
+        Store::start(&mut words, N, K).unwrap();
+        held_run(&mut words, &tape, room);
+    }
+    for byte in 0..=255 {
+        held_run(&mut used(), &[byte, 1, 0, 0, 0, 1, 0, 0, 0, 0], 64);
+    }
+}
+
+#[test]
+fn held_columns() {
+    let words = used();
+    let (pointer, length) = (words.as_ptr(), words.len());
+    for kind in [0, 1, 2, 3, 127, 128, 255] {
+        for (start, end) in (0..4).flat_map(|start| [0, 1, 2, 3, usize::MAX].map(|end| (start, end))) {
+            for values in [false, true] {
+                let (number, at) = unsafe {
+                    (
+                        sys::yirbarn_column_number(pointer, length, kind, values, start, end),
+                        sys::yirbarn_column_at(pointer, length, kind, values, start, end),
+                    )
+                };
+                let held = unsafe {
+                    (
+                        sys::yirbarn_held_column_number(pointer, length, kind, values, start, end),
+                        sys::yirbarn_held_column_at(pointer, length, kind, values, start, end),
+                    )
+                };
+                assert_eq!((number, at), held);
+                for room in 0..6 {
+                    let (mut out, mut others) = ([9; 6], [9; 6]);
+                    let (one, other) = (out.as_mut_ptr(), others.as_mut_ptr());
+                    let copied = unsafe { sys::yirbarn_column(pointer, length, kind, values, start, end, one, room) };
+                    let held =
+                        unsafe { sys::yirbarn_held_column(pointer, length, kind, values, start, end, other, room) };
+                    assert_eq!((copied, out), (held, others));
+                }
+            }
+        }
+    }
+}
+
+#[test]
+fn held_rolls() {
+    let words = used();
+    for room in 0..=64 {
+        let (mut out, mut others) = ([0x5a; 64], [0x5a; 64]);
+        let (rolled, held) = unsafe {
+            (
+                sys::yirbarn_roll(words.as_ptr(), words.len(), out.as_mut_ptr(), room),
+                sys::yirbarn_held_roll(words.as_ptr(), words.len(), others.as_mut_ptr(), room),
+            )
+        };
+        assert_eq!((rolled, out), (held, others));
+    }
+}
+
 /// On words that hold no sound store every function says so, and nothing changes.
 fn unsound(words: &mut [u32]) {
     let before = words.to_vec();
