@@ -1,28 +1,23 @@
-//! Times of the store beside those of the Rust, in one run on one machine: the table of docs/BENCHMARKS.md.
+//! Times of the store beside those of the Rust, in one run on one machine: the tables of docs/BENCHMARKS.md.
 //!
 //! Both do the same tapes, turn about, and their answers are compared. A time is processor time, the least of many
 //! rounds; a ratio is the middle one of the rounds' ratios, so that other work on the machine, which slows both of a
 //! round, disturbs little.
+//!
+//! Told letters of works, it times these, else all. Told `--launches 5` before them, it starts itself five times, one
+//! after the other, and prints the middle one of each figure, with the least and greatest of each ratio; and told
+//! `--before PROGRAM` too, it does the same with another build of itself, turn about.
 
 mod clock;
+mod commands;
+mod launches;
+mod sides;
 mod soundness;
 mod tapes;
+mod writer;
 
-use clock::Clock;
-use sparsey::harness::{Oracle, Sets};
+use sides::Times;
 use tapes::Work;
-use yirbarn::Store;
-
-/// Rounds of each work.
-const ROUNDS: usize = 41;
-
-/// Processor times for one work, round by round: ours, the Rust's, and ours by other commands, where there are such.
-#[derive(Default)]
-struct Times {
-    ours: Vec<f64>,
-    rust: Vec<f64>,
-    otherwise: Vec<f64>,
-}
 
 fn least(times: &[f64]) -> f64 {
     times.iter().copied().fold(f64::INFINITY, f64::min)
@@ -35,151 +30,61 @@ fn ratio(ours: &[f64], others: &[f64]) -> f64 {
     ratios[ratios.len() / 2]
 }
 
-fn run_ours(store: &mut Store, tape: &[u8], out: &mut [u8]) -> usize {
-    let ran = store.run(tape, out);
-    assert!(ran.stop.is_none() && ran.read == tape.len());
-    ran.written
-}
-
-fn run_rust(rust: &mut Oracle, tape: &[u8], out: &mut [u8]) -> usize {
-    let ran = rust.run(tape, out);
-    assert!(ran.stop == 0 && ran.read == tape.len());
-    ran.written
-}
-
-/// A room that the answers to a tape fit in: none is longer than 9 bytes and 9 more for each HOLD before it.
-fn room(tape: &[u8]) -> usize {
-    9 * tape.len() + 16
-}
-
-/// A side through the setup, and then timed through the runs, their answers one after the other; or, if there are none,
-/// through rolls. The answers' length.
-fn time_ours(work: &Work, runs: &[Vec<u8>], words: &mut [u32], out: &mut [u8], times: &mut Vec<f64>) -> usize {
-    let mut store = Store::start(words, work.n, work.k).unwrap();
-    run_ours(&mut store, &work.setup, out);
-    let (mut written, mut between) = (0, work.between.iter());
-    let mut clock = Clock::start();
-    for run in runs {
-        written += run_ours(&mut store, run, &mut out[written..]);
-        if let Some(between) = between.next() {
-            clock.stop();
-            run_ours(&mut store, between, &mut out[written..]);
-            clock.go_on();
-        }
-    }
-    for _ in 0..work.rolls() {
-        written = store.roll(out).unwrap();
-    }
-    times.push(clock.seconds());
-    written
-}
-
-fn time_rust(work: &Work, out: &mut [u8], times: &mut Vec<f64>) -> usize {
-    let mut rust = Oracle::new(Sets::Tuples);
-    assert_eq!(rust.start(usize::MAX, work.n, work.k), 0);
-    run_rust(&mut rust, &work.setup, out);
-    let (mut written, mut between) = (0, work.between.iter());
-    let mut clock = Clock::start();
-    for run in &work.runs {
-        written += run_rust(&mut rust, run, &mut out[written..]);
-        if let Some(between) = between.next() {
-            clock.stop();
-            run_rust(&mut rust, between, &mut out[written..]);
-            clock.go_on();
-        }
-    }
-    for _ in 0..work.rolls() {
-        written = rust.roll(out).1;
-    }
-    times.push(clock.seconds());
-    written
-}
-
-/// The room that the answers of a work take.
-fn work_room(work: &Work) -> usize {
-    let otherwise = work.otherwise.iter().flat_map(|otherwise| &otherwise.runs);
-    let tapes = work.runs.iter().chain(&work.between).chain(otherwise);
-    let tapes = tapes.map(|run| room(run)).sum();
-    room(&work.setup).max(tapes).max(9 * work.n * (work.k + 1) + 4)
-}
-
-/// All sides, turn about.
-fn measure(work: &Work) -> Times {
-    let mut times = Times::default();
-    let needed = Store::words_needed(work.n, work.k).unwrap();
-    let (mut words, mut others) = (vec![0; needed], vec![0; needed]);
-    let length = work_room(work);
-    let (mut ours, mut theirs, mut again) = (vec![0; length], vec![0; length], vec![0; length]);
-    let sides = if work.otherwise.is_some() { 3 } else { 2 };
-    for round in 0..ROUNDS {
-        let (mut written, mut same) = (0, 0);
-        for turn in 0..sides {
-            match ((round + turn) % sides, &work.otherwise) {
-                (0, _) => written = time_ours(work, &work.runs, &mut words, &mut ours, &mut times.ours),
-                (1, _) => same = time_rust(work, &mut theirs, &mut times.rust),
-                (_, Some(otherwise)) => {
-                    time_ours(work, &otherwise.runs, &mut others, &mut again, &mut times.otherwise);
-                }
-                _ => unreachable!("two sides"),
-            }
-        }
-        assert!(ours[..written] == theirs[..same], "{}: other answers", work.name);
-        assert!(
-            sides == 2 || are_same(&mut words, &mut others, work),
-            "{}: another store",
-            work.name
-        );
-    }
-    times
-}
-
-/// Whether two stores have the same roll, and the same columns in row order, those that have a row for each entity.
-fn are_same(one: &mut [u32], other: &mut [u32], work: &Work) -> bool {
-    let (one, other) = (Store::open(one).unwrap(), Store::open(other).unwrap());
-    let roll = |store: &Store| {
-        let mut out = vec![0; work_room(work)];
-        let length = store.roll(&mut out).unwrap();
-        out.truncate(length);
-        out
+/// A work's line in the table, and one more where it is done by other commands too.
+fn show(work: &Work, times: &Times) {
+    let (unit, scale) = match work.commands {
+        0..=1000 => ("µs", 1e6),
+        _ => ("ns", 1e9),
     };
-    let column = |store: &Store, kind: usize| store.rows(kind as u8, 0, work.n).map(Iterator::collect::<Vec<_>>);
-    roll(&one) == roll(&other) && (0..work.k).all(|kind| column(&one, kind) == column(&other, kind))
+    let each = |times: &[f64]| least(times) * scale / work.commands as f64;
+    let line = |name: &str, others: &[f64], bound: &str| {
+        println!(
+            "| {} | {name} | {} | {} | {:.1} {unit} | {:.1} {unit} | {:.2} | {bound} |",
+            work.letter,
+            work.n,
+            work.commands,
+            each(&times.ours),
+            each(others),
+            ratio(&times.ours, others),
+        );
+    };
+    line(work.name, &times.rust, work.bound);
+    if let Some(otherwise) = &work.otherwise {
+        line(otherwise.name, &times.otherwise, otherwise.bound);
+    }
 }
 
-fn main() {
-    // Letters of the works to be timed; all of them where none is given.
-    let letters: Vec<String> = std::env::args().skip(1).collect();
+/// One launch: the works with these letters; all of them where none is given.
+fn launch(letters: &[String]) {
     let wanted = |letter: &str| letters.is_empty() || letters.iter().any(|wanted| wanted == letter);
-    let works = tapes::works();
     println!("| | work | N | commands | ours | the Rust | ratio | to reach |");
     println!("|---|---|---|---|---|---|---|---|");
-    for work in works.iter().filter(|work| wanted(work.letter)) {
-        let times = measure(work);
-        let (unit, scale) = match work.commands {
-            0..=1000 => ("µs", 1e6),
-            _ => ("ns", 1e9),
-        };
-        let each = |times: &[f64]| least(times) * scale / work.commands as f64;
-        let line = |name: &str, others: &[f64], bound: &str| {
-            println!(
-                "| {} | {name} | {} | {} | {:.1} {unit} | {:.1} {unit} | {:.2} | {bound} |",
-                work.letter,
-                work.n,
-                work.commands,
-                each(&times.ours),
-                each(others),
-                ratio(&times.ours, others),
-            );
-        };
-        line(&work.name, &times.rust, work.bound);
-        if let Some(otherwise) = &work.otherwise {
-            line(otherwise.name, &times.otherwise, otherwise.bound);
-        }
+    for work in tapes::works().iter().filter(|work| wanted(work.letter)) {
+        show(work, &sides::measure(work));
     }
     if wanted("f") {
         soundness::show();
     }
     if wanted("i") {
         soundness::show_emptied();
+    }
+}
+
+fn main() {
+    let (mut launches, mut before, mut letters) = (None, None, vec![]);
+    let mut told = std::env::args().skip(1);
+    while let Some(word) = told.next() {
+        match word.as_str() {
+            "--launches" => launches = Some(told.next().expect("a number").parse().expect("a number")),
+            "--before" => before = Some(told.next().expect("a program").into()),
+            _ => letters.push(word),
+        }
+    }
+    match launches {
+        Some(count) => launches::show(count, before, &letters),
+        None => {
+            assert!(before.is_none(), "--before goes with --launches");
+            launch(&letters);
+        }
     }
 }

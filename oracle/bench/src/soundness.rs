@@ -1,60 +1,54 @@
 //! The soundness test alone, through the number of *column*, which does little else.
 
 use crate::clock::Clock;
+use crate::commands::{layout, registered, with, Rng, KILL, NEW, PUT};
+use std::ops::Range;
 use yirbarn::{sys, Store};
 
-const HOLD: u8 = 2;
-const NEW: u8 = 3;
-const KILL: u8 = 7;
-const GROUP: u8 = 9;
-const APPLY: u8 = 10;
-
-/// Words of a full store of N entities with all of K kinds, in families of nested groups of 2 to 15 kinds.
-fn full(n: usize, k: usize) -> Vec<u32> {
-    let mut words = vec![0; Store::words_needed(n, k).unwrap()];
-    let mut store = Store::start(&mut words, n, k).unwrap();
-    let mut tape: Vec<u8> = (0..k as u8).flat_map(|kind| [1, kind]).collect();
-    let hold = |tape: &mut Vec<u8>, kinds: std::ops::Range<usize>| {
-        for kind in kinds {
-            tape.extend([HOLD, kind as u8]);
-            tape.extend((kind as u64 * 1000).to_le_bytes());
-        }
-    };
-    // Seven groups for each sixteen kinds.
-    for family in 0..k / 16 {
-        for arity in [2, 4, 6, 8, 10, 12, 15] {
-            hold(&mut tape, 16 * family..16 * family + arity);
-            tape.push(GROUP);
-        }
-    }
-    tape.push(APPLY);
-    for i in 0..n {
+/// Words of a store of N entities with K kinds, in families of nested groups of 2 to 15 kinds, seven groups for each
+/// sixteen kinds. The entities get those of their kinds that are picked, one entity after the other in the order given.
+fn stored(k: u8, order: &[u32], mut pick: impl FnMut(Range<u8>) -> Vec<u8>) -> Vec<u32> {
+    let n = order.len();
+    let mut words = vec![0; Store::words_needed(n, k.into()).unwrap()];
+    let mut store = Store::start(&mut words, n, k.into()).unwrap();
+    let mut tape = vec![];
+    registered(&mut tape, 0..k);
+    let family = |first: u8| [2, 4, 6, 8, 10, 12, 15].map(|arity| (first..first + arity).collect());
+    let groups: Vec<Vec<u8>> = (0..k / 16).flat_map(|block| family(16 * block)).collect();
+    layout(&mut tape, &groups);
+    tape.extend(vec![NEW; n]);
+    for &index in order {
+        // No more than 16 can be staged.
         for first in (0..k).step_by(16) {
-            hold(&mut tape, first..k.min(first + 16));
-            match first {
-                0 => tape.push(NEW),
-                _ => {
-                    tape.push(4);
-                    tape.extend((i as u32).to_le_bytes());
-                    tape.extend(1u32.to_le_bytes());
-                }
-            }
+            let kinds = pick(first..k.min(first + 16));
+            with(&mut tape, &kinds, PUT, Some((index, 1)), 1000);
         }
     }
-    let mut out = vec![0; tape.len()];
+    let mut out = vec![0; 9 * tape.len()];
     let ran = store.run(&tape, &mut out);
     assert!(ran.stop.is_none());
     words
 }
 
-/// The same words, with every entity destroyed again.
-fn emptied(n: usize, k: usize) -> Vec<u32> {
+/// Every entity with every kind, by rising index.
+fn full(n: usize, k: u8) -> Vec<u32> {
+    let order: Vec<u32> = (0..n as u32).collect();
+    stored(k, &order, Iterator::collect)
+}
+
+/// Each kind with a half of the entities, by chance, in an order by chance.
+fn half_full(n: usize, k: u8) -> Vec<u32> {
+    let mut rng = Rng::new();
+    let order = rng.shuffled(n);
+    stored(k, &order, |kinds| rng.half(kinds))
+}
+
+/// The words of a full store, with every entity destroyed again.
+fn emptied(n: usize, k: u8) -> Vec<u32> {
     let mut words = full(n, k);
     let mut tape = vec![];
     for index in 0..n as u32 {
-        tape.push(KILL);
-        tape.extend(index.to_le_bytes());
-        tape.extend(1u32.to_le_bytes());
+        with(&mut tape, &[], KILL, Some((index, 1)), 0);
     }
     let ran = Store::open(&mut words).unwrap().run(&tape, &mut vec![0; n]);
     assert_eq!(ran.written, n);
@@ -95,13 +89,28 @@ pub fn show_emptied() {
     );
 }
 
-pub fn show() {
-    println!();
-    println!("f: the soundness test of a full store, every entity with every kind, nested groups");
+/// Stores of several sizes, each tested.
+fn show_table(sizes: &[(usize, u8)], stored: fn(usize, u8) -> Vec<u32>) {
     println!();
     println!("| N | K | words | test | a word | a plain pass over the words |");
     println!("|---|---|---|---|---|---|");
-    for (n, k) in [
+    for &(n, k) in sizes {
+        let words = stored(n, k);
+        let seconds = time(&words);
+        println!(
+            "| {n} | {k} | {} | {:.3} ms | {:.2} ns | {:.3} ms |",
+            words.len(),
+            seconds * 1e3,
+            seconds * 1e9 / words.len() as f64,
+            pass(&words) * 1e3,
+        );
+    }
+}
+
+pub fn show() {
+    println!();
+    println!("f: the soundness test of a full store, every entity with every kind, nested groups");
+    let sizes = [
         (64, 16),
         (512, 16),
         (4096, 16),
@@ -112,15 +121,9 @@ pub fn show() {
         (1024, 128),
         (2048, 128),
         (4096, 128),
-    ] {
-        let words = full(n, k);
-        let seconds = time(&words);
-        println!(
-            "| {n} | {k} | {} | {:.3} ms | {:.2} ns | {:.3} ms |",
-            words.len(),
-            seconds * 1e3,
-            seconds * 1e9 / words.len() as f64,
-            pass(&words) * 1e3,
-        );
-    }
+    ];
+    show_table(&sizes, full);
+    println!();
+    println!("f: the same, each kind with a half of the entities, by chance, in an order by chance");
+    show_table(&sizes, half_full);
 }

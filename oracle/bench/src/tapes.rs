@@ -1,12 +1,13 @@
 //! The works that are timed. Kinds 0 to 5 stand for what the list of works calls 1 to 6, since those have tuples of the
 //! Rust's own in the harness.
 
-use sparsey::harness::{Id, Oracle, Sets};
+use crate::commands::{layout, registered, with, Rng, DROP, KILL, NEW, PUT, TAKE, TRAY};
+use crate::writer::Writer;
 
 /// A tape, what comes before it, and what it is to reach.
 pub struct Work {
     pub letter: &'static str,
-    pub name: String,
+    pub name: &'static str,
     pub n: usize,
     pub k: usize,
     pub setup: Vec<u8>,
@@ -29,7 +30,40 @@ pub struct Otherwise {
     pub bound: &'static str,
 }
 
+/// What comes before, and the runs.
+type Tapes = (Vec<u8>, Vec<Vec<u8>>);
+
 impl Work {
+    /// With 16 kinds.
+    fn new(letter: &'static str, name: &'static str, n: usize, tapes: Tapes, commands: usize) -> Self {
+        let (setup, runs) = tapes;
+        Self {
+            letter,
+            name,
+            n,
+            k: usize::from(KINDS),
+            setup,
+            runs,
+            between: vec![],
+            otherwise: None,
+            commands,
+            bound: "",
+        }
+    }
+
+    /// The same in a store for so many kinds.
+    fn kinds(self, k: u8) -> Self {
+        Self {
+            k: usize::from(k),
+            ..self
+        }
+    }
+
+    /// The same with this to reach.
+    fn to_reach(self, bound: &'static str) -> Self {
+        Self { bound, ..self }
+    }
+
     /// How many rolls are timed.
     pub fn rolls(&self) -> usize {
         match self.runs.is_empty() {
@@ -39,69 +73,27 @@ impl Work {
     }
 }
 
-const REG: u8 = 1;
-const HOLD: u8 = 2;
-const NEW: u8 = 3;
-const PUT: u8 = 4;
-const TAKE: u8 = 5;
-const DROP: u8 = 6;
-const KILL: u8 = 7;
-const GROUP: u8 = 9;
-const APPLY: u8 = 10;
-const TRAY: u8 = 15;
+/// Kinds registered where nothing else is said.
+const KINDS: u8 = 16;
 
-/// Numbers that look random and are the same each time (xorshift).
-struct Rng(u64);
-
-impl Rng {
-    fn next(&mut self) -> u64 {
-        self.0 ^= self.0 << 13;
-        self.0 ^= self.0 >> 7;
-        self.0 ^= self.0 << 17;
-        self.0
-    }
-
-    fn below(&mut self, most: usize) -> usize {
-        (self.next() >> 33) as usize % most
-    }
+/// The groups of the line mix.
+fn line() -> Vec<Vec<u8>> {
+    vec![vec![0, 1], vec![0, 1, 2, 3], vec![4, 5]]
 }
 
-fn registered(tape: &mut Vec<u8>, k: usize) {
-    tape.extend((0..k as u8).flat_map(|kind| [REG, kind]));
+/// So many nested groups, the smallest of two kinds, each other of one more.
+fn nested(groups: u8) -> Vec<Vec<u8>> {
+    (2..groups + 2).map(|arity| (0..arity).collect()).collect()
 }
 
-fn hold(tape: &mut Vec<u8>, kinds: &[u8], value: u64) {
-    for &kind in kinds {
-        tape.extend([HOLD, kind]);
-        tape.extend((value + u64::from(kind)).to_le_bytes());
-    }
-}
+/// How many kinds the pairs have.
+const PAIRED: u8 = 28;
 
-fn with(tape: &mut Vec<u8>, kinds: &[u8], command: u8, id: Option<Id>, value: u64) {
-    hold(tape, kinds, value);
-    tape.push(command);
-    if let Some((index, version)) = id {
-        tape.extend(index.to_le_bytes());
-        tape.extend(version.to_le_bytes());
-    }
+/// 14 groups of two kinds each: those from this kind on, two by two, and behind the last of them the first.
+fn pairs(first: u8) -> Vec<Vec<u8>> {
+    let pair = |kind: u8| vec![(first + kind) % PAIRED, (first + kind + 1) % PAIRED];
+    (0..PAIRED).step_by(2).map(pair).collect()
 }
-
-fn layout(tape: &mut Vec<u8>, groups: &[&[u8]]) {
-    for group in groups {
-        with(tape, group, GROUP, None, 0);
-    }
-    tape.push(APPLY);
-}
-
-const LINE: [&[u8]; 3] = [&[0, 1], &[0, 1, 2, 3], &[4, 5]];
-const CHAIN: [&[u8]; 6] = [
-    &[0, 1],
-    &[0, 1, 2],
-    &[0, 1, 2, 3],
-    &[0, 1, 2, 3, 4],
-    &[0, 1, 2, 3, 4, 5],
-    &[0, 1, 2, 3, 4, 5, 6],
-];
 
 /// What an entity of the line mix is made with, or gets, or loses.
 const LISTS: [&[u8]; 8] = [
@@ -115,125 +107,86 @@ const LISTS: [&[u8]; 8] = [
     &[0, 1, 2],
 ];
 
-/// Writes a tape whose commands are accepted: the entities in it are those that the Rust answers.
-struct Writer {
-    tape: Vec<u8>,
-    /// Where each command ends, with what is staged for it.
-    ends: Vec<usize>,
-    rust: Oracle,
-    rng: Rng,
-    live: Vec<Id>,
+/// Which of the kinds 0 to 5 an entity is made with, or gets, or loses.
+#[derive(Clone, Copy, PartialEq, Eq)]
+enum Kinds {
+    /// Those of one of the lists.
+    Listed,
+    /// Each or not, by chance.
+    Half,
 }
 
-impl Writer {
-    fn new(n: usize, k: usize, setup: &[u8]) -> Self {
-        let mut rust = Oracle::new(Sets::Tuples);
-        rust.start(usize::MAX, n, k);
-        rust.run(setup, &mut vec![0; 9 * setup.len() + 16]);
-        let live = rust.live();
-        Self {
-            tape: vec![],
-            ends: vec![],
-            rust,
-            rng: Rng(0x9e37_79b9_7f4a_7c15),
-            live,
+impl Kinds {
+    fn draw(self, rng: &mut Rng) -> Vec<u8> {
+        match self {
+            Kinds::Listed => LISTS[rng.below(LISTS.len())].to_vec(),
+            Kinds::Half => rng.half(0..6),
         }
-    }
-
-    fn command(&mut self, kinds: &[u8], command: u8, at: Option<usize>) {
-        let id = at.map(|at| self.live[at]);
-        let from = self.tape.len();
-        let value = self.rng.next();
-        with(&mut self.tape, kinds, command, id, value >> 8);
-        let mut out = [0; 256];
-        let ran = self.rust.run(&self.tape[from..], &mut out);
-        assert_eq!(out[kinds.len()], 0, "a command of the works is refused");
-        self.ends.push(self.tape.len());
-        match command {
-            NEW => {
-                let word = |at: usize| u32::from_le_bytes(out[at..at + 4].try_into().unwrap());
-                self.live.push((word(ran.written - 8), word(ran.written - 4)));
-            }
-            KILL => {
-                self.live.swap_remove(at.unwrap());
-            }
-            _ => {}
-        }
-    }
-
-    fn some(&mut self) -> Option<usize> {
-        Some(self.rng.below(self.live.len()))
-    }
-
-    /// The tape in runs of so many commands.
-    fn runs(self, commands: usize) -> Vec<Vec<u8>> {
-        let mut from = 0;
-        let mut run = |ends: &[usize]| {
-            let tape = self.tape[from..ends[ends.len() - 1]].to_vec();
-            from += tape.len();
-            tape
-        };
-        self.ends.chunks(commands).map(&mut run).collect()
     }
 }
 
-/// What comes before, and the runs.
-type Tapes = (Vec<u8>, Vec<Vec<u8>>);
-
-/// Entities with the lists in turn, so many of N.
-fn filled(tape: &mut Vec<u8>, count: usize) {
+/// So many entities, with the lists in turn, or each with half of the kinds.
+fn filled(tape: &mut Vec<u8>, count: usize, kinds: Kinds) {
+    let mut rng = Rng::new();
     for i in 0..count {
-        with(tape, LISTS[i % LISTS.len()], NEW, None, i as u64);
+        let list = match kinds {
+            Kinds::Listed => LISTS[i % LISTS.len()].to_vec(),
+            Kinds::Half => kinds.draw(&mut rng),
+        };
+        with(tape, &list, NEW, None, i as u64);
     }
 }
 
-/// NEW, PUT, TAKE, DROP and KILL, on a store that is three quarters full all along.
-fn mix(n: usize, commands: usize, in_run: usize) -> Tapes {
+/// The groups of the line mix over so many kinds.
+fn lined(kinds: u8) -> Vec<u8> {
     let mut setup = vec![];
-    registered(&mut setup, 16);
-    layout(&mut setup, &LINE);
-    filled(&mut setup, 3 * n / 4);
-    let mut writer = Writer::new(n, 16, &setup);
+    registered(&mut setup, 0..kinds);
+    layout(&mut setup, &line());
+    setup
+}
+
+/// NEW, PUT, TAKE, DROP and KILL behind a setup, on a store that is three quarters full all along.
+fn mix(mut setup: Vec<u8>, n: usize, kinds: Kinds, commands: usize, in_run: usize) -> Tapes {
+    filled(&mut setup, 3 * n / 4, kinds);
+    let mut writer = Writer::new(n, &setup);
     for _ in 0..commands {
-        let list = LISTS[writer.rng.below(LISTS.len())];
-        let few = writer.live.len() < 5 * n / 8 + 1;
-        let many = writer.live.len() > 7 * n / 8;
+        let list = kinds.draw(&mut writer.rng);
+        let few = writer.live() < 5 * n / 8 + 1;
+        let many = writer.live() > 7 * n / 8;
         let at = writer.some();
         match writer.rng.below(10) {
-            0 | 1 if !many => writer.command(list, NEW, None),
+            0 | 1 if !many => writer.command(&list, NEW, None),
             2 | 3 if !few => writer.command(&[], KILL, at),
-            4 | 5 => writer.command(list, TAKE, at),
-            6 => writer.command(list, DROP, at),
-            _ => writer.command(list, PUT, at),
+            4 | 5 => writer.command(&list, TAKE, at),
+            6 => writer.command(&list, DROP, at),
+            _ => writer.command(&list, PUT, at),
         }
     }
     (setup, writer.runs(in_run))
 }
 
-/// An entity goes and one comes, on a full store.
-fn churn(n: usize, commands: usize) -> Tapes {
-    let mut setup = vec![];
-    registered(&mut setup, 16);
-    layout(&mut setup, &LINE);
-    filled(&mut setup, n);
-    let mut writer = Writer::new(n, 16, &setup);
+/// An entity goes and one comes, behind a setup, on a full store.
+fn churn(mut setup: Vec<u8>, n: usize, commands: usize) -> Tapes {
+    filled(&mut setup, n, Kinds::Listed);
+    let mut writer = Writer::new(n, &setup);
     for i in 0..commands / 2 {
         let at = writer.some();
         writer.command(&[], KILL, at);
         writer.command(LISTS[i % LISTS.len()], NEW, None);
     }
-    (setup, vec![writer.tape])
+    (setup, writer.runs(commands))
 }
 
-/// A component of the smallest group comes and goes, of entities with all others of the chain: six groups each time.
-fn crossing(n: usize, commands: usize) -> Tapes {
+/// A component of the smallest group comes and goes, of entities with all others of the chain: all groups each time.
+fn crossing(groups: u8, n: usize, commands: usize) -> Tapes {
     let mut setup = vec![];
-    registered(&mut setup, 16);
-    layout(&mut setup, &CHAIN);
+    registered(&mut setup, 0..KINDS);
+    layout(&mut setup, &nested(groups));
+    let others: Vec<u8> = (1..=groups).collect();
     for i in 0..n {
-        with(&mut setup, &[1, 2, 3, 4, 5, 6], NEW, None, i as u64);
+        with(&mut setup, &others, NEW, None, i as u64);
     }
-    let mut writer = Writer::new(n, 16, &setup);
+    let mut writer = Writer::new(n, &setup);
     for i in 0..commands / 2 {
         let at = writer.some();
         // Every other one stays for a while, so that the groups are not empty.
@@ -241,18 +194,49 @@ fn crossing(n: usize, commands: usize) -> Tapes {
         let at = if i % 2 == 0 { at } else { writer.some() };
         writer.command(&[0], TAKE, at);
     }
-    (setup, vec![writer.tape])
+    (setup, writer.runs(commands))
 }
 
-fn relayouts(n: usize, times: usize) -> Tapes {
+/// Entities with the lists in turn, and no layout.
+fn listed(n: usize) -> Vec<u8> {
     let mut setup = vec![];
-    registered(&mut setup, 16);
-    filled(&mut setup, n);
+    registered(&mut setup, 0..KINDS);
+    filled(&mut setup, n, Kinds::Listed);
+    setup
+}
+
+/// Entities with the kinds that the pairs have, by the lists or by halves, and no layout.
+fn paired(n: usize, kinds: Kinds) -> Vec<u8> {
+    let mut setup = vec![];
+    registered(&mut setup, 0..PAIRED);
+    let mut rng = Rng::new();
+    for i in 0..n {
+        match kinds {
+            Kinds::Listed => with(&mut setup, &shifted(i), NEW, None, i as u64),
+            Kinds::Half => {
+                // No more than 16 can be staged.
+                with(&mut setup, &rng.half(0..PAIRED / 2), NEW, None, i as u64);
+                let rest = rng.half(PAIRED / 2..PAIRED);
+                with(&mut setup, &rest, PUT, Some((i as u32, 1)), i as u64);
+            }
+        }
+    }
+    setup
+}
+
+/// The lists in turn, first as they are, then four kinds further, and so on round the kinds that the pairs have.
+fn shifted(i: usize) -> Vec<u8> {
+    let by = 4 * (i / LISTS.len() % 7) as u8;
+    LISTS[i % LISTS.len()].iter().map(|kind| (kind + by) % PAIRED).collect()
+}
+
+/// Two layouts in turn, so many times.
+fn relayouts(one: &[Vec<u8>], other: &[Vec<u8>], times: usize) -> Vec<Vec<u8>> {
     let mut tape = vec![];
     for i in 0..times {
-        layout(&mut tape, if i % 2 == 0 { &LINE } else { &CHAIN[..3] });
+        layout(&mut tape, if i % 2 == 0 { one } else { other });
     }
-    (setup, vec![tape])
+    vec![tape]
 }
 
 /// How many entities a tray makes, and how often the store is filled in a round.
@@ -273,13 +257,17 @@ fn by_trays(n: usize, filling: usize) -> Vec<u8> {
 fn by_news(n: usize, filling: usize) -> Vec<u8> {
     let mut tape = vec![];
     for entity in 0..n {
-        with(
-            &mut tape,
-            &[0, 1, 2],
-            NEW,
-            None,
-            (filling * n + entity / IN_TRAY) as u64,
-        );
+        let value = (filling * n + entity / IN_TRAY) as u64;
+        with(&mut tape, &[0, 1, 2], NEW, None, value);
+    }
+    tape
+}
+
+/// KILL of every index, each at this version.
+fn all_destroyed(rng: &mut Rng, n: usize, version: u32) -> Vec<u8> {
+    let mut tape = vec![];
+    for index in rng.shuffled(n) {
+        with(&mut tape, &[], KILL, Some((index, version)), 0);
     }
     tape
 }
@@ -288,75 +276,102 @@ fn by_news(n: usize, filling: usize) -> Vec<u8> {
 /// takes new indexes, the others those that wait, in an order by chance.
 fn trays(n: usize) -> Work {
     let mut setup = vec![];
-    registered(&mut setup, 16);
-    layout(&mut setup, &[&[0, 1]]);
-    let mut rng = Rng(0x9e37_79b9_7f4a_7c15);
+    registered(&mut setup, 0..KINDS);
+    layout(&mut setup, &[vec![0, 1]]);
+    let mut rng = Rng::new();
     let emptied = |filling: usize| all_destroyed(&mut rng, n, filling as u32);
+    let runs = (0..FILLINGS).map(|filling| by_trays(n, filling)).collect();
     Work {
-        letter: "i",
-        name: "trays of 64, three kinds".to_string(),
-        n,
-        k: 16,
-        setup,
-        runs: (0..FILLINGS).map(|filling| by_trays(n, filling)).collect(),
         between: (1..FILLINGS).map(emptied).collect(),
         otherwise: Some(Otherwise {
             name: "the same by NEW",
             runs: (0..FILLINGS).map(|filling| by_news(n, filling)).collect(),
-            bound: "0.8",
+            bound: "0.80",
         }),
-        commands: n * FILLINGS,
-        bound: "1.0",
+        ..Work::new("i", "trays of 64, three kinds", n, (setup, runs), n * FILLINGS).to_reach("1.00")
     }
 }
 
-/// KILL of every index, each at this version.
-fn all_destroyed(rng: &mut Rng, n: usize, version: u32) -> Vec<u8> {
-    let mut indexes: Vec<u32> = (0..n as u32).collect();
-    for i in (1..n).rev() {
-        indexes.swap(i, rng.below(i + 1));
-    }
-    let mut tape = vec![];
-    for index in indexes {
-        with(&mut tape, &[], KILL, Some((index, version)), 0);
-    }
-    tape
+/// Entities of each work, where nothing else is said.
+const N: usize = 4096;
+
+/// The line mix, so many commands in a run.
+fn line_mix(letter: &'static str, name: &'static str, in_run: usize) -> Work {
+    let tapes = mix(lined(KINDS), N, Kinds::Listed, 300_000, in_run);
+    Work::new(letter, name, N, tapes, 300_000)
+}
+
+/// Each command, the walks and the roll.
+fn main_works() -> Vec<Work> {
+    let churned = churn(lined(KINDS), N, 100_000);
+    let crossed = crossing(6, N, 100_000);
+    let relaid = (listed(N), relayouts(&line(), &nested(3), 200));
+    vec![
+        line_mix("a", "line mix", 300_000).to_reach("0.70"),
+        Work::new("b", "NEW and KILL", N, churned, 100_000).to_reach("0.70"),
+        Work::new("c", "PUT and TAKE, six groups", N, crossed, 100_000).to_reach("0.95"),
+        Work::new("d", "APPLY, all live", N, relaid, 200).to_reach("0.90"),
+        Work::new("e", "roll, all live", N, (listed(N), vec![]), 20).to_reach("0.95"),
+    ]
+}
+
+/// The line mix at three sizes, and in short runs.
+fn sizes_and_runs() -> Vec<Work> {
+    let sized = |n| {
+        let tapes = mix(lined(KINDS), n, Kinds::Listed, 100_000, 100_000);
+        Work::new("g", "line mix", n, tapes, 100_000).to_reach("flat")
+    };
+    let mut works: Vec<Work> = [64, 512, N].map(sized).into();
+    works.push(line_mix("h", "line mix, 10,000 in a run", 10_000));
+    works.push(line_mix("h", "line mix, 1,000 in a run", 1_000).to_reach("1.00"));
+    works
+}
+
+/// 14 pairs and 14 others in turn, so many times.
+fn relaid_pairs(letter: &'static str, name: &'static str, kinds: Kinds, times: usize) -> Work {
+    let relaid = relayouts(&pairs(0), &pairs(1), times);
+    Work::new(letter, name, N, (paired(N, kinds), relaid), times).kinds(32)
+}
+
+/// As c with 14 groups, and as d with 14 pairs.
+fn many_groups() -> Vec<Work> {
+    let crossed = crossing(14, N, 100_000);
+    vec![
+        Work::new("j", "PUT and TAKE, 14 nested groups", N, crossed, 100_000).to_reach("1.15"),
+        relaid_pairs("k", "APPLY, 14 pairs", Kinds::Listed, 200).to_reach("0.80"),
+    ]
+}
+
+/// As a and b, with 128 kinds registered of which six are held: all before the layout, which leaves the Rust an empty
+/// store for each, or most behind it.
+fn many_kinds() -> Vec<Work> {
+    let mut late = lined(KINDS);
+    registered(&mut late, KINDS..128);
+    let mixed = mix(lined(128), N, Kinds::Listed, 300_000, 300_000);
+    let (churned, late) = (churn(lined(128), N, 100_000), churn(late, N, 100_000));
+    vec![
+        Work::new("l", "line mix, 128 kinds", N, mixed, 300_000).kinds(128),
+        Work::new("l", "NEW and KILL, 128 kinds", N, churned, 100_000).kinds(128),
+        Work::new("l", "NEW and KILL, 112 of them behind the layout", N, late, 100_000).kinds(128),
+    ]
+}
+
+/// As a and h, with each of the kinds 0 to 5 held by a half of the entities, by chance; and as k, with each of its kinds.
+fn half_full() -> Vec<Work> {
+    let mixed = |in_run| mix(lined(KINDS), N, Kinds::Half, 300_000, in_run);
+    vec![
+        Work::new("m", "line mix, half-full", N, mixed(300_000), 300_000),
+        Work::new("m", "line mix, half-full, 1,000 in a run", N, mixed(1_000), 300_000),
+        relaid_pairs("m", "APPLY, 14 pairs, half-full", Kinds::Half, 40),
+    ]
 }
 
 pub fn works() -> Vec<Work> {
-    let work = |letter, name: &str, n, (setup, runs): Tapes, commands, bound| Work {
-        letter,
-        name: name.to_string(),
-        n,
-        k: 16,
-        setup,
-        runs,
-        between: vec![],
-        otherwise: None,
-        commands,
-        bound,
-    };
-    let line = |in_run| mix(4096, 300_000, in_run);
-    let mut works = vec![
-        work("a", "line mix", 4096, line(300_000), 300_000, "0.7"),
-        work("b", "NEW and KILL", 4096, churn(4096, 100_000), 100_000, "1.0"),
-        work(
-            "c",
-            "PUT and TAKE, six groups",
-            4096,
-            crossing(4096, 100_000),
-            100_000,
-            "1.0",
-        ),
-        work("d", "APPLY, all live", 4096, relayouts(4096, 200), 200, "1.0"),
-    ];
-    let (setup, _) = relayouts(4096, 0);
-    works.push(work("e", "roll, all live", 4096, (setup, vec![]), 20, "1.0"));
-    for n in [64, 512, 4096] {
-        works.push(work("g", "line mix", n, mix(n, 100_000, 100_000), 100_000, "flat"));
-    }
-    works.push(work("h", "line mix, 10,000 in a run", 4096, line(10_000), 300_000, ""));
-    works.push(work("h", "line mix, 1,000 in a run", 4096, line(1_000), 300_000, ""));
-    works.push(trays(4096));
+    let mut works = main_works();
+    works.extend(sizes_and_runs());
+    works.push(trays(N));
+    works.extend(many_groups());
+    works.extend(many_kinds());
+    works.extend(half_full());
     works
 }
