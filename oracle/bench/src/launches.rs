@@ -34,7 +34,7 @@ fn middle(cells: &[&str]) -> String {
     words.join(" ")
 }
 
-/// The same line of each launch. In a table whose ratios stand in a known cell, their least and greatest come behind it.
+/// The same line of each launch. In a table with ratios in this cell, the least and greatest of them come behind it.
 fn merged(lines: &[&str], ratio: Option<usize>) -> String {
     let split: Vec<Vec<&str>> = lines.iter().map(|line| line.split('|').collect()).collect();
     let mut cells = vec![];

@@ -356,7 +356,7 @@ fn many_kinds() -> Vec<Work> {
     ]
 }
 
-/// As a and h, with each of the kinds 0 to 5 held by a half of the entities, by chance; and as k, with each of its kinds.
+/// As a and h, with each of the kinds 0 to 5 held by a half of the entities, by chance; and as k, with its kinds so.
 fn half_full() -> Vec<Work> {
     let mixed = |in_run| mix(lined(KINDS), N, Kinds::Half, 300_000, in_run);
     vec![
