@@ -3,3 +3,4 @@ pub mod Answers
 pub mod Stored
 pub mod Columns
 pub mod Changes
+pub mod Start

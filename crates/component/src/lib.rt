@@ -1,4 +1,5 @@
 // A component sparse set (01: column) over its part of the lent words, and the same in its slot among all of them.
+pub mod at_start;
 pub mod component_sparse_set;
 pub mod slots;
 pub mod sparse_vec;

@@ -1,0 +1,32 @@
+use borrow.Author.Needs.{needs}
+use Rattle.model.specs.Model.{swapTo, entity}
+use Rattle.component.proofs.Parts.{part-is, only-at}
+use Rattle.component.proofs.at_start.swap_to_from.Statement.{statement}
+use Rattle.component.proofs.at_start.swap_to_from.Tie as tie
+
+swap-to-requires : tie.Need-swap-to-requires
+swap-to-requires c κs =
+    let s = c .before .before in
+    let a = s .args in
+    let L = s .pre .from in
+    rw (part-is (a .n) (L .slot) (a .base) (a .words .now) (L .starts)) (L .lent .sound, (s .pre .holds, s .pre .room))
+
+returns : tie.Need-returns
+returns c =
+    let a = c .before .before .before .before .before .args in
+    λ s q l. only-at (a .n) s (a .base) (swapTo (entity (a .index) (a .version)) (a .place)) (a .words .now) (c .before .before .swap-to .last .0) q l (c .before .before .swap-to .ensures)
+
+pub swap-to-from-spec : {M : Type 1} → statement M
+swap-to-from-spec =
+    tie.close
+    (tie.spec
+    (λ c. search needs)
+    (λ c. search needs)
+    (λ c. search needs)
+    (λ c. search needs)
+    (λ c. search needs)
+    (λ c. search needs)
+    (λ c. search needs)
+    swap-to-requires
+    (λ c. search needs)
+    returns)
