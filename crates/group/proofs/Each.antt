@@ -27,13 +27,13 @@ use Rattle.group.proofs.Storing.{SoFar, so-far-next, so-far-is, live-ne
 
 -- ---- a walk changes counts alone, so that the positions stay
 
-step-plain : (t : GroupStatus) (e : Entity) (g : ℕ) (s : Storage) → plain (stepUp t e g s .layout) ≡ plain (s .layout)
+pub step-plain : (t : GroupStatus) (e : Entity) (g : ℕ) (s : Storage) → plain (stepUp t e g s .layout) ≡ plain (s .layout)
 unfolding groupAt
 step-plain Incomplete e g s = refl
 step-plain Ungrouped e g s = plain-set g (located (s .layout) g .count + 1) (s .layout)
 step-plain (Grouped place) e g s = refl
 
-walk-plain : (e : Entity) (skip : ℕ) (ps : List ℕ) (s : Storage) → plain (walkUp e skip ps s .layout) ≡ plain (s .layout)
+pub walk-plain : (e : Entity) (skip : ℕ) (ps : List ℕ) (s : Storage) → plain (walkUp e skip ps s .layout) ≡ plain (s .layout)
 unfolding walkUp
 walk-plain e skip [] s = refl
 walk-plain e skip (g ∷ ps) s =

@@ -200,7 +200,7 @@ fn regroup(words: &mut [u32])
 {
     let groups = group::group_metadata::group_count(words);
     let mask = GroupMask::from_to(0, groups);
-    group::group_each(words, mask, 0);
+    group_tables::group_each(words, mask, 0);
 }
 
 // 01's APPLY.

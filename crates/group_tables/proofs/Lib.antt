@@ -1,0 +1,5 @@
+pub mod Order
+pub mod Columns
+pub mod Kept
+pub mod Filling
+pub mod Reading

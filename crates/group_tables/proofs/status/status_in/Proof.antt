@@ -1,0 +1,26 @@
+use mathlib.Core.Path.{_∙_}
+use native.Mathlib.Omega.{arith}
+use Rattle.model.specs.Model.{entity}
+use Rattle.memory.specs.Meaning.{meaning}
+use Rattle.group.proofs.Status.{status-is, listed-later}
+use Rattle.group_tables.proofs.status.status_in.Statement.{statement}
+use Rattle.group_tables.proofs.status.status_in.Tie as tie
+
+get-group-status-requires : tie.Need-get-group-status-requires
+get-group-status-requires c κs =
+    let s = c .before .before in
+    let D = s .pre .1 .1 .metadata in
+    (s .pre .0, (s .pre .1 .0, (listed-later (D .low) (omega (arith, D .some)) (D .listed), D .some)))
+
+returns : tie.Need-returns
+returns c =
+    let s = c .before .before .before in
+    let a = s .args in
+    c .get-group-status .ensures ∙ status-is (meaning (a .words .now)) (a .g) (a .metadata) (a .group-len) (entity (a .index) (a .version)) (s .pre .1 .1)
+
+pub status-in-spec : {M : Type 1} → statement M
+status-in-spec =
+    tie.close
+    (tie.spec
+    get-group-status-requires
+    returns)

@@ -1,0 +1,179 @@
+// The walk upward of many entities in turn (group.rs), over tables that are made once for all of them.
+pub mod metadata;
+pub mod status;
+pub mod tables;
+
+use crate::metadata::GROUP_LEN;
+use crate::metadata::fill_groups;
+use crate::metadata::metadata_at;
+use crate::status::status_in;
+use crate::tables::fill_starts;
+use crate::tables::swap_at;
+use group::group_metadata::count;
+use group::group_metadata::set_count;
+use group::group_status::GroupStatus;
+use layout::group_metadata::GroupMetadata;
+use masks::group_mask::GroupMask;
+use masks::group_mask::NextBit;
+ghost use Prim.Native.Nat.{_<_};
+ghost use lib.ListN.{drop};
+ghost use Rattle.model.specs.Model.{groupsOf, entity};
+ghost use Rattle.model.specs.Store.{onStorage};
+ghost use Rattle.words.specs.Part.{between};
+ghost use Rattle.masks.specs.Masks.{bitsOf};
+ghost use Rattle.memory.specs.Meaning.{meaning};
+ghost use Rattle.memory.specs.Arranged.{Arranged, Becomes};
+ghost use Rattle.group.specs.Flat.{located, statusAt, groupAt, walkUp, walkEach};
+ghost use Rattle.group.specs.Ready.{Swappable, ReadyIn, ReadyUp, ReadyEach};
+ghost use Rattle.group.specs.Metadata.{orderOf, PlacesKnown, Stands};
+ghost use Rattle.group.specs.Steps.{swapKinds, Below, StepsUp};
+ghost use Rattle.group_tables.specs.Tables.{Starts, Tables};
+
+// Swaps the entity to a place in the sparse sets of the layout's kinds from start to end.
+fn swap_kinds(
+    words: &mut [u32],
+    n: usize,
+    starts: &[usize],
+    start: usize,
+    end: usize,
+    index: u32,
+    version: u32,
+    swap_index: usize,
+)
+    requires { ⌜ Arranged (now words) ⌝ }
+    requires { ⌜ Starts (now words) n (now starts) ⌝ }
+    requires { ⌜ PlacesKnown (meaning (now words)) start end ⌝ }
+    requires { ⌜ Swappable (entity index version) (between start end (orderOf (meaning (now words)))) «swap_index» (meaning (now words) .storage .sets) ⌝ }
+    ensures { λ _. ⌜ Becomes (now (words .entry)) (now (words .exit)) (onStorage (swapKinds (entity index version) «swap_index» (between start end (orderOf (meaning (now (words .entry)))))) (meaning (now (words .entry)))) ⌝ }
+{
+    let mut place = start;
+    while place < end {
+        swap_at(words, n, starts, place, index, version, swap_index);
+        place += 1;
+    }
+}
+
+// Brings the entity into the group, in every sparse set of the group: of the kinds from start to end.
+fn group_components(
+    words: &mut [u32],
+    n: usize,
+    starts: &[usize],
+    metadata: GroupMetadata,
+    g: usize,
+    group_len: usize,
+    index: u32,
+    version: u32,
+)
+    requires { ⌜ Arranged (now words) ⌝ }
+    requires { ⌜ Starts (now words) n (now starts) ⌝ }
+    requires { ⌜ Stands (meaning (now words)) g metadata «group_len» ⌝ }
+    requires { ⌜ Swappable (entity index version) (located (meaning (now words) .storage .layout) g .kinds) (located (meaning (now words) .storage .layout) g .count) (meaning (now words) .storage .sets) ⌝ }
+    ensures { λ _. ⌜ Becomes (now (words .entry)) (now (words .exit)) (onStorage (groupAt (entity index version) g) (meaning (now (words .entry)))) ⌝ }
+{
+    let start = metadata.storage_start;
+    let end = metadata.storage_end;
+    swap_kinds(words, n, starts, start, end, index, version, group_len);
+    set_count(words, g, group_len + 1);
+}
+
+// One group of the walk upward; answers what is left of the groups after it.
+fn group_step(
+    words: &mut [u32],
+    n: usize,
+    starts: &[usize],
+    groups: &[usize],
+    g: usize,
+    rest: GroupMask,
+    index: u32,
+    version: u32,
+) -> GroupMask
+    requires { ⌜ Arranged (now words) ⌝ }
+    requires { ⌜ Tables (now words) n (now starts) (now groups) ⌝ }
+    requires { ⌜ g < groupsOf (meaning (now words) .storage .layout) ⌝ }
+    requires { ⌜ ReadyIn (statusAt (entity index version) g (meaning (now words) .storage)) (entity index version) (located (meaning (now words) .storage .layout) g) (meaning (now words) .storage .sets) ⌝ }
+    ensures { λ r. ⌜ StepsUp (now (words .entry)) (now (words .exit)) (entity index version) g (rest .0) (r .0) ⌝ }
+{
+    let metadata = metadata_at(groups, g);
+    let group_len = count(words, g);
+    let status = status_in(words, n, starts, g, metadata, group_len, index, version);
+    match status {
+        GroupStatus::Incomplete => {
+            let skip = GroupMask::skip_from_to(g, metadata.top);
+            return rest.intersection(skip);
+        }
+        GroupStatus::Ungrouped => {
+            group_components(words, n, starts, metadata, g, group_len, index, version);
+            return rest;
+        }
+        GroupStatus::Grouped => {
+            return rest;
+        }
+    }
+}
+
+// The walk upward over the groups of a mask, lowest first.
+fn group(
+    words: &mut [u32],
+    n: usize,
+    starts: &[usize],
+    groups: &[usize],
+    mask: GroupMask,
+    index: u32,
+    version: u32,
+)
+    requires { ⌜ Arranged (now words) ⌝ }
+    requires { ⌜ Tables (now words) n (now starts) (now groups) ⌝ }
+    requires { ⌜ Below (bitsOf 64 (mask .0)) (meaning (now words) .storage) ⌝ }
+    requires { ⌜ ReadyUp (entity index version) 0 (bitsOf 64 (mask .0)) (meaning (now words) .storage) ⌝ }
+    ensures { λ _. ⌜ Becomes (now (words .entry)) (now (words .exit)) (onStorage (walkUp (entity index version) 0 (bitsOf 64 (mask .0))) (meaning (now (words .entry)))) ⌝ }
+{
+    let mut left = mask;
+    loop {
+        let NextBit::At(g, rest) = left.next() else {
+            return;
+        };
+        left = group_step(words, n, starts, groups, g as usize, rest, index, version);
+    }
+}
+
+// Each live entity from place start on in turn.
+fn group_from(
+    words: &mut [u32],
+    n: usize,
+    starts: &[usize],
+    groups: &[usize],
+    mask: GroupMask,
+    start: usize,
+)
+    requires { ⌜ Arranged (now words) ⌝ }
+    requires { ⌜ Tables (now words) n (now starts) (now groups) ⌝ }
+    requires { ⌜ Below (bitsOf 64 (mask .0)) (meaning (now words) .storage) ⌝ }
+    requires { ⌜ ReadyEach (drop start (meaning (now words) .entities .live)) (bitsOf 64 (mask .0)) (meaning (now words) .storage) ⌝ }
+    ensures { λ _. ⌜ Becomes (now (words .entry)) (now (words .exit)) (onStorage (walkEach (drop start (meaning (now (words .entry)) .entities .live)) (bitsOf 64 (mask .0))) (meaning (now (words .entry)))) ⌝ }
+{
+    let len = control::entities::live_len(words);
+    let mut place = start;
+    while place < len {
+        let entity = control::entities::live_at(words, place);
+        group(words, n, starts, groups, mask, entity.index, entity.version);
+        place += 1;
+    }
+}
+
+// Each live entity from place start on is walked upward over the groups of a mask, one after another: what group::group_each does, for many entities.
+pub fn group_each(words: &mut [u32], mask: GroupMask, start: usize)
+    requires { ⌜ Arranged (now words) ⌝ }
+    requires { ⌜ Below (bitsOf 64 (mask .0)) (meaning (now words) .storage) ⌝ }
+    requires { ⌜ ReadyEach (drop start (meaning (now words) .entities .live)) (bitsOf 64 (mask .0)) (meaning (now words) .storage) ⌝ }
+    ensures { λ _. ⌜ Becomes (now (words .entry)) (now (words .exit)) (onStorage (walkEach (drop start (meaning (now (words .entry)) .entities .live)) (bitsOf 64 (mask .0))) (meaning (now (words .entry)))) ⌝ }
+{
+    if mask.0 == 0 {
+        return;
+    }
+    let n = words::word(words, words::CAPACITY);
+    let mut starts = [0usize; model::MAX_KINDS];
+    fill_starts(words, n, &mut starts);
+    let mut groups = [0usize; GROUP_LEN * model::MAX_GROUP_COUNT];
+    fill_groups(words, &mut groups);
+    group_from(words, n, &starts, &groups, mask, start);
+}

@@ -1,0 +1,92 @@
+// Whether an entity holds a group's kinds, and whether it is inside the group, by the columns' starts.
+use crate::tables::find_at;
+use crate::tables::holds_at;
+use component::Found;
+use group::group_status::GroupStatus;
+use layout::group_metadata::GroupMetadata;
+ghost use mathlib.Core.Path.{_≡_};
+ghost use Prim.Native.Nat.{_<_};
+ghost use Rattle.model.specs.Model.{allHeld, entity};
+ghost use Rattle.words.specs.Part.{between};
+ghost use Rattle.memory.specs.Meaning.{meaning};
+ghost use Rattle.memory.specs.Arranged.{Arranged};
+ghost use Rattle.group.specs.Flat.{statusAt};
+ghost use Rattle.group.specs.Metadata.{orderOf, PlacesKnown, Stands};
+ghost use Rattle.group.specs.Steps.{statusIn};
+ghost use Rattle.group_tables.specs.Tables.{Starts};
+
+// Does the entity hold each of the layout's kinds from start to end?
+fn holds_all(
+    words: &[u32],
+    n: usize,
+    starts: &[usize],
+    start: usize,
+    end: usize,
+    index: u32,
+    version: u32,
+) -> bool
+    requires { ⌜ Arranged (now words) ⌝ }
+    requires { ⌜ Starts (now words) n (now starts) ⌝ }
+    requires { ⌜ PlacesKnown (meaning (now words)) start end ⌝ }
+    ensures { λ r. ⌜ r ≡ allHeld (entity index version) (between start end (orderOf (meaning (now (words .entry))))) (meaning (now (words .entry)) .storage .sets) ⌝ }
+{
+    let mut place = start;
+    while place < end {
+        if !holds_at(words, n, starts, place, index, version) {
+            return false;
+        }
+        place += 1;
+    }
+    true
+}
+
+// The status of an entity in the group whose new kinds stand from start to end and whose count is group_len.
+fn get_group_status(
+    words: &[u32],
+    n: usize,
+    starts: &[usize],
+    start: usize,
+    end: usize,
+    group_len: usize,
+    index: u32,
+    version: u32,
+) -> GroupStatus
+    requires { ⌜ Arranged (now words) ⌝ }
+    requires { ⌜ Starts (now words) n (now starts) ⌝ }
+    requires { ⌜ PlacesKnown (meaning (now words)) start end ⌝ }
+    requires { ⌜ start < end ⌝ }
+    ensures { λ r. ⌜ r ≡ statusIn (entity index version) (between start end (orderOf (meaning (now (words .entry))))) «group_len» (meaning (now (words .entry)) .storage .sets) ⌝ }
+{
+    let found = find_at(words, n, starts, start, index, version);
+    let Found::At(place) = found else {
+        return GroupStatus::Incomplete;
+    };
+    if !holds_all(words, n, starts, start + 1, end, index, version) {
+        return GroupStatus::Incomplete;
+    }
+    if place < group_len {
+        return GroupStatus::Grouped;
+    }
+    GroupStatus::Ungrouped
+}
+
+// The entity's status in group g, by the group's metadata and its count.
+pub fn status_in(
+    words: &[u32],
+    n: usize,
+    starts: &[usize],
+    g: usize,
+    metadata: GroupMetadata,
+    group_len: usize,
+    index: u32,
+    version: u32,
+) -> GroupStatus
+    requires { ⌜ Arranged (now words) ⌝ }
+    requires { ⌜ Starts (now words) n (now starts) ⌝ }
+    requires { ⌜ Stands (meaning (now words)) g metadata «group_len» ⌝ }
+    ensures { λ r. ⌜ r ≡ statusAt (entity index version) g (meaning (now (words .entry)) .storage) ⌝ }
+{
+    let start = metadata.new_storage_start;
+    let end = metadata.storage_end;
+    get_group_status(words, n, starts, start, end, group_len, index, version)
+}
