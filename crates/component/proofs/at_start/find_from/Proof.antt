@@ -5,20 +5,19 @@ use Rattle.component.proofs.at_start.find_from.Tie as tie
 
 find-requires : tie.Need-find-requires
 find-requires c κs =
-    let s = c .before .before in
+    let s = c .before .before .before in
     let a = s .args in
     let L = s .pre in
-    rw (part-is (a .n) (L .slot) (a .base) (a .words .now) (L .starts)) (L .lent .sound)
+    rw (part-is (a .z) (L .slot) (a .base) (c .before .column-len .result) (a .words .now) (L .starts) (c .before .column-len .ensures .is)) (L .lent .sound)
 
 returns : tie.Need-returns
-returns c = let a = c .before .before .before .args in λ s q. rw (part-is (a .n) s (a .base) (a .words .now) q) at (c .find .ensures)
+returns c = let a = c .before .before .before .before .args in λ s q. rw (part-is (a .z) s (a .base) (c .before .before .column-len .result) (a .words .now) q (c .before .before .column-len .ensures .is)) at (c .find .ensures)
 
 pub find-from-spec : {M : Type 1} → statement M
 find-from-spec =
     tie.close
     (tie.spec
-    (λ c. search needs)
-    (λ c. search needs)
+    (λ c κs. search needs)
     (λ c. search needs)
     (λ c. search needs)
     (λ c. search needs)

@@ -6,22 +6,21 @@ use Rattle.component.proofs.at_start.swap_to_from.Tie as tie
 
 swap-to-requires : tie.Need-swap-to-requires
 swap-to-requires c κs =
-    let s = c .before .before in
+    let s = c .before .before .before in
     let a = s .args in
     let L = s .pre .from in
-    rw (part-is (a .n) (L .slot) (a .base) (a .words .now) (L .starts)) (L .lent .sound, (s .pre .holds, s .pre .room))
+    rw (part-is (a .z) (L .slot) (a .base) (c .before .column-len .result) (a .words .now) (L .starts) (c .before .column-len .ensures .is)) (L .lent .sound, (s .pre .holds, s .pre .room))
 
 returns : tie.Need-returns
 returns c =
-    let a = c .before .before .before .before .before .args in
-    λ s q l. only-at (a .n) s (a .base) (swapTo (entity (a .index) (a .version)) (a .place)) (a .words .now) (c .before .before .swap-to .last .0) q l (c .before .before .swap-to .ensures)
+    let a = c .before .before .before .before .before .before .args in
+    λ s q l. only-at (a .z) s (a .base) (c .before .before .before .before .column-len .result) (swapTo (entity (a .index) (a .version)) (a .place)) (a .words .now) (c .before .before .swap-to .last .0) q (c .before .before .before .before .column-len .ensures .is) l (c .before .before .swap-to .ensures)
 
 pub swap-to-from-spec : {M : Type 1} → statement M
 swap-to-from-spec =
     tie.close
     (tie.spec
-    (λ c. search needs)
-    (λ c. search needs)
+    (λ c κs. search needs)
     (λ c. search needs)
     (λ c. search needs)
     (λ c. search needs)

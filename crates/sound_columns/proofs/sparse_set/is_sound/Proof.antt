@@ -1,4 +1,4 @@
-use mathlib.Core.Path.{_≡_, sym, ap, _∙_}
+use mathlib.Core.Path.{_≡_, ap, _∙_}
 use native.Mathlib.Omega.{arith}
 use Rattle.words.specs.Offsets.{ROWS, ROWS-LEN}
 use Rattle.words.specs.Decides.{Each}
@@ -28,7 +28,7 @@ returns-3 c =
     let q : c .before .before .lookup-place .result ≡ ROWS + 2 * a .z .capacity = omega (arith, c .before .before .lookup-place .ensures .is) in
     let h : c .before .count-held .result ≡ filled (a .z .capacity) (heldOf (a .z) (a .part .now)) =
     c .before .count-held .ensures ∙ ap (λ (k : ℕ). filled (a .z .capacity) (λ x. getD (a .part .now) (k + 2 * x + 1) 0)) q in
-    λ s. c .if3 .taken (h ∙ set-held (a .z) (a .entities .now) (a .part .now) s)
+    λ s. omega (arith, c .if3 .taken, h, set-held (a .z) (a .entities .now) (a .part .now) s)
 
 returns-4 : tie.Need-returns-4
 returns-4 c =
@@ -39,7 +39,7 @@ returns-4 c =
     c .before .count-held .ensures ∙ ap (λ (k : ℕ). filled (a .z .capacity) (λ x. getD (a .part .now) (k + 2 * x + 1) 0)) q in
     live-set (a .z) (a .entities .now) (a .part .now) (c .before .before .before .before .before .before .before .before .before .before .pre .0) (omega arith)
     (granted {P = Each (lengthOf (a .part .now)) (RowOk (a .z) (a .entities .now) (a .part .now))} (r .result) (r .ensures) (c .before .before .before .if2 .left))
-    (sym h ∙ c .if3 .left)
+    (omega (arith, c .if3 .left, h))
 
 pub is-sound-spec : {M : Type 1} → statement M
 is-sound-spec =
