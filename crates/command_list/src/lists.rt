@@ -4,11 +4,13 @@ use command::answers::refuse;
 use model::refusals::AGAIN;
 use model::refusals::HANDFUL;
 use model::refusals::KIND;
+use values::Value;
 ghost use mathlib.Core.Path.{_≡_};
 ghost use Rattle.model.specs.Commands.{HOLD, BAR, EMPTY};
 ghost use Rattle.model.specs.Refusals.{unknownKind};
 ghost use Rattle.model.specs.Run.{does};
-ghost use Rattle.component.specs.SparseSet.{valueOf};
+ghost use Rattle.words.specs.Offsets.{STRIDE};
+ghost use Rattle.values.specs.Values.{valueOf};
 ghost use Rattle.memory.specs.Meaning.{meaning};
 ghost use Rattle.memory.specs.Arranged.{Arranged};
 ghost use Rattle.command.specs.Acted.{Ready, Acted};
@@ -28,9 +30,9 @@ pub fn is_unknown(words: &[u32], kind: usize) -> bool
 }
 
 // HOLD: a kind with its value, staged.
-pub fn hold(words: &mut [u32], kind: u8, low: u32, high: u32, out: &mut [u8], at: usize) -> usize
-    requires { ⌜ Ready (now words) (now out) at (HOLD kind (valueOf low high)) ⌝ }
-    ensures { λ r. ⌜ Acted (now (words .entry)) (now (words .exit)) (now (out .entry)) (now (out .exit)) at r (does (HOLD kind (valueOf low high)) (meaning (now (words .entry)))) ⌝ }
+pub fn hold(words: &mut [u32], kind: u8, x: Value, out: &mut [u8], at: usize) -> usize
+    requires { ⌜ Ready (now words) (now out) at (HOLD kind (valueOf STRIDE x)) ⌝ }
+    ensures { λ r. ⌜ Acted (now (words .entry)) (now (words .exit)) (now (out .entry)) (now (out .exit)) at r (does (HOLD kind (valueOf STRIDE x)) (meaning (now (words .entry)))) ⌝ }
 {
     let k = kind as usize;
     if is_unknown(words, k) {
@@ -42,7 +44,7 @@ pub fn hold(words: &mut [u32], kind: u8, low: u32, high: u32, out: &mut [u8], at
     if model::LIST_CAPACITY <= control::staged::staged_len(words) {
         return refuse(words, out, at, HANDFUL);
     }
-    control::staged::stage(words, k, low, high);
+    control::staged::stage(words, k, x);
     ack(out, at)
 }
 

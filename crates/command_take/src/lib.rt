@@ -5,6 +5,7 @@ use command::answers::refuse;
 use component::Removed;
 use entity::Found;
 use model::refusals::DEAD;
+use values::Value;
 use world::component_set;
 ghost use mathlib.Core.Path.{_≡_};
 ghost use mathlib.Core.List.{_∷_};
@@ -15,6 +16,8 @@ ghost use Rattle.model.specs.Numbers.{VALUE-BYTES};
 ghost use Rattle.model.specs.Store.{stagedKinds, bytesOf};
 ghost use Rattle.model.specs.Commands.{TAKE};
 ghost use Rattle.model.specs.Run.{does};
+ghost use Rattle.words.specs.Offsets.{STRIDE};
+ghost use Rattle.values.specs.Values.{valueOf};
 ghost use Rattle.model.specs.Model.{entity};
 ghost use Rattle.memory.specs.Meaning.{meaning};
 ghost use Rattle.memory.specs.Arranged.{Sound};
@@ -23,12 +26,12 @@ ghost use Rattle.command.specs.Acted.{Ready, Acted};
 ghost use Rattle.command_take.specs.Take.{TakesKind, TakesStaged, Takes};
 
 // The byte held and the value's eight, at `at`.
-fn put_held(out: &mut [u8], at: usize, held: u8, low: u32, high: u32)
+fn put_held(out: &mut [u8], at: usize, held: u8, x: Value)
     requires { ⌜ at + (1 + VALUE-BYTES) ≤ length (now out) ⌝ }
-    ensures { λ _. ⌜ now (out .exit) ≡ sets (now (out .entry)) at (held ∷ bytesOf VALUE-BYTES (low + 4294967296 * high)) ⌝ }
+    ensures { λ _. ⌜ now (out .exit) ≡ sets (now (out .entry)) at (held ∷ bytesOf VALUE-BYTES (valueOf STRIDE x)) ⌝ }
 {
     out[at] = held;
-    codec::put_value(out, at + 1, low, high);
+    values::put_bytes(out, at + 1, words::STRIDE, x);
 }
 
 // The entity's component of the staged kind at i goes, and is written out.
@@ -39,11 +42,11 @@ fn take_one(words: &mut [u32], i: usize, index: u32, version: u32, out: &mut [u8
     ensures { λ _. ⌜ TakesKind (now (words .entry)) (now (words .exit)) (now (out .entry)) (now (out .exit)) (entity index version) (getD (stagedKinds (meaning (now (words .entry)))) i 0) at ⌝ }
 {
     let removed = component_set::remove_one(words, i, index, version);
-    let Removed::Value(low, high) = removed else {
-        put_held(out, at, 0, 0, 0);
+    let Removed::Value(x) = removed else {
+        put_held(out, at, 0, values::zero());
         return;
     };
-    put_held(out, at, 1, low, high);
+    put_held(out, at, 1, x);
 }
 
 // Its components of all staged kinds go, and are written out; no group is walked.

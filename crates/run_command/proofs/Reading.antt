@@ -11,7 +11,6 @@ use Rattle.model.specs.Model.{Entity, entity}
 use Rattle.model.proofs.BoolLaws.{by-eq, above}
 use Rattle.model.specs.Store.{number}
 use Rattle.model.specs.Commands.{Command, entityOfBytes}
-use Rattle.component.specs.SparseSet.{valueOf}
 use Rattle.model.specs.Run.{does}
 use Rattle.model.proofs.ListLaws.{halves}
 use Rattle.memory.specs.Meaning.{meaning}
@@ -35,16 +34,8 @@ module _ (t : List ℕ) (at : ℕ) where
   pub entity-read : at + 8 ≤ length t → {i v : ℕ} → i ≡ number (take 4 (drop at t)) → v ≡ number (take 4 (drop (at + 4) t)) → entity i v ≡ entityOfBytes (take 8 (drop at t))
   entity-read h e f = ap₂ entity e f ∙ sym (entity-operand h)
 
-  pub value-operand : at + 9 ≤ length t → number (drop 1 (take 9 (drop at t))) ≡ valueOf (number (take 4 (drop (at + 1) t))) (number (take 4 (drop (at + 5) t)))
-  value-operand h =
-      let e : drop 1 (take 9 (drop at t)) ≡ take 8 (drop (at + 1) t) = halves t at 1 8 (omega arith) in
-      let l : 8 ≤ length (drop (at + 1) t) = rw (length-drop (at + 1) t) (omega arith) in
-      let s : 4 ≤ length (take 8 (drop (at + 1) t)) = omega (arith, length-take-le 8 (drop (at + 1) t) l) in
-      let a : take 4 (take 8 (drop (at + 1) t)) ≡ take 4 (drop (at + 1) t) = take-take 4 8 (drop (at + 1) t) (omega arith) in
-      let b : drop 4 (take 8 (drop (at + 1) t)) ≡ take 4 (drop (at + 1 + 4) t) = halves t (at + 1) 4 4 (omega arith) in
-      let f : at + 1 + 4 ≡ at + 5 = omega arith in
-      let j = number-join 4 (take 8 (drop (at + 1) t)) s in
-      ap number e ∙ j ∙ rw (a, b, f)
+  pub value-operand : at + 9 ≤ length t → number (drop 1 (take 9 (drop at t))) ≡ number (take 8 (drop (at + 1) t))
+  value-operand h = ap number (halves t at 1 8 (omega arith))
 
 -- ---- a command byte that is known
 

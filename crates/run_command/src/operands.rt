@@ -20,9 +20,8 @@ pub fn hold(words: &mut [u32], tape: &[u8], at: usize, out: &mut [u8], to: usize
     ensures { λ r. ⌜ Acted (now (words .entry)) (now (words .exit)) (now (out .entry)) (now (out .exit)) to r (does (commandIn HOLD-BYTE (now (tape .entry)) at) (meaning (now (words .entry)))) ⌝ }
 {
     let kind = tape[at];
-    let low = codec::get_u32(tape, at + 1);
-    let high = codec::get_u32(tape, at + 5);
-    command_list::lists::hold(words, kind, low, high, out, to)
+    let x = values::get_bytes(tape, at + 1, words::STRIDE);
+    command_list::lists::hold(words, kind, x, out, to)
 }
 
 // PUT, TAKE, DROP and KILL, of bytes 4 to 7: on the entity whose index and version stand there.

@@ -16,7 +16,6 @@ use Rattle.model.specs.Store.{bytesOf}
 use Rattle.model.specs.Snapshot.{valueAt, addComponent, componentsOf, componentBytes}
 use Rattle.model.proofs.ListLaws.{put-next}
 use Rattle.model.proofs.Lengths.{bytesOf-length}
-use Rattle.component.specs.SparseSet.{valueOf}
 use Rattle.snapshot.specs.Wrote.{oneBytes, WrittenUntil}
 
 -- ---- the list of registered kinds
@@ -62,9 +61,9 @@ module _ (ks : List ℕ) where
 
 -- ---- one kind
 
-pub value-held : (e : Entity) (rows : SparseSet) (p l h : ℕ) → held e rows ≡ true → p ≡ at e rows → valueOf l h ≡ getD rows p noRow .value → valueAt e rows ≡ some (valueOf l h)
-value-held e rows p l h t q v =
-    let n : getD rows (at e rows) noRow .value ≡ valueOf l h = sym (v ∙ ap (λ (i : ℕ). getD rows i noRow .value) q) in
+pub value-held : (e : Entity) (rows : SparseSet) (p a : ℕ) → held e rows ≡ true → p ≡ at e rows → a ≡ getD rows p noRow .value → valueAt e rows ≡ some a
+value-held e rows p a t q v =
+    let n : getD rows (at e rows) noRow .value ≡ a = sym (v ∙ ap (λ (i : ℕ). getD rows i noRow .value) q) in
     rw (t, n)
 
 pub value-none : (e : Entity) (rows : SparseSet) → held e rows ≡ false → valueAt e rows ≡ none

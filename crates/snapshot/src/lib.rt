@@ -84,7 +84,7 @@ fn write_one(
     };
     let value = kinds::value_of(words, kind, place);
     out[at] = kind as u8;
-    codec::put_value(out, at + 1, value.low, value.high);
+    values::put_bytes(out, at + 1, words::STRIDE, value);
     at + 9
 }
 

@@ -1,9 +1,12 @@
 use mathlib.Core.Path.{ap, _∙_, subst}
 use borrow.Author.Needs.{needs}
+use mathlib.Core.List.{_∷_}
+use Prim.Native.Nat.{ℕ}
 use lib.ListN.{getD}
 use lib.Seq.{sets}
 use Rattle.model.specs.Numbers.{VALUE-BYTES}
-use Rattle.model.specs.Store.{stagedKinds}
+use Rattle.model.specs.Store.{stagedKinds, bytesOf}
+use Rattle.words.specs.Offsets.{STRIDE}
 use Rattle.model.specs.Model.{entity}
 use Rattle.component.specs.Answers.{Gives}
 use Rattle.component.specs.declared.Removed.{Removed}
@@ -18,13 +21,13 @@ remove-one-requires c κs = let s = c .before .before .before in (s .pre .0, s .
 
 returns : tie.Need-returns
 returns c =
-    let a = c .before .before .before .before .before .before .before .before .before .before .before .before .args in
+    let a = c .before .before .before .before .before .before .before .before .before .before .before .before .before .args in
     let w = a .words .now in
     let e = entity (a .index) (a .version) in
     let k = getD (stagedKinds (meaning w)) (a .i) 0 in
-    let r = c .before .before .before .before .before .before .before .before .remove-one in
-    let g = subst (λ (x : Removed). Gives e (kindSet w k) x) (c .before .before .before .before .enum-told .given .1) (r .ensures .gives) in
-    record { becomes = r .ensures .becomes; bytes = c .before .before .put-held .ensures ∙ ap (sets (a .out .now) (a .at)) (bytes-none VALUE-BYTES e (kindSet w k) g) }
+    let r = c .before .before .before .before .before .before .before .before .before .remove-one in
+    let g = subst (λ (x : Removed). Gives STRIDE e (kindSet w k) x) (c .before .before .before .before .before .enum-told .given .1) (r .ensures .gives) in
+    record { becomes = r .ensures .becomes; bytes = c .before .before .put-held .ensures ∙ ap (λ (x : ℕ). sets (a .out .now) (a .at) (0 ∷ bytesOf VALUE-BYTES x)) (c .before .before .before .zero .ensures STRIDE) ∙ ap (sets (a .out .now) (a .at)) (bytes-none VALUE-BYTES e (kindSet w k) g) }
 
 returns-2 : tie.Need-returns-2
 returns-2 c =
@@ -33,8 +36,26 @@ returns-2 c =
     let e = entity (a .index) (a .version) in
     let k = getD (stagedKinds (meaning w)) (a .i) 0 in
     let r = c .before .before .before .before .before .before .before .before .before .remove-one in
-    let g = subst (λ (x : Removed). Gives e (kindSet w k) x) (c .before .before .before .before .before .removed .given .1) (r .ensures .gives) in
+    let g = subst (λ (x : Removed). Gives STRIDE e (kindSet w k) x) (c .before .before .before .before .before .removed .given .1) (r .ensures .gives) in
     record { becomes = r .ensures .becomes; bytes = c .before .before .put-held2 .ensures ∙ ap (sets (a .out .now) (a .at)) (bytes-held VALUE-BYTES e (kindSet w k) _ (g .holds) (g .value)) }
+
+put-held-requires : tie.Need-put-held-requires
+put-held-requires c κs = c .before .before .before .before .before .before .before .before .before .before .pre .1 .1
+
+same-length : tie.Need-same-length
+same-length c = c .before .before .before .before .before .before .before .before .before .remove-one .kept .0
+
+same-length-2 : tie.Need-same-length-2
+same-length-2 c = c .before .before .put-held .kept .0
+
+put-held-requires-2 : tie.Need-put-held-requires-2
+put-held-requires-2 c κs = c .before .before .before .before .before .before .before .before .before .before .pre .1 .1
+
+same-length-3 : tie.Need-same-length-3
+same-length-3 c = c .before .before .before .before .before .before .before .before .before .remove-one .kept .0
+
+same-length-4 : tie.Need-same-length-4
+same-length-4 c = c .before .before .put-held2 .kept .0
 
 pub take-one-spec : {M : Type 1} → statement M
 take-one-spec =
@@ -43,11 +64,12 @@ take-one-spec =
     remove-one-requires
     (λ c. search needs)
     (λ c. search needs)
-    (λ c κs. c .before .before .before .before .before .before .before .before .before .pre .1 .1)
-    (λ c. c .before .before .before .before .before .before .before .before .remove-one .kept .0)
-    (λ c. c .before .before .put-held .kept .0)
+    (λ c κs. search needs)
+    put-held-requires
+    same-length
+    same-length-2
     returns
-    (λ c κs. c .before .before .before .before .before .before .before .before .before .before .pre .1 .1)
-    (λ c. c .before .before .before .before .before .before .before .before .before .remove-one .kept .0)
-    (λ c. c .before .before .put-held2 .kept .0)
+    put-held-requires-2
+    same-length-3
+    same-length-4
     returns-2)
