@@ -8,11 +8,12 @@ use lib.Seq.{getD-set-same, getD-set-other}
 use Rattle.model.specs.Numbers.{MAX-GROUP-COUNT, MAX-KINDS}
 use Rattle.model.specs.Model.{groupsOf}
 use Rattle.model.proofs.BoolLaws.{by-eq}
-use Rattle.words.specs.Offsets.{columnStart}
+use Rattle.words.specs.declared.Shape.{Shape}
+use Rattle.words.specs.Shape.{columnStart, shapeOf}
 use Rattle.words.specs.Stores.{stores}
 use Rattle.words.proofs.Stores.{length-stores, miss, hit}
 use Rattle.layout.specs.declared.group_metadata.GroupMetadata.{GroupMetadata}
-use Rattle.memory.specs.Header.{capacityOf, slotOf}
+use Rattle.memory.specs.Header.{slotOf}
 use Rattle.memory.specs.Meaning.{meaning}
 use Rattle.memory.specs.Arranged.{Arranged}
 use Rattle.group.specs.Metadata.{orderOf, Describes}
@@ -20,19 +21,19 @@ use Rattle.group.proofs.InWords.{groups-few, order-wide}
 use Rattle.group_tables.specs.Tables.{kindNo, Starts, GROUP-LEN, metadataIn, Puts, Groups}
 
 -- the places before p are filled
-pub record Filled (w : List ℕ) (n : ℕ) (was starts : List ℕ) (p : ℕ) : Type 0 where
+pub record Filled (w : List ℕ) (z : Shape) (was starts : List ℕ) (p : ℕ) : Type 0 where
   pub size : length starts ≡ length was
   pub within : p ≤ length (orderOf (meaning w))
-  pub each : (i : ℕ) → i < p → getD starts i 0 ≡ columnStart n (slotOf w (kindNo w i))
+  pub each : (i : ℕ) → i < p → getD starts i 0 ≡ columnStart z (slotOf w (kindNo w i))
 
-pub filled-start : (w : List ℕ) (n : ℕ) (was : List ℕ) → Filled w n was was 0
-filled-start w n was = record { size = refl; within = omega arith; each = λ i h. absurd (omega arith) }
+pub filled-start : (w : List ℕ) (z : Shape) (was : List ℕ) → Filled w z was was 0
+filled-start w z was = record { size = refl; within = omega arith; each = λ i h. absurd (omega arith) }
 
-module _ (w : List ℕ) (A : Arranged w) (n : ℕ) (was : List ℕ) (room : MAX-KINDS ≤ length was) (starts : List ℕ) (p : ℕ) (F : Filled w n was starts p) where
+module _ (w : List ℕ) (A : Arranged w) (z : Shape) (was : List ℕ) (room : MAX-KINDS ≤ length was) (starts : List ℕ) (p : ℕ) (F : Filled w z was starts p) where
   pub filled-room : p < length (orderOf (meaning w)) → p < length starts
   filled-room h = omega (arith, F .size, order-wide w A)
 
-  pub filled-turn : (v : ℕ) → p < length (orderOf (meaning w)) → v ≡ columnStart n (slotOf w (kindNo w p)) → Filled w n was (set starts p v) (p + 1)
+  pub filled-turn : (v : ℕ) → p < length (orderOf (meaning w)) → v ≡ columnStart z (slotOf w (kindNo w p)) → Filled w z was (set starts p v) (p + 1)
   filled-turn v h q =
       record {
         size = length-set starts p v ∙ F .size;
@@ -43,8 +44,8 @@ module _ (w : List ℕ) (A : Arranged w) (n : ℕ) (was : List ℕ) (room : MAX-
             (λ ne. getD-set-other starts p i v 0 ne ∙ F .each i (omega arith));
       }
 
-  pub filled-end : n ≡ capacityOf w → length (orderOf (meaning w)) ≤ p → Starts w n starts
-  filled-end e h = record { capacity = e; room = omega (arith, F .size, order-wide w A); each = λ i l. F .each i (omega arith) }
+  pub filled-end : z ≡ shapeOf w → length (orderOf (meaning w)) ≤ p → Starts w z starts
+  filled-end e h = record { shape = e; room = omega (arith, F .size, order-wide w A); each = λ i l. F .each i (omega arith) }
 
 -- ---- the groups
 

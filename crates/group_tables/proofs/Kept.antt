@@ -9,7 +9,8 @@ use Rattle.model.specs.Store.{Store, onStorage}
 use Rattle.model.specs.Sound.{In, layoutKinds}
 use Rattle.model.proofs.Shape.{plain}
 use Rattle.model.proofs.Regroup.{zero-kinds}
-use Rattle.words.specs.Offsets.{columnStart}
+use Rattle.words.specs.declared.Shape.{Shape}
+use Rattle.words.specs.Shape.{columnStart}
 use Rattle.words.specs.Part.{between}
 use Rattle.layout.specs.declared.group_metadata.GroupMetadata.{GroupMetadata}
 use Rattle.memory.specs.Header.{slotOf}
@@ -21,7 +22,7 @@ use Rattle.group.specs.Metadata.{orderOf, Describes}
 use Rattle.group.specs.Steps.{StepsUp}
 use Rattle.group.proofs.Each.{step-plain, walk-plain}
 use Rattle.group.proofs.Counts.{plain-groups}
-use Rattle.group.proofs.Storing.{capacity-kept}
+use Rattle.group.proofs.Storing.{shape-kept}
 use Rattle.group_tables.specs.Tables.{kindNo, Starts, metadataIn, Groups, Tables}
 use Rattle.group_tables.proofs.Order.{order-known}
 
@@ -72,23 +73,23 @@ same-located fs gs g q = sym (located-plain gs g) ∙ ap (λ (l : List Family). 
 
 -- ---- what the tables say
 
-module _ (w w′ : List ℕ) (n : ℕ) (starts : List ℕ) (f : Storage → Storage) (A : Arranged w) (B : Becomes w w′ (onStorage f (meaning w))) (q : SameLayout w w′) where
+module _ (w w′ : List ℕ) (z : Shape) (starts : List ℕ) (f : Storage → Storage) (A : Arranged w) (B : Becomes w w′ (onStorage f (meaning w))) (q : SameLayout w w′) where
   order : orderOf (meaning w′) ≡ orderOf (meaning w)
   order = same-order w w′ q
 
   kinds : meaning w′ .kinds ≡ meaning w .kinds
   kinds = ap (λ (m : Store). m .kinds) (B .means)
 
-  pub starts-kept : Starts w n starts → Starts w′ n starts
+  pub starts-kept : Starts w z starts → Starts w′ z starts
   starts-kept S =
       record {
-        capacity = S .capacity ∙ sym (capacity-kept w w′ f B);
+        shape = S .shape ∙ sym (shape-kept w w′ f B);
         room = omega (arith, S .room, ap length order);
         each = λ p h.
             let h₀ : p < length (orderOf (meaning w)) = omega (arith, ap length order) in
             let k : kindNo w′ p ≡ kindNo w p = ap (λ (l : List ℕ). getD l p 0) order in
             S .each p h₀
-            ∙ ap (columnStart n) (sym (ap (slotOf w′) k ∙ slot-alike w′ w (B .arranged) A kinds (kindNo w p) (order-known w A p h₀)));
+            ∙ ap (columnStart z) (sym (ap (slotOf w′) k ∙ slot-alike w′ w (B .arranged) A kinds (kindNo w p) (order-known w A p h₀)));
       }
 
   located-same : (g : ℕ) → uncounted (located (meaning w′ .storage .layout) g) ≡ uncounted (located (meaning w .storage .layout) g)
@@ -124,5 +125,5 @@ module _ (w w′ : List ℕ) (n : ℕ) (starts : List ℕ) (f : Storage → Stor
         each = λ g h. described-kept g (metadataIn t g) (G .each g (omega (arith, many)));
       }
 
-  pub tables-kept : (groups : List ℕ) → Tables w n starts groups → Tables w′ n starts groups
+  pub tables-kept : (groups : List ℕ) → Tables w z starts groups → Tables w′ z starts groups
   tables-kept groups T = record { columns = starts-kept (T .columns); described = groups-kept groups (T .described) }

@@ -12,7 +12,7 @@ use Rattle.layout.specs.Group.{InFamily, arityOf, priorArity, memberAt}
 use Rattle.layout.specs.Reading.{ReadStart}
 use Rattle.layout.proofs.Arrays.{groups-inside}
 use Rattle.layout.proofs.Groups.{Spot, spot, same-family, prior-next, prior-end}
-use Rattle.memory.specs.Header.{layoutFamilies, layoutGroups, groupFamilyAt}
+use Rattle.memory.specs.Header.{layoutFamilies, groupFamilyAt}
 use Rattle.memory.specs.Meaning.{layoutArrays, meaning}
 use Rattle.memory.specs.Arranged.{Arranged, Registered, GroupSound}
 use Rattle.memory.proofs.Frames.{layout-sized}

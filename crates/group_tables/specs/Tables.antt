@@ -4,9 +4,10 @@ use mathlib.Core.List.{List}
 use Prim.Native.Nat.{ℕ, _+_, _*_, _≤_, _<_}
 use lib.ListN.{length, getD}
 use Rattle.model.specs.Model.{groupsOf}
-use Rattle.words.specs.Offsets.{columnStart}
+use Rattle.words.specs.declared.Shape.{Shape}
+use Rattle.words.specs.Shape.{columnStart, shapeOf}
 use Rattle.layout.specs.declared.group_metadata.GroupMetadata.{GroupMetadata}
-use Rattle.memory.specs.Header.{capacityOf, slotOf}
+use Rattle.memory.specs.Header.{slotOf}
 use Rattle.memory.specs.Meaning.{meaning}
 use Rattle.group.specs.Metadata.{orderOf, Describes}
 
@@ -16,11 +17,11 @@ use Rattle.group.specs.Metadata.{orderOf, Describes}
 abbrev pub kindNo : List ℕ → ℕ → ℕ
 kindNo w p = getD (orderOf (meaning w)) p 0
 
--- where the columns of the layout's kinds start, by the kinds' places, in a store of capacity n
-pub record Starts (w : List ℕ) (n : ℕ) (starts : List ℕ) : Type 0 where
-  pub capacity : n ≡ capacityOf w
+-- where the columns of the layout's kinds start, by the kinds' places, in a store whose columns are of shape z
+pub record Starts (w : List ℕ) (z : Shape) (starts : List ℕ) : Type 0 where
+  pub shape : z ≡ shapeOf w
   pub room : length (orderOf (meaning w)) ≤ length starts
-  pub each : (p : ℕ) → p < length (orderOf (meaning w)) → getD starts p 0 ≡ columnStart n (slotOf w (kindNo w p))
+  pub each : (p : ℕ) → p < length (orderOf (meaning w)) → getD starts p 0 ≡ columnStart z (slotOf w (kindNo w p))
 
 -- ---- the groups' metadata, one group after another
 
@@ -50,6 +51,6 @@ pub record Groups (w : List ℕ) (t : List ℕ) : Type 0 where
   pub each : (g : ℕ) → g < groupsOf (meaning w .storage .layout) → Describes (meaning w) g (metadataIn t g)
 
 -- both tables
-pub record Tables (w : List ℕ) (n : ℕ) (starts groups : List ℕ) : Type 0 where
-  pub columns : Starts w n starts
+pub record Tables (w : List ℕ) (z : Shape) (starts groups : List ℕ) : Type 0 where
+  pub columns : Starts w z starts
   pub described : Groups w groups

@@ -15,6 +15,7 @@ use group::group_status::GroupStatus;
 use layout::group_metadata::GroupMetadata;
 use masks::group_mask::GroupMask;
 use masks::group_mask::NextBit;
+use words::Shape;
 ghost use Prim.Native.Nat.{_<_};
 ghost use lib.ListN.{drop};
 ghost use Rattle.model.specs.Model.{groupsOf, entity};
@@ -32,7 +33,7 @@ ghost use Rattle.group_tables.specs.Tables.{Starts, Tables};
 // Swaps the entity to a place in the sparse sets of the layout's kinds from start to end.
 fn swap_kinds(
     words: &mut [u32],
-    n: usize,
+    z: Shape,
     starts: &[usize],
     start: usize,
     end: usize,
@@ -41,14 +42,14 @@ fn swap_kinds(
     swap_index: usize,
 )
     requires { ⌜ Arranged (now words) ⌝ }
-    requires { ⌜ Starts (now words) n (now starts) ⌝ }
+    requires { ⌜ Starts (now words) z (now starts) ⌝ }
     requires { ⌜ PlacesKnown (meaning (now words)) start end ⌝ }
     requires { ⌜ Swappable (entity index version) (between start end (orderOf (meaning (now words)))) «swap_index» (meaning (now words) .storage .sets) ⌝ }
     ensures { λ _. ⌜ Becomes (now (words .entry)) (now (words .exit)) (onStorage (swapKinds (entity index version) «swap_index» (between start end (orderOf (meaning (now (words .entry)))))) (meaning (now (words .entry)))) ⌝ }
 {
     let mut place = start;
     while place < end {
-        swap_at(words, n, starts, place, index, version, swap_index);
+        swap_at(words, z, starts, place, index, version, swap_index);
         place += 1;
     }
 }
@@ -56,7 +57,7 @@ fn swap_kinds(
 // Brings the entity into the group, in every sparse set of the group: of the kinds from start to end.
 fn group_components(
     words: &mut [u32],
-    n: usize,
+    z: Shape,
     starts: &[usize],
     metadata: GroupMetadata,
     g: usize,
@@ -65,21 +66,21 @@ fn group_components(
     version: u32,
 )
     requires { ⌜ Arranged (now words) ⌝ }
-    requires { ⌜ Starts (now words) n (now starts) ⌝ }
+    requires { ⌜ Starts (now words) z (now starts) ⌝ }
     requires { ⌜ Stands (meaning (now words)) g metadata «group_len» ⌝ }
     requires { ⌜ Swappable (entity index version) (located (meaning (now words) .storage .layout) g .kinds) (located (meaning (now words) .storage .layout) g .count) (meaning (now words) .storage .sets) ⌝ }
     ensures { λ _. ⌜ Becomes (now (words .entry)) (now (words .exit)) (onStorage (groupAt (entity index version) g) (meaning (now (words .entry)))) ⌝ }
 {
     let start = metadata.storage_start;
     let end = metadata.storage_end;
-    swap_kinds(words, n, starts, start, end, index, version, group_len);
+    swap_kinds(words, z, starts, start, end, index, version, group_len);
     set_count(words, g, group_len + 1);
 }
 
 // One group of the walk upward; answers what is left of the groups after it.
 fn group_step(
     words: &mut [u32],
-    n: usize,
+    z: Shape,
     starts: &[usize],
     groups: &[usize],
     g: usize,
@@ -88,24 +89,24 @@ fn group_step(
     version: u32,
 ) -> GroupMask
     requires { ⌜ Arranged (now words) ⌝ }
-    requires { ⌜ Tables (now words) n (now starts) (now groups) ⌝ }
+    requires { ⌜ Tables (now words) z (now starts) (now groups) ⌝ }
     requires { ⌜ g < groupsOf (meaning (now words) .storage .layout) ⌝ }
     requires { ⌜ ReadyIn (statusAt (entity index version) g (meaning (now words) .storage)) (entity index version) (located (meaning (now words) .storage .layout) g) (meaning (now words) .storage .sets) ⌝ }
     ensures { λ r. ⌜ StepsUp (now (words .entry)) (now (words .exit)) (entity index version) g (rest .0) (r .0) ⌝ }
 {
     let metadata = metadata_at(groups, g);
     let group_len = count(words, g);
-    let status = status_in(words, n, starts, g, metadata, group_len, index, version);
+    let status = status_in(words, z, starts, g, metadata, group_len, index, version);
     match status {
         GroupStatus::Incomplete => {
             let skip = GroupMask::skip_from_to(g, metadata.top);
             return rest.intersection(skip);
         }
         GroupStatus::Ungrouped => {
-            group_components(words, n, starts, metadata, g, group_len, index, version);
+            group_components(words, z, starts, metadata, g, group_len, index, version);
             return rest;
         }
-        GroupStatus::Grouped => {
+        GroupStatus::Grouped(place) => {
             return rest;
         }
     }
@@ -114,7 +115,7 @@ fn group_step(
 // The walk upward over the groups of a mask, lowest first.
 fn group(
     words: &mut [u32],
-    n: usize,
+    z: Shape,
     starts: &[usize],
     groups: &[usize],
     mask: GroupMask,
@@ -122,7 +123,7 @@ fn group(
     version: u32,
 )
     requires { ⌜ Arranged (now words) ⌝ }
-    requires { ⌜ Tables (now words) n (now starts) (now groups) ⌝ }
+    requires { ⌜ Tables (now words) z (now starts) (now groups) ⌝ }
     requires { ⌜ Below (bitsOf 64 (mask .0)) (meaning (now words) .storage) ⌝ }
     requires { ⌜ ReadyUp (entity index version) 0 (bitsOf 64 (mask .0)) (meaning (now words) .storage) ⌝ }
     ensures { λ _. ⌜ Becomes (now (words .entry)) (now (words .exit)) (onStorage (walkUp (entity index version) 0 (bitsOf 64 (mask .0))) (meaning (now (words .entry)))) ⌝ }
@@ -132,21 +133,21 @@ fn group(
         let NextBit::At(g, rest) = left.next() else {
             return;
         };
-        left = group_step(words, n, starts, groups, g as usize, rest, index, version);
+        left = group_step(words, z, starts, groups, g as usize, rest, index, version);
     }
 }
 
 // Each live entity from place start on in turn.
 fn group_from(
     words: &mut [u32],
-    n: usize,
+    z: Shape,
     starts: &[usize],
     groups: &[usize],
     mask: GroupMask,
     start: usize,
 )
     requires { ⌜ Arranged (now words) ⌝ }
-    requires { ⌜ Tables (now words) n (now starts) (now groups) ⌝ }
+    requires { ⌜ Tables (now words) z (now starts) (now groups) ⌝ }
     requires { ⌜ Below (bitsOf 64 (mask .0)) (meaning (now words) .storage) ⌝ }
     requires { ⌜ ReadyEach (drop start (meaning (now words) .entities .live)) (bitsOf 64 (mask .0)) (meaning (now words) .storage) ⌝ }
     ensures { λ _. ⌜ Becomes (now (words .entry)) (now (words .exit)) (onStorage (walkEach (drop start (meaning (now (words .entry)) .entities .live)) (bitsOf 64 (mask .0))) (meaning (now (words .entry)))) ⌝ }
@@ -155,7 +156,7 @@ fn group_from(
     let mut place = start;
     while place < len {
         let entity = control::entities::live_at(words, place);
-        group(words, n, starts, groups, mask, entity.index, entity.version);
+        group(words, z, starts, groups, mask, entity.index, entity.version);
         place += 1;
     }
 }
@@ -170,10 +171,10 @@ pub fn group_each(words: &mut [u32], mask: GroupMask, start: usize)
     if mask.0 == 0 {
         return;
     }
-    let n = words::word(words, words::CAPACITY);
+    let z = words::shape_of(words);
     let mut starts = [0usize; model::MAX_KINDS];
-    fill_starts(words, n, &mut starts);
+    fill_starts(words, z, &mut starts);
     let mut groups = [0usize; GROUP_LEN * model::MAX_GROUP_COUNT];
     fill_groups(words, &mut groups);
-    group_from(words, n, &starts, &groups, mask, start);
+    group_from(words, z, &starts, &groups, mask, start);
 }

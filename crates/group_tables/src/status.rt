@@ -4,6 +4,7 @@ use crate::tables::holds_at;
 use component::Found;
 use group::group_status::GroupStatus;
 use layout::group_metadata::GroupMetadata;
+use words::Shape;
 ghost use mathlib.Core.Path.{_≡_};
 ghost use Prim.Native.Nat.{_<_};
 ghost use Rattle.model.specs.Model.{allHeld, entity};
@@ -18,7 +19,7 @@ ghost use Rattle.group_tables.specs.Tables.{Starts};
 // Does the entity hold each of the layout's kinds from start to end?
 fn holds_all(
     words: &[u32],
-    n: usize,
+    z: Shape,
     starts: &[usize],
     start: usize,
     end: usize,
@@ -26,13 +27,13 @@ fn holds_all(
     version: u32,
 ) -> bool
     requires { ⌜ Arranged (now words) ⌝ }
-    requires { ⌜ Starts (now words) n (now starts) ⌝ }
+    requires { ⌜ Starts (now words) z (now starts) ⌝ }
     requires { ⌜ PlacesKnown (meaning (now words)) start end ⌝ }
     ensures { λ r. ⌜ r ≡ allHeld (entity index version) (between start end (orderOf (meaning (now (words .entry))))) (meaning (now (words .entry)) .storage .sets) ⌝ }
 {
     let mut place = start;
     while place < end {
-        if !holds_at(words, n, starts, place, index, version) {
+        if !holds_at(words, z, starts, place, index, version) {
             return false;
         }
         place += 1;
@@ -43,7 +44,7 @@ fn holds_all(
 // The status of an entity in the group whose new kinds stand from start to end and whose count is group_len.
 fn get_group_status(
     words: &[u32],
-    n: usize,
+    z: Shape,
     starts: &[usize],
     start: usize,
     end: usize,
@@ -52,20 +53,20 @@ fn get_group_status(
     version: u32,
 ) -> GroupStatus
     requires { ⌜ Arranged (now words) ⌝ }
-    requires { ⌜ Starts (now words) n (now starts) ⌝ }
+    requires { ⌜ Starts (now words) z (now starts) ⌝ }
     requires { ⌜ PlacesKnown (meaning (now words)) start end ⌝ }
     requires { ⌜ start < end ⌝ }
     ensures { λ r. ⌜ r ≡ statusIn (entity index version) (between start end (orderOf (meaning (now (words .entry))))) «group_len» (meaning (now (words .entry)) .storage .sets) ⌝ }
 {
-    let found = find_at(words, n, starts, start, index, version);
+    let found = find_at(words, z, starts, start, index, version);
     let Found::At(place) = found else {
         return GroupStatus::Incomplete;
     };
-    if !holds_all(words, n, starts, start + 1, end, index, version) {
+    if !holds_all(words, z, starts, start + 1, end, index, version) {
         return GroupStatus::Incomplete;
     }
     if place < group_len {
-        return GroupStatus::Grouped;
+        return GroupStatus::Grouped(place);
     }
     GroupStatus::Ungrouped
 }
@@ -73,7 +74,7 @@ fn get_group_status(
 // The entity's status in group g, by the group's metadata and its count.
 pub fn status_in(
     words: &[u32],
-    n: usize,
+    z: Shape,
     starts: &[usize],
     g: usize,
     metadata: GroupMetadata,
@@ -82,11 +83,11 @@ pub fn status_in(
     version: u32,
 ) -> GroupStatus
     requires { ⌜ Arranged (now words) ⌝ }
-    requires { ⌜ Starts (now words) n (now starts) ⌝ }
+    requires { ⌜ Starts (now words) z (now starts) ⌝ }
     requires { ⌜ Stands (meaning (now words)) g metadata «group_len» ⌝ }
     ensures { λ r. ⌜ r ≡ statusAt (entity index version) g (meaning (now (words .entry)) .storage) ⌝ }
 {
     let start = metadata.new_storage_start;
     let end = metadata.storage_end;
-    get_group_status(words, n, starts, start, end, group_len, index, version)
+    get_group_status(words, z, starts, start, end, group_len, index, version)
 }

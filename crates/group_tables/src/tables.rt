@@ -3,17 +3,20 @@ use component::Found;
 use group::group_metadata::kind_at;
 use layout::starts::start_of;
 use words::LAYOUT_KIND_ENDS;
+use words::Shape;
 ghost use mathlib.Core.Path.{_≡_};
 ghost use mathlib.Core.Bool.{true};
 ghost use Prim.Native.Nat.{_<_, _≤_};
 ghost use lib.ListN.{length};
 ghost use Rattle.model.specs.Numbers.{MAX-KINDS};
 ghost use Rattle.model.specs.Model.{held, swapTo, entity};
-ghost use Rattle.model.specs.Store.{onSet, onStorage};
+ghost use Rattle.words.specs.Shape.{shapeOf};
 ghost use Rattle.component.specs.Answers.{Finds};
-ghost use Rattle.memory.specs.Header.{capacityOf};
+ghost use Rattle.component.specs.Columns.{rowsOf};
+ghost use Rattle.component.specs.Changes.{Only};
+ghost use Rattle.memory.specs.Header.{slotOf};
 ghost use Rattle.memory.specs.Meaning.{meaning};
-ghost use Rattle.memory.specs.Arranged.{Arranged, Becomes};
+ghost use Rattle.memory.specs.Arranged.{Arranged};
 ghost use Rattle.kinds.specs.Kinds.{kindSet};
 ghost use Rattle.group.specs.Metadata.{orderOf};
 ghost use Rattle.group_tables.specs.Tables.{kindNo, Starts};
@@ -28,18 +31,18 @@ fn width(words: &[u32]) -> usize
 }
 
 // The starts, from the front of a table that has room for all kinds.
-pub fn fill_starts(words: &[u32], n: usize, starts: &mut [usize])
+pub fn fill_starts(words: &[u32], z: Shape, starts: &mut [usize])
     requires { ⌜ Arranged (now words) ⌝ }
-    requires { ⌜ n ≡ capacityOf (now words) ⌝ }
+    requires { ⌜ z ≡ shapeOf (now words) ⌝ }
     requires { ⌜ MAX-KINDS ≤ length (now starts) ⌝ }
-    ensures { λ _. ⌜ Starts (now (words .entry)) n (now (starts .exit)) ⌝ }
+    ensures { λ _. ⌜ Starts (now (words .entry)) z (now (starts .exit)) ⌝ }
 {
     let end = width(words);
     let mut place = 0;
     while place < end {
         let kind = kind_at(words, place);
         let slot = kinds::slot_of(words, kind);
-        starts[place] = words::column_start(n, slot);
+        starts[place] = words::column_start(z, slot);
         place += 1;
     }
 }
@@ -47,41 +50,41 @@ pub fn fill_starts(words: &[u32], n: usize, starts: &mut [usize])
 // Where the entity stands in the sparse set of the kind at a place.
 pub fn find_at(
     words: &[u32],
-    n: usize,
+    z: Shape,
     starts: &[usize],
     place: usize,
     index: u32,
     version: u32,
 ) -> Found
     requires { ⌜ Arranged (now words) ⌝ }
-    requires { ⌜ Starts (now words) n (now starts) ⌝ }
+    requires { ⌜ Starts (now words) z (now starts) ⌝ }
     requires { ⌜ place < length (orderOf (meaning (now words))) ⌝ }
-    ensures { λ r. ⌜ Finds n (entity index version) (kindSet (now (words .entry)) (kindNo (now (words .entry)) place)) r ⌝ }
+    ensures { λ r. ⌜ Finds z (entity index version) (kindSet (now (words .entry)) (kindNo (now (words .entry)) place)) r ⌝ }
 {
-    component::at_start::find_from(words, n, starts[place], index, version)
+    component::at_start::find_from(words, z, starts[place], index, version)
 }
 
 // Whether the entity holds the kind at a place.
 pub fn holds_at(
     words: &[u32],
-    n: usize,
+    z: Shape,
     starts: &[usize],
     place: usize,
     index: u32,
     version: u32,
 ) -> bool
     requires { ⌜ Arranged (now words) ⌝ }
-    requires { ⌜ Starts (now words) n (now starts) ⌝ }
+    requires { ⌜ Starts (now words) z (now starts) ⌝ }
     requires { ⌜ place < length (orderOf (meaning (now words))) ⌝ }
     ensures { λ r. ⌜ r ≡ held (entity index version) (kindSet (now (words .entry)) (kindNo (now (words .entry)) place)) ⌝ }
 {
-    component::at_start::holds_from(words, n, starts[place], index, version)
+    component::at_start::holds_from(words, z, starts[place], index, version)
 }
 
-// Exchanges the entity's row with the one at swap_index, in the sparse set of the kind at a place.
+// Exchanges the entity's row with the one at swap_index, in the column of the kind at a place.
 pub fn swap_at(
     words: &mut [u32],
-    n: usize,
+    z: Shape,
     starts: &[usize],
     place: usize,
     index: u32,
@@ -89,11 +92,11 @@ pub fn swap_at(
     swap_index: usize,
 )
     requires { ⌜ Arranged (now words) ⌝ }
-    requires { ⌜ Starts (now words) n (now starts) ⌝ }
+    requires { ⌜ Starts (now words) z (now starts) ⌝ }
     requires { ⌜ place < length (orderOf (meaning (now words))) ⌝ }
-    requires { ⌜ held (entity index version) (kindSet (now words) (kindNo (now words) place)) ≡ true ⌝ }
-    requires { ⌜ «swap_index» < length (kindSet (now words) (kindNo (now words) place)) ⌝ }
-    ensures { λ _. ⌜ Becomes (now (words .entry)) (now (words .exit)) (onStorage (onSet (kindNo (now (words .entry)) place) (swapTo (entity index version) «swap_index»)) (meaning (now (words .entry)))) ⌝ }
+    requires { ⌜ held (entity index version) (rowsOf z (slotOf (now words) (kindNo (now words) place)) (now words)) ≡ true ⌝ }
+    requires { ⌜ «swap_index» < length (rowsOf z (slotOf (now words) (kindNo (now words) place)) (now words)) ⌝ }
+    ensures { λ _. ⌜ Only z (slotOf (now (words .entry)) (kindNo (now (words .entry)) place)) (swapTo (entity index version) «swap_index») (now (words .entry)) (now (words .exit)) ⌝ }
 {
-    component::at_start::swap_to_from(words, n, starts[place], index, version, swap_index);
+    component::at_start::swap_to_from(words, z, starts[place], index, version, swap_index);
 }

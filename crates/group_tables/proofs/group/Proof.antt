@@ -12,10 +12,10 @@ use Rattle.group_tables.proofs.group.Statement.{statement}
 use Rattle.group_tables.proofs.group.Tie as tie
 
 abbrev Inv-loop : tie.InvT-loop
-Inv-loop words₀ n starts groups index version left₀ words left = Up (entity index version) words₀ (bitsOf 64 (left₀ .0)) words (bitsOf 64 (left .0)) × SameLayout words₀ words
+Inv-loop words₀ z starts groups index version left₀ words left = Up (entity index version) words₀ (bitsOf 64 (left₀ .0)) words (bitsOf 64 (left .0)) × SameLayout words₀ words
 
 abbrev μ-loop : tie.MeasureT-loop
-μ-loop words₀ n starts groups index version left₀ words left = length (bitsOf 64 (left .0))
+μ-loop words₀ z starts groups index version left₀ words left = length (bitsOf 64 (left .0))
 
 -- the lowest group of the mask, and the mask without it
 lowest : (c : tie.After-g Inv-loop μ-loop) → LowStep (c .before .before .before .loop .left .0) (c .g .given .0 .0) (c .g .given .0 .1 .0 .0)
@@ -34,7 +34,7 @@ group-step-requires c κs =
     let s = c .before .before .before .before .before .before .before .before .before in
     let a = s .args in
     let i = c .before .before .before .before .before .loop in
-    let S = tables-kept (a .words .now) (i .words) (a .n) (a .starts .now) (λ (p : Storage). meaning (i .words) .storage) (s .pre .0) (i .inv .0 .soFar) (i .inv .1) (a .groups .now) (s .pre .1 .0) in
+    let S = tables-kept (a .words .now) (i .words) (a .z) (a .starts .now) (λ (p : Storage). meaning (i .words) .storage) (s .pre .0) (i .inv .0 .soFar) (i .inv .1) (a .groups .now) (s .pre .1 .0) in
     (i .inv .0 .soFar .arranged, (S, up-asks _ (i .inv .0) (lowest (c .before .before))))
 
 loop-less : tie.Need-loop-less Inv-loop μ-loop

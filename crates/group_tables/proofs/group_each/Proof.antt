@@ -1,7 +1,7 @@
-use mathlib.Core.Path.{_≡_, ap, _∙_}
+use mathlib.Core.Path.{ap, _∙_}
 use native.Mathlib.Omega.{arith}
 use borrow.Author.Needs.{needs}
-use lib.ListN.{length, drop}
+use lib.ListN.{drop}
 use Rattle.masks.specs.Masks.{bitsOf}
 use Rattle.masks.proofs.Bits.{no-bits}
 use Rattle.words.specs.Offsets.{CAPACITY}
@@ -17,11 +17,11 @@ returns c =
     let a = s .args in
     none-grouped (a .words .now) (bitsOf 64 (a .mask .0)) (drop (a .start) (meaning (a .words .now) .entities .live)) (s .pre .0) (ap (bitsOf 64) (c .if1 .taken) ∙ no-bits 64 0)
 
-word-requires : tie.Need-word-requires
-word-requires c κs = let s = c .before .before .before .before in header-long (s .args .words .now) (s .pre .0) CAPACITY (omega arith)
+shape-of-requires : tie.Need-shape-of-requires
+shape-of-requires c κs = let s = c .before .before .before .before in header-long (s .args .words .now) (s .pre .0) CAPACITY (omega arith)
 
 fill-starts-requires : tie.Need-fill-starts-requires
-fill-starts-requires c κs = (c .before .before .before .before .before .before .before .pre .0, (c .before .before .word .ensures .is, search needs))
+fill-starts-requires c κs = (c .before .before .before .before .before .before .before .pre .0, (c .before .before .shape-of .ensures .is, search needs))
 
 fill-groups-requires : tie.Need-fill-groups-requires
 fill-groups-requires c κs = (c .before .before .before .before .before .before .before .before .before .before .before .pre .0, search needs)
@@ -34,7 +34,7 @@ group-each-spec =
     tie.close
     (tie.spec
     returns
-    word-requires
+    shape-of-requires
     (λ c. search needs)
     fill-starts-requires
     (λ c. search needs)

@@ -13,10 +13,10 @@ use Rattle.group_tables.proofs.group_from.Statement.{statement}
 use Rattle.group_tables.proofs.group_from.Tie as tie
 
 abbrev Inv-loop : tie.InvT-loop
-Inv-loop words₀ n starts groups mask start len place₀ words place = Grouping words₀ (bitsOf 64 (mask .0)) start words place × SameLayout words₀ words
+Inv-loop words₀ z starts groups mask start len place₀ words place = Grouping words₀ (bitsOf 64 (mask .0)) start words place × SameLayout words₀ words
 
 abbrev μ-loop : tie.MeasureT-loop
-μ-loop words₀ n starts groups mask start len place₀ words place = len - place
+μ-loop words₀ z starts groups mask start len place₀ words place = len - place
 
 loop-holds : tie.Need-loop-holds Inv-loop μ-loop
 loop-holds c =
@@ -36,7 +36,7 @@ group-requires c κs =
     let l = c .before .before .before .before .loop in
     let e = c .before .live-at .result in
     let h = subst (λ (m : ℕ). l .place < m) (c .before .before .before .before .before .live-len .ensures) (c .before .before .before .loop-test .taken) in
-    let S = tables-kept (a .words .now) (l .words) (a .n) (a .starts .now) (λ (p : Storage). meaning (l .words) .storage) (s .pre .0) (l .inv .0 .soFar) (l .inv .1) (a .groups .now) (s .pre .1 .0) in
+    let S = tables-kept (a .words .now) (l .words) (a .z) (a .starts .now) (λ (p : Storage). meaning (l .words) .storage) (s .pre .0) (l .inv .0 .soFar) (l .inv .1) (a .groups .now) (s .pre .1 .0) in
     (l .inv .0 .soFar .arranged, (S, (l .inv .0 .below, grouping-ask (a .words .now) (bitsOf 64 (a .mask .0)) (a .start) (l .words) (l .place) (l .inv .0) (entity (e .index) (e .version)) h (c .before .live-at .ensures))))
 
 loop-again : tie.Need-loop-again Inv-loop μ-loop

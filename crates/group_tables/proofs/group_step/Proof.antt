@@ -42,7 +42,7 @@ returns-2 : tie.Need-returns-2
 returns-2 c = steps-up (sym (c .before .before .before .before .enum-told2 .given .1) ∙ c .before .before .before .before .before .before .status-in .ensures) (c .before .before .group-components .ensures) refl
 
 returns-3 : tie.Need-returns-3
-returns-3 c = steps-up (sym (c .enum-told3 .given .1) ∙ c .before .before .status-in .ensures) (stays (c .before .before .before .before .before .before .before .before .before .before .pre .0)) refl
+returns-3 c = steps-up (sym (c .before .status .given .1) ∙ c .before .before .before .status-in .ensures) (stays (c .before .before .before .before .before .before .before .before .before .before .before .pre .0)) refl
 
 pub group-step-spec : {M : Type 1} → statement M
 group-step-spec =

@@ -11,13 +11,13 @@ use Rattle.group_tables.proofs.status.holds_all.Statement.{statement}
 use Rattle.group_tables.proofs.status.holds_all.Tie as tie
 
 abbrev Inv-loop : tie.InvT-loop
-Inv-loop words n starts start end index version place₀ place =
+Inv-loop words z starts start end index version place₀ place =
     (start ≤ place)
     × (place ≤ end)
     × (allHeld (entity index version) (between start end (orderOf (meaning words))) (meaning words .storage .sets) ≡ allHeld (entity index version) (between place end (orderOf (meaning words))) (meaning words .storage .sets))
 
 abbrev μ-loop : tie.MeasureT-loop
-μ-loop words n starts start end index version place₀ place = end - place
+μ-loop words z starts start end index version place₀ place = end - place
 
 holds-at-requires : tie.Need-holds-at-requires Inv-loop μ-loop
 holds-at-requires c κs = let s = c .before .before .before .before in (s .pre .0, (s .pre .1 .0, omega (arith, s .pre .1 .1 .within)))

@@ -1,6 +1,6 @@
 use borrow.Author.Needs.{needs}
 use Rattle.model.specs.Model.{swapTo, entity}
-use Rattle.group_tables.proofs.Columns.{swaps-from, column-becomes}
+use Rattle.group_tables.proofs.Columns.{swaps-from, column-changes}
 use Rattle.group_tables.proofs.tables.swap_at.Statement.{statement}
 use Rattle.group_tables.proofs.tables.swap_at.Tie as tie
 
@@ -8,13 +8,13 @@ swap-to-from-requires : tie.Need-swap-to-from-requires
 swap-to-from-requires c κs =
     let s = c .before .before .before .before in
     let a = s .args in
-    swaps-from (a .words .now) (a .n) (a .starts .now) (s .pre .0) (s .pre .1 .0) (a .place) (s .pre .1 .1 .0) (entity (a .index) (a .version)) (a .swap-index) (s .pre .1 .1 .1 .0) (s .pre .1 .1 .1 .1)
+    swaps-from (a .words .now) (a .z) (a .starts .now) (s .pre .0) (s .pre .1 .0) (a .place) (s .pre .1 .1 .0) (entity (a .index) (a .version)) (a .swap-index) (s .pre .1 .1 .1 .0) (s .pre .1 .1 .1 .1)
 
 returns : tie.Need-returns
 returns c =
     let s = c .before .before .before .before .before .before .before in
     let a = s .args in
-    column-becomes (a .words .now) (a .n) (a .starts .now) (s .pre .0) (s .pre .1 .0) (a .place) (s .pre .1 .1 .0) (c .before .before .swap-to-from .last .0) (swapTo (entity (a .index) (a .version)) (a .swap-index)) (c .before .before .swap-to-from .ensures)
+    column-changes (a .words .now) (a .z) (a .starts .now) (s .pre .0) (s .pre .1 .0) (a .place) (s .pre .1 .1 .0) (c .before .before .swap-to-from .last .0) (swapTo (entity (a .index) (a .version)) (a .swap-index)) (c .before .before .swap-to-from .ensures)
 
 pub swap-at-spec : {M : Type 1} → statement M
 swap-at-spec =
