@@ -38,7 +38,6 @@ use Rattle.words.proofs.Decides.{decides-same}
 use Rattle.tapes.specs.Pieces.{inTurn}
 use Rattle.tapes.proofs.Pieces.{run-pieces}
 use Rattle.tapes.proofs.Tapes.{run-commands}
-use Rattle.component.specs.SparseSet.{valueOf}
 use Rattle.memory.specs.Meaning.{meaning}
 use Rattle.memory.specs.Arranged.{Sound}
 use Rattle.run.specs.declared.Ran.{Ran}
@@ -243,7 +242,7 @@ module _ (v : RefT (List ℕ)) (S : Sound (v .now)) (h b : List ℕ) (k a e : �
       let vw : q .now ≡ pairs lowOf highOf vs = part-words q true Q ∙ value-pairs vs in
       let lo : getD (q .now) (2 * j) 0 ≡ lowOf (getD vs j 0) = ap (λ (l : List ℕ). getD l (2 * j) 0) vw ∙ pair-low lowOf highOf 0 vs j nv in
       let hi : getD (q .now) (2 * j + 1) 0 ≡ highOf (getD vs j 0) = ap (λ (l : List ℕ). getD l (2 * j + 1) 0) vw ∙ pair-high lowOf highOf 0 vs j nv in
-      let is : getD vs j 0 ≡ valueOf (getD (q .now) (2 * j) 0) (getD (q .now) (2 * j + 1) 0) = omega (arith, lo, hi) in
+      let is : getD vs j 0 ≡ getD (q .now) (2 * j) 0 + 4294967296 * getD (q .now) (2 * j + 1) 0 = omega (arith, lo, hi) in
       record {
         index = ap (λ (l : List ℕ). getD l (2 * j) 0) ew ∙ pair-low indexOf versionOf noEntity es j ne;
         version = ap (λ (l : List ℕ). getD l (2 * j + 1) 0) ew ∙ pair-high indexOf versionOf noEntity es j ne;

@@ -1,5 +1,5 @@
 -- What the entry *run* promises, from what its two branches show. Assumes nothing.
-use mathlib.Core.Path.{_≡_, refl}
+use mathlib.Core.Path.{sym, _≡_, refl}
 use mathlib.Core.Bool.{true, false}
 use mathlib.Core.List.{List}
 use Prim.Native.Nat.{ℕ}
@@ -7,6 +7,8 @@ use lib.ListN.{length}
 use Rattle.model.specs.Numbers.{UNSOUND}
 use Rattle.model.specs.Store.{Bytes, wordsNeeded}
 use Rattle.model.specs.Run.{run}
+use Rattle.words.proofs.Offsets.{columnStart-needed}
+use Rattle.words.specs.Shape.{columnStart, shapeOf}
 use Rattle.memory.specs.Header.{capacityOf, kindCapacityOf}
 use Rattle.memory.specs.Meaning.{meaning}
 use Rattle.memory.specs.Arranged.{Sound}
@@ -15,9 +17,9 @@ use Rattle.run.specs.declared.Ran.{Ran}
 use Rattle.store.specs.Entries.{Runs}
 
 -- the words needed, of the store and of the header
-pub needed-of : (w : List ℕ) → wordsNeeded (meaning w .settings .capacity) (meaning w .settings .kindCapacity) ≡ wordsNeeded (capacityOf w) (kindCapacityOf w)
+pub needed-of : (w : List ℕ) → wordsNeeded (meaning w .settings .capacity) (meaning w .settings .kindCapacity) ≡ columnStart (shapeOf w) (kindCapacityOf w)
 unfolding meaning
-needed-of w = refl
+needed-of w = sym (columnStart-needed (capacityOf w) (kindCapacityOf w))
 
 pub refused-run : (w t o : List ℕ) → (Sound w → ⊥) → Bytes t → Runs w w t o o (record { stop = UNSOUND; commands = 0; read = 0; written = 0 })
 refused-run w t o d b =

@@ -1,12 +1,12 @@
 -- The model's start by its tests, as the code makes them. Assumes nothing.
-use mathlib.Core.Path.{_≡_, refl}
+use mathlib.Core.Path.{_≡_, refl, subst}
 use mathlib.Core.Bool.{Bool, false, _||_}
 use mathlib.Core.List.{List}
 use Prim.Native.Nat.{ℕ, _≤_, _<_}
 use native.Mathlib.Omega.{arith}
 use borrow.Author.Tests.{lt-ltb, le-ltb, ne-eqb}
 use lib.Dec.{eqb, ltb}
-use lib.ListN.{length}
+use lib.ListN.{length, drop}
 use Rattle.model.specs.Numbers.{MAX-ENTITIES, MAX-KINDS}
 use Rattle.model.specs.Store.{Settings, older, emptyWith, empty, wordsNeeded}
 use Rattle.model.specs.Refusals.{startLines}
@@ -16,6 +16,7 @@ use Rattle.model.proofs.BoolLaws.{bool-cases}
 use Rattle.model.proofs.Operations.{empty-sound}
 use Rattle.model.proofs.Lines.{first-exact, first-number}
 use Rattle.model.proofs.Entries.{start-exact, start-makes}
+use Rattle.words.proofs.Offsets.{columnStart-needed}
 use Rattle.memory.specs.Arranged.{Sound}
 use Rattle.memory.specs.Fresh.{Made}
 use Rattle.store.specs.Entries.{StartsWith}
@@ -77,5 +78,5 @@ module _ (c : Settings) where
         number = rw e;
         leaves = rw e (sound, m .means);
         size = m .size;
-        past = m .past;
+        past = subst (λ (e : ℕ). drop e w′ ≡ drop e w) (columnStart-needed n k) (m .past);
       }

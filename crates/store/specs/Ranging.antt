@@ -14,7 +14,6 @@ use Rattle.model.specs.Snapshot.{valueAt}
 use Rattle.model.specs.Entries.{entityWords, valueWords, part}
 use Rattle.model.specs.Sound.{cnt, In, key}
 use Rattle.model.specs.Shown.{AllAndNone, described, ShowsNewer, foundIn, startIn, endIn, RangeAnswer, Hold}
-use Rattle.component.specs.SparseSet.{valueOf}
 use Rattle.memory.specs.Meaning.{meaning}
 use Rattle.memory.specs.Arranged.{Sound}
 use Rattle.run.specs.declared.Ran.{Ran}
@@ -52,7 +51,7 @@ pub record ColumnsShown (s : Store) (k a e n : ℕ) (entities values : List ℕ)
 pub record RowOf (s : Store) (x : Entity) (k i : ℕ) (entities values : List ℕ) : Type 0 where
   pub index : getD entities (2 * i) 0 ≡ x .index
   pub version : getD entities (2 * i + 1) 0 ≡ x .version
-  pub value : valueAt x (setOf (s .storage .sets) k) ≡ some (valueOf (getD values (2 * i) 0) (getD values (2 * i + 1) 0))
+  pub value : valueAt x (setOf (s .storage .sets) k) ≡ some (getD values (2 * i) 0 + 4294967296 * getD values (2 * i + 1) 0)
 
 -- rows i of the parts of kinds j and k are of one entity, which hand h and bar b describe
 pub record OneEntity (s : Store) (h b : List ℕ) (j k i : ℕ) (entities values entities′ values′ : List ℕ) : Type 0 where

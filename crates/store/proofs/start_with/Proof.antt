@@ -3,6 +3,7 @@ use lib.ListN.{length}
 use Rattle.model.specs.Store.{told}
 use Rattle.model.specs.Sound.{Limits}
 use Rattle.words.proofs.Decides.{granted, denied}
+use Rattle.words.proofs.Offsets.{columnStart-needed}
 use Rattle.store.proofs.Starting.{start-size, start-short, refused-start, made-start}
 use Rattle.store.proofs.start_with.Statement.{statement}
 use Rattle.store.proofs.start_with.Tie as tie
@@ -28,7 +29,7 @@ make-requires : tie.Need-make-requires
 make-requires c κs =
     let a = c .before .before .before .before .before .before .args in
     let l : Limits (a .n) (a .k) = granted {P = Limits (a .n) (a .k)} (c .before .before .before .before .within-limits .result) (c .before .before .before .before .within-limits .ensures) (c .before .before .before .if1 .left) in
-    (l, omega (arith, c .before .before .words-needed .ensures, c .before .if2 .left))
+    (l, omega (arith, c .before .before .words-needed .ensures, c .before .if2 .left, columnStart-needed (a .n) (a .k)))
 
 returns-3 : tie.Need-returns-3
 returns-3 c =
