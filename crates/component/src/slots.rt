@@ -57,14 +57,7 @@ pub fn value_in(words: &[u32], z: Shape, slot: usize, place: usize) -> Value
     component_sparse_set::value_at(&words[base..end], z, place)
 }
 
-pub fn insert_in(
-    words: &mut [u32],
-    z: Shape,
-    slot: usize,
-    index: u32,
-    version: u32,
-    x: Value,
-)
+pub fn insert_in(words: &mut [u32], z: Shape, slot: usize, index: u32, version: u32, x: Value)
     requires { ⌜ Lent z slot (now words) ⌝ }
     requires { ⌜ (index < z .capacity) × (1 ≤ version) ⌝ }
     requires { ⌜ Current index version (rowsOf z slot (now words)) ⌝ }

@@ -1,5 +1,4 @@
 // The entities of a store.
-use words::Entity;
 use entity::Found;
 use entity::entity_allocator;
 use entity::entity_sparse_set;
@@ -7,6 +6,7 @@ use entity::in_words;
 use entity::sparse_vec;
 use words::CAPACITY;
 use words::ENTITIES;
+use words::Entity;
 ghost use mathlib.Core.Path.{_≡_};
 ghost use mathlib.Core.Bool.{false};
 ghost use Prim.Native.Nat.{_<_};

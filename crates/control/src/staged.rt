@@ -48,10 +48,7 @@ pub fn staged_at(words: &[u32], i: usize) -> Component
     let z = words::shape_of(words);
     let kind = words::word(words, STAGED_KINDS + i);
     let value = values::get(words, STAGED_VALUES + STAGED_VALUE_LEN * i, z.stride);
-    Component {
-        kind,
-        value,
-    }
+    Component { kind, value }
 }
 
 pub fn is_staged(words: &[u32], kind: usize) -> bool

@@ -1,9 +1,9 @@
 // Entities: created, looked up, destroyed.
-use words::Entity;
 use crate::Found;
 use crate::entity_allocator;
 use crate::entity_sparse_set;
 use crate::sparse_vec;
+use words::Entity;
 ghost use mathlib.Core.Path.{_≡_};
 ghost use mathlib.Core.Bool.{false};
 ghost use Rattle.model.specs.Model.{isLive, destroy, entity, isFull};

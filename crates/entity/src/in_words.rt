@@ -1,6 +1,6 @@
 // What changes the entities, on the whole lent words: the entity part is lent on, and the words around it stay.
-use words::Entity;
 use crate::entity_storage;
+use words::Entity;
 ghost use mathlib.Core.Path.{_≡_};
 ghost use mathlib.Core.Bool.{false};
 ghost use Rattle.model.specs.Model.{destroy, entity, isFull};
