@@ -32,6 +32,22 @@ fn run_ours(words: &mut [u32], tape: &[u8], out: &mut [u8]) -> usize {
     ran.written
 }
 
+/// A run of words that are held since their start: not tested.
+fn run_held(words: &mut [u32], tape: &[u8], out: &mut [u8]) -> usize {
+    let ran = unsafe {
+        sys::yirbarn_held_run(
+            words.as_mut_ptr(),
+            words.len(),
+            tape.as_ptr(),
+            tape.len(),
+            out.as_mut_ptr(),
+            out.len(),
+        )
+    };
+    assert!(ran.stop == 0 && ran.read == tape.len());
+    ran.written
+}
+
 /// A roll through its entry, which tests the words too.
 fn roll_ours(words: &[u32], out: &mut [u8]) -> usize {
     let rolled = unsafe { sys::yirbarn_roll(words.as_ptr(), words.len(), out.as_mut_ptr(), out.len()) };
@@ -50,10 +66,11 @@ fn run_rust(rust: &mut Oracle, tape: &[u8], out: &mut [u8]) -> usize {
 fn time_ours(work: &Work, runs: &[Vec<u8>], words: &mut [u32], out: &mut [u8], times: &mut Vec<f64>) -> usize {
     Store::start(words, work.n, work.k).unwrap();
     run_ours(words, &work.setup, out);
+    let done = if work.held { run_held } else { run_ours };
     let (mut written, mut between) = (0, work.between.iter());
     let mut clock = Clock::start();
     for run in runs {
-        written += run_ours(words, run, &mut out[written..]);
+        written += done(words, run, &mut out[written..]);
         if let Some(between) = between.next() {
             clock.stop();
             run_ours(words, between, &mut out[written..]);

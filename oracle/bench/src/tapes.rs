@@ -17,6 +17,8 @@ pub struct Work {
     pub between: Vec<Vec<u8>>,
     /// What the runs do, in other commands: timed on our side too.
     pub otherwise: Option<Otherwise>,
+    /// Whether our side's runs go through the function for held words.
+    pub held: bool,
     /// By which the time is divided.
     pub commands: usize,
     pub bound: &'static str,
@@ -46,6 +48,7 @@ impl Work {
             runs,
             between: vec![],
             otherwise: None,
+            held: false,
             commands,
             bound: "",
         }
@@ -57,6 +60,11 @@ impl Work {
             k: usize::from(k),
             ..self
         }
+    }
+
+    /// The same on words that are held.
+    fn held(self) -> Self {
+        Self { held: true, ..self }
     }
 
     /// The same with this to reach.
@@ -324,6 +332,7 @@ fn sizes_and_runs() -> Vec<Work> {
     let mut works: Vec<Work> = [64, 512, N].map(sized).into();
     works.push(line_mix("h", "line mix, 10,000 in a run", 10_000));
     works.push(line_mix("h", "line mix, 1,000 in a run", 1_000).to_reach("1.00"));
+    works.push(line_mix("h", "line mix, 1,000 in a run, held", 1_000).held().to_reach("0.80"));
     works
 }
 
