@@ -19,10 +19,6 @@ bytesOf-join (suc n) m x y h =
     rw (suc-add n m, e, add-mul-mod-self-left x 256 (256 ^ n * y), add-mul-div-left x (256 ^ n * y) (lit< tt))
     (ap {B = List ℕ} (λ l. x % 256 ∷ l) (bytesOf-join n m (x / 256) y b))
 
--- a value from its two words
-pub bytesOf-value : (l h : ℕ) → l < 4294967296 → bytesOf 8 (l + 4294967296 * h) ≡ bytesOf 4 l ++ bytesOf 4 h
-bytesOf-value l h b = bytesOf-join 4 4 l h b
-
 -- the number of a + 4 bytes and those after
 pub number-join : (n : ℕ) (t : List ℕ) → n ≤ length t → number t ≡ number (take n t) + 256 ^ n * number (drop n t)
 number-join zero t h = omega arith

@@ -30,15 +30,6 @@ pub fn put_u32(out: &mut [u8], at: usize, v: u32)
     out[at + 3] = (c % 256) as u8;
 }
 
-// The eight bytes of a value, given as its low and its high word.
-pub fn put_value(out: &mut [u8], at: usize, low: u32, high: u32)
-    requires { ⌜ at + 8 ≤ length (now out) ⌝ }
-    ensures { λ _. ⌜ now (out .exit) ≡ sets (now (out .entry)) at (bytesOf 8 (low + 4294967296 * high)) ⌝ }
-{
-    put_u32(out, at, low);
-    put_u32(out, at + 4, high);
-}
-
 fn wide(x: u8) -> u32
     ensures { λ r. ⌜ (r ≡ x) × (r < 256) ⌝ }
 {

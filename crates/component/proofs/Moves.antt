@@ -6,18 +6,17 @@ use Prim.Native.Nat.{ℕ, _+_, _*_, _-_, _≤_, _<_}
 use native.Mathlib.Omega.{arith}
 use lib.ListN.{length, getD, set, take}
 use lib.Seq.{take-all, take-take, length-take-le, take-set-le}
-use Rattle.words.specs.Offsets.{ROWS, ROWS-LEN}
+use Rattle.words.specs.Offsets.{ROWS-LEN}
 use Rattle.words.specs.declared.Entity.{Entity}
 use Rattle.words.specs.declared.Shape.{Shape}
 use Rattle.values.specs.Values.{valueAt}
 use Rattle.values.proofs.Places.{value-stores}
 use Rattle.model.specs.Lists.{cutAt}
 use Rattle.model.specs.Model.{Row, SparseSet, noRow}
-use Rattle.model.proofs.BoolLaws.{by-eq}
 use Rattle.words.proofs.Tables.{table-swap, table-set, table-snoc, table-removed}
 use Rattle.words.specs.Stores.{stores}
 use Rattle.words.proofs.Stores.{miss, hit, length-stores}
-use Rattle.words.proofs.Links.{linked-exchanged, linked-appended, linked-removed, linked-same}
+use Rattle.words.proofs.Links.{linked-exchanged, linked-appended, linked-removed}
 use Rattle.component.specs.SparseSet.{lengthOf, indexAt, versionAt, placeOf, heldOf, row, rowAt, rows, ColumnSound}
 use Rattle.component.specs.Stored.{RowsChanged, PutsValue, SwapsValues, swapRows, rowEntity, entityStores, lookupStores, placeStores, clearStores, Absent, valued, popped}
 use Rattle.component.proofs.Meaning.{length-rows, getD-rows, row-is, rows-apart, absent-free, absent-room, front-sound}

@@ -14,7 +14,7 @@ use Rattle.entity.specs.Meaning.{entityPart, entitiesIn}
 use Rattle.entity.specs.Change.{SoundIn, EntityChange}
 use Rattle.entity.specs.Answers.{entityOfAnswer, withCreated, CreatedIn}
 use Rattle.entity.proofs.Known.{known-live}
-use Rattle.memory.specs.Header.{capacityOf, kindCapacityOf}
+use Rattle.memory.specs.Header.{kindCapacityOf}
 use Rattle.words.specs.Word.{Word}
 use Rattle.words.specs.Shape.{shapeOf}
 use Rattle.memory.specs.Meaning.{meaning}

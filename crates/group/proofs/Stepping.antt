@@ -14,7 +14,7 @@ use Rattle.words.specs.Part.{between}
 use Rattle.component.specs.SparseSet.{rows}
 use Rattle.component.proofs.Meaning.{length-rows}
 use Rattle.component.specs.Columns.{columnOf, rowsOf}
-use Rattle.memory.specs.Header.{capacityOf, slotOf}
+use Rattle.memory.specs.Header.{slotOf}
 use Rattle.memory.specs.Meaning.{meaning}
 use Rattle.memory.specs.Arranged.{Arranged, Becomes}
 use Rattle.kinds.proofs.Slot.{known-slot}

@@ -19,7 +19,7 @@ use Rattle.words.specs.declared.Shape.{Shape}
 use Rattle.component.specs.Columns.{rowsOf}
 use Rattle.component.specs.Changes.{Lent, Only}
 use Rattle.component.proofs.Parts.{lent, getD-column}
-use Rattle.memory.specs.Header.{capacityOf, kindCapacityOf, registeredOf, slotOf}
+use Rattle.memory.specs.Header.{kindCapacityOf, registeredOf, slotOf}
 use Rattle.memory.specs.Meaning.{kindAt, kindsIn, setAt, meaning}
 use Rattle.memory.specs.Arranged.{Arranged, Becomes}
 use Rattle.memory.proofs.Frames.{long}

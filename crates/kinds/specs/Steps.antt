@@ -8,7 +8,7 @@ use Rattle.words.specs.Shape.{columnStart, shapeOf}
 use Rattle.words.specs.declared.Shape.{Shape}
 use Rattle.component.specs.Columns.{columnOf, rowsOf}
 use Rattle.component.specs.Changes.{Lent}
-use Rattle.memory.specs.Header.{capacityOf, registeredOf, slotOf}
+use Rattle.memory.specs.Header.{registeredOf, slotOf}
 use Rattle.memory.specs.Meaning.{kindAt}
 use Rattle.kinds.specs.Kinds.{kindSet}
 

@@ -18,7 +18,7 @@ use Rattle.layout.specs.Reading.{ReadStart}
 use Rattle.layout.proofs.Arrays.{kind-order}
 use Rattle.layout.proofs.Groups as groups
 use Rattle.layout.proofs.Family.{start-next}
-use Rattle.memory.specs.Header.{capacityOf, kindCapacityOf, slotOf}
+use Rattle.memory.specs.Header.{kindCapacityOf, slotOf}
 use Rattle.memory.specs.Meaning.{layoutArrays}
 use Rattle.memory.proofs.LayoutWords.{words-sized, kind-word, arity-word, kind-start-word}
 use Rattle.layout_apply.specs.Heads.{withOwn, Heads, slotNo, HeadsReady, NewAt, placeNo, Upto, HeadedUpto, HeadsGroup}

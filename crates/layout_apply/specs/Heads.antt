@@ -11,7 +11,7 @@ use Rattle.words.specs.declared.Shape.{Shape}
 use Rattle.component.specs.Columns.{columnOf, rowsOf, Columns}
 use Rattle.layout.specs.Layout.{Arrays, WellFormed, startOf, widthOf}
 use Rattle.layout.specs.Group.{InFamily, arityOf, priorArity}
-use Rattle.memory.specs.Header.{capacityOf, kindCapacityOf, registeredOf, slotOf}
+use Rattle.memory.specs.Header.{kindCapacityOf, registeredOf, slotOf}
 use Rattle.memory.specs.Meaning.{kindAt, ownAt, localAt, layoutArrays}
 
 -- words 2 and 3 of the head of slot s's column

@@ -13,7 +13,7 @@ use Rattle.model.specs.Numbers.{CALLERS, ENTITY-LEN, MAX-KINDS}
 use Rattle.model.specs.Model.{Entities, SparseSet, noEntities}
 use Rattle.model.specs.Store.{told, emptyWith}
 use Rattle.model.specs.Sound.{Limits}
-use Rattle.words.specs.Offsets.{CALLER, CAPACITY, DRAFT, DRAFT-FAMILIES, DRAFT-GROUPS, ENTITIES, EXCLUDED-LEN, GROUP-COUNTS, GROUP-FAMILIES, KIND-CAPACITY, LAYOUT, LAYOUT-FAMILIES, LAYOUT-GROUPS, NEWER, REFUSALS, REGISTERED, ROWS, RULE, STAGED-KINDS, STAGED-LEN, TABLE, UNREGISTERED}
+use Rattle.words.specs.Offsets.{CALLER, CAPACITY, DRAFT, DRAFT-FAMILIES, DRAFT-GROUPS, ENTITIES, EXCLUDED-LEN, GROUP-COUNTS, GROUP-FAMILIES, KIND-CAPACITY, LAYOUT, LAYOUT-FAMILIES, LAYOUT-GROUPS, NEWER, REFUSALS, REGISTERED, RULE, STAGED-KINDS, STAGED-LEN, TABLE, UNREGISTERED}
 use Rattle.words.proofs.Offsets.{columnStart-mono, columnStart-apart, shaped-of, columnStart-first}
 use Rattle.words.specs.Part.{between}
 use Rattle.words.proofs.Part.{length-between, getD-between}

@@ -5,7 +5,7 @@ use Prim.Native.Nat.{ℕ, _+_, _*_, _≤_, _<_}
 use native.Mathlib.Omega.{arith}
 use lib.Dec.{eqb}
 use lib.ListN.{length, getD}
-use Rattle.model.specs.Numbers.{CALLERS, ENTITY-LEN, LIST-CAPACITY}
+use Rattle.model.specs.Numbers.{CALLERS, LIST-CAPACITY}
 use Rattle.model.specs.Store.{Store}
 use Rattle.memory.proofs.LayoutWords.{words-sized}
 use Rattle.words.specs.Offsets.{BLOCK-LEN, CALLER, CAPACITY, DRAFT, DRAFT-FAMILIES, DRAFT-GROUPS, ENTITIES, EXCLUDED-KINDS, EXCLUDED-LEN, GROUP-COUNTS, GROUP-FAMILIES, KIND-CAPACITY, LAYOUT, LAYOUT-FAMILIES, LAYOUT-GROUPS, MORE-SETTINGS, NEWER, REFUSALS, REGISTERED, RULE, ROWS, STAGED-KINDS, STAGED-LEN, STAGED-VALUE-LEN, STAGED-VALUES, STRIDE, TABLE}

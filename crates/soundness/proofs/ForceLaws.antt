@@ -23,7 +23,7 @@ use Rattle.layout.specs.Group.{InFamily, arityOf, priorOf, priorArity, memberAt
 use Rattle.layout.specs.Reading.{newAt}
 use Rattle.layout.proofs.Arrays.{kinds-inside}
 use Rattle.layout.proofs.Groups.{group-few, prior-less, arity-inside}
-use Rattle.memory.specs.Header.{capacityOf, registeredOf, slotOf, countAt, layoutFamilies}
+use Rattle.memory.specs.Header.{registeredOf, slotOf, countAt, layoutFamilies}
 use Rattle.memory.specs.Meaning.{ownAt, localAt, setsIn, layoutArrays}
 use Rattle.memory.specs.Arranged.{Arranged, Registered, GroupSound}
 use Rattle.memory.proofs.Becomes.{set-in}

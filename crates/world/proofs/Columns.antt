@@ -27,7 +27,6 @@ use Rattle.words.specs.Shape.{shapeOf}
 use Rattle.component.specs.Stored.{Current}
 use Rattle.component.specs.Changes.{Lent, Only}
 use Rattle.component.specs.Columns.{rowsOf}
-use Rattle.memory.specs.Header.{capacityOf}
 use Rattle.memory.specs.Meaning.{meaning}
 use Rattle.memory.specs.Arranged.{Arranged, Becomes}
 use Rattle.memory.proofs.Becomes.{stays, sets-wide}

@@ -20,7 +20,7 @@ use Rattle.words.specs.Shape.{shapeOf}
 use Rattle.words.specs.declared.Shape.{Shape}
 use Rattle.component.specs.Changes.{Only, Lent}
 use Rattle.component.proofs.Parts.{lent}
-use Rattle.memory.specs.Header.{capacityOf, kindCapacityOf, registeredOf}
+use Rattle.memory.specs.Header.{kindCapacityOf, registeredOf}
 use Rattle.memory.specs.Meaning.{kindAt, kindsIn, meaning}
 use Rattle.memory.specs.Arranged.{Arranged, Becomes}
 use Rattle.memory.proofs.Becomes.{one-becomes, stays, sets-wide, kinds-count}

@@ -1,7 +1,6 @@
 use Prim.Native.Nat.{_-_}
 use native.Mathlib.Omega.{arith}
-use borrow.Author.Needs.{needs}
-use Rattle.words.specs.Offsets.{CAPACITY, LAYOUT-FAMILIES, LAYOUT-GROUPS}
+use Rattle.words.specs.Offsets.{LAYOUT-FAMILIES, LAYOUT-GROUPS}
 use Rattle.memory.specs.Header.{capacityOf, kindCapacityOf}
 use Rattle.soundness.proofs.Whole.{size-long, forced, groups-few}
 use Rattle.soundness.proofs.has_counts.Statement.{statement}

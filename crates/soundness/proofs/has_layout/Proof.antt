@@ -2,7 +2,7 @@ use mathlib.Core.Path.{sym, subst}
 use Prim.Native.Nat.{ℕ, _+_, _-_}
 use native.Mathlib.Omega.{arith}
 use borrow.Author.Needs.{needs}
-use Rattle.words.specs.Offsets.{CAPACITY, GROUP-FAMILIES, LAYOUT, LAYOUT-FAMILIES, LAYOUT-GROUPS, REGISTERED, STAGED-KINDS, TABLE}
+use Rattle.words.specs.Offsets.{GROUP-FAMILIES, LAYOUT, LAYOUT-FAMILIES, LAYOUT-GROUPS, REGISTERED, STAGED-KINDS, TABLE}
 use Rattle.words.specs.Decides.{Each}
 use Rattle.words.proofs.Decides.{granted, denied}
 use Rattle.words.specs.Part.{between}

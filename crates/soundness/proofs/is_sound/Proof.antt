@@ -1,7 +1,7 @@
 use Prim.Native.Nat.{_-_}
 use native.Mathlib.Omega.{arith}
 use borrow.Author.Needs.{needs}
-use Rattle.words.specs.Offsets.{CAPACITY, KIND-CAPACITY}
+use Rattle.words.specs.Offsets.{KIND-CAPACITY}
 use Rattle.words.proofs.Decides.{granted, denied}
 use Rattle.words.specs.Shape.{shapeOf}
 use Rattle.memory.specs.Header.{capacityOf, kindCapacityOf}

@@ -1,5 +1,4 @@
 use Prim.Native.Nat.{_≤_, _+_, _*_}
-use mathlib.Core.Path.{ap}
 use native.Mathlib.Nat.{mul-le-mul}
 use native.Mathlib.Omega.{arith}
 use borrow.Author.Needs.{needs}
