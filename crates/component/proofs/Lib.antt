@@ -7,3 +7,4 @@ pub mod Frames
 pub mod Fresh
 pub mod Sums
 pub mod Valued
+pub mod Held

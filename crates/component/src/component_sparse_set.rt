@@ -64,7 +64,7 @@ pub fn value_at(part: &[u32], z: Shape, place: usize) -> Value
 }
 
 // Exchanges the row at a, which is the entity's, with the one at b. The lookups keep their versions.
-fn swap(part: &mut [u32], z: Shape, a: usize, b: usize, index: u32, version: u32)
+pub fn swap(part: &mut [u32], z: Shape, a: usize, b: usize, index: u32, version: u32)
     requires { ⌜ ColumnSound z (now part) ⌝ }
     requires { ⌜ (a < lengthOf (now part)) × (b < lengthOf (now part)) ⌝ }
     requires { ⌜ (indexAt (now part) a ≡ index) × (versionAt (now part) a ≡ version) ⌝ }

@@ -1,5 +1,5 @@
 -- The loops that fill the tables. Assumes nothing.
-use mathlib.Core.Path.{_≡_, refl, sym, _∙_, subst}
+use mathlib.Core.Path.{_≡_, refl, ap, sym, _∙_, subst}
 use mathlib.Core.List.{List, [], _∷_}
 use Prim.Native.Nat.{ℕ, _+_, _*_, _≤_, _<_}
 use native.Mathlib.Omega.{arith}
@@ -8,6 +8,7 @@ use lib.Seq.{getD-set-same, getD-set-other}
 use Rattle.model.specs.Numbers.{MAX-GROUP-COUNT, MAX-KINDS}
 use Rattle.model.specs.Model.{groupsOf}
 use Rattle.model.proofs.BoolLaws.{by-eq}
+use Rattle.masks.specs.Masks.{bitsOf, skipping}
 use Rattle.words.specs.declared.Shape.{Shape}
 use Rattle.words.specs.Shape.{columnStart, shapeOf}
 use Rattle.words.specs.Stores.{stores}
@@ -16,9 +17,10 @@ use Rattle.layout.specs.declared.group_metadata.GroupMetadata.{GroupMetadata}
 use Rattle.memory.specs.Header.{slotOf}
 use Rattle.memory.specs.Meaning.{meaning}
 use Rattle.memory.specs.Arranged.{Arranged}
+use Rattle.group.specs.Flat.{located}
 use Rattle.group.specs.Metadata.{orderOf, Describes}
 use Rattle.group.proofs.InWords.{groups-few, order-wide}
-use Rattle.group_tables.specs.Tables.{kindNo, Starts, GROUP-LEN, metadataIn, Puts, Groups}
+use Rattle.group_tables.specs.Tables.{kindNo, Starts, GROUP-LEN, metadataIn, Puts, Groups, Skips}
 
 -- the places before p are filled
 pub record Filled (w : List ℕ) (z : Shape) (was starts : List ℕ) (p : ℕ) : Type 0 where
@@ -100,3 +102,32 @@ puts g d t h =
           λ k. record { «storage_start» = a k; «new_storage_start» = b k; «storage_end» = c k; first = e k; top = f k };
       before = λ i l. miss t ss i (omega arith);
     }
+
+-- ---- the masks
+
+-- those of the groups before g are filled
+pub record Skipping (w was t : List ℕ) (g : ℕ) : Type 0 where
+  pub size : length t ≡ length was
+  pub within : g ≤ groupsOf (meaning w .storage .layout)
+  pub each : (i : ℕ) → i < g → bitsOf 64 (getD t i 0) ≡ skipping 64 i (located (meaning w .storage .layout) i .top)
+
+pub skipping-start : (w was : List ℕ) → Skipping w was was 0
+skipping-start w was = record { size = refl; within = omega arith; each = λ i h. absurd (omega arith) }
+
+module _ (w : List ℕ) (A : Arranged w) (was : List ℕ) (room : MAX-GROUP-COUNT ≤ length was) (t : List ℕ) (g : ℕ) (K : Skipping w was t g) where
+  pub skipping-room : g < groupsOf (meaning w .storage .layout) → g < length t
+  skipping-room h = omega (arith, K .size, groups-few w A)
+
+  pub skipping-turn : (v : ℕ) → g < groupsOf (meaning w .storage .layout) → bitsOf 64 v ≡ skipping 64 g (located (meaning w .storage .layout) g .top) → Skipping w was (set t g v) (g + 1)
+  skipping-turn v h q =
+      record {
+        size = length-set t g v ∙ K .size;
+        within = omega arith;
+        each = λ i l.
+            by-eq i g
+            (λ e. rw e (ap (bitsOf 64) (getD-set-same t g v 0 (skipping-room h)) ∙ q))
+            (λ ne. ap (bitsOf 64) (getD-set-other t g i v 0 ne) ∙ K .each i (omega arith));
+      }
+
+  pub skipping-end : groupsOf (meaning w .storage .layout) ≤ g → Skips w t
+  skipping-end h = record { room = omega (arith, K .size, groups-few w A); each = λ i l. K .each i (omega arith) }

@@ -9,6 +9,7 @@ use Rattle.model.specs.Store.{Store, onStorage}
 use Rattle.model.specs.Sound.{In, layoutKinds}
 use Rattle.model.proofs.Shape.{plain}
 use Rattle.model.proofs.Regroup.{zero-kinds}
+use Rattle.masks.specs.Masks.{skipping}
 use Rattle.words.specs.declared.Shape.{Shape}
 use Rattle.words.specs.Shape.{columnStart}
 use Rattle.words.specs.Part.{between}
@@ -23,7 +24,7 @@ use Rattle.group.specs.Steps.{StepsUp}
 use Rattle.group.proofs.Each.{step-plain, walk-plain}
 use Rattle.group.proofs.Counts.{plain-groups}
 use Rattle.group.proofs.Storing.{shape-kept}
-use Rattle.group_tables.specs.Tables.{kindNo, Starts, metadataIn, Groups, Tables}
+use Rattle.group_tables.specs.Tables.{kindNo, Starts, metadataIn, Groups, Skips, Tables}
 use Rattle.group_tables.proofs.Order.{order-known}
 
 -- ---- layouts that differ in their counts alone
@@ -125,5 +126,13 @@ module _ (w w′ : List ℕ) (z : Shape) (starts : List ℕ) (f : Storage → St
         each = λ g h. described-kept g (metadataIn t g) (G .each g (omega (arith, many)));
       }
 
-  pub tables-kept : (groups : List ℕ) → Tables w z starts groups → Tables w′ z starts groups
-  tables-kept groups T = record { columns = starts-kept (T .columns); described = groups-kept groups (T .described) }
+  skips-kept : (t : List ℕ) → Skips w t → Skips w′ t
+  skips-kept t K =
+      record {
+        room = omega (arith, K .room, many);
+        each = λ g h. K .each g (omega (arith, many)) ∙ ap (skipping 64 g) (sym (ap (λ (l : Located). l .top) (located-same g)));
+      }
+
+  pub tables-kept : (groups skips : List ℕ) → Tables w z starts groups skips → Tables w′ z starts groups skips
+  tables-kept groups skips T =
+      record { columns = starts-kept (T .columns); described = groups-kept groups (T .described); skipped = skips-kept skips (T .skipped) }

@@ -3,3 +3,4 @@ pub mod Columns
 pub mod Kept
 pub mod Filling
 pub mod Reading
+pub mod Live

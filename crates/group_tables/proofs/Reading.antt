@@ -9,5 +9,5 @@ use Rattle.memory.specs.Meaning.{meaning}
 use Rattle.group.specs.Metadata.{Describes}
 use Rattle.group_tables.specs.Tables.{metadataIn, Tables}
 
-pub read-describes : {w : List ℕ} {z : Shape} {starts groups : List ℕ} {g : ℕ} {d : GroupMetadata} → Tables w z starts groups → g < groupsOf (meaning w .storage .layout) → d ≡ metadataIn groups g → Describes (meaning w) g d
+pub read-describes : {w : List ℕ} {z : Shape} {starts groups skips : List ℕ} {g : ℕ} {d : GroupMetadata} → Tables w z starts groups skips → g < groupsOf (meaning w .storage .layout) → d ≡ metadataIn groups g → Describes (meaning w) g d
 read-describes {w} {g = g} T h q = subst (Describes (meaning w) g) (sym q) (T .described .each g h)

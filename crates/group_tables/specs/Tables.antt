@@ -4,11 +4,13 @@ use mathlib.Core.List.{List}
 use Prim.Native.Nat.{ℕ, _+_, _*_, _≤_, _<_}
 use lib.ListN.{length, getD}
 use Rattle.model.specs.Model.{groupsOf}
+use Rattle.masks.specs.Masks.{bitsOf, skipping}
 use Rattle.words.specs.declared.Shape.{Shape}
 use Rattle.words.specs.Shape.{columnStart, shapeOf}
 use Rattle.layout.specs.declared.group_metadata.GroupMetadata.{GroupMetadata}
 use Rattle.memory.specs.Header.{slotOf}
 use Rattle.memory.specs.Meaning.{meaning}
+use Rattle.group.specs.Flat.{located}
 use Rattle.group.specs.Metadata.{orderOf, Describes}
 
 -- ---- where the columns start
@@ -50,7 +52,15 @@ pub record Groups (w : List ℕ) (t : List ℕ) : Type 0 where
   pub room : GROUP-LEN * groupsOf (meaning w .storage .layout) ≤ length t
   pub each : (g : ℕ) → g < groupsOf (meaning w .storage .layout) → Describes (meaning w) g (metadataIn t g)
 
--- both tables
-pub record Tables (w : List ℕ) (z : Shape) (starts groups : List ℕ) : Type 0 where
+-- ---- where an entity lacks one of a group's new kinds
+
+-- by the group's number, the mask of all positions but those from it to its family's last
+pub record Skips (w skips : List ℕ) : Type 0 where
+  pub room : groupsOf (meaning w .storage .layout) ≤ length skips
+  pub each : (g : ℕ) → g < groupsOf (meaning w .storage .layout) → bitsOf 64 (getD skips g 0) ≡ skipping 64 g (located (meaning w .storage .layout) g .top)
+
+-- the three tables
+pub record Tables (w : List ℕ) (z : Shape) (starts groups skips : List ℕ) : Type 0 where
   pub columns : Starts w z starts
   pub described : Groups w groups
+  pub skipped : Skips w skips

@@ -5,6 +5,7 @@ pub mod tables;
 
 use crate::metadata::GROUP_LEN;
 use crate::metadata::fill_groups;
+use crate::metadata::fill_skips;
 use crate::metadata::metadata_at;
 use crate::status::status_in;
 use crate::tables::fill_starts;
@@ -16,7 +17,7 @@ use layout::group_metadata::GroupMetadata;
 use masks::group_mask::GroupMask;
 use masks::group_mask::NextBit;
 use words::Shape;
-ghost use Prim.Native.Nat.{_<_};
+ghost use Prim.Native.Nat.{_<_, _≤_};
 ghost use lib.ListN.{drop};
 ghost use Rattle.model.specs.Model.{groupsOf, entity};
 ghost use Rattle.model.specs.Store.{onStorage};
@@ -83,15 +84,17 @@ fn group_step(
     z: Shape,
     starts: &[usize],
     groups: &[usize],
+    skips: &[u64],
     g: usize,
     rest: GroupMask,
     index: u32,
     version: u32,
 ) -> GroupMask
     requires { ⌜ Arranged (now words) ⌝ }
-    requires { ⌜ Tables (now words) z (now starts) (now groups) ⌝ }
+    requires { ⌜ Tables (now words) z (now starts) (now groups) (now skips) ⌝ }
     requires { ⌜ g < groupsOf (meaning (now words) .storage .layout) ⌝ }
     requires { ⌜ ReadyIn (statusAt (entity index version) g (meaning (now words) .storage)) (entity index version) (located (meaning (now words) .storage .layout) g) (meaning (now words) .storage .sets) ⌝ }
+    requires { ⌜ (index < z .capacity) × (1 ≤ version) ⌝ }
     ensures { λ r. ⌜ StepsUp (now (words .entry)) (now (words .exit)) (entity index version) g (rest .0) (r .0) ⌝ }
 {
     let metadata = metadata_at(groups, g);
@@ -99,7 +102,7 @@ fn group_step(
     let status = status_in(words, z, starts, g, metadata, group_len, index, version);
     match status {
         GroupStatus::Incomplete => {
-            let skip = GroupMask::skip_from_to(g, metadata.top);
+            let skip = GroupMask(skips[g]);
             return rest.intersection(skip);
         }
         GroupStatus::Ungrouped => {
@@ -118,14 +121,16 @@ fn group(
     z: Shape,
     starts: &[usize],
     groups: &[usize],
+    skips: &[u64],
     mask: GroupMask,
     index: u32,
     version: u32,
 )
     requires { ⌜ Arranged (now words) ⌝ }
-    requires { ⌜ Tables (now words) z (now starts) (now groups) ⌝ }
+    requires { ⌜ Tables (now words) z (now starts) (now groups) (now skips) ⌝ }
     requires { ⌜ Below (bitsOf 64 (mask .0)) (meaning (now words) .storage) ⌝ }
     requires { ⌜ ReadyUp (entity index version) 0 (bitsOf 64 (mask .0)) (meaning (now words) .storage) ⌝ }
+    requires { ⌜ (index < z .capacity) × (1 ≤ version) ⌝ }
     ensures { λ _. ⌜ Becomes (now (words .entry)) (now (words .exit)) (onStorage (walkUp (entity index version) 0 (bitsOf 64 (mask .0))) (meaning (now (words .entry)))) ⌝ }
 {
     let mut left = mask;
@@ -133,7 +138,17 @@ fn group(
         let NextBit::At(g, rest) = left.next() else {
             return;
         };
-        left = group_step(words, z, starts, groups, g as usize, rest, index, version);
+        left = group_step(
+            words,
+            z,
+            starts,
+            groups,
+            skips,
+            g as usize,
+            rest,
+            index,
+            version,
+        );
     }
 }
 
@@ -143,11 +158,12 @@ fn group_from(
     z: Shape,
     starts: &[usize],
     groups: &[usize],
+    skips: &[u64],
     mask: GroupMask,
     start: usize,
 )
     requires { ⌜ Arranged (now words) ⌝ }
-    requires { ⌜ Tables (now words) z (now starts) (now groups) ⌝ }
+    requires { ⌜ Tables (now words) z (now starts) (now groups) (now skips) ⌝ }
     requires { ⌜ Below (bitsOf 64 (mask .0)) (meaning (now words) .storage) ⌝ }
     requires { ⌜ ReadyEach (drop start (meaning (now words) .entities .live)) (bitsOf 64 (mask .0)) (meaning (now words) .storage) ⌝ }
     ensures { λ _. ⌜ Becomes (now (words .entry)) (now (words .exit)) (onStorage (walkEach (drop start (meaning (now (words .entry)) .entities .live)) (bitsOf 64 (mask .0))) (meaning (now (words .entry)))) ⌝ }
@@ -156,7 +172,16 @@ fn group_from(
     let mut place = start;
     while place < len {
         let entity = control::entities::live_at(words, place);
-        group(words, z, starts, groups, mask, entity.index, entity.version);
+        group(
+            words,
+            z,
+            starts,
+            groups,
+            skips,
+            mask,
+            entity.index,
+            entity.version,
+        );
         place += 1;
     }
 }
@@ -176,5 +201,7 @@ pub fn group_each(words: &mut [u32], mask: GroupMask, start: usize)
     fill_starts(words, z, &mut starts);
     let mut groups = [0usize; GROUP_LEN * model::MAX_GROUP_COUNT];
     fill_groups(words, &mut groups);
-    group_from(words, z, &starts, &groups, mask, start);
+    let mut skips = [0u64; model::MAX_GROUP_COUNT];
+    fill_skips(words, &mut skips);
+    group_from(words, z, &starts, &groups, &skips, mask, start);
 }

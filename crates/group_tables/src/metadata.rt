@@ -2,12 +2,13 @@
 use group::group_metadata::group_count;
 use group::group_metadata::metadata;
 use layout::group_metadata::GroupMetadata;
+use masks::group_mask::GroupMask;
 ghost use mathlib.Core.Path.{_≡_};
 ghost use Prim.Native.Nat.{_+_, _*_, _≤_};
 ghost use lib.ListN.{length};
 ghost use Rattle.model.specs.Numbers.{MAX-GROUP-COUNT};
 ghost use Rattle.memory.specs.Arranged.{Arranged};
-ghost use Rattle.group_tables.specs.Tables.{GROUP-LEN, metadataIn, Puts, Groups};
+ghost use Rattle.group_tables.specs.Tables.{GROUP-LEN, metadataIn, Puts, Groups, Skips};
 
 // The numbers of a group.
 pub const GROUP_LEN: usize = 5;
@@ -50,6 +51,22 @@ pub fn fill_groups(words: &[u32], groups: &mut [usize])
     while g < count {
         let metadata = metadata(words, g);
         put_metadata(groups, g, metadata);
+        g += 1;
+    }
+}
+
+// For each group the mask of the groups that are left to walk where an entity lacks one of its new kinds.
+pub fn fill_skips(words: &[u32], skips: &mut [u64])
+    requires { ⌜ Arranged (now words) ⌝ }
+    requires { ⌜ MAX-GROUP-COUNT ≤ length (now skips) ⌝ }
+    ensures { λ _. ⌜ Skips (now (words .entry)) (now (skips .exit)) ⌝ }
+{
+    let count = group_count(words);
+    let mut g = 0;
+    while g < count {
+        let metadata = metadata(words, g);
+        let skip = GroupMask::skip_from_to(g, metadata.top);
+        skips[g] = skip.0;
         g += 1;
     }
 }

@@ -6,7 +6,7 @@ use group::group_status::GroupStatus;
 use layout::group_metadata::GroupMetadata;
 use words::Shape;
 ghost use mathlib.Core.Path.{_≡_};
-ghost use Prim.Native.Nat.{_<_};
+ghost use Prim.Native.Nat.{_<_, _≤_};
 ghost use Rattle.model.specs.Model.{allHeld, entity};
 ghost use Rattle.words.specs.Part.{between};
 ghost use Rattle.memory.specs.Meaning.{meaning};
@@ -29,6 +29,7 @@ fn holds_all(
     requires { ⌜ Arranged (now words) ⌝ }
     requires { ⌜ Starts (now words) z (now starts) ⌝ }
     requires { ⌜ PlacesKnown (meaning (now words)) start end ⌝ }
+    requires { ⌜ (index < z .capacity) × (1 ≤ version) ⌝ }
     ensures { λ r. ⌜ r ≡ allHeld (entity index version) (between start end (orderOf (meaning (now (words .entry))))) (meaning (now (words .entry)) .storage .sets) ⌝ }
 {
     let mut place = start;
@@ -56,6 +57,7 @@ fn get_group_status(
     requires { ⌜ Starts (now words) z (now starts) ⌝ }
     requires { ⌜ PlacesKnown (meaning (now words)) start end ⌝ }
     requires { ⌜ start < end ⌝ }
+    requires { ⌜ (index < z .capacity) × (1 ≤ version) ⌝ }
     ensures { λ r. ⌜ r ≡ statusIn (entity index version) (between start end (orderOf (meaning (now (words .entry))))) «group_len» (meaning (now (words .entry)) .storage .sets) ⌝ }
 {
     let found = find_at(words, z, starts, start, index, version);
@@ -85,6 +87,7 @@ pub fn status_in(
     requires { ⌜ Arranged (now words) ⌝ }
     requires { ⌜ Starts (now words) z (now starts) ⌝ }
     requires { ⌜ Stands (meaning (now words)) g metadata «group_len» ⌝ }
+    requires { ⌜ (index < z .capacity) × (1 ≤ version) ⌝ }
     ensures { λ r. ⌜ r ≡ statusAt (entity index version) g (meaning (now (words .entry)) .storage) ⌝ }
 {
     let start = metadata.new_storage_start;

@@ -59,6 +59,7 @@ pub fn find_at(
     requires { ⌜ Arranged (now words) ⌝ }
     requires { ⌜ Starts (now words) z (now starts) ⌝ }
     requires { ⌜ place < length (orderOf (meaning (now words))) ⌝ }
+    requires { ⌜ (index < z .capacity) × (1 ≤ version) ⌝ }
     ensures { λ r. ⌜ Finds z (entity index version) (kindSet (now (words .entry)) (kindNo (now (words .entry)) place)) r ⌝ }
 {
     component::at_start::find_from(words, z, starts[place], index, version)
@@ -76,6 +77,7 @@ pub fn holds_at(
     requires { ⌜ Arranged (now words) ⌝ }
     requires { ⌜ Starts (now words) z (now starts) ⌝ }
     requires { ⌜ place < length (orderOf (meaning (now words))) ⌝ }
+    requires { ⌜ (index < z .capacity) × (1 ≤ version) ⌝ }
     ensures { λ r. ⌜ r ≡ held (entity index version) (kindSet (now (words .entry)) (kindNo (now (words .entry)) place)) ⌝ }
 {
     component::at_start::holds_from(words, z, starts[place], index, version)

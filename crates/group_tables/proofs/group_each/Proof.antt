@@ -26,8 +26,11 @@ fill-starts-requires c κs = (c .before .before .before .before .before .before 
 fill-groups-requires : tie.Need-fill-groups-requires
 fill-groups-requires c κs = (c .before .before .before .before .before .before .before .before .before .before .before .pre .0, search needs)
 
+fill-skips-requires : tie.Need-fill-skips-requires
+fill-skips-requires c κs = (c .before .before .before .before .before .before .before .before .before .before .before .before .before .before .before .pre .0, search needs)
+
 group-from-requires : tie.Need-group-from-requires
-group-from-requires c κs = let s = c .before .before .before .before .before .before .before .before .before .before .before .before .before .before .before .before in (s .pre .0, (record { columns = c .before .before .before .before .before .before .before .before .fill-starts .ensures; described = c .before .before .before .before .fill-groups .ensures }, s .pre .1))
+group-from-requires c κs = let s = c .before .before .before .before .before .before .before .before .before .before .before .before .before .before .before .before .before .before .before .before .before in (s .pre .0, (record { columns = c .before .before .before .before .before .before .before .before .before .before .before .before .before .fill-starts .ensures; described = c .before .before .before .before .before .before .before .before .before .fill-groups .ensures; skipped = c .before .before .before .before .before .fill-skips .ensures }, s .pre .1))
 
 pub group-each-spec : {M : Type 1} → statement M
 group-each-spec =
@@ -39,6 +42,9 @@ group-each-spec =
     fill-starts-requires
     (λ c. search needs)
     fill-groups-requires
+    (λ c. search needs)
+    fill-skips-requires
+    (λ c. search needs)
     (λ c. search needs)
     (λ c. search needs)
     group-from-requires

@@ -1,48 +1,48 @@
 use mathlib.Core.Path.{refl, ap, sym, _∙_}
 use native.Mathlib.Omega.{arith}
 use Rattle.model.specs.Model.{entity}
-use Rattle.masks.specs.Masks.{bitsOf, commonOf, skipping}
-use Rattle.memory.specs.Meaning.{meaning}
+use Rattle.masks.specs.Masks.{bitsOf, commonOf}
 use Rattle.memory.proofs.Becomes.{stays}
-use Rattle.group.proofs.Stepping.{skip-ordered, steps-up, ready-in}
+use Rattle.group.proofs.Stepping.{steps-up, ready-in}
 use Rattle.group_tables.proofs.Reading.{read-describes}
 use Rattle.group_tables.proofs.group_step.Statement.{statement}
 use Rattle.group_tables.proofs.group_step.Tie as tie
 
 metadata-at-requires : tie.Need-metadata-at-requires
-metadata-at-requires c κs = let s = c .before .before .before in omega (arith, s .pre .1 .0 .described .room, s .pre .1 .1 .0)
+metadata-at-requires c κs = let s = c .before .before .before .before in omega (arith, s .pre .1 .0 .described .room, s .pre .1 .1 .0)
 
 count-requires : tie.Need-count-requires
-count-requires c κs = let s = c .before .before .before .before .before in (s .pre .0, s .pre .1 .1 .0)
+count-requires c κs = let s = c .before .before .before .before .before .before in (s .pre .0, s .pre .1 .1 .0)
 
 status-in-requires : tie.Need-status-in-requires
 status-in-requires c κs =
-    let s = c .before .before .before .before .before .before .before in
-    (s .pre .0, (s .pre .1 .0 .columns, record { below = s .pre .1 .1 .0; metadata = read-describes (s .pre .1 .0) (s .pre .1 .1 .0) (c .before .before .before .metadata-at .ensures); counted = c .before .count .ensures }))
+    let s = c .before .before .before .before .before .before .before .before in
+    (s .pre .0, (s .pre .1 .0 .columns, (record { below = s .pre .1 .1 .0; metadata = read-describes (s .pre .1 .0) (s .pre .1 .1 .0) (c .before .before .before .metadata-at .ensures); counted = c .before .count .ensures }, s .pre .1 .1 .1 .1)))
 
-skip-from-to-requires : tie.Need-skip-from-to-requires
-skip-from-to-requires c κs =
-    let s = c .before .before .before .before .before .before .before .before .before .before in
-    skip-ordered (meaning (s .args .words .now)) (s .args .g) (c .before .before .before .before .before .before .metadata-at .result) (s .pre .1 .1 .0) (read-describes (s .pre .1 .0) (s .pre .1 .1 .0) (c .before .before .before .before .before .before .metadata-at .ensures))
+mul-t19 : tie.Need-mul-t19
+mul-t19 c = let s = c .before .before .before .before .before .before .before .before .before .before .before in omega (arith, s .pre .1 .0 .skipped .room, s .pre .1 .1 .0)
+
+shared-slice-read-t21 : tie.Need-shared-slice-read-t21
+shared-slice-read-t21 c = let s = c .before .before .before .before .before .before .before .before .before .before .before .before in omega (arith, s .pre .1 .0 .skipped .room, s .pre .1 .1 .0)
 
 returns : tie.Need-returns
 returns c =
-    let s = c .before .before .before .before .before .before .before .before .before .before .before .before in
+    let s = c .before .before .before .before .before .before .before .before .before .before .before .before .before in
     let a = s .args in
     steps-up (sym (c .before .before .enum-told .given .1) ∙ c .before .before .before .before .status-in .ensures) (stays (s .pre .0))
-    (c .intersection .ensures ∙ ap (commonOf (bitsOf 64 (a .rest .0))) (c .before .skip-from-to .ensures ∙ ap (skipping 64 (a .g)) (read-describes (s .pre .1 .0) (s .pre .1 .1 .0) (c .before .before .before .before .before .before .before .before .metadata-at .ensures) .top)))
+    (c .intersection .ensures ∙ ap (commonOf (bitsOf 64 (a .rest .0))) (s .pre .1 .0 .skipped .each (a .g) (s .pre .1 .1 .0)))
 
 group-components-requires : tie.Need-group-components-requires
 group-components-requires c κs =
-    let s = c .before .before .before .before .before .before .before .before .before .before .before in
+    let s = c .before .before .before .before .before .before .before .before .before .before .before .before in
     let a = s .args in
-    (s .pre .0, (s .pre .1 .0 .columns, (record { below = s .pre .1 .1 .0; metadata = read-describes (s .pre .1 .0) (s .pre .1 .1 .0) (c .before .before .before .before .before .before .before .metadata-at .ensures); counted = c .before .before .before .before .before .count .ensures }, ready-in (a .words .now) (entity (a .index) (a .version)) (a .g) (sym (c .before .enum-told2 .given .1) ∙ c .before .before .before .status-in .ensures) (s .pre .1 .1 .1))))
+    (s .pre .0, (s .pre .1 .0 .columns, (record { below = s .pre .1 .1 .0; metadata = read-describes (s .pre .1 .0) (s .pre .1 .1 .0) (c .before .before .before .before .before .before .before .metadata-at .ensures); counted = c .before .before .before .before .before .count .ensures }, ready-in (a .words .now) (entity (a .index) (a .version)) (a .g) (sym (c .before .enum-told2 .given .1) ∙ c .before .before .before .status-in .ensures) (s .pre .1 .1 .1 .0))))
 
 returns-2 : tie.Need-returns-2
 returns-2 c = steps-up (sym (c .before .before .before .before .enum-told2 .given .1) ∙ c .before .before .before .before .before .before .status-in .ensures) (c .before .before .group-components .ensures) refl
 
 returns-3 : tie.Need-returns-3
-returns-3 c = steps-up (sym (c .before .status .given .1) ∙ c .before .before .before .status-in .ensures) (stays (c .before .before .before .before .before .before .before .before .before .before .before .pre .0)) refl
+returns-3 c = steps-up (sym (c .before .status .given .1) ∙ c .before .before .before .status-in .ensures) (stays (c .before .before .before .before .before .before .before .before .before .before .before .before .pre .0)) refl
 
 pub group-step-spec : {M : Type 1} → statement M
 group-step-spec =
@@ -52,7 +52,8 @@ group-step-spec =
     count-requires
     status-in-requires
     (λ c. c .match .keys1)
-    skip-from-to-requires
+    mul-t19
+    shared-slice-read-t21
     (λ c κs. tt)
     (λ c. refl)
     returns

@@ -4,8 +4,8 @@ use Rattle.component.proofs.Parts.{part-is, only-at}
 use Rattle.component.proofs.at_start.swap_to_from.Statement.{statement}
 use Rattle.component.proofs.at_start.swap_to_from.Tie as tie
 
-swap-to-requires : tie.Need-swap-to-requires
-swap-to-requires c κs =
+swap-held-requires : tie.Need-swap-held-requires
+swap-held-requires c κs =
     let s = c .before .before .before in
     let a = s .args in
     let L = s .pre .from in
@@ -14,7 +14,7 @@ swap-to-requires c κs =
 returns : tie.Need-returns
 returns c =
     let a = c .before .before .before .before .before .before .args in
-    λ s q l. only-at (a .z) s (a .base) (c .before .before .before .before .column-len .result) (swapTo (entity (a .index) (a .version)) (a .place)) (a .words .now) (c .before .before .swap-to .last .0) q (c .before .before .before .before .column-len .ensures .is) l (c .before .before .swap-to .ensures)
+    λ s q l. only-at (a .z) s (a .base) (c .before .before .before .before .column-len .result) (swapTo (entity (a .index) (a .version)) (a .place)) (a .words .now) (c .before .before .swap-held .last .0) q (c .before .before .before .before .column-len .ensures .is) l (c .before .before .swap-held .ensures)
 
 pub swap-to-from-spec : {M : Type 1} → statement M
 swap-to-from-spec =
@@ -26,6 +26,6 @@ swap-to-from-spec =
     (λ c. search needs)
     (λ c. search needs)
     (λ c. search needs)
-    swap-to-requires
+    swap-held-requires
     (λ c. search needs)
     returns)

@@ -20,7 +20,7 @@ abbrev μ-loop : tie.MeasureT-loop
 μ-loop words z starts start end index version place₀ place = end - place
 
 holds-at-requires : tie.Need-holds-at-requires Inv-loop μ-loop
-holds-at-requires c κs = let s = c .before .before .before .before in (s .pre .0, (s .pre .1 .0, omega (arith, s .pre .1 .1 .within)))
+holds-at-requires c κs = let s = c .before .before .before .before in (s .pre .0, (s .pre .1 .0, (omega (arith, s .pre .1 .1 .0 .within), s .pre .1 .1 .1)))
 
 returns : tie.Need-returns Inv-loop μ-loop
 returns c =
@@ -28,7 +28,7 @@ returns c =
     let a = s .args in
     let i = c .before .before .before .loop in
     sym (i .inv .2
-    ∙ all-next (s .pre .1 .1) (c .before .before .loop-test .taken) refl (entity (a .index) (a .version)) (sym (c .before .holds-at .ensures) ∙ not-true (c .before .holds-at .result) (c .if1 .taken)))
+    ∙ all-next (s .pre .1 .1 .0) (c .before .before .loop-test .taken) refl (entity (a .index) (a .version)) (sym (c .before .holds-at .ensures) ∙ not-true (c .before .holds-at .result) (c .if1 .taken)))
 
 loop-again : tie.Need-loop-again Inv-loop μ-loop
 loop-again c =
@@ -37,7 +37,7 @@ loop-again c =
     let i = c .before .before .before .loop in (
       omega (arith, i .inv .0),
       omega (arith, c .before .before .loop-test),
-      i .inv .2 ∙ all-next (s .pre .1 .1) (c .before .before .loop-test .taken) refl (entity (a .index) (a .version)) (sym (c .before .holds-at .ensures) ∙ not-false (c .before .holds-at .result) (c .if1 .left)),
+      i .inv .2 ∙ all-next (s .pre .1 .1 .0) (c .before .before .loop-test .taken) refl (entity (a .index) (a .version)) (sym (c .before .holds-at .ensures) ∙ not-false (c .before .holds-at .result) (c .if1 .left)),
     )
 
 returns-2 : tie.Need-returns-2 Inv-loop μ-loop
@@ -54,7 +54,7 @@ holds-all-spec =
     (tie.spec
     Inv-loop
     μ-loop
-    (λ c. (omega arith, c .before .before .pre .1 .1 .rising, refl))
+    (λ c. (omega arith, c .before .before .pre .1 .1 .0 .rising, refl))
     holds-at-requires
     returns
     (λ c. omega (arith, c .before .before .loop-test))

@@ -9,14 +9,14 @@ use Rattle.group_tables.proofs.status.status_in.Tie as tie
 get-group-status-requires : tie.Need-get-group-status-requires
 get-group-status-requires c κs =
     let s = c .before .before in
-    let D = s .pre .1 .1 .metadata in
-    (s .pre .0, (s .pre .1 .0, (listed-later (D .low) (omega (arith, D .some)) (D .listed), D .some)))
+    let D = s .pre .1 .1 .0 .metadata in
+    (s .pre .0, (s .pre .1 .0, (listed-later (D .low) (omega (arith, D .some)) (D .listed), (D .some, s .pre .1 .1 .1))))
 
 returns : tie.Need-returns
 returns c =
     let s = c .before .before .before in
     let a = s .args in
-    c .get-group-status .ensures ∙ status-is (meaning (a .words .now)) (a .g) (a .metadata) (a .group-len) (entity (a .index) (a .version)) (s .pre .1 .1)
+    c .get-group-status .ensures ∙ status-is (meaning (a .words .now)) (a .g) (a .metadata) (a .group-len) (entity (a .index) (a .version)) (s .pre .1 .1 .0)
 
 pub status-in-spec : {M : Type 1} → statement M
 status-in-spec =
