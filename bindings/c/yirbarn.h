@@ -23,9 +23,9 @@
 
 /* Of this header and what it declares (CHANGELOG.md). */
 #define YIRBARN_VERSION_MAJOR 0
-#define YIRBARN_VERSION_MINOR 7
+#define YIRBARN_VERSION_MINOR 8
 #define YIRBARN_VERSION_PATCH 0
-#define YIRBARN_VERSION "0.7.0"
+#define YIRBARN_VERSION "0.8.0"
 
 #ifdef __cplusplus
 extern "C" {
