@@ -1,5 +1,5 @@
-// The values of components (01: parts) in words and in bytes. No other code knows how many words a value has: two or, where 02's No. 13 asks for sixteen
-// bytes, four.
+// The values of components (01: parts) in words and in bytes. Of a value's words and bytes no other code stores or reads any: they are two words or, where 02's No. 13 asks for
+// sixteen bytes, four.
 ghost use mathlib.Core.Path.{_≡_};
 ghost use Prim.Native.Nat.{ℕ, _+_, _*_, _≤_};
 ghost use lib.ListN.{length, take, drop};

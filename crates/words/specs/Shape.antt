@@ -35,7 +35,7 @@ entityPlace i = ROWS + 2 * i
 abbrev pub lookupPlace : Shape → ℕ → ℕ
 lookupPlace z x = ROWS + 2 * z .capacity + 2 * x
 
--- the words of i values at d words each: a product of two variables, shut, with its laws in proofs/Shape
+-- the words of i values at d words each: a product of two variables, shut, with its laws in proofs/Offsets
 unfoldable pub valuesLen : ℕ → ℕ → ℕ
 valuesLen d i = d * i
 

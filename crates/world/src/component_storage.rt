@@ -12,7 +12,7 @@ ghost use Rattle.memory.specs.Meaning.{meaning};
 ghost use Rattle.memory.specs.Arranged.{Arranged, Becomes, Sound};
 ghost use Rattle.world.specs.Remove.{removed};
 
-// The entity's component of the kind in a slot goes: no kind needs to be looked up. n is the capacity, read once for all slots.
+// The entity's component of the kind in a slot goes: no kind needs to be looked up. z is the shape of its columns, read once for all slots.
 fn strip_slot(words: &mut [u32], z: Shape, slot: usize, index: u32, version: u32)
     requires { ⌜ Arranged (now words) ⌝ }
     requires { ⌜ z ≡ shapeOf (now words) ⌝ }
