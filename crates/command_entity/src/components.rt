@@ -3,6 +3,7 @@ use command::answers::ack;
 use command::answers::refuse;
 use entity::Found;
 use model::refusals::DEAD;
+use words::Entity;
 ghost use Rattle.model.specs.Commands.{PUT, DROP, WIPE};
 ghost use Rattle.model.specs.Run.{does};
 ghost use Rattle.model.specs.Model.{entity};
@@ -10,29 +11,29 @@ ghost use Rattle.memory.specs.Meaning.{meaning};
 ghost use Rattle.command.specs.Acted.{Ready, Acted};
 
 // PUT: the staged components go into a live entity.
-pub fn put(words: &mut [u32], index: u32, version: u32, out: &mut [u8], at: usize) -> usize
-    requires { ⌜ Ready (now words) (now out) at (PUT (entity index version)) ⌝ }
-    ensures { λ r. ⌜ Acted (now (words .entry)) (now (words .exit)) (now (out .entry)) (now (out .exit)) at r (does (PUT (entity index version)) (meaning (now (words .entry)))) ⌝ }
+pub fn put(words: &mut [u32], e: Entity, out: &mut [u8], at: usize) -> usize
+    requires { ⌜ Ready (now words) (now out) at (PUT (entity (e .index) (e .version))) ⌝ }
+    ensures { λ r. ⌜ Acted (now (words .entry)) (now (words .exit)) (now (out .entry)) (now (out .exit)) at r (does (PUT (entity (e .index) (e .version))) (meaning (now (words .entry)))) ⌝ }
 {
-    let found = control::entities::get(words, index, version);
+    let found = control::entities::get(words, e);
     let Found::At(place) = found else {
         return refuse(words, out, at, DEAD);
     };
-    world::component_set::insert(words, index, version);
+    world::component_set::insert(words, e);
     control::staged::clear_staged(words);
     ack(out, at)
 }
 
 // DROP: a live entity's components of the staged kinds go.
-pub fn drop(words: &mut [u32], index: u32, version: u32, out: &mut [u8], at: usize) -> usize
-    requires { ⌜ Ready (now words) (now out) at (DROP (entity index version)) ⌝ }
-    ensures { λ r. ⌜ Acted (now (words .entry)) (now (words .exit)) (now (out .entry)) (now (out .exit)) at r (does (DROP (entity index version)) (meaning (now (words .entry)))) ⌝ }
+pub fn drop(words: &mut [u32], e: Entity, out: &mut [u8], at: usize) -> usize
+    requires { ⌜ Ready (now words) (now out) at (DROP (entity (e .index) (e .version))) ⌝ }
+    ensures { λ r. ⌜ Acted (now (words .entry)) (now (words .exit)) (now (out .entry)) (now (out .exit)) at r (does (DROP (entity (e .index) (e .version))) (meaning (now (words .entry)))) ⌝ }
 {
-    let found = control::entities::get(words, index, version);
+    let found = control::entities::get(words, e);
     let Found::At(place) = found else {
         return refuse(words, out, at, DEAD);
     };
-    world::component_set::delete(words, index, version);
+    world::component_set::delete(words, e);
     control::staged::clear_staged(words);
     ack(out, at)
 }

@@ -6,6 +6,7 @@ use command::answers::refuse;
 use entity::Found;
 use model::refusals::DEAD;
 use model::refusals::FULL;
+use words::Entity;
 ghost use mathlib.Core.List.{_∷_, _++_};
 ghost use Prim.Native.Nat.{_+_, _≤_};
 ghost use lib.ListN.{length};
@@ -17,25 +18,25 @@ ghost use Rattle.memory.specs.Meaning.{meaning};
 ghost use Rattle.command.specs.Acted.{Ready, Written, Acted};
 
 // KILL: a live entity goes, with all its components. The staged ones stay.
-pub fn kill(words: &mut [u32], index: u32, version: u32, out: &mut [u8], at: usize) -> usize
-    requires { ⌜ Ready (now words) (now out) at (KILL (entity index version)) ⌝ }
-    ensures { λ r. ⌜ Acted (now (words .entry)) (now (words .exit)) (now (out .entry)) (now (out .exit)) at r (does (KILL (entity index version)) (meaning (now (words .entry)))) ⌝ }
+pub fn kill(words: &mut [u32], e: Entity, out: &mut [u8], at: usize) -> usize
+    requires { ⌜ Ready (now words) (now out) at (KILL (entity (e .index) (e .version))) ⌝ }
+    ensures { λ r. ⌜ Acted (now (words .entry)) (now (words .exit)) (now (out .entry)) (now (out .exit)) at r (does (KILL (entity (e .index) (e .version))) (meaning (now (words .entry)))) ⌝ }
 {
-    let found = control::entities::get(words, index, version);
+    let found = control::entities::get(words, e);
     let Found::At(place) = found else {
         return refuse(words, out, at, DEAD);
     };
-    world::destroy(words, place, index, version);
+    world::destroy(words, place, e);
     ack(out, at)
 }
 
 // Accepted, with an entity to tell.
-fn ack_entity(out: &mut [u8], at: usize, index: u32, version: u32) -> usize
+fn ack_entity(out: &mut [u8], at: usize, e: Entity) -> usize
     requires { ⌜ at + 9 ≤ length (now out) ⌝ }
-    ensures { λ r. ⌜ Written (now (out .entry)) (now (out .exit)) at r (0 ∷ bytesOf 4 index ++ bytesOf 4 version) ⌝ }
+    ensures { λ r. ⌜ Written (now (out .entry)) (now (out .exit)) at r (0 ∷ bytesOf 4 (e .index) ++ bytesOf 4 (e .version)) ⌝ }
 {
-    ack_number(out, at, index);
-    codec::put_u32(out, at + 5, version);
+    ack_number(out, at, e.index);
+    codec::put_u32(out, at + 5, e.version);
     9
 }
 
@@ -49,7 +50,7 @@ pub fn new(words: &mut [u32], out: &mut [u8], at: usize) -> usize
     }
     let e = world::create(words);
     control::staged::clear_staged(words);
-    ack_entity(out, at, e.index, e.version)
+    ack_entity(out, at, e)
 }
 
 // TRAY: that many entities with the staged components.

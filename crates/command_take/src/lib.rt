@@ -6,6 +6,7 @@ use component::Removed;
 use entity::Found;
 use model::refusals::DEAD;
 use values::Value;
+use words::Entity;
 use world::component_set;
 ghost use mathlib.Core.Path.{_≡_};
 ghost use mathlib.Core.List.{_∷_};
@@ -35,13 +36,13 @@ fn put_held(out: &mut [u8], at: usize, held: u8, x: Value)
 }
 
 // The entity's component of the staged kind at i goes, and is written out.
-fn take_one(words: &mut [u32], i: usize, index: u32, version: u32, out: &mut [u8], at: usize)
+fn take_one(words: &mut [u32], i: usize, e: Entity, out: &mut [u8], at: usize)
     requires { ⌜ Staged (now words) ⌝ }
     requires { ⌜ i < length (meaning (now words) .control .staged) ⌝ }
     requires { ⌜ at + (1 + VALUE-BYTES) ≤ length (now out) ⌝ }
-    ensures { λ _. ⌜ TakesKind (now (words .entry)) (now (words .exit)) (now (out .entry)) (now (out .exit)) (entity index version) (getD (stagedKinds (meaning (now (words .entry)))) i 0) at ⌝ }
+    ensures { λ _. ⌜ TakesKind (now (words .entry)) (now (words .exit)) (now (out .entry)) (now (out .exit)) (entity (e .index) (e .version)) (getD (stagedKinds (meaning (now (words .entry)))) i 0) at ⌝ }
 {
-    let removed = component_set::remove_one(words, i, index, version);
+    let removed = component_set::remove_one(words, i, e);
     let Removed::Value(x) = removed else {
         put_held(out, at, 0, values::zero());
         return;
@@ -50,41 +51,41 @@ fn take_one(words: &mut [u32], i: usize, index: u32, version: u32, out: &mut [u8
 }
 
 // Its components of all staged kinds go, and are written out; no group is walked.
-fn take_staged(words: &mut [u32], index: u32, version: u32, out: &mut [u8], at: usize)
+fn take_staged(words: &mut [u32], e: Entity, out: &mut [u8], at: usize)
     requires { ⌜ Staged (now words) ⌝ }
     requires { ⌜ at + (1 + VALUE-BYTES) * length (meaning (now words) .control .staged) ≤ length (now out) ⌝ }
-    ensures { λ _. ⌜ TakesStaged (now (words .entry)) (now (words .exit)) (now (out .entry)) (now (out .exit)) (entity index version) at ⌝ }
+    ensures { λ _. ⌜ TakesStaged (now (words .entry)) (now (words .exit)) (now (out .entry)) (now (out .exit)) (entity (e .index) (e .version)) at ⌝ }
 {
     let n = control::staged::staged_len(words);
     let mut i = 0;
     while i < n {
-        take_one(words, i, index, version, out, at + 9 * i);
+        take_one(words, i, e, out, at + 9 * i);
         i += 1;
     }
 }
 
 // The groups that have a staged kind are left; then the components go, and are written out.
-fn take_out(words: &mut [u32], index: u32, version: u32, out: &mut [u8], at: usize)
+fn take_out(words: &mut [u32], e: Entity, out: &mut [u8], at: usize)
     requires { ⌜ Sound (now words) ⌝ }
     requires { ⌜ at + (1 + VALUE-BYTES) * length (meaning (now words) .control .staged) ≤ length (now out) ⌝ }
-    ensures { λ _. ⌜ Takes (now (words .entry)) (now (words .exit)) (now (out .entry)) (now (out .exit)) (entity index version) at ⌝ }
+    ensures { λ _. ⌜ Takes (now (words .entry)) (now (words .exit)) (now (out .entry)) (now (out .exit)) (entity (e .index) (e .version)) at ⌝ }
 {
-    component_set::ungroup_staged(words, index, version);
-    take_staged(words, index, version, out, at);
+    component_set::ungroup_staged(words, e);
+    take_staged(words, e, out, at);
 }
 
 // TAKE: a live entity's components of the staged kinds go, and are told.
-pub fn take(words: &mut [u32], index: u32, version: u32, out: &mut [u8], at: usize) -> usize
-    requires { ⌜ Ready (now words) (now out) at (TAKE (entity index version)) ⌝ }
-    ensures { λ r. ⌜ Acted (now (words .entry)) (now (words .exit)) (now (out .entry)) (now (out .exit)) at r (does (TAKE (entity index version)) (meaning (now (words .entry)))) ⌝ }
+pub fn take(words: &mut [u32], e: Entity, out: &mut [u8], at: usize) -> usize
+    requires { ⌜ Ready (now words) (now out) at (TAKE (entity (e .index) (e .version))) ⌝ }
+    ensures { λ r. ⌜ Acted (now (words .entry)) (now (words .exit)) (now (out .entry)) (now (out .exit)) at r (does (TAKE (entity (e .index) (e .version))) (meaning (now (words .entry)))) ⌝ }
 {
-    let found = control::entities::get(words, index, version);
+    let found = control::entities::get(words, e);
     let Found::At(place) = found else {
         return refuse(words, out, at, DEAD);
     };
     let n = control::staged::staged_len(words);
     ack(out, at);
-    take_out(words, index, version, out, at + 1);
+    take_out(words, e, out, at + 1);
     control::staged::clear_staged(words);
     1 + 9 * n
 }

@@ -38,13 +38,13 @@ fn entity_at(part: &[u32], z: Shape, i: usize) -> Entity
     }
 }
 
-fn put_entity(part: &mut [u32], z: Shape, i: usize, index: u32, version: u32)
+fn put_entity(part: &mut [u32], z: Shape, i: usize, e: Entity)
     requires { ⌜ ColumnSized z (now part) × (i < z .capacity) ⌝ }
-    ensures { λ _. ⌜ now (part .exit) ≡ stores (now (part .entry)) (entityStores i index version) ⌝ }
+    ensures { λ _. ⌜ now (part .exit) ≡ stores (now (part .entry)) (entityStores i (e .index) (e .version)) ⌝ }
 {
     let c = words::entity_place(i);
-    part[c] = index;
-    part[c + 1] = version;
+    part[c] = e.index;
+    part[c + 1] = e.version;
 }
 
 // How many rows there are.
@@ -64,47 +64,47 @@ pub fn value_at(part: &[u32], z: Shape, place: usize) -> Value
 }
 
 // Exchanges the row at a, which is the entity's, with the one at b. The lookups keep their versions.
-pub fn swap(part: &mut [u32], z: Shape, a: usize, b: usize, index: u32, version: u32)
+pub fn swap(part: &mut [u32], z: Shape, a: usize, b: usize, e: Entity)
     requires { ⌜ ColumnSound z (now part) ⌝ }
     requires { ⌜ (a < lengthOf (now part)) × (b < lengthOf (now part)) ⌝ }
-    requires { ⌜ (indexAt (now part) a ≡ index) × (versionAt (now part) a ≡ version) ⌝ }
+    requires { ⌜ (indexAt (now part) a ≡ e .index) × (versionAt (now part) a ≡ e .version) ⌝ }
     ensures { λ _. ⌜ RowsChanged z (swapRows a b) (now (part .entry)) (now (part .exit)) ⌝ }
 {
     if a == b {
         return;
     }
     let other = entity_at(part, z, b);
-    put_entity(part, z, b, index, version);
-    put_entity(part, z, a, other.index, other.version);
-    put_place(part, z, index, b);
+    put_entity(part, z, b, e);
+    put_entity(part, z, a, other);
+    put_place(part, z, e.index, b);
     put_place(part, z, other.index, a);
     swap_values(part, z, a, b);
 }
 
 // Exchanges the entity's row with the one at place.
-pub fn swap_to(part: &mut [u32], z: Shape, index: u32, version: u32, place: usize)
+pub fn swap_to(part: &mut [u32], z: Shape, e: Entity, place: usize)
     requires { ⌜ ColumnSound z (now part) ⌝ }
-    requires { ⌜ (held (entity index version) (rows z (now part)) ≡ true) × (place < length (rows z (now part))) ⌝ }
-    ensures { λ _. ⌜ RowsChanged z (swapTo (entity index version) place) (now (part .entry)) (now (part .exit)) ⌝ }
+    requires { ⌜ (held (entity (e .index) (e .version)) (rows z (now part)) ≡ true) × (place < length (rows z (now part))) ⌝ }
+    ensures { λ _. ⌜ RowsChanged z (swapTo (entity (e .index) (e .version)) place) (now (part .entry)) (now (part .exit)) ⌝ }
 {
-    let found = find(part, z, index, version);
+    let found = find(part, z, e);
     let Found::At(at) = found else {
         return;
     };
-    swap(part, z, at, place, index, version);
+    swap(part, z, at, place, e);
 }
 
 // One more row, of an index that no row has.
-fn append(part: &mut [u32], z: Shape, index: u32, version: u32, x: Value)
+fn append(part: &mut [u32], z: Shape, e: Entity, x: Value)
     requires { ⌜ ColumnSound z (now part) ⌝ }
-    requires { ⌜ (index < z .capacity) × (1 ≤ version) ⌝ }
-    requires { ⌜ Absent index (rows z (now part)) ⌝ }
-    ensures { λ _. ⌜ RowsChanged z (λ (rs : SparseSet). rs ++ (row index version (valueOf (z .stride) x) ∷ [])) (now (part .entry)) (now (part .exit)) ⌝ }
+    requires { ⌜ (e .index < z .capacity) × (1 ≤ e .version) ⌝ }
+    requires { ⌜ Absent (e .index) (rows z (now part)) ⌝ }
+    ensures { λ _. ⌜ RowsChanged z (λ (rs : SparseSet). rs ++ (row (e .index) (e .version) (valueOf (z .stride) x) ∷ [])) (now (part .entry)) (now (part .exit)) ⌝ }
 {
     let k = part[words::ROWS_LEN];
     let at = k as usize;
-    put_entity(part, z, at, index, version);
-    put_lookup(part, z, index, at, version);
+    put_entity(part, z, at, e);
+    put_lookup(part, z, e.index, at, e.version);
     part[words::ROWS_LEN] = k + 1;
     put_value(part, z, at, x);
 }
@@ -119,15 +119,15 @@ fn replace(part: &mut [u32], z: Shape, place: usize, x: Value)
 }
 
 // Puts a value with an entity: in the entity's row, or in a new one at the end.
-pub fn insert(part: &mut [u32], z: Shape, index: u32, version: u32, x: Value)
+pub fn insert(part: &mut [u32], z: Shape, e: Entity, x: Value)
     requires { ⌜ ColumnSound z (now part) ⌝ }
-    requires { ⌜ (index < z .capacity) × (1 ≤ version) ⌝ }
-    requires { ⌜ Current index version (rows z (now part)) ⌝ }
-    ensures { λ _. ⌜ RowsChanged z (insertRow (entity index version) (valueOf (z .stride) x)) (now (part .entry)) (now (part .exit)) ⌝ }
+    requires { ⌜ (e .index < z .capacity) × (1 ≤ e .version) ⌝ }
+    requires { ⌜ Current (e .index) (e .version) (rows z (now part)) ⌝ }
+    ensures { λ _. ⌜ RowsChanged z (insertRow (entity (e .index) (e .version)) (valueOf (z .stride) x)) (now (part .entry)) (now (part .exit)) ⌝ }
 {
-    let found = find(part, z, index, version);
+    let found = find(part, z, e);
     let Found::At(place) = found else {
-        append(part, z, index, version, x);
+        append(part, z, e, x);
         return;
     };
     replace(part, z, place, x);
@@ -143,23 +143,23 @@ fn remove_at(part: &mut [u32], z: Shape, place: usize, index: u32)
     let last = k as usize;
     let moved = entity_at(part, z, last);
     let value = value_of(part, z, last);
-    put_entity(part, z, place, moved.index, moved.version);
+    put_entity(part, z, place, moved);
     put_place(part, z, moved.index, place);
     clear_lookup(part, z, index, k);
     put_value(part, z, place, value);
 }
 
 // The entity's row goes, if it has one, and its value is handed back.
-pub fn remove(part: &mut [u32], z: Shape, index: u32, version: u32) -> Removed
+pub fn remove(part: &mut [u32], z: Shape, e: Entity) -> Removed
     requires { ⌜ ColumnSound z (now part) ⌝ }
-    ensures { λ r. ⌜ Removes z (entity index version) (now (part .entry)) (now (part .exit)) r ⌝ }
+    ensures { λ r. ⌜ Removes z (entity (e .index) (e .version)) (now (part .entry)) (now (part .exit)) r ⌝ }
 {
-    let found = find(part, z, index, version);
+    let found = find(part, z, e);
     let Found::At(place) = found else {
         return Removed::Nothing;
     };
     let x = value_at(part, z, place);
-    remove_at(part, z, place, index);
+    remove_at(part, z, place, e.index);
     Removed::Value(x)
 }
 

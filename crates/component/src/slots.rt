@@ -4,6 +4,7 @@ use crate::Removed;
 use crate::component_sparse_set;
 use crate::sparse_vec;
 use values::Value;
+use words::Entity;
 use words::Shape;
 ghost use mathlib.Core.Path.{_≡_};
 ghost use mathlib.Core.Bool.{true};
@@ -26,21 +27,21 @@ pub fn len_in(words: &[u32], z: Shape, slot: usize) -> usize
     component_sparse_set::len(&words[base..end])
 }
 
-pub fn find_in(words: &[u32], z: Shape, slot: usize, index: u32, version: u32) -> Found
+pub fn find_in(words: &[u32], z: Shape, slot: usize, e: Entity) -> Found
     requires { ⌜ Lent z slot (now words) ⌝ }
-    ensures { λ r. ⌜ Finds z (entity index version) (rowsOf z slot (now (words .entry))) r ⌝ }
+    ensures { λ r. ⌜ Finds z (entity (e .index) (e .version)) (rowsOf z slot (now (words .entry))) r ⌝ }
 {
     let base = words::column_start(z, slot);
     let end = base + words::column_len(z);
-    sparse_vec::find(&words[base..end], z, index, version)
+    sparse_vec::find(&words[base..end], z, e)
 }
 
 // Whether the slot's rows have the entity.
-pub fn holds_in(words: &[u32], z: Shape, slot: usize, index: u32, version: u32) -> bool
+pub fn holds_in(words: &[u32], z: Shape, slot: usize, e: Entity) -> bool
     requires { ⌜ Lent z slot (now words) ⌝ }
-    ensures { λ r. ⌜ r ≡ held (entity index version) (rowsOf z slot (now (words .entry))) ⌝ }
+    ensures { λ r. ⌜ r ≡ held (entity (e .index) (e .version)) (rowsOf z slot (now (words .entry))) ⌝ }
 {
-    let found = find_in(words, z, slot, index, version);
+    let found = find_in(words, z, slot, e);
     let Found::At(place) = found else {
         return false;
     };
@@ -57,34 +58,34 @@ pub fn value_in(words: &[u32], z: Shape, slot: usize, place: usize) -> Value
     component_sparse_set::value_at(&words[base..end], z, place)
 }
 
-pub fn insert_in(words: &mut [u32], z: Shape, slot: usize, index: u32, version: u32, x: Value)
+pub fn insert_in(words: &mut [u32], z: Shape, slot: usize, e: Entity, x: Value)
     requires { ⌜ Lent z slot (now words) ⌝ }
-    requires { ⌜ (index < z .capacity) × (1 ≤ version) ⌝ }
-    requires { ⌜ Current index version (rowsOf z slot (now words)) ⌝ }
-    ensures { λ _. ⌜ Only z slot (insertRow (entity index version) (valueOf (z .stride) x)) (now (words .entry)) (now (words .exit)) ⌝ }
+    requires { ⌜ (e .index < z .capacity) × (1 ≤ e .version) ⌝ }
+    requires { ⌜ Current (e .index) (e .version) (rowsOf z slot (now words)) ⌝ }
+    ensures { λ _. ⌜ Only z slot (insertRow (entity (e .index) (e .version)) (valueOf (z .stride) x)) (now (words .entry)) (now (words .exit)) ⌝ }
 {
     let base = words::column_start(z, slot);
     let end = base + words::column_len(z);
-    component_sparse_set::insert(&mut words[base..end], z, index, version, x);
+    component_sparse_set::insert(&mut words[base..end], z, e, x);
 }
 
-pub fn remove_in(words: &mut [u32], z: Shape, slot: usize, index: u32, version: u32) -> Removed
+pub fn remove_in(words: &mut [u32], z: Shape, slot: usize, e: Entity) -> Removed
     requires { ⌜ Lent z slot (now words) ⌝ }
-    ensures { λ r. ⌜ RemovesIn z slot (entity index version) (now (words .entry)) (now (words .exit)) r ⌝ }
+    ensures { λ r. ⌜ RemovesIn z slot (entity (e .index) (e .version)) (now (words .entry)) (now (words .exit)) r ⌝ }
 {
     let base = words::column_start(z, slot);
     let end = base + words::column_len(z);
-    component_sparse_set::remove(&mut words[base..end], z, index, version)
+    component_sparse_set::remove(&mut words[base..end], z, e)
 }
 
-pub fn swap_to_in(words: &mut [u32], z: Shape, slot: usize, index: u32, version: u32, place: usize)
+pub fn swap_to_in(words: &mut [u32], z: Shape, slot: usize, e: Entity, place: usize)
     requires { ⌜ Lent z slot (now words) ⌝ }
-    requires { ⌜ (held (entity index version) (rowsOf z slot (now words)) ≡ true) × (place < length (rowsOf z slot (now words))) ⌝ }
-    ensures { λ _. ⌜ Only z slot (swapTo (entity index version) place) (now (words .entry)) (now (words .exit)) ⌝ }
+    requires { ⌜ (held (entity (e .index) (e .version)) (rowsOf z slot (now words)) ≡ true) × (place < length (rowsOf z slot (now words))) ⌝ }
+    ensures { λ _. ⌜ Only z slot (swapTo (entity (e .index) (e .version)) place) (now (words .entry)) (now (words .exit)) ⌝ }
 {
     let base = words::column_start(z, slot);
     let end = base + words::column_len(z);
-    component_sparse_set::swap_to(&mut words[base..end], z, index, version, place);
+    component_sparse_set::swap_to(&mut words[base..end], z, e, place);
 }
 
 pub fn clear_in(words: &mut [u32], z: Shape, slot: usize)

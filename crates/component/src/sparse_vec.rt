@@ -1,5 +1,6 @@
 // The lookups by index: an entity's place among the rows, and the version held, 0 where the index is not held (sparse_vec.rs).
 use crate::Found;
+use words::Entity;
 use words::Shape;
 ghost use mathlib.Core.Path.{_≡_};
 ghost use Prim.Native.Nat.{_<_};
@@ -39,20 +40,20 @@ pub fn clear_lookup(part: &mut [u32], z: Shape, x: u32, k: u32)
 }
 
 // Any index and version may be asked for.
-pub fn find(part: &[u32], z: Shape, index: u32, version: u32) -> Found
+pub fn find(part: &[u32], z: Shape, e: Entity) -> Found
     requires { ⌜ ColumnSound z (now part) ⌝ }
-    ensures { λ r. ⌜ Finds z (entity index version) (rows z (now (part .entry))) r ⌝ }
+    ensures { λ r. ⌜ Finds z (entity (e .index) (e .version)) (rows z (now (part .entry))) r ⌝ }
 {
-    let x = index as usize;
+    let x = e.index as usize;
     if z.capacity <= x {
         return Found::Nothing;
     }
-    if version == 0 {
+    if e.version == 0 {
         return Found::Nothing;
     }
     let s = words::lookup_place(z, x);
     let v = part[s + 1];
-    if v != version {
+    if v != e.version {
         return Found::Nothing;
     }
     Found::At(part[s] as usize)

@@ -28,13 +28,13 @@ pub fn capacity(words: &[u32]) -> usize
 }
 
 // Where the entity is in the live list.
-pub fn get(words: &[u32], index: u32, version: u32) -> Found
+pub fn get(words: &[u32], e: Entity) -> Found
     requires { ⌜ Arranged (now words) ⌝ }
-    ensures { λ r. ⌜ r ≡ foundOf (entity index version) (meaning (now (words .entry)) .entities) ⌝ }
+    ensures { λ r. ⌜ r ≡ foundOf (entity (e .index) (e .version)) (meaning (now (words .entry)) .entities) ⌝ }
 {
     let n = capacity(words);
     let end = ENTITIES + model::ENTITY_LEN * n;
-    sparse_vec::get(&words[ENTITIES..end], n, index, version)
+    sparse_vec::get(&words[ENTITIES..end], n, e)
 }
 
 // Whether no number is left: 01's FULL.
@@ -68,13 +68,13 @@ pub fn create(words: &mut [u32]) -> Entity
 }
 
 // Destroys a live entity, whose place in the live list the caller has looked up. That it holds no component any more is the caller's.
-pub fn destroy(words: &mut [u32], place: usize, index: u32, version: u32)
+pub fn destroy(words: &mut [u32], place: usize, e: Entity)
     requires { ⌜ Arranged (now words) ⌝ }
-    requires { ⌜ LiveAt (entity index version) place (meaning (now words) .entities) ⌝ }
-    ensures { λ _. ⌜ Becomes (now (words .entry)) (now (words .exit)) (withEntities (meaning (now (words .entry))) (destroy (entity index version) (meaning (now (words .entry)) .entities))) ⌝ }
+    requires { ⌜ LiveAt (entity (e .index) (e .version)) place (meaning (now words) .entities) ⌝ }
+    ensures { λ _. ⌜ Becomes (now (words .entry)) (now (words .exit)) (withEntities (meaning (now (words .entry))) (destroy (entity (e .index) (e .version)) (meaning (now (words .entry)) .entities))) ⌝ }
 {
     let n = capacity(words);
-    in_words::destroy_in(words, n, place, index, version);
+    in_words::destroy_in(words, n, place, e);
 }
 
 // How many entities are live.

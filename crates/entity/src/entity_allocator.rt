@@ -72,17 +72,17 @@ fn pop_front(part: &mut [u32], n: usize) -> Entity
 }
 
 // The number waits behind all others.
-fn push_back(part: &mut [u32], n: usize, index: u32, version: u32)
+fn push_back(part: &mut [u32], n: usize, e: Entity)
     requires { ⌜ EntityPartSound n (now part) ⌝ }
-    requires { ⌜ Idle n (now part) index × (1 ≤ version) ⌝ }
-    ensures { λ _. ⌜ EntitiesChanged n (queued (entity index version)) (now (part .entry)) (now (part .exit)) ⌝ }
+    requires { ⌜ Idle n (now part) (e .index) × (1 ≤ e .version) ⌝ }
+    ensures { λ _. ⌜ EntitiesChanged n (queued (entity (e .index) (e .version))) (now (part .entry)) (now (part .exit)) ⌝ }
 {
     let count = part[words::RECYCLED_LEN];
     let place = wrap(n, part[words::QUEUE_HEAD] as usize + count as usize);
     let at = words::LIVE_LIST + 4 * n + 2 * place;
-    part[at] = index;
-    part[at + 1] = version;
-    part[words::LIVE_LIST + 6 * n + (index as usize)] = (place + 1) as u32;
+    part[at] = e.index;
+    part[at + 1] = e.version;
+    part[words::LIVE_LIST + 6 * n + (e.index as usize)] = (place + 1) as u32;
     part[words::RECYCLED_LEN] = count + 1;
 }
 
@@ -110,12 +110,19 @@ pub fn allocate(part: &mut [u32], n: usize) -> Entity
 }
 
 // The number waits with its version plus one, or is retired if there is none.
-pub fn recycle(part: &mut [u32], n: usize, index: u32, version: u32)
+pub fn recycle(part: &mut [u32], n: usize, e: Entity)
     requires { ⌜ EntityPartSound n (now part) ⌝ }
-    requires { ⌜ Idle n (now part) index ⌝ }
-    ensures { λ _. ⌜ EntitiesChanged n (recycledAs (entity index version)) (now (part .entry)) (now (part .exit)) ⌝ }
+    requires { ⌜ Idle n (now part) (e .index) ⌝ }
+    ensures { λ _. ⌜ EntitiesChanged n (recycledAs (entity (e .index) (e .version))) (now (part .entry)) (now (part .exit)) ⌝ }
 {
-    if version < model::LAST_VERSION {
-        push_back(part, n, index, version + 1);
+    if e.version < model::LAST_VERSION {
+        push_back(
+            part,
+            n,
+            Entity {
+                index: e.index,
+                version: e.version + 1,
+            },
+        );
     }
 }

@@ -32,27 +32,27 @@ pub fn live_at(part: &[u32], n: usize, place: usize) -> Entity
 }
 
 // Has the live list's place say the entity, and the index's lookup the place.
-fn put(part: &mut [u32], n: usize, place: usize, index: u32, version: u32)
+fn put(part: &mut [u32], n: usize, place: usize, e: Entity)
     requires { ⌜ EntityPartSized n (now part) ⌝ }
-    requires { ⌜ (place < n) × (index < n) ⌝ }
-    ensures { λ _. ⌜ now (part .exit) ≡ stores (now (part .entry)) (putStores n place index version) ⌝ }
+    requires { ⌜ (place < n) × (e .index < n) ⌝ }
+    ensures { λ _. ⌜ now (part .exit) ≡ stores (now (part .entry)) (putStores n place (e .index) (e .version)) ⌝ }
 {
     let at = words::LIVE_LIST + 2 * place;
-    let slot = words::LIVE_LIST + 2 * n + 2 * (index as usize);
-    part[at] = index;
-    part[at + 1] = version;
+    let slot = words::LIVE_LIST + 2 * n + 2 * (e.index as usize);
+    part[at] = e.index;
+    part[at + 1] = e.version;
     part[slot] = place as u32;
-    part[slot + 1] = version;
+    part[slot + 1] = e.version;
 }
 
 // The entity joins the live list at its end.
-pub fn insert(part: &mut [u32], n: usize, index: u32, version: u32)
+pub fn insert(part: &mut [u32], n: usize, e: Entity)
     requires { ⌜ EntityPartSound n (now part) ⌝ }
-    requires { ⌜ Idle n (now part) index × (1 ≤ version) ⌝ }
-    ensures { λ _. ⌜ EntitiesChanged n (joined (entity index version)) (now (part .entry)) (now (part .exit)) ⌝ }
+    requires { ⌜ Idle n (now part) (e .index) × (1 ≤ e .version) ⌝ }
+    ensures { λ _. ⌜ EntitiesChanged n (joined (entity (e .index) (e .version))) (now (part .entry)) (now (part .exit)) ⌝ }
 {
     let k = part[words::LIVE_LEN];
-    put(part, n, k as usize, index, version);
+    put(part, n, k as usize, e);
     part[words::LIVE_LEN] = k + 1;
 }
 
@@ -67,7 +67,7 @@ pub fn remove(part: &mut [u32], n: usize, place: usize)
     let gone = part[words::LIVE_LIST + 2 * place] as usize;
     let index = part[last];
     let version = part[last + 1];
-    put(part, n, place, index, version);
+    put(part, n, place, Entity { index, version });
     part[words::LIVE_LIST + 2 * n + 2 * gone + 1] = 0;
     part[words::LIVE_LEN] = k;
 }

@@ -12,11 +12,11 @@ ghost use Rattle.entity.specs.Change.{EntitiesChanged};
 ghost use Rattle.entity.specs.Answers.{LiveAt, EntityCreated};
 
 // Whether the entity is live.
-pub fn contains(part: &[u32], n: usize, index: u32, version: u32) -> bool
+pub fn contains(part: &[u32], n: usize, e: Entity) -> bool
     requires { ⌜ EntityPartSound n (now part) ⌝ }
-    ensures { λ r. ⌜ r ≡ isLive (entity index version) (entitiesOf n (now (part .entry))) ⌝ }
+    ensures { λ r. ⌜ r ≡ isLive (entity (e .index) (e .version)) (entitiesOf n (now (part .entry))) ⌝ }
 {
-    let found = sparse_vec::get(part, n, index, version);
+    let found = sparse_vec::get(part, n, e);
     let Found::At(place) = found else {
         return false;
     };
@@ -30,16 +30,16 @@ pub fn create(part: &mut [u32], n: usize) -> Entity
     ensures { λ r. ⌜ EntityCreated n (now (part .entry)) (now (part .exit)) r ⌝ }
 {
     let entity = entity_allocator::allocate(part, n);
-    entity_sparse_set::insert(part, n, entity.index, entity.version);
+    entity_sparse_set::insert(part, n, entity);
     entity
 }
 
 // Destroys a live entity, whose place in the live list the caller has looked up.
-pub fn destroy(part: &mut [u32], n: usize, place: usize, index: u32, version: u32)
+pub fn destroy(part: &mut [u32], n: usize, place: usize, e: Entity)
     requires { ⌜ EntityPartSound n (now part) ⌝ }
-    requires { ⌜ LiveAt (entity index version) place (entitiesOf n (now part)) ⌝ }
-    ensures { λ _. ⌜ EntitiesChanged n (destroy (entity index version)) (now (part .entry)) (now (part .exit)) ⌝ }
+    requires { ⌜ LiveAt (entity (e .index) (e .version)) place (entitiesOf n (now part)) ⌝ }
+    ensures { λ _. ⌜ EntitiesChanged n (destroy (entity (e .index) (e .version))) (now (part .entry)) (now (part .exit)) ⌝ }
 {
     entity_sparse_set::remove(part, n, place);
-    entity_allocator::recycle(part, n, index, version);
+    entity_allocator::recycle(part, n, e);
 }

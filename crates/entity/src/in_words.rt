@@ -19,11 +19,11 @@ pub fn create_in(words: &mut [u32], n: usize) -> Entity
 }
 
 // Destroys a live entity, whose place in the live list the caller has looked up.
-pub fn destroy_in(words: &mut [u32], n: usize, place: usize, index: u32, version: u32)
+pub fn destroy_in(words: &mut [u32], n: usize, place: usize, e: Entity)
     requires { ⌜ SoundIn n (now words) ⌝ }
-    requires { ⌜ LiveAt (entity index version) place (entitiesIn n (now words)) ⌝ }
-    ensures { λ _. ⌜ EntityChange n (destroy (entity index version)) (now (words .entry)) (now (words .exit)) ⌝ }
+    requires { ⌜ LiveAt (entity (e .index) (e .version)) place (entitiesIn n (now words)) ⌝ }
+    ensures { λ _. ⌜ EntityChange n (destroy (entity (e .index) (e .version))) (now (words .entry)) (now (words .exit)) ⌝ }
 {
     let end = words::ENTITIES + model::ENTITY_LEN * n;
-    entity_storage::destroy(&mut words[words::ENTITIES..end], n, place, index, version);
+    entity_storage::destroy(&mut words[words::ENTITIES..end], n, place, e);
 }

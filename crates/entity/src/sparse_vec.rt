@@ -1,5 +1,6 @@
 // The lookups by index: the place in the live list, and the version, 0 where the index is not live.
 use crate::Found;
+use words::Entity;
 ghost use mathlib.Core.Path.{_≡_};
 ghost use Prim.Native.Nat.{_<_};
 ghost use Rattle.model.specs.Snapshot.{liveVersion};
@@ -8,20 +9,20 @@ ghost use Rattle.entity.specs.Meaning.{EntityPartSound, entitiesOf};
 ghost use Rattle.entity.specs.Answers.{foundOf};
 
 // Where the entity is in the live list.
-pub fn get(part: &[u32], n: usize, index: u32, version: u32) -> Found
+pub fn get(part: &[u32], n: usize, e: Entity) -> Found
     requires { ⌜ EntityPartSound n (now part) ⌝ }
-    ensures { λ r. ⌜ r ≡ foundOf (entity index version) (entitiesOf n (now (part .entry))) ⌝ }
+    ensures { λ r. ⌜ r ≡ foundOf (entity (e .index) (e .version)) (entitiesOf n (now (part .entry))) ⌝ }
 {
-    let x = index as usize;
+    let x = e.index as usize;
     if n <= x {
         return Found::Nothing;
     }
-    if version < 1 {
+    if e.version < 1 {
         return Found::Nothing;
     }
     let slot = words::LIVE_LIST + 2 * n + 2 * x;
     let held = part[slot + 1];
-    if held != version {
+    if held != e.version {
         return Found::Nothing;
     }
     Found::At(part[slot] as usize)

@@ -3,6 +3,7 @@ use crate::group_metadata::count;
 use crate::group_metadata::kind_at;
 use component::Found;
 use layout::group_metadata::GroupMetadata;
+use words::Entity;
 ghost use mathlib.Core.Path.{_≡_};
 ghost use Prim.Native.Nat.{_<_};
 ghost use Rattle.model.specs.Model.{allHeld, groupsOf, entity};
@@ -21,15 +22,15 @@ pub enum GroupStatus {
 }
 
 // Does the entity hold each of the layout's kinds from start to end?
-fn holds_all(words: &[u32], start: usize, end: usize, index: u32, version: u32) -> bool
+fn holds_all(words: &[u32], start: usize, end: usize, e: Entity) -> bool
     requires { ⌜ Arranged (now words) ⌝ }
     requires { ⌜ PlacesKnown (meaning (now words)) start end ⌝ }
-    ensures { λ r. ⌜ r ≡ allHeld (entity index version) (between start end (orderOf (meaning (now (words .entry))))) (meaning (now (words .entry)) .storage .sets) ⌝ }
+    ensures { λ r. ⌜ r ≡ allHeld (entity (e .index) (e .version)) (between start end (orderOf (meaning (now (words .entry))))) (meaning (now (words .entry)) .storage .sets) ⌝ }
 {
     let mut place = start;
     while place < end {
         let kind = kind_at(words, place);
-        if !kinds::holds(words, kind, index, version) {
+        if !kinds::holds(words, kind, e) {
             return false;
         }
         place += 1;
@@ -43,20 +44,19 @@ fn get_group_status(
     start: usize,
     end: usize,
     group_len: usize,
-    index: u32,
-    version: u32,
+    e: Entity,
 ) -> GroupStatus
     requires { ⌜ Arranged (now words) ⌝ }
     requires { ⌜ PlacesKnown (meaning (now words)) start end ⌝ }
     requires { ⌜ start < end ⌝ }
-    ensures { λ r. ⌜ r ≡ statusIn (entity index version) (between start end (orderOf (meaning (now (words .entry))))) «group_len» (meaning (now (words .entry)) .storage .sets) ⌝ }
+    ensures { λ r. ⌜ r ≡ statusIn (entity (e .index) (e .version)) (between start end (orderOf (meaning (now (words .entry))))) «group_len» (meaning (now (words .entry)) .storage .sets) ⌝ }
 {
     let first = kind_at(words, start);
-    let found = kinds::find(words, first, index, version);
+    let found = kinds::find(words, first, e);
     let Found::At(place) = found else {
         return GroupStatus::Incomplete;
     };
-    if !holds_all(words, start + 1, end, index, version) {
+    if !holds_all(words, start + 1, end, e) {
         return GroupStatus::Incomplete;
     }
     if place < group_len {
@@ -66,17 +66,11 @@ fn get_group_status(
 }
 
 // The entity's status in group g, by the group's metadata and its count.
-pub fn status_in(
-    words: &[u32],
-    g: usize,
-    metadata: GroupMetadata,
-    index: u32,
-    version: u32,
-) -> GroupStatus
+pub fn status_in(words: &[u32], g: usize, metadata: GroupMetadata, e: Entity) -> GroupStatus
     requires { ⌜ Arranged (now words) ⌝ }
     requires { ⌜ g < groupsOf (meaning (now words) .storage .layout) ⌝ }
     requires { ⌜ Describes (meaning (now words)) g metadata ⌝ }
-    ensures { λ r. ⌜ r ≡ statusAt (entity index version) g (meaning (now (words .entry)) .storage) ⌝ }
+    ensures { λ r. ⌜ r ≡ statusAt (entity (e .index) (e .version)) g (meaning (now (words .entry)) .storage) ⌝ }
 {
     let group_len = count(words, g);
     get_group_status(
@@ -84,7 +78,6 @@ pub fn status_in(
         metadata.new_storage_start,
         metadata.storage_end,
         group_len,
-        index,
-        version,
+        e,
     )
 }

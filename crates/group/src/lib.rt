@@ -12,6 +12,7 @@ use crate::group_status::status_in;
 use layout::group_metadata::GroupMetadata;
 use masks::group_mask::GroupMask;
 use masks::group_mask::NextBit;
+use words::Entity;
 ghost use mathlib.Core.List.{reverse};
 ghost use Prim.Native.Nat.{_-_, _<_, _≤_};
 ghost use lib.ListN.{drop};
@@ -28,17 +29,11 @@ ghost use Rattle.group.specs.Metadata.{orderOf, PlacesKnown, Stands};
 ghost use Rattle.group.specs.Steps.{swapKinds, Below, StepsUp};
 
 // Swaps the entity to a place in every sparse set of a group.
-fn swap_kinds(
-    words: &mut [u32],
-    metadata: GroupMetadata,
-    index: u32,
-    version: u32,
-    swap_index: usize,
-)
+fn swap_kinds(words: &mut [u32], metadata: GroupMetadata, e: Entity, swap_index: usize)
     requires { ⌜ Arranged (now words) ⌝ }
     requires { ⌜ PlacesKnown (meaning (now words)) (metadata .«storage_start») (metadata .«storage_end») ⌝ }
-    requires { ⌜ Swappable (entity index version) (between (metadata .«storage_start») (metadata .«storage_end») (orderOf (meaning (now words)))) «swap_index» (meaning (now words) .storage .sets) ⌝ }
-    ensures { λ _. ⌜ Becomes (now (words .entry)) (now (words .exit)) (onStorage (swapKinds (entity index version) «swap_index» (between (metadata .«storage_start») (metadata .«storage_end») (orderOf (meaning (now (words .entry)))))) (meaning (now (words .entry)))) ⌝ }
+    requires { ⌜ Swappable (entity (e .index) (e .version)) (between (metadata .«storage_start») (metadata .«storage_end») (orderOf (meaning (now words)))) «swap_index» (meaning (now words) .storage .sets) ⌝ }
+    ensures { λ _. ⌜ Becomes (now (words .entry)) (now (words .exit)) (onStorage (swapKinds (entity (e .index) (e .version)) «swap_index» (between (metadata .«storage_start») (metadata .«storage_end») (orderOf (meaning (now (words .entry)))))) (meaning (now (words .entry)))) ⌝ }
 {
     let z = words::shape_of(words);
     let end = metadata.storage_end;
@@ -46,7 +41,7 @@ fn swap_kinds(
     while place < end {
         let kind = kind_at(words, place);
         let slot = kinds::slot_of(words, kind);
-        component::slots::swap_to_in(words, z, slot, index, version, swap_index);
+        component::slots::swap_to_in(words, z, slot, e, swap_index);
         place += 1;
     }
 }
@@ -57,15 +52,14 @@ fn group_components(
     metadata: GroupMetadata,
     g: usize,
     group_len: usize,
-    index: u32,
-    version: u32,
+    e: Entity,
 )
     requires { ⌜ Arranged (now words) ⌝ }
     requires { ⌜ Stands (meaning (now words)) g metadata «group_len» ⌝ }
-    requires { ⌜ Swappable (entity index version) (located (meaning (now words) .storage .layout) g .kinds) (located (meaning (now words) .storage .layout) g .count) (meaning (now words) .storage .sets) ⌝ }
-    ensures { λ _. ⌜ Becomes (now (words .entry)) (now (words .exit)) (onStorage (groupAt (entity index version) g) (meaning (now (words .entry)))) ⌝ }
+    requires { ⌜ Swappable (entity (e .index) (e .version)) (located (meaning (now words) .storage .layout) g .kinds) (located (meaning (now words) .storage .layout) g .count) (meaning (now words) .storage .sets) ⌝ }
+    ensures { λ _. ⌜ Becomes (now (words .entry)) (now (words .exit)) (onStorage (groupAt (entity (e .index) (e .version)) g) (meaning (now (words .entry)))) ⌝ }
 {
-    swap_kinds(words, metadata, index, version, group_len);
+    swap_kinds(words, metadata, e, group_len);
     set_count(words, g, group_len + 1);
 }
 
@@ -76,34 +70,33 @@ fn ungroup_components(
     g: usize,
     group_len: usize,
     place: usize,
-    index: u32,
-    version: u32,
+    e: Entity,
 )
     requires { ⌜ Arranged (now words) ⌝ }
     requires { ⌜ Stands (meaning (now words)) g metadata «group_len» ⌝ }
     requires { ⌜ 1 ≤ «group_len» ⌝ }
-    requires { ⌜ Swappable (entity index version) (located (meaning (now words) .storage .layout) g .kinds) (located (meaning (now words) .storage .layout) g .count - 1) (meaning (now words) .storage .sets) ⌝ }
-    requires { ⌜ StandsAt (entity index version) (located (meaning (now words) .storage .layout) g .kinds) place (meaning (now words) .storage .sets) ⌝ }
-    ensures { λ _. ⌜ Becomes (now (words .entry)) (now (words .exit)) (onStorage (ungroupAt (entity index version) g) (meaning (now (words .entry)))) ⌝ }
+    requires { ⌜ Swappable (entity (e .index) (e .version)) (located (meaning (now words) .storage .layout) g .kinds) (located (meaning (now words) .storage .layout) g .count - 1) (meaning (now words) .storage .sets) ⌝ }
+    requires { ⌜ StandsAt (entity (e .index) (e .version)) (located (meaning (now words) .storage .layout) g .kinds) place (meaning (now words) .storage .sets) ⌝ }
+    ensures { λ _. ⌜ Becomes (now (words .entry)) (now (words .exit)) (onStorage (ungroupAt (entity (e .index) (e .version)) g) (meaning (now (words .entry)))) ⌝ }
 {
     let swap_index = group_len - 1;
     if place == swap_index {
         set_count(words, g, swap_index);
         return;
     }
-    swap_kinds(words, metadata, index, version, swap_index);
+    swap_kinds(words, metadata, e, swap_index);
     set_count(words, g, swap_index);
 }
 
 // One group of the walk upward; answers what is left of the groups after it.
-fn group_step(words: &mut [u32], g: usize, rest: GroupMask, index: u32, version: u32) -> GroupMask
+fn group_step(words: &mut [u32], g: usize, rest: GroupMask, e: Entity) -> GroupMask
     requires { ⌜ Arranged (now words) ⌝ }
     requires { ⌜ g < groupsOf (meaning (now words) .storage .layout) ⌝ }
-    requires { ⌜ ReadyIn (statusAt (entity index version) g (meaning (now words) .storage)) (entity index version) (located (meaning (now words) .storage .layout) g) (meaning (now words) .storage .sets) ⌝ }
-    ensures { λ r. ⌜ StepsUp (now (words .entry)) (now (words .exit)) (entity index version) g (rest .0) (r .0) ⌝ }
+    requires { ⌜ ReadyIn (statusAt (entity (e .index) (e .version)) g (meaning (now words) .storage)) (entity (e .index) (e .version)) (located (meaning (now words) .storage .layout) g) (meaning (now words) .storage .sets) ⌝ }
+    ensures { λ r. ⌜ StepsUp (now (words .entry)) (now (words .exit)) (entity (e .index) (e .version)) g (rest .0) (r .0) ⌝ }
 {
     let metadata = metadata(words, g);
-    let status = status_in(words, g, metadata, index, version);
+    let status = status_in(words, g, metadata, e);
     match status {
         GroupStatus::Incomplete => {
             let skip = GroupMask::skip_from_to(g, metadata.top);
@@ -111,7 +104,7 @@ fn group_step(words: &mut [u32], g: usize, rest: GroupMask, index: u32, version:
         }
         GroupStatus::Ungrouped => {
             let group_len = count(words, g);
-            group_components(words, metadata, g, group_len, index, version);
+            group_components(words, metadata, g, group_len, e);
             return rest;
         }
         GroupStatus::Grouped(place) => {
@@ -121,18 +114,18 @@ fn group_step(words: &mut [u32], g: usize, rest: GroupMask, index: u32, version:
 }
 
 // The walk upward over the groups of a mask, lowest first.
-pub fn group(words: &mut [u32], mask: GroupMask, index: u32, version: u32)
+pub fn group(words: &mut [u32], mask: GroupMask, e: Entity)
     requires { ⌜ Arranged (now words) ⌝ }
     requires { ⌜ Below (bitsOf 64 (mask .0)) (meaning (now words) .storage) ⌝ }
-    requires { ⌜ ReadyUp (entity index version) 0 (bitsOf 64 (mask .0)) (meaning (now words) .storage) ⌝ }
-    ensures { λ _. ⌜ Becomes (now (words .entry)) (now (words .exit)) (onStorage (walkUp (entity index version) 0 (bitsOf 64 (mask .0))) (meaning (now (words .entry)))) ⌝ }
+    requires { ⌜ ReadyUp (entity (e .index) (e .version)) 0 (bitsOf 64 (mask .0)) (meaning (now words) .storage) ⌝ }
+    ensures { λ _. ⌜ Becomes (now (words .entry)) (now (words .exit)) (onStorage (walkUp (entity (e .index) (e .version)) 0 (bitsOf 64 (mask .0))) (meaning (now (words .entry)))) ⌝ }
 {
     let mut left = mask;
     loop {
         let NextBit::At(g, rest) = left.next() else {
             return;
         };
-        left = group_step(words, g as usize, rest, index, version);
+        left = group_step(words, g as usize, rest, e);
     }
 }
 
@@ -150,20 +143,20 @@ pub fn group_each(words: &mut [u32], mask: GroupMask, start: usize)
     let mut place = start;
     while place < len {
         let entity = control::entities::live_at(words, place);
-        group(words, mask, entity.index, entity.version);
+        group(words, mask, entity);
         place += 1;
     }
 }
 
 // One group of the walk downward.
-fn ungroup_step(words: &mut [u32], g: usize, index: u32, version: u32)
+fn ungroup_step(words: &mut [u32], g: usize, e: Entity)
     requires { ⌜ Arranged (now words) ⌝ }
     requires { ⌜ g < groupsOf (meaning (now words) .storage .layout) ⌝ }
-    requires { ⌜ ReadyOut (statusAt (entity index version) g (meaning (now words) .storage)) (entity index version) (located (meaning (now words) .storage .layout) g) (meaning (now words) .storage .sets) ⌝ }
-    ensures { λ _. ⌜ Becomes (now (words .entry)) (now (words .exit)) (onStorage (stepDown (statusAt (entity index version) g (meaning (now (words .entry)) .storage)) (entity index version) g) (meaning (now (words .entry)))) ⌝ }
+    requires { ⌜ ReadyOut (statusAt (entity (e .index) (e .version)) g (meaning (now words) .storage)) (entity (e .index) (e .version)) (located (meaning (now words) .storage .layout) g) (meaning (now words) .storage .sets) ⌝ }
+    ensures { λ _. ⌜ Becomes (now (words .entry)) (now (words .exit)) (onStorage (stepDown (statusAt (entity (e .index) (e .version)) g (meaning (now (words .entry)) .storage)) (entity (e .index) (e .version)) g) (meaning (now (words .entry)))) ⌝ }
 {
     let metadata = metadata(words, g);
-    let status = status_in(words, g, metadata, index, version);
+    let status = status_in(words, g, metadata, e);
     match status {
         GroupStatus::Incomplete => {
             return;
@@ -173,7 +166,7 @@ fn ungroup_step(words: &mut [u32], g: usize, index: u32, version: u32)
         }
         GroupStatus::Grouped(place) => {
             let group_len = count(words, g);
-            ungroup_components(words, metadata, g, group_len, place, index, version);
+            ungroup_components(words, metadata, g, group_len, place, e);
             return;
         }
     }
@@ -187,31 +180,31 @@ fn highest(mask: GroupMask) -> NextBit
 }
 
 // The walk downward over the groups of a mask, highest first.
-pub fn ungroup(words: &mut [u32], mask: GroupMask, index: u32, version: u32)
+pub fn ungroup(words: &mut [u32], mask: GroupMask, e: Entity)
     requires { ⌜ Arranged (now words) ⌝ }
     requires { ⌜ Below (bitsOf 64 (mask .0)) (meaning (now words) .storage) ⌝ }
-    requires { ⌜ ReadyDown (entity index version) (reverse (bitsOf 64 (mask .0))) (meaning (now words) .storage) ⌝ }
-    ensures { λ _. ⌜ Becomes (now (words .entry)) (now (words .exit)) (onStorage (walkDown (entity index version) (reverse (bitsOf 64 (mask .0)))) (meaning (now (words .entry)))) ⌝ }
+    requires { ⌜ ReadyDown (entity (e .index) (e .version)) (reverse (bitsOf 64 (mask .0))) (meaning (now words) .storage) ⌝ }
+    ensures { λ _. ⌜ Becomes (now (words .entry)) (now (words .exit)) (onStorage (walkDown (entity (e .index) (e .version)) (reverse (bitsOf 64 (mask .0)))) (meaning (now (words .entry)))) ⌝ }
 {
     let mut left = mask;
     loop {
         let NextBit::At(g, rest) = highest(left) else {
             return;
         };
-        ungroup_step(words, g as usize, index, version);
+        ungroup_step(words, g as usize, e);
         left = rest;
     }
 }
 
 // Out of all groups, highest first.
-pub fn ungroup_all(words: &mut [u32], index: u32, version: u32)
+pub fn ungroup_all(words: &mut [u32], e: Entity)
     requires { ⌜ Arranged (now words) ⌝ }
-    requires { ⌜ ReadyDown (entity index version) (reverse (upFrom 0 (groupsOf (meaning (now words) .storage .layout)))) (meaning (now words) .storage) ⌝ }
-    ensures { λ _. ⌜ Becomes (now (words .entry)) (now (words .exit)) (onStorage (walkDown (entity index version) (reverse (upFrom 0 (groupsOf (meaning (now (words .entry)) .storage .layout))))) (meaning (now (words .entry)))) ⌝ }
+    requires { ⌜ ReadyDown (entity (e .index) (e .version)) (reverse (upFrom 0 (groupsOf (meaning (now words) .storage .layout)))) (meaning (now words) .storage) ⌝ }
+    ensures { λ _. ⌜ Becomes (now (words .entry)) (now (words .exit)) (onStorage (walkDown (entity (e .index) (e .version)) (reverse (upFrom 0 (groupsOf (meaning (now (words .entry)) .storage .layout))))) (meaning (now (words .entry)))) ⌝ }
 {
     let mut g = group_count(words);
     while 0 < g {
         g -= 1;
-        ungroup_step(words, g, index, version);
+        ungroup_step(words, g, e);
     }
 }

@@ -16,6 +16,7 @@ use group::group_status::GroupStatus;
 use layout::group_metadata::GroupMetadata;
 use masks::group_mask::GroupMask;
 use masks::group_mask::NextBit;
+use words::Entity;
 use words::Shape;
 ghost use Prim.Native.Nat.{_<_, _≤_};
 ghost use lib.ListN.{drop};
@@ -38,19 +39,18 @@ fn swap_kinds(
     starts: &[usize],
     start: usize,
     end: usize,
-    index: u32,
-    version: u32,
+    e: Entity,
     swap_index: usize,
 )
     requires { ⌜ Arranged (now words) ⌝ }
     requires { ⌜ Starts (now words) z (now starts) ⌝ }
     requires { ⌜ PlacesKnown (meaning (now words)) start end ⌝ }
-    requires { ⌜ Swappable (entity index version) (between start end (orderOf (meaning (now words)))) «swap_index» (meaning (now words) .storage .sets) ⌝ }
-    ensures { λ _. ⌜ Becomes (now (words .entry)) (now (words .exit)) (onStorage (swapKinds (entity index version) «swap_index» (between start end (orderOf (meaning (now (words .entry)))))) (meaning (now (words .entry)))) ⌝ }
+    requires { ⌜ Swappable (entity (e .index) (e .version)) (between start end (orderOf (meaning (now words)))) «swap_index» (meaning (now words) .storage .sets) ⌝ }
+    ensures { λ _. ⌜ Becomes (now (words .entry)) (now (words .exit)) (onStorage (swapKinds (entity (e .index) (e .version)) «swap_index» (between start end (orderOf (meaning (now (words .entry)))))) (meaning (now (words .entry)))) ⌝ }
 {
     let mut place = start;
     while place < end {
-        swap_at(words, z, starts, place, index, version, swap_index);
+        swap_at(words, z, starts, place, e, swap_index);
         place += 1;
     }
 }
@@ -63,18 +63,17 @@ fn group_components(
     metadata: GroupMetadata,
     g: usize,
     group_len: usize,
-    index: u32,
-    version: u32,
+    e: Entity,
 )
     requires { ⌜ Arranged (now words) ⌝ }
     requires { ⌜ Starts (now words) z (now starts) ⌝ }
     requires { ⌜ Stands (meaning (now words)) g metadata «group_len» ⌝ }
-    requires { ⌜ Swappable (entity index version) (located (meaning (now words) .storage .layout) g .kinds) (located (meaning (now words) .storage .layout) g .count) (meaning (now words) .storage .sets) ⌝ }
-    ensures { λ _. ⌜ Becomes (now (words .entry)) (now (words .exit)) (onStorage (groupAt (entity index version) g) (meaning (now (words .entry)))) ⌝ }
+    requires { ⌜ Swappable (entity (e .index) (e .version)) (located (meaning (now words) .storage .layout) g .kinds) (located (meaning (now words) .storage .layout) g .count) (meaning (now words) .storage .sets) ⌝ }
+    ensures { λ _. ⌜ Becomes (now (words .entry)) (now (words .exit)) (onStorage (groupAt (entity (e .index) (e .version)) g) (meaning (now (words .entry)))) ⌝ }
 {
     let start = metadata.storage_start;
     let end = metadata.storage_end;
-    swap_kinds(words, z, starts, start, end, index, version, group_len);
+    swap_kinds(words, z, starts, start, end, e, group_len);
     set_count(words, g, group_len + 1);
 }
 
@@ -87,26 +86,25 @@ fn group_step(
     skips: &[u64],
     g: usize,
     rest: GroupMask,
-    index: u32,
-    version: u32,
+    e: Entity,
 ) -> GroupMask
     requires { ⌜ Arranged (now words) ⌝ }
     requires { ⌜ Tables (now words) z (now starts) (now groups) (now skips) ⌝ }
     requires { ⌜ g < groupsOf (meaning (now words) .storage .layout) ⌝ }
-    requires { ⌜ ReadyIn (statusAt (entity index version) g (meaning (now words) .storage)) (entity index version) (located (meaning (now words) .storage .layout) g) (meaning (now words) .storage .sets) ⌝ }
-    requires { ⌜ (index < z .capacity) × (1 ≤ version) ⌝ }
-    ensures { λ r. ⌜ StepsUp (now (words .entry)) (now (words .exit)) (entity index version) g (rest .0) (r .0) ⌝ }
+    requires { ⌜ ReadyIn (statusAt (entity (e .index) (e .version)) g (meaning (now words) .storage)) (entity (e .index) (e .version)) (located (meaning (now words) .storage .layout) g) (meaning (now words) .storage .sets) ⌝ }
+    requires { ⌜ (e .index < z .capacity) × (1 ≤ e .version) ⌝ }
+    ensures { λ r. ⌜ StepsUp (now (words .entry)) (now (words .exit)) (entity (e .index) (e .version)) g (rest .0) (r .0) ⌝ }
 {
     let metadata = metadata_at(groups, g);
     let group_len = count(words, g);
-    let status = status_in(words, z, starts, g, metadata, group_len, index, version);
+    let status = status_in(words, z, starts, g, metadata, group_len, e);
     match status {
         GroupStatus::Incomplete => {
             let skip = GroupMask(skips[g]);
             return rest.intersection(skip);
         }
         GroupStatus::Ungrouped => {
-            group_components(words, z, starts, metadata, g, group_len, index, version);
+            group_components(words, z, starts, metadata, g, group_len, e);
             return rest;
         }
         GroupStatus::Grouped(place) => {
@@ -123,32 +121,21 @@ fn group(
     groups: &[usize],
     skips: &[u64],
     mask: GroupMask,
-    index: u32,
-    version: u32,
+    e: Entity,
 )
     requires { ⌜ Arranged (now words) ⌝ }
     requires { ⌜ Tables (now words) z (now starts) (now groups) (now skips) ⌝ }
     requires { ⌜ Below (bitsOf 64 (mask .0)) (meaning (now words) .storage) ⌝ }
-    requires { ⌜ ReadyUp (entity index version) 0 (bitsOf 64 (mask .0)) (meaning (now words) .storage) ⌝ }
-    requires { ⌜ (index < z .capacity) × (1 ≤ version) ⌝ }
-    ensures { λ _. ⌜ Becomes (now (words .entry)) (now (words .exit)) (onStorage (walkUp (entity index version) 0 (bitsOf 64 (mask .0))) (meaning (now (words .entry)))) ⌝ }
+    requires { ⌜ ReadyUp (entity (e .index) (e .version)) 0 (bitsOf 64 (mask .0)) (meaning (now words) .storage) ⌝ }
+    requires { ⌜ (e .index < z .capacity) × (1 ≤ e .version) ⌝ }
+    ensures { λ _. ⌜ Becomes (now (words .entry)) (now (words .exit)) (onStorage (walkUp (entity (e .index) (e .version)) 0 (bitsOf 64 (mask .0))) (meaning (now (words .entry)))) ⌝ }
 {
     let mut left = mask;
     loop {
         let NextBit::At(g, rest) = left.next() else {
             return;
         };
-        left = group_step(
-            words,
-            z,
-            starts,
-            groups,
-            skips,
-            g as usize,
-            rest,
-            index,
-            version,
-        );
+        left = group_step(words, z, starts, groups, skips, g as usize, rest, e);
     }
 }
 
@@ -172,16 +159,7 @@ fn group_from(
     let mut place = start;
     while place < len {
         let entity = control::entities::live_at(words, place);
-        group(
-            words,
-            z,
-            starts,
-            groups,
-            skips,
-            mask,
-            entity.index,
-            entity.version,
-        );
+        group(words, z, starts, groups, skips, mask, entity);
         place += 1;
     }
 }

@@ -4,6 +4,7 @@ use crate::tables::holds_at;
 use component::Found;
 use group::group_status::GroupStatus;
 use layout::group_metadata::GroupMetadata;
+use words::Entity;
 use words::Shape;
 ghost use mathlib.Core.Path.{_≡_};
 ghost use Prim.Native.Nat.{_<_, _≤_};
@@ -17,24 +18,16 @@ ghost use Rattle.group.specs.Steps.{statusIn};
 ghost use Rattle.group_tables.specs.Tables.{Starts};
 
 // Does the entity hold each of the layout's kinds from start to end?
-fn holds_all(
-    words: &[u32],
-    z: Shape,
-    starts: &[usize],
-    start: usize,
-    end: usize,
-    index: u32,
-    version: u32,
-) -> bool
+fn holds_all(words: &[u32], z: Shape, starts: &[usize], start: usize, end: usize, e: Entity) -> bool
     requires { ⌜ Arranged (now words) ⌝ }
     requires { ⌜ Starts (now words) z (now starts) ⌝ }
     requires { ⌜ PlacesKnown (meaning (now words)) start end ⌝ }
-    requires { ⌜ (index < z .capacity) × (1 ≤ version) ⌝ }
-    ensures { λ r. ⌜ r ≡ allHeld (entity index version) (between start end (orderOf (meaning (now (words .entry))))) (meaning (now (words .entry)) .storage .sets) ⌝ }
+    requires { ⌜ (e .index < z .capacity) × (1 ≤ e .version) ⌝ }
+    ensures { λ r. ⌜ r ≡ allHeld (entity (e .index) (e .version)) (between start end (orderOf (meaning (now (words .entry))))) (meaning (now (words .entry)) .storage .sets) ⌝ }
 {
     let mut place = start;
     while place < end {
-        if !holds_at(words, z, starts, place, index, version) {
+        if !holds_at(words, z, starts, place, e) {
             return false;
         }
         place += 1;
@@ -50,21 +43,20 @@ fn get_group_status(
     start: usize,
     end: usize,
     group_len: usize,
-    index: u32,
-    version: u32,
+    e: Entity,
 ) -> GroupStatus
     requires { ⌜ Arranged (now words) ⌝ }
     requires { ⌜ Starts (now words) z (now starts) ⌝ }
     requires { ⌜ PlacesKnown (meaning (now words)) start end ⌝ }
     requires { ⌜ start < end ⌝ }
-    requires { ⌜ (index < z .capacity) × (1 ≤ version) ⌝ }
-    ensures { λ r. ⌜ r ≡ statusIn (entity index version) (between start end (orderOf (meaning (now (words .entry))))) «group_len» (meaning (now (words .entry)) .storage .sets) ⌝ }
+    requires { ⌜ (e .index < z .capacity) × (1 ≤ e .version) ⌝ }
+    ensures { λ r. ⌜ r ≡ statusIn (entity (e .index) (e .version)) (between start end (orderOf (meaning (now (words .entry))))) «group_len» (meaning (now (words .entry)) .storage .sets) ⌝ }
 {
-    let found = find_at(words, z, starts, start, index, version);
+    let found = find_at(words, z, starts, start, e);
     let Found::At(place) = found else {
         return GroupStatus::Incomplete;
     };
-    if !holds_all(words, z, starts, start + 1, end, index, version) {
+    if !holds_all(words, z, starts, start + 1, end, e) {
         return GroupStatus::Incomplete;
     }
     if place < group_len {
@@ -81,16 +73,15 @@ pub fn status_in(
     g: usize,
     metadata: GroupMetadata,
     group_len: usize,
-    index: u32,
-    version: u32,
+    e: Entity,
 ) -> GroupStatus
     requires { ⌜ Arranged (now words) ⌝ }
     requires { ⌜ Starts (now words) z (now starts) ⌝ }
     requires { ⌜ Stands (meaning (now words)) g metadata «group_len» ⌝ }
-    requires { ⌜ (index < z .capacity) × (1 ≤ version) ⌝ }
-    ensures { λ r. ⌜ r ≡ statusAt (entity index version) g (meaning (now (words .entry)) .storage) ⌝ }
+    requires { ⌜ (e .index < z .capacity) × (1 ≤ e .version) ⌝ }
+    ensures { λ r. ⌜ r ≡ statusAt (entity (e .index) (e .version)) g (meaning (now (words .entry)) .storage) ⌝ }
 {
     let start = metadata.new_storage_start;
     let end = metadata.storage_end;
-    get_group_status(words, z, starts, start, end, group_len, index, version)
+    get_group_status(words, z, starts, start, end, group_len, e)
 }

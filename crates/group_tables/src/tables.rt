@@ -2,6 +2,7 @@
 use component::Found;
 use group::group_metadata::kind_at;
 use layout::starts::start_of;
+use words::Entity;
 use words::LAYOUT_KIND_ENDS;
 use words::Shape;
 ghost use mathlib.Core.Path.{_≡_};
@@ -48,39 +49,25 @@ pub fn fill_starts(words: &[u32], z: Shape, starts: &mut [usize])
 }
 
 // Where the entity stands in the sparse set of the kind at a place.
-pub fn find_at(
-    words: &[u32],
-    z: Shape,
-    starts: &[usize],
-    place: usize,
-    index: u32,
-    version: u32,
-) -> Found
+pub fn find_at(words: &[u32], z: Shape, starts: &[usize], place: usize, e: Entity) -> Found
     requires { ⌜ Arranged (now words) ⌝ }
     requires { ⌜ Starts (now words) z (now starts) ⌝ }
     requires { ⌜ place < length (orderOf (meaning (now words))) ⌝ }
-    requires { ⌜ (index < z .capacity) × (1 ≤ version) ⌝ }
-    ensures { λ r. ⌜ Finds z (entity index version) (kindSet (now (words .entry)) (kindNo (now (words .entry)) place)) r ⌝ }
+    requires { ⌜ (e .index < z .capacity) × (1 ≤ e .version) ⌝ }
+    ensures { λ r. ⌜ Finds z (entity (e .index) (e .version)) (kindSet (now (words .entry)) (kindNo (now (words .entry)) place)) r ⌝ }
 {
-    component::at_start::find_from(words, z, starts[place], index, version)
+    component::at_start::find_from(words, z, starts[place], e)
 }
 
 // Whether the entity holds the kind at a place.
-pub fn holds_at(
-    words: &[u32],
-    z: Shape,
-    starts: &[usize],
-    place: usize,
-    index: u32,
-    version: u32,
-) -> bool
+pub fn holds_at(words: &[u32], z: Shape, starts: &[usize], place: usize, e: Entity) -> bool
     requires { ⌜ Arranged (now words) ⌝ }
     requires { ⌜ Starts (now words) z (now starts) ⌝ }
     requires { ⌜ place < length (orderOf (meaning (now words))) ⌝ }
-    requires { ⌜ (index < z .capacity) × (1 ≤ version) ⌝ }
-    ensures { λ r. ⌜ r ≡ held (entity index version) (kindSet (now (words .entry)) (kindNo (now (words .entry)) place)) ⌝ }
+    requires { ⌜ (e .index < z .capacity) × (1 ≤ e .version) ⌝ }
+    ensures { λ r. ⌜ r ≡ held (entity (e .index) (e .version)) (kindSet (now (words .entry)) (kindNo (now (words .entry)) place)) ⌝ }
 {
-    component::at_start::holds_from(words, z, starts[place], index, version)
+    component::at_start::holds_from(words, z, starts[place], e)
 }
 
 // Exchanges the entity's row with the one at swap_index, in the column of the kind at a place.
@@ -89,16 +76,15 @@ pub fn swap_at(
     z: Shape,
     starts: &[usize],
     place: usize,
-    index: u32,
-    version: u32,
+    e: Entity,
     swap_index: usize,
 )
     requires { ⌜ Arranged (now words) ⌝ }
     requires { ⌜ Starts (now words) z (now starts) ⌝ }
     requires { ⌜ place < length (orderOf (meaning (now words))) ⌝ }
-    requires { ⌜ held (entity index version) (rowsOf z (slotOf (now words) (kindNo (now words) place)) (now words)) ≡ true ⌝ }
+    requires { ⌜ held (entity (e .index) (e .version)) (rowsOf z (slotOf (now words) (kindNo (now words) place)) (now words)) ≡ true ⌝ }
     requires { ⌜ «swap_index» < length (rowsOf z (slotOf (now words) (kindNo (now words) place)) (now words)) ⌝ }
-    ensures { λ _. ⌜ Only z (slotOf (now (words .entry)) (kindNo (now (words .entry)) place)) (swapTo (entity index version) «swap_index») (now (words .entry)) (now (words .exit)) ⌝ }
+    ensures { λ _. ⌜ Only z (slotOf (now (words .entry)) (kindNo (now (words .entry)) place)) (swapTo (entity (e .index) (e .version)) «swap_index») (now (words .entry)) (now (words .exit)) ⌝ }
 {
-    component::at_start::swap_to_from(words, z, starts[place], index, version, swap_index);
+    component::at_start::swap_to_from(words, z, starts[place], e, swap_index);
 }

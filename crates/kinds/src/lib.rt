@@ -2,6 +2,7 @@
 use component::Found;
 use component::Removed;
 use values::Value;
+use words::Entity;
 use words::Shape;
 ghost use mathlib.Core.Path.{_≡_};
 ghost use mathlib.Core.Bool.{true, false};
@@ -57,25 +58,25 @@ pub fn set_len(words: &[u32], kind: usize) -> usize
 }
 
 // Any index and version may be asked for.
-pub fn find(words: &[u32], kind: usize, index: u32, version: u32) -> Found
+pub fn find(words: &[u32], kind: usize, e: Entity) -> Found
     requires { ⌜ Arranged (now words) ⌝ }
     requires { ⌜ In (meaning (now words) .kinds) kind ⌝ }
-    ensures { λ r. ⌜ Finds (shapeOf (now (words .entry))) (entity index version) (kindSet (now (words .entry)) kind) r ⌝ }
+    ensures { λ r. ⌜ Finds (shapeOf (now (words .entry))) (entity (e .index) (e .version)) (kindSet (now (words .entry)) kind) r ⌝ }
 {
     let z = words::shape_of(words);
     let slot = slot_of(words, kind);
-    component::slots::find_in(words, z, slot, index, version)
+    component::slots::find_in(words, z, slot, e)
 }
 
 // Whether the entity holds the kind.
-pub fn holds(words: &[u32], kind: usize, index: u32, version: u32) -> bool
+pub fn holds(words: &[u32], kind: usize, e: Entity) -> bool
     requires { ⌜ Arranged (now words) ⌝ }
     requires { ⌜ In (meaning (now words) .kinds) kind ⌝ }
-    ensures { λ r. ⌜ r ≡ held (entity index version) (kindSet (now (words .entry)) kind) ⌝ }
+    ensures { λ r. ⌜ r ≡ held (entity (e .index) (e .version)) (kindSet (now (words .entry)) kind) ⌝ }
 {
     let z = words::shape_of(words);
     let slot = slot_of(words, kind);
-    component::slots::holds_in(words, z, slot, index, version)
+    component::slots::holds_in(words, z, slot, e)
 }
 
 // The value of the row at a place.
@@ -91,27 +92,27 @@ pub fn value_of(words: &[u32], kind: usize, place: usize) -> Value
 }
 
 // Puts a value with an entity: in the entity's row, or in a new one at the end.
-pub fn insert(words: &mut [u32], kind: usize, index: u32, version: u32, x: Value)
+pub fn insert(words: &mut [u32], kind: usize, e: Entity, x: Value)
     requires { ⌜ Arranged (now words) ⌝ }
     requires { ⌜ In (meaning (now words) .kinds) kind ⌝ }
-    requires { ⌜ (index < capacityOf (now words)) × (1 ≤ version) ⌝ }
-    requires { ⌜ Current index version (kindSet (now words) kind) ⌝ }
-    ensures { λ _. ⌜ Becomes (now (words .entry)) (now (words .exit)) (onStorage (onSet kind (insertRow (entity index version) (valueOf (shapeOf (now (words .entry)) .stride) x))) (meaning (now (words .entry)))) ⌝ }
+    requires { ⌜ (e .index < capacityOf (now words)) × (1 ≤ e .version) ⌝ }
+    requires { ⌜ Current (e .index) (e .version) (kindSet (now words) kind) ⌝ }
+    ensures { λ _. ⌜ Becomes (now (words .entry)) (now (words .exit)) (onStorage (onSet kind (insertRow (entity (e .index) (e .version)) (valueOf (shapeOf (now (words .entry)) .stride) x))) (meaning (now (words .entry)))) ⌝ }
 {
     let z = words::shape_of(words);
     let slot = slot_of(words, kind);
-    component::slots::insert_in(words, z, slot, index, version, x);
+    component::slots::insert_in(words, z, slot, e, x);
 }
 
 // The entity's row goes, if it has one, and its value is handed back.
-pub fn remove(words: &mut [u32], kind: usize, index: u32, version: u32) -> Removed
+pub fn remove(words: &mut [u32], kind: usize, e: Entity) -> Removed
     requires { ⌜ Arranged (now words) ⌝ }
     requires { ⌜ In (meaning (now words) .kinds) kind ⌝ }
-    ensures { λ r. ⌜ RemovesKind (now (words .entry)) (now (words .exit)) kind (entity index version) r ⌝ }
+    ensures { λ r. ⌜ RemovesKind (now (words .entry)) (now (words .exit)) kind (entity (e .index) (e .version)) r ⌝ }
 {
     let z = words::shape_of(words);
     let slot = slot_of(words, kind);
-    component::slots::remove_in(words, z, slot, index, version)
+    component::slots::remove_in(words, z, slot, e)
 }
 
 // Every kind's rows go. A slot that no kind has is empty as it is.

@@ -1,5 +1,6 @@
 // Commands with operands: they are read off the tape, at `at`.
 use model::commands;
+use words::Entity;
 ghost use Prim.Native.Nat.{_≤_};
 ghost use Rattle.model.specs.Numbers.{REG-BYTE, HOLD-BYTE, BAR-BYTE, TRAY-BYTE, SETCALLER-BYTE};
 ghost use Rattle.model.specs.Run.{does};
@@ -39,11 +40,12 @@ pub fn on_entity(
 {
     let index = codec::get_u32(tape, at);
     let version = codec::get_u32(tape, at + 4);
+    let e = Entity { index, version };
     match op {
-        commands::PUT => command_entity::components::put(words, index, version, out, to),
-        commands::TAKE => command_take::take(words, index, version, out, to),
-        commands::DROP => command_entity::components::drop(words, index, version, out, to),
-        _ => command_entity::entities::kill(words, index, version, out, to),
+        commands::PUT => command_entity::components::put(words, e, out, to),
+        commands::TAKE => command_take::take(words, e, out, to),
+        commands::DROP => command_entity::components::drop(words, e, out, to),
+        _ => command_entity::entities::kill(words, e, out, to),
     }
 }
 

@@ -1,6 +1,7 @@
 // The snapshot of a store, which *roll* writes: how long it is, and its bytes. The live entities by rising index, the components of each by rising kind.
 // One lookup for each live entity and registered kind: the length comes from the columns' lengths, an entity's count from the bytes of its components.
 use component::Found;
+use words::Entity;
 ghost use mathlib.Core.Path.{_≡_};
 ghost use Prim.Native.Nat.{_+_, _*_, _<_, _≤_};
 ghost use lib.ListN.{length};
@@ -65,20 +66,13 @@ fn rising_kinds(words: &[u32], list: &mut [u8]) -> usize
 }
 
 // One component, if the entity holds the kind.
-fn write_one(
-    words: &[u32],
-    kind: usize,
-    index: u32,
-    version: u32,
-    out: &mut [u8],
-    at: usize,
-) -> usize
+fn write_one(words: &[u32], kind: usize, e: Entity, out: &mut [u8], at: usize) -> usize
     requires { ⌜ Arranged (now words) ⌝ }
     requires { ⌜ In (meaning (now words) .kinds) kind ⌝ }
-    requires { ⌜ at + length (oneBytes VALUE-BYTES (valueAt (entity index version) (kindSet (now words) kind)) kind) ≤ length (now out) ⌝ }
-    ensures { λ r. ⌜ WrittenUntil (now (out .entry)) (now (out .exit)) at r (oneBytes VALUE-BYTES (valueAt (entity index version) (kindSet (now (words .entry)) kind)) kind) ⌝ }
+    requires { ⌜ at + length (oneBytes VALUE-BYTES (valueAt (entity (e .index) (e .version)) (kindSet (now words) kind)) kind) ≤ length (now out) ⌝ }
+    ensures { λ r. ⌜ WrittenUntil (now (out .entry)) (now (out .exit)) at r (oneBytes VALUE-BYTES (valueAt (entity (e .index) (e .version)) (kindSet (now (words .entry)) kind)) kind) ⌝ }
 {
-    let found = kinds::find(words, kind, index, version);
+    let found = kinds::find(words, kind, e);
     let Found::At(place) = found else {
         return at;
     };
@@ -89,45 +83,31 @@ fn write_one(
 }
 
 // The entity's components.
-fn write_components(
-    words: &[u32],
-    list: &[u8],
-    index: u32,
-    version: u32,
-    out: &mut [u8],
-    at: usize,
-) -> usize
+fn write_components(words: &[u32], list: &[u8], e: Entity, out: &mut [u8], at: usize) -> usize
     requires { ⌜ Arranged (now words) ⌝ }
     requires { ⌜ now list ≡ risingKinds (meaning (now words) .kinds) ⌝ }
-    requires { ⌜ at + length (componentBytes VALUE-BYTES (componentsOf (entity index version) 0 (meaning (now words) .storage .sets))) ≤ length (now out) ⌝ }
-    ensures { λ r. ⌜ WrittenUntil (now (out .entry)) (now (out .exit)) at r (componentBytes VALUE-BYTES (componentsOf (entity index version) 0 (meaning (now (words .entry)) .storage .sets))) ⌝ }
+    requires { ⌜ at + length (componentBytes VALUE-BYTES (componentsOf (entity (e .index) (e .version)) 0 (meaning (now words) .storage .sets))) ≤ length (now out) ⌝ }
+    ensures { λ r. ⌜ WrittenUntil (now (out .entry)) (now (out .exit)) at r (componentBytes VALUE-BYTES (componentsOf (entity (e .index) (e .version)) 0 (meaning (now (words .entry)) .storage .sets))) ⌝ }
 {
     let mut next = at;
     for i in 0..list.len() {
         let kind = list[i] as usize;
-        next = write_one(words, kind, index, version, out, next);
+        next = write_one(words, kind, e, out, next);
     }
     next
 }
 
 // One entity: its numbers, how many components it has, and these.
-fn write_entity(
-    words: &[u32],
-    list: &[u8],
-    index: u32,
-    version: u32,
-    out: &mut [u8],
-    at: usize,
-) -> usize
+fn write_entity(words: &[u32], list: &[u8], e: Entity, out: &mut [u8], at: usize) -> usize
     requires { ⌜ Arranged (now words) ⌝ }
     requires { ⌜ now list ≡ risingKinds (meaning (now words) .kinds) ⌝ }
-    requires { ⌜ at + length (entryBytes VALUE-BYTES (entryFor (now words) index version)) ≤ length (now out) ⌝ }
-    ensures { λ r. ⌜ WrittenUntil (now (out .entry)) (now (out .exit)) at r (entryBytes VALUE-BYTES (entryFor (now (words .entry)) index version)) ⌝ }
+    requires { ⌜ at + length (entryBytes VALUE-BYTES (entryFor (now words) (e .index) (e .version))) ≤ length (now out) ⌝ }
+    ensures { λ r. ⌜ WrittenUntil (now (out .entry)) (now (out .exit)) at r (entryBytes VALUE-BYTES (entryFor (now (words .entry)) (e .index) (e .version))) ⌝ }
 {
-    codec::put_u32(out, at, index);
-    codec::put_u32(out, at + 4, version);
+    codec::put_u32(out, at, e.index);
+    codec::put_u32(out, at + 4, e.version);
     let start = at + 9;
-    let end = write_components(words, list, index, version, out, start);
+    let end = write_components(words, list, e, out, start);
     out[at + 8] = ((end - start) / 9) as u8;
     end
 }
@@ -144,7 +124,11 @@ fn write_index(words: &[u32], list: &[u8], index: usize, out: &mut [u8], at: usi
     if version == 0 {
         return at;
     }
-    write_entity(words, list, index as u32, version, out, at)
+    let e = Entity {
+        index: index as u32,
+        version,
+    };
+    write_entity(words, list, e, out, at)
 }
 
 // All live entities.

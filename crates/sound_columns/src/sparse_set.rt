@@ -1,5 +1,6 @@
 // Whether a part is a sound sparse set of live entities, in time linear in its words.
 use entity::entity_storage::contains;
+use words::Entity;
 use words::Shape;
 ghost use Prim.Native.Nat.{_<_, _≤_};
 ghost use Rattle.component.specs.Stored.{ColumnSized};
@@ -42,7 +43,11 @@ fn row_ok(part: &[u32], entities: &[u32], z: Shape, i: usize) -> bool
         return false;
     }
     let c = words::entity_place(i);
-    if !contains(entities, z.capacity, part[c], part[c + 1]) {
+    let e = Entity {
+        index: part[c],
+        version: part[c + 1],
+    };
+    if !contains(entities, z.capacity, e) {
         return false;
     }
     true

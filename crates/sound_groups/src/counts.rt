@@ -1,5 +1,6 @@
 // The groups' counts: a group's first places hold the same entities in each of its columns, and past them each lacks a kind.
 use layout::starts::prior_of;
+use words::Entity;
 use words::Shape;
 ghost use Prim.Native.Nat.{_+_, _*_, _<_, _≤_};
 ghost use lib.ListN.{length};
@@ -71,16 +72,16 @@ fn span_even(words: &[u32], z: Shape, h: usize, c: usize, from: usize, to: usize
 }
 
 // Has the entity the kinds at the words from `from` on, below `to`?
-fn holds_all(words: &[u32], z: Shape, index: u32, version: u32, from: usize, to: usize) -> bool
+fn holds_all(words: &[u32], z: Shape, e: Entity, from: usize, to: usize) -> bool
     requires { ⌜ LAYOUT-ARITIES ≤ length (now words) ⌝ }
     requires { ⌜ KindsAt z (now words) from to ⌝ }
-    ensures { λ r. ⌜ Decides r (HoldsAll z (now (words .entry)) from to (entity index version)) ⌝ }
+    ensures { λ r. ⌜ Decides r (HoldsAll z (now (words .entry)) from to (entity (e .index) (e .version))) ⌝ }
 {
     let mut j = from;
     while j < to {
         let kind = words[j] as usize;
         let s = words[words::TABLE + kind] as usize;
-        if !component::slots::holds_in(words, z, s, index, version) {
+        if !component::slots::holds_in(words, z, s, e) {
             return false;
         }
         j += 1;
@@ -95,9 +96,11 @@ fn lacks(words: &[u32], z: Shape, h: usize, from: usize, to: usize, i: usize) ->
     ensures { λ r. ⌜ Decides r (HoldsAll z (now (words .entry)) from to (keyAt z (now (words .entry)) h i) → ⊥) ⌝ }
 {
     let at = words::column_start(z, h) + words::ROWS + 2 * i;
-    let index = words[at];
-    let version = words[at + 1];
-    if holds_all(words, z, index, version, from, to) {
+    let e = Entity {
+        index: words[at],
+        version: words[at + 1],
+    };
+    if holds_all(words, z, e, from, to) {
         return false;
     }
     true

@@ -3,6 +3,7 @@
 use crate::mask::Walk;
 use crate::mask::staged_mask;
 use component::Removed;
+use words::Entity;
 ghost use mathlib.Core.Path.{_≡_};
 ghost use mathlib.Core.Bool.{true};
 ghost use Prim.Native.Nat.{_<_};
@@ -17,37 +18,37 @@ ghost use Rattle.world.specs.Insert.{Insertable, insertOne, inserted, Al
 ghost use Rattle.world.specs.Remove.{Staged, ungrouped, removed};
 
 // The staged component at i goes into the entity.
-fn insert_one(words: &mut [u32], i: usize, index: u32, version: u32)
-    requires { ⌜ Insertable (now words) index version ⌝ }
+fn insert_one(words: &mut [u32], i: usize, e: Entity)
+    requires { ⌜ Insertable (now words) (e .index) (e .version) ⌝ }
     requires { ⌜ i < length (meaning (now words) .control .staged) ⌝ }
-    ensures { λ _. ⌜ Becomes (now (words .entry)) (now (words .exit)) (onStorage (insertOne (entity index version) (getD (meaning (now (words .entry)) .control .staged) i noComponent)) (meaning (now (words .entry)))) ⌝ }
+    ensures { λ _. ⌜ Becomes (now (words .entry)) (now (words .exit)) (onStorage (insertOne (entity (e .index) (e .version)) (getD (meaning (now (words .entry)) .control .staged) i noComponent)) (meaning (now (words .entry)))) ⌝ }
 {
     let c = control::staged::staged_at(words, i);
-    kinds::insert(words, c.kind, index, version, c.value);
+    kinds::insert(words, c.kind, e, c.value);
 }
 
 // All staged components go into the entity; no group is walked yet.
-pub fn insert_staged(words: &mut [u32], index: u32, version: u32)
-    requires { ⌜ Insertable (now words) index version ⌝ }
-    ensures { λ _. ⌜ Becomes (now (words .entry)) (now (words .exit)) (onStorage (inserted (entity index version) (meaning (now (words .entry)) .control .staged)) (meaning (now (words .entry)))) ⌝ }
+pub fn insert_staged(words: &mut [u32], e: Entity)
+    requires { ⌜ Insertable (now words) (e .index) (e .version) ⌝ }
+    ensures { λ _. ⌜ Becomes (now (words .entry)) (now (words .exit)) (onStorage (inserted (entity (e .index) (e .version)) (meaning (now (words .entry)) .control .staged)) (meaning (now (words .entry)))) ⌝ }
 {
     let n = control::staged::staged_len(words);
     let mut i = 0;
     while i < n {
-        insert_one(words, i, index, version);
+        insert_one(words, i, e);
         i += 1;
     }
 }
 
 // The staged components go into a live entity.
-pub fn insert(words: &mut [u32], index: u32, version: u32)
+pub fn insert(words: &mut [u32], e: Entity)
     requires { ⌜ Sound (now words) ⌝ }
-    requires { ⌜ isLive (entity index version) (meaning (now words) .entities) ≡ true ⌝ }
-    ensures { λ _. ⌜ Becomes (now (words .entry)) (now (words .exit)) (onStorage (insertComponents (entity index version) (meaning (now (words .entry)) .control .staged)) (meaning (now (words .entry)))) ⌝ }
+    requires { ⌜ isLive (entity (e .index) (e .version)) (meaning (now words) .entities) ≡ true ⌝ }
+    ensures { λ _. ⌜ Becomes (now (words .entry)) (now (words .exit)) (onStorage (insertComponents (entity (e .index) (e .version)) (meaning (now (words .entry)) .control .staged)) (meaning (now (words .entry)))) ⌝ }
 {
     let mask = staged_mask(words, Walk::Insert);
-    insert_staged(words, index, version);
-    group::group(words, mask, index, version);
+    insert_staged(words, e);
+    group::group(words, mask, e);
 }
 
 // The staged component at i goes into each live entity from place start on.
@@ -63,7 +64,7 @@ fn insert_column(words: &mut [u32], i: usize, start: usize)
     let mut place = start;
     while place < len {
         let e = control::entities::live_at(words, place);
-        component::slots::insert_in(words, z, slot, e.index, e.version, c.value);
+        component::slots::insert_in(words, z, slot, e, c.value);
         place += 1;
     }
 }
@@ -82,42 +83,42 @@ pub fn insert_each(words: &mut [u32], start: usize)
 }
 
 // The entity leaves the groups that have a staged kind, highest first.
-pub fn ungroup_staged(words: &mut [u32], index: u32, version: u32)
+pub fn ungroup_staged(words: &mut [u32], e: Entity)
     requires { ⌜ Sound (now words) ⌝ }
-    ensures { λ _. ⌜ Becomes (now (words .entry)) (now (words .exit)) (onStorage (ungrouped (entity index version) (stagedKinds (meaning (now (words .entry))))) (meaning (now (words .entry)))) ⌝ }
+    ensures { λ _. ⌜ Becomes (now (words .entry)) (now (words .exit)) (onStorage (ungrouped (entity (e .index) (e .version)) (stagedKinds (meaning (now (words .entry))))) (meaning (now (words .entry)))) ⌝ }
 {
     let mask = staged_mask(words, Walk::Delete);
-    group::ungroup(words, mask, index, version);
+    group::ungroup(words, mask, e);
 }
 
 // The entity's component of the staged kind at i goes, if it has one, and its value is handed back.
-pub fn remove_one(words: &mut [u32], i: usize, index: u32, version: u32) -> Removed
+pub fn remove_one(words: &mut [u32], i: usize, e: Entity) -> Removed
     requires { ⌜ Staged (now words) ⌝ }
     requires { ⌜ i < length (meaning (now words) .control .staged) ⌝ }
-    ensures { λ r. ⌜ RemovesKind (now (words .entry)) (now (words .exit)) (getD (stagedKinds (meaning (now (words .entry)))) i 0) (entity index version) r ⌝ }
+    ensures { λ r. ⌜ RemovesKind (now (words .entry)) (now (words .exit)) (getD (stagedKinds (meaning (now (words .entry)))) i 0) (entity (e .index) (e .version)) r ⌝ }
 {
     let kind = control::staged::staged_kind(words, i);
-    kinds::remove(words, kind, index, version)
+    kinds::remove(words, kind, e)
 }
 
 // Its components of all staged kinds go; no group is walked.
-fn delete_staged(words: &mut [u32], index: u32, version: u32)
+fn delete_staged(words: &mut [u32], e: Entity)
     requires { ⌜ Staged (now words) ⌝ }
-    ensures { λ _. ⌜ Becomes (now (words .entry)) (now (words .exit)) (onStorage (removed (entity index version) (stagedKinds (meaning (now (words .entry))))) (meaning (now (words .entry)))) ⌝ }
+    ensures { λ _. ⌜ Becomes (now (words .entry)) (now (words .exit)) (onStorage (removed (entity (e .index) (e .version)) (stagedKinds (meaning (now (words .entry))))) (meaning (now (words .entry)))) ⌝ }
 {
     let n = control::staged::staged_len(words);
     let mut i = 0;
     while i < n {
-        remove_one(words, i, index, version);
+        remove_one(words, i, e);
         i += 1;
     }
 }
 
 // The components of the staged kinds go.
-pub fn delete(words: &mut [u32], index: u32, version: u32)
+pub fn delete(words: &mut [u32], e: Entity)
     requires { ⌜ Sound (now words) ⌝ }
-    ensures { λ _. ⌜ Becomes (now (words .entry)) (now (words .exit)) (onStorage (remove (entity index version) (stagedKinds (meaning (now (words .entry))))) (meaning (now (words .entry)))) ⌝ }
+    ensures { λ _. ⌜ Becomes (now (words .entry)) (now (words .exit)) (onStorage (remove (entity (e .index) (e .version)) (stagedKinds (meaning (now (words .entry))))) (meaning (now (words .entry)))) ⌝ }
 {
-    ungroup_staged(words, index, version);
-    delete_staged(words, index, version);
+    ungroup_staged(words, e);
+    delete_staged(words, e);
 }

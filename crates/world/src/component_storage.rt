@@ -1,4 +1,5 @@
 // What concerns all kinds at once (component_storage.rs): an entity loses all its components, or all entities do.
+use words::Entity;
 use words::Shape;
 ghost use mathlib.Core.Path.{_≡_};
 ghost use mathlib.Core.List.{map};
@@ -13,37 +14,37 @@ ghost use Rattle.memory.specs.Arranged.{Arranged, Becomes, Sound};
 ghost use Rattle.world.specs.Remove.{removed};
 
 // The entity's component of the kind in a slot goes: no kind needs to be looked up. z is the shape of its columns, read once for all slots.
-fn strip_slot(words: &mut [u32], z: Shape, slot: usize, index: u32, version: u32)
+fn strip_slot(words: &mut [u32], z: Shape, slot: usize, e: Entity)
     requires { ⌜ Arranged (now words) ⌝ }
     requires { ⌜ z ≡ shapeOf (now words) ⌝ }
     requires { ⌜ slot < length (meaning (now words) .kinds) ⌝ }
-    ensures { λ _. ⌜ Becomes (now (words .entry)) (now (words .exit)) (onStorage (onSet (getD (meaning (now (words .entry)) .kinds) slot 0) (removeRow (entity index version))) (meaning (now (words .entry)))) ⌝ }
+    ensures { λ _. ⌜ Becomes (now (words .entry)) (now (words .exit)) (onStorage (onSet (getD (meaning (now (words .entry)) .kinds) slot 0) (removeRow (entity (e .index) (e .version)))) (meaning (now (words .entry)))) ⌝ }
 {
-    component::slots::remove_in(words, z, slot, index, version);
+    component::slots::remove_in(words, z, slot, e);
 }
 
 // Its components of all kinds go; no group is walked.
-fn strip_sets(words: &mut [u32], index: u32, version: u32)
+fn strip_sets(words: &mut [u32], e: Entity)
     requires { ⌜ Arranged (now words) ⌝ }
     requires { ⌜ Distinct (meaning (now words) .kinds) ⌝ }
-    ensures { λ _. ⌜ Becomes (now (words .entry)) (now (words .exit)) (onStorage (removed (entity index version) (meaning (now (words .entry)) .kinds)) (meaning (now (words .entry)))) ⌝ }
+    ensures { λ _. ⌜ Becomes (now (words .entry)) (now (words .exit)) (onStorage (removed (entity (e .index) (e .version)) (meaning (now (words .entry)) .kinds)) (meaning (now (words .entry)))) ⌝ }
 {
     let z = words::shape_of(words);
     let m = words::word(words, words::REGISTERED);
     let mut slot = 0;
     while slot < m {
-        strip_slot(words, z, slot, index, version);
+        strip_slot(words, z, slot, e);
         slot += 1;
     }
 }
 
 // All components of an entity go, after it has left all groups.
-pub fn strip(words: &mut [u32], index: u32, version: u32)
+pub fn strip(words: &mut [u32], e: Entity)
     requires { ⌜ Sound (now words) ⌝ }
-    ensures { λ _. ⌜ Becomes (now (words .entry)) (now (words .exit)) (onStorage (remove (entity index version) (meaning (now (words .entry)) .kinds)) (meaning (now (words .entry)))) ⌝ }
+    ensures { λ _. ⌜ Becomes (now (words .entry)) (now (words .exit)) (onStorage (remove (entity (e .index) (e .version)) (meaning (now (words .entry)) .kinds)) (meaning (now (words .entry)))) ⌝ }
 {
-    group::ungroup_all(words, index, version);
-    strip_sets(words, index, version);
+    group::ungroup_all(words, e);
+    strip_sets(words, e);
 }
 
 // Every group's count is 0.

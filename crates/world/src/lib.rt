@@ -23,7 +23,7 @@ pub fn create(words: &mut [u32]) -> Entity
     ensures { λ r. ⌜ NewEntity (now (words .entry)) (now (words .exit)) r ⌝ }
 {
     let e = control::entities::create(words);
-    component_set::insert(words, e.index, e.version);
+    component_set::insert(words, e);
     e
 }
 
@@ -54,11 +54,11 @@ pub fn extend(words: &mut [u32], count: usize)
 }
 
 // A live entity goes, with all its components. The caller has looked up its place in the live list, which stays while the components go.
-pub fn destroy(words: &mut [u32], place: usize, index: u32, version: u32)
+pub fn destroy(words: &mut [u32], place: usize, e: Entity)
     requires { ⌜ Sound (now words) ⌝ }
-    requires { ⌜ LiveAt (entity index version) place (meaning (now words) .entities) ⌝ }
-    ensures { λ _. ⌜ Becomes (now (words .entry)) (now (words .exit)) (killed (entity index version) (meaning (now (words .entry)))) ⌝ }
+    requires { ⌜ LiveAt (entity (e .index) (e .version)) place (meaning (now words) .entities) ⌝ }
+    ensures { λ _. ⌜ Becomes (now (words .entry)) (now (words .exit)) (killed (entity (e .index) (e .version)) (meaning (now (words .entry)))) ⌝ }
 {
-    component_storage::strip(words, index, version);
-    control::entities::destroy(words, place, index, version);
+    component_storage::strip(words, e);
+    control::entities::destroy(words, place, e);
 }

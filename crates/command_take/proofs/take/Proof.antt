@@ -16,14 +16,14 @@ refuse-requires c κs = (c .before .before .before .before .before .before .befo
 returns : tie.Need-returns
 returns c =
     let a = c .before .before .before .before .before .before .before .before .before .before .before .before .before .args in
-    let e = entity (a .index) (a .version) in
+    let e = entity (a .e .index) (a .e .version) in
     let s = meaning (a .words .now) in
     refused-by (take-dead s e (found-dead e (s .entities) (sym (c .before .before .before .before .before .before .before .before .before .get .ensures) ∙ c .before .before .before .before .before .before .before .enum-told .given .1))) (c .before .before .before .before .refuse .ensures)
 
 returns-2 : tie.Need-returns-2
 returns-2 c =
     let a = c .before .before .before .before .before .before .before .before .before .before .before .before .before .before .before .before .before .before .before .before .before .before .before .before .args in
-    let e = entity (a .index) (a .version) in
+    let e = entity (a .e .index) (a .e .version) in
     let s = meaning (a .words .now) in
     let live = found-live e (s .entities) _ (sym (c .before .before .before .before .before .before .before .before .before .before .before .before .before .before .before .before .before .before .before .before .get .ensures) ∙ c .before .before .before .before .before .before .before .before .before .before .before .before .before .before .before .before .before .before .found .given .1) .0 in
     accepted-by (take-live s e live) (emptied _ (c .before .before .before .before .before .before .before .before .take-out .ensures .becomes) refl (c .before .before .clear-staged .ensures)) (taken-written (a .out .now) _ _ (a .at) _ e s live (c .before .before .before .before .before .before .before .before .before .before .before .before .before .ack .ensures .bytes) (c .before .before .before .before .before .before .before .before .take-out .ensures .bytes) (c .before .before .before .before .before .before .before .before .before .before .before .before .before .before .before .staged-len .ensures .is))

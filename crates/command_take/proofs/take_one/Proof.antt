@@ -23,7 +23,7 @@ returns : tie.Need-returns
 returns c =
     let a = c .before .before .before .before .before .before .before .before .before .before .before .before .before .args in
     let w = a .words .now in
-    let e = entity (a .index) (a .version) in
+    let e = entity (a .e .index) (a .e .version) in
     let k = getD (stagedKinds (meaning w)) (a .i) 0 in
     let r = c .before .before .before .before .before .before .before .before .before .remove-one in
     let g = subst (λ (x : Removed). Gives STRIDE e (kindSet w k) x) (c .before .before .before .before .before .enum-told .given .1) (r .ensures .gives) in
@@ -33,7 +33,7 @@ returns-2 : tie.Need-returns-2
 returns-2 c =
     let a = c .before .before .before .before .before .before .before .before .before .before .before .before .before .args in
     let w = a .words .now in
-    let e = entity (a .index) (a .version) in
+    let e = entity (a .e .index) (a .e .version) in
     let k = getD (stagedKinds (meaning w)) (a .i) 0 in
     let r = c .before .before .before .before .before .before .before .before .before .remove-one in
     let g = subst (λ (x : Removed). Gives STRIDE e (kindSet w k) x) (c .before .before .before .before .before .removed .given .1) (r .ensures .gives) in

@@ -10,10 +10,10 @@ use Rattle.group.proofs.group.Tie as tie
 use Rattle.model.specs.Model.{entity}
 
 abbrev Inv-loop : tie.InvT-loop
-Inv-loop words₀ index version left₀ words left = Up (entity index version) words₀ (bitsOf 64 (left₀ .0)) words (bitsOf 64 (left .0))
+Inv-loop words₀ e left₀ words left = Up (entity (e .index) (e .version)) words₀ (bitsOf 64 (left₀ .0)) words (bitsOf 64 (left .0))
 
 abbrev μ-loop : tie.MeasureT-loop
-μ-loop words₀ index version left₀ words left = length (bitsOf 64 (left .0))
+μ-loop words₀ e left₀ words left = length (bitsOf 64 (left .0))
 
 loop-holds : tie.Need-loop-holds Inv-loop μ-loop
 loop-holds c = let s = c .before in walking-start (s .pre .0) (s .pre .1 .0) (s .pre .1 .1)

@@ -27,7 +27,7 @@ group-components-requires c κs =
       s .pre .0,
       (
         record { below = s .pre .1 .0; metadata = c .before .before .before .before .before .before .before .metadata .ensures; counted = c .before .count .ensures },
-        ready-in (a .words .now) (entity (a .index) (a .version)) (a .g) (sym (c .before .before .before .enum-told2 .given .1) ∙ c .before .before .before .before .before .status-in .ensures) (s .pre .1 .1),
+        ready-in (a .words .now) (entity (a .e .index) (a .e .version)) (a .g) (sym (c .before .before .before .enum-told2 .given .1) ∙ c .before .before .before .before .before .status-in .ensures) (s .pre .1 .1),
       ),
     )
 

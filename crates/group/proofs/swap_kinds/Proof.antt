@@ -8,10 +8,10 @@ use Rattle.group.proofs.swap_kinds.Tie as tie
 use Rattle.model.specs.Model.{entity}
 
 abbrev Inv-loop : tie.InvT-loop
-Inv-loop words₀ index version swap-index z end place₀ words place = Swapping words₀ (entity index version) place₀ end swap-index words place
+Inv-loop words₀ e swap-index z end place₀ words place = Swapping words₀ (entity (e .index) (e .version)) place₀ end swap-index words place
 
 abbrev μ-loop : tie.MeasureT-loop
-μ-loop words₀ index version swap-index z end place₀ words place = end - place
+μ-loop words₀ e swap-index z end place₀ words place = end - place
 
 shape-of-requires : tie.Need-shape-of-requires Inv-loop μ-loop
 shape-of-requires c κs = let s = c .before .before in header-long (s .args .words .now) (s .pre .0) CAPACITY (omega arith)

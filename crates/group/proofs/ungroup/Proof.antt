@@ -11,10 +11,10 @@ use Rattle.group.proofs.ungroup.Tie as tie
 use Rattle.model.specs.Model.{entity}
 
 abbrev Inv-loop : tie.InvT-loop
-Inv-loop words₀ index version left₀ words left = Down (entity index version) words₀ (reverse (bitsOf 64 (left₀ .0))) words (reverse (bitsOf 64 (left .0)))
+Inv-loop words₀ e left₀ words left = Down (entity (e .index) (e .version)) words₀ (reverse (bitsOf 64 (left₀ .0))) words (reverse (bitsOf 64 (left .0)))
 
 abbrev μ-loop : tie.MeasureT-loop
-μ-loop words₀ index version left₀ words left = left .0
+μ-loop words₀ e left₀ words left = left .0
 
 loop-holds : tie.Need-loop-holds Inv-loop μ-loop
 loop-holds c =

@@ -16,10 +16,10 @@ abbrev Left : Entity → List ℕ → List ℕ → ℕ → Type 0
 Left e words₀ words n = Down e words₀ (reverse (upFrom 0 (groupsOf (meaning words₀ .storage .layout)))) words (reverse (upFrom 0 n))
 
 abbrev Inv-loop : tie.InvT-loop
-Inv-loop words₀ index version g₀ words g = Left (entity index version) words₀ words g
+Inv-loop words₀ e g₀ words g = Left (entity (e .index) (e .version)) words₀ words g
 
 abbrev μ-loop : tie.MeasureT-loop
-μ-loop words₀ index version g₀ words g = g
+μ-loop words₀ e g₀ words g = g
 
 loop-holds : tie.Need-loop-holds Inv-loop μ-loop
 loop-holds c =
@@ -27,7 +27,7 @@ loop-holds c =
     let a = s .args in
     let w = a .words .now in
     let n = groupsOf (meaning w .storage .layout) in
-    subst (Left (entity (a .index) (a .version)) w w) (sym (c .group-count .ensures))
+    subst (Left (entity (a .e .index) (a .e .version)) w w) (sym (c .group-count .ensures))
     (walking-start (s .pre .0) (below-back (upFrom 0 n) (meaning w .storage) (λ i h. omega (arith, up-parts 0 n i h .1))) (s .pre .1))
 
 -- the highest of those left is next

@@ -10,25 +10,25 @@ returns : tie.Need-returns
 returns c =
     let s = c .before .before .before .before .before .before .before in
     let a = s .args in
-    steps-down (entity (a .index) (a .version)) (a .g) (sym (c .enum-told .given .1) ∙ c .before .before .status-in .ensures) (stays (s .pre .0))
+    steps-down (entity (a .e .index) (a .e .version)) (a .g) (sym (c .enum-told .given .1) ∙ c .before .before .status-in .ensures) (stays (s .pre .0))
 
 returns-2 : tie.Need-returns-2
 returns-2 c =
     let s = c .before .before .before .before .before .before .before in
     let a = s .args in
-    steps-down (entity (a .index) (a .version)) (a .g) (sym (c .enum-told2 .given .1) ∙ c .before .before .status-in .ensures) (stays (s .pre .0))
+    steps-down (entity (a .e .index) (a .e .version)) (a .g) (sym (c .enum-told2 .given .1) ∙ c .before .before .status-in .ensures) (stays (s .pre .0))
 
 ungroup-components-requires : tie.Need-ungroup-components-requires
 ungroup-components-requires c κs =
     let s = c .before .before .before .before .before .before .before .before .before .before .before in
     let a = s .args in
-    let out = ready-out (a .words .now) (entity (a .index) (a .version)) (a .g) (sym (c .before .before .before .before .status .given .1) ∙ c .before .before .before .before .before .before .status-in .ensures) (s .pre .1 .1) in
+    let out = ready-out (a .words .now) (entity (a .e .index) (a .e .version)) (a .g) (sym (c .before .before .before .before .status .given .1) ∙ c .before .before .before .before .before .before .status-in .ensures) (s .pre .1 .1) in
     (s .pre .0, (record { below = s .pre .1 .0; metadata = c .before .before .before .before .before .before .before .before .metadata .ensures; counted = c .before .count .ensures }, (omega (arith, out .0, c .before .count .ensures), (out .1, out .2))))
 
 returns-3 : tie.Need-returns-3
 returns-3 c =
     let a = c .before .before .before .before .before .before .before .before .before .before .before .before .before .before .args in
-    steps-down (entity (a .index) (a .version)) (a .g) (sym (c .before .before .before .before .before .before .before .status .given .1) ∙ c .before .before .before .before .before .before .before .before .before .status-in .ensures) (c .before .before .ungroup-components .ensures)
+    steps-down (entity (a .e .index) (a .e .version)) (a .g) (sym (c .before .before .before .before .before .before .before .status .given .1) ∙ c .before .before .before .before .before .before .before .before .before .status-in .ensures) (c .before .before .ungroup-components .ensures)
 
 pub ungroup-step-spec : {M : Type 1} → statement M
 ungroup-step-spec =

@@ -12,10 +12,10 @@ use Rattle.group_tables.proofs.group.Statement.{statement}
 use Rattle.group_tables.proofs.group.Tie as tie
 
 abbrev Inv-loop : tie.InvT-loop
-Inv-loop words₀ z starts groups skips index version left₀ words left = Up (entity index version) words₀ (bitsOf 64 (left₀ .0)) words (bitsOf 64 (left .0)) × SameLayout words₀ words
+Inv-loop words₀ z starts groups skips e left₀ words left = Up (entity (e .index) (e .version)) words₀ (bitsOf 64 (left₀ .0)) words (bitsOf 64 (left .0)) × SameLayout words₀ words
 
 abbrev μ-loop : tie.MeasureT-loop
-μ-loop words₀ z starts groups skips index version left₀ words left = length (bitsOf 64 (left .0))
+μ-loop words₀ z starts groups skips e left₀ words left = length (bitsOf 64 (left .0))
 
 -- the lowest group of the mask, and the mask without it
 lowest : (c : tie.After-g Inv-loop μ-loop) → LowStep (c .before .before .before .loop .left .0) (c .g .given .0 .0) (c .g .given .0 .1 .0 .0)

@@ -19,11 +19,11 @@ status-in-requires c κs =
     let s = c .before .before .before .before .before .before .before .before in
     (s .pre .0, (s .pre .1 .0 .columns, (record { below = s .pre .1 .1 .0; metadata = read-describes (s .pre .1 .0) (s .pre .1 .1 .0) (c .before .before .before .metadata-at .ensures); counted = c .before .count .ensures }, s .pre .1 .1 .1 .1)))
 
-mul-t19 : tie.Need-mul-t19
-mul-t19 c = let s = c .before .before .before .before .before .before .before .before .before .before .before in omega (arith, s .pre .1 .0 .skipped .room, s .pre .1 .1 .0)
+mul-t18 : tie.Need-mul-t18
+mul-t18 c = let s = c .before .before .before .before .before .before .before .before .before .before .before in omega (arith, s .pre .1 .0 .skipped .room, s .pre .1 .1 .0)
 
-shared-slice-read-t21 : tie.Need-shared-slice-read-t21
-shared-slice-read-t21 c = let s = c .before .before .before .before .before .before .before .before .before .before .before .before in omega (arith, s .pre .1 .0 .skipped .room, s .pre .1 .1 .0)
+shared-slice-read-t20 : tie.Need-shared-slice-read-t20
+shared-slice-read-t20 c = let s = c .before .before .before .before .before .before .before .before .before .before .before .before in omega (arith, s .pre .1 .0 .skipped .room, s .pre .1 .1 .0)
 
 returns : tie.Need-returns
 returns c =
@@ -36,7 +36,7 @@ group-components-requires : tie.Need-group-components-requires
 group-components-requires c κs =
     let s = c .before .before .before .before .before .before .before .before .before .before .before .before in
     let a = s .args in
-    (s .pre .0, (s .pre .1 .0 .columns, (record { below = s .pre .1 .1 .0; metadata = read-describes (s .pre .1 .0) (s .pre .1 .1 .0) (c .before .before .before .before .before .before .before .metadata-at .ensures); counted = c .before .before .before .before .before .count .ensures }, ready-in (a .words .now) (entity (a .index) (a .version)) (a .g) (sym (c .before .enum-told2 .given .1) ∙ c .before .before .before .status-in .ensures) (s .pre .1 .1 .1 .0))))
+    (s .pre .0, (s .pre .1 .0 .columns, (record { below = s .pre .1 .1 .0; metadata = read-describes (s .pre .1 .0) (s .pre .1 .1 .0) (c .before .before .before .before .before .before .before .metadata-at .ensures); counted = c .before .before .before .before .before .count .ensures }, ready-in (a .words .now) (entity (a .e .index) (a .e .version)) (a .g) (sym (c .before .enum-told2 .given .1) ∙ c .before .before .before .status-in .ensures) (s .pre .1 .1 .1 .0))))
 
 returns-2 : tie.Need-returns-2
 returns-2 c = steps-up (sym (c .before .before .before .before .enum-told2 .given .1) ∙ c .before .before .before .before .before .before .status-in .ensures) (c .before .before .group-components .ensures) refl
@@ -52,8 +52,8 @@ group-step-spec =
     count-requires
     status-in-requires
     (λ c. c .match .keys1)
-    mul-t19
-    shared-slice-read-t21
+    mul-t18
+    shared-slice-read-t20
     (λ c κs. tt)
     (λ c. refl)
     returns

@@ -14,10 +14,10 @@ use Rattle.group_tables.proofs.swap_kinds.Statement.{statement}
 use Rattle.group_tables.proofs.swap_kinds.Tie as tie
 
 abbrev Inv-loop : tie.InvT-loop
-Inv-loop words₀ z starts start end index version swap-index place₀ words place = Swapping words₀ (entity index version) start end swap-index words place
+Inv-loop words₀ z starts start end e swap-index place₀ words place = Swapping words₀ (entity (e .index) (e .version)) start end swap-index words place
 
 abbrev μ-loop : tie.MeasureT-loop
-μ-loop words₀ z starts start end index version swap-index place₀ words place = end - place
+μ-loop words₀ z starts start end e swap-index place₀ words place = end - place
 
 loop-holds : tie.Need-loop-holds Inv-loop μ-loop
 loop-holds c = let p = c .before .before .pre in swap-start (p .0) (p .1 .1 .0) (p .1 .1 .1)
@@ -31,7 +31,7 @@ swap-at-requires c κs =
     let lt = c .before .loop-test .taken in
     let there = place-there (p .0) (p .1 .1 .0) (p .1 .1 .1) (i .inv) lt in
     let S =
-    starts-kept (a .words .now) (i .words) (a .z) (a .starts .now) (eachSwap (entity (a .index) (a .version)) (a .swap-index) (between (a .start) (i .place) (orderOf (meaning (a .words .now))))) (p .0) (i .inv .soFar)
+    starts-kept (a .words .now) (i .words) (a .z) (a .starts .now) (eachSwap (entity (a .e .index) (a .e .version)) (a .swap-index) (between (a .start) (i .place) (orderOf (meaning (a .words .now))))) (p .0) (i .inv .soFar)
     (ap (λ (m : Store). plain (m .storage .layout)) (i .inv .soFar .means)) (p .1 .0) in
     let q = swap-asks (p .0) (p .1 .1 .0) (p .1 .1 .1) (i .inv) lt refl (p .1 .0 .shape) (in-slot (i .words) (i .inv .soFar .arranged) (i .place) there) in
     (i .inv .soFar .arranged, (S, (there, q)))

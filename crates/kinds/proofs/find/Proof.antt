@@ -23,7 +23,7 @@ returns : tie.Need-returns
 returns c =
     let a = c .before .before .before .before .args in
     let w = a .words .now in
-    let e = entity (a .index) (a .version) in
+    let e = entity (a .e .index) (a .e .version) in
     subst (λ (z : Shape). Finds z e (kindSet w (a .kind)) (c .find-in .result)) (c .before .before .shape-of .ensures .is)
     (rw (rows-at w (c .before .before .shape-of .result) (a .kind) (c .before .slot-of .result) (c .before .before .shape-of .ensures .is) (c .before .slot-of .ensures)) at (c .find-in .ensures))
 

@@ -34,7 +34,7 @@ returns c =
     let s = c .before .before .before .before .before .before .before .before .before in
     let a = s .args in
     let w = a .words .now in
-    let e = entity (a .index) (a .version) in
+    let e = entity (a .e .index) (a .e .version) in
     subst (λ (z : Shape). Becomes w (c .before .before .insert-in .last .0) (onStorage (onSet (a .kind) (insertRow e (valueOf (z .stride) (a .x)))) (meaning w))) (c .before .before .before .before .before .before .shape-of .ensures .is)
     (only-becomes w (c .before .before .before .before .before .before .shape-of .result) (a .kind) (c .before .before .before .before .slot-of .result) (c .before .before .before .before .before .before .shape-of .ensures .is) (c .before .before .before .before .slot-of .ensures) (c .before .before .insert-in .last .0)
     (insertRow e (valueOf (c .before .before .before .before .before .before .shape-of .result .stride) (a .x))) (s .pre .0) (c .before .before .insert-in .ensures))

@@ -25,7 +25,7 @@ returns c =
     let w = a .words .now in
     let z = c .before .before .before .before .before .before .shape-of .result in
     let slot = c .before .before .before .before .slot-of .result in
-    let e = entity (a .index) (a .version) in
+    let e = entity (a .e .index) (a .e .version) in
     record {
       becomes = only-becomes w z (a .kind) slot (c .before .before .before .before .before .before .shape-of .ensures .is) (c .before .before .before .before .slot-of .ensures) (c .before .before .remove-in .last .0) (removeRow e) (s .pre .0) (c .before .before .remove-in .ensures .change);
       gives =

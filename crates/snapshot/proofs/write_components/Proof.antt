@@ -15,22 +15,22 @@ use Rattle.snapshot.proofs.write_components.Statement.{statement}
 use Rattle.snapshot.proofs.write_components.Tie as tie
 
 abbrev Inv-loop : tie.InvT-loop
-Inv-loop words list index version out₀ at next₀ i₀ i-end out next i =
-    Writing out₀ at (kindsBytes VALUE-BYTES (entity index version) (meaning words .storage .sets) list) out next (kindsBytes VALUE-BYTES (entity index version) (meaning words .storage .sets) (drop i list)) × (i ≤ length list)
+Inv-loop words list e out₀ at next₀ i₀ i-end out next i =
+    Writing out₀ at (kindsBytes VALUE-BYTES (entity (e .index) (e .version)) (meaning words .storage .sets) list) out next (kindsBytes VALUE-BYTES (entity (e .index) (e .version)) (meaning words .storage .sets) (drop i list)) × (i ≤ length list)
 
 abbrev μ-loop : tie.MeasureT-loop
-μ-loop words list index version out₀ at next₀ i₀ i-end out next i = length list - i
+μ-loop words list e out₀ at next₀ i₀ i-end out next i = length list - i
 
 -- the entity's components are those of the listed kinds
-all-listed : (s : tie.Start Inv-loop μ-loop) → componentBytes VALUE-BYTES (componentsOf (entity (s .args .index) (s .args .version)) 0 (meaning (s .args .words .now) .storage .sets)) ≡ kindsBytes VALUE-BYTES (entity (s .args .index) (s .args .version)) (meaning (s .args .words .now) .storage .sets) (s .args .list .now)
+all-listed : (s : tie.Start Inv-loop μ-loop) → componentBytes VALUE-BYTES (componentsOf (entity (s .args .e .index) (s .args .e .version)) 0 (meaning (s .args .words .now) .storage .sets)) ≡ kindsBytes VALUE-BYTES (entity (s .args .e .index) (s .args .e .version)) (meaning (s .args .words .now) .storage .sets) (s .args .list .now)
 all-listed s =
     let w = s .args .words .now in
-    bytes-all VALUE-BYTES (entity (s .args .index) (s .args .version)) (meaning w .kinds) (meaning w .storage .sets) (sets-wide w) (no-rows w (s .pre .0)) (s .args .list .now) (s .pre .1 .0)
+    bytes-all VALUE-BYTES (entity (s .args .e .index) (s .args .e .version)) (meaning w .kinds) (meaning w .storage .sets) (sets-wide w) (no-rows w (s .pre .0)) (s .args .list .now) (s .pre .1 .0)
 
 loop-holds : tie.Need-loop-holds Inv-loop μ-loop
 loop-holds c =
     let a = c .before .before .before .args in
-    (writing-start (a .out .now) (a .at) (kindsBytes VALUE-BYTES (entity (a .index) (a .version)) (meaning (a .words .now) .storage .sets) (a .list .now)), omega arith)
+    (writing-start (a .out .now) (a .at) (kindsBytes VALUE-BYTES (entity (a .e .index) (a .e .version)) (meaning (a .words .now) .storage .sets) (a .list .now)), omega arith)
 
 cast-kind : tie.Need-cast-kind Inv-loop μ-loop
 cast-kind c = omega (arith, c .shared-slice-known3 .given (c .before .before .loop .i))
@@ -40,7 +40,7 @@ write-one-requires c κs =
     let s = c .before .before .before .before .before .before .before in
     let a = s .args in
     let w = a .words .now in
-    let e = entity (a .index) (a .version) in
+    let e = entity (a .e .index) (a .e .version) in
     let ss = meaning w .storage .sets in
     let i = c .before .before .before .loop .i in
     let k = getD (a .list .now) i 0 in
@@ -50,7 +50,7 @@ write-one-requires c κs =
 loop-again : tie.Need-loop-again Inv-loop μ-loop
 loop-again c =
     let a = c .before .before .before .before .before .before .before .before .before .before .args in
-    let e = entity (a .index) (a .version) in
+    let e = entity (a .e .index) (a .e .version) in
     let ss = meaning (a .words .now) .storage .sets in
     let i = c .before .before .before .before .before .before .loop .i in
     let k = getD (a .list .now) i 0 in
@@ -60,7 +60,7 @@ returns : tie.Need-returns Inv-loop μ-loop
 returns c =
     let s = c .before .before .before .before .before in
     let a = s .args in
-    rw (all-listed s) (writing-end (c .before .loop .inv .0) (bytes-end VALUE-BYTES (entity (a .index) (a .version)) (meaning (a .words .now) .storage .sets) (a .list .now) (c .before .loop .i) (omega arith)))
+    rw (all-listed s) (writing-end (c .before .loop .inv .0) (bytes-end VALUE-BYTES (entity (a .e .index) (a .e .version)) (meaning (a .words .now) .storage .sets) (a .list .now) (c .before .loop .i) (omega arith)))
 
 pub write-components-spec : {M : Type 1} → statement M
 write-components-spec =

@@ -17,22 +17,22 @@ write-components-requires : tie.Need-write-components-requires
 write-components-requires c κs =
     let s = c .before .before .before .before .before .before .before .before .before .before .before .before in
     let a = s .args in
-    (s .pre .0, (s .pre .1 .0, omega (arith, entry-room VALUE-BYTES (entryFor (a .words .now) (a .index) (a .version)) (a .at) (length (a .out .now)) (s .pre .1 .1) .1, c .before .before .before .before .before .before .before .put-u32 .kept .0, c .before .before .before .put-u322 .kept .0)))
+    (s .pre .0, (s .pre .1 .0, omega (arith, entry-room VALUE-BYTES (entryFor (a .words .now) (a .e .index) (a .e .version)) (a .at) (length (a .out .now)) (s .pre .1 .1) .1, c .before .before .before .before .before .before .before .put-u32 .kept .0, c .before .before .before .put-u322 .kept .0)))
 
 cast-out : tie.Need-cast-out
 cast-out c =
     let a = c .before .before .before .before .before .before .before .before .before .before .before .before .before .before .before .args in
     let ss = meaning (a .words .now) .storage .sets in
-    let e = entity (a .index) (a .version) in
+    let e = entity (a .e .index) (a .e .version) in
     omega (arith, entry-count VALUE-BYTES (componentsOf e 0 ss) (c .before .before .write-components .ensures), few-components e ss (sets-wide (a .words .now)))
 
 same-length : tie.Need-same-length
-same-length c = simp length-set (c .before .before .write-components .kept .1 .1 .1 .1 .0 ∙ c .before .before .before .before .before .before .put-u322 .kept .0 ∙ c .before .before .before .before .before .before .before .before .before .before .put-u32 .kept .0)
+same-length c = simp length-set (c .before .before .write-components .kept .1 .1 .1 .0 ∙ c .before .before .before .before .before .before .put-u322 .kept .0 ∙ c .before .before .before .before .before .before .before .before .before .before .put-u32 .kept .0)
 
 returns : tie.Need-returns
 returns c =
     let a = c .before .before .before .before .before .before .before .before .before .before .before .before .before .before .before .args in
-    let t = entryFor (a .words .now) (a .index) (a .version) in
+    let t = entryFor (a .words .now) (a .e .index) (a .e .version) in
     entry-written VALUE-BYTES t (c .before .before .before .before .before .before .before .before .before .before .put-u32 .ensures) (c .before .before .before .before .before .before .put-u322 .ensures) (c .before .before .write-components .ensures) refl (entry-count VALUE-BYTES (t .components) (c .before .before .write-components .ensures))
 
 pub write-entity-spec : {M : Type 1} → statement M

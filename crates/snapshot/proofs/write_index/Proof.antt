@@ -12,8 +12,8 @@ use Rattle.snapshot.proofs.write_index.Tie as tie
 returns : tie.Need-returns
 returns c = let a = c .before .before .before .before .before .args in none-at (a .words .now) (a .index) (c .before .version-at .result) (c .before .version-at .ensures) (c .if1 .taken)
 
-cast-write-entity : tie.Need-cast-write-entity
-cast-write-entity c = let s = c .before .before .before .before .before in omega (arith, capacity-most (s .args .words .now) (s .pre .0), s .pre .1 .1 .0)
+cast-t9 : tie.Need-cast-t9
+cast-t9 c = let s = c .before .before .before .before .before in omega (arith, capacity-most (s .args .words .now) (s .pre .0), s .pre .1 .1 .0)
 
 write-entity-requires : tie.Need-write-entity-requires
 write-entity-requires c κs =
@@ -27,4 +27,4 @@ returns-2 c =
     rw (index-some (a .words .now) (a .index) (c .before .before .before .before .before .version-at .result) (c .before .before .before .before .before .version-at .ensures) (c .before .before .before .before .if1 .left)) (c .before .before .write-entity .ensures)
 
 pub write-index-spec : {M : Type 1} → statement M
-write-index-spec = tie.close (tie.spec (λ c κs. search needs) returns cast-write-entity write-entity-requires (λ c. search needs) returns-2)
+write-index-spec = tie.close (tie.spec (λ c κs. search needs) returns cast-t9 write-entity-requires (λ c. search needs) returns-2)

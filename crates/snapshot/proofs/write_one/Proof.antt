@@ -21,24 +21,24 @@ use Rattle.snapshot.proofs.write_one.Tie as tie
 returns : tie.Need-returns
 returns c =
     let a = c .before .before .before .before .before .args in
-    let e = entity (a .index) (a .version) in
+    let e = entity (a .e .index) (a .e .version) in
     let rs = kindSet (a .words .now) (a .kind) in
     none-written VALUE-BYTES (a .kind) (value-none e rs (subst (λ (r : Found). Finds (shapeOf (a .words .now)) e rs r) (c .enum-told .given .1) (c .before .before .find .ensures)))
 
-found-at : (c : tie.After-known-told) → HeldAt (shapeOf (c .before .before .before .before .before .before .args .words .now)) (entity (c .before .before .before .before .before .before .args .index) (c .before .before .before .before .before .before .args .version)) (kindSet (c .before .before .before .before .before .before .args .words .now) (c .before .before .before .before .before .before .args .kind)) (c .before .found .given .0 .0)
+found-at : (c : tie.After-known-told) → HeldAt (shapeOf (c .before .before .before .before .before .before .args .words .now)) (entity (c .before .before .before .before .before .before .args .e .index) (c .before .before .before .before .before .before .args .e .version)) (kindSet (c .before .before .before .before .before .before .args .words .now) (c .before .before .before .before .before .before .args .kind)) (c .before .found .given .0 .0)
 found-at c =
     let a = c .before .before .before .before .before .before .args in
-    subst (λ (r : Found). Finds (shapeOf (a .words .now)) (entity (a .index) (a .version)) (kindSet (a .words .now) (a .kind)) r) (c .before .found .given .1) (c .before .before .before .find .ensures)
+    subst (λ (r : Found). Finds (shapeOf (a .words .now)) (entity (a .e .index) (a .e .version)) (kindSet (a .words .now) (a .kind)) r) (c .before .found .given .1) (c .before .before .before .find .ensures)
 
 value-of-requires : tie.Need-value-of-requires
 value-of-requires c κs = (c .before .before .before .before .before .before .pre .0, (c .before .before .before .before .before .before .pre .1 .0, found-at c .inside))
 
 -- the entity's value
-shown : (c : tie.After-value-of) → valueAt (entity (c .before .before .before .before .before .before .before .args .index) (c .before .before .before .before .before .before .before .args .version)) (kindSet (c .before .before .before .before .before .before .before .args .words .now) (c .before .before .before .before .before .before .before .args .kind)) ≡ some (valueOf STRIDE (c .value-of .result))
+shown : (c : tie.After-value-of) → valueAt (entity (c .before .before .before .before .before .before .before .args .e .index) (c .before .before .before .before .before .before .before .args .e .version)) (kindSet (c .before .before .before .before .before .before .before .args .words .now) (c .before .before .before .before .before .before .before .args .kind)) ≡ some (valueOf STRIDE (c .value-of .result))
 shown c =
     let a = c .before .before .before .before .before .before .before .args in
     let f = found-at (c .before) in
-    value-held (entity (a .index) (a .version)) (kindSet (a .words .now) (a .kind)) (c .before .before .found .given .0 .0) (valueOf STRIDE (c .value-of .result)) (f .holds) (f .place) (c .value-of .ensures)
+    value-held (entity (a .e .index) (a .e .version)) (kindSet (a .words .now) (a .kind)) (c .before .before .found .given .0 .0) (valueOf STRIDE (c .value-of .result)) (f .holds) (f .place) (c .value-of .ensures)
 
 cast-out : tie.Need-cast-out
 cast-out c = let s = c .before .before .before .before .before .before .before in omega (arith, known-small (s .args .words .now) (s .pre .0) (s .args .kind) (s .pre .1 .0))

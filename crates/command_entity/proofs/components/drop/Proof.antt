@@ -15,14 +15,14 @@ refuse-requires c κs = (c .before .before .before .before .before .before .befo
 returns : tie.Need-returns
 returns c =
     let a = c .before .before .before .before .before .before .before .before .before .before .before .before .before .args in
-    let e = entity (a .index) (a .version) in
+    let e = entity (a .e .index) (a .e .version) in
     let s = meaning (a .words .now) in
     refused-by (drop-dead s e (found-dead e (s .entities) (sym (c .before .before .before .before .before .before .before .before .before .get .ensures) ∙ c .before .before .before .before .before .before .before .enum-told .given .1))) (c .before .before .before .before .refuse .ensures)
 
 returns-2 : tie.Need-returns-2
 returns-2 c =
     let a = c .before .before .before .before .before .before .before .before .before .before .before .before .before .before .before .before .before .before .before .args in
-    let e = entity (a .index) (a .version) in
+    let e = entity (a .e .index) (a .e .version) in
     let s = meaning (a .words .now) in
     accepted-by (drop-live s e (found-live e (s .entities) _ (sym (c .before .before .before .before .before .before .before .before .before .before .before .before .before .before .before .get .ensures) ∙ c .before .before .before .before .before .before .before .before .before .before .before .before .before .found .given .1) .0)) (emptied _ (c .before .before .before .before .before .before .before .before .before .before .delete .ensures) refl (c .before .before .before .before .before .before .clear-staged .ensures)) (c .before .before .ack .ensures)
 

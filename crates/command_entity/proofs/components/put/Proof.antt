@@ -15,19 +15,19 @@ refuse-requires c κs = (c .before .before .before .before .before .before .befo
 returns : tie.Need-returns
 returns c =
     let a = c .before .before .before .before .before .before .before .before .before .before .before .before .before .args in
-    let e = entity (a .index) (a .version) in
+    let e = entity (a .e .index) (a .e .version) in
     let s = meaning (a .words .now) in
     refused-by (put-dead s e (found-dead e (s .entities) (sym (c .before .before .before .before .before .before .before .before .before .get .ensures) ∙ c .before .before .before .before .before .before .before .enum-told .given .1))) (c .before .before .before .before .refuse .ensures)
 
 insert-requires : tie.Need-insert-requires
 insert-requires c κs =
     let a = c .before .before .before .before .before .before .before .before .args in
-    (c .before .before .before .before .before .before .before .before .pre .sound, found-live (entity (a .index) (a .version)) (meaning (a .words .now) .entities) _ (sym (c .before .before .before .before .get .ensures) ∙ c .before .before .found .given .1) .0)
+    (c .before .before .before .before .before .before .before .before .pre .sound, found-live (entity (a .e .index) (a .e .version)) (meaning (a .words .now) .entities) _ (sym (c .before .before .before .before .get .ensures) ∙ c .before .before .found .given .1) .0)
 
 returns-2 : tie.Need-returns-2
 returns-2 c =
     let a = c .before .before .before .before .before .before .before .before .before .before .before .before .before .before .before .before .before .before .before .args in
-    let e = entity (a .index) (a .version) in
+    let e = entity (a .e .index) (a .e .version) in
     let s = meaning (a .words .now) in
     accepted-by (put-live s e (found-live e (s .entities) _ (sym (c .before .before .before .before .before .before .before .before .before .before .before .before .before .before .before .get .ensures) ∙ c .before .before .before .before .before .before .before .before .before .before .before .before .before .found .given .1) .0)) (emptied _ (c .before .before .before .before .before .before .before .before .before .before .insert .ensures) refl (c .before .before .before .before .before .before .clear-staged .ensures)) (c .before .before .ack .ensures)
 

@@ -12,7 +12,7 @@ returns : tie.Need-returns
 returns c =
     let a = c .before .before .before .before .before .before .before .before .before .args in
     record {
-      bytes = c .before .before .put-u32 .ensures ∙ ap (λ (l : List ℕ). sets l (a .at + 5) (bytesOf 4 (a .version))) (c .before .before .before .before .before .before .ack-number .ensures .bytes) ∙ sets-join (a .out .now) (a .at) (0 ∷ bytesOf 4 (a .index)) (bytesOf 4 (a .version));
+      bytes = c .before .before .put-u32 .ensures ∙ ap (λ (l : List ℕ). sets l (a .at + 5) (bytesOf 4 (a .e .version))) (c .before .before .before .before .before .before .ack-number .ensures .bytes) ∙ sets-join (a .out .now) (a .at) (0 ∷ bytesOf 4 (a .e .index)) (bytesOf 4 (a .e .version));
       count = refl;
     }
 

@@ -16,13 +16,13 @@ swap-requires c κs =
     let s = c .before .before .before .before in
     let a = s .args in
     let p = c .before .place-held in
-    let h = held-at (a .z) (a .part .now) (s .pre .0) (a .index) (a .version) (p .result) (p .ensures) in
+    let h = held-at (a .z) (a .part .now) (s .pre .0) (a .e .index) (a .e .version) (p .result) (p .ensures) in
     (s .pre .0, ((h .0, omega (arith, s .pre .1 .1, length-rows (a .z) (a .part .now))), (h .1, h .2)))
 
 returns : tie.Need-returns
 returns c =
     let a = c .before .before .before .before .before .before .before .args in
-    let e = entity (a .index) (a .version) in
+    let e = entity (a .e .index) (a .e .version) in
     let p = c .before .before .before .before .place-held in
     changed-as (a .z) (swapRows (p .result) (a .place)) (swapTo e (a .place)) (a .part .now) (c .before .before .swap .last .0) (c .before .before .swap .ensures) (swap-held (a .z) e (rows (a .z) (a .part .now)) (p .result) (p .ensures) (a .place))
 

@@ -14,7 +14,7 @@ swap-held-requires c κs =
 returns : tie.Need-returns
 returns c =
     let a = c .before .before .before .before .before .before .args in
-    λ s q l. only-at (a .z) s (a .base) (c .before .before .before .before .column-len .result) (swapTo (entity (a .index) (a .version)) (a .place)) (a .words .now) (c .before .before .swap-held .last .0) q (c .before .before .before .before .column-len .ensures .is) l (c .before .before .swap-held .ensures)
+    λ s q l. only-at (a .z) s (a .base) (c .before .before .before .before .column-len .result) (swapTo (entity (a .e .index) (a .e .version)) (a .place)) (a .words .now) (c .before .before .swap-held .last .0) q (c .before .before .before .before .column-len .ensures .is) l (c .before .before .swap-held .ensures)
 
 pub swap-to-from-spec : {M : Type 1} → statement M
 swap-to-from-spec =

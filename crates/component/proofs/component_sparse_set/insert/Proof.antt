@@ -18,16 +18,16 @@ append-requires : tie.Need-append-requires
 append-requires c κs =
     let s = c .before .before .before .before .before .before in
     let a = s .args in
-    let e = entity (a .index) (a .version) in
+    let e = entity (a .e .index) (a .e .version) in
     let rs = rows (a .z) (a .part .now) in
     let f = subst (λ (r : Found). Finds (a .z) e rs r) (c .before .enum-told .given .1) (c .before .before .before .find .ensures) in
-    (s .pre .0, (s .pre .1 .0, absent (a .index) (a .version) rs (s .pre .1 .1) f))
+    (s .pre .0, (s .pre .1 .0, absent (a .e .index) (a .e .version) rs (s .pre .1 .1) f))
 
 returns : tie.Need-returns
 returns c =
     let s = c .before .before .before .before .before .before .before .before .before in
     let a = s .args in
-    let e = entity (a .index) (a .version) in
+    let e = entity (a .e .index) (a .e .version) in
     let rs = rows (a .z) (a .part .now) in
     let f = subst (λ (r : Found). Finds (a .z) e rs r) (c .before .before .before .before .enum-told .given .1) (c .before .before .before .before .before .before .find .ensures) in
     let v = valueOf (a .z .stride) (a .x) in
@@ -37,7 +37,7 @@ replace-requires : tie.Need-replace-requires
 replace-requires c κs =
     let s = c .before .before .before .before .before .before .before in
     let a = s .args in
-    let e = entity (a .index) (a .version) in
+    let e = entity (a .e .index) (a .e .version) in
     let rs = rows (a .z) (a .part .now) in
     let p = c .before .before .found .given .0 .0 in
     let f = subst (λ (r : Found). Finds (a .z) e rs r) (c .before .before .found .given .1) (c .before .before .before .before .find .ensures) in
@@ -47,7 +47,7 @@ returns-2 : tie.Need-returns-2
 returns-2 c =
     let s = c .before .before .before .before .before .before .before .before .before .before in
     let a = s .args in
-    let e = entity (a .index) (a .version) in
+    let e = entity (a .e .index) (a .e .version) in
     let rs = rows (a .z) (a .part .now) in
     let p = c .before .before .before .before .before .found .given .0 .0 in
     let f = subst (λ (r : Found). Finds (a .z) e rs r) (c .before .before .before .before .before .found .given .1) (c .before .before .before .before .before .before .before .find .ensures) in

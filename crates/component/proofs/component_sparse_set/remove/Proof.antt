@@ -16,7 +16,7 @@ returns : tie.Need-returns
 returns c =
     let s = c .before .before .before .before .before in
     let a = s .args in
-    let e = entity (a .index) (a .version) in
+    let e = entity (a .e .index) (a .e .version) in
     let rs = rows (a .z) (a .part .now) in
     let f = subst (λ (r : Found). Finds (a .z) e rs r) (c .enum-told .given .1) (c .before .before .find .ensures) in
     record { change = changed-none (a .z) (removeRow e) (a .part .now) (s .pre) (remove-free (a .z) e rs f); answer = f }
@@ -25,7 +25,7 @@ value-at-requires : tie.Need-value-at-requires
 value-at-requires c κs =
     let s = c .before .before .before .before .before .before .before in
     let a = s .args in
-    let e = entity (a .index) (a .version) in
+    let e = entity (a .e .index) (a .e .version) in
     let rs = rows (a .z) (a .part .now) in
     let p = c .before .before .found .given .0 .0 in
     let f = subst (λ (r : Found). Finds (a .z) e rs r) (c .before .before .found .given .1) (c .before .before .before .before .find .ensures) in
@@ -35,18 +35,18 @@ remove-at-requires : tie.Need-remove-at-requires
 remove-at-requires c κs =
     let s = c .before .before .before .before .before .before .before .before .before in
     let a = s .args in
-    let e = entity (a .index) (a .version) in
+    let e = entity (a .e .index) (a .e .version) in
     let rs = rows (a .z) (a .part .now) in
     let p = c .before .before .before .before .found .given .0 .0 in
     let f = subst (λ (r : Found). Finds (a .z) e rs r) (c .before .before .before .before .found .given .1) (c .before .before .before .before .before .before .find .ensures) in
-    let h = held-at (a .z) (a .part .now) (s .pre) (a .index) (a .version) p f in
+    let h = held-at (a .z) (a .part .now) (s .pre) (a .e .index) (a .e .version) p f in
     (s .pre, (h .0, h .1))
 
 returns-2 : tie.Need-returns-2
 returns-2 c =
     let s = c .before .before .before .before .before .before .before .before .before .before .before .before in
     let a = s .args in
-    let e = entity (a .index) (a .version) in
+    let e = entity (a .e .index) (a .e .version) in
     let rs = rows (a .z) (a .part .now) in
     let p = c .before .before .before .before .before .before .before .found .given .0 .0 in
     let f = subst (λ (r : Found). Finds (a .z) e rs r) (c .before .before .before .before .before .before .before .found .given .1) (c .before .before .before .before .before .before .before .before .before .find .ensures) in

@@ -35,7 +35,7 @@ returns-2 c =
     let s = c .before .before .before .before .before .before .before .before .before .before .before .before .before .before .before .before .before .before .before .before .before .before .before .before in
     let a = s .args in
     swapped-by (a .z) (a .part .now) (s .pre .0) (a .a) (a .b) (s .pre .1 .0 .0) (s .pre .1 .0 .1) (c .before .before .before .before .before .before .before .before .before .before .before .before .before .before .before .before .before .before .before .before .before .before .if1 .left)
-    (c .before .before .before .before .before .before .before .before .before .before .before .before .before .before .before .before .before .before .put-entity .last .0) (c .before .before .before .before .before .before .before .before .before .before .before .before .before .before .put-entity2 .last .0) (c .before .before .before .before .before .before .before .before .before .before .put-place .last .0) (c .before .before .before .before .before .before .put-place2 .last .0) (c .before .before .swap-values .last .0) (a .index) (a .version) (c .before .before .before .before .before .before .before .before .before .before .before .before .before .before .before .before .before .before .before .before .entity-at .result)
+    (c .before .before .before .before .before .before .before .before .before .before .before .before .before .before .before .before .before .before .put-entity .last .0) (c .before .before .before .before .before .before .before .before .before .before .before .before .before .before .put-entity2 .last .0) (c .before .before .before .before .before .before .before .before .before .before .put-place .last .0) (c .before .before .before .before .before .before .put-place2 .last .0) (c .before .before .swap-values .last .0) (a .e .index) (a .e .version) (c .before .before .before .before .before .before .before .before .before .before .before .before .before .before .before .before .before .before .before .before .entity-at .result)
     (s .pre .1 .1 .0) (s .pre .1 .1 .1) (c .before .before .before .before .before .before .before .before .before .before .before .before .before .before .before .before .before .before .before .before .entity-at .ensures) (c .before .before .before .before .before .before .before .before .before .before .before .before .before .before .before .before .before .before .put-entity .ensures) (c .before .before .before .before .before .before .before .before .before .before .before .before .before .before .put-entity2 .ensures) (c .before .before .before .before .before .before .before .before .before .before .put-place .ensures) (c .before .before .before .before .before .before .put-place2 .ensures) (c .before .before .swap-values .ensures)
 
 pub swap-spec : {M : Type 1} → statement M

@@ -17,7 +17,7 @@ returns : tie.Need-returns
 returns c =
     let s = c .before .before .before .before .before in
     let a = s .args in
-    let e = entity (a .index) (a .version) in
+    let e = entity (a .e .index) (a .e .version) in
     let rs = rows (a .z) (a .part .now) in
     let f = subst (λ (r : Found). Finds (a .z) e rs r) (c .enum-told .given .1) (c .before .before .find .ensures) in
     absurd (true≢false (sym (s .pre .1 .0) ∙ f))
@@ -26,18 +26,18 @@ swap-requires : tie.Need-swap-requires
 swap-requires c κs =
     let s = c .before .before .before .before .before .before .before in
     let a = s .args in
-    let e = entity (a .index) (a .version) in
+    let e = entity (a .e .index) (a .e .version) in
     let rs = rows (a .z) (a .part .now) in
     let p = c .before .before .found .given .0 .0 in
     let f = subst (λ (r : Found). Finds (a .z) e rs r) (c .before .before .found .given .1) (c .before .before .before .before .find .ensures) in
-    let h = held-at (a .z) (a .part .now) (s .pre .0) (a .index) (a .version) p f in
+    let h = held-at (a .z) (a .part .now) (s .pre .0) (a .e .index) (a .e .version) p f in
     (s .pre .0, ((h .0, omega (arith, s .pre .1 .1, length-rows (a .z) (a .part .now))), (h .1, h .2)))
 
 returns-2 : tie.Need-returns-2
 returns-2 c =
     let s = c .before .before .before .before .before .before .before .before .before .before in
     let a = s .args in
-    let e = entity (a .index) (a .version) in
+    let e = entity (a .e .index) (a .e .version) in
     let rs = rows (a .z) (a .part .now) in
     let p = c .before .before .before .before .before .found .given .0 .0 in
     let f = subst (λ (r : Found). Finds (a .z) e rs r) (c .before .before .before .before .before .found .given .1) (c .before .before .before .before .before .before .before .find .ensures) in

@@ -11,13 +11,13 @@ returns : tie.Need-returns
 returns c =
     let s = c .before .before .before .before in
     let a = s .args in
-    sym (subst (λ (r : Found). Finds (a .z) (entity (a .index) (a .version)) (rowsOf (a .z) (a .slot) (a .words .now)) r) (c .enum-told .given .1) (c .before .before .find-in .ensures))
+    sym (subst (λ (r : Found). Finds (a .z) (entity (a .e .index) (a .e .version)) (rowsOf (a .z) (a .slot) (a .words .now)) r) (c .enum-told .given .1) (c .before .before .find-in .ensures))
 
 returns-2 : tie.Need-returns-2
 returns-2 c =
     let s = c .before .before .before .before .before in
     let a = s .args in
-    let q = subst (λ (r : Found). Finds (a .z) (entity (a .index) (a .version)) (rowsOf (a .z) (a .slot) (a .words .now)) r) (c .before .found .given .1) (c .before .before .before .find-in .ensures) in
+    let q = subst (λ (r : Found). Finds (a .z) (entity (a .e .index) (a .e .version)) (rowsOf (a .z) (a .slot) (a .words .now)) r) (c .before .found .given .1) (c .before .before .before .find-in .ensures) in
     sym (q .holds)
 
 pub holds-in-spec : {M : Type 1} → statement M

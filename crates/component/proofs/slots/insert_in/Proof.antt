@@ -15,7 +15,7 @@ returns : tie.Need-returns
 returns c =
     let s = c .before .before .before .before .before .before .before in
     let a = s .args in
-    only-at (a .z) (a .slot) (c .before .before .before .before .before .column-start .result) (c .before .before .before .before .column-len .result) (insertRow (entity (a .index) (a .version)) (valueOf (a .z .stride) (a .x))) (a .words .now) (c .before .before .insert .last .0) (c .before .before .before .before .before .column-start .ensures .is) (c .before .before .before .before .column-len .ensures .is) (s .pre .0) (c .before .before .insert .ensures)
+    only-at (a .z) (a .slot) (c .before .before .before .before .before .column-start .result) (c .before .before .before .before .column-len .result) (insertRow (entity (a .e .index) (a .e .version)) (valueOf (a .z .stride) (a .x))) (a .words .now) (c .before .before .insert .last .0) (c .before .before .before .before .before .column-start .ensures .is) (c .before .before .before .before .column-len .ensures .is) (s .pre .0) (c .before .before .insert .ensures)
 
 pub insert-in-spec : {M : Type 1} → statement M
 insert-in-spec =

@@ -15,7 +15,7 @@ returns c =
     let s = c .before .before .before .before .before .before .before in
     let a = s .args in
     record {
-      change = only-at (a .z) (a .slot) (c .before .before .before .before .before .column-start .result) (c .before .before .before .before .column-len .result) (removeRow (entity (a .index) (a .version))) (a .words .now) (c .before .before .remove .last .0) (c .before .before .before .before .before .column-start .ensures .is) (c .before .before .before .before .column-len .ensures .is) (s .pre) (c .before .before .remove .ensures .change);
+      change = only-at (a .z) (a .slot) (c .before .before .before .before .before .column-start .result) (c .before .before .before .before .column-len .result) (removeRow (entity (a .e .index) (a .e .version))) (a .words .now) (c .before .before .remove .last .0) (c .before .before .before .before .before .column-start .ensures .is) (c .before .before .before .before .column-len .ensures .is) (s .pre) (c .before .before .remove .ensures .change);
       answer = rw (part-is (a .z) (a .slot) (c .before .before .before .before .before .column-start .result) (c .before .before .before .before .column-len .result) (a .words .now) (c .before .before .before .before .before .column-start .ensures .is) (c .before .before .before .before .column-len .ensures .is)) at (c .before .before .remove .ensures .answer);
     }
 

@@ -14,7 +14,7 @@ returns : tie.Need-returns
 returns c =
     let s = c .before .before .before .before .before .before .before in
     let a = s .args in
-    only-at (a .z) (a .slot) (c .before .before .before .before .before .column-start .result) (c .before .before .before .before .column-len .result) (swapTo (entity (a .index) (a .version)) (a .place)) (a .words .now) (c .before .before .swap-to .last .0) (c .before .before .before .before .before .column-start .ensures .is) (c .before .before .before .before .column-len .ensures .is) (s .pre .0) (c .before .before .swap-to .ensures)
+    only-at (a .z) (a .slot) (c .before .before .before .before .before .column-start .result) (c .before .before .before .before .column-len .result) (swapTo (entity (a .e .index) (a .e .version)) (a .place)) (a .words .now) (c .before .before .swap-to .last .0) (c .before .before .before .before .before .column-start .ensures .is) (c .before .before .before .before .column-len .ensures .is) (s .pre .0) (c .before .before .swap-to .ensures)
 
 pub swap-to-in-spec : {M : Type 1} → statement M
 swap-to-in-spec =

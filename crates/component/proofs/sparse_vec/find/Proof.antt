@@ -10,37 +10,38 @@ use Rattle.component.proofs.sparse_vec.find.Tie as tie
 
 returns : tie.Need-returns
 returns c =
-    let s = c .before .before .before in
+    let s = c .before .before .before .before in
     let a = s .args in
-    finds-beyond (a .z) (a .part .now) (s .pre) (a .index) (a .version) (c .if1 .taken)
+    finds-beyond (a .z) (a .part .now) (s .pre) (a .e .index) (a .e .version) (c .if1 .taken)
 
 returns-2 : tie.Need-returns-2
 returns-2 c =
-    let s = c .before .before .before .before in
+    let s = c .before .before .before .before .before .before in
     let a = s .args in
-    finds-unissued (a .z) (a .part .now) (s .pre) (a .index) (a .version) (c .if2 .taken)
+    finds-unissued (a .z) (a .part .now) (s .pre) (a .e .index) (a .e .version) (c .if2 .taken)
 
 returns-3 : tie.Need-returns-3
 returns-3 c =
-    let s = c .before .before .before .before .before .before .before in
+    let s = c .before .before .before .before .before .before .before .before .before .before in
     let a = s .args in
-    let e : getD (a .part .now) (c .before .before .lookup-place .result + 1) 0 ≡ heldOf (a .z) (a .part .now) (a .index) = ap (λ (i : ℕ). getD (a .part .now) (i + 1) 0) (c .before .before .lookup-place .ensures .is) in
-    finds-nothing (a .z) (a .part .now) (s .pre) (a .index) (a .version) (omega (arith, e))
+    let e : getD (a .part .now) (c .before .before .before .lookup-place .result + 1) 0 ≡ heldOf (a .z) (a .part .now) (a .e .index) = ap (λ (i : ℕ). getD (a .part .now) (i + 1) 0) (c .before .before .before .lookup-place .ensures .is) in
+    finds-nothing (a .z) (a .part .now) (s .pre) (a .e .index) (a .e .version) (omega (arith, e))
 
-cast-t10 : tie.Need-cast-t10
-cast-t10 c = omega (arith, c .before .before .shared-slice-known2 .given (c .before .before .before .lookup-place .result))
+cast-t9 : tie.Need-cast-t9
+cast-t9 c = omega (arith, c .before .before .before .shared-slice-known2 .given (c .before .before .before .before .lookup-place .result))
 
 returns-4 : tie.Need-returns-4
 returns-4 c =
-    let s = c .before .before .before .before .before .before .before .before in
+    let s = c .before .before .before .before .before .before .before .before .before .before .before in
     let a = s .args in
-    let e : getD (a .part .now) (c .before .before .before .lookup-place .result + 1) 0 ≡ heldOf (a .z) (a .part .now) (a .index) = ap (λ (i : ℕ). getD (a .part .now) (i + 1) 0) (c .before .before .before .lookup-place .ensures .is) in
-    rw (c .before .before .before .lookup-place .ensures .is) (finds-at (a .z) (a .part .now) (s .pre) (a .index) (a .version) (omega arith) (omega arith) (omega (arith, e)))
+    let e : getD (a .part .now) (c .before .before .before .before .lookup-place .result + 1) 0 ≡ heldOf (a .z) (a .part .now) (a .e .index) = ap (λ (i : ℕ). getD (a .part .now) (i + 1) 0) (c .before .before .before .before .lookup-place .ensures .is) in
+    rw (c .before .before .before .before .lookup-place .ensures .is) (finds-at (a .z) (a .part .now) (s .pre) (a .e .index) (a .e .version) (omega arith) (omega arith) (omega (arith, e)))
 
 pub find-spec : {M : Type 1} → statement M
 find-spec =
     tie.close
     (tie.spec
+    (λ c. search needs)
     returns
     returns-2
     (λ c κs. search needs)
@@ -50,5 +51,5 @@ find-spec =
     returns-3
     (λ c. search needs)
     (λ c. search needs)
-    cast-t10
+    cast-t9
     returns-4)

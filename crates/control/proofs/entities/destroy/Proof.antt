@@ -16,7 +16,7 @@ returns c =
     let s = c .before .before .before .before .before .before .before in
     let g = c .before .before .before .before .capacity in
     let r = c .before .before .destroy-in in
-    changed-becomes (s .args .words .now) (g .result) (g .ensures) (s .pre .0) (r .last .0) (destroy (entity (s .args .index) (s .args .version))) (r .ensures)
+    changed-becomes (s .args .words .now) (g .result) (g .ensures) (s .pre .0) (r .last .0) (destroy (entity (s .args .e .index) (s .args .e .version))) (r .ensures)
 
 pub destroy-spec : {M : Type 1} → statement M
 destroy-spec = tie.close (tie.spec (λ c κs. c .before .before .pre .0) destroy-in-requires (λ c. c .before .before .destroy-in .kept .0) returns)

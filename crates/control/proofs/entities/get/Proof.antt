@@ -18,7 +18,7 @@ returns : tie.Need-returns
 returns c =
     let s = c .before .before .before .before in
     let e = entities-read (s .args .words .now) (c .before .before .capacity .result) (c .before .before .capacity .ensures) in
-    c .get .ensures ∙ ap (foundOf (entity (s .args .index) (s .args .version))) e
+    c .get .ensures ∙ ap (foundOf (entity (s .args .e .index) (s .args .e .version))) e
 
 pub get-spec : {M : Type 1} → statement M
 get-spec =

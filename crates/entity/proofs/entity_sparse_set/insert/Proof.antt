@@ -10,13 +10,13 @@ put-requires c κs =
     let s = c .before .before .before in
     let a = s .args in
     let d = s .pre .1 .0 in
-    (s .pre .0 .sized, (live-room (a .n) (a .part .now) (s .pre .0) (a .index) (a .version) d (s .pre .1 .1), omega (arith, d .below, s .pre .0 .few)))
+    (s .pre .0 .sized, (live-room (a .n) (a .part .now) (s .pre .0) (a .e .index) (a .e .version) d (s .pre .1 .1), omega (arith, d .below, s .pre .0 .few)))
 
 returns : tie.Need-returns
 returns c =
     let s = c .before .before .before .before .before .before in
     let a = s .args in
-    rw (c .before .before .put .ensures) (joined-changed (a .n) (a .part .now) (s .pre .0) (a .index) (a .version) (s .pre .1 .0) (s .pre .1 .1))
+    rw (c .before .before .put .ensures) (joined-changed (a .n) (a .part .now) (s .pre .0) (a .e .index) (a .e .version) (s .pre .1 .0) (s .pre .1 .1))
 
 pub insert-spec : {M : Type 1} → statement M
 insert-spec =

@@ -19,6 +19,7 @@ put-spec =
     (λ c. search needs)
     (λ c. search needs)
     (λ c. search needs)
+    (λ c. search needs)
     (λ c. simp length-set (omega arith))
     (λ c. search needs)
     (λ c. search needs)

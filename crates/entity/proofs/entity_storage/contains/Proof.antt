@@ -10,14 +10,14 @@ use Rattle.model.specs.Model.{entity}
 returns : tie.Need-returns
 returns c =
     let a = c .before .before .before .before .args in
-    let e = entity (a .index) (a .version) in
+    let e = entity (a .e .index) (a .e .version) in
     let s = entitiesOf (a .n) (a .part .now) in
     sym (found-dead e s (sym (c .before .before .get .ensures) ∙ c .enum-told .given .1))
 
 returns-2 : tie.Need-returns-2
 returns-2 c =
     let a = c .before .before .before .before .before .args in
-    let e = entity (a .index) (a .version) in
+    let e = entity (a .e .index) (a .e .version) in
     let s = entitiesOf (a .n) (a .part .now) in
     sym (found-live e s _ (sym (c .before .before .before .get .ensures) ∙ c .before .found .given .1) .0)
 

@@ -12,13 +12,13 @@ remove-requires : tie.Need-remove-requires
 remove-requires c κs =
     let s = c .before .before in
     let a = s .args in
-    (s .pre .0, found-place (a .n) (a .part .now) (a .index) (a .version) (a .place) (s .pre .1) .0)
+    (s .pre .0, found-place (a .n) (a .part .now) (a .e .index) (a .e .version) (a .place) (s .pre .1) .0)
 
 recycle-requires : tie.Need-recycle-requires
 recycle-requires c κs =
     let s = c .before .before .before .before .before .before in
     let a = s .args in
-    let q = found-place (a .n) (a .part .now) (a .index) (a .version) (a .place) (s .pre .1) in
+    let q = found-place (a .n) (a .part .now) (a .e .index) (a .e .version) (a .place) (s .pre .1) in
     let r = c .before .before .before .remove .ensures in
     (r .0 .sound, rw (q .1) at (r .1))
 
@@ -26,7 +26,7 @@ returns : tie.Need-returns
 returns c =
     let s = c .before .before .before .before .before .before .before .before .before in
     let a = s .args in
-    let e = entity (a .index) (a .version) in
+    let e = entity (a .e .index) (a .e .version) in
     let t = entitiesOf (a .n) (a .part .now) in
     let r = c .before .before .before .before .before .before .remove .ensures .0 in
     let u = c .before .before .recycle .ensures in

@@ -9,7 +9,7 @@ returns : tie.Need-returns
 returns c =
     let s = c .before .before .before .before .before in
     let a = s .args in
-    changed-in (a .n) (destroy (entity (a .index) (a .version))) (a .words .now) (c .before .before .destroy .last .0) (s .pre .0 .fits) (c .before .before .destroy .ensures)
+    changed-in (a .n) (destroy (entity (a .e .index) (a .e .version))) (a .words .now) (c .before .before .destroy .last .0) (s .pre .0 .fits) (c .before .before .destroy .ensures)
 
 pub destroy-in-spec : {M : Type 1} → statement M
 destroy-in-spec =

@@ -8,35 +8,36 @@ use Rattle.entity.proofs.sparse_vec.get.Tie as tie
 
 returns : tie.Need-returns
 returns c =
-    let s = c .before in
+    let s = c .before .before in
     let a = s .args in
-    found-nothing (a .n) (a .part .now) (s .pre) (a .index) (a .version) (λ hx hv e. omega arith)
+    found-nothing (a .n) (a .part .now) (s .pre) (a .e .index) (a .e .version) (λ hx hv e. omega arith)
 
 returns-2 : tie.Need-returns-2
 returns-2 c =
-    let s = c .before .before in
+    let s = c .before .before .before .before in
     let a = s .args in
-    found-nothing (a .n) (a .part .now) (s .pre) (a .index) (a .version) (λ hx hv e. omega arith)
+    found-nothing (a .n) (a .part .now) (s .pre) (a .e .index) (a .e .version) (λ hx hv e. omega arith)
 
 returns-3 : tie.Need-returns-3
 returns-3 c =
-    let s = c .before .before .before .before in
+    let s = c .before .before .before .before .before .before .before in
     let a = s .args in
-    found-nothing (a .n) (a .part .now) (s .pre) (a .index) (a .version) (λ hx hv e. c .if3 .taken e)
+    found-nothing (a .n) (a .part .now) (s .pre) (a .e .index) (a .e .version) (λ hx hv e. c .if3 .taken e)
 
-cast-t11 : tie.Need-cast-t11
-cast-t11 c = omega (arith, c .shared-slice-known2 .given (LIVE-LIST + 2 * c .before .before .before .before .before .args .n + 2 * c .before .before .before .before .before .args .index))
+cast-t10 : tie.Need-cast-t10
+cast-t10 c = omega (arith, c .shared-slice-known2 .given (LIVE-LIST + 2 * c .before .before .before .before .before .before .before .before .args .n + 2 * c .before .before .before .before .before .before .before .before .args .e .index))
 
 returns-4 : tie.Need-returns-4
 returns-4 c =
-    let s = c .before .before .before .before .before in
+    let s = c .before .before .before .before .before .before .before .before in
     let a = s .args in
-    found-at (a .n) (a .part .now) (s .pre) (a .index) (a .version) (omega arith) (omega arith) (c .before .if3 .left)
+    found-at (a .n) (a .part .now) (s .pre) (a .e .index) (a .e .version) (omega arith) (omega arith) (c .before .if3 .left)
 
 pub get-spec : {M : Type 1} → statement M
 get-spec =
     tie.close
     (tie.spec
+    (λ c. search needs)
     returns
     returns-2
     (λ c. search needs)
@@ -49,5 +50,5 @@ get-spec =
     returns-3
     (λ c. search needs)
     (λ c. search needs)
-    cast-t11
+    cast-t10
     returns-4)

@@ -11,13 +11,13 @@ use Rattle.group.proofs.group_status.holds_all.Statement.{statement}
 use Rattle.group.proofs.group_status.holds_all.Tie as tie
 
 abbrev Inv-loop : tie.InvT-loop
-Inv-loop words start end index version place₀ place =
+Inv-loop words start end e place₀ place =
     (start ≤ place)
     × (place ≤ end)
-    × (allHeld (entity index version) (between start end (orderOf (meaning words))) (meaning words .storage .sets) ≡ allHeld (entity index version) (between place end (orderOf (meaning words))) (meaning words .storage .sets))
+    × (allHeld (entity (e .index) (e .version)) (between start end (orderOf (meaning words))) (meaning words .storage .sets) ≡ allHeld (entity (e .index) (e .version)) (between place end (orderOf (meaning words))) (meaning words .storage .sets))
 
 abbrev μ-loop : tie.MeasureT-loop
-μ-loop words start end index version place₀ place = end - place
+μ-loop words start end e place₀ place = end - place
 
 loop-holds : tie.Need-loop-holds Inv-loop μ-loop
 loop-holds c = (omega arith, c .before .pre .1 .rising, refl)
@@ -34,7 +34,7 @@ returns : tie.Need-returns Inv-loop μ-loop
 returns c =
     let s = c .before .before .before .before .before .before in
     sym (c .before .before .before .before .loop .inv .2
-    ∙ all-next (s .pre .1) (c .before .before .before .loop-test .taken) (c .before .before .kind-at .ensures) (entity (s .args .index) (s .args .version)) (sym (c .before .holds .ensures) ∙ not-true (c .before .holds .result) (c .if1 .taken)))
+    ∙ all-next (s .pre .1) (c .before .before .before .loop-test .taken) (c .before .before .kind-at .ensures) (entity (s .args .e .index) (s .args .e .version)) (sym (c .before .holds .ensures) ∙ not-true (c .before .holds .result) (c .if1 .taken)))
 
 add-place : tie.Need-add-place Inv-loop μ-loop
 add-place c = omega (arith, c .before .before .before .loop-test)
@@ -49,7 +49,7 @@ loop-again c =
       omega (arith, i .inv .0),
       omega (arith, c .before .before .before .loop-test),
       i .inv .2
-          ∙ all-next (s .pre .1) (c .before .before .before .loop-test .taken) (c .before .before .kind-at .ensures) (entity (s .args .index) (s .args .version)) (sym (c .before .holds .ensures) ∙ not-false (c .before .holds .result) (c .if1 .left)),
+          ∙ all-next (s .pre .1) (c .before .before .before .loop-test .taken) (c .before .before .kind-at .ensures) (entity (s .args .e .index) (s .args .e .version)) (sym (c .before .holds .ensures) ∙ not-false (c .before .holds .result) (c .if1 .left)),
     )
 
 returns-2 : tie.Need-returns-2 Inv-loop μ-loop
@@ -57,7 +57,7 @@ returns-2 c =
     let a = c .before .before .before .args in
     let i = c .before .loop in
     let q : i .place ≡ a .end = omega (arith, i .inv .1, c .loop-test) in
-    sym (i .inv .2 ∙ all-end (meaning (a .words .now)) (entity (a .index) (a .version)) q)
+    sym (i .inv .2 ∙ all-end (meaning (a .words .now)) (entity (a .e .index) (a .e .version)) q)
 
 pub holds-all-spec : {M : Type 1} → statement M
 holds-all-spec =

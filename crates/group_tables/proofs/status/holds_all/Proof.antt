@@ -11,13 +11,13 @@ use Rattle.group_tables.proofs.status.holds_all.Statement.{statement}
 use Rattle.group_tables.proofs.status.holds_all.Tie as tie
 
 abbrev Inv-loop : tie.InvT-loop
-Inv-loop words z starts start end index version place₀ place =
+Inv-loop words z starts start end e place₀ place =
     (start ≤ place)
     × (place ≤ end)
-    × (allHeld (entity index version) (between start end (orderOf (meaning words))) (meaning words .storage .sets) ≡ allHeld (entity index version) (between place end (orderOf (meaning words))) (meaning words .storage .sets))
+    × (allHeld (entity (e .index) (e .version)) (between start end (orderOf (meaning words))) (meaning words .storage .sets) ≡ allHeld (entity (e .index) (e .version)) (between place end (orderOf (meaning words))) (meaning words .storage .sets))
 
 abbrev μ-loop : tie.MeasureT-loop
-μ-loop words z starts start end index version place₀ place = end - place
+μ-loop words z starts start end e place₀ place = end - place
 
 holds-at-requires : tie.Need-holds-at-requires Inv-loop μ-loop
 holds-at-requires c κs = let s = c .before .before .before .before in (s .pre .0, (s .pre .1 .0, (omega (arith, s .pre .1 .1 .0 .within), s .pre .1 .1 .1)))
@@ -28,7 +28,7 @@ returns c =
     let a = s .args in
     let i = c .before .before .before .loop in
     sym (i .inv .2
-    ∙ all-next (s .pre .1 .1 .0) (c .before .before .loop-test .taken) refl (entity (a .index) (a .version)) (sym (c .before .holds-at .ensures) ∙ not-true (c .before .holds-at .result) (c .if1 .taken)))
+    ∙ all-next (s .pre .1 .1 .0) (c .before .before .loop-test .taken) refl (entity (a .e .index) (a .e .version)) (sym (c .before .holds-at .ensures) ∙ not-true (c .before .holds-at .result) (c .if1 .taken)))
 
 loop-again : tie.Need-loop-again Inv-loop μ-loop
 loop-again c =
@@ -37,7 +37,7 @@ loop-again c =
     let i = c .before .before .before .loop in (
       omega (arith, i .inv .0),
       omega (arith, c .before .before .loop-test),
-      i .inv .2 ∙ all-next (s .pre .1 .1 .0) (c .before .before .loop-test .taken) refl (entity (a .index) (a .version)) (sym (c .before .holds-at .ensures) ∙ not-false (c .before .holds-at .result) (c .if1 .left)),
+      i .inv .2 ∙ all-next (s .pre .1 .1 .0) (c .before .before .loop-test .taken) refl (entity (a .e .index) (a .e .version)) (sym (c .before .holds-at .ensures) ∙ not-false (c .before .holds-at .result) (c .if1 .left)),
     )
 
 returns-2 : tie.Need-returns-2 Inv-loop μ-loop
@@ -46,7 +46,7 @@ returns-2 c =
     let a = s .args in
     let i = c .before .loop in
     let q : i .place ≡ a .end = omega (arith, i .inv .1, c .loop-test) in
-    sym (i .inv .2 ∙ all-end (meaning (a .words .now)) (entity (a .index) (a .version)) q)
+    sym (i .inv .2 ∙ all-end (meaning (a .words .now)) (entity (a .e .index) (a .e .version)) q)
 
 pub holds-all-spec : {M : Type 1} → statement M
 holds-all-spec =

@@ -16,7 +16,7 @@ returns : tie.Need-returns
 returns c =
     let s = c .before .before .before in
     let a = s .args in
-    c .get-group-status .ensures ∙ status-is (meaning (a .words .now)) (a .g) (a .metadata) (a .group-len) (entity (a .index) (a .version)) (s .pre .1 .1 .0)
+    c .get-group-status .ensures ∙ status-is (meaning (a .words .now)) (a .g) (a .metadata) (a .group-len) (entity (a .e .index) (a .e .version)) (s .pre .1 .1 .0)
 
 pub status-in-spec : {M : Type 1} → statement M
 status-in-spec =

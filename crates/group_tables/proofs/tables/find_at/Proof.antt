@@ -15,7 +15,7 @@ returns : tie.Need-returns
 returns c =
     let s = c .before .before .before .before in
     let a = s .args in
-    of-kind (a .words .now) (a .z) (a .starts .now) (s .pre .0) (s .pre .1 .0) (a .place) (s .pre .1 .1 .0) (λ (rs : SparseSet). Finds (a .z) (entity (a .index) (a .version)) rs (c .find-from .result)) (c .find-from .ensures)
+    of-kind (a .words .now) (a .z) (a .starts .now) (s .pre .0) (s .pre .1 .0) (a .place) (s .pre .1 .1 .0) (λ (rs : SparseSet). Finds (a .z) (entity (a .e .index) (a .e .version)) rs (c .find-from .result)) (c .find-from .ensures)
 
 pub find-at-spec : {M : Type 1} → statement M
 find-at-spec =

@@ -15,7 +15,7 @@ returns : tie.Need-returns
 returns c =
     let s = c .before .before .before .before in
     let a = s .args in
-    of-kind (a .words .now) (a .z) (a .starts .now) (s .pre .0) (s .pre .1 .0) (a .place) (s .pre .1 .1 .0) (λ (rs : SparseSet). c .holds-from .result ≡ held (entity (a .index) (a .version)) rs) (c .holds-from .ensures)
+    of-kind (a .words .now) (a .z) (a .starts .now) (s .pre .0) (s .pre .1 .0) (a .place) (s .pre .1 .1 .0) (λ (rs : SparseSet). c .holds-from .result ≡ held (entity (a .e .index) (a .e .version)) rs) (c .holds-from .ensures)
 
 pub holds-at-spec : {M : Type 1} → statement M
 holds-at-spec =

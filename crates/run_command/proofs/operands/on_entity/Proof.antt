@@ -75,14 +75,14 @@ on-entity-spec =
     drop-requires
     kill-requires
     (λ c. c .before .before .before .before .put .kept .0)
-    (λ c. c .before .before .before .before .put .kept .1 .1 .1 .0)
+    (λ c. c .before .before .before .before .put .kept .1 .1 .0)
     returns
     (λ c. c .before .before .before .before .take .kept .0)
-    (λ c. c .before .before .before .before .take .kept .1 .1 .1 .0)
+    (λ c. c .before .before .before .before .take .kept .1 .1 .0)
     returns-2
     (λ c. c .before .before .before .before .drop .kept .0)
-    (λ c. c .before .before .before .before .drop .kept .1 .1 .1 .0)
+    (λ c. c .before .before .before .before .drop .kept .1 .1 .0)
     returns-3
     (λ c. c .before .before .before .before .kill .kept .0)
-    (λ c. c .before .before .before .before .kill .kept .1 .1 .1 .0)
+    (λ c. c .before .before .before .before .kill .kept .1 .1 .0)
     returns-4)

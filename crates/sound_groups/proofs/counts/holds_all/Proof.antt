@@ -12,10 +12,10 @@ use Rattle.sound_groups.proofs.counts.holds_all.Statement.{statement}
 use Rattle.sound_groups.proofs.counts.holds_all.Tie as tie
 
 abbrev Inv-loop : tie.InvT-loop
-Inv-loop words z index version from to j₀ j = Passed (λ (j : ℕ). held (entity index version) (rowsAt z words j) ≡ true) from j
+Inv-loop words z e from to j₀ j = Passed (λ (j : ℕ). held (entity (e .index) (e .version)) (rowsAt z words j) ≡ true) from j
 
 abbrev μ-loop : tie.MeasureT-loop
-μ-loop words z index version from to j₀ j = to - j
+μ-loop words z e from to j₀ j = to - j
 
 mul-kind : tie.Need-mul-kind Inv-loop μ-loop
 mul-kind c = omega (arith, c .before .before .before .pre .1 .inside, c .loop-test .taken)

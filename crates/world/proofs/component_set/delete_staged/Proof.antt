@@ -14,11 +14,11 @@ use Rattle.world.proofs.component_set.delete_staged.Statement.{statemen
 use Rattle.world.proofs.component_set.delete_staged.Tie as tie
 
 abbrev Inv-loop : tie.InvT-loop
-Inv-loop words₀ index version n i₀ words i =
-    (i ≤ n) × (n ≡ length (stagedKinds (meaning words₀))) × Gone words₀ (entity index version) (stagedKinds (meaning words₀)) words i
+Inv-loop words₀ e n i₀ words i =
+    (i ≤ n) × (n ≡ length (stagedKinds (meaning words₀))) × Gone words₀ (entity (e .index) (e .version)) (stagedKinds (meaning words₀)) words i
 
 abbrev μ-loop : tie.MeasureT-loop
-μ-loop words₀ index version n i₀ words i = n - i
+μ-loop words₀ e n i₀ words i = n - i
 
 staged-len-requires : tie.Need-staged-len-requires Inv-loop μ-loop
 staged-len-requires c κs = c .before .before .pre .arranged
@@ -26,7 +26,7 @@ staged-len-requires c κs = c .before .before .pre .arranged
 loop-holds : tie.Need-loop-holds Inv-loop μ-loop
 loop-holds c =
     let a = c .before .before .before .args in
-    (zero-le, c .staged-len .ensures .is ∙ sym (length-map (meaning (a .words .now) .control .staged) kindOf), gone-none (a .words .now) (entity (a .index) (a .version)) (stagedKinds (meaning (a .words .now))) (c .before .before .before .pre .arranged))
+    (zero-le, c .staged-len .ensures .is ∙ sym (length-map (meaning (a .words .now) .control .staged) kindOf), gone-none (a .words .now) (entity (a .e .index) (a .e .version)) (stagedKinds (meaning (a .words .now))) (c .before .before .before .pre .arranged))
 
 remove-one-requires : tie.Need-remove-one-requires Inv-loop μ-loop
 remove-one-requires c κs =
@@ -34,7 +34,7 @@ remove-one-requires c κs =
     let v = c .before .before .loop .inv in
     let w = c .before .before .loop .words in
     let n : length (meaning w .control .staged) ≡ length (stagedKinds (meaning (a .words .now))) = sym (length-map (meaning w .control .staged) kindOf) ∙ ap (λ (m : Store). length (stagedKinds m)) (v .2 .means) in
-    (staged-kept (a .words .now) w (eachGone (entity (a .index) (a .version)) (take (c .before .before .loop .i) (stagedKinds (meaning (a .words .now))))) (c .before .before .before .before .before .before .pre) (v .2), subst (λ (m : ℕ). c .before .before .loop .i < m) (v .1 ∙ sym n) (c .before .loop-test .taken))
+    (staged-kept (a .words .now) w (eachGone (entity (a .e .index) (a .e .version)) (take (c .before .before .loop .i) (stagedKinds (meaning (a .words .now))))) (c .before .before .before .before .before .before .pre) (v .2), subst (λ (m : ℕ). c .before .before .loop .i < m) (v .1 ∙ sym n) (c .before .loop-test .taken))
 
 loop-again : tie.Need-loop-again Inv-loop μ-loop
 loop-again c =
@@ -43,7 +43,7 @@ loop-again c =
     let w = c .before .before .before .before .before .loop .words in
     let i = c .before .before .before .before .before .loop .i in
     let same = ap (λ (m : Store). getD (stagedKinds m) (c .before .before .before .before .before .loop .i) 0) (v .2 .means) in
-    (add-one-le (c .before .before .before .before .loop-test .taken), v .1, gone-turn (a .words .now) (entity (a .index) (a .version)) (stagedKinds (meaning (a .words .now))) w (c .before .before .remove-one .last .0) i (getD (stagedKinds (meaning w)) i 0) (subst (λ (m : ℕ). c .before .before .before .before .before .loop .i < m) (v .1) (c .before .before .before .before .loop-test .taken)) same (v .2) (c .before .before .remove-one .ensures .becomes))
+    (add-one-le (c .before .before .before .before .loop-test .taken), v .1, gone-turn (a .words .now) (entity (a .e .index) (a .e .version)) (stagedKinds (meaning (a .words .now))) w (c .before .before .remove-one .last .0) i (getD (stagedKinds (meaning w)) i 0) (subst (λ (m : ℕ). c .before .before .before .before .before .loop .i < m) (v .1) (c .before .before .before .before .loop-test .taken)) same (v .2) (c .before .before .remove-one .ensures .becomes))
 
 same-length : tie.Need-same-length Inv-loop μ-loop
 same-length c = c .before .loop .inv .2 .size
@@ -52,7 +52,7 @@ returns : tie.Need-returns Inv-loop μ-loop
 returns c =
     let a = c .before .before .before .before .before .args in
     let v = c .before .loop .inv in
-    gone-all (a .words .now) (entity (a .index) (a .version)) (stagedKinds (meaning (a .words .now))) (c .before .loop .words) (c .before .loop .i) (subst (λ (m : ℕ). m ≤ c .before .loop .i) (v .1) (c .loop-test .left)) (c .before .before .before .before .before .pre .once) (staged-small (a .words .now) (c .before .before .before .before .before .pre)) (v .2)
+    gone-all (a .words .now) (entity (a .e .index) (a .e .version)) (stagedKinds (meaning (a .words .now))) (c .before .loop .words) (c .before .loop .i) (subst (λ (m : ℕ). m ≤ c .before .loop .i) (v .1) (c .loop-test .left)) (c .before .before .before .before .before .pre .once) (staged-small (a .words .now) (c .before .before .before .before .before .pre)) (v .2)
 
 pub delete-staged-spec : {M : Type 1} → statement M
 delete-staged-spec =

@@ -18,7 +18,7 @@ insert-requires c κs =
 returns : tie.Need-returns
 returns c =
     let a = c .before .before .before .before .before .before .before .args in
-    subst (λ (p : Component). Becomes (a .words .now) (c .before .before .insert .last .0) (onStorage (insertOne (entity (a .index) (a .version)) p) (meaning (a .words .now)))) (c .before .before .before .before .staged-at .ensures) (c .before .before .insert .ensures)
+    subst (λ (p : Component). Becomes (a .words .now) (c .before .before .insert .last .0) (onStorage (insertOne (entity (a .e .index) (a .e .version)) p) (meaning (a .words .now)))) (c .before .before .before .before .staged-at .ensures) (c .before .before .insert .ensures)
 
 pub insert-one-spec : {M : Type 1} → statement M
 insert-one-spec = tie.close (tie.spec (λ c κs. (c .before .before .pre .0 .arranged, c .before .before .pre .1)) insert-requires (λ c. c .before .before .insert .kept .0) returns)

@@ -19,7 +19,7 @@ returns : tie.Need-returns
 returns c =
     let a = c .before .before .before .before .before .before .before .args in
     let r = c .before .before .remove in
-    subst (λ (k : ℕ). RemovesKind (a .words .now) (r .last .0) k (entity (a .index) (a .version)) (r .result))
+    subst (λ (k : ℕ). RemovesKind (a .words .now) (r .last .0) k (entity (a .e .index) (a .e .version)) (r .result))
     (c .before .before .before .before .staged-kind .ensures ∙ kind-at (meaning (a .words .now) .control .staged) (a .i)) (r .ensures)
 
 pub remove-one-spec : {M : Type 1} → statement M

@@ -11,7 +11,7 @@ ungroup-requires c κs =
     let s = c .before .before .before .before in
     let a = s .args in
     let m = c .before .staged-mask in
-    let e = entity (a .index) (a .version) in
+    let e = entity (a .e .index) (a .e .version) in
     (s .pre .arranged, (delete-inside (a .words .now) (s .pre) e (m .result .0) (m .ensures), delete-ready (a .words .now) (s .pre) e (m .result .0) (m .ensures)))
 
 returns : tie.Need-returns
@@ -19,7 +19,7 @@ returns c =
     let s = c .before .before .before .before .before .before .before in
     let a = s .args in
     let m = c .before .before .before .before .staged-mask in
-    ungroup-whole (a .words .now) (s .pre) (entity (a .index) (a .version)) (m .result .0) (m .ensures) (c .before .before .ungroup .last .0) (c .before .before .ungroup .ensures)
+    ungroup-whole (a .words .now) (s .pre) (entity (a .e .index) (a .e .version)) (m .result .0) (m .ensures) (c .before .before .ungroup .last .0) (c .before .before .ungroup .ensures)
 
 pub ungroup-staged-spec : {M : Type 1} → statement M
 ungroup-staged-spec = tie.close (tie.spec staged-mask-requires ungroup-requires (λ c. c .before .before .ungroup .kept .0) returns)

@@ -16,11 +16,11 @@ use Rattle.world.proofs.component_storage.strip_sets.Statement.{stateme
 use Rattle.world.proofs.component_storage.strip_sets.Tie as tie
 
 abbrev Inv-loop : tie.InvT-loop
-Inv-loop words₀ index version z m slot₀ words slot =
-    (slot ≤ m) × (m ≡ length (meaning words₀ .kinds)) × Gone words₀ (entity index version) (meaning words₀ .kinds) words slot
+Inv-loop words₀ e z m slot₀ words slot =
+    (slot ≤ m) × (m ≡ length (meaning words₀ .kinds)) × Gone words₀ (entity (e .index) (e .version)) (meaning words₀ .kinds) words slot
 
 abbrev μ-loop : tie.MeasureT-loop
-μ-loop words₀ index version z m slot₀ words slot = m - slot
+μ-loop words₀ e z m slot₀ words slot = m - slot
 
 shape-of-requires : tie.Need-shape-of-requires Inv-loop μ-loop
 shape-of-requires c κs = let s = c .before .before in header-long (s .args .words .now) (s .pre .0) CAPACITY (lit< tt)
@@ -32,7 +32,7 @@ loop-holds : tie.Need-loop-holds Inv-loop μ-loop
 loop-holds c =
     let s = c .before .before .before .before .before in
     let a = s .args in
-    (zero-le, c .word .ensures .is ∙ sym (kinds-count (a .words .now)), gone-none (a .words .now) (entity (a .index) (a .version)) (meaning (a .words .now) .kinds) (s .pre .0))
+    (zero-le, c .word .ensures .is ∙ sym (kinds-count (a .words .now)), gone-none (a .words .now) (entity (a .e .index) (a .e .version)) (meaning (a .words .now) .kinds) (s .pre .0))
 
 strip-slot-requires : tie.Need-strip-slot-requires Inv-loop μ-loop
 strip-slot-requires c κs =
@@ -40,7 +40,7 @@ strip-slot-requires c κs =
     let l = c .before .before .loop in
     let v = l .inv in
     let k : length (meaning (l .words) .kinds) ≡ length (meaning (a .words .now) .kinds) = ap (λ (m : Store). length (m .kinds)) (v .2 .means) in
-    (v .2 .arranged, (c .before .before .before .before .before .shape-of .ensures .is ∙ gone-shape (a .words .now) (entity (a .index) (a .version)) (meaning (a .words .now) .kinds) (l .words) (l .slot) (v .2), subst (λ (m : ℕ). l .slot < m) (v .1 ∙ sym k) (c .before .loop-test .taken)))
+    (v .2 .arranged, (c .before .before .before .before .before .shape-of .ensures .is ∙ gone-shape (a .words .now) (entity (a .e .index) (a .e .version)) (meaning (a .words .now) .kinds) (l .words) (l .slot) (v .2), subst (λ (m : ℕ). l .slot < m) (v .1 ∙ sym k) (c .before .loop-test .taken)))
 
 add-slot : tie.Need-add-slot Inv-loop μ-loop
 add-slot c = next-fits _ _ (c .before .before .before .before .loop-test .taken) (c .before .before .before .before .before .before .word .ensures .small)
@@ -55,7 +55,7 @@ loop-again c =
     let v = l .inv in
     let t = c .before .before .before .before .loop-test .taken in
     let same = ap (λ (m : Store). getD (m .kinds) (l .slot) 0) (v .2 .means) in
-    (add-one-le t, v .1, gone-turn (a .words .now) (entity (a .index) (a .version)) (meaning (a .words .now) .kinds) (l .words) (c .before .before .strip-slot .last .0) (l .slot) (getD (meaning (l .words) .kinds) (l .slot) 0) (subst (λ (m : ℕ). l .slot < m) (v .1) t) same (v .2) (c .before .before .strip-slot .ensures))
+    (add-one-le t, v .1, gone-turn (a .words .now) (entity (a .e .index) (a .e .version)) (meaning (a .words .now) .kinds) (l .words) (c .before .before .strip-slot .last .0) (l .slot) (getD (meaning (l .words) .kinds) (l .slot) 0) (subst (λ (m : ℕ). l .slot < m) (v .1) t) same (v .2) (c .before .before .strip-slot .ensures))
 
 same-length : tie.Need-same-length Inv-loop μ-loop
 same-length c = c .before .loop .inv .2 .size
@@ -66,7 +66,7 @@ returns c =
     let a = s .args in
     let l = c .before .loop in
     let v = l .inv in
-    gone-all (a .words .now) (entity (a .index) (a .version)) (meaning (a .words .now) .kinds) (l .words) (l .slot) (subst (λ (m : ℕ). m ≤ l .slot) (v .1) (c .loop-test .left)) (s .pre .1) (known-small (a .words .now) (s .pre .0)) (v .2)
+    gone-all (a .words .now) (entity (a .e .index) (a .e .version)) (meaning (a .words .now) .kinds) (l .words) (l .slot) (subst (λ (m : ℕ). m ≤ l .slot) (v .1) (c .loop-test .left)) (s .pre .1) (known-small (a .words .now) (s .pre .0)) (v .2)
 
 pub strip-sets-spec : {M : Type 1} → statement M
 strip-sets-spec =
