@@ -171,6 +171,26 @@ impl Linked {
         }
     }
 
+    /// *run* for words that are held, on those before a run that did not stop by 3: it must do the same.
+    fn hold_held_run(&mut self, mut held: Vec<u32>, tape: &[u8], mut again: Vec<u8>, out: &[u8], ran: sys::Ran) {
+        let held_ran = unsafe {
+            sys::yirbarn_held_run(
+                held.as_mut_ptr(),
+                self.lent,
+                tape.as_ptr(),
+                tape.len(),
+                again.as_mut_ptr(),
+                again.len(),
+            )
+        };
+        if held_ran != ran || again != out {
+            self.complain(format!(
+                "a run of held words: {held_ran:?}, not {ran:?}, or other answers"
+            ));
+        }
+        self.hold_words(&held, 0, "a run beside the same of held words");
+    }
+
     /// With another word at a place for the time: the numbers of TALLY's run, of *column*, of a copy, and of *roll* into no
     /// room; and what TALLY tells. None of them changes a word.
     fn entries(&mut self, at: usize, word: u32) -> ([u32; 4], [u8; 8]) {
@@ -278,6 +298,32 @@ impl Linked {
         (copied.number, copied.written)
     }
 
+    /// *column* for words that are held, three ways: number, place and copy must be those of the entries.
+    fn hold_held_column(
+        &mut self,
+        kind: u8,
+        values: bool,
+        start: usize,
+        end: usize,
+        (number, at): (u8, usize),
+        copied: &[u32],
+    ) {
+        let (words, len) = (self.words.as_ptr(), self.lent);
+        let mut out = vec![FILL; copied.len()];
+        let (held_number, held_at, held_copy) = unsafe {
+            (
+                sys::yirbarn_held_column_number(words, len, kind, values, start, end),
+                sys::yirbarn_held_column_at(words, len, kind, values, start, end),
+                sys::yirbarn_held_column(words, len, kind, values, start, end, out.as_mut_ptr(), out.len()),
+            )
+        };
+        if [held_number, held_copy.number] != [number; 2] || held_at != at || out != copied {
+            self.complain(format!(
+                "column of kind {kind}, {start}..{end} of held words: {held_number}, {held_copy:?}, those in place at {held_at}, not {number} at {at}, or other words"
+            ));
+        }
+    }
+
     /// The number of a copy, which is column's, and of one into a buffer that is a word short.
     fn copy_numbers(&mut self, kind: u8, values: bool, start: usize, end: usize, number: u8) {
         let expected = self.column_number(kind, values, start, end);
@@ -330,14 +376,15 @@ impl Side for Linked {
     }
 
     fn run(&mut self, tape: &[u8], out: &mut [u8]) -> Ran {
-        let watched = self.words.len() <= WATCHED;
-        let before = if watched { self.words.clone() } else { vec![] };
-        let beyond = self.words[self.lent..].to_vec();
+        let (before, again) = (self.words.clone(), out.to_vec());
         let ran = self.enter(tape, out);
-        if beyond != self.words[self.lent..] {
+        if before[self.lent..] != self.words[self.lent..] {
             self.complain("a run changed words that were not lent".to_string());
         }
-        if watched {
+        if u32::from(ran.stop) != UNSOUND {
+            self.hold_held_run(before.clone(), tape, again, out, ran);
+        }
+        if self.words.len() <= WATCHED {
             self.hold_run(before, tape, &out[..ran.written], ran.commands);
         }
         Ran {
@@ -360,6 +407,9 @@ impl Side for Linked {
             ));
             return out;
         }
+        if u32::from(number) != UNSOUND {
+            self.hold_held_column(kind, values, start, end, (number, at), &out);
+        }
         // Each call tests the words anew, so not at every column.
         self.copies += 1;
         if self.copies % 8 == 0 {
@@ -374,7 +424,17 @@ impl Side for Linked {
     }
 
     fn roll(&mut self, out: &mut [u8]) -> (u32, usize) {
+        let mut again = out.to_vec();
         let rolled = unsafe { sys::yirbarn_roll(self.words.as_ptr(), self.lent, out.as_mut_ptr(), out.len()) };
+        if u32::from(rolled.number) != UNSOUND {
+            let held =
+                unsafe { sys::yirbarn_held_roll(self.words.as_ptr(), self.lent, again.as_mut_ptr(), again.len()) };
+            if held != rolled || again != out {
+                self.complain(format!(
+                    "the roll of held words: {held:?}, not {rolled:?}, or other bytes"
+                ));
+            }
+        }
         (u32::from(rolled.number), rolled.written)
     }
 
