@@ -16,26 +16,18 @@ pub struct Times {
     pub otherwise: Vec<f64>,
 }
 
-/// A run through the entry that is lent the words, and so tests them.
-fn run_ours(words: &mut [u32], tape: &[u8], out: &mut [u8]) -> usize {
-    let ran = unsafe {
-        sys::yirbarn_run(
-            words.as_mut_ptr(),
-            words.len(),
-            tape.as_ptr(),
-            tape.len(),
-            out.as_mut_ptr(),
-            out.len(),
-        )
-    };
-    assert!(ran.stop == 0 && ran.read == tape.len());
-    ran.written
-}
+/// *run* as the library exports it.
+type Run = unsafe extern "C" fn(*mut u32, usize, *const u8, usize, *mut u8, usize) -> sys::Ran;
 
-/// A run of words that are held since their start: not tested.
-fn run_held(words: &mut [u32], tape: &[u8], out: &mut [u8]) -> usize {
+/// The entry, which is lent the words, and so tests them.
+const LENT: Run = sys::yirbarn_run;
+
+/// The function for words that are held since their start: it tests nothing.
+const HELD: Run = sys::yirbarn_held_run;
+
+fn run_ours(run: Run, words: &mut [u32], tape: &[u8], out: &mut [u8]) -> usize {
     let ran = unsafe {
-        sys::yirbarn_held_run(
+        run(
             words.as_mut_ptr(),
             words.len(),
             tape.as_ptr(),
@@ -65,15 +57,15 @@ fn run_rust(rust: &mut Oracle, tape: &[u8], out: &mut [u8]) -> usize {
 /// through rolls. The answers' length.
 fn time_ours(work: &Work, runs: &[Vec<u8>], words: &mut [u32], out: &mut [u8], times: &mut Vec<f64>) -> usize {
     Store::start(words, work.n, work.k).unwrap();
-    run_ours(words, &work.setup, out);
-    let done = if work.held { run_held } else { run_ours };
+    run_ours(LENT, words, &work.setup, out);
+    let timed = if work.held { HELD } else { LENT };
     let (mut written, mut between) = (0, work.between.iter());
     let mut clock = Clock::start();
     for run in runs {
-        written += done(words, run, &mut out[written..]);
+        written += run_ours(timed, words, run, &mut out[written..]);
         if let Some(between) = between.next() {
             clock.stop();
-            run_ours(words, between, &mut out[written..]);
+            run_ours(LENT, words, between, &mut out[written..]);
             clock.go_on();
         }
     }

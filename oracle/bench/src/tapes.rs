@@ -300,6 +300,15 @@ fn trays(n: usize) -> Work {
     }
 }
 
+/// The same trays on words that are held, and so without the test before each run.
+fn held_trays(n: usize) -> Work {
+    Work {
+        name: "trays of 64, three kinds, held",
+        otherwise: None,
+        ..trays(n).held()
+    }
+}
+
 /// Entities of each work, where nothing else is said.
 const N: usize = 4096;
 
@@ -332,7 +341,11 @@ fn sizes_and_runs() -> Vec<Work> {
     let mut works: Vec<Work> = [64, 512, N].map(sized).into();
     works.push(line_mix("h", "line mix, 10,000 in a run", 10_000));
     works.push(line_mix("h", "line mix, 1,000 in a run", 1_000).to_reach("1.00"));
-    works.push(line_mix("h", "line mix, 1,000 in a run, held", 1_000).held().to_reach("0.80"));
+    works.push(
+        line_mix("h", "line mix, 1,000 in a run, held", 1_000)
+            .held()
+            .to_reach("0.80"),
+    );
     works
 }
 
@@ -379,6 +392,7 @@ pub fn works() -> Vec<Work> {
     let mut works = main_works();
     works.extend(sizes_and_runs());
     works.push(trays(N));
+    works.push(held_trays(N));
     works.extend(many_groups());
     works.extend(many_kinds());
     works.extend(half_full());
