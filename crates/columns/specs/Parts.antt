@@ -10,12 +10,13 @@ use Rattle.words.specs.Shape.{columnStart, shapeOf, entityPlace, valuePlace}
 use Rattle.memory.specs.Header.{slotOf}
 use Rattle.memory.specs.Meaning.{meaning}
 
--- where row a's words stand among all words (docs/WORDS.md): "cards (index word, version word) or values (low word, high word)"
+-- where row a's words stand among all words (docs/WORDS.md): "cards (index word, version word) or values
+-- (low word, high word)"; 02, No. 13: "value columns (four words)"
 abbrev pub rowPlace : Bool → List ℕ → ℕ → ℕ → ℕ
 rowPlace false w k a = columnStart (shapeOf w) (slotOf w k) + entityPlace a
 rowPlace true w k a = columnStart (shapeOf w) (slotOf w k) + valuePlace (shapeOf w) a
 
--- the code's place of that row; two words more for each row stay a small number
+-- the code's place of that row; the words of all rows more stay a small number
 pub record RowStart (values : Bool) (w : List ℕ) (k a r : ℕ) : Type 0 where
   pub is : r ≡ rowPlace values w k a
   pub small : r ≤ 4340000

@@ -7,7 +7,7 @@ ghost use mathlib.Core.List.{_++_};
 ghost use Prim.Native.Nat.{_≤_};
 ghost use lib.ListN.{length, drop};
 ghost use Rattle.model.specs.Refusals.{numberOf};
-ghost use Rattle.model.specs.Entries.{columnRefusal};
+ghost use Rattle.model.specs.Entries.{itemWords, columnRefusal};
 ghost use Rattle.model.specs.Sound.{In};
 ghost use Rattle.memory.specs.Meaning.{meaning};
 ghost use Rattle.memory.specs.Arranged.{Arranged};
@@ -50,6 +50,18 @@ pub fn row_start(words: &[u32], kind: usize, values: bool, place: usize) -> usiz
     start + words::entity_place(place)
 }
 
+// How many words a row has among the entities, or among the values.
+fn item_words(words: &[u32], values: bool) -> usize
+    requires { ⌜ Arranged (now words) ⌝ }
+    ensures { λ r. ⌜ r ≡ itemWords (meaning (now (words .entry)) .settings .valueBytes) values ⌝ }
+{
+    if values {
+        let z = words::shape_of(words);
+        return z.stride;
+    }
+    2
+}
+
 // The entities, or the values, of the rows from start to end, which column accepts: where they lie in the words.
 pub fn rows(words: &[u32], kind: usize, values: bool, start: usize, end: usize) -> &[u32]
     requires { ⌜ Arranged (now words) ⌝ }
@@ -57,7 +69,7 @@ pub fn rows(words: &[u32], kind: usize, values: bool, start: usize, end: usize) 
     ensures { λ r. ⌜ RowsPart (words .entry) r values kind start end ⌝ }
 {
     let first = row_start(words, kind, values, start);
-    let last = first + 2 * (end - start);
+    let last = first + item_words(words, values) * (end - start);
     &words[first..last]
 }
 

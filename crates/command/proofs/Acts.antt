@@ -3,7 +3,6 @@ use mathlib.Core.Path.{_≡_}
 use mathlib.Core.List.{List, _∷_}
 use Prim.Native.Nat.{ℕ}
 use native.Mathlib.Omega.{arith}
-use Rattle.model.specs.Numbers.{VALUE-BYTES}
 use Rattle.model.specs.Store.{Store, withControl, emptyStaged}
 use Rattle.model.specs.Sound as modelSound
 use Rattle.model.specs.Commands.{Command}
@@ -30,7 +29,7 @@ after-sound s (refuses n) S h = refused-sound s S
 after-sound s (accepts s′ a) S h = h
 
 -- a command with operands of their widths keeps the words sound
-pub acted-sound : {w w′ o o′ : List ℕ} {at r : ℕ} (c : Command) → Fits VALUE-BYTES c → Sound w → Acted w w′ o o′ at r (does c (meaning w)) → Sound w′
+pub acted-sound : {w w′ o o′ : List ℕ} {at r : ℕ} (c : Command) → Fits (meaning w .settings .valueBytes) c → Sound w → Acted w w′ o o′ at r (does c (meaning w)) → Sound w′
 acted-sound {w} c f S a =
     record {
       arranged = a .becomes .arranged;

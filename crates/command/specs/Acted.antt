@@ -4,7 +4,6 @@ use mathlib.Core.List.{List}
 use Prim.Native.Nat.{ℕ, _+_, _≤_}
 use lib.ListN.{length}
 use lib.Seq.{sets}
-use Rattle.model.specs.Numbers.{VALUE-BYTES}
 use Rattle.model.specs.Commands.{Command, answerLength}
 use Rattle.model.specs.Run.{Outcome, refuses, storeAfter, answerOf}
 use Rattle.memory.specs.Meaning.{meaning, withRefusal}
@@ -13,7 +12,7 @@ use Rattle.memory.specs.Arranged.{Sound, Becomes}
 -- the command may be done: the words w are sound, and the bytes o have room at `at` for its accepted answer
 pub record Ready (w o : List ℕ) (at : ℕ) (c : Command) : Type 0 where
   pub sound : Sound w
-  pub room : at + answerLength VALUE-BYTES c (meaning w) ≤ length o
+  pub room : at + answerLength c (meaning w) ≤ length o
 
 -- the bytes a were written at `at`, and no other; r is how many
 pub record Written (o o′ : List ℕ) (at r : ℕ) (a : List ℕ) : Type 0 where

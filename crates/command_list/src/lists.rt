@@ -9,7 +9,7 @@ ghost use mathlib.Core.Path.{_≡_};
 ghost use Rattle.model.specs.Commands.{HOLD, BAR, EMPTY};
 ghost use Rattle.model.specs.Refusals.{unknownKind};
 ghost use Rattle.model.specs.Run.{does};
-ghost use Rattle.words.specs.Offsets.{STRIDE};
+ghost use Rattle.words.specs.Shape.{shapeOf};
 ghost use Rattle.values.specs.Values.{valueOf};
 ghost use Rattle.memory.specs.Meaning.{meaning};
 ghost use Rattle.memory.specs.Arranged.{Arranged};
@@ -31,8 +31,8 @@ pub fn is_unknown(words: &[u32], kind: usize) -> bool
 
 // HOLD: a kind with its value, staged.
 pub fn hold(words: &mut [u32], kind: u8, x: Value, out: &mut [u8], at: usize) -> usize
-    requires { ⌜ Ready (now words) (now out) at (HOLD kind (valueOf STRIDE x)) ⌝ }
-    ensures { λ r. ⌜ Acted (now (words .entry)) (now (words .exit)) (now (out .entry)) (now (out .exit)) at r (does (HOLD kind (valueOf STRIDE x)) (meaning (now (words .entry)))) ⌝ }
+    requires { ⌜ Ready (now words) (now out) at (HOLD kind (valueOf (shapeOf (now words) .stride) x)) ⌝ }
+    ensures { λ r. ⌜ Acted (now (words .entry)) (now (words .exit)) (now (out .entry)) (now (out .exit)) at r (does (HOLD kind (valueOf (shapeOf (now (words .entry)) .stride) x)) (meaning (now (words .entry)))) ⌝ }
 {
     let k = kind as usize;
     if is_unknown(words, k) {

@@ -13,11 +13,10 @@ ghost use mathlib.Core.List.{_∷_};
 ghost use Prim.Native.Nat.{_+_, _*_, _≤_, _<_};
 ghost use lib.ListN.{length, getD};
 ghost use lib.Seq.{sets};
-ghost use Rattle.model.specs.Numbers.{VALUE-BYTES};
 ghost use Rattle.model.specs.Store.{stagedKinds, bytesOf};
 ghost use Rattle.model.specs.Commands.{TAKE};
 ghost use Rattle.model.specs.Run.{does};
-ghost use Rattle.words.specs.Offsets.{STRIDE};
+ghost use Rattle.words.specs.Shape.{TwoOrFour, shapeOf};
 ghost use Rattle.values.specs.Values.{valueOf};
 ghost use Rattle.model.specs.Model.{entity};
 ghost use Rattle.memory.specs.Meaning.{meaning};
@@ -26,52 +25,56 @@ ghost use Rattle.world.specs.Remove.{Staged};
 ghost use Rattle.command.specs.Acted.{Ready, Acted};
 ghost use Rattle.command_take.specs.Take.{TakesKind, TakesStaged, Takes};
 
-// The byte held and the value's eight, at `at`.
-fn put_held(out: &mut [u8], at: usize, held: u8, x: Value)
-    requires { ⌜ at + (1 + VALUE-BYTES) ≤ length (now out) ⌝ }
-    ensures { λ _. ⌜ now (out .exit) ≡ sets (now (out .entry)) at (held ∷ bytesOf VALUE-BYTES (valueOf STRIDE x)) ⌝ }
+// The byte held and the bytes of the value's d words, at `at`.
+fn put_held(out: &mut [u8], at: usize, d: usize, held: u8, x: Value)
+    requires { ⌜ TwoOrFour d ⌝ }
+    requires { ⌜ at + (1 + 4 * d) ≤ length (now out) ⌝ }
+    ensures { λ _. ⌜ now (out .exit) ≡ sets (now (out .entry)) at (held ∷ bytesOf (4 * d) (valueOf d x)) ⌝ }
 {
     out[at] = held;
-    values::put_bytes(out, at + 1, words::STRIDE, x);
+    values::put_bytes(out, at + 1, d, x);
 }
 
-// The entity's component of the staged kind at i goes, and is written out.
-fn take_one(words: &mut [u32], i: usize, e: Entity, out: &mut [u8], at: usize)
+// The entity's component of the staged kind at i goes, and is written out; d is how many words a value has.
+fn take_one(words: &mut [u32], i: usize, d: usize, e: Entity, out: &mut [u8], at: usize)
     requires { ⌜ Staged (now words) ⌝ }
     requires { ⌜ i < length (meaning (now words) .control .staged) ⌝ }
-    requires { ⌜ at + (1 + VALUE-BYTES) ≤ length (now out) ⌝ }
+    requires { ⌜ (d ≡ shapeOf (now words) .stride) × (at + (1 + 4 * d) ≤ length (now out)) ⌝ }
     ensures { λ _. ⌜ TakesKind (now (words .entry)) (now (words .exit)) (now (out .entry)) (now (out .exit)) (entity (e .index) (e .version)) (getD (stagedKinds (meaning (now (words .entry)))) i 0) at ⌝ }
 {
     let removed = component_set::remove_one(words, i, e);
     let Removed::Value(x) = removed else {
-        put_held(out, at, 0, values::zero());
+        put_held(out, at, d, 0, values::zero());
         return;
     };
-    put_held(out, at, 1, x);
+    put_held(out, at, d, 1, x);
 }
 
 // Its components of all staged kinds go, and are written out; no group is walked.
-fn take_staged(words: &mut [u32], e: Entity, out: &mut [u8], at: usize)
+fn take_staged(words: &mut [u32], e: Entity, out: &mut [u8], at: usize) -> usize
     requires { ⌜ Staged (now words) ⌝ }
-    requires { ⌜ at + (1 + VALUE-BYTES) * length (meaning (now words) .control .staged) ≤ length (now out) ⌝ }
-    ensures { λ _. ⌜ TakesStaged (now (words .entry)) (now (words .exit)) (now (out .entry)) (now (out .exit)) (entity (e .index) (e .version)) at ⌝ }
+    requires { ⌜ at + (1 + meaning (now words) .settings .valueBytes) * length (meaning (now words) .control .staged) ≤ length (now out) ⌝ }
+    ensures { λ r. ⌜ TakesStaged (now (words .entry)) (now (words .exit)) (now (out .entry)) (now (out .exit)) (entity (e .index) (e .version)) at r ⌝ }
 {
+    let z = words::shape_of(words);
     let n = control::staged::staged_len(words);
+    let len = 1 + model::WORD_BYTES * z.stride;
     let mut i = 0;
     while i < n {
-        take_one(words, i, e, out, at + 9 * i);
+        take_one(words, i, z.stride, e, out, at + len * i);
         i += 1;
     }
+    len * n
 }
 
 // The groups that have a staged kind are left; then the components go, and are written out.
-fn take_out(words: &mut [u32], e: Entity, out: &mut [u8], at: usize)
+fn take_out(words: &mut [u32], e: Entity, out: &mut [u8], at: usize) -> usize
     requires { ⌜ Sound (now words) ⌝ }
-    requires { ⌜ at + (1 + VALUE-BYTES) * length (meaning (now words) .control .staged) ≤ length (now out) ⌝ }
-    ensures { λ _. ⌜ Takes (now (words .entry)) (now (words .exit)) (now (out .entry)) (now (out .exit)) (entity (e .index) (e .version)) at ⌝ }
+    requires { ⌜ at + (1 + meaning (now words) .settings .valueBytes) * length (meaning (now words) .control .staged) ≤ length (now out) ⌝ }
+    ensures { λ r. ⌜ Takes (now (words .entry)) (now (words .exit)) (now (out .entry)) (now (out .exit)) (entity (e .index) (e .version)) at r ⌝ }
 {
     component_set::ungroup_staged(words, e);
-    take_staged(words, e, out, at);
+    take_staged(words, e, out, at)
 }
 
 // TAKE: a live entity's components of the staged kinds go, and are told.
@@ -83,9 +86,8 @@ pub fn take(words: &mut [u32], e: Entity, out: &mut [u8], at: usize) -> usize
     let Found::At(place) = found else {
         return refuse(words, out, at, DEAD);
     };
-    let n = control::staged::staged_len(words);
     ack(out, at);
-    take_out(words, e, out, at + 1);
+    let written = take_out(words, e, out, at + 1);
     control::staged::clear_staged(words);
-    1 + 9 * n
+    1 + written
 }

@@ -8,10 +8,10 @@ use native.Mathlib.Numerals.{add-one}
 use native.Mathlib.Omega.{arith}
 use mir.Val.{Fits}
 use mir.Syntax.{w32}
-use lib.ListN.{length, getD, set, drop}
+use lib.ListN.{length, getD, set, take, drop}
 use lib.Seq.{sets, length-sets, set-getD, getD-set-same, getD-set-other}
-use Rattle.model.specs.Numbers.{CALLERS, LAST-CALLER, LIST-CAPACITY, MAX-REFUSALS, MAX-KINDS}
-use Rattle.words.specs.Offsets.{CALLER, DRAFT, DRAFT-FAMILIES, DRAFT-GROUPS, ENTITIES, EXCLUDED-KINDS, EXCLUDED-LEN, MORE-SETTINGS, REFUSALS, STAGED-KINDS, STAGED-LEN, STAGED-VALUE-LEN, STAGED-VALUES, TABLE}
+use Rattle.model.specs.Numbers.{CALLERS, LAST-CALLER, LIST-CAPACITY, MAX-REFUSALS, MAX-KINDS, strideOf}
+use Rattle.words.specs.Offsets.{CALLER, DRAFT, DRAFT-FAMILIES, DRAFT-GROUPS, ENTITIES, EXCLUDED-KINDS, EXCLUDED-LEN, MORE-SETTINGS, REFUSALS, STAGED-KINDS, STAGED-LEN, STAGED-VALUE-LEN, STAGED-VALUES, TABLE, VALUE-WIDTH}
 use Rattle.model.specs.Model.{Component, Family, kindOf}
 use Rattle.model.specs.Sound.{noComponent}
 use Rattle.model.specs.Store.{Counts, Control, stagedKinds, withControl, withCounts, withCaller, emptyStaged, emptyBoth, ownRefusals, oneMore, counted}
@@ -172,10 +172,14 @@ module _ (w : List ℕ) (A : Arranged w) (k : ℕ) (x : Value) (few : stagedLen 
   stage-length : stagedLen w′ ≡ n + 1
   stage-length = before STAGED-LEN (omega arith) ∙ hit w ss 0 STAGED-LEN (n + 1) (omega arith) (omega (arith, long w A))
 
+  -- a value of the words after is read at the width of those before
+  at-width : (i : ℕ) → stagedValueAt w′ i ≡ digits (take d (drop (STAGED-VALUES + STAGED-VALUE-LEN * i) w′))
+  at-width i = ap (λ (v : ℕ). digits (take (strideOf v) (drop (STAGED-VALUES + STAGED-VALUE-LEN * i) w′))) (before VALUE-WIDTH (omega arith) ∙ miss w ss VALUE-WIDTH (omega arith))
+
   stage-last : stagedAt w′ n ≡ record { kind = k; value = valueOf d x }
   stage-last =
       let a : stagedKindAt w′ n ≡ k = before (STAGED-KINDS + n) (omega arith) ∙ hit w ss 1 (STAGED-KINDS + n) k (omega arith) (omega (arith, long w A)) in
-      let b : stagedValueAt w′ n ≡ valueOf d x = ap digits (run-hit xs (stores w ss) p d (length-wordsOf d x narrow) (omega (arith, narrow, length-stores w ss, long w A))) in
+      let b : stagedValueAt w′ n ≡ valueOf d x = at-width n ∙ ap digits (run-hit xs (stores w ss) p d (length-wordsOf d x narrow) (omega (arith, narrow, length-stores w ss, long w A))) in
       λ i. record { kind = a i; value = b i }
 
   stage-other : (i : ℕ) → i < n → stagedAt w′ i ≡ stagedAt w i
@@ -183,7 +187,7 @@ module _ (w : List ℕ) (A : Arranged w) (k : ℕ) (x : Value) (few : stagedLen 
       let q = STAGED-VALUES + STAGED-VALUE-LEN * i in
       let a : stagedKindAt w′ i ≡ stagedKindAt w i = before (STAGED-KINDS + i) (omega arith) ∙ miss w ss (STAGED-KINDS + i) (omega arith) in
       let b : stagedValueAt w′ i ≡ stagedValueAt w i =
-      ap digits (run-before xs (stores w ss) p q d (omega (arith, narrow)) ∙ run-same w (stores w ss) q d (length-stores w ss) (λ j l h. miss w ss j (omega (arith, narrow)))) in
+      at-width i ∙ ap digits (run-before xs (stores w ss) p q d (omega (arith, narrow)) ∙ run-same w (stores w ss) q d (length-stores w ss) (λ j l h. miss w ss j (omega (arith, narrow)))) in
       λ j. record { kind = a j; value = b j }
 
   stage-staged : stagedIn w′ ≡ stagedIn w ++ (record { kind = k; value = valueOf d x } ∷ [])
@@ -233,7 +237,7 @@ module _ (w : List ℕ) (A : Arranged w) (k : ℕ) (few : excludedLen w < LIST-C
       (omega (arith, miss w ts STAGED-LEN (omega arith), A .staged))
       (omega (arith, exclude-length))
       (A .caller)
-      (staged-same w (stores w ts) (length-stores w ts) (A .staged) (miss w ts STAGED-LEN (omega arith)) (λ i a b. miss w ts i (omega arith)))
+      (staged-same w (stores w ts) (length-stores w ts) A (miss w ts VALUE-WIDTH (omega arith)) (miss w ts STAGED-LEN (omega arith)) (λ i a b. miss w ts i (omega arith)))
       exclude-excluded
       (counts-kept w (stores w ts) (λ i a b. miss w ts i (omega arith)))
 
@@ -298,7 +302,7 @@ module _ (w : List ℕ) (A : Arranged w) where
       (omega (arith, miss w rs STAGED-LEN (omega arith), A .staged))
       (omega (arith, miss w rs EXCLUDED-LEN (omega arith), A .excluded))
       ca
-      (staged-same w (set w i x) (length-stores w rs) (A .staged) (miss w rs STAGED-LEN (omega arith)) (λ j a b. miss w rs j (omega arith)))
+      (staged-same w (set w i x) (length-stores w rs) A (miss w rs VALUE-WIDTH (apart VALUE-WIDTH (omega arith) (omega arith), tt)) (miss w rs STAGED-LEN (omega arith)) (λ j a b. miss w rs j (omega arith)))
       (excluded-same w (set w i x) (length-stores w rs) (A .excluded) (miss w rs EXCLUDED-LEN (omega arith)) (λ j a b. miss w rs j (omega arith)))
       e
 

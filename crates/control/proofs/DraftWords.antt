@@ -4,7 +4,7 @@ use mathlib.Core.List.{List, [], _∷_}
 use Prim.Native.Nat.{ℕ, _-_, _≤_, _<_}
 use native.Mathlib.Omega.{arith}
 use lib.ListN.{length, getD, drop}
-use Rattle.words.specs.Offsets.{CALLER, DRAFT, DRAFT-FAMILIES, DRAFT-GROUPS, ENTITIES, EXCLUDED-LEN, LAYOUT, LAYOUT-FAMILIES, STAGED-LEN}
+use Rattle.words.specs.Offsets.{CALLER, DRAFT, DRAFT-FAMILIES, DRAFT-GROUPS, ENTITIES, EXCLUDED-LEN, LAYOUT, LAYOUT-FAMILIES, STAGED-LEN, VALUE-WIDTH}
 use Rattle.model.specs.Model.{Family}
 use Rattle.model.specs.Store.{withControl, withDraft}
 use Rattle.words.specs.Table.{table}
@@ -67,7 +67,7 @@ module _ (w w′ : List ℕ) (A : Arranged w) (D : Drafted w w′) where
   drafted-becomes fs good groups e =
       let B =
       control-becomes w w′ A static (λ i a b. D .upper i (omega arith) b) (omega (arith, D .low STAGED-LEN (omega arith), A .staged)) (omega (arith, D .low EXCLUDED-LEN (omega arith), A .excluded)) (omega (arith, D .middle CALLER (omega arith) (omega arith), A .caller)) good groups in
-      let s : stagedIn w′ ≡ stagedIn w = staged-same w w′ (D .size) (A .staged) (D .low STAGED-LEN (omega arith)) (λ i a b. D .middle i (omega arith) (omega arith)) in
+      let s : stagedIn w′ ≡ stagedIn w = staged-same w w′ (D .size) A (D .middle VALUE-WIDTH (omega arith) (omega arith)) (D .low STAGED-LEN (omega arith)) (λ i a b. D .middle i (omega arith) (omega arith)) in
       let x : excludedIn w′ ≡ excludedIn w = excluded-same w w′ (D .size) (A .excluded) (D .low EXCLUDED-LEN (omega arith)) (λ i a b. D .middle i (omega arith) (omega arith)) in
       let c = counts-kept w w′ (λ i a b. D .middle i (omega arith) (omega arith)) in
       let k : controlIn w′ ≡ withDraft (controlIn w) fs = λ i. record { staged = s i; excluded = x i; draft = e i; counts = c i } in

@@ -7,7 +7,7 @@ use Prim.Native.Nat.{ℕ, _≤_, _<_}
 use native.Mathlib.Omega.{arith}
 use borrow.Author.Tests.{lt-leb}
 use lib.ListN.{length}
-use Rattle.model.specs.Numbers.{LIST-CAPACITY, MAX-KINDS, VALUE-BYTES}
+use Rattle.model.specs.Numbers.{LIST-CAPACITY, MAX-KINDS}
 use Rattle.model.specs.Model.{Family, Component, kindOf}
 use Rattle.model.specs.Adding.{Added, nothing, added, refused, addGroup}
 use Rattle.model.specs.Listed.{listed}
@@ -62,14 +62,14 @@ abbrev holding : Store → List Family → List Component → Store
 holding s fs h = withControl s (withDraft (withStaged (s .control) h) fs)
 
 module _ (s : Store) (small : (k : ℕ) → In (s .kinds) k → k < MAX-KINDS) where
-  held-after : (h : List Component) (fs : List Family) → StagedSound VALUE-BYTES (s .kinds) h → afterAll (holdCommands h) (onDraft s fs) ≡ holding s fs h
+  held-after : (h : List Component) (fs : List Family) → StagedSound (s .settings .valueBytes) (s .kinds) h → afterAll (holdCommands h) (onDraft s fs) ≡ holding s fs h
   held-after h fs H = holds-after h (onDraft s fs) (H .once) (H .few) (λ k i. known-kind s small k (H .known k i))
 
-  held-none : (h : List Component) (fs : List Family) → StagedSound VALUE-BYTES (s .kinds) h → NoneRefused (holdCommands h) (onDraft s fs)
+  held-none : (h : List Component) (fs : List Family) → StagedSound (s .settings .valueBytes) (s .kinds) h → NoneRefused (holdCommands h) (onDraft s fs)
   held-none h fs H = holds-none h (onDraft s fs) (H .once) (H .few) (λ k i. known-kind s small k (H .known k i))
 
   -- a hand is held and grouped, and then come the commands cs
-  module _ (h : List Component) (cs : List Command) (fs : List Family) (H : StagedSound VALUE-BYTES (s .kinds) h) where
+  module _ (h : List Component) (cs : List Command) (fs : List Family) (H : StagedSound (s .settings .valueBytes) (s .kinds) h) where
     abbrev here : Store
     here = holding s fs h
 
@@ -85,7 +85,7 @@ module _ (s : Store) (small : (k : ℕ) → In (s .kinds) k → k < MAX-KINDS) w
     grouped-held n = subst (NoneRefused (GROUP ∷ cs)) (held-after h fs H) (none-first (holdCommands h) (GROUP ∷ cs) (onDraft s fs) n)
 
   -- hands that are all accepted leave the draft that they make, and no command is refused
-  drafted-sheet : (hs : List (List Component)) (fs gs : List Family) → SheetSound (s .kinds) hs → drafted (sheetGroups hs) fs ≡ some gs → NoneRefused (sheetCommands hs) (onDraft s fs) × (afterAll (sheetCommands hs) (onDraft s fs) ≡ onDraft s gs)
+  drafted-sheet : (hs : List (List Component)) (fs gs : List Family) → SheetSound (s .settings .valueBytes) (s .kinds) hs → drafted (sheetGroups hs) fs ≡ some gs → NoneRefused (sheetCommands hs) (onDraft s fs) × (afterAll (sheetCommands hs) (onDraft s fs) ≡ onDraft s gs)
   drafted-sheet [] fs gs H e = let q : fs ≡ gs = cc in (tt, ap (onDraft s) q)
   drafted-sheet (h ∷ hs) fs gs H e = go (addGroup (map kindOf h) fs) refl e (λ mid q. drafted-sheet hs mid gs (H .1) q)
     where
@@ -97,7 +97,7 @@ module _ (s : Store) (small : (k : ℕ) → In (s .kinds) k → k < MAX-KINDS) w
       go (refused n) a q r = let z : _≡_ {A = ℕ} 0 1 = cc in absurd (omega arith)
 
   -- and hands of which no command is refused are all accepted
-  sheet-drafted : (hs : List (List Component)) (fs : List Family) → SheetSound (s .kinds) hs → NoneRefused (sheetCommands hs) (onDraft s fs) → (gs : List Family) × (drafted (sheetGroups hs) fs ≡ some gs)
+  sheet-drafted : (hs : List (List Component)) (fs : List Family) → SheetSound (s .settings .valueBytes) (s .kinds) hs → NoneRefused (sheetCommands hs) (onDraft s fs) → (gs : List Family) × (drafted (sheetGroups hs) fs ≡ some gs)
   sheet-drafted [] fs H n = (fs, refl)
   sheet-drafted (h ∷ hs) fs H n = go (addGroup (map kindOf h) fs) refl (grouped-held h (sheetCommands hs) fs (H .0) n) (λ mid m. sheet-drafted hs mid (H .1) m)
     where
@@ -110,28 +110,28 @@ module _ (s : Store) (small : (k : ℕ) → In (s .kinds) k → k < MAX-KINDS) w
 
 -- ---- on a tape
 
-pub sheet-encodable : (kinds : List ℕ) → ((k : ℕ) → In kinds k → k < MAX-KINDS) → (hs : List (List Component)) → SheetSound kinds hs → AllEncodable VALUE-BYTES (sheetCommands hs)
-sheet-encodable kinds small [] H = tt
-sheet-encodable kinds small (h ∷ hs) H =
-    encodable-append VALUE-BYTES (holdCommands h) (GROUP ∷ sheetCommands hs) (holds-encodable VALUE-BYTES h (λ k i. omega (arith, small k (H .0 .known k i))) (H .0 .values)) (tt, sheet-encodable kinds small hs (H .1))
+pub sheet-encodable : (v : ℕ) (kinds : List ℕ) → ((k : ℕ) → In kinds k → k < MAX-KINDS) → (hs : List (List Component)) → SheetSound v kinds hs → AllEncodable v (sheetCommands hs)
+sheet-encodable v kinds small [] H = tt
+sheet-encodable v kinds small (h ∷ hs) H =
+    encodable-append v (holdCommands h) (GROUP ∷ sheetCommands hs) (holds-encodable v h (λ k i. omega (arith, small k (H .0 .known k i))) (H .0 .values)) (tt, sheet-encodable v kinds small hs (H .1))
 
 -- ---- hands as lists of kinds
 
-all-staged-sound : (kinds : List ℕ) (hs : List (List Component)) → SheetSound kinds hs → AllStagedKindsSound kinds (sheetGroups hs)
-all-staged-sound kinds [] H = tt
-all-staged-sound kinds (h ∷ hs) H = (record { once = H .0 .once; known = H .0 .known }, all-staged-sound kinds hs (H .1))
+all-staged-sound : (v : ℕ) (kinds : List ℕ) (hs : List (List Component)) → SheetSound v kinds hs → AllStagedKindsSound kinds (sheetGroups hs)
+all-staged-sound v kinds [] H = tt
+all-staged-sound v kinds (h ∷ hs) H = (record { once = H .0 .once; known = H .0 .known }, all-staged-sound v kinds hs (H .1))
 
 -- ---- the theorem
 
 -- in a sound store with an empty hand, whatever its draft
-pub sheets-in-any-order : (s : Store) → StoreSound s → s .control .staged ≡ [] → (hs js : List (List Component)) → SheetSound (s .kinds) hs → SheetSound (s .kinds) js → SameGroups (twoOrMore (sheetGroups hs)) (twoOrMore (sheetGroups js))
+pub sheets-in-any-order : (s : Store) → StoreSound s → s .control .staged ≡ [] → (hs js : List (List Component)) → SheetSound (s .settings .valueBytes) (s .kinds) hs → SheetSound (s .settings .valueBytes) (s .kinds) js → SameGroups (twoOrMore (sheetGroups hs)) (twoOrMore (sheetGroups js))
     → NoneRefused (sheetCommands hs) s → SameSheet js s (afterAll (sheetCommands hs) s) (afterAll (sheetCommands js) s)
 sheets-in-any-order s S bare hs js H J same n =
     let small = S .kinds .small in
     let start = s .control .draft in
     let at : onDraft s start ≡ s = ap (holding s start) (sym bare) in
     let d = sheet-drafted s small hs start H (subst (NoneRefused (sheetCommands hs)) (sym at) n) in
-    let D : SameDraft (sheetGroups js) start (d .0) = any-order (s .kinds) small start (record { buildable = S .draft; uncounted = S .uncounted }) (sheetGroups hs) (sheetGroups js) (all-staged-sound (s .kinds) hs H) (all-staged-sound (s .kinds) js J) same (d .0) (d .1) in
+    let D : SameDraft (sheetGroups js) start (d .0) = any-order (s .kinds) small start (record { buildable = S .draft; uncounted = S .uncounted }) (sheetGroups hs) (sheetGroups js) (all-staged-sound (s .settings .valueBytes) (s .kinds) hs H) (all-staged-sound (s .settings .valueBytes) (s .kinds) js J) same (d .0) (d .1) in
     let b = drafted-sheet s small js start (D .draft) J (D .accepted) in
     let first : afterAll (sheetCommands hs) s ≡ onDraft s (d .0) = ap (afterAll (sheetCommands hs)) (sym at) ∙ drafted-sheet s small hs start (d .0) H (d .1) .1 in
     let second : afterAll (sheetCommands js) s ≡ onDraft s (D .draft) = ap (afterAll (sheetCommands js)) (sym at) ∙ b .1 in

@@ -2,7 +2,6 @@
 use mathlib.Core.Path.{_≡_}
 use mathlib.Core.List.{List, [], _∷_, _++_, map}
 use Prim.Native.Nat.{ℕ}
-use Rattle.model.specs.Numbers.{VALUE-BYTES}
 use Rattle.model.specs.Model.{Component, kindOf}
 use Rattle.model.specs.Listed.{listed}
 use Rattle.model.specs.Store.{Store, withControl, withDraft}
@@ -21,10 +20,10 @@ sheetCommands (h ∷ hs) = holdCommands h ++ (GROUP ∷ sheetCommands hs)
 abbrev pub sheetGroups : List (List Component) → List (List ℕ)
 sheetGroups hs = map (map kindOf) hs
 
--- each is a hand that commands can build
-abbrev pub SheetSound : List ℕ → List (List Component) → Type 0
-SheetSound kinds [] = Unit {0}
-SheetSound kinds (h ∷ hs) = StagedSound VALUE-BYTES kinds h × SheetSound kinds hs
+-- each is a hand that commands can build, its values of v bytes
+abbrev pub SheetSound : ℕ → List ℕ → List (List Component) → Type 0
+SheetSound v kinds [] = Unit {0}
+SheetSound v kinds (h ∷ hs) = StagedSound v kinds h × SheetSound v kinds hs
 
 -- no command is refused, each in the store that those before it leave
 abbrev pub NoneRefused : List Command → Store → Type 0

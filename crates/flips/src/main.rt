@@ -19,7 +19,9 @@ const ENTITIES: usize = words::ENTITIES;
 
 const COLUMNS: usize = ENTITIES + model::ENTITY_LEN * CAPACITY;
 
-const BEYOND: usize = COLUMNS + KIND_CAPACITY * (model::COLUMN_HEAD + model::ROW_LEN * CAPACITY);
+const ROW_LEN: usize = model::LINKS_LEN + model::VALUE_BYTES / model::WORD_BYTES;
+
+const BEYOND: usize = COLUMNS + KIND_CAPACITY * (model::COLUMN_HEAD + ROW_LEN * CAPACITY);
 // How many are live, and how many numbers are recycled.
 const LIVE_LEN: usize = ENTITIES + words::LIVE_LEN;
 

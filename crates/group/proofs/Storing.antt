@@ -8,7 +8,7 @@ use Rattle.model.specs.Store.{onStorage, Store}
 use Rattle.memory.specs.Header.{capacityOf}
 use Rattle.memory.specs.Meaning.{meaning}
 use Rattle.memory.specs.Arranged.{Becomes}
-use Rattle.memory.proofs.Becomes.{capacity-means, becomes-next}
+use Rattle.memory.proofs.Becomes.{capacity-means, shape-means, becomes-next}
 use Rattle.model.proofs.ListLaws.{drop-step}
 use Rattle.words.specs.Shape.{shapeOf, shape}
 
@@ -24,7 +24,7 @@ pub capacity-kept : (w₀ w : List ℕ) (f : Storage → Storage) → Becomes w�
 capacity-kept w₀ w f B = sym (capacity-means w) ∙ ap (λ (m : Store). m .settings .capacity) (B .means) ∙ capacity-means w₀
 
 pub shape-kept : (w₀ w : List ℕ) (f : Storage → Storage) → Becomes w₀ w (onStorage f (meaning w₀)) → shapeOf w ≡ shapeOf w₀
-shape-kept w₀ w f B = ap shape (capacity-kept w₀ w f B)
+shape-kept w₀ w f B = sym (shape-means w) ∙ ap (λ (m : Store). shape (m .settings .capacity) (m .settings .valueBytes)) (B .means) ∙ shape-means w₀
 
 -- ---- loops that change the storage step by step
 

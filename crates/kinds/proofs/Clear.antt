@@ -25,7 +25,7 @@ use Rattle.entity.specs.Meaning.{entityPart}
 use Rattle.memory.specs.Header.{capacityOf, kindCapacityOf, registeredOf, slotOf}
 use Rattle.memory.specs.Meaning.{setAt, setsIn, meaning}
 use Rattle.memory.specs.Arranged.{Arranged, Becomes}
-use Rattle.memory.proofs.Kept.{Kept, capacity-kept, kinds-kept, arranged-kept}
+use Rattle.memory.proofs.Kept.{Kept, shape-kept, kinds-kept, arranged-kept}
 use Rattle.memory.proofs.Frames.{part-same, control-same, layout-same, header-kept, draft-formed, reads-means}
 use Rattle.model.proofs.ListLaws.{drop-later, word-front}
 use Rattle.kinds.specs.Kinds.{emptied}
@@ -101,7 +101,7 @@ module _ (w w′ : List ℕ) (A : Arranged w) (f : SparseSet → SparseSet) (non
 
   each-set : (k : ℕ) → k < MAX-KINDS → setAt w′ k ≡ f (setAt w k)
   each-set k h =
-      rw (each-kept .slots k h, each-kept .registered, capacity-kept each-kept)
+      rw (each-kept .slots k h, each-kept .registered, shape-kept each-kept)
       (bool-cases (ltb (slotOf w k) (registeredOf w))
       (λ t. rw t (o .becomes (slotOf w k) (omega (arith, ltb-true (slotOf w k) (registeredOf w) t, A .table .few))))
       (λ t. rw t (sym none)))

@@ -12,7 +12,7 @@ use lib.Seq.{getD-set-same, getD-set-other, drop-set-lt}
 use Rattle.model.specs.Numbers.{ENTITY-LEN, MAX-KINDS}
 use Rattle.model.specs.Model.{mem}
 use Rattle.model.specs.Sound.{In}
-use Rattle.words.specs.Offsets.{CALLER, CAPACITY, COLUMN-KIND, DRAFT-FAMILIES, DRAFT-GROUPS, ENTITIES, EXCLUDED-LEN, GROUP-COUNTS, GROUP-FAMILIES, GROUP-PLACES, KIND-CAPACITY, LAYOUT-FAMILIES, LAYOUT-GROUPS, OWN-GROUP, PLACE-IN-FAMILY, REGISTERED, RULE, STAGED-LEN, TABLE, UNREGISTERED}
+use Rattle.words.specs.Offsets.{CALLER, CAPACITY, COLUMN-KIND, DRAFT-FAMILIES, DRAFT-GROUPS, ENTITIES, EXCLUDED-LEN, GROUP-COUNTS, GROUP-FAMILIES, GROUP-PLACES, KIND-CAPACITY, LAYOUT-FAMILIES, LAYOUT-GROUPS, OWN-GROUP, PLACE-IN-FAMILY, REGISTERED, RULE, STAGED-LEN, TABLE, UNREGISTERED, VALUE-WIDTH}
 use Rattle.words.proofs.Offsets.{columnStart-mono, columnStart-first}
 use Rattle.words.specs.Part.{between}
 use Rattle.words.specs.Table.{table}
@@ -28,7 +28,7 @@ use Rattle.component.proofs.Frames.{headed, front-column, front-columns}
 use Rattle.entity.specs.Meaning.{entityPart}
 use Rattle.layout.specs.Layout.{Arrays, WellFormed, widthOf, groupCount, familiesOf}
 use Rattle.layout.specs.Group.{memberAt}
-use Rattle.memory.specs.Header.{capacityOf, kindCapacityOf, registeredOf, layoutGroups, slotOf, groupFamilyAt}
+use Rattle.memory.specs.Header.{capacityOf, kindCapacityOf, registeredOf, layoutGroups, slotOf, groupFamilyAt, valueBytesOf}
 use Rattle.memory.specs.Meaning.{kindAt, ownAt, kindsIn, setAt, setsIn, draftArrays, layoutArrays, draftIn, layoutIn, controlIn, meaning}
 use Rattle.memory.specs.Arranged.{TableSound, Registered, GroupSound, LayoutSound, Arranged, Becomes}
 use Rattle.memory.proofs.Frames.{part-same, draft-arrays-same, layout-arrays-same, counts-same, staged-same, excluded-same, settings-kept, counts-kept, long, reads-means}
@@ -117,18 +117,24 @@ module _ (w w′ : List ℕ) (A : Arranged w) (k : ℕ) (hk : k < MAX-KINDS) (ne
   kind-cap : kindCapacityOf w′ ≡ kindCapacityOf w
   kind-cap = R .header KIND-CAPACITY (omega arith) (omega arith) (omega arith)
 
+  width : valueBytesOf w′ ≡ valueBytesOf w
+  width = R .header VALUE-WIDTH (omega arith) (omega arith) (omega arith)
+
+  shaped : shapeOf w′ ≡ shapeOf w
+  shaped = λ i. shape (cap i) (width i)
+
   slot-other : (j : ℕ) → j < MAX-KINDS → j ≢ k → slotOf w′ j ≡ slotOf w j
   slot-other j h ne = R .header (TABLE + j) (omega arith) (omega arith) (omega arith)
 
   -- the head of a column that was there, and of the new one
   head-other : (t : ℕ) → t < registeredOf w → (i : ℕ) → getD (columnOf (shapeOf w′) t w′) i 0 ≡ getD (columnOf (shapeOf w) t w) i 0
-  head-other t h i = ap (λ (c : ℕ). getD (columnOf (shape c) t w′) i 0) cap ∙ ap (λ (u : List ℕ). getD u i 0) (R .others t (omega arith) (omega arith))
+  head-other t h i = ap (λ (c : Shape). getD (columnOf c t w′) i 0) shaped ∙ ap (λ (u : List ℕ). getD u i 0) (R .others t (omega arith) (omega arith))
 
   kind-new : kindAt w′ (registeredOf w) ≡ k
-  kind-new = ap (λ (c : ℕ). getD (columnOf (shape c) (registeredOf w) w′) COLUMN-KIND 0) cap ∙ R .kind
+  kind-new = ap (λ (c : Shape). getD (columnOf c (registeredOf w) w′) COLUMN-KIND 0) shaped ∙ R .kind
 
   own-new : ownAt w′ (registeredOf w) ≡ 0
-  own-new = ap (λ (c : ℕ). getD (columnOf (shape c) (registeredOf w) w′) OWN-GROUP 0) cap ∙ R .own
+  own-new = ap (λ (c : Shape). getD (columnOf c (registeredOf w) w′) OWN-GROUP 0) shaped ∙ R .own
 
   -- a kind that was there is not the new one
   kind-ne : (t : ℕ) → t < registeredOf w → kindAt w t ≢ k
@@ -223,10 +229,10 @@ module _ (w w′ : List ℕ) (A : Arranged w) (k : ℕ) (hk : k < MAX-KINDS) (ne
   set-new j h =
       by-eq j k
       (λ e.
-      rw (e, R .slot, no-slot, R .count, cap, lt-ltb (registeredOf w) (registeredOf w + 1) (omega arith), le-ltb UNREGISTERED (registeredOf w) (omega (arith, A .limits .mostKinds)))
+      rw (e, R .slot, no-slot, R .count, shaped, lt-ltb (registeredOf w) (registeredOf w + 1) (omega arith), le-ltb UNREGISTERED (registeredOf w) (omega (arith, A .limits .mostKinds)))
       (R .same (registeredOf w) room ∙ A .vacant (registeredOf w) (omega arith) room))
       (λ ne.
-      rw (slot-other j h ne, R .count, cap)
+      rw (slot-other j h ne, R .count, shaped)
       (elim (decLt (slotOf w j) (registeredOf w)) [
         | yes l ↦
             rw (lt-ltb (slotOf w j) (registeredOf w) l, lt-ltb (slotOf w j) (registeredOf w + 1) (omega arith)) (R .same (slotOf w j) (omega arith))
@@ -253,7 +259,7 @@ module _ (w w′ : List ℕ) (A : Arranged w) (k : ℕ) (hk : k < MAX-KINDS) (ne
   control-is : controlIn w′ ≡ controlIn w
   unfolding draftIn
   control-is =
-      let p = staged-same w w′ (R .size) (A .staged) (R .header STAGED-LEN (omega arith) (omega arith) (omega arith)) (λ i a b. R .header i (omega arith) (omega arith) (omega arith)) in
+      let p = staged-same w w′ (R .size) A width (R .header STAGED-LEN (omega arith) (omega arith) (omega arith)) (λ i a b. R .header i (omega arith) (omega arith) (omega arith)) in
       let e = excluded-same w w′ (R .size) (A .excluded) (R .header EXCLUDED-LEN (omega arith) (omega arith) (omega arith)) (λ i a b. R .header i (omega arith) (omega arith) (omega arith)) in
       let d : draftIn w′ ≡ draftIn w = ap (familiesOf []) draft-is in
       let c = counts-kept w w′ (λ i a b. R .header i (omega arith) (omega arith) (omega arith)) in
@@ -268,16 +274,16 @@ module _ (w w′ : List ℕ) (A : Arranged w) (k : ℕ) (hk : k < MAX-KINDS) (ne
   arranged-new : Arranged w′
   arranged-new =
       record {
-        limits = rw (cap, kind-cap) (A .limits);
-        enough = rw (cap, kind-cap, R .size) (A .enough);
+        limits = rw (cap, kind-cap, width) (A .limits);
+        enough = rw (shaped, kind-cap, R .size) (A .enough);
         table = table-new;
         entities = rw cap (subst (entity.EntityPartSound (capacityOf w)) (sym entities-are) (A .entities));
-        columns = rw (cap, kind-cap) (R .columns);
+        columns = rw (shaped, kind-cap) (R .columns);
         vacant =
             λ j l h.
             let l₀ : registeredOf w ≤ j = omega (arith, R .count) in
             let h₀ : j < kindCapacityOf w = rw kind-cap at h in
-            rw cap (R .same j h₀ ∙ A .vacant j l₀ h₀);
+            rw shaped (R .same j h₀ ∙ A .vacant j l₀ h₀);
         staged = rw (R .header STAGED-LEN (omega arith) (omega arith) (omega arith)) (A .staged);
         excluded = rw (R .header EXCLUDED-LEN (omega arith) (omega arith) (omega arith)) (A .excluded);
         caller = rw (R .header CALLER (omega arith) (omega arith) (omega arith)) (A .caller);

@@ -7,7 +7,7 @@ use native.Mathlib.Numerals.{add-one}
 use native.Mathlib.Omega.{arith}
 use lib.ListN.{getD, set, take}
 use Rattle.model.specs.Sound.{In}
-use Rattle.words.specs.Offsets.{CAPACITY, COLUMN-KIND, ENTITIES, KIND-CAPACITY, LAYOUT-FAMILIES, OWN-GROUP, PLACE-IN-FAMILY, REGISTERED, TABLE}
+use Rattle.words.specs.Offsets.{CAPACITY, COLUMN-KIND, ENTITIES, KIND-CAPACITY, LAYOUT-FAMILIES, OWN-GROUP, PLACE-IN-FAMILY, REGISTERED, TABLE, VALUE-WIDTH}
 use Rattle.words.proofs.Offsets.{columnStart-first}
 use Rattle.words.specs.Shape.{columnStart, shapeOf, shape}
 use Rattle.words.specs.declared.Shape.{Shape}
@@ -96,7 +96,7 @@ module _ (w w′ : List ℕ) (R : HeadsReady w) (H : Heads w w′) where
   capacity-same = word-same CAPACITY (omega arith)
 
   pub shape-same : shapeOf w′ ≡ shapeOf w
-  shape-same = ap shape capacity-same
+  shape-same = λ i. shape (capacity-same i) (word-same VALUE-WIDTH (omega arith) i)
 
   kind-capacity-same : kindCapacityOf w′ ≡ kindCapacityOf w
   kind-capacity-same = word-same KIND-CAPACITY (omega arith)
@@ -126,7 +126,7 @@ module _ (w w′ : List ℕ) (R : HeadsReady w) (H : Heads w w′) where
   ready-kept =
       record {
         long = omega (arith, R .long, H .size);
-        columns = rw (capacity-same, kind-capacity-same) (H .columns);
+        columns = rw (shape-same, kind-capacity-same) (H .columns);
         few = rw (registered-same, kind-capacity-same) (R .few);
         formed = subst WellFormed (sym arrays-same) (R .formed);
         known =
@@ -137,7 +137,7 @@ module _ (w w′ : List ℕ) (R : HeadsReady w) (H : Heads w w′) where
 
   pub heads-then : (w″ : List ℕ) → Heads w′ w″ → Heads w w″
   heads-then w″ H′ =
-      reheaded-then (shapeOf w) (kindCapacityOf w) w w′ w″ H (rw (capacity-same, kind-capacity-same) at H′)
+      reheaded-then (shapeOf w) (kindCapacityOf w) w w′ w″ H (rw (shape-same, kind-capacity-same) at H′)
 
 pub heads-none : (w : List ℕ) → HeadsReady w → Heads w w
 heads-none w R = reheaded-none (shapeOf w) (kindCapacityOf w) w (R .columns)

@@ -12,7 +12,7 @@ use lib.Seq.{ext-getD}
 use Rattle.model.specs.Numbers.{ENTITY-LEN, MAX-KINDS}
 use Rattle.model.specs.Sound.{In, StoreSound}
 use Rattle.model.proofs.BoolLaws.{bool-cases}
-use Rattle.words.specs.Offsets.{BLOCK-LEN, CALLER, CAPACITY, COLUMN-KIND, DRAFT, DRAFT-FAMILIES, DRAFT-GROUPS, ENTITIES, EXCLUDED-LEN, GROUP-COUNTS, GROUP-FAMILIES, GROUP-PLACES, KIND-CAPACITY, LAYOUT, LAYOUT-FAMILIES, LAYOUT-GROUPS, OWN-GROUP, REGISTERED, RULE, STAGED-LEN, TABLE, UNREGISTERED}
+use Rattle.words.specs.Offsets.{BLOCK-LEN, CALLER, CAPACITY, COLUMN-KIND, DRAFT, DRAFT-FAMILIES, DRAFT-GROUPS, ENTITIES, EXCLUDED-LEN, GROUP-COUNTS, GROUP-FAMILIES, GROUP-PLACES, KIND-CAPACITY, LAYOUT, LAYOUT-FAMILIES, LAYOUT-GROUPS, OWN-GROUP, REGISTERED, RULE, STAGED-LEN, TABLE, UNREGISTERED, VALUE-WIDTH}
 use Rattle.words.proofs.Offsets.{columnStart-mono, columnStart-first}
 use Rattle.words.specs.Part.{between}
 use Rattle.words.proofs.Part.{between-front, between-rest, length-between, getD-between}
@@ -30,7 +30,7 @@ use Rattle.layout.specs.Group.{InFamily, arityOf}
 use Rattle.layout.proofs.Arrays.{none-formed, layout-kinds, block-sized}
 use Rattle.layout.proofs.Family.{groups-same}
 use Rattle.layout.proofs.Groups.{spot}
-use Rattle.memory.specs.Header.{capacityOf, kindCapacityOf, registeredOf, layoutGroups, slotOf, groupFamilyAt}
+use Rattle.memory.specs.Header.{capacityOf, kindCapacityOf, registeredOf, layoutGroups, slotOf, groupFamilyAt, valueBytesOf}
 use Rattle.memory.specs.Meaning.{kindAt, kindsIn, setAt, setsIn, draftArrays, layoutArrays, draftIn, layoutIn, meaning}
 use Rattle.memory.specs.Arranged.{TableSound, GroupSound, LayoutSound, Arranged, Becomes}
 use Rattle.memory.proofs.Frames.{staged-same, excluded-same, settings-kept, counts-kept, long, reads-means}
@@ -64,8 +64,8 @@ module _ (w₀ w₁ : List ℕ) (A : Arranged w₀) (M : StoreSound (meaning w�
   abbrev d : Arrays
   d = draftArrays w₀
 
-  cap₁ : capacityOf w₁ ≡ n
-  cap₁ = P .low CAPACITY (omega arith)
+  shape₁ : shapeOf w₁ ≡ z
+  shape₁ = λ i. shape (P .low CAPACITY (omega arith) i) (P .lists VALUE-WIDTH (omega arith) (omega arith) i)
 
   kcap₁ : kindCapacityOf w₁ ≡ k
   kcap₁ = P .low KIND-CAPACITY (omega arith)
@@ -83,7 +83,7 @@ module _ (w₀ w₁ : List ℕ) (A : Arranged w₀) (M : StoreSound (meaning w�
   column₁ s = front-column z w₀ w₁ rest₁ s
 
   kind₁ : (s : ℕ) → kindAt w₁ s ≡ kindAt w₀ s
-  kind₁ s = ap (λ (c : ℕ). getD (columnOf (shape c) s w₁) COLUMN-KIND 0) cap₁ ∙ ap (λ (u : List ℕ). getD u COLUMN-KIND 0) (column₁ s)
+  kind₁ s = ap (λ (c : Shape). getD (columnOf c s w₁) COLUMN-KIND 0) shape₁ ∙ ap (λ (u : List ℕ). getD u COLUMN-KIND 0) (column₁ s)
 
   block₁ : between LAYOUT GROUP-FAMILIES w₁ ≡ between DRAFT LAYOUT w₀
   block₁ =
@@ -121,7 +121,7 @@ module _ (w₀ w₁ : List ℕ) (A : Arranged w₀) (M : StoreSound (meaning w�
   ready₁ =
       record {
         long = omega (arith, P .size, long w₀ A);
-        columns = rw (cap₁, kcap₁) (front-columns z w₀ w₁ rest₁ k (P .size) (A .columns));
+        columns = rw (shape₁, kcap₁) (front-columns z w₀ w₁ rest₁ k (P .size) (A .columns));
         few = rw (reg₁, kcap₁) (A .table .few);
         formed = subst WellFormed (sym arrays₁) (A .draft);
         known = subst (λ (a : Arrays). (p : ℕ) → p < widthOf a → Slotted w₁ (getD (a .kinds) p 0)) (sym arrays₁) slotted₁;
@@ -155,7 +155,7 @@ module _ (w₀ w₁ : List ℕ) (A : Arranged w₀) (M : StoreSound (meaning w�
     ready = ready-kept w₁ w ready₁ H
 
     changed : Reheaded z k w₁ w
-    changed = rw (cap₁, kcap₁) at H
+    changed = rw (shape₁, kcap₁) at H
 
     same : (i : ℕ) → i < ENTITIES → getD w i 0 ≡ getD w₁ i 0
     same i h = word-same w₁ w ready₁ H i h
@@ -172,6 +172,12 @@ module _ (w₀ w₁ : List ℕ) (A : Arranged w₀) (M : StoreSound (meaning w�
     cap : capacityOf w ≡ n
     cap = low CAPACITY (omega arith)
 
+    width : valueBytesOf w ≡ valueBytesOf w₀
+    width = lists VALUE-WIDTH (omega arith) (omega arith)
+
+    shaped : shapeOf w ≡ z
+    shaped = λ i. shape (cap i) (width i)
+
     kcap : kindCapacityOf w ≡ k
     kcap = low KIND-CAPACITY (omega arith)
 
@@ -183,7 +189,7 @@ module _ (w₀ w₁ : List ℕ) (A : Arranged w₀) (M : StoreSound (meaning w�
 
     kind : (s : ℕ) → s < registeredOf w₀ → kindAt w s ≡ kindAt w₀ s
     kind s h =
-        ap (λ (c : ℕ). getD (columnOf (shape c) s w) COLUMN-KIND 0) cap ∙ changed .kinds s (omega (arith, A .table .few)) ∙ ap (λ (u : List ℕ). getD u COLUMN-KIND 0) (column₁ s)
+        ap (λ (c : Shape). getD (columnOf c s w) COLUMN-KIND 0) shaped ∙ changed .kinds s (omega (arith, A .table .few)) ∙ ap (λ (u : List ℕ). getD u COLUMN-KIND 0) (column₁ s)
 
     row : (s : ℕ) → s < k → rowsOf z s w ≡ rowsOf z s w₀
     row s h = changed .rows s h ∙ ap (rows z) (column₁ s)
@@ -249,8 +255,8 @@ module _ (w₀ w₁ : List ℕ) (A : Arranged w₀) (M : StoreSound (meaning w�
     arranged : Arranged w
     arranged =
         record {
-          limits = rw (cap, kcap) (A .limits);
-          enough = rw (cap, kcap, size) (A .enough);
+          limits = rw (cap, kcap, width) (A .limits);
+          enough = rw (shaped, kcap, size) (A .enough);
           table = table-sound;
           entities = rw cap (subst (entity.EntityPartSound n) (sym entity-part) (A .entities));
           columns = ready .columns;
@@ -258,7 +264,7 @@ module _ (w₀ w₁ : List ℕ) (A : Arranged w₀) (M : StoreSound (meaning w�
               λ s l h.
               let l₀ : registeredOf w₀ ≤ s = rw reg at l in
               let h₀ : s < k = rw kcap at h in
-              rw cap (row s h₀ ∙ A .vacant s l₀ h₀);
+              rw shaped (row s h₀ ∙ A .vacant s l₀ h₀);
           staged = rw (low STAGED-LEN (omega arith)) (A .staged);
           excluded = rw (low EXCLUDED-LEN (omega arith)) (A .excluded);
           caller = rw (lists CALLER (omega arith) (omega arith)) (A .caller);
@@ -276,7 +282,7 @@ module _ (w₀ w₁ : List ℕ) (A : Arranged w₀) (M : StoreSound (meaning w�
 
     set-same : (j : ℕ) → j < MAX-KINDS → setAt w j ≡ setAt w₀ j
     set-same j h =
-        rw (slot j h, reg, cap)
+        rw (slot j h, reg, shaped)
         (bool-cases (ltb (slotOf w₀ j) (registeredOf w₀))
         (λ t. rw (t, row (slotOf w₀ j) (omega (arith, ltb-true (slotOf w₀ j) (registeredOf w₀) t, A .table .few))))
         (λ t. rw t))
@@ -304,7 +310,7 @@ module _ (w₀ w₁ : List ℕ) (A : Arranged w₀) (M : StoreSound (meaning w�
     unfolding meaning
     installed-becomes =
         let ds = draft-is in
-        let st = staged-same w₀ w size (A .staged) (low STAGED-LEN (omega arith)) (λ i a b. lists i (omega arith) (omega arith)) in
+        let st = staged-same w₀ w size A width (low STAGED-LEN (omega arith)) (λ i a b. lists i (omega arith) (omega arith)) in
         let ex = excluded-same w₀ w size (A .excluded) (low EXCLUDED-LEN (omega arith)) (λ i a b. lists i (omega arith) (omega arith)) in
         let cs = counts-kept w₀ w (λ i a b. lists i a (omega arith)) in
         record {

@@ -21,16 +21,17 @@ use Rattle.words.proofs.Tables.{table-same, table-set, getD-table, length-table
 use Rattle.words.specs.Shape.{columnStart, columnLen, shapeOf, shape}
 use Rattle.words.specs.declared.Shape.{Shape}
 use Rattle.model.proofs.BoolLaws.{by-eq, bool-cases}
+use Rattle.model.proofs.Widths.{width-words}
 use Rattle.component.specs.SparseSet.{rows, ColumnSound}
 use Rattle.component.specs.Columns.{columnOf, rowsOf, Columns}
 use Rattle.component.specs.Changes.{One}
 use Rattle.entity.specs.Change.{EntityChange}
 use Rattle.entity.specs.Meaning.{entityPart}
 use Rattle.layout.specs.Layout.{WellFormed, groupCount, familiesOf}
-use Rattle.memory.specs.Header.{capacityOf, kindCapacityOf, registeredOf, stagedLen, excludedLen, draftGroups, callerOf, slotOf}
+use Rattle.memory.specs.Header.{capacityOf, kindCapacityOf, registeredOf, stagedLen, excludedLen, draftGroups, callerOf, valueBytesOf, slotOf}
 use Rattle.memory.specs.Meaning.{kindAt, setAt, setsIn, draftArrays, layoutArrays, layoutIn, controlIn, settingsOf, meaning, kindsIn}
 use Rattle.memory.specs.Arranged.{Arranged, Becomes}
-use Rattle.memory.proofs.Kept.{Kept, capacity-kept, kinds-kept, arranged-kept}
+use Rattle.memory.proofs.Kept.{Kept, shape-kept, kinds-kept, arranged-kept}
 use Rattle.memory.proofs.Frames.{part-same, draft-arrays-same, layout-arrays-same, long, control-parts, control-same, layout-same, header-kept, draft-formed, settings-kept, reads-means}
 use Rattle.model.proofs.ListLaws.{drop-later, word-front}
 use Rattle.entity.specs.Meaning as entity
@@ -57,7 +58,7 @@ module _ (w : List ℕ) (A : Arranged w) where
 module _ (w w′ : List ℕ) (K : Kept w w′) where
   set-same : (k : ℕ) → k < MAX-KINDS → (slotOf w k < registeredOf w → rowsOf (shapeOf w) (slotOf w k) w′ ≡ rowsOf (shapeOf w) (slotOf w k) w) → setAt w′ k ≡ setAt w k
   set-same k h r =
-      rw (K .slots k h, K .registered, capacity-kept K)
+      rw (K .slots k h, K .registered, shape-kept K)
       (bool-cases (ltb (slotOf w k) (registeredOf w)) (λ t. rw (t, r (ltb-true (slotOf w k) (registeredOf w) t))) (λ t. rw t))
 
   pub sets-same : ((s : ℕ) → s < registeredOf w → rowsOf (shapeOf w) s w′ ≡ rowsOf (shapeOf w) s w) → setsIn w′ ≡ setsIn w
@@ -97,7 +98,7 @@ module _ (w w′ : List ℕ) (A : Arranged w) (s : ℕ) (hs : s < registeredOf w
       let was : setOf (setsIn w) k ≡ rowsOf z s w = set-in w A k hk ∙ set-at w A s hs in
       let sl : slotOf w′ k ≡ s = one-kept .slots k hk ∙ A .table .own s hs in
       let here : setAt w′ k ≡ f (setOf (setsIn w) k) =
-      rw (sl, one-kept .registered, capacity-kept one-kept, lt-ltb s (registeredOf w) hs) (o .becomes ∙ ap f (sym was)) in
+      rw (sl, one-kept .registered, shape-kept one-kept, lt-ltb s (registeredOf w) hs) (o .becomes ∙ ap f (sym was)) in
       table-set [] (f (setOf (setsIn w) k)) MAX-KINDS (setAt w) (setAt w′) k hk here
       (λ j h ne.
       set-same w w′ one-kept j h
@@ -311,6 +312,15 @@ pub capacity-means : (w : List ℕ) → meaning w .settings .capacity ≡ capaci
 unfolding meaning
 capacity-means w = refl
 
+pub shape-means : (w : List ℕ) → shape (meaning w .settings .capacity) (meaning w .settings .valueBytes) ≡ shapeOf w
+unfolding meaning
+shape-means w = refl
+
+-- a value's words have its bytes, four each
+pub stride-bytes : (w : List ℕ) → Arranged w → 4 * shapeOf w .stride ≡ meaning w .settings .valueBytes
+unfolding meaning
+stride-bytes w A = width-words (valueBytesOf w) (A .limits .width)
+
 settings-mean : (w : List ℕ) → meaning w .settings ≡ settingsOf w
 unfolding meaning
 settings-mean w = refl
@@ -322,7 +332,7 @@ becomes-next {w₀} {w} {w′} s h B z C =
       arranged = C .arranged;
       means = C .means ∙ ap h (B .means);
       size = C .size ∙ B .size;
-      past = subst (λ (t : Settings). drop (columnStart (shape (t .capacity)) (t .kindCapacity)) w′ ≡ drop (columnStart (shape (t .capacity)) (t .kindCapacity)) w) e (C .past) ∙ B .past;
+      past = subst (λ (t : Settings). drop (columnStart (shape (t .capacity) (t .valueBytes)) (t .kindCapacity)) w′ ≡ drop (columnStart (shape (t .capacity) (t .valueBytes)) (t .kindCapacity)) w) e (C .past) ∙ B .past;
     }
 
 -- ---- how many kinds and sparse sets there are

@@ -4,11 +4,11 @@ use mathlib.Core.List.{List, []}
 use Prim.Native.Nat.{ℕ, _+_, _*_, _≤_, _<_}
 use native.Mathlib.Omega.{arith}
 use lib.Dec.{eqb}
-use lib.ListN.{length, getD}
-use Rattle.model.specs.Numbers.{CALLERS, LIST-CAPACITY}
+use lib.ListN.{length, getD, take, drop}
+use Rattle.model.specs.Numbers.{CALLERS, LIST-CAPACITY, strideOf}
 use Rattle.model.specs.Store.{Store}
 use Rattle.memory.proofs.LayoutWords.{words-sized}
-use Rattle.words.specs.Offsets.{BLOCK-LEN, CALLER, CAPACITY, DRAFT, DRAFT-FAMILIES, DRAFT-GROUPS, ENTITIES, EXCLUDED-KINDS, EXCLUDED-LEN, GROUP-COUNTS, GROUP-FAMILIES, KIND-CAPACITY, LAYOUT, LAYOUT-FAMILIES, LAYOUT-GROUPS, MORE-SETTINGS, NEWER, REFUSALS, REGISTERED, RULE, ROWS, STAGED-KINDS, STAGED-LEN, STAGED-VALUE-LEN, STAGED-VALUES, STRIDE, TABLE}
+use Rattle.words.specs.Offsets.{BLOCK-LEN, CALLER, CAPACITY, DRAFT, DRAFT-FAMILIES, DRAFT-GROUPS, ENTITIES, EXCLUDED-KINDS, EXCLUDED-LEN, GROUP-COUNTS, GROUP-FAMILIES, KIND-CAPACITY, LAYOUT, LAYOUT-FAMILIES, LAYOUT-GROUPS, MORE-SETTINGS, NEWER, REFUSALS, REGISTERED, RULE, ROWS, STAGED-KINDS, STAGED-LEN, STAGED-VALUE-LEN, STAGED-VALUES, TABLE, VALUE-WIDTH}
 use Rattle.words.proofs.Offsets.{columnStart-mono, columnStart-first}
 use Rattle.words.specs.Part.{between}
 use Rattle.values.proofs.Places.{run-same}
@@ -21,7 +21,7 @@ use Rattle.component.specs.Columns.{columnOf}
 use Rattle.entity.specs.Meaning.{entitiesIn}
 use Rattle.layout.specs.Layout.{blockArrays, WellFormed, groupCount, familiesOf}
 use Rattle.layout.specs.ByValue.{ArraysSized}
-use Rattle.memory.specs.Header.{capacityOf, kindCapacityOf, stagedLen, excludedLen, draftGroups, refusalsAt, excludedAt}
+use Rattle.memory.specs.Header.{capacityOf, kindCapacityOf, stagedLen, excludedLen, draftGroups, refusalsAt, valueBytesOf, excludedAt}
 use Rattle.memory.specs.Meaning.{kindsIn, setsIn, draftArrays, layoutArrays, draftIn, layoutIn, stagedAt, stagedIn, excludedIn, countsIn, controlIn, settingsOf, meaning}
 use Rattle.memory.specs.Arranged.{Arranged}
 use Rattle.memory.proofs.Kept.{Kept}
@@ -46,14 +46,20 @@ module _ (w w′ : List ℕ) (size : length w′ ≡ length w) where
     pub counts-same : ((i : ℕ) → GROUP-COUNTS ≤ i → i < ENTITIES → getD w′ i 0 ≡ getD w i 0) → between GROUP-COUNTS ENTITIES w′ ≡ between GROUP-COUNTS ENTITIES w
     counts-same same = part-same GROUP-COUNTS ENTITIES long same
 
-  pub staged-same : stagedLen w ≤ LIST-CAPACITY → getD w′ STAGED-LEN 0 ≡ getD w STAGED-LEN 0 → ((i : ℕ) → STAGED-KINDS ≤ i → i < EXCLUDED-KINDS → getD w′ i 0 ≡ getD w i 0) → stagedIn w′ ≡ stagedIn w
+  pub staged-same : Arranged w → valueBytesOf w′ ≡ valueBytesOf w → getD w′ STAGED-LEN 0 ≡ getD w STAGED-LEN 0 → ((i : ℕ) → STAGED-KINDS ≤ i → i < EXCLUDED-KINDS → getD w′ i 0 ≡ getD w i 0)
+      → stagedIn w′ ≡ stagedIn w
   unfolding stagedIn
-  staged-same few e same =
+  staged-same A width e same =
+      let few = A .staged in
+      let narrow = A .columns .shaped .words .most in
       ap (λ (n : ℕ). table n (stagedAt w′)) e
       ∙ table-same (record { kind = 0; value = 0 }) (stagedLen w) (stagedAt w) (stagedAt w′)
       (λ i h.
       let k = same (STAGED-KINDS + i) (omega arith) (omega arith) in
-      let v = ap digits (run-same w w′ (STAGED-VALUES + STAGED-VALUE-LEN * i) STRIDE size (λ j a b. same j (omega arith) (omega arith))) in
+      let p = STAGED-VALUES + STAGED-VALUE-LEN * i in
+      let v =
+      ap (λ (d : ℕ). digits (take (strideOf d) (drop p w′))) width
+      ∙ ap digits (run-same w w′ p (shapeOf w .stride) size (λ j a b. same j (omega arith) (omega arith))) in
       λ t. record { kind = k t; value = v t })
 
   pub excluded-same : excludedLen w ≤ LIST-CAPACITY → getD w′ EXCLUDED-LEN 0 ≡ getD w EXCLUDED-LEN 0 → ((i : ℕ) → EXCLUDED-KINDS ≤ i → i < DRAFT → getD w′ i 0 ≡ getD w i 0) → excludedIn w′ ≡ excludedIn w
@@ -64,7 +70,7 @@ module _ (w w′ : List ℕ) (size : length w′ ≡ length w) where
 
 -- the settings stay if their words do, and those that are kept for more of them
 pub settings-kept : (w w′ : List ℕ) → ((i : ℕ) → i < REGISTERED → getD w′ i 0 ≡ getD w i 0) → ((i : ℕ) → MORE-SETTINGS ≤ i → i < REFUSALS → getD w′ i 0 ≡ getD w i 0) → settingsOf w′ ≡ settingsOf w
-settings-kept w w′ size more = λ j. record { capacity = size CAPACITY (omega arith) j; kindCapacity = size KIND-CAPACITY (omega arith) j; newer = eqb (more RULE (omega arith) (omega arith) j) NEWER }
+settings-kept w w′ size more = λ j. record { capacity = size CAPACITY (omega arith) j; kindCapacity = size KIND-CAPACITY (omega arith) j; valueBytes = more VALUE-WIDTH (omega arith) (omega arith) j; newer = eqb (more RULE (omega arith) (omega arith) j) NEWER }
 
 -- the counts stay if the words from the caller to the table of kinds do
 pub counts-kept : (w w′ : List ℕ) → ((i : ℕ) → CALLER ≤ i → i < TABLE → getD w′ i 0 ≡ getD w i 0) → countsIn w′ ≡ countsIn w
@@ -91,7 +97,7 @@ layout-sized w A = words-sized w (long w A)
 pub control-parts : (w w′ : List ℕ) → Arranged w → length w′ ≡ length w → ((i : ℕ) → i < GROUP-COUNTS → getD w′ i 0 ≡ getD w i 0) → controlIn w′ ≡ controlIn w
 unfolding draftIn
 control-parts w w′ A size same =
-    let s = staged-same w w′ size (A .staged) (same STAGED-LEN (omega arith)) (λ i a b. same i (omega arith)) in
+    let s = staged-same w w′ size A (same VALUE-WIDTH (omega arith)) (same STAGED-LEN (omega arith)) (λ i a b. same i (omega arith)) in
     let e = excluded-same w w′ size (A .excluded) (same EXCLUDED-LEN (omega arith)) (λ i a b. same i (omega arith)) in
     let d : draftIn w′ ≡ draftIn w = ap (familiesOf []) (draft-arrays-same w w′ size (long w A) (same DRAFT-FAMILIES (omega arith)) (λ i a b. same i (omega arith))) in
     let c = counts-kept w w′ (λ i a b. same i (omega arith)) in

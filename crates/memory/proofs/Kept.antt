@@ -16,7 +16,7 @@ use Rattle.entity.specs.Meaning.{entityPart}
 use Rattle.layout.specs.Layout.{Arrays, WellFormed, widthOf, groupCount}
 use Rattle.layout.specs.Group.{memberAt}
 use Rattle.model.specs.Sound.{In}
-use Rattle.memory.specs.Header.{capacityOf, kindCapacityOf, registeredOf, stagedLen, excludedLen, draftGroups, layoutGroups, callerOf, ruleOf, slotOf, groupFamilyAt}
+use Rattle.memory.specs.Header.{capacityOf, kindCapacityOf, registeredOf, stagedLen, excludedLen, draftGroups, layoutGroups, callerOf, ruleOf, valueBytesOf, slotOf, groupFamilyAt}
 use Rattle.memory.specs.Meaning.{kindAt, ownAt, localAt, kindsIn, draftArrays, layoutArrays, settingsOf}
 use Rattle.memory.specs.Arranged.{TableSound, Registered, GroupSound, LayoutSound, Arranged}
 use Rattle.entity.specs.Meaning as entity
@@ -36,8 +36,11 @@ module _ {w w′ : List ℕ} (K : Kept w w′) where
   pub capacity-kept : capacityOf w′ ≡ capacityOf w
   capacity-kept = λ i. K .settings i .capacity
 
+  pub width-kept : valueBytesOf w′ ≡ valueBytesOf w
+  width-kept = λ i. K .settings i .valueBytes
+
   pub shape-kept : shapeOf w′ ≡ shapeOf w
-  shape-kept = ap shape capacity-kept
+  shape-kept = λ i. shape (K .settings i .capacity) (K .settings i .valueBytes)
 
   pub kind-capacity-kept : kindCapacityOf w′ ≡ kindCapacityOf w
   kind-capacity-kept = λ i. K .settings i .kindCapacity
@@ -121,12 +124,12 @@ module _ {w w′ : List ℕ} (A : Arranged w) (K : Kept w w′) where
       → stagedLen w′ ≤ LIST-CAPACITY → excludedLen w′ ≤ LIST-CAPACITY → callerOf w′ ≤ LAST-CALLER → WellFormed (draftArrays w′) → draftGroups w′ ≡ groupCount (draftArrays w′) → Arranged w′
   arranged-kept e c v st ex ca d g =
       record {
-        limits = rw (capacity-kept K, kind-capacity-kept K) (A .limits);
-        enough = rw (capacity-kept K, kind-capacity-kept K, K .size) (A .enough);
+        limits = rw (capacity-kept K, kind-capacity-kept K, width-kept K) (A .limits);
+        enough = rw (shape-kept K, kind-capacity-kept K, K .size) (A .enough);
         table = table-kept;
         entities = rw (capacity-kept K) e;
-        columns = rw (capacity-kept K, kind-capacity-kept K) c;
-        vacant = λ s r h. rw (capacity-kept K) (v s (rw (K .registered) at r) (rw (kind-capacity-kept K) at h));
+        columns = rw (shape-kept K, kind-capacity-kept K) c;
+        vacant = λ s r h. rw (shape-kept K) (v s (rw (K .registered) at r) (rw (kind-capacity-kept K) at h));
         staged = st;
         excluded = ex;
         caller = ca;

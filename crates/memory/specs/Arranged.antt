@@ -15,7 +15,7 @@ use Rattle.entity.specs.Meaning as entity
 use Rattle.entity.specs.Meaning.{entityPart}
 use Rattle.layout.specs.Layout.{Arrays, WellFormed, widthOf, groupCount}
 use Rattle.layout.specs.Group.{InFamily, arityOf, priorArity, memberAt}
-use Rattle.memory.specs.Header.{capacityOf, kindCapacityOf, registeredOf, stagedLen, excludedLen, draftGroups, layoutGroups, callerOf, ruleOf, slotOf, groupFamilyAt}
+use Rattle.memory.specs.Header.{capacityOf, kindCapacityOf, registeredOf, stagedLen, excludedLen, draftGroups, layoutGroups, callerOf, ruleOf, valueBytesOf, slotOf, groupFamilyAt}
 use Rattle.memory.specs.Meaning.{kindAt, ownAt, localAt, draftArrays, layoutArrays, meaning}
 
 -- "at most K registered kinds, each with a column of its own": the table of kinds and the columns' heads point to each other
@@ -47,7 +47,7 @@ pub record LayoutSound (w : List ℕ) : Type 0 where
 
 -- all that the words must be besides meaning a sound store: enough of them, and tables, lookups and blocks that agree
 pub record Arranged (w : List ℕ) : Type 0 where
-  pub limits : Limits (capacityOf w) (kindCapacityOf w)
+  pub limits : Limits (capacityOf w) (kindCapacityOf w) (valueBytesOf w)
   pub enough : columnStart (shapeOf w) (kindCapacityOf w) ≤ length w
   pub table : TableSound w
   pub entities : entity.EntityPartSound (capacityOf w) (entityPart (capacityOf w) w)

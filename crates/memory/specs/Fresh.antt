@@ -27,4 +27,4 @@ pub record Made (c : Settings) (w w′ : List ℕ) : Type 0 where
   pub arranged : Arranged w′
   pub means : meaning w′ ≡ emptyWith c
   pub size : length w′ ≡ length w
-  pub past : drop (columnStart (shape (c .capacity)) (c .kindCapacity)) w′ ≡ drop (columnStart (shape (c .capacity)) (c .kindCapacity)) w
+  pub past : drop (columnStart (shape (c .capacity) (c .valueBytes)) (c .kindCapacity)) w′ ≡ drop (columnStart (shape (c .capacity) (c .valueBytes)) (c .kindCapacity)) w

@@ -4,7 +4,7 @@ use mathlib.Core.List.{List}
 use Prim.Native.Nat.{ℕ, _+_, _*_}
 use lib.Dec.{eqb}
 use lib.ListN.{getD, take, drop}
-use Rattle.words.specs.Offsets.{CALLER, CAPACITY, DRAFT-FAMILIES, DRAFT-GROUPS, EXCLUDED-KINDS, EXCLUDED-LEN, GROUP-COUNTS, GROUP-FAMILIES, KIND-CAPACITY, LAYOUT-FAMILIES, LAYOUT-GROUPS, NEWER, REFUSALS, REGISTERED, RULE, STAGED-KINDS, STAGED-LEN, STAGED-VALUE-LEN, STAGED-VALUES, TABLE}
+use Rattle.words.specs.Offsets.{CALLER, CAPACITY, DRAFT-FAMILIES, DRAFT-GROUPS, EXCLUDED-KINDS, EXCLUDED-LEN, GROUP-COUNTS, GROUP-FAMILIES, KIND-CAPACITY, LAYOUT-FAMILIES, LAYOUT-GROUPS, NEWER, REFUSALS, REGISTERED, RULE, STAGED-KINDS, STAGED-LEN, STAGED-VALUE-LEN, STAGED-VALUES, TABLE, VALUE-WIDTH}
 use Rattle.words.specs.Shape.{shapeOf}
 use Rattle.values.specs.Values.{digits}
 
@@ -51,6 +51,10 @@ ruleOf w = getD w RULE 0
 
 abbrev pub newerOf : List ℕ → Bool
 newerOf w = eqb (ruleOf w) NEWER
+
+-- the bytes of a value
+abbrev pub valueBytesOf : List ℕ → ℕ
+valueBytesOf w = getD w VALUE-WIDTH 0
 
 -- the slot of kind k's column, 255 where the kind is not registered
 abbrev pub slotOf : List ℕ → ℕ → ℕ

@@ -14,7 +14,7 @@ use Rattle.words.specs.Shape.{shapeOf}
 use Rattle.component.specs.Columns.{columnOf, rowsOf}
 use Rattle.entity.specs.Meaning.{entitiesIn}
 use Rattle.layout.specs.Layout.{Arrays, blockArrays, familiesOf}
-use Rattle.memory.specs.Header.{capacityOf, kindCapacityOf, registeredOf, stagedLen, excludedLen, draftFamilies, layoutFamilies, callerOf, refusalsAt, newerOf, slotOf, stagedKindAt, stagedValueAt, excludedAt}
+use Rattle.memory.specs.Header.{capacityOf, kindCapacityOf, registeredOf, stagedLen, excludedLen, draftFamilies, layoutFamilies, callerOf, refusalsAt, newerOf, valueBytesOf, slotOf, stagedKindAt, stagedValueAt, excludedAt}
 
 -- ---- kinds and their columns
 
@@ -76,9 +76,9 @@ controlIn w = record { staged = stagedIn w; excluded = excludedIn w; draft = dra
 
 -- ---- the store
 
--- of words 0, 1 and 10
+-- of words 0, 1, 10 and 11
 abbrev pub settingsOf : List ℕ → Settings
-settingsOf w = record { capacity = capacityOf w; kindCapacity = kindCapacityOf w; newer = newerOf w }
+settingsOf w = record { capacity = capacityOf w; kindCapacity = kindCapacityOf w; valueBytes = valueBytesOf w; newer = newerOf w }
 
 unfoldable pub meaning : List ℕ → Store
 meaning w =

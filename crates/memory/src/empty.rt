@@ -3,16 +3,32 @@ ghost use Prim.Native.Nat.{_≤_};
 ghost use lib.ListN.{length};
 ghost use Rattle.model.specs.Numbers.{MAX-KINDS};
 ghost use Rattle.model.specs.Store.{told};
-ghost use Rattle.model.specs.Sound.{Limits};
+ghost use Rattle.model.specs.Sound.{EightOrSixteen, Limits};
 ghost use Rattle.words.specs.Offsets.{STAGED-KINDS};
 ghost use Rattle.words.specs.Decides.{Decides};
 ghost use Rattle.words.specs.Shape.{columnStart, shape};
 ghost use Rattle.memory.specs.Fresh.{Cleared, TableCleared, Made};
 
-// N from 1 to 4,096 and K from 1 to 128.
-pub fn within_limits(n: usize, k: usize) -> bool
-    ensures { λ r. ⌜ Decides r (Limits n k) ⌝ }
+// 8 or 16 bytes for a value.
+pub fn is_width(v: usize) -> bool
+    ensures { λ r. ⌜ Decides r (EightOrSixteen v) ⌝ }
 {
+    if v == model::VALUE_BYTES {
+        return true;
+    }
+    if v == model::LONG_VALUE_BYTES {
+        return true;
+    }
+    false
+}
+
+// N from 1 to 4,096, K from 1 to 128, and 8 or 16 bytes for a value.
+pub fn within_limits(n: usize, k: usize, v: usize) -> bool
+    ensures { λ r. ⌜ Decides r (Limits n k v) ⌝ }
+{
+    if !is_width(v) {
+        return false;
+    }
     if n < 1 {
         return false;
     }
@@ -53,16 +69,17 @@ fn put_table(words: &mut [u32])
     }
 }
 
-// The empty store of n entities and k kinds, under the rule that is told.
-pub fn make(words: &mut [u32], n: usize, k: usize, newer: bool)
-    requires { ⌜ Limits n k ⌝ }
-    requires { ⌜ columnStart (shape n) k ≤ length (now words) ⌝ }
-    ensures { λ _. ⌜ Made (told n k newer) (now (words .entry)) (now (words .exit)) ⌝ }
+// The empty store of n entities and k kinds with values of v bytes, under the rule that is told.
+pub fn make(words: &mut [u32], n: usize, k: usize, v: usize, newer: bool)
+    requires { ⌜ Limits n k v ⌝ }
+    requires { ⌜ columnStart (shape n v) k ≤ length (now words) ⌝ }
+    ensures { λ _. ⌜ Made (told n k v newer) (now (words .entry)) (now (words .exit)) ⌝ }
 {
-    let end = model::words_needed(n, k);
+    let end = model::words_needed(n, k, v);
     clear(words, end);
     put_table(words);
     words[words::CAPACITY] = n as u32;
     words[words::KIND_CAPACITY] = k as u32;
     words[words::RULE] = newer as u32;
+    words[words::VALUE_WIDTH] = v as u32;
 }

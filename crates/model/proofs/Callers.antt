@@ -8,11 +8,11 @@ use Prim.Native.Nat.{ℕ, zero, suc, _+_, _-_}
 use native.Mathlib.Omega.{arith}
 use borrow.Author.Tests.{lt-ltb, le-ltb, eqb-true, eqb-false, eq-eqb, ne-eqb}
 use lib.ListN.{length, take, drop, getD}
-use Rattle.model.specs.Numbers.{LAST-CALLER, VALUE-BYTES}
+use Rattle.model.specs.Numbers.{LAST-CALLER}
 use Rattle.model.specs.Lists.{one}
 use Rattle.model.specs.Model.{addsNothing}
 use Rattle.model.specs.Store.{Bytes, Counts, Store, bytesOf, isKind, stagedKinds, refusalsBy, ownRefusals, oneMore}
-use Rattle.model.specs.Commands.{Command, REG, HOLD, NEW, PUT, TAKE, DROP, KILL, WIPE, GROUP, APPLY, BAR, RANGE, EMPTY, TALLY, TRAY, SETCALLER, Done, accepted, answerLength, width, commandAt}
+use Rattle.model.specs.Commands.{Command, REG, HOLD, NEW, PUT, TAKE, DROP, KILL, WIPE, GROUP, APPLY, BAR, RANGE, EMPTY, TALLY, TRAY, SETCALLER, Done, accepted, answerLength, commandOn, operandsLen}
 use Rattle.model.specs.Refusals.{firstLine, linesOf, beforeLines}
 use Rattle.model.specs.Run.{Outcome, outcome, does, storeAfter, answerOf, Step, stops, goes, stepIf, stepOf, step, Ran, halt, more, runFor, run}
 use Rattle.model.specs.History.{isRefusal, refusedOne, refusedFor, refusedBy, refusedAll, callerIs, anyStore, moreBy, callsTo, callOne, callsFor, calls}
@@ -145,7 +145,7 @@ after-caller k s h =
 module _ (b : ℕ) (t : List ℕ) (room : ℕ) (s : Store) where
   -- the command
   abbrev k : Command
-  k = commandAt b (take (width VALUE-BYTES b) t)
+  k = commandOn b t s
 
   step-refusals : (c : ℕ) → CountsSound (s .control .counts) → IfGoes (λ w a s′. refusalsBy c (s′ .control) ≡ moreBy (refusedOne (callerIs c) k s) (refusalsBy c (s .control))) (step b t room s)
   step-refusals c N =
@@ -164,7 +164,7 @@ refusals-for c (suc fuel) (b ∷ t) room s B S =
     go (step b t room s) (step-sound b t room s (B .1) S) (step-refusals b t room s c (S .counts)) (λ w m s′. refusals-for c fuel (drop w (b ∷ t)) m s′ (bytes-drop w (b ∷ t) B))
   where
     one′ : ℕ
-    one′ = refusedOne (callerIs c) (commandAt b (take (width VALUE-BYTES b) t)) s
+    one′ = refusedOne (callerIs c) (commandOn b t s) s
 
     rest : ℕ → ℕ → Store → ℕ
     rest w m s′ = refusedFor (callerIs c) fuel (drop w (b ∷ t)) m s′
@@ -190,7 +190,7 @@ caller-for (suc fuel) [] room s h = refl
 caller-for (suc fuel) (b ∷ t) room s h = go (step b t room s) (step-caller b t room s) (λ w m s′. caller-for fuel (drop w (b ∷ t)) m s′) h
   where
     one′ : ℕ
-    one′ = callOne (callsTo (commandAt b (take (width VALUE-BYTES b) t)))
+    one′ = callOne (callsTo (commandOn b t s))
 
     go : (p : Step) → IfGoes (λ w a s′. one′ ≡ 0 → s′ .control .counts .caller ≡ s .control .counts .caller) p
         → ((w m : ℕ) (s′ : Store) → callsFor fuel (drop w (b ∷ t)) m s′ ≡ 0 → runFor fuel (drop w (b ∷ t)) m s′ .store .control .counts .caller ≡ s′ .control .counts .caller)
@@ -208,7 +208,7 @@ refused-alike p q d f (suc fuel) [] room s e h = refl
 refused-alike p q d f (suc fuel) (b ∷ t) room s e h = go (step b t room s) (step-caller b t room s) (λ w m s′. refused-alike p q d f fuel (drop w (b ∷ t)) m s′) h
   where
     k′ : Command
-    k′ = commandAt b (take (width VALUE-BYTES b) t)
+    k′ = commandOn b t s
 
     first : refusedOne p k′ s ≡ refusedOne q k′ s
     first = ap (λ (x : Bool). one (x && isRefusal (does k′ s))) (f s e)
@@ -302,13 +302,13 @@ restep m (goes w a s) = goes w a (recounted m s)
 
 module _ (n : Counts) (b : ℕ) (t : List ℕ) (room : ℕ) (s : Store) (e : ownRefusals (recounted n s .control) ≡ ownRefusals (s .control)) where
   abbrev op : Command
-  op = commandAt b (take (width VALUE-BYTES b) t)
+  op = commandOn b t s
 
   -- the counts after it
   abbrev m : Counts
   m = storeAfter (recounted n s) (does op (recounted n s)) .control .counts
 
-  room-same : answerLength VALUE-BYTES op (recounted n s) ≡ answerLength VALUE-BYTES op s
+  room-same : answerLength op (recounted n s) ≡ answerLength op s
   room-same = sym (accepted-length op (recounted n s)) ∙ ap (λ (a : List ℕ). suc (length a)) (answer-same n op s (λ q. e)) ∙ accepted-length op s
 
   before-same : firstLine beforeLines (record { byte = b; rest = t; room = room; store = recounted n s }) ≡ firstLine beforeLines (record { byte = b; rest = t; room = room; store = s })
@@ -318,9 +318,9 @@ module _ (n : Counts) (b : ℕ) (t : List ℕ) (room : ℕ) (s : Store) (e : own
   unfolding step
   step-same = rw before-same (by-line (firstLine beforeLines (record { byte = b; rest = t; room = room; store = s })))
     where
-      by-line : (o : Option ℕ) → stepIf o (stepOf (suc (width VALUE-BYTES b)) (recounted n s) (does op (recounted n s))) ≡ restep m (stepIf o (stepOf (suc (width VALUE-BYTES b)) s (does op s)))
+      by-line : (o : Option ℕ) → stepIf o (stepOf (suc (operandsLen b s)) (recounted n s) (does op (recounted n s))) ≡ restep m (stepIf o (stepOf (suc (operandsLen b s)) s (does op s)))
       by-line (some i) = refl
-      by-line none = ap₂ (λ (a : List ℕ) (x : Store). goes (suc (width VALUE-BYTES b)) a x) (answers-same n op s (λ q. e)) (stores-same n op s)
+      by-line none = ap₂ (λ (a : List ℕ) (x : Store). goes (suc (operandsLen b s)) a x) (answers-same n op s (λ q. e)) (stores-same n op s)
 
   own-step : CountsSound n → CountsSound (s .control .counts) → IfGoes (λ w a s′. callOne (callsTo op) ≡ 0 → ownRefusals (recounted m s′ .control) ≡ ownRefusals (s′ .control)) (step b t room s)
   own-step N S =
@@ -342,10 +342,10 @@ same-for n (suc fuel) (b ∷ t) room s B S N e h =
     (λ w i s′ P Q. same-for after fuel (drop w (b ∷ t)) i s′ (bytes-drop w (b ∷ t) B) P Q) h)
   where
     one′ : ℕ
-    one′ = callOne (callsTo (commandAt b (take (width VALUE-BYTES b) t)))
+    one′ = callOne (callsTo (commandOn b t s))
 
     after : Counts
-    after = storeAfter (recounted n s) (does (commandAt b (take (width VALUE-BYTES b) t)) (recounted n s)) .control .counts
+    after = storeAfter (recounted n s) (does (commandOn b t s) (recounted n s)) .control .counts
 
     ran : Store → Step → Ran
     ran x p = elim p as (λ p. Ran) [ stops i ↦ halt i x | goes w a s′ ↦ more w a (runFor fuel (drop w (b ∷ t)) (room - length a) s′) ]

@@ -40,7 +40,7 @@ each-right (s ∷ ss) h = (h .0 .groups, each-right ss (h .1))
 
 -- after each command of every tape from an empty store, each group's count is the number of live entities holding all its kinds, and the first that
 -- many places of each of its sparse sets hold exactly those, once each, the same at the same place
-pub after-each-command : (t : List ℕ) (room : ℕ) (c : Settings) → Bytes t → Limits (c .capacity) (c .kindCapacity) → EachStore GroupsRight (trail t room (emptyWith c))
+pub after-each-command : (t : List ℕ) (room : ℕ) (c : Settings) → Bytes t → Limits (c .capacity) (c .kindCapacity) (c .valueBytes) → EachStore GroupsRight (trail t room (emptyWith c))
 after-each-command t room c h l = each-right (trail t room (emptyWith c)) (trail-sound t room c h l)
 
 -- ---- between a group and the next larger one
@@ -72,5 +72,5 @@ each-between : (ss : List Store) → EachStore GroupsRight ss → EachStore Grou
 each-between [] h = tt
 each-between (s ∷ ss) h = (all-between (s .storage .sets) (s .entities .live) (s .storage .layout) (h .0), each-between ss (h .1))
 
-pub between-after-each-command : (t : List ℕ) (room : ℕ) (c : Settings) → Bytes t → Limits (c .capacity) (c .kindCapacity) → EachStore GroupsBetween (trail t room (emptyWith c))
+pub between-after-each-command : (t : List ℕ) (room : ℕ) (c : Settings) → Bytes t → Limits (c .capacity) (c .kindCapacity) (c .valueBytes) → EachStore GroupsBetween (trail t room (emptyWith c))
 between-after-each-command t room c h l = each-between (trail t room (emptyWith c)) (after-each-command t room c h l)

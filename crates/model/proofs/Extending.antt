@@ -9,7 +9,6 @@ use lib.Dec.{ltb}
 use lib.ListN.{length, drop, drop-of-length-le}
 use lib.Seq.{drop-append-seam}
 use Rattle.model.proofs.ListLaws.{count-append}
-use Rattle.model.specs.Numbers.{VALUE-BYTES}
 use Rattle.model.specs.Model.{Entity, Entities, SparseSet, Component, Storage, Extended, sameEntity, insertAll, create, createWith, createEach, groupEach, extend, isFull, freeNumbers}
 use Rattle.model.specs.Store.{Store, bytesOf, stagedKinds, withAll, withControl, withEntities, withStaged, emptyStaged}
 use Rattle.model.specs.Commands.{NEW, TRAY, accepted, done}
@@ -185,12 +184,12 @@ new-sound s S room =
     let A : StoreSound (withEntities s (c .entities)) = create-sound s S room in
     emptied _ (insert-sound (withEntities s (c .entities)) A (c .entity) (s .control .staged) (create-is-live (s .entities)) (S .staged))
 
-restaged-sound : (h : List Component) (s : Store) → StagedSound VALUE-BYTES (s .kinds) h → StoreSound s → StoreSound (restaged h s)
+restaged-sound : (h : List Component) (s : Store) → StagedSound (s .settings .valueBytes) (s .kinds) h → StoreSound s → StoreSound (restaged h s)
 restaged-sound h s H S =
     let C = control-of s S in
     control-sound s S (withStaged (s .control) h) (record { staged = H; excluded = C .excluded; draft = C .draft; counts = C .counts })
 
-news-sound : (n : ℕ) (h : List Component) (s : Store) → StagedSound VALUE-BYTES (s .kinds) h → StoreSound s → n ≤ freeNumbers (s .settings .capacity) (s .entities) → StoreSound (news n h s)
+news-sound : (n : ℕ) (h : List Component) (s : Store) → StagedSound (s .settings .valueBytes) (s .kinds) h → StoreSound s → n ≤ freeNumbers (s .settings .capacity) (s .entities) → StoreSound (news n h s)
 unfolding accepted
 news-sound zero h s H S room = subst StoreSound (sym (news-none h s)) S
 news-sound (suc n) h s H S room =

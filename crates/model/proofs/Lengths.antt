@@ -9,10 +9,9 @@ use native.Mathlib.Omega.{arith}
 use borrow.Author.Tests.{ltb-false}
 use lib.Dec.{ltb}
 use lib.ListN.{length, take, drop, getD, length-append, length-map, length-drop}
-use Rattle.model.specs.Numbers.{VALUE-BYTES}
 use Rattle.model.specs.Model.{Entity, SparseSet, Storage, Range, none, found, noRow, setOf, at, held, kindOf, rangeUnder, addsNothing, create}
 use Rattle.model.specs.Store.{Store, bytesOf, stagedKinds, isKind, ownRefusals}
-use Rattle.model.specs.Commands.{Command, REG, HOLD, NEW, PUT, TAKE, DROP, KILL, WIPE, GROUP, APPLY, BAR, RANGE, EMPTY, TALLY, TRAY, SETCALLER, Done, accepted, answerLength, takenBytes, heldBytes, rangeBytes, width, commandAt}
+use Rattle.model.specs.Commands.{Command, REG, HOLD, NEW, PUT, TAKE, DROP, KILL, WIPE, GROUP, APPLY, BAR, RANGE, EMPTY, TALLY, TRAY, SETCALLER, Done, accepted, answerLength, takenBytes, heldBytes, rangeBytes, commandOn, operandsLen}
 use Rattle.model.specs.Refusals.{firstLine, NoneHolds, beforeLines}
 use Rattle.model.specs.Run.{Outcome, refuses, accepts, does, Step, stops, goes, stepOf, stepIf, step, answerOf, Ran, halt, more, runFor, run}
 use Rattle.model.proofs.BoolLaws.{cond-case}
@@ -40,13 +39,16 @@ range-length none = refl
 range-length (found a b) = ap suc (pair-length a b)
 
 -- an accepted answer, with its 0 byte, has the length that the room is judged by
-pub accepted-length : (c : Command) (s : Store) → suc (length ((accepted c s) .answer)) ≡ answerLength VALUE-BYTES c s
+pub accepted-length : (c : Command) (s : Store) → suc (length ((accepted c s) .answer)) ≡ answerLength c s
 unfolding accepted
 accepted-length (REG k) s = cond-case (λ (d : Done). suc (length (d .answer)) ≡ 2) (isKind k s) _ _ (λ t. refl) (λ t. refl)
 accepted-length (HOLD k v) s = refl
 accepted-length NEW s = ap suc (pair-length ((create (s .entities)) .entity .index) ((create (s .entities)) .entity .version))
 accepted-length (PUT e) s = refl
-accepted-length (TAKE e) s = omega (arith, held-length VALUE-BYTES e (stagedKinds s) (s .storage), length-map (s .control .staged) kindOf)
+accepted-length (TAKE e) s =
+    let h : length (heldBytes (s .settings .valueBytes) e (stagedKinds s) (s .storage)) ≡ (1 + s .settings .valueBytes) * length (s .control .staged) =
+    held-length (s .settings .valueBytes) e (stagedKinds s) (s .storage) ∙ ap (λ (n : ℕ). (1 + s .settings .valueBytes) * n) (length-map (s .control .staged) kindOf) in
+    omega (arith, h)
 accepted-length (DROP e) s = refl
 accepted-length (KILL e) s = refl
 accepted-length WIPE s = refl
@@ -59,25 +61,25 @@ accepted-length TALLY s = ap suc (bytesOf-length 4 (ownRefusals (s .control)))
 accepted-length (TRAY n) s = ap suc (bytesOf-length 2 n)
 accepted-length (SETCALLER c) s = refl
 
-pub answer-length : (c : Command) (s s′ : Store) (a : List ℕ) → does c s ≡ accepts s′ a → suc (length a) ≡ answerLength VALUE-BYTES c s
+pub answer-length : (c : Command) (s s′ : Store) (a : List ℕ) → does c s ≡ accepts s′ a → suc (length a) ≡ answerLength c s
 answer-length c s s′ a e = sym (ap (λ (b : List ℕ). suc (length b)) (accepted-exact c s s′ a .0 e .2)) ∙ accepted-length c s
 
-pub answer-positive : (c : Command) (s : Store) → 1 ≤ answerLength VALUE-BYTES c s
+pub answer-positive : (c : Command) (s : Store) → 1 ≤ answerLength c s
 answer-positive c s = omega (arith, accepted-length c s)
 
 -- the answer takes no more than the accepted one
-pub answer-fits : (c : Command) (s : Store) (x : Outcome) → does c s ≡ x → length (answerOf x) ≤ answerLength VALUE-BYTES c s
+pub answer-fits : (c : Command) (s : Store) (x : Outcome) → does c s ≡ x → length (answerOf x) ≤ answerLength c s
 answer-fits c s (refuses n) e = answer-positive c s
 answer-fits c s (accepts s′ a) e = omega (arith, answer-length c s s′ a e)
 
 -- ---- one step
 
 -- a property of a step that goes on, from that of what it does where no line before the command holds
-pub step-case : (P : Step → Type 0) (b : ℕ) (t : List ℕ) (room : ℕ) (s : Store) → ((n : ℕ) → P (stops n)) → (NoneHolds beforeLines (record { byte = b; rest = t; room = room; store = s }) → P (stepOf (suc (width VALUE-BYTES b)) s (does (commandAt b (take (width VALUE-BYTES b) t)) s))) → P (step b t room s)
+pub step-case : (P : Step → Type 0) (b : ℕ) (t : List ℕ) (room : ℕ) (s : Store) → ((n : ℕ) → P (stops n)) → (NoneHolds beforeLines (record { byte = b; rest = t; room = room; store = s }) → P (stepOf (suc (operandsLen b s)) s (does (commandOn b t s) s))) → P (step b t room s)
 unfolding step
 step-case P b t room s f g = go (firstLine beforeLines (record { byte = b; rest = t; room = room; store = s })) (λ e. g (none-to beforeLines (record { byte = b; rest = t; room = room; store = s }) e))
   where
-    go : (r : Option ℕ) → (r ≡ none → P (stepOf (suc (width VALUE-BYTES b)) s (does (commandAt b (take (width VALUE-BYTES b) t)) s))) → P (stepIf r (stepOf (suc (width VALUE-BYTES b)) s (does (commandAt b (take (width VALUE-BYTES b) t)) s)))
+    go : (r : Option ℕ) → (r ≡ none → P (stepOf (suc (operandsLen b s)) s (does (commandOn b t s) s))) → P (stepIf r (stepOf (suc (operandsLen b s)) s (does (commandOn b t s) s)))
     go (some n) h = f n
     go none h = h refl
 
@@ -86,24 +88,24 @@ pub clash : (o : Outcome) (n : ℕ) (s : Store) (a : List ℕ) → o ≡ refuses
 clash o n s a p q = let z : _≡_ {A = ℕ} 0 1 = cc in omega arith
 
 pub step-lengths : (b : ℕ) (t : List ℕ) (room : ℕ) (s : Store) → IfGoes (λ w a s′. StepFits b t room s w a) (step b t room s)
-step-lengths b t room s = step-case (IfGoes (λ w a s′. StepFits b t room s w a)) b t room s (λ n. tt) (λ h. go (does (commandAt b (take (width VALUE-BYTES b) t)) s) refl (h .1 .0) (h .1 .1 .0))
+step-lengths b t room s = step-case (IfGoes (λ w a s′. StepFits b t room s w a)) b t room s (λ n. tt) (λ h. go (does (commandOn b t s) s) refl (h .1 .0) (h .1 .1 .0))
   where
-    go : (o : Outcome) → does (commandAt b (take (width VALUE-BYTES b) t)) s ≡ o → ltb (length t) (width VALUE-BYTES b) ≡ false → ltb room (answerLength VALUE-BYTES (commandAt b (take (width VALUE-BYTES b) t)) s) ≡ false → IfGoes (λ w a s′. StepFits b t room s w a) (stepOf (suc (width VALUE-BYTES b)) s o)
+    go : (o : Outcome) → does (commandOn b t s) s ≡ o → ltb (length t) (operandsLen b s) ≡ false → ltb room (answerLength (commandOn b t s) s) ≡ false → IfGoes (λ w a s′. StepFits b t room s w a) (stepOf (suc (operandsLen b s)) s o)
     go (refuses n) e v w =
         record {
           read = refl;
-          whole = omega (arith, ltb-false (length t) (width VALUE-BYTES b) v);
-          fits = omega (arith, ltb-false room (answerLength VALUE-BYTES (commandAt b (take (width VALUE-BYTES b) t)) s) w, answer-positive (commandAt b (take (width VALUE-BYTES b) t)) s);
+          whole = omega (arith, ltb-false (length t) (operandsLen b s) v);
+          fits = omega (arith, ltb-false room (answerLength (commandOn b t s) s) w, answer-positive (commandOn b t s) s);
           refused = λ m p. refl;
-          accepted = λ s′ x p. absurd (clash (does (commandAt b (take (width VALUE-BYTES b) t)) s) n s′ x e p);
+          accepted = λ s′ x p. absurd (clash (does (commandOn b t s) s) n s′ x e p);
         }
     go (accepts s′ a) e v w =
         record {
           read = refl;
-          whole = omega (arith, ltb-false (length t) (width VALUE-BYTES b) v);
-          fits = omega (arith, ltb-false room (answerLength VALUE-BYTES (commandAt b (take (width VALUE-BYTES b) t)) s) w, answer-length (commandAt b (take (width VALUE-BYTES b) t)) s s′ a e);
-          refused = λ m p. absurd (clash (does (commandAt b (take (width VALUE-BYTES b) t)) s) m s′ a p e);
-          accepted = λ q x p. answer-length (commandAt b (take (width VALUE-BYTES b) t)) s s′ a e;
+          whole = omega (arith, ltb-false (length t) (operandsLen b s) v);
+          fits = omega (arith, ltb-false room (answerLength (commandOn b t s) s) w, answer-length (commandOn b t s) s s′ a e);
+          refused = λ m p. absurd (clash (does (commandOn b t s) s) m s′ a p e);
+          accepted = λ q x p. answer-length (commandOn b t s) s s′ a e;
         }
 
 -- ---- a run

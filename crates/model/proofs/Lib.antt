@@ -1,3 +1,4 @@
+pub mod Widths
 pub mod BoolLaws
 pub mod ListLaws
 pub mod Faults

@@ -8,10 +8,10 @@ use Prim.Native.Nat.{ℕ, suc, _≤_}
 use native.Mathlib.Omega.{arith}
 use borrow.Author.Tests.{ltb-true}
 use lib.ListN.{length, take, length-map}
-use Rattle.model.specs.Numbers.{CALLER, KIND, LIST-CAPACITY, MAX-GROUP-ARITY, NOROOM, UNKNOWN, WIDE, VALUE-BYTES}
+use Rattle.model.specs.Numbers.{CALLER, KIND, LIST-CAPACITY, MAX-GROUP-ARITY, NOROOM, UNKNOWN, WIDE}
 use Rattle.model.specs.Model.{kindOf}
 use Rattle.model.specs.Store.{Store, stagedKinds, ownRefusals}
-use Rattle.model.specs.Commands.{Command, REG, HOLD, NEW, PUT, TAKE, DROP, KILL, WIPE, GROUP, APPLY, BAR, RANGE, EMPTY, TALLY, TRAY, SETCALLER, Done, accepted, width, commandAt}
+use Rattle.model.specs.Commands.{Command, REG, HOLD, NEW, PUT, TAKE, DROP, KILL, WIPE, GROUP, APPLY, BAR, RANGE, EMPTY, TALLY, TRAY, SETCALLER, Done, accepted, commandOn, operandsLen}
 use Rattle.model.specs.Refusals.{Line, firstLine, NoneHolds, First, linesOf, beforeLines}
 use Rattle.model.specs.Run.{Outcome, refuses, accepts, outcome, does, Step, stops, storeAfter, stepOf, stepIf, step}
 use Rattle.model.specs.Sound.{CountsSound, StoreSound}
@@ -221,8 +221,8 @@ stepOf-goes w s o m e = let z : _≡_ {A = ℕ} 0 1 = cc in omega arith
 pub stop-exact : (b : ℕ) (t : List ℕ) (room : ℕ) (s : Store) (n : ℕ) → (step b t room s ≡ stops n) ↔ First beforeLines (record { byte = b; rest = t; room = room; store = s }) n
 unfolding step
 stop-exact b t room s n = (
-  (λ e. first-to beforeLines (record { byte = b; rest = t; room = room; store = s }) n (stepIf-stops (firstLine beforeLines (record { byte = b; rest = t; room = room; store = s })) (stepOf (suc (width VALUE-BYTES b)) s (does (commandAt b (take (width VALUE-BYTES b) t)) s)) n (stepOf-goes (suc (width VALUE-BYTES b)) s (does (commandAt b (take (width VALUE-BYTES b) t)) s)) e)),
-  (λ f. ap (λ (r : Option ℕ). stepIf r (stepOf (suc (width VALUE-BYTES b)) s (does (commandAt b (take (width VALUE-BYTES b) t)) s))) (first-from beforeLines (record { byte = b; rest = t; room = room; store = s }) n f)),
+  (λ e. first-to beforeLines (record { byte = b; rest = t; room = room; store = s }) n (stepIf-stops (firstLine beforeLines (record { byte = b; rest = t; room = room; store = s })) (stepOf (suc (operandsLen b s)) s (does (commandOn b t s) s)) n (stepOf-goes (suc (operandsLen b s)) s (does (commandOn b t s) s)) e)),
+  (λ f. ap (λ (r : Option ℕ). stepIf r (stepOf (suc (operandsLen b s)) s (does (commandOn b t s) s))) (first-from beforeLines (record { byte = b; rest = t; room = room; store = s }) n f)),
 )
 
 pub stop-number : (b : ℕ) (t : List ℕ) (room : ℕ) (s : Store) (n : ℕ) → step b t room s ≡ stops n → (UNKNOWN ≤ n) × (n ≤ NOROOM)

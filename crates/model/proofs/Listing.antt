@@ -11,12 +11,12 @@ use borrow.Author.Tests.{eqb-true, eq-eqb, ne-eqb, lt-ltb, ltb-true}
 use native.Mathlib.Decide.{ℕ-discrete, decLt}
 use lib.Dec.{eqb, ltb, eqb·suc-zero}
 use lib.ListN.{length, getD}
-use Rattle.model.specs.Numbers.{MAX-KINDS, VALUE-BYTES}
+use Rattle.model.specs.Numbers.{MAX-KINDS}
 use Rattle.model.specs.Lists.{countOf, one}
 use Rattle.model.proofs.ListLaws.{count-length}
 use Rattle.model.specs.Model.{sameEntity, Entity, SparseSet, Component, setOf}
 use Rattle.model.specs.Store.{Store, bytesOf}
-use Rattle.model.specs.Snapshot.{Same, Entry, valueAt, addComponent, componentsOf, liveVersion, entryOf, entries, flat, listing, snapshot}
+use Rattle.model.specs.Snapshot.{Same, Entry, valueAt, addComponent, componentsOf, liveVersion, entryOf, entries, flat, listing, snapshot, SameWidth}
 use Rattle.model.proofs.SparseSets.{entity-eq, entity-same}
 use Rattle.model.proofs.Encoding.{FitEntries, flat-inj, bytesOf-inj}
 
@@ -160,11 +160,11 @@ record SameAt (s t : Store) : Type 0 where
 pub record Listable (s : Store) : Type 0 where
   pub live : LiveOk (s .entities .live)
   pub issued : (k : ℕ) → s .entities .issued ≤ k → liveVersion k (s .entities .live) ≡ 0
-  pub fit : FitEntries VALUE-BYTES (listing s)
+  pub fit : FitEntries (s .settings .valueBytes) (listing s)
   pub few : length (s .entities .live) < 256 ^ 4
   pub columns : length (s .storage .sets) ≡ MAX-KINDS
 
-module _ (s t : Store) (ls : Listable s) (lt : Listable t) where
+module _ (s t : Store) (one-width : SameWidth s t) (ls : Listable s) (lt : Listable t) where
   bound : ℕ
   bound = s .entities .issued + t .entities .issued
 
@@ -190,8 +190,12 @@ module _ (s t : Store) (ls : Listable s) (lt : Listable t) where
   snapshot-same-at : snapshot s ≡ snapshot t → SameAt s t
   unfolding snapshot
   snapshot-same-at e =
-      let h = bytesOf-inj 4 (length (s .entities .live)) (length (t .entities .live)) (flat VALUE-BYTES (listing s)) (flat VALUE-BYTES (listing t)) (ls .few) (lt .few) e in
-      let l = flat-inj VALUE-BYTES (listing s) (listing t) (ls .fit) (lt .fit) (h .1) in
+      let v = s .settings .valueBytes in
+      let f : FitEntries v (listing t) = subst (λ (n : ℕ). FitEntries n (listing t)) one-width (lt .fit) in
+      let e′ : bytesOf 4 (length (s .entities .live)) ++ flat v (listing s) ≡ bytesOf 4 (length (t .entities .live)) ++ flat v (listing t) =
+      e ∙ ap (λ (n : ℕ). bytesOf 4 (length (t .entities .live)) ++ flat n (listing t)) one-width in
+      let h = bytesOf-inj 4 (length (s .entities .live)) (length (t .entities .live)) (flat v (listing s)) (flat v (listing t)) (ls .few) (lt .few) e′ in
+      let l = flat-inj v (listing s) (listing t) (ls .fit) f (h .1) in
       record {
         versions = λ i. entry-of (liveVersion i (s .entities .live)) (liveVersion i (t .entities .live)) i (s .storage .sets) (t .storage .sets) (at-index l i) .0;
         values = λ i k a. components-values (entityAt i (liveVersion i (s .entities .live))) (s .storage .sets) (t .storage .sets) (entry-of (liveVersion i (s .entities .live)) (liveVersion i (t .entities .live)) i (s .storage .sets) (t .storage .sets) (at-index l i) .1 a) k;
@@ -243,9 +247,10 @@ module _ (s t : Store) (ls : Listable s) (lt : Listable t) where
   pub same-snapshot : Same s t → snapshot s ≡ snapshot t
   unfolding snapshot bound
   same-snapshot h =
-      ap₂ (λ (n : ℕ) (ts : List Entry). bytesOf 4 n ++ flat VALUE-BYTES ts) (count-length sameEntity entity-eq entity-same (s .entities .live) (t .entities .live) (h .live))
+      ap₂ (λ (n : ℕ) (ts : List Entry). bytesOf 4 n ++ flat (s .settings .valueBytes) ts) (count-length sameEntity entity-eq entity-same (s .entities .live) (t .entities .live) (h .live))
       (sym wide-s ∙ entries-same h bound 0 ∙ wide-t)
+      ∙ ap (λ (n : ℕ). bytesOf 4 (length (t .entities .live)) ++ flat n (listing t)) (sym one-width)
 
-  -- two stores write equal snapshots exactly if the same entities are live and hold the same components with the same values
+  -- two stores of one width write equal snapshots exactly if the same entities are live and hold the same components with the same values
   pub snapshot-iff : (snapshot s ≡ snapshot t) ↔ Same s t
   snapshot-iff = (snapshot-same, same-snapshot)

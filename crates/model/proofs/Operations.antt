@@ -8,7 +8,7 @@ use native.Mathlib.Nat.{one-le-pow}
 use borrow.Author.Tests.{ltb-true, leb-false, lt-ltb}
 use lib.Dec.{leb, eqb, lit<}
 use lib.ListN.{length, getD, replicate, length-append, length-replicate}
-use Rattle.model.specs.Numbers.{LAST-CALLER, LIST-CAPACITY, MAX-KINDS, VALUE-BYTES}
+use Rattle.model.specs.Numbers.{LAST-CALLER, LIST-CAPACITY, MAX-KINDS}
 use Rattle.model.specs.Lists.{one}
 use Rattle.model.proofs.ListLaws.{place-count, count-place, map-append, all-snoc, default-at}
 use Rattle.model.specs.Model.{Entity, Entities, SparseSet, Family, Component, sameEntity, mem, setOf, keys, kindOf, isLive, isFull, insertComponents, remove, clearAll, setLayout, create, createWith, destroy, Row, noRow}
@@ -56,11 +56,11 @@ sound-held s S =
       small = S .kinds .small;
     }
 
-pub control-of : (s : Store) → StoreSound s → ControlSound VALUE-BYTES (s .kinds) (s .control)
+pub control-of : (s : Store) → StoreSound s → ControlSound (s .settings .valueBytes) (s .kinds) (s .control)
 control-of s S = record { staged = S .staged; excluded = S .excluded; draft = record { buildable = S .draft; uncounted = S .uncounted }; counts = S .counts }
 
 -- a store whose parts are sound
-make : (s : Store) → Limits (s .settings .capacity) (s .settings .kindCapacity) → KindsSound (s .settings .kindCapacity) (s .kinds) → s .entities .issued ≤ s .settings .capacity → Held (s .entities) (s .kinds) (s .storage) → ColsOk (RowFits VALUE-BYTES) (no-row VALUE-BYTES) (s .storage .sets) → Buildable (s .kinds) (s .storage .layout) → ControlSound VALUE-BYTES (s .kinds) (s .control) → StoreSound s
+make : (s : Store) → Limits (s .settings .capacity) (s .settings .kindCapacity) (s .settings .valueBytes) → KindsSound (s .settings .kindCapacity) (s .kinds) → s .entities .issued ≤ s .settings .capacity → Held (s .entities) (s .kinds) (s .storage) → ColsOk (RowFits (s .settings .valueBytes)) (no-row (s .settings .valueBytes)) (s .storage .sets) → Buildable (s .kinds) (s .storage .layout) → ControlSound (s .settings .valueBytes) (s .kinds) (s .control) → StoreSound s
 make s limits kinds few H values layout C =
     record {
       limits = limits;
@@ -185,10 +185,10 @@ module _ (s : Store) (S : StoreSound s) where
   abbrev H : Held (s .entities) (s .kinds) (s .storage)
   H = sound-held s S
 
-  abbrev C : ControlSound VALUE-BYTES (s .kinds) (s .control)
+  abbrev C : ControlSound (s .settings .valueBytes) (s .kinds) (s .control)
   C = control-of s S
 
-  pub control-sound : (d : Control) → ControlSound VALUE-BYTES (s .kinds) d → StoreSound (withControl s d)
+  pub control-sound : (d : Control) → ControlSound (s .settings .valueBytes) (s .kinds) d → StoreSound (withControl s d)
   control-sound d D = make (withControl s d) (S .limits) (S .kinds) (S .entities .few) H (S .sets .values) (S .layout) D
 
   -- the hand is emptied
@@ -235,23 +235,23 @@ module _ (s : Store) (S : StoreSound s) where
       (destroy-held (s .entities) (s .kinds) (s .storage) H e (live-count e (s .entities) live) none) (S .sets .values) (S .layout) C
 
   -- components go into a live entity
-  pub insert-sound : (e : Entity) (staged : List Component) → isLive e (s .entities) ≡ true → StagedSound VALUE-BYTES (s .kinds) staged → StoreSound (withStorage s (insertComponents e staged (s .storage)))
+  pub insert-sound : (e : Entity) (staged : List Component) → isLive e (s .entities) ≡ true → StagedSound (s .settings .valueBytes) (s .kinds) staged → StoreSound (withStorage s (insertComponents e staged (s .storage)))
   insert-sound e staged live h =
       make (withStorage s (insertComponents e staged (s .storage))) (S .limits) (S .kinds) (S .entities .few)
       (insert-held (s .entities) (s .kinds) (s .storage) H (s .entities) (H .numbers) (λ x i. i) e staged (h .known) (live-count e (s .entities) live))
-      (insert-ok (RowFits VALUE-BYTES) (no-row VALUE-BYTES) e staged (s .storage) (staged-ok VALUE-BYTES e staged (h .values)) (S .sets .values))
+      (insert-ok (RowFits (s .settings .valueBytes)) (no-row (s .settings .valueBytes)) e staged (s .storage) (staged-ok (s .settings .valueBytes) e staged (h .values)) (S .sets .values))
       (buildable-plain (s .kinds) (s .storage .layout) ((insertComponents e staged (s .storage)) .layout) (insert-plain e staged (s .storage)) (S .layout)) C
 
   -- components of some kinds go; the entity need not be live
   pub remove-sound : (e : Entity) (gone : List ℕ) → StoreSound (withStorage s (remove e gone (s .storage)))
   remove-sound e gone =
       make (withStorage s (remove e gone (s .storage))) (S .limits) (S .kinds) (S .entities .few) (remove-held (s .entities) (s .kinds) (s .storage) H e gone)
-      (remove-ok (RowFits VALUE-BYTES) (no-row VALUE-BYTES) e gone (s .storage) (S .sets .values))
+      (remove-ok (RowFits (s .settings .valueBytes)) (no-row (s .settings .valueBytes)) e gone (s .storage) (S .sets .values))
       (buildable-plain (s .kinds) (s .storage .layout) ((remove e gone (s .storage)) .layout) (remove-plain e gone (s .storage)) (S .layout)) C
 
   pub clearAll-sound : StoreSound (withStorage s (clearAll (s .storage)))
   clearAll-sound =
-      make (withStorage s (clearAll (s .storage))) (S .limits) (S .kinds) (S .entities .few) (clearAll-held (s .entities) (s .kinds) (s .storage) H) (clearAll-ok (RowFits VALUE-BYTES) (no-row VALUE-BYTES) (s .storage))
+      make (withStorage s (clearAll (s .storage))) (S .limits) (S .kinds) (S .entities .few) (clearAll-held (s .entities) (s .kinds) (s .storage) H) (clearAll-ok (RowFits (s .settings .valueBytes)) (no-row (s .settings .valueBytes)) (s .storage))
       (buildable-plain (s .kinds) (s .storage .layout) ((clearAll (s .storage)) .layout) (clearAll-plain (s .storage)) (S .layout)) C
 
   -- a layout is applied
@@ -259,7 +259,7 @@ module _ (s : Store) (S : StoreSound s) where
   setLayout-sound fs D =
       make (withStorage s (setLayout (s .entities .live) fs (s .storage))) (S .limits) (S .kinds) (S .entities .few)
       (apply-held (s .entities) (s .kinds) (s .storage) H fs (buildable-fresh fs (D .buildable .families) (D .uncounted)) (distinct-families fs (D .buildable .once)))
-      (setLayout-ok (RowFits VALUE-BYTES) (no-row VALUE-BYTES) (s .entities .live) fs (s .storage) (S .sets .values))
+      (setLayout-ok (RowFits (s .settings .valueBytes)) (no-row (s .settings .valueBytes)) (s .entities .live) fs (s .storage) (S .sets .values))
       (buildable-plain (s .kinds) fs ((setLayout (s .entities .live) fs (s .storage)) .layout) (setLayout-plain (s .entities .live) fs (s .storage)) (D .buildable)) C
 
 -- a live entity is stripped of all its components and destroyed
@@ -271,7 +271,7 @@ kill-sound s S e live = destroy-sound (withStorage s (remove e (s .kinds) (s .st
 setOf-empty : (n k : ℕ) → setOf (replicate n []) k ≡ []
 setOf-empty n k = default-at [] n k
 
-pub empty-sound : (c : Settings) → Limits (c .capacity) (c .kindCapacity) → StoreSound (emptyWith c)
+pub empty-sound : (c : Settings) → Limits (c .capacity) (c .kindCapacity) (c .valueBytes) → StoreSound (emptyWith c)
 unfolding emptyWith
 empty-sound c limits =
     record {
@@ -283,9 +283,9 @@ empty-sound c limits =
         bare = λ j m. setOf-empty MAX-KINDS j;
         alive = λ x j h. absurd (omega (arith, none x j));
         once = λ x j. omega (arith, none x j);
-        values = λ j i. rw (setOf-empty MAX-KINDS j) (zero-fits VALUE-BYTES);
+        values = λ j i. rw (setOf-empty MAX-KINDS j) (zero-fits (c .valueBytes));
       };
-      staged = no-staged VALUE-BYTES [];
+      staged = no-staged (c .valueBytes) [];
       excluded = no-excluded [];
       draft = no-draft [] .buildable;
       uncounted = tt;

@@ -5,7 +5,7 @@ use mathlib.Core.List.{[], _∷_, _++_}
 use Prim.Native.Nat.{ℕ}
 use lib.Dec.{leb, ltb}
 use lib.ListN.{length}
-use Rattle.model.specs.Numbers.{AGAIN, CALLER, DEAD, FULL, HANDFUL, KIND, KINDS, LAST-CALLER, LAST-KIND, LIST-CAPACITY, MAX-GROUP-ARITY, MAX-GROUP-COUNT, VALUE-BYTES}
+use Rattle.model.specs.Numbers.{AGAIN, CALLER, DEAD, FULL, HANDFUL, KIND, KINDS, LAST-CALLER, LAST-KIND, LIST-CAPACITY, MAX-GROUP-ARITY, MAX-GROUP-COUNT}
 use Rattle.model.specs.Model.{Entity, mem, isFull, freeNumbers, isLive, groupsOf, addsNothing, joins, destroy, insertComponents, remove}
 use Rattle.model.specs.Adding.{addGroup}
 use Rattle.model.specs.Store.{Store, bytesOf, stagedKinds, isKind, withControl, withStorage, withAll, withKinds, withStaged, withExcluded, withCaller, ownRefusals, emptyStaged, emptyBoth}
@@ -104,7 +104,7 @@ module _ (s : Store) where
   unfolding does linesOf
   take-dead e h = rw h
 
-  pub take-live : (e : Entity) → isLive e (s .entities) ≡ true → does (TAKE e) s ≡ accepts (withControl (withStorage s (remove e (stagedKinds s) (s .storage))) (emptyStaged (s .control))) (heldBytes VALUE-BYTES e (stagedKinds s) (s .storage))
+  pub take-live : (e : Entity) → isLive e (s .entities) ≡ true → does (TAKE e) s ≡ accepts (withControl (withStorage s (remove e (stagedKinds s) (s .storage))) (emptyStaged (s .control))) (heldBytes (s .settings .valueBytes) e (stagedKinds s) (s .storage))
   unfolding does linesOf accepted
   take-live e h = rw h
 

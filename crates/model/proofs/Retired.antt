@@ -9,11 +9,10 @@ use borrow.Author.Tests.{ltb-true, ltb-false, le-leb, lt-leb, not-false}
 use lib.Dec.{ltb, leb}
 use lib.ListN.{length, take, drop, getD, set, length-append, length-set}
 use lib.Seq.{length-take-le}
-use Rattle.model.specs.Numbers.{VALUE-BYTES}
 use Rattle.model.specs.Lists.{one, place}
 use Rattle.model.specs.Model.{Entity, Entities, sameEntity, noEntity, isLive, addsNothing, lastVersion, Component, Storage, Extended, create, createWith, extend, destroy}
 use Rattle.model.specs.Store.{Settings, Store, emptyWith, stagedKinds, isKind}
-use Rattle.model.specs.Commands.{Command, REG, HOLD, NEW, PUT, TAKE, DROP, KILL, WIPE, GROUP, APPLY, BAR, RANGE, EMPTY, TALLY, TRAY, SETCALLER, Done, accepted, width, commandAt}
+use Rattle.model.specs.Commands.{Command, REG, HOLD, NEW, PUT, TAKE, DROP, KILL, WIPE, GROUP, APPLY, BAR, RANGE, EMPTY, TALLY, TRAY, SETCALLER, Done, accepted, commandOn, operandsLen}
 use Rattle.model.specs.Refusals.{NoneHolds, linesOf}
 use Rattle.model.specs.Run.{Outcome, refuses, accepts, does, Step, stops, goes, stepOf, step, Ran, halt, more, runFor, run}
 use Rattle.model.specs.History.{retires, retiredFor, retired}
@@ -94,14 +93,14 @@ refused-retires (SETCALLER c) s f = refl
 
 -- ---- steps and runs
 
-step-balanced : (b : ℕ) (t : List ℕ) (room : ℕ) (s : Store) (r : ℕ) → Balanced (s .entities) r → IfGoes (λ w a s′. Balanced (s′ .entities) (r + retires (commandAt b (take (width VALUE-BYTES b) t)) s)) (step b t room s)
-step-balanced b t room s r h = step-case (IfGoes (λ w a s′. Balanced (s′ .entities) (r + retires (commandAt b (take (width VALUE-BYTES b) t)) s))) b t room s (λ n. tt) (λ q. go (does (commandAt b (take (width VALUE-BYTES b) t)) s) refl)
+step-balanced : (b : ℕ) (t : List ℕ) (room : ℕ) (s : Store) (r : ℕ) → Balanced (s .entities) r → IfGoes (λ w a s′. Balanced (s′ .entities) (r + retires (commandOn b t s) s)) (step b t room s)
+step-balanced b t room s r h = step-case (IfGoes (λ w a s′. Balanced (s′ .entities) (r + retires (commandOn b t s) s))) b t room s (λ n. tt) (λ q. go (does (commandOn b t s) s) refl)
   where
-    go : (o : Outcome) → does (commandAt b (take (width VALUE-BYTES b) t)) s ≡ o → IfGoes (λ w a s′. Balanced (s′ .entities) (r + retires (commandAt b (take (width VALUE-BYTES b) t)) s)) (stepOf (suc (width VALUE-BYTES b)) s o)
-    go (refuses n) e = rw (refused-retires (commandAt b (take (width VALUE-BYTES b) t)) s (λ nh. clash (does (commandAt b (take (width VALUE-BYTES b) t)) s) n ((accepted (commandAt b (take (width VALUE-BYTES b) t)) s) .store) ((accepted (commandAt b (take (width VALUE-BYTES b) t)) s) .answer) e (accepted-exact (commandAt b (take (width VALUE-BYTES b) t)) s _ _ .1 (nh, refl, refl)))) (kept (s .entities) r h)
+    go : (o : Outcome) → does (commandOn b t s) s ≡ o → IfGoes (λ w a s′. Balanced (s′ .entities) (r + retires (commandOn b t s) s)) (stepOf (suc (operandsLen b s)) s o)
+    go (refuses n) e = rw (refused-retires (commandOn b t s) s (λ nh. clash (does (commandOn b t s) s) n ((accepted (commandOn b t s) s) .store) ((accepted (commandOn b t s) s) .answer) e (accepted-exact (commandOn b t s) s _ _ .1 (nh, refl, refl)))) (kept (s .entities) r h)
     go (accepts s′ a) e =
-        let x = accepted-exact (commandAt b (take (width VALUE-BYTES b) t)) s s′ a .0 e in
-        ap (λ (z : Store). z .entities .issued) (sym (x .1)) ∙ accepted-balanced (commandAt b (take (width VALUE-BYTES b) t)) s r (x .0) h ∙ ap (λ (z : Store). length (z .entities .live) + length (z .entities .recycled) + (r + retires (commandAt b (take (width VALUE-BYTES b) t)) s)) (x .1)
+        let x = accepted-exact (commandOn b t s) s s′ a .0 e in
+        ap (λ (z : Store). z .entities .issued) (sym (x .1)) ∙ accepted-balanced (commandOn b t s) s r (x .0) h ∙ ap (λ (z : Store). length (z .entities .live) + length (z .entities .recycled) + (r + retires (commandOn b t s) s)) (x .1)
 
 run-balanced-for : (fuel : ℕ) (t : List ℕ) (room : ℕ) (s : Store) (r : ℕ) → Balanced (s .entities) r → Balanced ((runFor fuel t room s) .store .entities) (r + retiredFor fuel t room s)
 unfolding runFor retiredFor
@@ -110,7 +109,7 @@ run-balanced-for (suc fuel) [] room s r h = kept (s .entities) r h
 run-balanced-for (suc fuel) (b ∷ t) room s r h = go (step b t room s) (step-balanced b t room s r h) (λ w m s′ q. run-balanced-for fuel (drop w (b ∷ t)) m s′ q)
   where
     k : ℕ
-    k = retires (commandAt b (take (width VALUE-BYTES b) t)) s
+    k = retires (commandOn b t s) s
 
     go : (p : Step) → IfGoes (λ w a s′. Balanced (s′ .entities) (r + k)) p → ((w m : ℕ) (s′ : Store) (q : ℕ) → Balanced (s′ .entities) q → Balanced ((runFor fuel (drop w (b ∷ t)) m s′) .store .entities) (q + retiredFor fuel (drop w (b ∷ t)) m s′)) → Balanced ((elim p as (λ p. Ran) [ stops n ↦ halt n s | goes w a s′ ↦ more w a (runFor fuel (drop w (b ∷ t)) (room - length a) s′) ]) .store .entities) (r + elim p as (λ p. ℕ) [ stops n ↦ 0 | goes w a s′ ↦ k + retiredFor fuel (drop w (b ∷ t)) (room - length a) s′ ])
     go (stops n) g rec = kept (s .entities) r h

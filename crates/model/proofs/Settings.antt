@@ -3,10 +3,9 @@ use mathlib.Core.Path.{_≡_, refl, _∙_}
 use mathlib.Core.List.{List}
 use Prim.Native.Nat.{ℕ, suc}
 use lib.ListN.{take}
-use Rattle.model.specs.Numbers.{VALUE-BYTES}
 use Rattle.model.specs.Model.{addsNothing}
 use Rattle.model.specs.Store.{Store, Bytes, isKind, stagedKinds}
-use Rattle.model.specs.Commands.{Command, REG, HOLD, NEW, PUT, TAKE, DROP, KILL, WIPE, GROUP, APPLY, BAR, RANGE, EMPTY, TALLY, TRAY, SETCALLER, Done, accepted, width, commandAt}
+use Rattle.model.specs.Commands.{Command, REG, HOLD, NEW, PUT, TAKE, DROP, KILL, WIPE, GROUP, APPLY, BAR, RANGE, EMPTY, TALLY, TRAY, SETCALLER, Done, accepted, commandOn, operandsLen}
 use Rattle.model.specs.Run.{Outcome, refuses, accepts, does, Step, stops, goes, stepOf, step, storeAfter, run}
 use Rattle.model.specs.History.{trail, EachStore}
 use Rattle.model.specs.Theorems.{SameSettings}
@@ -46,7 +45,7 @@ settings-by k c s (accepts s′ a) e = command-settings c s (accepts s′ a) e
 pub step-settings : (b : ℕ) (t : List ℕ) (room : ℕ) (s : Store) → After (SameSettings s) (step b t room s)
 step-settings b t room s =
     step-case (After (SameSettings s)) b t room s (λ n. tt)
-    (λ h. settings-by (suc (width VALUE-BYTES b)) (commandAt b (take (width VALUE-BYTES b) t)) s (does (commandAt b (take (width VALUE-BYTES b) t)) s) refl)
+    (λ h. settings-by (suc (operandsLen b s)) (commandOn b t s) s (does (commandOn b t s) s) refl)
 
 -- ---- runs
 

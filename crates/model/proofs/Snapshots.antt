@@ -1,5 +1,5 @@
 -- Demand 3's statement of the snapshots: two sound stores write equal snapshots exactly if they hold the same, and so do any two runs. Assumes nothing.
-use mathlib.Core.Path.{_≡_, refl, ap, sym}
+use mathlib.Core.Path.{_≡_, refl, ap, sym, _∙_}
 use mathlib.Core.Logic.{_↔_}
 use mathlib.Core.Bool.{Bool, true, false, cond}
 use mathlib.Core.Option.{some, none}
@@ -9,12 +9,12 @@ use native.Mathlib.Omega.{arith}
 use borrow.Author.Tests.{eq-eqb}
 use lib.Dec.{eqb}
 use lib.ListN.{getD}
-use Rattle.model.specs.Numbers.{MAX-ENTITIES, VALUE-BYTES}
+use Rattle.model.specs.Numbers.{MAX-ENTITIES}
 use Rattle.model.specs.Lists.{one}
 use Rattle.model.specs.Model.{Entity, SparseSet, sameEntity, noRow, at, held, lastVersion}
 use Rattle.model.specs.Store.{Settings, Store, emptyWith, Bytes}
 use Rattle.model.specs.Run.{run}
-use Rattle.model.specs.Snapshot.{addComponent, componentsOf, liveVersion, entryOf, entries, snapshot, Same}
+use Rattle.model.specs.Snapshot.{addComponent, componentsOf, liveVersion, entryOf, entries, snapshot, SameWidth, Same}
 use Rattle.model.specs.Sound.{Limits, StoreSound, cnt, num}
 use Rattle.model.proofs.SparseSets.{entity-same}
 use Rattle.model.proofs.BoolLaws.{zero-of, bool-cases}
@@ -22,6 +22,7 @@ use Rattle.model.proofs.Numbers.{EntitiesOk, live-few}
 use Rattle.model.proofs.Values.{ColsOk}
 use Rattle.model.proofs.Operations.{RowFits, no-row, sound-held}
 use Rattle.model.proofs.Sound.{run-sound}
+use Rattle.model.proofs.Settings.{run-settings}
 use Rattle.model.proofs.Encoding.{FitComponents, FitEntries}
 use Rattle.model.proofs.Listing.{LiveOk, Listable, snapshot-iff}
 
@@ -79,7 +80,7 @@ listed s S =
     record {
       live = live-ok (s .entities .live) (λ i. omega (arith, N .single i)) (λ x h. N .positive x (omega (arith, h)));
       issued = λ k le. num-zero k (s .entities .live) (zero-of (λ h. omega (arith, N .below k (omega (arith, h)))));
-      fit = entries-fit VALUE-BYTES (s .entities .live) (s .storage .sets) (S .sets .values) (λ x h. N .small x (omega (arith, h))) (s .entities .issued) 0 (omega (arith, S .entities .few, S .limits .most));
+      fit = entries-fit (s .settings .valueBytes) (s .entities .live) (s .storage .sets) (S .sets .values) (λ x h. N .small x (omega (arith, h))) (s .entities .issued) 0 (omega (arith, S .entities .few, S .limits .most));
       few = omega (arith, live-few (s .entities) N, S .entities .few, S .limits .most);
       columns = S .sets .wide;
     }
@@ -87,12 +88,20 @@ listed s S =
     N : EntitiesOk (s .entities)
     N = sound-held s S .numbers
 
--- any two sound stores write equal snapshots exactly if the same entities are live with the same components and values
-pub snapshots-of-sound : (s t : Store) → StoreSound s → StoreSound t → (snapshot s ≡ snapshot t) ↔ Same s t
-snapshots-of-sound s t S T = snapshot-iff s t (listed s S) (listed t T)
+-- any two sound stores of one width write equal snapshots exactly if the same entities are live with the same components and values. A snapshot does not
+-- tell its width: 02, No. 13: "demand 3's rule of equal rolls .. is for two stores of one width, at either width"
+pub snapshots-of-sound : (s t : Store) → SameWidth s t → StoreSound s → StoreSound t → (snapshot s ≡ snapshot t) ↔ Same s t
+snapshots-of-sound s t w S T = snapshot-iff s t w (listed s S) (listed t T)
 
--- and so do the stores after any two tapes from empty stores
-pub snapshots-of-runs : (t u : List ℕ) (room room′ : ℕ) (c c′ : Settings) → Bytes t → Bytes u → Limits (c .capacity) (c .kindCapacity) → Limits (c′ .capacity) (c′ .kindCapacity)
+-- an empty store is of the width that a start was told
+pub from-width : (c : Settings) → emptyWith c .settings .valueBytes ≡ c .valueBytes
+unfolding emptyWith
+from-width c = refl
+
+-- and so do the stores after any two tapes from empty stores of one width
+pub snapshots-of-runs : (t u : List ℕ) (room room′ : ℕ) (c c′ : Settings) → Bytes t → Bytes u → c′ .valueBytes ≡ c .valueBytes → Limits (c .capacity) (c .kindCapacity) (c .valueBytes) → Limits (c′ .capacity) (c′ .kindCapacity) (c′ .valueBytes)
     → (snapshot ((run t room (emptyWith c)) .store) ≡ snapshot ((run u room′ (emptyWith c′)) .store)) ↔ Same ((run t room (emptyWith c)) .store) ((run u room′ (emptyWith c′)) .store)
-snapshots-of-runs t u room room′ c c′ ht hu l l′ =
-    snapshots-of-sound ((run t room (emptyWith c)) .store) ((run u room′ (emptyWith c′)) .store) (run-sound t room c ht l) (run-sound u room′ c′ hu l′)
+snapshots-of-runs t u room room′ c c′ ht hu w l l′ =
+    let e : SameWidth ((run t room (emptyWith c)) .store) ((run u room′ (emptyWith c′)) .store) =
+    ap (λ (x : Settings). x .valueBytes) (run-settings (emptyWith c′) u room′ hu) ∙ from-width c′ ∙ w ∙ sym (from-width c) ∙ sym (ap (λ (x : Settings). x .valueBytes) (run-settings (emptyWith c) t room ht)) in
+    snapshots-of-sound ((run t room (emptyWith c)) .store) ((run u room′ (emptyWith c′)) .store) e (run-sound t room c ht l) (run-sound u room′ c′ hu l′)

@@ -9,10 +9,10 @@ use native.Mathlib.Nat.{pow-suc, one-le-pow}
 use borrow.Author.Tests.{ltb-false, leb-false, not-false, le-leb}
 use lib.Dec.{ltb, leb, lit<}
 use lib.ListN.{length, take, drop, getD, length-take, length-drop}
-use Rattle.model.specs.Numbers.{LAST-CALLER, LAST-KIND, LIST-CAPACITY, MAX-GROUP-ARITY, MAX-GROUP-COUNT, VALUE-BYTES}
+use Rattle.model.specs.Numbers.{LAST-CALLER, LAST-KIND, LIST-CAPACITY, MAX-GROUP-ARITY, MAX-GROUP-COUNT}
 use Rattle.model.specs.Model.{isLive, addsNothing, joins, withGroup, groupsOf, freeNumbers}
 use Rattle.model.specs.Store.{Bytes, Settings, Store, emptyWith, number, stagedKinds, isKind, withControl, counted, emptyStaged, emptyBoth}
-use Rattle.model.specs.Commands.{Command, REG, HOLD, NEW, PUT, TAKE, DROP, KILL, WIPE, GROUP, APPLY, BAR, RANGE, EMPTY, TALLY, TRAY, SETCALLER, Done, accepted, widths, width, commands, commandAt}
+use Rattle.model.specs.Commands.{Command, REG, HOLD, NEW, PUT, TAKE, DROP, KILL, WIPE, GROUP, APPLY, BAR, RANGE, EMPTY, TALLY, TRAY, SETCALLER, Done, accepted, widths, width, commands, commandAt, commandOn, operandsLen}
 use Rattle.model.specs.Refusals.{firstLine, linesOf, beforeLines, NoneHolds}
 use Rattle.model.specs.Run.{Outcome, refuses, accepts, does, Step, stops, goes, stepOf, stepIf, step, Ran, halt, more, runFor, run}
 use Rattle.model.specs.History.{trailFor, trail, EachStore}
@@ -23,6 +23,7 @@ use Rattle.model.proofs.Draft.{withGroup-sound}
 use Rattle.model.proofs.Operations.{control-of, control-sound, register-sound, insert-sound, remove-sound, kill-sound, clearAll-sound, setLayout-sound, stage-sound, exclude-sound, draft-sound, emptyStaged-sound, emptied, emptyBoth-sound, counted-sound, caller-sound, no-draft, empty-sound}
 use Rattle.model.proofs.Lines.{none-to, outcome-case}
 use Rattle.model.proofs.Extending.{new-sound, tray-sound}
+use Rattle.model.proofs.Widths.{width-least}
 use Rattle.model.specs.Theorems.{DraftSound, Fits, OutSound}
 
 -- ---- accepted commands
@@ -34,7 +35,7 @@ module _ (s : Store) (S : StoreSound s) where
   both-emptied : StoreSound (withControl s (emptyBoth (s .control)))
   both-emptied = control-sound s S (emptyBoth (s .control)) (emptyBoth-sound (s .kinds) (s .control) (control-of s S))
 
-accepted-sound : (c : Command) (s : Store) → Fits VALUE-BYTES c → StoreSound s → NoneHolds (linesOf c) s → StoreSound ((accepted c s) .store)
+accepted-sound : (c : Command) (s : Store) → Fits (s .settings .valueBytes) c → StoreSound s → NoneHolds (linesOf c) s → StoreSound ((accepted c s) .store)
 unfolding accepted linesOf
 accepted-sound (REG k) s f S n =
     cond-case (λ (d : Done). StoreSound (d .store)) (isKind k s) _ _ (λ t. S)
@@ -62,7 +63,7 @@ accepted-sound (SETCALLER c) s f S n = control-sound s S _ (caller-sound (s .kin
 accepted-sound (TRAY k) s f S n = tray-sound k s S (ltb-false (freeNumbers (s .settings .capacity) (s .entities)) k (n .0))
 
 -- every command keeps a sound store sound
-pub does-sound : (c : Command) (s : Store) → Fits VALUE-BYTES c → StoreSound s → OutSound (does c s)
+pub does-sound : (c : Command) (s : Store) → Fits (s .settings .valueBytes) c → StoreSound s → OutSound (does c s)
 unfolding does
 does-sound c s f S = outcome-case OutSound (firstLine (linesOf c) s) (accepted c s) (λ n e. tt) (λ e. accepted-sound c s f S (none-to (linesOf c) s e))
 
@@ -129,8 +130,8 @@ stepOf-sound w s (accepts s′ a) S h = h
 pub step-sound : (b : ℕ) (t : List ℕ) (room : ℕ) (s : Store) → Bytes t → StoreSound s → After StoreSound (step b t room s)
 unfolding step
 step-sound b t room s h S =
-    stepIf-after StoreSound (firstLine beforeLines (record { byte = b; rest = t; room = room; store = s })) (stepOf (suc (width VALUE-BYTES b)) s (does (commandAt b (take (width VALUE-BYTES b) t)) s))
-    (stepOf-sound (suc (width VALUE-BYTES b)) s (does (commandAt b (take (width VALUE-BYTES b) t)) s) S (does-sound (commandAt b (take (width VALUE-BYTES b) t)) s (tape-fits VALUE-BYTES b t (omega arith) h) S))
+    stepIf-after StoreSound (firstLine beforeLines (record { byte = b; rest = t; room = room; store = s })) (stepOf (suc (operandsLen b s)) s (does (commandOn b t s) s))
+    (stepOf-sound (suc (operandsLen b s)) s (does (commandOn b t s) s) S (does-sound (commandOn b t s) s (tape-fits (s .settings .valueBytes) b t (width-least (s .settings .valueBytes) (S .limits .width)) h) S))
 
 -- what each step keeps, holds of the stores after the commands of a run, and of the one that it leaves
 module _ (P : Store → Type 0) (keeps : (b : ℕ) (t : List ℕ) (room : ℕ) (s : Store) → Bytes t → P s → After P (step b t room s)) where
@@ -171,8 +172,8 @@ pub trail-keeps : (t : List ℕ) (room : ℕ) (s : Store) → Bytes t → StoreS
 trail-keeps = each-keeps StoreSound step-sound
 
 -- from an empty store, under either rule
-pub run-sound : (t : List ℕ) (room : ℕ) (c : Settings) → Bytes t → Limits (c .capacity) (c .kindCapacity) → StoreSound ((run t room (emptyWith c)) .store)
+pub run-sound : (t : List ℕ) (room : ℕ) (c : Settings) → Bytes t → Limits (c .capacity) (c .kindCapacity) (c .valueBytes) → StoreSound ((run t room (emptyWith c)) .store)
 run-sound t room c h l = run-keeps t room (emptyWith c) h (empty-sound c l)
 
-pub trail-sound : (t : List ℕ) (room : ℕ) (c : Settings) → Bytes t → Limits (c .capacity) (c .kindCapacity) → EachStore StoreSound (trail t room (emptyWith c))
+pub trail-sound : (t : List ℕ) (room : ℕ) (c : Settings) → Bytes t → Limits (c .capacity) (c .kindCapacity) (c .valueBytes) → EachStore StoreSound (trail t room (emptyWith c))
 trail-sound t room c h l = trail-keeps t room (emptyWith c) h (empty-sound c l)

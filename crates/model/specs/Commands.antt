@@ -5,7 +5,7 @@ use mathlib.Core.List.{List, [], _∷_, _++_}
 use Prim.Native.Nat.{ℕ, _+_, _*_}
 use lib.Dec.{leb}
 use lib.ListN.{length, take, drop, getD}
-use Rattle.model.specs.Numbers.{LAST-COMMAND, VALUE-BYTES}
+use Rattle.model.specs.Numbers.{LAST-COMMAND}
 use Rattle.model.specs.Model.{Entity, SparseSet, Storage, Range, none, found, noRow, setOf, at, held, insertComponents, remove, clearAll, setLayout, rangeUnder, addsNothing, withGroup, create, extend, destroy}
 use Rattle.model.specs.Store.{Store, bytesOf, number, stagedKinds, isKind, withControl, withStorage, withAll, withKinds, emptyStaged, emptyBoth, withStaged, withExcluded, withDraft, withCaller, ownRefusals}
 
@@ -24,7 +24,7 @@ pub data Command : Type 0 where
 -- ---- reading a command off the tape: "One command byte, then operands"
 
 -- "Operand widths: a constant table by command byte", from byte 0, which is no command; of TRAY "count 2 bytes", of SETCALLER "caller 1 byte". Here and
--- below v is the number of bytes of a value: HOLD's operands are "kind 1, value 8".
+-- below v is the number of bytes of a value: HOLD's operands are "kind 1, value 8"; 02, No. 13: "HOLD, TAKE .. follow it".
 abbrev pub widths : ℕ → List ℕ
 widths v = 0 ∷ 1 ∷ (1 + v) ∷ 0 ∷ 8 ∷ 8 ∷ 8 ∷ 8 ∷ 0 ∷ 0 ∷ 0 ∷ 1 ∷ 0 ∷ 0 ∷ 0 ∷ 2 ∷ 1 ∷ []
 
@@ -65,6 +65,14 @@ commands ops =
 abbrev pub commandAt : ℕ → List ℕ → Command
 commandAt b ops = getD (commands ops) b TALLY
 
+-- how many operand bytes it has in the store s, by the bytes of a value there
+abbrev pub operandsLen : ℕ → Store → ℕ
+operandsLen b s = width (s .settings .valueBytes) b
+
+-- and the command, with the tape t after its byte
+abbrev pub commandOn : ℕ → List ℕ → Store → Command
+commandOn b t s = commandAt b (take (operandsLen b s) t)
+
 -- ---- answers
 
 -- TAKE: "for each in hand order 1 byte held, value 8 (zeros if not held)"
@@ -84,23 +92,23 @@ rangeBytes none = 0 ∷ bytesOf 4 0 ++ bytesOf 4 0
 rangeBytes (found a b) = 1 ∷ bytesOf 4 a ++ bytesOf 4 b
 
 -- how many bytes "the accepted answer .. takes", its 0 byte with them
-abbrev pub answerLength : ℕ → Command → Store → ℕ
-answerLength v (REG k) s = 2
-answerLength v (HOLD k x) s = 1
-answerLength v NEW s = 9
-answerLength v (PUT e) s = 1
-answerLength v (TAKE e) s = 1 + (1 + v) * length (s .control .staged)
-answerLength v (DROP e) s = 1
-answerLength v (KILL e) s = 1
-answerLength v WIPE s = 1
-answerLength v GROUP s = 2
-answerLength v APPLY s = 1
-answerLength v (BAR k) s = 1
-answerLength v RANGE s = 10
-answerLength v EMPTY s = 1
-answerLength v TALLY s = 5
-answerLength v (TRAY n) s = 3
-answerLength v (SETCALLER c) s = 1
+abbrev pub answerLength : Command → Store → ℕ
+answerLength (REG k) s = 2
+answerLength (HOLD k x) s = 1
+answerLength NEW s = 9
+answerLength (PUT e) s = 1
+answerLength (TAKE e) s = 1 + (1 + s .settings .valueBytes) * length (s .control .staged)
+answerLength (DROP e) s = 1
+answerLength (KILL e) s = 1
+answerLength WIPE s = 1
+answerLength GROUP s = 2
+answerLength APPLY s = 1
+answerLength (BAR k) s = 1
+answerLength RANGE s = 10
+answerLength EMPTY s = 1
+answerLength TALLY s = 5
+answerLength (TRAY n) s = 3
+answerLength (SETCALLER c) s = 1
 
 -- ---- accepted commands
 
@@ -128,7 +136,7 @@ accepted NEW s =
 -- "insert the hand"
 accepted (PUT e) s = done (withControl (withStorage s (insertComponents e (s .control .staged) (s .storage))) (emptyStaged (s .control))) []
 -- "remove the hand's kinds; for each in hand order 1 byte held, value 8 (zeros if not held)"
-accepted (TAKE e) s = done (withControl (withStorage s (remove e (stagedKinds s) (s .storage))) (emptyStaged (s .control))) (heldBytes VALUE-BYTES e (stagedKinds s) (s .storage))
+accepted (TAKE e) s = done (withControl (withStorage s (remove e (stagedKinds s) (s .storage))) (emptyStaged (s .control))) (heldBytes (s .settings .valueBytes) e (stagedKinds s) (s .storage))
 -- "remove, no values"
 accepted (DROP e) s = done (withControl (withStorage s (remove e (stagedKinds s) (s .storage))) (emptyStaged (s .control))) []
 -- "destroy"; "A destroyed card leaves all groups this way, highest first." Here the families come first to last, and in each its largest group first:

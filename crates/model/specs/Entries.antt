@@ -6,7 +6,7 @@ use mathlib.Core.Option.{Option, some, none}
 use mathlib.Core.List.{List, [], _∷_, _++_, map}
 use Prim.Native.Nat.{ℕ, zero, suc, _/_, _%_}
 use lib.ListN.{length, take, drop}
-use Rattle.model.specs.Numbers.{VALUE-WORDS}
+use Rattle.model.specs.Numbers.{strideOf}
 use Rattle.model.specs.Model.{Entity, Row, SparseSet, setOf, keys}
 use Rattle.model.specs.Store.{Settings, Store, older, emptyWith}
 use Rattle.model.specs.Snapshot.{snapshot}
@@ -26,13 +26,13 @@ startedBy none s = makes s
 
 -- what the lines look at, of the settings and how many words are lent: no line is of the rule
 abbrev pub startTold : Settings → ℕ → StartTold
-startTold c words = record { capacity = c .capacity; kindCapacity = c .kindCapacity; words = words }
+startTold c words = record { capacity = c .capacity; kindCapacity = c .kindCapacity; valueBytes = c .valueBytes; words = words }
 
--- 02, No. 8: "A store may be started under the newer rule, told by a bool"
+-- 02, No. 8: "A store may be started under the newer rule, told by a bool"; No. 13: "with part width 8 or 16"
 unfoldable pub startWith : Settings → ℕ → Started
 startWith c words = startedBy (firstLine startLines (startTold c words)) (emptyWith c)
 
--- 01's *start*, told N and K: the older rule
+-- 01's *start*, told N and K: eight bytes, the older rule
 abbrev pub start : ℕ → ℕ → ℕ → Started
 start n k words = startWith (older n k) words
 
@@ -62,10 +62,15 @@ rowValue r = r .value
 abbrev pub part : {A : Type 0} → ℕ → ℕ → List A → List A
 part a e l = drop a (take e l)
 
--- the words that column hands back, of the entities (which = false) or of the values (which = true)
-abbrev pub partWords : Bool → ℕ → ℕ → SparseSet → List ℕ
-partWords false a e rows = entityWords (part a e (keys rows))
-partWords true a e rows = valueWords VALUE-WORDS (part a e (map rowValue rows))
+-- the words that column hands back, of the entities (which = false) or of the values (which = true), which have v bytes
+abbrev pub partWords : ℕ → Bool → ℕ → ℕ → SparseSet → List ℕ
+partWords v false a e rows = entityWords (part a e (keys rows))
+partWords v true a e rows = valueWords (strideOf v) (part a e (map rowValue rows))
+
+-- how many for each row
+abbrev pub itemWords : ℕ → Bool → ℕ
+itemWords v false = 2
+itemWords v true = strideOf v
 
 -- "a second entry with the same operands gives column's number, 0 if accepted"
 unfoldable pub columnRefusal : ℕ → ℕ → ℕ → Store → Option ℕ
@@ -78,7 +83,7 @@ columnBy none w = w
 
 -- "A refused column is the empty part at the front"
 unfoldable pub column : Bool → ℕ → ℕ → ℕ → Store → List ℕ
-column which k a e s = columnBy (columnRefusal k a e s) (partWords which a e (setOf (s .storage .sets) k))
+column which k a e s = columnBy (columnRefusal k a e s) (partWords (s .settings .valueBytes) which a e (setOf (s .storage .sets) k))
 
 -- ---- an entry that writes bytes
 

@@ -232,7 +232,7 @@ eleven-stops = refl
 
 unfoldable pub newerStore : Store
 unfolding exampleTape run runFor step does accepted linesOf emptyWith insertComponents groupTouched groupFamily groupComponents setLayout regroup groupAll create
-newerStore = afterTape exampleTape (emptyWith (told 64 8 true))
+newerStore = afterTape exampleTape (emptyWith (told 64 8 8 true))
 
 -- and both with "the larger group's ring" of one kind: groups {1,2}, then {1,2,3}
 abbrev pub oneRingTape : List ℕ

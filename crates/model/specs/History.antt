@@ -6,11 +6,10 @@ use mathlib.Core.List.{List, [], _∷_}
 use Prim.Native.Nat.{ℕ, zero, suc, _+_, _-_}
 use lib.Dec.{eqb, leb}
 use lib.ListN.{length, take, drop}
-use Rattle.model.specs.Numbers.{VALUE-BYTES}
 use Rattle.model.specs.Model.{isLive, lastVersion}
 use Rattle.model.specs.Lists.{one}
 use Rattle.model.specs.Store.{Store, oneMore}
-use Rattle.model.specs.Commands.{Command, REG, HOLD, NEW, PUT, TAKE, DROP, KILL, WIPE, GROUP, APPLY, BAR, RANGE, EMPTY, TALLY, TRAY, SETCALLER, width, commandAt}
+use Rattle.model.specs.Commands.{Command, REG, HOLD, NEW, PUT, TAKE, DROP, KILL, WIPE, GROUP, APPLY, BAR, RANGE, EMPTY, TALLY, TRAY, SETCALLER, commandOn}
 use Rattle.model.specs.Run.{Outcome, refuses, accepts, does, stops, goes, step}
 
 -- the store after each command of a run, in order
@@ -52,7 +51,7 @@ retiredFor (suc fuel) [] room s = 0
 retiredFor (suc fuel) (b ∷ t) room s =
     elim (step b t room s) as (λ p. ℕ) [
       | stops n ↦ 0
-      | goes w a s′ ↦ retires (commandAt b (take (width VALUE-BYTES b) t)) s + retiredFor fuel (drop w (b ∷ t)) (room - length a) s′
+      | goes w a s′ ↦ retires (commandOn b t s) s + retiredFor fuel (drop w (b ∷ t)) (room - length a) s′
     ]
 
 unfoldable pub retired : List ℕ → ℕ → Store → ℕ
@@ -75,7 +74,7 @@ refusedFor p (suc fuel) [] room s = 0
 refusedFor p (suc fuel) (b ∷ t) room s =
     elim (step b t room s) as (λ q. ℕ) [
       | stops n ↦ 0
-      | goes w a s′ ↦ refusedOne p (commandAt b (take (width VALUE-BYTES b) t)) s + refusedFor p fuel (drop w (b ∷ t)) (room - length a) s′
+      | goes w a s′ ↦ refusedOne p (commandOn b t s) s + refusedFor p fuel (drop w (b ∷ t)) (room - length a) s′
     ]
 
 -- c is the caller
@@ -130,7 +129,7 @@ callsFor (suc fuel) [] room s = 0
 callsFor (suc fuel) (b ∷ t) room s =
     elim (step b t room s) as (λ p. ℕ) [
       | stops n ↦ 0
-      | goes w a s′ ↦ callOne (callsTo (commandAt b (take (width VALUE-BYTES b) t))) + callsFor fuel (drop w (b ∷ t)) (room - length a) s′
+      | goes w a s′ ↦ callOne (callsTo (commandOn b t s)) + callsFor fuel (drop w (b ∷ t)) (room - length a) s′
     ]
 
 unfoldable pub calls : List ℕ → ℕ → Store → ℕ

@@ -14,4 +14,5 @@ pub mod History
 pub mod Sound
 pub mod Shown
 pub mod Examples
+pub mod Wide
 pub mod Theorems

@@ -1,6 +1,6 @@
 -- The numbers of the papers, by name: the limits, the words that things take, the commands, the refusals. The code has the same names (src/lib.rt,
 -- src/commands.rt, src/refusals.rt), with underscores for hyphens; a command's byte is `REG-BYTE` here, since `REG` is the command. Assumes nothing.
-use Prim.Native.Nat.{ℕ, _+_, _*_}
+use Prim.Native.Nat.{ℕ, _+_, _*_, _/_}
 
 -- ---- limits
 
@@ -38,15 +38,18 @@ CALLERS = 16
 abbrev pub LAST-CALLER : ℕ
 LAST-CALLER = 15
 
--- "A part is a card's value of one kind, eight bytes."
+-- "A part is a card's value of one kind, eight bytes."; 02, No. 13: "part width 8 or 16"
 abbrev pub VALUE-BYTES : ℕ
 VALUE-BYTES = 8
 
--- a value in words: "values (low word, high word)"
-abbrev pub VALUE-WORDS : ℕ
-VALUE-WORDS = 2
+abbrev pub LONG-VALUE-BYTES : ℕ
+LONG-VALUE-BYTES = 16
 
--- ---- a store "needs 1,024 + 16 × N + K × (8 + 6 × N) words"
+-- the words of a value of v bytes, four bytes each: "values (low word, high word)"; 02, No. 13: "value columns (four words)"
+abbrev pub strideOf : ℕ → ℕ
+strideOf v = v / 4
+
+-- ---- a store "needs 1,024 + 16 × N + K × (8 + 6 × N) words"; 02, No. 13: "1,024 + 16 × N + K × (8 + 8 × N) at width 16"
 
 -- the header, and the words for each entity
 abbrev pub HEADER-LEN : ℕ
@@ -55,16 +58,19 @@ HEADER-LEN = 1024
 abbrev pub ENTITY-LEN : ℕ
 ENTITY-LEN = 16
 
--- a column: its head, and the words for each entity
+-- a column: its head, and the words for each entity, four and its value's
 abbrev pub COLUMN-HEAD : ℕ
 COLUMN-HEAD = 8
 
-abbrev pub ROW-LEN : ℕ
-ROW-LEN = 6
+abbrev pub LINKS-LEN : ℕ
+LINKS-LEN = 4
 
--- the words of a column in a store of capacity n
-abbrev pub columnLen : ℕ → ℕ
-columnLen n = COLUMN-HEAD + ROW-LEN * n
+abbrev pub rowLen : ℕ → ℕ
+rowLen v = LINKS-LEN + strideOf v
+
+-- the words of a column in a store of capacity n, its values of v bytes
+abbrev pub columnLen : ℕ → ℕ → ℕ
+columnLen n v = COLUMN-HEAD + rowLen v * n
 
 -- ---- commands by their byte
 

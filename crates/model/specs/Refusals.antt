@@ -7,10 +7,10 @@ use mathlib.Core.List.{List, [], _∷_, _++_}
 use Prim.Native.Nat.{ℕ}
 use lib.Dec.{eqb, leb, ltb}
 use lib.ListN.{length, take}
-use Rattle.model.specs.Numbers.{CALLER, HANDFUL, KIND, LAST-CALLER, LAST-KIND, LIST-CAPACITY, MANY, MAX-ENTITIES, MAX-GROUP-ARITY, MAX-GROUP-COUNT, MAX-KINDS, SIZE, WIDE, SHORT, UNSOUND, UNKNOWN, CUT, NOROOM, KINDS, AGAIN, DEAD, FULL, CLASH, BEYOND, VALUE-BYTES}
+use Rattle.model.specs.Numbers.{CALLER, HANDFUL, KIND, LAST-CALLER, LAST-KIND, LIST-CAPACITY, MANY, MAX-ENTITIES, MAX-GROUP-ARITY, MAX-GROUP-COUNT, MAX-KINDS, SIZE, WIDE, SHORT, UNSOUND, UNKNOWN, CUT, NOROOM, KINDS, AGAIN, DEAD, FULL, CLASH, BEYOND, VALUE-BYTES, LONG-VALUE-BYTES}
 use Rattle.model.specs.Model.{Entity, mem, setOf, groupsOf, addsNothing, joins, isFull, freeNumbers, isLive}
 use Rattle.model.specs.Store.{Store, stagedKinds, isKind, refusalsBy, wordsNeeded}
-use Rattle.model.specs.Commands.{Command, REG, HOLD, NEW, PUT, TAKE, DROP, KILL, WIPE, GROUP, APPLY, BAR, RANGE, EMPTY, TALLY, TRAY, SETCALLER, width, isCommand, commandAt, answerLength}
+use Rattle.model.specs.Commands.{Command, REG, HOLD, NEW, PUT, TAKE, DROP, KILL, WIPE, GROUP, APPLY, BAR, RANGE, EMPTY, TALLY, TRAY, SETCALLER, width, isCommand, answerLength, commandOn, operandsLen}
 use Rattle.model.specs.Snapshot.{snapshot}
 
 -- ---- lines
@@ -50,18 +50,30 @@ numberOf (some n) = n
 
 -- ---- start
 
--- what start is told: N, K, and how many words are lent
+-- what start is told: N, K, the bytes of a value, and how many words are lent
 pub record StartTold : Type 0 where
   pub capacity : ℕ
   pub kindCapacity : ℕ
+  pub valueBytes : ℕ
   pub words : ℕ
+
+-- not 1 to most
+abbrev pub outside : ℕ → ℕ → Bool
+outside n most = eqb n 0 || ltb most n
+
+-- neither 8 nor 16
+abbrev pub otherWidth : ℕ → Bool
+otherWidth v = not (eqb v VALUE-BYTES || eqb v LONG-VALUE-BYTES)
+
+abbrev pub outsize : ℕ → ℕ → ℕ → Bool
+outsize n k v = outside n MAX-ENTITIES || (outside k MAX-KINDS || otherWidth v)
 
 abbrev pub startLines : List (Line StartTold)
 startLines =
-    -- "N not 1 to 4,096 or K not 1 to 128"
-    line SIZE (λ l. (eqb (l .capacity) 0 || ltb MAX-ENTITIES (l .capacity)) || (eqb (l .kindCapacity) 0 || ltb MAX-KINDS (l .kindCapacity)))
+    -- "N not 1 to 4,096 or K not 1 to 128"; 02, No. 13: "1 also for another width, before all else"
+    line SIZE (λ l. outsize (l .capacity) (l .kindCapacity) (l .valueBytes))
     -- "too few words"
-    ∷ line SHORT (λ l. ltb (l .words) (wordsNeeded (l .capacity) (l .kindCapacity)))
+    ∷ line SHORT (λ l. ltb (l .words) (wordsNeeded (l .capacity) (l .kindCapacity) (l .valueBytes)))
     ∷ []
 
 -- ---- other entries, first: told whether the lent words are sound
@@ -83,16 +95,16 @@ pub record BeforeCommand : Type 0 where
 
 -- the command that is to be done
 abbrev pub commandOf : BeforeCommand → Command
-commandOf r = commandAt (r .byte) (take (width VALUE-BYTES (r .byte)) (r .rest))
+commandOf r = commandOn (r .byte) (r .rest) (r .store)
 
 abbrev pub beforeLines : List (Line BeforeCommand)
 beforeLines =
     -- "byte not 01 to 0E"; 02, No. 7: "4 begins above 10"
     line UNKNOWN (λ r. not (isCommand (r .byte)))
     -- "operands incomplete"
-    ∷ line CUT (λ r. ltb (length (r .rest)) (width VALUE-BYTES (r .byte)))
+    ∷ line CUT (λ r. ltb (length (r .rest)) (operandsLen (r .byte) (r .store)))
     -- "fewer free bytes than the accepted answer .. takes"
-    ∷ line NOROOM (λ r. ltb (r .room) (answerLength VALUE-BYTES (commandOf r) (r .store)))
+    ∷ line NOROOM (λ r. ltb (r .room) (answerLength (commandOf r) (r .store)))
     ∷ []
 
 -- ---- roll

@@ -3,9 +3,8 @@ use mathlib.Core.Option.{Option, some, none}
 use mathlib.Core.List.{List, [], _∷_, _++_}
 use Prim.Native.Nat.{ℕ, zero, suc, _+_, _-_}
 use lib.ListN.{length, drop}
-use Rattle.model.specs.Numbers.{VALUE-BYTES}
 use Rattle.model.specs.Store.{Store, counted, withControl}
-use Rattle.model.specs.Commands.{Command, Done, accepted, width}
+use Rattle.model.specs.Commands.{Command, Done, accepted, operandsLen}
 use Rattle.model.specs.Refusals.{firstLine, linesOf, BeforeCommand, commandOf, beforeLines}
 
 -- what a command does: it is refused by a number, or accepted with the store after it and the answer after the 0 byte
@@ -52,7 +51,7 @@ stepIf none p = p
 unfoldable pub step : ℕ → List ℕ → ℕ → Store → Step
 step b t room s =
     let r : BeforeCommand = record { byte = b; rest = t; room = room; store = s } in
-    stepIf (firstLine beforeLines r) (stepOf (suc (width VALUE-BYTES b)) s (does (commandOf r) s))
+    stepIf (firstLine beforeLines r) (stepOf (suc (operandsLen b s)) s (does (commandOf r) s))
 
 -- ---- a run
 

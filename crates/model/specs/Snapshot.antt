@@ -7,7 +7,6 @@ use mathlib.Core.List.{List, [], _∷_, _++_}
 use Prim.Native.Nat.{ℕ, zero, suc, _≤_}
 use lib.Dec.{eqb}
 use lib.ListN.{length, getD}
-use Rattle.model.specs.Numbers.{VALUE-BYTES}
 use Rattle.model.specs.Lists.{countOf}
 use Rattle.model.specs.Model.{Entity, SparseSet, Component, sameEntity, noRow, at, held, setOf}
 use Rattle.model.specs.Store.{Store, bytesOf}
@@ -46,7 +45,7 @@ abbrev pub entries : ℕ → ℕ → List Entity → List SparseSet → List Ent
 entries i zero live sets = []
 entries i (suc n) live sets = entryOf (liveVersion i live) i sets ++ entries (suc i) n live sets
 
--- "kind 1, value 8"; here and below v is the number of bytes of a value
+-- "kind 1, value 8"; here and below v is the number of bytes of a value, which rolls "follow"
 abbrev pub componentBytes : ℕ → List Component → List ℕ
 componentBytes v [] = []
 componentBytes v (p ∷ ps) = p .kind ∷ bytesOf v (p .value) ++ componentBytes v ps
@@ -66,9 +65,13 @@ listing s = entries 0 (s .entities .issued) (s .entities .live) (s .storage .set
 
 -- "live count 4, then each live card"
 unfoldable pub snapshot : Store → List ℕ
-snapshot s = bytesOf 4 (length (s .entities .live)) ++ flat VALUE-BYTES (listing s)
+snapshot s = bytesOf 4 (length (s .entities .live)) ++ flat (s .settings .valueBytes) (listing s)
 
 -- ---- what two equal snapshots say
+
+-- 02, No. 13: "A roll's bytes don't tell its width, so demand 3's rule of equal rolls .. is for two stores of one width"
+abbrev pub SameWidth : Store → Store → Type 0
+SameWidth s t = t .settings .valueBytes ≡ s .settings .valueBytes
 
 -- the same entities are live, and each has the same value, or none, at each kind
 pub record Same (s t : Store) : Type 0 where

@@ -1,12 +1,13 @@
 -- When a store of the model is sound: 01's paragraph "A sound store has ..", clause by clause. Assumes nothing.
 -- Three clauses are of words alone ("enough words for them", "each with a column of its own", "lookups that agree") and stand where the words are read.
 use mathlib.Core.Path.{_≡_}
+use mathlib.Core.Logic.{_⊎_}
 use mathlib.Core.Bool.{true, false, cond}
 use mathlib.Core.List.{List, [], _∷_, _++_, map}
 use Prim.Native.Nat.{ℕ, _+_, _^_, _≤_, _<_}
 use lib.Dec.{eqb}
 use lib.ListN.{length, take, drop, getD}
-use Rattle.model.specs.Numbers.{CALLERS, LAST-CALLER, LIST-CAPACITY, MAX-ENTITIES, MAX-GROUP-ARITY, MAX-GROUP-COUNT, MAX-KINDS, MAX-REFUSALS, VALUE-BYTES}
+use Rattle.model.specs.Numbers.{CALLERS, LAST-CALLER, LIST-CAPACITY, MAX-ENTITIES, MAX-GROUP-ARITY, MAX-GROUP-COUNT, MAX-KINDS, MAX-REFUSALS, VALUE-BYTES, LONG-VALUE-BYTES}
 use Rattle.model.specs.Lists.{countOf}
 use Rattle.model.specs.Model.{Entity, Entities, SparseSet, Component, Family, sameEntity, noRow, mem, setOf, keys, kindOf, kindsOf, groupsOf, allHeld, lastVersion}
 use Rattle.model.specs.Store.{Counts, Store}
@@ -37,7 +38,7 @@ Distinct ks = (k : ℕ) → countOf eqb k ks ≤ 1
 abbrev pub key : List SparseSet → ℕ → List Entity
 key sets k = keys (setOf sets k)
 
--- "A part is a card's value of one kind, eight bytes.": the value x is of v bytes
+-- "A part is a card's value of one kind, eight bytes.", or sixteen: the value x is of v bytes
 abbrev pub ValueFits : ℕ → ℕ → Type 0
 ValueFits v x = x < 256 ^ v
 
@@ -45,13 +46,17 @@ ValueFits v x = x < 256 ^ v
 abbrev pub noComponent : Component
 noComponent = record { kind = 0; value = 0 }
 
--- ---- "N and K within the limits of refusal 1": N from 1 to 4,096, K from 1 to 128
+-- ---- "N and K within the limits of refusal 1": N from 1 to 4,096, K from 1 to 128. 02, No. 13: "part width 8 or 16, and a sound one has one of the two"
 
-pub record Limits (n k : ℕ) : Type 0 where
+abbrev pub EightOrSixteen : ℕ → Type 0
+EightOrSixteen v = (v ≡ VALUE-BYTES) ⊎ (v ≡ LONG-VALUE-BYTES)
+
+pub record Limits (n k v : ℕ) : Type 0 where
   pub some : 1 ≤ n
   pub most : n ≤ MAX-ENTITIES
   pub someKinds : 1 ≤ k
   pub mostKinds : k ≤ MAX-KINDS
+  pub width : EightOrSixteen v
 
 -- ---- "at most K registered kinds"; "A kind is a number 0 to 127."
 
@@ -170,11 +175,11 @@ AllRight sets live (f ∷ fs) = RightFrom sets live [] f × AllRight sets live f
 
 -- "A sound store", but for the three clauses of words
 pub record StoreSound (s : Store) : Type 0 where
-  pub limits : Limits (s .settings .capacity) (s .settings .kindCapacity)
+  pub limits : Limits (s .settings .capacity) (s .settings .kindCapacity) (s .settings .valueBytes)
   pub kinds : KindsSound (s .settings .kindCapacity) (s .kinds)
   pub entities : EntitiesSound (s .settings .capacity) (s .entities)
-  pub sets : SetsSound VALUE-BYTES (s .kinds) (s .entities .live) (s .storage .sets)
-  pub staged : StagedSound VALUE-BYTES (s .kinds) (s .control .staged)
+  pub sets : SetsSound (s .settings .valueBytes) (s .kinds) (s .entities .live) (s .storage .sets)
+  pub staged : StagedSound (s .settings .valueBytes) (s .kinds) (s .control .staged)
   pub excluded : ExcludedSound (s .kinds) (s .control .excluded)
   pub draft : Buildable (s .kinds) (s .control .draft)
   pub uncounted : AllUncounted (s .control .draft)

@@ -4,7 +4,7 @@ use mathlib.Core.List.{List, [], _∷_, map}
 use Prim.Native.Nat.{ℕ, zero, suc, _+_, _*_, _/_, _%_, _<_}
 use lib.Dec.{ltb}
 use lib.ListN.{getD, replicate, set}
-use Rattle.model.specs.Numbers.{CALLERS, ENTITY-LEN, HEADER-LEN, MAX-KINDS, MAX-REFUSALS, columnLen}
+use Rattle.model.specs.Numbers.{CALLERS, ENTITY-LEN, HEADER-LEN, MAX-KINDS, MAX-REFUSALS, VALUE-BYTES, columnLen}
 use Rattle.model.specs.Model.{SparseSet, Family, Component, Storage, Entities, noEntities, mem, setOf, kindOf}
 
 -- ---- bytes: "numbers in bytes are little-endian"
@@ -43,20 +43,21 @@ pub record Control : Type 0 where
   pub draft : List Family
   pub counts : Counts
 
--- "A store .. has capacity N (cards) and K (kinds)": what a start is told, and nothing changes. 02, No. 8: "A store may be started under the newer rule,
--- told by a bool and fixed for its life": true is the newer, false the older
+-- "A store .. has capacity N (cards) and K (kinds)": what a start is told, and nothing changes. 02, No. 13: "A store is started with part width 8 or 16":
+-- the bytes of a value. No. 8: "A store may be started under the newer rule, told by a bool and fixed for its life": true is the newer, false the older
 pub record Settings : Type 0 where
   pub capacity : ℕ
   pub kindCapacity : ℕ
+  pub valueBytes : ℕ
   pub newer : Bool
 
--- N, K and the rule, as a start is told them
-abbrev pub told : ℕ → ℕ → Bool → Settings
-told n k newer = record { capacity = n; kindCapacity = k; newer = newer }
+-- N, K, the bytes of a value and the rule, as a start is told them
+abbrev pub told : ℕ → ℕ → ℕ → Bool → Settings
+told n k v newer = record { capacity = n; kindCapacity = k; valueBytes = v; newer = newer }
 
--- 01's start is told N and K: "Stores under the older rule keep 01's reading"
+-- 01's start is told N and K: "eight bytes"; "Stores under the older rule keep 01's reading"
 abbrev pub older : ℕ → ℕ → Settings
-older n k = told n k false
+older n k = told n k VALUE-BYTES false
 
 -- kinds are those registered, in the order of their registration
 pub record Store : Type 0 where
@@ -66,7 +67,8 @@ pub record Store : Type 0 where
   pub storage : Storage
   pub control : Control
 
--- "an empty store: N and K as told, no kind registered, no number issued, no groups, empty hand, bar and draft, tally 0"; the rule as told
+-- "an empty store: N and K as told, no kind registered, no number issued, no groups, empty hand, bar and draft, tally 0"; the bytes of a value and the
+-- rule as told
 unfoldable pub emptyWith : Settings → Store
 emptyWith c =
     record {
@@ -81,9 +83,9 @@ emptyWith c =
 abbrev pub empty : ℕ → ℕ → Store
 empty n k = emptyWith (older n k)
 
--- a store "needs 1,024 + 16 × N + K × (8 + 6 × N) words"
-unfoldable pub wordsNeeded : ℕ → ℕ → ℕ
-wordsNeeded n k = HEADER-LEN + ENTITY-LEN * n + k * columnLen n
+-- a store "needs 1,024 + 16 × N + K × (8 + 6 × N) words", "K × (8 + 8 × N) at width 16": v is the bytes of a value (needed-8, needed-16 in Wide)
+unfoldable pub wordsNeeded : ℕ → ℕ → ℕ → ℕ
+wordsNeeded n k v = HEADER-LEN + ENTITY-LEN * n + k * columnLen n v
 
 -- the hand's kinds, in its order
 abbrev pub stagedKinds : Store → List ℕ

@@ -5,15 +5,15 @@ use mathlib.Core.Bool.{Bool, true}
 use mathlib.Core.List.{List, [], _∷_}
 use Prim.Native.Nat.{ℕ, zero, suc, _≤_, _<_, _+_, _-_, _*_}
 use lib.ListN.{length, take}
-use Rattle.model.specs.Numbers.{CALLER, KIND, LAST-CALLER, LAST-KIND, MANY, MAX-REFUSALS, NOROOM, UNKNOWN, VALUE-BYTES}
+use Rattle.model.specs.Numbers.{CALLER, KIND, LAST-CALLER, LAST-KIND, MANY, MAX-REFUSALS, NOROOM, UNKNOWN}
 use Rattle.model.specs.Model.{Family, Component, Entities, setOf}
 use Rattle.model.specs.Adding.{Added, nothing, added, refused}
 use Rattle.model.specs.Store.{Counts, Control, Settings, Store, bytesOf, emptyWith, wordsNeeded, isKind, withControl, withStaged, withDraft, withCounts, withCaller, emptyStaged, refusalsBy, ownRefusals, counted}
-use Rattle.model.specs.Commands.{Command, REG, HOLD, NEW, PUT, TAKE, DROP, KILL, WIPE, GROUP, APPLY, BAR, RANGE, EMPTY, TALLY, TRAY, SETCALLER, width, commandAt, answerLength}
+use Rattle.model.specs.Commands.{Command, REG, HOLD, NEW, PUT, TAKE, DROP, KILL, WIPE, GROUP, APPLY, BAR, RANGE, EMPTY, TALLY, TRAY, SETCALLER, answerLength, commandOn, operandsLen}
 use Rattle.model.specs.Refusals.{Unchanged}
 use Rattle.model.specs.Run.{Outcome, refuses, accepts, storeAfter, does, Step, stops, goes, Ran}
 use Rattle.model.specs.History.{moreBy}
-use Rattle.model.specs.Entries.{partWords, column}
+use Rattle.model.specs.Entries.{itemWords, partWords, column}
 use Rattle.model.specs.Sound.{ValueFits, Limits, Buildable, AllUncounted, StagedSound, ExcludedSound, CountsSound, StoreSound}
 
 -- ---- parts of a sound store
@@ -124,11 +124,11 @@ IfGoes Q (goes w a s) = Q w a s
 
 -- a step reads the command's bytes, all of which the tape has, and writes the accepted answer or one byte, for which there is room
 pub record StepFits (b : ℕ) (t : List ℕ) (room : ℕ) (s : Store) (w : ℕ) (a : List ℕ) : Type 0 where
-  pub read : w ≡ suc (width VALUE-BYTES b)
+  pub read : w ≡ suc (operandsLen b s)
   pub whole : w ≤ suc (length t)
   pub fits : length a ≤ room
-  pub refused : (n : ℕ) → does (commandAt b (take (width VALUE-BYTES b) t)) s ≡ refuses n → length a ≡ 1
-  pub accepted : (s′ : Store) (x : List ℕ) → does (commandAt b (take (width VALUE-BYTES b) t)) s ≡ accepts s′ x → length a ≡ answerLength VALUE-BYTES (commandAt b (take (width VALUE-BYTES b) t)) s
+  pub refused : (n : ℕ) → does (commandOn b t s) s ≡ refuses n → length a ≡ 1
+  pub accepted : (s′ : Store) (x : List ℕ) → does (commandOn b t s) s ≡ accepts s′ x → length a ≡ answerLength (commandOn b t s) s
 
 -- ---- a run
 
@@ -188,15 +188,15 @@ pub record SameEmitted (o p o′ p′ : List ℕ) (n k m j : ℕ) : Type 0 where
 -- what an accepted start makes: the empty store, which is sound and for which the words are enough
 pub record Makes (c : Settings) (words : ℕ) (s : Store) : Type 0 where
   pub store : s ≡ emptyWith c
-  pub limits : Limits (c .capacity) (c .kindCapacity)
-  pub words-enough : wordsNeeded (c .capacity) (c .kindCapacity) ≤ words
+  pub limits : Limits (c .capacity) (c .kindCapacity) (c .valueBytes)
+  pub words-enough : wordsNeeded (c .capacity) (c .kindCapacity) (c .valueBytes) ≤ words
   pub sound : StoreSound s
 
--- an accepted one is the rows from start to end, two words each
+-- an accepted one is the rows from start to end: two words for each entity, a value's words for each value
 pub record Columned (which : Bool) (k a e : ℕ) (s : Store) : Type 0 where
   pub known : isKind k s ≡ true
   pub small : k ≤ LAST-KIND
   pub order : a ≤ e
   pub inside : e ≤ length (setOf (s .storage .sets) k)
-  pub words : column which k a e s ≡ partWords which a e (setOf (s .storage .sets) k)
-  pub size : length (column which k a e s) ≡ 2 * (e - a)
+  pub words : column which k a e s ≡ partWords (s .settings .valueBytes) which a e (setOf (s .storage .sets) k)
+  pub size : length (column which k a e s) ≡ itemWords (s .settings .valueBytes) which * (e - a)

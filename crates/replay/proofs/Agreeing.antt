@@ -10,8 +10,8 @@ use borrow.Author.Tests.{eqb-true}
 use lib.ListN.{length, getD, take, drop, length-append}
 use lib.Seq.{length-take-le}
 use denote.Ref.{RefT}
-use Rattle.model.specs.Store.{Store, older, empty}
-use Rattle.model.specs.Entries.{Started, refusesStart, makes, start, roll}
+use Rattle.model.specs.Store.{Settings, Store, emptyWith}
+use Rattle.model.specs.Entries.{Started, refusesStart, makes, startWith, roll}
 use Rattle.model.proofs.ListLaws.{front-of}
 use Rattle.model.proofs.Entries.{start-makes}
 use Rattle.model.proofs.BoolLaws.{and-left, and-right}
@@ -22,12 +22,12 @@ use Rattle.memory.specs.Meaning.{meaning}
 use Rattle.memory.specs.Arranged.{Sound}
 use Rattle.run.specs.declared.Ran.{Ran}
 use Rattle.store.specs.declared.Rolled.{Rolled}
-use Rattle.store.specs.Entries.{startNumber, Starts, StartLeaves, ColumnNumbered, ColumnPart, ranOf, Answered, RunLeaves, Runs, emittedOver, Rolls}
+use Rattle.store.specs.Entries.{startNumber, StartsWith, StartLeaves, ColumnNumbered, ColumnPart, ranOf, Answered, RunLeaves, Runs, emittedOver, Rolls}
 use Rattle.store.proofs.Starting.{start-number}
 use Rattle.store.proofs.Demands.{rolled-snapshot}
 use Rattle.replay.specs.declared.recorded.Step.{Step}
 use Rattle.replay.specs.declared.Tally.{Tally}
-use Rattle.replay.specs.Recorded.{short, tapeAt, numbersAt, RunRecorded, runAt, RunAgrees, RunsAgree, noRuns, moreRuns, RollAgrees, SameWords, SameColumn, ColumnAgrees, ColumnsAgree, noColumns, moreColumns, CaseAgrees, CasesAgree, noCases, moreCases}
+use Rattle.replay.specs.Recorded.{short, tapeAt, numbersAt, RunRecorded, runAt, RunAgrees, RunsAgree, noRuns, moreRuns, RollAgrees, SameWords, SameColumn, ColumnAgrees, ColumnsAgree, noColumns, moreColumns, toldAt, CaseAgrees, CasesAgree, noCases, moreCases}
 use Rattle.replay.specs.Agreement.{GaveSame, Compared, RolledSame, StepAgrees, CaseStepped, CountedCase, Replayed}
 use Rattle.words.proofs.Part.{part-size}
 use Rattle.model.specs.Run as model
@@ -141,34 +141,34 @@ same-column v r k n p q values b S h p0 l q16 c s =
       words = subst (λ (x : List ℕ). SameWords x b) (rw (decides-true (c .sound) (c .decides) S) at (c .words)) s;
     }
 
-pub column-agrees : (f w : List ℕ) (at n : ℕ) (a b : Bool) → n ≡ short f (at + 1) → at + 3 + 8 * n + 8 * n ≤ length f
+pub column-agrees : (f w : List ℕ) (at v n : ℕ) (a b : Bool) → n ≡ short f (at + 1) → at + 3 + 8 * n + v * n ≤ length f
     → (a ≡ true → Sound w → SameColumn (meaning w) (getD f at 0) false n (take (at + 3 + 8 * n - (at + 3)) (drop (at + 3) f)))
-    → (b ≡ true → Sound w → SameColumn (meaning w) (getD f at 0) true n (take (at + 3 + 8 * n + 8 * n - (at + 3 + 8 * n)) (drop (at + 3 + 8 * n) f)))
-    → StepAgrees f w w (record { at = at + 3 + 8 * n + 8 * n; agrees = a && b }) (λ e. ColumnAgrees f at (meaning w) e)
-column-agrees f w at n a b size fits h k =
+    → (b ≡ true → Sound w → SameColumn (meaning w) (getD f at 0) true n (take (at + 3 + 8 * n + v * n - (at + 3 + 8 * n)) (drop (at + 3 + 8 * n) f)))
+    → StepAgrees f w w (record { at = at + 3 + 8 * n + v * n; agrees = a && b }) (λ e. ColumnAgrees f at v (meaning w) e)
+column-agrees f w at v n a b size fits h k =
     record {
       within = fits;
       agreed = λ t S. (
         S,
         record {
           entities = rw (← size) (rw (part-size f (at + 3) (8 * n)) at (h (and-left a b t) S));
-          values = rw (← size) (rw (part-size f (at + 3 + 8 * n) (8 * n)) at (k (and-right a b t) S));
-          end = omega (arith, size);
+          values = rw (← size) (rw (part-size f (at + 3 + 8 * n) (v * n)) at (k (and-right a b t) S));
+          end = ap (λ (m : ℕ). at + 3 + 8 * m + v * m) size;
         },
       );
     }
 
 -- ---- a start
 
-started-zero : (n k m : ℕ) (x : Started) → start n k m ≡ x → startNumber x ≡ 0 → start n k m ≡ makes (empty n k)
-started-zero n k m (refusesStart r) e z = absurd (omega (arith, start-number (older n k) m r e .0, z))
-started-zero n k m (makes s) e z = e ∙ ap makes (start-makes (older n k) m s e .store)
+started-zero : (c : Settings) (m : ℕ) (x : Started) → startWith c m ≡ x → startNumber x ≡ 0 → startWith c m ≡ makes (emptyWith c)
+started-zero c m (refusesStart r) e z = absurd (omega (arith, start-number c m r e .0, z))
+started-zero c m (makes s) e z = e ∙ ap makes (start-makes c m s e .store)
 
-pub started : (n k : ℕ) (w w′ : List ℕ) (r : ℕ) → Starts n k w w′ r → r ≡ 0 → start n k (length w) ≡ makes (empty n k)
-started n k w w′ r h z = started-zero n k (length w) (start n k (length w)) refl (sym (h .number) ∙ z)
+pub started : (c : Settings) (w w′ : List ℕ) (r : ℕ) → StartsWith c w w′ r → r ≡ 0 → startWith c (length w) ≡ makes (emptyWith c)
+started c w w′ r h z = started-zero c (length w) (startWith c (length w)) refl (sym (h .number) ∙ z)
 
-pub fresh : (n k : ℕ) (w w′ : List ℕ) (r : ℕ) → Starts n k w w′ r → r ≡ 0 → Sound w′ × (meaning w′ ≡ empty n k)
-fresh n k w w′ r h z = subst (StartLeaves w w′) (started n k w w′ r h z) (h .leaves)
+pub fresh : (c : Settings) (w w′ : List ℕ) (r : ℕ) → StartsWith c w w′ r → r ≡ 0 → Sound w′ × (meaning w′ ≡ emptyWith c)
+fresh c w w′ r h z = subst (StartLeaves w w′) (started c w w′ r h z) (h .leaves)
 
 -- ---- one after another
 
@@ -184,12 +184,12 @@ more-runs f w₀ w w′ at i m a r h k =
       agreed = λ t S. let p = h .agreed (and-left a (r .agrees) t) S in let q = k .agreed (and-right a (r .agrees) t) (p .0) in (q .0, moreRuns (p .1) (q .1));
     }
 
-pub no-columns : (f w : List ℕ) (at : ℕ) → at ≤ length f → StepAgrees f w w (record { at = at; agrees = true }) (λ e. ColumnsAgree f at (meaning w) 0 e)
-no-columns f w at h = record { within = h; agreed = λ a S. (S, noColumns) }
+pub no-columns : (f w : List ℕ) (at v : ℕ) → at ≤ length f → StepAgrees f w w (record { at = at; agrees = true }) (λ e. ColumnsAgree f at v (meaning w) 0 e)
+no-columns f w at v h = record { within = h; agreed = λ a S. (S, noColumns) }
 
-pub more-columns : (f w : List ℕ) (at i m : ℕ) (a : Bool) (r : Step) → StepAgrees f w w (record { at = m; agrees = a }) (λ e. ColumnsAgree f at (meaning w) i e)
-    → StepAgrees f w w r (λ e. ColumnAgrees f m (meaning w) e) → StepAgrees f w w (record { at = r .at; agrees = a && r .agrees }) (λ e. ColumnsAgree f at (meaning w) (i + 1) e)
-more-columns f w at i m a r h k =
+pub more-columns : (f w : List ℕ) (at v i m : ℕ) (a : Bool) (r : Step) → StepAgrees f w w (record { at = m; agrees = a }) (λ e. ColumnsAgree f at v (meaning w) i e)
+    → StepAgrees f w w r (λ e. ColumnAgrees f m v (meaning w) e) → StepAgrees f w w (record { at = r .at; agrees = a && r .agrees }) (λ e. ColumnsAgree f at v (meaning w) (i + 1) e)
+more-columns f w at v i m a r h k =
     record {
       within = k .within;
       agreed = λ t S. let p = h .agreed (and-left a (r .agrees) t) S in let q = k .agreed (and-right a (r .agrees) t) S in (S, moreColumns (p .1) (q .1));
@@ -198,8 +198,8 @@ more-columns f w at i m a r h k =
 pub all-runs : (f w₀ w : List ℕ) (at i n : ℕ) (r : Step) → i ≡ n → StepAgrees f w₀ w r (λ e. RunsAgree f at (meaning w₀) i e (meaning w)) → StepAgrees f w₀ w r (λ e. RunsAgree f at (meaning w₀) n e (meaning w))
 all-runs f w₀ w at i n r e h = subst (λ (k : ℕ). StepAgrees f w₀ w r (λ m. RunsAgree f at (meaning w₀) k m (meaning w))) e h
 
-pub all-columns : (f w : List ℕ) (at i n : ℕ) (r : Step) → i ≡ n → StepAgrees f w w r (λ e. ColumnsAgree f at (meaning w) i e) → StepAgrees f w w r (λ e. ColumnsAgree f at (meaning w) n e)
-all-columns f w at i n r e h = subst (λ (k : ℕ). StepAgrees f w w r (λ m. ColumnsAgree f at (meaning w) k m)) e h
+pub all-columns : (f w : List ℕ) (at v i n : ℕ) (r : Step) → i ≡ n → StepAgrees f w w r (λ e. ColumnsAgree f at v (meaning w) i e) → StepAgrees f w w r (λ e. ColumnsAgree f at v (meaning w) n e)
+all-columns f w at v i n r e h = subst (λ (k : ℕ). StepAgrees f w w r (λ m. ColumnsAgree f at v (meaning w) k m)) e h
 
 -- ---- a case
 
@@ -211,21 +211,21 @@ cut-case f at r e =
     }
 
 -- a start gave z over the words w, and left w₁; the runs leave w₂
-module _ (f w w₁ w₂ : List ℕ) (at n z : ℕ) (runs roll columns : Step) (size : length w ≡ 8192) (capacity : n ≡ short f at) (begun : Starts n (getD f (at + 2) 0) w w₁ z)
-    (ran : StepAgrees f w₁ w₂ runs (λ e. RunsAgree f (at + 4) (meaning w₁) (getD f (at + 3) 0) e (meaning w₂)))
+module _ (f w w₁ w₂ : List ℕ) (at z : ℕ) (runs roll columns : Step) (size : length w ≡ 8192) (begun : StartsWith (toldAt f at) w w₁ z)
+    (ran : StepAgrees f w₁ w₂ runs (λ e. RunsAgree f (at + 5) (meaning w₁) (getD f (at + 4) 0) e (meaning w₂)))
     (rolled : StepAgrees f w₂ w₂ roll (λ e. RollAgrees f (runs .at) (meaning w₂) e))
-    (shown : StepAgrees f w₂ w₂ columns (λ e. ColumnsAgree f (roll .at + 1) (meaning w₂) (getD f (roll .at) 0) e)) where
+    (shown : StepAgrees f w₂ w₂ columns (λ e. ColumnsAgree f (roll .at + 1) (getD f (at + 3) 0) (meaning w₂) (getD f (roll .at) 0) e)) where
   agreeing : z ≡ 0 → runs .agrees ≡ true → roll .agrees ≡ true → columns .agrees ≡ true → CaseAgrees f at (columns .at)
   agreeing z0 a b c =
-      let k = getD f (at + 2) 0 in
-      let made = fresh n k w w₁ z begun z0 in
+      let told = toldAt f at in
+      let made = fresh told w w₁ z begun z0 in
       let p = ran .agreed a (made .0) in
       record {
         store = meaning w₂;
         runsEnd = runs .at;
         rollEnd = roll .at;
-        starts = subst (λ (m : ℕ). start m k 8192 ≡ makes (empty m k)) capacity (subst (λ (m : ℕ). start n k m ≡ makes (empty n k)) size (started n k w w₁ z begun z0));
-        runs = subst (λ (s : Store). RunsAgree f (at + 4) s (getD f (at + 3) 0) (runs .at) (meaning w₂)) (made .1 ∙ ap (λ (m : ℕ). empty m k) capacity) (p .1);
+        starts = subst (λ (m : ℕ). startWith told m ≡ makes (emptyWith told)) size (started told w w₁ z begun z0);
+        runs = subst (λ (s : Store). RunsAgree f (at + 5) s (getD f (at + 4) 0) (runs .at) (meaning w₂)) (made .1) (p .1);
         roll = rolled .agreed b (p .0) .1;
         columns = shown .agreed c (p .0) .1;
       }

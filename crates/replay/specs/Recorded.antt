@@ -5,11 +5,11 @@ use mathlib.Core.List.{List}
 use Prim.Native.Nat.{ℕ, _+_, _*_, _<_}
 use mathlib.Core.Bool.{Bool, true, false}
 use lib.ListN.{length, getD, take, drop}
-use Rattle.model.specs.Store.{Store, number, empty}
+use Rattle.model.specs.Store.{Settings, Store, number, told, emptyWith}
 use Rattle.model.specs.Refusals.{numberOf}
 use Rattle.model.specs.Run.{Ran, run}
 use Rattle.model.specs.Snapshot.{snapshot}
-use Rattle.model.specs.Entries.{makes, start, columnRefusal, column}
+use Rattle.model.specs.Entries.{makes, startWith, columnRefusal, column}
 use Rattle.model.specs.Numbers.{BEYOND}
 
 -- a number of two bytes, lowest first
@@ -68,28 +68,32 @@ pub record SameColumn (s : Store) (k : ℕ) (values : Bool) (n : ℕ) (b : List 
   pub last : numberOf (columnRefusal k 0 (n + 1) s) ≡ BEYOND
   pub words : SameWords (column values k 0 n s) b
 
--- kind 1, number of rows 2, their entities, their values
-pub record ColumnAgrees (f : List ℕ) (at : ℕ) (s : Store) (e : ℕ) : Type 0 where
+-- kind 1, number of rows 2, their entities, their values, which have v bytes each
+pub record ColumnAgrees (f : List ℕ) (at v : ℕ) (s : Store) (e : ℕ) : Type 0 where
   pub entities : SameColumn s (getD f at 0) false (short f (at + 1)) (take (8 * short f (at + 1)) (drop (at + 3) f))
-  pub values : SameColumn s (getD f at 0) true (short f (at + 1)) (take (8 * short f (at + 1)) (drop (at + 3 + 8 * short f (at + 1)) f))
-  pub end : e ≡ at + 3 + 16 * short f (at + 1)
+  pub values : SameColumn s (getD f at 0) true (short f (at + 1)) (take (v * short f (at + 1)) (drop (at + 3 + 8 * short f (at + 1)) f))
+  pub end : e ≡ at + 3 + 8 * short f (at + 1) + v * short f (at + 1)
 
-pub data ColumnsAgree (f : List ℕ) (at : ℕ) (s : Store) : ℕ → ℕ → Type 0 where
-  noColumns : ColumnsAgree f at s 0 at
-  moreColumns : {n m e : ℕ} → ColumnsAgree f at s n m → ColumnAgrees f m s e → ColumnsAgree f at s (n + 1) e
+pub data ColumnsAgree (f : List ℕ) (at v : ℕ) (s : Store) : ℕ → ℕ → Type 0 where
+  noColumns : ColumnsAgree f at v s 0 at
+  moreColumns : {n m e : ℕ} → ColumnsAgree f at v s n m → ColumnAgrees f m v s e → ColumnsAgree f at v s (n + 1) e
 
 -- ---- cases
 
--- N 2, K 1, number of runs 1, the runs; the roll; number of registered kinds 1, their columns. A case starts on 8,192 words.
+-- what a start is told: N 2, K 1, bytes of a value 1; the older rule
+abbrev pub toldAt : List ℕ → ℕ → Settings
+toldAt f at = told (short f at) (getD f (at + 2) 0) (getD f (at + 3) 0) false
+
+-- these, number of runs 1, the runs; the roll; number of registered kinds 1, their columns. A case starts on 8,192 words.
 pub record CaseAgrees (f : List ℕ) (at e : ℕ) : Type 0 where
   -- the store after the runs, and where they and the roll end
   pub store : Store
   pub runsEnd : ℕ
   pub rollEnd : ℕ
-  pub starts : start (short f at) (getD f (at + 2) 0) 8192 ≡ makes (empty (short f at) (getD f (at + 2) 0))
-  pub runs : RunsAgree f (at + 4) (empty (short f at) (getD f (at + 2) 0)) (getD f (at + 3) 0) runsEnd store
+  pub starts : startWith (toldAt f at) 8192 ≡ makes (emptyWith (toldAt f at))
+  pub runs : RunsAgree f (at + 5) (emptyWith (toldAt f at)) (getD f (at + 4) 0) runsEnd store
   pub roll : RollAgrees f runsEnd store rollEnd
-  pub columns : ColumnsAgree f (rollEnd + 1) store (getD f rollEnd 0) e
+  pub columns : ColumnsAgree f (rollEnd + 1) (getD f (at + 3) 0) store (getD f rollEnd 0) e
 
 pub data CasesAgree (f : List ℕ) (at : ℕ) : ℕ → ℕ → Type 0 where
   noCases : CasesAgree f at 0 at

@@ -3,7 +3,8 @@ ghost use mathlib.Core.Path.{_≡_};
 ghost use Prim.Native.Nat.{_+_, _≤_};
 ghost use lib.ListN.{length, getD};
 ghost use Rattle.memory.specs.Meaning.{meaning};
-ghost use Rattle.replay.specs.Recorded.{RunAgrees, RunsAgree, RollAgrees, ColumnAgrees, ColumnsAgree};
+ghost use Rattle.store.specs.Entries.{StartsWith};
+ghost use Rattle.replay.specs.Recorded.{RunAgrees, RunsAgree, RollAgrees, ColumnAgrees, ColumnsAgree, toldAt};
 ghost use Rattle.replay.specs.Agreement.{Compared, StepAgrees, CaseStepped};
 use crate::compare::is_same_column;
 use crate::compare::is_same_roll;
@@ -90,10 +91,10 @@ fn replay_roll(words: &[u32], file: &[u8], at: usize, out: &mut [u8]) -> Step
     }
 }
 
-// One kind's column: its entities, and then its values.
-fn replay_column(words: &[u32], file: &[u8], at: usize) -> Step
+// One kind's column: its entities, and then its values, each of `width` bytes.
+fn replay_column(words: &[u32], file: &[u8], at: usize, width: u8) -> Step
     requires { ⌜ at ≤ length (now file) ⌝ }
-    ensures { λ r. ⌜ StepAgrees (now (file .entry)) (now (words .entry)) (now (words .entry)) r (λ e. ColumnAgrees (now (file .entry)) at (meaning (now (words .entry))) e) ⌝ }
+    ensures { λ r. ⌜ StepAgrees (now (file .entry)) (now (words .entry)) (now (words .entry)) r (λ e. ColumnAgrees (now (file .entry)) at width (meaning (now (words .entry))) e) ⌝ }
 {
     if file.len() - at < 3 {
         return cut(file);
@@ -101,11 +102,12 @@ fn replay_column(words: &[u32], file: &[u8], at: usize) -> Step
     let start = at + 3;
     let kind = file[at];
     let length = short_at(file, at + 1);
-    if file.len() - start < 16 * length {
+    let size = width as usize * length;
+    if file.len() - start < 8 * length + size {
         return cut(file);
     }
     let middle = start + 8 * length;
-    let end = middle + 8 * length;
+    let end = middle + size;
     let entities = is_same_column(words, kind, false, length, &file[start..middle]);
     let values = is_same_column(words, kind, true, length, &file[middle..end]);
     Step {
@@ -114,9 +116,9 @@ fn replay_column(words: &[u32], file: &[u8], at: usize) -> Step
     }
 }
 
-fn replay_columns(words: &[u32], file: &[u8], at: usize) -> Step
+fn replay_columns(words: &[u32], file: &[u8], at: usize, width: u8) -> Step
     requires { ⌜ at ≤ length (now file) ⌝ }
-    ensures { λ r. ⌜ StepAgrees (now (file .entry)) (now (words .entry)) (now (words .entry)) r (λ e. ColumnsAgree (now (file .entry)) (at + 1) (meaning (now (words .entry))) (getD (now (file .entry)) at 0) e) ⌝ }
+    ensures { λ r. ⌜ StepAgrees (now (file .entry)) (now (words .entry)) (now (words .entry)) r (λ e. ColumnsAgree (now (file .entry)) (at + 1) width (meaning (now (words .entry))) (getD (now (file .entry)) at 0) e) ⌝ }
 {
     if file.len() == at {
         return cut(file);
@@ -126,12 +128,23 @@ fn replay_columns(words: &[u32], file: &[u8], at: usize) -> Step
     let mut agrees = true;
     let mut i = 0;
     while i < kinds {
-        let step = replay_column(words, file, next);
+        let step = replay_column(words, file, next, width);
         next = step.at;
         agrees = agrees & step.agrees;
         i += 1;
     }
     Step { at: next, agrees }
+}
+
+// A start as the case's head at `at` tells it.
+fn start_case(words: &mut [u32], file: &[u8], at: usize) -> u8
+    requires { ⌜ at + 5 ≤ length (now file) ⌝ }
+    ensures { λ r. ⌜ StartsWith (toldAt (now (file .entry)) at) (now (words .entry)) (now (words .exit)) r ⌝ }
+{
+    let n = short_at(file, at);
+    let k = file[at + 2] as usize;
+    let width = file[at + 3] as usize;
+    store::start_with(words, n, k, width, false)
 }
 
 // The case at `at`: a start, its runs, and then the roll and every column.
@@ -140,13 +153,13 @@ pub fn replay_case(words: &mut [u32], file: &[u8], at: usize, out: &mut [u8]) ->
     requires { ⌜ at ≤ length (now file) ⌝ }
     ensures { λ r. ⌜ CaseStepped (now (file .entry)) at r ⌝ }
 {
-    if file.len() - at < 4 {
+    if file.len() - at < 5 {
         return cut(file);
     }
-    let number = store::start(words, short_at(file, at), file[at + 2] as usize);
-    let runs = replay_runs(words, file, at + 4, file[at + 3], out);
+    let number = start_case(words, file, at);
+    let runs = replay_runs(words, file, at + 5, file[at + 4], out);
     let roll = replay_roll(words, file, runs.at, out);
-    let columns = replay_columns(words, file, roll.at);
+    let columns = replay_columns(words, file, roll.at, file[at + 3]);
     Step {
         at: columns.at,
         agrees: (number == 0) & runs.agrees & roll.agrees & columns.agrees,

@@ -105,7 +105,7 @@ fn replay_file(file: &[u8]) {
         io::write_all(STDOUT_FILENO, b"no recorded answers\n");
         return;
     }
-    if !check::same(&file[..8], b"TAPES 1\n") {
+    if !check::same(&file[..8], b"TAPES 2\n") {
         io::write_all(STDOUT_FILENO, b"no recorded answers\n");
         return;
     }

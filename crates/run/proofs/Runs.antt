@@ -169,7 +169,7 @@ module _ {w₀ t o₀ w o w₁ o₁ : List ℕ} {at p k : ℕ} (g : Going w₀ t
       unrolled g h ∙ rw is in
       let u : length o - (p + length l) ≡ length o - p - length l = omega arith in
       let C : Becomes w w₁ (meaning w₁) = rw m B in
-      let R : Refused w w₁ (commandIn (getD t at 0) t (at + 1)) = rw is at (s .kept) in
+      let R : Refused w w₁ (commandIn (getD t at 0) t (at + 1) (meaning w)) = rw is at (s .kept) in
       rw (next-at, free, q)
       (record {
         sound = s .sound;

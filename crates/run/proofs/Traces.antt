@@ -3,9 +3,8 @@ use mathlib.Core.Path.{_≡_, refl}
 use mathlib.Core.List.{List, [], _∷_}
 use Prim.Native.Nat.{ℕ, zero, suc, _+_, _-_, _≤_, _<_}
 use lib.ListN.{length, getD, take, drop, drop-of-length-le}
-use Rattle.model.specs.Numbers.{VALUE-BYTES}
 use Rattle.model.specs.Store.{Store}
-use Rattle.model.specs.Commands.{Command, width, commandAt}
+use Rattle.model.specs.Commands.{Command, commandOn}
 use Rattle.model.specs.Run.{Step, stops, goes, step}
 use Rattle.model.proofs.ListLaws.{drop-step}
 use Rattle.memory.specs.Meaning.{meaning}
@@ -34,7 +33,7 @@ module _ (m room : ℕ) (w w′ : List ℕ) (b : ℕ) (l : List ℕ) where
   unfolding Traced
   stop-first n e q = stop-by w w′ _ _ n (step b l room (meaning w)) e q
 
-  go-first : (w₁ : List ℕ) (k : ℕ) (a : List ℕ) (s : Store) → step b l room (meaning w) ≡ goes k a s → Becomes w w₁ s → Refused w w₁ (commandAt b (take (width VALUE-BYTES b) l))
+  go-first : (w₁ : List ℕ) (k : ℕ) (a : List ℕ) (s : Store) → step b l room (meaning w) ≡ goes k a s → Becomes w w₁ s → Refused w w₁ (commandOn b l (meaning w))
       → Traced m (drop k (b ∷ l)) (room - length a) w₁ w′ → Traced (suc m) (b ∷ l) room w w′
   unfolding Traced
   go-first w₁ k a s e B R T = go-by w w₁ w′ _ _ k a s (step b l room (meaning w)) e B R T
@@ -43,7 +42,7 @@ module _ (m room : ℕ) (w w′ t : List ℕ) (at : ℕ) (h : at < length t) whe
   pub traced-stop : (n : ℕ) → stepAt (meaning w) t at room ≡ stops n → w′ ≡ w → Traced (suc m) (drop at t) room w w′
   traced-stop n e q = rw (drop-step t at 0 h) (stop-first m room w w′ (getD t at 0) (drop (at + 1) t) n e q)
 
-  pub traced-more : (w₁ : List ℕ) (k : ℕ) (a : List ℕ) (s : Store) → stepAt (meaning w) t at room ≡ goes k a s → Becomes w w₁ s → Refused w w₁ (commandIn (getD t at 0) t (at + 1))
+  pub traced-more : (w₁ : List ℕ) (k : ℕ) (a : List ℕ) (s : Store) → stepAt (meaning w) t at room ≡ goes k a s → Becomes w w₁ s → Refused w w₁ (commandIn (getD t at 0) t (at + 1) (meaning w))
       → Traced m (drop k (drop at t)) (room - length a) w₁ w′ → Traced (suc m) (drop at t) room w w′
   traced-more w₁ k a s e B R T =
       let d = drop-step t at 0 h in

@@ -2,10 +2,9 @@
 use mathlib.Core.Path.{_≡_}
 use mathlib.Core.List.{List, [], _∷_}
 use Prim.Native.Nat.{ℕ, zero, suc, _-_}
-use lib.ListN.{length, take, drop}
-use Rattle.model.specs.Numbers.{VALUE-BYTES}
+use lib.ListN.{length, drop}
 use Rattle.model.specs.Store.{Store}
-use Rattle.model.specs.Commands.{Command, width, commandAt}
+use Rattle.model.specs.Commands.{Command, commandOn}
 use Rattle.model.specs.Run.{refuses, does, Step, stops, goes, step}
 use Rattle.memory.specs.Meaning.{meaning, withRefusal}
 use Rattle.memory.specs.Arranged.{Becomes}
@@ -31,4 +30,4 @@ unfoldable pub Traced : ℕ → List ℕ → ℕ → List ℕ → List ℕ → T
 Traced zero t room w w′ = w′ ≡ w
 Traced (suc fuel) [] room w w′ = w′ ≡ w
 Traced (suc fuel) (b ∷ t) room w w′ =
-    GoesOn (step b t room (meaning w)) w w′ (commandAt b (take (width VALUE-BYTES b) t)) (λ k a w₁. Traced fuel (drop k (b ∷ t)) (room - length a) w₁ w′)
+    GoesOn (step b t room (meaning w)) w w′ (commandOn b t (meaning w)) (λ k a w₁. Traced fuel (drop k (b ∷ t)) (room - length a) w₁ w′)

@@ -51,7 +51,7 @@ KeptBy w w′ c (goes k a s) = Refused w w′ c
 pub record Stepped (w w′ t o o′ : List ℕ) (at p : ℕ) (r : Went) (x : Step) : Type 0 where
   pub sound : Sound w′
   pub becomes : Becomes w w′ (storeOf (meaning w) x)
-  pub kept : KeptBy w w′ (commandIn (getD t at 0) t (at + 1)) x
+  pub kept : KeptBy w w′ (commandIn (getD t at 0) t (at + 1) (meaning w)) x
   pub bytes : o′ ≡ sets o p (stepBytes x)
   pub within : p + length (stepBytes x) ≤ length o
   pub result : r ≡ resultOf at p x

@@ -2,7 +2,7 @@
 use mathlib.Core.Path.{_≡_, ap, ap₂, sym, _∙_, subst}
 use mathlib.Core.Logic.{inl, inr}
 use mathlib.Core.List.{List}
-use Prim.Native.Nat.{ℕ, _+_, _≤_, _<_}
+use Prim.Native.Nat.{ℕ, _+_, _*_, _≤_, _<_}
 use native.Mathlib.Omega.{arith}
 use native.Mathlib.Nat.{add-zero}
 use lib.ListN.{length, getD, take, drop}
@@ -10,10 +10,16 @@ use lib.Seq.{getD-take, getD-drop, take-take}
 use Rattle.model.specs.Model.{Entity, entity}
 use Rattle.model.proofs.BoolLaws.{by-eq, above}
 use Rattle.model.specs.Store.{number}
-use Rattle.model.specs.Commands.{Command, entityOfBytes}
+use Rattle.model.specs.Commands.{Command, HOLD, entityOfBytes, operandsLen}
 use Rattle.model.specs.Run.{does}
 use Rattle.model.proofs.ListLaws.{halves}
+use Rattle.words.specs.declared.Shape.{Shape}
+use Rattle.words.specs.Shape.{shapeOf}
+use Rattle.values.specs.declared.Value.{Value}
+use Rattle.values.specs.Values.{valueOf}
 use Rattle.memory.specs.Meaning.{meaning}
+use Rattle.memory.specs.Arranged.{Arranged}
+use Rattle.memory.proofs.Becomes.{stride-bytes}
 use Rattle.command.specs.Acted.{Ready, Acted}
 use Rattle.run_command.specs.Given.{commandIn, Given, Rare}
 use Rattle.model.specs.Numbers.{LAST-COMMAND, REG-BYTE, HOLD-BYTE, NEW-BYTE, PUT-BYTE, TAKE-BYTE, DROP-BYTE, KILL-BYTE, WIPE-BYTE, GROUP-BYTE, APPLY-BYTE, BAR-BYTE, RANGE-BYTE, EMPTY-BYTE, TALLY-BYTE, TRAY-BYTE}
@@ -33,16 +39,29 @@ module _ (t : List ℕ) (at : ℕ) where
   pub entity-read : at + 8 ≤ length t → {i v : ℕ} → i ≡ number (take 4 (drop at t)) → v ≡ number (take 4 (drop (at + 4) t)) → entity i v ≡ entityOfBytes (take 8 (drop at t))
   entity-read h e f = ap₂ entity e f ∙ sym (entity-operand h)
 
-  pub value-operand : at + 9 ≤ length t → number (drop 1 (take 9 (drop at t))) ≡ number (take 8 (drop (at + 1) t))
-  value-operand h = ap number (halves t at 1 8 (omega arith))
+  -- of v bytes
+  pub value-operand : (v : ℕ) → at + (1 + v) ≤ length t → number (drop 1 (take (1 + v) (drop at t))) ≡ number (take v (drop (at + 1) t))
+  value-operand v h = ap number (halves t at 1 v (omega arith))
+
+-- HOLD's: the kind, and the value by the store's width, read as the words of a shape
+pub hold-operands : (w t : List ℕ) (at : ℕ) (z : Shape) (x : Value) → Arranged w → at + operandsLen HOLD-BYTE (meaning w) ≤ length t → z ≡ shapeOf w
+    → valueOf (z .stride) x ≡ number (take (4 * z .stride) (drop (at + 1) t)) → HOLD (getD t at 0) (valueOf (shapeOf w .stride) x) ≡ commandIn HOLD-BYTE t at (meaning w)
+hold-operands w t at z x A h e q =
+    let v = meaning w .settings .valueBytes in
+    let read : valueOf (shapeOf w .stride) x ≡ number (take (4 * shapeOf w .stride) (drop (at + 1) t)) =
+    subst (λ (y : Shape). valueOf (y .stride) x ≡ number (take (4 * y .stride) (drop (at + 1) t))) e q in
+    ap₂ HOLD (sym (kind-operand t at (1 + v) (omega arith))) (read ∙ ap (λ (n : ℕ). number (take n (drop (at + 1) t))) (stride-bytes w A) ∙ sym (value-operand t at v h))
 
 -- ---- a command byte that is known
 
 pub given-as : {w t o : List ℕ} {op at p : ℕ} (k : ℕ) → op ≡ k → Given w op t at o p → Given w k t at o p
 given-as k e g = rw e at g
 
-pub acts-as : {w w′ o o′ : List ℕ} {p r : ℕ} (op k : ℕ) → op ≡ k → (t : List ℕ) (at : ℕ) → Acted w w′ o o′ p r (does (commandIn k t at) (meaning w)) → Acted w w′ o o′ p r (does (commandIn op t at) (meaning w))
-acts-as {w} {w′} {o} {o′} {p} {r} op k e t at a = subst (λ (b : ℕ). Acted w w′ o o′ p r (does (commandIn b t at) (meaning w))) (sym e) a
+pub acts-by : {w w′ o o′ : List ℕ} {p r : ℕ} (c d : Command) → c ≡ d → Acted w w′ o o′ p r (does c (meaning w)) → Acted w w′ o o′ p r (does d (meaning w))
+acts-by {w} {w′} {o} {o′} {p} {r} c d e a = subst (λ (x : Command). Acted w w′ o o′ p r (does x (meaning w))) e a
+
+pub acts-as : {w w′ o o′ : List ℕ} {p r : ℕ} (op k : ℕ) → op ≡ k → (t : List ℕ) (at : ℕ) → Acted w w′ o o′ p r (does (commandIn k t at (meaning w)) (meaning w)) → Acted w w′ o o′ p r (does (commandIn op t at (meaning w)) (meaning w))
+acts-as {w} {w′} {o} {o′} {p} {r} op k e t at a = subst (λ (b : ℕ). Acted w w′ o o′ p r (does (commandIn b t at (meaning w)) (meaning w))) (sym e) a
 
 -- the commands on an entity, whose index i and version v were read
 module _ (f : Entity → Command) (t : List ℕ) (at : ℕ) where

@@ -14,7 +14,7 @@ ghost use Rattle.model.specs.Numbers.{LAST-COMMAND};
 pub fn act(words: &mut [u32], op: u8, tape: &[u8], at: usize, out: &mut [u8], to: usize) -> usize
     requires { ⌜ (1 ≤ op) × (op ≤ LAST-COMMAND) ⌝ }
     requires { ⌜ Given (now words) op (now tape) at (now out) to ⌝ }
-    ensures { λ r. ⌜ Acted (now (words .entry)) (now (words .exit)) (now (out .entry)) (now (out .exit)) to r (does (commandIn op (now (tape .entry)) at) (meaning (now (words .entry)))) ⌝ }
+    ensures { λ r. ⌜ Acted (now (words .entry)) (now (words .exit)) (now (out .entry)) (now (out .exit)) to r (does (commandIn op (now (tape .entry)) at (meaning (now (words .entry)))) (meaning (now (words .entry)))) ⌝ }
 {
     match op {
         commands::REG => rare(words, op, tape, at, out, to),
@@ -29,7 +29,7 @@ pub fn act(words: &mut [u32], op: u8, tape: &[u8], at: usize, out: &mut [u8], to
 fn rare(words: &mut [u32], op: u8, tape: &[u8], at: usize, out: &mut [u8], to: usize) -> usize
     requires { ⌜ Rare op ⌝ }
     requires { ⌜ Given (now words) op (now tape) at (now out) to ⌝ }
-    ensures { λ r. ⌜ Acted (now (words .entry)) (now (words .exit)) (now (out .entry)) (now (out .exit)) to r (does (commandIn op (now (tape .entry)) at) (meaning (now (words .entry)))) ⌝ }
+    ensures { λ r. ⌜ Acted (now (words .entry)) (now (words .exit)) (now (out .entry)) (now (out .exit)) to r (does (commandIn op (now (tape .entry)) at (meaning (now (words .entry)))) (meaning (now (words .entry)))) ⌝ }
 {
     match op {
         commands::REG => operands::reg(words, tape, at, out, to),

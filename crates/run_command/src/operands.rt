@@ -10,7 +10,7 @@ ghost use Rattle.run_command.specs.Given.{commandIn, Given};
 
 pub fn reg(words: &mut [u32], tape: &[u8], at: usize, out: &mut [u8], to: usize) -> usize
     requires { ⌜ Given (now words) REG-BYTE (now tape) at (now out) to ⌝ }
-    ensures { λ r. ⌜ Acted (now (words .entry)) (now (words .exit)) (now (out .entry)) (now (out .exit)) to r (does (commandIn REG-BYTE (now (tape .entry)) at) (meaning (now (words .entry)))) ⌝ }
+    ensures { λ r. ⌜ Acted (now (words .entry)) (now (words .exit)) (now (out .entry)) (now (out .exit)) to r (does (commandIn REG-BYTE (now (tape .entry)) at (meaning (now (words .entry)))) (meaning (now (words .entry)))) ⌝ }
 {
     let kind = tape[at];
     command_list::registering::reg(words, kind, out, to)
@@ -18,10 +18,11 @@ pub fn reg(words: &mut [u32], tape: &[u8], at: usize, out: &mut [u8], to: usize)
 
 pub fn hold(words: &mut [u32], tape: &[u8], at: usize, out: &mut [u8], to: usize) -> usize
     requires { ⌜ Given (now words) HOLD-BYTE (now tape) at (now out) to ⌝ }
-    ensures { λ r. ⌜ Acted (now (words .entry)) (now (words .exit)) (now (out .entry)) (now (out .exit)) to r (does (commandIn HOLD-BYTE (now (tape .entry)) at) (meaning (now (words .entry)))) ⌝ }
+    ensures { λ r. ⌜ Acted (now (words .entry)) (now (words .exit)) (now (out .entry)) (now (out .exit)) to r (does (commandIn HOLD-BYTE (now (tape .entry)) at (meaning (now (words .entry)))) (meaning (now (words .entry)))) ⌝ }
 {
     let kind = tape[at];
-    let x = values::get_bytes(tape, at + 1, words::STRIDE);
+    let z = words::shape_of(words);
+    let x = values::get_bytes(tape, at + 1, z.stride);
     command_list::lists::hold(words, kind, x, out, to)
 }
 
@@ -36,7 +37,7 @@ pub fn on_entity(
 ) -> usize
     requires { ⌜ (4 ≤ op) × (op ≤ 7) ⌝ }
     requires { ⌜ Given (now words) op (now tape) at (now out) to ⌝ }
-    ensures { λ r. ⌜ Acted (now (words .entry)) (now (words .exit)) (now (out .entry)) (now (out .exit)) to r (does (commandIn op (now (tape .entry)) at) (meaning (now (words .entry)))) ⌝ }
+    ensures { λ r. ⌜ Acted (now (words .entry)) (now (words .exit)) (now (out .entry)) (now (out .exit)) to r (does (commandIn op (now (tape .entry)) at (meaning (now (words .entry)))) (meaning (now (words .entry)))) ⌝ }
 {
     let index = codec::get_u32(tape, at);
     let version = codec::get_u32(tape, at + 4);
@@ -51,7 +52,7 @@ pub fn on_entity(
 
 pub fn bar(words: &mut [u32], tape: &[u8], at: usize, out: &mut [u8], to: usize) -> usize
     requires { ⌜ Given (now words) BAR-BYTE (now tape) at (now out) to ⌝ }
-    ensures { λ r. ⌜ Acted (now (words .entry)) (now (words .exit)) (now (out .entry)) (now (out .exit)) to r (does (commandIn BAR-BYTE (now (tape .entry)) at) (meaning (now (words .entry)))) ⌝ }
+    ensures { λ r. ⌜ Acted (now (words .entry)) (now (words .exit)) (now (out .entry)) (now (out .exit)) to r (does (commandIn BAR-BYTE (now (tape .entry)) at (meaning (now (words .entry)))) (meaning (now (words .entry)))) ⌝ }
 {
     let kind = tape[at];
     command_list::lists::bar(words, kind, out, to)
@@ -59,7 +60,7 @@ pub fn bar(words: &mut [u32], tape: &[u8], at: usize, out: &mut [u8], to: usize)
 
 pub fn tray(words: &mut [u32], tape: &[u8], at: usize, out: &mut [u8], to: usize) -> usize
     requires { ⌜ Given (now words) TRAY-BYTE (now tape) at (now out) to ⌝ }
-    ensures { λ r. ⌜ Acted (now (words .entry)) (now (words .exit)) (now (out .entry)) (now (out .exit)) to r (does (commandIn TRAY-BYTE (now (tape .entry)) at) (meaning (now (words .entry)))) ⌝ }
+    ensures { λ r. ⌜ Acted (now (words .entry)) (now (words .exit)) (now (out .entry)) (now (out .exit)) to r (does (commandIn TRAY-BYTE (now (tape .entry)) at (meaning (now (words .entry)))) (meaning (now (words .entry)))) ⌝ }
 {
     let count = codec::get_u16(tape, at);
     command_entity::entities::tray(words, count, out, to)
@@ -67,7 +68,7 @@ pub fn tray(words: &mut [u32], tape: &[u8], at: usize, out: &mut [u8], to: usize
 
 pub fn set_caller(words: &mut [u32], tape: &[u8], at: usize, out: &mut [u8], to: usize) -> usize
     requires { ⌜ Given (now words) SETCALLER-BYTE (now tape) at (now out) to ⌝ }
-    ensures { λ r. ⌜ Acted (now (words .entry)) (now (words .exit)) (now (out .entry)) (now (out .exit)) to r (does (commandIn SETCALLER-BYTE (now (tape .entry)) at) (meaning (now (words .entry)))) ⌝ }
+    ensures { λ r. ⌜ Acted (now (words .entry)) (now (words .exit)) (now (out .entry)) (now (out .exit)) to r (does (commandIn SETCALLER-BYTE (now (tape .entry)) at (meaning (now (words .entry)))) (meaning (now (words .entry)))) ⌝ }
 {
     let caller = tape[at];
     command_list::callers::set_caller(words, caller, out, to)

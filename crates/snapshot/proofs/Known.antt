@@ -1,18 +1,22 @@
--- What well-arranged words say of the store they mean: a kind that is not registered has no rows, and numbers are at most the capacity. Assumes nothing.
-use mathlib.Core.Path.{_≡_, sym, _∙_}
+-- What well-arranged words say of the store they mean: a kind that is not registered has no rows, numbers are at most the capacity, and a
+-- value has one of the two widths. Assumes nothing.
+use mathlib.Core.Path.{_≡_, refl, sym, _∙_}
 use mathlib.Core.Bool.{false, false≢true}
 use mathlib.Core.List.{List, []}
 use Prim.Native.Nat.{ℕ, _≤_, _<_}
 use native.Mathlib.Omega.{arith}
 use borrow.Author.Tests.{le-ltb}
 use lib.ListN.{length}
-use Rattle.model.specs.Numbers.{MAX-ENTITIES, MAX-KINDS}
+use Rattle.model.specs.Numbers.{LONG-VALUE-BYTES, MAX-ENTITIES, MAX-KINDS}
 use Rattle.words.specs.Offsets.{UNREGISTERED}
 use Rattle.model.specs.Model.{mem}
 use Rattle.model.proofs.BoolLaws.{by-eq}
+use Rattle.model.proofs.Widths.{width-most}
+use Rattle.words.specs.Shape.{TwoOrFour, shapeOf}
+use Rattle.words.proofs.Offsets.{two-or-four}
 use Rattle.entity.specs.Meaning.{entityPart}
 use Rattle.entity.proofs.Known.{live-few, issued-few}
-use Rattle.memory.specs.Header.{capacityOf, registeredOf, slotOf}
+use Rattle.memory.specs.Header.{capacityOf, registeredOf, slotOf, valueBytesOf}
 use Rattle.memory.specs.Meaning.{setAt, meaning}
 use Rattle.memory.specs.Arranged.{Arranged}
 use Rattle.memory.proofs.Becomes.{set-in}
@@ -38,3 +42,13 @@ module _ (w : List ℕ) (A : Arranged w) where
   pub live-most : length (meaning w .entities .live) ≤ meaning w .settings .capacity
   unfolding meaning
   live-most = live-few (capacityOf w) (entityPart (capacityOf w) w) (A .entities)
+
+  pub bytes-mean : valueBytesOf w ≡ meaning w .settings .valueBytes
+  unfolding meaning
+  bytes-mean = refl
+
+  pub bytes-most : valueBytesOf w ≤ LONG-VALUE-BYTES
+  bytes-most = width-most (valueBytesOf w) (A .limits .width)
+
+  pub stride-words : (d : ℕ) → d ≡ shapeOf w .stride → TwoOrFour d
+  stride-words d e = rw e (two-or-four (valueBytesOf w) (A .limits .width))

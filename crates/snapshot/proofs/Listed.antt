@@ -75,12 +75,12 @@ value-bare e rows h = rw h
 pub none-written : {o : List ℕ} {p : ℕ} {y : Option ℕ} (v k : ℕ) → y ≡ none → WrittenUntil o o p p (oneBytes v y k)
 none-written v k e = rw e (record { bytes = refl; next = omega arith })
 
-pub one-room : {x n : ℕ} {y : Option ℕ} (v p k : ℕ) → y ≡ some x → p + length (oneBytes v y k) ≤ n → p + (1 + v) ≤ n
+pub one-room : {x n : ℕ} {y : Option ℕ} (v p k : ℕ) → y ≡ some x → p + length (oneBytes v y k) ≤ n → p + 1 + v ≤ n
 one-room {x} {n} v p k e h =
     let z : p + length (oneBytes v (some x) k) ≤ n = rw e at h in
     omega (arith, bytesOf-length v x)
 
-pub one-written : {o′ : List ℕ} {x : ℕ} {y : Option ℕ} (v : ℕ) (o : List ℕ) (p k : ℕ) → y ≡ some x → o′ ≡ sets (set o p k) (p + 1) (bytesOf v x) → WrittenUntil o o′ p (p + (1 + v)) (oneBytes v y k)
+pub one-written : {o′ : List ℕ} {x : ℕ} {y : Option ℕ} (v : ℕ) (o : List ℕ) (p k : ℕ) → y ≡ some x → o′ ≡ sets (set o p k) (p + 1) (bytesOf v x) → WrittenUntil o o′ p (p + 1 + v) (oneBytes v y k)
 one-written {x = x} v o p k e q = rw e (record { bytes = q ∙ ap (λ (i : ℕ). sets (set o p k) i (bytesOf v x)) (add-one p); next = omega (arith, bytesOf-length v x) })
 
 -- ---- the kinds of one entity

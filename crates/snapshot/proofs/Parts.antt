@@ -7,7 +7,6 @@ use native.Mathlib.Numerals.{add-one}
 use native.Mathlib.Nat.{div-eq-of-eq-mul-right}
 use lib.ListN.{length, set, length-append}
 use lib.Seq.{sets}
-use Rattle.model.specs.Numbers.{VALUE-BYTES}
 use Rattle.model.specs.Model.{SparseSet, Component, entity}
 use Rattle.model.specs.Store.{Store, bytesOf}
 use Rattle.model.specs.Snapshot.{Entry, componentsOf, liveVersion, entryOf, entries, componentBytes, entryBytes, flat, listing, snapshot}
@@ -67,14 +66,14 @@ an-entry : (v i m : ℕ) (ss : List SparseSet) → 1 ≤ m → flat v (entryOf m
 an-entry v i zero ss h = absurd (omega arith)
 an-entry v i (suc m) ss h = append-nil (entryBytes v (record { entity = entity i (suc m); components = componentsOf (entity i (suc m)) 0 ss }))
 
-module _ (w : List ℕ) (i m : ℕ) (is : m ≡ liveVersion i (meaning w .entities .live)) where
-  index-none : m ≡ 0 → indexBytes w i ≡ []
-  index-none h = no-entry VALUE-BYTES i (liveVersion i (meaning w .entities .live)) (meaning w .storage .sets) (sym is ∙ h)
+module _ (v : ℕ) (w : List ℕ) (i m : ℕ) (is : m ≡ liveVersion i (meaning w .entities .live)) where
+  index-none : m ≡ 0 → indexBytes v w i ≡ []
+  index-none h = no-entry v i (liveVersion i (meaning w .entities .live)) (meaning w .storage .sets) (sym is ∙ h)
 
-  pub index-some : (m ≡ 0 → ⊥) → indexBytes w i ≡ entryBytes VALUE-BYTES (entryFor w i m)
-  index-some h = rw (← is) (an-entry VALUE-BYTES i m (meaning w .storage .sets) (omega arith))
+  pub index-some : (m ≡ 0 → ⊥) → indexBytes v w i ≡ entryBytes v (entryFor w i m)
+  index-some h = rw (← is) (an-entry v i m (meaning w .storage .sets) (omega arith))
 
-  pub none-at : {o : List ℕ} {p : ℕ} → m ≡ 0 → WrittenUntil o o p p (indexBytes w i)
+  pub none-at : {o : List ℕ} {p : ℕ} → m ≡ 0 → WrittenUntil o o p p (indexBytes v w i)
   none-at h = rw (index-none h) (record { bytes = refl; next = omega arith })
 
 -- ---- one index after another
@@ -83,39 +82,43 @@ pub flat-append : (v : ℕ) (ts us : List Entry) → flat v (ts ++ us) ≡ flat 
 flat-append v [] us = refl
 flat-append v (t ∷ ts) us = ap (λ (l : List ℕ). entryBytes v t ++ l) (flat-append v ts us) ∙ sym (append-assoc (entryBytes v t) (flat v ts) (flat v us))
 
--- what stands in the snapshot from index i on
-abbrev pub from : List ℕ → ℕ → List ℕ
-from w i = flat VALUE-BYTES (entries i (meaning w .entities .issued - i) (meaning w .entities .live) (meaning w .storage .sets))
+module _ (v : ℕ) (w : List ℕ) where
+  abbrev m : Store
+  m = meaning w
 
-pub from-turn : (w : List ℕ) (i : ℕ) → i < meaning w .entities .issued → from w i ≡ indexBytes w i ++ from w (i + 1)
-from-turn w i h =
-    let m = meaning w in
-    let e : m .entities .issued - i ≡ suc (m .entities .issued - (i + 1)) = omega arith in
-    ap (λ (n : ℕ). flat VALUE-BYTES (entries i n (m .entities .live) (m .storage .sets))) e
-    ∙ flat-append VALUE-BYTES (entryOf (liveVersion i (m .entities .live)) i (m .storage .sets)) (entries (suc i) (m .entities .issued - (i + 1)) (m .entities .live) (m .storage .sets))
-    ∙ ap (λ (j : ℕ). indexBytes w i ++ flat VALUE-BYTES (entries j (m .entities .issued - (i + 1)) (m .entities .live) (m .storage .sets))) (sym (add-one i))
+  -- what stands in the snapshot from index i on
+  abbrev pub from : ℕ → List ℕ
+  from i = flat v (entries i (m .entities .issued - i) (m .entities .live) (m .storage .sets))
 
-pub from-none : (w : List ℕ) (i : ℕ) → meaning w .entities .issued ≤ i → from w i ≡ []
-from-none w i h =
-    let m = meaning w in
-    let e : m .entities .issued - i ≡ 0 = omega arith in
-    ap (λ (n : ℕ). flat VALUE-BYTES (entries i n (m .entities .live) (m .storage .sets))) e
+  pub from-turn : (i : ℕ) → i < m .entities .issued → from i ≡ indexBytes v w i ++ from (i + 1)
+  from-turn i h =
+      let e : m .entities .issued - i ≡ suc (m .entities .issued - (i + 1)) = omega arith in
+      ap (λ (n : ℕ). flat v (entries i n (m .entities .live) (m .storage .sets))) e
+      ∙ flat-append v (entryOf (liveVersion i (m .entities .live)) i (m .storage .sets)) (entries (suc i) (m .entities .issued - (i + 1)) (m .entities .live) (m .storage .sets))
+      ∙ ap (λ (j : ℕ). indexBytes v w i ++ flat v (entries j (m .entities .issued - (i + 1)) (m .entities .live) (m .storage .sets))) (sym (add-one i))
 
-pub from-start : (w : List ℕ) → flat VALUE-BYTES (listing (meaning w)) ≡ from w 0
-from-start w =
-    let m = meaning w in
-    let e : m .entities .issued - 0 ≡ m .entities .issued = omega arith in
-    ap (λ (n : ℕ). flat VALUE-BYTES (entries 0 n (m .entities .live) (m .storage .sets))) (sym e)
+  pub from-none : (i : ℕ) → m .entities .issued ≤ i → from i ≡ []
+  from-none i h =
+      let e : m .entities .issued - i ≡ 0 = omega arith in
+      ap (λ (n : ℕ). flat v (entries i n (m .entities .live) (m .storage .sets))) e
+
+  pub from-start : flat v (listing m) ≡ from 0
+  from-start =
+      let e : m .entities .issued - 0 ≡ m .entities .issued = omega arith in
+      ap (λ (n : ℕ). flat v (entries 0 n (m .entities .live) (m .storage .sets))) (sym e)
 
 -- ---- the whole
 
-pub snapshot-length : (s : Store) → length (snapshot s) ≡ 4 + length (flat VALUE-BYTES (listing s))
-unfolding snapshot
-snapshot-length s = omega (arith, length-append (bytesOf 4 (length (s .entities .live))) (flat VALUE-BYTES (listing s)), bytesOf-length 4 (length (s .entities .live)))
+module _ (s : Store) (v : ℕ) (width : v ≡ s .settings .valueBytes) where
+  pub snapshot-length : length (snapshot s) ≡ 4 + length (flat v (listing s))
+  unfolding snapshot
+  snapshot-length =
+      rw width (omega (arith, length-append (bytesOf 4 (length (s .entities .live))) (flat (s .settings .valueBytes) (listing s)), bytesOf-length 4 (length (s .entities .live))))
 
-pub snapshot-written : (s : Store) {o o₁ o₂ : List ℕ} {r : ℕ} (n : ℕ) → n ≡ length (s .entities .live) → o₁ ≡ sets o 0 (bytesOf 4 n) → WrittenUntil o₁ o₂ 4 r (flat VALUE-BYTES (listing s)) → WrittenUntil o o₂ 0 r (snapshot s)
-unfolding snapshot
-snapshot-written s {o} {o₁} n e q v =
-    let l = bytesOf 4 (length (s .entities .live)) in
-    let f : WrittenUntil o o₁ 0 4 l = record { bytes = q ∙ rw e; next = omega (arith, bytesOf-length 4 (length (s .entities .live))) } in
-    writing-last (writing-turn l (flat VALUE-BYTES (listing s)) (writing-start o 0 (snapshot s)) refl f) v
+  pub snapshot-written : {o o₁ o₂ : List ℕ} {r : ℕ} (n : ℕ) → n ≡ length (s .entities .live) → o₁ ≡ sets o 0 (bytesOf 4 n) → WrittenUntil o₁ o₂ 4 r (flat v (listing s)) → WrittenUntil o o₂ 0 r (snapshot s)
+  unfolding snapshot
+  snapshot-written {o} {o₁} n e q u =
+      let l = bytesOf 4 (length (s .entities .live)) in
+      let f : WrittenUntil o o₁ 0 4 l = record { bytes = q ∙ rw e; next = omega (arith, bytesOf-length 4 (length (s .entities .live))) } in
+      let whole : snapshot s ≡ l ++ flat v (listing s) = rw width refl in
+      writing-last (writing-turn l (flat v (listing s)) (writing-start o 0 (snapshot s)) whole f) u

@@ -1,4 +1,5 @@
--- How long the snapshot of a sound store is: four bytes, nine for each live entity, and nine for each row of a sparse set. Assumes nothing.
+-- How long the snapshot of a sound store is: four bytes, nine for each live entity, and for each row of a sparse set one and those of a value. Assumes
+-- nothing.
 use mathlib.Core.Path.{_≡_, refl, ap, sym, _∙_}
 use mathlib.Core.Logic.{_≢_}
 use mathlib.Core.Bool.{Bool, true, false, cond}
@@ -10,7 +11,6 @@ use native.Mathlib.Numerals.{add-one}
 use borrow.Author.Tests.{eq-eqb, ne-eqb}
 use lib.ListN.{length, getD, drop, drop-of-length-le, length-append, length-map}
 use lib.Seq.{drop-cons}
-use Rattle.model.specs.Numbers.{VALUE-BYTES}
 use Rattle.model.specs.Lists.{one}
 use Rattle.model.proofs.ListLaws.{count-length}
 use Rattle.model.specs.Model.{Entity, SparseSet, sameEntity, entityOf, noRow, at, held, setOf}
@@ -138,17 +138,18 @@ module _ (s : Store) (S : StoreSound s) where
           omega (arith, q, m, S .sets .once x k, S .sets .alive x k m, cnt-num x (s .entities .live), S .entities .single (x .index)))
           (λ t. c ∙ rw t (sym (lacks-count x (s .storage .sets) k t)))
 
-  pub snapshot-size : length (snapshot s) ≡ 4 + 9 * (length (s .entities .live) + rowsIn (s .storage .sets))
+  pub snapshot-size : length (snapshot s) ≡ 4 + 9 * length (s .entities .live) + (1 + s .settings .valueBytes) * rowsIn (s .storage .sets)
   snapshot-size =
+      let v = s .settings .valueBytes in
       let ss = s .storage .sets in
       let l = s .entities .live in
       let L = listed s S in
       omega (
         arith,
-        snapshot-length s,
-        live-size VALUE-BYTES ss (s .entities .issued) l (L .live) (L .issued),
-        sum-each (1 + VALUE-BYTES) (λ e. length (componentsOf e 0 ss)) l,
-        components-sum l ss 0 (λ j. sym (holders-sum l ss j) ∙ holders-rows j),
+        snapshot-length s v refl,
+        live-size v ss (s .entities .issued) l (L .live) (L .issued),
+        sum-each (1 + v) (λ e. length (componentsOf e 0 ss)) l,
+        ap (λ (n : ℕ). (1 + v) * n) (components-sum l ss 0 (λ j. sym (holders-sum l ss j) ∙ holders-rows j)),
       )
 
 -- ---- counting kind by kind

@@ -5,7 +5,6 @@ use mathlib.Core.List.{List, [], _∷_}
 use Prim.Native.Nat.{ℕ, _+_}
 use lib.ListN.{length}
 use lib.Seq.{sets}
-use Rattle.model.specs.Numbers.{VALUE-BYTES}
 use Rattle.model.specs.Store.{bytesOf}
 use Rattle.model.specs.Snapshot.{Entry, componentsOf, liveVersion, entryOf, flat}
 use Rattle.model.specs.Model.{entity}
@@ -20,9 +19,9 @@ oneBytes v (some x) k = k ∷ bytesOf v x
 abbrev pub entryFor : List ℕ → ℕ → ℕ → Entry
 entryFor w i v = record { entity = entity i v; components = componentsOf (entity i v) 0 (meaning w .storage .sets) }
 
--- the bytes of the live entity with index i, none where there is none
-abbrev pub indexBytes : List ℕ → ℕ → List ℕ
-indexBytes w i = flat VALUE-BYTES (entryOf (liveVersion i (meaning w .entities .live)) i (meaning w .storage .sets))
+-- the bytes of the live entity with index i, with values of v bytes; none where there is none
+abbrev pub indexBytes : ℕ → List ℕ → ℕ → List ℕ
+indexBytes v w i = flat v (entryOf (liveVersion i (meaning w .entities .live)) i (meaning w .storage .sets))
 
 -- the bytes a were written at `at`, and no other; r is the place after them
 pub record WrittenUntil (o o′ : List ℕ) (at r : ℕ) (a : List ℕ) : Type 0 where

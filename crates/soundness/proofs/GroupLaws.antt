@@ -7,7 +7,6 @@ use native.Mathlib.Decide.{decLe}
 use native.Mathlib.Omega.{arith}
 use lib.ListN.{length, take, drop, getD, take-append-drop, length-drop}
 use lib.Seq.{length-take-le, getD-take, getD-drop, ext-getD}
-use Rattle.model.specs.Numbers.{VALUE-BYTES}
 use Rattle.model.specs.Lists.{place}
 use Rattle.model.proofs.ListLaws.{count-append, count-at, count-place, count-take-le, place-count-take, getD-place, count-length}
 use Rattle.model.specs.Model.{Entity, SparseSet, Family, sameEntity, noEntity, setOf, held, headKind, kindsOf, allHeld}
@@ -83,7 +82,7 @@ module _ (sets : List SparseSet) (h : ℕ) where
 
 -- ---- beside h is right, and right is beside h
 
-module _ (kinds : List ℕ) (live : List Entity) (sets : List SparseSet) (S : SetsSound VALUE-BYTES kinds live sets) (lonce : (x : Entity) → cnt x live ≤ 1)
+module _ {v : ℕ} (kinds : List ℕ) (live : List Entity) (sets : List SparseSet) (S : SetsSound v kinds live sets) (lonce : (x : Entity) → cnt x live ≤ 1)
     (h : ℕ) (g : List ℕ) (c : ℕ) (i : In g h) where
   module _ (B : Beside sets h g c) where
     first : (k : ℕ) → In g k → take c (key sets k) ≡ take c (key sets h)
@@ -151,7 +150,7 @@ module _ (kinds : List ℕ) (live : List Entity) (sets : List SparseSet) (S : Se
 
 -- ---- along a family, and over all families
 
-module _ (kinds : List ℕ) (live : List Entity) (sets : List SparseSet) (S : SetsSound VALUE-BYTES kinds live sets) (lonce : (x : Entity) → cnt x live ≤ 1) where
+module _ {v : ℕ} (kinds : List ℕ) (live : List Entity) (sets : List SparseSet) (S : SetsSound v kinds live sets) (lonce : (x : Entity) → cnt x live ≤ 1) where
   module _ (h : ℕ) where
     groups-right : (acc : List ℕ) (b : ℕ) (rs : Family) → In acc h → Beside sets h acc b → GroupsOk sets h b rs → RightFrom sets live acc rs
     groups-right acc b [] i B G = tt

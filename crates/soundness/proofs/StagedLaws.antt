@@ -5,15 +5,16 @@ use Prim.Native.Nat.{ℕ, _≤_}
 use native.Mathlib.Decide.{decLe}
 use native.Mathlib.Omega.{arith}
 use lib.ListN.{List·getD-eq-default}
-use Rattle.model.specs.Numbers.{LIST-CAPACITY, VALUE-BYTES}
+use Rattle.model.specs.Numbers.{LIST-CAPACITY}
 use Rattle.model.specs.Model.{Component, kindOf}
 use Rattle.model.specs.Sound.{In, Distinct, ValueFits, noComponent, StagedSound}
+use Rattle.model.proofs.Operations.{zero-fits}
 use Rattle.words.specs.Table.{table}
 use Rattle.words.proofs.Tables.{length-table, getD-table, map-table}
 
-pub staged-sound : (kinds : List ℕ) (n : ℕ) (f : ℕ → Component) (l : List ℕ) → table n (λ i. kindOf (f i)) ≡ l
-    → n ≤ LIST-CAPACITY → Distinct l → ((k : ℕ) → In l k → In kinds k) → ((i : ℕ) → ValueFits VALUE-BYTES (f i .value)) → StagedSound VALUE-BYTES kinds (table n f)
-staged-sound kinds n f l e few once known values =
+pub staged-sound : (v : ℕ) (kinds : List ℕ) (n : ℕ) (f : ℕ → Component) (l : List ℕ) → table n (λ i. kindOf (f i)) ≡ l
+    → n ≤ LIST-CAPACITY → Distinct l → ((k : ℕ) → In l k → In kinds k) → ((i : ℕ) → ValueFits v (f i .value)) → StagedSound v kinds (table n f)
+staged-sound v kinds n f l e few once known values =
     let m : map kindOf (table n f) ≡ l = map-table kindOf n f ∙ e in
     record {
       few = omega (arith, length-table n f);
@@ -21,7 +22,7 @@ staged-sound kinds n f l e few once known values =
       known = rw m known;
       values = λ j.
           elim (decLe n j) [
-            | yes h ↦ rw (List·getD-eq-default (table n f) noComponent {n = j} (omega (arith, length-table n f))) (omega arith)
+            | yes h ↦ rw (List·getD-eq-default (table n f) noComponent {n = j} (omega (arith, length-table n f))) (zero-fits v)
             | no h ↦ rw (getD-table n f j noComponent (omega arith)) (values j)
           ];
     }

@@ -10,13 +10,14 @@ use native.Mathlib.Omega.{arith}
 use borrow.Author.Tests.{lt-ltb, le-ltb}
 use lib.Dec.{ltb}
 use lib.ListN.{length, getD, length-map, List·getD-map, List·getD-eq-default}
-use Rattle.model.specs.Numbers.{MAX-KINDS, VALUE-BYTES}
+use Rattle.model.specs.Numbers.{MAX-KINDS}
 use Rattle.words.specs.Offsets.{UNREGISTERED}
 use Rattle.model.specs.Lists.{place}
 use Rattle.model.proofs.ListLaws.{count-at, count-place, getD-place}
 use Rattle.model.specs.Model.{Entity, SparseSet, sameEntity, noEntity, noRow, mem, setOf, entityOf, keys}
 use Rattle.model.specs.Sound.{cnt, In, Distinct, ValueFits, KindsSound, SetsSound}
 use Rattle.model.proofs.SparseSets.{entity-eq, entity-same}
+use Rattle.model.proofs.Operations.{zero-fits}
 use Rattle.words.specs.Table.{table}
 use Rattle.model.proofs.BoolLaws.{by-eq}
 use Rattle.words.proofs.Tables.{length-table, getD-table, table-in, in-table, table-once}
@@ -33,11 +34,11 @@ pub record TableLinks (reg : ℕ) (kindAt slotOf : ℕ → ℕ) : Type 0 where
 abbrev pub setAt : ℕ → (ℕ → ℕ) → (ℕ → SparseSet) → ℕ → SparseSet
 setAt reg slotOf rowsAt k = cond (ltb (slotOf k) reg) (rowsAt (slotOf k)) []
 
--- what the columns must be: an entity once, live ones only, values of eight bytes
-pub record RowsOk (live : List Entity) (rows : SparseSet) : Type 0 where
+-- what the columns must be: an entity once, live ones only, values of v bytes
+pub record RowsOk (v : ℕ) (live : List Entity) (rows : SparseSet) : Type 0 where
   pub once : (x : Entity) → cnt x (keys rows) ≤ 1
   pub alive : (i : ℕ) → i < length rows → 1 ≤ cnt (getD rows i noRow .entity) live
-  pub values : (i : ℕ) → ValueFits VALUE-BYTES (getD rows i noRow .value)
+  pub values : (i : ℕ) → ValueFits v (getD rows i noRow .value)
 
 module _ (reg : ℕ) (kindAt slotOf : ℕ → ℕ) (T : TableLinks reg kindAt slotOf) where
   -- ---- the registered kinds
@@ -87,8 +88,8 @@ module _ (reg : ℕ) (kindAt slotOf : ℕ → ℕ) (T : TableLinks reg kindAt sl
         go true t = subst P (sym (set-slot k t)) (f (slotOf k) (registered-slot k t))
         go false t = subst P (sym (set-none k t)) z
 
-    pub sets-sound : (live : List Entity) → ((s : ℕ) → s < reg → RowsOk live (rowsAt s)) → SetsSound VALUE-BYTES (table reg kindAt) live sets
-    sets-sound live f =
+    pub sets-sound : (v : ℕ) (live : List Entity) → ((s : ℕ) → s < reg → RowsOk v live (rowsAt s)) → SetsSound v (table reg kindAt) live sets
+    sets-sound v live f =
         record {
           wide = length-table MAX-KINDS (setAt reg slotOf rowsAt);
           bare = set-none;
@@ -101,10 +102,10 @@ module _ (reg : ℕ) (kindAt slotOf : ℕ → ℕ) (T : TableLinks reg kindAt sl
               subst (λ (y : Entity). 1 ≤ cnt y live) e (f s h .alive i (omega (arith, length-map (rowsAt s) entityOf))))
               k;
           once = λ x k. each-set (λ (r : SparseSet). cnt x (keys r) ≤ 1) (omega arith) (λ s h. f s h .once x) k;
-          values = λ k j. each-set (λ (r : SparseSet). ValueFits VALUE-BYTES (getD r j noRow .value)) (omega arith) (λ s h. f s h .values j) k;
+          values = λ k j. each-set (λ (r : SparseSet). ValueFits v (getD r j noRow .value)) (zero-fits v) (λ s h. f s h .values j) k;
         }
 
-    pub sets-alive : (live : List Entity) → SetsSound VALUE-BYTES (table reg kindAt) live sets → (s : ℕ) → s < reg → (i : ℕ) → i < length (rowsAt s) → 1 ≤ cnt (getD (rowsAt s) i noRow .entity) live
+    pub sets-alive : {v : ℕ} (live : List Entity) → SetsSound v (table reg kindAt) live sets → (s : ℕ) → s < reg → (i : ℕ) → i < length (rowsAt s) → 1 ≤ cnt (getD (rowsAt s) i noRow .entity) live
     sets-alive live S s h i lt =
         let x = getD (rowsAt s) i noRow .entity in
         let e : getD (keys (rowsAt s)) i noEntity ≡ x = List·getD-map entityOf (rowsAt s) i noRow in

@@ -8,13 +8,14 @@ use native.Mathlib.Omega.{arith}
 use lib.Dec.{eqb}
 use lib.ListN.{length, getD, take, drop, List·getD-map, List·getD-eq-default}
 use lib.Seq.{getD-take, length-take-le}
-use Rattle.model.specs.Numbers.{CALLERS, ENTITY-LEN, LAST-CALLER, LIST-CAPACITY, MAX-GROUP-COUNT, MAX-KINDS, VALUE-BYTES}
+use Rattle.model.specs.Numbers.{CALLERS, ENTITY-LEN, LAST-CALLER, LIST-CAPACITY, MAX-GROUP-COUNT, MAX-KINDS}
 use Rattle.model.specs.Lists.{countOf}
 use Rattle.model.specs.Model.{Entity, noRow, kindOf, entityOf}
-use Rattle.model.specs.Sound.{cnt, In, Distinct, KindsSound, EntitiesSound, SetsSound, StagedSound, ExcludedSound, CountsSound, Buildable, AllRight}
+use Rattle.model.specs.Sound.{cnt, In, Distinct, EightOrSixteen, Limits, ValueFits, KindsSound, EntitiesSound, SetsSound, StagedSound, ExcludedSound, CountsSound, Buildable, AllRight}
 use Rattle.model.proofs.Numbers.{live-once}
 use Rattle.model.proofs.Operations.{live-count, count-live}
 use Rattle.model.proofs.KindLists.{in-count, count-in, at-in}
+use Rattle.model.proofs.Widths.{width-words}
 use Rattle.words.specs.Offsets.{BLOCK-LEN, COLUMN-KIND, DRAFT, ENTITIES, EXCLUDED-KINDS, GROUP-COUNTS, GROUP-FAMILIES, LAYOUT, LAYOUT-ARITIES, LAYOUT-KIND-ENDS, REFUSALS, ROWS, STAGED-KINDS, STAGED-VALUE-LEN, STAGED-VALUES, TABLE, UNREGISTERED}
 use Rattle.words.proofs.Offsets.{columnStart-mono, columnStart-first, shaped-of}
 use Rattle.words.specs.Part.{between}
@@ -35,7 +36,7 @@ use Rattle.layout.specs.Reading.{ReadStart}
 use Rattle.layout.proofs.Arrays.{layout-kinds, block-sized}
 use Rattle.layout_block.specs.Checks.{BlockSound, KindsOk}
 use Rattle.layout_block.proofs.Buildable.{block-buildable, uncounted}
-use Rattle.memory.specs.Header.{capacityOf, kindCapacityOf, registeredOf, stagedLen, excludedLen, draftFamilies, draftGroups, layoutFamilies, layoutGroups, callerOf, refusalsAt, slotOf, groupFamilyAt}
+use Rattle.memory.specs.Header.{capacityOf, kindCapacityOf, registeredOf, stagedLen, excludedLen, draftFamilies, draftGroups, layoutFamilies, layoutGroups, callerOf, refusalsAt, valueBytesOf, slotOf, groupFamilyAt}
 use Rattle.memory.specs.Meaning.{kindAt, kindsIn, setsIn, draftArrays, layoutArrays, draftIn, layoutIn, stagedAt, stagedIn, excludedIn, countsIn, meaning}
 use Rattle.memory.specs.Arranged.{TableSound, Registered, LayoutSound, Arranged, Sound as StoreSound}
 use Rattle.values.proofs.Numbers.{digits-take, words-from}
@@ -66,15 +67,15 @@ use Rattle.entity.specs.Meaning as entity
 abbrev pub Bits : List ℕ → Type 0
 Bits w = (i : ℕ) → getD w i 0 < 4294967296
 
-module _ (n k : ℕ) (w : List ℕ) (Z : SizeOk n k w) where
-  pub size-room : Room (shape n) k w
-  size-room = record { shaped = shaped-of n (Z .limits .most); few = Z .limits .mostKinds; size = Z .enough }
+module _ (n k v : ℕ) (w : List ℕ) (Z : SizeOk n k v w) where
+  pub size-room : Room (shape n v) k w
+  size-room = record { shaped = shaped-of n v (Z .limits .most) (Z .limits .width); few = Z .limits .mostKinds; size = Z .enough }
 
   pub size-long : ENTITIES ≤ length w
-  size-long = room-long (shape n) k w size-room
+  size-long = room-long (shape n v) k w size-room
 
   pub size-entities : ENTITIES + ENTITY-LEN * n ≤ length w
-  size-entities = omega (arith, Z .enough, columnStart-first (shape n), columnStart-mono (shape n) 0 k (omega arith))
+  size-entities = omega (arith, Z .enough, columnStart-first (shape n v), columnStart-mono (shape n v) 0 k (omega arith))
 
 module _ (w : List ℕ) where
   abbrev n : ℕ
@@ -85,6 +86,9 @@ module _ (w : List ℕ) where
 
   abbrev k : ℕ
   k = kindCapacityOf w
+
+  abbrev v : ℕ
+  v = valueBytesOf w
 
   abbrev reg : ℕ
   reg = registeredOf w
@@ -154,14 +158,16 @@ module _ (w : List ℕ) where
     staged-words : stagedLen w ≤ LIST-CAPACITY → ENTITIES ≤ length w → table (stagedLen w) (λ i. kindOf (stagedAt w i)) ≡ between STAGED-KINDS (STAGED-KINDS + stagedLen w) w
     staged-words few long = words-table w STAGED-KINDS (stagedLen w) (omega arith)
 
-    staged-are : Bits w → ENTITIES ≤ length w → ListOk w STAGED-KINDS (stagedLen w) → StagedSound VALUE-BYTES (kindsIn w) (stagedIn w)
+    staged-are : EightOrSixteen v → Bits w → ENTITIES ≤ length w → ListOk w STAGED-KINDS (stagedLen w) → StagedSound v (kindsIn w) (stagedIn w)
     unfolding stagedIn
-    staged-are bits long L =
-        staged-sound (kindsIn w) (stagedLen w) (stagedAt w) (between STAGED-KINDS (STAGED-KINDS + stagedLen w) w) (staged-words (L .few) long) (L .few) (L .listed .once .once)
+    staged-are width bits long L =
+        staged-sound v (kindsIn w) (stagedLen w) (stagedAt w) (between STAGED-KINDS (STAGED-KINDS + stagedLen w) w) (staged-words (L .few) long) (L .few) (L .listed .once .once)
         (of-listed (between STAGED-KINDS (STAGED-KINDS + stagedLen w) w) (L .listed))
-        (λ i. digits-take (z .stride) (drop (STAGED-VALUES + STAGED-VALUE-LEN * i) w) (words-from (STAGED-VALUES + STAGED-VALUE-LEN * i) w bits))
+        (λ i.
+        subst (λ (m : ℕ). ValueFits m (stagedAt w i .value)) (width-words v width)
+        (digits-take (z .stride) (drop (STAGED-VALUES + STAGED-VALUE-LEN * i) w) (words-from (STAGED-VALUES + STAGED-VALUE-LEN * i) w bits)))
 
-    are-staged : ENTITIES ≤ length w → stagedLen w ≤ LIST-CAPACITY → StagedSound VALUE-BYTES (kindsIn w) (stagedIn w) → ListOk w STAGED-KINDS (stagedLen w)
+    are-staged : ENTITIES ≤ length w → stagedLen w ≤ LIST-CAPACITY → StagedSound v (kindsIn w) (stagedIn w) → ListOk w STAGED-KINDS (stagedLen w)
     unfolding stagedIn
     are-staged long few S =
         let e : map kindOf (table (stagedLen w) (stagedAt w)) ≡ between STAGED-KINDS (STAGED-KINDS + stagedLen w) w = map-table kindOf (stagedLen w) (stagedAt w) ∙ staged-words few long in
@@ -229,8 +235,8 @@ module _ (w : List ℕ) where
 
   -- ---- columns
 
-  columns-are : SizeOk n k w → Each k (ColumnOk z reg w) → Columns z k w
-  columns-are Z C = record { shaped = shaped-of n (Z .limits .most); few = Z .limits .mostKinds; size = Z .enough; columns = λ s h. C s h .sound }
+  columns-are : SizeOk n k v w → Each k (ColumnOk z reg w) → Columns z k w
+  columns-are Z C = record { shaped = shaped-of n v (Z .limits .most) (Z .limits .width); few = Z .limits .mostKinds; size = Z .enough; columns = λ s h. C s h .sound }
 
   abbrev live : List Entity
   live = entitiesIn n w .live
@@ -243,10 +249,10 @@ module _ (w : List ℕ) where
   unfolding columnOf
   column-bits bits s = between-below 4294967296 (columnStart z s) (columnStart z s + columnLen z) w (omega arith) bits
 
-  sets-are : TableSound w → k ≤ MAX-KINDS → Bits w → Columns z k w → Each k (ColumnOk z reg w) → SetsSound VALUE-BYTES (kindsIn w) live (setsIn w)
+  sets-are : TableSound w → Limits n k v → Bits w → Columns z k w → Each k (ColumnOk z reg w) → SetsSound v (kindsIn w) live (setsIn w)
   unfolding kindsIn setsIn
-  sets-are T most bits D C =
-      sets-sound reg (kindAt w) (slotOf w) (tabled T most) (λ s. rowsOf z s w) live
+  sets-are T L bits D C =
+      sets-sound reg (kindAt w) (slotOf w) (tabled T (L .mostKinds)) (λ s. rowsOf z s w) v live
       (λ s h.
       let q : s < k = omega (arith, T .few) in
       record {
@@ -254,10 +260,11 @@ module _ (w : List ℕ) where
         alive = λ i lt.
             subst (λ (e : Entity). 1 ≤ cnt e live) (sym (row-entity s (lent z k s w D q) i lt))
             (live-count (entityIn w (columnStart z s + ROWS + 2 * i)) (entitiesIn n w) (C s q .alive i (omega (arith, length-rows z (columnOf z s w)))));
-        values = rows-values z (columnOf z s w) (column-bits bits s);
+        values = λ i.
+            subst (λ (m : ℕ). ValueFits m (getD (rowsOf z s w) i noRow .value)) (width-words v (L .width)) (rows-values z (columnOf z s w) (column-bits bits s) i);
       })
 
-  alive-of : TableSound w → k ≤ MAX-KINDS → Columns z k w → SetsSound VALUE-BYTES (kindsIn w) live (setsIn w) → (s : ℕ) → s < reg → Each (lengthOf (columnOf z s w)) (RowLive n w (columnStart z s + ROWS))
+  alive-of : TableSound w → k ≤ MAX-KINDS → Columns z k w → SetsSound v (kindsIn w) live (setsIn w) → (s : ℕ) → s < reg → Each (lengthOf (columnOf z s w)) (RowLive n w (columnStart z s + ROWS))
   unfolding kindsIn setsIn
   alive-of T most D S s h i lt =
       let q : s < k = omega (arith, T .few) in
@@ -314,7 +321,7 @@ module _ (w : List ℕ) where
 
       -- ---- the counts
 
-      module _ (A : Arranged w) (S : SetsSound VALUE-BYTES (kindsIn w) live (setsIn w)) (once : (x : Entity) → cnt x live ≤ 1) (B : Buildable (kindsIn w) (layoutIn w)) where
+      module _ (A : Arranged w) (S : SetsSound v (kindsIn w) live (setsIn w)) (once : (x : Entity) → cnt x live ≤ 1) (B : Buildable (kindsIn w) (layoutIn w)) where
         abbrev of : ℕ → ℕ
         of g = groupFamilyAt w g
 
@@ -341,25 +348,25 @@ module _ (w : List ℕ) where
 
   -- ---- from the clauses
 
-  module _ (Z : SizeOk n k w) (P : PartsOk z k w) where
+  module _ (Z : SizeOk n k v w) (P : PartsOk z k w) where
     abbrev T : TableSound w
     T = table-sound (P .table)
 
     pub forced : (block : BlockSound (between LAYOUT GROUP-FAMILIES w) slots (layoutFamilies w) (layoutGroups w)) → Force z (layoutFamilies w) w
     forced block =
-        let l = size-long n k w Z in
+        let l = size-long n k v w Z in
         force w l (block .formed .good) (layout-known T (Z .limits .mostKinds) l block) z k (columns-are Z (P .columns)) (P .table .few)
 
     -- what the check of the columns' own groups asks, with the layout's width read
     module _ (block : BlockSound (between LAYOUT GROUP-FAMILIES w) slots (layoutFamilies w) (layoutGroups w)) (width : ℕ) (e : ReadStart w LAYOUT-KIND-ENDS (layoutFamilies w) width) where
       abbrev reach : ENTITIES ≤ length w
-      reach = size-long n k w Z
+      reach = size-long n k v w Z
 
       pub width-is : width ≡ widthOf a
       width-is = e .is ∙ sym (kind-start-word w (layoutFamilies w) (omega (arith, block .formed .good .few)))
 
       pub own-room : Room z reg w
-      own-room = room-less z k w (size-room n k w Z) reg (P .table .few)
+      own-room = room-less z k w (size-room n k v w Z) reg (P .table .few)
 
       pub own-heads : (s : ℕ) → s < reg → headAt z w s COLUMN-KIND < MAX-KINDS
       own-heads s h = P .table .slots s h .small
@@ -378,7 +385,7 @@ module _ (w : List ℕ) where
       most = Z .limits .mostKinds
 
       abbrev long : ENTITIES ≤ length w
-      long = size-long n k w Z
+      long = size-long n k v w Z
 
       layout-sound : LayoutSound w
       layout-sound = layout-are long (Y .block .formed .good) (layout-known T most long (Y .block)) Y
@@ -417,8 +424,8 @@ module _ (w : List ℕ) where
         abbrev E : EntitiesSound n (entitiesIn n w)
         E = entities-are bits (P .entities)
 
-        abbrev S : SetsSound VALUE-BYTES (kindsIn w) live (setsIn w)
-        S = sets-are T most bits (columns-are Z (P .columns)) (P .columns)
+        abbrev S : SetsSound v (kindsIn w) live (setsIn w)
+        S = sets-are T (Z .limits) bits (columns-are Z (P .columns)) (P .columns)
 
         means-of : modelSound.StoreSound (meaning w)
         unfolding meaning
@@ -428,7 +435,7 @@ module _ (w : List ℕ) where
               kinds = kinds-are T most;
               entities = E;
               sets = S;
-              staged = staged-are T most bits long (L .staged);
+              staged = staged-are T most (Z .limits .width) bits long (L .staged);
               excluded = excluded-are T most long (L .excluded);
               draft = draft-are;
               uncounted = uncounted-are;
@@ -445,8 +452,8 @@ module _ (w : List ℕ) where
   -- what the model says of the store that the words mean
   pub record Means : Type 0 where
     pub entities : EntitiesSound n (entitiesIn n w)
-    pub sets : SetsSound VALUE-BYTES (kindsIn w) live (setsIn w)
-    pub staged : StagedSound VALUE-BYTES (kindsIn w) (stagedIn w)
+    pub sets : SetsSound v (kindsIn w) live (setsIn w)
+    pub staged : StagedSound v (kindsIn w) (stagedIn w)
     pub excluded : ExcludedSound (kindsIn w) (excludedIn w)
     pub draft : Buildable (kindsIn w) (draftIn w)
     pub layout : Buildable (kindsIn w) (layoutIn w)
@@ -466,11 +473,11 @@ module _ (w : List ℕ) where
     abbrev small : k ≤ MAX-KINDS
     small = A .limits .mostKinds
 
-    pub size-of : SizeOk n k w
+    pub size-of : SizeOk n k v w
     size-of = record { limits = A .limits; enough = A .enough }
 
     abbrev far : ENTITIES ≤ length w
-    far = size-long n k w size-of
+    far = size-long n k v w size-of
 
     pub parts-of : PartsOk z k w
     parts-of =
@@ -478,13 +485,13 @@ module _ (w : List ℕ) where
           table = sound-table (A .table);
           entities = A .entities;
           columns = λ s h.
-              let v : reg ≤ s → lengthOf (columnOf z s w) ≡ 0 = λ r. sym (length-rows z (columnOf z s w)) ∙ ap length (A .vacant s r h) in
+              let none : reg ≤ s → lengthOf (columnOf z s w) ≡ 0 = λ r. sym (length-rows z (columnOf z s w)) ∙ ap length (A .vacant s r h) in
               record {
                 sound = A .columns .columns s h;
-                vacant = v;
+                vacant = none;
                 alive = λ i lt.
                     elim (decLe reg s) [
-                      | yes q ↦ absurd (omega (arith, v q))
+                      | yes q ↦ absurd (omega (arith, none q))
                       | no q ↦ alive-of (A .table) small (A .columns) (M .sets) s (omega arith) i lt
                     ];
               };

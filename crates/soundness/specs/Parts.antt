@@ -14,7 +14,7 @@ use Rattle.entity.specs.Meaning as entity
 use Rattle.entity.specs.Meaning.{entityPart}
 use Rattle.layout.specs.Layout.{widthOf}
 use Rattle.layout_block.specs.Checks.{BlockSound}
-use Rattle.memory.specs.Header.{capacityOf, kindCapacityOf, registeredOf, stagedLen, excludedLen, draftFamilies, draftGroups, layoutFamilies, layoutGroups, callerOf, ruleOf}
+use Rattle.memory.specs.Header.{capacityOf, kindCapacityOf, registeredOf, stagedLen, excludedLen, draftFamilies, draftGroups, layoutFamilies, layoutGroups, callerOf, ruleOf, valueBytesOf}
 use Rattle.memory.specs.Meaning.{layoutArrays}
 use Rattle.sound_columns.specs.Table.{TableOk}
 use Rattle.sound_columns.specs.Rows.{ColumnOk}
@@ -22,10 +22,10 @@ use Rattle.sound_columns.specs.Listed.{ListOk}
 use Rattle.sound_groups.specs.Spans.{HeadsOk, OwnOk}
 use Rattle.sound_groups.specs.Counts.{CountedOk}
 
--- "N and K within the limits of refusal 1, enough words for them"
-pub record SizeOk (n k : ℕ) (w : List ℕ) : Type 0 where
-  pub limits : Limits n k
-  pub enough : columnStart (shape n) k ≤ length w
+-- "N and K within the limits of refusal 1, enough words for them"; 02, No. 13: "part width 8 or 16, and a sound one has one of the two"
+pub record SizeOk (n k v : ℕ) (w : List ℕ) : Type 0 where
+  pub limits : Limits n k v
+  pub enough : columnStart (shape n v) k ≤ length w
 
 -- "at most K registered kinds, each with a column of its own"; the entities; "each column with its own lookups", "columns holding live cards only"
 pub record PartsOk (z : Shape) (k : ℕ) (w : List ℕ) : Type 0 where
@@ -43,7 +43,7 @@ pub record ListsOk (w : List ℕ) : Type 0 where
 
 -- what the clauses on the layout stand on
 pub record Ground (w : List ℕ) : Type 0 where
-  pub size : SizeOk (capacityOf w) (kindCapacityOf w) w
+  pub size : SizeOk (capacityOf w) (kindCapacityOf w) (valueBytesOf w) w
   pub parts : PartsOk (shapeOf w) (kindCapacityOf w) w
 
 -- "layout of registered kinds, such as commands can build", and the heads of the columns that it names

@@ -1,6 +1,7 @@
 // Whether lent words are a sound store (01), in time linear in the words.
 use layout::starts::start_of;
 use layout_block::block_ok;
+use memory::empty::within_limits;
 use sound_columns::lists::is_list;
 use sound_columns::slots::are_columns;
 use sound_columns::table::is_table;
@@ -27,32 +28,25 @@ use words::STAGED_KINDS;
 use words::STAGED_LEN;
 use words::Shape;
 use words::TABLE;
+use words::VALUE_WIDTH;
 ghost use mathlib.Core.Path.{_≡_};
 ghost use Prim.Native.Nat.{_≤_};
 ghost use lib.ListN.{length};
 ghost use Rattle.words.specs.Offsets.{ENTITIES};
 ghost use Rattle.words.specs.Decides.{Decides};
 ghost use Rattle.words.specs.Shape.{shapeOf};
+ghost use Rattle.memory.specs.Header.{valueBytesOf};
 ghost use Rattle.memory.specs.Arranged.{Sound};
 ghost use Rattle.soundness.specs.Parts.{SizeOk, PartsOk, ListsOk, Ground, LayoutOk, CountsOk};
 
-// N and K within the limits, and enough words for them.
-fn has_room(words: &[u32], n: usize, k: usize) -> bool
-    ensures { λ r. ⌜ Decides r (SizeOk n k (now (words .entry))) ⌝ }
+// N, K and the bytes of a value within the limits, and enough words for them.
+fn has_room(words: &[u32], n: usize, k: usize, v: usize) -> bool
+    ensures { λ r. ⌜ Decides r (SizeOk n k v (now (words .entry))) ⌝ }
 {
-    if n < 1 {
+    if !within_limits(n, k, v) {
         return false;
     }
-    if model::MAX_ENTITIES < n {
-        return false;
-    }
-    if k < 1 {
-        return false;
-    }
-    if model::MAX_KINDS < k {
-        return false;
-    }
-    if words.len() < model::words_needed(n, k) {
+    if words.len() < model::words_needed(n, k, v) {
         return false;
     }
     true
@@ -61,7 +55,7 @@ fn has_room(words: &[u32], n: usize, k: usize) -> bool
 // The table of kinds, the entities, the columns.
 fn has_parts(words: &[u32], z: Shape, k: usize) -> bool
     requires { ⌜ z ≡ shapeOf (now words) ⌝ }
-    requires { ⌜ SizeOk (z .capacity) k (now words) ⌝ }
+    requires { ⌜ SizeOk (z .capacity) k (valueBytesOf (now words)) (now words) ⌝ }
     ensures { λ r. ⌜ Decides r (PartsOk z k (now (words .entry))) ⌝ }
 {
     if !is_table(words, z, k) {
@@ -156,7 +150,8 @@ pub fn is_sound(words: &[u32]) -> bool
     }
     let z = words::shape_of(words);
     let k = words[KIND_CAPACITY] as usize;
-    if !has_room(words, z.capacity, k) {
+    let v = words[VALUE_WIDTH] as usize;
+    if !has_room(words, z.capacity, k, v) {
         return false;
     }
     if !has_parts(words, z, k) {

@@ -34,16 +34,16 @@ left-in-words c t room s w w₁ w₂ o o′ r T St R h = go (R .sound) (R .decid
         }
 
 -- after an accepted start of these settings over any words, a run of the building tape with its room leaves words that mean what is built
-pub built-in-words : (c : Settings) (b : Build) (w w₁ w₂ o o′ : List ℕ) (r : Ran) → BuildSound (c .kindCapacity) b → StartsWith c w w₁ 0 → Runs w₁ w₂ (buildTape b) o o′ r → buildRoom c b ≤ length o → LeftInWords (builtStore c b) w₂ r
-built-in-words c b w w₁ w₂ o o′ r B = left-in-words c (buildTape b) (buildRoom c b) (builtStore c b) w w₁ w₂ o o′ r (tape-builds c b B)
+pub built-in-words : (c : Settings) (b : Build) (w w₁ w₂ o o′ : List ℕ) (r : Ran) → BuildSound (c .kindCapacity) (c .valueBytes) b → StartsWith c w w₁ 0 → Runs w₁ w₂ (buildTape (c .valueBytes) b) o o′ r → buildRoom c b ≤ length o → LeftInWords (builtStore c b) w₂ r
+built-in-words c b w w₁ w₂ o o′ r B = left-in-words c (buildTape (c .valueBytes) b) (buildRoom c b) (builtStore c b) w w₁ w₂ o o′ r (tape-builds c b B)
 
 -- and what stands in any words that a start and runs reach is such as this tape builds
-pub reached-buildable : {w : List ℕ} → Reached w → BuildSound (meaning w .settings .kindCapacity) (buildOf (meaning w))
+pub reached-buildable : {w : List ℕ} → Reached w → BuildSound (meaning w .settings .kindCapacity) (meaning w .settings .valueBytes) (buildOf (meaning w))
 reached-buildable {w} c = own-sound (meaning w) (reached-sound c .means)
 
--- sound words in which no number is issued are built anew over any words, by an accepted start under its rule and one run: the two are alike
+-- sound words in which no number is issued are built anew over any words, by an accepted start of its width, under its rule, and one run: the two are alike
 pub rebuilt-in-words : (w v v₁ v₂ o o′ : List ℕ) (r : Ran) → Sound w → meaning w .entities .issued ≡ 0 → StartsWith (meaning w .settings) v v₁ 0
-    → Runs v₁ v₂ (buildTape (buildOf (meaning w))) o o′ r → buildRoom (meaning w .settings) (buildOf (meaning w)) ≤ length o → Alike w v₂
+    → Runs v₁ v₂ (buildTape (meaning w .settings .valueBytes) (buildOf (meaning w))) o o′ r → buildRoom (meaning w .settings) (buildOf (meaning w)) ≤ length o → Alike w v₂
 rebuilt-in-words w v v₁ v₂ o o′ r S none St R h =
     let s = meaning w in
     let L = built-in-words (s .settings) (buildOf s) v v₁ v₂ o o′ r (own-sound s (S .means)) St R h in

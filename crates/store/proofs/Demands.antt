@@ -10,10 +10,10 @@ use lib.ListN.{length, take, drop, getD}
 use denote.Ref.{RefT}
 use Rattle.model.specs.Numbers.{BEYOND, CALLER, KIND, NOROOM, UNKNOWN, UNSOUND, WIDE}
 use Rattle.model.specs.Store.{Settings, Store, emptyWith}
-use Rattle.model.specs.Commands.{Command}
+use Rattle.model.specs.Commands.{Command, commandOn}
 use Rattle.model.specs.Refusals.{numberOf, firstLine, BeforeCommand, beforeLines, linesOf, startLines, rollLines, columnLines}
 use Rattle.model.specs.Run.{Outcome, refuses, accepts, does, storeAfter, answerOf, halt, run}
-use Rattle.model.specs.Snapshot.{snapshot, Same}
+use Rattle.model.specs.Snapshot.{snapshot, Same, SameWidth}
 use Rattle.model.specs.History.{retired}
 use Rattle.model.specs.Entries.{Started, refusesStart, makes, startTold, startWith, columnRefusal, column, roll}
 use Rattle.model.proofs.Counts.{refusal-unchanged}
@@ -32,7 +32,7 @@ use Rattle.run.specs.declared.Ran.{Ran}
 use Rattle.snapshot.proofs.Rolled.{roll-fits}
 use Rattle.store.specs.declared.Rolled.{Rolled}
 use Rattle.store.specs.Entries.{startNumber, StartLeaves, StartsWith, columnRefused, ColumnNumbered, columnWords, partPlace, ColumnPart, ranOf, RunLeaves, Runs, Rolls}
-use Rattle.store.specs.Course.{before, commandOn, Course, ended, stopped, refused, done, AfterEach, BeforeEach, EachDone, EachAnswer, EachRefusal, Reached, started, ran, Held, begun, opened, went-on, retiredIn}
+use Rattle.store.specs.Course.{before, Course, ended, stopped, refused, done, AfterEach, BeforeEach, EachDone, EachAnswer, EachRefusal, Reached, started, ran, Held, begun, opened, went-on, retiredIn}
 use Rattle.store.proofs.Starting.{start-number}
 use Rattle.store.proofs.Tables.{tabled, judged, start-tabled}
 use Rattle.store.specs.Theorems.{Tabled, Judged, RefusalAlone, GroupsHold}
@@ -101,9 +101,9 @@ answers-in : {w t w′ bytes : List ℕ} {room stop commands read : ℕ} (c : Co
 answers-in ended = tt
 answers-in (stopped f) = tt
 answers-in (refused w {t = t} {b = b} {n = n} h f m s c) =
-    (answer-tabled (commandOn b t) (meaning w) n (sym (ap numberOf (first-exact (linesOf (commandOn b t)) (meaning w) n .1 f))), answers-in c)
+    (answer-tabled (commandOn b t (meaning w)) (meaning w) n (sym (ap numberOf (first-exact (linesOf (commandOn b t (meaning w))) (meaning w) n .1 f))), answers-in c)
 answers-in (done w w₁ {t = t} {b = b} h n m s c) =
-    (answer-tabled (commandOn b t) (meaning w) 0 (sym (ap numberOf (none-exact (linesOf (commandOn b t)) (meaning w) .1 n))), answers-in c)
+    (answer-tabled (commandOn b t (meaning w)) (meaning w) 0 (sym (ap numberOf (none-exact (linesOf (commandOn b t (meaning w))) (meaning w) .1 n))), answers-in c)
 
 pub answers-exact : (w w′ t o o′ : List ℕ) (r : Ran) (R : Runs w w′ t o o′ r) (S : Sound w) → EachAnswer (λ v k l. Tabled (linesOf k) (meaning v) (getD l 0 0)) (run-course w w′ t o o′ r R S)
 answers-exact w w′ t o o′ r R S = answers-in (run-course w w′ t o o′ r R S)
@@ -119,9 +119,9 @@ module _ (P : Command → Store → Store → List ℕ → Type 0) (says : (k : 
   told-in S ended = tt
   told-in S (stopped f) = tt
   told-in S (refused w {t = t} {bytes = bytes} {b = b} {n = n} h f m s c) =
-      (told-by (commandOn b t) (meaning w) (meaning (withRefusal w)) (refuses n) bytes (S .means) (refusal-exact (commandOn b t) (meaning w) n .1 f) (m .means), told-in s c)
+      (told-by (commandOn b t (meaning w)) (meaning w) (meaning (withRefusal w)) (refuses n) bytes (S .means) (refusal-exact (commandOn b t (meaning w)) (meaning w) n .1 f) (m .means), told-in s c)
   told-in S (done w w₁ {t = t} {bytes = bytes} {b = b} h n m s c) =
-      (told-by (commandOn b t) (meaning w) (meaning w₁) (accepts _ _) bytes (S .means) (accepted-exact (commandOn b t) (meaning w) _ _ .1 (n, refl, refl)) (m .means), told-in s c)
+      (told-by (commandOn b t (meaning w)) (meaning w) (meaning w₁) (accepts _ _) bytes (S .means) (accepted-exact (commandOn b t (meaning w)) (meaning w) _ _ .1 (n, refl, refl)) (m .means), told-in s c)
 
   pub told-in-run : (w w′ t o o′ : List ℕ) (r : Ran) (R : Runs w w′ t o o′ r) (S : Sound w) → EachDone (λ v k v′ l. P k (meaning v) (meaning v′) l) (run-course w w′ t o o′ r R S)
   told-in-run w w′ t o o′ r R S = told-in S (run-course w w′ t o o′ r R S)
@@ -131,7 +131,7 @@ wide-in : {w t w′ bytes : List ℕ} {room stop commands read : ℕ} → Sound 
 wide-in S ended = tt
 wide-in S (stopped f) = tt
 wide-in S (refused w {t = t} {b = b} h f m s c) =
-    ((λ e. wide-never (commandOn b t) (meaning w) (S .means) (refusal-exact (commandOn b t) (meaning w) _ .1 f ∙ ap refuses e)), wide-in s c)
+    ((λ e. wide-never (commandOn b t (meaning w)) (meaning w) (S .means) (refusal-exact (commandOn b t (meaning w)) (meaning w) _ .1 f ∙ ap refuses e)), wide-in s c)
 wide-in S (done w w₁ h n m s c) = ((λ e. omega arith), wide-in s c)
 
 pub wide-never-in-run : (w w′ t o o′ : List ℕ) (r : Ran) (R : Runs w w′ t o o′ r) (S : Sound w) → EachAnswer (λ v k l. getD l 0 0 ≡ WIDE → ⊥) (run-course w w′ t o o′ r R S)
@@ -261,11 +261,11 @@ rolled-snapshot w o o′ r R z =
     let a = over-written rollLines (record { room = length o; store = meaning w }) (snapshot (meaning w)) NOROOM NOROOM (omega arith) w o o′ (r .number) (r .written) (omega arith) R z in
     (a .0, a .2)
 
-pub rolls-equal : (w v o p o′ p′ : List ℕ) (r q : Rolled) → Rolls w o o′ r → Rolls v p p′ q → r .number ≡ 0 → q .number ≡ 0 → (take (r .written) o′ ≡ take (q .written) p′) ↔ Same (meaning w) (meaning v)
-rolls-equal w v o p o′ p′ r q R Q zr zq =
+pub rolls-equal : (w v o p o′ p′ : List ℕ) (r q : Rolled) → SameWidth (meaning w) (meaning v) → Rolls w o o′ r → Rolls v p p′ q → r .number ≡ 0 → q .number ≡ 0 → (take (r .written) o′ ≡ take (q .written) p′) ↔ Same (meaning w) (meaning v)
+rolls-equal w v o p o′ p′ r q one R Q zr zq =
     let a = rolled-snapshot w o o′ r R zr in
     let b = rolled-snapshot v p p′ q Q zq in
-    let e = snapshots-of-sound (meaning w) (meaning v) (a .0 .means) (b .0 .means) in
+    let e = snapshots-of-sound (meaning w) (meaning v) one (a .0 .means) (b .0 .means) in
     ((λ x. e .0 (sym (a .1) ∙ x ∙ b .1)), (λ x. a .1 ∙ e .1 x ∙ sym (b .1)))
 
 -- from a start, after any runs, a roll that has room for the snapshot is accepted
@@ -273,11 +273,11 @@ pub reached-rolls : {w : List ℕ} (o o′ : List ℕ) (r : Rolled) → Reached 
 reached-rolls {w} o o′ r c h R =
     over-accepted w o o′ (snapshot (meaning w)) (r .number) (r .written) (roll (length o) (meaning w)) (reached-sound c) (roll-fits (length o) (meaning w) h) R .0
 
--- so of two stores, each reached from a start by any runs, with room for both: equal bytes exactly if the same entities are live with the same
+-- so of two stores of one width, each reached from a start by any runs, with room for both: equal bytes exactly if the same entities are live with the same
 -- components and values
-pub reached-rolls-equal : {w v : List ℕ} (o p o′ p′ : List ℕ) (r q : Rolled) → Reached w → Reached v → length (snapshot (meaning w)) ≤ length o → length (snapshot (meaning v)) ≤ length p → Rolls w o o′ r → Rolls v p p′ q
+pub reached-rolls-equal : {w v : List ℕ} (o p o′ p′ : List ℕ) (r q : Rolled) → SameWidth (meaning w) (meaning v) → Reached w → Reached v → length (snapshot (meaning w)) ≤ length o → length (snapshot (meaning v)) ≤ length p → Rolls w o o′ r → Rolls v p p′ q
     → (take (r .written) o′ ≡ take (q .written) p′) ↔ Same (meaning w) (meaning v)
-reached-rolls-equal {w} {v} o p o′ p′ r q c d h k R Q = rolls-equal w v o p o′ p′ r q R Q (reached-rolls o o′ r c h R) (reached-rolls p p′ q d k Q)
+reached-rolls-equal {w} {v} o p o′ p′ r q one c d h k R Q = rolls-equal w v o p o′ p′ r q one R Q (reached-rolls o o′ r c h R) (reached-rolls p p′ q d k Q)
 
 -- ---- "From an empty store, numbers issued = live + waiting + retired; retired counts past destructions at the last version": after any runs
 

@@ -38,11 +38,11 @@ alike-same w v e = record { means = ap meaning e; sound = ((λ S. subst Sound e 
 
 -- ---- words needed
 
-pub needs-determined : (n k r q : ℕ) (b : Bool) → Decides b (Limits n k) → Needs n k r → Needs n k q → r ≡ q
-needs-determined n k r q true d R Q = R .within d ∙ sym (Q .within d)
-needs-determined n k r q false d R Q = R .outside d ∙ sym (Q .outside d)
+pub needs-determined : (n k v r q : ℕ) (b : Bool) → Decides b (Limits n k v) → Needs n k v r → Needs n k v q → r ≡ q
+needs-determined n k v r q true d R Q = R .within d ∙ sym (Q .within d)
+needs-determined n k v r q false d R Q = R .outside d ∙ sym (Q .outside d)
 
--- ---- start, under either rule: over as many words the same number, whatever they held; and where it is 0, the same store
+-- ---- start, at either width and under either rule: over as many words the same number, whatever they held; and where it is 0, the same store
 
 pub start-determined : (c : Settings) (w v w′ v′ : List ℕ) (r q : ℕ) → length w ≡ length v → StartsWith c w w′ r → StartsWith c v v′ q → SameStart w v w′ v′ r q
 start-determined c w v w′ v′ r q e R Q =

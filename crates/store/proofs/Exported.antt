@@ -12,7 +12,7 @@ use denote.Ref.{RefT}
 use Rattle.model.specs.Numbers.{NOROOM, BEYOND}
 use Rattle.model.specs.Store.{Store}
 use Rattle.model.specs.Refusals.{NoneHolds, First, firstLine, numberOf, columnLines}
-use Rattle.model.specs.Entries.{columnRefusal, column}
+use Rattle.model.specs.Entries.{columnRefusal, column, itemWords}
 use Rattle.model.proofs.Lines.{first-exact, none-from}
 use Rattle.model.proofs.Entries.{column-exact, column-refused, column-accepted}
 use Rattle.model.proofs.Emitting.{emits-few}
@@ -44,15 +44,15 @@ row-after-head : (values : Bool) (w : List ℕ) (k a : ℕ) → 1 ≤ rowPlace v
 row-after-head false w k a = omega arith
 row-after-head true w k a = omega arith
 
--- where column is accepted it is not 0, and column's words, two a row, stand there; where column is refused it is 0
+-- where column is accepted it is not 0, and column's words, two for an entity and a value's for a value, stand there; where column is refused it is 0
 pub placed-words : (w : List ℕ) (values : Bool) (k a e n r : ℕ) → ColumnNumbered w k a e n → ColumnPlaced w values k a e r
-    → (n ≡ 0 → (1 ≤ r) × (take (2 * (e - a)) (drop r w) ≡ column values k a e (meaning w))) × (1 ≤ n → r ≡ 0)
+    → (n ≡ 0 → (1 ≤ r) × (take (itemWords (meaning w .settings .valueBytes) values * (e - a)) (drop r w) ≡ column values k a e (meaning w))) × (1 ≤ n → r ≡ 0)
 placed-words w values k a e n r C R = (there, front)
   where
     s : Store
     s = meaning w
 
-    there : n ≡ 0 → (1 ≤ r) × (take (2 * (e - a)) (drop r w) ≡ column values k a e s)
+    there : n ≡ 0 → (1 ≤ r) × (take (itemWords (s .settings .valueBytes) values * (e - a)) (drop r w) ≡ column values k a e s)
     there z =
         let G : Given w k a e = given-of w k a e n C z in
         let b : R .sound ≡ true = decides-true (R .sound) (R .decides) (G .sound) in
@@ -60,7 +60,7 @@ placed-words w values k a e n r C R = (there, front)
         R .place ∙ (λ i. partPlace (columnRefused (b i) k a e s) values w k a) ∙ ap (λ (o : Option ℕ). partPlace o values w k a) (G .taken) in
         let words : column values k a e s ≡ take (length (column values k a e s)) (drop r w) =
         subst (λ (c : Bool). columnWords c values k a e s ≡ take (length (columnWords c values k a e s)) (drop r w)) b (R .words) in
-        let long : length (column values k a e s) ≡ 2 * (e - a) = column-accepted values k a e s (G .taken) .size in
+        let long : length (column values k a e s) ≡ itemWords (s .settings .valueBytes) values * (e - a) = column-accepted values k a e s (G .taken) .size in
         (rw at (row-after-head values w k a), sym (words ∙ ap (λ (m : ℕ). take m (drop r w)) long))
 
     line : (o : Option ℕ) → n ≡ numberOf o → 1 ≤ n → partPlace o values w k a ≡ 0

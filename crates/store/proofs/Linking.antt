@@ -17,7 +17,7 @@ use Rattle.words.specs.Decides.{Decides}
 use Rattle.memory.specs.Meaning.{meaning}
 use Rattle.memory.specs.Arranged.{Sound}
 use Rattle.columns.specs.Parts.{rowPlace, RowsPart}
-use Rattle.columns.proofs.Columns.{known-of, words-there}
+use Rattle.columns.proofs.Columns.{sizeOf, known-of, words-there}
 use Rattle.store.specs.Entries.{firstRefusal, columnRefused, ColumnNumbered, EmitsOver}
 use Rattle.store.specs.Linked.{ColumnPlaced, CopyTold, copyTold, ofPart, roomLine, copyLines, copied, ColumnCopied}
 use Rattle.store.proofs.Handing.{Given}
@@ -40,8 +40,8 @@ refused-place w values k a e n C f = go (C .sound) (C .decides) (C .number)
 
 pub given-place : (w : List ℕ) (values : Bool) (k a e first : ℕ) → Given w k a e → ((j : ℕ) → getD w j 0 < 4294967296) → first ≡ rowPlace values w k a → ColumnPlaced w values k a e first
 given-place w values k a e first G small at =
-    let there : column values k a e (meaning w) ≡ take (2 * (e - a)) (drop (rowPlace values w k a) w) = words-there w values k a e (G .sound .arranged) (G .taken) small in
-    let long : length (column values k a e (meaning w)) ≡ 2 * (e - a) = known-of w values k a e (G .sound .arranged) (G .taken) .size in
+    let there : column values k a e (meaning w) ≡ take (sizeOf w values a e) (drop (rowPlace values w k a) w) = words-there w values k a e (G .sound .arranged) (G .taken) small in
+    let long : length (column values k a e (meaning w)) ≡ sizeOf w values a e = known-of w values k a e (G .sound .arranged) (G .taken) .size in
     record {
       sound = true;
       decides = G .sound;

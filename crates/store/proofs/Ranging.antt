@@ -12,7 +12,7 @@ use lib.Dec.{ltb}
 use lib.ListN.{length, getD, take, drop, length-append, length-map}
 use lib.Seq.{take-at, drop-at, length-slice}
 use denote.Ref.{RefT}
-use Rattle.model.specs.Numbers.{NOROOM, RANGE-BYTE}
+use Rattle.model.specs.Numbers.{NOROOM, RANGE-BYTE, strideOf}
 use Rattle.model.specs.Model.{Entity, SparseSet, noEntity, sameEntity, setOf, keys, entityOf}
 use Rattle.model.specs.Store.{Store, Bytes, stagedKinds, withControl, emptyBoth}
 use Rattle.model.specs.Commands.{Command, RANGE, accepted}
@@ -20,7 +20,7 @@ use Rattle.model.specs.Refusals.{First, numberOf, linesOf}
 use Rattle.model.specs.Run.{Outcome, storeAfter, answerOf, Step, stops, goes, step, halt, more, runFor, run}
 use Rattle.model.specs.Run as model
 use Rattle.model.specs.Snapshot.{valueAt}
-use Rattle.model.specs.Entries.{rowValue, part, partWords, columnRefusal}
+use Rattle.model.specs.Entries.{entityWords, rowValue, part, partWords, columnRefusal}
 use Rattle.model.specs.Sound.{In, key, StoreSound}
 use Rattle.model.specs.Shown.{Showing, foundIn, startIn, endIn, RangeAnswer, Hold}
 use Rattle.model.proofs.BoolLaws.{bool-cases}
@@ -44,7 +44,9 @@ use Rattle.run.specs.declared.Ran.{Ran}
 use Rattle.store.specs.Course.{Course, ended, stopped, refused, done, EachAnswer}
 use Rattle.store.specs.Entries.{columnRefused, ColumnNumbered, columnWords, ColumnPart, ranOf, Runs}
 use Rattle.store.specs.Ranging.{RangeRan, ColumnsShown, RowOf, OneEntity}
-use Rattle.columns.proofs.Pairs.{pairs, pair-low, pair-high, indexOf, versionOf, lowOf, highOf, entity-pairs, value-pairs}
+use Rattle.columns.proofs.Items.{index-at, version-at, value-at}
+use Rattle.values.specs.Values.{digits}
+use Rattle.words.proofs.Offsets.{two-or-four}
 use Rattle.columns.proofs.Columns.{column-within}
 use Rattle.store.proofs.Demands.{run-course, run-keeps-sound}
 
@@ -217,10 +219,10 @@ module _ (v : RefT (List ℕ)) (S : Sound (v .now)) (h b : List ℕ) (k a e : �
       go false d p = absurd (d S)
       go true d p = p ∙ ap numberOf taken
 
-  part-words : (r : RefT (List ℕ)) (values : Bool) → ColumnPart v r values k a e → r .now ≡ partWords values a e rows
+  part-words : (r : RefT (List ℕ)) (values : Bool) → ColumnPart v r values k a e → r .now ≡ partWords (s .settings .valueBytes) values a e rows
   part-words r values P = go (P .sound) (P .decides) (P .words)
     where
-      go : (c : Bool) → Decides c (Sound (v .now)) → r .now ≡ columnWords c values k a e s → r .now ≡ partWords values a e rows
+      go : (c : Bool) → Decides c (Sound (v .now)) → r .now ≡ columnWords c values k a e s → r .now ≡ partWords (s .settings .valueBytes) values a e rows
       go false d p = absurd (d S)
       go true d p = p ∙ column-accepted values k a e s taken .words
 
@@ -238,14 +240,14 @@ module _ (v : RefT (List ℕ)) (S : Sound (v .now)) (h b : List ℕ) (k a e : �
       let le : e ≤ length (keys rows) = W .places k i in
       let ne : j < length es = omega (arith, t, length-slice a e (keys rows) le) in
       let nv : j < length vs = omega (arith, t, length-slice a e (map rowValue rows) (omega (arith, le, length-map rows entityOf, length-map rows rowValue))) in
-      let ew : p .now ≡ pairs indexOf versionOf es = part-words p false P ∙ entity-pairs es in
-      let vw : q .now ≡ pairs lowOf highOf vs = part-words q true Q ∙ value-pairs vs in
-      let lo : getD (q .now) (2 * j) 0 ≡ lowOf (getD vs j 0) = ap (λ (l : List ℕ). getD l (2 * j) 0) vw ∙ pair-low lowOf highOf 0 vs j nv in
-      let hi : getD (q .now) (2 * j + 1) 0 ≡ highOf (getD vs j 0) = ap (λ (l : List ℕ). getD l (2 * j + 1) 0) vw ∙ pair-high lowOf highOf 0 vs j nv in
-      let is : getD vs j 0 ≡ getD (q .now) (2 * j) 0 + 4294967296 * getD (q .now) (2 * j + 1) 0 = omega (arith, lo, hi) in
+      let d = strideOf (s .settings .valueBytes) in
+      let some-words = two-or-four (s .settings .valueBytes) (S .means .limits .width) .least in
+      let ew : p .now ≡ entityWords es = part-words p false P in
+      let is : getD vs j 0 ≡ digits (take d (drop (d * j) (q .now))) =
+      sym (value-at d vs j (omega (arith, some-words)) nv) ∙ ap (λ (l : List ℕ). digits (take d (drop (d * j) l))) (sym (part-words q true Q)) in
       record {
-        index = ap (λ (l : List ℕ). getD l (2 * j) 0) ew ∙ pair-low indexOf versionOf noEntity es j ne;
-        version = ap (λ (l : List ℕ). getD l (2 * j + 1) 0) ew ∙ pair-high indexOf versionOf noEntity es j ne;
+        index = ap (λ (l : List ℕ). getD l (2 * j) 0) ew ∙ index-at noEntity es j ne;
+        version = ap (λ (l : List ℕ). getD l (2 * j + 1) 0) ew ∙ version-at noEntity es j ne;
         value = hold-at rows es vs holds j ne ∙ ap {B = Option ℕ} some is;
       }
 

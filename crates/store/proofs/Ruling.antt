@@ -1,27 +1,29 @@
--- 02, No. 8, over the words: "A store may be started under the newer rule, told by a bool and fixed for its life, and a sound one has one of the two
+-- 02, No. 8 and No. 13, over the words: "A store is started with part width 8 or 16, and a sound one has one of the two"; "A store may be started under the newer rule, told by a bool and fixed for its life, and a sound one has one of the two
 -- rules"; where the newer finds a range and what it shows. Theorems over the entries' contracts alone (specs/Entries.antt). Assumes nothing.
 use mathlib.Core.Path.{_≡_, refl, ap, _∙_, subst}
-use mathlib.Core.Logic.{_↔_}
+use mathlib.Core.Logic.{_↔_, _≢_}
 use mathlib.Core.Bool.{Bool, true, false, cond}
 use mathlib.Core.List.{List, _∷_, _++_}
 use Prim.Native.Nat.{ℕ, zero, suc, _≤_, _<_}
 use native.Mathlib.Omega.{arith}
 use lib.Dec.{eqb}
 use lib.ListN.{length, take}
+use Rattle.model.specs.Numbers.{LONG-VALUE-BYTES, VALUE-BYTES}
 use Rattle.model.specs.Store.{Settings, Store, emptyWith, stagedKinds}
-use Rattle.model.specs.Commands.{Command, RANGE, accepted}
+use Rattle.model.specs.Commands.{Command, RANGE, accepted, commandOn}
 use Rattle.model.specs.Entries.{part}
 use Rattle.model.specs.Sound.{cnt, In, key}
 use Rattle.model.specs.Model.{Entity}
 use Rattle.model.specs.Shown.{AllAndNone, described, ShowsUnder, ShowsNewer, Showing, foundIn, startIn, endIn, RangeAnswer}
+use Rattle.model.proofs.Widths.{neither}
 use Rattle.model.proofs.Settings.{accepted-settings, run-settings}
 use Rattle.model.proofs.Rules.{newer-describes, newer-exactly}
 use Rattle.words.specs.Offsets.{NEWER}
-use Rattle.memory.specs.Header.{ruleOf}
+use Rattle.memory.specs.Header.{ruleOf, valueBytesOf}
 use Rattle.memory.specs.Meaning.{meaning, withRefusal}
 use Rattle.memory.specs.Arranged.{Sound}
 use Rattle.run.specs.declared.Ran.{Ran}
-use Rattle.store.specs.Course.{Course, ended, stopped, refused, done, commandOn, EachDone, EachAnswer, Reached, started, ran, settingsIn}
+use Rattle.store.specs.Course.{Course, ended, stopped, refused, done, EachDone, EachAnswer, Reached, started, ran, settingsIn}
 use Rattle.store.specs.Entries.{StartsWith, ranOf, Runs}
 use Rattle.store.specs.Ranging.{NewerTold, OneEntity}
 use Rattle.store.specs.Theorems.{UnsoundAt, Ruled}
@@ -44,8 +46,16 @@ rule-word w S = go (ruleOf w) (S .arranged .rule)
     go (suc zero) h = refl
     go (suc (suc x)) h = absurd (omega arith)
 
+-- 8 or 16 in word 11 is the width, and any other number there is 3 at every entry
+width-word : (w : List ℕ) → valueBytesOf w ≡ meaning w .settings .valueBytes
+unfolding meaning
+width-word w = refl
+
+pub other-width : (w : List ℕ) → valueBytesOf w ≢ VALUE-BYTES → valueBytesOf w ≢ LONG-VALUE-BYTES → UnsoundAt w
+other-width w a b = unsound-at w (λ S. neither (valueBytesOf w) a b (S .arranged .limits .width))
+
 pub sound-ruled : (w : List ℕ) → Sound w → Ruled (meaning w .settings) w
-sound-ruled w S = record { settings = refl; word = rule-word w S }
+sound-ruled w S = record { settings = refl; word = rule-word w S; width = width-word w; widths = S .means .limits .width }
 
 ruled-as : (w : List ℕ) (c : Settings) → Sound w → meaning w .settings ≡ c → Ruled c w
 ruled-as w c S e = subst (λ (x : Settings). Ruled x w) e (sound-ruled w S)
@@ -63,7 +73,7 @@ ruled-in c ended S e = tt
 ruled-in c (stopped f) S e = tt
 ruled-in c (refused w h f m s d) S e = let is = ap (λ (x : Store). x .settings) (m .means) ∙ e in ((ruled-as w c S e, ruled-as (withRefusal w) c s is), ruled-in c d s is)
 ruled-in c (done w w₁ {t = t} {b = b} h n m s d) S e =
-    let is = ap (λ (x : Store). x .settings) (m .means) ∙ accepted-settings (commandOn b t) (meaning w) ∙ e in
+    let is = ap (λ (x : Store). x .settings) (m .means) ∙ accepted-settings (commandOn b t (meaning w)) (meaning w) ∙ e in
     ((ruled-as w c S e, ruled-as w₁ c s is), ruled-in c d s is)
 
 -- before each command and after it
@@ -115,9 +125,9 @@ each-both : {P Q R : List ℕ → Command → List ℕ → List ℕ → Type 0} 
     → {w t w′ bytes : List ℕ} {room stop commands read : ℕ} (c : Course w t room w′ stop commands read bytes) → EachDone P c → EachDone Q c → EachDone R c
 each-both f ended p q = tt
 each-both f (stopped g) p q = tt
-each-both f (refused w {t = t} {bytes = bytes} {b = b} {n = n} h g m s c) p q = (f w (commandOn b t) (withRefusal w) (n ∷ bytes) (p .0) (q .0), each-both f c (p .1) (q .1))
+each-both f (refused w {t = t} {bytes = bytes} {b = b} {n = n} h g m s c) p q = (f w (commandOn b t (meaning w)) (withRefusal w) (n ∷ bytes) (p .0) (q .0), each-both f c (p .1) (q .1))
 each-both f (done w w₁ {t = t} {bytes = bytes} {b = b} h n m s c) p q =
-    (f w (commandOn b t) w₁ (0 ∷ accepted (commandOn b t) (meaning w) .answer ++ bytes) (p .0) (q .0), each-both f c (p .1) (q .1))
+    (f w (commandOn b t (meaning w)) w₁ (0 ∷ accepted (commandOn b t (meaning w)) (meaning w) .answer ++ bytes) (p .0) (q .0), each-both f c (p .1) (q .1))
 
 pub newer-in-run : (w w′ t o o′ : List ℕ) (r : Ran) (R : Runs w w′ t o o′ r) (S : Sound w) → meaning w .settings .newer ≡ true
     → EachAnswer (λ v k l. k ≡ RANGE → NewerTold (meaning v) (take 10 l)) (run-course w w′ t o o′ r R S)

@@ -9,7 +9,7 @@ use Rattle.model.specs.Store.{Bytes, wordsNeeded}
 use Rattle.model.specs.Run.{run}
 use Rattle.words.proofs.Offsets.{columnStart-needed}
 use Rattle.words.specs.Shape.{columnStart, shapeOf}
-use Rattle.memory.specs.Header.{capacityOf, kindCapacityOf}
+use Rattle.memory.specs.Header.{capacityOf, kindCapacityOf, valueBytesOf}
 use Rattle.memory.specs.Meaning.{meaning}
 use Rattle.memory.specs.Arranged.{Sound}
 use Rattle.run.specs.Stepping.{Completed}
@@ -17,9 +17,9 @@ use Rattle.run.specs.declared.Ran.{Ran}
 use Rattle.store.specs.Entries.{Runs}
 
 -- the words needed, of the store and of the header
-pub needed-of : (w : List ℕ) → wordsNeeded (meaning w .settings .capacity) (meaning w .settings .kindCapacity) ≡ columnStart (shapeOf w) (kindCapacityOf w)
+pub needed-of : (w : List ℕ) → wordsNeeded (meaning w .settings .capacity) (meaning w .settings .kindCapacity) (meaning w .settings .valueBytes) ≡ columnStart (shapeOf w) (kindCapacityOf w)
 unfolding meaning
-needed-of w = sym (columnStart-needed (capacityOf w) (kindCapacityOf w))
+needed-of w = sym (columnStart-needed (capacityOf w) (kindCapacityOf w) (valueBytesOf w))
 
 pub refused-run : (w t o : List ℕ) → (Sound w → ⊥) → Bytes t → Runs w w t o o (record { stop = UNSOUND; commands = 0; read = 0; written = 0 })
 refused-run w t o d b =

@@ -1,40 +1,22 @@
 -- The model's start by its tests, as the code makes them. Assumes nothing.
 use mathlib.Core.Path.{_≡_, refl, subst}
-use mathlib.Core.Bool.{Bool, false, _||_}
 use mathlib.Core.List.{List}
 use Prim.Native.Nat.{ℕ, _≤_, _<_}
 use native.Mathlib.Omega.{arith}
-use borrow.Author.Tests.{lt-ltb, le-ltb, ne-eqb}
-use lib.Dec.{eqb, ltb}
+use borrow.Author.Tests.{lt-ltb, le-ltb}
 use lib.ListN.{length, drop}
-use Rattle.model.specs.Numbers.{MAX-ENTITIES, MAX-KINDS}
-use Rattle.model.specs.Store.{Settings, older, emptyWith, empty, wordsNeeded}
-use Rattle.model.specs.Refusals.{startLines}
+use Rattle.model.specs.Store.{Settings, emptyWith, wordsNeeded}
+use Rattle.model.specs.Refusals.{outsize, startLines}
 use Rattle.model.specs.Entries.{refusesStart, makes, startTold, startWith}
 use Rattle.model.specs.Sound.{Limits}
 use Rattle.model.proofs.BoolLaws.{bool-cases}
 use Rattle.model.proofs.Operations.{empty-sound}
 use Rattle.model.proofs.Lines.{first-exact, first-number}
-use Rattle.model.proofs.Entries.{start-exact, start-makes}
+use Rattle.model.proofs.Entries.{start-exact, within-limits, limits-within}
 use Rattle.words.proofs.Offsets.{columnStart-needed}
 use Rattle.memory.specs.Arranged.{Sound}
 use Rattle.memory.specs.Fresh.{Made}
 use Rattle.store.specs.Entries.{StartsWith}
-
--- the test of refusal 1
-abbrev oversize : ℕ → ℕ → Bool
-oversize n k = (eqb n 0 || ltb MAX-ENTITIES n) || (eqb k 0 || ltb MAX-KINDS k)
-
-within-size : (n k : ℕ) → Limits n k → oversize n k ≡ false
-within-size n k l =
-    let n0 : n ≡ 0 → ⊥ = λ e. omega (arith, l .some) in
-    let k0 : k ≡ 0 → ⊥ = λ e. omega (arith, l .someKinds) in
-    simp (ne-eqb n 0 n0, ne-eqb k 0 k0, le-ltb MAX-ENTITIES n (l .most), le-ltb MAX-KINDS k (l .mostKinds))
-
-size-within : (n k : ℕ) → oversize n k ≡ false → Limits n k
-unfolding startWith
-size-within n k t =
-    start-makes (older n k) (wordsNeeded n k) (empty n k) (rw (t, le-ltb (wordsNeeded n k) (wordsNeeded n k) (omega arith))) .limits
 
 module _ (c : Settings) where
   abbrev n : ℕ
@@ -43,17 +25,20 @@ module _ (c : Settings) where
   abbrev k : ℕ
   k = c .kindCapacity
 
-  pub start-size : (words : ℕ) → (Limits n k → ⊥) → startWith c words ≡ refusesStart 1
-  unfolding startWith
-  start-size words h = bool-cases (oversize n k) (λ t. rw t) (λ t. absurd (h (size-within n k t)))
+  abbrev v : ℕ
+  v = c .valueBytes
 
-  pub start-short : (words : ℕ) → Limits n k → words < wordsNeeded n k → startWith c words ≡ refusesStart 2
+  pub start-size : (words : ℕ) → (Limits n k v → ⊥) → startWith c words ≡ refusesStart 1
   unfolding startWith
-  start-short words l h = rw (within-size n k l, lt-ltb words (wordsNeeded n k) h)
+  start-size words h = bool-cases (outsize n k v) (λ t. rw t) (λ t. absurd (h (within-limits n k v t)))
 
-  pub start-empty : (words : ℕ) → Limits n k → wordsNeeded n k ≤ words → startWith c words ≡ makes (emptyWith c)
+  pub start-short : (words : ℕ) → Limits n k v → words < wordsNeeded n k v → startWith c words ≡ refusesStart 2
   unfolding startWith
-  start-empty words l h = rw (within-size n k l, le-ltb words (wordsNeeded n k) h)
+  start-short words l h = rw (limits-within n k v l, lt-ltb words (wordsNeeded n k v) h)
+
+  pub start-empty : (words : ℕ) → Limits n k v → wordsNeeded n k v ≤ words → startWith c words ≡ makes (emptyWith c)
+  unfolding startWith
+  start-empty words l h = rw (limits-within n k v l, le-ltb words (wordsNeeded n k v) h)
 
   -- its refusals are 1 and 2
   pub start-number : (words m : ℕ) → startWith c words ≡ refusesStart m → (1 ≤ m) × (m ≤ 2)
@@ -70,7 +55,7 @@ module _ (c : Settings) where
         past = refl;
       }
 
-  pub made-start : (w w′ : List ℕ) → Limits n k → wordsNeeded n k ≤ length w → Made c w w′ → StartsWith c w w′ 0
+  pub made-start : (w w′ : List ℕ) → Limits n k v → wordsNeeded n k v ≤ length w → Made c w w′ → StartsWith c w w′ 0
   made-start w w′ l h m =
       let e : startWith c (length w) ≡ makes (emptyWith c) = start-empty (length w) l h in
       let sound : Sound w′ = record { arranged = m .arranged; means = rw (m .means) (empty-sound c l) } in
@@ -78,5 +63,5 @@ module _ (c : Settings) where
         number = rw e;
         leaves = rw e (sound, m .means);
         size = m .size;
-        past = subst (λ (e : ℕ). drop e w′ ≡ drop e w) (columnStart-needed n k) (m .past);
+        past = subst (λ (e : ℕ). drop e w′ ≡ drop e w) (columnStart-needed n k v) (m .past);
       }

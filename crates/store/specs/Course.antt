@@ -3,10 +3,10 @@
 use mathlib.Core.Path.{_≡_}
 use mathlib.Core.List.{List, [], _∷_, _++_}
 use Prim.Native.Nat.{ℕ, suc, _+_, _-_}
-use lib.ListN.{length, take, drop}
-use Rattle.model.specs.Numbers.{UNSOUND, VALUE-BYTES}
+use lib.ListN.{length, drop}
+use Rattle.model.specs.Numbers.{UNSOUND}
 use Rattle.model.specs.Store.{Settings, counted, withControl}
-use Rattle.model.specs.Commands.{Command, width, commandAt, accepted}
+use Rattle.model.specs.Commands.{Command, operandsLen, commandOn, accepted}
 use Rattle.model.specs.Refusals.{NoneHolds, First, BeforeCommand, beforeLines, linesOf}
 use Rattle.model.specs.Run as modelRun
 use Rattle.model.specs.History.{retired, refusedBy, refusedAll, calls}
@@ -19,10 +19,6 @@ use Rattle.store.specs.Entries.{StartsWith, Runs}
 abbrev pub before : List ℕ → ℕ → List ℕ → ℕ → BeforeCommand
 before w b t room = record { byte = b; rest = t; room = room; store = meaning w }
 
--- the command of byte b, with the tape t after it
-abbrev pub commandOn : ℕ → List ℕ → Command
-commandOn b t = commandAt b (take (width VALUE-BYTES b) t)
-
 -- from the words w, the tape and so many free bytes to the words w′, with stop number, commands done, tape bytes read, and answer bytes
 pub data Course : List ℕ → List ℕ → ℕ → List ℕ → ℕ → ℕ → ℕ → List ℕ → Type 0 where
   -- "0 at the tape's end"
@@ -31,14 +27,14 @@ pub data Course : List ℕ → List ℕ → ℕ → List ℕ → ℕ → ℕ →
   stopped : {w t : List ℕ} {b room n : ℕ} → First beforeLines (before w b t room) n → Course w (b ∷ t) room w n 0 0 []
   -- "7 to 15 in a run write their number as one byte, add to the tally, change no other word, and the run goes on", and so 19: a line of the command
   -- holds, and no line above it does
-  refused : (w : List ℕ) {w′ t bytes : List ℕ} {b room n stop commands read : ℕ} → NoneHolds beforeLines (before w b t room) → First (linesOf (commandOn b t)) (meaning w) n
+  refused : (w : List ℕ) {w′ t bytes : List ℕ} {b room n stop commands read : ℕ} → NoneHolds beforeLines (before w b t room) → First (linesOf (commandOn b t (meaning w))) (meaning w) n
       → Becomes w (withRefusal w) (withControl (meaning w) (counted (meaning w .control))) → Sound (withRefusal w)
-      → Course (withRefusal w) (drop (width VALUE-BYTES b) t) (room - 1) w′ stop commands read bytes → Course w (b ∷ t) room w′ stop (suc commands) (suc (width VALUE-BYTES b) + read) (n ∷ bytes)
+      → Course (withRefusal w) (drop (operandsLen b (meaning w)) t) (room - 1) w′ stop commands read bytes → Course w (b ∷ t) room w′ stop (suc commands) (suc (operandsLen b (meaning w)) + read) (n ∷ bytes)
   -- no line holds: "effect; answer after a 0 byte"
-  done : (w w₁ : List ℕ) {w′ t bytes : List ℕ} {b room stop commands read : ℕ} → NoneHolds beforeLines (before w b t room) → NoneHolds (linesOf (commandOn b t)) (meaning w)
-      → Becomes w w₁ (accepted (commandOn b t) (meaning w) .store) → Sound w₁
-      → Course w₁ (drop (width VALUE-BYTES b) t) (room - suc (length (accepted (commandOn b t) (meaning w) .answer))) w′ stop commands read bytes
-      → Course w (b ∷ t) room w′ stop (suc commands) (suc (width VALUE-BYTES b) + read) (0 ∷ accepted (commandOn b t) (meaning w) .answer ++ bytes)
+  done : (w w₁ : List ℕ) {w′ t bytes : List ℕ} {b room stop commands read : ℕ} → NoneHolds beforeLines (before w b t room) → NoneHolds (linesOf (commandOn b t (meaning w))) (meaning w)
+      → Becomes w w₁ (accepted (commandOn b t (meaning w)) (meaning w) .store) → Sound w₁
+      → Course w₁ (drop (operandsLen b (meaning w)) t) (room - suc (length (accepted (commandOn b t (meaning w)) (meaning w) .answer))) w′ stop commands read bytes
+      → Course w (b ∷ t) room w′ stop (suc commands) (suc (operandsLen b (meaning w)) + read) (0 ∷ accepted (commandOn b t (meaning w)) (meaning w) .answer ++ bytes)
 
 -- the same, with the model's answer for stop number, commands, bytes read and bytes
 abbrev pub CourseOf : List ℕ → List ℕ → ℕ → List ℕ → modelRun.Ran → Type 0
@@ -63,8 +59,8 @@ BeforeEach P (done w w₁ {w′} {t} {bytes} {b} {room} h n m s c) = P w b t roo
 abbrev pub EachDone : (P : List ℕ → Command → List ℕ → List ℕ → Type 0) {w t w′ bytes : List ℕ} {room stop commands read : ℕ} → Course w t room w′ stop commands read bytes → Type 0
 EachDone P ended = Unit {0}
 EachDone P (stopped f) = Unit {0}
-EachDone P (refused w {w′} {t} {bytes} {b} {room} {n} h f m s c) = P w (commandOn b t) (withRefusal w) (n ∷ bytes) × EachDone P c
-EachDone P (done w w₁ {w′} {t} {bytes} {b} h n m s c) = P w (commandOn b t) w₁ (0 ∷ accepted (commandOn b t) (meaning w) .answer ++ bytes) × EachDone P c
+EachDone P (refused w {w′} {t} {bytes} {b} {room} {n} h f m s c) = P w (commandOn b t (meaning w)) (withRefusal w) (n ∷ bytes) × EachDone P c
+EachDone P (done w w₁ {w′} {t} {bytes} {b} h n m s c) = P w (commandOn b t (meaning w)) w₁ (0 ∷ accepted (commandOn b t (meaning w)) (meaning w) .answer ++ bytes) × EachDone P c
 
 -- the same without the words after it
 abbrev pub EachAnswer : (P : List ℕ → Command → List ℕ → Type 0) {w t w′ bytes : List ℕ} {room stop commands read : ℕ} → Course w t room w′ stop commands read bytes → Type 0

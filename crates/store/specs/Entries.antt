@@ -23,10 +23,10 @@ use Rattle.model.specs.Numbers.{UNSOUND}
 
 -- ---- how many words to lend
 
--- a store "needs 1,024 + 16 × N + K × (8 + 6 × N) words"; 0 where start would refuse N or K
-pub record Needs (n k r : ℕ) : Type 0 where
-  pub within : Limits n k → r ≡ wordsNeeded n k
-  pub outside : (Limits n k → ⊥) → r ≡ 0
+-- a store "needs 1,024 + 16 × N + K × (8 + 6 × N) words", "K × (8 + 8 × N) at width 16"; 0 where start would refuse N, K or the bytes v of a value
+pub record Needs (n k v r : ℕ) : Type 0 where
+  pub within : Limits n k v → r ≡ wordsNeeded n k v
+  pub outside : (Limits n k v → ⊥) → r ≡ 0
 
 -- ---- start
 
@@ -40,13 +40,14 @@ abbrev pub StartLeaves : List ℕ → List ℕ → Started → Type 0
 StartLeaves w w′ (refusesStart m) = w′ ≡ w
 StartLeaves w w′ (makes s) = Sound w′ × (meaning w′ ≡ s)
 
--- told the settings c over the words w, which it leaves as w′, with number r. 02, No. 8: "A store may be started under the newer rule, told by a bool"
+-- told the settings c over the words w, which it leaves as w′, with number r. 02, No. 8: "A store may be started under the newer rule, told by a bool"; No. 13:
+-- "with part width 8 or 16"
 pub record StartsWith (c : Settings) (w w′ : List ℕ) (r : ℕ) : Type 0 where
   pub number : r ≡ startNumber (startWith c (length w))
   pub leaves : StartLeaves w w′ (startWith c (length w))
   pub size : length w′ ≡ length w
   -- "Words past the needed ones never change."
-  pub past : drop (wordsNeeded (c .capacity) (c .kindCapacity)) w′ ≡ drop (wordsNeeded (c .capacity) (c .kindCapacity)) w
+  pub past : drop (wordsNeeded (c .capacity) (c .kindCapacity) (c .valueBytes)) w′ ≡ drop (wordsNeeded (c .capacity) (c .kindCapacity) (c .valueBytes)) w
 
 -- 01's *start*, told N and K
 abbrev pub Starts : ℕ → ℕ → List ℕ → List ℕ → ℕ → Type 0
@@ -117,7 +118,7 @@ pub record Runs (w w′ t o o′ : List ℕ) (r : Ran) : Type 0 where
   pub leaves : RunLeaves sound t (length o) w w′
   pub size : length w′ ≡ length w
   -- "Words past the needed ones never change."
-  pub past : drop (wordsNeeded (meaning w .settings .capacity) (meaning w .settings .kindCapacity)) w′ ≡ drop (wordsNeeded (meaning w .settings .capacity) (meaning w .settings .kindCapacity)) w
+  pub past : drop (wordsNeeded (meaning w .settings .capacity) (meaning w .settings .kindCapacity) (meaning w .settings .valueBytes)) w′ ≡ drop (wordsNeeded (meaning w .settings .capacity) (meaning w .settings .kindCapacity) (meaning w .settings .valueBytes)) w
   -- a tape is of bytes, as its type says
   pub tape : Bytes t
 

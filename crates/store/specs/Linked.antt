@@ -9,7 +9,7 @@ use lib.ListN.{length, take, drop}
 use Rattle.model.specs.Numbers.{NOROOM}
 use Rattle.model.specs.Store.{Store}
 use Rattle.model.specs.Refusals.{Line, line, NoneHolds, Part, columnLines}
-use Rattle.model.specs.Entries.{column, Emitted, emitted}
+use Rattle.model.specs.Entries.{itemWords, column, Emitted, emitted}
 use Rattle.words.specs.Decides.{Decides}
 use Rattle.memory.specs.Meaning.{meaning}
 use Rattle.memory.specs.Arranged.{Sound}
@@ -70,7 +70,7 @@ ColumnCopied w o o′ values k a e r = EmitsOver w o o′ (r .number) (r .writte
 pub record CopyWrote (w o o′ : List ℕ) (values : Bool) (k a e : ℕ) (r : Reply) : Type 0 where
   pub sound : Sound w
   pub accepted : NoneHolds columnLines (record { kind = k; start = a; end = e; store = meaning w })
-  pub count : r .written ≡ 2 * (e - a)
+  pub count : r .written ≡ itemWords (meaning w .settings .valueBytes) values * (e - a)
   pub room : r .written ≤ length o
   pub words : take (r .written) o′ ≡ column values k a e (meaning w)
   pub past : drop (r .written) o′ ≡ drop (r .written) o

@@ -6,12 +6,13 @@ use mathlib.Core.Option.{some}
 use mathlib.Core.List.{List}
 use Prim.Native.Nat.{ℕ, _+_, _*_, _-_, _≤_}
 use lib.ListN.{length, getD, take, drop}
-use Rattle.model.specs.Numbers.{VALUE-WORDS}
+use Rattle.model.specs.Numbers.{strideOf}
 use Rattle.model.specs.Model.{Entity, setOf}
 use Rattle.model.specs.Store.{Store, stagedKinds, withControl, emptyBoth}
 use Rattle.model.specs.Run as model
 use Rattle.model.specs.Snapshot.{valueAt}
 use Rattle.model.specs.Entries.{entityWords, valueWords, part}
+use Rattle.values.specs.Values.{digits}
 use Rattle.model.specs.Sound.{cnt, In, key}
 use Rattle.model.specs.Shown.{AllAndNone, described, ShowsNewer, foundIn, startIn, endIn, RangeAnswer, Hold}
 use Rattle.memory.specs.Meaning.{meaning}
@@ -44,14 +45,14 @@ pub record ColumnsShown (s : Store) (k a e n : ℕ) (entities values : List ℕ)
   pub number : n ≡ 0
   pub entities-are : entities ≡ entityWords (part a e (key (s .storage .sets) k))
   pub held : List ℕ
-  pub values-are : values ≡ valueWords VALUE-WORDS held
+  pub values-are : values ≡ valueWords (strideOf (s .settings .valueBytes)) held
   pub hold : Hold (setOf (s .storage .sets) k) (part a e (key (s .storage .sets) k)) held
 
 -- row i of the two parts is of the entity x, with the value of kind k that x holds in the store s
 pub record RowOf (s : Store) (x : Entity) (k i : ℕ) (entities values : List ℕ) : Type 0 where
   pub index : getD entities (2 * i) 0 ≡ x .index
   pub version : getD entities (2 * i + 1) 0 ≡ x .version
-  pub value : valueAt x (setOf (s .storage .sets) k) ≡ some (getD values (2 * i) 0 + 4294967296 * getD values (2 * i + 1) 0)
+  pub value : valueAt x (setOf (s .storage .sets) k) ≡ some (digits (take (strideOf (s .settings .valueBytes)) (drop (strideOf (s .settings .valueBytes) * i) values)))
 
 -- rows i of the parts of kinds j and k are of one entity, which hand h and bar b describe
 pub record OneEntity (s : Store) (h b : List ℕ) (j k i : ℕ) (entities values entities′ values′ : List ℕ) : Type 0 where

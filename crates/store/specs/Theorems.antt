@@ -7,13 +7,13 @@ use Prim.Native.Nat.{ℕ, suc, _+_, _≤_, _<_}
 use Rattle.model.specs.Refusals.{Line, NoneHolds, First, Unchanged}
 use Rattle.memory.specs.Arranged.{Sound}
 use lib.ListN.{length, getD, take}
-use Rattle.memory.specs.Header.{callerOf, refusalsAt, ruleOf}
+use Rattle.memory.specs.Header.{callerOf, refusalsAt, ruleOf, valueBytesOf}
 use Rattle.memory.specs.Meaning.{meaning}
 use Rattle.run.specs.declared.Ran.{Ran}
 use Rattle.store.specs.declared.Rolled.{Rolled}
 use Rattle.store.specs.declared.Reply.{Reply}
 use Rattle.model.specs.Store.{Settings, Store, oneMore, counted}
-use Rattle.model.specs.Sound.{GroupsRight, GroupsBetween}
+use Rattle.model.specs.Sound.{EightOrSixteen, GroupsRight, GroupsBetween}
 use Rattle.model.specs.Numbers.{CALLERS, LAST-CALLER, MAX-REFUSALS, UNSOUND}
 use Rattle.model.specs.Theorems.{recounted, ButCallers}
 use Rattle.words.specs.Offsets.{NEWER, REFUSALS}
@@ -134,7 +134,10 @@ pub record LeftInWords (s : Store) (w : List ℕ) (r : Ran) : Type 0 where
   pub sound : Sound w
   pub means : meaning w ≡ s
 
--- 02, No. 8: "told by a bool and fixed for its life": the words w mean a store of these settings, and the rule's word says its rule
+-- 02, No. 8: "told by a bool and fixed for its life"; No. 13: "A store is started with part width 8 or 16, and a sound one has one of the two": the words w
+-- mean a store of these settings, the rule's word says its rule, and the width's word the bytes of a value
 pub record Ruled (c : Settings) (w : List ℕ) : Type 0 where
   pub settings : meaning w .settings ≡ c
   pub word : ruleOf w ≡ cond (c .newer) NEWER 0
+  pub width : valueBytesOf w ≡ c .valueBytes
+  pub widths : EightOrSixteen (c .valueBytes)

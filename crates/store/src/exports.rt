@@ -4,6 +4,7 @@ use crate::Reply;
 use crate::Rolled;
 use crate::held;
 use model::refusals::UNSOUND;
+ghost use Rattle.model.specs.Numbers.{VALUE-BYTES};
 ghost use Rattle.model.specs.Store.{told};
 ghost use Rattle.store.specs.Entries.{Needs, Starts, StartsWith, Runs, ColumnNumbered, Rolls};
 ghost use Rattle.store.specs.Linked.{asRan, ColumnPlaced, ColumnCopied};
@@ -19,9 +20,16 @@ pub struct ExportedRan {
 
 #[no_mangle]
 pub extern "C" fn yirbarn_words_needed(n: usize, k: usize) -> usize
-    ensures { λ r. ⌜ Needs n k r ⌝ }
+    ensures { λ r. ⌜ Needs n k VALUE-BYTES r ⌝ }
 {
     crate::words_needed(n, k)
+}
+
+#[no_mangle]
+pub extern "C" fn yirbarn_words_needed_with(n: usize, k: usize, v: usize) -> usize
+    ensures { λ r. ⌜ Needs n k v r ⌝ }
+{
+    crate::words_needed_with(n, k, v)
 }
 
 #[no_mangle]
@@ -32,10 +40,16 @@ pub extern "C" fn yirbarn_start(words: &mut [u32], n: usize, k: usize) -> u8
 }
 
 #[no_mangle]
-pub extern "C" fn yirbarn_start_with(words: &mut [u32], n: usize, k: usize, newer: bool) -> u8
-    ensures { λ r. ⌜ StartsWith (told n k newer) (now (words .entry)) (now (words .exit)) r ⌝ }
+pub extern "C" fn yirbarn_start_with(
+    words: &mut [u32],
+    n: usize,
+    k: usize,
+    v: usize,
+    newer: bool,
+) -> u8
+    ensures { λ r. ⌜ StartsWith (told n k v newer) (now (words .entry)) (now (words .exit)) r ⌝ }
 {
-    crate::start_with(words, n, k, newer)
+    crate::start_with(words, n, k, v, newer)
 }
 
 #[no_mangle]

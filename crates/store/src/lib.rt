@@ -1,4 +1,4 @@
-// The public entries of document 01: *start*, *run*, *column* and its number, *roll*; and *start_with* of 02. None asks anything of its caller; those of
+// The public entries of document 01: *start*, *run*, *column* and its number, *roll*; and *start_with* and its words of 02. None asks anything of its caller; those of
 // `held` do.
 pub mod exports;
 pub mod held;
@@ -10,6 +10,7 @@ use model::refusals::SHORT;
 use model::refusals::SIZE;
 use model::refusals::UNSOUND;
 use run::Ran;
+ghost use Rattle.model.specs.Numbers.{VALUE-BYTES};
 ghost use Rattle.model.specs.Store.{told};
 ghost use Rattle.memory.specs.Arranged.{Sound};
 ghost use Rattle.store.specs.Entries.{Needs, Starts, StartsWith, Runs, ColumnNumbered, ColumnPart, Rolls};
@@ -28,34 +29,41 @@ pub struct Reply {
     pub written: usize,
 }
 
-// How many words to lend to a store, 0 where start would refuse n or k.
+// How many words to lend to a store with values of eight bytes, 0 where start would refuse n or k.
 pub fn words_needed(n: usize, k: usize) -> usize
-    ensures { λ r. ⌜ Needs n k r ⌝ }
+    ensures { λ r. ⌜ Needs n k VALUE-BYTES r ⌝ }
 {
-    if !within_limits(n, k) {
-        return 0;
-    }
-    model::words_needed(n, k)
+    words_needed_with(n, k, model::VALUE_BYTES)
 }
 
-// An empty store of n entities and k kinds under the older rule, whatever the words held.
+// 02, No. 13: with values of so many bytes, 0 where start_with would refuse n, k or them.
+pub fn words_needed_with(n: usize, k: usize, v: usize) -> usize
+    ensures { λ r. ⌜ Needs n k v r ⌝ }
+{
+    if !within_limits(n, k, v) {
+        return 0;
+    }
+    model::words_needed(n, k, v)
+}
+
+// An empty store of n entities and k kinds with values of eight bytes under the older rule, whatever the words held.
 pub fn start(words: &mut [u32], n: usize, k: usize) -> u8
     ensures { λ r. ⌜ Starts n k (now (words .entry)) (now (words .exit)) r ⌝ }
 {
-    start_with(words, n, k, false)
+    start_with(words, n, k, model::VALUE_BYTES, false)
 }
 
-// 02, No. 8: under the rule that is told.
-pub fn start_with(words: &mut [u32], n: usize, k: usize, newer: bool) -> u8
-    ensures { λ r. ⌜ StartsWith (told n k newer) (now (words .entry)) (now (words .exit)) r ⌝ }
+// 02, No. 8 and No. 13: with values of so many bytes, and under the rule that is told.
+pub fn start_with(words: &mut [u32], n: usize, k: usize, v: usize, newer: bool) -> u8
+    ensures { λ r. ⌜ StartsWith (told n k v newer) (now (words .entry)) (now (words .exit)) r ⌝ }
 {
-    if !within_limits(n, k) {
+    if !within_limits(n, k, v) {
         return SIZE;
     }
-    if words.len() < model::words_needed(n, k) {
+    if words.len() < model::words_needed(n, k, v) {
         return SHORT;
     }
-    empty::make(words, n, k, newer);
+    empty::make(words, n, k, v, newer);
     0
 }
 

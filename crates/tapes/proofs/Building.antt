@@ -8,7 +8,7 @@ use borrow.Author.Tests.{le-ltb, lt-leb, eq-eqb}
 use lib.Dec.{lit<}
 use lib.ListN.{length, getD, set, replicate, length-append, length-map}
 use lib.Seq.{set-append-seam}
-use Rattle.model.specs.Numbers.{CALLERS, LAST-CALLER, LAST-KIND, LIST-CAPACITY, MAX-GROUP-ARITY, MAX-GROUP-COUNT, MAX-KINDS, MAX-REFUSALS, VALUE-BYTES}
+use Rattle.model.specs.Numbers.{CALLERS, LAST-CALLER, LAST-KIND, LIST-CAPACITY, MAX-GROUP-ARITY, MAX-GROUP-COUNT, MAX-KINDS, MAX-REFUSALS}
 use Rattle.model.specs.Model.{Entity, Group, Family, Component, mem, kindOf, kindsOf, groupsOf, setLayout, regroup}
 use Rattle.model.specs.Adding.{added, addGroup}
 use Rattle.model.specs.Store.{Counts, Settings, Store, emptyWith, noCounts, oneMore, stagedKinds, withControl, withStorage, withKinds, withLayout, withStaged, withExcluded, withDraft, emptyStaged}
@@ -220,7 +220,7 @@ apply-after s none uncounted =
 
 -- ---- all of them, from the empty store
 
-pub commands-after : (c : Settings) (b : Build) → BuildSound (c .kindCapacity) b → afterAll (buildCommands b) (emptyWith c) ≡ builtStore c b
+pub commands-after : (c : Settings) (b : Build) → BuildSound (c .kindCapacity) (c .valueBytes) b → afterAll (buildCommands b) (emptyWith c) ≡ builtStore c b
 unfolding emptyWith
 commands-after c b B =
     let s₀ = recounted (b .counts) (emptyWith c) in
@@ -286,15 +286,15 @@ module _ (v : ℕ) where
       (groups-encodable f [] (λ k i. h k (in-left (kindsOf f) (layoutKinds fs) k i)))
       (families-encodable fs (λ k i. h k (in-right (kindsOf f) (layoutKinds fs) k i)))
 
-pub commands-encodable : (k : ℕ) (b : Build) → BuildSound k b → AllEncodable VALUE-BYTES (buildCommands b)
-commands-encodable k b B =
-    encodable-append VALUE-BYTES (countCommands (b .counts)) _
-    (encodable-append VALUE-BYTES (callerCommands 0 (b .counts .refusals)) (SETCALLER (b .counts .caller) ∷ []) (callers-encodable VALUE-BYTES (b .counts .refusals) 0 (omega (arith, B .counts .callers))) (omega (arith, B .counts .caller), tt))
-    (encodable-append VALUE-BYTES (map REG (b .kinds)) _ (regs-encodable VALUE-BYTES (b .kinds) small)
-    (encodable-append VALUE-BYTES (familyCommands (b .layout)) _ (families-encodable VALUE-BYTES (b .layout) (λ j i. small j (B .layout .buildable .known j i))) (
+pub commands-encodable : (k v : ℕ) (b : Build) → BuildSound k v b → AllEncodable v (buildCommands b)
+commands-encodable k v b B =
+    encodable-append v (countCommands (b .counts)) _
+    (encodable-append v (callerCommands 0 (b .counts .refusals)) (SETCALLER (b .counts .caller) ∷ []) (callers-encodable v (b .counts .refusals) 0 (omega (arith, B .counts .callers))) (omega (arith, B .counts .caller), tt))
+    (encodable-append v (map REG (b .kinds)) _ (regs-encodable v (b .kinds) small)
+    (encodable-append v (familyCommands (b .layout)) _ (families-encodable v (b .layout) (λ j i. small j (B .layout .buildable .known j i))) (
       tt,
-      encodable-append VALUE-BYTES (familyCommands (b .draft)) _ (families-encodable VALUE-BYTES (b .draft) (λ j i. small j (B .draft .buildable .known j i)))
-          (encodable-append VALUE-BYTES (holdCommands (b .staged)) _ (holds-encodable VALUE-BYTES (b .staged) (λ j i. small j (B .staged .known j i)) (B .staged .values)) (bars-encodable VALUE-BYTES (b .excluded) (λ j i. small j (B .excluded .known j i)))),
+      encodable-append v (familyCommands (b .draft)) _ (families-encodable v (b .draft) (λ j i. small j (B .draft .buildable .known j i)))
+          (encodable-append v (holdCommands (b .staged)) _ (holds-encodable v (b .staged) (λ j i. small j (B .staged .known j i)) (B .staged .values)) (bars-encodable v (b .excluded) (λ j i. small j (B .excluded .known j i)))),
     )))
   where
     small : OneByte (b .kinds)

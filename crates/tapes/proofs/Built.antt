@@ -6,7 +6,7 @@ use mathlib.Core.List.{List, [], _∷_, _++_, map}
 use Prim.Native.Nat.{ℕ, suc, _+_, _≤_}
 use native.Mathlib.Omega.{arith}
 use lib.ListN.{length, replicate}
-use Rattle.model.specs.Numbers.{MAX-KINDS, VALUE-BYTES}
+use Rattle.model.specs.Numbers.{MAX-KINDS}
 use Rattle.model.specs.Model.{Entity, SparseSet, Family, setOf, zeroCount}
 use Rattle.model.specs.Store.{Settings, Store, emptyWith}
 use Rattle.model.specs.Run.{Ran}
@@ -22,21 +22,22 @@ use Rattle.tapes.proofs.Building.{commands-after, commands-encodable}
 
 -- ---- each is what a tape leaves: that of specs/Built.antt, with room for its answers
 
-pub tape-builds : (c : Settings) (b : Build) → BuildSound (c .kindCapacity) b → TapeLeaves c (buildTape b) (buildRoom c b) (builtStore c b)
+pub tape-builds : (c : Settings) (b : Build) → BuildSound (c .kindCapacity) (c .valueBytes) b → TapeLeaves c (buildTape (c .valueBytes) b) (buildRoom c b) (builtStore c b)
+unfolding emptyWith
 tape-builds c b B =
-    let E = commands-encodable (c .kindCapacity) b B in
+    let E = commands-encodable (c .kindCapacity) (c .valueBytes) b B in
     record {
-      bytes = tape-bytes VALUE-BYTES (buildCommands b) E;
+      bytes = tape-bytes (c .valueBytes) (buildCommands b) E;
       stop = λ r h. ap (λ (x : Ran). x .stop) (run-commands (buildCommands b) r (emptyWith c) E h);
       store = λ r h. ap (λ (x : Ran). x .store) (run-commands (buildCommands b) r (emptyWith c) E h) ∙ commands-after c b B;
     }
 
-pub every-built : (c : Settings) (b : Build) → BuildSound (c .kindCapacity) b → LeftBy c (builtStore c b)
-every-built c b B = record { tape = buildTape b; room = buildRoom c b; leaves = tape-builds c b B }
+pub every-built : (c : Settings) (b : Build) → BuildSound (c .kindCapacity) (c .valueBytes) b → LeftBy c (builtStore c b)
+every-built c b B = record { tape = buildTape (c .valueBytes) b; room = buildRoom c b; leaves = tape-builds c b B }
 
 -- ---- what a tape leaves is such
 
-pub left-sound : (c : Settings) (s : Store) → Limits (c .capacity) (c .kindCapacity) → LeftBy c s → StoreSound s
+pub left-sound : (c : Settings) (s : Store) → Limits (c .capacity) (c .kindCapacity) (c .valueBytes) → LeftBy c s → StoreSound s
 left-sound c s L T = subst StoreSound (T .leaves .store (T .room) (omega arith)) (run-sound (T .tape) (T .room) c (T .leaves .bytes) L)
 
 -- with no entity live, groups that are right count nothing
@@ -48,7 +49,7 @@ all-uncounted : (sets : List SparseSet) (fs : List Family) → AllRight sets [] 
 all-uncounted sets [] R = tt
 all-uncounted sets (f ∷ fs) R = (right-uncounted sets [] f (R .0), all-uncounted sets fs (R .1))
 
-sound-build : (c : Settings) (b : Build) → StoreSound (builtStore c b) → BuildSound (c .kindCapacity) b
+sound-build : (c : Settings) (b : Build) → StoreSound (builtStore c b) → BuildSound (c .kindCapacity) (c .valueBytes) b
 unfolding emptyWith
 sound-build c b S =
     record {
@@ -61,7 +62,7 @@ sound-build c b S =
     }
 
 -- both ways
-pub built-exactly : (c : Settings) (b : Build) → Limits (c .capacity) (c .kindCapacity) → BuildSound (c .kindCapacity) b ↔ LeftBy c (builtStore c b)
+pub built-exactly : (c : Settings) (b : Build) → Limits (c .capacity) (c .kindCapacity) (c .valueBytes) → BuildSound (c .kindCapacity) (c .valueBytes) b ↔ LeftBy c (builtStore c b)
 built-exactly c b L = (every-built c b, λ T. sound-build c b (left-sound c (builtStore c b) L T))
 
 -- ---- the parts of every sound store
@@ -75,7 +76,7 @@ all-zeroed [] = tt
 all-zeroed (f ∷ fs) = (zeroed-uncounted f, all-zeroed fs)
 
 module _ (s : Store) (S : StoreSound s) where
-  pub own-sound : BuildSound (s .settings .kindCapacity) (buildOf s)
+  pub own-sound : BuildSound (s .settings .kindCapacity) (s .settings .valueBytes) (buildOf s)
   own-sound =
       let fs = s .storage .layout in
       record {
@@ -122,7 +123,7 @@ module _ (s : Store) (S : StoreSound s) (none : s .entities .issued ≡ 0) where
     control = s .control;
   }
 
-pub sound-exactly : (s : Store) → Limits (s .settings .capacity) (s .settings .kindCapacity) → s .entities .issued ≡ 0 → StoreSound s ↔ LeftBy (s .settings) s
+pub sound-exactly : (s : Store) → Limits (s .settings .capacity) (s .settings .kindCapacity) (s .settings .valueBytes) → s .entities .issued ≡ 0 → StoreSound s ↔ LeftBy (s .settings) s
 sound-exactly s L none = (
   (λ S. subst (LeftBy (s .settings)) (own-whole s S none) (own-built s S)),
   left-sound (s .settings) s L,

@@ -11,9 +11,9 @@ use borrow.Author.Tests.{ltb-false, le-ltb}
 use lib.Dec.{ltb}
 use lib.ListN.{length, take, drop, length-append, length-drop}
 use lib.Seq.{take-append-le, drop-append-le, drop-drop}
-use Rattle.model.specs.Numbers.{NOROOM, VALUE-BYTES}
+use Rattle.model.specs.Numbers.{NOROOM}
 use Rattle.model.specs.Store.{Store}
-use Rattle.model.specs.Commands.{width, isCommand, commandAt, answerLength}
+use Rattle.model.specs.Commands.{isCommand, commandAt, answerLength, commandOn, operandsLen}
 use Rattle.model.specs.Refusals.{NoneHolds, beforeLines}
 use Rattle.model.specs.Run.{does, Step, stops, goes, stepOf, stepIf, step, Ran, halt, more, runFor, run}
 use Rattle.model.specs.Theorems.{IfGoes, StepFits}
@@ -29,17 +29,17 @@ step-longer : (b : ℕ) (t u : List ℕ) (room room′ : ℕ) (s : Store) → ro
 unfolding step
 step-longer b t u room room′ s h = step-case (IfGoes (λ w a s′. step b (t ++ u) room′ s ≡ goes w a s′)) b t room s (λ n. tt) go
   where
-    go : NoneHolds beforeLines (record { byte = b; rest = t; room = room; store = s }) → step b (t ++ u) room′ s ≡ stepOf (suc (width VALUE-BYTES b)) s (does (commandAt b (take (width VALUE-BYTES b) t)) s)
+    go : NoneHolds beforeLines (record { byte = b; rest = t; room = room; store = s }) → step b (t ++ u) room′ s ≡ stepOf (suc (operandsLen b s)) s (does (commandOn b t s) s)
     go n =
-        let whole : width VALUE-BYTES b ≤ length t = ltb-false (length t) (width VALUE-BYTES b) (n .1 .0) in
-        let same : take (width VALUE-BYTES b) (t ++ u) ≡ take (width VALUE-BYTES b) t = take-append-le (width VALUE-BYTES b) t u whole in
-        let longer : ltb (length (t ++ u)) (width VALUE-BYTES b) ≡ false = le-ltb (length (t ++ u)) (width VALUE-BYTES b) (omega (arith, whole, length-append t u)) in
-        let fits : answerLength VALUE-BYTES (commandAt b (take (width VALUE-BYTES b) t)) s ≤ room = ltb-false room (answerLength VALUE-BYTES (commandAt b (take (width VALUE-BYTES b) t)) s) (n .1 .1 .0) in
-        let roomier : ltb room′ (answerLength VALUE-BYTES (commandAt b (take (width VALUE-BYTES b) t)) s) ≡ false = le-ltb room′ (answerLength VALUE-BYTES (commandAt b (take (width VALUE-BYTES b) t)) s) (omega (arith, fits, h)) in
-        let still : ltb room′ (answerLength VALUE-BYTES (commandAt b (take (width VALUE-BYTES b) (t ++ u))) s) ≡ false = ap (λ (ops : List ℕ). ltb room′ (answerLength VALUE-BYTES (commandAt b ops) s)) same ∙ roomier in
-        ap (λ (r : Option ℕ). stepIf r (stepOf (suc (width VALUE-BYTES b)) s (does (commandAt b (take (width VALUE-BYTES b) (t ++ u))) s)))
+        let whole : operandsLen b s ≤ length t = ltb-false (length t) (operandsLen b s) (n .1 .0) in
+        let same : take (operandsLen b s) (t ++ u) ≡ take (operandsLen b s) t = take-append-le (operandsLen b s) t u whole in
+        let longer : ltb (length (t ++ u)) (operandsLen b s) ≡ false = le-ltb (length (t ++ u)) (operandsLen b s) (omega (arith, whole, length-append t u)) in
+        let fits : answerLength (commandOn b t s) s ≤ room = ltb-false room (answerLength (commandOn b t s) s) (n .1 .1 .0) in
+        let roomier : ltb room′ (answerLength (commandOn b t s) s) ≡ false = le-ltb room′ (answerLength (commandOn b t s) s) (omega (arith, fits, h)) in
+        let still : ltb room′ (answerLength (commandOn b (t ++ u) s) s) ≡ false = ap (λ (ops : List ℕ). ltb room′ (answerLength (commandAt b ops) s)) same ∙ roomier in
+        ap (λ (r : Option ℕ). stepIf r (stepOf (suc (operandsLen b s)) s (does (commandOn b (t ++ u) s) s)))
         (none-from beforeLines (record { byte = b; rest = t ++ u; room = room′; store = s }) (n .0, (longer, (still, tt))))
-        ∙ ap (λ (ops : List ℕ). stepOf (suc (width VALUE-BYTES b)) s (does (commandAt b ops) s)) same
+        ∙ ap (λ (ops : List ℕ). stepOf (suc (operandsLen b s)) s (does (commandAt b ops) s)) same
 
 -- a stop for another reason than want of room comes with more room too
 step-stopped : (b : ℕ) (t : List ℕ) (room room′ : ℕ) (s : Store) (n : ℕ) → step b t room s ≡ stops n → n ≢ NOROOM → step b t room′ s ≡ stops n
@@ -47,13 +47,13 @@ unfolding step
 step-stopped b t room room′ s n e h =
     bool-cases (isCommand b)
     (λ known.
-    bool-cases (ltb (length t) (width VALUE-BYTES b))
+    bool-cases (ltb (length t) (operandsLen b s))
     (λ cut. rw (known, cut) (rw (known, cut) at e))
     (λ whole.
-    bool-cases (ltb room (answerLength VALUE-BYTES (commandAt b (take (width VALUE-BYTES b) t)) s))
+    bool-cases (ltb room (answerLength (commandOn b t s) s))
     (λ short. let p : stops NOROOM ≡ stops n = rw (known, whole, short) at e in let z : n ≡ NOROOM = cc in absurd (h z))
     (λ fits.
-    let p : stepOf (suc (width VALUE-BYTES b)) s (does (commandAt b (take (width VALUE-BYTES b) t)) s) ≡ stops n = rw (known, whole, fits) at e in
+    let p : stepOf (suc (operandsLen b s)) s (does (commandOn b t s) s) ≡ stops n = rw (known, whole, fits) at e in
     let z : _≡_ {A = ℕ} 0 1 = cc in
     absurd (omega arith))))
     (λ unknown. rw unknown (rw unknown at e))

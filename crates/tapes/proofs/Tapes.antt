@@ -1,6 +1,6 @@
 -- A tape of whole commands is read back as those commands, and a run of it that has room for all their accepted answers does them one after another to
 -- the tape's end. Assumes nothing.
-use mathlib.Core.Path.{_≡_, refl, ap, ap₂, _∙_}
+use mathlib.Core.Path.{_≡_, refl, ap, ap₂, _∙_, subst}
 use mathlib.Core.Bool.{true, false}
 use mathlib.Core.List.{List, [], _∷_, _++_}
 use Prim.Native.Nat.{ℕ, zero, suc, _+_, _-_, _≤_, _<_}
@@ -9,14 +9,15 @@ use borrow.Author.Tests.{le-ltb, leb-true}
 use lib.Dec.{leb, ltb}
 use lib.ListN.{length, take, drop, length-append}
 use lib.Seq.{take-at, drop-at}
-use Rattle.model.specs.Numbers.{LAST-COMMAND, VALUE-BYTES}
+use Rattle.model.specs.Numbers.{LAST-COMMAND}
 use Rattle.model.specs.Model.{Entity}
-use Rattle.model.specs.Store.{Store, Bytes, bytesOf, number}
-use Rattle.model.specs.Commands.{Command, REG, HOLD, NEW, PUT, TAKE, DROP, KILL, WIPE, GROUP, APPLY, BAR, RANGE, EMPTY, TALLY, TRAY, SETCALLER, width, isCommand, entityOfBytes, commandAt, answerLength}
-use Rattle.model.specs.Run.{does, goes, step, answerOf, more, runFor, run}
+use Rattle.model.specs.Store.{Settings, Store, Bytes, bytesOf, number}
+use Rattle.model.specs.Commands.{Command, REG, HOLD, NEW, PUT, TAKE, DROP, KILL, WIPE, GROUP, APPLY, BAR, RANGE, EMPTY, TALLY, TRAY, SETCALLER, width, isCommand, entityOfBytes, commandAt, answerLength, operandsLen}
+use Rattle.model.specs.Run.{does, goes, step, answerOf, Ran, more, runFor, run}
 use Rattle.model.proofs.BoolLaws.{and-right}
 use Rattle.model.proofs.Encoding.{number-bytes, bytes-of, bytes-append}
 use Rattle.model.proofs.Lengths.{bytesOf-length, answer-fits}
+use Rattle.model.proofs.Settings.{command-settings}
 use Rattle.tapes.proofs.Pieces.{run-step}
 use Rattle.tapes.specs.Tapes.{byteOf, entityBytes, operandsOf, EntityFits, Encodable, AllEncodable, tapeOf, afterOne, afterAll, answersTo, roomFor, ranAll}
 
@@ -126,36 +127,49 @@ pub after-append : (a b : List Command) (s : Store) → afterAll (a ++ b) s ≡ 
 after-append [] b s = refl
 after-append (c ∷ a) b s = after-append a b (afterOne c s)
 
--- ---- a run
+-- ---- a run, in a store whose values are of v bytes
 
-step-whole : (c : Command) (rest : List ℕ) (room : ℕ) (s : Store) → Encodable VALUE-BYTES c → answerLength VALUE-BYTES c s ≤ room
-    → step (byteOf c) (operandsOf VALUE-BYTES c ++ rest) room s ≡ goes (suc (width VALUE-BYTES (byteOf c))) (answerOf (does c s)) (afterOne c s)
+step-own : (c : Command) (rest : List ℕ) (room : ℕ) (s : Store) → answerLength c s ≤ room → Encodable (s .settings .valueBytes) c
+    → step (byteOf c) (operandsOf (s .settings .valueBytes) c ++ rest) room s ≡ goes (suc (operandsLen (byteOf c) s)) (answerOf (does c s)) (afterOne c s)
 unfolding step
-step-whole c rest room s f h =
-    let t : take (width VALUE-BYTES (byteOf c)) (operandsOf VALUE-BYTES c ++ rest) ≡ operandsOf VALUE-BYTES c = take-at (operandsOf VALUE-BYTES c) rest (width VALUE-BYTES (byteOf c)) (is-whole VALUE-BYTES c) in
-    let l : ltb (length (operandsOf VALUE-BYTES c ++ rest)) (width VALUE-BYTES (byteOf c)) ≡ false = le-ltb (length (operandsOf VALUE-BYTES c ++ rest)) (width VALUE-BYTES (byteOf c)) (omega (arith, is-whole VALUE-BYTES c, length-append (operandsOf VALUE-BYTES c) rest)) in
-    rw (is-command c, l, t, command-back VALUE-BYTES c f, le-ltb room (answerLength VALUE-BYTES c s) h)
+step-own c rest room s h f =
+    let ops : List ℕ = operandsOf (s .settings .valueBytes) c in
+    let n : length ops ≡ operandsLen (byteOf c) s = is-whole (s .settings .valueBytes) c in
+    let t : take (operandsLen (byteOf c) s) (ops ++ rest) ≡ ops = take-at ops rest (operandsLen (byteOf c) s) n in
+    let l : ltb (length (ops ++ rest)) (operandsLen (byteOf c) s) ≡ false = le-ltb (length (ops ++ rest)) (operandsLen (byteOf c) s) (omega (arith, n, length-append ops rest)) in
+    rw (is-command c, l, t, command-back (s .settings .valueBytes) c f, le-ltb room (answerLength c s) h)
 
-run-commands-for : (fuel : ℕ) (cs : List Command) (room : ℕ) (s : Store) → AllEncodable VALUE-BYTES cs → length (tapeOf VALUE-BYTES cs) ≤ fuel → roomFor cs s ≤ room → runFor fuel (tapeOf VALUE-BYTES cs) room s ≡ ranAll cs s
+step-whole : (v : ℕ) (c : Command) (rest : List ℕ) (room : ℕ) (s : Store) → s .settings .valueBytes ≡ v → Encodable v c → answerLength c s ≤ room
+    → step (byteOf c) (operandsOf v c ++ rest) room s ≡ goes (suc (width v (byteOf c))) (answerOf (does c s)) (afterOne c s)
+step-whole v c rest room s e f h =
+    subst (λ (v : ℕ). Encodable v c → step (byteOf c) (operandsOf v c ++ rest) room s ≡ goes (suc (width v (byteOf c))) (answerOf (does c s)) (afterOne c s)) e (step-own c rest room s h) f
+
+-- what it gives: ranAll is this for the store's own v
+abbrev ranBy : ℕ → List Command → Store → Ran
+ranBy v cs s = record { store = afterAll cs s; stop = 0; commands = length cs; read = length (tapeOf v cs); bytes = answersTo cs s }
+
+-- no command changes v
+run-commands-for : (fuel v : ℕ) (cs : List Command) (room : ℕ) (s : Store) → s .settings .valueBytes ≡ v → AllEncodable v cs → length (tapeOf v cs) ≤ fuel → roomFor cs s ≤ room → runFor fuel (tapeOf v cs) room s ≡ ranBy v cs s
 unfolding runFor
-run-commands-for zero [] room s W f h = refl
-run-commands-for (suc fuel) [] room s W f h = refl
-run-commands-for zero (c ∷ cs) room s W f h = absurd (omega arith)
-run-commands-for (suc fuel) (c ∷ cs) room s W f h =
+run-commands-for zero v [] room s e W f h = refl
+run-commands-for (suc fuel) v [] room s e W f h = refl
+run-commands-for zero v (c ∷ cs) room s e W f h = absurd (omega arith)
+run-commands-for (suc fuel) v (c ∷ cs) room s e W f h =
     let a = answerOf (does c s) in
-    let w = suc (width VALUE-BYTES (byteOf c)) in
-    let st = step-whole c (tapeOf VALUE-BYTES cs) room s (W .0) (omega (arith, h)) in
-    let d : drop (suc (width VALUE-BYTES (byteOf c))) (byteOf c ∷ (operandsOf VALUE-BYTES c ++ tapeOf VALUE-BYTES cs)) ≡ tapeOf VALUE-BYTES cs = drop-at (operandsOf VALUE-BYTES c) (tapeOf VALUE-BYTES cs) (width VALUE-BYTES (byteOf c)) (is-whole VALUE-BYTES c) in
+    let w = suc (width v (byteOf c)) in
+    let st = step-whole v c (tapeOf v cs) room s e (W .0) (omega (arith, h)) in
+    let d : drop (suc (width v (byteOf c))) (byteOf c ∷ (operandsOf v c ++ tapeOf v cs)) ≡ tapeOf v cs = drop-at (operandsOf v c) (tapeOf v cs) (width v (byteOf c)) (is-whole v c) in
     let fits = answer-fits c s (does c s) refl in
-    let n : length (operandsOf VALUE-BYTES c ++ tapeOf VALUE-BYTES cs) ≡ length (operandsOf VALUE-BYTES c) + length (tapeOf VALUE-BYTES cs) = length-append (operandsOf VALUE-BYTES c) (tapeOf VALUE-BYTES cs) in
-    let rest = run-commands-for fuel cs (room - length (answerOf (does c s))) (afterOne c s) (W .1) (omega (arith, n)) (omega (arith, h, fits)) in
-    let q : suc (width VALUE-BYTES (byteOf c)) + length (tapeOf VALUE-BYTES cs) ≡ suc (length (operandsOf VALUE-BYTES c ++ tapeOf VALUE-BYTES cs)) = omega (arith, n, is-whole VALUE-BYTES c) in
-    run-step fuel (byteOf c) (operandsOf VALUE-BYTES c ++ tapeOf VALUE-BYTES cs) room s w a (afterOne c s) st
+    let n : length (operandsOf v c ++ tapeOf v cs) ≡ length (operandsOf v c) + length (tapeOf v cs) = length-append (operandsOf v c) (tapeOf v cs) in
+    let still : afterOne c s .settings .valueBytes ≡ v = ap (λ (x : Settings). x .valueBytes) (command-settings c s (does c s) refl) ∙ e in
+    let rest = run-commands-for fuel v cs (room - length (answerOf (does c s))) (afterOne c s) still (W .1) (omega (arith, n)) (omega (arith, h, fits)) in
+    let q : suc (width v (byteOf c)) + length (tapeOf v cs) ≡ suc (length (operandsOf v c ++ tapeOf v cs)) = omega (arith, n, is-whole v c) in
+    run-step fuel (byteOf c) (operandsOf v c ++ tapeOf v cs) room s w a (afterOne c s) st
     ∙ ap (λ (t : List ℕ). more w a (runFor fuel t (room - length a) (afterOne c s))) d
     ∙ ap (more w a) rest
     ∙ (λ i. record { store = afterAll (c ∷ cs) s; stop = 0; commands = suc (length cs); read = q i; bytes = answersTo (c ∷ cs) s })
 
 -- commands that can stand on a tape, and room for all their accepted answers
-pub run-commands : (cs : List Command) (room : ℕ) (s : Store) → AllEncodable VALUE-BYTES cs → roomFor cs s ≤ room → run (tapeOf VALUE-BYTES cs) room s ≡ ranAll cs s
+pub run-commands : (cs : List Command) (room : ℕ) (s : Store) → AllEncodable (s .settings .valueBytes) cs → roomFor cs s ≤ room → run (tapeOf (s .settings .valueBytes) cs) room s ≡ ranAll cs s
 unfolding run
-run-commands cs room s W h = run-commands-for (length (tapeOf VALUE-BYTES cs)) cs room s W (omega arith) h
+run-commands cs room s W h = run-commands-for (length (tapeOf (s .settings .valueBytes) cs)) (s .settings .valueBytes) cs room s refl W (omega arith) h

@@ -4,7 +4,7 @@ use mathlib.Core.Path.{_≡_}
 use mathlib.Core.List.{List, [], _∷_, _++_, map}
 use Prim.Native.Nat.{ℕ, suc, _≤_}
 use lib.ListN.{replicate}
-use Rattle.model.specs.Numbers.{LAST-KIND, VALUE-BYTES}
+use Rattle.model.specs.Numbers.{LAST-KIND}
 use Rattle.model.specs.Model.{Family, Component, zeroCount}
 use Rattle.model.specs.Store.{Counts, Settings, Store, Bytes, emptyWith, withControl, withStorage, withKinds, withLayout}
 use Rattle.model.specs.Commands.{Command, REG, HOLD, GROUP, APPLY, BAR, SETCALLER}
@@ -31,12 +31,13 @@ builtStore c b =
     withControl (withStorage (withKinds s (b .kinds)) (withLayout (s .storage) (b .layout)))
     (record { staged = b .staged; excluded = b .excluded; draft = b .draft; counts = b .counts })
 
--- the clauses of a sound store. No entity is live, so that the groups of the layout in force count nothing, as those of a draft.
-pub record BuildSound (k : ℕ) (b : Build) : Type 0 where
+-- the clauses of a sound store, for k kinds and values of v bytes. No entity is live, so that the groups of the layout in force count nothing, as those of a
+-- draft.
+pub record BuildSound (k v : ℕ) (b : Build) : Type 0 where
   pub kinds : KindsSound k (b .kinds)
   pub layout : DraftSound (b .kinds) (b .layout)
   pub draft : DraftSound (b .kinds) (b .draft)
-  pub staged : StagedSound VALUE-BYTES (b .kinds) (b .staged)
+  pub staged : StagedSound v (b .kinds) (b .staged)
   pub excluded : ExcludedSound (b .kinds) (b .excluded)
   pub counts : CountsSound (b .counts)
 
@@ -104,8 +105,9 @@ familyCommands (f ∷ fs) = groupCommands [] f ++ familyCommands fs
 abbrev pub buildCommands : Build → List Command
 buildCommands b = countCommands (b .counts) ++ (map REG (b .kinds) ++ (familyCommands (b .layout) ++ (APPLY ∷ (familyCommands (b .draft) ++ (holdCommands (b .staged) ++ map BAR (b .excluded))))))
 
-abbrev pub buildTape : Build → List ℕ
-buildTape b = tapeOf VALUE-BYTES (buildCommands b)
+-- for a store whose values are of v bytes
+abbrev pub buildTape : ℕ → Build → List ℕ
+buildTape v b = tapeOf v (buildCommands b)
 
 -- the room that its answers take
 abbrev pub buildRoom : Settings → Build → ℕ

@@ -2,7 +2,7 @@
 use mathlib.Core.List.{List, [], _∷_, _++_}
 use Prim.Native.Nat.{ℕ, _+_, _^_, _<_}
 use lib.ListN.{length}
-use Rattle.model.specs.Numbers.{REG-BYTE, HOLD-BYTE, NEW-BYTE, PUT-BYTE, TAKE-BYTE, DROP-BYTE, KILL-BYTE, WIPE-BYTE, GROUP-BYTE, APPLY-BYTE, BAR-BYTE, RANGE-BYTE, EMPTY-BYTE, TALLY-BYTE, TRAY-BYTE, SETCALLER-BYTE, VALUE-BYTES}
+use Rattle.model.specs.Numbers.{REG-BYTE, HOLD-BYTE, NEW-BYTE, PUT-BYTE, TAKE-BYTE, DROP-BYTE, KILL-BYTE, WIPE-BYTE, GROUP-BYTE, APPLY-BYTE, BAR-BYTE, RANGE-BYTE, EMPTY-BYTE, TALLY-BYTE, TRAY-BYTE, SETCALLER-BYTE}
 use Rattle.model.specs.Model.{Entity}
 use Rattle.model.specs.Store.{Store, bytesOf}
 use Rattle.model.specs.Commands.{Command, REG, HOLD, NEW, PUT, TAKE, DROP, KILL, WIPE, GROUP, APPLY, BAR, RANGE, EMPTY, TALLY, TRAY, SETCALLER, answerLength}
@@ -33,7 +33,7 @@ byteOf (SETCALLER c) = SETCALLER-BYTE
 abbrev pub entityBytes : Entity → List ℕ
 entityBytes e = bytesOf 4 (e .index) ++ bytesOf 4 (e .version)
 
--- a value being of v bytes: "kind 1", "kind 1, value 8"; 02, No. 4: "count 2 bytes"; No. 7: "caller 1 byte"
+-- a value being of v bytes: "kind 1", "kind 1, value 8"; 02, No. 4: "count 2 bytes"; No. 7: "caller 1 byte"; No. 13: "HOLD, TAKE .. follow it"
 abbrev pub operandsOf : ℕ → Command → List ℕ
 operandsOf v (REG k) = k ∷ []
 operandsOf v (HOLD k x) = k ∷ bytesOf v x
@@ -100,8 +100,8 @@ answersTo (c ∷ cs) s = answerOf (does c s) ++ answersTo cs (afterOne c s)
 -- the room that is enough for all of them: each is judged by "the accepted answer", even where it is refused
 abbrev pub roomFor : List Command → Store → ℕ
 roomFor [] s = 0
-roomFor (c ∷ cs) s = answerLength VALUE-BYTES c s + roomFor cs (afterOne c s)
+roomFor (c ∷ cs) s = answerLength c s + roomFor cs (afterOne c s)
 
--- what their run gives, to the tape's end
+-- what their run gives, to the tape's end; their tape is for the store's own bytes of a value
 abbrev pub ranAll : List Command → Store → Ran
-ranAll cs s = record { store = afterAll cs s; stop = 0; commands = length cs; read = length (tapeOf VALUE-BYTES cs); bytes = answersTo cs s }
+ranAll cs s = record { store = afterAll cs s; stop = 0; commands = length cs; read = length (tapeOf (s .settings .valueBytes) cs); bytes = answersTo cs s }

@@ -1,14 +1,16 @@
 -- Where things stand in a column, and where the columns start. Products of two variables are met here and nowhere else: valuesLen and columnStart stay
 -- shut, with their laws. Assumes nothing.
-use mathlib.Core.Path.{_≡_, refl}
+use mathlib.Core.Path.{_≡_, refl, ap}
+use mathlib.Core.Logic.{inl, inr}
 use Prim.Native.Nat.{ℕ, suc, _+_, _*_, _≤_, _<_}
-use native.Mathlib.Nat.{mul-le-mul-right, mul-le-mul-left, mul-le-mul, suc-mul, mul-suc, mul-zero, zero-mul}
+use native.Mathlib.Nat.{add-mul, mul-le-mul-right, mul-le-mul-left, mul-le-mul, suc-mul, mul-suc, mul-zero, zero-mul}
 use native.Mathlib.Omega.{arith}
-use Rattle.model.specs.Numbers.{ENTITY-LEN, MAX-ENTITIES, MAX-KINDS}
+use Rattle.model.specs.Numbers.{COLUMN-HEAD, ENTITY-LEN, HEADER-LEN, LINKS-LEN, MAX-ENTITIES, MAX-KINDS, rowLen, strideOf}
 use Rattle.model.specs.Store.{wordsNeeded}
+use Rattle.model.specs.Sound.{EightOrSixteen}
 use Rattle.words.specs.declared.Shape.{Shape}
 use Rattle.words.specs.Offsets.{ENTITIES}
-use Rattle.words.specs.Shape.{Shaped, shape, valuesLen, columnLen, columnStart}
+use Rattle.words.specs.Shape.{TwoOrFour, Shaped, shape, valuesLen, columnLen, columnStart}
 
 -- ---- values
 
@@ -33,13 +35,19 @@ pub valuesLen-none : (d : ℕ) → valuesLen d 0 ≡ 0
 unfolding valuesLen
 valuesLen-none d = mul-zero d
 
-pub valuesLen-two : (i : ℕ) → valuesLen 2 i ≡ 2 * i
+-- as a product
+pub valuesLen-is : (d i : ℕ) → valuesLen d i ≡ d * i
 unfolding valuesLen
-valuesLen-two i = refl
+valuesLen-is d i = refl
+
+-- eight bytes are two words, sixteen are four
+pub two-or-four : (v : ℕ) → EightOrSixteen v → TwoOrFour (strideOf v)
+two-or-four v (inl e) = rw e (record { least = omega arith; most = omega arith; even = omega arith })
+two-or-four v (inr e) = rw e (record { least = omega arith; most = omega arith; even = omega arith })
 
 -- what a store's columns may be made for
-pub shaped-of : (n : ℕ) → n ≤ MAX-ENTITIES → Shaped (shape n)
-shaped-of n h = record { small = h; words = record { least = omega arith; most = omega arith; even = omega arith } }
+pub shaped-of : (n v : ℕ) → n ≤ MAX-ENTITIES → EightOrSixteen v → Shaped (shape n v)
+shaped-of n v h e = record { small = h; words = two-or-four v e }
 
 -- ---- columns
 
@@ -65,7 +73,9 @@ pub columnStart-first : (z : Shape) → columnStart z 0 ≡ ENTITIES + ENTITY-LE
 unfolding columnStart
 columnStart-first z = omega (arith, zero-mul (columnLen z))
 
--- the words that a store needs: 01's sum, with six words a row
-pub columnStart-needed : (n k : ℕ) → columnStart (shape n) k ≡ wordsNeeded n k
+-- the words that a store needs: 01's sum, with the words of a row
+pub columnStart-needed : (n k v : ℕ) → columnStart (shape n v) k ≡ wordsNeeded n k v
 unfolding columnStart wordsNeeded valuesLen
-columnStart-needed n k = let e : columnLen (shape n) ≡ 8 + 6 * n = omega arith in rw e refl
+columnStart-needed n k v =
+    let e : columnLen (shape n v) ≡ COLUMN-HEAD + rowLen v * n = omega (arith, add-mul LINKS-LEN (strideOf v) n) in
+    ap (λ (m : ℕ). HEADER-LEN + ENTITY-LEN * n + k * m) e

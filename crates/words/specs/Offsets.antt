@@ -38,7 +38,8 @@ LAYOUT-GROUPS = 8
 abbrev pub CALLER : ℕ
 CALLER = 9
 
--- from here to the refusal counts stands what else a start is told: the rule. The other words are kept for more, and nothing reads them yet
+-- from here to the refusal counts stands what else a start is told: the rule, and the bytes of a value. The other words are kept for more, and nothing
+-- reads them yet
 abbrev pub MORE-SETTINGS : ℕ
 MORE-SETTINGS = 10
 
@@ -48,6 +49,9 @@ RULE = 10
 -- the word of the newer rule; that of the older is 0
 abbrev pub NEWER : ℕ
 NEWER = 1
+
+abbrev pub VALUE-WIDTH : ℕ
+VALUE-WIDTH = 11
 
 -- the refusal counts of the sixteen callers
 abbrev pub REFUSALS : ℕ
@@ -151,7 +155,3 @@ PLACE-IN-FAMILY = 3
 
 abbrev pub ROWS : ℕ
 ROWS = COLUMN-HEAD
-
--- the words of a value: 01's eight bytes
-abbrev pub STRIDE : ℕ
-STRIDE = 2

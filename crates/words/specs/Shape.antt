@@ -5,9 +5,9 @@ use mathlib.Core.Logic.{_≢_}
 use mathlib.Core.List.{List}
 use Prim.Native.Nat.{ℕ, _+_, _*_, _≤_, _<_}
 use lib.ListN.{getD}
-use Rattle.model.specs.Numbers.{ENTITY-LEN, HEADER-LEN, MAX-ENTITIES}
+use Rattle.model.specs.Numbers.{ENTITY-LEN, HEADER-LEN, LINKS-LEN, MAX-ENTITIES, strideOf}
 use Rattle.words.specs.declared.Shape.{Shape}
-use Rattle.words.specs.Offsets.{CAPACITY, ROWS, STRIDE}
+use Rattle.words.specs.Offsets.{CAPACITY, ROWS, VALUE-WIDTH}
 
 -- a value has two words or four. A record and not a sum, so that omega reads it
 pub record TwoOrFour (d : ℕ) : Type 0 where
@@ -20,12 +20,13 @@ pub record Shaped (z : Shape) : Type 0 where
   pub small : z .capacity ≤ MAX-ENTITIES
   pub words : TwoOrFour (z .stride)
 
-abbrev pub shape : ℕ → Shape
-shape n = record { capacity = n; stride = STRIDE }
+-- of n entities and values of v bytes
+abbrev pub shape : ℕ → ℕ → Shape
+shape n v = record { capacity = n; stride = strideOf v }
 
 -- that of a store, by its words
 abbrev pub shapeOf : List ℕ → Shape
-shapeOf w = shape (getD w CAPACITY 0)
+shapeOf w = shape (getD w CAPACITY 0) (getD w VALUE-WIDTH 0)
 
 -- ---- in a column: its head, then two words for each row's entity, then two for each index's lookup, then the values
 
@@ -40,7 +41,7 @@ unfoldable pub valuesLen : ℕ → ℕ → ℕ
 valuesLen d i = d * i
 
 abbrev pub valuePlace : Shape → ℕ → ℕ
-valuePlace z i = ROWS + 4 * z .capacity + valuesLen (z .stride) i
+valuePlace z i = ROWS + LINKS-LEN * z .capacity + valuesLen (z .stride) i
 
 abbrev pub columnLen : Shape → ℕ
 columnLen z = valuePlace z (z .capacity)
@@ -56,6 +57,7 @@ columnStart z s = HEADER-LEN + ENTITY-LEN * z .capacity + s * columnLen z
 pub record Shapes (w : List ℕ) (z : Shape) : Type 0 where
   pub is : z ≡ shapeOf w
   pub small : z .capacity < 4294967296
+  pub narrow : z .stride < 4294967296
 
 -- a place in a column: the next few words' places are small numbers too
 pub record InColumn (place r : ℕ) : Type 0 where

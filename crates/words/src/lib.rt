@@ -4,6 +4,7 @@ ghost use mathlib.Core.Path.{_≡_};
 ghost use Prim.Native.Nat.{_+_, _*_, _<_, _≤_};
 ghost use lib.ListN.{length, getD};
 ghost use Rattle.model.specs.Numbers.{MAX-ENTITIES, MAX-KINDS};
+ghost use Rattle.words.specs.Offsets.{VALUE-WIDTH};
 ghost use Rattle.words.specs.Shape.{Shaped, entityPlace, lookupPlace, valuePlace, columnLen, columnStart, Shapes, InColumn, InWords};
 ghost use Rattle.words.specs.Counted.{filled};
 ghost use Rattle.words.specs.Word.{Word};
@@ -32,6 +33,8 @@ pub const CALLER: usize = 9;
 pub const RULE: usize = 10;
 
 pub const NEWER: u32 = 1;
+// The bytes of a value, 8 or 16.
+pub const VALUE_WIDTH: usize = 11;
 // The refusal counts of the sixteen callers.
 pub const REFUSALS: usize = 16;
 // The slot of each of the 128 kinds, and the word of a kind that has none.
@@ -92,8 +95,6 @@ pub const OWN_GROUP: usize = 2;
 pub const PLACE_IN_FAMILY: usize = 3;
 
 pub const ROWS: usize = model::COLUMN_HEAD;
-// The words of a value.
-pub const STRIDE: usize = 2;
 
 // What a column is made for: so many entities, and so many words for each value.
 pub struct Shape {
@@ -103,12 +104,12 @@ pub struct Shape {
 
 // What the columns of a store are made for.
 pub fn shape_of(words: &[u32]) -> Shape
-    requires { ⌜ 1 ≤ length (now words) ⌝ }
+    requires { ⌜ VALUE-WIDTH < length (now words) ⌝ }
     ensures { λ r. ⌜ Shapes (now (words .entry)) r ⌝ }
 {
     Shape {
         capacity: words[CAPACITY] as usize,
-        stride: STRIDE,
+        stride: words[VALUE_WIDTH] as usize / model::WORD_BYTES,
     }
 }
 
@@ -133,7 +134,7 @@ pub fn value_place(z: Shape, i: usize) -> usize
     requires { ⌜ Shaped z × (i ≤ z .capacity) ⌝ }
     ensures { λ r. ⌜ InColumn (valuePlace z i) r ⌝ }
 {
-    ROWS + 4 * z.capacity + z.stride * i
+    ROWS + model::LINKS_LEN * z.capacity + z.stride * i
 }
 
 // How many words a column has: the values are its last.

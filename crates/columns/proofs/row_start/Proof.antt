@@ -1,7 +1,7 @@
 use mathlib.Core.Path.{_≡_, sym, subst}
 use Prim.Native.Nat.{_+_, _≤_}
 use native.Mathlib.Omega.{arith}
-use Rattle.words.specs.Offsets.{CAPACITY, TABLE}
+use Rattle.words.specs.Offsets.{TABLE, VALUE-WIDTH}
 use Rattle.words.specs.Shape.{Shaped, shapeOf}
 use Rattle.kinds.proofs.Slot.{known-small, known-slot, header-long}
 use Rattle.columns.proofs.Columns.{rows-few, row-start-small, value-place, entity-place}
@@ -10,7 +10,7 @@ use Rattle.columns.proofs.row_start.Statement.{statement}
 use Rattle.columns.proofs.row_start.Tie as tie
 
 shape-of-requires : tie.Need-shape-of-requires
-shape-of-requires c κs = let s = c .before in header-long (s .args .words .now) (s .pre .0) CAPACITY (omega arith)
+shape-of-requires c κs = let s = c .before in header-long (s .args .words .now) (s .pre .0) VALUE-WIDTH (omega arith)
 
 add-word : tie.Need-add-word
 add-word c = let s = c .before .before in omega (arith, known-small (s .args .words .now) (s .pre .0) (s .args .kind) (s .pre .1 .0))

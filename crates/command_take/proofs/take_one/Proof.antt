@@ -1,12 +1,13 @@
-use mathlib.Core.Path.{ap, _∙_, subst}
+use mathlib.Core.Path.{_≡_, ap, ap₂, sym, _∙_, subst}
 use borrow.Author.Needs.{needs}
 use mathlib.Core.List.{_∷_}
-use Prim.Native.Nat.{ℕ}
+use Prim.Native.Nat.{ℕ, _*_}
 use lib.ListN.{getD}
 use lib.Seq.{sets}
-use Rattle.model.specs.Numbers.{VALUE-BYTES}
 use Rattle.model.specs.Store.{stagedKinds, bytesOf}
-use Rattle.words.specs.Offsets.{STRIDE}
+use Rattle.words.specs.Shape.{TwoOrFour, shapeOf}
+use Rattle.values.specs.Values.{valueOf}
+use Rattle.memory.proofs.Becomes.{stride-bytes}
 use Rattle.model.specs.Model.{entity}
 use Rattle.component.specs.Answers.{Gives}
 use Rattle.component.specs.declared.Removed.{Removed}
@@ -19,6 +20,13 @@ use Rattle.command_take.proofs.take_one.Tie as tie
 remove-one-requires : tie.Need-remove-one-requires
 remove-one-requires c κs = let s = c .before .before .before in (s .pre .0, s .pre .1 .0)
 
+-- the value's words have the store's bytes
+wide : (s : tie.Start) → 4 * s .args .d ≡ meaning (s .args .words .now) .settings .valueBytes
+wide s = ap (λ (d : ℕ). 4 * d) (s .pre .1 .1 .0) ∙ stride-bytes (s .args .words .now) (s .pre .0 .arranged)
+
+words-of : (s : tie.Start) → TwoOrFour (s .args .d)
+words-of s = subst TwoOrFour (sym (s .pre .1 .1 .0)) (s .pre .0 .arranged .columns .shaped .words)
+
 returns : tie.Need-returns
 returns c =
     let a = c .before .before .before .before .before .before .before .before .before .before .before .before .before .args in
@@ -26,8 +34,15 @@ returns c =
     let e = entity (a .e .index) (a .e .version) in
     let k = getD (stagedKinds (meaning w)) (a .i) 0 in
     let r = c .before .before .before .before .before .before .before .before .before .remove-one in
-    let g = subst (λ (x : Removed). Gives STRIDE e (kindSet w k) x) (c .before .before .before .before .before .enum-told .given .1) (r .ensures .gives) in
-    record { becomes = r .ensures .becomes; bytes = c .before .before .put-held .ensures ∙ ap (λ (x : ℕ). sets (a .out .now) (a .at) (0 ∷ bytesOf VALUE-BYTES x)) (c .before .before .before .zero .ensures STRIDE) ∙ ap (sets (a .out .now) (a .at)) (bytes-none VALUE-BYTES e (kindSet w k) g) }
+    let g = subst (λ (x : Removed). Gives (shapeOf w .stride) e (kindSet w k) x) (c .before .before .before .before .before .enum-told .given .1) (r .ensures .gives) in
+    let v = meaning w .settings .valueBytes in
+    record {
+      becomes = r .ensures .becomes;
+      bytes =
+          c .before .before .put-held .ensures
+          ∙ ap₂ (λ (n x : ℕ). sets (a .out .now) (a .at) (0 ∷ bytesOf n x)) (wide (c .before .before .before .before .before .before .before .before .before .before .before .before .before)) (c .before .before .before .zero .ensures (a .d))
+          ∙ ap (sets (a .out .now) (a .at)) (bytes-none v e (kindSet w k) g);
+    }
 
 returns-2 : tie.Need-returns-2
 returns-2 c =
@@ -36,11 +51,19 @@ returns-2 c =
     let e = entity (a .e .index) (a .e .version) in
     let k = getD (stagedKinds (meaning w)) (a .i) 0 in
     let r = c .before .before .before .before .before .before .before .before .before .remove-one in
-    let g = subst (λ (x : Removed). Gives STRIDE e (kindSet w k) x) (c .before .before .before .before .before .removed .given .1) (r .ensures .gives) in
-    record { becomes = r .ensures .becomes; bytes = c .before .before .put-held2 .ensures ∙ ap (sets (a .out .now) (a .at)) (bytes-held VALUE-BYTES e (kindSet w k) _ (g .holds) (g .value)) }
+    let g = subst (λ (x : Removed). Gives (shapeOf w .stride) e (kindSet w k) x) (c .before .before .before .before .before .removed .given .1) (r .ensures .gives) in
+    let s = c .before .before .before .before .before .before .before .before .before .before .before .before .before in
+    let v = meaning w .settings .valueBytes in
+    record {
+      becomes = r .ensures .becomes;
+      bytes =
+          c .before .before .put-held2 .ensures
+          ∙ ap₂ (λ (n d : ℕ). sets (a .out .now) (a .at) (1 ∷ bytesOf n (valueOf d (c .before .before .before .before .before .removed .given .0 .0)))) (wide s) (s .pre .1 .1 .0)
+          ∙ ap (sets (a .out .now) (a .at)) (bytes-held v e (kindSet w k) _ (g .holds) (g .value));
+    }
 
 put-held-requires : tie.Need-put-held-requires
-put-held-requires c κs = c .before .before .before .before .before .before .before .before .before .before .pre .1 .1
+put-held-requires c κs = let s = c .before .before .before .before .before .before .before .before .before .before in (words-of s, s .pre .1 .1 .1)
 
 same-length : tie.Need-same-length
 same-length c = c .before .before .before .before .before .before .before .before .before .remove-one .kept .0
@@ -49,7 +72,7 @@ same-length-2 : tie.Need-same-length-2
 same-length-2 c = c .before .before .put-held .kept .0
 
 put-held-requires-2 : tie.Need-put-held-requires-2
-put-held-requires-2 c κs = c .before .before .before .before .before .before .before .before .before .before .pre .1 .1
+put-held-requires-2 c κs = let s = c .before .before .before .before .before .before .before .before .before .before in (words-of s, s .pre .1 .1 .1)
 
 same-length-3 : tie.Need-same-length-3
 same-length-3 c = c .before .before .before .before .before .before .before .before .before .remove-one .kept .0

@@ -1,11 +1,10 @@
-use mathlib.Core.Path.{_∙_}
--- `command_take::take_out` meets its contract. Assumes nothing.
-use native.Mathlib.Omega.{arith}
+use mathlib.Core.Path.{ap, _∙_}
 use Rattle.world.proofs.Whole.{staged-after, count-after}
 use Rattle.command_take.proofs.Whole.{take-whole}
 use Rattle.command_take.proofs.take_out.Statement.{statement}
 use Rattle.command_take.proofs.take_out.Tie as tie
 use Rattle.model.specs.Model.{entity}
+use Rattle.model.specs.Store.{Store}
 
 take-staged-requires : tie.Need-take-staged-requires
 take-staged-requires c κs =
@@ -14,7 +13,8 @@ take-staged-requires c κs =
     let e = entity (s .args .e .index) (s .args .e .version) in
     let u = c .before .before .before .before .ungroup-staged in
     let n = count-after w (s .pre .0) e (u .last .0) (u .ensures) in
-    (staged-after w (s .pre .0) e (u .last .0) (u .ensures), omega (arith, n, s .pre .1))
+    let v = ap (λ (m : Store). m .settings .valueBytes) (u .ensures .means) in
+    (staged-after w (s .pre .0) e (u .last .0) (u .ensures), rw (v, n) (s .pre .1))
 
 returns : tie.Need-returns
 returns c =
@@ -22,7 +22,7 @@ returns c =
     let a = s .args in
     let u = c .before .before .before .before .before .before .before .before .before .ungroup-staged in
     let t = c .before .before .before .before .take-staged in
-    take-whole (a .words .now) (s .pre .0) (entity (a .e .index) (a .e .version)) (u .last .0) (u .ensures) (t .last .0) (a .out .now) _ (a .at) (t .ensures)
+    take-whole (a .words .now) (s .pre .0) (entity (a .e .index) (a .e .version)) (u .last .0) (u .ensures) (t .last .0) (a .out .now) _ (a .at) _ (t .ensures)
 
 pub take-out-spec : {M : Type 1} → statement M
 take-out-spec = tie.close (tie.spec

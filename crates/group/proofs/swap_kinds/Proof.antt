@@ -1,6 +1,6 @@
 use Prim.Native.Nat.{_-_}
 use native.Mathlib.Omega.{arith}
-use Rattle.words.specs.Offsets.{CAPACITY}
+use Rattle.words.specs.Offsets.{VALUE-WIDTH}
 use Rattle.kinds.proofs.Slot.{header-long}
 use Rattle.group.proofs.Swapping.{Swapping, swap-start, place-there, swap-known, swap-lent, swap-asks, swap-turn, swap-done}
 use Rattle.group.proofs.swap_kinds.Statement.{statement}
@@ -14,7 +14,7 @@ abbrev μ-loop : tie.MeasureT-loop
 μ-loop words₀ e swap-index z end place₀ words place = end - place
 
 shape-of-requires : tie.Need-shape-of-requires Inv-loop μ-loop
-shape-of-requires c κs = let s = c .before .before in header-long (s .args .words .now) (s .pre .0) CAPACITY (omega arith)
+shape-of-requires c κs = let s = c .before .before in header-long (s .args .words .now) (s .pre .0) VALUE-WIDTH (omega arith)
 
 loop-holds : tie.Need-loop-holds Inv-loop μ-loop
 loop-holds c = let p = c .before .before .before .pre in swap-start (p .0) (p .1 .0) (p .1 .1)

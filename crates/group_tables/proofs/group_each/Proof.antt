@@ -4,7 +4,7 @@ use borrow.Author.Needs.{needs}
 use lib.ListN.{drop}
 use Rattle.masks.specs.Masks.{bitsOf}
 use Rattle.masks.proofs.Bits.{no-bits}
-use Rattle.words.specs.Offsets.{CAPACITY}
+use Rattle.words.specs.Offsets.{VALUE-WIDTH}
 use Rattle.memory.specs.Meaning.{meaning}
 use Rattle.kinds.proofs.Slot.{header-long}
 use Rattle.group.proofs.Each.{none-grouped}
@@ -18,7 +18,7 @@ returns c =
     none-grouped (a .words .now) (bitsOf 64 (a .mask .0)) (drop (a .start) (meaning (a .words .now) .entities .live)) (s .pre .0) (ap (bitsOf 64) (c .if1 .taken) ∙ no-bits 64 0)
 
 shape-of-requires : tie.Need-shape-of-requires
-shape-of-requires c κs = let s = c .before .before .before .before in header-long (s .args .words .now) (s .pre .0) CAPACITY (omega arith)
+shape-of-requires c κs = let s = c .before .before .before .before in header-long (s .args .words .now) (s .pre .0) VALUE-WIDTH (omega arith)
 
 fill-starts-requires : tie.Need-fill-starts-requires
 fill-starts-requires c κs = (c .before .before .before .before .before .before .before .pre .0, (c .before .before .shape-of .ensures .is, search needs))

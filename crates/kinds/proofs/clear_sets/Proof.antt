@@ -1,13 +1,13 @@
 use borrow.Author.Needs.{needs}
 use native.Mathlib.Omega.{arith}
-use Rattle.words.specs.Offsets.{CAPACITY, REGISTERED}
+use Rattle.words.specs.Offsets.{REGISTERED, VALUE-WIDTH}
 use Rattle.kinds.proofs.Slot.{header-long}
 use Rattle.kinds.proofs.Clear.{clears, cleared}
 use Rattle.kinds.proofs.clear_sets.Statement.{statement}
 use Rattle.kinds.proofs.clear_sets.Tie as tie
 
 shape-of-requires : tie.Need-shape-of-requires
-shape-of-requires c κs = let s = c .before .before in header-long (s .args .words .now) (s .pre) CAPACITY (omega arith)
+shape-of-requires c κs = let s = c .before .before in header-long (s .args .words .now) (s .pre) VALUE-WIDTH (omega arith)
 
 word-requires : tie.Need-word-requires
 word-requires c κs = let s = c .before .before .before .before in header-long (s .args .words .now) (s .pre) REGISTERED (omega arith)

@@ -2,7 +2,7 @@ use borrow.Author.Needs.{needs}
 use native.Mathlib.Omega.{arith}
 use Prim.Native.Nat.{ℕ}
 use mathlib.Core.Path.{subst}
-use Rattle.words.specs.Offsets.{CAPACITY}
+use Rattle.words.specs.Offsets.{VALUE-WIDTH}
 use Rattle.words.specs.declared.Shape.{Shape}
 use Rattle.component.specs.Answers.{Finds}
 use Rattle.kinds.specs.Kinds.{kindSet}
@@ -12,7 +12,7 @@ use Rattle.kinds.proofs.find.Tie as tie
 use Rattle.model.specs.Model.{entity}
 
 shape-of-requires : tie.Need-shape-of-requires
-shape-of-requires c κs = let s = c .before in header-long (s .args .words .now) (s .pre .0) CAPACITY (omega arith)
+shape-of-requires c κs = let s = c .before in header-long (s .args .words .now) (s .pre .0) VALUE-WIDTH (omega arith)
 
 find-in-requires : tie.Need-find-in-requires
 find-in-requires c κs =

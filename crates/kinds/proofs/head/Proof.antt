@@ -3,13 +3,13 @@ use Prim.Native.Nat.{ℕ, _+_}
 use borrow.Author.Needs.{needs}
 use native.Mathlib.Omega.{arith}
 use lib.ListN.{getD}
-use Rattle.words.specs.Offsets.{CAPACITY}
+use Rattle.words.specs.Offsets.{VALUE-WIDTH}
 use Rattle.kinds.proofs.Slot.{header-long, lent-at, head-at}
 use Rattle.kinds.proofs.head.Statement.{statement}
 use Rattle.kinds.proofs.head.Tie as tie
 
 shape-of-requires : tie.Need-shape-of-requires
-shape-of-requires c κs = let s = c .before in header-long (s .args .words .now) (s .pre .0) CAPACITY (omega arith)
+shape-of-requires c κs = let s = c .before in header-long (s .args .words .now) (s .pre .0) VALUE-WIDTH (omega arith)
 
 column-start-requires : tie.Need-column-start-requires
 column-start-requires c κs =

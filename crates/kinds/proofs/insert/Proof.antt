@@ -5,7 +5,7 @@ use Rattle.model.specs.Store.{onSet, onStorage}
 use Rattle.memory.specs.Meaning.{meaning}
 use Rattle.memory.specs.Arranged.{Becomes}
 use Rattle.model.specs.Model.{insertRow, entity}
-use Rattle.words.specs.Offsets.{CAPACITY}
+use Rattle.words.specs.Offsets.{VALUE-WIDTH}
 use Rattle.words.specs.declared.Shape.{Shape}
 use Rattle.values.specs.Values.{valueOf}
 use Rattle.kinds.proofs.Slot.{header-long, lent-at, rows-at, only-becomes}
@@ -13,7 +13,7 @@ use Rattle.kinds.proofs.insert.Statement.{statement}
 use Rattle.kinds.proofs.insert.Tie as tie
 
 shape-of-requires : tie.Need-shape-of-requires
-shape-of-requires c κs = let s = c .before .before in header-long (s .args .words .now) (s .pre .0) CAPACITY (omega arith)
+shape-of-requires c κs = let s = c .before .before in header-long (s .args .words .now) (s .pre .0) VALUE-WIDTH (omega arith)
 
 insert-in-requires : tie.Need-insert-in-requires
 insert-in-requires c κs =

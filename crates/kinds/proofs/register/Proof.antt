@@ -2,14 +2,14 @@ use Prim.Native.Nat.{_+_}
 use borrow.Author.Needs.{needs}
 use native.Mathlib.Omega.{arith}
 use lib.ListN.{length-set}
-use Rattle.words.specs.Offsets.{CAPACITY, REGISTERED, TABLE}
+use Rattle.words.specs.Offsets.{REGISTERED, TABLE, VALUE-WIDTH}
 use Rattle.kinds.proofs.Slot.{header-long}
 use Rattle.kinds.proofs.Registering.{vacancy, vacant-lent, registered}
 use Rattle.kinds.proofs.register.Statement.{statement}
 use Rattle.kinds.proofs.register.Tie as tie
 
 shape-of-requires : tie.Need-shape-of-requires
-shape-of-requires c κs = let s = c .before .before in header-long (s .args .words .now) (s .pre .0) CAPACITY (omega arith)
+shape-of-requires c κs = let s = c .before .before in header-long (s .args .words .now) (s .pre .0) VALUE-WIDTH (omega arith)
 
 word-requires : tie.Need-word-requires
 word-requires c κs = let s = c .before .before .before .before in header-long (s .args .words .now) (s .pre .0) REGISTERED (omega arith)

@@ -4,14 +4,14 @@ use native.Mathlib.Omega.{arith}
 use Rattle.component.specs.Answers.{Gives}
 use Rattle.kinds.specs.Kinds.{kindSet}
 use Rattle.model.specs.Model.{removeRow, entity}
-use Rattle.words.specs.Offsets.{CAPACITY}
+use Rattle.words.specs.Offsets.{VALUE-WIDTH}
 use Rattle.words.specs.declared.Shape.{Shape}
 use Rattle.kinds.proofs.Slot.{header-long, lent-at, rows-at, only-becomes}
 use Rattle.kinds.proofs.remove.Statement.{statement}
 use Rattle.kinds.proofs.remove.Tie as tie
 
 shape-of-requires : tie.Need-shape-of-requires
-shape-of-requires c κs = let s = c .before .before in header-long (s .args .words .now) (s .pre .0) CAPACITY (omega arith)
+shape-of-requires c κs = let s = c .before .before in header-long (s .args .words .now) (s .pre .0) VALUE-WIDTH (omega arith)
 
 remove-in-requires : tie.Need-remove-in-requires
 remove-in-requires c κs =

@@ -4,7 +4,7 @@ use native.Mathlib.Omega.{arith}
 use lib.ListN.{getD}
 use Rattle.model.specs.Model.{noRow}
 use Rattle.kinds.specs.Kinds.{kindSet}
-use Rattle.words.specs.Offsets.{CAPACITY}
+use Rattle.words.specs.Offsets.{VALUE-WIDTH}
 use Rattle.words.specs.declared.Shape.{Shape}
 use Rattle.values.specs.Values.{valueOf}
 use Rattle.kinds.proofs.Slot.{header-long, lent-at, rows-at}
@@ -12,7 +12,7 @@ use Rattle.kinds.proofs.value_of.Statement.{statement}
 use Rattle.kinds.proofs.value_of.Tie as tie
 
 shape-of-requires : tie.Need-shape-of-requires
-shape-of-requires c κs = let s = c .before in header-long (s .args .words .now) (s .pre .0) CAPACITY (omega arith)
+shape-of-requires c κs = let s = c .before in header-long (s .args .words .now) (s .pre .0) VALUE-WIDTH (omega arith)
 
 value-in-requires : tie.Need-value-in-requires
 value-in-requires c κs =

@@ -1,4 +1,4 @@
-use Prim.Native.Nat.{_+_, _-_, _≤_, _<_}
+use Prim.Native.Nat.{_+_, _*_, _-_, _≤_, _<_}
 use native.Mathlib.Omega.{arith}
 use lib.ListN.{length}
 use Rattle.memory.specs.Meaning.{meaning}
@@ -10,36 +10,41 @@ use Rattle.snapshot.proofs.write_entities.Statement.{statement}
 use Rattle.snapshot.proofs.write_entities.Tie as tie
 
 abbrev Inv-loop : tie.InvT-loop
-Inv-loop words list out₀ at issued next₀ index₀ out next index = Writing out₀ at (from words 0) out next (from words index) × (index ≤ issued)
+Inv-loop words d list out₀ at issued next₀ index₀ out next index = Writing out₀ at (from (4 * d) words 0) out next (from (4 * d) words index) × (index ≤ issued)
 
 abbrev μ-loop : tie.MeasureT-loop
-μ-loop words list out₀ at issued next₀ index₀ out next index = issued - index
+μ-loop words d list out₀ at issued next₀ index₀ out next index = issued - index
 
 loop-holds : tie.Need-loop-holds Inv-loop μ-loop
-loop-holds c = let a = c .before .before .before .before .args in (writing-start (a .out .now) (a .at) (from (a .words .now) 0), omega arith)
+loop-holds c = let a = c .before .before .before .before .args in (writing-start (a .out .now) (a .at) (from (4 * a .d) (a .words .now) 0), omega arith)
 
 write-index-requires : tie.Need-write-index-requires Inv-loop μ-loop
 write-index-requires c κs =
     let s = c .before .before .before .before .before .before .before in
     let a = s .args in
     let w = a .words .now in
+    let v = 4 * a .d in
     let i = c .before .before .loop .index in
     let h : i < meaning w .entities .issued = omega (arith, c .before .loop-test, c .before .before .before .issued .ensures) in
-    let room : a .at + length (from w 0) ≤ length (a .out .now) = rw (from-start w) at (s .pre .1 .1) in
-    (s .pre .0, (s .pre .1 .0, (omega (arith, issued-most w (s .pre .0)), writing-room (indexBytes w i) (from w (i + 1)) (c .before .before .loop .inv .0) (from-turn w i h) room)))
+    let room : a .at + length (from v w 0) ≤ length (a .out .now) = rw (from-start v w) at (s .pre .1 .1 .1) in
+    (s .pre .0, (s .pre .1 .0, (s .pre .1 .1 .0, (omega (arith, issued-most w (s .pre .0)), writing-room (indexBytes v w i) (from v w (i + 1)) (c .before .before .loop .inv .0) (from-turn v w i h) room))))
 
 loop-again : tie.Need-loop-again Inv-loop μ-loop
 loop-again c =
-    let w = c .before .before .before .before .before .before .before .before .before .before .args .words .now in
+    let a = c .before .before .before .before .before .before .before .before .before .before .args in
+    let w = a .words .now in
+    let v = 4 * a .d in
     let i = c .before .before .before .before .before .loop .index in
     let h : i < meaning w .entities .issued = omega (arith, c .before .before .before .before .loop-test, c .before .before .before .before .before .before .issued .ensures) in
-    (writing-turn (indexBytes w i) (from w (i + 1)) (c .before .before .before .before .before .loop .inv .0) (from-turn w i h) (c .before .before .write-index .ensures), omega arith)
+    (writing-turn (indexBytes v w i) (from v w (i + 1)) (c .before .before .before .before .before .loop .inv .0) (from-turn v w i h) (c .before .before .write-index .ensures), omega arith)
 
 returns : tie.Need-returns Inv-loop μ-loop
 returns c =
-    let w = c .before .before .before .before .before .before .args .words .now in
+    let a = c .before .before .before .before .before .before .args in
+    let w = a .words .now in
+    let v = 4 * a .d in
     let h : meaning w .entities .issued ≤ c .before .loop .index = omega (arith, c .loop-test, c .before .before .issued .ensures) in
-    rw (from-start w) (writing-end (c .before .loop .inv .0) (from-none w (c .before .loop .index) h))
+    rw (from-start v w) (writing-end (c .before .loop .inv .0) (from-none v w (c .before .loop .index) h))
 
 pub write-entities-spec : {M : Type 1} → statement M
 write-entities-spec =

@@ -1,22 +1,22 @@
 use Prim.Native.Nat.{_-_}
 use native.Mathlib.Omega.{arith}
 use Rattle.words.specs.Offsets.{LAYOUT-FAMILIES, LAYOUT-GROUPS}
-use Rattle.memory.specs.Header.{capacityOf, kindCapacityOf}
+use Rattle.memory.specs.Header.{capacityOf, kindCapacityOf, valueBytesOf}
 use Rattle.soundness.proofs.Whole.{size-long, forced, groups-few}
 use Rattle.soundness.proofs.has_counts.Statement.{statement}
 use Rattle.soundness.proofs.has_counts.Tie as tie
 
 shape-of-requires : tie.Need-shape-of-requires
-shape-of-requires c κs = let a = c .before .args in omega (arith, size-long (capacityOf (a .words .now)) (kindCapacityOf (a .words .now)) (a .words .now) (c .before .pre .0 .size))
+shape-of-requires c κs = let a = c .before .args in omega (arith, size-long (capacityOf (a .words .now)) (kindCapacityOf (a .words .now)) (valueBytesOf (a .words .now)) (a .words .now) (c .before .pre .0 .size))
 
 shared-slice-read-are-counts : tie.Need-shared-slice-read-are-counts
-shared-slice-read-are-counts c = let a = c .before .before .before .args in omega (arith, size-long (capacityOf (a .words .now)) (kindCapacityOf (a .words .now)) (a .words .now) (c .before .before .before .pre .0 .size))
+shared-slice-read-are-counts c = let a = c .before .before .before .args in omega (arith, size-long (capacityOf (a .words .now)) (kindCapacityOf (a .words .now)) (valueBytesOf (a .words .now)) (a .words .now) (c .before .before .before .pre .0 .size))
 
 cast-are-counts : tie.Need-cast-are-counts
 cast-are-counts c = omega (arith, c .before .before .shared-slice-known .given LAYOUT-FAMILIES)
 
 shared-slice-read-are-counts-2 : tie.Need-shared-slice-read-are-counts-2
-shared-slice-read-are-counts-2 c = let a = c .before .before .before .before .args in omega (arith, size-long (capacityOf (a .words .now)) (kindCapacityOf (a .words .now)) (a .words .now) (c .before .before .before .before .pre .0 .size))
+shared-slice-read-are-counts-2 c = let a = c .before .before .before .before .args in omega (arith, size-long (capacityOf (a .words .now)) (kindCapacityOf (a .words .now)) (valueBytesOf (a .words .now)) (a .words .now) (c .before .before .before .before .pre .0 .size))
 
 cast-are-counts-2 : tie.Need-cast-are-counts-2
 cast-are-counts-2 c = omega (arith, c .before .before .before .shared-slice-known .given LAYOUT-GROUPS)

@@ -8,32 +8,32 @@ use Rattle.words.proofs.Decides.{granted, denied}
 use Rattle.words.specs.Part.{between}
 use Rattle.words.specs.Shape.{shapeOf}
 use Rattle.layout_block.specs.Checks.{BlockSound}
-use Rattle.memory.specs.Header.{capacityOf, kindCapacityOf, registeredOf, layoutFamilies, layoutGroups}
+use Rattle.memory.specs.Header.{capacityOf, kindCapacityOf, registeredOf, layoutFamilies, layoutGroups, valueBytesOf}
 use Rattle.sound_groups.specs.Spans.{HeadsOk, OwnOk}
 use Rattle.soundness.proofs.Whole.{size-long, forced, groups-few, own-room, own-heads, own-width, own-kinds, width-is}
 use Rattle.soundness.proofs.has_layout.Statement.{statement}
 use Rattle.soundness.proofs.has_layout.Tie as tie
 
 shape-of-requires : tie.Need-shape-of-requires
-shape-of-requires c κs = let a = c .before .args in omega (arith, size-long (capacityOf (a .words .now)) (kindCapacityOf (a .words .now)) (a .words .now) (c .before .pre .size))
+shape-of-requires c κs = let a = c .before .args in omega (arith, size-long (capacityOf (a .words .now)) (kindCapacityOf (a .words .now)) (valueBytesOf (a .words .now)) (a .words .now) (c .before .pre .size))
 
 shared-slice-read-families : tie.Need-shared-slice-read-families
-shared-slice-read-families c = let a = c .before .before .before .args in omega (arith, size-long (capacityOf (a .words .now)) (kindCapacityOf (a .words .now)) (a .words .now) (c .before .before .before .pre .size))
+shared-slice-read-families c = let a = c .before .before .before .args in omega (arith, size-long (capacityOf (a .words .now)) (kindCapacityOf (a .words .now)) (valueBytesOf (a .words .now)) (a .words .now) (c .before .before .before .pre .size))
 
 cast-families : tie.Need-cast-families
 cast-families c = omega (arith, c .before .before .shared-slice-known .given LAYOUT-FAMILIES)
 
 shared-slice-read-groups : tie.Need-shared-slice-read-groups
-shared-slice-read-groups c = let a = c .before .before .before .before .args in omega (arith, size-long (capacityOf (a .words .now)) (kindCapacityOf (a .words .now)) (a .words .now) (c .before .before .before .before .pre .size))
+shared-slice-read-groups c = let a = c .before .before .before .before .args in omega (arith, size-long (capacityOf (a .words .now)) (kindCapacityOf (a .words .now)) (valueBytesOf (a .words .now)) (a .words .now) (c .before .before .before .before .pre .size))
 
 cast-groups : tie.Need-cast-groups
 cast-groups c = omega (arith, c .before .before .before .shared-slice-known .given LAYOUT-GROUPS)
 
 part-block-ok-end : tie.Need-part-block-ok-end
-part-block-ok-end c = let a = c .before .before .before .before .args in omega (arith, size-long (capacityOf (a .words .now)) (kindCapacityOf (a .words .now)) (a .words .now) (c .before .before .before .before .pre .size))
+part-block-ok-end c = let a = c .before .before .before .before .args in omega (arith, size-long (capacityOf (a .words .now)) (kindCapacityOf (a .words .now)) (valueBytesOf (a .words .now)) (a .words .now) (c .before .before .before .before .pre .size))
 
 part-block-ok-end-2 : tie.Need-part-block-ok-end-2
-part-block-ok-end-2 c = let a = c .before .before .before .before .before .args in omega (arith, size-long (capacityOf (a .words .now)) (kindCapacityOf (a .words .now)) (a .words .now) (c .before .before .before .before .before .pre .size))
+part-block-ok-end-2 c = let a = c .before .before .before .before .before .args in omega (arith, size-long (capacityOf (a .words .now)) (kindCapacityOf (a .words .now)) (valueBytesOf (a .words .now)) (a .words .now) (c .before .before .before .before .before .pre .size))
 
 returns : tie.Need-returns
 returns c = let a = c .before .before .before .before .before .before .before .before .args in λ T. denied {P = BlockSound (between LAYOUT GROUP-FAMILIES (a .words .now)) (between TABLE STAGED-KINDS (a .words .now)) (layoutFamilies (a .words .now)) (layoutGroups (a .words .now))} (c .before .block-ok .result) (c .before .block-ok .ensures) (c .if1 .taken) (T .block)
@@ -45,10 +45,10 @@ returns-2 : tie.Need-returns-2
 returns-2 c = let a = c .before .before .before .before .before .before .before .before .before .before .args in λ T. denied {P = Each (layoutGroups (a .words .now)) (HeadsOk (shapeOf (a .words .now)) (a .words .now))} (c .before .are-heads .result) (rw (c .before .before .before .before .before .before .before .before .shape-of .ensures .is) at (c .before .are-heads .ensures)) (c .if2 .taken) (T .heads)
 
 start-of-requires : tie.Need-start-of-requires
-start-of-requires c κs = let a = c .before .before .before .before .before .before .before .before .before .before .args in let B : BlockSound (between LAYOUT GROUP-FAMILIES (a .words .now)) (between TABLE STAGED-KINDS (a .words .now)) (layoutFamilies (a .words .now)) (layoutGroups (a .words .now)) = granted {P = BlockSound (between LAYOUT GROUP-FAMILIES (a .words .now)) (between TABLE STAGED-KINDS (a .words .now)) (layoutFamilies (a .words .now)) (layoutGroups (a .words .now))} (c .before .before .before .block-ok .result) (c .before .before .before .block-ok .ensures) (c .before .before .if1 .left) in omega (arith, size-long (capacityOf (a .words .now)) (kindCapacityOf (a .words .now)) (a .words .now) (c .before .before .before .before .before .before .before .before .before .before .pre .size), B .formed .good .few)
+start-of-requires c κs = let a = c .before .before .before .before .before .before .before .before .before .before .args in let B : BlockSound (between LAYOUT GROUP-FAMILIES (a .words .now)) (between TABLE STAGED-KINDS (a .words .now)) (layoutFamilies (a .words .now)) (layoutGroups (a .words .now)) = granted {P = BlockSound (between LAYOUT GROUP-FAMILIES (a .words .now)) (between TABLE STAGED-KINDS (a .words .now)) (layoutFamilies (a .words .now)) (layoutGroups (a .words .now))} (c .before .before .before .block-ok .result) (c .before .before .before .block-ok .ensures) (c .before .before .if1 .left) in omega (arith, size-long (capacityOf (a .words .now)) (kindCapacityOf (a .words .now)) (valueBytesOf (a .words .now)) (a .words .now) (c .before .before .before .before .before .before .before .before .before .before .pre .size), B .formed .good .few)
 
 shared-slice-read-are-own : tie.Need-shared-slice-read-are-own
-shared-slice-read-are-own c = let a = c .before .before .before .before .before .before .before .before .before .before .before .before .args in omega (arith, size-long (capacityOf (a .words .now)) (kindCapacityOf (a .words .now)) (a .words .now) (c .before .before .before .before .before .before .before .before .before .before .before .before .pre .size))
+shared-slice-read-are-own c = let a = c .before .before .before .before .before .before .before .before .before .before .before .before .args in omega (arith, size-long (capacityOf (a .words .now)) (kindCapacityOf (a .words .now)) (valueBytesOf (a .words .now)) (a .words .now) (c .before .before .before .before .before .before .before .before .before .before .before .before .pre .size))
 
 cast-are-own : tie.Need-cast-are-own
 cast-are-own c = omega (arith, c .before .before .before .before .before .before .before .before .before .before .before .shared-slice-known .given REGISTERED)

@@ -9,11 +9,11 @@ use Rattle.replay.proofs.cases.replay_columns.Statement.{statement}
 use Rattle.replay.proofs.cases.replay_columns.Tie as tie
 
 abbrev Inv-loop : tie.InvT-loop
-Inv-loop words file at kinds next₀ agrees₀ i₀ next agrees i =
-    (i ≤ kinds) × StepAgrees file words words (record { at = next; agrees = agrees }) (λ e. ColumnsAgree file (at + 1) (meaning words) i e)
+Inv-loop words file at width kinds next₀ agrees₀ i₀ next agrees i =
+    (i ≤ kinds) × StepAgrees file words words (record { at = next; agrees = agrees }) (λ e. ColumnsAgree file (at + 1) width (meaning words) i e)
 
 abbrev μ-loop : tie.MeasureT-loop
-μ-loop words file at kinds next₀ agrees₀ i₀ next agrees i = kinds - i
+μ-loop words file at width kinds next₀ agrees₀ i₀ next agrees i = kinds - i
 
 returns : tie.Need-returns Inv-loop μ-loop
 returns c = cut-stepped _ _ _ _ _ (c .cut .ensures)
@@ -22,7 +22,7 @@ shared-slice-read-kinds : tie.Need-shared-slice-read-kinds Inv-loop μ-loop
 shared-slice-read-kinds c = omega (arith, c .before .if1 .left, c .before .before .before .before .pre)
 
 loop-holds : tie.Need-loop-holds Inv-loop μ-loop
-loop-holds c = (omega arith, no-columns _ _ _ (omega (arith, c .before .if1 .left, c .before .before .before .before .pre)))
+loop-holds c = (omega arith, no-columns _ _ _ _ (omega (arith, c .before .if1 .left, c .before .before .before .before .pre)))
 
 replay-column-requires : tie.Need-replay-column-requires Inv-loop μ-loop
 replay-column-requires c κs = c .before .loop .inv .1 .within
@@ -34,10 +34,10 @@ loop-less : tie.Need-loop-less Inv-loop μ-loop
 loop-less c = omega (arith, c .before .before .loop-test .taken)
 
 loop-again : tie.Need-loop-again Inv-loop μ-loop
-loop-again c = (omega (arith, c .before .before .loop-test .taken), more-columns _ _ _ _ _ (c .before .before .before .loop .agrees) (c .before .replay-column .result) (c .before .before .before .loop .inv .1) (c .before .replay-column .ensures))
+loop-again c = (omega (arith, c .before .before .loop-test .taken), more-columns _ _ _ _ _ _ (c .before .before .before .loop .agrees) (c .before .replay-column .result) (c .before .before .before .loop .inv .1) (c .before .replay-column .ensures))
 
 returns-2 : tie.Need-returns-2 Inv-loop μ-loop
-returns-2 c = all-columns _ _ _ _ _ _ (omega (arith, c .before .loop .inv .0, c .loop-test .left)) (c .before .loop .inv .1)
+returns-2 c = all-columns _ _ _ _ _ _ _ (omega (arith, c .before .loop .inv .0, c .loop-test .left)) (c .before .loop .inv .1)
 
 pub replay-columns-spec : {M : Type 1} → statement M
 replay-columns-spec =

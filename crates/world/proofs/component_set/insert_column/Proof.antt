@@ -3,7 +3,7 @@ use mathlib.Core.Path.{ap, subst}
 use Prim.Native.Nat.{_-_, ℕ, _<_, _≤_}
 use native.Mathlib.Omega.{arith}
 use lib.ListN.{length}
-use Rattle.words.specs.Offsets.{CAPACITY}
+use Rattle.words.specs.Offsets.{VALUE-WIDTH}
 use Rattle.words.specs.declared.Shape.{Shape}
 use Rattle.words.specs.Shape.{shapeOf}
 use Rattle.values.specs.Values.{valueOf}
@@ -24,7 +24,7 @@ abbrev μ-loop : tie.MeasureT-loop
 μ-loop words₀ i start c z slot len place₀ words place = len - place
 
 shape-of-requires : tie.Need-shape-of-requires Inv-loop μ-loop
-shape-of-requires c κs = let s = c .before .before .before .before in header-long (s .args .words .now) (s .pre .0 .arranged) CAPACITY (omega arith)
+shape-of-requires c κs = let s = c .before .before .before .before in header-long (s .args .words .now) (s .pre .0 .arranged) VALUE-WIDTH (omega arith)
 
 slot-of-requires : tie.Need-slot-of-requires Inv-loop μ-loop
 slot-of-requires c κs =

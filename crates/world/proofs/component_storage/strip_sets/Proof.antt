@@ -6,7 +6,7 @@ use borrow.Author.Count.{falls}
 use lib.ListN.{length, getD}
 use Rattle.model.specs.Store.{Store}
 use Rattle.model.specs.Model.{entity}
-use Rattle.words.specs.Offsets.{CAPACITY, REGISTERED}
+use Rattle.words.specs.Offsets.{REGISTERED, VALUE-WIDTH}
 use Rattle.component.proofs.Sums.{next-fits}
 use Rattle.memory.specs.Meaning.{meaning}
 use Rattle.memory.proofs.Becomes.{kinds-count}
@@ -23,7 +23,7 @@ abbrev μ-loop : tie.MeasureT-loop
 μ-loop words₀ e z m slot₀ words slot = m - slot
 
 shape-of-requires : tie.Need-shape-of-requires Inv-loop μ-loop
-shape-of-requires c κs = let s = c .before .before in header-long (s .args .words .now) (s .pre .0) CAPACITY (lit< tt)
+shape-of-requires c κs = let s = c .before .before in header-long (s .args .words .now) (s .pre .0) VALUE-WIDTH (lit< tt)
 
 word-requires : tie.Need-word-requires Inv-loop μ-loop
 word-requires c κs = let s = c .before .before .before .before in header-long (s .args .words .now) (s .pre .0) REGISTERED (lit< tt)
