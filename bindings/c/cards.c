@@ -2,7 +2,8 @@
  *
  * A card passes four stations: it gets a serial, a key, applets and a print, in this order. A station is a kind, what
  * it writes on the card is a value of eight bytes. Two groups are kept: the cards with serial and key, and among them
- * those with all four. So the two questions at the end need no search.
+ * those with all four. So the two questions at the end need no search. (Values may be of sixteen bytes:
+ * bindings/README.md has what differs.)
  *
  * Every answer is checked (docs/COMMANDS.md, "What a program must check"); at the first that is not as expected, the
  * program says which and ends with status 1. bindings/rust/examples/cards.rs does the same work, and both write what
@@ -45,7 +46,8 @@ static const struct command RANGE = {0x0C, "RANGE", 10};
 static const struct command EMPTY = {0x0D, "EMPTY", 1};
 static const struct command TALLY = {0x0E, "TALLY", 5};
 
-/* Room for a tape and its answers: ten bytes for each byte of tape, and 144 more, are never too few. */
+/* Room for a tape and its answers: ten bytes for each byte of tape, and 144 more, are never too few (272 more, where
+ * values are of sixteen bytes). */
 enum { TAPE_BYTES = 512, TAPE_COMMANDS = 64, ANSWER_BYTES = 10 * TAPE_BYTES + 144 };
 
 /* A roll is 4 bytes, 9 for each card and 9 for each of its values. */

@@ -559,20 +559,28 @@ static void test_held_reads(void)
     CHECK(as_kept());
 }
 
-/* On words that hold no sound store every function says so, and nothing changes. */
-static void test_unsound(const uint32_t *before)
+/* On words that hold no sound store every function says so, and writes nothing to its buffer. */
+static void says_unsound(uint32_t *in, size_t length)
 {
     uint32_t copy[4];
     memset(out, 0x5a, sizeof out);
     memset(copy, 0x5a, sizeof copy);
-    struct yirbarn_ran ran = yirbarn_run(words, NEEDED, TAPE, sizeof TAPE, out, OUT);
-    struct yirbarn_rolled rolled = yirbarn_roll(words, NEEDED, out, OUT);
+    struct yirbarn_ran ran = yirbarn_run(in, length, TAPE, sizeof TAPE, out, OUT);
+    struct yirbarn_rolled rolled = yirbarn_roll(in, length, out, OUT);
     CHECK(ran.stop == YIRBARN_UNSOUND && ran.commands == 0 && ran.read == 0 && ran.written == 0);
     CHECK(rolled.number == YIRBARN_UNSOUND && rolled.written == 0);
-    CHECK(yirbarn_column_number(words, NEEDED, 1, false, 0, 1) == YIRBARN_UNSOUND);
-    CHECK(yirbarn_column_at(words, NEEDED, 1, false, 0, 1) == 0);
-    CHECK(copies(yirbarn_column(words, NEEDED, 1, false, 0, 1, copy, 4), YIRBARN_UNSOUND, 0));
+    for (int values = 0; values < 2; values++) {
+        CHECK(yirbarn_column_number(in, length, 1, values, 0, 1) == YIRBARN_UNSOUND);
+        CHECK(yirbarn_column_at(in, length, 1, values, 0, 1) == 0);
+        CHECK(copies(yirbarn_column(in, length, 1, values, 0, 1, copy, 4), YIRBARN_UNSOUND, 0));
+    }
     CHECK(all(out, 0, OUT, 0x5a) && all(copy, 0, sizeof copy, 0x5a));
+}
+
+/* And nothing changes. */
+static void test_unsound(const uint32_t *before)
+{
+    says_unsound(words, NEEDED);
     CHECK(!memcmp(words, before, sizeof words));
 }
 
@@ -595,47 +603,95 @@ static void test_sound_callers(void)
     }
 }
 
-/* Where the words have the rule, 0 the older and 1 the newer, and how many are staged and excluded (docs/WORDS.md). */
-enum { RULE_AT = 10, STAGED_AT = 3, EXCLUDED_AT = 4 };
+/* Where the words have the rule, 0 the older and 1 the newer, the bytes of a value, and how many are staged and excluded
+ * (docs/WORDS.md). */
+enum { RULE_AT = 10, VALUE_BYTES_AT = 11, STAGED_AT = 3, EXCLUDED_AT = 4 };
 
-/* A start that is refused, told either rule, changes no word. */
+/* The bytes of a value, and what they cannot be. */
+static const size_t WIDTHS[] = {8, 16};
+static const size_t NO_WIDTHS[] = {0, 1, 4, 7, 9, 12, 15, 17, 24, 32, 0x100000008, 0x100000010, SIZE_MAX};
+enum { NO_WIDTHS_LEN = sizeof NO_WIDTHS / sizeof *NO_WIDTHS };
+
+/* A start that is refused, told either width and either rule, changes no word. NEEDED words are too few for sixteen. */
 static void test_start_with_refused(void)
 {
     memset(words, 0xa5, sizeof words);
-    for (int newer = 0; newer < 2; newer++) {
-        CHECK(yirbarn_start_with(words, NEEDED, 0, K, newer) == YIRBARN_SIZE);
-        CHECK(yirbarn_start_with(words, NEEDED, 4097, K, newer) == YIRBARN_SIZE);
-        CHECK(yirbarn_start_with(words, NEEDED, N, 0, newer) == YIRBARN_SIZE);
-        CHECK(yirbarn_start_with(words, NEEDED, N, 129, newer) == YIRBARN_SIZE);
-        CHECK(yirbarn_start_with(words, 0, SIZE_MAX, SIZE_MAX, newer) == YIRBARN_SIZE);
-        CHECK(yirbarn_start_with(words, NEEDED - 1, N, K, newer) == YIRBARN_SHORT);
-        CHECK(yirbarn_start_with(words, 0, N, K, newer) == YIRBARN_SHORT);
+    for (int i = 0; i < 4; i++) {
+        size_t width = WIDTHS[i / 2];
+        bool newer = i % 2;
+        CHECK(yirbarn_start_with(words, NEEDED, 0, K, width, newer) == YIRBARN_SIZE);
+        CHECK(yirbarn_start_with(words, NEEDED, 4097, K, width, newer) == YIRBARN_SIZE);
+        CHECK(yirbarn_start_with(words, NEEDED, N, 0, width, newer) == YIRBARN_SIZE);
+        CHECK(yirbarn_start_with(words, NEEDED, N, 129, width, newer) == YIRBARN_SIZE);
+        CHECK(yirbarn_start_with(words, 0, SIZE_MAX, SIZE_MAX, width, newer) == YIRBARN_SIZE);
+        CHECK(yirbarn_start_with(words, NEEDED - 1, N, K, width, newer) == YIRBARN_SHORT);
+        CHECK(yirbarn_start_with(words, 0, N, K, width, newer) == YIRBARN_SHORT);
+    }
+    CHECK(yirbarn_start_with(words, NEEDED, N, K, 16, false) == YIRBARN_SHORT);
+    CHECK(all(words, 0, sizeof words, 0xa5));
+}
+
+/* Any other width is refused by 1, whatever else there is to refuse, and no word changes; no words are needed. */
+static void test_no_widths(void)
+{
+    memset(words, 0xa5, sizeof words);
+    for (size_t i = 0; i < 2 * NO_WIDTHS_LEN; i++) {
+        size_t width = NO_WIDTHS[i / 2];
+        bool newer = i % 2;
+        CHECK(yirbarn_start_with(words, NEEDED, N, K, width, newer) == YIRBARN_SIZE);
+        CHECK(yirbarn_start_with(words, 0, N, K, width, newer) == YIRBARN_SIZE);
+        CHECK(yirbarn_start_with(words, NEEDED, 1, 1, width, newer) == YIRBARN_SIZE);
+        CHECK(yirbarn_start_with(words, 0, 4097, 0, width, newer) == YIRBARN_SIZE);
+        CHECK(yirbarn_words_needed_with(N, K, width) == 0 && yirbarn_words_needed_with(1, 1, width) == 0);
+        CHECK(yirbarn_words_needed_with(4096, 128, width) == 0 && yirbarn_words_needed_with(0, 0, width) == 0);
     }
     CHECK(all(words, 0, sizeof words, 0xa5));
 }
 
-/* As many words as are needed, and one fewer. Told false, a start leaves the very words that yirbarn_start leaves; told
- * true, the same but for the rule. Words past them stay. */
-static void starts_at(size_t n, size_t k)
+static void test_words_needed_with(void)
 {
-    size_t needed = yirbarn_words_needed(n, k), bytes = 4 * (needed + GUARD);
+    CHECK(yirbarn_words_needed_with(N, K, 8) == NEEDED && yirbarn_words_needed_with(N, K, 16) == 6208);
+    CHECK(yirbarn_words_needed_with(1, 1, 8) == 1054 && yirbarn_words_needed_with(1, 1, 16) == 1056);
+    CHECK(yirbarn_words_needed_with(4096, 1, 8) == 91144 && yirbarn_words_needed_with(4096, 1, 16) == 99336);
+    CHECK(yirbarn_words_needed_with(1, 128, 8) == 2832 && yirbarn_words_needed_with(1, 128, 16) == 3088);
+    CHECK(yirbarn_words_needed_with(4096, 128, 8) == 3213312 && yirbarn_words_needed_with(4096, 128, 16) == 4261888);
+    for (size_t i = 0; i < 2; i++) {
+        CHECK(yirbarn_words_needed_with(0, 1, WIDTHS[i]) == 0 && yirbarn_words_needed_with(4097, 1, WIDTHS[i]) == 0);
+        CHECK(yirbarn_words_needed_with(1, 0, WIDTHS[i]) == 0 && yirbarn_words_needed_with(1, 129, WIDTHS[i]) == 0);
+        CHECK(yirbarn_words_needed_with(SIZE_MAX, SIZE_MAX, WIDTHS[i]) == 0);
+    }
+}
+
+/* The start of before for eight bytes, else the other one, under the older rule. */
+static uint8_t start_older(uint32_t *in, size_t length, size_t n, size_t k, size_t width)
+{
+    return width == 8 ? yirbarn_start(in, length, n, k) : yirbarn_start_with(in, length, n, k, width, false);
+}
+
+/* As many words as are needed, and one fewer. Told 8 and false, a start leaves the very words that yirbarn_start leaves;
+ * told true, the same but for the rule. Words past them stay. */
+static void starts_at(size_t n, size_t k, size_t width)
+{
+    size_t needed = yirbarn_words_needed_with(n, k, width), bytes = 4 * (needed + GUARD);
     uint32_t *plain = malloc(bytes), *told = malloc(bytes);
     if (!plain || !told) {
         perror("test.c: words for a start");
         exit(1);
     }
     memset(plain, 0xa5, bytes);
-    CHECK(yirbarn_start(plain, needed, n, k) == YIRBARN_OK && plain[RULE_AT] == 0);
+    CHECK(start_older(plain, needed, n, k, width) == YIRBARN_OK);
+    CHECK(plain[RULE_AT] == 0 && plain[VALUE_BYTES_AT] == width);
     for (uint32_t newer = 0; newer < 2; newer++) {
         memset(told, 0xa5, bytes);
-        CHECK(yirbarn_start_with(told, needed - 1, n, k, newer) == YIRBARN_SHORT && all(told, 0, bytes, 0xa5));
-        CHECK(yirbarn_start_with(told, needed, n, k, newer) == YIRBARN_OK && told[RULE_AT] == newer);
+        CHECK(yirbarn_start_with(told, needed - 1, n, k, width, newer) == YIRBARN_SHORT && all(told, 0, bytes, 0xa5));
+        CHECK(yirbarn_start_with(told, needed, n, k, width, newer) == YIRBARN_OK && told[RULE_AT] == newer);
         CHECK(yirbarn_run(told, needed, TAPE, 0, out, 0).stop == YIRBARN_OK);
+        CHECK(yirbarn_run(told, needed - 1, TAPE, 0, out, 0).stop == YIRBARN_UNSOUND);
         plain[RULE_AT] = newer;
         CHECK(!memcmp(told, plain, bytes) && all(told, 4 * needed, bytes, 0xa5));
         /* More words than are needed. */
         memset(told, 0xa5, bytes);
-        CHECK(yirbarn_start_with(told, needed + GUARD, n, k, newer) == YIRBARN_OK && !memcmp(told, plain, bytes));
+        CHECK(yirbarn_start_with(told, needed + GUARD, n, k, width, newer) == YIRBARN_OK && !memcmp(told, plain, bytes));
     }
     free(plain);
     free(told);
@@ -644,8 +700,10 @@ static void starts_at(size_t n, size_t k)
 static void test_start_with(void)
 {
     const size_t entities[] = {1, N, 4096}, kinds[] = {1, K, 128};
-    for (size_t i = 0; i < 9; i++)
-        starts_at(entities[i / 3], kinds[i % 3]);
+    for (size_t i = 0; i < 9; i++) {
+        starts_at(entities[i / 3], kinds[i % 3], 8);
+        starts_at(entities[i / 3], kinds[i % 3], 16);
+    }
 }
 
 /* Sets of the kinds 1 to 4: kind k is bit k. */
@@ -710,7 +768,7 @@ static void fill(const struct example *example)
 static void filled(const struct example *example, bool newer)
 {
     memset(words, 0xa5, sizeof words);
-    CHECK(yirbarn_start_with(words, NEEDED, N, K, newer) == YIRBARN_OK);
+    CHECK(yirbarn_start_with(words, NEEDED, N, K, 8, newer) == YIRBARN_OK);
     fill(example);
 }
 
@@ -923,15 +981,15 @@ static void test_another_start(void)
     keep();
     CHECK(yirbarn_start(words, NEEDED - 1, N, K) == YIRBARN_SHORT);
     CHECK(yirbarn_start(words, NEEDED, N, 129) == YIRBARN_SIZE);
-    CHECK(yirbarn_start_with(words, NEEDED - 1, N, K, false) == YIRBARN_SHORT);
-    CHECK(yirbarn_start_with(words, NEEDED, 0, K, false) == YIRBARN_SIZE && as_kept());
+    CHECK(yirbarn_start_with(words, NEEDED - 1, N, K, 8, false) == YIRBARN_SHORT);
+    CHECK(yirbarn_start_with(words, NEEDED, 0, K, 8, false) == YIRBARN_SIZE && as_kept());
     CHECK(yirbarn_start(words, NEEDED, N, K) == YIRBARN_OK && words[RULE_AT] == 0);
     fill(&RING_OF_TWO);
     CHECK(ask(PAIR, K3 | K4).found);
-    CHECK(yirbarn_start_with(words, NEEDED, N, K, true) == YIRBARN_OK && words[RULE_AT] == 1);
+    CHECK(yirbarn_start_with(words, NEEDED, N, K, 8, true) == YIRBARN_OK && words[RULE_AT] == 1);
     fill(&RING_OF_TWO);
     CHECK(!ask(PAIR, K3 | K4).found);
-    CHECK(yirbarn_start_with(words, NEEDED, N, K, false) == YIRBARN_OK && words[RULE_AT] == 0);
+    CHECK(yirbarn_start_with(words, NEEDED, N, K, 8, false) == YIRBARN_OK && words[RULE_AT] == 0);
     fill(&RING_OF_TWO);
     CHECK(ask(PAIR, K3 | K4).found);
 }
@@ -967,6 +1025,366 @@ static void test_sound_rules(void)
             CHECK(ask(PAIR, K3 | K4).found == !rule && words[RULE_AT] == rule);
         }
     }
+}
+
+/* --- Values of eight bytes and of sixteen. --- */
+
+/* A store of either width for N and K: the bytes of its values, its words, and how many of them are lent. */
+enum { WIDE_NEEDED = 6208 };
+static uint32_t wide[WIDE_NEEDED + GUARD], wide_kept[WIDE_NEEDED + GUARD];
+static size_t width, lent;
+
+static void fresh_at(size_t bytes)
+{
+    width = bytes;
+    lent = bytes == 16 ? WIDE_NEEDED : NEEDED;
+    memset(wide, 0xa5, sizeof wide);
+    memset(out, 0x5a, sizeof out);
+    CHECK(yirbarn_start_with(wide, lent, N, K, width, false) == YIRBARN_OK && wide[VALUE_BYTES_AT] == width);
+}
+
+static void keep_wide(void)
+{
+    memcpy(wide_kept, wide, sizeof wide);
+}
+
+static bool wide_as_kept(void)
+{
+    return !memcmp(wide, wide_kept, sizeof wide);
+}
+
+/* Writes the value with this number, 0 to 15: no two bytes of all sixteen values are the same. */
+static uint8_t *value(uint8_t *to, uint8_t number)
+{
+    for (size_t i = 0; i < width; i++)
+        *to++ = (uint8_t)(16 * number + i);
+    return to;
+}
+
+static uint8_t *hold_value(uint8_t *to, uint8_t kind, uint8_t number)
+{
+    *to++ = 0x02;
+    *to++ = kind;
+    return value(to, number);
+}
+
+static uint8_t *command(uint8_t *to, const uint8_t *bytes, size_t length)
+{
+    memcpy(to, bytes, length);
+    return to + length;
+}
+
+#define COMMAND(to, ...) command((to), (const uint8_t[]){__VA_ARGS__}, sizeof((const uint8_t[]){__VA_ARGS__}))
+
+/* Document 01's tape, with values of the width for 5, 6 and 7; its answers are ANSWERS at either width. */
+static size_t write_tape(uint8_t *tape)
+{
+    uint8_t *to = COMMAND(tape, 0x01, 1, 0x01, 2);
+    to = hold_value(hold_value(to, 1, 0), 2, 0);
+    to = COMMAND(to, 0x09, 0x0a);
+    to = COMMAND(hold_value(to, 1, 5), 0x03);
+    to = COMMAND(hold_value(hold_value(to, 1, 6), 2, 7), 0x03);
+    to = COMMAND(hold_value(hold_value(to, 1, 0), 2, 0), 0x0c);
+    return (size_t)(to - tape);
+}
+
+static bool wide_answers(const uint8_t *tape, size_t tape_len, const uint8_t *expected, size_t expected_len)
+{
+    struct yirbarn_ran ran = yirbarn_run(wide, lent, tape, tape_len, out, OUT);
+    return ran.stop == YIRBARN_OK && ran.read == tape_len && ran.written == expected_len &&
+           !memcmp(out, expected, expected_len);
+}
+
+static void used_at(size_t bytes)
+{
+    uint8_t tape[256];
+    fresh_at(bytes);
+    CHECK(wide_answers(tape, write_tape(tape), ANSWERS, sizeof ANSWERS));
+    memset(out, 0x5a, sizeof out);
+}
+
+/* Each length of the tape, and each room: what is done is done as in the whole run. */
+static void test_cut_at(size_t bytes)
+{
+    uint8_t tape[256];
+    fresh_at(bytes);
+    size_t length = write_tape(tape);
+    CHECK(length == 23 + 7 * bytes);
+    for (size_t cut = 0; cut <= length; cut++) {
+        fresh_at(bytes);
+        struct yirbarn_ran ran = yirbarn_run(wide, lent, tape, cut, out, OUT);
+        CHECK(ran.stop == (ran.read < cut ? YIRBARN_CUT : YIRBARN_OK));
+        CHECK(!memcmp(out, ANSWERS, ran.written) && all(out, ran.written, OUT, 0x5a));
+    }
+    for (size_t room = 0; room < sizeof ANSWERS; room++) {
+        fresh_at(bytes);
+        struct yirbarn_ran ran = yirbarn_run(wide, lent, tape, length, out, room);
+        CHECK(ran.stop == YIRBARN_NOROOM && ran.written <= room);
+        CHECK(!memcmp(out, ANSWERS, ran.written) && all(out, ran.written, OUT, 0x5a));
+        CHECK(wide_answers(tape + ran.read, length - ran.read, ANSWERS + ran.written, sizeof ANSWERS - ran.written));
+    }
+    CHECK(all(wide, 4 * lent, sizeof wide, 0xa5));
+}
+
+/* HOLD takes 1 + width bytes: with one fewer it is cut, and behind them comes the next command. */
+static void test_hold_at(size_t bytes)
+{
+    uint8_t tape[32];
+    const uint8_t reg[] = {0x01, 1}, told[] = {0, 0, 0, 0, 0, 0};
+    fresh_at(bytes);
+    CHECK(wide_answers(reg, sizeof reg, (const uint8_t[]){0, 1}, 2));
+    keep_wide();
+    uint8_t *to = hold_value(tape, 1, 15);
+    *to++ = TALLY;
+    for (size_t length = 1; length < 2 + bytes; length++) {
+        struct yirbarn_ran ran = yirbarn_run(wide, lent, tape, length, out, OUT);
+        CHECK(ran.stop == YIRBARN_CUT && ran.commands == 0 && ran.read == 0 && wide_as_kept());
+    }
+    CHECK(to - tape == (ptrdiff_t)(3 + bytes) && wide_answers(tape, 3 + bytes, told, sizeof told));
+}
+
+/* Registers sixteen kinds in a store for two entities, in the same words, and holds each with the value of its number. */
+static void hold_sixteen(void)
+{
+    uint8_t tape[1024], *to = tape;
+    lent = yirbarn_words_needed_with(2, 16, width);
+    CHECK(yirbarn_start_with(wide, lent, 2, 16, width, false) == YIRBARN_OK);
+    for (uint8_t kind = 0; kind < 16; kind++)
+        to = COMMAND(to, 0x01, kind);
+    for (int i = 0; i < 2; i++) {
+        for (uint8_t kind = 16; kind-- > 0;)
+            to = hold_value(to, kind, kind);
+        if (i == 0)
+            *to++ = 0x03;
+    }
+    struct yirbarn_ran ran = yirbarn_run(wide, lent, tape, (size_t)(to - tape), out, OUT);
+    CHECK(ran.stop == YIRBARN_OK && ran.commands == 49 && ran.written == 16 * 2 + 16 + 9 + 16);
+}
+
+/* TAKE of sixteen kinds, held and then not. One byte short it has no room, of a dead entity too. */
+static void test_take_at(size_t bytes, size_t length)
+{
+    const uint8_t take[] = {0x05, 0, 0, 0, 0, 1, 0, 0, 0}, none[] = {0x05, 0, 0, 0, 0, 2, 0, 0, 0};
+    uint8_t taken[512], told[512], *to = told;
+    fresh_at(bytes);
+    hold_sixteen();
+    memset(taken, 0x5a, sizeof taken);
+    CHECK(yirbarn_run(wide, lent, none, sizeof none, taken, length - 1).stop == YIRBARN_NOROOM);
+    CHECK(yirbarn_run(wide, lent, take, sizeof take, taken, length - 1).stop == YIRBARN_NOROOM);
+    CHECK(all(taken, 0, sizeof taken, 0x5a));
+    struct yirbarn_ran ran = yirbarn_run(wide, lent, none, sizeof none, taken, length);
+    CHECK(ran.stop == YIRBARN_OK && ran.written == 1 && taken[0] == YIRBARN_DEAD);
+    ran = yirbarn_run(wide, lent, take, sizeof take, taken, length);
+    *to++ = 0;
+    for (uint8_t kind = 16; kind-- > 0;) {
+        *to++ = 1;
+        to = value(to, kind);
+    }
+    CHECK(ran.stop == YIRBARN_OK && ran.written == length && to - told == (ptrdiff_t)length);
+    CHECK(!memcmp(taken, told, length) && all(taken, length, sizeof taken, 0x5a));
+}
+
+/* TAKE of a kind that the entity does not hold: as many zeros as a value has bytes, behind a 0. */
+static void test_take_none_at(size_t bytes)
+{
+    uint8_t tape[64], zeros[32] = {0};
+    used_at(bytes);
+    uint8_t *to = COMMAND(hold_value(tape, 2, 1), 0x05, 0, 0, 0, 0, 1, 0, 0, 0);
+    CHECK(wide_answers(tape, (size_t)(to - tape), zeros, 1 + 1 + 1 + bytes));
+}
+
+/* Word i of the value with this number. */
+static uint32_t value_word(uint8_t number, size_t i)
+{
+    uint8_t bytes[16];
+    value(bytes, number);
+    return number_at(bytes + 4 * i);
+}
+
+/* These words are the two values, one after the other. */
+static bool are_values(const uint32_t *in, uint8_t first, uint8_t second)
+{
+    size_t each = width / 4;
+    for (size_t i = 0; i < each; i++)
+        if (in[i] != value_word(first, i) || in[each + i] != value_word(second, i))
+            return false;
+    return true;
+}
+
+/* A column in place and copied: two words an entity, width / 4 a value. */
+static void test_column_at(size_t bytes)
+{
+    const uint32_t entities[] = {1, 1, 0, 1};
+    uint32_t copy[9];
+    size_t each = bytes / 4;
+    used_at(bytes);
+    size_t at = yirbarn_column_at(wide, lent, 1, false, 0, 2);
+    CHECK(at > 0 && at <= lent - 4 && !memcmp(wide + at, entities, sizeof entities));
+    at = yirbarn_column_at(wide, lent, 1, true, 0, 2);
+    CHECK(at > 0 && at <= lent - 2 * each && are_values(wide + at, 6, 5));
+    CHECK(yirbarn_column_at(wide, lent, 1, true, 1, 2) == at + each);
+    CHECK(yirbarn_column_at(wide, lent, 1, true, 0, 3) == 0 && yirbarn_column_at(wide, lent, 3, true, 0, 0) == 0);
+    memset(copy, 0x5a, sizeof copy);
+    for (size_t room = 0; room < 2 * each; room++)
+        CHECK(copies(yirbarn_column(wide, lent, 1, true, 0, 2, copy, room), YIRBARN_NOROOM, 0));
+    CHECK(all(copy, 0, sizeof copy, 0x5a));
+    CHECK(copies(yirbarn_column(wide, lent, 1, true, 0, 2, copy, 2 * each), YIRBARN_OK, 2 * each));
+    CHECK(are_values(copy, 6, 5) && all(copy, 8 * each, sizeof copy, 0x5a));
+    CHECK(copies(yirbarn_column(wide, lent, 1, false, 0, 2, copy, 4), YIRBARN_OK, 4));
+    CHECK(!memcmp(copy, entities, sizeof entities));
+    CHECK(copies(yirbarn_column(wide, lent, 1, true, 0, 3, copy, 9), YIRBARN_BEYOND, 0));
+}
+
+/* A value moves and is replaced as a whole: KILL puts the last row in the gap, PUT writes over one. */
+static void test_moves_at(size_t bytes)
+{
+    const uint8_t made[] = {
+        0, 1, 0, 0, 0, 0, 0, 0, 1, 0, 0, 0, 0, 0, 1, 0, 0, 0, 1, 0, 0, 0, 0, 0, 2, 0, 0, 0, 1, 0, 0, 0,
+    };
+    const uint8_t kill[] = {KILL_0};
+    uint8_t tape[128], *to = COMMAND(tape, 0x01, 1);
+    fresh_at(bytes);
+    for (uint8_t number = 1; number <= 3; number++)
+        to = COMMAND(hold_value(to, 1, number), 0x03);
+    CHECK(wide_answers(tape, (size_t)(to - tape), made, sizeof made));
+    size_t at = yirbarn_column_at(wide, lent, 1, true, 0, 3);
+    CHECK(at > 0 && are_values(wide + at, 1, 2) && are_values(wide + at + bytes / 4, 2, 3));
+    CHECK(wide_answers(kill, sizeof kill, (const uint8_t[]){0}, 1) && are_values(wide + at, 3, 2));
+    to = COMMAND(hold_value(tape, 1, 14), 0x04, 1, 0, 0, 0, 1, 0, 0, 0);
+    CHECK(wide_answers(tape, (size_t)(to - tape), (const uint8_t[]){0, 0}, 2) && are_values(wide + at, 3, 14));
+    CHECK(yirbarn_column_at(wide, lent, 1, true, 0, 2) == at);
+}
+
+/* 4 bytes, 9 for each entity, 1 + width for each component; and every room. */
+static void test_roll_at(size_t bytes, size_t length)
+{
+    uint8_t roll[128], *to = COMMAND(roll, 2, 0, 0, 0, 0, 0, 0, 0, 1, 0, 0, 0, 1, 1);
+    used_at(bytes);
+    to = COMMAND(value(to, 5), 1, 0, 0, 0, 1, 0, 0, 0, 2, 1);
+    to = COMMAND(value(to, 6), 2);
+    to = value(to, 7);
+    CHECK(to - roll == (ptrdiff_t)length);
+    for (size_t room = 0; room < length; room++) {
+        struct yirbarn_rolled rolled = yirbarn_roll(wide, lent, out, room);
+        CHECK(rolled.number == YIRBARN_NOROOM && rolled.written == 0 && all(out, 0, OUT, 0x5a));
+    }
+    struct yirbarn_rolled rolled = yirbarn_roll(wide, lent, out, length);
+    CHECK(rolled.number == YIRBARN_OK && rolled.written == length);
+    CHECK(!memcmp(out, roll, length) && all(out, length, OUT, 0x5a));
+}
+
+static void test_both_widths(void)
+{
+    for (size_t i = 0; i < 2; i++) {
+        test_cut_at(WIDTHS[i]);
+        test_hold_at(WIDTHS[i]);
+        test_take_none_at(WIDTHS[i]);
+        test_column_at(WIDTHS[i]);
+        test_moves_at(WIDTHS[i]);
+    }
+    test_take_at(8, 145);
+    test_take_at(16, 273);
+    test_roll_at(8, 49);
+    test_roll_at(16, 73);
+}
+
+/* The functions for held words, at sixteen bytes: a run of each length, and all that reads. */
+static void test_held_wide(void)
+{
+    uint8_t tape[256], answered[OUT];
+    uint32_t one[8], other[8];
+    fresh_at(16);
+    size_t length = write_tape(tape);
+    for (size_t cut = 0; cut <= length; cut++) {
+        fresh_at(16);
+        keep_wide();
+        memset(answered, 0x5a, sizeof answered);
+        struct yirbarn_ran ran = yirbarn_run(wide, lent, tape, cut, out, OUT);
+        CHECK(same_ran(ran, yirbarn_held_run(wide_kept, lent, tape, cut, answered, OUT)));
+        CHECK(!memcmp(out, answered, OUT) && wide_as_kept());
+    }
+    CHECK(yirbarn_held_column_number(wide, lent, 1, true, 0, 3) == YIRBARN_BEYOND);
+    CHECK(yirbarn_held_column_at(wide, lent, 1, true, 0, 2) == yirbarn_column_at(wide, lent, 1, true, 0, 2));
+    CHECK(copies(yirbarn_column(wide, lent, 1, true, 0, 2, one, 8), YIRBARN_OK, 8));
+    CHECK(copies(yirbarn_held_column(wide, lent, 1, true, 0, 2, other, 8), YIRBARN_OK, 8));
+    CHECK(copies(yirbarn_held_column(wide, lent, 1, true, 0, 2, other, 7), YIRBARN_NOROOM, 0));
+    CHECK(!memcmp(one, other, sizeof one));
+    CHECK(yirbarn_roll(wide, lent, out, OUT).written == 73);
+    CHECK(yirbarn_held_roll(wide, lent, answered, OUT).written == 73 && !memcmp(out, answered, 73));
+}
+
+/* No command changes the width, nor does a refused start; another start does. */
+static void test_width_stays(void)
+{
+    const uint8_t tape[] = {0x08, TALLY, SETCALLER, 3, 0x0d, 0x0a, 0x01, 128};
+    used_at(16);
+    CHECK(wide_answers(tape, sizeof tape, (const uint8_t[]){0, 0, 0, 0, 0, 0, 0, 0, 0, YIRBARN_KIND}, 10));
+    CHECK(wide[VALUE_BYTES_AT] == 16);
+    CHECK(yirbarn_start(wide, lent, N, 129) == YIRBARN_SIZE && wide[VALUE_BYTES_AT] == 16);
+    CHECK(yirbarn_start_with(wide, lent, N, K, 9, false) == YIRBARN_SIZE && wide[VALUE_BYTES_AT] == 16);
+    CHECK(yirbarn_start(wide, lent, N, K) == YIRBARN_OK && wide[VALUE_BYTES_AT] == 8);
+    CHECK(yirbarn_start_with(wide, lent, N, K, 16, true) == YIRBARN_OK && wide[VALUE_BYTES_AT] == 16);
+}
+
+/* No sound store has another number in the width's word. */
+static void test_damaged_width(void)
+{
+    const uint32_t none[] = {0, 1, 4, 7, 9, 12, 15, 17, 32, 264, 0x80000010, 0xffffffff};
+    for (size_t i = 0; i < 4; i++) {
+        if (i % 2)
+            used_at(WIDTHS[i / 2]);
+        else
+            fresh_at(WIDTHS[i / 2]);
+        for (size_t j = 0; j < sizeof none / sizeof *none; j++) {
+            wide[VALUE_BYTES_AT] = none[j];
+            keep_wide();
+            says_unsound(wide, lent);
+            says_unsound(wide, WIDE_NEEDED + GUARD);
+            CHECK(wide_as_kept());
+        }
+    }
+}
+
+/* A store for one kind, two entities with the values 1 and 2; as many words are lent as sixteen bytes take. */
+static void one_kind(size_t bytes)
+{
+    uint8_t tape[64], *to = COMMAND(tape, 0x01, 1);
+    fresh_at(bytes);
+    lent = yirbarn_words_needed_with(N, 1, 16);
+    CHECK(yirbarn_start_with(wide, lent, N, 1, width, false) == YIRBARN_OK);
+    to = COMMAND(hold_value(to, 1, 1), 0x03);
+    to = COMMAND(hold_value(to, 1, 2), 0x03);
+    CHECK(yirbarn_run(wide, lent, tape, (size_t)(to - tape), out, OUT).commands == 5);
+}
+
+/* With the other width in their word, words are judged as a store of that: enough of them, and values of as many words. */
+static void test_width_changed(void)
+{
+    const uint32_t entities[] = {0, 1, 1, 1};
+    one_kind(8);
+    wide[VALUE_BYTES_AT] = 16;
+    says_unsound(wide, lent - 1);
+    size_t at = yirbarn_column_at(wide, lent, 1, true, 0, 2);
+    CHECK(at > 0 && are_values(wide + at, 1, 2) && all(wide + at + 4, 0, 16, 0));
+    CHECK(yirbarn_column_at(wide, lent, 1, true, 1, 2) == at + 4);
+    at = yirbarn_column_at(wide, lent, 1, false, 0, 2);
+    CHECK(at > 0 && !memcmp(wide + at, entities, sizeof entities));
+    CHECK(yirbarn_roll(wide, lent, out, OUT).written == 4 + 9 * 2 + 17 * 2);
+
+    one_kind(16);
+    wide[VALUE_BYTES_AT] = 8;
+    at = yirbarn_column_at(wide, lent, 1, true, 0, 2);
+    CHECK(at > 0 && are_values(wide + at, 1, 2));
+    CHECK(yirbarn_column_at(wide, lent, 1, true, 1, 2) == at + 2);
+    CHECK(yirbarn_roll(wide, lent, out, OUT).written == 4 + 9 * 2 + 9 * 2);
+
+    /* With two kinds the second column is elsewhere at the other width, and no kind is found there. */
+    used_at(8);
+    wide[VALUE_BYTES_AT] = 16;
+    says_unsound(wide, WIDE_NEEDED);
+    used_at(16);
+    wide[VALUE_BYTES_AT] = 8;
+    says_unsound(wide, WIDE_NEEDED);
 }
 
 /* Each word of a store in use, damaged in several ways. */
@@ -1026,7 +1444,9 @@ int main(void)
     test_start_clears_callers();
     test_callers_do_not_show();
     test_sound_callers();
+    test_words_needed_with();
     test_start_with_refused();
+    test_no_widths();
     test_start_with();
     test_range_examples();
     test_every_range();
@@ -1040,6 +1460,11 @@ int main(void)
     test_roll();
     test_held_runs();
     test_held_reads();
+    test_both_widths();
+    test_held_wide();
+    test_width_stays();
+    test_damaged_width();
+    test_width_changed();
     test_damaged();
     printf("C: %d checks, %d failed\n", checks, failures);
     return failures != 0;

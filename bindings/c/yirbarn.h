@@ -1,16 +1,17 @@
 /* Card stores with nested groups, over 32-bit words that the caller lends.
  *
- * A store keeps up to 4,096 entities (an index and a version, 32 bits each) and their components: a value of eight
- * bytes for each of up to 128 kinds. It lives in the words alone: no allocation, no hidden state. A tape of commands
- * changes it (docs/COMMANDS.md has all sixteen: their bytes, answers, refusals and limits), and it is read by column
- * and as a whole.
+ * A store keeps up to 4,096 entities (an index and a version, 32 bits each) and their components: a value for each of
+ * up to 128 kinds, of eight bytes, or in a store that is started so of sixteen. It lives in the words alone: no
+ * allocation, no hidden state. A tape of commands changes it (docs/COMMANDS.md has all sixteen: their bytes, answers,
+ * refusals and limits), and it is read by column and as a whole.
  *
  * What a caller owes, and nothing else: no pointer is null, also where its length is 0; each points to as many items as
  * the length after it says; what one call may write (`words` where not const, `out`) overlaps nothing else that the
  * call is given; and meanwhile no other thread writes any of it, or reads what the call may write. What the words hold
  * is free: a start (yirbarn_start, yirbarn_start_with) makes a store of any words, and every other function that is
- * given words first tests whether they hold a sound one. yirbarn_words_needed is given none. The functions for words
- * that are held, yirbarn_held_.., test nothing, and who calls one owes more: it is said where they stand, at the end.
+ * given words first tests whether they hold a sound one. yirbarn_words_needed and yirbarn_words_needed_with are given
+ * none. The functions for words that are held, yirbarn_held_.., test nothing, and who calls one owes more: it is said
+ * where they stand, at the end.
  *
  * Numbers are those of the refusals below, 0 where nothing is refused. Link with libstore.a (`rt staticlib store`).
  */
@@ -23,9 +24,9 @@
 
 /* Of this header and what it declares (CHANGELOG.md). */
 #define YIRBARN_VERSION_MAJOR 0
-#define YIRBARN_VERSION_MINOR 8
+#define YIRBARN_VERSION_MINOR 9
 #define YIRBARN_VERSION_PATCH 0
-#define YIRBARN_VERSION "0.8.0"
+#define YIRBARN_VERSION "0.9.0"
 
 #ifdef __cplusplus
 extern "C" {
@@ -33,7 +34,7 @@ extern "C" {
 
 enum yirbarn_number {
     YIRBARN_OK = 0,
-    YIRBARN_SIZE = 1,     /* entities not 1 to 4,096, or kinds not 1 to 128 */
+    YIRBARN_SIZE = 1,     /* entities not 1 to 4,096, kinds not 1 to 128, or values not of 8 or 16 bytes */
     YIRBARN_SHORT = 2,    /* too few words */
     YIRBARN_UNSOUND = 3,  /* the words hold no sound store */
     YIRBARN_UNKNOWN = 4,  /* a byte that is no command */
@@ -52,24 +53,35 @@ enum yirbarn_number {
     YIRBARN_CALLER = 19   /* a caller above 15; no refusal has 17 or 18 */
 };
 
-/* How many words a store for n entities and k kinds takes: 1,024 + 16 n + k (8 + 6 n); 0 where a start would refuse n
- * or k (YIRBARN_SIZE). */
+/* How many words a store for n entities and k kinds takes, its values of eight bytes: 1,024 + 16 n + k (8 + 6 n); 0
+ * where a start would refuse n or k (YIRBARN_SIZE). */
 size_t yirbarn_words_needed(size_t n, size_t k);
 
-/* Makes an empty store for n entities and k kinds, whatever the words held, under the older rule (below).
+/* The same for values of value_bytes bytes: with d = value_bytes / 4, 1,024 + 16 n + k (8 + 4 n + d n), so that sixteen
+ * bytes take 1,024 + 16 n + k (8 + 8 n); 0 where yirbarn_start_with would refuse n, k or value_bytes (YIRBARN_SIZE). */
+size_t yirbarn_words_needed_with(size_t n, size_t k, size_t value_bytes);
+
+/* Makes an empty store for n entities and k kinds, whatever the words held, for values of eight bytes and under the
+ * older rule (below).
  * Number: YIRBARN_SIZE, YIRBARN_SHORT, in this order, or 0. Where it is not 0, no word changes. Words past the needed
  * ones never change, here and in every run. */
 uint8_t yirbarn_start(uint32_t *words, size_t words_len, size_t n, size_t k);
 
-/* The same, under the rule that it is told: the older where `newer` is false, and the store is then the one that
- * yirbarn_start makes; the newer where it is true. A store keeps its rule for life: no run changes it, only another
- * start over its words. A sound one has one of the two, and words kept from before there were two have the older.
+/* The same, for values of value_bytes bytes, 8 or 16, and under the rule that it is told: the older where `newer` is
+ * false, the newer where it is true. Told 8 and false, it makes the store that yirbarn_start makes. A store keeps both
+ * for life: no run changes them, only another start over its words. A sound one has one of the two widths and one of the
+ * two rules.
+ * The width says how many bytes a value has: v = value_bytes. HOLD has 1 + v bytes of operands, TAKE answers
+ * 1 + (1 + v) x hand bytes, a roll has v bytes for each value, a column v / 4 words. A tape does not tell its width: one
+ * that was made for the other is read as bytes, and nothing tests for it. No function tells a store's width: it is word
+ * 11, 8 or 16 (docs/WORDS.md). Words kept from before there were two widths have 0 there, and hold no sound store until
+ * it is set to 8.
  * The rule says how RANGE reads a bar (excluded kinds); without one, RANGE is the same under both. "Without 3 and 4" is
  * to lack one or more of them under the older rule, and to have neither under the newer. For a bar of one kind that is
  * the same, and so is the answer. A bar of two kinds or more finds nothing under the newer rule: the entities with none
  * of them need not stand together.
- * Number: as of yirbarn_start; none is for the rule. */
-uint8_t yirbarn_start_with(uint32_t *words, size_t words_len, size_t n, size_t k, bool newer);
+ * Number: as of yirbarn_start, with YIRBARN_SIZE also for any other value_bytes; none is for the rule. */
+uint8_t yirbarn_start_with(uint32_t *words, size_t words_len, size_t n, size_t k, size_t value_bytes, bool newer);
 
 /* What a run answers. */
 struct yirbarn_ran {
@@ -97,8 +109,9 @@ uint8_t yirbarn_column_number(const uint32_t *words, size_t words_len, uint8_t k
                               size_t end);
 
 /* Where in the words the rows of a kind stand, from start to before end: with at = the answer, words[at] to
- * words[at + 2 (end - start) - 1] are their entities (index word, version word), or where `values` is true their values
- * (low word, high word), in row order. 0 where yirbarn_column_number is not 0, and nowhere else, for no column stands
+ * words[at + 2 (end - start) - 1] are their entities (index word, version word) in row order; or where `values` is true,
+ * words[at] to words[at + d (end - start) - 1] their values, d words each, lowest first: 2 where values are of eight
+ * bytes, 4 where they are of sixteen. 0 where yirbarn_column_number is not 0, and nowhere else, for no column stands
  * there: ask for the number only then. They stay there until the next run or start. Entities and values of one row have
  * the same number, counted from start. */
 size_t yirbarn_column_at(const uint32_t *words, size_t words_len, uint8_t kind, bool values, size_t start, size_t end);
@@ -109,7 +122,7 @@ struct yirbarn_written {
     size_t written; /* items of out; 0 where the number is not */
 };
 
-/* The same rows, copied to the front of out: 2 (end - start) words.
+/* The same rows, copied to the front of out: 2 (end - start) words, or d (end - start) of values.
  * Number: that of yirbarn_column_number; where that is 0, YIRBARN_NOROOM if out has fewer words than the rows take; else
  * 0. Where it is not 0, nothing is copied. No rows (start = end) that are accepted are number 0 and 0 words. Words of
  * out past `written` stay. */
@@ -123,7 +136,8 @@ struct yirbarn_rolled {
 };
 
 /* Writes the roll to the front of out: live count 4; then each live entity by rising index: index 4, version 4, number
- * of components 1; then each component by rising kind: kind 1, value 8. Numbers are little-endian.
+ * of components 1; then each component by rising kind: kind 1, value 8, or 16 where values are of sixteen bytes. Numbers
+ * are little-endian.
  * Number: YIRBARN_UNSOUND, YIRBARN_NOROOM, in this order, or 0. Where it is not 0, nothing is written. Bytes of out past
  * `written` stay. */
 struct yirbarn_rolled yirbarn_roll(const uint32_t *words, size_t words_len, uint8_t *out, size_t out_len);

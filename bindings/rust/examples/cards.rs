@@ -2,7 +2,8 @@
 //!
 //! A card passes four stations: it gets a serial, a key, applets and a print, in this order. A station is a kind, what
 //! it writes on the card is a value of eight bytes. Two groups are kept: the cards with serial and key, and among them
-//! those with all four. So the two questions at the end need no search.
+//! those with all four. So the two questions at the end need no search. (Values may be of sixteen bytes:
+//! bindings/README.md has what differs.)
 //!
 //! Every answer is checked (docs/COMMANDS.md, "What a program must check"); at the first that is not as expected, the
 //! program says which and ends with status 1. bindings/c/cards.c does the same work, and both write what
@@ -210,7 +211,7 @@ fn number_of(bytes: &[u8]) -> u64 {
 }
 
 fn run(store: &mut Store, tape: &Tape) -> Result<Answers, Surprise> {
-    // Ten bytes for each byte of tape, and 144 more, are never too few.
+    // Ten bytes for each byte of tape, and 144 more, are never too few (272 more, where values are of sixteen bytes).
     let mut answers = vec![0; 10 * tape.bytes.len() + 144];
     let ran = store.run(&tape.bytes, &mut answers);
     same("the run's stop", ran.stop, None)?;

@@ -1,8 +1,9 @@
 //! Card stores with nested groups, over 32-bit words that the caller lends.
 //!
-//! A store keeps entities and their components, a value of eight bytes for each of up to 128 kinds, in a `&mut [u32]`.
-//! It is changed by a tape of commands, which [`Store::run`] answers, and read by column and as a whole. The work is done
-//! by the static library of the crate `store`, which is proved; this crate lends it slices and gives names to its numbers.
+//! A store keeps entities and their components, a value for each of up to 128 kinds, in a `&mut [u32]`. The values are of
+//! eight bytes, or in a store that is started so of sixteen ([`Width`]). It is changed by a tape of commands, which
+//! [`Store::run`] answers, and read by column and as a whole. The work is done by the static library of the crate `store`,
+//! which is proved; this crate lends it slices and gives names to its numbers.
 //! The commands, their bytes and their answers are in the repository's docs/COMMANDS.md; examples/cards.rs is a program to
 //! begin with.
 //!
@@ -35,7 +36,7 @@ mod settings;
 
 pub use refusal::Refusal;
 pub use rows::{Entities, Entity, Row, Rows, Values};
-pub use settings::Rule;
+pub use settings::{Eight, Rule, Sixteen, Width};
 
 /// This crate's version, which is that of `yirbarn.h` too.
 pub const VERSION: &str = env!("CARGO_PKG_VERSION");
@@ -58,18 +59,31 @@ pub struct Ran {
 pub enum Part {
     /// Index word, version word.
     Entities,
-    /// Low word, high word.
+    /// The words of the value, lowest first: two, or four in a store of values of sixteen bytes.
     Values,
 }
 
 /// A store in borrowed words. They held a sound store when it was made, by a start or by the test in [`Store::open`]. It
 /// holds the only reference to them and lends none to write, so that nothing but its own runs changes them, and these
 /// leave a sound store: so no other function tests them again.
+///
+/// `Store<'a>` has values of eight bytes, `Store<'a, Sixteen>` of sixteen, and its words say the same.
 #[derive(Debug)]
-pub struct Store<'a> {
-    // A sound store, always: the functions for words that are held rest on it.
+pub struct Store<'a, W = Eight> {
+    // A sound store of this width, always: the functions for words that are held rest on it, and so do the values read.
     words: &'a mut [u32],
+    width: W,
 }
+
+/// A store of either width, as [`Store::open_any`] finds it.
+#[derive(Debug)]
+pub enum AnyStore<'a> {
+    Eight(Store<'a>),
+    Sixteen(Store<'a, Sixteen>),
+}
+
+/// Where a sound store has the bytes of a value (docs/WORDS.md).
+const VALUE_BYTES: usize = 11;
 
 /// The refusal with this number, if it is one.
 fn refused(number: u8) -> Result<(), Refusal> {
@@ -79,8 +93,16 @@ fn refused(number: u8) -> Result<(), Refusal> {
     }
 }
 
+/// Whether the words hold a sound store: a run of no command changes nothing, and is refused where they do not.
+fn tested(words: &mut [u32]) -> Result<(), Refusal> {
+    let ran = unsafe { sys::yirbarn_run(words.as_mut_ptr(), words.len(), [].as_ptr(), 0, [].as_mut_ptr(), 0) };
+    refused(ran.stop)
+}
+
+/// A store of values of eight bytes; and one of the width that the words have.
 impl<'a> Store<'a> {
-    /// How many words a store of so many entities and kinds takes; `None` where there is no such store.
+    /// How many words a store of so many entities and kinds takes, its values of eight bytes; `None` where there is no
+    /// such store.
     ///
     /// ```
     /// assert_eq!(yirbarn::Store::words_needed(64, 8), Some(5184));
@@ -93,8 +115,8 @@ impl<'a> Store<'a> {
         }
     }
 
-    /// An empty store under [`Rule::Older`], whatever the words held. Refused: [`Refusal::Size`], [`Refusal::Short`];
-    /// the words are then as they were. Words past the needed ones never change.
+    /// An empty store of values of eight bytes under [`Rule::Older`], whatever the words held. Refused: [`Refusal::Size`],
+    /// [`Refusal::Short`]; the words are then as they were. Words past the needed ones never change.
     ///
     /// ```
     /// use yirbarn::{Refusal, Store};
@@ -106,14 +128,92 @@ impl<'a> Store<'a> {
     /// ```
     pub fn start(words: &'a mut [u32], entities: usize, kinds: usize) -> Result<Self, Refusal> {
         refused(unsafe { sys::yirbarn_start(words.as_mut_ptr(), words.len(), entities, kinds) })?;
-        Ok(Self { words })
+        Ok(Self { words, width: Eight })
     }
 
-    /// An empty store under the rule that is told, otherwise as [`Store::start`] makes it; refusals as there, and none
-    /// for the rule. The words keep it: [`Store::open`] is not told, and only another start over them gives another.
+    /// The store of values of eight bytes that the words hold already; as [`Store::open_with`], told [`Eight`].
     ///
     /// ```
-    /// use yirbarn::{Refusal, Rule, Store};
+    /// use yirbarn::{Refusal, Store};
+    ///
+    /// let mut words = vec![0; 5184];
+    /// assert_eq!(Store::open(&mut words).unwrap_err(), Refusal::Unsound);
+    /// Store::start(&mut words, 64, 8)?;
+    /// let store = Store::open(&mut words)?;
+    /// # Ok::<(), Refusal>(())
+    /// ```
+    pub fn open(words: &'a mut [u32]) -> Result<Self, Refusal> {
+        Store::open_with(words, Eight)
+    }
+
+    /// The store that the words hold already, of the width that it has. Refused: [`Refusal::Unsound`].
+    ///
+    /// ```
+    /// use yirbarn::{AnyStore, Refusal, Rule, Sixteen, Store};
+    ///
+    /// let mut words = vec![0; Store::words_needed_with(64, 8, Sixteen).unwrap()];
+    /// Store::start_with(&mut words, 64, 8, Sixteen, Rule::Older)?;
+    /// assert!(matches!(Store::open_any(&mut words)?, AnyStore::Sixteen(_)));
+    /// Store::start(&mut words, 64, 8)?;
+    /// assert!(matches!(Store::open_any(&mut words)?, AnyStore::Eight(_)));
+    /// # Ok::<(), Refusal>(())
+    /// ```
+    pub fn open_any(words: &'a mut [u32]) -> Result<AnyStore<'a>, Refusal> {
+        tested(words)?;
+        if words[VALUE_BYTES] as usize == Eight::BYTES {
+            return Ok(AnyStore::Eight(Store { words, width: Eight }));
+        }
+        // Sound, so it is the other.
+        Ok(AnyStore::Sixteen(Store { words, width: Sixteen }))
+    }
+}
+
+/// A store of either width.
+impl<'a, W: Width> Store<'a, W> {
+    /// How many words a store of so many entities and kinds takes, its values of this width; `None` where there is no
+    /// such store.
+    ///
+    /// ```
+    /// use yirbarn::{Eight, Sixteen, Store};
+    ///
+    /// assert_eq!(Store::words_needed_with(64, 8, Eight), Store::words_needed(64, 8));
+    /// assert_eq!(Store::words_needed_with(64, 8, Sixteen), Some(6208));
+    /// assert_eq!(Store::words_needed_with(4097, 8, Sixteen), None);
+    /// ```
+    pub fn words_needed_with(entities: usize, kinds: usize, width: W) -> Option<usize> {
+        match unsafe { sys::yirbarn_words_needed_with(entities, kinds, width.bytes()) } {
+            0 => None,
+            needed => Some(needed),
+        }
+    }
+
+    /// An empty store of the width and under the rule that are told, otherwise as [`Store::start`] makes it; refusals as
+    /// there, and none for width and rule. The words keep both, and only another start over them gives others.
+    ///
+    /// Values of sixteen bytes:
+    ///
+    /// ```
+    /// use yirbarn::{Entity, Part, Refusal, Row, Rule, Sixteen, Store};
+    ///
+    /// let mut words = vec![0; Store::words_needed_with(64, 8, Sixteen).unwrap()];
+    /// let mut store = Store::start_with(&mut words, 64, 8, Sixteen, Rule::Older)?;
+    ///
+    /// // REG 1, HOLD 1 = 5 × 2^64 + 7, NEW: HOLD has sixteen bytes of value.
+    /// let value: u128 = 5 << 64 | 7;
+    /// let tape = [&[0x01, 1, 0x02, 1][..], &value.to_le_bytes(), &[0x03]].concat();
+    /// let ran = store.run(&tape, &mut [0; 64]);
+    /// assert_eq!((ran.stop, ran.commands), (None, 3));
+    ///
+    /// let entity = Entity { index: 0, version: 1 };
+    /// assert!(store.rows(1, 0, 1)?.eq([Row { entity, value }]));
+    /// assert_eq!(store.column(1, Part::Values, 0, 1)?, [7, 0, 5, 0]);
+    /// # Ok::<(), Refusal>(())
+    /// ```
+    ///
+    /// Both rules:
+    ///
+    /// ```
+    /// use yirbarn::{Eight, Refusal, Rule, Store};
     ///
     /// // HOLD of each kind, with value 0.
     /// let hold = |kinds: &[u8]| -> Vec<u8> {
@@ -137,7 +237,7 @@ impl<'a> Store<'a> {
     /// let (found, none) = ([0, 1, 0, 0, 0, 0, 1, 0, 0, 0], [0; 10]);
     /// for (rule, range) in [(Rule::Older, found), (Rule::Newer, none)] {
     ///     let mut words = vec![0; Store::words_needed(8, 4).unwrap()];
-    ///     let mut store = Store::start_with(&mut words, 8, 4, rule)?;
+    ///     let mut store = Store::start_with(&mut words, 8, 4, Eight, rule)?;
     ///     let mut answers = [0; 64];
     ///     let ran = store.run(&tape, &mut answers);
     ///     assert_eq!((ran.stop, ran.commands), (None, 22));
@@ -145,29 +245,43 @@ impl<'a> Store<'a> {
     /// }
     /// # Ok::<(), Refusal>(())
     /// ```
-    pub fn start_with(words: &'a mut [u32], entities: usize, kinds: usize, rule: Rule) -> Result<Self, Refusal> {
-        let newer = rule == Rule::Newer;
-        refused(unsafe { sys::yirbarn_start_with(words.as_mut_ptr(), words.len(), entities, kinds, newer) })?;
-        Ok(Self { words })
+    pub fn start_with(
+        words: &'a mut [u32],
+        entities: usize,
+        kinds: usize,
+        width: W,
+        rule: Rule,
+    ) -> Result<Self, Refusal> {
+        let (len, newer) = (words.len(), rule == Rule::Newer);
+        refused(unsafe { sys::yirbarn_start_with(words.as_mut_ptr(), len, entities, kinds, width.bytes(), newer) })?;
+        Ok(Self { words, width })
     }
 
-    /// The store that the words hold already. Refused: [`Refusal::Unsound`], where they hold none. That is tested here and
-    /// only here, in time in proportion to the words.
+    /// The store of this width that the words hold already. Refused: [`Refusal::Unsound`], where they hold none, and then
+    /// [`Refusal::Size`], where it has the other width. That is tested here and only here, in time in proportion to the
+    /// words.
     ///
     /// ```
-    /// use yirbarn::{Refusal, Store};
+    /// use yirbarn::{Refusal, Rule, Sixteen, Store};
     ///
-    /// let mut words = vec![0; 5184];
-    /// assert_eq!(Store::open(&mut words).unwrap_err(), Refusal::Unsound);
-    /// Store::start(&mut words, 64, 8)?;
-    /// let store = Store::open(&mut words)?;
+    /// let mut words = vec![0; Store::words_needed_with(64, 8, Sixteen).unwrap()];
+    /// assert_eq!(Store::open_with(&mut words, Sixteen).unwrap_err(), Refusal::Unsound);
+    /// Store::start_with(&mut words, 64, 8, Sixteen, Rule::Older)?;
+    /// assert_eq!(Store::open(&mut words).unwrap_err(), Refusal::Size);
+    /// let store = Store::open_with(&mut words, Sixteen)?;
     /// # Ok::<(), Refusal>(())
     /// ```
-    pub fn open(words: &'a mut [u32]) -> Result<Self, Refusal> {
-        // A run of no command changes nothing, and is refused on words that hold no store.
-        let ran = unsafe { sys::yirbarn_run(words.as_mut_ptr(), words.len(), [].as_ptr(), 0, [].as_mut_ptr(), 0) };
-        refused(ran.stop)?;
-        Ok(Self { words })
+    pub fn open_with(words: &'a mut [u32], width: W) -> Result<Self, Refusal> {
+        tested(words)?;
+        if words[VALUE_BYTES] as usize != width.bytes() {
+            return Err(Refusal::Size);
+        }
+        Ok(Self { words, width })
+    }
+
+    /// The width of its values.
+    pub fn width(&self) -> W {
+        self.width
     }
 
     /// Does the tape's commands, one after the other, and writes their answers to the front of `answers`.
@@ -219,8 +333,9 @@ impl<'a> Store<'a> {
         }
     }
 
-    /// The words of a kind's rows from `start` to before `end`, two a row, in place. Refused: [`Refusal::Kind`] where the
-    /// kind is not registered, [`Refusal::Beyond`] where the rows are not there. How many rows there are, RANGE tells.
+    /// The words of a kind's rows from `start` to before `end`, in place: two a row, or as many as a value has. Refused:
+    /// [`Refusal::Kind`] where the kind is not registered, [`Refusal::Beyond`] where the rows are not there. How many rows
+    /// there are, RANGE tells.
     ///
     /// ```
     /// use yirbarn::{Part, Refusal, Store};
@@ -244,7 +359,14 @@ impl<'a> Store<'a> {
                 refused(unsafe { sys::yirbarn_held_column_number(words, len, kind, values, start, end) })?;
                 Ok(&[])
             }
-            at => Ok(&self.words[at..at + 2 * (end - start)]),
+            at => Ok(&self.words[at..at + self.row_words(part) * (end - start)]),
+        }
+    }
+
+    fn row_words(&self, part: Part) -> usize {
+        match part {
+            Part::Entities => 2,
+            Part::Values => self.width.words(),
         }
     }
 
@@ -304,7 +426,8 @@ impl<'a> Store<'a> {
         Ok(Entities::new(self.column(kind, Part::Entities, start, end)?))
     }
 
-    /// The values of a kind's rows, in row order; refusals as of [`Store::column`].
+    /// The values of a kind's rows, in row order, each a `u64`, or of sixteen bytes a `u128`; refusals as of
+    /// [`Store::column`].
     ///
     /// ```
     /// # use yirbarn::Store;
@@ -315,8 +438,28 @@ impl<'a> Store<'a> {
     /// assert!(store.values(9, 0, 1)?.eq([1 << 56]));
     /// # Ok::<(), yirbarn::Refusal>(())
     /// ```
-    pub fn values(&self, kind: u8, start: usize, end: usize) -> Result<Values<'_>, Refusal> {
-        Ok(Values::new(self.column(kind, Part::Values, start, end)?))
+    ///
+    /// ```
+    /// # use yirbarn::{Rule, Sixteen, Store};
+    /// # let mut words = vec![0; Store::words_needed_with(4, 1, Sixteen).unwrap()];
+    /// # let mut store = Store::start_with(&mut words, 4, 1, Sixteen, Rule::Older)?;
+    /// // REG 9, HOLD 9 = 2^120, NEW.
+    /// store.run(&[0x01, 9, 0x02, 9, 0, 0, 0, 0, 0, 0, 0, 0, 0, 0, 0, 0, 0, 0, 0, 1, 0x03], &mut [0; 32]);
+    /// assert!(store.values(9, 0, 1)?.eq([1 << 120]));
+    /// # Ok::<(), yirbarn::Refusal>(())
+    /// ```
+    ///
+    /// The values of one width are not to be had as those of the other:
+    ///
+    /// ```compile_fail,E0308
+    /// # use yirbarn::{Rule, Sixteen, Store};
+    /// # let mut words = vec![0; Store::words_needed_with(4, 1, Sixteen).unwrap()];
+    /// let store = Store::start_with(&mut words, 4, 1, Sixteen, Rule::Older)?;
+    /// let first: Option<u64> = store.values(9, 0, 1)?.next();
+    /// # Ok::<(), yirbarn::Refusal>(())
+    /// ```
+    pub fn values(&self, kind: u8, start: usize, end: usize) -> Result<Values<'_, W>, Refusal> {
+        Ok(Values::new(self.column(kind, Part::Values, start, end)?, self.width))
     }
 
     /// Entities and values of a kind's rows together; refusals as of [`Store::column`].
@@ -333,7 +476,7 @@ impl<'a> Store<'a> {
     /// assert_eq!(sum, 7);
     /// # Ok::<(), yirbarn::Refusal>(())
     /// ```
-    pub fn rows(&self, kind: u8, start: usize, end: usize) -> Result<Rows<'_>, Refusal> {
+    pub fn rows(&self, kind: u8, start: usize, end: usize) -> Result<Rows<'_, W>, Refusal> {
         Ok(Rows::new(
             self.entities(kind, start, end)?,
             self.values(kind, start, end)?,
@@ -343,7 +486,7 @@ impl<'a> Store<'a> {
     /// Writes the roll to the front of `out`, and gives its length. Refused: [`Refusal::NoRoom`]; nothing is written then.
     ///
     /// Its bytes: live count 4; then each live entity by rising index: index 4, version 4, number of components 1; then
-    /// each component by rising kind: kind 1, value 8.
+    /// each component by rising kind: kind 1, value 8, or of sixteen bytes 16.
     ///
     /// ```
     /// # use yirbarn::{Refusal, Store};

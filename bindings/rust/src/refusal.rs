@@ -55,7 +55,7 @@ impl Refusal {
 
     fn text(self) -> &'static str {
         match self {
-            Refusal::Size => "entities not 1 to 4,096, or kinds not 1 to 128",
+            Refusal::Size => "entities not 1 to 4,096, kinds not 1 to 128, or another width of values",
             Refusal::Short => "too few words",
             Refusal::Unsound => "the words hold no sound store",
             Refusal::Unknown => "a byte that is no command",

@@ -1,5 +1,6 @@
 //! Iterators over the rows of a column, on the words in place.
 
+use crate::settings::{Eight, Width};
 use core::slice::ChunksExact;
 
 /// An entity: its index and its version.
@@ -9,26 +10,26 @@ pub struct Entity {
     pub version: u32,
 }
 
-/// A row of a column.
+/// A row of a column: its value is a `u64`, or a `u128` in a store of values of sixteen bytes.
 #[derive(Clone, Copy, PartialEq, Eq, Debug)]
-pub struct Row {
+pub struct Row<V = u64> {
     pub entity: Entity,
-    pub value: u64,
+    pub value: V,
 }
 
 /// The entities of a column's rows, in row order.
 #[derive(Clone, Debug)]
 pub struct Entities<'a>(ChunksExact<'a, u32>);
 
-/// The values of a column's rows, in row order.
+/// The values of a column's rows, in row order, at the store's width.
 #[derive(Clone, Debug)]
-pub struct Values<'a>(ChunksExact<'a, u32>);
+pub struct Values<'a, W = Eight>(ChunksExact<'a, u32>, W);
 
 /// The rows of a column, in order.
 #[derive(Clone, Debug)]
-pub struct Rows<'a> {
+pub struct Rows<'a, W = Eight> {
     entities: Entities<'a>,
-    values: Values<'a>,
+    values: Values<'a, W>,
 }
 
 impl<'a> Entities<'a> {
@@ -37,14 +38,14 @@ impl<'a> Entities<'a> {
     }
 }
 
-impl<'a> Values<'a> {
-    pub(crate) fn new(words: &'a [u32]) -> Self {
-        Self(words.chunks_exact(2))
+impl<'a, W: Width> Values<'a, W> {
+    pub(crate) fn new(words: &'a [u32], width: W) -> Self {
+        Self(words.chunks_exact(width.words()), width)
     }
 }
 
-impl<'a> Rows<'a> {
-    pub(crate) fn new(entities: Entities<'a>, values: Values<'a>) -> Self {
+impl<'a, W: Width> Rows<'a, W> {
+    pub(crate) fn new(entities: Entities<'a>, values: Values<'a, W>) -> Self {
         Self { entities, values }
     }
 }
@@ -56,14 +57,10 @@ fn entity(words: &[u32]) -> Entity {
     }
 }
 
-fn value(words: &[u32]) -> u64 {
-    u64::from(words[0]) | u64::from(words[1]) << 32
-}
-
 /// An iterator that knows how many are left and goes from both ends, after the one inside.
 macro_rules! iterates {
-    ($name:ident, $item:ty, $from:expr) => {
-        impl Iterator for $name<'_> {
+    ([$($width:tt)*] $name:ty, $item:ty, $from:expr) => {
+        impl<$($width)*> Iterator for $name {
             type Item = $item;
 
             fn next(&mut self) -> Option<$item> {
@@ -75,23 +72,23 @@ macro_rules! iterates {
             }
         }
 
-        impl DoubleEndedIterator for $name<'_> {
+        impl<$($width)*> DoubleEndedIterator for $name {
             fn next_back(&mut self) -> Option<$item> {
                 self.0.next_back().map($from)
             }
         }
 
-        impl ExactSizeIterator for $name<'_> {}
+        impl<$($width)*> ExactSizeIterator for $name {}
     };
 }
 
-iterates!(Entities, Entity, entity);
-iterates!(Values, u64, value);
+iterates!([] Entities<'_>, Entity, entity);
+iterates!([W: Width] Values<'_, W>, W::Value, W::value);
 
-impl Iterator for Rows<'_> {
-    type Item = Row;
+impl<W: Width> Iterator for Rows<'_, W> {
+    type Item = Row<W::Value>;
 
-    fn next(&mut self) -> Option<Row> {
+    fn next(&mut self) -> Option<Self::Item> {
         Some(Row {
             entity: self.entities.next()?,
             value: self.values.next()?,
@@ -103,8 +100,8 @@ impl Iterator for Rows<'_> {
     }
 }
 
-impl DoubleEndedIterator for Rows<'_> {
-    fn next_back(&mut self) -> Option<Row> {
+impl<W: Width> DoubleEndedIterator for Rows<'_, W> {
+    fn next_back(&mut self) -> Option<Self::Item> {
         Some(Row {
             entity: self.entities.next_back()?,
             value: self.values.next_back()?,
@@ -112,4 +109,4 @@ impl DoubleEndedIterator for Rows<'_> {
     }
 }
 
-impl ExactSizeIterator for Rows<'_> {}
+impl<W: Width> ExactSizeIterator for Rows<'_, W> {}

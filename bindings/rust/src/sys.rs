@@ -36,9 +36,18 @@ pub struct Written {
 extern "C" {
     pub fn yirbarn_words_needed(n: usize, k: usize) -> usize;
 
+    pub fn yirbarn_words_needed_with(n: usize, k: usize, value_bytes: usize) -> usize;
+
     pub fn yirbarn_start(words: *mut u32, words_len: usize, n: usize, k: usize) -> u8;
 
-    pub fn yirbarn_start_with(words: *mut u32, words_len: usize, n: usize, k: usize, newer: bool) -> u8;
+    pub fn yirbarn_start_with(
+        words: *mut u32,
+        words_len: usize,
+        n: usize,
+        k: usize,
+        value_bytes: usize,
+        newer: bool,
+    ) -> u8;
 
     pub fn yirbarn_run(
         words: *mut u32,

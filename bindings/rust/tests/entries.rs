@@ -2,7 +2,7 @@
 //! library.
 
 use yirbarn::sys;
-use yirbarn::{Entity, Part, Ran, Refusal, Row, Rule, Store};
+use yirbarn::{Eight, Entity, Part, Ran, Refusal, Row, Rule, Store};
 
 const N: usize = 64;
 const K: usize = 8;
@@ -607,16 +607,16 @@ fn start_with() {
         let mut words = vec![7; NEEDED + 3];
         for (entities, kinds) in [(0, K), (4097, K), (N, 0), (N, 129), (usize::MAX, usize::MAX)] {
             for length in [0, NEEDED] {
-                let refused = Store::start_with(&mut words[..length], entities, kinds, rule).unwrap_err();
+                let refused = Store::start_with(&mut words[..length], entities, kinds, Eight, rule).unwrap_err();
                 assert_eq!(refused, Refusal::Size);
             }
         }
         for length in [0, 1, 1024, NEEDED - 1] {
-            let refused = Store::start_with(&mut words[..length], N, K, rule).unwrap_err();
+            let refused = Store::start_with(&mut words[..length], N, K, Eight, rule).unwrap_err();
             assert_eq!(refused, Refusal::Short);
         }
         assert!(words.iter().all(|&word| word == 7));
-        Store::start_with(&mut words, N, K, rule).unwrap();
+        Store::start_with(&mut words, N, K, Eight, rule).unwrap();
         assert_eq!((words[RULE], &words[NEEDED..]), (word, &[7; 3][..]));
         assert!(Store::open(&mut words[..NEEDED]).is_ok());
         assert_eq!(Store::open(&mut words[..NEEDED - 1]).unwrap_err(), Refusal::Unsound);
@@ -634,10 +634,10 @@ fn start_with_at_the_limits() {
         assert_eq!(plain[RULE], 0);
         for (rule, word) in RULES {
             let mut words = vec![7; needed];
-            let refused = Store::start_with(&mut words[..needed - 1], entities, kinds, rule).unwrap_err();
+            let refused = Store::start_with(&mut words[..needed - 1], entities, kinds, Eight, rule).unwrap_err();
             assert_eq!(refused, Refusal::Short);
             assert!(words.iter().all(|&word| word == 7));
-            Store::start_with(&mut words, entities, kinds, rule).unwrap();
+            Store::start_with(&mut words, entities, kinds, Eight, rule).unwrap();
             plain[RULE] = word;
             assert!(words == plain && Store::open(&mut words).is_ok());
         }
@@ -698,7 +698,7 @@ impl Example {
     /// Words of such a store under the rule.
     fn words(&self, rule: Rule) -> Vec<u32> {
         let mut words = vec![7; NEEDED];
-        self.fill(&mut Store::start_with(&mut words, N, K, rule).unwrap());
+        self.fill(&mut Store::start_with(&mut words, N, K, Eight, rule).unwrap());
         words
     }
 
@@ -868,8 +868,8 @@ fn another_start() {
     let kept = words.clone();
     assert!(Store::start(&mut words, N, 129).is_err());
     assert!(Store::start(&mut words[..NEEDED - 1], N, K).is_err());
-    assert!(Store::start_with(&mut words, 0, K, Rule::Older).is_err());
-    assert!(Store::start_with(&mut words[..NEEDED - 1], N, K, Rule::Older).is_err());
+    assert!(Store::start_with(&mut words, 0, K, Eight, Rule::Older).is_err());
+    assert!(Store::start_with(&mut words[..NEEDED - 1], N, K, Eight, Rule::Older).is_err());
     assert_eq!(words, kept);
 
     let mut store = Store::start(&mut words, N, K).unwrap();
@@ -877,7 +877,7 @@ fn another_start() {
     assert_eq!(range(&mut store, &[1, 2], &[3, 4]), Some((1, 3)));
     assert_eq!(words[RULE], 0);
     for (rule, word) in RULES.into_iter().rev() {
-        let mut store = Store::start_with(&mut words, N, K, rule).unwrap();
+        let mut store = Store::start_with(&mut words, N, K, Eight, rule).unwrap();
         example.fill(&mut store);
         assert_eq!(range(&mut store, &[1, 2], &[3, 4]).is_some(), rule == Rule::Older);
         assert_eq!(words[RULE], word);
