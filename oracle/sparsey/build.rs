@@ -86,7 +86,7 @@ fn lists() -> Vec<Vec<u8>> {
     lists
 }
 
-/// Code that picks the tuple of a list of kinds, and calls the library with it.
+/// Code that picks the tuple of a list of kinds, and calls the library with it. A value has `D` words, at either width.
 fn tuples() -> String {
     let lists = lists();
     let mut code = String::new();
@@ -99,10 +99,10 @@ fn tuples() -> String {
         }
         code.push_str("        _ => None,\n    }\n}\n\n");
     };
-    let types = |list: &[u8]| -> String { list.iter().map(|kind| format!("Comp<{kind}>,")).collect() };
+    let types = |list: &[u8]| -> String { list.iter().map(|kind| format!("Comp<{kind}, D>,")).collect() };
     let values = |list: &[u8]| -> String {
         (0..list.len())
-            .map(|i| format!("Comp::<{}>(values[{i}]),", list[i]))
+            .map(|i| format!("Comp::<{}, D>(values[{i}]),", list[i]))
             .collect()
     };
     let told = |list: &[u8]| -> String {
@@ -113,12 +113,12 @@ fn tuples() -> String {
 
     arms(
         &mut code,
-        "pub fn create(world: &mut World, kinds: &[u8], values: &[Value]) -> Option<Entity> {\n",
+        "pub fn create<const D: usize>(world: &mut World, kinds: &[u8], values: &[Value<D>]) -> Option<Entity> {\n",
         &|list| format!("Some(world.create(({})))", values(list)),
     );
     arms(
         &mut code,
-        "pub fn extend(world: &mut World, kinds: &[u8], values: &[Value], count: usize) -> Option<usize> {\n",
+        "pub fn extend<const D: usize>(world: &mut World, kinds: &[u8], values: &[Value<D>], count: usize) -> Option<usize> {\n",
         &|list| {
             let values = values(list);
             format!("Some(world.extend(iter::repeat(({values})).take(count)).len())")
@@ -126,12 +126,12 @@ fn tuples() -> String {
     );
     arms(
         &mut code,
-        "pub fn insert(world: &mut World, entity: Entity, kinds: &[u8], values: &[Value]) -> Option<bool> {\n",
+        "pub fn insert<const D: usize>(world: &mut World, entity: Entity, kinds: &[u8], values: &[Value<D>]) -> Option<bool> {\n",
         &|list| format!("Some(world.insert(entity, ({})))", values(list)),
     );
     arms(
         &mut code,
-        "pub fn remove(world: &mut World, entity: Entity, kinds: &[u8], told: &mut dyn FnMut(Option<Value>)) -> Option<()> {\n",
+        "pub fn remove<const D: usize>(world: &mut World, entity: Entity, kinds: &[u8], told: &mut dyn FnMut(Option<Value<D>>)) -> Option<()> {\n",
         &|list| {
             format!(
                 "{{ let removed = world.remove::<({})>(entity); {}Some(()) }}",
@@ -142,7 +142,7 @@ fn tuples() -> String {
     );
     arms(
         &mut code,
-        "pub fn delete(world: &mut World, entity: Entity, kinds: &[u8]) -> Option<()> {\n",
+        "pub fn delete<const D: usize>(world: &mut World, entity: Entity, kinds: &[u8]) -> Option<()> {\n",
         &|list| format!("Some(world.delete::<({})>(entity))", types(list)),
     );
 
@@ -155,10 +155,10 @@ fn ranges() -> String {
     let lists: Vec<Vec<u8>> = (0..16u8)
         .map(|mask| (0..4).filter(|kind| mask >> kind & 1 == 1).collect())
         .collect();
-    let parts = |list: &[u8]| -> String { list.iter().map(|kind| format!("&Comp<{kind}>,")).collect() };
+    let parts = |list: &[u8]| -> String { list.iter().map(|kind| format!("&Comp<{kind}, D>,")).collect() };
 
     let mut code = String::from(
-        "pub fn slice(world: &World, include: &[u8], exclude: &[u8]) -> Option<Option<(usize, usize)>> {\n    \
+        "pub fn slice<const D: usize>(world: &World, include: &[u8], exclude: &[u8]) -> Option<Option<(usize, usize)>> {\n    \
          match (include, exclude) {\n",
     );
     for include in lists.iter().filter(|list| !list.is_empty()) {

@@ -13,6 +13,13 @@ pub const GROUP: u8 = 9;
 pub const APPLY: u8 = 10;
 pub const TRAY: u8 = 15;
 
+/// The bytes of a value in a store of either width.
+pub const NARROW: usize = 8;
+pub const WIDE: usize = 16;
+
+/// Operand bytes by command byte, with values of eight bytes.
+const OPERANDS: [usize; 17] = [0, 1, 9, 0, 8, 8, 8, 8, 0, 0, 0, 1, 0, 0, 0, 2, 1];
+
 /// Numbers that look random and are the same each time (xorshift).
 pub struct Rng(u64);
 
@@ -56,6 +63,21 @@ fn hold(tape: &mut Vec<u8>, kinds: &[u8], value: u64) {
         tape.extend([HOLD, kind]);
         tape.extend((value + u64::from(kind)).to_le_bytes());
     }
+}
+
+/// The same tape for values of sixteen bytes: every HOLD has eight more. The commands are answered alike, but for how long
+/// the values are.
+pub fn wide(tape: &[u8]) -> Vec<u8> {
+    let (mut wide, mut rest) = (vec![], tape);
+    while let Some(&byte) = rest.first() {
+        let (command, behind) = rest.split_at(1 + OPERANDS[usize::from(byte)]);
+        wide.extend(command);
+        if byte == HOLD {
+            wide.extend(command[2..].iter().map(|byte| !byte));
+        }
+        rest = behind;
+    }
+    wide
 }
 
 /// A command behind HOLDs of these kinds, with the entity's number where it has one.

@@ -3,10 +3,10 @@
 use std::path::{Path, PathBuf};
 use std::process::{Command, Stdio};
 
-/// What a launch of a program prints.
-fn launched(program: &Path, letters: &[String]) -> String {
+/// What a launch of a program prints, told these words.
+fn launched(program: &Path, told: &[String]) -> String {
     let mut command = Command::new(program);
-    let output = command.args(letters).stderr(Stdio::inherit()).output();
+    let output = command.args(told).stderr(Stdio::inherit()).output();
     let output = output.unwrap_or_else(|e| panic!("{}: {e}", program.display()));
     assert!(output.status.success(), "{}: a launch failed", program.display());
     String::from_utf8(output.stdout).unwrap()
@@ -72,13 +72,13 @@ fn show_merged(outputs: &[String]) {
     }
 }
 
-/// So many launches with these letters, in turn with those of another build of this program, where one is named.
-pub fn show(count: usize, before: Option<PathBuf>, letters: &[String]) {
+/// So many launches told these words, in turn with those of another build of this program, where one is named.
+pub fn show(count: usize, before: Option<PathBuf>, told: &[String]) {
     let now = std::env::current_exe().unwrap();
     let (mut earlier, mut later) = (vec![], vec![]);
     for _ in 0..count {
-        earlier.extend(before.iter().map(|program| launched(program, letters)));
-        later.push(launched(&now, letters));
+        earlier.extend(before.iter().map(|program| launched(program, told)));
+        later.push(launched(&now, told));
     }
     if !earlier.is_empty() {
         println!("Before, the middle one of {count} launches:\n");

@@ -7,6 +7,9 @@
 //! Told letters of works, it times these, else all. Told `--launches 5` before them, it starts itself five times, one
 //! after the other, and prints the middle one of each figure, with the least and greatest of each ratio; and told
 //! `--before PROGRAM` too, it does the same with another build of itself, turn about.
+//!
+//! The works have values of eight bytes. Told `--width 16`, it times a to h with values of sixteen, beside the Rust with
+//! components of sixteen; a build from before there were two widths does not know it.
 
 mod clock;
 mod commands;
@@ -16,6 +19,7 @@ mod soundness;
 mod tapes;
 mod writer;
 
+use commands::{NARROW, WIDE};
 use sides::Times;
 use tapes::Work;
 
@@ -54,37 +58,51 @@ fn show(work: &Work, times: &Times) {
     }
 }
 
-/// One launch: the works with these letters; all of them where none is given.
-fn launch(letters: &[String]) {
+/// One launch at a width: the works with these letters; all of them where none is given.
+fn launch(value_bytes: usize, letters: &[String]) {
     let wanted = |letter: &str| letters.is_empty() || letters.iter().any(|wanted| wanted == letter);
     println!("| | work | N | commands | ours | the Rust | ratio | to reach |");
     println!("|---|---|---|---|---|---|---|---|");
-    for work in tapes::works().iter().filter(|work| wanted(work.letter)) {
+    let works = match value_bytes {
+        NARROW => tapes::works(),
+        _ => tapes::wide_works(),
+    };
+    for work in works.iter().filter(|work| wanted(work.letter)) {
         show(work, &sides::measure(work));
     }
     if wanted("f") {
-        soundness::show();
+        soundness::show(value_bytes);
     }
-    if wanted("i") {
+    if wanted("i") && value_bytes == NARROW {
         soundness::show_emptied();
     }
 }
 
+/// What each launch is told: at eight bytes the letters alone, which every build knows.
+fn launch_words(value_bytes: usize, letters: Vec<String>) -> Vec<String> {
+    match value_bytes {
+        NARROW => letters,
+        _ => [vec!["--width".to_string(), value_bytes.to_string()], letters].concat(),
+    }
+}
+
 fn main() {
-    let (mut launches, mut before, mut letters) = (None, None, vec![]);
+    let (mut launches, mut before, mut value_bytes, mut letters) = (None, None, NARROW, vec![]);
     let mut told = std::env::args().skip(1);
     while let Some(word) = told.next() {
         match word.as_str() {
             "--launches" => launches = Some(told.next().expect("a number").parse().expect("a number")),
             "--before" => before = Some(told.next().expect("a program").into()),
+            "--width" => value_bytes = told.next().expect("8 or 16").parse().expect("8 or 16"),
             _ => letters.push(word),
         }
     }
+    assert!([NARROW, WIDE].contains(&value_bytes), "--width is 8 or 16");
     match launches {
-        Some(count) => launches::show(count, before, &letters),
+        Some(count) => launches::show(count, before, &launch_words(value_bytes, letters)),
         None => {
             assert!(before.is_none(), "--before goes with --launches");
-            launch(&letters);
+            launch(value_bytes, &letters);
         }
     }
 }

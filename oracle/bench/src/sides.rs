@@ -17,15 +17,26 @@ pub struct Times {
 }
 
 /// *run* as the library exports it.
-type Run = unsafe extern "C" fn(*mut u32, usize, *const u8, usize, *mut u8, usize) -> sys::Ran;
+pub type Run = unsafe extern "C" fn(*mut u32, usize, *const u8, usize, *mut u8, usize) -> sys::Ran;
 
 /// The entry, which is lent the words, and so tests them.
-const LENT: Run = sys::yirbarn_run;
+pub const LENT: Run = sys::yirbarn_run;
 
 /// The function for words that are held since their start: it tests nothing.
-const HELD: Run = sys::yirbarn_held_run;
+pub const HELD: Run = sys::yirbarn_held_run;
 
-fn run_ours(run: Run, words: &mut [u32], tape: &[u8], out: &mut [u8]) -> usize {
+/// Words for a store of ours with values of so many bytes, which hold none yet.
+pub fn words(n: usize, k: usize, value_bytes: usize) -> Vec<u32> {
+    vec![0; unsafe { sys::yirbarn_words_needed_with(n, k, value_bytes) }]
+}
+
+/// An empty store of ours, under the older rule.
+pub fn start_ours(words: &mut [u32], n: usize, k: usize, value_bytes: usize) {
+    let number = unsafe { sys::yirbarn_start_with(words.as_mut_ptr(), words.len(), n, k, value_bytes, false) };
+    assert_eq!(number, 0);
+}
+
+pub fn run_ours(run: Run, words: &mut [u32], tape: &[u8], out: &mut [u8]) -> usize {
     let ran = unsafe {
         run(
             words.as_mut_ptr(),
@@ -56,7 +67,7 @@ fn run_rust(rust: &mut Oracle, tape: &[u8], out: &mut [u8]) -> usize {
 /// A side through the setup, and then timed through the runs, their answers one after the other; or, if there are none,
 /// through rolls. The answers' length.
 fn time_ours(work: &Work, runs: &[Vec<u8>], words: &mut [u32], out: &mut [u8], times: &mut Vec<f64>) -> usize {
-    Store::start(words, work.n, work.k).unwrap();
+    start_ours(words, work.n, work.k, work.value_bytes);
     run_ours(LENT, words, &work.setup, out);
     let timed = if work.held { HELD } else { LENT };
     let (mut written, mut between) = (0, work.between.iter());
@@ -78,7 +89,7 @@ fn time_ours(work: &Work, runs: &[Vec<u8>], words: &mut [u32], out: &mut [u8], t
 
 fn time_rust(work: &Work, out: &mut [u8], times: &mut Vec<f64>) -> usize {
     let mut rust = Oracle::new(Sets::Tuples);
-    assert_eq!(rust.start(usize::MAX, work.n, work.k), 0);
+    assert_eq!(rust.start(usize::MAX, work.n, work.k, work.value_bytes), 0);
     run_rust(&mut rust, &work.setup, out);
     let (mut written, mut between) = (0, work.between.iter());
     let mut clock = Clock::start();
@@ -97,7 +108,8 @@ fn time_rust(work: &Work, out: &mut [u8], times: &mut Vec<f64>) -> usize {
     written
 }
 
-/// A room that the answers to a tape fit in: none is longer than 9 bytes and 9 more for each HOLD before it.
+/// A room that the answers to a tape fit in: none is longer than 9 bytes and, for each HOLD before it, 9 more, or 17 with
+/// values of sixteen bytes.
 fn room(tape: &[u8]) -> usize {
     9 * tape.len() + 16
 }
@@ -107,14 +119,15 @@ fn work_room(work: &Work) -> usize {
     let otherwise = work.otherwise.iter().flat_map(|otherwise| &otherwise.runs);
     let tapes = work.runs.iter().chain(&work.between).chain(otherwise);
     let tapes = tapes.map(|run| room(run)).sum();
-    room(&work.setup).max(tapes).max(9 * work.n * (work.k + 1) + 4)
+    let roll = (1 + work.value_bytes) * work.n * (work.k + 1) + 4;
+    room(&work.setup).max(tapes).max(roll)
 }
 
 /// All sides, turn about.
 pub fn measure(work: &Work) -> Times {
     let mut times = Times::default();
-    let needed = Store::words_needed(work.n, work.k).unwrap();
-    let (mut words, mut others) = (vec![0; needed], vec![0; needed]);
+    let mut words = words(work.n, work.k, work.value_bytes);
+    let mut others = words.clone();
     let length = work_room(work);
     let (mut ours, mut theirs, mut again) = (vec![0; length], vec![0; length], vec![0; length]);
     let sides = if work.otherwise.is_some() { 3 } else { 2 };
@@ -140,7 +153,7 @@ pub fn measure(work: &Work) -> Times {
     times
 }
 
-/// Whether two stores have the same roll, and the same columns in row order, those that have a row for each entity.
+/// Whether two stores of values of eight bytes have the same roll, and the same columns in row order, those that have a row for each entity.
 fn are_same(one: &mut [u32], other: &mut [u32], work: &Work) -> bool {
     let (one, other) = (Store::open(one).unwrap(), Store::open(other).unwrap());
     let roll = |store: &Store| {

@@ -1,16 +1,19 @@
 //! The soundness test alone, through the number of *column*, which does little else.
 
 use crate::clock::Clock;
-use crate::commands::{layout, registered, with, Rng, KILL, NEW, PUT};
+use crate::commands::{layout, registered, wide, with, Rng, KILL, NARROW, NEW, PUT, WIDE};
+use crate::sides::{run_ours, start_ours, words, HELD, LENT};
 use std::ops::Range;
-use yirbarn::{sys, Store};
+use yirbarn::sys;
 
-/// Words of a store of N entities with K kinds, in families of nested groups of 2 to 15 kinds, seven groups for each
-/// sixteen kinds. The entities get those of their kinds that are picked, one entity after the other in the order given.
-fn stored(k: u8, order: &[u32], mut pick: impl FnMut(Range<u8>) -> Vec<u8>) -> Vec<u32> {
-    let n = order.len();
-    let mut words = vec![0; Store::words_needed(n, k.into()).unwrap()];
-    let mut store = Store::start(&mut words, n, k.into()).unwrap();
+/// How large a store is: entities, kinds, and bytes of a value.
+type Size = (usize, u8, usize);
+
+/// Words of a store of such a size, its kinds in families of nested groups of 2 to 15, seven groups for each sixteen kinds.
+/// The entities get those of their kinds that are picked, one entity after the other in the order given.
+fn stored((n, k, value_bytes): Size, order: &[u32], mut pick: impl FnMut(Range<u8>) -> Vec<u8>) -> Vec<u32> {
+    let mut words = words(n, k.into(), value_bytes);
+    start_ours(&mut words, n, k.into(), value_bytes);
     let mut tape = vec![];
     registered(&mut tape, 0..k);
     let family = |first: u8| [2, 4, 6, 8, 10, 12, 15].map(|arity| (first..first + arity).collect());
@@ -24,34 +27,36 @@ fn stored(k: u8, order: &[u32], mut pick: impl FnMut(Range<u8>) -> Vec<u8>) -> V
             with(&mut tape, &kinds, PUT, Some((index, 1)), 1000);
         }
     }
+    if value_bytes == WIDE {
+        tape = wide(&tape);
+    }
     let mut out = vec![0; 9 * tape.len()];
-    let ran = store.run(&tape, &mut out);
-    assert!(ran.stop.is_none());
+    run_ours(HELD, &mut words, &tape, &mut out);
     words
 }
 
 /// Every entity with every kind, by rising index.
-fn full(n: usize, k: u8) -> Vec<u32> {
-    let order: Vec<u32> = (0..n as u32).collect();
-    stored(k, &order, Iterator::collect)
+fn full(size: Size) -> Vec<u32> {
+    let order: Vec<u32> = (0..size.0 as u32).collect();
+    stored(size, &order, Iterator::collect)
 }
 
 /// Each kind with a half of the entities, by chance, in an order by chance.
-fn half_full(n: usize, k: u8) -> Vec<u32> {
+fn half_full(size: Size) -> Vec<u32> {
     let mut rng = Rng::new();
-    let order = rng.shuffled(n);
-    stored(k, &order, |kinds| rng.half(kinds))
+    let order = rng.shuffled(size.0);
+    stored(size, &order, |kinds| rng.half(kinds))
 }
 
 /// The words of a full store, with every entity destroyed again.
-fn emptied(n: usize, k: u8) -> Vec<u32> {
-    let mut words = full(n, k);
+fn emptied(size: Size) -> Vec<u32> {
+    let mut words = full(size);
     let mut tape = vec![];
-    for index in 0..n as u32 {
+    for index in 0..size.0 as u32 {
         with(&mut tape, &[], KILL, Some((index, 1)), 0);
     }
-    let ran = Store::open(&mut words).unwrap().run(&tape, &mut vec![0; n]);
-    assert_eq!(ran.written, n);
+    let written = run_ours(LENT, &mut words, &tape, &mut vec![0; size.0]);
+    assert_eq!(written, size.0);
     words
 }
 
@@ -85,17 +90,17 @@ pub fn show_emptied() {
     println!();
     println!(
         "i: the soundness test before each run, N {n}, K {k}, none live, all numbers waiting: {:.3} ms",
-        time(&emptied(n, k)) * 1e3
+        time(&emptied((n, k, NARROW))) * 1e3
     );
 }
 
-/// Stores of several sizes, each tested.
-fn show_table(sizes: &[(usize, u8)], stored: fn(usize, u8) -> Vec<u32>) {
+/// Stores of several sizes with values of so many bytes, each tested.
+fn show_table(sizes: &[(usize, u8)], value_bytes: usize, stored: fn(Size) -> Vec<u32>) {
     println!();
     println!("| N | K | words | test | a word | a plain pass over the words |");
     println!("|---|---|---|---|---|---|");
     for &(n, k) in sizes {
-        let words = stored(n, k);
+        let words = stored((n, k, value_bytes));
         let seconds = time(&words);
         println!(
             "| {n} | {k} | {} | {:.3} ms | {:.2} ns | {:.3} ms |",
@@ -107,7 +112,7 @@ fn show_table(sizes: &[(usize, u8)], stored: fn(usize, u8) -> Vec<u32>) {
     }
 }
 
-pub fn show() {
+pub fn show(value_bytes: usize) {
     println!();
     println!("f: the soundness test of a full store, every entity with every kind, nested groups");
     let sizes = [
@@ -122,8 +127,8 @@ pub fn show() {
         (2048, 128),
         (4096, 128),
     ];
-    show_table(&sizes, full);
+    show_table(&sizes, value_bytes, full);
     println!();
     println!("f: the same, each kind with a half of the entities, by chance, in an order by chance");
-    show_table(&sizes, half_full);
+    show_table(&sizes, value_bytes, half_full);
 }

@@ -1,7 +1,7 @@
 //! The works that are timed. Kinds 0 to 5 stand for what the list of works calls 1 to 6, since those have tuples of the
 //! Rust's own in the harness.
 
-use crate::commands::{layout, registered, with, Rng, DROP, KILL, NEW, PUT, TAKE, TRAY};
+use crate::commands::{layout, registered, wide, with, Rng, DROP, KILL, NARROW, NEW, PUT, TAKE, TRAY, WIDE};
 use crate::writer::Writer;
 
 /// A tape, what comes before it, and what it is to reach.
@@ -10,6 +10,8 @@ pub struct Work {
     pub name: &'static str,
     pub n: usize,
     pub k: usize,
+    /// The bytes of a value, for which the tapes are made.
+    pub value_bytes: usize,
     pub setup: Vec<u8>,
     /// One for each run; none where rolls are timed.
     pub runs: Vec<Vec<u8>>,
@@ -44,6 +46,7 @@ impl Work {
             name,
             n,
             k: usize::from(KINDS),
+            value_bytes: NARROW,
             setup,
             runs,
             between: vec![],
@@ -70,6 +73,20 @@ impl Work {
     /// The same with this to reach.
     fn to_reach(self, bound: &'static str) -> Self {
         Self { bound, ..self }
+    }
+
+    /// The same with values of sixteen bytes, and nothing to reach.
+    fn wide(self) -> Self {
+        assert!(self.otherwise.is_none());
+        let all = |tapes: Vec<Vec<u8>>| tapes.iter().map(|tape| wide(tape)).collect();
+        Self {
+            value_bytes: WIDE,
+            setup: wide(&self.setup),
+            runs: all(self.runs),
+            between: all(self.between),
+            bound: "",
+            ..self
+        }
     }
 
     /// How many rolls are timed.
@@ -386,6 +403,12 @@ fn half_full() -> Vec<Work> {
         Work::new("m", "line mix, half-full, 1,000 in a run", N, mixed(1_000), 300_000),
         relaid_pairs("m", "APPLY, 14 pairs, half-full", Kinds::Half, 40),
     ]
+}
+
+/// The works a to h, but f, with values of sixteen bytes.
+pub fn wide_works() -> Vec<Work> {
+    let works = main_works().into_iter().chain(sizes_and_runs());
+    works.map(Work::wide).collect()
 }
 
 pub fn works() -> Vec<Work> {

@@ -1,6 +1,6 @@
 //! Writes a tape whose commands are accepted: the entities in it are those that the Rust answers.
 
-use crate::commands::{with, Rng, KILL, NEW};
+use crate::commands::{with, Rng, KILL, NARROW, NEW};
 use sparsey::harness::{Id, Oracle, Sets};
 
 /// As many kinds as a store may have: the answers do not depend on it.
@@ -18,7 +18,7 @@ pub struct Writer {
 impl Writer {
     pub fn new(n: usize, setup: &[u8]) -> Self {
         let mut rust = Oracle::new(Sets::Tuples);
-        rust.start(usize::MAX, n, MOST_KINDS);
+        rust.start(usize::MAX, n, MOST_KINDS, NARROW);
         rust.run(setup, &mut vec![0; 9 * setup.len() + 16]);
         let live = rust.live();
         Self {

@@ -93,6 +93,7 @@ fn refusal_case(caller: u8) -> Case {
     Case {
         n: 1,
         k: 74,
+        value_bytes: tape::NARROW,
         preset: None,
         runs,
     }
@@ -170,6 +171,7 @@ fn kept() -> impl Iterator<Item = Case> {
             Case {
                 n: 4,
                 k: 4,
+                value_bytes: tape::NARROW,
                 preset: None,
                 runs,
             }
@@ -191,6 +193,7 @@ fn operands() -> impl Iterator<Item = Case> {
         Case {
             n: 1,
             k: 1,
+            value_bytes: tape::NARROW,
             preset: None,
             runs,
         }
@@ -224,6 +227,7 @@ fn rooms() -> impl Iterator<Item = Case> {
             Case {
                 n: 1,
                 k: 1,
+                value_bytes: tape::NARROW,
                 preset: None,
                 runs,
             }
@@ -251,6 +255,7 @@ fn full_case(caller: u8, count: u32) -> Case {
     Case {
         n: 1,
         k: 1,
+        value_bytes: tape::NARROW,
         preset: Some(Preset {
             caller,
             refusals,

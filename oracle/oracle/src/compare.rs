@@ -4,8 +4,8 @@
 use crate::demand;
 use crate::past;
 use crate::reference::Reference;
-use crate::side::{Known, Ranged, Rule, Seen, Side, EXCLUDED};
-use crate::tape::{self, Case, Chunk, Run, ROOMY};
+use crate::side::{Known, Ranged, Rule, Seen, Side, Told, EXCLUDED};
+use crate::tape::{self, Case, Chunk, Run, HOLD, ROOMY};
 use sparsey::harness::{arranged, kinds_of, words_needed, Families, Oracle, Ran, Sets, COMMANDS, JUDGEMENTS, NUMBERS};
 use std::fmt::Write;
 
@@ -138,7 +138,7 @@ impl Beside {
         }
     }
 
-    /// What its starts are told: nothing where plain *start* does.
+    /// The rule that its starts are told: none where plain *start* does.
     pub fn told(self) -> Option<Rule> {
         match self.rule() {
             Rule::Older => None,
@@ -164,13 +164,19 @@ impl Beside {
     }
 }
 
-/// Starts a side by the case, told a rule or none: the number.
-pub fn begin(side: &mut (impl Side + ?Sized), case: &Case, told: Option<Rule>) -> u32 {
-    let number = side.start_told(told, words_needed(case.n, case.k), case.n, case.k);
+/// Starts a side by the case, told its width and a rule, or by plain *start*: the number.
+pub fn begin(side: &mut (impl Side + ?Sized), case: &Case, rule: Option<Rule>) -> u32 {
+    let told = Told::by(case.value_bytes, rule);
+    let number = side.start_told(told, needed(case), case.n, case.k);
     if let Some(preset) = &case.preset {
         side.preset(preset);
     }
     number
+}
+
+/// The words that the case's store needs.
+fn needed(case: &Case) -> usize {
+    words_needed(case.n, case.k, case.value_bytes)
 }
 
 /// Makes the other side of a comparison, with no store yet.
@@ -182,8 +188,8 @@ pub struct Pair {
     pub other: Box<dyn Side>,
     pub figures: Figures,
     beside: Beside,
-    /// The rule that the last start was told.
-    rule: Rule,
+    /// What the last start was told.
+    told: Told,
     k: usize,
     /// What an answer buffer holds before a run.
     fill: u8,
@@ -206,7 +212,7 @@ impl Pair {
             other: make(),
             figures: Figures::default(),
             beside,
-            rule: Rule::Older,
+            told: Told::default(),
             k: 0,
             fill: 0xa5,
         }
@@ -217,7 +223,8 @@ impl Pair {
         let mut pair = Self::new(beside, make);
         pair.k = case.k;
         pair.figures.cases = 1;
-        let number = pair.start_number(beside.told(), words_needed(case.n, case.k), case.n, case.k)?;
+        let told = Told::by(case.value_bytes, beside.told());
+        let number = pair.start_number(told, needed(case), case.n, case.k)?;
         assert_eq!(number, 0, "a case starts a store");
         if let Some(preset) = &case.preset {
             pair.known.preset(preset);
@@ -226,32 +233,45 @@ impl Pair {
         Ok(pair)
     }
 
-    /// *start* on both sides, told a rule or none.
-    pub fn start_number(&mut self, told: Option<Rule>, words: usize, n: usize, k: usize) -> Result<u32, String> {
+    /// *start* on both sides, told width and rule or neither; and the words needed, which are 0 exactly where it gives 1.
+    pub fn start_number(&mut self, told: Option<Told>, words: usize, n: usize, k: usize) -> Result<u32, String> {
         let names = self.names();
         let known = self.known.start_told(told, words, n, k);
         let other = self.other.start_told(told, words, n, k);
         let what = format!("start N {n}, K {k}, {words} words, told {told:?}");
         same!(what, known, other, names);
+        let told = told.unwrap_or_default();
         if known == 0 {
-            self.rule = told.unwrap_or_default();
+            self.told = told;
         }
+        let needed = self.known.words_needed(n, k, told.value_bytes);
+        let what = format!("words needed, N {n}, K {k}, {} bytes a value", told.value_bytes);
+        same!(what, needed, self.other.words_needed(n, k, told.value_bytes), names);
+        same!(what, known == 1, needed == 0, ["start gives 1", "they are 0"]);
         self.complaint()?;
         self.counts()?;
-        self.same_rule()?;
+        self.same_settings()?;
         Ok(known)
     }
 
     /// The rule that the last start was told.
     pub fn rule(&self) -> Rule {
-        self.rule
+        self.told.rule
     }
 
-    /// Both sides have the rule that the start was told.
-    fn same_rule(&mut self) -> Result<(), String> {
+    /// The bytes of a value, by the last start.
+    pub fn value_bytes(&self) -> usize {
+        self.told.value_bytes
+    }
+
+    /// Both sides have the width and the rule that the start was told.
+    fn same_settings(&mut self) -> Result<(), String> {
         let [known, other] = self.names();
-        same!("rule", Some(self.rule), self.known.rule(), ["told", known]);
-        same!("rule", Some(self.rule), self.other.rule(), ["told", other]);
+        let Told { value_bytes, rule } = self.told;
+        same!("rule", Some(rule), self.known.rule(), ["told", known]);
+        same!("rule", Some(rule), self.other.rule(), ["told", other]);
+        same!("width", Some(value_bytes), self.known.value_bytes(), ["told", known]);
+        same!("width", Some(value_bytes), self.other.value_bytes(), ["told", other]);
         Ok(())
     }
 
@@ -275,7 +295,8 @@ impl Pair {
         self.other.complaint().map_or(Ok(()), Err)
     }
 
-    /// One run on both sides: stop, lengths, answer bytes, the bytes past them, and then caller, refusal counts and rule.
+    /// One run on both sides: stop, lengths, answer bytes, the bytes past them, and then caller, refusal counts, width and
+    /// rule.
     pub fn run(&mut self, run: &Run) -> Result<Ran, String> {
         Ok(self.answered(run)?.0)
     }
@@ -285,7 +306,7 @@ impl Pair {
         let tape = run.tape();
         let names = self.names();
         self.fill = self.fill.wrapping_add(0x3b);
-        let mut out = vec![self.fill; run.room.min(usable(&tape))];
+        let mut out = vec![self.fill; run.room.min(usable(&tape, self.value_bytes()))];
         let mut theirs = out.clone();
 
         let ran = self.known.run(&tape, &mut out);
@@ -300,7 +321,7 @@ impl Pair {
         );
         self.complaint()?;
         self.counts()?;
-        self.same_rule()?;
+        self.same_settings()?;
 
         self.figures.runs += 1;
         self.figures.commands += ran.commands as u64;
@@ -373,7 +394,8 @@ impl Pair {
     fn column_parts(&mut self, kind: u8, values: bool, whole: &[u32]) -> Result<(), String> {
         let names = self.names();
         let what = column_name(kind, values);
-        let length = whole.len() / 2;
+        let row = self.row_words(values);
+        let length = whole.len() / row;
         for (start, end, number) in [
             (0, length, 0),
             (0, length + 1, 16),
@@ -388,7 +410,7 @@ impl Pair {
             same!(what, known, other, names);
         }
         let (start, end) = (length / 3, length / 2);
-        let part = whole[2 * start..2 * end].to_vec();
+        let part = whole[row * start..row * end].to_vec();
         same!(
             format!("{what} {start}..{end}"),
             part,
@@ -396,6 +418,14 @@ impl Pair {
             names
         );
         Ok(())
+    }
+
+    /// How many words *column* gives for a row.
+    fn row_words(&self, values: bool) -> usize {
+        match values {
+            false => 2,
+            true => self.value_bytes() / 4,
+        }
     }
 
     /// Kinds without a column.
@@ -425,7 +455,7 @@ impl Pair {
     fn roll(&mut self, closely: bool) -> Result<(), String> {
         let names = self.names();
         let rows: usize = self.lengths().iter().map(|&(_, length)| length).sum();
-        let length = 4 + 9 * self.known.live().len() + 9 * rows;
+        let length = 4 + 9 * self.known.live().len() + (1 + self.value_bytes()) * rows;
         let rooms = [length, length + 3, length - 1];
         for room in rooms.into_iter().take(if closely { 3 } else { 1 }) {
             let mut out = vec![self.fill; room];
@@ -448,10 +478,10 @@ impl Pair {
     }
 
     /// A run that asks for the counts of all groups through RANGE: every group, every one with the next larger
-    /// group's new kinds excluded, and every kind alone. It empties what is staged and excluded.
+    /// group's new kinds excluded, and every kind alone. It empties what is staged and excluded. It is made for eight bytes.
     pub fn range_run(&mut self) -> Run {
         let [_, layout] = self.known.families();
-        let rings = demand::rings(&layout, self.rule);
+        let rings = demand::rings(&layout, self.rule());
         demand::run(&[rings, demand::kinds(&self.known.registered())].concat())
     }
 
@@ -459,7 +489,7 @@ impl Pair {
     pub fn ranges(&mut self) -> Result<(), String> {
         let [_, layout] = self.known.families();
         let registered = self.known.registered();
-        let mut asked = [demand::rings(&layout, self.rule), demand::kinds(&registered)].concat();
+        let mut asked = [demand::rings(&layout, self.rule()), demand::kinds(&registered)].concat();
         if !self.beside.is_rust() {
             asked.extend(demand::none(&layout, &registered));
         }
@@ -469,20 +499,21 @@ impl Pair {
     /// The ranges of all groups.
     fn group_ranges(&mut self) -> Result<(), String> {
         let [_, layout] = self.known.families();
-        self.ask(&demand::rings(&layout, self.rule))
+        self.ask(&demand::rings(&layout, self.rule()))
     }
 
     /// Asks both sides for ranges, and holds what they answer to the definition, by the columns of the side that the
     /// other is held to; where that is the reference, by those of both.
     fn ask(&mut self, asked: &[demand::Asked]) -> Result<(), String> {
-        let (ran, answers) = self.answered(&demand::run(asked))?;
+        let (ran, answers) = self.answered(&demand::run(asked).at(self.value_bytes()))?;
         assert_eq!(ran.stop, 0);
         self.figures.ranges += asked.len() as u64;
         let (lengths, found) = (self.lengths(), demand::found(asked, &answers));
-        demand::hold(&mut *self.known, self.rule, &lengths, asked, &found)?;
+        let rule = self.rule();
+        demand::hold(&mut *self.known, rule, &lengths, asked, &found)?;
         match self.beside {
             Beside::Rust(_) => Ok(()),
-            Beside::Reference(_) => demand::hold(&mut *self.other, self.rule, &lengths, asked, &found),
+            Beside::Reference(_) => demand::hold(&mut *self.other, rule, &lengths, asked, &found),
         }
     }
 
@@ -515,9 +546,9 @@ fn column_name(kind: u8, values: bool) -> String {
     format!("column of kind {kind}, {}", if values { "values" } else { "entities" })
 }
 
-/// The length of buffer past which more room makes no difference.
-pub fn usable(tape: &[u8]) -> usize {
-    8 + 145 * tape.len()
+/// The length of buffer past which more room makes no difference: the longest answer is that of TAKE with 16 kinds.
+pub fn usable(tape: &[u8], value_bytes: usize) -> usize {
+    8 + (1 + 16 * (1 + value_bytes)) * tape.len()
 }
 
 /// How closely a case is looked at.
@@ -608,9 +639,6 @@ pub fn shrink(case: &Case, beside: Beside, make: Make) -> Option<Difference> {
     }
 }
 
-/// The command's byte.
-const HOLD: u8 = 2;
-
 /// Runs of more commands keep their operands.
 const LONG: usize = 150;
 
@@ -619,7 +647,7 @@ type Attempt<'a> = dyn FnMut(&mut Difference, Case) -> bool + 'a;
 fn size(case: &Case) -> (usize, usize, usize, usize) {
     let chunks = case.runs.iter().map(|run| run.chunks.len()).sum();
     let bytes = case.runs.iter().flat_map(Run::tape).map(usize::from).sum();
-    (case.runs.len(), chunks, bytes, case.n + case.k)
+    (case.runs.len(), chunks, bytes, case.n + case.k + case.value_bytes)
 }
 
 fn merge_runs(best: &mut Difference, attempt: &mut Attempt) {
@@ -700,11 +728,13 @@ fn lessen(best: &mut Difference, i: usize, attempt: &mut Attempt) {
     }
 }
 
-/// Smaller operands, more room, smaller stores, no preset.
+/// The smaller width, smaller operands, more room, smaller stores, no preset.
 fn simplify(best: &mut Difference, attempt: &mut Attempt) {
-    let case = without_values(&best.case);
-    if case != best.case {
-        attempt(best, case);
+    for simpler in [Case::narrow, without_values] {
+        let case = simpler(&best.case);
+        if case != best.case {
+            attempt(best, case);
+        }
     }
     for i in 0..best.case.runs.len() {
         let mut case = best.case.clone();

@@ -94,7 +94,7 @@ pub fn none(layout: &Families, registered: &[u8]) -> Vec<Asked> {
     asked
 }
 
-/// A run that asks for them, with nothing staged or excluded before.
+/// A run that asks for them, with nothing staged or excluded before, made for eight bytes a value.
 pub fn run(asked: &[Asked]) -> Run {
     let mut chunks: Vec<Chunk> = vec![tape::tally(), tape::empty()];
     for asked in asked {

@@ -3,7 +3,7 @@
 
 use crate::reference::Reference;
 use crate::side::Side;
-use crate::tape::{self, Case, Run};
+use crate::tape::{self, Case, Run, NARROW};
 use sparsey::component::GroupLayout;
 use sparsey::harness::{add_group, arranged, families, families_of, set_of, words_needed, Families, Oracle, Sets};
 use std::collections::{BTreeMap, BTreeSet};
@@ -113,7 +113,7 @@ fn ours(draft: &[Group], new: Group) -> (Ours, Families) {
 }
 
 fn answer(side: &mut dyn Side, draft: &[Group], new: Group) -> (Ours, Families) {
-    side.start(words_needed(1, 8), 1, 8);
+    side.start(words_needed(1, 8, NARROW), 1, 8);
     let mut out = [0; 128];
     let mut chunks: Vec<tape::Chunk> = (0..6).map(tape::reg).collect();
     for &group in draft {
@@ -234,6 +234,7 @@ pub fn cases(width: u32, most: usize) -> impl Iterator<Item = Case> {
         Case {
             n: 1,
             k: width as usize,
+            value_bytes: NARROW,
             preset: None,
             runs,
         }
@@ -377,7 +378,7 @@ impl Orders {
 
 /// What GROUP answers to each of the list, on an empty store.
 fn answers(list: &[Vec<u8>], side: &mut dyn Side) -> Vec<Vec<u8>> {
-    side.start(words_needed(1, 8), 1, 8);
+    side.start(words_needed(1, 8, NARROW), 1, 8);
     side.run(&(0..8).flat_map(tape::reg).collect::<Vec<u8>>(), &mut [0; 16]);
     let mut answers = vec![];
     for kinds in list {
@@ -454,7 +455,7 @@ fn out_of_order() -> String {
 
 fn stores_left() -> String {
     let mut rust = Oracle::new(Sets::Staged);
-    rust.start(words_needed(1, 8), 1, 8);
+    rust.start(words_needed(1, 8, NARROW), 1, 8, NARROW);
     let mut out = [0; 64];
     rust.run(&(0..5).flat_map(tape::reg).collect::<Vec<u8>>(), &mut out);
     let mut stores = vec![rust.component_stores()];

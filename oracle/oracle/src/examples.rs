@@ -3,14 +3,14 @@
 
 use crate::compare::{compare, Beside, Look, Make};
 use crate::listing::{assemble, listing};
-use crate::tape::{Case, Chunk};
+use crate::tape::{Case, Chunk, NARROW};
 use sparsey::harness::{words_needed, Oracle, Ran, Sets};
 use std::collections::BTreeSet;
 use std::fmt::Write;
 use std::fs;
 use std::path::{Path, PathBuf};
 
-/// The store of the program `tape`.
+/// The store of the program `tape`, whose values have eight bytes.
 const N: usize = 64;
 const K: usize = 8;
 
@@ -38,7 +38,7 @@ pub fn examples(folder: &Path, write: bool, make: Make) -> Result<Vec<String>, S
     for path in texts {
         let name = path.display().to_string();
         let text = fs::read_to_string(&path).map_err(|e| format!("{name}: {e}"))?;
-        let chunks = assemble(&text).map_err(|what| format!("{name}, {what}"))?;
+        let chunks = assemble(&text, NARROW).map_err(|what| format!("{name}, {what}"))?;
         let beside = Beside::Rust(Sets::Tuples);
         compare(&Case::new(N, K, chunks.clone()), beside, make, Look::EachRun)
             .map_err(|what| format!("{name}: {what}"))?;
@@ -62,7 +62,7 @@ pub fn examples(folder: &Path, write: bool, make: Make) -> Result<Vec<String>, S
 fn files(chunks: &[Chunk]) -> Files {
     let tape = chunks.concat();
     let mut rust = Oracle::new(Sets::Tuples);
-    rust.start(words_needed(N, K), N, K);
+    rust.start(words_needed(N, K, NARROW), N, K, NARROW);
     // Command by command, for the listing.
     let mut answered = vec![];
     let mut ran = Ran::default();
@@ -87,7 +87,7 @@ fn files(chunks: &[Chunk]) -> Files {
         "stop {}, {} commands, {} bytes read, {} written\n",
         ran.stop, ran.commands, ran.read, ran.written
     );
-    let listed = [listing(&answered), stop.clone(), columns(&rust)].concat();
+    let listed = [listing(&answered, NARROW), stop.clone(), columns(&rust)].concat();
     let rolled = [stop, roll(&rust)].concat();
     [
         ("tape", tape),

@@ -8,7 +8,8 @@ use crate::reference::{Fault, Reference};
 use crate::rules;
 use crate::side::Side;
 use crate::tape::Run;
-use sparsey::harness::Sets;
+use crate::widths;
+use sparsey::harness::{Sets, WIDTHS};
 use std::panic::{catch_unwind, AssertUnwindSafe};
 
 /// How a fault was found.
@@ -71,6 +72,9 @@ impl Found {
 /// One random case past the Rust, and one under the newer rule, for so many beside the Rust.
 const SHARE: u64 = 20;
 
+/// One fixed case in so many is run at sixteen bytes too.
+const WIDE_IN: usize = 3;
+
 /// A search for one fault under way.
 struct Search<'a> {
     make: Make<'a>,
@@ -117,11 +121,14 @@ impl Search<'_> {
         differ
     }
 
-    /// How many of so many random cases differ.
+    /// How many of so many random cases differ. Each of them is run at one width, in turn.
     fn random(&mut self, seed: u64, cases: u64, beside: Beside) -> usize {
-        let seeds = (0..cases).map(|case| seed.wrapping_mul(0x1_0000_0000).wrapping_add(case));
-        let differ = seeds.filter(|&seed| self.differs(beside, |make| generate::random_case(seed, beside, make)));
-        differ.count()
+        let differs = |case: &u64| {
+            let value_bytes = WIDTHS[(case % 2) as usize];
+            let seed = seed.wrapping_mul(0x1_0000_0000).wrapping_add(*case);
+            self.differs(beside, |make| generate::random_case(seed, value_bytes, beside, make))
+        };
+        (0..cases).filter(differs).count()
     }
 
     /// The names of those of the parts that differ, and of the random cases, of which one is taken for so many.
@@ -134,9 +141,13 @@ impl Search<'_> {
         differ
     }
 
-    /// Whether every two lists of four kinds tell the fault.
+    /// Whether every two lists of four kinds tell the fault, at either width.
     fn lists(&mut self) -> bool {
-        self.parts_somewhere(|make| rules::enumerate(4, &rules::six_layouts(), make))
+        let all = rules::enumerated(true).into_iter();
+        let mut told = all.map(|(width, layouts, value_bytes)| {
+            self.parts_somewhere(|make| rules::enumerate(width, &layouts, value_bytes, make))
+        });
+        told.any(|is_told| is_told)
     }
 
     /// What was found, with the smallest case cut down.
@@ -150,7 +161,7 @@ impl Search<'_> {
     }
 }
 
-/// Whether the comparison of the starts differs, plain or told a rule.
+/// Whether the comparison of the starts differs, plain or told width and rule.
 fn differs_at_start(make: Make) -> bool {
     let starts = || -> Result<(), String> {
         fixed::starts(Beside::Rust(Sets::Staged), make)?;
@@ -164,7 +175,11 @@ fn differs_at_start(make: Make) -> bool {
 pub fn find(fault: Option<Fault>, seed: u64, tried: usize) -> Found {
     let make = &move || Box::new(Reference::with(fault)) as Box<dyn Side>;
     let rust = Beside::Rust(Sets::Staged);
-    let (limits, past, newer) = (fixed::limits(16), past::few(), rules::few());
+    let limits = fixed::at_both(fixed::limits(16), WIDE_IN)
+        .into_iter()
+        .chain(widths::parts());
+    let limits: Vec<Part> = limits.collect();
+    let [past, newer] = [past::few(), rules::few()].map(|parts| fixed::at_both(parts, WIDE_IN));
     let mut search = Search {
         make,
         found: Found {

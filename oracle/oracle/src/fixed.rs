@@ -5,9 +5,10 @@ use crate::compare::{compare, Beside, Difference, Figures, Look, Make, Pair};
 use crate::drafts;
 use crate::past::{self, is_within_reach};
 use crate::rng::Rng;
-use crate::side::Rule;
-use crate::tape::{self, Case, Chunk, Run};
+use crate::side::{Rule, Told};
+use crate::tape::{self, Case, Chunk, Run, WIDE};
 use crate::trays;
+use crate::widths;
 use sparsey::harness::{words_needed, Preset};
 
 /// A name and the cases under it.
@@ -21,6 +22,17 @@ pub fn part(name: &'static str, cases: impl Iterator<Item = Case> + 'static) -> 
         name,
         cases: Box::new(cases),
     }
+}
+
+/// The parts, with one case in so many again at sixteen bytes a value. Which one goes round.
+pub fn at_both(parts: Vec<Part>, every: usize) -> Vec<Part> {
+    let both = move |(place, case): (usize, Case)| {
+        let is_picked = place % every == place / every % every;
+        let wide = is_picked.then(|| case.wide());
+        [case].into_iter().chain(wide)
+    };
+    let widened = |whole: Part| part(whole.name, whole.cases.enumerate().flat_map(both));
+    parts.into_iter().map(widened).collect()
 }
 
 /// Compares the cases of a part.
@@ -53,20 +65,31 @@ pub fn starts(beside: Beside, make: Make) -> Result<Figures, String> {
         return Err(format!("column of no store: Rust {rust}, {name} {other}"));
     }
 
-    start_sizes(&mut pair, &[None])?;
-    start_again(&mut pair)?;
-    Ok(pair.finish())
+    start_sizes(&mut pair, &[None, Some(SIXTEEN)])?;
+    let mut figures = pair.finish();
+    for part in [start_again, |pair: &mut Pair| widths::start_widths(pair, Rule::Older)] {
+        let mut pair = Pair::new(beside, make);
+        part(&mut pair)?;
+        figures.add(&pair.finish());
+    }
+    Ok(figures)
 }
 
+/// Sixteen bytes, under the older rule.
+const SIXTEEN: Told = Told {
+    value_bytes: WIDE,
+    rule: Rule::Older,
+};
+
 /// *start* with every N, K and number of words at a limit, told each of these in turn.
-pub fn start_sizes(pair: &mut Pair, told: &[Option<Rule>]) -> Result<(), String> {
+pub fn start_sizes(pair: &mut Pair, told: &[Option<Told>]) -> Result<(), String> {
     let sizes = [0, 1, 2, 64, 4095, 4096, 4097, usize::MAX].into_iter();
     let sizes = sizes.flat_map(|n| [0, 1, 2, 127, 128, 129, 256, usize::MAX].map(|k| (n, k)));
-    for (n, k) in sizes {
+    for ((n, k), &told) in sizes.flat_map(|size| told.iter().map(move |told| (size, told))) {
         let fits = (1..=4096).contains(&n) && (1..=128).contains(&k);
-        let needed = if fits { words_needed(n, k) } else { 1024 };
-        let lengths = [0, 1, 1023, needed - 1, needed, needed + 5].into_iter();
-        for (words, &told) in lengths.flat_map(|words| told.iter().map(move |told| (words, told))) {
+        let value_bytes = told.unwrap_or_default().value_bytes;
+        let needed = if fits { words_needed(n, k, value_bytes) } else { 1024 };
+        for words in [0, 1, 1023, needed - 1, needed, needed + 5] {
             let number = match fits {
                 false => 1,
                 true if words < needed => 2,
@@ -78,32 +101,35 @@ pub fn start_sizes(pair: &mut Pair, told: &[Option<Rule>]) -> Result<(), String>
     Ok(())
 }
 
-/// A refused start leaves the store, an accepted one makes it empty again.
+/// A refused start leaves the store, an accepted one makes it empty again, of its own width.
 fn start_again(pair: &mut Pair) -> Result<(), String> {
-    for round in 0..4 {
-        let small = words_needed(4, 3);
-        pair.start_number(None, small, 4, 3)?;
+    let wide = Some(SIXTEEN);
+    let told = [None, None, wide, wide, None, wide, None, None];
+    for (round, told) in (0..).zip(told) {
+        let value_bytes = told.unwrap_or_default().value_bytes;
+        let small = words_needed(4, 3, value_bytes);
+        pair.start_number(told, small, 4, 3)?;
         pair.run(&Run::new(vec![tape::tally()]))?;
         pair.state()?;
         // Whose refusal it was, and then another caller, whom the next start forgets.
         let called = [
             vec![tape::hold(9, 9)],
             tape::tallies(),
-            vec![tape::set_caller(3 * round)],
+            vec![tape::set_caller(2 * round)],
         ];
-        pair.run(&Run::new(called.concat()))?;
+        pair.run(&Run::new(called.concat()).at(value_bytes))?;
         let chunks = [
             vec![tape::reg(2), tape::reg(7), tape::bar(2)],
             tape::with(&[2, 7], tape::group()),
         ]
         .concat();
-        pair.run(&Run::new(
-            [chunks, tape::with(&[7], tape::new()), vec![tape::hold(9, 9)]].concat(),
-        ))?;
+        let more = [chunks, tape::with(&[7], tape::new()), vec![tape::hold(9, 9)]];
+        pair.run(&Run::new(more.concat()).at(value_bytes))?;
         pair.state()?;
         if round % 2 == 0 {
-            pair.start_number(None, small - 1, 4, 3)?;
-            pair.start_number(None, small, 4, 0)?;
+            pair.start_number(told, small - 1, 4, 3)?;
+            pair.start_number(told, small, 4, 0)?;
+            pair.start_number(wide, small - 1, 4, 3)?;
             pair.state()?;
             pair.run(&Run::new(vec![tape::apply(), tape::tally()]))?;
         }
@@ -196,6 +222,7 @@ fn full_and_churned() -> impl Iterator<Item = Case> {
             Case {
                 n,
                 k: 6,
+                value_bytes: tape::NARROW,
                 preset: None,
                 runs,
             }
@@ -242,6 +269,7 @@ fn kinds_full(most: usize) -> impl Iterator<Item = Case> {
         Case {
             n: 9,
             k,
+            value_bytes: tape::NARROW,
             preset: None,
             runs,
         }
@@ -284,6 +312,7 @@ fn staged_case(width: u8, which: usize) -> Case {
     Case {
         n: 6,
         k: 20,
+        value_bytes: tape::NARROW,
         preset: None,
         runs,
     }
@@ -340,6 +369,7 @@ fn many_groups_case(groups: &[Vec<u8>], widest: u8) -> Case {
     Case {
         n: 24,
         k: 128,
+        value_bytes: tape::NARROW,
         preset: None,
         runs,
     }
@@ -415,6 +445,7 @@ pub fn family_walks(families: &[Vec<u8>], walked: usize, groups: &[Vec<u8>]) -> 
     Case {
         n: 3,
         k: kinds.len(),
+        value_bytes: tape::NARROW,
         preset: None,
         runs,
     }
@@ -506,6 +537,7 @@ fn chains_in_orders(widest: u8) -> impl Iterator<Item = Case> {
         Case {
             n: 4,
             k: 20,
+            value_bytes: tape::NARROW,
             preset: None,
             runs,
         }
@@ -579,6 +611,7 @@ fn one_more(count: usize) -> impl Iterator<Item = Case> {
         Case {
             n: 1,
             k: 128,
+            value_bytes: tape::NARROW,
             preset: None,
             runs,
         }
@@ -624,6 +657,7 @@ fn limit_case(groups: &[Vec<u8>]) -> Case {
     Case {
         n: 20,
         k: 128,
+        value_bytes: tape::NARROW,
         preset: None,
         runs,
     }
@@ -688,6 +722,7 @@ fn rooms() -> impl Iterator<Item = Case> {
                     Case {
                         n: 2,
                         k: 4,
+                        value_bytes: tape::NARROW,
                         preset: None,
                         runs,
                     }
@@ -768,6 +803,7 @@ fn versions_run_out() -> impl Iterator<Item = Case> {
             Case {
                 n,
                 k: 3,
+                value_bytes: tape::NARROW,
                 preset: Some(preset.clone()),
                 runs,
             }
@@ -926,6 +962,7 @@ fn staged_and_excluded() -> impl Iterator<Item = Case> {
         Case {
             n: 16,
             k: 4,
+            value_bytes: tape::NARROW,
             preset: None,
             runs,
         }
@@ -1028,6 +1065,7 @@ fn words_over(
             Case {
                 n,
                 k,
+                value_bytes: tape::NARROW,
                 preset: None,
                 runs,
             }

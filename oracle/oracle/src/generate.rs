@@ -1,6 +1,7 @@
 //! Random cases: they lean to commands that are accepted, and change layouts while entities exist, remove, destroy
 //! and reuse. Some are damaged, some get too little room, some start where versions or refusal counts run out. One in three
-//! has several callers; the others never meet the command that sets one.
+//! has several callers; the others never meet the command that sets one. At sixteen bytes a value the cases are the same,
+//! with upper bytes drawn apart.
 
 use crate::callers::counts_of_first;
 use crate::compare::{begin, Beside, Difference, Figures, Make, Pair};
@@ -645,6 +646,14 @@ impl<'a> Steps<'a> {
         self.noise();
     }
 
+    /// At sixteen bytes every value gets its upper eight.
+    fn widen(&mut self, value_bytes: usize, uppers: &mut Rng) {
+        if value_bytes == tape::WIDE {
+            let chunks = self.chunks.iter_mut();
+            chunks.for_each(|chunk| *chunk = tape::widened(chunk, |_, _| tape::drawn_upper(uppers)));
+        }
+    }
+
     /// Spoils the run: a byte changed, put in or taken out, or the end cut off.
     fn damage(&mut self) {
         if self.profile.damage == 0 || !self.rng.once_in(self.profile.damage) || self.chunks.is_empty() {
@@ -682,33 +691,36 @@ impl<'a> Steps<'a> {
     }
 }
 
-/// A run for the state that the pair is in.
-fn random_run(rng: &mut Rng, profile: &Profile, pair: &mut Pair) -> Run {
+/// A run for the state that the pair is in, at its width.
+fn random_run(rng: &mut Rng, uppers: &mut Rng, profile: &Profile, pair: &mut Pair) -> Run {
+    let value_bytes = pair.value_bytes();
     if rng.once_in(8) {
-        return pair.range_run();
+        return pair.range_run().at(value_bytes);
     }
     let mut steps = Steps::new(rng, profile, &mut *pair.known);
     for _ in 0..profile.steps {
         steps.step();
     }
+    steps.widen(value_bytes, uppers);
     steps.finish()
 }
 
 /// The first such run that the scout can follow. Damaged bytes set no caller in a case that has none.
-fn next_run(rng: &mut Rng, profile: &Profile, pair: &mut Pair, scout: &mut Scout) -> Run {
+fn next_run(rng: &mut Rng, uppers: &mut Rng, profile: &Profile, pair: &mut Pair, scout: &mut Scout) -> Run {
     loop {
-        let run = random_run(rng, profile, pair);
-        let is_called = profile.callers.is_empty() && tape::sets_caller(&run.tape());
+        let run = random_run(rng, uppers, profile, pair);
+        let is_called = profile.callers.is_empty() && tape::sets_caller(&run.tape(), pair.value_bytes());
         if !is_called && scout.follows(&run) {
             return run;
         }
     }
 }
 
-/// One random case, compared as it grows. `Err` has the case and where the sides part. Beside the Rust no run takes the
-/// draft past its reach. A case with callers ends by asking for all their counts.
-pub fn random_case(seed: u64, beside: Beside, make: Make) -> Result<(Case, Figures), Difference> {
+/// One random case at this width, compared as it grows. `Err` has the case and where the sides part. Beside the Rust no run
+/// takes the draft past its reach. A case with callers ends by asking for all their counts.
+pub fn random_case(seed: u64, value_bytes: usize, beside: Beside, make: Make) -> Result<(Case, Figures), Difference> {
     let (rng, calls) = (&mut Rng::new(seed), &mut Rng::new(!seed));
+    let uppers = &mut Rng::new(seed.rotate_left(32));
     let (profile, n, k) = profile(rng, calls, beside);
     let mut preset = rng.once_in(6).then(|| preset(rng, n));
     if let Some(preset) = &mut preset {
@@ -717,6 +729,7 @@ pub fn random_case(seed: u64, beside: Beside, make: Make) -> Result<(Case, Figur
     let mut case = Case {
         n,
         k,
+        value_bytes,
         preset,
         runs: vec![],
     };
@@ -733,7 +746,7 @@ pub fn random_case(seed: u64, beside: Beside, make: Make) -> Result<(Case, Figur
     for i in 0..=profile.runs {
         pair.step(&case.runs[i], true).map_err(|what| part(&case, what))?;
         if i < profile.runs {
-            case.runs.push(next_run(rng, &profile, &mut pair, &mut scout));
+            case.runs.push(next_run(rng, uppers, &profile, &mut pair, &mut scout));
         }
     }
     if !profile.callers.is_empty() {

@@ -2,14 +2,15 @@
 //! be seen of its words.
 
 use crate::rng::Rng;
-use crate::side::{Rule, Side};
-use crate::tape;
+use crate::side::{Rule, Side, Told};
+use crate::tape::{self, NARROW};
 use crate::words;
-use sparsey::harness::{words_needed, Counts, Families, Id, Preset, Ran, CALLERS};
+use sparsey::harness::{words_needed, Counts, Families, Id, Preset, Ran, CALLERS, WIDTHS};
 use yirbarn::sys;
 
 // The arrangement of the words, for what no entry shows and for presets (docs/WORDS.md).
 const N: usize = 0;
+const K: usize = 1;
 const REGISTERED: usize = 2;
 const DRAFT_FAMILIES: usize = 5;
 const LAYOUT_FAMILIES: usize = 7;
@@ -33,6 +34,24 @@ const NO_CALLERS: [u32; 8] = [16, 17, 31, 255, 256, 1 << 16, 1 << 31, u32::MAX];
 /// What no sound store has in the word of the rule.
 const NO_RULES: [u32; 7] = [2, 3, 255, 256, 1 << 16, 1 << 31, u32::MAX];
 
+/// What no sound store has in the word of the width.
+const NO_WIDTHS: [u32; 14] = [
+    0,
+    1,
+    2,
+    4,
+    7,
+    9,
+    15,
+    17,
+    24,
+    32,
+    256 + 8,
+    (1 << 16) + 16,
+    (1 << 31) + 8,
+    u32::MAX,
+];
+
 /// The number of words that hold no sound store.
 const UNSOUND: u32 = 3;
 
@@ -45,13 +64,15 @@ const FILL: u32 = 0x5a5a_5a5a;
 /// Stores of up to this many words are compared as a whole before and after each entry.
 const WATCHED: usize = 1 << 14;
 
-/// The start that is told a rule, or *start*, on so many of the words.
-fn enter_start(words: &mut [u32], told: Option<Rule>, lent: usize, n: usize, k: usize) -> u8 {
+/// The start that is told width and rule, or *start*, on so many of the words.
+fn enter_start(words: &mut [u32], told: Option<Told>, lent: usize, n: usize, k: usize) -> u8 {
     assert!(lent <= words.len());
     let at = words.as_mut_ptr();
     match told {
         None => unsafe { sys::yirbarn_start(at, lent, n, k) },
-        Some(rule) => unsafe { sys::yirbarn_start_with(at, lent, n, k, rule == Rule::Newer) },
+        Some(Told { value_bytes, rule }) => unsafe {
+            sys::yirbarn_start_with(at, lent, n, k, value_bytes, rule == Rule::Newer)
+        },
     }
 }
 
@@ -115,46 +136,45 @@ impl Linked {
         }
     }
 
-    /// The start that is told a rule, or *start*. The other of the two, under the older rule and on a copy, must do the
-    /// same, word for word, but for the rule.
-    fn start_by(&mut self, told: Option<Rule>, words: usize, n: usize, k: usize) -> u32 {
+    /// The start that is told width and rule, or *start*. The other of the two, at eight bytes and under the older rule and
+    /// on a copy, must do the same, word for word, but for width and rule.
+    fn start_by(&mut self, told: Option<Told>, words: usize, n: usize, k: usize) -> u32 {
         self.reach(words + BEYOND);
         let before = self.words.clone();
         let mut twin = before.clone();
-        let other = told.is_none().then_some(Rule::Older);
+        let other = told.is_none().then(Told::default);
         let number = enter_start(&mut self.words, told, words, n, k);
         let again = enter_start(&mut twin, other, words, n, k);
-        if number != again {
+        let value_bytes = told.unwrap_or_default().value_bytes;
+        // Of another width it is refused where the other is not, and never the other way round.
+        if number != again && (value_bytes == NARROW || number == 0) {
             self.complain(format!("start told {told:?}: {number}, told {other:?}: {again}"));
         }
         if number != 0 {
             self.hold_words(&before, 0, "a refused start");
-            self.hold_words(&twin, 0, "a refused start beside the other");
+            if again != 0 {
+                self.hold_words(&twin, 0, "a refused start beside the other");
+            }
             return u32::from(number);
         }
-        self.hold_twin(twin, told.unwrap_or_default());
-        self.hold_words(&before, words_needed(n, k), "start");
-        self.started(words, n, k);
+        self.hold_twin(twin, told.unwrap_or_default(), n, k);
+        self.hold_words(&before, words_needed(n, k, value_bytes), "start");
+        self.lent = words;
+        self.needed = words_needed(n, k, value_bytes);
         0
     }
 
-    /// Holds the words of a start to those of the other under the older rule.
-    fn hold_twin(&mut self, mut twin: Vec<u32>, rule: Rule) {
-        let older = words::rule_word(Rule::Older);
-        let was = std::mem::replace(&mut twin[words::RULE], words::rule_word(rule));
-        if was != older {
-            self.complain(format!("word {} is {was} under the older rule", words::RULE));
+    /// Holds the words of a start to those of the other, at eight bytes and under the older rule: its own width and rule, and
+    /// zeros in the words that it needs more.
+    fn hold_twin(&mut self, mut twin: Vec<u32>, told: Told, n: usize, k: usize) {
+        let were = (words::value_bytes(&twin), words::rule(&twin));
+        if were != (Some(NARROW), Some(Rule::Older)) {
+            self.complain(format!("a start at eight bytes and under the older rule has {were:?}"));
         }
+        twin[words::RULE] = words::rule_word(told.rule);
+        twin[words::VALUE_BYTES] = told.value_bytes as u32;
+        twin[words_needed(n, k, NARROW)..words_needed(n, k, told.value_bytes)].fill(0);
         self.hold_words(&twin, 0, "a start beside the other");
-    }
-
-    fn started(&mut self, words: usize, n: usize, k: usize) {
-        self.lent = words;
-        self.needed = words_needed(n, k);
-        let needed = unsafe { sys::yirbarn_words_needed(n, k) };
-        if needed != self.needed {
-            self.complain(format!("words needed for N {n}, K {k}: {needed}"));
-        }
     }
 
     /// The entry *run* itself.
@@ -253,11 +273,45 @@ impl Linked {
         }
     }
 
+    /// The two widths are taken as they are, and nothing else is. Of the other width the store may be sound or not, but not
+    /// where the words are too few for it; none of the entries changes a word then.
+    fn probe_widths(&mut self, count: u32) {
+        let own = self.words[words::VALUE_BYTES];
+        self.probe_sound(words::VALUE_BYTES, own, count);
+        for other in WIDTHS.into_iter().filter(|&other| other != own as usize) {
+            match self.lent < words_needed(self.word(N), self.word(K), other) {
+                true => self.probe_unsound(words::VALUE_BYTES, other as u32),
+                false => {
+                    self.entries(words::VALUE_BYTES, other as u32);
+                }
+            }
+        }
+        for word in NO_WIDTHS {
+            self.probe_unsound(words::VALUE_BYTES, word);
+        }
+    }
+
+    /// The bytes of a value by the word; eight where there is no store, or no width.
+    fn width(&self) -> usize {
+        match self.needed {
+            0 => NARROW,
+            _ => words::value_bytes(&self.words).unwrap_or(NARROW),
+        }
+    }
+
+    /// How many words *column* gives for a row.
+    fn row_words(&self, values: bool) -> usize {
+        match values {
+            false => 2,
+            true => self.width() / 4,
+        }
+    }
+
     /// How many bytes the roll takes: a column's rows are counted in its first word.
     fn roll_length(&self) -> usize {
-        let column = |slot: usize| words_needed(self.word(N), slot);
+        let column = |slot: usize| words_needed(self.word(N), slot, self.width());
         let rows: usize = (0..self.word(REGISTERED)).map(|slot| self.word(column(slot))).sum();
-        4 + 9 * self.word(LIVE) + 9 * rows
+        4 + 9 * self.word(LIVE) + (1 + self.width()) * rows
     }
 
     fn word(&self, at: usize) -> usize {
@@ -335,7 +389,7 @@ impl Linked {
         if number != 0 || start == end {
             return;
         }
-        let mut out = vec![FILL; 2 * (end - start) - 1];
+        let mut out = vec![FILL; self.row_words(values) * (end - start) - 1];
         let short = self.copy(kind, values, start, end, &mut out);
         if short != (6, 0) || out.iter().any(|&word| word != FILL) {
             self.complain(format!("short copy of column {kind}, {start}..{end}: {short:?}"));
@@ -352,8 +406,20 @@ impl Side for Linked {
         self.start_by(None, words, n, k)
     }
 
-    fn start_with(&mut self, words: usize, n: usize, k: usize, rule: Rule) -> u32 {
-        self.start_by(Some(rule), words, n, k)
+    fn start_with(&mut self, words: usize, n: usize, k: usize, told: Told) -> u32 {
+        self.start_by(Some(told), words, n, k)
+    }
+
+    /// Those of a width, which at eight bytes are those that plain *start* needs.
+    fn words_needed(&mut self, n: usize, k: usize, value_bytes: usize) -> usize {
+        let needed = unsafe { sys::yirbarn_words_needed_with(n, k, value_bytes) };
+        let plain = unsafe { sys::yirbarn_words_needed(n, k) };
+        if value_bytes == NARROW && needed != plain {
+            self.complain(format!(
+                "words needed for N {n}, K {k}: {needed}, by plain start {plain}"
+            ));
+        }
+        needed
     }
 
     fn preset(&mut self, preset: &Preset) {
@@ -397,7 +463,7 @@ impl Side for Linked {
 
     fn column(&mut self, kind: u8, values: bool, start: usize, end: usize) -> Vec<u32> {
         // A word more than the rows take, which must stay.
-        let mut out = vec![FILL; 2 * end.saturating_sub(start) + 1];
+        let mut out = vec![FILL; self.row_words(values) * end.saturating_sub(start) + 1];
         let (number, len) = self.copy(kind, values, start, end, &mut out);
         let at = unsafe { sys::yirbarn_column_at(self.words.as_ptr(), self.lent, kind, values, start, end) };
         let stays = out.get(len..).is_some_and(|rest| rest.iter().all(|&word| word == FILL));
@@ -465,7 +531,16 @@ impl Side for Linked {
         }
     }
 
-    /// The callers 0 to 15 are taken, each with its count, and others are refused at every entry; and so with the rules.
+    /// The width by its word.
+    fn value_bytes(&mut self) -> Option<usize> {
+        match self.needed {
+            0 => Some(NARROW),
+            _ => words::value_bytes(&self.words),
+        }
+    }
+
+    /// The callers 0 to 15 are taken, each with its count, and others are refused at every entry; and so with the rules and
+    /// the widths.
     fn probe(&mut self) {
         let (caller, refusals) = self.counts();
         for caller in 0..CALLERS {
@@ -475,6 +550,7 @@ impl Side for Linked {
             self.probe_unsound(words::CALLER, caller);
         }
         self.probe_rules(refusals[usize::from(caller)]);
+        self.probe_widths(refusals[usize::from(caller)]);
     }
 
     fn complaint(&mut self) -> Option<String> {

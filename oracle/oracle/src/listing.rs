@@ -1,30 +1,30 @@
 //! Tapes as text, one command a line: read, and written with their bytes and answers.
 
-use crate::tape::{self, Chunk};
+use crate::tape::{self, number, Chunk};
 use std::fmt::Write;
 
 /// The commands of a text. A line is a command as `tape::disassemble` writes it, or `BYTES` and hexadecimal bytes; what
-/// begins with # is for the reader.
-pub fn assemble(text: &str) -> Result<Vec<Chunk>, String> {
+/// begins with # is for the reader. The commands are for a store with values of so many bytes.
+pub fn assemble(text: &str, value_bytes: usize) -> Result<Vec<Chunk>, String> {
     let mut chunks = vec![];
     for (at, line) in text.lines().enumerate() {
         let words: Vec<&str> = line.split_whitespace().collect();
         if words.is_empty() || words[0].starts_with('#') {
             continue;
         }
-        chunks.push(command(&words).ok_or_else(|| format!("line {}: {line}", at + 1))?);
+        chunks.push(command(&words, value_bytes).ok_or_else(|| format!("line {}: {line}", at + 1))?);
     }
     Ok(chunks)
 }
 
-fn command(words: &[&str]) -> Option<Chunk> {
+fn command(words: &[&str], value_bytes: usize) -> Option<Chunk> {
     if let ["BYTES", bytes @ ..] = words {
         return bytes.iter().map(|byte| u8::from_str_radix(byte, 16).ok()).collect();
     }
     let byte = tape::NAMES[1..].iter().position(|&name| name == words[0])? as u8 + 1;
     let bytes = match (byte, &words[1..]) {
         (1 | 11 | 16, [number]) => vec![byte, number.parse().ok()?],
-        (2, [kind, "=", value]) => tape::hold(kind.parse().ok()?, value.parse().ok()?),
+        (2, [kind, "=", value]) => hold(kind.parse().ok()?, value.parse().ok()?, value_bytes)?,
         (4..=7, [index, "version", version]) => tape::with_id(byte, (index.parse().ok()?, version.parse().ok()?)),
         (15, [count]) => tape::tray(count.parse().ok()?),
         (3 | 8..=10 | 12..=14, []) => vec![byte],
@@ -33,27 +33,26 @@ fn command(words: &[&str]) -> Option<Chunk> {
     Some(bytes)
 }
 
+/// HOLD, if the value has no more bytes than a store's.
+fn hold(kind: u8, value: u128, value_bytes: usize) -> Option<Chunk> {
+    let is_short = value.to_le_bytes()[value_bytes..].iter().all(|&byte| byte == 0);
+    is_short.then(|| tape::hold_at(value_bytes, kind, value))
+}
+
 /// Bytes in hexadecimal.
 fn hex(bytes: &[u8]) -> String {
     let bytes: Vec<String> = bytes.iter().map(|byte| format!("{byte:02X}")).collect();
     bytes.join(" ")
 }
 
-fn number(bytes: &[u8]) -> u64 {
-    bytes
-        .iter()
-        .rev()
-        .fold(0, |number, &byte| number << 8 | u64::from(byte))
-}
-
 /// An answer in words.
-fn meaning(byte: u8, answer: &[u8]) -> String {
+fn meaning(byte: u8, answer: &[u8], value_bytes: usize) -> String {
     let told = &answer[1..];
     match (byte, answer[0]) {
         (1, 0) => ["known", "new"][usize::from(told[0])].to_string(),
         (3, 0) => format!("entity {} version {}", number(&told[..4]), number(&told[4..])),
         (5, 0) => {
-            let values = told.chunks(9).map(|told| match told[0] {
+            let values = told.chunks(1 + value_bytes).map(|told| match told[0] {
                 0 => "not held".to_string(),
                 _ => number(&told[1..]).to_string(),
             });
@@ -69,12 +68,12 @@ fn meaning(byte: u8, answer: &[u8]) -> String {
     }
 }
 
-/// Each command with its bytes, and its answer with what it means.
-pub fn listing(answered: &[(Chunk, Vec<u8>)]) -> String {
+/// Each command with its bytes, and its answer with what it means, on a store with values of so many bytes.
+pub fn listing(answered: &[(Chunk, Vec<u8>)], value_bytes: usize) -> String {
     let mut text = String::new();
     for (chunk, answer) in answered {
-        let command = tape::disassemble(chunk).join("");
-        let meaning = meaning(chunk[0], answer);
+        let command = tape::disassemble(chunk, value_bytes).join("");
+        let meaning = meaning(chunk[0], answer, value_bytes);
         writeln!(
             text,
             "{command:<18} {:<30} -> {:<30} {meaning}",

@@ -21,6 +21,7 @@ mod tape;
 #[cfg(test)]
 mod tests;
 mod trays;
+mod widths;
 #[cfg(any(feature = "linked", test))]
 mod words;
 
@@ -29,11 +30,11 @@ use fixed::Part;
 use reference::Reference;
 use rules::Enumerated;
 use side::{Rule, Side};
-use sparsey::harness::{words_needed, Oracle, Preset, Sets};
+use sparsey::harness::{words_needed, Oracle, Preset, Sets, WIDTHS};
 use std::path::Path;
 use std::process::ExitCode;
 use std::time::Instant;
-use tape::{Case, Run};
+use tape::{Case, Run, NARROW};
 
 struct Options {
     seed: u64,
@@ -176,15 +177,20 @@ fn compare_parts(parts: Vec<Part>, beside: Beside, make: Make, since: Instant) -
     Some(figures)
 }
 
-/// One random case, and one in five again with little room. One of the newer rule runs also on stores of both rules.
+/// One random case at both widths, and one in five again with little room. One of the newer rule runs also on stores of both
+/// rules.
 fn compare_random(seed: u64, case: u64, beside: Beside, make: Make) -> Result<Figures, Difference> {
     let seed = seed.wrapping_mul(0x1_0000_0000).wrapping_add(case);
-    let (compared, mut figures) = generate::random_case(seed, beside, make)?;
-    if case % 5 == 4 {
-        figures.add(&generate::tight_case(seed, &compared, beside, make)?);
-    }
-    if beside.rule() == Rule::Newer {
-        rules::same_but_for_ranges(&compared, make).map_err(|what| Difference { case: compared, what })?;
+    let mut figures = Figures::default();
+    for value_bytes in WIDTHS {
+        let (compared, more) = generate::random_case(seed, value_bytes, beside, make)?;
+        figures.add(&more);
+        if case % 5 == 4 {
+            figures.add(&generate::tight_case(seed, &compared, beside, make)?);
+        }
+        if beside.rule() == Rule::Newer {
+            rules::same_but_for_ranges(&compared, make).map_err(|what| Difference { case: compared, what })?;
+        }
     }
     Ok(figures)
 }
@@ -213,6 +219,9 @@ fn compare_randoms(seed: u64, count: u64, beside: fn(u64) -> Beside, make: Make,
     Some(figures)
 }
 
+/// One enumerated case in so many is run at sixteen bytes too, so that the time does not double.
+const WIDE_IN: usize = 8;
+
 /// Everything that is fixed, then random cases until `count` commands of them are compared; then both past the Rust, and
 /// under the newer rule.
 fn compare_everything(options: &Options, make: Make) -> ExitCode {
@@ -237,7 +246,9 @@ fn compare_beside_the_rust(options: &Options, make: Make) -> Option<()> {
         .inspect_err(|what| println!("DIFFERENCE at start: {what}"))
         .ok()?;
     let exhaustive = if options.quick { vec![] } else { fixed::exhaustive() };
-    let parts = fixed::limits(4096).into_iter().chain(exhaustive).collect();
+    let mut parts = fixed::at_both(fixed::limits(4096), 1);
+    parts.extend(widths::parts());
+    parts.extend(fixed::at_both(exhaustive, WIDE_IN));
     fixed.add(&compare_parts(parts, rust, make, since)?);
     let sets = |case| match case % 3 {
         0 => Beside::Rust(Sets::Staged),
@@ -259,7 +270,7 @@ fn compare_beside_the_rust(options: &Options, make: Make) -> Option<()> {
 /// Without the library that is the reference beside itself, and only the definition judges.
 fn compare_past_the_rust(options: &Options, make: Make) -> Option<()> {
     let since = Instant::now();
-    let fixed = compare_parts(past::parts(), Beside::PAST, make, since)?;
+    let fixed = compare_parts(past::at_both(WIDE_IN), Beside::PAST, make, since)?;
     let random = compare_randoms(options.seed, options.past, |_| Beside::PAST, make, since)?;
     println!("past the Rust, fixed: {}", fixed.text());
     println!("past the Rust, random, seed {}: {}", options.seed, random.text());
@@ -279,14 +290,12 @@ fn compare_the_rules(options: &Options, make: Make) -> Option<()> {
     let mut fixed = rules::starts(make)
         .inspect_err(|what| println!("DIFFERENCE at start: {what}"))
         .ok()?;
-    let mut lists = vec![(4, rules::six_layouts())];
-    if !options.quick {
-        lists.push((5, rules::all_layouts(5)));
+    for (width, layouts, value_bytes) in rules::enumerated(options.quick) {
+        fixed.add(&enumerate_lists(width, &layouts, value_bytes, make, since)?.newer);
     }
-    for (width, layouts) in lists {
-        fixed.add(&enumerate_lists(width, &layouts, make, since)?.newer);
-    }
-    fixed.add(&compare_parts(rules::parts(), Beside::NEWER, make, since)?);
+    let mut parts = fixed::at_both(rules::parts(), 1);
+    parts.extend(widths::parts());
+    fixed.add(&compare_parts(parts, Beside::NEWER, make, since)?);
     let random = compare_randoms(options.seed, options.newer, |_| Beside::NEWER, make, since)?;
     println!("newer rule, fixed: {}", fixed.text());
     println!("newer rule, random, seed {}: {}", options.seed, random.text());
@@ -300,11 +309,17 @@ fn compare_the_rules(options: &Options, make: Make) -> Option<()> {
 }
 
 /// RANGE with every two lists on stores of both rules, which must differ somewhere.
-fn enumerate_lists(width: u8, layouts: &[Vec<Vec<u8>>], make: Make, since: Instant) -> Option<Enumerated> {
-    let found = rules::enumerate(width, layouts, make)
+fn enumerate_lists(
+    width: u8,
+    layouts: &[Vec<Vec<u8>>],
+    value_bytes: usize,
+    make: Make,
+    since: Instant,
+) -> Option<Enumerated> {
+    let found = rules::enumerate(width, layouts, value_bytes, make)
         .inspect_err(|(beside, difference)| report(difference, *beside, make))
         .ok()?;
-    println!("{width} kinds: {}", found.text());
+    println!("{width} kinds, {value_bytes} bytes a value: {}", found.text());
     assert!(found.differ > 0, "the rules do not differ");
     progress("every two lists, both rules", &found.newer, since);
     Some(found)
@@ -407,6 +422,7 @@ fn wear(make: Make) -> ExitCode {
     let case = Case {
         n: 2,
         k: 1,
+        value_bytes: NARROW,
         preset: Some(Preset {
             issued: 1,
             recycled: vec![(0, version)],
@@ -416,7 +432,7 @@ fn wear(make: Make) -> ExitCode {
     };
     let mut pair = Pair::start(&case, Beside::Rust(Sets::Tuples), make).unwrap();
     let mut worn = Oracle::new(Sets::Tuples);
-    worn.start(words_needed(2, 1), 2, 1);
+    worn.start(words_needed(2, 1, NARROW), 2, 1, NARROW);
     worn.wear(u64::from(version) - 1);
     pair.known = Box::new(worn);
     let mut chunks = vec![tape::reg(5)];

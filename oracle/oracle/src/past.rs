@@ -8,7 +8,7 @@ use crate::fixed::{
 use crate::reference::Reference;
 use crate::rng::Rng;
 use crate::side::Side;
-use crate::tape::{self, Case, Chunk, Run, OPERANDS};
+use crate::tape::{self, Case, Chunk, Run};
 use crate::trays::TRAYED;
 use sparsey::harness::is_within_reach as can_take;
 
@@ -20,7 +20,9 @@ const APPLY: u8 = 10;
 /// Whether the Rust can follow the case: no layout past its reach is applied.
 pub fn is_within_reach(case: &Case) -> bool {
     let mut side = started(case);
-    case.runs.iter().all(|run| applies_within(&mut side, run))
+    case.runs
+        .iter()
+        .all(|run| applies_within(&mut side, run, case.value_bytes))
 }
 
 fn started(case: &Case) -> Reference {
@@ -29,18 +31,21 @@ fn started(case: &Case) -> Reference {
     side
 }
 
+/// The longest answer: that of TAKE with 16 kinds and sixteen bytes a value.
+const LONGEST: usize = 1 + 16 * 17;
+
 /// The run, command by command, until one applies a layout past the Rust's reach.
-fn applies_within(side: &mut Reference, run: &Run) -> bool {
-    let tape = run.tape();
+fn applies_within(side: &mut Reference, run: &Run, value_bytes: usize) -> bool {
+    let bytes = run.tape();
     let (mut read, mut room) = (0, run.room);
-    while read < tape.len() {
-        if tape[read] == APPLY && !can_take(&side.families()[0]) {
+    while read < bytes.len() {
+        if bytes[read] == APPLY && !can_take(&side.families()[0]) {
             return false;
         }
-        let operands = OPERANDS.get(usize::from(tape[read])).copied().unwrap_or(0);
-        let end = tape.len().min(read + 1 + operands);
-        let mut out = [0; 256];
-        let ran = side.run(&tape[read..end], &mut out[..room.min(256)]);
+        let operands = tape::operands(bytes[read], value_bytes).unwrap_or(0);
+        let end = bytes.len().min(read + 1 + operands);
+        let mut out = [0; LONGEST];
+        let ran = side.run(&bytes[read..end], &mut out[..room.min(LONGEST)]);
         if ran.stop != 0 {
             break;
         }
@@ -54,12 +59,14 @@ fn applies_within(side: &mut Reference, run: &Run) -> bool {
 pub struct Scout {
     /// None where the case may go past it.
     side: Option<Reference>,
+    value_bytes: usize,
 }
 
 impl Scout {
     pub fn start(case: &Case, beside: Beside) -> Self {
         Self {
             side: beside.is_rust().then(|| started(case)),
+            value_bytes: case.value_bytes,
         }
     }
 
@@ -67,7 +74,7 @@ impl Scout {
     pub fn follows(&mut self, run: &Run) -> bool {
         let Some(side) = &self.side else { return true };
         let mut ahead = side.clone();
-        let follows = applies_within(&mut ahead, run) && can_take(&ahead.families()[0]);
+        let follows = applies_within(&mut ahead, run, self.value_bytes) && can_take(&ahead.families()[0]);
         if follows {
             self.side = Some(ahead);
         }
@@ -75,10 +82,20 @@ impl Scout {
     }
 }
 
+/// The name of the largest part.
+const ALL_CHAINS: &str = "all chains through 16 kinds";
+
+/// All parts at both widths; of all chains one in so many at sixteen bytes.
+pub fn at_both(every: usize) -> Vec<Part> {
+    let (chains, others) = parts().into_iter().partition(|part| part.name == ALL_CHAINS);
+    let (chains, others) = (fixed::at_both(chains, every), fixed::at_both(others, 1));
+    chains.into_iter().chain(others).collect()
+}
+
 /// All parts.
 pub fn parts() -> Vec<Part> {
     let mut parts = vec![
-        part("all chains through 16 kinds", all_chains()),
+        part(ALL_CHAINS, all_chains()),
         part("chains of few groups through 16 kinds", few_chains()),
         part("walks through position 63", walks()),
         part("drafts of 62 to 64 groups", drafts()),
@@ -99,7 +116,7 @@ pub fn few() -> Vec<Part> {
 pub fn thinned(chains: usize, few_groups: usize, others: usize) -> Vec<Part> {
     let thin = |whole: Part| {
         let every = match whole.name {
-            "all chains through 16 kinds" => chains,
+            ALL_CHAINS => chains,
             "chains of few groups through 16 kinds" | "trays through 16 kinds" => few_groups,
             "16 staged, then a group" => 1,
             _ => others,
@@ -169,6 +186,7 @@ fn all_chains() -> impl Iterator<Item = Case> {
         Case {
             n: 6,
             k: MOST_KINDS.into(),
+            value_bytes: tape::NARROW,
             preset: None,
             runs: vec![
                 run_of(first.concat()),
@@ -207,6 +225,7 @@ fn few_chains() -> impl Iterator<Item = Case> {
         Case {
             n: count as usize,
             k: usize::from(MOST_KINDS) + 1,
+            value_bytes: tape::NARROW,
             preset: None,
             runs,
         }
@@ -375,6 +394,7 @@ fn draft_case(groups: &[Vec<u8>], first: usize) -> Case {
     Case {
         n: 2,
         k: ALL_KINDS.into(),
+        value_bytes: tape::NARROW,
         preset: None,
         runs,
     }
@@ -415,6 +435,7 @@ fn relayout_case(one: &[Chunk], other: &[Chunk], seed: u64) -> Case {
     Case {
         n: 5,
         k: ALL_KINDS.into(),
+        value_bytes: tape::NARROW,
         preset: None,
         runs,
     }
@@ -464,6 +485,7 @@ fn chain_trays() -> impl Iterator<Item = Case> {
         Case {
             n: 12,
             k: MOST_KINDS.into(),
+            value_bytes: tape::NARROW,
             preset: None,
             runs: runs.into_iter().map(run_of).collect(),
         }
@@ -506,6 +528,7 @@ fn group_tray_case(layout: &Layout) -> Case {
     Case {
         n: 20,
         k: ALL_KINDS.into(),
+        value_bytes: tape::NARROW,
         preset: None,
         runs,
     }

@@ -5,11 +5,12 @@ use crate::compare::Beside;
 use crate::fixed;
 use crate::generate;
 use crate::reference::Reference;
-use crate::side::Side;
-use crate::tape::{self, Case, Run};
-use sparsey::harness::{is_within_reach, words_needed, Oracle, Sets};
+use crate::side::{Side, Told};
+use crate::tape::{self, Case, Run, NARROW, WIDE};
+use crate::widths;
+use sparsey::harness::{is_within_reach, words_needed, Oracle, Sets, WIDTHS};
 
-const MAGIC: &[u8; 8] = b"TAPES 1\n";
+const MAGIC: &[u8; 8] = b"TAPES 2\n";
 
 /// The most that a recorded case needs, so that a program can replay it in fixed buffers.
 pub const MOST_WORDS: usize = 8192;
@@ -20,15 +21,17 @@ pub const MOST_ROLL: usize = 4096;
 /// The case with what the Rust answered, or nothing if it is too large to be recorded, or if its draft goes past the Rust's
 /// reach, where the harness answers alone.
 fn recorded(case: &Case) -> Option<Vec<u8>> {
-    if case.preset.is_some() || words_needed(case.n, case.k) > MOST_WORDS || case.runs.len() > 255 {
+    let value_bytes = case.value_bytes;
+    let needed = words_needed(case.n, case.k, value_bytes);
+    if case.preset.is_some() || needed > MOST_WORDS || case.runs.len() > 255 {
         return None;
     }
     let mut rust = Oracle::new(Sets::Staged);
-    rust.start(MOST_WORDS, case.n, case.k);
+    rust.start(MOST_WORDS, case.n, case.k, value_bytes);
 
     let mut bytes = vec![];
     bytes.extend((case.n as u16).to_le_bytes());
-    bytes.extend([case.k as u8, case.runs.len() as u8]);
+    bytes.extend([case.k as u8, value_bytes as u8, case.runs.len() as u8]);
     for run in &case.runs {
         let (tape, room) = (run.tape(), run.room.min(MOST_ROOM));
         if tape.len() > MOST_TAPE {
@@ -119,6 +122,7 @@ pub fn examples() -> Vec<Case> {
     let marked = Case {
         n: 8,
         k: 6,
+        value_bytes: NARROW,
         preset: None,
         runs,
     };
@@ -147,11 +151,49 @@ pub fn examples() -> Vec<Case> {
     vec![marked, killed, Case::new(64, 8, written)]
 }
 
-/// The file: the examples, cases at the limits, and random cases until it has `budget` bytes.
-pub fn write(seed: u64, budget: usize) -> Vec<u8> {
+/// Random cases of either width have fewer bytes than these.
+fn most_bytes(value_bytes: usize) -> usize {
+    match value_bytes {
+        NARROW => 1500,
+        _ => 2100,
+    }
+}
+
+/// A random case, at one width or the other in turn, if it is small.
+fn random(seed: u64, number: u64) -> Option<Vec<u8>> {
     let make = &|| Box::new(Reference::new()) as Box<dyn Side>;
+    let seed = seed.wrapping_mul(0x1_0000_0000).wrapping_add(number);
+    let value_bytes = WIDTHS[(number % 2) as usize];
+    let (case, _) = generate::random_case(seed, value_bytes, Beside::Rust(Sets::Staged), make)
+        .unwrap_or_else(|difference| panic!("{}", difference.text()));
+    recorded(&case).filter(|bytes| bytes.len() < most_bytes(value_bytes))
+}
+
+/// Every other case at sixteen bytes, if that can be recorded.
+fn in_turn((place, case): (usize, Case)) -> Option<Vec<u8>> {
+    let wide = (place % 2 == 1).then(|| recorded(&case.wide())).flatten();
+    wide.or_else(|| recorded(&case))
+}
+
+/// A few of the cases that go by the width.
+fn at_both_widths() -> impl Iterator<Item = Vec<u8>> {
+    let every = |name: &str| match name {
+        "the same roll at both widths" => 1,
+        "values of every shape, both widths" => 37,
+        "HOLD cut short, both widths" => 29,
+        _ => 179,
+    };
+    let parts = widths::parts().into_iter();
+    let cases = parts.flat_map(move |part| part.cases.step_by(every(part.name)));
+    cases.filter_map(|case| recorded(&case))
+}
+
+/// The file: the examples at both widths, cases at the limits, and random cases until it has `budget` bytes.
+pub fn write(seed: u64, budget: usize) -> Vec<u8> {
     let mut cases: Vec<Vec<u8>> = vec![];
     cases.extend(examples().iter().filter_map(recorded));
+    cases.extend(examples().iter().filter_map(|case| recorded(&case.wide())));
+    cases.extend(at_both_widths());
     for part in fixed::limits(16) {
         // Of the many that differ little, a few.
         let (first, every) = match part.name {
@@ -169,15 +211,12 @@ pub fn write(seed: u64, budget: usize) -> Vec<u8> {
             // Long, and a random case or two has the like, but for the walks above position 32.
             _ => (0, usize::MAX),
         };
-        cases.extend(part.cases.skip(first).step_by(every).filter_map(|case| recorded(&case)));
+        let picked = part.cases.skip(first).step_by(every).enumerate();
+        cases.extend(picked.filter_map(in_turn));
     }
-    let mut random = 0;
+    let mut numbers = 0..;
     while cases.iter().map(Vec::len).sum::<usize>() < budget {
-        let seed = seed.wrapping_mul(0x1_0000_0000).wrapping_add(random);
-        random += 1;
-        let (case, _) = generate::random_case(seed, Beside::Rust(Sets::Staged), make)
-            .unwrap_or_else(|difference| panic!("{}", difference.text()));
-        cases.extend(recorded(&case).filter(|bytes| bytes.len() < 1500));
+        cases.extend(numbers.next().and_then(|number| random(seed, number)));
     }
 
     let mut file = MAGIC.to_vec();
@@ -208,6 +247,8 @@ impl<'a> Bytes<'a> {
 #[derive(Clone, Copy, PartialEq, Eq, Default, Debug)]
 pub struct Replayed {
     pub cases: usize,
+    /// Those with sixteen bytes a value.
+    pub wide: usize,
     pub runs: usize,
     pub commands: usize,
     pub rows: usize,
@@ -231,9 +272,10 @@ pub fn replay(file: &[u8], make: &dyn Fn() -> Box<dyn Side>) -> Replayed {
 }
 
 fn replay_case(bytes: &mut Bytes, side: &mut dyn Side, replayed: &mut Replayed) -> bool {
-    let (n, k, runs) = (bytes.number(2), bytes.number(1), bytes.number(1));
-    let mut agree = side.start(MOST_WORDS, n, k) == 0;
-    for _ in 0..runs {
+    let (n, k, value_bytes) = (bytes.number(2), bytes.number(1), bytes.number(1));
+    replayed.wide += usize::from(value_bytes == WIDE);
+    let mut agree = side.start_told(Told::by(value_bytes, None), MOST_WORDS, n, k) == 0;
+    for _ in 0..bytes.number(1) {
         let (length, room) = (bytes.number(2), bytes.number(2));
         let tape = bytes.take(length);
         let expected = [bytes.number(1), bytes.number(2), bytes.number(2), bytes.number(2)];
@@ -252,8 +294,9 @@ fn replay_case(bytes: &mut Bytes, side: &mut dyn Side, replayed: &mut Replayed) 
     for _ in 0..bytes.number(1) {
         let (kind, length) = (bytes.number(1) as u8, bytes.number(2));
         for values in [false, true] {
+            let row = if values { value_bytes } else { 8 };
             let expected: Vec<u32> = bytes
-                .take(8 * length)
+                .take(row * length)
                 .chunks(4)
                 .map(|word| Bytes(word).number(4) as u32)
                 .collect();

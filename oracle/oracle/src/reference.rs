@@ -1,7 +1,7 @@
 //! Documents 01 and 02 again, in plain lists: no sparse sets, no masks, every lookup a search. It is written after the
 //! papers' definitions and shares no code with the harness. A fault can be switched on, to see whether the comparison finds it.
 
-use crate::side::{Known, Ranged, Rule, Seen, Side};
+use crate::side::{Known, Ranged, Rule, Seen, Side, Told};
 use sparsey::harness::{Counts, Families, Id, Preset, Ran};
 use std::collections::{BTreeMap, BTreeSet, VecDeque};
 
@@ -195,11 +195,50 @@ faults! {
     StartAlwaysOlder: "a start takes the older rule, whatever it is told",
     PlainStartNewer: "a start that is told no rule takes the newer",
     RefusedStartSetsRule: "a refused start sets the rule that it is told",
+    TakeOtherLength: "TAKE answers at the other width's length",
+    TakeNoneEight: "TAKE answers eight zeros for a kind that is not held, at either width",
+    TakeRoomNine: "NOROOM of TAKE goes by nine bytes a kind, at either width",
+    TakeRoomSeventeen: "NOROOM of TAKE goes by 17 bytes a kind, at either width",
+    TakeUpperFirst: "TAKE answers a value's upper eight bytes first",
+    HoldCutAtNine: "HOLD takes nine operand bytes, at either width",
+    HoldCutAtSeventeen: "HOLD takes 17 operand bytes, at either width",
+    UpperWordsLost: "HOLD loses a value's third and fourth word",
+    ThirdWordTwice: "HOLD puts a value's third word in the fourth's place too",
+    SwapsLowerWords: "walks swap the first two words of a value only",
+    GapLowerWords: "a removed row's gap is closed with the first two words of a value only",
+    ReplaceLowerWords: "inserting a held kind keeps the old value's third and fourth word",
+    TrayLowerWords: "TRAY gives a value's third and fourth word to its first entity only",
+    ColumnTwoWords: "*column* has two words a value, at either width",
+    ColumnUpperFirst: "*column* has a value's upper words first",
+    RollEight: "the roll has eight bytes a value, at either width",
+    RollUpperFirst: "the roll has a value's upper eight bytes first",
+    WidthInRoll: "the roll of a store of sixteen bytes has a byte more",
+    WidthNotKept: "a store of sixteen bytes acts as one of eight",
+    WidthOfRun: "the width is forgotten at the end of a run",
+    RefusalForgetsWidth: "a refused command forgets the width",
+    WipeForgetsWidth: "WIPE forgets the width",
+    ApplyForgetsWidth: "APPLY forgets the width",
+    StartKeepsSixteen: "a second start keeps a width of sixteen",
+    StartKeepsEight: "a second start keeps a width of eight",
+    PlainStartSixteen: "a start that is told no width takes sixteen",
+    RefusedStartSetsWidth: "a refused start sets the width that it is told",
+    WidthUnchecked: "a start accepts every width from 8 on",
+    WidthsBetween: "a start accepts the widths between 8 and 16",
+    NoWidthIsEight: "a start takes width 0 for 8",
+    WidthFolded: "a start takes a width by its lower 32 bits",
+    ShortBeforeWidth: "a start says that words are too few before it looks at the width",
+    NeededBySix: "words needed go by six words a row, at either width",
+    NeededByEight: "words needed go by eight words a row, at either width",
+    NeededUnchecked: "words needed are told for every width",
 }
 
 const MOST_KINDS: usize = 16;
 const MOST_GROUPS: usize = 64;
 const CALLERS: usize = 16;
+
+/// The two widths, in bytes of a value.
+const EIGHT: usize = 8;
+const SIXTEEN: usize = 16;
 
 /// The refusal of a caller that is none.
 const NO_CALLER: u8 = 0x13;
@@ -215,7 +254,12 @@ const OTHERS: usize = 4;
 #[derive(Clone, Debug)]
 struct Row {
     entity: Id,
-    value: u64,
+    value: u128,
+}
+
+/// The first two words of one value, and the third and fourth of another.
+fn mixed(lower: u128, upper: u128) -> u128 {
+    lower % (1 << 64) + (upper >> 64 << 64)
 }
 
 /// A chain of groups: group g has the kinds of the rings up to its own.
@@ -276,6 +320,8 @@ struct Store {
     rule: Rule,
     n: usize,
     k: usize,
+    /// The bytes of a value.
+    value_bytes: usize,
     live: Vec<Id>,
     recycled: VecDeque<Id>,
     issued: usize,
@@ -283,7 +329,7 @@ struct Store {
     columns: BTreeMap<u8, Vec<Row>>,
     layout: Vec<Family>,
     draft: Vec<Family>,
-    staged: Vec<(u8, u64)>,
+    staged: Vec<(u8, u128)>,
     excluded: Vec<u8>,
     caller: u8,
     /// The caller set last, which a fault makes the caller at the end of the run only.
@@ -336,12 +382,57 @@ impl Reference {
         }
     }
 
+    /// The width after a start: the one told, but for faults.
+    fn started_width(&self, told: usize) -> usize {
+        let before = self.store.as_ref().map(|store| store.value_bytes);
+        match self.fault {
+            Some(Fault::StartKeepsSixteen) if before == Some(SIXTEEN) => SIXTEEN,
+            Some(Fault::StartKeepsEight) if before == Some(EIGHT) => EIGHT,
+            Some(Fault::WidthNotKept) => EIGHT,
+            Some(Fault::NoWidthIsEight) if told == 0 => EIGHT,
+            Some(Fault::WidthFolded) => told % (1 << 32),
+            _ if told == EIGHT => EIGHT,
+            _ => SIXTEEN,
+        }
+    }
+
     /// A refused start leaves all as it is.
-    fn refused_start(&mut self, number: u32, told: Rule) -> u32 {
-        if let (Some(Fault::RefusedStartSetsRule), Some(store)) = (self.fault, &mut self.store) {
-            store.rule = told;
+    fn refused_start(&mut self, number: u32, told: Told) -> u32 {
+        match (self.fault, &mut self.store) {
+            (Some(Fault::RefusedStartSetsRule), Some(store)) => store.rule = told.rule,
+            (Some(Fault::RefusedStartSetsWidth), Some(store)) => {
+                store.value_bytes = if told.value_bytes == EIGHT { EIGHT } else { SIXTEEN };
+            }
+            _ => {}
         }
         number
+    }
+
+    /// Whether there is such a store, but for its width.
+    fn has_size(n: usize, k: usize) -> bool {
+        n >= 1 && n <= 4096 && k >= 1 && k <= 128
+    }
+
+    /// Whether a store may have the width: 8 or 16.
+    fn is_width(&self, value_bytes: usize) -> bool {
+        match self.fault {
+            Some(Fault::WidthUnchecked) => value_bytes >= EIGHT,
+            Some(Fault::WidthsBetween) => value_bytes >= EIGHT && value_bytes <= SIXTEEN,
+            Some(Fault::NoWidthIsEight) if value_bytes == 0 => true,
+            Some(Fault::WidthFolded) => [EIGHT, SIXTEEN].contains(&(value_bytes % (1 << 32))),
+            _ => value_bytes == EIGHT || value_bytes == SIXTEEN,
+        }
+    }
+
+    /// How many words such a store needs.
+    fn needed(&self, n: usize, k: usize, value_bytes: usize) -> usize {
+        let a_row = match self.fault {
+            Some(Fault::NeededBySix) => 6,
+            Some(Fault::NeededByEight) => 8,
+            _ if value_bytes == SIXTEEN => 8,
+            _ => 6,
+        };
+        1024 + 16 * n + k * (8 + a_row * n)
     }
 }
 
@@ -351,26 +442,32 @@ impl Side for Reference {
     }
 
     fn start(&mut self, words: usize, n: usize, k: usize) -> u32 {
-        let rule = match self.fault {
-            Some(Fault::PlainStartNewer) => Rule::Newer,
-            _ => Rule::Older,
+        let (value_bytes, rule) = match self.fault {
+            Some(Fault::PlainStartNewer) => (EIGHT, Rule::Newer),
+            Some(Fault::PlainStartSixteen) => (SIXTEEN, Rule::Older),
+            _ => (EIGHT, Rule::Older),
         };
-        self.start_with(words, n, k, rule)
+        self.start_with(words, n, k, Told { value_bytes, rule })
     }
 
-    fn start_with(&mut self, words: usize, n: usize, k: usize, rule: Rule) -> u32 {
-        if n < 1 || n > 4096 || k < 1 || k > 128 {
-            return self.refused_start(1, rule);
+    fn start_with(&mut self, words: usize, n: usize, k: usize, told: Told) -> u32 {
+        let is_short = Self::has_size(n, k) && words < self.needed(n, k, told.value_bytes);
+        if is_short && self.fault == Some(Fault::ShortBeforeWidth) {
+            return self.refused_start(2, told);
         }
-        if words < 1024 + 16 * n + k * (8 + 6 * n) {
-            return self.refused_start(2, rule);
+        if !Self::has_size(n, k) || !self.is_width(told.value_bytes) {
+            return self.refused_start(1, told);
+        }
+        if is_short {
+            return self.refused_start(2, told);
         }
         let (caller, refusals) = self.started_counts();
         self.store = Some(Store {
             fault: self.fault,
-            rule: self.started_rule(rule),
+            rule: self.started_rule(told.rule),
             n,
             k,
+            value_bytes: self.started_width(told.value_bytes),
             live: vec![],
             recycled: VecDeque::new(),
             issued: 0,
@@ -388,6 +485,14 @@ impl Side for Reference {
             ranged: Ranged::default(),
         });
         0
+    }
+
+    fn words_needed(&mut self, n: usize, k: usize, value_bytes: usize) -> usize {
+        let is_width = self.is_width(value_bytes) || self.fault == Some(Fault::NeededUnchecked);
+        match Self::has_size(n, k) && is_width {
+            true => self.needed(n, k, value_bytes),
+            false => 0,
+        }
     }
 
     fn preset(&mut self, preset: &Preset) {
@@ -414,11 +519,12 @@ impl Side for Reference {
         if self.column_number(kind, values, start, end) != 0 {
             return vec![];
         }
+        let store = self.store.as_ref().unwrap();
         let mut words = vec![];
-        for row in &self.store.as_ref().unwrap().columns[&kind][start..end] {
+        for row in &store.columns[&kind][start..end] {
             match values {
                 false => words.extend([row.entity.0, row.entity.1]),
-                true => words.extend([row.value as u32, (row.value >> 32) as u32]),
+                true => words.extend(store.value_words(row.value)),
             }
         }
         words
@@ -462,6 +568,10 @@ impl Side for Reference {
     fn rule(&mut self) -> Option<Rule> {
         Some(self.store.as_ref().map_or(Rule::Older, |store| store.rule))
     }
+
+    fn value_bytes(&mut self) -> Option<usize> {
+        Some(self.store.as_ref().map_or(EIGHT, |store| store.value_bytes))
+    }
 }
 
 impl Known for Reference {
@@ -487,22 +597,11 @@ impl Known for Reference {
     }
 }
 
-/// Operand bytes by command byte.
-fn width(byte: u8) -> usize {
-    match byte {
-        0x01 | 0x0b | 0x10 => 1,
-        0x02 => 9,
-        0x04 | 0x05 | 0x06 | 0x07 => 8,
-        0x0f => 2,
-        _ => 0,
-    }
-}
-
-fn number(bytes: &[u8]) -> u64 {
+fn number(bytes: &[u8]) -> u128 {
     bytes
         .iter()
         .rev()
-        .fold(0, |number, &byte| number * 256 + u64::from(byte))
+        .fold(0, |number, &byte| number * 256 + u128::from(byte))
 }
 
 type Answer = Result<Vec<u8>, u8>;
@@ -510,6 +609,42 @@ type Answer = Result<Vec<u8>, u8>;
 impl Store {
     fn has(&self, fault: Fault) -> bool {
         self.fault == Some(fault)
+    }
+
+    /// Operand bytes by command byte.
+    fn operands(&self, byte: u8) -> usize {
+        match byte {
+            0x01 | 0x0b | 0x10 => 1,
+            0x02 if self.has(Fault::HoldCutAtNine) => 9,
+            0x02 if self.has(Fault::HoldCutAtSeventeen) => 17,
+            0x02 => 1 + self.value_bytes,
+            0x04 | 0x05 | 0x06 | 0x07 => 8,
+            0x0f => 2,
+            _ => 0,
+        }
+    }
+
+    /// A value as it is told; with the fault the upper eight bytes of sixteen come first.
+    fn told(&self, value: u128, upper_first: Fault) -> u128 {
+        match self.has(upper_first) && self.value_bytes == SIXTEEN {
+            true => value.rotate_left(64),
+            false => value,
+        }
+    }
+
+    /// How many bytes of a value are told; with the fault eight.
+    fn told_bytes(&self, eight: Fault) -> usize {
+        match self.has(eight) {
+            true => EIGHT,
+            false => self.value_bytes,
+        }
+    }
+
+    /// The words of a value, the lowest first.
+    fn value_words(&self, value: u128) -> impl Iterator<Item = u32> {
+        let value = self.told(value, Fault::ColumnUpperFirst);
+        let words = self.told_bytes(Fault::ColumnTwoWords) / 4;
+        (0..words).map(move |word| (value >> (32 * word)) as u32)
     }
 
     fn run(&mut self, tape: &[u8], out: &mut [u8]) -> Ran {
@@ -521,6 +656,7 @@ impl Store {
             _ => {}
         }
         self.forget_rule(Fault::RuleOfRun);
+        self.forget_width(Fault::WidthOfRun);
         ran
     }
 
@@ -542,7 +678,7 @@ impl Store {
                 ran.stop = stop.max(u32::from(self.has(Fault::StopAtOnce)) * 4);
                 return ran;
             }
-            let (byte, width) = (rest[0], width(rest[0]));
+            let (byte, width) = (rest[0], self.operands(rest[0]));
             let answer = self.answer(byte, &rest[1..1 + width]);
             self.seen[usize::from(byte)][usize::from(answer[0])] += 1;
             out[ran.written..ran.written + answer.len()].copy_from_slice(&answer);
@@ -561,12 +697,15 @@ impl Store {
                 false => 4,
             };
         }
-        if rest.len() < 1 + width(rest[0]) {
+        let width = self.operands(rest[0]);
+        if rest.len() < 1 + width {
             return 5;
         }
-        let needed = match self.has(Fault::RoomByAnswerGiven) {
-            true => self.clone().answer(rest[0], &rest[1..1 + width(rest[0])]).len(),
-            false => self.accepted_length(rest[0]),
+        let needed = match (self.fault, rest[0]) {
+            (Some(Fault::RoomByAnswerGiven), byte) => self.clone().answer(byte, &rest[1..1 + width]).len(),
+            (Some(Fault::TakeRoomNine), 0x05) => 1 + 9 * self.staged.len(),
+            (Some(Fault::TakeRoomSeventeen), 0x05) => 1 + 17 * self.staged.len(),
+            (_, byte) => self.accepted_length(byte),
         };
         match free < needed {
             true => 6,
@@ -579,13 +718,21 @@ impl Store {
         1 + match byte {
             0x01 => 1,
             0x03 => 8,
-            0x05 => 9 * self.staged.len(),
+            0x05 => (1 + self.taken_bytes()) * self.staged.len(),
             0x09 => 1,
             0x0c => 9,
             0x0e => 4,
             0x0f => 2,
             0x10 if self.has(Fault::SetCallerTellsBefore) => 1,
             _ => 0,
+        }
+    }
+
+    /// The bytes of a value that TAKE answers.
+    fn taken_bytes(&self) -> usize {
+        match self.has(Fault::TakeOtherLength) {
+            true => EIGHT + SIXTEEN - self.value_bytes,
+            false => self.value_bytes,
         }
     }
 
@@ -630,6 +777,7 @@ impl Store {
             _ => {}
         }
         self.forget_rule(Fault::RefusalForgetsRule);
+        self.forget_width(Fault::RefusalForgetsWidth);
     }
 
     /// One more, unless it is the last number.
@@ -708,6 +856,13 @@ impl Store {
         }
     }
 
+    /// The width is eight bytes, where there is the fault.
+    fn forget_width(&mut self, fault: Fault) {
+        if self.has(fault) {
+            self.value_bytes = EIGHT;
+        }
+    }
+
     fn command(&mut self, byte: u8, operands: &[u8]) -> Answer {
         let entity = || (number(&operands[..4]) as u32, number(&operands[4..]) as u32);
         match byte {
@@ -745,7 +900,7 @@ impl Store {
         Ok(vec![u8::from(!known)])
     }
 
-    fn stage(&mut self, kind: u8, value: u64) -> Answer {
+    fn stage(&mut self, kind: u8, value: u128) -> Answer {
         if kind > 127 || !self.registered.contains(&kind) {
             return Err(7);
         }
@@ -755,8 +910,17 @@ impl Store {
         if self.staged.len() == if self.has(Fault::FifteenStaged) { 15 } else { MOST_KINDS } {
             return Err(10);
         }
-        self.staged.push((kind, value));
+        self.staged.push((kind, self.held(value)));
         Ok(vec![])
+    }
+
+    /// A value as it is kept, but for faults.
+    fn held(&self, value: u128) -> u128 {
+        match self.fault {
+            Some(Fault::UpperWordsLost) => mixed(value, 0),
+            Some(Fault::ThirdWordTwice) => value % (1 << 96) + (value >> 64 << 96),
+            _ => value,
+        }
     }
 
     fn exclude(&mut self, kind: u8) -> Answer {
@@ -796,9 +960,15 @@ impl Store {
     }
 
     fn swap(&mut self, kind: u8, a: usize, b: usize) {
+        let is_half = self.has(Fault::SwapsLowerWords);
         let rows = self.columns.get_mut(&kind).unwrap();
         if a < rows.len() && b < rows.len() {
+            let (one, other) = (rows[a].value, rows[b].value);
             rows.swap(a, b);
+            if is_half {
+                rows[a].value = mixed(other, one);
+                rows[b].value = mixed(one, other);
+            }
         }
     }
 
@@ -904,11 +1074,15 @@ impl Store {
     }
 
     /// NEW so many times, each time with these components.
-    fn news(&mut self, count: usize, staged: &[(u8, u64)]) {
+    fn news(&mut self, count: usize, staged: &[(u8, u128)]) {
         for i in 0..count {
             self.staged = staged.to_vec();
-            if i > 0 && self.has(Fault::TrayValuesOnce) {
-                self.staged.iter_mut().for_each(|held| held.1 = 0);
+            match self.fault {
+                Some(Fault::TrayValuesOnce) if i > 0 => self.staged.iter_mut().for_each(|held| held.1 = 0),
+                Some(Fault::TrayLowerWords) if i > 0 => {
+                    self.staged.iter_mut().for_each(|held| held.1 = mixed(held.1, 0));
+                }
+                _ => {}
             }
             let entity = match self.has(Fault::TrayNewFirst) && self.issued < self.n {
                 true => self.new_index(),
@@ -938,7 +1112,7 @@ impl Store {
     }
 
     /// All insertions first, and then grouping that has a fault.
-    fn extend(&mut self, count: usize, staged: &[(u8, u64)]) {
+    fn extend(&mut self, count: usize, staged: &[(u8, u128)]) {
         let mut made: Vec<Id> = (0..count).map(|_| self.issue()).collect();
         made.iter().for_each(|&entity| self.insert_rows(entity, staged));
         let mut touching = staged;
@@ -970,16 +1144,18 @@ impl Store {
         self.enter_touched(entity, &staged);
     }
 
-    fn insert_rows(&mut self, entity: Id, staged: &[(u8, u64)]) {
+    fn insert_rows(&mut self, entity: Id, staged: &[(u8, u128)]) {
         for &(kind, value) in staged {
             let held = self.place(kind, entity);
             let (appends, keeps) = (self.has(Fault::ReplaceAppends), self.has(Fault::ReplaceKeepsValue));
+            let is_half = self.has(Fault::ReplaceLowerWords);
             let rows = self.columns.get_mut(&kind).unwrap();
             match held {
                 Some(place) if appends => {
                     rows.remove(place);
                     rows.push(Row { entity, value });
                 }
+                Some(place) if is_half => rows[place].value = mixed(value, rows[place].value),
                 Some(place) if !keeps => rows[place].value = value,
                 Some(_) => {}
                 None => rows.push(Row { entity, value }),
@@ -987,9 +1163,9 @@ impl Store {
         }
     }
 
-    fn enter_touched(&mut self, entity: Id, staged: &[(u8, u64)]) {
+    fn enter_touched(&mut self, entity: Id, staged: &[(u8, u128)]) {
         for family in 0..self.layout.len() {
-            let touches = |&(kind, _): &(u8, u64)| {
+            let touches = |&(kind, _): &(u8, u128)| {
                 self.layout[family].own_group(kind).is_some()
                     && !self.is_sixteenth(Fault::SixteenthPutAlone, family, kind)
             };
@@ -1099,23 +1275,27 @@ impl Store {
         (family, position)
     }
 
-    fn remove_rows(&mut self, entity: Id, kinds: &[u8]) -> Vec<Option<u64>> {
-        let shifts = self.has(Fault::RowsShift);
-        kinds
-            .iter()
-            .map(|kind| {
-                let place = self.place(*kind, entity)?;
-                let rows = self.columns.get_mut(kind).unwrap();
-                Some(match shifts {
-                    true => rows.remove(place).value,
-                    false => rows.swap_remove(place).value,
-                })
-            })
-            .collect()
+    fn remove_rows(&mut self, entity: Id, kinds: &[u8]) -> Vec<Option<u128>> {
+        kinds.iter().map(|&kind| self.remove_row(entity, kind)).collect()
+    }
+
+    /// The row goes, and the last one takes its place.
+    fn remove_row(&mut self, entity: Id, kind: u8) -> Option<u128> {
+        let place = self.place(kind, entity)?;
+        let (shifts, is_half) = (self.has(Fault::RowsShift), self.has(Fault::GapLowerWords));
+        let rows = self.columns.get_mut(&kind)?;
+        let value = match shifts {
+            true => rows.remove(place).value,
+            false => rows.swap_remove(place).value,
+        };
+        if let Some(moved) = rows.get_mut(place).filter(|_| is_half) {
+            moved.value = mixed(moved.value, value);
+        }
+        Some(value)
     }
 
     /// Before any part goes, the groups from each removed kind's own are left.
-    fn remove(&mut self, entity: Id, kinds: &[u8]) -> Vec<Option<u64>> {
+    fn remove(&mut self, entity: Id, kinds: &[u8]) -> Vec<Option<u128>> {
         let early = self
             .has(Fault::RemoveBeforeLeaving)
             .then(|| self.remove_rows(entity, kinds));
@@ -1150,9 +1330,19 @@ impl Store {
         for (value, held) in self.remove(entity, &kinds).into_iter().zip(staged) {
             let missing = if self.has(Fault::TakeGarbage) { held.1 } else { 0 };
             answer.push(u8::from(value.is_some()));
-            answer.extend(value.unwrap_or(missing).to_le_bytes());
+            answer.extend(self.taken(value, missing));
         }
         Ok(answer)
+    }
+
+    /// The bytes of a value that was taken, or of what stands for none.
+    fn taken(&self, value: Option<u128>, missing: u128) -> Vec<u8> {
+        let length = match value {
+            None if self.has(Fault::TakeNoneEight) => EIGHT,
+            _ => self.taken_bytes(),
+        };
+        let value = self.told(value.unwrap_or(missing), Fault::TakeUpperFirst);
+        value.to_le_bytes()[..length].to_vec()
     }
 
     fn drop(&mut self, entity: Id) -> Answer {
@@ -1214,6 +1404,7 @@ impl Store {
         }
         self.forget_caller(Fault::WipeForgetsCaller);
         self.forget_rule(Fault::WipeForgetsRule);
+        self.forget_width(Fault::WipeForgetsWidth);
         Ok(vec![])
     }
 
@@ -1352,6 +1543,7 @@ impl Store {
     fn apply(&mut self) -> Answer {
         self.forget_caller(Fault::ApplyForgetsCaller);
         self.forget_rule(Fault::ApplyForgetsRule);
+        self.forget_width(Fault::ApplyForgetsWidth);
         self.layout = self.draft.clone();
         if !self.has(Fault::ApplyKeepsDraft) {
             self.draft.clear();
@@ -1526,7 +1718,7 @@ impl Store {
         }
         let mut roll = (live.len() as u32).to_le_bytes().to_vec();
         for entity in live {
-            let parts: Vec<(u8, u64)> = kinds
+            let parts: Vec<(u8, u128)> = kinds
                 .iter()
                 .filter_map(|&kind| Some((kind, self.columns[&kind][self.place(kind, entity)?].value)))
                 .collect();
@@ -1535,10 +1727,12 @@ impl Store {
             roll.push(parts.len() as u8);
             for (kind, value) in parts {
                 roll.push(kind);
-                roll.extend(value.to_le_bytes());
+                let value = self.told(value, Fault::RollUpperFirst);
+                roll.extend(&value.to_le_bytes()[..self.told_bytes(Fault::RollEight)]);
             }
         }
-        if self.has(Fault::RuleInRoll) && self.rule == Rule::Newer {
+        let is_newer = self.has(Fault::RuleInRoll) && self.rule == Rule::Newer;
+        if is_newer || self.has(Fault::WidthInRoll) && self.value_bytes == SIXTEEN {
             roll.push(1);
         }
         roll

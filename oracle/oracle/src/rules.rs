@@ -9,9 +9,10 @@ use crate::fixed::{self, in_orders, layout, part, run_of, value, valued, Part};
 use crate::past;
 use crate::reference::Reference;
 use crate::rng::Rng;
-use crate::side::{Known, Rule, Side};
-use crate::tape::{self, Case, Chunk, Run};
-use sparsey::harness::{kinds_of, set_of, words_needed, Counts, Families, Id, Ran, Sets};
+use crate::side::{Known, Rule, Side, Told};
+use crate::tape::{self, Case, Chunk, Run, NARROW, WIDE};
+use crate::widths;
+use sparsey::harness::{kinds_of, set_of, words_needed, Counts, Families, Id, Ran, Sets, WIDTHS};
 use std::collections::{BTreeMap, BTreeSet};
 
 /// The limits are tried with stores for up to so many entities.
@@ -97,6 +98,7 @@ fn chain_case((seed, groups): (usize, Vec<Vec<u8>>)) -> Case {
     Case {
         n: lists.len(),
         k: KINDS.into(),
+        value_bytes: tape::NARROW,
         preset: None,
         runs,
     }
@@ -123,32 +125,45 @@ fn kept() -> impl Iterator<Item = Case> {
         Case {
             n: 6,
             k: 5,
+            value_bytes: tape::NARROW,
             preset: None,
             runs: in_use().map(run_of).into_iter().chain([kept, again]).collect(),
         }
     })
 }
 
-/// The start that is told a rule, at every limit, over stores of either rule; and every start over every other.
+/// What a start may be told: nothing, or either width with either rule.
+fn all_told() -> [Option<Told>; 5] {
+    let [a, b] = [Rule::Newer, Rule::Older].map(|rule| WIDTHS.map(|value_bytes| Some(Told { value_bytes, rule })));
+    [None, a[0], a[1], b[0], b[1]]
+}
+
+/// The start that is told width and rule, at every limit, over stores of other ones; every start over every other; and
+/// widths that are none.
 pub fn starts(make: Make) -> Result<Figures, String> {
     let mut pair = Pair::new(Beside::NEWER, make);
-    fixed::start_sizes(&mut pair, &[Some(Rule::Newer), Some(Rule::Older)])?;
+    fixed::start_sizes(&mut pair, &all_told()[1..])?;
     let mut figures = pair.finish();
-    let told = [None, Some(Rule::Older), Some(Rule::Newer)];
+    let told = all_told();
     for (first, second) in told.into_iter().flat_map(|first| told.map(|second| (first, second))) {
         let mut pair = Pair::new(Beside::NEWER, make);
         start_over(&mut pair, first, second).map_err(|what| format!("told {first:?}, then {second:?}: {what}"))?;
         figures.add(&pair.finish());
     }
+    let mut pair = Pair::new(Beside::NEWER, make);
+    widths::start_widths(&mut pair, Rule::Newer)?;
+    figures.add(&pair.finish());
     Ok(figures)
 }
 
-/// A store in use, on which a refused start leaves everything, and an accepted one makes an empty store under its own rule.
-fn start_over(pair: &mut Pair, first: Option<Rule>, second: Option<Rule>) -> Result<(), String> {
+/// A store in use, on which a refused start leaves everything, and an accepted one makes an empty store of its own width and
+/// rule.
+fn start_over(pair: &mut Pair, first: Option<Told>, second: Option<Told>) -> Result<(), String> {
     let (n, k) = (4, 5);
-    let words = words_needed(n, k);
-    pair.start_number(first, words, n, k)?;
+    let needed = |told: Option<Told>| words_needed(n, k, told.unwrap_or_default().value_bytes);
+    pair.start_number(first, needed(first), n, k)?;
     used(pair)?;
+    let words = needed(second);
     for (words, n, k) in [(words - 1, n, k), (1023, n, k), (words, 0, k), (words, n, 129)] {
         pair.start_number(second, words, n, k)?;
         pair.state()?;
@@ -173,10 +188,10 @@ fn used(pair: &mut Pair) -> Result<(), String> {
         vec![tape::hold(3, 9), tape::bar(4), tape::bar(200)],
     ];
     let mut runs = in_use().into_iter().chain(more).map(run_of);
-    runs.try_for_each(|run| pair.step(&run, true).map(|_| ()))
+    runs.try_for_each(|run| pair.step(&run.at(pair.value_bytes()), true).map(|_| ()))
 }
 
-/// What was put: the components of every live entity, by the list that the commands are made from.
+/// What was put: the components of every live entity, by the list that the commands are made from, with eight bytes each.
 #[derive(Default)]
 pub struct Put(BTreeMap<Id, BTreeMap<u8, u64>>);
 
@@ -218,25 +233,29 @@ impl Put {
 
     /// Whether there are rows where there must be, and in every column of the kinds they have exactly the entities that are
     /// shown, once each, at the same places, with the values that they were given.
-    fn agrees(&self, side: &mut (impl Side + ?Sized), rule: Rule, asked: &Asked, rows: Rows) -> bool {
+    fn agrees(&self, side: &mut (impl Side + ?Sized), told: Told, asked: &Asked, rows: Rows) -> bool {
         let Some((start, end)) = rows.filter(|_| asked.finds) else {
             return rows.is_none() && !asked.finds;
         };
         let kinds = kinds_of(asked.kinds);
         let first = ids(&side.column(kinds[0], false, start, end));
-        let shown = self.shown(rule, asked);
+        let shown = self.shown(told.rule, asked);
         let is_once = first.len() == shown.len();
         let mut has_rows = |&kind: &u8| {
             ids(&side.column(kind, false, start, end)) == first
-                && side.column(kind, true, start, end) == self.values(kind, &first)
+                && side.column(kind, true, start, end) == self.values(kind, &first, told.value_bytes)
         };
         is_once && first.iter().copied().collect::<BTreeSet<Id>>() == shown && kinds.iter().all(&mut has_rows)
     }
 
-    /// The words of the values that the entities were given of a kind.
-    fn values(&self, kind: u8, ids: &[Id]) -> Vec<u32> {
+    /// The words of the values that the entities were given of a kind, at this width.
+    fn values(&self, kind: u8, ids: &[Id], value_bytes: usize) -> Vec<u32> {
         let given = ids.iter().filter_map(|id| self.0.get(id)?.get(&kind));
-        given.flat_map(|&value| [value as u32, (value >> 32) as u32]).collect()
+        let words = |&lower: &u64| {
+            let value = tape::wide_value(lower, tape::upper(kind, lower));
+            (0..value_bytes / 4).map(move |word| (value >> (32 * word)) as u32)
+        };
+        given.flat_map(words).collect()
     }
 }
 
@@ -257,8 +276,9 @@ pub struct Filled {
 const LATER: u32 = 1_000;
 
 impl Filled {
-    /// Every set of kinds once before the layout, shuffled; these change behind it, and each set comes once more.
-    pub fn new(width: u8, groups: &[Vec<u8>], seed: u64) -> Self {
+    /// Every set of kinds once before the layout, shuffled; these change behind it, and each set comes once more. The store
+    /// has this width of values.
+    pub fn new(width: u8, groups: &[Vec<u8>], value_bytes: usize, seed: u64) -> Self {
         let rng = &mut Rng::new(seed);
         let sets = 1 << width;
         let mut put = Put::default();
@@ -276,8 +296,9 @@ impl Filled {
             case: Case {
                 n: 2 * sets as usize,
                 k: width.into(),
+                value_bytes,
                 preset: None,
-                runs: runs.map(run_of).to_vec(),
+                runs: runs.map(|chunks| run_of(chunks).at(value_bytes)).to_vec(),
             },
             put,
         }
@@ -322,14 +343,15 @@ impl Filled {
     /// Where the sides part, behind what was asked last.
     fn difference(&self, asked: Vec<Asked>, what: String) -> Difference {
         let mut case = self.case.clone();
-        case.runs.extend((!asked.is_empty()).then(|| demand::run(&asked)));
+        let run = (!asked.is_empty()).then(|| demand::run(&asked).at(case.value_bytes));
+        case.runs.extend(run);
         Difference { case, what }
     }
 
     /// What both sides of a filled pair answer, held to the definition and to what was put.
     pub fn ask(&self, pair: &mut Pair, shift: u128) -> Result<Answers, String> {
         let asked = self.asked(pair.rule(), shift);
-        let (_, answers) = pair.answered(&demand::run(&asked))?;
+        let (_, answers) = pair.answered(&demand::run(&asked).at(pair.value_bytes()))?;
         let found = demand::found(&asked, &answers);
         self.hold(pair, &asked, &found)?;
         pair.figures.ranges += asked.len() as u64;
@@ -338,11 +360,14 @@ impl Filled {
     }
 
     fn hold(&self, pair: &mut Pair, asked: &[Asked], found: &[Rows]) -> Result<(), String> {
-        let rule = pair.rule();
+        let told = Told {
+            value_bytes: pair.value_bytes(),
+            rule: pair.rule(),
+        };
         for (asked, &rows) in asked.iter().zip(found) {
-            let known = self.put.agrees(&mut *pair.known, rule, asked, rows);
-            if !known || !self.put.agrees(&mut *pair.other, rule, asked, rows) {
-                return Err(format!("{rule:?} rule, {asked:?} finds {rows:?}: not what was put"));
+            let known = self.put.agrees(&mut *pair.known, told, asked, rows);
+            if !known || !self.put.agrees(&mut *pair.other, told, asked, rows) {
+                return Err(format!("{told:?}, {asked:?} finds {rows:?}: not what was put"));
             }
         }
         Ok(())
@@ -430,14 +455,32 @@ impl Enumerated {
     }
 }
 
-/// RANGE with every two lists of so many kinds, under each of the layouts. Where sides part, also what they stand beside.
-pub fn enumerate(width: u8, layouts: &[Vec<Vec<u8>>], make: Make) -> Result<Enumerated, (Beside, Difference)> {
+/// RANGE with every two lists of so many kinds, under each of the layouts, in stores of this width of values. Where sides
+/// part, also what they stand beside.
+pub fn enumerate(
+    width: u8,
+    layouts: &[Vec<Vec<u8>>],
+    value_bytes: usize,
+    make: Make,
+) -> Result<Enumerated, (Beside, Difference)> {
     let mut found = Enumerated::default();
     for (seed, groups) in layouts.iter().enumerate() {
-        let filled = Filled::new(width, groups, seed as u64);
+        let filled = Filled::new(width, groups, value_bytes, seed as u64);
         found.fill(&filled, make)?;
     }
     Ok(found)
+}
+
+/// What is enumerated: so many kinds, the layouts, and the width of values. Of the layouts of five kinds one in eight comes
+/// again at sixteen bytes; where little is wanted, none of them comes.
+pub fn enumerated(is_quick: bool) -> Vec<(u8, Vec<Vec<Vec<u8>>>, usize)> {
+    let mut all: Vec<(u8, Vec<Vec<Vec<u8>>>, usize)> = WIDTHS.map(|value_bytes| (4, six_layouts(), value_bytes)).into();
+    if !is_quick {
+        let five = all_layouts(5);
+        let some = five.iter().step_by(8).cloned().collect();
+        all.extend([(5, five, NARROW), (5, some, WIDE)]);
+    }
+    all
 }
 
 /// The six layouts of four kinds that the older rule is tried with.
@@ -466,8 +509,8 @@ pub fn same_but_for_ranges(case: &Case, make: Make) -> Result<(), String> {
     begin(&mut *older, case, None);
     begin(&mut *newer, case, Some(Rule::Newer));
     for (i, run) in case.runs.iter().enumerate() {
-        known.run(&run.tape(), &mut vec![0; run.room.min(usable(&run.tape()))]);
-        let [one, other] = [&mut older, &mut newer].map(|side| ran(&mut **side, &known, run));
+        known.run(&run.tape(), &mut vec![0; room(run, case)]);
+        let [one, other] = [&mut older, &mut newer].map(|side| ran(&mut **side, &known, run, case));
         if one != other {
             return Err(format!("run {}: older {one:?}, newer {other:?}", i + 1));
         }
@@ -479,12 +522,16 @@ pub fn same_but_for_ranges(case: &Case, make: Make) -> Result<(), String> {
     }
 }
 
+/// As much room for a run of the case as can be used.
+fn room(run: &Run, case: &Case) -> usize {
+    run.room.min(usable(&run.tape(), case.value_bytes))
+}
+
 /// What a run does, and the roll then.
-fn ran(side: &mut dyn Side, known: &Reference, run: &Run) -> (Ran, u32, Vec<u8>) {
-    let tape = run.tape();
-    let ran = side.run(&tape, &mut vec![0; run.room.min(usable(&tape))]);
+fn ran(side: &mut dyn Side, known: &Reference, run: &Run, case: &Case) -> (Ran, u32, Vec<u8>) {
+    let ran = side.run(&run.tape(), &mut vec![0; room(run, case)]);
     let rows: usize = known.registered().iter().filter_map(|&kind| known.length(kind)).sum();
-    let mut out = vec![0; 4 + 9 * side.live().len() + 9 * rows];
+    let mut out = vec![0; 4 + 9 * side.live().len() + (1 + case.value_bytes) * rows];
     let (number, _) = side.roll(&mut out);
     (ran, number, out)
 }

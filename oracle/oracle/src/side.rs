@@ -1,6 +1,9 @@
 //! The entries of documents 01 and 02, as either side of the comparison offers them.
 
-use sparsey::harness::{Counts, Families, Id, Oracle, Preset, Ran, COMMANDS, JUDGEMENTS, NUMBERS};
+use crate::tape::NARROW;
+use sparsey::harness::{
+    words_needed, Counts, Families, Id, Oracle, Preset, Ran, COMMANDS, JUDGEMENTS, NUMBERS, WIDTHS,
+};
 
 /// How RANGE reads excluded kinds (02, No. 8): told at the start, and kept.
 #[derive(Clone, Copy, PartialEq, Eq, Default, Debug)]
@@ -12,30 +15,64 @@ pub enum Rule {
     Newer,
 }
 
+/// What a start is told besides N and K; it is fixed for the store's life.
+#[derive(Clone, Copy, PartialEq, Eq, Debug)]
+pub struct Told {
+    /// The bytes of a component's value (02, No. 13).
+    pub value_bytes: usize,
+    pub rule: Rule,
+}
+
+/// What plain *start* does, which is told neither.
+impl Default for Told {
+    fn default() -> Self {
+        Self {
+            value_bytes: NARROW,
+            rule: Rule::Older,
+        }
+    }
+}
+
+impl Told {
+    /// What a start is told for stores of this width under a rule, if it is named: nothing where plain *start* does.
+    pub fn by(value_bytes: usize, rule: Option<Rule>) -> Option<Self> {
+        match (value_bytes, rule) {
+            (NARROW, None) => None,
+            (value_bytes, rule) => Some(Self {
+                value_bytes,
+                rule: rule.unwrap_or_default(),
+            }),
+        }
+    }
+}
+
 /// One side of the comparison: a store, lent or of its own, and the entries on it.
 pub trait Side {
     fn name(&self) -> &'static str;
 
-    /// *start* on `words` words: the number. Its store has the older rule.
+    /// *start* on `words` words: the number. Its store has values of eight bytes, and the older rule.
     fn start(&mut self, words: usize, n: usize, k: usize) -> u32;
 
-    /// The start that is told the rule.
-    fn start_with(&mut self, words: usize, n: usize, k: usize, rule: Rule) -> u32;
+    /// The start that is told width and rule.
+    fn start_with(&mut self, words: usize, n: usize, k: usize, told: Told) -> u32;
 
     /// One or the other.
-    fn start_told(&mut self, told: Option<Rule>, words: usize, n: usize, k: usize) -> u32 {
+    fn start_told(&mut self, told: Option<Told>, words: usize, n: usize, k: usize) -> u32 {
         match told {
             None => self.start(words, n, k),
-            Some(rule) => self.start_with(words, n, k, rule),
+            Some(told) => self.start_with(words, n, k, told),
         }
     }
+
+    /// How many words a store with values of so many bytes takes; 0 where there is no such store.
+    fn words_needed(&mut self, n: usize, k: usize, value_bytes: usize) -> usize;
 
     /// Puts the started store into a state that an empty one reaches only by very many commands.
     fn preset(&mut self, preset: &Preset);
 
     fn run(&mut self, tape: &[u8], out: &mut [u8]) -> Ran;
 
-    /// *column*: the part's words, entities or values.
+    /// *column*: the part's words, entities, two each, or values, one for every four bytes.
     fn column(&mut self, kind: u8, values: bool, start: usize, end: usize) -> Vec<u32>;
 
     /// The number of *column* with the same operands.
@@ -55,6 +92,9 @@ pub trait Side {
 
     /// The rule, if it is one; of no store, the older.
     fn rule(&mut self) -> Option<Rule>;
+
+    /// The bytes of a value, if they are one of the two widths; of no store, eight.
+    fn value_bytes(&mut self) -> Option<usize>;
 
     /// Looks at what can be seen of this side alone, at the cost of many runs. The store is as before then.
     fn probe(&mut self) {}
@@ -132,12 +172,19 @@ impl Side for Oracle {
     }
 
     fn start(&mut self, words: usize, n: usize, k: usize) -> u32 {
-        Oracle::start(self, words, n, k)
+        Oracle::start(self, words, n, k, NARROW)
     }
 
-    fn start_with(&mut self, words: usize, n: usize, k: usize, rule: Rule) -> u32 {
-        assert_eq!(rule, Rule::Older, "the Rust has the older rule alone");
-        Oracle::start(self, words, n, k)
+    fn start_with(&mut self, words: usize, n: usize, k: usize, told: Told) -> u32 {
+        assert_eq!(told.rule, Rule::Older, "the Rust has the older rule alone");
+        Oracle::start(self, words, n, k, told.value_bytes)
+    }
+
+    fn words_needed(&mut self, n: usize, k: usize, value_bytes: usize) -> usize {
+        match (1..=4096).contains(&n) && (1..=128).contains(&k) && WIDTHS.contains(&value_bytes) {
+            true => words_needed(n, k, value_bytes),
+            false => 0,
+        }
     }
 
     fn preset(&mut self, preset: &Preset) {
@@ -153,6 +200,7 @@ impl Side for Oracle {
             return vec![];
         }
         let (ids, numbers) = Oracle::column(self, kind).unwrap();
+        let words = Oracle::value_bytes(self).unwrap() / 4;
         match values {
             false => ids[start..end]
                 .iter()
@@ -160,7 +208,7 @@ impl Side for Oracle {
                 .collect(),
             true => numbers[start..end]
                 .iter()
-                .flat_map(|&v| [v as u32, (v >> 32) as u32])
+                .flat_map(|&value| (0..words).map(move |word| (value >> (32 * word)) as u32))
                 .collect(),
         }
     }
@@ -187,5 +235,9 @@ impl Side for Oracle {
 
     fn rule(&mut self) -> Option<Rule> {
         Some(Rule::Older)
+    }
+
+    fn value_bytes(&mut self) -> Option<usize> {
+        Some(Oracle::value_bytes(self).unwrap_or(NARROW))
     }
 }

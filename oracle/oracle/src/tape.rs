@@ -1,5 +1,6 @@
 //! Tapes as lists of commands, to be built, read by people and cut down.
 
+use crate::rng::Rng;
 use sparsey::harness::{Id, Preset, CALLERS, COMMANDS};
 use std::fmt::Write;
 
@@ -23,10 +24,24 @@ pub const NAMES: [&str; COMMANDS] = [
     "SETCALLER",
 ];
 
-/// Operand bytes by command byte.
-pub const OPERANDS: [usize; COMMANDS] = [0, 1, 9, 0, 8, 8, 8, 8, 0, 0, 0, 1, 0, 0, 0, 2, 1];
+/// The bytes of a value in a store of either width.
+pub const NARROW: usize = 8;
+pub const WIDE: usize = 16;
 
-/// The command's byte.
+/// The operand bytes of a command in a store of this width; none where the byte is no command.
+pub fn operands(byte: u8, value_bytes: usize) -> Option<usize> {
+    match byte {
+        1 | 11 | SETCALLER => Some(1),
+        HOLD => Some(1 + value_bytes),
+        4..=7 => Some(8),
+        15 => Some(2),
+        3 | 8..=10 | 12..=14 => Some(0),
+        _ => None,
+    }
+}
+
+/// The commands' bytes.
+pub const HOLD: u8 = 2;
 pub const SETCALLER: u8 = 16;
 
 /// A command with its operands, or damaged bytes.
@@ -36,8 +51,54 @@ pub fn reg(kind: u8) -> Chunk {
     vec![1, kind]
 }
 
+/// HOLD with a value of eight bytes.
 pub fn hold(kind: u8, value: u64) -> Chunk {
-    [vec![2, kind], value.to_le_bytes().to_vec()].concat()
+    [vec![HOLD, kind], value.to_le_bytes().to_vec()].concat()
+}
+
+/// HOLD with a value of sixteen.
+pub fn hold_wide(kind: u8, value: u128) -> Chunk {
+    [vec![HOLD, kind], value.to_le_bytes().to_vec()].concat()
+}
+
+/// HOLD in a store of this width.
+pub fn hold_at(value_bytes: usize, kind: u8, value: u128) -> Chunk {
+    [vec![HOLD, kind], value.to_le_bytes()[..value_bytes].to_vec()].concat()
+}
+
+/// A HOLD of eight bytes with eight more behind them, told by its kind and value; any other chunk as it is.
+pub fn widened(chunk: &Chunk, upper: impl FnOnce(u8, u64) -> u64) -> Chunk {
+    match chunk[..] {
+        [HOLD, kind, ref value @ ..] if value.len() == NARROW => {
+            let value = u64::from_le_bytes(value.try_into().unwrap());
+            hold_wide(kind, wide_value(value, upper(kind, value)))
+        }
+        _ => chunk.clone(),
+    }
+}
+
+/// A value of sixteen bytes, by its lower and its upper eight.
+pub fn wide_value(lower: u64, upper: u64) -> u128 {
+    u128::from(lower) | u128::from(upper) << 64
+}
+
+/// The upper eight bytes that stand behind the lower in a store of sixteen, where nothing else is said.
+pub fn upper(kind: u8, lower: u64) -> u64 {
+    drawn_upper(&mut Rng::new(lower.rotate_left(8) ^ u64::from(kind)))
+}
+
+/// Eight bytes: mostly any, else none, all ones, one of the two words alone, one byte alone, or the highest bit.
+pub fn drawn_upper(rng: &mut Rng) -> u64 {
+    let any = rng.next();
+    match rng.below(10) {
+        0 => 0,
+        1 => u64::MAX,
+        2 => any << 32,
+        3 => any >> 32,
+        4 => 0xff << (8 * rng.below(8)),
+        5 => 1 << 63,
+        _ => any,
+    }
 }
 
 pub fn new() -> Chunk {
@@ -137,6 +198,14 @@ impl Run {
     pub fn tape(&self) -> Vec<u8> {
         self.chunks.concat()
     }
+
+    /// A run made for eight bytes, in a store of this width: at sixteen every HOLD has eight more.
+    pub fn at(mut self, value_bytes: usize) -> Self {
+        if value_bytes == WIDE {
+            self.chunks.iter_mut().for_each(|chunk| *chunk = widened(chunk, upper));
+        }
+        self
+    }
 }
 
 /// A store and the runs on it.
@@ -144,6 +213,8 @@ impl Run {
 pub struct Case {
     pub n: usize,
     pub k: usize,
+    /// The bytes of a value; the runs' tapes are made for it.
+    pub value_bytes: usize,
     pub preset: Option<Preset>,
     pub runs: Vec<Run>,
 }
@@ -153,14 +224,35 @@ impl Case {
         Self {
             n,
             k,
+            value_bytes: NARROW,
             preset: None,
             runs: vec![Run::new(chunks)],
         }
     }
 
+    /// The same in a store of sixteen bytes.
+    pub fn wide(&self) -> Self {
+        Self {
+            value_bytes: WIDE,
+            runs: self.runs.iter().cloned().map(|run| run.at(WIDE)).collect(),
+            ..self.clone()
+        }
+    }
+
+    /// The same in a store of eight bytes: every HOLD loses its upper eight.
+    pub fn narrow(&self) -> Self {
+        let mut case = self.clone();
+        case.value_bytes = NARROW;
+        let chunks = case.runs.iter_mut().flat_map(|run| &mut run.chunks);
+        for hold in chunks.filter(|chunk| chunk.len() == 2 + WIDE && chunk[0] == HOLD) {
+            hold.truncate(2 + NARROW);
+        }
+        case
+    }
+
     /// The case as text, one command a line.
     pub fn text(&self) -> String {
-        let mut text = format!("start N {}, K {}\n", self.n, self.k);
+        let mut text = format!("start N {}, K {}, {} bytes a value\n", self.n, self.k, self.value_bytes);
         if let Some(preset) = &self.preset {
             let Preset {
                 issued,
@@ -180,7 +272,7 @@ impl Case {
                 ROOMY => writeln!(text, "run").unwrap(),
                 room => writeln!(text, "run, {room} answer bytes").unwrap(),
             }
-            for line in disassemble(&run.tape()) {
+            for line in disassemble(&run.tape(), self.value_bytes) {
                 writeln!(text, "    {line}").unwrap();
             }
         }
@@ -189,39 +281,38 @@ impl Case {
 }
 
 /// Whether the tape, read to its end, has a command that sets the caller, whole or cut short.
-pub fn sets_caller(tape: &[u8]) -> bool {
+pub fn sets_caller(tape: &[u8], value_bytes: usize) -> bool {
     let mut at = 0;
     while let Some(&byte) = tape.get(at) {
-        match OPERANDS.get(usize::from(byte)) {
-            Some(operands) if byte != 0 && byte != SETCALLER => at += 1 + operands,
+        match operands(byte, value_bytes) {
+            Some(operands) if byte != SETCALLER => at += 1 + operands,
             _ => return byte == SETCALLER,
         }
     }
     false
 }
 
+/// The bytes as a number, the lowest first.
+pub fn number(bytes: &[u8]) -> u128 {
+    let bytes = bytes.iter().rev();
+    bytes.fold(0, |number, &byte| number << 8 | u128::from(byte))
+}
+
 /// The tape's commands in words. From a byte that is no command, or operands cut short, on: the bytes.
-pub fn disassemble(tape: &[u8]) -> Vec<String> {
+pub fn disassemble(tape: &[u8], value_bytes: usize) -> Vec<String> {
     let mut lines = vec![];
     let mut at = 0;
     while at < tape.len() {
         let byte = usize::from(tape[at]);
-        let Some(operands) = (1..COMMANDS)
-            .contains(&byte)
-            .then(|| tape.get(at + 1..at + 1 + OPERANDS[byte]))
-            .flatten()
-        else {
+        let operands = operands(tape[at], value_bytes).and_then(|width| tape.get(at + 1..at + 1 + width));
+        let Some(operands) = operands else {
             lines.push(format!("bytes {:02X?}", &tape[at..]));
             break;
         };
         let word = |i: usize| u32::from_le_bytes(operands[i..i + 4].try_into().unwrap());
         lines.push(match byte {
             1 | 11 | 16 => format!("{} {}", NAMES[byte], operands[0]),
-            2 => format!(
-                "HOLD {} = {}",
-                operands[0],
-                u64::from_le_bytes(operands[1..].try_into().unwrap())
-            ),
+            2 => format!("HOLD {} = {}", operands[0], number(&operands[1..])),
             4..=7 => format!("{} {} version {}", NAMES[byte], word(0), word(4)),
             15 => format!("TRAY {}", u16::from_le_bytes([operands[0], operands[1]])),
             _ => NAMES[byte].to_string(),

@@ -11,12 +11,14 @@ use crate::record;
 use crate::reference::{Fault, Reference};
 use crate::rng::Rng;
 use crate::rules::{self, Filled};
-use crate::side::{Rule, Side};
-use crate::tape::{self, Case, Chunk, Run};
+use crate::side::{Rule, Side, Told};
+use crate::tape::{self, Case, Chunk, Run, NARROW, WIDE};
+use crate::widths;
 use crate::words;
 use sparsey::component::GroupLayout;
 use sparsey::harness::{
-    add_group, families_of, is_within_reach, set_of, words_needed, Counts, Id, Oracle, Preset, Ran, Sets, CALLERS,
+    add_group, families_of, is_within_reach, set_of, words_needed, Counts, Families, Id, Oracle, Preset, Ran, Sets,
+    CALLERS, WIDTHS,
 };
 use std::panic::{catch_unwind, AssertUnwindSafe};
 
@@ -33,6 +35,18 @@ fn sides() -> Vec<Box<dyn Side>> {
         Box::new(Oracle::new(Sets::Staged)),
         Box::new(Reference::new()),
     ]
+}
+
+/// The widths in turn.
+fn width_of(seed: u64) -> usize {
+    WIDTHS[(seed % 2) as usize]
+}
+
+/// A random case beside the Rust, at one width or the other.
+fn random(seed: u64) -> Case {
+    let case = generate::random_case(seed, width_of(seed), STAGED, &plain);
+    case.unwrap_or_else(|difference| panic!("seed {seed}: {}", difference.text()))
+        .0
 }
 
 /// The answers of the case's runs.
@@ -104,7 +118,7 @@ fn the_tape_of_document_01() {
         .map(|byte| u8::from_str_radix(byte, 16).unwrap())
         .collect();
     for mut side in sides() {
-        side.start(words_needed(64, 8), 64, 8);
+        side.start(words_needed(64, 8, NARROW), 64, 8);
         let mut out = vec![0; 16384];
         let ran = side.run(&case.runs[0].tape(), &mut out);
         assert_eq!((ran.stop, ran.commands, ran.read, ran.written), (0, 14, 0x4f, 0x2a));
@@ -119,6 +133,7 @@ fn group_answers(side: &mut dyn Side, draft: &[Vec<u8>], lists: &[Vec<u8>]) -> V
     let case = Case {
         n: 1,
         k: 128,
+        value_bytes: NARROW,
         preset: None,
         runs: runs
             .into_iter()
@@ -206,7 +221,7 @@ fn by_definition(case: &Case, fault: Fault) -> Result<(), String> {
     let faulty: Make = &|| Box::new(Reference::with(Some(fault))) as Box<dyn Side>;
     let mut pair = Pair::start(case, Beside::PAST, faulty)?;
     pair.known = Box::new(Reference::with(Some(fault)));
-    pair.known.start(words_needed(case.n, case.k), case.n, case.k);
+    begin(&mut *pair.known, case, None);
     for run in &case.runs {
         pair.step(run, true)?;
         pair.ranges()?;
@@ -262,7 +277,7 @@ fn the_rust_takes_the_smallest_first() {
 fn tuples_and_staged_agree() {
     let staged: Make = &|| Box::new(Oracle::new(Sets::Staged)) as Box<dyn Side>;
     for seed in 0..1500 {
-        if let Err(difference) = generate::random_case(seed, TUPLES, staged) {
+        if let Err(difference) = generate::random_case(seed, width_of(seed), TUPLES, staged) {
             panic!("seed {seed}: {}", difference.text());
         }
     }
@@ -312,6 +327,7 @@ fn hold_answers(n: usize, k: usize, expected: Vec<(Vec<Chunk>, Vec<u8>)>) {
     let case = Case {
         n,
         k,
+        value_bytes: NARROW,
         preset: None,
         runs: chunks.into_iter().map(Run::new).collect(),
     };
@@ -361,7 +377,7 @@ fn answers_of_callers() {
 #[test]
 fn stops_of_callers() {
     for mut side in sides() {
-        side.start(words_needed(1, 1), 1, 1);
+        side.start(words_needed(1, 1, NARROW), 1, 1);
         for (tape, room, stop) in [
             (&[16][..], 8, 5),
             (&[16], 0, 5),
@@ -386,7 +402,7 @@ fn stops_of_callers() {
 /// A start makes caller and counts 0 again, a refused one leaves them.
 #[test]
 fn a_start_forgets_callers() {
-    let needed = words_needed(1, 1);
+    let needed = words_needed(1, 1, NARROW);
     let chunks = [3, 20, 5, 16, 16].map(tape::set_caller);
     let mut counts = (5, [0; CALLERS]);
     counts.1[3] = 1;
@@ -408,12 +424,13 @@ fn a_start_forgets_callers() {
 fn random_cases_with_callers() {
     let (mut called, mut several) = (0, 0);
     for seed in 0..900 {
-        let Ok((case, _)) = generate::random_case(seed, STAGED, &plain) else {
-            panic!()
-        };
+        let case = random(seed);
         let mut rust = Oracle::new(Sets::Staged);
         run_all(&mut rust, &case);
-        let sets_caller = case.runs.iter().any(|run| tape::sets_caller(&run.tape()));
+        let sets_caller = case
+            .runs
+            .iter()
+            .any(|run| tape::sets_caller(&run.tape(), case.value_bytes));
         assert_eq!(sets_caller, rust.seen[16][0] > 0, "seed {seed}");
         called += usize::from(sets_caller);
         if case.preset.is_some() {
@@ -434,7 +451,7 @@ fn random_cases_with_callers() {
 /// A tape that sets a caller is told from one that has the byte elsewhere, or does not get there.
 #[test]
 fn tapes_that_set_a_caller() {
-    let sets = |chunks: &[Chunk]| tape::sets_caller(&chunks.concat());
+    let sets = |chunks: &[Chunk]| tape::sets_caller(&chunks.concat(), NARROW);
     assert!(sets(&[tape::set_caller(0)]) && sets(&[vec![16]]));
     assert!(sets(&[tape::tray(0x1010), tape::kill((16, 16)), tape::set_caller(255)]));
     assert!(!sets(&[
@@ -444,6 +461,11 @@ fn tapes_that_set_a_caller() {
     ]));
     assert!(!sets(&[vec![0], tape::set_caller(1)]) && !sets(&[vec![17], tape::set_caller(1)]));
     assert!(!sets(&[]) && !sets(&[vec![2, 16, 16]]));
+    // Behind eight bytes of a value there are eight more, or a command.
+    let tape = [tape::hold(16, 0), tape::set_caller(5)].concat();
+    assert!(tape::sets_caller(&tape, NARROW) && !tape::sets_caller(&tape, WIDE));
+    let tape = [tape::hold_wide(16, u128::MAX / 255 * 16), tape::set_caller(5)].concat();
+    assert!(tape::sets_caller(&tape, WIDE));
 }
 
 /// The words that the linked store is held to: a refusal changes the caller's count alone, up to the last number, and
@@ -529,6 +551,7 @@ fn ring_answers(sizes: &[u8], told: Option<Rule>) -> Vec<Vec<u8>> {
     let case = Case {
         n: 16,
         k: 16,
+        value_bytes: NARROW,
         preset: None,
         runs: begin.into_iter().chain(asked).map(Run::new).collect(),
     };
@@ -606,17 +629,19 @@ fn rings_by_the_definition() {
 /// RANGE with every two lists of four kinds: the rules answer one pair differently, {0,1} without {2,3}.
 #[test]
 fn every_two_lists_by_both_rules() {
-    let found = rules::enumerate(4, &rules::six_layouts(), &plain);
-    let found = found.unwrap_or_else(|(_, difference)| panic!("{}", difference.text()));
-    assert_eq!((found.layouts, found.pairs), (6, 6 * 256));
-    assert_eq!((found.found, found.differ), ([38, 37], 1));
+    for value_bytes in WIDTHS {
+        let found = rules::enumerate(4, &rules::six_layouts(), value_bytes, &plain);
+        let found = found.unwrap_or_else(|(_, difference)| panic!("{}", difference.text()));
+        assert_eq!((found.layouts, found.pairs), (6, 6 * 256));
+        assert_eq!((found.found, found.differ), ([38, 37], 1));
+    }
 }
 
-/// Every two lists of so many kinds, under the newer rule, on two sides with the same fault.
-fn by_what_was_put(width: u8, layouts: &[Vec<Vec<u8>>], fault: Fault) -> Result<(), String> {
+/// Every two lists of so many kinds, under the newer rule, on two sides of a width with the same fault.
+fn by_what_was_put(width: u8, layouts: &[Vec<Vec<u8>>], value_bytes: usize, fault: Fault) -> Result<(), String> {
     let faulty: Make = &|| Box::new(Reference::with(Some(fault))) as Box<dyn Side>;
     for groups in layouts {
-        let filled = Filled::new(width, groups, 1);
+        let filled = Filled::new(width, groups, value_bytes, 1);
         let mut pair = Pair::start(&filled.case, Beside::NEWER, faulty)?;
         pair.known = Box::new(Reference::with(Some(fault)));
         begin(&mut *pair.known, &filled.case, Some(Rule::Newer));
@@ -650,12 +675,27 @@ fn what_was_put_judges_alone() {
         Fault::ReplaceKeepsValue,
         Fault::ExcludeAnyLarger,
     ] {
-        assert!(by_what_was_put(4, &six, fault).is_err(), "{fault:?}");
+        for value_bytes in WIDTHS {
+            let put = by_what_was_put(4, &six, value_bytes, fault);
+            assert!(put.is_err(), "{fault:?}, {value_bytes} bytes a value");
+        }
     }
     // A family with rings of one kind and of several.
-    assert!(by_what_was_put(5, &five, Fault::NewerByLargest).is_err());
+    assert!(by_what_was_put(5, &five, NARROW, Fault::NewerByLargest).is_err());
     // A fault that does not touch any of it.
-    assert_eq!(by_what_was_put(4, &six, Fault::RollByLiveList), Ok(()));
+    assert_eq!(by_what_was_put(4, &six, WIDE, Fault::RollByLiveList), Ok(()));
+    // Those of the upper words show at sixteen bytes alone.
+    for fault in [
+        Fault::UpperWordsLost,
+        Fault::ThirdWordTwice,
+        Fault::SwapsLowerWords,
+        Fault::GapLowerWords,
+        Fault::ReplaceLowerWords,
+        Fault::ColumnUpperFirst,
+    ] {
+        assert!(by_what_was_put(4, &six, WIDE, fault).is_err(), "{fault:?}");
+        assert_eq!(by_what_was_put(4, &six, NARROW, fault), Ok(()), "{fault:?}");
+    }
 }
 
 /// Where two lists tell a fault, the case has the RANGE that shows it, and is cut down, beside the Rust and the reference.
@@ -663,12 +703,16 @@ fn what_was_put_judges_alone() {
 fn lists_that_differ_are_cut_down() {
     for (fault, is_rust) in [(Fault::ExcludePart, true), (Fault::TwoExcludedFound, false)] {
         let faulty: Make = &|| Box::new(Reference::with(Some(fault))) as Box<dyn Side>;
-        let Err((beside, difference)) = rules::enumerate(4, &rules::six_layouts(), faulty) else {
-            panic!("{fault:?}")
-        };
-        assert_eq!(beside.is_rust(), is_rust);
-        let least = shrink(&difference.case, beside, faulty).expect("it comes again");
-        assert!(least.case.runs.len() == 1 && least.case.n == 1);
+        for value_bytes in WIDTHS {
+            let Err((beside, difference)) = rules::enumerate(4, &rules::six_layouts(), value_bytes, faulty) else {
+                panic!("{fault:?}")
+            };
+            assert_eq!((beside.is_rust(), difference.case.value_bytes), (is_rust, value_bytes));
+            let least = shrink(&difference.case, beside, faulty).expect("it comes again");
+            assert!(least.case.runs.len() == 1 && least.case.n == 1);
+            // It comes at eight bytes too.
+            assert_eq!(least.case.value_bytes, NARROW);
+        }
     }
 }
 
@@ -678,7 +722,7 @@ fn lists_that_differ_are_cut_down() {
 fn random_cases_of_the_newer_rule() {
     let mut figures = Figures::default();
     for seed in 0..400 {
-        let Ok((case, more)) = generate::random_case(seed, Beside::NEWER, &plain) else {
+        let Ok((case, more)) = generate::random_case(seed, width_of(seed), Beside::NEWER, &plain) else {
             panic!()
         };
         figures.add(&more);
@@ -702,7 +746,8 @@ fn stores_of_both_rules_are_told_apart() {
         Fault::NewerNoneRefused,
     ] {
         let faulty: Make = &|| Box::new(Reference::with(Some(fault))) as Box<dyn Side>;
-        let mut cases = (0..100).filter_map(|seed| generate::random_case(seed, Beside::NEWER, &plain).ok());
+        let case = |seed: u64| generate::random_case(seed, width_of(seed), Beside::NEWER, &plain);
+        let mut cases = (0..100).filter_map(|seed| case(seed).ok());
         let is_told = cases.any(|(case, _)| rules::same_but_for_ranges(&case, faulty).is_err());
         assert!(is_told, "{fault:?}");
     }
@@ -711,18 +756,22 @@ fn stores_of_both_rules_are_told_apart() {
 /// The rule is the one that the last accepted start was told; a refused start and commands leave it.
 #[test]
 fn the_rule_is_fixed_at_the_start() {
-    let needed = words_needed(2, 2);
+    let needed = words_needed(2, 2, NARROW);
     let mut side = Reference::new();
     assert_eq!(side.rule(), Some(Rule::Older));
-    for told in [Rule::Newer, Rule::Older, Rule::Newer] {
-        let other = [Rule::Newer, Rule::Older][usize::from(told == Rule::Newer)];
+    let under = |rule: Rule| Told {
+        value_bytes: NARROW,
+        rule,
+    };
+    for told in [Rule::Newer, Rule::Older, Rule::Newer].map(under) {
+        let other = under([Rule::Newer, Rule::Older][usize::from(told.rule == Rule::Newer)]);
         assert_eq!(side.start_with(needed, 2, 2, told), 0);
         assert_eq!(side.start_with(needed - 1, 2, 2, other), 2);
         assert_eq!(side.start_with(needed, 2, 129, other), 1);
         assert_eq!(side.start(needed, 0, 2), 1);
         let chunks = [tape::set_caller(3), tape::kill((0, 1)), tape::wipe(), tape::apply()];
         assert_eq!(side.run(&chunks.concat(), &mut [0; 8]).stop, 0);
-        assert_eq!(side.rule(), Some(told));
+        assert_eq!(side.rule(), Some(told.rule));
     }
     assert_eq!(side.start(needed, 2, 2), 0);
     assert_eq!(side.rule(), Some(Rule::Older));
@@ -759,22 +808,26 @@ fn commands_as_text() {
         tape::set_caller(15),
         tape::set_caller(255),
     ]);
-    let text = tape::disassemble(&chunks.concat()).join("\n");
-    assert_eq!(listing::assemble(&text), Ok(chunks));
+    for value_bytes in WIDTHS {
+        let chunks = Run::new(chunks.clone()).at(value_bytes).chunks;
+        let text = tape::disassemble(&chunks.concat(), value_bytes).join("\n");
+        assert_eq!(listing::assemble(&text, value_bytes), Ok(chunks));
+    }
+    // A value has no more bytes than the store's.
+    let wide = format!("HOLD 2 = {}", u128::from(u64::MAX) + 1);
+    assert!(listing::assemble(&wide, NARROW).is_err());
+    assert_eq!(listing::assemble(&wide, WIDE), Ok(vec![tape::hold_wide(2, 1 << 64)]));
 }
 
 /// A column's entities and values.
-type Column = Option<(Vec<Id>, Vec<u64>)>;
+type Column = Option<(Vec<Id>, Vec<u128>)>;
 
 /// Everything that can be seen of a store: how many are free, live list, columns in row order, and the ranges of all groups.
 fn seen(rust: &mut Oracle) -> (usize, Vec<Id>, Vec<Column>, Vec<u8>) {
     let [_, layout] = Oracle::families(rust);
     let mut out = vec![0; 1 << 16];
-    let ran = Oracle::run(
-        rust,
-        &demand::run(&demand::rings(&layout, Rule::Older)).tape(),
-        &mut out,
-    );
+    let asked = demand::run(&demand::rings(&layout, Rule::Older));
+    let ran = Oracle::run(rust, &asked.at(Oracle::value_bytes(rust).unwrap()).tape(), &mut out);
     assert_eq!(ran.stop, 0);
     out.truncate(ran.written);
     let columns = rust.registered().into_iter().map(|kind| Oracle::column(rust, kind));
@@ -794,9 +847,7 @@ fn filled(rust: &mut Oracle) -> (usize, Vec<Id>, Vec<Column>, Vec<u8>) {
 fn extend_is_as_many_creates() {
     let (mut made, mut waited) = (0, 0);
     for seed in 0..800 {
-        let Ok((case, _)) = generate::random_case(seed, STAGED, &plain) else {
-            panic!()
-        };
+        let case = random(seed);
         let rng = &mut Rng::new(seed);
         let mut stores = [Sets::Tuples, Sets::Staged, Sets::Tuples].map(Oracle::new);
         stores.iter_mut().for_each(|rust| run_all(rust, &case));
@@ -810,9 +861,9 @@ fn extend_is_as_many_creates() {
         let mut list = stores[0].registered();
         rng.shuffle(&mut list);
         list.truncate(rng.below(17));
-        let staged = fixed::valued(&list, 7, tape::tray(count as u16)).concat();
-        let tray = [tape::empty(), staged].concat();
-        let new = fixed::valued(&list, 7, tape::new()).concat();
+        let valued = |command: Chunk| Run::new(fixed::valued(&list, 7, command)).at(case.value_bytes).tape();
+        let tray = [tape::empty(), valued(tape::tray(count as u16))].concat();
+        let new = valued(tape::new());
         let news = [tape::empty(), new.repeat(count)].concat();
         let [first, second, third] = &mut stores;
         for (rust, tape) in [(&mut *first, &tray), (&mut *second, &tray), (&mut *third, &news)] {
@@ -836,9 +887,7 @@ fn ranges_are_those_of_the_query() {
     let subset = |mask: u32| -> Vec<u8> { (0..4).filter(|kind| mask >> kind & 1 == 1).collect() };
     let mut found = 0;
     for seed in 0..3000 {
-        let Ok((case, _)) = generate::random_case(seed, STAGED, &plain) else {
-            panic!()
-        };
+        let case = random(seed);
         let mut rust = Oracle::new(Sets::Tuples);
         run_all(&mut rust, &case);
         let registered = rust.registered();
@@ -852,16 +901,16 @@ fn ranges_are_those_of_the_query() {
             &[&[2, 3], &[2, 3, 1], &[2, 3, 1, 0]],
             &[&[0, 3], &[1, 2]],
         ];
-        if let Some(groups) = layouts.get(seed as usize % 8) {
+        if let Some(groups) = layouts.get(seed as usize / 2 % 8) {
             let chunks = [vec![tape::empty(), tape::apply()], fixed::layout(groups)].concat();
-            rust.run(&chunks.concat(), &mut [0; 256]);
+            rust.run(&Run::new(chunks).at(case.value_bytes).tape(), &mut [0; 256]);
         }
         for (include, exclude) in (1..16).flat_map(|a| (0..16).map(move |b| (a, b))) {
             let (include, exclude) = (subset(include), subset(exclude));
             let bars: Vec<tape::Chunk> = exclude.iter().map(|&kind| tape::bar(kind)).collect();
             let chunks = [vec![tape::empty()], bars, tape::with(&include, tape::range())].concat();
             let mut out = [0; 64];
-            let ran = rust.run(&chunks.concat(), &mut out);
+            let ran = rust.run(&Run::new(chunks).at(case.value_bytes).tape(), &mut out);
             let answer = &out[ran.written - 9..ran.written];
             let number = |at: usize| u32::from_le_bytes(answer[at..at + 4].try_into().unwrap()) as usize;
             let ours = (answer[0] == 1).then(|| (number(1), number(5)));
@@ -877,11 +926,12 @@ fn ranges_are_those_of_the_query() {
 #[test]
 fn a_preset_is_a_state() {
     let mut worn = Oracle::new(Sets::Tuples);
-    worn.start(words_needed(3, 1), 3, 1);
+    worn.start(words_needed(3, 1, NARROW), 3, 1, NARROW);
     worn.wear(6);
     let case = Case {
         n: 3,
         k: 1,
+        value_bytes: NARROW,
         preset: Some(Preset {
             issued: 1,
             recycled: vec![(0, 7)],
@@ -908,7 +958,7 @@ fn a_difference_is_cut_down() {
     let faulty: Make = &|| Box::new(Reference::with(Some(Fault::LastInFirstOut))) as Box<dyn Side>;
     let difference = (0..100)
         .find_map(|seed| {
-            generate::random_case(seed, STAGED, faulty)
+            generate::random_case(seed, width_of(seed), STAGED, faulty)
                 .err()
                 .filter(|d| d.case.preset.is_none())
         })
@@ -925,7 +975,17 @@ fn recorded_answers_replay() {
     let file = record::write(3, 60_000);
     let whole = record::replay(&file, &plain);
     assert!(whole.cases > 30 && whole.agree == whole.cases);
+    assert!(whole.wide > whole.cases / 3 && whole.wide < whole.cases * 2 / 3);
     for fault in [
+        Fault::TakeOtherLength,
+        Fault::HoldCutAtNine,
+        Fault::HoldCutAtSeventeen,
+        Fault::UpperWordsLost,
+        Fault::SwapsLowerWords,
+        Fault::GapLowerWords,
+        Fault::RollUpperFirst,
+        Fault::ColumnUpperFirst,
+        Fault::WidthNotKept,
         Fault::SwapNewKindsOnly,
         Fault::TrayLastFirst,
         Fault::TrayExactRefused,
@@ -942,4 +1002,370 @@ fn recorded_answers_replay() {
     let at = damaged.len() - 1;
     damaged[at] ^= 1;
     assert_eq!(record::replay(&damaged, &plain).agree, whole.cases - 1);
+}
+
+/// The two widths under the older rule.
+fn told(value_bytes: usize) -> Told {
+    Told {
+        value_bytes,
+        rule: Rule::Older,
+    }
+}
+
+/// A store of each width takes its words and no fewer; any other width is refused by 1 before all else, and needs none.
+#[test]
+fn starts_of_both_widths() {
+    assert_eq!(words_needed(64, 8, NARROW), 5184);
+    assert_eq!(words_needed(64, 8, WIDE), 6208);
+    assert_eq!(words_needed(4096, 128, WIDE), widths::LARGEST);
+    for mut side in sides() {
+        for value_bytes in WIDTHS {
+            for (n, k) in [(1, 1), (64, 8), (4096, 128)] {
+                let needed = words_needed(n, k, value_bytes);
+                assert_eq!(side.words_needed(n, k, value_bytes), needed);
+                assert_eq!(side.start_with(needed - 1, n, k, told(value_bytes)), 2);
+                assert_eq!(side.start_with(needed, n, k, told(value_bytes)), 0);
+                assert_eq!(side.value_bytes(), Some(value_bytes));
+            }
+            for (n, k) in [(0, 1), (4097, 1), (1, 0), (1, 129)] {
+                assert_eq!(side.start_with(usize::MAX, n, k, told(value_bytes)), 1);
+                assert_eq!(side.words_needed(n, k, value_bytes), 0);
+            }
+        }
+        for none in [0, 7, 9, 15, 17, (1 << 32) + 8, (1 << 32) + 16] {
+            assert!(widths::NO_WIDTHS.contains(&none));
+            for words in [0, 1023, widths::LARGEST, usize::MAX] {
+                assert_eq!(side.start_with(words, 4, 3, told(none)), 1, "{}: {none}", side.name());
+            }
+            assert_eq!(side.words_needed(4, 3, none), 0);
+            assert_eq!(side.value_bytes(), Some(WIDE));
+        }
+        assert_eq!(side.start(words_needed(4, 3, NARROW), 4, 3), 0);
+        assert_eq!(side.value_bytes(), Some(NARROW));
+    }
+}
+
+/// HOLD's sixteen bytes come back by TAKE, in the roll and by *column*, the lowest first; sixteen zeros for a kind not held.
+#[test]
+fn values_of_sixteen_bytes() {
+    let value = 0x0f0e_0d0c_0b0a_0908_0706_0504_0302_0100;
+    let bytes: Vec<u8> = (0..16).collect();
+    let held = |kinds: &[u8], command: Chunk| {
+        let holds = kinds.iter().map(|&kind| tape::hold_wide(kind, value));
+        holds.chain([command]).collect::<Vec<Chunk>>().concat()
+    };
+    for mut side in sides() {
+        assert_eq!(side.start_with(words_needed(2, 2, WIDE), 2, 2, told(WIDE)), 0);
+        let mut out = [7; 128];
+        let tape = [tape::reg(3), tape::reg(5), held(&[3], tape::new())].concat();
+        assert_eq!(side.run(&tape, &mut out).stop, 0);
+        assert_eq!(side.column(3, false, 0, 1), [0, 1]);
+        assert_eq!(
+            side.column(3, true, 0, 1),
+            [0x0302_0100, 0x0706_0504, 0x0b0a_0908, 0x0f0e_0d0c]
+        );
+        let roll = [&[1, 0, 0, 0, 0, 0, 0, 0, 1, 0, 0, 0, 1, 3][..], &bytes].concat();
+        assert_eq!(side.roll(&mut out), (0, 30));
+        assert_eq!(out[..30], roll);
+        assert_eq!(side.roll(&mut [0; 29]), (6, 0));
+
+        // HOLDs answer by two bytes, TAKE by one and 17 for each of the hand.
+        let take = held(&[5, 3], tape::take((0, 1)));
+        let ran = side.run(&take, &mut [0; 2 + 34]);
+        assert_eq!((ran.stop, ran.commands, ran.read), (6, 2, 36));
+        let ran = side.run(&tape::take((0, 1)), &mut out[..35]);
+        assert_eq!((ran.stop, ran.written), (0, 35));
+        assert_eq!(out[..35], [&[0; 18][..], &[1], &bytes].concat());
+        // None is left, and the hand is empty.
+        assert_eq!(side.column_number(3, true, 0, 1), 16);
+        assert_eq!(side.run(&held(&[3], tape::take((0, 1))), &mut out[..19]).stop, 0);
+        assert_eq!(out[1..19], [0; 18]);
+        // 11 where the accepted answer would have had room.
+        assert_eq!(side.run(&held(&[3], tape::take((1, 1))), &mut out[..18]).stop, 6);
+        let ran = side.run(&tape::take((1, 1)), &mut out[..18]);
+        assert_eq!((ran.stop, ran.written, out[0]), (0, 1, 11));
+    }
+}
+
+/// HOLD is cut short below one byte and the value's, and its next command stands behind these.
+#[test]
+fn hold_is_cut_by_the_width() {
+    for mut side in sides() {
+        WIDTHS
+            .into_iter()
+            .for_each(|value_bytes| hold_is_cut(&mut *side, value_bytes));
+    }
+}
+
+fn hold_is_cut(side: &mut dyn Side, value_bytes: usize) {
+    side.start_with(words_needed(1, 1, value_bytes), 1, 1, told(value_bytes));
+    side.run(&tape::reg(0), &mut [0; 2]);
+    let tape = [tape::hold_at(value_bytes, 0, 0x0303), tape::new()].concat();
+    for end in 1..2 + value_bytes {
+        let ran = side.run(&tape[..end], &mut [0; 64]);
+        let expected = Ran {
+            stop: 5,
+            ..Ran::default()
+        };
+        assert_eq!(ran, expected, "{}: {end} bytes of HOLD at {value_bytes}", side.name());
+    }
+    let mut out = [0; 64];
+    let ran = side.run(&tape, &mut out);
+    assert_eq!((ran.stop, ran.commands, ran.written), (0, 2, 10));
+    assert_eq!(out[..10], [0, 0, 0, 0, 0, 0, 1, 0, 0, 0]);
+    assert_eq!(side.column(0, true, 0, 1)[0], 0x0303);
+}
+
+/// A store has its width for life: commands, runs that stop and refused starts leave it.
+#[test]
+fn the_width_is_fixed_at_the_start() {
+    for mut side in sides() {
+        assert_eq!(side.value_bytes(), Some(NARROW));
+        for value_bytes in [WIDE, NARROW, WIDE, WIDE] {
+            let (needed, other) = (words_needed(2, 2, value_bytes), NARROW + WIDE - value_bytes);
+            assert_eq!(side.start_with(needed, 2, 2, told(value_bytes)), 0);
+            assert_eq!(side.start_with(1024, 2, 2, told(other)), 2);
+            assert_eq!(side.start_with(needed, 0, 2, told(other)), 1);
+            assert_eq!(side.start_with(needed, 2, 2, told(9)), 1);
+            assert_eq!(side.start(1024, 2, 2), 2);
+            let chunks = [
+                tape::set_caller(3),
+                tape::kill((0, 1)),
+                tape::wipe(),
+                tape::apply(),
+                vec![17],
+            ];
+            assert_eq!(side.run(&chunks.concat(), &mut [0; 8]).stop, 4);
+            assert_eq!(side.value_bytes(), Some(value_bytes));
+        }
+    }
+}
+
+/// The roll of a side after the case.
+fn roll_of(side: &mut dyn Side, case: &Case) -> Vec<u8> {
+    run_all(side, case);
+    let mut out = vec![0; 1 << 16];
+    let (number, length) = side.roll(&mut out);
+    assert_eq!(number, 0);
+    out.truncate(length);
+    out
+}
+
+/// Two stores of different widths, with other entities, kinds and values, write the same 175 bytes.
+#[test]
+fn the_same_roll_at_both_widths() {
+    let shared = widths::shared_roll();
+    assert_eq!(shared.len(), 175);
+    let [narrow, wide] = WIDTHS.map(|value_bytes| widths::read_roll(&shared, value_bytes));
+    let sizes = |entities: &[(Id, Vec<(u8, u128)>)]| -> Vec<(Id, usize)> {
+        entities
+            .iter()
+            .map(|(id, components)| (*id, components.len()))
+            .collect()
+    };
+    assert_eq!(sizes(&narrow), [((0, 1), 1), ((1, 1), 16)]);
+    assert_eq!(sizes(&wide), [((0, 1), 1), ((16, 1), 8)]);
+    let cases = widths::same_rolls();
+    assert_eq!([cases[0].value_bytes, cases[1].value_bytes], WIDTHS);
+    for (one, other) in sides().iter_mut().zip(sides().iter_mut()) {
+        assert_eq!(roll_of(&mut **one, &cases[0]), shared, "{}", one.name());
+        assert_eq!(roll_of(&mut **other, &cases[1]), shared, "{}", other.name());
+        let live = [one.live(), other.live()].map(|mut live| {
+            live.sort();
+            live
+        });
+        assert_eq!(live, [vec![(0, 1), (1, 1)], vec![(0, 1), (16, 1)]]);
+    }
+    for case in &cases {
+        assert!(compare(case, TUPLES, &plain, Look::EachRun).is_ok());
+    }
+}
+
+/// A case at sixteen bytes is the case at eight, with eight bytes more in each HOLD, which are of many shapes.
+#[test]
+fn cases_are_widened() {
+    let case = &record::examples()[0];
+    let wide = case.wide();
+    assert_eq!((wide.value_bytes, wide.narrow()), (WIDE, case.clone()));
+    let chunks = |case: &Case| {
+        case.runs
+            .iter()
+            .flat_map(|run| run.chunks.clone())
+            .collect::<Vec<Chunk>>()
+    };
+    for (narrow, wide) in chunks(case).iter().zip(&chunks(&wide)) {
+        let more = if narrow[0] == tape::HOLD { 8 } else { 0 };
+        assert_eq!(wide.len(), narrow.len() + more);
+        assert!(wide.starts_with(narrow));
+    }
+    // Cut short, it stays as it is.
+    let cut = vec![vec![2, 1, 0], vec![2; 11], vec![]];
+    assert_eq!(Run::new(cut.clone()).at(WIDE).chunks, cut);
+    let rng = &mut Rng::new(1);
+    let uppers: Vec<u64> = (0..1000).map(|_| tape::drawn_upper(rng)).collect();
+    let with = |is: fn(u64) -> bool| uppers.iter().filter(|&&upper| is(upper)).count();
+    assert!(with(|upper| upper == 0) > 50 && with(|upper| upper == u64::MAX) > 50);
+    assert!(with(|upper| upper != 0 && upper as u32 == 0) > 50 && with(|upper| upper != 0 && upper >> 32 == 0) > 50);
+    assert!(with(|upper| upper as u32 != 0 && upper >> 32 != 0) > 300);
+}
+
+/// A random case has the same commands at both widths, but where its bytes are damaged; and its upper bytes are used.
+#[test]
+fn random_cases_at_both_widths() {
+    let (mut same, mut upper) = (0, 0);
+    for seed in 0..200 {
+        let [narrow, wide] = WIDTHS.map(
+            |value_bytes| match generate::random_case(seed, value_bytes, STAGED, &plain) {
+                Ok((case, _)) => case,
+                Err(difference) => panic!("seed {seed}: {}", difference.text()),
+            },
+        );
+        same += usize::from(wide.narrow() == narrow);
+        let chunks = wide.runs.iter().flat_map(|run| &run.chunks);
+        let is_used = |chunk: &&Chunk| chunk[0] == tape::HOLD && chunk.len() == 18 && chunk[10..] != [0; 8];
+        upper += chunks.filter(|chunk| !chunk.is_empty()).filter(is_used).count();
+    }
+    assert!(same > 100, "{same} of 200 cases are the same");
+    assert!(upper > 5000, "{upper} values have upper bytes");
+}
+
+/// The width by its word: 8 or 16, and nothing else.
+#[test]
+fn words_of_widths() {
+    let mut store = vec![7; 1024];
+    for (word, width) in [
+        (8, Some(NARROW)),
+        (16, Some(WIDE)),
+        (0, None),
+        (7, None),
+        (9, None),
+        (15, None),
+        (17, None),
+        (264, None),
+        (u32::MAX, None),
+    ] {
+        store[11] = word;
+        assert_eq!(words::value_bytes(&store), width);
+    }
+}
+
+/// Each of the parts that go by the width has cases of both.
+#[test]
+fn parts_of_both_widths() {
+    for part in widths::parts()
+        .into_iter()
+        .chain(fixed::at_both(fixed::exhaustive(), 8))
+    {
+        let widths: Vec<usize> = part.cases.take(2000).map(|case| case.value_bytes).collect();
+        let wide = widths.iter().filter(|&&value_bytes| value_bytes == WIDE).count();
+        assert!(wide > 0 && wide < widths.len(), "{}", part.name);
+    }
+    let both = fixed::at_both(
+        vec![fixed::part("one", (0..64).map(|n| Case::new(n + 1, 1, vec![])))],
+        8,
+    );
+    let cases: Vec<Case> = both.into_iter().flat_map(|part| part.cases).collect();
+    let wide: Vec<usize> = cases
+        .iter()
+        .filter(|case| case.value_bytes == WIDE)
+        .map(|case| case.n - 1)
+        .collect();
+    assert_eq!((cases.len(), wide), (72, (0..8).map(|i| 9 * i).collect()));
+}
+
+/// A faulty reference that tells the width that it was told, whatever it has.
+struct Blind {
+    side: Reference,
+    told: usize,
+}
+
+impl Side for Blind {
+    fn name(&self) -> &'static str {
+        "blind"
+    }
+
+    fn start(&mut self, words: usize, n: usize, k: usize) -> u32 {
+        let number = self.side.start(words, n, k);
+        self.told = if number == 0 { NARROW } else { self.told };
+        number
+    }
+
+    fn start_with(&mut self, words: usize, n: usize, k: usize, told: Told) -> u32 {
+        let number = self.side.start_with(words, n, k, told);
+        self.told = if number == 0 { told.value_bytes } else { self.told };
+        number
+    }
+
+    fn words_needed(&mut self, n: usize, k: usize, value_bytes: usize) -> usize {
+        self.side.words_needed(n, k, value_bytes)
+    }
+
+    fn preset(&mut self, preset: &Preset) {
+        self.side.preset(preset);
+    }
+
+    fn run(&mut self, tape: &[u8], out: &mut [u8]) -> Ran {
+        self.side.run(tape, out)
+    }
+
+    fn column(&mut self, kind: u8, values: bool, start: usize, end: usize) -> Vec<u32> {
+        self.side.column(kind, values, start, end)
+    }
+
+    fn column_number(&mut self, kind: u8, values: bool, start: usize, end: usize) -> u32 {
+        self.side.column_number(kind, values, start, end)
+    }
+
+    fn roll(&mut self, out: &mut [u8]) -> (u32, usize) {
+        self.side.roll(out)
+    }
+
+    fn live(&mut self) -> Vec<Id> {
+        self.side.live()
+    }
+
+    fn families(&mut self) -> [Families; 2] {
+        self.side.families()
+    }
+
+    fn counts(&mut self) -> Counts {
+        self.side.counts()
+    }
+
+    fn rule(&mut self) -> Option<Rule> {
+        self.side.rule()
+    }
+
+    fn value_bytes(&mut self) -> Option<usize> {
+        Some(self.told)
+    }
+}
+
+/// Whether the sides part, in a start or in one of few random cases, where nobody looks at the width itself.
+fn is_found_blindly(fault: Option<Fault>) -> bool {
+    let make: Make = &|| {
+        let side = Reference::with(fault);
+        Box::new(Blind { side, told: NARROW }) as Box<dyn Side>
+    };
+    let differs = |seed: u64| generate::random_case(seed, width_of(seed), STAGED, make).is_err();
+    fixed::starts(STAGED, make).is_err() || (0..100).any(differs)
+}
+
+/// A store that does not keep its width shows it by what it answers.
+#[test]
+fn the_width_shows_in_answers() {
+    for fault in [
+        Fault::WidthNotKept,
+        Fault::WidthOfRun,
+        Fault::RefusalForgetsWidth,
+        Fault::WipeForgetsWidth,
+        Fault::ApplyForgetsWidth,
+        Fault::StartKeepsSixteen,
+        Fault::StartKeepsEight,
+        Fault::PlainStartSixteen,
+        Fault::RefusedStartSetsWidth,
+    ] {
+        assert!(is_found_blindly(Some(fault)), "{fault:?}");
+    }
+    assert!(!is_found_blindly(None));
 }

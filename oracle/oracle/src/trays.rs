@@ -170,6 +170,7 @@ fn tray_case(n: usize, picked: &Picked) -> Case {
     Case {
         n,
         k: KINDS.into(),
+        value_bytes: tape::NARROW,
         preset: None,
         runs,
     }
@@ -243,6 +244,7 @@ fn worn_case(preset: &Preset, n: usize, count: u16) -> Case {
     Case {
         n,
         k: 3,
+        value_bytes: tape::NARROW,
         preset: Some(preset.clone()),
         runs,
     }

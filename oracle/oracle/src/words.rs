@@ -1,10 +1,12 @@
-//! The words of a store that caller, rule and refusal counts stand in (docs/WORDS.md), and what a command makes of them.
+//! The words of a store that caller, rule, width and refusal counts stand in (docs/WORDS.md), and what a command makes of
+//! them.
 
 use crate::side::Rule;
-use sparsey::harness::{Counts, CALLERS};
+use sparsey::harness::{Counts, CALLERS, WIDTHS};
 
 pub const CALLER: usize = 9;
 pub const RULE: usize = 10;
+pub const VALUE_BYTES: usize = 11;
 /// The count of caller 0; the others' follow.
 const REFUSALS: usize = 16;
 
@@ -19,6 +21,13 @@ pub fn rule(words: &[u32]) -> Option<Rule> {
     [Rule::Older, Rule::Newer]
         .into_iter()
         .find(|&rule| words[RULE] == rule_word(rule))
+}
+
+/// The width by its word, in bytes of a value; none where the word is neither.
+pub fn value_bytes(words: &[u32]) -> Option<usize> {
+    WIDTHS
+        .into_iter()
+        .find(|&value_bytes| words[VALUE_BYTES] as usize == value_bytes)
 }
 
 /// What stands in the word under a rule.

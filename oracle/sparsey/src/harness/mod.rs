@@ -6,10 +6,10 @@ mod preset;
 mod staged;
 mod tuples;
 
-pub use self::kinds::{Comp, Value};
+pub use self::kinds::Comp;
 pub use self::preset::Preset;
 
-use self::kinds::{kind, number};
+use self::kinds::{kind, number, Value, NARROW, WIDE};
 use self::staged::{with_kinds, Staged};
 use crate::component::{ComponentMetadata, ComponentSet, GroupLayout, QueryGroupInfo, ViewGroupInfo};
 use crate::entity::{Entity, Version};
@@ -38,8 +38,6 @@ pub enum Sets {
     Staged,
 }
 
-/// Operand bytes by command byte.
-const OPERANDS: [usize; COMMANDS] = [0, 1, 9, 0, 8, 8, 8, 8, 0, 0, 0, 1, 0, 0, 0, 2, 1];
 /// The command bytes, with the 0 that is none.
 pub const COMMANDS: usize = 17;
 /// The numbers that a command may answer with are below this.
@@ -53,20 +51,39 @@ const MOST_GROUPS: usize = 64;
 const REACH_KINDS: u32 = 15;
 const REACH_GROUPS: usize = 63;
 
-/// How many words a store for `n` entities and `k` kinds takes.
-pub fn words_needed(n: usize, k: usize) -> usize {
-    1024 + 16 * n + k * (8 + 6 * n)
+/// The widths that a store may have: bytes of a component's value.
+pub const WIDTHS: [usize; 2] = [4 * NARROW, 4 * WIDE];
+
+/// How many words a store for `n` entities and `k` kinds with values of so many bytes takes.
+pub fn words_needed(n: usize, k: usize, value_bytes: usize) -> usize {
+    1024 + 16 * n + k * (8 + 4 * n + value_bytes / 4 * n)
 }
 
-/// A world with what the tape keeps beside it.
-struct Store {
+/// A store of either width.
+enum AnyStore {
+    Narrow(Store<NARROW>),
+    Wide(Store<WIDE>),
+}
+
+/// The same of a store, whatever its width.
+macro_rules! of {
+    ($store:ident => $what:expr) => {
+        match $store {
+            AnyStore::Narrow($store) => $what,
+            AnyStore::Wide($store) => $what,
+        }
+    };
+}
+
+/// A world with what the tape keeps beside it; a value has `D` words.
+struct Store<const D: usize> {
     n: usize,
     k: usize,
     world: World,
     registered: u128,
     /// The staged kinds, and the value of each.
     staged: Vec<u8>,
-    values: Vec<Value>,
+    values: Vec<Value<D>>,
     excluded: Vec<u8>,
     draft: Draft,
     /// The layout in force, as the library was given it.
@@ -104,7 +121,7 @@ pub fn is_within_reach(families: &Families) -> bool {
 
 /// Document 01 over the library.
 pub struct Oracle {
-    store: Option<Store>,
+    store: Option<AnyStore>,
     sets: Sets,
     /// How often each command byte was answered by each number, for the figures.
     pub seen: [[u64; NUMBERS]; COMMANDS],
@@ -120,38 +137,39 @@ impl Oracle {
         }
     }
 
-    /// *start*: the number. A refused one leaves what was there.
-    pub fn start(&mut self, words: usize, n: usize, k: usize) -> u32 {
-        if !(1..=4096).contains(&n) || !(1..=128).contains(&k) {
+    /// *start* with values of so many bytes: the number. A refused one leaves what was there.
+    pub fn start(&mut self, words: usize, n: usize, k: usize, value_bytes: usize) -> u32 {
+        if !(1..=4096).contains(&n) || !(1..=128).contains(&k) || !WIDTHS.contains(&value_bytes) {
             return 1;
         }
-        if words < words_needed(n, k) {
+        if words < words_needed(n, k, value_bytes) {
             return 2;
         }
-        self.store = Some(Store::new(n, k));
+        self.store = Some(match value_bytes == 4 * WIDE {
+            true => AnyStore::Wide(Store::new(n, k)),
+            false => AnyStore::Narrow(Store::new(n, k)),
+        });
         0
+    }
+
+    /// How many bytes a value of the store has.
+    pub fn value_bytes(&self) -> Option<usize> {
+        self.store.as_ref().map(|store| match store {
+            AnyStore::Narrow(_) => 4 * NARROW,
+            AnyStore::Wide(_) => 4 * WIDE,
+        })
     }
 
     /// Puts a started store into a state that an empty one reaches only by very many commands.
     pub fn preset(&mut self, preset: &Preset) {
         let store = self.store.as_mut().expect("started");
-        preset::check(preset, store.n);
-        store.world.entities = preset::entities(preset);
-        store.issued = preset.issued;
-        store.retired = preset.issued - preset.live.len() - preset.recycled.len();
-        store.caller = preset.caller;
-        store.refusals = preset.refusals;
+        of!(store => store.preset(preset));
     }
 
     /// Creates and destroys an entity without components so many times, on an empty store.
     pub fn wear(&mut self, times: u64) {
         let store = self.store.as_mut().expect("started");
-        assert!(store.issued == 0 && times < u64::from(u32::MAX));
-        for _ in 0..times {
-            let entity = store.world.create(());
-            assert!(store.world.destroy(entity));
-        }
-        store.issued = 1;
+        of!(store => store.wear(times));
     }
 
     /// *run*.
@@ -164,36 +182,13 @@ impl Oracle {
             };
         };
 
-        let mut ran = Ran::default();
-        while let Some(&byte) = tape.get(ran.read) {
-            if !(1..COMMANDS).contains(&usize::from(byte)) {
-                ran.stop = 4;
-                break;
-            }
-            let start = ran.read + 1;
-            let Some(operands) = tape.get(start..start + OPERANDS[usize::from(byte)]) else {
-                ran.stop = 5;
-                break;
-            };
-            if out.len() - ran.written < store.room(byte) {
-                ran.stop = 6;
-                break;
-            }
-
-            let answer = store.command(byte, operands, sets);
-            self.seen[usize::from(byte)][usize::from(answer[0])] += 1;
-            out[ran.written..ran.written + answer.len()].copy_from_slice(answer);
-            ran.written += answer.len();
-            ran.read = start + operands.len();
-            ran.commands += 1;
-        }
-        ran
+        of!(store => store.run(tape, out, sets, &mut self.seen))
     }
 
     /// The number that *column* gives.
     pub fn column_number(&self, number: u8, start: usize, end: usize) -> u32 {
         let Some(store) = &self.store else { return 3 };
-        match store.length(number) {
+        match of!(store => store.length(number)) {
             None => 7,
             Some(length) if start > end || end > length => 16,
             Some(_) => 0,
@@ -202,13 +197,14 @@ impl Oracle {
 
     /// The length of a registered kind's column.
     pub fn length(&self, number: u8) -> Option<usize> {
-        self.store.as_ref()?.length(number)
+        let store = self.store.as_ref()?;
+        of!(store => store.length(number))
     }
 
     /// *roll*: the number and how many bytes were written.
     pub fn roll(&self, out: &mut [u8]) -> (u32, usize) {
         let Some(store) = &self.store else { return (3, 0) };
-        match store.roll(out) {
+        match of!(store => store.roll(out)) {
             None => (6, 0),
             Some(length) => (0, length),
         }
@@ -216,58 +212,73 @@ impl Oracle {
 
     /// How many entities can still be created.
     pub fn free(&self) -> usize {
-        self.store.as_ref().map_or(0, Store::free)
+        self.store.as_ref().map_or(0, |store| of!(store => store.free()))
     }
 
     /// The live entities in the order of the library's list.
     pub fn live(&self) -> Vec<Id> {
         let Some(store) = &self.store else { return vec![] };
-        store.world.entities().iter().map(id).collect()
+        of!(store => store.world.entities().iter().map(id).collect())
     }
 
     /// The registered kinds, rising.
     pub fn registered(&self) -> Vec<u8> {
-        self.store.as_ref().map_or(vec![], |store| kinds_of(store.registered))
+        let Some(store) = &self.store else { return vec![] };
+        kinds_of(of!(store => store.registered))
     }
 
     /// A registered kind's entities and values in row order.
-    pub fn column(&self, number: u8) -> Option<(Vec<Id>, Vec<u64>)> {
-        self.store.as_ref()?.column(number)
+    pub fn column(&self, number: u8) -> Option<(Vec<Id>, Vec<u128>)> {
+        let store = self.store.as_ref()?;
+        of!(store => store.column(number))
     }
 
     /// The families of the draft, and those of the library's layout in force.
     pub fn families(&self) -> [Families; 2] {
-        self.store.as_ref().map_or([vec![], vec![]], |store| {
-            [store.draft.families.clone(), families_of(&store.layout)]
-        })
+        let Some(store) = &self.store else {
+            return [vec![], vec![]];
+        };
+        of!(store => [store.draft.families.clone(), families_of(&store.layout)])
     }
 
     /// The caller and the refusal counts; of no store, those of an empty one.
     pub fn counts(&self) -> Counts {
-        self.store
-            .as_ref()
-            .map_or(Counts::default(), |store| (store.caller, store.refusals))
+        let Some(store) = &self.store else {
+            return Counts::default();
+        };
+        of!(store => (store.caller, store.refusals))
     }
 
     /// How often GROUP judged each of `JUDGEMENTS`, since the start.
     pub fn judged(&self) -> [u64; JUDGEMENTS.len()] {
-        self.store.as_ref().map_or([0; JUDGEMENTS.len()], |store| store.judged)
+        let Some(store) = &self.store else {
+            return [0; JUDGEMENTS.len()];
+        };
+        of!(store => store.judged)
     }
 
     /// How many component stores the library keeps, those left behind by relayouts included.
     pub fn component_stores(&self) -> usize {
-        self.store
-            .as_ref()
-            .map_or(0, |store| store.world.components.components.len())
+        let Some(store) = &self.store else { return 0 };
+        of!(store => store.world.components.components.len())
     }
 
     /// RANGE by the library's own query, for the few kinds for which one is compiled. `None` where none is.
     pub fn slice(&self, include: &[u8], exclude: &[u8]) -> Option<Option<(usize, usize)>> {
-        tuples::slice(&self.store.as_ref()?.world, include, exclude)
+        match self.store.as_ref()? {
+            AnyStore::Narrow(store) => tuples::slice::<NARROW>(&store.world, include, exclude),
+            AnyStore::Wide(store) => tuples::slice::<WIDE>(&store.world, include, exclude),
+        }
     }
 }
 
-impl Store {
+impl<const D: usize> Store<D> {
+    /// The bytes of a value.
+    const VALUE: usize = 4 * D;
+
+    /// Operand bytes by command byte.
+    const OPERANDS: [usize; COMMANDS] = [0, 1, 1 + Self::VALUE, 0, 8, 8, 8, 8, 0, 0, 0, 1, 0, 0, 0, 2, 1];
+
     fn new(n: usize, k: usize) -> Self {
         Self {
             n,
@@ -288,12 +299,57 @@ impl Store {
         }
     }
 
+    fn preset(&mut self, preset: &Preset) {
+        preset::check(preset, self.n);
+        self.world.entities = preset::entities(preset);
+        self.issued = preset.issued;
+        self.retired = preset.issued - preset.live.len() - preset.recycled.len();
+        self.caller = preset.caller;
+        self.refusals = preset.refusals;
+    }
+
+    fn wear(&mut self, times: u64) {
+        assert!(self.issued == 0 && times < u64::from(u32::MAX));
+        for _ in 0..times {
+            let entity = self.world.create(());
+            assert!(self.world.destroy(entity));
+        }
+        self.issued = 1;
+    }
+
+    fn run(&mut self, tape: &[u8], out: &mut [u8], sets: Sets, seen: &mut [[u64; NUMBERS]; COMMANDS]) -> Ran {
+        let mut ran = Ran::default();
+        while let Some(&byte) = tape.get(ran.read) {
+            if !(1..COMMANDS).contains(&usize::from(byte)) {
+                ran.stop = 4;
+                break;
+            }
+            let start = ran.read + 1;
+            let Some(operands) = tape.get(start..start + Self::OPERANDS[usize::from(byte)]) else {
+                ran.stop = 5;
+                break;
+            };
+            if out.len() - ran.written < self.room(byte) {
+                ran.stop = 6;
+                break;
+            }
+
+            let answer = self.command(byte, operands, sets);
+            seen[usize::from(byte)][usize::from(answer[0])] += 1;
+            out[ran.written..ran.written + answer.len()].copy_from_slice(answer);
+            ran.written += answer.len();
+            ran.read = start + operands.len();
+            ran.commands += 1;
+        }
+        ran
+    }
+
     /// How many bytes the accepted answer takes.
     fn room(&self, byte: u8) -> usize {
         match byte {
             1 | 9 => 2,
             3 => 9,
-            5 => 1 + 9 * self.staged.len(),
+            5 => 1 + (1 + Self::VALUE) * self.staged.len(),
             12 => 10,
             14 => 5,
             15 => 3,
@@ -368,14 +424,14 @@ impl Store {
         if !self.is_registered(number) && self.registered.count_ones() as usize == self.k {
             return Err(8);
         }
-        let new = self.world.components.register_dyn(kind(number).data);
+        let new = self.world.components.register_dyn(kind::<D>(number).data);
         assert_eq!(new, !self.is_registered(number), "register_dyn knows other kinds");
         self.registered |= 1 << number;
         self.answer.push(u8::from(new));
         Ok(())
     }
 
-    fn hold(&mut self, number: u8, value: Value) -> Result<(), u8> {
+    fn hold(&mut self, number: u8, value: Value<D>) -> Result<(), u8> {
         if !self.is_registered(number) {
             return Err(7);
         }
@@ -406,7 +462,7 @@ impl Store {
 
     /// The operands' entity, if it is live.
     fn entity(&self, operands: &[u8]) -> Result<Entity, u8> {
-        let [index, version] = words(operands);
+        let [index, version] = words::<2>(operands);
         NonZeroU32::new(version)
             .map(|version| Entity::new(index, Version(version)))
             .filter(|&entity| self.world.contains_entity(entity))
@@ -414,7 +470,7 @@ impl Store {
     }
 
     /// What is staged, for the lists of kinds that no tuple covers.
-    fn as_staged(&self) -> Staged {
+    fn as_staged(&self) -> Staged<D> {
         Staged(self.staged.iter().copied().zip(self.values.iter().copied()).collect())
     }
 
@@ -511,9 +567,9 @@ impl Store {
     fn take(&mut self, operands: &[u8], sets: Sets) -> Result<(), u8> {
         let entity = self.entity(operands)?;
         let answer = &mut self.answer;
-        let mut told = |value: Option<Value>| {
+        let mut told = |value: Option<Value<D>>| {
             answer.push(u8::from(value.is_some()));
-            for word in value.unwrap_or([0, 0]) {
+            for word in value.unwrap_or([0; D]) {
                 answer.extend(word.to_le_bytes());
             }
         };
@@ -523,7 +579,7 @@ impl Store {
             Sets::Staged => None,
         };
         if by_tuple.is_none() {
-            let removed = with_kinds(&self.staged, || unsafe { Staged::remove(&mut self.world, entity) });
+            let removed = with_kinds(&self.staged, || unsafe { Staged::<D>::remove(&mut self.world, entity) });
             removed.into_iter().for_each(told);
         }
         self.clear_staged();
@@ -534,11 +590,11 @@ impl Store {
         let entity = self.entity(operands)?;
         let by_tuple = match sets {
             Sets::Tuples if self.staged.is_empty() => Some(self.world.delete::<()>(entity)),
-            Sets::Tuples => tuples::delete(&mut self.world, entity, &self.staged),
+            Sets::Tuples => tuples::delete::<D>(&mut self.world, entity, &self.staged),
             Sets::Staged => None,
         };
         if by_tuple.is_none() {
-            with_kinds(&self.staged, || self.world.delete::<Staged>(entity));
+            with_kinds(&self.staged, || self.world.delete::<Staged<D>>(entity));
         }
         self.clear_staged();
         Ok(())
@@ -567,7 +623,7 @@ impl Store {
             is_within_reach(&self.draft.families),
             "a layout past the Rust's reach is applied: no case beside the Rust may do so"
         );
-        self.layout = core::mem::take(&mut self.draft).layout();
+        self.layout = core::mem::take(&mut self.draft).layout::<D>();
         unsafe {
             self.world
                 .components
@@ -607,7 +663,7 @@ impl Store {
     }
 
     fn metadata(&self, number: u8) -> ComponentMetadata {
-        self.world.components.metadata[&kind(number).type_id()]
+        self.world.components.metadata[&kind::<D>(number).type_id()]
     }
 
     fn length(&self, number: u8) -> Option<usize> {
@@ -618,12 +674,12 @@ impl Store {
         })
     }
 
-    fn column(&self, number: u8) -> Option<(Vec<Id>, Vec<u64>)> {
+    fn column(&self, number: u8) -> Option<(Vec<Id>, Vec<u128>)> {
         if !self.is_registered(number) {
             return None;
         }
         let set = self.world.components.components[self.metadata(number).storage_index].borrow();
-        let values = unsafe { (kind(number).values)(&set) };
+        let values = unsafe { (kind::<D>(number).values)(&set) };
         Some((
             set.entities().iter().map(id).collect(),
             values.into_iter().map(long).collect(),
@@ -638,10 +694,11 @@ impl Store {
             .into_iter()
             .map(|number| {
                 let set = &self.world.components.components[self.metadata(number).storage_index];
-                (number, kind(number).get, set.borrow())
+                (number, kind::<D>(number).get, set.borrow())
             })
             .collect();
-        let length = 4 + 9 * entities.len() + 9 * sets.iter().map(|(_, _, set)| set.len()).sum::<usize>();
+        let part = 1 + Self::VALUE;
+        let length = 4 + 9 * entities.len() + part * sets.iter().map(|(_, _, set)| set.len()).sum::<usize>();
         if out.len() < length {
             return None;
         }
@@ -660,10 +717,10 @@ impl Store {
             for (number, get, set) in &sets {
                 if let Some(value) = unsafe { get(set, entity) } {
                     written = put(written, &[*number]);
-                    written = put(written, &long(value).to_le_bytes());
+                    written = put(written, &long(value).to_le_bytes()[..Self::VALUE]);
                 }
             }
-            put(count, &[((written - count) / 9) as u8]);
+            put(count, &[((written - count) / part) as u8]);
         }
         assert_eq!(written, length, "columns with entities that are not live");
         Some(length)
@@ -763,11 +820,11 @@ impl Draft {
     }
 
     /// The library's layout: it is given the lists the smallest first, and its families are held to ours.
-    fn layout(mut self) -> GroupLayout {
+    fn layout<const D: usize>(mut self) -> GroupLayout {
         self.kept.sort_by_key(|&(kinds, _)| kinds);
         let mut layout = GroupLayout::default();
         for (kinds, list) in &self.kept {
-            add_group(&mut layout, &list[..*kinds]);
+            add_group_of::<D>(&mut layout, &list[..*kinds]);
         }
         debug_assert_eq!(
             arranged(families_of(&layout)),
@@ -778,9 +835,13 @@ impl Draft {
     }
 }
 
-/// The library's `add_group_dyn` on the component types of `kinds`.
+/// The library's `add_group_dyn` on the component types of `kinds`, those of eight bytes.
 pub fn add_group(layout: &mut GroupLayout, kinds: &[u8]) {
-    let components: Vec<_> = kinds.iter().map(|&number| kind(number).data).collect();
+    add_group_of::<NARROW>(layout, kinds);
+}
+
+fn add_group_of<const D: usize>(layout: &mut GroupLayout, kinds: &[u8]) {
+    let components: Vec<_> = kinds.iter().map(|&number| kind::<D>(number).data).collect();
     layout.add_group_dyn(&components);
 }
 
@@ -825,11 +886,11 @@ fn id(entity: &Entity) -> Id {
     (entity.index, entity.version.0.get())
 }
 
-fn words(bytes: &[u8]) -> [u32; 2] {
-    let word = |at: usize| u32::from_le_bytes(bytes[at..at + 4].try_into().unwrap());
-    [word(0), word(4)]
+fn words<const D: usize>(bytes: &[u8]) -> [u32; D] {
+    core::array::from_fn(|i| u32::from_le_bytes(bytes[4 * i..4 * i + 4].try_into().unwrap()))
 }
 
-fn long(value: Value) -> u64 {
-    u64::from(value[0]) | u64::from(value[1]) << 32
+fn long<const D: usize>(value: Value<D>) -> u128 {
+    let words = value.iter().rev();
+    words.fold(0, |number, &word| number << 32 | u128::from(word))
 }

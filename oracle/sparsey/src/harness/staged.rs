@@ -9,7 +9,7 @@ use core::cell::RefCell;
 
 /// Components by kind, at most one of each.
 #[derive(Clone)]
-pub(super) struct Staged(pub Vec<(u8, Value)>);
+pub(super) struct Staged<const D: usize>(pub Vec<(u8, Value<D>)>);
 
 thread_local! {
     /// The kinds of `extend`, `remove` and `delete`, which for a tuple are part of its type.
@@ -25,11 +25,11 @@ pub(super) fn with_kinds<R>(kinds: &[u8], f: impl FnOnce() -> R) -> R {
     f()
 }
 
-fn metadata(world: &World, number: u8) -> ComponentMetadata {
+fn metadata<const D: usize>(world: &World, number: u8) -> ComponentMetadata {
     *world
         .components
         .metadata
-        .get(&kind(number).type_id())
+        .get(&kind::<D>(number).type_id())
         .unwrap_or_else(|| panic!("kind {number} was not registered"))
 }
 
@@ -37,14 +37,17 @@ fn metadata(world: &World, number: u8) -> ComponentMetadata {
 type Set = (u8, *mut ComponentSparseSet);
 
 /// The sparse sets of the kinds, and the groups by one mask of each.
-unsafe fn sparse_sets(world: &World, mask: fn(&ComponentMetadata) -> GroupMask) -> (Vec<Set>, GroupMask) {
+unsafe fn sparse_sets<const D: usize>(
+    world: &World,
+    mask: fn(&ComponentMetadata) -> GroupMask,
+) -> (Vec<Set>, GroupMask) {
     let mut group_mask = GroupMask::EMPTY;
 
     let sparse_sets = KINDS.with_borrow(|kinds| {
         kinds
             .iter()
             .map(|&number| {
-                let metadata = metadata(world, number);
+                let metadata = metadata::<D>(world, number);
                 group_mask |= mask(&metadata);
                 let set = world
                     .components
@@ -59,18 +62,18 @@ unsafe fn sparse_sets(world: &World, mask: fn(&ComponentMetadata) -> GroupMask) 
     (sparse_sets, group_mask)
 }
 
-unsafe impl ComponentSet for Staged {
-    type Remove = Vec<Option<Value>>;
+unsafe impl<const D: usize> ComponentSet for Staged<D> {
+    type Remove = Vec<Option<Value<D>>>;
 
     unsafe fn insert(world: &mut World, entity: Entity, components: Self) {
         let mut group_mask = GroupMask::EMPTY;
 
         for (number, value) in components.0 {
-            let metadata = metadata(world, number);
+            let metadata = metadata::<D>(world, number);
 
             group_mask |= metadata.insert_mask;
 
-            (kind(number).insert)(
+            (kind::<D>(number).insert)(
                 world
                     .components
                     .components
@@ -95,7 +98,7 @@ unsafe impl ComponentSet for Staged {
     where
         TComponents: IntoIterator<Item = Self>,
     {
-        let (sparse_sets, group_mask) = unsafe { sparse_sets(world, |metadata| metadata.insert_mask) };
+        let (sparse_sets, group_mask) = unsafe { sparse_sets::<D>(world, |metadata| metadata.insert_mask) };
 
         let start_entity = world.entities.len();
 
@@ -104,7 +107,7 @@ unsafe impl ComponentSet for Staged {
 
             for (&(number, set), (held, value)) in sparse_sets.iter().zip(components.0) {
                 assert_eq!(number, held, "a set of other kinds");
-                unsafe { (kind(number).insert)(&mut *set, entity, value) };
+                unsafe { (kind::<D>(number).insert)(&mut *set, entity, value) };
             }
         });
 
@@ -127,7 +130,7 @@ unsafe impl ComponentSet for Staged {
     }
 
     unsafe fn remove(world: &mut World, entity: Entity) -> Self::Remove {
-        let (sparse_sets, group_mask) = sparse_sets(world, |metadata| metadata.delete_mask);
+        let (sparse_sets, group_mask) = sparse_sets::<D>(world, |metadata| metadata.delete_mask);
 
         if group_mask != GroupMask::EMPTY {
             ungroup(
@@ -140,12 +143,12 @@ unsafe impl ComponentSet for Staged {
 
         sparse_sets
             .into_iter()
-            .map(|(number, set)| (kind(number).remove)(&mut *set, entity))
+            .map(|(number, set)| (kind::<D>(number).remove)(&mut *set, entity))
             .collect()
     }
 
     unsafe fn delete(world: &mut World, entity: Entity) {
-        let (sparse_sets, group_mask) = sparse_sets(world, |metadata| metadata.delete_mask);
+        let (sparse_sets, group_mask) = sparse_sets::<D>(world, |metadata| metadata.delete_mask);
 
         if group_mask != GroupMask::EMPTY {
             ungroup(
@@ -157,7 +160,7 @@ unsafe impl ComponentSet for Staged {
         }
 
         for (number, set) in sparse_sets {
-            (kind(number).delete)(&mut *set, entity);
+            (kind::<D>(number).delete)(&mut *set, entity);
         }
     }
 }
