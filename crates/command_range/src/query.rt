@@ -22,12 +22,13 @@ fn info_of(words: &[u32], kind: usize) -> FoundInfo
     requires { ⌜ In (meaning (now words) .kinds) kind ⌝ }
     ensures { λ r. ⌜ InfoOfKind (layoutArrays (now (words .entry))) kind r ⌝ }
 {
-    let found = kinds::own_group(words, kind);
+    let z = words::shape_of(words);
+    let found = kinds::own_group(words, z, kind);
     let Found::At(place) = found else {
         return FoundInfo::Nothing;
     };
     let metadata = group::group_metadata::metadata(words, place);
-    let storage_place = kinds::place_in_family(words, kind);
+    let storage_place = kinds::place_in_family(words, z, kind);
     FoundInfo::Info(GroupInfo::of_kind(metadata.first, place, storage_place))
 }
 

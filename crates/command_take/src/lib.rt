@@ -7,6 +7,7 @@ use entity::Found;
 use model::refusals::DEAD;
 use values::Value;
 use words::Entity;
+use words::Shape;
 use world::component_set;
 ghost use mathlib.Core.Path.{_≡_};
 ghost use mathlib.Core.List.{_∷_};
@@ -35,33 +36,34 @@ fn put_held(out: &mut [u8], at: usize, d: usize, held: u8, x: Value)
     values::put_bytes(out, at + 1, d, x);
 }
 
-// The entity's component of the staged kind at i goes, and is written out; d is how many words a value has.
-fn take_one(words: &mut [u32], i: usize, d: usize, e: Entity, out: &mut [u8], at: usize)
+// The entity's component of the staged kind at i goes, and is written out; z is the store's shape.
+fn take_one(words: &mut [u32], z: Shape, i: usize, e: Entity, out: &mut [u8], at: usize)
     requires { ⌜ Staged (now words) ⌝ }
+    requires { ⌜ z ≡ shapeOf (now words) ⌝ }
     requires { ⌜ i < length (meaning (now words) .control .staged) ⌝ }
-    requires { ⌜ (d ≡ shapeOf (now words) .stride) × (at + (1 + 4 * d) ≤ length (now out)) ⌝ }
+    requires { ⌜ at + (1 + 4 * z .stride) ≤ length (now out) ⌝ }
     ensures { λ _. ⌜ TakesKind (now (words .entry)) (now (words .exit)) (now (out .entry)) (now (out .exit)) (entity (e .index) (e .version)) (getD (stagedKinds (meaning (now (words .entry)))) i 0) at ⌝ }
 {
-    let removed = component_set::remove_one(words, i, e);
+    let removed = component_set::remove_one(words, z, i, e);
     let Removed::Value(x) = removed else {
-        put_held(out, at, d, 0, values::zero());
+        put_held(out, at, z.stride, 0, values::zero());
         return;
     };
-    put_held(out, at, d, 1, x);
+    put_held(out, at, z.stride, 1, x);
 }
 
 // Its components of all staged kinds go, and are written out; no group is walked.
-fn take_staged(words: &mut [u32], e: Entity, out: &mut [u8], at: usize) -> usize
+fn take_staged(words: &mut [u32], z: Shape, e: Entity, out: &mut [u8], at: usize) -> usize
     requires { ⌜ Staged (now words) ⌝ }
+    requires { ⌜ z ≡ shapeOf (now words) ⌝ }
     requires { ⌜ at + (1 + meaning (now words) .settings .valueBytes) * length (meaning (now words) .control .staged) ≤ length (now out) ⌝ }
     ensures { λ r. ⌜ TakesStaged (now (words .entry)) (now (words .exit)) (now (out .entry)) (now (out .exit)) (entity (e .index) (e .version)) at r ⌝ }
 {
-    let z = words::shape_of(words);
     let n = control::staged::staged_len(words);
     let len = 1 + model::WORD_BYTES * z.stride;
     let mut i = 0;
     while i < n {
-        take_one(words, i, z.stride, e, out, at + len * i);
+        take_one(words, z, i, e, out, at + len * i);
         i += 1;
     }
     len * n
@@ -73,8 +75,9 @@ fn take_out(words: &mut [u32], e: Entity, out: &mut [u8], at: usize) -> usize
     requires { ⌜ at + (1 + meaning (now words) .settings .valueBytes) * length (meaning (now words) .control .staged) ≤ length (now out) ⌝ }
     ensures { λ r. ⌜ Takes (now (words .entry)) (now (words .exit)) (now (out .entry)) (now (out .exit)) (entity (e .index) (e .version)) at r ⌝ }
 {
-    component_set::ungroup_staged(words, e);
-    take_staged(words, e, out, at)
+    let z = words::shape_of(words);
+    component_set::ungroup_staged(words, z, e);
+    take_staged(words, z, e, out, at)
 }
 
 // TAKE: a live entity's components of the staged kinds go, and are told.

@@ -4,6 +4,7 @@ use crate::Found;
 use crate::Removed;
 use crate::sparse_vec::clear_lookup;
 use crate::sparse_vec::find;
+use crate::sparse_vec::place_of;
 use crate::sparse_vec::put_lookup;
 use crate::sparse_vec::put_place;
 use crate::values_part::put_value;
@@ -87,10 +88,7 @@ pub fn swap_to(part: &mut [u32], z: Shape, e: Entity, place: usize)
     requires { ⌜ (held (entity (e .index) (e .version)) (rows z (now part)) ≡ true) × (place < length (rows z (now part))) ⌝ }
     ensures { λ _. ⌜ RowsChanged z (swapTo (entity (e .index) (e .version)) place) (now (part .entry)) (now (part .exit)) ⌝ }
 {
-    let found = find(part, z, e);
-    let Found::At(at) = found else {
-        return;
-    };
+    let at = place_of(part, z, e);
     swap(part, z, at, place, e);
 }
 

@@ -3,12 +3,13 @@ use crate::Found;
 use words::Entity;
 use words::Shape;
 ghost use mathlib.Core.Path.{_≡_};
+ghost use mathlib.Core.Bool.{true};
 ghost use Prim.Native.Nat.{_<_};
 ghost use Rattle.words.specs.Stores.{stores};
 ghost use Rattle.component.specs.SparseSet.{rows, ColumnSound};
 ghost use Rattle.component.specs.Stored.{ColumnSized, lookupStores, placeStores, clearStores};
-ghost use Rattle.component.specs.Answers.{Finds};
-ghost use Rattle.model.specs.Model.{entity};
+ghost use Rattle.component.specs.Answers.{HeldAt, Finds};
+ghost use Rattle.model.specs.Model.{held, entity};
 
 // Has index x's lookup say the place p.
 pub fn put_place(part: &mut [u32], z: Shape, x: u32, p: usize)
@@ -37,6 +38,16 @@ pub fn clear_lookup(part: &mut [u32], z: Shape, x: u32, k: u32)
     let s = words::lookup_place(z, x as usize);
     part[s + 1] = 0;
     part[words::ROWS_LEN] = k;
+}
+
+// The place of an entity that the rows have: no test is needed (`get_sparse_unchecked`).
+pub fn place_of(part: &[u32], z: Shape, e: Entity) -> usize
+    requires { ⌜ ColumnSound z (now part) ⌝ }
+    requires { ⌜ held (entity (e .index) (e .version)) (rows z (now part)) ≡ true ⌝ }
+    ensures { λ r. ⌜ HeldAt z (entity (e .index) (e .version)) (rows z (now (part .entry))) r ⌝ }
+{
+    let s = words::lookup_place(z, e.index as usize);
+    part[s] as usize
 }
 
 // Any index and version may be asked for.

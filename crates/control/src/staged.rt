@@ -6,6 +6,7 @@ use words::STAGED_KINDS;
 use words::STAGED_LEN;
 use words::STAGED_VALUE_LEN;
 use words::STAGED_VALUES;
+use words::Shape;
 ghost use mathlib.Core.Path.{_≡_};
 ghost use Prim.Native.Nat.{_<_};
 ghost use lib.ListN.{length, getD};
@@ -40,12 +41,12 @@ pub fn staged_kind(words: &[u32], i: usize) -> usize
     words::word(words, STAGED_KINDS + i)
 }
 
-pub fn staged_at(words: &[u32], i: usize) -> Component
+pub fn staged_at(words: &[u32], z: Shape, i: usize) -> Component
     requires { ⌜ Arranged (now words) ⌝ }
+    requires { ⌜ z ≡ shapeOf (now words) ⌝ }
     requires { ⌜ i < length (meaning (now words) .control .staged) ⌝ }
     ensures { λ r. ⌜ componentOf (shapeOf (now (words .entry)) .stride) r ≡ getD (meaning (now (words .entry)) .control .staged) i noComponent ⌝ }
 {
-    let z = words::shape_of(words);
     let kind = words::word(words, STAGED_KINDS + i);
     let value = values::get(words, STAGED_VALUES + STAGED_VALUE_LEN * i, z.stride);
     Component { kind, value }

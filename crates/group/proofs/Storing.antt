@@ -10,6 +10,7 @@ use Rattle.memory.specs.Meaning.{meaning}
 use Rattle.memory.specs.Arranged.{Becomes}
 use Rattle.memory.proofs.Becomes.{capacity-means, shape-means, becomes-next}
 use Rattle.model.proofs.ListLaws.{drop-step}
+use Rattle.words.specs.declared.Shape.{Shape}
 use Rattle.words.specs.Shape.{shapeOf, shape}
 
 pub becomes-then : (w₀ w w′ : List ℕ) (f : Storage → Storage) (h : Store → Store) → Becomes w₀ w (onStorage f (meaning w₀)) → Becomes w w′ (h (meaning w))
@@ -42,6 +43,10 @@ module _ {w₀ w : List ℕ} (B : SoFar w₀ w) where
   -- what the storage is then
   pub so-far-is : (p : Storage) → meaning w .storage ≡ p → Becomes w₀ w (onStorage (λ (s : Storage). p) (meaning w₀))
   so-far-is p e = subst (λ (q : Storage). Becomes w₀ w (onStorage (λ (s : Storage). q) (meaning w₀))) e B
+
+  -- a shape read before is the store's still
+  pub shape-so-far : {z : Shape} → z ≡ shapeOf w₀ → z ≡ shapeOf w
+  shape-so-far e = e ∙ sym (shape-kept w₀ w (λ (s : Storage). meaning w .storage) B)
 
   pub live-same : meaning w .entities .live ≡ meaning w₀ .entities .live
   live-same = ap (λ (m : Store). m .entities .live) (B .means)

@@ -1,4 +1,4 @@
-// Groups: the walks that bring an entity into its groups and out of them (group.rs).
+// Groups: the walks that bring an entity into its groups and out of them (group.rs). z is the store's shape, read once for a walk.
 pub mod group_metadata;
 pub mod group_status;
 
@@ -13,12 +13,15 @@ use layout::group_metadata::GroupMetadata;
 use masks::group_mask::GroupMask;
 use masks::group_mask::NextBit;
 use words::Entity;
+use words::Shape;
+ghost use mathlib.Core.Path.{_≡_};
 ghost use mathlib.Core.List.{reverse};
 ghost use Prim.Native.Nat.{_-_, _<_, _≤_};
 ghost use lib.ListN.{drop};
 ghost use Rattle.model.specs.Model.{groupsOf, entity};
 ghost use Rattle.model.specs.Store.{onStorage};
 ghost use Rattle.words.specs.Part.{between};
+ghost use Rattle.words.specs.Shape.{shapeOf};
 ghost use Rattle.masks.specs.Masks.{bitsOf, upFrom};
 ghost use Rattle.masks.specs.Walk.{Highest};
 ghost use Rattle.memory.specs.Meaning.{meaning};
@@ -29,13 +32,13 @@ ghost use Rattle.group.specs.Metadata.{orderOf, PlacesKnown, Stands};
 ghost use Rattle.group.specs.Steps.{swapKinds, Below, StepsUp};
 
 // Swaps the entity to a place in every sparse set of a group.
-fn swap_kinds(words: &mut [u32], metadata: GroupMetadata, e: Entity, swap_index: usize)
+fn swap_kinds(words: &mut [u32], z: Shape, metadata: GroupMetadata, e: Entity, swap_index: usize)
     requires { ⌜ Arranged (now words) ⌝ }
+    requires { ⌜ z ≡ shapeOf (now words) ⌝ }
     requires { ⌜ PlacesKnown (meaning (now words)) (metadata .«storage_start») (metadata .«storage_end») ⌝ }
     requires { ⌜ Swappable (entity (e .index) (e .version)) (between (metadata .«storage_start») (metadata .«storage_end») (orderOf (meaning (now words)))) «swap_index» (meaning (now words) .storage .sets) ⌝ }
     ensures { λ _. ⌜ Becomes (now (words .entry)) (now (words .exit)) (onStorage (swapKinds (entity (e .index) (e .version)) «swap_index» (between (metadata .«storage_start») (metadata .«storage_end») (orderOf (meaning (now (words .entry)))))) (meaning (now (words .entry)))) ⌝ }
 {
-    let z = words::shape_of(words);
     let end = metadata.storage_end;
     let mut place = metadata.storage_start;
     while place < end {
@@ -49,23 +52,26 @@ fn swap_kinds(words: &mut [u32], metadata: GroupMetadata, e: Entity, swap_index:
 // Brings the entity into the group, in every sparse set of the group.
 fn group_components(
     words: &mut [u32],
+    z: Shape,
     metadata: GroupMetadata,
     g: usize,
     group_len: usize,
     e: Entity,
 )
     requires { ⌜ Arranged (now words) ⌝ }
+    requires { ⌜ z ≡ shapeOf (now words) ⌝ }
     requires { ⌜ Stands (meaning (now words)) g metadata «group_len» ⌝ }
     requires { ⌜ Swappable (entity (e .index) (e .version)) (located (meaning (now words) .storage .layout) g .kinds) (located (meaning (now words) .storage .layout) g .count) (meaning (now words) .storage .sets) ⌝ }
     ensures { λ _. ⌜ Becomes (now (words .entry)) (now (words .exit)) (onStorage (groupAt (entity (e .index) (e .version)) g) (meaning (now (words .entry)))) ⌝ }
 {
-    swap_kinds(words, metadata, e, group_len);
+    swap_kinds(words, z, metadata, e, group_len);
     set_count(words, g, group_len + 1);
 }
 
 // Brings it out again. It stands at the same place in every sparse set of the group; at the last counted place it needs no swap.
 fn ungroup_components(
     words: &mut [u32],
+    z: Shape,
     metadata: GroupMetadata,
     g: usize,
     group_len: usize,
@@ -73,6 +79,7 @@ fn ungroup_components(
     e: Entity,
 )
     requires { ⌜ Arranged (now words) ⌝ }
+    requires { ⌜ z ≡ shapeOf (now words) ⌝ }
     requires { ⌜ Stands (meaning (now words)) g metadata «group_len» ⌝ }
     requires { ⌜ 1 ≤ «group_len» ⌝ }
     requires { ⌜ Swappable (entity (e .index) (e .version)) (located (meaning (now words) .storage .layout) g .kinds) (located (meaning (now words) .storage .layout) g .count - 1) (meaning (now words) .storage .sets) ⌝ }
@@ -84,19 +91,20 @@ fn ungroup_components(
         set_count(words, g, swap_index);
         return;
     }
-    swap_kinds(words, metadata, e, swap_index);
+    swap_kinds(words, z, metadata, e, swap_index);
     set_count(words, g, swap_index);
 }
 
 // One group of the walk upward; answers what is left of the groups after it.
-fn group_step(words: &mut [u32], g: usize, rest: GroupMask, e: Entity) -> GroupMask
+fn group_step(words: &mut [u32], z: Shape, g: usize, rest: GroupMask, e: Entity) -> GroupMask
     requires { ⌜ Arranged (now words) ⌝ }
+    requires { ⌜ z ≡ shapeOf (now words) ⌝ }
     requires { ⌜ g < groupsOf (meaning (now words) .storage .layout) ⌝ }
     requires { ⌜ ReadyIn (statusAt (entity (e .index) (e .version)) g (meaning (now words) .storage)) (entity (e .index) (e .version)) (located (meaning (now words) .storage .layout) g) (meaning (now words) .storage .sets) ⌝ }
     ensures { λ r. ⌜ StepsUp (now (words .entry)) (now (words .exit)) (entity (e .index) (e .version)) g (rest .0) (r .0) ⌝ }
 {
     let metadata = metadata(words, g);
-    let status = status_in(words, g, metadata, e);
+    let status = status_in(words, z, g, metadata, e);
     match status {
         GroupStatus::Incomplete => {
             let skip = GroupMask::skip_from_to(g, metadata.top);
@@ -104,7 +112,7 @@ fn group_step(words: &mut [u32], g: usize, rest: GroupMask, e: Entity) -> GroupM
         }
         GroupStatus::Ungrouped => {
             let group_len = count(words, g);
-            group_components(words, metadata, g, group_len, e);
+            group_components(words, z, metadata, g, group_len, e);
             return rest;
         }
         GroupStatus::Grouped(place) => {
@@ -114,8 +122,9 @@ fn group_step(words: &mut [u32], g: usize, rest: GroupMask, e: Entity) -> GroupM
 }
 
 // The walk upward over the groups of a mask, lowest first.
-pub fn group(words: &mut [u32], mask: GroupMask, e: Entity)
+pub fn group(words: &mut [u32], z: Shape, mask: GroupMask, e: Entity)
     requires { ⌜ Arranged (now words) ⌝ }
+    requires { ⌜ z ≡ shapeOf (now words) ⌝ }
     requires { ⌜ Below (bitsOf 64 (mask .0)) (meaning (now words) .storage) ⌝ }
     requires { ⌜ ReadyUp (entity (e .index) (e .version)) 0 (bitsOf 64 (mask .0)) (meaning (now words) .storage) ⌝ }
     ensures { λ _. ⌜ Becomes (now (words .entry)) (now (words .exit)) (onStorage (walkUp (entity (e .index) (e .version)) 0 (bitsOf 64 (mask .0))) (meaning (now (words .entry)))) ⌝ }
@@ -125,7 +134,7 @@ pub fn group(words: &mut [u32], mask: GroupMask, e: Entity)
         let NextBit::At(g, rest) = left.next() else {
             return;
         };
-        left = group_step(words, g as usize, rest, e);
+        left = group_step(words, z, g as usize, rest, e);
     }
 }
 
@@ -139,24 +148,26 @@ pub fn group_each(words: &mut [u32], mask: GroupMask, start: usize)
     if mask.0 == 0 {
         return;
     }
+    let z = words::shape_of(words);
     let len = control::entities::live_len(words);
     let mut place = start;
     while place < len {
         let entity = control::entities::live_at(words, place);
-        group(words, mask, entity);
+        group(words, z, mask, entity);
         place += 1;
     }
 }
 
 // One group of the walk downward.
-fn ungroup_step(words: &mut [u32], g: usize, e: Entity)
+fn ungroup_step(words: &mut [u32], z: Shape, g: usize, e: Entity)
     requires { ⌜ Arranged (now words) ⌝ }
+    requires { ⌜ z ≡ shapeOf (now words) ⌝ }
     requires { ⌜ g < groupsOf (meaning (now words) .storage .layout) ⌝ }
     requires { ⌜ ReadyOut (statusAt (entity (e .index) (e .version)) g (meaning (now words) .storage)) (entity (e .index) (e .version)) (located (meaning (now words) .storage .layout) g) (meaning (now words) .storage .sets) ⌝ }
     ensures { λ _. ⌜ Becomes (now (words .entry)) (now (words .exit)) (onStorage (stepDown (statusAt (entity (e .index) (e .version)) g (meaning (now (words .entry)) .storage)) (entity (e .index) (e .version)) g) (meaning (now (words .entry)))) ⌝ }
 {
     let metadata = metadata(words, g);
-    let status = status_in(words, g, metadata, e);
+    let status = status_in(words, z, g, metadata, e);
     match status {
         GroupStatus::Incomplete => {
             return;
@@ -166,7 +177,7 @@ fn ungroup_step(words: &mut [u32], g: usize, e: Entity)
         }
         GroupStatus::Grouped(place) => {
             let group_len = count(words, g);
-            ungroup_components(words, metadata, g, group_len, place, e);
+            ungroup_components(words, z, metadata, g, group_len, place, e);
             return;
         }
     }
@@ -180,8 +191,9 @@ fn highest(mask: GroupMask) -> NextBit
 }
 
 // The walk downward over the groups of a mask, highest first.
-pub fn ungroup(words: &mut [u32], mask: GroupMask, e: Entity)
+pub fn ungroup(words: &mut [u32], z: Shape, mask: GroupMask, e: Entity)
     requires { ⌜ Arranged (now words) ⌝ }
+    requires { ⌜ z ≡ shapeOf (now words) ⌝ }
     requires { ⌜ Below (bitsOf 64 (mask .0)) (meaning (now words) .storage) ⌝ }
     requires { ⌜ ReadyDown (entity (e .index) (e .version)) (reverse (bitsOf 64 (mask .0))) (meaning (now words) .storage) ⌝ }
     ensures { λ _. ⌜ Becomes (now (words .entry)) (now (words .exit)) (onStorage (walkDown (entity (e .index) (e .version)) (reverse (bitsOf 64 (mask .0)))) (meaning (now (words .entry)))) ⌝ }
@@ -191,20 +203,19 @@ pub fn ungroup(words: &mut [u32], mask: GroupMask, e: Entity)
         let NextBit::At(g, rest) = highest(left) else {
             return;
         };
-        ungroup_step(words, g as usize, e);
+        ungroup_step(words, z, g as usize, e);
         left = rest;
     }
 }
 
 // Out of all groups, highest first.
-pub fn ungroup_all(words: &mut [u32], e: Entity)
+pub fn ungroup_all(words: &mut [u32], z: Shape, e: Entity)
     requires { ⌜ Arranged (now words) ⌝ }
+    requires { ⌜ z ≡ shapeOf (now words) ⌝ }
     requires { ⌜ ReadyDown (entity (e .index) (e .version)) (reverse (upFrom 0 (groupsOf (meaning (now words) .storage .layout)))) (meaning (now words) .storage) ⌝ }
     ensures { λ _. ⌜ Becomes (now (words .entry)) (now (words .exit)) (onStorage (walkDown (entity (e .index) (e .version)) (reverse (upFrom 0 (groupsOf (meaning (now (words .entry)) .storage .layout))))) (meaning (now (words .entry)))) ⌝ }
 {
-    let mut g = group_count(words);
-    while 0 < g {
-        g -= 1;
-        ungroup_step(words, g, e);
-    }
+    let n = group_count(words);
+    let mask = GroupMask::from_to(0, n);
+    ungroup(words, z, mask, e);
 }

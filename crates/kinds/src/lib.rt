@@ -1,4 +1,5 @@
-// The table of kinds (component_storage.rs): a kind's sparse set, reached by the slot that the table has for it.
+// The table of kinds (component_storage.rs): a kind's sparse set, reached by the slot that the table has for it. z is the store's shape,
+// which the caller has read.
 use component::Found;
 use component::Removed;
 use values::Value;
@@ -58,59 +59,59 @@ pub fn set_len(words: &[u32], kind: usize) -> usize
 }
 
 // Any index and version may be asked for.
-pub fn find(words: &[u32], kind: usize, e: Entity) -> Found
+pub fn find(words: &[u32], z: Shape, kind: usize, e: Entity) -> Found
     requires { ⌜ Arranged (now words) ⌝ }
+    requires { ⌜ z ≡ shapeOf (now words) ⌝ }
     requires { ⌜ In (meaning (now words) .kinds) kind ⌝ }
     ensures { λ r. ⌜ Finds (shapeOf (now (words .entry))) (entity (e .index) (e .version)) (kindSet (now (words .entry)) kind) r ⌝ }
 {
-    let z = words::shape_of(words);
     let slot = slot_of(words, kind);
     component::slots::find_in(words, z, slot, e)
 }
 
 // Whether the entity holds the kind.
-pub fn holds(words: &[u32], kind: usize, e: Entity) -> bool
+pub fn holds(words: &[u32], z: Shape, kind: usize, e: Entity) -> bool
     requires { ⌜ Arranged (now words) ⌝ }
+    requires { ⌜ z ≡ shapeOf (now words) ⌝ }
     requires { ⌜ In (meaning (now words) .kinds) kind ⌝ }
     ensures { λ r. ⌜ r ≡ held (entity (e .index) (e .version)) (kindSet (now (words .entry)) kind) ⌝ }
 {
-    let z = words::shape_of(words);
     let slot = slot_of(words, kind);
     component::slots::holds_in(words, z, slot, e)
 }
 
 // The value of the row at a place.
-pub fn value_of(words: &[u32], kind: usize, place: usize) -> Value
+pub fn value_of(words: &[u32], z: Shape, kind: usize, place: usize) -> Value
     requires { ⌜ Arranged (now words) ⌝ }
+    requires { ⌜ z ≡ shapeOf (now words) ⌝ }
     requires { ⌜ In (meaning (now words) .kinds) kind ⌝ }
     requires { ⌜ place < length (kindSet (now words) kind) ⌝ }
     ensures { λ r. ⌜ valueOf (shapeOf (now (words .entry)) .stride) r ≡ getD (kindSet (now (words .entry)) kind) place noRow .value ⌝ }
 {
-    let z = words::shape_of(words);
     let slot = slot_of(words, kind);
     component::slots::value_in(words, z, slot, place)
 }
 
 // Puts a value with an entity: in the entity's row, or in a new one at the end.
-pub fn insert(words: &mut [u32], kind: usize, e: Entity, x: Value)
+pub fn insert(words: &mut [u32], z: Shape, kind: usize, e: Entity, x: Value)
     requires { ⌜ Arranged (now words) ⌝ }
+    requires { ⌜ z ≡ shapeOf (now words) ⌝ }
     requires { ⌜ In (meaning (now words) .kinds) kind ⌝ }
     requires { ⌜ (e .index < capacityOf (now words)) × (1 ≤ e .version) ⌝ }
     requires { ⌜ Current (e .index) (e .version) (kindSet (now words) kind) ⌝ }
     ensures { λ _. ⌜ Becomes (now (words .entry)) (now (words .exit)) (onStorage (onSet kind (insertRow (entity (e .index) (e .version)) (valueOf (shapeOf (now (words .entry)) .stride) x))) (meaning (now (words .entry)))) ⌝ }
 {
-    let z = words::shape_of(words);
     let slot = slot_of(words, kind);
     component::slots::insert_in(words, z, slot, e, x);
 }
 
 // The entity's row goes, if it has one, and its value is handed back.
-pub fn remove(words: &mut [u32], kind: usize, e: Entity) -> Removed
+pub fn remove(words: &mut [u32], z: Shape, kind: usize, e: Entity) -> Removed
     requires { ⌜ Arranged (now words) ⌝ }
+    requires { ⌜ z ≡ shapeOf (now words) ⌝ }
     requires { ⌜ In (meaning (now words) .kinds) kind ⌝ }
     ensures { λ r. ⌜ RemovesKind (now (words .entry)) (now (words .exit)) kind (entity (e .index) (e .version)) r ⌝ }
 {
-    let z = words::shape_of(words);
     let slot = slot_of(words, kind);
     component::slots::remove_in(words, z, slot, e)
 }
@@ -126,25 +127,26 @@ pub fn clear_sets(words: &mut [u32])
 }
 
 // A word of the head of the kind's column.
-fn head(words: &[u32], kind: usize, i: usize) -> usize
+fn head(words: &[u32], z: Shape, kind: usize, i: usize) -> usize
     requires { ⌜ Arranged (now words) ⌝ }
+    requires { ⌜ z ≡ shapeOf (now words) ⌝ }
     requires { ⌜ In (meaning (now words) .kinds) kind ⌝ }
     requires { ⌜ i < ROWS ⌝ }
     ensures { λ r. ⌜ r ≡ headWord (now (words .entry)) kind i ⌝ }
 {
-    let z = words::shape_of(words);
     let slot = slot_of(words, kind);
     let base = words::column_start(z, slot);
     words::word(words, base + i)
 }
 
 // The place of the kind's own group among the groups: the one whose new kinds have it.
-pub fn own_group(words: &[u32], kind: usize) -> Found
+pub fn own_group(words: &[u32], z: Shape, kind: usize) -> Found
     requires { ⌜ Arranged (now words) ⌝ }
+    requires { ⌜ z ≡ shapeOf (now words) ⌝ }
     requires { ⌜ In (meaning (now words) .kinds) kind ⌝ }
     ensures { λ r. ⌜ OwnGroup (now (words .entry)) kind r ⌝ }
 {
-    let own = head(words, kind, words::OWN_GROUP);
+    let own = head(words, z, kind, words::OWN_GROUP);
     if own == 0 {
         return Found::Nothing;
     }
@@ -152,12 +154,13 @@ pub fn own_group(words: &[u32], kind: usize) -> Found
 }
 
 // The kind's place among its family's kinds, where it is in a group.
-pub fn place_in_family(words: &[u32], kind: usize) -> usize
+pub fn place_in_family(words: &[u32], z: Shape, kind: usize) -> usize
     requires { ⌜ Arranged (now words) ⌝ }
+    requires { ⌜ z ≡ shapeOf (now words) ⌝ }
     requires { ⌜ In (meaning (now words) .kinds) kind ⌝ }
     ensures { λ r. ⌜ r ≡ localAt (now (words .entry)) (slotOf (now (words .entry)) kind) ⌝ }
 {
-    head(words, kind, words::PLACE_IN_FAMILY)
+    head(words, z, kind, words::PLACE_IN_FAMILY)
 }
 
 // The head of a column that a kind gets: the kind, in no group.

@@ -2,6 +2,7 @@
 // One lookup for each live entity and registered kind: the length comes from the columns' lengths, an entity's count from the bytes of its components.
 use component::Found;
 use words::Entity;
+use words::Shape;
 ghost use mathlib.Core.Path.{_≡_};
 ghost use Prim.Native.Nat.{_+_, _*_, _<_, _≤_};
 ghost use lib.ListN.{length};
@@ -67,78 +68,78 @@ fn rising_kinds(words: &[u32], list: &mut [u8]) -> usize
     count
 }
 
-// One component, if the entity holds the kind. Here and below d is how many words a value of the store has.
-fn write_one(words: &[u32], d: usize, kind: usize, e: Entity, out: &mut [u8], at: usize) -> usize
+// One component, if the entity holds the kind. Here and below z is the shape of the store.
+fn write_one(words: &[u32], z: Shape, kind: usize, e: Entity, out: &mut [u8], at: usize) -> usize
     requires { ⌜ Arranged (now words) ⌝ }
-    requires { ⌜ d ≡ shapeOf (now words) .stride ⌝ }
+    requires { ⌜ z ≡ shapeOf (now words) ⌝ }
     requires { ⌜ In (meaning (now words) .kinds) kind ⌝ }
-    requires { ⌜ at + length (oneBytes (4 * d) (valueAt (entity (e .index) (e .version)) (kindSet (now words) kind)) kind) ≤ length (now out) ⌝ }
-    ensures { λ r. ⌜ WrittenUntil (now (out .entry)) (now (out .exit)) at r (oneBytes (4 * d) (valueAt (entity (e .index) (e .version)) (kindSet (now (words .entry)) kind)) kind) ⌝ }
+    requires { ⌜ at + length (oneBytes (4 * z .stride) (valueAt (entity (e .index) (e .version)) (kindSet (now words) kind)) kind) ≤ length (now out) ⌝ }
+    ensures { λ r. ⌜ WrittenUntil (now (out .entry)) (now (out .exit)) at r (oneBytes (4 * z .stride) (valueAt (entity (e .index) (e .version)) (kindSet (now (words .entry)) kind)) kind) ⌝ }
 {
-    let found = kinds::find(words, kind, e);
+    let found = kinds::find(words, z, kind, e);
     let Found::At(place) = found else {
         return at;
     };
-    let value = kinds::value_of(words, kind, place);
+    let value = kinds::value_of(words, z, kind, place);
     out[at] = kind as u8;
-    values::put_bytes(out, at + 1, d, value);
-    at + 1 + model::WORD_BYTES * d
+    values::put_bytes(out, at + 1, z.stride, value);
+    at + 1 + model::WORD_BYTES * z.stride
 }
 
 // The entity's components.
 fn write_components(
     words: &[u32],
-    d: usize,
+    z: Shape,
     list: &[u8],
     e: Entity,
     out: &mut [u8],
     at: usize,
 ) -> usize
     requires { ⌜ Arranged (now words) ⌝ }
-    requires { ⌜ d ≡ shapeOf (now words) .stride ⌝ }
+    requires { ⌜ z ≡ shapeOf (now words) ⌝ }
     requires { ⌜ now list ≡ risingKinds (meaning (now words) .kinds) ⌝ }
-    requires { ⌜ at + length (componentBytes (4 * d) (componentsOf (entity (e .index) (e .version)) 0 (meaning (now words) .storage .sets))) ≤ length (now out) ⌝ }
-    ensures { λ r. ⌜ WrittenUntil (now (out .entry)) (now (out .exit)) at r (componentBytes (4 * d) (componentsOf (entity (e .index) (e .version)) 0 (meaning (now (words .entry)) .storage .sets))) ⌝ }
+    requires { ⌜ at + length (componentBytes (4 * z .stride) (componentsOf (entity (e .index) (e .version)) 0 (meaning (now words) .storage .sets))) ≤ length (now out) ⌝ }
+    ensures { λ r. ⌜ WrittenUntil (now (out .entry)) (now (out .exit)) at r (componentBytes (4 * z .stride) (componentsOf (entity (e .index) (e .version)) 0 (meaning (now (words .entry)) .storage .sets))) ⌝ }
 {
     let mut next = at;
     for i in 0..list.len() {
         let kind = list[i] as usize;
-        next = write_one(words, d, kind, e, out, next);
+        next = write_one(words, z, kind, e, out, next);
     }
     next
 }
 
 // One entity: its numbers, how many components it has, and these.
-fn write_entity(words: &[u32], d: usize, list: &[u8], e: Entity, out: &mut [u8], at: usize) -> usize
+fn write_entity(words: &[u32], z: Shape, list: &[u8], e: Entity, out: &mut [u8], at: usize) -> usize
     requires { ⌜ Arranged (now words) ⌝ }
-    requires { ⌜ d ≡ shapeOf (now words) .stride ⌝ }
+    requires { ⌜ z ≡ shapeOf (now words) ⌝ }
     requires { ⌜ now list ≡ risingKinds (meaning (now words) .kinds) ⌝ }
-    requires { ⌜ at + length (entryBytes (4 * d) (entryFor (now words) (e .index) (e .version))) ≤ length (now out) ⌝ }
-    ensures { λ r. ⌜ WrittenUntil (now (out .entry)) (now (out .exit)) at r (entryBytes (4 * d) (entryFor (now (words .entry)) (e .index) (e .version))) ⌝ }
+    requires { ⌜ at + length (entryBytes (4 * z .stride) (entryFor (now words) (e .index) (e .version))) ≤ length (now out) ⌝ }
+    ensures { λ r. ⌜ WrittenUntil (now (out .entry)) (now (out .exit)) at r (entryBytes (4 * z .stride) (entryFor (now (words .entry)) (e .index) (e .version))) ⌝ }
 {
     codec::put_u32(out, at, e.index);
     codec::put_u32(out, at + 4, e.version);
     let start = at + 9;
-    let end = write_components(words, d, list, e, out, start);
-    out[at + 8] = ((end - start) / (1 + model::WORD_BYTES * d)) as u8;
+    let end = write_components(words, z, list, e, out, start);
+    out[at + 8] = ((end - start) / (1 + model::WORD_BYTES * z.stride)) as u8;
     end
 }
 
 // The live entity with this index, if there is one.
 fn write_index(
     words: &[u32],
-    d: usize,
+    z: Shape,
     list: &[u8],
     index: usize,
     out: &mut [u8],
     at: usize,
 ) -> usize
     requires { ⌜ Arranged (now words) ⌝ }
-    requires { ⌜ d ≡ shapeOf (now words) .stride ⌝ }
+    requires { ⌜ z ≡ shapeOf (now words) ⌝ }
     requires { ⌜ now list ≡ risingKinds (meaning (now words) .kinds) ⌝ }
     requires { ⌜ index < meaning (now words) .settings .capacity ⌝ }
-    requires { ⌜ at + length (indexBytes (4 * d) (now words) index) ≤ length (now out) ⌝ }
-    ensures { λ r. ⌜ WrittenUntil (now (out .entry)) (now (out .exit)) at r (indexBytes (4 * d) (now (words .entry)) index) ⌝ }
+    requires { ⌜ at + length (indexBytes (4 * z .stride) (now words) index) ≤ length (now out) ⌝ }
+    ensures { λ r. ⌜ WrittenUntil (now (out .entry)) (now (out .exit)) at r (indexBytes (4 * z .stride) (now (words .entry)) index) ⌝ }
 {
     let version = control::entities::version_at(words, index);
     if version == 0 {
@@ -148,21 +149,21 @@ fn write_index(
         index: index as u32,
         version,
     };
-    write_entity(words, d, list, e, out, at)
+    write_entity(words, z, list, e, out, at)
 }
 
 // All live entities.
-fn write_entities(words: &[u32], d: usize, list: &[u8], out: &mut [u8], at: usize) -> usize
+fn write_entities(words: &[u32], z: Shape, list: &[u8], out: &mut [u8], at: usize) -> usize
     requires { ⌜ Arranged (now words) ⌝ }
-    requires { ⌜ d ≡ shapeOf (now words) .stride ⌝ }
+    requires { ⌜ z ≡ shapeOf (now words) ⌝ }
     requires { ⌜ now list ≡ risingKinds (meaning (now words) .kinds) ⌝ }
-    requires { ⌜ at + length (flat (4 * d) (listing (meaning (now words)))) ≤ length (now out) ⌝ }
-    ensures { λ r. ⌜ WrittenUntil (now (out .entry)) (now (out .exit)) at r (flat (4 * d) (listing (meaning (now (words .entry))))) ⌝ }
+    requires { ⌜ at + length (flat (4 * z .stride) (listing (meaning (now words)))) ≤ length (now out) ⌝ }
+    ensures { λ r. ⌜ WrittenUntil (now (out .entry)) (now (out .exit)) at r (flat (4 * z .stride) (listing (meaning (now (words .entry))))) ⌝ }
 {
     let issued = control::entities::issued(words);
     let mut next = at;
     for index in 0..issued {
-        next = write_index(words, d, list, index, out, next);
+        next = write_index(words, z, list, index, out, next);
     }
     next
 }
@@ -178,5 +179,5 @@ pub fn write_snapshot(words: &[u32], out: &mut [u8]) -> usize
     let count = rising_kinds(words, &mut list);
     let live = control::entities::live_len(words);
     codec::put_u32(out, 0, live as u32);
-    write_entities(words, z.stride, &list[..count], out, 4)
+    write_entities(words, z, &list[..count], out, 4)
 }

@@ -24,12 +24,12 @@ fn strip_slot(words: &mut [u32], z: Shape, slot: usize, e: Entity)
 }
 
 // Its components of all kinds go; no group is walked.
-fn strip_sets(words: &mut [u32], e: Entity)
+fn strip_sets(words: &mut [u32], z: Shape, e: Entity)
     requires { ⌜ Arranged (now words) ⌝ }
+    requires { ⌜ z ≡ shapeOf (now words) ⌝ }
     requires { ⌜ Distinct (meaning (now words) .kinds) ⌝ }
     ensures { λ _. ⌜ Becomes (now (words .entry)) (now (words .exit)) (onStorage (removed (entity (e .index) (e .version)) (meaning (now (words .entry)) .kinds)) (meaning (now (words .entry)))) ⌝ }
 {
-    let z = words::shape_of(words);
     let m = words::word(words, words::REGISTERED);
     let mut slot = 0;
     while slot < m {
@@ -43,8 +43,9 @@ pub fn strip(words: &mut [u32], e: Entity)
     requires { ⌜ Sound (now words) ⌝ }
     ensures { λ _. ⌜ Becomes (now (words .entry)) (now (words .exit)) (onStorage (remove (entity (e .index) (e .version)) (meaning (now (words .entry)) .kinds)) (meaning (now (words .entry)))) ⌝ }
 {
-    group::ungroup_all(words, e);
-    strip_sets(words, e);
+    let z = words::shape_of(words);
+    group::ungroup_all(words, z, e);
+    strip_sets(words, z, e);
 }
 
 // Every group's count is 0.

@@ -46,7 +46,8 @@ pub fn extend(words: &mut [u32], count: usize)
     requires { ⌜ count ≤ freeNumbers (meaning (now words) .settings .capacity) (meaning (now words) .entities) ⌝ }
     ensures { λ _. ⌜ Becomes (now (words .entry)) (now (words .exit)) (extended count (meaning (now (words .entry)))) ⌝ }
 {
-    let mask = staged_mask(words, Walk::Insert);
+    let z = words::shape_of(words);
+    let mask = staged_mask(words, z, Walk::Insert);
     let start = control::entities::live_len(words);
     create_each(words, count);
     component_set::insert_each(words, start);

@@ -5,6 +5,7 @@ use Prim.Native.Nat.{ℕ, _*_}
 use lib.ListN.{getD}
 use lib.Seq.{sets}
 use Rattle.model.specs.Store.{stagedKinds, bytesOf}
+use Rattle.words.specs.declared.Shape.{Shape}
 use Rattle.words.specs.Shape.{TwoOrFour, shapeOf}
 use Rattle.values.specs.Values.{valueOf}
 use Rattle.memory.proofs.Becomes.{stride-bytes}
@@ -18,14 +19,14 @@ use Rattle.command_take.proofs.take_one.Statement.{statement}
 use Rattle.command_take.proofs.take_one.Tie as tie
 
 remove-one-requires : tie.Need-remove-one-requires
-remove-one-requires c κs = let s = c .before .before .before in (s .pre .0, s .pre .1 .0)
+remove-one-requires c κs = let s = c .before .before .before in (s .pre .0, (s .pre .1 .0, s .pre .1 .1 .0))
 
 -- the value's words have the store's bytes
-wide : (s : tie.Start) → 4 * s .args .d ≡ meaning (s .args .words .now) .settings .valueBytes
-wide s = ap (λ (d : ℕ). 4 * d) (s .pre .1 .1 .0) ∙ stride-bytes (s .args .words .now) (s .pre .0 .arranged)
+wide : (s : tie.Start) → 4 * s .args .z .stride ≡ meaning (s .args .words .now) .settings .valueBytes
+wide s = ap (λ (y : Shape). 4 * y .stride) (s .pre .1 .0) ∙ stride-bytes (s .args .words .now) (s .pre .0 .arranged)
 
-words-of : (s : tie.Start) → TwoOrFour (s .args .d)
-words-of s = subst TwoOrFour (sym (s .pre .1 .1 .0)) (s .pre .0 .arranged .columns .shaped .words)
+words-of : (s : tie.Start) → TwoOrFour (s .args .z .stride)
+words-of s = subst (λ (y : Shape). TwoOrFour (y .stride)) (sym (s .pre .1 .0)) (s .pre .0 .arranged .columns .shaped .words)
 
 returns : tie.Need-returns
 returns c =
@@ -40,7 +41,7 @@ returns c =
       becomes = r .ensures .becomes;
       bytes =
           c .before .before .put-held .ensures
-          ∙ ap₂ (λ (n x : ℕ). sets (a .out .now) (a .at) (0 ∷ bytesOf n x)) (wide (c .before .before .before .before .before .before .before .before .before .before .before .before .before)) (c .before .before .before .zero .ensures (a .d))
+          ∙ ap₂ (λ (n x : ℕ). sets (a .out .now) (a .at) (0 ∷ bytesOf n x)) (wide (c .before .before .before .before .before .before .before .before .before .before .before .before .before)) (c .before .before .before .zero .ensures (a .z .stride))
           ∙ ap (sets (a .out .now) (a .at)) (bytes-none v e (kindSet w k) g);
     }
 
@@ -58,7 +59,7 @@ returns-2 c =
       becomes = r .ensures .becomes;
       bytes =
           c .before .before .put-held2 .ensures
-          ∙ ap₂ (λ (n d : ℕ). sets (a .out .now) (a .at) (1 ∷ bytesOf n (valueOf d (c .before .before .before .before .before .removed .given .0 .0)))) (wide s) (s .pre .1 .1 .0)
+          ∙ ap₂ (λ (n : ℕ) (y : Shape). sets (a .out .now) (a .at) (1 ∷ bytesOf n (valueOf (y .stride) (c .before .before .before .before .before .removed .given .0 .0)))) (wide s) (s .pre .1 .0)
           ∙ ap (sets (a .out .now) (a .at)) (bytes-held v e (kindSet w k) _ (g .holds) (g .value));
     }
 

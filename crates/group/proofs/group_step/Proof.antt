@@ -11,7 +11,7 @@ skip-from-to-requires : tie.Need-skip-from-to-requires
 skip-from-to-requires c κs =
     let s = c .before .before .before .before .before .before .before in
     let d = c .before .before .before .before .metadata in
-    skip-ordered (meaning (s .args .words .now)) (s .args .g) (d .result) (s .pre .1 .0) (d .ensures)
+    skip-ordered (meaning (s .args .words .now)) (s .args .g) (d .result) (s .pre .1 .1 .0) (d .ensures)
 
 returns : tie.Need-returns
 returns c =
@@ -26,8 +26,11 @@ group-components-requires c κs =
     let a = s .args in (
       s .pre .0,
       (
-        record { below = s .pre .1 .0; metadata = c .before .before .before .before .before .before .before .metadata .ensures; counted = c .before .count .ensures },
-        ready-in (a .words .now) (entity (a .e .index) (a .e .version)) (a .g) (sym (c .before .before .before .enum-told2 .given .1) ∙ c .before .before .before .before .before .status-in .ensures) (s .pre .1 .1),
+        s .pre .1 .0,
+        (
+          record { below = s .pre .1 .1 .0; metadata = c .before .before .before .before .before .before .before .metadata .ensures; counted = c .before .count .ensures },
+          ready-in (a .words .now) (entity (a .e .index) (a .e .version)) (a .g) (sym (c .before .before .before .enum-told2 .given .1) ∙ c .before .before .before .before .before .status-in .ensures) (s .pre .1 .1 .1),
+        ),
       ),
     )
 
@@ -42,15 +45,15 @@ pub group-step-spec : {M : Type 1} → statement M
 group-step-spec =
     tie.close
     (tie.spec
-    (λ c κs. let s = c .before .before in (s .pre .0, s .pre .1 .0))
-    (λ c κs. let s = c .before .before .before .before in (s .pre .0, (s .pre .1 .0, c .before .metadata .ensures)))
+    (λ c κs. let s = c .before .before in (s .pre .0, s .pre .1 .1 .0))
+    (λ c κs. let s = c .before .before .before .before in (s .pre .0, (s .pre .1 .0, (s .pre .1 .1 .0, c .before .metadata .ensures))))
     (λ c. c .match .keys1)
     skip-from-to-requires
     (λ c κs. tt)
     (λ c. refl)
     returns
     (λ c. c .match .keys2)
-    (λ c κs. let s = c .before .before .before .before .before .before .before .before in (s .pre .0, s .pre .1 .0))
+    (λ c κs. let s = c .before .before .before .before .before .before .before .before in (s .pre .0, s .pre .1 .1 .0))
     group-components-requires
     (λ c. c .before .before .group-components .kept .0)
     returns-2

@@ -1,63 +1,54 @@
-use mathlib.Core.Path.{_≡_, ap, sym, subst}
-use mathlib.Core.List.{List, _∷_, reverse}
+use mathlib.Core.Path.{_≡_, ap, sym, _∙_, subst}
+use mathlib.Core.List.{List, reverse}
 use Prim.Native.Nat.{ℕ, _-_}
 use native.Mathlib.Omega.{arith}
 use borrow.Author.Needs.{needs}
-use Rattle.model.specs.Model.{Entity, groupsOf, entity}
-use Rattle.masks.specs.Masks.{upFrom}
-use Rattle.masks.proofs.Lists.{up-parts, up-last}
+use Rattle.model.specs.Model.{groupsOf, entity}
+use Rattle.model.specs.Store.{onStorage}
+use Rattle.masks.specs.Masks.{bitsOf, upFrom}
+use Rattle.masks.proofs.Lists.{up-parts}
 use Rattle.memory.specs.Meaning.{meaning}
-use Rattle.group.proofs.Walking.{Down, walking-start, down-asks, down-turn, down-end, below-back}
+use Rattle.memory.specs.Arranged.{Becomes}
+use Rattle.group.specs.Flat.{walkDown}
+use Rattle.group.specs.Ready.{ReadyDown}
+use Rattle.group.specs.Steps.{Below}
+use Rattle.group.proofs.InWords.{groups-few}
 use Rattle.group.proofs.ungroup_all.Statement.{statement}
 use Rattle.group.proofs.ungroup_all.Tie as tie
 
--- the groups below n are left, of all
-abbrev Left : Entity → List ℕ → List ℕ → ℕ → Type 0
-Left e words₀ words n = Down e words₀ (reverse (upFrom 0 (groupsOf (meaning words₀ .storage .layout)))) words (reverse (upFrom 0 n))
-
-abbrev Inv-loop : tie.InvT-loop
-Inv-loop words₀ e g₀ words g = Left (entity (e .index) (e .version)) words₀ words g
-
-abbrev μ-loop : tie.MeasureT-loop
-μ-loop words₀ e g₀ words g = g
-
-loop-holds : tie.Need-loop-holds Inv-loop μ-loop
-loop-holds c =
+from-to-requires : tie.Need-from-to-requires
+from-to-requires c κs =
     let s = c .before .before .before in
-    let a = s .args in
-    let w = a .words .now in
-    let n = groupsOf (meaning w .storage .layout) in
-    subst (Left (entity (a .e .index) (a .e .version)) w w) (sym (c .group-count .ensures))
-    (walking-start (s .pre .0) (below-back (upFrom 0 n) (meaning w .storage) (λ i h. omega (arith, up-parts 0 n i h .1))) (s .pre .1))
+    record { rising = omega arith; inside = omega (arith, c .group-count .ensures, groups-few (s .args .words .now) (s .pre .0)) }
 
--- the highest of those left is next
-next : (c : tie.In-loop Inv-loop μ-loop) → reverse (upFrom 0 (c .before .loop .g)) ≡ (c .before .loop .g - 1) ∷ reverse (upFrom 0 (c .before .loop .g - 1))
-next c = up-last (c .before .loop .g) (omega (arith, c .loop-test))
+-- the mask has all groups
+all : (c : tie.After-from-to) → upFrom 0 (groupsOf (meaning (c .before .before .before .before .args .words .now) .storage .layout)) ≡ bitsOf 64 (c .from-to .result .0)
+all c =
+    let q : c .before .group-count .result - 0 ≡ groupsOf (meaning (c .before .before .before .before .args .words .now) .storage .layout) = omega (arith, c .before .group-count .ensures) in
+    sym (c .from-to .ensures ∙ ap (upFrom 0) q)
 
-ungroup-step-requires : tie.Need-ungroup-step-requires Inv-loop μ-loop
-ungroup-step-requires c κs = let i = c .before .before .loop in (i .inv .soFar .arranged, down-asks _ (i .inv) (next (c .before)))
+ungroup-requires : tie.Need-ungroup-requires
+ungroup-requires c κs =
+    let s = c .before .before .before .before .before in
+    let w = s .args .words .now in
+    let e = entity (s .args .e .index) (s .args .e .version) in
+    let n = groupsOf (meaning w .storage .layout) in (
+      s .pre .0,
+      (
+        s .pre .1 .0,
+        (
+          subst (λ (ps : List ℕ). Below ps (meaning w .storage)) (all (c .before)) (λ i h. omega (arith, up-parts 0 n i h .1)),
+          subst (λ (ps : List ℕ). ReadyDown e (reverse ps) (meaning w .storage)) (all (c .before)) (s .pre .1 .1),
+        ),
+      ),
+    )
 
-loop-again : tie.Need-loop-again Inv-loop μ-loop
-loop-again c = down-turn _ (c .before .before .before .before .before .loop .inv) (next (c .before .before .before .before)) (c .before .before .ungroup-step .ensures)
-
-returns : tie.Need-returns Inv-loop μ-loop
-unfolding upFrom
+returns : tie.Need-returns
 returns c =
-    let i = c .before .loop in
-    let z : i .g ≡ 0 = omega (arith, c .loop-test) in
-    down-end _ (i .inv) (ap (λ (n : ℕ). reverse (upFrom 0 n)) z)
+    let s = c .before .before .before .before .before .before .before .before in
+    let w = s .args .words .now in
+    let e = entity (s .args .e .index) (s .args .e .version) in
+    subst (λ (ps : List ℕ). Becomes w (c .before .before .ungroup .last .0) (onStorage (walkDown e (reverse ps)) (meaning w))) (sym (all (c .before .before .before .before))) (c .before .before .ungroup .ensures)
 
 pub ungroup-all-spec : {M : Type 1} → statement M
-ungroup-all-spec =
-    tie.close
-    (tie.spec
-    Inv-loop
-    μ-loop
-    (λ c κs. search needs)
-    loop-holds
-    (λ c. search needs)
-    ungroup-step-requires
-    (λ c. omega (arith, c .before .before .before .before .loop-test))
-    loop-again
-    (λ c. c .before .loop .inv .soFar .size)
-    returns)
+ungroup-all-spec = tie.close (tie.spec (λ c κs. search needs) from-to-requires ungroup-requires (λ c. search needs) returns)

@@ -14,22 +14,22 @@ use Rattle.snapshot.proofs.write_components.Statement.{statement}
 use Rattle.snapshot.proofs.write_components.Tie as tie
 
 abbrev Inv-loop : tie.InvT-loop
-Inv-loop words d list e out₀ at next₀ i₀ i-end out next i =
-    Writing out₀ at (kindsBytes (4 * d) (entity (e .index) (e .version)) (meaning words .storage .sets) list) out next (kindsBytes (4 * d) (entity (e .index) (e .version)) (meaning words .storage .sets) (drop i list)) × (i ≤ length list)
+Inv-loop words z list e out₀ at next₀ i₀ i-end out next i =
+    Writing out₀ at (kindsBytes (4 * z .stride) (entity (e .index) (e .version)) (meaning words .storage .sets) list) out next (kindsBytes (4 * z .stride) (entity (e .index) (e .version)) (meaning words .storage .sets) (drop i list)) × (i ≤ length list)
 
 abbrev μ-loop : tie.MeasureT-loop
-μ-loop words d list e out₀ at next₀ i₀ i-end out next i = length list - i
+μ-loop words z list e out₀ at next₀ i₀ i-end out next i = length list - i
 
 -- the entity's components are those of the listed kinds
-all-listed : (s : tie.Start Inv-loop μ-loop) → componentBytes (4 * s .args .d) (componentsOf (entity (s .args .e .index) (s .args .e .version)) 0 (meaning (s .args .words .now) .storage .sets)) ≡ kindsBytes (4 * s .args .d) (entity (s .args .e .index) (s .args .e .version)) (meaning (s .args .words .now) .storage .sets) (s .args .list .now)
+all-listed : (s : tie.Start Inv-loop μ-loop) → componentBytes (4 * s .args .z .stride) (componentsOf (entity (s .args .e .index) (s .args .e .version)) 0 (meaning (s .args .words .now) .storage .sets)) ≡ kindsBytes (4 * s .args .z .stride) (entity (s .args .e .index) (s .args .e .version)) (meaning (s .args .words .now) .storage .sets) (s .args .list .now)
 all-listed s =
     let w = s .args .words .now in
-    bytes-all (4 * s .args .d) (entity (s .args .e .index) (s .args .e .version)) (meaning w .kinds) (meaning w .storage .sets) (sets-wide w) (no-rows w (s .pre .0)) (s .args .list .now) (s .pre .1 .1 .0)
+    bytes-all (4 * s .args .z .stride) (entity (s .args .e .index) (s .args .e .version)) (meaning w .kinds) (meaning w .storage .sets) (sets-wide w) (no-rows w (s .pre .0)) (s .args .list .now) (s .pre .1 .1 .0)
 
 loop-holds : tie.Need-loop-holds Inv-loop μ-loop
 loop-holds c =
     let a = c .before .before .before .args in
-    (writing-start (a .out .now) (a .at) (kindsBytes (4 * a .d) (entity (a .e .index) (a .e .version)) (meaning (a .words .now) .storage .sets) (a .list .now)), omega arith)
+    (writing-start (a .out .now) (a .at) (kindsBytes (4 * a .z .stride) (entity (a .e .index) (a .e .version)) (meaning (a .words .now) .storage .sets) (a .list .now)), omega arith)
 
 cast-kind : tie.Need-cast-kind Inv-loop μ-loop
 cast-kind c = omega (arith, c .shared-slice-known3 .given (c .before .before .loop .i))
@@ -43,8 +43,8 @@ write-one-requires c κs =
     let ss = meaning w .storage .sets in
     let i = c .before .before .before .loop .i in
     let k = getD (a .list .now) i 0 in
-    let room : a .at + length (kindsBytes (4 * a .d) e ss (a .list .now)) ≤ length (a .out .now) = rw (all-listed s) at (s .pre .1 .1 .1) in
-    (s .pre .0, (s .pre .1 .0, (rising-in (meaning w .kinds) (a .list .now) (s .pre .1 .1 .0) i (omega arith), writing-room (oneBytes (4 * a .d) (valueAt e (setOf ss k)) k) (kindsBytes (4 * a .d) e ss (drop (i + 1) (a .list .now))) (c .before .before .before .loop .inv .0) (bytes-turn (4 * a .d) e ss (a .list .now) i (omega arith)) room)))
+    let room : a .at + length (kindsBytes (4 * a .z .stride) e ss (a .list .now)) ≤ length (a .out .now) = rw (all-listed s) at (s .pre .1 .1 .1) in
+    (s .pre .0, (s .pre .1 .0, (rising-in (meaning w .kinds) (a .list .now) (s .pre .1 .1 .0) i (omega arith), writing-room (oneBytes (4 * a .z .stride) (valueAt e (setOf ss k)) k) (kindsBytes (4 * a .z .stride) e ss (drop (i + 1) (a .list .now))) (c .before .before .before .loop .inv .0) (bytes-turn (4 * a .z .stride) e ss (a .list .now) i (omega arith)) room)))
 
 loop-again : tie.Need-loop-again Inv-loop μ-loop
 loop-again c =
@@ -53,13 +53,13 @@ loop-again c =
     let ss = meaning (a .words .now) .storage .sets in
     let i = c .before .before .before .before .before .before .loop .i in
     let k = getD (a .list .now) i 0 in
-    (writing-turn (oneBytes (4 * a .d) (valueAt e (setOf ss k)) k) (kindsBytes (4 * a .d) e ss (drop (i + 1) (a .list .now))) (c .before .before .before .before .before .before .loop .inv .0) (bytes-turn (4 * a .d) e ss (a .list .now) i (omega arith)) (c .before .before .write-one .ensures), omega arith)
+    (writing-turn (oneBytes (4 * a .z .stride) (valueAt e (setOf ss k)) k) (kindsBytes (4 * a .z .stride) e ss (drop (i + 1) (a .list .now))) (c .before .before .before .before .before .before .loop .inv .0) (bytes-turn (4 * a .z .stride) e ss (a .list .now) i (omega arith)) (c .before .before .write-one .ensures), omega arith)
 
 returns : tie.Need-returns Inv-loop μ-loop
 returns c =
     let s = c .before .before .before .before .before in
     let a = s .args in
-    rw (all-listed s) (writing-end (c .before .loop .inv .0) (bytes-end (4 * a .d) (entity (a .e .index) (a .e .version)) (meaning (a .words .now) .storage .sets) (a .list .now) (c .before .loop .i) (omega arith)))
+    rw (all-listed s) (writing-end (c .before .loop .inv .0) (bytes-end (4 * a .z .stride) (entity (a .e .index) (a .e .version)) (meaning (a .words .now) .storage .sets) (a .list .now) (c .before .loop .i) (omega arith)))
 
 pub write-components-spec : {M : Type 1} → statement M
 write-components-spec =

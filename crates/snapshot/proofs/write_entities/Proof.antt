@@ -10,20 +10,20 @@ use Rattle.snapshot.proofs.write_entities.Statement.{statement}
 use Rattle.snapshot.proofs.write_entities.Tie as tie
 
 abbrev Inv-loop : tie.InvT-loop
-Inv-loop words d list out₀ at issued next₀ index₀ out next index = Writing out₀ at (from (4 * d) words 0) out next (from (4 * d) words index) × (index ≤ issued)
+Inv-loop words z list out₀ at issued next₀ index₀ out next index = Writing out₀ at (from (4 * z .stride) words 0) out next (from (4 * z .stride) words index) × (index ≤ issued)
 
 abbrev μ-loop : tie.MeasureT-loop
-μ-loop words d list out₀ at issued next₀ index₀ out next index = issued - index
+μ-loop words z list out₀ at issued next₀ index₀ out next index = issued - index
 
 loop-holds : tie.Need-loop-holds Inv-loop μ-loop
-loop-holds c = let a = c .before .before .before .before .args in (writing-start (a .out .now) (a .at) (from (4 * a .d) (a .words .now) 0), omega arith)
+loop-holds c = let a = c .before .before .before .before .args in (writing-start (a .out .now) (a .at) (from (4 * a .z .stride) (a .words .now) 0), omega arith)
 
 write-index-requires : tie.Need-write-index-requires Inv-loop μ-loop
 write-index-requires c κs =
     let s = c .before .before .before .before .before .before .before in
     let a = s .args in
     let w = a .words .now in
-    let v = 4 * a .d in
+    let v = 4 * a .z .stride in
     let i = c .before .before .loop .index in
     let h : i < meaning w .entities .issued = omega (arith, c .before .loop-test, c .before .before .before .issued .ensures) in
     let room : a .at + length (from v w 0) ≤ length (a .out .now) = rw (from-start v w) at (s .pre .1 .1 .1) in
@@ -33,7 +33,7 @@ loop-again : tie.Need-loop-again Inv-loop μ-loop
 loop-again c =
     let a = c .before .before .before .before .before .before .before .before .before .before .args in
     let w = a .words .now in
-    let v = 4 * a .d in
+    let v = 4 * a .z .stride in
     let i = c .before .before .before .before .before .loop .index in
     let h : i < meaning w .entities .issued = omega (arith, c .before .before .before .before .loop-test, c .before .before .before .before .before .before .issued .ensures) in
     (writing-turn (indexBytes v w i) (from v w (i + 1)) (c .before .before .before .before .before .loop .inv .0) (from-turn v w i h) (c .before .before .write-index .ensures), omega arith)
@@ -42,7 +42,7 @@ returns : tie.Need-returns Inv-loop μ-loop
 returns c =
     let a = c .before .before .before .before .before .before .args in
     let w = a .words .now in
-    let v = 4 * a .d in
+    let v = 4 * a .z .stride in
     let h : meaning w .entities .issued ≤ c .before .loop .index = omega (arith, c .loop-test, c .before .before .issued .ensures) in
     rw (from-start v w) (writing-end (c .before .loop .inv .0) (from-none v w (c .before .loop .index) h))
 

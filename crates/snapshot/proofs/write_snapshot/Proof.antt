@@ -46,7 +46,7 @@ write-entities-requires : tie.Need-write-entities-requires
 write-entities-requires c κs =
     let h = c .before .before .before .before .before .before .before .before .before .before in
     let s = h .before .before .before in
-    (s .pre .0, (ap (λ (z : Shape). z .stride) (h .shape-of .ensures .is), (c .before .before .before .before .before .before .before .before .rising-kinds .ensures .is, omega (arith, whole h, s .pre .1, c .before .before .before .before .put-u32 .kept .0))))
+    (s .pre .0, (h .shape-of .ensures .is, (c .before .before .before .before .before .before .before .before .rising-kinds .ensures .is, omega (arith, whole h, s .pre .1, c .before .before .before .before .put-u32 .kept .0))))
 
 returns : tie.Need-returns
 returns c =

@@ -9,24 +9,24 @@ use Rattle.model.specs.Model.{kindOf, entity}
 use Rattle.model.specs.Store.{Store, stagedKinds}
 use Rattle.component.proofs.Sums.{next-fits}
 use Rattle.memory.specs.Meaning.{meaning}
-use Rattle.world.proofs.Removing.{Gone, eachGone, gone-none, gone-turn, gone-all, staged-kept, staged-small}
+use Rattle.world.proofs.Removing.{Gone, eachGone, gone-none, gone-shape, gone-turn, gone-all, staged-kept, staged-small}
 use Rattle.world.proofs.component_set.delete_staged.Statement.{statement}
 use Rattle.world.proofs.component_set.delete_staged.Tie as tie
 
 abbrev Inv-loop : tie.InvT-loop
-Inv-loop words₀ e n i₀ words i =
+Inv-loop words₀ z e n i₀ words i =
     (i ≤ n) × (n ≡ length (stagedKinds (meaning words₀))) × Gone words₀ (entity (e .index) (e .version)) (stagedKinds (meaning words₀)) words i
 
 abbrev μ-loop : tie.MeasureT-loop
-μ-loop words₀ e n i₀ words i = n - i
+μ-loop words₀ z e n i₀ words i = n - i
 
 staged-len-requires : tie.Need-staged-len-requires Inv-loop μ-loop
-staged-len-requires c κs = c .before .before .pre .arranged
+staged-len-requires c κs = c .before .before .pre .0 .arranged
 
 loop-holds : tie.Need-loop-holds Inv-loop μ-loop
 loop-holds c =
     let a = c .before .before .before .args in
-    (zero-le, c .staged-len .ensures .is ∙ sym (length-map (meaning (a .words .now) .control .staged) kindOf), gone-none (a .words .now) (entity (a .e .index) (a .e .version)) (stagedKinds (meaning (a .words .now))) (c .before .before .before .pre .arranged))
+    (zero-le, c .staged-len .ensures .is ∙ sym (length-map (meaning (a .words .now) .control .staged) kindOf), gone-none (a .words .now) (entity (a .e .index) (a .e .version)) (stagedKinds (meaning (a .words .now))) (c .before .before .before .pre .0 .arranged))
 
 remove-one-requires : tie.Need-remove-one-requires Inv-loop μ-loop
 remove-one-requires c κs =
@@ -34,7 +34,7 @@ remove-one-requires c κs =
     let v = c .before .before .loop .inv in
     let w = c .before .before .loop .words in
     let n : length (meaning w .control .staged) ≡ length (stagedKinds (meaning (a .words .now))) = sym (length-map (meaning w .control .staged) kindOf) ∙ ap (λ (m : Store). length (stagedKinds m)) (v .2 .means) in
-    (staged-kept (a .words .now) w (eachGone (entity (a .e .index) (a .e .version)) (take (c .before .before .loop .i) (stagedKinds (meaning (a .words .now))))) (c .before .before .before .before .before .before .pre) (v .2), subst (λ (m : ℕ). c .before .before .loop .i < m) (v .1 ∙ sym n) (c .before .loop-test .taken))
+    (staged-kept (a .words .now) w (eachGone (entity (a .e .index) (a .e .version)) (take (c .before .before .loop .i) (stagedKinds (meaning (a .words .now))))) (c .before .before .before .before .before .before .pre .0) (v .2), (c .before .before .before .before .before .before .pre .1 ∙ gone-shape (a .words .now) (entity (a .e .index) (a .e .version)) (stagedKinds (meaning (a .words .now))) w (c .before .before .loop .i) (v .2), subst (λ (m : ℕ). c .before .before .loop .i < m) (v .1 ∙ sym n) (c .before .loop-test .taken)))
 
 loop-again : tie.Need-loop-again Inv-loop μ-loop
 loop-again c =
@@ -52,7 +52,7 @@ returns : tie.Need-returns Inv-loop μ-loop
 returns c =
     let a = c .before .before .before .before .before .args in
     let v = c .before .loop .inv in
-    gone-all (a .words .now) (entity (a .e .index) (a .e .version)) (stagedKinds (meaning (a .words .now))) (c .before .loop .words) (c .before .loop .i) (subst (λ (m : ℕ). m ≤ c .before .loop .i) (v .1) (c .loop-test .left)) (c .before .before .before .before .before .pre .once) (staged-small (a .words .now) (c .before .before .before .before .before .pre)) (v .2)
+    gone-all (a .words .now) (entity (a .e .index) (a .e .version)) (stagedKinds (meaning (a .words .now))) (c .before .loop .words) (c .before .loop .i) (subst (λ (m : ℕ). m ≤ c .before .loop .i) (v .1) (c .loop-test .left)) (c .before .before .before .before .before .pre .0 .once) (staged-small (a .words .now) (c .before .before .before .before .before .pre .0)) (v .2)
 
 pub delete-staged-spec : {M : Type 1} → statement M
 delete-staged-spec =

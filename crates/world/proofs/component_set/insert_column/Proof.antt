@@ -18,24 +18,24 @@ use Rattle.world.proofs.component_set.insert_column.Statement.{statemen
 use Rattle.world.proofs.component_set.insert_column.Tie as tie
 
 abbrev Inv-loop : tie.InvT-loop
-Inv-loop words₀ i start c z slot len place₀ words place = Filling words₀ (c .kind) (valueOf (shapeOf words₀ .stride) (c .value)) start words place
+Inv-loop words₀ i start z c slot len place₀ words place = Filling words₀ (c .kind) (valueOf (shapeOf words₀ .stride) (c .value)) start words place
 
 abbrev μ-loop : tie.MeasureT-loop
-μ-loop words₀ i start c z slot len place₀ words place = len - place
+μ-loop words₀ i start z c slot len place₀ words place = len - place
 
 shape-of-requires : tie.Need-shape-of-requires Inv-loop μ-loop
-shape-of-requires c κs = let s = c .before .before .before .before in header-long (s .args .words .now) (s .pre .0 .arranged) VALUE-WIDTH (omega arith)
+shape-of-requires c κs = let s = c .before .before in header-long (s .args .words .now) (s .pre .0 .arranged) VALUE-WIDTH (omega arith)
 
 slot-of-requires : tie.Need-slot-of-requires Inv-loop μ-loop
 slot-of-requires c κs =
     let s = c .before .before .before .before .before .before in
-    let p = c .before .before .before .staged-at in
+    let p = c .before .staged-at in
     (s .pre .0 .arranged, staged-in (meaning (s .args .words .now)) (s .pre .0 .known) (s .args .i) (p .result .kind) (s .pre .1) (ap kindOf (p .ensures)))
 
 loop-holds : tie.Need-loop-holds Inv-loop μ-loop
 loop-holds c =
     let s = c .before .before .before .before .before .before .before .before .before in
-    let p = c .before .before .before .before .before .before .staged-at .result in
+    let p = c .before .before .before .before .staged-at .result in
     filling-start (s .args .words .now) (p .kind) (valueOf (shapeOf (s .args .words .now) .stride) (p .value)) (s .args .start) (s .pre .0)
 
 live-at-requires : tie.Need-live-at-requires Inv-loop μ-loop
@@ -47,12 +47,12 @@ insert-in-requires : tie.Need-insert-in-requires Inv-loop μ-loop
 insert-in-requires c κs =
     let s = c .before .before .before .before .before .before .before .before .before .before .before .before .before .before in
     let w = s .args .words .now in
-    let p = c .before .before .before .before .before .before .before .before .before .before .before .staged-at in
+    let p = c .before .before .before .before .before .before .before .before .before .staged-at in
     let k = p .result .kind in
     let v = valueOf (shapeOf (s .args .words .now) .stride) (p .result .value) in
     let l = c .before .before .before .before .loop in
     let e = c .before .live-at .result in
-    let n = c .before .before .before .before .before .before .before .before .before .shape-of in
+    let n = c .before .before .before .before .before .before .before .before .before .before .before .shape-of in
     let t = c .before .before .before .before .before .before .before .slot-of in
     let h = subst (λ (m : ℕ). l .place < m) (c .before .before .before .before .before .live-len .ensures) (c .before .before .before .loop-test .taken) in
     let A = s .pre .0 .arranged in
@@ -65,10 +65,10 @@ loop-again : tie.Need-loop-again Inv-loop μ-loop
 loop-again c =
     let s = c .before .before .before .before .before .before .before .before .before .before .before .before .before .before .before .before .before in
     let w = s .args .words .now in
-    let p = c .before .before .before .before .before .before .before .before .before .before .before .before .before .before .staged-at in
+    let p = c .before .before .before .before .before .before .before .before .before .before .before .before .staged-at in
     let l = c .before .before .before .before .before .before .before .loop in
     let e = c .before .before .before .before .live-at .result in
-    let n = c .before .before .before .before .before .before .before .before .before .before .before .before .shape-of in
+    let n = c .before .before .before .before .before .before .before .before .before .before .before .before .before .before .shape-of in
     let t = c .before .before .before .before .before .before .before .before .before .before .slot-of in
     let h = subst (λ (m : ℕ). l .place < m) (c .before .before .before .before .before .before .before .before .live-len .ensures) (c .before .before .before .before .before .before .loop-test .taken) in
     let known = staged-in (meaning w) (s .pre .0 .known) (s .args .i) (p .result .kind) (s .pre .1) (ap kindOf (p .ensures)) in
@@ -78,12 +78,12 @@ loop-again c =
 returns : tie.Need-returns Inv-loop μ-loop
 returns c =
     let s = c .before .before .before .before .before .before .before .before .before .before .before in
-    let p = c .before .before .before .before .before .before .before .before .staged-at in
+    let p = c .before .before .before .before .before .before .staged-at in
     let l = c .before .loop in
     filling-end (s .args .words .now) (p .result .kind) (valueOf (shapeOf (s .args .words .now) .stride) (p .result .value)) (s .args .start) (l .words) (l .place) (l .inv) _ (p .ensures) (subst (λ (m : ℕ). m ≤ l .place) (c .before .before .live-len .ensures) (c .loop-test .left))
 
 staged-at-requires : tie.Need-staged-at-requires Inv-loop μ-loop
-staged-at-requires c κs = let s = c .before .before in (s .pre .0 .arranged, s .pre .1)
+staged-at-requires c κs = let s = c .before .before .before .before in (s .pre .0 .arranged, (c .before .shape-of .ensures .is, s .pre .1))
 
 live-len-requires : tie.Need-live-len-requires Inv-loop μ-loop
 live-len-requires c κs = let s = c .before .before .before .before .before .before .before .before in s .pre .0 .arranged
@@ -100,8 +100,8 @@ insert-column-spec =
     (tie.spec
     Inv-loop
     μ-loop
-    staged-at-requires
     shape-of-requires
+    staged-at-requires
     slot-of-requires
     live-len-requires
     loop-holds

@@ -13,7 +13,7 @@ insert-requires c κs =
     let a = c .before .before .before .before .args in
     let I = c .before .before .before .before .pre .0 in
     let e = c .before .staged-at .ensures in
-    (I .arranged, (staged-in (meaning (a .words .now)) (I .known) (a .i) _ (c .before .before .before .before .pre .1) (ap (λ (p : Component). p .kind) e), ((I .below, I .version), I .current _)))
+    (I .arranged, (c .before .before .before .before .pre .1 .0, (staged-in (meaning (a .words .now)) (I .known) (a .i) _ (c .before .before .before .before .pre .1 .1) (ap (λ (p : Component). p .kind) e), ((I .below, I .version), I .current _))))
 
 returns : tie.Need-returns
 returns c =
@@ -21,4 +21,4 @@ returns c =
     subst (λ (p : Component). Becomes (a .words .now) (c .before .before .insert .last .0) (onStorage (insertOne (entity (a .e .index) (a .e .version)) p) (meaning (a .words .now)))) (c .before .before .before .before .staged-at .ensures) (c .before .before .insert .ensures)
 
 pub insert-one-spec : {M : Type 1} → statement M
-insert-one-spec = tie.close (tie.spec (λ c κs. (c .before .before .pre .0 .arranged, c .before .before .pre .1)) insert-requires (λ c. c .before .before .insert .kept .0) returns)
+insert-one-spec = tie.close (tie.spec (λ c κs. let p = c .before .before .pre in (p .0 .arranged, p .1)) insert-requires (λ c. c .before .before .insert .kept .0) returns)

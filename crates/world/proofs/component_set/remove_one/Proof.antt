@@ -8,12 +8,12 @@ use Rattle.world.proofs.component_set.remove_one.Tie as tie
 use Rattle.model.specs.Model.{entity}
 
 staged-kind-requires : tie.Need-staged-kind-requires
-staged-kind-requires c κs = (c .before .before .pre .0 .arranged, c .before .before .pre .1)
+staged-kind-requires c κs = (c .before .before .pre .0 .arranged, c .before .before .pre .1 .1)
 
 remove-requires : tie.Need-remove-requires
 remove-requires c κs =
     let s = c .before .before .before .before in
-    (s .pre .0 .arranged, staged-in (meaning (s .args .words .now)) (s .pre .0 .known) (s .args .i) (c .before .staged-kind .result) (s .pre .1) (c .before .staged-kind .ensures))
+    (s .pre .0 .arranged, (s .pre .1 .0, staged-in (meaning (s .args .words .now)) (s .pre .0 .known) (s .args .i) (c .before .staged-kind .result) (s .pre .1 .1) (c .before .staged-kind .ensures)))
 
 returns : tie.Need-returns
 returns c =

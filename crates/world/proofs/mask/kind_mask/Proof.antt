@@ -20,7 +20,7 @@ owned : (c : tie.After-found) → Owned (c .before .before .before .before .args
 owned c =
     let s = c .before .before .before .before in
     let a = s .args in
-    own-group (a .words .now) (s .pre .0) (a .kind) (c .found .given .0 .0) (s .pre .1) (subst (λ (r : Found). OwnGroup (a .words .now) (a .kind) r) (c .found .given .1) (c .before .before .own-group .ensures))
+    own-group (a .words .now) (s .pre .0) (a .kind) (c .found .given .0 .0) (s .pre .1 .1) (subst (λ (r : Found). OwnGroup (a .words .now) (a .kind) r) (c .found .given .1) (c .before .before .own-group .ensures))
 
 metadata-requires : tie.Need-metadata-requires
 metadata-requires c κs =

@@ -8,12 +8,12 @@ use Rattle.world.proofs.mask.mask_at.Statement.{statement}
 use Rattle.world.proofs.mask.mask_at.Tie as tie
 
 staged-kind-requires : tie.Need-staged-kind-requires
-staged-kind-requires c κs = (c .before .pre .0 .arranged, c .before .pre .1)
+staged-kind-requires c κs = (c .before .pre .0 .arranged, c .before .pre .1 .1)
 
 kind-mask-requires : tie.Need-kind-mask-requires
 kind-mask-requires c κs =
     let s = c .before .before in
-    (s .pre .0 .arranged, staged-in (meaning (s .args .words .now)) (s .pre .0 .known) (s .args .i) (c .staged-kind .result) (s .pre .1) (c .staged-kind .ensures))
+    (s .pre .0 .arranged, (s .pre .1 .0, staged-in (meaning (s .args .words .now)) (s .pre .0 .known) (s .args .i) (c .staged-kind .result) (s .pre .1 .1) (c .staged-kind .ensures)))
 
 returns : tie.Need-returns
 returns c =

@@ -22,22 +22,22 @@ abbrev at : List ℕ → Walk → List ℕ → List ℕ
 at w walk ks = walkPositions walk ks (meaning w .storage .layout)
 
 abbrev Inv-loop : tie.InvT-loop
-Inv-loop words walk n mask₀ i₀ mask i = (i ≤ n) × (n ≡ length (meaning words .control .staged)) × (bitsOf 64 (mask .0) ≡ at words walk (take i (stagedKinds (meaning words))))
+Inv-loop words z walk n mask₀ i₀ mask i = (i ≤ n) × (n ≡ length (meaning words .control .staged)) × (bitsOf 64 (mask .0) ≡ at words walk (take i (stagedKinds (meaning words))))
 
 abbrev μ-loop : tie.MeasureT-loop
-μ-loop words walk n mask₀ i₀ mask i = n - i
+μ-loop words z walk n mask₀ i₀ mask i = n - i
 
 staged-len-requires : tie.Need-staged-len-requires Inv-loop μ-loop
-staged-len-requires c κs = c .before .pre .arranged
+staged-len-requires c κs = c .before .pre .0 .arranged
 
 loop-holds : tie.Need-loop-holds Inv-loop μ-loop
 loop-holds c =
     let a = c .before .before .before .args in
     let w = a .words .now in
-    (zero-le, c .before .staged-len .ensures .is, mask-none (at w (a .walk)) (no-kinds (a .walk) (meaning w .storage .layout)) (more-kinds (a .walk) (meaning w .storage .layout) (groups-few w (c .before .before .before .pre .arranged))) (stagedKinds (meaning w)) (c .empty .result .0) (c .empty .ensures))
+    (zero-le, c .before .staged-len .ensures .is, mask-none (at w (a .walk)) (no-kinds (a .walk) (meaning w .storage .layout)) (more-kinds (a .walk) (meaning w .storage .layout) (groups-few w (c .before .before .before .pre .0 .arranged))) (stagedKinds (meaning w)) (c .empty .result .0) (c .empty .ensures))
 
 mask-at-requires : tie.Need-mask-at-requires Inv-loop μ-loop
-mask-at-requires c κs = (c .before .before .before .before .before .pre, subst (λ (m : ℕ). c .before .loop .i < m) (c .before .loop .inv .1) (c .loop-test .taken))
+mask-at-requires c κs = let p = c .before .before .before .before .before .pre in (p .0, (p .1, subst (λ (m : ℕ). c .before .loop .i < m) (c .before .loop .inv .1) (c .loop-test .taken)))
 
 loop-again : tie.Need-loop-again Inv-loop μ-loop
 loop-again c =
@@ -46,7 +46,7 @@ loop-again c =
     let v = c .before .before .before .loop .inv in (
       add-one-le (c .before .before .loop-test .taken),
       v .1,
-      mask-turn (at w (a .walk)) (no-kinds (a .walk) (meaning w .storage .layout)) (more-kinds (a .walk) (meaning w .storage .layout) (groups-few w (c .before .before .before .before .before .before .before .pre .arranged))) (stagedKinds (meaning w)) (c .before .before .before .loop .mask .0) (c .before .mask-at .result .0) (c .union .result .0) (c .before .before .before .loop .i)
+      mask-turn (at w (a .walk)) (no-kinds (a .walk) (meaning w .storage .layout)) (more-kinds (a .walk) (meaning w .storage .layout) (groups-few w (c .before .before .before .before .before .before .before .pre .0 .arranged))) (stagedKinds (meaning w)) (c .before .before .before .loop .mask .0) (c .before .mask-at .result .0) (c .union .result .0) (c .before .before .before .loop .i)
           (subst (λ (m : ℕ). c .before .before .before .loop .i < m) (v .1 ∙ sym (length-map (meaning w .control .staged) kindOf)) (c .before .before .loop-test .taken)) (v .2) (c .before .mask-at .ensures) (c .union .ensures),
     )
 
@@ -55,7 +55,7 @@ returns c =
     let a = c .before .before .before .before .before .args in
     let w = a .words .now in
     let v = c .before .loop .inv in
-    mask-all (at w (a .walk)) (no-kinds (a .walk) (meaning w .storage .layout)) (more-kinds (a .walk) (meaning w .storage .layout) (groups-few w (c .before .before .before .before .before .pre .arranged))) (stagedKinds (meaning w)) (c .before .loop .mask .0) (c .before .loop .i)
+    mask-all (at w (a .walk)) (no-kinds (a .walk) (meaning w .storage .layout)) (more-kinds (a .walk) (meaning w .storage .layout) (groups-few w (c .before .before .before .before .before .pre .0 .arranged))) (stagedKinds (meaning w)) (c .before .loop .mask .0) (c .before .loop .i)
     (subst (λ (m : ℕ). m ≤ c .before .loop .i) (v .1 ∙ sym (length-map (meaning w .control .staged) kindOf)) (c .loop-test .left)) (v .2)
 
 pub staged-mask-spec : {M : Type 1} → statement M
