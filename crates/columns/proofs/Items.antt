@@ -8,6 +8,7 @@ use lib.ListN.{length, getD, take, drop}
 use lib.Seq.{slice-empty, slice-cons, take-at, drop-at, take-add, drop-drop}
 use Rattle.model.specs.Model.{Entity}
 use Rattle.model.specs.Entries.{entityWords, inWords, valueWords, part}
+use Rattle.model.proofs.Entries.{in-words as length-inWords}
 use Rattle.values.specs.Values.{digits}
 use Rattle.values.proofs.Numbers.{Words}
 
@@ -76,11 +77,6 @@ pub value-items : (d : ℕ) (l : List ℕ) → valueWords d l ≡ items (inWords
 value-items d [] = refl
 value-items d (x ∷ l) = ap (λ (u : List ℕ). inWords d x ++ u) (value-items d l)
 
-inWords-length : (d x : ℕ) → length (inWords d x) ≡ d
-inWords-length zero x = refl
-inWords-length (suc zero) x = refl
-inWords-length (suc (suc d)) x = ap (λ (n : ℕ). suc n) (inWords-length (suc d) (x / 4294967296))
-
 -- a number in words, and the number of these
 digits-inWords : (d x : ℕ) → 1 ≤ d → digits (inWords d x) ≡ x
 digits-inWords zero x h = absurd (omega arith)
@@ -91,7 +87,7 @@ digits-inWords (suc (suc d)) x h = omega (arith, digits-inWords (suc d) (x / 429
 pub value-at : (d : ℕ) (l : List ℕ) (i : ℕ) → 1 ≤ d → i < length l → digits (take d (drop (d * i) (valueWords d l))) ≡ getD l i 0
 value-at d l i some h =
     ap (λ (u : List ℕ). digits (take d (drop (d * i) u))) (value-items d l)
-    ∙ ap digits (item-at (inWords d) d 0 (inWords-length d) l i h)
+    ∙ ap digits (item-at (inWords d) d 0 (length-inWords d) l i h)
     ∙ digits-inWords d (getD l i 0) some
 
 -- words are the number that they are, in as many words

@@ -5,10 +5,9 @@ use mathlib.Core.List.{List, [], _∷_, _++_, append-nil, append-assoc}
 use Prim.Native.Nat.{ℕ, suc, _+_, _*_, _≤_, _<_}
 use native.Mathlib.Omega.{arith}
 use native.Mathlib.Numerals.{add-one}
-use native.Mathlib.Nat.{mul-le-mul, mul-le-mul-left, mul-suc}
+use native.Mathlib.Nat.{mul-le-mul-left, mul-suc}
 use lib.ListN.{length, getD, take, length-map}
 use lib.Seq.{sets, length-sets, take-all, take-suc, length-take-le}
-use Rattle.model.specs.Numbers.{LIST-CAPACITY}
 use Rattle.model.specs.Model.{Entity, SparseSet, Storage, noRow, setOf, at, held, kindOf}
 use Rattle.model.specs.Store.{Store, stagedKinds, bytesOf}
 use Rattle.model.specs.Commands.{takenBytes, heldBytes}
@@ -102,7 +101,3 @@ module _ (w₀ out₀ : List ℕ) (e : Entity) (a : ℕ) where
 -- at len bytes each, n of them have room; so have i of them and one more
 pub turn-room : (at len i n total : ℕ) → i < n → at + len * n ≤ total → at + len * i + len ≤ total
 turn-room at len i n total h r = let q : len * suc i ≤ len * n = mul-le-mul-left len h in omega (arith, mul-suc len i)
-
--- d words are 8 or 16 bytes, and sixteen components at most are staged
-pub turn-small : (d i : ℕ) → d ≤ 4 → i ≤ LIST-CAPACITY → (1 + 4 * d) * i ≤ 272
-turn-small d i hd hi = let l : 1 + 4 * d ≤ 17 = omega arith in mul-le-mul l hi

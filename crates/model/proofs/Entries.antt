@@ -94,7 +94,7 @@ entity-words : (l : List Entity) → length (entityWords l) ≡ 2 * length l
 entity-words [] = refl
 entity-words (e ∷ l) = omega (arith, entity-words l)
 
-in-words : (d x : ℕ) → length (inWords d x) ≡ d
+pub in-words : (d x : ℕ) → length (inWords d x) ≡ d
 in-words zero x = refl
 in-words (suc zero) x = refl
 in-words (suc (suc d)) x = ap suc (in-words (suc d) (x / 4294967296))

@@ -56,9 +56,9 @@ unfolding wideStore
 wide-cut-one = refl
 
 -- "kind 1, value 8", which is 16 here
-pub wide-roll : snapshot wideStore ≡ (1 ∷ 0 ∷ 0 ∷ 0 ∷ []) ++ (0 ∷ 0 ∷ 0 ∷ 0 ∷ 1 ∷ 0 ∷ 0 ∷ 0 ∷ 1 ∷ 1 ∷ sixteen)
+pub wide-snapshot : snapshot wideStore ≡ (1 ∷ 0 ∷ 0 ∷ 0 ∷ []) ++ (0 ∷ 0 ∷ 0 ∷ 0 ∷ 1 ∷ 0 ∷ 0 ∷ 0 ∷ 1 ∷ 1 ∷ sixteen)
 unfolding snapshot wideStore
-wide-roll = refl
+wide-snapshot = refl
 
 -- "value columns (four words)", lowest first
 pub wide-column : column true 1 0 1 wideStore ≡ 67305985 ∷ 134678021 ∷ 202050057 ∷ 269422093 ∷ []
@@ -83,9 +83,9 @@ bareNews zero = []
 bareNews (suc n) = NEW-BYTE ∷ bareNews n
 
 -- KILL of the n entities from index i on, at version 1
-abbrev pub kills : ℕ → ℕ → List ℕ
-kills zero i = []
-kills (suc n) i = (KILL-BYTE ∷ bytesOf 4 i ++ bytesOf 4 1) ++ kills n (suc i)
+abbrev pub killsFrom : ℕ → ℕ → List ℕ
+killsFrom zero i = []
+killsFrom (suc n) i = (KILL-BYTE ∷ bytesOf 4 i ++ bytesOf 4 1) ++ killsFrom n (suc i)
 
 -- entity 0 with one component, entity 1 with sixteen
 unfoldable pub storeOfEight : Store
@@ -104,12 +104,12 @@ storeOfSixteen =
     afterTape
     (regs 8 0 ++ holds 16 0 (79228162532711081667253501952 ∷ []) ++ (NEW-BYTE ∷ []) ++ bareNews 15
     ++ holds 16 0 (9444732965739290427393 ∷ 4835703278458516698825472 ∷ 1856910058928070412349014016 ∷ 633825300114114700748469043200 ∷ 202824096036516704239511167565824 ∷ 62307562302417931542378050578546688 ∷ 18609191940988822220656958018622062592 ∷ 1080863910568919040 ∷ [])
-    ++ (NEW-BYTE ∷ []) ++ kills 15 1)
+    ++ (NEW-BYTE ∷ []) ++ killsFrom 15 1)
     (emptyWith (told 64 16 LONG-VALUE-BYTES false))
 
 -- the same 175 bytes: live count, entity 0; from byte 30 on they are read as another entity
-pub rollOfBoth : List ℕ
-rollOfBoth =
+pub snapshotOfBoth : List ℕ
+snapshotOfBoth =
     (2 ∷ 0 ∷ 0 ∷ 0 ∷ 0 ∷ 0 ∷ 0 ∷ 0 ∷ 1 ∷ 0 ∷ 0 ∷ 0 ∷ 1 ∷ [])
     ++ (0 ∷ 0 ∷ 0 ∷ 0 ∷ 0 ∷ 0 ∷ 0 ∷ 0 ∷ 0 ∷ 1 ∷ 0 ∷ 0 ∷ 0 ∷ 1 ∷ 0 ∷ 0 ∷ 0 ∷ 16 ∷ [])
     ++ (0 ∷ 0 ∷ 0 ∷ 1 ∷ 0 ∷ 0 ∷ 0 ∷ 8 ∷ 0 ∷ 1 ∷ 0 ∷ 0 ∷ 0 ∷ 0 ∷ 0 ∷ 0 ∷ 0 ∷ 0 ∷ 2 ∷ 0 ∷ 0 ∷ 0 ∷ 0 ∷ 0 ∷ 0 ∷ 1 ∷ 0 ∷ 3 ∷ 0 ∷ 0 ∷ 0 ∷ 0 ∷ 0 ∷ 0 ∷ 0 ∷ 0 ∷ [])
@@ -117,20 +117,20 @@ rollOfBoth =
     ++ (8 ∷ 0 ∷ 0 ∷ 0 ∷ 4 ∷ 0 ∷ 0 ∷ 0 ∷ 0 ∷ 9 ∷ 0 ∷ 0 ∷ 0 ∷ 0 ∷ 0 ∷ 0 ∷ 0 ∷ 0 ∷ 10 ∷ 0 ∷ 0 ∷ 5 ∷ 0 ∷ 0 ∷ 0 ∷ 0 ∷ 0 ∷ 11 ∷ 0 ∷ 0 ∷ 0 ∷ 0 ∷ 0 ∷ 0 ∷ 0 ∷ 0 ∷ [])
     ++ (12 ∷ 0 ∷ 6 ∷ 0 ∷ 0 ∷ 0 ∷ 0 ∷ 0 ∷ 0 ∷ 13 ∷ 0 ∷ 0 ∷ 0 ∷ 0 ∷ 0 ∷ 0 ∷ 0 ∷ 0 ∷ 14 ∷ 7 ∷ 0 ∷ 0 ∷ 0 ∷ 0 ∷ 0 ∷ 0 ∷ 0 ∷ 15 ∷ 0 ∷ 0 ∷ 0 ∷ 0 ∷ 0 ∷ 0 ∷ 0 ∷ 0 ∷ [])
 
-pub roll-of-eight : snapshot storeOfEight ≡ rollOfBoth
-unfolding snapshot storeOfEight rollOfBoth
-roll-of-eight = refl
+pub snapshot-of-eight : snapshot storeOfEight ≡ snapshotOfBoth
+unfolding snapshot storeOfEight snapshotOfBoth
+snapshot-of-eight = refl
 
-pub roll-of-sixteen : snapshot storeOfSixteen ≡ rollOfBoth
-unfolding snapshot storeOfSixteen rollOfBoth
-roll-of-sixteen = refl
+pub snapshot-of-sixteen : snapshot storeOfSixteen ≡ snapshotOfBoth
+unfolding snapshot storeOfSixteen snapshotOfBoth
+snapshot-of-sixteen = refl
 
-pub roll-of-175 : length rollOfBoth ≡ 175
-unfolding rollOfBoth
-roll-of-175 = refl
+pub snapshot-of-175 : length snapshotOfBoth ≡ 175
+unfolding snapshotOfBoth
+snapshot-of-175 = refl
 
-pub same-roll : snapshot storeOfEight ≡ snapshot storeOfSixteen
-same-roll = roll-of-eight ∙ sym roll-of-sixteen
+pub same-snapshot : snapshot storeOfEight ≡ snapshot storeOfSixteen
+same-snapshot = snapshot-of-eight ∙ sym snapshot-of-sixteen
 
 -- and they are not the same: entity 0 holds another value of kind 0
 live-of-eight : countOf sameEntity (entity 0 1) (storeOfEight .entities .live) ≡ 1

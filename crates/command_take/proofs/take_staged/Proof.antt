@@ -5,6 +5,7 @@ use native.Mathlib.Omega.{arith}
 use lib.ListN.{length}
 use Rattle.model.specs.Numbers.{LIST-CAPACITY}
 use Rattle.model.specs.Model.{entity}
+use Rattle.model.proofs.Widths.{held-fit}
 use Rattle.model.specs.Store.{stagedKinds}
 use Rattle.words.specs.declared.Shape.{Shape}
 use Rattle.words.specs.Shape.{TwoOrFour, shapeOf}
@@ -12,7 +13,7 @@ use Rattle.memory.specs.Meaning.{meaning}
 use Rattle.memory.specs.Arranged.{Arranged}
 use Rattle.memory.proofs.Becomes.{stride-bytes}
 use Rattle.world.proofs.Removing.{gone-shape}
-use Rattle.command_take.proofs.Taking.{Taken, taken-none, taken-staged, taken-count, taken-length, taken-turn, taken-all, turn-room, turn-small}
+use Rattle.command_take.proofs.Taking.{Taken, taken-none, taken-staged, taken-count, taken-length, taken-turn, taken-all, turn-room}
 use Rattle.command_take.proofs.take_staged.Statement.{statement}
 use Rattle.command_take.proofs.take_staged.Tie as tie
 
@@ -56,7 +57,7 @@ mul-take-one c =
     let s = c .before .before .before .before .before .before .before .before .before in
     let v = c .before .before .before .loop .inv in
     let d = narrow (s .args .words .now) (c .before .before .before .before .before .before .before .before .before .args .z) (s .pre .0 .arranged) (v .4) .most in
-    omega (arith, turn-small (c .before .before .before .before .before .before .before .before .before .args .z .stride) (c .before .before .before .loop .i) d (omega (arith, v .0, v .1)), v .5)
+    omega (arith, held-fit (4 * c .before .before .before .before .before .before .before .before .before .args .z .stride) (c .before .before .before .loop .i) (omega (arith, d)) (omega (arith, v .0, v .1)), v .5)
 
 add-take-one : tie.Need-add-take-one Inv-loop μ-loop
 add-take-one c =
@@ -100,7 +101,7 @@ mul-result c =
     let s = c .before .before .before .before .before .before .before in
     let v = c .before .loop .inv in
     let d = narrow (s .args .words .now) (c .before .before .before .before .before .before .before .args .z) (s .pre .0 .arranged) (v .4) .most in
-    omega (arith, turn-small (c .before .before .before .before .before .before .before .args .z .stride) _ d (v .1), v .5)
+    omega (arith, held-fit (4 * c .before .before .before .before .before .before .before .args .z .stride) _ (omega (arith, d)) (v .1), v .5)
 
 same-length : tie.Need-same-length Inv-loop μ-loop
 same-length c = c .before .loop .inv .3 .gone .size

@@ -1,12 +1,11 @@
 use mathlib.Core.Path.{_≡_, ap, _∙_}
 use mathlib.Core.List.{List}
 use Prim.Native.Nat.{ℕ, _+_, _*_, _≤_}
-use native.Mathlib.Nat.{mul-le-mul}
 use native.Mathlib.Omega.{arith}
 use borrow.Author.Needs.{needs}
 use lib.ListN.{getD}
-use Rattle.model.specs.Numbers.{LIST-CAPACITY}
-use Rattle.model.proofs.Widths.{width-most}
+use Rattle.model.specs.Numbers.{LIST-CAPACITY, LONG-VALUE-BYTES}
+use Rattle.model.proofs.Widths.{width-most, held-fit}
 use Rattle.words.specs.Offsets.{VALUE-WIDTH}
 use Rattle.memory.specs.Meaning.{meaning}
 use Rattle.memory.proofs.Frames.{long}
@@ -23,8 +22,8 @@ small : (s : tie.Start) → getD (s .args .rooms .now) (s .args .op) 0 ≤ 10
 small s = omega (arith, entry s, answers-small (s .args .op))
 
 -- one byte and a value's, for each staged component
-fits : (s : tie.Start) (v n : ℕ) → v ≡ getD (s .args .words .now) VALUE-WIDTH 0 → n ≤ LIST-CAPACITY → (1 + v) * n ≤ 272
-fits s v n e h = let l : 1 + v ≤ 17 = omega (arith, width-most (getD (s .args .words .now) VALUE-WIDTH 0) (s .pre .0 .limits .width)) in mul-le-mul l h
+fits : (s : tie.Start) (v n : ℕ) → v ≡ getD (s .args .words .now) VALUE-WIDTH 0 → n ≤ LIST-CAPACITY → (1 + v) * n ≤ (1 + LONG-VALUE-BYTES) * LIST-CAPACITY
+fits s v n e = held-fit v n (omega (arith, width-most (getD (s .args .words .now) VALUE-WIDTH 0) (s .pre .0 .limits .width)))
 
 width-of : (s : tie.Start) (v : ℕ) → v ≡ getD (s .args .words .now) VALUE-WIDTH 0 → v ≡ meaning (s .args .words .now) .settings .valueBytes
 unfolding meaning
