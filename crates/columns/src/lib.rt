@@ -1,4 +1,6 @@
 // The work of *column*, over words that are arranged: its number, where the rows of a kind stand, the part that they are, and a copy.
+#![tactic(auto)]
+
 ghost use Rattle.std.specs.Prelude.{◌≡◌, ◌++◌, ◌≤◌, length, drop};
 ghost use Rattle.std.proofs.Math.Option.{none};
 ghost use Rattle.model.specs.Refusals.{number_of};
@@ -34,7 +36,7 @@ pub fn refusal(words: &[u32], kind: usize, start: usize, end: usize) -> u8
 // Where the words of the kind's row at a place stand: its entity, or its value.
 pub fn row_start(words: &[u32], kind: usize, values: bool, place: usize) -> usize
     requires arranged { Arranged words.now }
-    requires fact { In (meaning words.now).kinds kind }
+    requires kind_known { In (meaning words.now).kinds kind }
     requires place_in_bounds { place ≤ length (kind_set words.now kind) }
     ensures { RowStart values words.now kind place result }
 {

@@ -1,2 +1,4 @@
 // What every command has in common: what its function asks and leaves (specs/), and how it answers.
+#![tactic(auto)]
+
 pub mod answers;

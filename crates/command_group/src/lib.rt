@@ -1,4 +1,6 @@
 // GROUP: the staged kinds go into the draft. The draft is a layout by value: read from the words, added to, and written back.
+#![tactic(auto)]
+
 ghost use Rattle.std.specs.Prelude.{◌≤◌, length};
 ghost use Rattle.model.specs.Numbers.{LIST_CAPACITY};
 ghost use Rattle.model.specs.Commands.{GROUP};

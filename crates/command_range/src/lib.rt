@@ -1,4 +1,6 @@
 // RANGE: where in their columns the entities with the staged kinds and without the excluded ones stand.
+#![tactic(auto)]
+
 pub mod query;
 
 ghost use Rattle.std.specs.Prelude.{◌∷◌, ◌++◌, ◌+◌, ◌≤◌, length};

@@ -15,7 +15,7 @@ use group_info::{FoundInfo, FoundQuery, GroupInfo, GroupRange, QueryGroupInfo, V
 // The group info of a kind, by the head of its column.
 fn info_of(words: &[u32], kind: usize) -> FoundInfo
     requires arranged { Arranged words.now }
-    requires fact { In (meaning words.now).kinds kind }
+    requires kind_known { In (meaning words.now).kinds kind }
     ensures { InfoOfKind (layout_arrays words.now) kind result }
 {
     let z = words::shape_of(words);
@@ -30,7 +30,7 @@ fn info_of(words: &[u32], kind: usize) -> FoundInfo
 
 pub fn view_of(words: &[u32], kind: usize) -> ViewGroupInfo
     requires arranged { Arranged words.now }
-    requires fact { In (meaning words.now).kinds kind }
+    requires kind_known { In (meaning words.now).kinds kind }
     ensures { ViewOf (layout_arrays words.now) (meaning words.now).storage kind result }
 {
     let info = info_of(words, kind);
@@ -41,7 +41,7 @@ pub fn view_of(words: &[u32], kind: usize) -> ViewGroupInfo
 // The query with one kind more.
 fn add_kind(words: &[u32], found: FoundQuery, kind: usize) -> FoundQuery
     requires arranged { Arranged words.now }
-    requires fact { In (meaning words.now).kinds kind }
+    requires kind_known { In (meaning words.now).kinds kind }
     ensures { KindAdded words.now found kind result }
 {
     let FoundQuery::Query(query) = found else {

@@ -1,5 +1,7 @@
 // TAKE (component_set.rs, remove): a live entity's components of the staged kinds go, and are told. The groups are left first; then each removal
 // gives the value that was held.
+#![tactic(auto)]
+
 ghost use Rattle.std.specs.Prelude.{◌≡◌, ◌∷◌, ◌+◌, ◌*◌, ◌≤◌, ◌<◌, length, get_or};
 ghost use Rattle.std.proofs.lemmas.List.Edits.{sets};
 ghost use Rattle.model.specs.Store.{staged_kinds, bytes_of};
@@ -35,7 +37,7 @@ fn put_held(out: &mut [u8], at: usize, d: usize, held: u8, x: Value)
 // The entity's component of the staged kind at i goes, and is written out; z is the store's shape.
 fn take_one(words: &mut [u32], z: Shape, i: usize, e: Entity, out: &mut [u8], at: usize)
     requires staged { Staged words.old }
-    requires z_value { z ≡ shape_of words.old }
+    requires shape_is { z ≡ shape_of words.old }
     requires i_in_bounds { i < length (meaning words.old).control.staged }
     requires stride_in_bounds { at + (1 + 4 * z.stride) ≤ length out.old }
     ensures { TakesKind words.old words.new out.old out.new (entity e.index e.version) (get_or (staged_kinds (meaning words.old)) i 0) at }
@@ -51,7 +53,7 @@ fn take_one(words: &mut [u32], z: Shape, i: usize, e: Entity, out: &mut [u8], at
 // Its components of all staged kinds go, and are written out; no group is walked.
 fn take_staged(words: &mut [u32], z: Shape, e: Entity, out: &mut [u8], at: usize) -> usize
     requires staged { Staged words.old }
-    requires z_value { z ≡ shape_of words.old }
+    requires shape_is { z ≡ shape_of words.old }
     requires words_in_bounds { at + (1 + (meaning words.old).settings.value_bytes) * length (meaning words.old).control.staged ≤ length out.old }
     ensures { TakesStaged words.old words.new out.old out.new (entity e.index e.version) at result }
 {

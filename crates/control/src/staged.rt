@@ -38,7 +38,7 @@ pub fn staged_kind(words: &[u32], i: usize) -> usize
 
 pub fn staged_at(words: &[u32], z: Shape, i: usize) -> Component
     requires arranged { Arranged words.now }
-    requires z_value { z ≡ shape_of words.now }
+    requires shape_is { z ≡ shape_of words.now }
     requires i_in_bounds { i < length (meaning words.now).control.staged }
     ensures { component_of (shape_of words.now).stride result ≡ get_or (meaning words.now).control.staged i no_component }
 {

@@ -1,10 +1,12 @@
 // A store with something of everything in it, one word of it changed at a time: how many of those stores are refused, and whether each that is still
 // sound serves commands and is sound after them.
+#![tactic(auto)]
+
 mod feed;
 mod setup;
 mod trial;
 
-use libc::STDOUT_FILENO;
+use std::io;
 use trial::{Counts, WORDS, add, flip_part};
 
 // The store has six entities and five kinds.
@@ -24,43 +26,38 @@ const LIVE_LEN: usize = ENTITIES + words::LIVE_LEN;
 
 const RECYCLED_LEN: usize = ENTITIES + words::RECYCLED_LEN;
 
-fn print(number: u32, what: &[u8]) {
-    io::print_decimal(STDOUT_FILENO, number as u64);
-    io::write_all(STDOUT_FILENO, what);
-}
-
 // What the store has, by its counts (docs/WORDS.md).
-fn describe(words: &[u32; WORDS]) {
-    print(words[words::REGISTERED], b" kinds, ");
-    print(words[words::LAYOUT_GROUPS], b" groups, ");
-    print(words[LIVE_LEN], b" live entities, ");
-    print(words[RECYCLED_LEN], b" recycled, ");
-    print(words[words::STAGED_LEN], b" kinds staged, ");
-    print(words[words::EXCLUDED_LEN], b" excluded, ");
-    print(words[words::DRAFT_GROUPS], b" groups in the draft, ");
-    print(words[words::REFUSALS], b" refusal\n");
+fn describe(rt: &impl Print, words: &[u32; WORDS]) -> io::Result<()> {
+    let kinds = words[words::REGISTERED];
+    let groups = words[words::LAYOUT_GROUPS];
+    let live = words[LIVE_LEN];
+    let recycled = words[RECYCLED_LEN];
+    let staged = words[words::STAGED_LEN];
+    let excluded = words[words::EXCLUDED_LEN];
+    let drafted = words[words::DRAFT_GROUPS];
+    let refusals = words[words::REFUSALS];
+    print!(rt; "{kinds} kinds, {groups} groups, {live} live entities, {recycled} recycled, ")?;
+    println!(rt;
+        "{staged} kinds staged, {excluded} excluded, {drafted} groups in the draft, {refusals} refusal"
+    )
 }
 
-fn report(part: &[u8], counts: Counts) {
-    io::write_all(STDOUT_FILENO, part);
-    print(counts.refused, b" refused, ");
-    print(counts.sound, b" still sound; of these ");
-    print(counts.served, b" serve commands, ");
-    print(counts.stayed, b" are sound after them\n");
+fn report(rt: &impl Print, part: &str, counts: Counts) -> io::Result<()> {
+    println!(rt; "{part}: {counts}")
 }
 
-fn main() {
+fn main(rt: HostRuntime) -> io::Result<()> {
     let mut words = [0u32; WORDS];
     store::start(&mut words, CAPACITY, KIND_CAPACITY);
     setup::set_up(&mut words);
-    describe(&words);
+    describe(&rt, &words)?;
     let header = flip_part(words, 0, ENTITIES);
     let entities = flip_part(words, ENTITIES, COLUMNS);
     let columns = flip_part(words, COLUMNS, BEYOND);
     let beyond = flip_part(words, BEYOND, WORDS);
-    report(b"header: ", header);
-    report(b"entities: ", entities);
-    report(b"columns: ", columns);
-    report(b"beyond the store: ", beyond);
-    report(b"all: ", add(add(header, entities), add(columns, beyond)));
+    report(&rt, "header", header)?;
+    report(&rt, "entities", entities)?;
+    report(&rt, "columns", columns)?;
+    report(&rt, "beyond the store", beyond)?;
+    report(&rt, "all", add(add(header, entities), add(columns, beyond)))
 }

@@ -5,6 +5,7 @@ ghost use Rattle.flips.specs.Trial.{Keeps, Most, Tried, Summed};
 
 use crate::feed::{command, command_on, command_with, hold};
 use model::commands::{APPLY, EMPTY, KILL, NEW, PUT, RANGE, TAKE, WIPE};
+use std::fmt;
 
 // 1,024 + 16 × 6 + 5 × (8 + 6 × 6), and four words that are lent beyond the store.
 pub const WORDS: usize = 1344;
@@ -12,12 +13,27 @@ pub const WORDS: usize = 1344;
 const VALUES: u32 = 8;
 
 // Of the changed stores: how many are refused, and how many are sound; of these, how many serve commands, and are sound after them.
-#[derive(Drop)]
+#[derive(Clone, Copy)]
 pub struct Counts {
     pub refused: u32,
     pub sound: u32,
     pub served: u32,
     pub stayed: u32,
+}
+
+impl fmt::Display for Counts {
+    fn fmt<W: fmt::Write>(&self, f: &mut fmt::Formatter<W>) -> fmt::Result {
+        let Counts {
+            refused,
+            sound,
+            served,
+            stayed,
+        } = *self;
+        write!(
+            f,
+            "{refused} refused, {sound} still sound; of these {served} serve commands, {stayed} are sound after them"
+        )
+    }
 }
 
 pub fn add(a: Counts, b: Counts) -> Counts

@@ -25,7 +25,7 @@ pub enum GroupStatus {
 // Does the entity hold each of the layout's kinds from start to end?
 fn holds_all(words: &[u32], z: Shape, start: usize, end: usize, e: Entity) -> bool
     requires arranged { Arranged words.now }
-    requires z_value { z ≡ shape_of words.now }
+    requires shape_is { z ≡ shape_of words.now }
     requires places_known { PlacesKnown (meaning words.now) start end }
     ensures { result ≡ all_held (entity e.index e.version) (between start end (order_of (meaning words.now))) (meaning words.now).storage.sets }
 {
@@ -50,7 +50,7 @@ fn get_group_status(
     e: Entity,
 ) -> GroupStatus
     requires arranged { Arranged words.now }
-    requires z_value { z ≡ shape_of words.now }
+    requires shape_is { z ≡ shape_of words.now }
     requires places_known { PlacesKnown (meaning words.now) start end }
     requires start_lt_end { start < end }
     ensures { result ≡ status_in (entity e.index e.version) (between start end (order_of (meaning words.now))) group_len (meaning words.now).storage.sets }
@@ -78,7 +78,7 @@ pub fn status_in(
     e: Entity,
 ) -> GroupStatus
     requires arranged { Arranged words.now }
-    requires z_value { z ≡ shape_of words.now }
+    requires shape_is { z ≡ shape_of words.now }
     requires g_bound { g < groups_of (meaning words.now).storage.layout }
     requires describes { Describes (meaning words.now) g metadata }
     ensures { result ≡ status_at (entity e.index e.version) g (meaning words.now).storage }

@@ -1,4 +1,6 @@
 // Groups: the walks that bring an entity into its groups and out of them (group.rs). z is the store's shape, read once for a walk.
+#![tactic(auto)]
+
 pub mod group_metadata;
 pub mod group_status;
 
@@ -25,7 +27,7 @@ use words::{Entity, Shape};
 // Swaps the entity to a place in every sparse set of a group.
 fn swap_kinds(words: &mut [u32], z: Shape, metadata: GroupMetadata, e: Entity, swap_index: usize)
     requires arranged { Arranged words.old }
-    requires z_value { z ≡ shape_of words.old }
+    requires shape_is { z ≡ shape_of words.old }
     requires places_known { PlacesKnown (meaning words.old) metadata.storage_start metadata.storage_end }
     requires swappable { Swappable (entity e.index e.version) (between metadata.storage_start metadata.storage_end (order_of (meaning words.old))) swap_index (meaning words.old).storage.sets }
     ensures { Becomes words.old words.new (on_storage (swap_kinds (entity e.index e.version) swap_index (between metadata.storage_start metadata.storage_end (order_of (meaning words.old)))) (meaning words.old)) }
@@ -50,7 +52,7 @@ fn group_components(
     e: Entity,
 )
     requires arranged { Arranged words.old }
-    requires z_value { z ≡ shape_of words.old }
+    requires shape_is { z ≡ shape_of words.old }
     requires stands { Stands (meaning words.old) g metadata group_len }
     requires swappable { Swappable (entity e.index e.version) (located (meaning words.old).storage.layout g).kinds (located (meaning words.old).storage.layout g).count (meaning words.old).storage.sets }
     ensures { Becomes words.old words.new (on_storage (group_at (entity e.index e.version) g) (meaning words.old)) }
@@ -70,7 +72,7 @@ fn ungroup_components(
     e: Entity,
 )
     requires arranged { Arranged words.old }
-    requires z_value { z ≡ shape_of words.old }
+    requires shape_is { z ≡ shape_of words.old }
     requires stands { Stands (meaning words.old) g metadata group_len }
     requires le_group_len { 1 ≤ group_len }
     requires swappable { Swappable (entity e.index e.version) (located (meaning words.old).storage.layout g).kinds ((located (meaning words.old).storage.layout g).count - 1) (meaning words.old).storage.sets }
@@ -89,7 +91,7 @@ fn ungroup_components(
 // One group of the walk upward; answers what is left of the groups after it.
 fn group_step(words: &mut [u32], z: Shape, g: usize, rest: GroupMask, e: Entity) -> GroupMask
     requires arranged { Arranged words.old }
-    requires z_value { z ≡ shape_of words.old }
+    requires shape_is { z ≡ shape_of words.old }
     requires g_bound { g < groups_of (meaning words.old).storage.layout }
     requires ready_in { ReadyIn (status_at (entity e.index e.version) g (meaning words.old).storage) (entity e.index e.version) (located (meaning words.old).storage.layout g) (meaning words.old).storage.sets }
     ensures { StepsUp words.old words.new (entity e.index e.version) g rest.0 result.0 }
@@ -115,7 +117,7 @@ fn group_step(words: &mut [u32], z: Shape, g: usize, rest: GroupMask, e: Entity)
 // The walk upward over the groups of a mask, lowest first.
 pub fn group(words: &mut [u32], z: Shape, mask: GroupMask, e: Entity)
     requires arranged { Arranged words.old }
-    requires z_value { z ≡ shape_of words.old }
+    requires shape_is { z ≡ shape_of words.old }
     requires below { Below (bits_of 64 mask.0) (meaning words.old).storage }
     requires ready_up { ReadyUp (entity e.index e.version) 0 (bits_of 64 mask.0) (meaning words.old).storage }
     ensures { Becomes words.old words.new (on_storage (walk_up (entity e.index e.version) 0 (bits_of 64 mask.0)) (meaning words.old)) }
@@ -152,7 +154,7 @@ pub fn group_each(words: &mut [u32], mask: GroupMask, start: usize)
 // One group of the walk downward.
 fn ungroup_step(words: &mut [u32], z: Shape, g: usize, e: Entity)
     requires arranged { Arranged words.old }
-    requires z_value { z ≡ shape_of words.old }
+    requires shape_is { z ≡ shape_of words.old }
     requires g_bound { g < groups_of (meaning words.old).storage.layout }
     requires ready_out { ReadyOut (status_at (entity e.index e.version) g (meaning words.old).storage) (entity e.index e.version) (located (meaning words.old).storage.layout g) (meaning words.old).storage.sets }
     ensures { Becomes words.old words.new (on_storage (step_down (status_at (entity e.index e.version) g (meaning words.old).storage) (entity e.index e.version) g) (meaning words.old)) }
@@ -184,7 +186,7 @@ fn highest(mask: GroupMask) -> NextBit
 // The walk downward over the groups of a mask, highest first.
 pub fn ungroup(words: &mut [u32], z: Shape, mask: GroupMask, e: Entity)
     requires arranged { Arranged words.old }
-    requires z_value { z ≡ shape_of words.old }
+    requires shape_is { z ≡ shape_of words.old }
     requires below { Below (bits_of 64 mask.0) (meaning words.old).storage }
     requires ready_down { ReadyDown (entity e.index e.version) (reverse (bits_of 64 mask.0)) (meaning words.old).storage }
     ensures { Becomes words.old words.new (on_storage (walk_down (entity e.index e.version) (reverse (bits_of 64 mask.0))) (meaning words.old)) }
@@ -202,7 +204,7 @@ pub fn ungroup(words: &mut [u32], z: Shape, mask: GroupMask, e: Entity)
 // Out of all groups, highest first.
 pub fn ungroup_all(words: &mut [u32], z: Shape, e: Entity)
     requires arranged { Arranged words.old }
-    requires z_value { z ≡ shape_of words.old }
+    requires shape_is { z ≡ shape_of words.old }
     requires ready_down { ReadyDown (entity e.index e.version) (reverse (up_from 0 (groups_of (meaning words.old).storage.layout))) (meaning words.old).storage }
     ensures { Becomes words.old words.new (on_storage (walk_down (entity e.index e.version) (reverse (up_from 0 (groups_of (meaning words.old).storage.layout)))) (meaning words.old)) }
 {

@@ -1,4 +1,6 @@
 // Grouping information of the kinds of a query (group_info.rs), and the range that a query gets (ComponentStorage::group_range).
+#![tactic(auto)]
+
 ghost use Rattle.std.specs.Prelude.{◌≡◌, ◌+◌, ◌<◌, max};
 ghost use Rattle.words.specs.Offsets.{GROUP_PLACES};
 ghost use Rattle.group_info.specs.Info.{KindInfo, JoinedBy, info_of, BothAdded, ViewAdded, GroupsInside, InsideFound, Tables, IncludeSays, ExcludeSays, ExcludedSays, IncludedSays};

@@ -1,4 +1,6 @@
 // The walk upward of many entities in turn (group.rs), over tables that are made once for all of them.
+#![tactic(auto)]
+
 pub mod metadata;
 pub mod status;
 pub mod tables;

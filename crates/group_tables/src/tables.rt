@@ -30,7 +30,7 @@ fn width(words: &[u32]) -> usize
 // The starts, from the front of a table that has room for all kinds.
 pub fn fill_starts(words: &[u32], z: Shape, starts: &mut [usize])
     requires arranged { Arranged words.now }
-    requires z_value { z ≡ shape_of words.now }
+    requires shape_is { z ≡ shape_of words.now }
     requires in_bounds { MAX_KINDS ≤ length starts.old }
     ensures { Starts words.now z starts.new }
 {

@@ -1,43 +1,41 @@
-// Bytes from a descriptor, in as many reads as they take. Unlike `io::read_full`, the end of the input and a failed read are told apart.
-ghost use Rattle.std.specs.Prelude.{◌≤◌, ◌-◌, length};
-ghost use Rattle.input.specs.Input.{Came};
+// Bytes from a reader, in as many reads as they take. Unlike `Read::read_exact`, the end of the input and a failed read are told apart, and an end is no error.
+#![tactic(auto)]
 
-#[derive(Drop)]
-pub enum Input {
-    Bytes(usize),
-    Failed,
-}
+ghost use Rattle.std.specs.Prelude.{◌≡◌, ◌≤◌, ◌<◌, ◌-◌, length, take, drop, IfOk, OnErr};
+ghost use Rattle.std.specs.Io.{ReadsAtMost};
+ghost use Rattle.std.specs.Io.KnownBytes.{Consumes, Keeps, IsAtEnd};
+ghost use Rattle.input.specs.Input.{Came, Taken, Lost};
+
+use std::io;
+use std::io::Read;
 
 // One read, to the buffer from `at` on: 0 bytes at the end of the input.
-fn read_at(fd: i32, buffer: &mut [u8], at: usize) -> Input
+fn read_at<R: Read>(reader: &mut R, buffer: &mut [u8], at: usize) -> io::Result<usize>
     requires { at ≤ length buffer.old }
-    ensures { Came result (length buffer.new - at) }
+    ensures came { Came result (length buffer.new - at) }
+    ensures front { take at buffer.new ≡ take at buffer.old }
+    ensures ok { IfOk result (λ n. Consumes (R.remaining reader.old) (R.remaining reader.new) (take n (drop at buffer.new))) }
+    ensures end { IfOk result (λ n. n ≡ 0 → at < length buffer.old → IsAtEnd (R.remaining reader.new)) }
+    ensures err { OnErr result (Keeps (R.remaining reader.old) (R.remaining reader.new)) }
 {
-    let part = &mut buffer[at..];
-    let got = libc::read(fd, part);
-    if got < 0 {
-        return Input::Failed;
-    }
-    Input::Bytes(io::count(got, part))
+    reader.read(&mut buffer[at..])
 }
 
 // Reads until the buffer is full, the input ends or a read fails. A read that a signal interrupts counts as failed: no program here handles one.
-pub fn read_up_to(fd: i32, buffer: &mut [u8]) -> Input
-    ensures { Came result (length buffer.new) }
+// What came stands at the front of the buffer; fewer bytes than it has room for only at the end; past a full buffer nothing is read.
+pub fn read_up_to<R: Read>(reader: &mut R, buffer: &mut [u8]) -> io::Result<usize>
+    ensures came { Came result (length buffer.new) }
+    ensures in_bounds { ReadsAtMost result buffer.new }
+    ensures taken { IfOk result (λ n. Taken (R.remaining reader.old) (R.remaining reader.new) buffer.new n) }
+    ensures err { OnErr result (Lost (R.remaining reader.old) (R.remaining reader.new) buffer.new) }
 {
     let mut n = 0;
     while n < buffer.len() {
-        match read_at(fd, buffer, n) {
-            Input::Bytes(more) => {
-                if more == 0 {
-                    return Input::Bytes(n);
-                }
-                n += more;
-            }
-            Input::Failed => {
-                return Input::Failed;
-            }
+        let more = read_at(reader, buffer, n)?;
+        if more == 0 {
+            return Ok(n);
         }
+        n += more;
     }
-    Input::Bytes(n)
+    Ok(n)
 }

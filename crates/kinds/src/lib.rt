@@ -1,5 +1,7 @@
 // The table of kinds (component_storage.rs): a kind's sparse set, reached by the slot that the table has for it. z is the store's shape,
 // which the caller has read.
+#![tactic(auto)]
+
 ghost use Rattle.std.specs.Prelude.{◌≡◌, true, false, [], ◌∷◌, ◌++◌, ◌<◌, ◌≤◌, length, get_or};
 ghost use Rattle.model.specs.Numbers.{MAX_KINDS};
 ghost use Rattle.words.specs.Offsets.{ROWS};
@@ -37,7 +39,7 @@ pub fn is_registered(words: &[u32], kind: usize) -> bool
 // The slot of a registered kind's column.
 pub fn slot_of(words: &[u32], kind: usize) -> usize
     requires arranged { Arranged words.now }
-    requires fact { In (meaning words.now).kinds kind }
+    requires kind_known { In (meaning words.now).kinds kind }
     ensures { InSlot words.now kind result }
 {
     words::word(words, words::TABLE + kind)
@@ -45,7 +47,7 @@ pub fn slot_of(words: &[u32], kind: usize) -> usize
 
 pub fn set_len(words: &[u32], kind: usize) -> usize
     requires arranged { Arranged words.now }
-    requires fact { In (meaning words.now).kinds kind }
+    requires kind_known { In (meaning words.now).kinds kind }
     ensures { length (kind_set words.now kind) ≡ result }
 {
     let z = words::shape_of(words);
@@ -56,8 +58,8 @@ pub fn set_len(words: &[u32], kind: usize) -> usize
 // Any index and version may be asked for.
 pub fn find(words: &[u32], z: Shape, kind: usize, e: Entity) -> Found
     requires arranged { Arranged words.now }
-    requires z_value { z ≡ shape_of words.now }
-    requires fact { In (meaning words.now).kinds kind }
+    requires shape_is { z ≡ shape_of words.now }
+    requires kind_known { In (meaning words.now).kinds kind }
     ensures { Finds (shape_of words.now) (entity e.index e.version) (kind_set words.now kind) result }
 {
     let slot = slot_of(words, kind);
@@ -67,8 +69,8 @@ pub fn find(words: &[u32], z: Shape, kind: usize, e: Entity) -> Found
 // Whether the entity holds the kind.
 pub fn holds(words: &[u32], z: Shape, kind: usize, e: Entity) -> bool
     requires arranged { Arranged words.now }
-    requires z_value { z ≡ shape_of words.now }
-    requires fact { In (meaning words.now).kinds kind }
+    requires shape_is { z ≡ shape_of words.now }
+    requires kind_known { In (meaning words.now).kinds kind }
     ensures { result ≡ held (entity e.index e.version) (kind_set words.now kind) }
 {
     let slot = slot_of(words, kind);
@@ -78,8 +80,8 @@ pub fn holds(words: &[u32], z: Shape, kind: usize, e: Entity) -> bool
 // The value of the row at a place.
 pub fn value_of(words: &[u32], z: Shape, kind: usize, place: usize) -> Value
     requires arranged { Arranged words.now }
-    requires z_value { z ≡ shape_of words.now }
-    requires fact { In (meaning words.now).kinds kind }
+    requires shape_is { z ≡ shape_of words.now }
+    requires kind_known { In (meaning words.now).kinds kind }
     requires place_in_bounds { place < length (kind_set words.now kind) }
     ensures { value_of (shape_of words.now).stride result ≡ (get_or (kind_set words.now kind) place no_row).value }
 {
@@ -90,8 +92,8 @@ pub fn value_of(words: &[u32], z: Shape, kind: usize, place: usize) -> Value
 // Puts a value with an entity: in the entity's row, or in a new one at the end.
 pub fn insert(words: &mut [u32], z: Shape, kind: usize, e: Entity, x: Value)
     requires arranged { Arranged words.old }
-    requires z_value { z ≡ shape_of words.old }
-    requires fact { In (meaning words.old).kinds kind }
+    requires shape_is { z ≡ shape_of words.old }
+    requires kind_known { In (meaning words.old).kinds kind }
     requires index_bound { (e.index < capacity_of words.old) × (1 ≤ e.version) }
     requires current { Current e.index e.version (kind_set words.old kind) }
     ensures { Becomes words.old words.new (on_storage (on_set kind (insert_row (entity e.index e.version) (value_of (shape_of words.old).stride x))) (meaning words.old)) }
@@ -103,8 +105,8 @@ pub fn insert(words: &mut [u32], z: Shape, kind: usize, e: Entity, x: Value)
 // The entity's row goes, if it has one, and its value is handed back.
 pub fn remove(words: &mut [u32], z: Shape, kind: usize, e: Entity) -> Removed
     requires arranged { Arranged words.old }
-    requires z_value { z ≡ shape_of words.old }
-    requires fact { In (meaning words.old).kinds kind }
+    requires shape_is { z ≡ shape_of words.old }
+    requires kind_known { In (meaning words.old).kinds kind }
     ensures { RemovesKind words.old words.new kind (entity e.index e.version) result }
 {
     let slot = slot_of(words, kind);
@@ -124,8 +126,8 @@ pub fn clear_sets(words: &mut [u32])
 // A word of the head of the kind's column.
 fn head(words: &[u32], z: Shape, kind: usize, i: usize) -> usize
     requires arranged { Arranged words.now }
-    requires z_value { z ≡ shape_of words.now }
-    requires fact { In (meaning words.now).kinds kind }
+    requires shape_is { z ≡ shape_of words.now }
+    requires kind_known { In (meaning words.now).kinds kind }
     requires i_bound { i < ROWS }
     ensures { result ≡ head_word words.now kind i }
 {
@@ -137,8 +139,8 @@ fn head(words: &[u32], z: Shape, kind: usize, i: usize) -> usize
 // The place of the kind's own group among the groups: the one whose new kinds have it.
 pub fn own_group(words: &[u32], z: Shape, kind: usize) -> Found
     requires arranged { Arranged words.now }
-    requires z_value { z ≡ shape_of words.now }
-    requires fact { In (meaning words.now).kinds kind }
+    requires shape_is { z ≡ shape_of words.now }
+    requires kind_known { In (meaning words.now).kinds kind }
     ensures { OwnGroup words.now kind result }
 {
     let own = head(words, z, kind, words::OWN_GROUP);
@@ -151,8 +153,8 @@ pub fn own_group(words: &[u32], z: Shape, kind: usize) -> Found
 // The kind's place among its family's kinds, where it is in a group.
 pub fn place_in_family(words: &[u32], z: Shape, kind: usize) -> usize
     requires arranged { Arranged words.now }
-    requires z_value { z ≡ shape_of words.now }
-    requires fact { In (meaning words.now).kinds kind }
+    requires shape_is { z ≡ shape_of words.now }
+    requires kind_known { In (meaning words.now).kinds kind }
     ensures { result ≡ local_at words.now (slot_of words.now kind) }
 {
     head(words, z, kind, words::PLACE_IN_FAMILY)

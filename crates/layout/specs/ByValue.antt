@@ -1,5 +1,5 @@
 -- A layout by value, and when it is well formed. Working vocabulary. Assumes nothing.
-use Rattle.std.specs.Prelude.{◌≡◌, List, [], ℕ, ◌-◌, length}
+use Rattle.std.specs.Prelude.{◌≡◌, List, [], ℕ, length}
 use Rattle.model.specs.Numbers.{MAX_KINDS}
 use Rattle.words.specs.Offsets.{GROUP_PLACES}
 use Rattle.model.specs.Model.{Family}

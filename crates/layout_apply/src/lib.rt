@@ -1,4 +1,6 @@
 // A layout put in force (component_storage.rs, set_layout).
+#![tactic(auto)]
+
 ghost use Rattle.std.specs.Prelude.{◌≡◌, ◌+◌, ◌≤◌, ◌<◌, length, get_or};
 ghost use Rattle.model.specs.Numbers.{MAX_KINDS};
 ghost use Rattle.words.specs.Offsets.{BLOCK_LEN, ENTITIES, GROUP_PLACES};
@@ -114,7 +116,7 @@ fn clear_heads(words: &mut [u32], z: Shape, m: usize)
 // The column of the p-th kind: new in group g, at place j of its family.
 fn put_member(words: &mut [u32], z: Shape, p: usize, g: usize, j: usize)
     requires heads_ready { HeadsReady words.old }
-    requires z_value { z ≡ shape_of words.old }
+    requires shape_is { z ≡ shape_of words.old }
     requires p_bound { p < width_of (layout_arrays words.old) }
     requires g_bound { (g < GROUP_PLACES) × (j < MAX_KINDS) }
     ensures { words.new ≡ with_own z (slot_no words.old p) (g + 1) j words.old }
@@ -127,7 +129,7 @@ fn put_member(words: &mut [u32], z: Shape, p: usize, g: usize, j: usize)
 // The columns of the kinds that are new in group g, from place prior of its family on. Answers the group's arity.
 fn put_group(words: &mut [u32], z: Shape, f: usize, g: usize, prior: usize) -> usize
     requires heads_ready { HeadsReady words.old }
-    requires z_value { z ≡ shape_of words.old }
+    requires shape_is { z ≡ shape_of words.old }
     requires in_family { InFamily (layout_arrays words.old) f g }
     requires prior_value { prior ≡ prior_arity (layout_arrays words.old) f g }
     requires upto { Upto words.old (place_no (layout_arrays words.old) f prior) }
@@ -146,7 +148,7 @@ fn put_group(words: &mut [u32], z: Shape, f: usize, g: usize, prior: usize) -> u
 // The columns of a family's kinds, one group after another.
 fn put_family(words: &mut [u32], z: Shape, f: usize)
     requires heads_ready { HeadsReady words.old }
-    requires z_value { z ≡ shape_of words.old }
+    requires shape_is { z ≡ shape_of words.old }
     requires f_bound { f < (layout_arrays words.old).families }
     requires upto { Upto words.old (start_of (layout_arrays words.old).kind_ends f) }
     ensures { HeadedUpto words.old words.new (get_or (layout_arrays words.old).kind_ends f 0) }
@@ -163,7 +165,7 @@ fn put_family(words: &mut [u32], z: Shape, f: usize)
 // The columns of all kinds of the layout.
 fn put_heads(words: &mut [u32], z: Shape)
     requires heads_ready { HeadsReady words.old }
-    requires z_value { z ≡ shape_of words.old }
+    requires shape_is { z ≡ shape_of words.old }
     requires upto { Upto words.old 0 }
     ensures { HeadedUpto words.old words.new (width_of (layout_arrays words.old)) }
 {

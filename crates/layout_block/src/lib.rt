@@ -1,4 +1,6 @@
 // A layout's block of 320 words: read into the struct, written from it, and checked. The draft and the layout in force are such blocks.
+#![tactic(auto)]
+
 ghost use Rattle.std.specs.Prelude.{◌≡◌, [], ◌+◌, ◌-◌, ◌≤◌, ◌<◌, length};
 ghost use Rattle.model.specs.Numbers.{MAX_KINDS};
 ghost use Rattle.words.specs.Offsets.{BLOCK_LEN, GROUP_PLACES};

@@ -5,7 +5,7 @@ ghost use Rattle.masks.specs.Walk.{Lowest, Highest, Asks};
 
 use crate::storage_mask::StorageMask;
 
-#[derive(Drop)]
+#[derive(Clone, Copy)]
 pub struct GroupMask(pub u64);
 
 const ALL_BITS: u64 = 0xffff_ffff_ffff_ffff;

@@ -1,5 +1,5 @@
 -- GROUP as one function, which the code of a layout follows; that it says what the table of refusals and the accepted GROUP say is proved (group_does). Working vocabulary. Assumes nothing.
-use Rattle.std.specs.Prelude.{cond, List, ℕ, ◌-◌, leb, ltb, length}
+use Rattle.std.specs.Prelude.{cond, List, ℕ, leb, ltb, length}
 use Rattle.model.specs.Numbers.{CLASH, MANY, MAX_GROUP_ARITY, MAX_GROUP_COUNT, WIDE}
 use Rattle.model.specs.Model.{Family, groups_of, adds_nothing, joins, with_group}
 

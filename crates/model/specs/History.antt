@@ -1,6 +1,6 @@
 -- What a run passes through: the store after each command, the numbers it retires, and whose commands it refuses. Said beside the run, for the theorems
 -- on runs; no store holds it. Assumes nothing.
-use Rattle.std.specs.Prelude.{Bool, true, false, ◌&&◌, List, [], ◌∷◌, ℕ, zero, suc, ◌+◌, ◌-◌, eqb, leb, length, take, drop}
+use Rattle.std.specs.Prelude.{Bool, true, false, ◌&&◌, List, [], ◌∷◌, ℕ, zero, suc, ◌+◌, ◌-◌, eqb, leb, length, drop}
 use Rattle.std.proofs.Math.Option.{Option, some, none}
 use Rattle.model.specs.Model.{is_live, last_version}
 use Rattle.model.specs.Lists.{one}

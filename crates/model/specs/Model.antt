@@ -314,7 +314,7 @@ range_for staged excluded s =
     cond (single staged excluded) one many
 
 -- 02, No. 8: under the newer rule "RANGE with a bar finds something exactly where 01 does and the larger group's ring is one kind". 01 finds where the bar
--- is equal to that ring, and so it is one kind where the bar is (under-none in proofs/Rules.antt has the sentence)
+-- is equal to that ring, and so it is one kind where the bar is (under_none in proofs/Rules.antt has the sentence)
 abbrev pub range_under : Bool → List ℕ → List ℕ → Storage → Range
 range_under newer staged excluded s = cond (newer && ltb 1 (length excluded)) none (range_for staged excluded s)
 

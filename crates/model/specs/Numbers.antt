@@ -1,5 +1,5 @@
 -- The numbers of the papers, by name: the limits, the words that things take, the commands, the refusals. The code has the same names (src/lib.rt,
--- src/commands.rt, src/refusals.rt), with underscores for hyphens; a command's byte is `REG_BYTE` here, since `REG` is the command. Assumes nothing.
+-- src/commands.rt, src/refusals.rt); a command's byte is `REG_BYTE` here, since `REG` is the command. Assumes nothing.
 use Rattle.std.specs.Prelude.{ℕ, ◌+◌, ◌*◌, ◌/◌}
 
 -- ---- limits

@@ -1,10 +1,10 @@
 -- "Refusals by place": 01's table, place by place in its order. Assumes nothing.
-use Rattle.std.specs.Prelude.{◌≡◌, ◌≢◌, Bool, true, false, cond, not, ◌&&◌, ◌||◌, List, [], ◌∷◌, ◌++◌, ℕ, eqb, leb, ltb, length, take}
+use Rattle.std.specs.Prelude.{◌≡◌, ◌≢◌, Bool, true, false, cond, not, ◌&&◌, ◌||◌, List, [], ◌∷◌, ◌++◌, ℕ, eqb, leb, ltb, length}
 use Rattle.std.proofs.Math.Option.{Option, some, none}
 use Rattle.model.specs.Numbers.{CALLER, HANDFUL, KIND, LAST_CALLER, LAST_KIND, LIST_CAPACITY, MANY, MAX_ENTITIES, MAX_GROUP_ARITY, MAX_GROUP_COUNT, MAX_KINDS, SIZE, WIDE, SHORT, UNSOUND, UNKNOWN, CUT, NOROOM, KINDS, AGAIN, DEAD, FULL, CLASH, BEYOND, VALUE_BYTES, LONG_VALUE_BYTES}
 use Rattle.model.specs.Model.{Entity, mem, set_of, groups_of, adds_nothing, joins, is_full, free_numbers, is_live}
 use Rattle.model.specs.Store.{Store, staged_kinds, is_kind, refusals_by, words_needed}
-use Rattle.model.specs.Commands.{Command, REG, HOLD, NEW, PUT, TAKE, DROP, KILL, WIPE, GROUP, APPLY, BAR, RANGE, EMPTY, TALLY, TRAY, SETCALLER, width, is_command, answer_length, command_on, operands_len}
+use Rattle.model.specs.Commands.{Command, REG, HOLD, NEW, PUT, TAKE, DROP, KILL, WIPE, GROUP, APPLY, BAR, RANGE, EMPTY, TALLY, TRAY, SETCALLER, is_command, answer_length, command_on, operands_len}
 use Rattle.model.specs.Snapshot.{snapshot}
 
 -- ---- lines

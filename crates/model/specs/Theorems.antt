@@ -70,7 +70,7 @@ AddedSound kinds nothing = Unit {0}
 AddedSound kinds (added fs) = DraftSound kinds fs
 AddedSound kinds (refused n) = Unit {0}
 
--- GROUP by the layout's own addGroup: the staged kinds added to the draft, nothing added, or a refusal
+-- GROUP by the layout's own add_group: the staged kinds added to the draft, nothing added, or a refusal
 abbrev pub grouped : Store → Added → Outcome
 grouped s nothing = accepts (with_control s (empty_staged s.control)) (0 ∷ [])
 grouped s (added fs) = accepts (with_control s (with_draft (empty_staged s.control) fs)) (1 ∷ [])

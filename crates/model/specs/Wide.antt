@@ -1,16 +1,13 @@
 -- Values of sixteen bytes (02, No. 13), by examples: words needed, HOLD, TAKE, CUT, roll and column at width 16; and two stores of different widths that
--- write the same roll. All computed. Assumes nothing.
-use Rattle.std.specs.Prelude.{◌≡◌, refl, true, false, List, [], ◌∷◌, ◌++◌, ℕ, zero, suc, ◌+◌, ◌*◌, length}
-use Rattle.std.proofs.Common.{ap, sym, ◌∙◌, arith}
-use Rattle.std.proofs.Math.Option.{Option, some, none}
+-- write the same roll, which proofs/Wide.antt shows. All computed. Assumes nothing.
+use Rattle.std.specs.Prelude.{◌≡◌, refl, true, false, List, [], ◌∷◌, ◌++◌, ℕ, zero, suc, ◌+◌, ◌*◌}
 use Rattle.model.specs.Numbers.{HOLD_BYTE, KILL_BYTE, LONG_VALUE_BYTES, NEW_BYTE, TAKE_BYTE, VALUE_BYTES}
-use Rattle.model.specs.Lists.{count_of}
-use Rattle.model.specs.Model.{same_entity, group_components, group_family, group_touched, ungroup, ungroup_family, ungroup_components, insert_components, remove, create, destroy, entity, set_of}
+use Rattle.model.specs.Model.{group_components, group_family, group_touched, ungroup, ungroup_family, ungroup_components, insert_components, remove, create, destroy}
 use Rattle.model.specs.Store.{Store, told, empty_with, bytes_of, words_needed}
 use Rattle.model.specs.Commands.{accepted}
 use Rattle.model.specs.Refusals.{lines_of}
 use Rattle.model.specs.Run.{run, run_for, step, does}
-use Rattle.model.specs.Snapshot.{snapshot, Same, value_at}
+use Rattle.model.specs.Snapshot.{snapshot}
 use Rattle.model.specs.Entries.{column_refusal, column}
 use Rattle.model.specs.Examples.{ANSWER_ROOM, reg, after_tape}
 
@@ -104,7 +101,7 @@ store_of_sixteen =
     (empty_with (told 64 16 LONG_VALUE_BYTES false))
 
 -- the same 175 bytes: live count, entity 0; from byte 30 on they are read as another entity
-pub snapshot_of_both : List ℕ
+unfoldable pub snapshot_of_both : List ℕ
 snapshot_of_both =
     (2 ∷ 0 ∷ 0 ∷ 0 ∷ 0 ∷ 0 ∷ 0 ∷ 0 ∷ 1 ∷ 0 ∷ 0 ∷ 0 ∷ 1 ∷ [])
     ++ (0 ∷ 0 ∷ 0 ∷ 0 ∷ 0 ∷ 0 ∷ 0 ∷ 0 ∷ 0 ∷ 1 ∷ 0 ∷ 0 ∷ 0 ∷ 1 ∷ 0 ∷ 0 ∷ 0 ∷ 16 ∷ [])
@@ -112,42 +109,3 @@ snapshot_of_both =
     ++ (4 ∷ 0 ∷ 0 ∷ 0 ∷ 0 ∷ 0 ∷ 2 ∷ 0 ∷ 0 ∷ 5 ∷ 0 ∷ 0 ∷ 0 ∷ 0 ∷ 0 ∷ 0 ∷ 0 ∷ 0 ∷ 6 ∷ 0 ∷ 0 ∷ 0 ∷ 0 ∷ 3 ∷ 0 ∷ 0 ∷ 0 ∷ 7 ∷ 0 ∷ 0 ∷ 0 ∷ 0 ∷ 0 ∷ 0 ∷ 0 ∷ 0 ∷ [])
     ++ (8 ∷ 0 ∷ 0 ∷ 0 ∷ 4 ∷ 0 ∷ 0 ∷ 0 ∷ 0 ∷ 9 ∷ 0 ∷ 0 ∷ 0 ∷ 0 ∷ 0 ∷ 0 ∷ 0 ∷ 0 ∷ 10 ∷ 0 ∷ 0 ∷ 5 ∷ 0 ∷ 0 ∷ 0 ∷ 0 ∷ 0 ∷ 11 ∷ 0 ∷ 0 ∷ 0 ∷ 0 ∷ 0 ∷ 0 ∷ 0 ∷ 0 ∷ [])
     ++ (12 ∷ 0 ∷ 6 ∷ 0 ∷ 0 ∷ 0 ∷ 0 ∷ 0 ∷ 0 ∷ 13 ∷ 0 ∷ 0 ∷ 0 ∷ 0 ∷ 0 ∷ 0 ∷ 0 ∷ 0 ∷ 14 ∷ 7 ∷ 0 ∷ 0 ∷ 0 ∷ 0 ∷ 0 ∷ 0 ∷ 0 ∷ 15 ∷ 0 ∷ 0 ∷ 0 ∷ 0 ∷ 0 ∷ 0 ∷ 0 ∷ 0 ∷ [])
-
-pub snapshot_of_eight : snapshot store_of_eight ≡ snapshot_of_both
-unfolding snapshot store_of_eight snapshot_of_both
-snapshot_of_eight = refl
-
-pub snapshot_of_sixteen : snapshot store_of_sixteen ≡ snapshot_of_both
-unfolding snapshot store_of_sixteen snapshot_of_both
-snapshot_of_sixteen = refl
-
-pub snapshot_of_175 : length snapshot_of_both ≡ 175
-unfolding snapshot_of_both
-snapshot_of_175 = refl
-
-pub same_snapshot : snapshot store_of_eight ≡ snapshot store_of_sixteen
-same_snapshot = snapshot_of_eight ∙ sym snapshot_of_sixteen
-
--- and they are not the same: entity 0 holds another value of kind 0
-live_of_eight : count_of same_entity (entity 0 1) store_of_eight.entities.live ≡ 1
-unfolding store_of_eight
-live_of_eight = refl
-
-value_of_eight : value_at (entity 0 1) (set_of store_of_eight.storage.sets 0) ≡ some 0
-unfolding store_of_eight
-value_of_eight = refl
-
-value_of_sixteen : value_at (entity 0 1) (set_of store_of_sixteen.storage.sets 0) ≡ some 79228162532711081667253501952
-unfolding store_of_sixteen
-value_of_sixteen = refl
-
-number_in : Option ℕ → ℕ
-number_in none = 0
-number_in (some x) = x
-
-pub not_same : Same store_of_eight store_of_sixteen → ⊥
-unfolding number_in
-not_same h =
-    let e : ◌≡◌ {A = Option ℕ} (some 0) (some 79228162532711081667253501952) = sym value_of_eight ∙ h.values (entity 0 1) (omega (arith, live_of_eight)) 0 ∙ value_of_sixteen in
-    let z : ◌≡◌ {A = ℕ} 0 79228162532711081667253501952 = ap number_in e in
-    omega (arith, z)

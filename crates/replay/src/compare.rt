@@ -32,7 +32,7 @@ pub fn is_same_run(file: &[u8], at: usize, ran: Ran, out: &[u8]) -> bool
         return false;
     }
     let answers = at + 7;
-    check::same(&file[answers..answers + written], &out[..written])
+    &file[answers..answers + written] == &out[..written]
 }
 
 // A roll at the front of `out`, beside the recorded one.
@@ -44,7 +44,7 @@ pub fn is_same_roll(recorded: &[u8], rolled: Rolled, out: &[u8]) -> bool
     if rolled.number != 0 {
         return false;
     }
-    check::same(recorded, &out[..written])
+    recorded == &out[..written]
 }
 
 // Words beside their bytes, four each.

@@ -1,15 +1,22 @@
 // The recorded answers of the Rust (data/answers.bin), replayed through the crate `store`: how many of the recorded cases agree, and the first that
 // does not. README.md says how they were recorded.
+#![tactic(auto)]
+
 mod cases;
 mod compare;
 mod recorded;
 
 ghost use Rattle.std.specs.Prelude.{◌≡◌, ◌≤◌, ◌<◌, length};
+ghost use Rattle.std.specs.Io.{ReadsAtMost};
 ghost use Rattle.replay.specs.Agreement.{CountedCase, Replayed};
 
-use input::Input;
-use libc::STDOUT_FILENO;
+use std::fs::File;
+use std::process::ExitCode;
+use std::rt::Files;
+use std::{fmt, io};
 
+// The file's name.
+const ANSWERS: &str = "answers.bin";
 // More bytes than the file has.
 const FILE: usize = 262144;
 // What a recorded case needs at most: words of a store, and bytes of answers or of a roll.
@@ -87,43 +94,66 @@ fn replay(file: &[u8], cases: u32) -> Tally
     replay_cases(&mut words, file, cases, &mut out)
 }
 
-fn report(tally: Tally) {
-    io::print_decimal(STDOUT_FILENO, tally.agree as u64);
-    io::write_all(STDOUT_FILENO, b" of ");
-    io::print_decimal(STDOUT_FILENO, tally.cases as u64);
-    io::write_all(STDOUT_FILENO, b" recorded cases agree\n");
-    if tally.first != 0 {
-        io::write_all(STDOUT_FILENO, b"the first that does not is case ");
-        io::print_decimal(STDOUT_FILENO, tally.first as u64);
-        io::write_all(STDOUT_FILENO, b"\n");
+fn report(rt: &impl Print, tally: Tally) -> io::Result<()> {
+    let Tally {
+        cases,
+        agree,
+        first,
+    } = tally;
+    println!(rt; "{agree} of {cases} recorded cases agree")?;
+    if first != 0 {
+        println!(rt; "the first that does not is case {first}")?;
     }
+    Ok(())
 }
 
 // A file that is none of recorded answers is refused.
-fn replay_file(file: &[u8]) {
+fn replay_file(rt: &impl Print, file: &[u8]) -> io::Result<()> {
     if file.len() < HEAD {
-        io::write_all(STDOUT_FILENO, b"no recorded answers\n");
-        return;
+        return println!(rt; "no recorded answers");
     }
-    if !check::same(&file[..8], b"TAPES 2\n") {
-        io::write_all(STDOUT_FILENO, b"no recorded answers\n");
-        return;
+    if !file.starts_with(b"TAPES 2\n") {
+        return println!(rt; "no recorded answers");
     }
-    report(replay(file, codec::get_u32(file, 8)));
+    report(rt, replay(file, codec::get_u32(file, 8)))
 }
 
-fn main() {
-    let path = b"answers.bin";
-    let mut file = [0u8; FILE];
-    let fd = os::open_read(path);
-    if fd < 0 {
-        os::fail(path);
-        return;
+// The file's bytes, as many as there is room for.
+fn read_answers(rt: &impl Files, buffer: &mut [u8]) -> io::Result<usize>
+    ensures { ReadsAtMost result buffer.new }
+{
+    let mut file = File::open(rt, ANSWERS)?;
+    input::read_up_to(&mut file, buffer)
+}
+
+// Where the program failed.
+#[derive(Drop)]
+enum Failure {
+    Answers(io::Error),
+    Output(io::Error),
+}
+
+impl fmt::Display for Failure {
+    fn fmt<W: fmt::Write>(&self, f: &mut fmt::Formatter<W>) -> fmt::Result {
+        match self {
+            Failure::Answers(error) => write!(f, "{ANSWERS}: {error}"),
+            Failure::Output(error) => write!(f, "standard output: {error}"),
+        }
     }
-    let read = input::read_up_to(fd, &mut file);
-    libc::close(fd);
-    match read {
-        Input::Bytes(n) => replay_file(&file[..n]),
-        Input::Failed => os::fail(path),
+}
+
+fn replay_answers(rt: &(impl Files + Print)) -> Result<(), Failure> {
+    let mut file = [0u8; FILE];
+    let n = read_answers(rt, &mut file).map_err(Failure::Answers)?;
+    replay_file(rt, &file[..n]).map_err(Failure::Output)
+}
+
+fn main(rt: HostRuntime) -> ExitCode {
+    match replay_answers(&rt) {
+        Ok(()) => ExitCode::SUCCESS,
+        Err(failure) => {
+            let _ = eprintln!(rt; "{failure}");
+            ExitCode::FAILURE
+        }
     }
 }

@@ -1,4 +1,6 @@
 // A run: command after command off a tape, up to its end or a stop.
+#![tactic(auto)]
+
 ghost use Rattle.std.specs.Prelude.{◌≡◌, List, ℕ, ◌+◌, ◌-◌, ◌<◌, ◌≤◌, length, get_or};
 ghost use Rattle.model.specs.Commands.{widths, command_at, answer_length};
 ghost use Rattle.model.specs.Run.{run};

@@ -1,4 +1,6 @@
 // One command of a run: its operands are read off the tape, and its function is called.
+#![tactic(auto)]
+
 pub mod operands;
 
 ghost use Rattle.std.specs.Prelude.{◌≤◌};

@@ -1,5 +1,7 @@
 // The snapshot of a store, which *roll* writes: how long it is, and its bytes. The live entities by rising index, the components of each by rising kind.
 // One lookup for each live entity and registered kind: the length comes from the columns' lengths, an entity's count from the bytes of its components.
+#![tactic(auto)]
+
 ghost use Rattle.std.specs.Prelude.{◌≡◌, ◌+◌, ◌*◌, ◌<◌, ◌≤◌, length};
 ghost use Rattle.model.specs.Numbers.{MAX_ENTITIES, MAX_KINDS};
 ghost use Rattle.model.specs.Sound.{In};
@@ -69,8 +71,8 @@ fn rising_kinds(words: &[u32], list: &mut [u8]) -> usize
 // One component, if the entity holds the kind. Here and below z is the shape of the store.
 fn write_one(words: &[u32], z: Shape, kind: usize, e: Entity, out: &mut [u8], at: usize) -> usize
     requires arranged { Arranged words.now }
-    requires z_value { z ≡ shape_of words.now }
-    requires fact { In (meaning words.now).kinds kind }
+    requires shape_is { z ≡ shape_of words.now }
+    requires kind_known { In (meaning words.now).kinds kind }
     requires kind_in_bounds { at + length (one_bytes (4 * z.stride) (value_at (entity e.index e.version) (kind_set words.now kind)) kind) ≤ length out.old }
     ensures { WrittenUntil out.old out.new at result (one_bytes (4 * z.stride) (value_at (entity e.index e.version) (kind_set words.now kind)) kind) }
 {
@@ -94,7 +96,7 @@ fn write_components(
     at: usize,
 ) -> usize
     requires arranged { Arranged words.now }
-    requires z_value { z ≡ shape_of words.now }
+    requires shape_is { z ≡ shape_of words.now }
     requires list_value { list.now ≡ rising_kinds (meaning words.now).kinds }
     requires words_in_bounds { at + length (component_bytes (4 * z.stride) (components_of (entity e.index e.version) 0 (meaning words.now).storage.sets)) ≤ length out.old }
     ensures { WrittenUntil out.old out.new at result (component_bytes (4 * z.stride) (components_of (entity e.index e.version) 0 (meaning words.now).storage.sets)) }
@@ -110,7 +112,7 @@ fn write_components(
 // One entity: its numbers, how many components it has, and these.
 fn write_entity(words: &[u32], z: Shape, list: &[u8], e: Entity, out: &mut [u8], at: usize) -> usize
     requires arranged { Arranged words.now }
-    requires z_value { z ≡ shape_of words.now }
+    requires shape_is { z ≡ shape_of words.now }
     requires list_value { list.now ≡ rising_kinds (meaning words.now).kinds }
     requires version_in_bounds { at + length (entry_bytes (4 * z.stride) (entry_for words.now e.index e.version)) ≤ length out.old }
     ensures { WrittenUntil out.old out.new at result (entry_bytes (4 * z.stride) (entry_for words.now e.index e.version)) }
@@ -133,7 +135,7 @@ fn write_index(
     at: usize,
 ) -> usize
     requires arranged { Arranged words.now }
-    requires z_value { z ≡ shape_of words.now }
+    requires shape_is { z ≡ shape_of words.now }
     requires list_value { list.now ≡ rising_kinds (meaning words.now).kinds }
     requires index_bound { index < (meaning words.now).settings.capacity }
     requires index_in_bounds { at + length (index_bytes (4 * z.stride) words.now index) ≤ length out.old }
@@ -153,7 +155,7 @@ fn write_index(
 // All live entities.
 fn write_entities(words: &[u32], z: Shape, list: &[u8], out: &mut [u8], at: usize) -> usize
     requires arranged { Arranged words.now }
-    requires z_value { z ≡ shape_of words.now }
+    requires shape_is { z ≡ shape_of words.now }
     requires list_value { list.now ≡ rising_kinds (meaning words.now).kinds }
     requires words_in_bounds { at + length (flat (4 * z.stride) (listing (meaning words.now))) ≤ length out.old }
     ensures { WrittenUntil out.old out.new at result (flat (4 * z.stride) (listing (meaning words.now))) }

@@ -1,5 +1,5 @@
 -- Columns where they lie in the lent words, whatever they hold. Assumes nothing.
-use Rattle.std.specs.Prelude.{List, ℕ, ◌+◌, ◌*◌, ◌≤◌, ◌<◌, length, get_or}
+use Rattle.std.specs.Prelude.{List, ℕ, ◌+◌, ◌≤◌, ◌<◌, length, get_or}
 use Rattle.model.specs.Numbers.{MAX_KINDS}
 use Rattle.words.specs.Shape.{column_start, column_len, Shaped}
 use Rattle.words.specs.declared.Shape.{Shape}

@@ -1,4 +1,6 @@
 // Is an entity part sound? Each check is exact, and together they are linear in the words.
+#![tactic(auto)]
+
 ghost use Rattle.std.specs.Prelude.{◌≡◌, ◌+◌, ◌*◌, ◌≤◌, ◌<◌, length};
 ghost use Rattle.model.specs.Numbers.{ENTITY_LEN, MAX_ENTITIES};
 ghost use Rattle.words.specs.Offsets.{ENTITIES};

@@ -1,4 +1,6 @@
 // Whether lent words are a sound store (01), in time linear in the words.
+#![tactic(auto)]
+
 ghost use Rattle.std.specs.Prelude.{◌≡◌, ◌≤◌, length};
 ghost use Rattle.words.specs.Offsets.{ENTITIES};
 ghost use Rattle.words.specs.Decides.{Decides};
@@ -36,7 +38,7 @@ fn has_room(words: &[u32], n: usize, k: usize, v: usize) -> bool
 
 // The table of kinds, the entities, the columns.
 fn has_parts(words: &[u32], z: Shape, k: usize) -> bool
-    requires z_value { z ≡ shape_of words.now }
+    requires shape_is { z ≡ shape_of words.now }
     requires size_ok { SizeOk z.capacity k (value_bytes_of words.now) words.now }
     ensures { Decides result (PartsOk z k words.now) }
 {
@@ -110,7 +112,7 @@ fn has_layout(words: &[u32]) -> bool
 
 // The groups' counts.
 fn has_counts(words: &[u32]) -> bool
-    requires ground { Ground words.now }
+    requires grounded { Ground words.now }
     requires layout_ok { LayoutOk (shape_of words.now) words.now }
     ensures { Decides result (CountsOk (shape_of words.now) words.now) }
 {

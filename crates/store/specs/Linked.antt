@@ -1,5 +1,4 @@
--- What the functions exported to C promise where they differ in form from the entries: a struct with C's layout, and *column* as a place and as a copy,
--- since an exported function returns no part of a slice. Assumes nothing.
+-- What *column* promises in the two forms that it has for C, to which no part of a slice can be handed: as a place and as a copy. Assumes nothing.
 use Rattle.std.specs.Prelude.{◌≡◌, Bool, List, [], ◌∷◌, ◌++◌, map, ℕ, ◌*◌, ◌-◌, ◌≤◌, ltb, length, take, drop}
 use Rattle.model.specs.Numbers.{NOROOM}
 use Rattle.model.specs.Store.{Store}
@@ -8,14 +7,8 @@ use Rattle.model.specs.Entries.{item_words, column, Emitted, emitted}
 use Rattle.words.specs.Decides.{Decides}
 use Rattle.memory.specs.Meaning.{meaning}
 use Rattle.memory.specs.Arranged.{Sound}
-use Rattle.run.specs.declared.Ran.{Ran}
 use Rattle.store.specs.declared.Reply.{Reply}
-use Rattle.store.specs.declared.exports.ExportedRan.{ExportedRan}
 use Rattle.store.specs.Entries.{column_refused, column_words, part_place, EmitsOver}
-
--- run's answer, with C's layout
-abbrev pub as_ran : ExportedRan → Ran
-as_ran r = record { stop = r.stop; commands = r.commands; read = r.read; written = r.written }
 
 -- ---- column as a place
 

@@ -1,60 +1,38 @@
 // The entries over words that are known to hold a sound store, for a caller that holds them: a start or a run left them so, and nothing else has changed
-// them since. Each asks that they are sound, tests nothing, and promises what the entry of its name does.
+// them since. Each asks that they are sound, tests nothing, and promises what the entry of its name does. `roll_sound` is *roll*'s.
 ghost use Rattle.memory.specs.Arranged.{Sound};
-ghost use Rattle.store.specs.Entries.{Runs, ColumnNumbered, Rolls};
-ghost use Rattle.store.specs.Linked.{as_ran, ColumnPlaced, ColumnCopied};
+ghost use Rattle.store.specs.Entries.{Runs, ColumnNumbered};
+ghost use Rattle.store.specs.Linked.{ColumnPlaced, ColumnCopied};
 
-use crate::exports::ExportedRan;
-use crate::{Reply, Rolled};
+use crate::Reply;
 use model::refusals::NOROOM;
+use run::Ran;
 
-#[unsafe(no_mangle)]
-pub extern "C" fn yirbarn_held_run(words: &mut [u32], tape: &[u8], out: &mut [u8]) -> ExportedRan
+pub fn run(words: &mut [u32], tape: &[u8], out: &mut [u8]) -> Ran
     requires { Sound words.old }
-    ensures { Runs words.old words.new tape.now out.old out.new (as_ran result) }
+    ensures { Runs words.old words.new tape.now out.old out.new result }
 {
-    let ran = run::run_sound(words, tape, out);
-    ExportedRan {
-        stop: ran.stop,
-        commands: ran.commands,
-        read: ran.read,
-        written: ran.written,
-    }
+    run::run_sound(words, tape, out)
 }
 
-#[unsafe(no_mangle)]
-pub extern "C" fn yirbarn_held_column_number(
-    words: &[u32],
-    kind: u8,
-    values: bool,
-    start: usize,
-    end: usize,
-) -> u8
+pub fn column_number(words: &[u32], kind: u8, values: bool, start: usize, end: usize) -> u8
     requires { Sound words.now }
     ensures { ColumnNumbered words.now kind start end result }
 {
     columns::refusal(words, kind as usize, start, end)
 }
 
-#[unsafe(no_mangle)]
-pub extern "C" fn yirbarn_held_column_at(
-    words: &[u32],
-    kind: u8,
-    values: bool,
-    start: usize,
-    end: usize,
-) -> usize
+pub fn column_at(words: &[u32], kind: u8, values: bool, start: usize, end: usize) -> usize
     requires { Sound words.now }
     ensures { ColumnPlaced words.now values kind start end result }
 {
-    if yirbarn_held_column_number(words, kind, values, start, end) != 0 {
+    if column_number(words, kind, values, start, end) != 0 {
         return 0;
     }
     columns::row_start(words, kind as usize, values, start)
 }
 
-#[unsafe(no_mangle)]
-pub extern "C" fn yirbarn_held_column(
+pub fn copy_column(
     words: &[u32],
     kind: u8,
     values: bool,
@@ -65,7 +43,7 @@ pub extern "C" fn yirbarn_held_column(
     requires { Sound words.now }
     ensures { ColumnCopied words.now out.old out.new values kind start end result }
 {
-    let number = yirbarn_held_column_number(words, kind, values, start, end);
+    let number = column_number(words, kind, values, start, end);
     if number != 0 {
         return Reply {
             number: number,
@@ -85,12 +63,4 @@ pub extern "C" fn yirbarn_held_column(
         number: 0,
         written: count,
     }
-}
-
-#[unsafe(no_mangle)]
-pub extern "C" fn yirbarn_held_roll(words: &[u32], out: &mut [u8]) -> Rolled
-    requires { Sound words.now }
-    ensures { Rolls words.now out.old out.new result }
-{
-    crate::roll_sound(words, out)
 }

@@ -1,12 +1,14 @@
 // The public entries of document 01: *start*, *run*, *column* and its number, *roll*; and *start_with* and its words of 02. None asks anything of its caller; those of
-// `held` do.
-pub mod exports;
+// `held` do. The crate `store_c` exports them to C.
+#![tactic(auto)]
+
 pub mod held;
 
 ghost use Rattle.model.specs.Numbers.{VALUE_BYTES};
 ghost use Rattle.model.specs.Store.{told};
 ghost use Rattle.memory.specs.Arranged.{Sound};
 ghost use Rattle.store.specs.Entries.{Needs, Starts, StartsWith, Runs, ColumnNumbered, ColumnPart, Rolls};
+ghost use Rattle.store.specs.Linked.{ColumnPlaced, ColumnCopied};
 
 use memory::empty;
 use memory::empty::within_limits;
@@ -100,6 +102,36 @@ pub fn column(words: &[u32], kind: u8, values: bool, start: usize, end: usize) -
         return &words[0..0];
     }
     columns::rows(words, kind as usize, values, start, end)
+}
+
+// Where the part that column hands back stands in the words.
+pub fn column_at(words: &[u32], kind: u8, values: bool, start: usize, end: usize) -> usize
+    ensures { ColumnPlaced words.now values kind start end result }
+{
+    if !soundness::is_sound(words) {
+        return 0;
+    }
+    held::column_at(words, kind, values, start, end)
+}
+
+// The words that column hands back, copied to the front of out if they have room there.
+pub fn copy_column(
+    words: &[u32],
+    kind: u8,
+    values: bool,
+    start: usize,
+    end: usize,
+    out: &mut [u32],
+) -> Reply
+    ensures { ColumnCopied words.now out.old out.new values kind start end result }
+{
+    if !soundness::is_sound(words) {
+        return Reply {
+            number: UNSOUND,
+            written: 0,
+        };
+    }
+    held::copy_column(words, kind, values, start, end, out)
 }
 
 // The snapshot, from the front of the bytes.

@@ -1,11 +1,16 @@
 // Commands from standard input, on an empty store of 64 entities and 8 kinds; the answers to standard output, and then the stop number, how many
 // commands were done, how many bytes of them were read and how many bytes of answers written.
-ghost use Rattle.std.specs.Prelude.{◌≡◌, ◌+◌, ◌≤◌, ◌<◌, length};
-ghost use Rattle.std.proofs.lemmas.List.Edits.{sets};
-ghost use Rattle.tape.specs.Output.{numbers, Served};
+#![tactic(auto)]
 
-use input::Input;
-use libc::{STDIN_FILENO, STDOUT_FILENO};
+ghost use Rattle.std.specs.Prelude.{◌≡◌, ◌+◌, ◌≤◌, ◌<◌, length, OnOk, IfErr};
+ghost use Rattle.std.proofs.lemmas.List.Edits.{sets};
+ghost use Rattle.std.specs.Io.KnownBytes.{Appends};
+ghost use Rattle.tape.specs.Output.{numbers, output, Served};
+ghost use Rattle.tape.specs.Played.{Played, Unanswered};
+
+use std::io::{Read, Write};
+use std::process::ExitCode;
+use std::{fmt, io};
 
 const ENTITIES: usize = 64;
 
@@ -44,21 +49,53 @@ fn serve(tape: &[u8], out: &mut [u8]) -> usize
     put_numbers(out, ran.stop, ran.commands, ran.read, ran.written)
 }
 
-fn answer(tape: &[u8])
-    requires { length tape.now ≤ 16384 }
-{
-    let mut out = [0u8; OUTPUT];
-    let n = serve(tape, &mut out);
-    if !io::write_all(STDOUT_FILENO, &out[..n]) {
-        os::fail(b"standard output");
+// Which end failed.
+#[derive(Drop)]
+enum Failure {
+    Input(io::Error),
+    Output(io::Error),
+}
+
+impl fmt::Display for Failure {
+    fn fmt<W: fmt::Write>(&self, f: &mut fmt::Formatter<W>) -> fmt::Result {
+        match self {
+            Failure::Input(error) => write!(f, "standard input: {error}"),
+            Failure::Output(error) => write!(f, "standard output: {error}"),
+        }
     }
 }
 
-// Commands past the most that the program serves are left unread. Where a read fails, nothing is answered.
-fn main() {
+// Writes it all at once.
+fn answer<W: Write>(tape: &[u8], writer: &mut W) -> io::Result<()>
+    requires { length tape.now ≤ 16384 }
+    ensures { OnOk result (Appends (W.contents writer.old) (W.contents writer.new) (output tape.now)) }
+{
+    let mut out = [0u8; OUTPUT];
+    let n = serve(tape, &mut out);
+    writer.write_all(&out[..n])
+}
+
+// The program, over any reader and writer. Commands past the most that it serves are left unread. Where a read fails, nothing is answered.
+fn play<R: Read, W: Write>(reader: &mut R, writer: &mut W) -> Result<(), Failure>
+    ensures played { OnOk result (Played (R.remaining reader.old) (R.remaining reader.new) (W.contents writer.old) (W.contents writer.new)) }
+    ensures silent { IfErr result (λ failure. Unanswered failure (W.contents writer.old) (W.contents writer.new)) }
+{
     let mut tape = [0u8; MOST];
-    match input::read_up_to(STDIN_FILENO, &mut tape) {
-        Input::Bytes(n) => answer(&tape[..n]),
-        Input::Failed => os::fail(b"standard input"),
+    match input::read_up_to(reader, &mut tape) {
+        Ok(n) => match answer(&tape[..n], writer) {
+            Ok(()) => Ok(()),
+            Err(error) => Err(Failure::Output(error)),
+        },
+        Err(error) => Err(Failure::Input(error)),
+    }
+}
+
+fn main(rt: HostRuntime) -> ExitCode {
+    match play(&mut rt.stdin(), &mut rt.stdout()) {
+        Ok(()) => ExitCode::SUCCESS,
+        Err(failure) => {
+            let _ = eprintln!(rt; "{failure}");
+            ExitCode::FAILURE
+        }
     }
 }

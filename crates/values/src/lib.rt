@@ -1,5 +1,7 @@
 // The values of components (01: parts) in words and in bytes. Of a value's words and bytes no other code stores or reads any: they are two words or, where 02's No. 13 asks for
 // sixteen bytes, four.
+#![tactic(auto)]
+
 ghost use Rattle.std.specs.Prelude.{◌≡◌, ℕ, ◌+◌, ◌*◌, ◌≤◌, length, take, drop};
 ghost use Rattle.std.proofs.lemmas.List.Edits.{sets};
 ghost use Rattle.model.specs.Store.{bytes_of, number};
@@ -7,7 +9,7 @@ ghost use Rattle.words.specs.Shape.{TwoOrFour};
 ghost use Rattle.values.specs.Values.{words_of, value_of};
 
 // A value, its lowest word first. One of two words has them first, and then zeros.
-#[derive(Drop)]
+#[derive(Clone, Copy)]
 pub struct Value {
     pub first: u32,
     pub second: u32,

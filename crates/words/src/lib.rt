@@ -1,5 +1,7 @@
 // The arrangement of the lent words (docs/WORDS.md): the offsets of the header, of a layout's block, of the entity part and of a column, and where the
 // columns start.
+#![tactic(auto)]
+
 ghost use Rattle.std.specs.Prelude.{◌≡◌, ◌+◌, ◌*◌, ◌<◌, ◌≤◌, length, get_or};
 ghost use Rattle.model.specs.Numbers.{MAX_ENTITIES, MAX_KINDS};
 ghost use Rattle.words.specs.Offsets.{VALUE_WIDTH};
@@ -95,7 +97,7 @@ pub const PLACE_IN_FAMILY: usize = 3;
 pub const ROWS: usize = model::COLUMN_HEAD;
 
 // What a column is made for: so many entities, and so many words for each value.
-#[derive(Drop)]
+#[derive(Clone, Copy)]
 pub struct Shape {
     pub capacity: usize,
     pub stride: usize,
@@ -154,7 +156,7 @@ pub fn column_start(z: Shape, s: usize) -> usize
 }
 
 // An entity (01: card): an index and a version. Versions start at 1.
-#[derive(Drop)]
+#[derive(Clone, Copy)]
 pub struct Entity {
     pub index: u32,
     pub version: u32,

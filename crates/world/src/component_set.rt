@@ -19,7 +19,7 @@ use words::{Entity, Shape};
 // The staged component at i goes into the entity.
 fn insert_one(words: &mut [u32], z: Shape, i: usize, e: Entity)
     requires insertable { Insertable words.old e.index e.version }
-    requires z_value { z ≡ shape_of words.old }
+    requires shape_is { z ≡ shape_of words.old }
     requires i_in_bounds { i < length (meaning words.old).control.staged }
     ensures { Becomes words.old words.new (on_storage (insert_one (entity e.index e.version) (get_or (meaning words.old).control.staged i no_component)) (meaning words.old)) }
 {
@@ -30,7 +30,7 @@ fn insert_one(words: &mut [u32], z: Shape, i: usize, e: Entity)
 // All staged components go into the entity; no group is walked yet.
 pub fn insert_staged(words: &mut [u32], z: Shape, e: Entity)
     requires insertable { Insertable words.old e.index e.version }
-    requires z_value { z ≡ shape_of words.old }
+    requires shape_is { z ≡ shape_of words.old }
     ensures { Becomes words.old words.new (on_storage (inserted (entity e.index e.version) (meaning words.old).control.staged) (meaning words.old)) }
 {
     let n = control::staged::staged_len(words);
@@ -87,7 +87,7 @@ pub fn insert_each(words: &mut [u32], start: usize)
 // The entity leaves the groups that have a staged kind, highest first.
 pub fn ungroup_staged(words: &mut [u32], z: Shape, e: Entity)
     requires sound { Sound words.old }
-    requires z_value { z ≡ shape_of words.old }
+    requires shape_is { z ≡ shape_of words.old }
     ensures { Becomes words.old words.new (on_storage (ungrouped (entity e.index e.version) (staged_kinds (meaning words.old))) (meaning words.old)) }
 {
     let mask = staged_mask(words, z, Walk::Delete);
@@ -97,7 +97,7 @@ pub fn ungroup_staged(words: &mut [u32], z: Shape, e: Entity)
 // The entity's component of the staged kind at i goes, if it has one, and its value is handed back.
 pub fn remove_one(words: &mut [u32], z: Shape, i: usize, e: Entity) -> Removed
     requires staged { Staged words.old }
-    requires z_value { z ≡ shape_of words.old }
+    requires shape_is { z ≡ shape_of words.old }
     requires i_in_bounds { i < length (meaning words.old).control.staged }
     ensures { RemovesKind words.old words.new (get_or (staged_kinds (meaning words.old)) i 0) (entity e.index e.version) result }
 {
@@ -108,7 +108,7 @@ pub fn remove_one(words: &mut [u32], z: Shape, i: usize, e: Entity) -> Removed
 // Its components of all staged kinds go; no group is walked.
 fn delete_staged(words: &mut [u32], z: Shape, e: Entity)
     requires staged { Staged words.old }
-    requires z_value { z ≡ shape_of words.old }
+    requires shape_is { z ≡ shape_of words.old }
     ensures { Becomes words.old words.new (on_storage (removed (entity e.index e.version) (staged_kinds (meaning words.old))) (meaning words.old)) }
 {
     let n = control::staged::staged_len(words);

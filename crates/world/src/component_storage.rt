@@ -13,7 +13,7 @@ use words::{Entity, Shape};
 // The entity's component of the kind in a slot goes: no kind needs to be looked up. z is the shape of its columns, read once for all slots.
 fn strip_slot(words: &mut [u32], z: Shape, slot: usize, e: Entity)
     requires arranged { Arranged words.old }
-    requires z_value { z ≡ shape_of words.old }
+    requires shape_is { z ≡ shape_of words.old }
     requires slot_in_bounds { slot < length (meaning words.old).kinds }
     ensures { Becomes words.old words.new (on_storage (on_set (get_or (meaning words.old).kinds slot 0) (remove_row (entity e.index e.version))) (meaning words.old)) }
 {
@@ -23,7 +23,7 @@ fn strip_slot(words: &mut [u32], z: Shape, slot: usize, e: Entity)
 // Its components of all kinds go; no group is walked.
 fn strip_sets(words: &mut [u32], z: Shape, e: Entity)
     requires arranged { Arranged words.old }
-    requires z_value { z ≡ shape_of words.old }
+    requires shape_is { z ≡ shape_of words.old }
     requires distinct { Distinct (meaning words.old).kinds }
     ensures { Becomes words.old words.new (on_storage (removed (entity e.index e.version) (meaning words.old).kinds) (meaning words.old)) }
 {

@@ -1,4 +1,6 @@
 // The world (world/mod.rs): entities and their components together.
+#![tactic(auto)]
+
 pub mod component_set;
 pub mod component_storage;
 pub mod mask;

@@ -14,7 +14,7 @@ use masks::group_mask::GroupMask;
 use words::Shape;
 
 // What is walked for a kind: all groups of its family where it goes in, those that have it where it goes out.
-#[derive(Drop)]
+#[derive(Clone, Copy)]
 pub enum Walk {
     Insert,
     Delete,
@@ -37,8 +37,8 @@ fn lowest(walk: Walk, first: usize, own: usize) -> usize
 // The groups to walk for a kind, up to its family's largest.
 fn kind_mask(words: &[u32], z: Shape, walk: Walk, kind: usize) -> GroupMask
     requires arranged { Arranged words.now }
-    requires z_value { z ≡ shape_of words.now }
-    requires fact { In (meaning words.now).kinds kind }
+    requires shape_is { z ≡ shape_of words.now }
+    requires kind_known { In (meaning words.now).kinds kind }
     ensures { bits_of 64 result.0 ≡ walk_positions walk (kind ∷ []) (meaning words.now).storage.layout }
 {
     let found = kinds::own_group(words, z, kind);
@@ -52,7 +52,7 @@ fn kind_mask(words: &[u32], z: Shape, walk: Walk, kind: usize) -> GroupMask
 
 fn mask_at(words: &[u32], z: Shape, walk: Walk, i: usize) -> GroupMask
     requires staged { Staged words.now }
-    requires z_value { z ≡ shape_of words.now }
+    requires shape_is { z ≡ shape_of words.now }
     requires i_in_bounds { i < length (meaning words.now).control.staged }
     ensures { bits_of 64 result.0 ≡ walk_positions walk (get_or (staged_kinds (meaning words.now)) i 0 ∷ []) (meaning words.now).storage.layout }
 {
@@ -63,7 +63,7 @@ fn mask_at(words: &[u32], z: Shape, walk: Walk, i: usize) -> GroupMask
 // The groups to walk for all staged kinds.
 pub fn staged_mask(words: &[u32], z: Shape, walk: Walk) -> GroupMask
     requires staged { Staged words.now }
-    requires z_value { z ≡ shape_of words.now }
+    requires shape_is { z ≡ shape_of words.now }
     ensures { bits_of 64 result.0 ≡ walk_positions walk (staged_kinds (meaning words.now)) (meaning words.now).storage.layout }
 {
     let n = control::staged::staged_len(words);

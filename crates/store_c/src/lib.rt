@@ -1,12 +1,16 @@
-// The entries for C and Rust, under plain names. An exported function returns no part of a slice, so that *column* comes as the part's place in the
-// words, and as a copy.
+// The entries of `store` for C and Rust, under plain names: each calls the entry of its name, and promises what that one does. An exported function returns
+// no part of a slice, so that *column* comes as the part's place in the words, and as a copy.
+#![tactic(auto)]
+
+pub mod held;
+
 ghost use Rattle.model.specs.Numbers.{VALUE_BYTES};
 ghost use Rattle.model.specs.Store.{told};
 ghost use Rattle.store.specs.Entries.{Needs, Starts, StartsWith, Runs, ColumnNumbered, Rolls};
-ghost use Rattle.store.specs.Linked.{as_ran, ColumnPlaced, ColumnCopied};
+ghost use Rattle.store.specs.Linked.{ColumnPlaced, ColumnCopied};
+ghost use Rattle.store_c.specs.Exported.{as_ran};
 
-use crate::{Reply, Rolled, held};
-use model::refusals::UNSOUND;
+use store::{Reply, Rolled};
 
 // What run answers, with C's layout.
 #[repr(C)]
@@ -22,21 +26,21 @@ pub struct ExportedRan {
 pub extern "C" fn yirbarn_words_needed(n: usize, k: usize) -> usize
     ensures { Needs n k VALUE_BYTES result }
 {
-    crate::words_needed(n, k)
+    store::words_needed(n, k)
 }
 
 #[unsafe(no_mangle)]
 pub extern "C" fn yirbarn_words_needed_with(n: usize, k: usize, v: usize) -> usize
     ensures { Needs n k v result }
 {
-    crate::words_needed_with(n, k, v)
+    store::words_needed_with(n, k, v)
 }
 
 #[unsafe(no_mangle)]
 pub extern "C" fn yirbarn_start(words: &mut [u32], n: usize, k: usize) -> u8
     ensures { Starts n k words.old words.new result }
 {
-    crate::start(words, n, k)
+    store::start(words, n, k)
 }
 
 #[unsafe(no_mangle)]
@@ -49,14 +53,14 @@ pub extern "C" fn yirbarn_start_with(
 ) -> u8
     ensures { StartsWith (told n k v newer) words.old words.new result }
 {
-    crate::start_with(words, n, k, v, newer)
+    store::start_with(words, n, k, v, newer)
 }
 
 #[unsafe(no_mangle)]
 pub extern "C" fn yirbarn_run(words: &mut [u32], tape: &[u8], out: &mut [u8]) -> ExportedRan
     ensures { Runs words.old words.new tape.now out.old out.new (as_ran result) }
 {
-    let ran = crate::run(words, tape, out);
+    let ran = store::run(words, tape, out);
     ExportedRan {
         stop: ran.stop,
         commands: ran.commands,
@@ -75,7 +79,7 @@ pub extern "C" fn yirbarn_column_number(
 ) -> u8
     ensures { ColumnNumbered words.now kind start end result }
 {
-    crate::column_number(words, kind, values, start, end)
+    store::column_number(words, kind, values, start, end)
 }
 
 // Where the part that column hands back stands in the words.
@@ -89,10 +93,7 @@ pub extern "C" fn yirbarn_column_at(
 ) -> usize
     ensures { ColumnPlaced words.now values kind start end result }
 {
-    if !soundness::is_sound(words) {
-        return 0;
-    }
-    held::yirbarn_held_column_at(words, kind, values, start, end)
+    store::column_at(words, kind, values, start, end)
 }
 
 // The words that column hands back, copied to the front of out if they have room there.
@@ -107,18 +108,12 @@ pub extern "C" fn yirbarn_column(
 ) -> Reply
     ensures { ColumnCopied words.now out.old out.new values kind start end result }
 {
-    if !soundness::is_sound(words) {
-        return Reply {
-            number: UNSOUND,
-            written: 0,
-        };
-    }
-    held::yirbarn_held_column(words, kind, values, start, end, out)
+    store::copy_column(words, kind, values, start, end, out)
 }
 
 #[unsafe(no_mangle)]
 pub extern "C" fn yirbarn_roll(words: &[u32], out: &mut [u8]) -> Rolled
     ensures { Rolls words.now out.old out.new result }
 {
-    crate::roll(words, out)
+    store::roll(words, out)
 }
