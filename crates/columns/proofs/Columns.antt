@@ -26,7 +26,7 @@ use Rattle.words.specs.declared.Shape.{Shape}
 use Rattle.values.specs.Values.{digits}
 use Rattle.values.proofs.Numbers.{words_from}
 use Rattle.values.proofs.Places.{value_inside}
-use Rattle.component.specs.SparseSet.{length_of, row_at, rows}
+use Rattle.component.specs.SparseSet.{length_of, row_at}
 use Rattle.component.proofs.Meaning.{length_rows, get_d_rows}
 use Rattle.component.specs.Columns.{column_of}
 use Rattle.component.proofs.Parts.{get_d_column, part_is}

@@ -8,7 +8,7 @@ use lib.ListN.{length, get_or, take, drop}
 use lib.Seq.{slice_empty, slice-cons, take_at, drop_at, take-add, drop-drop}
 use Rattle.model.specs.Model.{Entity}
 use Rattle.model.specs.Entries.{entity_words, in_words, value_words, part}
-use Rattle.model.proofs.Entries.{in_words_law as length-inWords}
+use Rattle.model.proofs.Entries.{in_words_law as length_in_words}
 use Rattle.values.specs.Values.{digits}
 use Rattle.values.proofs.Numbers.{Words}
 
@@ -87,7 +87,7 @@ digits_in_words (suc (suc d)) x h = omega (arith, digits_in_words (suc d) (x / 4
 pub value_at_law : (d : ℕ) (l : List ℕ) (i : ℕ) → 1 ≤ d → i < length l → digits (take d (drop (d * i) (value_words d l))) ≡ get_or l i 0
 value_at_law d l i some h =
     ap (λ (u : List ℕ). digits (take d (drop (d * i) u))) (value_items d l)
-    ∙ ap digits (item_at (in_words d) d 0 (length-inWords d) l i h)
+    ∙ ap digits (item_at (in_words d) d 0 (length_in_words d) l i h)
     ∙ digits_in_words d (get_or l i 0) some
 
 -- words are the number that they are, in as many words

@@ -1,7 +1,7 @@
 -- A query with one kind more, and the range of two queries. Assumes nothing.
 use mathlib.Core.Path.{◌≡◌, sym, ap, ◌∙◌, subst}
 use mathlib.Core.List.{List, [], ◌∷◌, ◌++◌}
-use Prim.Native.Nat.{ℕ, ◌+◌, ◌-◌, ◌≤◌, ◌<◌}
+use Prim.Native.Nat.{ℕ, ◌+◌, ◌≤◌, ◌<◌}
 use native.Mathlib.Omega.{arith}
 use lib.ListN.{length, get_or}
 use Rattle.words.specs.Offsets.{ARITIES, ENTITIES, EXCLUDED_KINDS, GROUP_COUNTS, GROUP_FAMILIES, KIND_ENDS, LAYOUT, LAYOUT_ARITIES, LAYOUT_KIND_ENDS, STAGED_KINDS}

@@ -7,7 +7,6 @@ use lib.ListN.{length, get_or, drop}
 use Rattle.words.specs.Offsets.{CALLER, DRAFT, DRAFT_FAMILIES, DRAFT_GROUPS, ENTITIES, EXCLUDED_LEN, LAYOUT, LAYOUT_FAMILIES, STAGED_LEN, VALUE_WIDTH}
 use Rattle.model.specs.Model.{Family}
 use Rattle.model.specs.Store.{with_control, with_draft}
-use Rattle.words.specs.Table.{table}
 use Rattle.words.specs.Stores.{stores}
 use Rattle.words.proofs.Stores.{length_stores, miss, hit, drop_stores}
 use Rattle.words.specs.Part.{between}

@@ -286,7 +286,7 @@ family_all : (acc : List ℕ) (f : Family) → 1 ≤ length f → has_group (acc
 family_all acc [] h = absurd (omega arith)
 family_all acc (r ∷ []) h = rw (append-nil r.new_kinds) (has_first (acc ++ r.new_kinds) [])
 family_all acc (r ∷ q ∷ rs) h =
-    rw (← append_assoc acc r.new_kinds (kinds_of (q ∷ rs)))
+    subst (λ (ks : List ℕ). has_group ks (groups_in acc (r ∷ q ∷ rs)) ≡ true) (append_assoc acc r.new_kinds (kinds_of (q ∷ rs)))
     (has_there ((acc ++ r.new_kinds) ++ kinds_of (q ∷ rs)) (acc ++ r.new_kinds) (groups_in (acc ++ r.new_kinds) (q ∷ rs)) (family_all (acc ++ r.new_kinds) (q ∷ rs) (omega arith)))
 
 layout_all : (fs : List Family) → BuildableFamilies fs → (f : Family) → Memᴰ f fs → has_group (kinds_of f) (all_groups fs) ≡ true

@@ -3,7 +3,7 @@ use mathlib.Core.Path.{◌≡◌, refl, sym, ap, ◌∙◌}
 use mathlib.Core.Logic.{◌≢◌}
 use mathlib.Core.Bool.{Bool, true, false}
 use mathlib.Core.List.{List, [], ◌∷◌}
-use Prim.Native.Nat.{ℕ, zero, suc, ◌-◌, ◌≤◌, ◌<◌}
+use Prim.Native.Nat.{ℕ, zero, suc, ◌≤◌, ◌<◌}
 use native.Mathlib.Omega.{arith}
 use native.Mathlib.Nat.{not-suc-le-zero, le_of_suc-le-suc}
 use native.Mathlib.Decide.{dec_le}
@@ -12,7 +12,7 @@ use lib.ListN.{length, get_or}
 use Rattle.model.specs.Lists.{place, after}
 use Rattle.model.proofs.ListLaws.{get_d_place}
 use Rattle.model.specs.Model.{Entity, Entities, no_entity, same_entity, is_live, entity}
-use Rattle.model.specs.Snapshot.{live_version as versionIn}
+use Rattle.model.specs.Snapshot.{live_version as version_in}
 use Rattle.model.proofs.SparseSets.{entity_eq, entity_same}
 use Rattle.model.proofs.BoolLaws.{bool_cases}
 use Rattle.words.proofs.Tables.{length_table, get_d_table}
@@ -38,14 +38,14 @@ not_live e s f =
     (λ t. let h = ltb-true (place same_entity e s.live) (length s.live) t in absurd (f _ h (get_d_place same_entity entity_eq e no_entity s.live h)))
     (λ t. t)
 
-version_at_law : (x : ℕ) (l : List Entity) (p : ℕ) → p < length l → (get_or l p no_entity).index ≡ x → ((i : ℕ) → i < p → (get_or l i no_entity).index ≢ x) → versionIn x l ≡ (get_or l p no_entity).version
+version_at_law : (x : ℕ) (l : List Entity) (p : ℕ) → p < length l → (get_or l p no_entity).index ≡ x → ((i : ℕ) → i < p → (get_or l i no_entity).index ≢ x) → version_in x l ≡ (get_or l p no_entity).version
 version_at_law x [] p h g f = absurd (not-suc-le-zero h)
 version_at_law x (y ∷ l) zero h g f = rw (eq-eqb x y.index (sym g))
 version_at_law x (y ∷ l) (suc p) h g f =
     rw (ne_eqb x y.index (λ e. f 0 (omega arith) (sym e)))
     (version_at_law x l p (le_of_suc-le-suc h) g (λ i hi. f (suc i) (omega arith)))
 
-version_none : (x : ℕ) (l : List Entity) → ((i : ℕ) → i < length l → (get_or l i no_entity).index ≢ x) → versionIn x l ≡ 0
+version_none : (x : ℕ) (l : List Entity) → ((i : ℕ) → i < length l → (get_or l i no_entity).index ≢ x) → version_in x l ≡ 0
 version_none x [] f = refl
 version_none x (y ∷ l) f = rw (ne_eqb x y.index (λ e. f 0 (omega arith) (sym e))) (version_none x l (λ i hi. f (suc i) (omega arith)))
 
@@ -130,7 +130,7 @@ module _ (n : ℕ) (w : List ℕ) where
         sym (ap (λ (b : Bool). pick_found b (place same_entity (entity x v) (entities_of n w).live)) no)
 
     -- the version of a lookup is the model's
-    pub version_is : (x : ℕ) → x < n → held_of n w x ≡ versionIn x (entities_of n w).live
+    pub version_is : (x : ℕ) → x < n → held_of n w x ≡ version_in x (entities_of n w).live
     version_is x hx =
         elim (dec_le 1 (held_of n w x)) [
           | yes h ↦ sym (version_at_law x (entities_of n w).live (place_of n w x) (place_within x hx h) (index_there x hx h) (first_there x hx h) ∙ version_there x hx h)

@@ -183,9 +183,9 @@ module _ (e : Entity) where
 
     down_back : {p : ℕ} (F : Front p) (sets : List SparseSet) (fs : List Family) → Apart (fam_kinds fs) → Fams (key sets) fs → ((k : ℕ) → cnt e (key sets k) ≤ 1) → GoesBack F sets fs
     unfolding passing ungroup_back
-    down_back {p} F sets [] apart fm once = record { goes = goes_none (at_front F (record { sets = sets; layout = [] })); same = record { entities = λ x k. refl; lengths = λ k. refl } }
-    down_back {p} F sets (f ∷ fs) apart fm once =
-        let R : GoesBack (past F f refl) sets fs = down_back (past F f refl) sets fs apart.1 fm.1 once in
+    down_back {p = p} F sets [] apart fm once = record { goes = goes_none (at_front F (record { sets = sets; layout = [] })); same = record { entities = λ x k. refl; lengths = λ k. refl } }
+    down_back {p = p} F sets (f ∷ fs) apart fm once =
+        let R : GoesBack (past F f refl) sets fs = down_back {p = p + length f} (past F f refl) sets fs apart.1 fm.1 once in
         let q : Storage = ungroup_back e gone sets fs in
         let t : Family → List ℕ → Bool = λ f ks. meets gone ks in
         let kept : (k : ℕ) → In (kinds_of f) k → key q.sets k ≡ key sets k = λ k i. ap keys (back_other e gone sets fs k (apart.0 k i)) in

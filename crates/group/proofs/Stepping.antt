@@ -11,7 +11,6 @@ use Rattle.model.specs.Sound.{In}
 use Rattle.model.proofs.ListLaws.{swap_equal}
 use Rattle.masks.specs.Masks.{bits_of, Ordered}
 use Rattle.words.specs.Part.{between}
-use Rattle.component.specs.SparseSet.{rows}
 use Rattle.component.proofs.Meaning.{length_rows}
 use Rattle.component.specs.Columns.{column_of, rows_of}
 use Rattle.memory.specs.Header.{slot_of}

@@ -173,15 +173,15 @@ module _ {ℓ} {X : Type ℓ} {e : Entity} {step : GroupStatus → ℕ → Stora
       → {p : ℕ} (F : Front p) (sets : List SparseSet) (fs : List Family) → A sets fs
       → R (walk 0 (positions_where (λ f ks. t f) p fs) (at_front F (record { sets = sets; layout = fs }))) (walk 0 [] (at_front F (group_where t e sets fs)))
   unfolding passing group_where
-  where_climbs t A on off F sets [] a = K.same _
-  where_climbs t A on off {p} F sets (f ∷ fs) a =
+  where_climbs t A on off {p = p} F sets [] a = K.same _
+  where_climbs t A on off {p = p} F sets (f ∷ fs) a =
       rw (where_family T p f fs)
       (bool_cases (t f)
       (λ m. rw (m, family_all T f (λ ks. m) p [] f)
       (let o = on sets f fs a m in
       K.both (family_climbs (opened F (p + length f) fs) sets f 0 (positions_where T (p + length f) fs) refl (omega arith) (λ i h. (where_within T (p + length f) fs i h).0) o.0)
-      (rw (ap (λ (n : ℕ). p + n) (sym (length_up e [] sets f))) (where_climbs t A on off (past F w.groups refl) w.sets fs o.1))))
-      (λ m. rw (m, family_none T f (λ ks. m) p [] f) (where_climbs t A on off (past F f refl) sets fs (off sets f fs a))))
+      (rw (ap (λ (n : ℕ). p + n) (sym (length_up e [] sets f))) (where_climbs t A on off {p = p + length w.groups} (past F w.groups refl) w.sets fs o.1))))
+      (λ m. rw (m, family_none T f (λ ks. m) p [] f) (where_climbs t A on off {p = p + length f} (past F f refl) sets fs (off sets f fs a))))
     where
       T : Family → List ℕ → Bool
       T f ks = t f

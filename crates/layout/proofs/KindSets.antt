@@ -1,5 +1,5 @@
 -- Sets of kinds as lists that have each kind once: what the tests on them decide, and how long they are. Assumes nothing.
-use mathlib.Core.Path.{◌≡◌, refl, sym, ap, ◌∙◌}
+use mathlib.Core.Path.{◌≡◌, refl, sym, ap, subst, ◌∙◌}
 use mathlib.Core.Bool.{true, false, ◌&&◌, and-false}
 use mathlib.Core.List.{List, ◌∷◌}
 use Prim.Native.Nat.{ℕ, ◌-◌, ◌≤◌, ◌<◌}
@@ -8,7 +8,7 @@ use borrow.Author.Tests.{eq-eqb, ne_eqb}
 use lib.Dec.{eqb}
 use lib.ListN.{length, take, drop, take-append-drop}
 use Rattle.model.specs.Numbers.{MAX_KINDS}
-use Rattle.model.specs.Lists.{one}
+use Rattle.model.specs.Lists.{one, count_of}
 use Rattle.model.proofs.ListLaws.{below_counts, shorter, as_long, few_below}
 use Rattle.model.specs.Model.{mem, within, same_set}
 use Rattle.model.proofs.KindLists.{in_count, out_count, all_true, within_counts, without_length, lacks_some}
@@ -41,6 +41,10 @@ pigeon l s = few_below MAX_KINDS l s.once (λ k h. by_lt k MAX_KINDS (λ b. b) (
 
 -- ---- two sets are the same where they are as long and one holds the other
 
+-- a kind more at the head of a list that lacks it
+more_here : (x : ℕ) (js ks : List ℕ) → 1 ≤ count_of eqb x ks → count_of eqb x js ≡ 0 → count_of eqb x (x ∷ js) ≤ count_of eqb x ks
+more_here x js ks h e = rw (eq-eqb x x refl) (omega arith)
+
 pub same_set_law : (ks js : List ℕ) → KindSet ks → KindSet js → same_set ks js ≡ (eqb (length js) (length ks) && within js ks)
 same_set_law ks js sk sj = bool_cases (within js ks) inside outside
   where
@@ -50,7 +54,7 @@ same_set_law ks js sk sj = bool_cases (within js ks) inside outside
     missing : within js ks ≡ true → length js ≡ length ks → (x : ℕ) → mem x ks ≡ true → mem x js ≡ false → ⊥
     missing w e x m n =
         let more : length (x ∷ js) ≤ length ks =
-        shorter (x ∷ js) ks (λ z. by-eq z x (λ q. rw q (omega (arith, in_count ks x m, out_count js x n, ap one (eq-eqb x x refl)))) (λ q. omega (arith, ap one (ne_eqb z x q), within_counts js ks sj.once w z))) in
+        shorter (x ∷ js) ks (λ z. by-eq z x (λ q. subst (λ (w : ℕ). count_of eqb w (x ∷ js) ≤ count_of eqb w ks) (sym q) (more_here x js ks (in_count ks x m) (out_count js x n))) (λ q. omega (arith, ap one (ne_eqb z x q), within_counts js ks sj.once w z))) in
         omega arith
 
     inside : within js ks ≡ true → same_set ks js ≡ (eqb (length js) (length ks) && within js ks)

@@ -2,7 +2,7 @@
 use mathlib.Core.Path.{◌≡◌, refl, sym, ap, ◌∙◌, subst}
 use mathlib.Core.Logic.{◌≢◌}
 use mathlib.Core.List.{List, []}
-use Prim.Native.Nat.{ℕ, ◌+◌, ◌*◌, ◌-◌, ◌≤◌, ◌<◌}
+use Prim.Native.Nat.{ℕ, ◌+◌, ◌*◌, ◌≤◌, ◌<◌}
 use native.Mathlib.Omega.{arith}
 use borrow.Author.Tests.{lt-ltb, ltb-true}
 use lib.Dec.{ltb}
@@ -16,7 +16,6 @@ use Rattle.words.specs.Offsets.{CALLER, DRAFT_FAMILIES, DRAFT_GROUPS, ENTITIES, 
 use Rattle.words.proofs.Offsets.{column_start_mono, column_start_first}
 use Rattle.words.specs.Part.{between}
 use Rattle.words.proofs.Part.{between_rest, length_between, get_d_between}
-use Rattle.words.specs.Table.{table}
 use Rattle.words.proofs.Tables.{table_same, table_set, get_d_table, length_table}
 use Rattle.words.specs.Shape.{column_start, column_len, shape_of, shape}
 use Rattle.words.specs.declared.Shape.{Shape}

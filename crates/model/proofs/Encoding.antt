@@ -1,6 +1,6 @@
--- Numbers in bytes and back; and that the snapshot's bytes determine its entries. Assumes nothing.
+-- Numbers in bytes and back; and that the snapshot's bytes determine an entry's components. Assumes nothing.
 use mathlib.Core.Path.{◌≡◌, refl, ap₂, sym, ◌∙◌}
-use mathlib.Core.List.{List, [], ◌∷◌, ◌++◌, append_assoc, head-eq_of_cons-eq, tail-eq_of_cons-eq, nil≢cons, cons≢nil}
+use mathlib.Core.List.{List, [], ◌∷◌, ◌++◌, append_assoc, head-eq_of_cons-eq, tail-eq_of_cons-eq}
 use Prim.Native.Nat.{ℕ, zero, suc, ◌/◌, ◌%◌, ◌^◌, ◌<◌}
 use native.Mathlib.Omega.{arith}
 use native.Mathlib.Nat.{pow-suc, div-lt_iff_lt-mul}
@@ -8,7 +8,7 @@ use lib.Dec.{lit<}
 use lib.ListN.{length}
 use Rattle.model.specs.Model.{Component}
 use Rattle.model.specs.Store.{bytes_of, number, Bytes}
-use Rattle.model.specs.Snapshot.{Entry, component_bytes, entry_bytes, flat}
+use Rattle.model.specs.Snapshot.{component_bytes}
 use Rattle.model.specs.Sound.{ValueFits}
 
 -- a number of n bytes is the number of its bytes
@@ -53,27 +53,3 @@ storage_inj v (p ∷ ps) (q ∷ qs) r s fp fq l e =
     let t = storage_inj v ps qs r s fp.1 fq.1 (omega arith) x.1 in
     let h : p ≡ q = λ i. record { kind = k i; value = x.0 i } in
     (ap₂ {C = List Component} (λ y ys. y ∷ ys) h t.0, t.1)
-
-pub record FitEntry (v : ℕ) (t : Entry) : Type 0 where
-  pub index : t.entity.index < 256 ^ 4
-  pub version : t.entity.version < 256 ^ 4
-  pub components : FitComponents v t.components
-
-pub entry_inj : (v : ℕ) (t u : Entry) (r s : List ℕ) → FitEntry v t → FitEntry v u → entry_bytes v t ++ r ≡ entry_bytes v u ++ s → (t ≡ u) × (r ≡ s)
-entry_inj v t u r s ft fu e =
-    let a = bytes_of_inj 4 t.entity.index u.entity.index (bytes_of 4 t.entity.version ++ (length t.components ∷ (component_bytes v t.components ++ r))) (bytes_of 4 u.entity.version ++ (length u.components ∷ (component_bytes v u.components ++ s))) ft.index fu.index e in
-    let b = bytes_of_inj 4 t.entity.version u.entity.version (length t.components ∷ (component_bytes v t.components ++ r)) (length u.components ∷ (component_bytes v u.components ++ s)) ft.version fu.version a.1 in
-    let c = storage_inj v t.components u.components r s ft.components fu.components (head-eq_of_cons-eq b.1) (tail-eq_of_cons-eq b.1) in
-    ((λ i. record { entity = record { index = a.0 i; version = b.0 i }; components = c.0 i }), c.1)
-
-abbrev pub FitEntries : ℕ → List Entry → Type 0
-FitEntries v [] = Unit {0}
-FitEntries v (t ∷ ts) = FitEntry v t × FitEntries v ts
-
-pub flat_inj : (v : ℕ) (ts us : List Entry) → FitEntries v ts → FitEntries v us → flat v ts ≡ flat v us → ts ≡ us
-flat_inj v [] [] ft fu e = refl
-flat_inj v [] (u ∷ us) ft fu e = absurd (nil≢cons e)
-flat_inj v (t ∷ ts) [] ft fu e = absurd (cons≢nil e)
-flat_inj v (t ∷ ts) (u ∷ us) ft fu e =
-    let h = entry_inj v t u (flat v ts) (flat v us) ft.0 fu.0 e in
-    ap₂ {C = List Entry} (λ x xs. x ∷ xs) h.0 (flat_inj v ts us ft.1 fu.1 h.1)

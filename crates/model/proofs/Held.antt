@@ -10,7 +10,7 @@ use lib.ListN.{length, take}
 use Rattle.model.specs.Numbers.{MAX_KINDS}
 use Rattle.model.specs.Lists.{one}
 use Rattle.model.proofs.ListLaws.{count_take_le}
-use Rattle.model.specs.Model.{Entity, Entities, SparseSet, Group, Family, Component, Storage, same_entity, mem, all_of, set_of, held, all_held, kind_of, kinds_of, head_kind, insert_components, remove, clear_all, set_layout, destroy}
+use Rattle.model.specs.Model.{Entity, Entities, SparseSet, Group, Family, Component, Storage, same_entity, mem, set_of, held, all_held, kind_of, kinds_of, head_kind, insert_components, remove, clear_all, set_layout, destroy}
 use Rattle.model.specs.Sound.{Distinct, layout_kinds, Rising, BuildableFamilies, Uncounted, AllUncounted, Right, RightFrom, AllRight, key, cnt, In, holders}
 use Rattle.model.proofs.SparseSets.{entity_eq}
 use Rattle.model.proofs.BoolLaws.{cond_case, and_left, not_true, bool_cases}

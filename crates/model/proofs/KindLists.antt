@@ -1,6 +1,6 @@
 -- Lists of kinds: membership, counts, tests of all and of some, equal sets, what two lists have in common. Assumes nothing.
 use mathlib.Core.Path.{◌≡◌, refl, ap, ◌∙◌, sym}
-use mathlib.Core.Bool.{Bool, true, false, cond, not, false≢true, ◌&&◌, or-true, ◌||◌, or_assoc, true≢false, or-false as or-none}
+use mathlib.Core.Bool.{Bool, true, false, cond, false≢true, ◌&&◌, or-true, ◌||◌, or_assoc, true≢false, or-false as or-none}
 use mathlib.Core.List.{List, [], ◌∷◌, ◌++◌, append-nil}
 use Prim.Native.Nat.{ℕ, zero, suc, ◌+◌, ◌≤◌, ◌<◌, zero-le}
 use native.Mathlib.Omega.{arith}

@@ -8,7 +8,7 @@ use Prim.Native.Nat.{ℕ, zero, suc, ◌+◌, ◌-◌, ◌*◌, ◌/◌, ◌≤�
 use native.Mathlib.Omega.{arith}
 use borrow.Author.Tests.{ltb-false}
 use lib.Dec.{ltb}
-use lib.ListN.{length, take, drop, get_or, length-append, length-map, length-drop}
+use lib.ListN.{length, drop, get_or, length-append, length-map, length-drop}
 use Rattle.model.specs.Model.{Entity, SparseSet, Storage, Range, none, found, no_row, set_of, at, held, kind_of, range_under, adds_nothing, create}
 use Rattle.model.specs.Store.{Store, bytes_of, staged_kinds, is_kind, own_refusals}
 use Rattle.model.specs.Commands.{Command, REG, HOLD, NEW, PUT, TAKE, DROP, KILL, WIPE, GROUP, APPLY, BAR, RANGE, EMPTY, TALLY, TRAY, SETCALLER, Done, accepted, answer_length, taken_bytes, held_bytes, range_bytes, command_on, operands_len}

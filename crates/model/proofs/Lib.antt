@@ -27,6 +27,7 @@ pub mod Entries
 pub mod Sound
 pub mod Demand
 pub mod Encoding
+pub mod EntryBytes
 pub mod Listing
 pub mod Snapshots
 pub mod Lengths
@@ -36,3 +37,4 @@ pub mod Ranges
 pub mod Rules
 pub mod Settings
 pub mod Bounds
+pub mod Wide

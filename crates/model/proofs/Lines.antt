@@ -7,7 +7,7 @@ use mathlib.Core.List.{List, [], ◌∷◌, ◌++◌}
 use Prim.Native.Nat.{ℕ, suc, ◌≤◌}
 use native.Mathlib.Omega.{arith}
 use borrow.Author.Tests.{ltb-true}
-use lib.ListN.{length, take, length-map}
+use lib.ListN.{length, length-map}
 use Rattle.model.specs.Numbers.{CALLER, KIND, LIST_CAPACITY, MAX_GROUP_ARITY, NOROOM, UNKNOWN, WIDE}
 use Rattle.model.specs.Model.{kind_of}
 use Rattle.model.specs.Store.{Store, staged_kinds, own_refusals}

@@ -18,7 +18,8 @@ use Rattle.model.specs.Model.{same_entity, Entity, SparseSet, Component, set_of}
 use Rattle.model.specs.Store.{Store, bytes_of}
 use Rattle.model.specs.Snapshot.{Same, Entry, value_at, add_component, components_of, live_version, entry_of, entries, flat, listing, snapshot, SameWidth}
 use Rattle.model.proofs.SparseSets.{entity_eq, entity_same}
-use Rattle.model.proofs.Encoding.{FitEntries, flat_inj, bytes_of_inj}
+use Rattle.model.proofs.Encoding.{bytes_of_inj}
+use Rattle.model.proofs.EntryBytes.{FitEntries, flat_inj}
 
 abbrev entity_at : ℕ → ℕ → Entity
 entity_at i v = record { index = i; version = v }
@@ -164,7 +165,7 @@ pub record Listable (s : Store) : Type 0 where
   pub few : length s.entities.live < 256 ^ 4
   pub columns : length s.storage.sets ≡ MAX_KINDS
 
-module _ (s t : Store) (one_Width : SameWidth s t) (ls : Listable s) (lt : Listable t) where
+module _ (s t : Store) (one_width : SameWidth s t) (ls : Listable s) (lt : Listable t) where
   bound : ℕ
   bound = s.entities.issued + t.entities.issued
 
@@ -191,9 +192,9 @@ module _ (s t : Store) (one_Width : SameWidth s t) (ls : Listable s) (lt : Lista
   unfolding snapshot
   snapshot_same_at e =
       let v = s.settings.value_bytes in
-      let f : FitEntries v (listing t) = subst (λ (n : ℕ). FitEntries n (listing t)) one_Width lt.fit in
+      let f : FitEntries v (listing t) = subst (λ (n : ℕ). FitEntries n (listing t)) one_width lt.fit in
       let e' : bytes_of 4 (length s.entities.live) ++ flat v (listing s) ≡ bytes_of 4 (length t.entities.live) ++ flat v (listing t) =
-      e ∙ ap (λ (n : ℕ). bytes_of 4 (length t.entities.live) ++ flat n (listing t)) one_Width in
+      e ∙ ap (λ (n : ℕ). bytes_of 4 (length t.entities.live) ++ flat n (listing t)) one_width in
       let h = bytes_of_inj 4 (length s.entities.live) (length t.entities.live) (flat v (listing s)) (flat v (listing t)) ls.few lt.few e' in
       let l = flat_inj v (listing s) (listing t) ls.fit f h.1 in
       record {
@@ -249,7 +250,7 @@ module _ (s t : Store) (one_Width : SameWidth s t) (ls : Listable s) (lt : Lista
   same_snapshot h =
       ap₂ (λ (n : ℕ) (ts : List Entry). bytes_of 4 n ++ flat s.settings.value_bytes ts) (count_length same_entity entity_eq entity_same s.entities.live t.entities.live h.live)
       (sym wide_s ∙ entries_same h bound 0 ∙ wide_t)
-      ∙ ap (λ (n : ℕ). bytes_of 4 (length t.entities.live) ++ flat n (listing t)) (sym one_Width)
+      ∙ ap (λ (n : ℕ). bytes_of 4 (length t.entities.live) ++ flat n (listing t)) (sym one_width)
 
   -- two stores of one width write equal snapshots exactly if the same entities are live and hold the same components with the same values
   pub snapshot_iff : (snapshot s ≡ snapshot t) ↔ Same s t

@@ -23,7 +23,8 @@ use Rattle.model.proofs.Values.{ColsOk}
 use Rattle.model.proofs.Operations.{RowFits, no_row_law, sound_held}
 use Rattle.model.proofs.Sound.{run_sound}
 use Rattle.model.proofs.Settings.{run_settings}
-use Rattle.model.proofs.Encoding.{FitComponents, FitEntries}
+use Rattle.model.proofs.Encoding.{FitComponents}
+use Rattle.model.proofs.EntryBytes.{FitEntries}
 use Rattle.model.proofs.Listing.{LiveOk, Listable, snapshot_iff}
 
 -- ---- what the snapshot's law asks

@@ -5,7 +5,7 @@ use mathlib.Core.List.{List, [], ◌∷◌, ◌++◌}
 use Prim.Native.Nat.{ℕ, ◌+◌, ◌≤◌, ◌<◌}
 use native.Mathlib.Omega.{arith}
 use native.Mathlib.Nat.{zero-add}
-use lib.ListN.{length, take, drop, set, length-append, length-drop}
+use lib.ListN.{replicate, length-replicate, length, take, drop, set, length-append, length-drop}
 use lib.Seq.{sets, length-take-le}
 use Rattle.model.specs.Store.{Store, bytes_of, empty, words_needed}
 use Rattle.model.specs.Run.{run}
@@ -29,6 +29,10 @@ started = refl
 
 pub fresh : (w w' : List ℕ) (r : ℕ) → Starts 64 8 w w' r → length w ≡ 5184 → Sound w' × (meaning w' ≡ empty 64 8)
 fresh w w' r h e = subst (StartLeaves w w') (ap (start 64 8) e ∙ started) h.leaves
+
+-- the words that the program starts it in
+pub fresh_words : (w' : List ℕ) (r : ℕ) → Starts 64 8 (replicate 5184 0) w' r → Sound w' × (meaning w' ≡ empty 64 8)
+fresh_words w' r h = fresh (replicate 5184 0) w' r h (length-replicate {A = ℕ} 5184 0)
 
 -- ---- the numbers
 

@@ -1,0 +1,102 @@
+use mathlib.Core.Path.{◌≡◌, ap, sym, ◌∙◌, subst}
+use mathlib.Core.List.{List}
+use Prim.Native.Nat.{ℕ, ◌+◌, ◌*◌, ◌≤◌}
+use native.Mathlib.Omega.{arith}
+use lib.ListN.{length}
+use Rattle.model.specs.Model.{entity}
+use Rattle.model.proofs.Widths.{held_fit}
+use Rattle.model.specs.Store.{staged_kinds}
+use Rattle.words.specs.declared.Shape.{Shape}
+use Rattle.words.specs.Shape.{TwoOrFour, shape_of}
+use Rattle.memory.specs.Meaning.{meaning}
+use Rattle.memory.specs.Arranged.{Arranged}
+use Rattle.memory.proofs.Becomes.{stride_bytes}
+use Rattle.world.proofs.Removing.{gone_shape}
+use Rattle.command_take.proofs.Taking.{taken_none, taken_staged, taken_count, taken_length, taken_turn, taken_all, turn_room}
+use Rattle.command_take.proofs.take_staged.Goals as goal
+
+-- two words or four
+narrow : (w : List ℕ) (z : Shape) → Arranged w → z ≡ shape_of w → TwoOrFour z.stride
+narrow w z A e = subst (λ (y : Shape). TwoOrFour y.stride) (sym e) A.columns.shaped.words
+
+-- a component's bytes: 1 and the value's
+wide : (w : List ℕ) (z : Shape) (len : ℕ) → Arranged w → z ≡ shape_of w → len ≡ 1 + 4 * z.stride → len ≡ 1 + (meaning w).settings.value_bytes
+wide w z len A e l = l ∙ ap (λ (n : ℕ). 1 + n) (ap (λ (y : Shape). 4 * y.stride) e ∙ stride_bytes w A)
+
+-- and the room for all of them
+room : (w : List ℕ) (z : Shape) (len n at total : ℕ) → Arranged w → z ≡ shape_of w → len ≡ 1 + 4 * z.stride → n ≡ length (meaning w).control.staged
+    → at + (1 + (meaning w).settings.value_bytes) * length (meaning w).control.staged ≤ total → at + len * n ≤ total
+room w z len n at total A e l en h = rw (wide w z len A e l, en) h
+
+pub staged_len-n-requires : goal.staged_len-n-requires
+staged_len-n-requires c = c.requires.staged.arranged
+
+pub overflow_mul-len : goal.overflow_mul-len
+overflow_mul-len c = omega (arith, (narrow c.args.words.now c.args.z c.requires.staged.arranged c.requires.shape_is).most)
+
+pub overflow_add-len : goal.overflow_add-len
+overflow_add-len c = omega (arith, (narrow c.args.words.now c.args.z c.requires.staged.arranged c.requires.shape_is).most)
+
+pub loop-i-init : goal.loop-i-init
+loop-i-init c =
+    let a = c.args in
+    (omega arith, c.staged_len-n.ensures.few, c.staged_len-n.ensures.is, taken_none a.words.now a.out.now (entity a.e.index a.e.version) a.at c.requires.staged, c.requires.shape_is, omega arith)
+
+pub overflow_mul-len-in-loop-i : goal.overflow_mul-len-in-loop-i
+overflow_mul-len-in-loop-i c =
+    let v = c.loop-i.invariant in
+    let d = (narrow c.args.words.now c.args.z c.requires.staged.arranged v.4).most in
+    omega (arith, held_fit (4 * c.args.z.stride) c.loop-i.i (omega (arith, d)) (omega (arith, v.0, v.1)), v.5)
+
+pub overflow_add-at : goal.overflow_add-at
+overflow_add-at c =
+    let v = c.loop-i.invariant in
+    let r = room c.args.words.now c.args.z _ _ c.args.at (length c.args.out.now) c.requires.staged.arranged v.4 v.5 v.2 c.requires.words_in_bounds in
+    omega (arith, turn_room c.args.at _ c.loop-i.i c.staged_len-n.result (length c.args.out.now) (omega (arith, c.loop-i-test)) r)
+
+pub take_one-requires : goal.take_one-requires
+take_one-requires c =
+    let a = c.args in
+    let e = entity a.e.index a.e.version in
+    let l = c.loop-i in
+    let v = l.invariant in
+    let n : length (meaning l.words).control.staged ≡ length (meaning a.words.now).control.staged = taken_count a.words.now a.out.now e a.at l.words l.out l.i v.3 in
+    let o : length l.out ≡ length a.out.now = taken_length a.words.now a.out.now e a.at l.words l.out l.i v.3 in
+    let z = v.4 ∙ gone_shape a.words.now e (staged_kinds (meaning a.words.now)) l.words l.i v.3.gone in
+    let r = room a.words.now c.args.z _ _ a.at (length a.out.now) c.requires.staged.arranged v.4 v.5 v.2 c.requires.words_in_bounds in record { staged = taken_staged a.words.now a.out.now e a.at l.words l.out l.i c.requires.staged v.3; shape_is = z; i_in_bounds = omega (arith, n, v.2, c.loop-i-test); stride_in_bounds = omega (arith, o, v.5, turn_room a.at _ l.i c.staged_len-n.result (length a.out.now) (omega (arith, c.loop-i-test)) r) }
+
+pub loop-i-preserved : goal.loop-i-preserved
+loop-i-preserved c =
+    let a = c.args in
+    let l = c.loop-i in
+    let v = l.invariant in
+    let t = c.take_one in (
+      omega (arith, c.loop-i-test),
+      v.1,
+      v.2,
+      taken_turn a.words.now a.out.now (entity a.e.index a.e.version) a.at l.words l.out l.i c.requires.staged (omega (arith, v.2, c.loop-i-test)) v.3 _ (wide a.words.now c.args.z _ c.requires.staged.arranged v.4 v.5) t.new.words _ t.ensures,
+      v.4,
+      v.5,
+    )
+
+pub overflow_mul-result : goal.overflow_mul-result
+overflow_mul-result c =
+    let v = c.loop-i.invariant in
+    let d = (narrow c.args.words.now c.args.z c.requires.staged.arranged v.4).most in
+    omega (arith, held_fit (4 * c.args.z.stride) _ (omega (arith, d)) v.1, v.5)
+
+pub shape_of-words : goal.shape_of-words
+shape_of-words c = c.loop-i.invariant.3.gone.size
+
+pub shape_of-out : goal.shape_of-out
+shape_of-out c =
+    let a = c.args in
+    let l = c.loop-i in
+    taken_length a.words.now a.out.now (entity a.e.index a.e.version) a.at l.words l.out l.i l.invariant.3
+
+pub returns : goal.returns
+returns c =
+    let a = c.args in
+    let l = c.loop-i in
+    let v = l.invariant in
+    taken_all a.words.now a.out.now (entity a.e.index a.e.version) a.at l.words l.out l.i c.requires.staged (omega (arith, v.2, c.loop-i-test)) v.3 _ _ (wide a.words.now c.args.z _ c.requires.staged.arranged v.4 v.5) v.2

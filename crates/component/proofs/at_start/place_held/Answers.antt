@@ -1,0 +1,21 @@
+use native.Mathlib.Omega.{arith}
+use Rattle.component.proofs.Held.{held_index, held_place}
+use Rattle.component.proofs.at_start.place_held.Goals as goal
+
+pub lookup_place-s-requires : goal.lookup_place-s-requires
+lookup_place-s-requires c =
+    let a = c.args in
+    (c.requires.column_sound.shaped, omega (arith, held_index a.z a.part.now c.requires.column_sound a.e.index a.e.version c.requires.part_value))
+
+pub bounds-part-s : goal.bounds-part-s
+bounds-part-s c =
+    let a = c.args in
+    omega (arith, held_index a.z a.part.now c.requires.column_sound a.e.index a.e.version c.requires.part_value, c.requires.column_sound.size, c.lookup_place-s.ensures.is)
+
+pub overflow_cast-result : goal.overflow_cast-result
+overflow_cast-result c = omega (arith, c.shared_slice_known-1.given c.lookup_place-s.result)
+
+pub returns : goal.returns
+returns c =
+    let a = c.args in
+    rw c.lookup_place-s.ensures.is (held_place a.z a.part.now c.requires.column_sound a.e.index a.e.version c.requires.part_value)

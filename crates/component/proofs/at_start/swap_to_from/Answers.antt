@@ -1,0 +1,14 @@
+use Rattle.model.specs.Model.{swap_to, entity}
+use Rattle.component.proofs.Parts.{part_is, only_at}
+use Rattle.component.proofs.at_start.swap_to_from.Goals as goal
+
+pub swap_held-requires : goal.swap_held-requires
+swap_held-requires c =
+    let a = c.args in
+    let L = c.requires.from in
+    rw (part_is a.z L.slot a.base c.column_len.result a.words.now L.starts c.column_len.ensures.is) record { column_sound = L.lent.sound; part_value = (c.requires.holds, c.requires.room) }
+
+pub returns : goal.returns
+returns c =
+    let a = c.args in
+    λ s q l. only_at a.z s a.base c.column_len.result (swap_to (entity a.e.index a.e.version) a.place) a.words.now c.swap_held.new.part q c.column_len.ensures.is l c.swap_held.ensures

@@ -1,0 +1,37 @@
+use mathlib.Core.Path.{ap, ◌∙◌}
+use native.Mathlib.Omega.{arith}
+use Rattle.model.specs.Model.{Entities}
+use Rattle.model.specs.Snapshot.{live_version}
+use Rattle.entity.proofs.Sums.{part_sums}
+use Rattle.control.proofs.EntityPart.{entities_read, sound_in}
+use Rattle.control.proofs.entities.version_at.Goals as goal
+
+pub capacity-n-requires : goal.capacity-n-requires
+capacity-n-requires c = c.requires.arranged
+
+pub overflow_mul-end : goal.overflow_mul-end
+overflow_mul-end c = (part_sums c.capacity-n.result (sound_in c.args.words.now c.capacity-n.result c.capacity-n.ensures c.requires.arranged).sound.sized.small).0
+
+pub overflow_add-end : goal.overflow_add-end
+overflow_add-end c = (part_sums c.capacity-n.result (sound_in c.args.words.now c.capacity-n.result c.capacity-n.ensures c.requires.arranged).sound.sized.small).1
+
+pub slice_bounds-version_at-count : goal.slice_bounds-version_at-count
+slice_bounds-version_at-count c = (part_sums c.capacity-n.result (sound_in c.args.words.now c.capacity-n.result c.capacity-n.ensures c.requires.arranged).sound.sized.small).2
+
+pub slice_bounds-version_at-start : goal.slice_bounds-version_at-start
+slice_bounds-version_at-start c = (part_sums c.capacity-n.result (sound_in c.args.words.now c.capacity-n.result c.capacity-n.ensures c.requires.arranged).sound.sized.small).2
+
+pub slice_bounds-version_at-end : goal.slice_bounds-version_at-end
+slice_bounds-version_at-end c = c.capacity-n.ensures.fits
+
+pub version_at-requires : goal.version_at-requires
+version_at-requires c =
+    let w = c.args.words.now in
+    let n = c.capacity-n.result in
+    let C = c.capacity-n.ensures in
+    record { entity_part_sound = (sound_in w n C c.requires.arranged).sound; index_lt_n = omega (arith, c.requires.index_bound, C.is) }
+
+pub returns : goal.returns
+returns c =
+    let e = entities_read c.args.words.now c.capacity-n.result c.capacity-n.ensures in
+    c.version_at.ensures ∙ ap (λ (x : Entities). live_version c.args.index x.live) e

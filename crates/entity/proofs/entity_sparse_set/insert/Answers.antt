@@ -1,0 +1,14 @@
+use native.Mathlib.Omega.{arith}
+use Rattle.entity.proofs.LiveSteps.{live_room, joined_changed}
+use Rattle.entity.proofs.entity_sparse_set.insert.Goals as goal
+
+pub put-requires : goal.put-requires
+put-requires c =
+    let a = c.args in
+    let d = c.requires.idle.0 in
+    record { entity_part_sized = c.requires.entity_part_sound.sized; place_lt_n = (live_room a.n a.part.now c.requires.entity_part_sound a.e.index a.e.version d c.requires.idle.1, omega (arith, d.below, c.requires.entity_part_sound.few)) }
+
+pub returns : goal.returns
+returns c =
+    let a = c.args in
+    rw c.put.ensures (joined_changed a.n a.part.now c.requires.entity_part_sound a.e.index a.e.version c.requires.idle.0 c.requires.idle.1)

@@ -1,0 +1,6 @@
+use Rattle.entity.proofs.Lookups.{version_is}
+use Rattle.entity.proofs.sparse_vec.version_at.Goals as goal
+
+pub returns : goal.returns
+returns c =
+    version_is c.args.n c.args.part.now c.requires.entity_part_sound c.args.index c.requires.index_lt_n

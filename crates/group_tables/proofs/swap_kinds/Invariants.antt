@@ -1,0 +1,10 @@
+use Prim.Native.Nat.{◌-◌}
+use Rattle.model.specs.Model.{entity}
+use Rattle.group.proofs.Swapping.{Swapping}
+use Rattle.group_tables.proofs.swap_kinds.Given as goal
+
+abbrev pub invariant-loop-place : goal.invariant-loop-place
+invariant-loop-place l = Swapping l.initial.words (entity l.e.index l.e.version) l.start l.end l.swap_index l.words l.place
+
+abbrev pub decreases-loop-place : goal.decreases-loop-place
+decreases-loop-place l = l.end - l.place

@@ -1,0 +1,44 @@
+use mathlib.Core.Path.{◌∙◌, sym, ap, ap₂}
+use Prim.Native.Nat.{ℕ, ◌+◌}
+use mathlib.Core.List.{[]}
+use lib.ListN.{get_or, drop}
+use Rattle.words.specs.Part.{between}
+use Rattle.layout.specs.Layout.{arrays_in, groups_from, families_of}
+use Rattle.layout.specs.Fit.{part_of, join_fit, fit_from}
+use Rattle.layout.specs.declared.group_layout.Fit.{Fit}
+use Rattle.layout.proofs.Family.{start_next}
+use Rattle.layout.proofs.Arrays.{bounds, family_ask, fit_step, fit_end}
+use native.Mathlib.Omega.{arith}
+use Rattle.layout.proofs.group_layout.fit_of.Goals as goal
+
+pub slice_bounds-part_of-end : goal.slice_bounds-part_of-end
+slice_bounds-part_of-end c = omega (arith, bounds _ c.requires.good c.requires.sized c.loop-f.f c.loop-f-test.true, c.loop-f.invariant)
+
+pub slice_bounds-part_of-end-in-loop-f : goal.slice_bounds-part_of-end-in-loop-f
+slice_bounds-part_of-end-in-loop-f c = omega (arith, bounds _ c.requires.good c.requires.sized c.loop-f.f c.loop-f-test.true, c.loop-f.invariant)
+
+pub part_of-p-requires : goal.part_of-p-requires
+part_of-p-requires c =
+    let p = c.requires in
+    let l = c.loop-f in
+    rw (l.invariant.1, l.invariant.2) (family_ask _ p.good p.sized _ p.staged l.f c.loop-f-test.true)
+
+pub loop-f-preserved : goal.loop-f-preserved
+loop-f-preserved c =
+    let a = c.args in
+    let l = c.loop-f in
+    let hs = a.staged.now in
+    let arrays = arrays_in a.kinds.now a.arities.now a.kind_ends.now a.ends.now a.families in (
+      omega arith,
+      sym (start_next a.kind_ends.now l.f),
+      sym (start_next a.ends.now l.f),
+      l.invariant.3 ∙ fit_step arrays hs l.f l.acc c.loop-f-test.true
+          ∙ ap (λ (r : Fit). fit_from hs (l.f + 1) r (drop (l.f + 1) (families_of [] arrays)))
+          (sym (c.joined-acc.ensures ∙ ap (join_fit l.acc l.f) (c.part_of-p.ensures ∙ ap₂ (λ (k g : ℕ). part_of hs (groups_from [] 0 (between k (get_or a.kind_ends.now l.f 0) a.kinds.now) 0 (between g (get_or a.ends.now l.f 0) a.arities.now))) l.invariant.1 l.invariant.2))),
+    )
+
+pub returns : goal.returns
+returns c =
+    let a = c.args in
+    let l = c.loop-f in
+    sym (l.invariant.3 ∙ fit_end (arrays_in a.kinds.now a.arities.now a.kind_ends.now a.ends.now a.families) a.staged.now l.f l.acc (omega arith))

@@ -1,0 +1,11 @@
+use mathlib.Core.Path.{ap, ◌∙◌}
+use native.Mathlib.Nat.{sub-zero}
+use Rattle.masks.specs.Masks.{up_from}
+use Rattle.masks.proofs.group_mask.QueryMask.exclude.Goals as goal
+
+pub returns : goal.returns
+returns c =
+    record {
+      include = c.from_to-include.ensures ∙ ap (up_from 0) (sub-zero c.args.prev);
+      exclude = c.from_to-exclude.ensures;
+    }

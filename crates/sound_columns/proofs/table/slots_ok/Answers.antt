@@ -1,0 +1,23 @@
+use native.Mathlib.Omega.{arith}
+use Rattle.words.proofs.Passes.{starts, stops_each, goes, ends_each}
+use Rattle.sound_columns.proofs.SlotLaws.{slot_of_law}
+use Rattle.std.proofs.lemmas.Bool.{not_from_false, not_from_true}
+use Rattle.sound_columns.proofs.table.slots_ok.Goals as goal
+
+pub loop-s-init : goal.loop-s-init
+loop-s-init c = starts _
+
+pub slot_ok-requires : goal.slot_ok-requires
+slot_ok-requires c =
+    let a = c.args in
+    let l = c.loop-s in
+    slot_of_law a.z a.registered a.words.now c.requires l.s (omega arith)
+
+pub returns-then-not-slot_ok : goal.returns-then-not-slot_ok
+returns-then-not-slot_ok c = stops_each c.loop-s.invariant c.loop-s-test.true c.slot_ok.result c.slot_ok.ensures (not_from_false _ c.if-not-slot_ok.true)
+
+pub loop-s-preserved : goal.loop-s-preserved
+loop-s-preserved c = goes c.loop-s.invariant c.slot_ok.result c.slot_ok.ensures (not_from_true _ c.if-not-slot_ok.false)
+
+pub returns : goal.returns
+returns c = ends_each c.loop-s.invariant c.loop-s-test.false
