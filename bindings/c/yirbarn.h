@@ -13,7 +13,7 @@
  * none. The functions for words that are held, yirbarn_held_.., test nothing, and who calls one owes more: it is said
  * where they stand, at the end.
  *
- * Numbers are those of the refusals below, 0 where nothing is refused. Link with libstore.a (`rt staticlib store`).
+ * Numbers are those of the refusals below, 0 where nothing is refused. Link with libstore.a (`bindings/library`).
  */
 #ifndef YIRBARN_H
 #define YIRBARN_H

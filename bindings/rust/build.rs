@@ -1,4 +1,4 @@
-//! Where the static library is: the folder that `YIRBARN_LIB` names, or the one that `rt staticlib store` writes it to.
+//! Where the static library is: the folder that `YIRBARN_LIB` names, or the one that `bindings/library` writes it to.
 
 use std::env;
 use std::path::PathBuf;
@@ -12,7 +12,7 @@ fn main() {
     let archive = folder.join("libstore.a");
     assert!(
         archive.exists(),
-        "{}: not found (`rt staticlib store` makes it; YIRBARN_LIB names another folder)",
+        "{}: not found (`bindings/library` makes it; YIRBARN_LIB names another folder)",
         archive.display()
     );
     println!("cargo:rerun-if-changed={}", archive.display());

@@ -2,7 +2,7 @@
 //!
 //! A store keeps entities and their components, a value for each of up to 128 kinds, in a `&mut [u32]`. The values are of
 //! eight bytes, or in a store that is started so of sixteen ([`Width`]). It is changed by a tape of commands, which
-//! [`Store::run`] answers, and read by column and as a whole. The work is done by the static library of the crate `store`,
+//! [`Store::run`] answers, and read by column and as a whole. The work is done by the static library of the crate `store_c`,
 //! which is proved; this crate lends it slices and gives names to its numbers.
 //! The commands, their bytes and their answers are in the repository's docs/COMMANDS.md; examples/cards.rs is a program to
 //! begin with.

@@ -1,4 +1,4 @@
-//! The other side by the static library of the crate `store`, through the declarations of `bindings/rust`, and what can
+//! The other side by the static library of the crate `store_c`, through the declarations of `bindings/rust`, and what can
 //! be seen of its words.
 
 use crate::rng::Rng;
