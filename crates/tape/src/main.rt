@@ -2,11 +2,11 @@
 // commands were done, how many bytes of them were read and how many bytes of answers written.
 #![tactic(auto)]
 
-ghost use Rattle.std.specs.Prelude.{◌≡◌, ◌+◌, ◌≤◌, ◌<◌, length, OnOk, IfErr};
+ghost use Rattle.std.specs.Prelude.{◌≡◌, ◌+◌, ◌≤◌, ◌<◌, length, OnOk, OnErr, IfErr};
 ghost use Rattle.std.proofs.lemmas.List.Edits.{sets};
 ghost use Rattle.std.specs.Io.KnownBytes.{Appends};
 ghost use Rattle.tape.specs.Output.{numbers, output, Served};
-ghost use Rattle.tape.specs.Played.{Played, Unanswered};
+ghost use Rattle.tape.specs.Played.{Played, CutShort, Unanswered};
 
 use std::io::{Read, Write};
 use std::process::ExitCode;
@@ -65,20 +65,38 @@ impl fmt::Display for Failure {
     }
 }
 
-// Writes it all at once.
+// Writes until all is written or a write fails. One that takes nothing, or that a signal interrupts, counts as failed.
+// `Write::write_all` does not say what is written where one fails.
+fn write_out<W: Write>(bytes: &[u8], writer: &mut W) -> io::Result<()>
+    ensures ok { OnOk result (Appends (W.contents writer.old) (W.contents writer.new) bytes.now) }
+    ensures err { OnErr result (CutShort (W.contents writer.old) (W.contents writer.new) bytes.now) }
+{
+    let mut n = 0;
+    while n < bytes.len() {
+        let more = writer.write(&bytes[n..])?;
+        if more == 0 {
+            return Err(io::Error::from(io::ErrorKind::WriteZero));
+        }
+        n += more;
+    }
+    Ok(())
+}
+
 fn answer<W: Write>(tape: &[u8], writer: &mut W) -> io::Result<()>
     requires { length tape.now ≤ 16384 }
-    ensures { OnOk result (Appends (W.contents writer.old) (W.contents writer.new) (output tape.now)) }
+    ensures ok { OnOk result (Appends (W.contents writer.old) (W.contents writer.new) (output tape.now)) }
+    ensures err { OnErr result (CutShort (W.contents writer.old) (W.contents writer.new) (output tape.now)) }
 {
     let mut out = [0u8; OUTPUT];
     let n = serve(tape, &mut out);
-    writer.write_all(&out[..n])
+    write_out(&out[..n], writer)
 }
 
-// The program, over any reader and writer. Commands past the most that it serves are left unread. Where a read fails, nothing is answered.
+// The program, over any reader and writer. Commands past the most that it serves are left unread. Where a read fails,
+// nothing is answered; where a write fails, the writer has a front part of the output.
 fn play<R: Read, W: Write>(reader: &mut R, writer: &mut W) -> Result<(), Failure>
     ensures played { OnOk result (Played (R.remaining reader.old) (R.remaining reader.new) (W.contents writer.old) (W.contents writer.new)) }
-    ensures silent { IfErr result (λ failure. Unanswered failure (W.contents writer.old) (W.contents writer.new)) }
+    ensures unanswered { IfErr result (λ failure. Unanswered failure (R.remaining reader.old) (R.remaining reader.new) (W.contents writer.old) (W.contents writer.new)) }
 {
     let mut tape = [0u8; MOST];
     match input::read_up_to(reader, &mut tape) {
