@@ -1,5 +1,5 @@
-// The public entries of document 01: *start*, *run*, *column* and its number, *roll*; and *start_with* and its words of 02. None asks anything of its caller; those of
-// `held` do. The crate `store_c` exports them to C.
+// The public entries of document 01: *start*, *run*, *column* and its number, *roll*; and *start_with* and its words of
+// 02. None asks anything of its caller; those of `held` do, and `roll_sound`. The crate `store_c` exports them to C.
 #![tactic(auto)]
 
 pub mod held;

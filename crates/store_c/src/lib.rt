@@ -1,5 +1,6 @@
-// The entries of `store` for C and Rust, under plain names: each calls the entry of its name, and promises what that one does. An exported function returns
-// no part of a slice, so that *column* comes as the part's place in the words, and as a copy.
+// The entries of `store` for C and Rust, under plain names: each calls the function of `store` that has its work, and
+// promises what that one does. An exported function returns no part of a slice, so that *column* comes as the part's
+// place in the words, and as a copy.
 #![tactic(auto)]
 
 pub mod held;
