@@ -26,7 +26,8 @@ const LIVE_LEN: usize = ENTITIES + words::LIVE_LEN;
 
 const RECYCLED_LEN: usize = ENTITIES + words::RECYCLED_LEN;
 
-// What the store has, by its counts (docs/WORDS.md).
+// What the store has, by its counts (docs/WORDS.md). Here and in `report`: of a line that fails a front part may be
+// written, and no line after it; no clause can say what standard output takes.
 fn describe(rt: &impl Print, words: &[u32; WORDS]) -> io::Result<()> {
     let kinds = words[words::REGISTERED];
     let groups = words[words::LAYOUT_GROUPS];

@@ -94,6 +94,7 @@ fn replay(file: &[u8], cases: u32) -> Tally
     replay_cases(&mut words, file, cases, &mut out)
 }
 
+// Of a line that fails a front part may be written, and no line after it; no clause can say what standard output takes.
 fn report(rt: &impl Print, tally: Tally) -> io::Result<()> {
     let Tally {
         cases,
@@ -118,7 +119,7 @@ fn replay_file(rt: &impl Print, file: &[u8]) -> io::Result<()> {
     report(rt, replay(file, codec::get_u32(file, 8)))
 }
 
-// The file's bytes, as many as there is room for.
+// The file's bytes, as many as there is room for. Where a read fails, those before it stand at the front.
 fn read_answers(rt: &impl Files, buffer: &mut [u8]) -> io::Result<usize>
     ensures { ReadsAtMost result buffer.new }
 {
