@@ -6,6 +6,7 @@ pub mod Forms
 pub mod Listed
 pub mod Store
 pub mod Commands
+pub mod Codes
 pub mod Snapshot
 pub mod Refusals
 pub mod Run

@@ -1,3 +1,99 @@
+// The commands, and the byte by which each stands on a tape.
+ghost use Rattle.std.specs.Prelude.{◌≡◌};
+ghost use Rattle.model.specs.Codes.{command_byte, Decodes};
+
+use crate::refusals::Refusal;
+
+/// A command, without its operands.
+#[derive(Clone, Copy, PartialEq, Eq, Debug)]
+pub enum Command {
+    /// 01: registers a kind.
+    Register,
+    /// 02: puts a kind and its value into the staged list.
+    Hold,
+    /// 03: makes an entity with the staged components.
+    New,
+    /// 04: gives an entity the staged components.
+    Put,
+    /// 05: takes the staged kinds from an entity, and answers their values.
+    Take,
+    /// 06: takes the staged kinds from an entity.
+    Drop,
+    /// 07: destroys an entity.
+    Kill,
+    /// 08: takes all components from all entities.
+    Wipe,
+    /// 09: makes a group of the staged kinds, in the draft.
+    Group,
+    /// 0A: makes the draft the layout.
+    Apply,
+    /// 0B: puts a kind into the excluded list.
+    Bar,
+    /// 0C: answers where the rows stand that hold the staged kinds and not the excluded.
+    Range,
+    /// 0D: empties both lists.
+    Empty,
+    /// 0E: answers the caller's count of refusals.
+    Tally,
+    /// 0F: makes as many entities with the staged components as it is told.
+    Tray,
+    /// 10: says who calls from here on.
+    SetCaller,
+}
+
+impl TryFrom<u8> for Command {
+    type Error = Refusal;
+
+    ghost try_from_gives = { Decodes };
+
+    fn try_from(byte: u8) -> Result<Self, Refusal> {
+        match byte {
+            1 => Ok(Command::Register),
+            2 => Ok(Command::Hold),
+            3 => Ok(Command::New),
+            4 => Ok(Command::Put),
+            5 => Ok(Command::Take),
+            6 => Ok(Command::Drop),
+            7 => Ok(Command::Kill),
+            8 => Ok(Command::Wipe),
+            9 => Ok(Command::Group),
+            10 => Ok(Command::Apply),
+            11 => Ok(Command::Bar),
+            12 => Ok(Command::Range),
+            13 => Ok(Command::Empty),
+            14 => Ok(Command::Tally),
+            15 => Ok(Command::Tray),
+            16 => Ok(Command::SetCaller),
+            _ => Err(Refusal::Unknown),
+        }
+    }
+}
+
+impl From<Command> for u8 {
+    ghost from_gives = { λ command byte. byte ≡ command_byte command };
+
+    fn from(command: Command) -> u8 {
+        match command {
+            Command::Register => 1,
+            Command::Hold => 2,
+            Command::New => 3,
+            Command::Put => 4,
+            Command::Take => 5,
+            Command::Drop => 6,
+            Command::Kill => 7,
+            Command::Wipe => 8,
+            Command::Group => 9,
+            Command::Apply => 10,
+            Command::Bar => 11,
+            Command::Range => 12,
+            Command::Empty => 13,
+            Command::Tally => 14,
+            Command::Tray => 15,
+            Command::SetCaller => 16,
+        }
+    }
+}
+
 // Commands, by their names in 01's table; 02's Nos. 4 and 7 have the last two.
 pub const REG: u8 = 1;
 
