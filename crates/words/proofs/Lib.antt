@@ -7,3 +7,4 @@ pub mod Counted
 pub mod Offsets
 pub mod Decides
 pub mod Passes
+pub mod Asked
