@@ -8,6 +8,7 @@ pub mod Walk
 pub mod WalkDown
 pub mod Families
 pub mod KindLists
+pub mod Members
 pub mod Invariant
 pub mod Removal
 pub mod Regroup
