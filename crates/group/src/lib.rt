@@ -21,7 +21,7 @@ ghost use Rattle.group.specs.Steps.{swap_kinds, Below, StepsUp};
 use crate::group_metadata::{count, group_count, kind_at, metadata, set_count};
 use crate::group_status::{GroupStatus, status_in};
 use layout::group_metadata::GroupMetadata;
-use masks::group_mask::{GroupMask, NextBit};
+use masks::group_mask::GroupMask;
 use words::{Entity, Shape};
 
 // Swaps the entity to a place in every sparse set of a group.
@@ -123,10 +123,7 @@ pub fn group(words: &mut [u32], z: Shape, mask: GroupMask, e: Entity)
     ensures { Becomes words.old words.new (on_storage (walk_up (entity e.index e.version) 0 (bits_of 64 mask.0)) (meaning words.old)) }
 {
     let mut left = mask;
-    loop {
-        let NextBit::At(g, rest) = left.next() else {
-            return;
-        };
+    while let Some((g, rest)) = left.next() {
         left = group_step(words, z, g as usize, rest, e);
     }
 }
@@ -177,7 +174,7 @@ fn ungroup_step(words: &mut [u32], z: Shape, g: usize, e: Entity)
 }
 
 // The walk downward leaves a larger group before the smaller ones in it.
-fn highest(mask: GroupMask) -> NextBit
+fn highest(mask: GroupMask) -> Option<(u32, GroupMask)>
     ensures { Highest mask.0 result }
 {
     mask.next_back()
@@ -192,10 +189,7 @@ pub fn ungroup(words: &mut [u32], z: Shape, mask: GroupMask, e: Entity)
     ensures { Becomes words.old words.new (on_storage (walk_down (entity e.index e.version) (reverse (bits_of 64 mask.0))) (meaning words.old)) }
 {
     let mut left = mask;
-    loop {
-        let NextBit::At(g, rest) = highest(left) else {
-            return;
-        };
+    while let Some((g, rest)) = highest(left) {
         ungroup_step(words, z, g as usize, e);
         left = rest;
     }

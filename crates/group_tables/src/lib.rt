@@ -24,7 +24,7 @@ use crate::tables::{fill_starts, swap_at};
 use group::group_metadata::{count, set_count};
 use group::group_status::GroupStatus;
 use layout::group_metadata::GroupMetadata;
-use masks::group_mask::{GroupMask, NextBit};
+use masks::group_mask::GroupMask;
 use words::{Entity, Shape};
 
 // Swaps the entity to a place in the sparse sets of the layout's kinds from start to end.
@@ -126,10 +126,7 @@ fn group(
     ensures { Becomes words.old words.new (on_storage (walk_up (entity e.index e.version) 0 (bits_of 64 mask.0)) (meaning words.old)) }
 {
     let mut left = mask;
-    loop {
-        let NextBit::At(g, rest) = left.next() else {
-            return;
-        };
+    while let Some((g, rest)) = left.next() {
         left = group_step(words, z, starts, groups, skips, g as usize, rest, e);
     }
 }

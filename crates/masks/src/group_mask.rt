@@ -5,17 +5,11 @@ ghost use Rattle.masks.specs.Walk.{Lowest, Highest, Asks};
 
 use crate::storage_mask::StorageMask;
 
-#[derive(Clone, Copy)]
+// A tuple struct of its own beside StorageMask, each with its own `from_to`: a rule of the project. A group's number is no place in a family, and so neither mask stands for the other; the widths differ too.
+#[derive(Clone, Copy, Debug, PartialEq, Eq)]
 pub struct GroupMask(pub u64);
 
 const ALL_BITS: u64 = 0xffff_ffff_ffff_ffff;
-
-// A step of the walk: a position and the mask without it, or the end.
-#[derive(Drop)]
-pub enum NextBit {
-    At(u32, GroupMask),
-    End,
-}
 
 impl GroupMask {
     pub fn empty() -> GroupMask
@@ -64,33 +58,33 @@ impl GroupMask {
         GroupMask(self.0 & other.0)
     }
 
-    // The lowest set bit, and the mask without it. The position is below 64: eight bits hold it.
-    pub fn next(self) -> NextBit
+    // A step of the walk: the lowest set bit and the mask without it, or None at the end. The position is below 64: eight bits hold it.
+    pub fn next(self) -> Option<(u32, GroupMask)>
         ensures { Lowest self.0 result }
     {
         let m = self.0;
         if m == 0 {
-            return NextBit::End;
+            return None;
         }
         let at = u64::trailing_zeros(m) as u8;
-        NextBit::At(at as u32, GroupMask(m - (1 << at)))
+        Some((at as u32, GroupMask(m - (1 << at))))
     }
 
-    // The highest set bit, and the mask without it; the position in eight bits too.
-    pub fn next_back(self) -> NextBit
+    // The same from the other end: the highest set bit; the position in eight bits too.
+    pub fn next_back(self) -> Option<(u32, GroupMask)>
         ensures { Highest self.0 result }
     {
         let m = self.0;
         if m == 0 {
-            return NextBit::End;
+            return None;
         }
         let at = (63 - u64::leading_zeros(m)) as u8;
-        NextBit::At(at as u32, GroupMask(m - (1 << at)))
+        Some((at as u32, GroupMask(m - (1 << at))))
     }
 }
 
 // What a query asks of a family: the places of the kinds it includes and of those it excludes.
-#[derive(Drop)]
+#[derive(Clone, Copy, Debug, PartialEq, Eq)]
 pub struct QueryMask {
     pub include: StorageMask,
     pub exclude: StorageMask,
