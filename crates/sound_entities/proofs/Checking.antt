@@ -1,5 +1,6 @@
 -- Soundness put together from its parts. Assumes nothing.
 use mathlib.Core.List.{List}
+use mathlib.Core.Logic.{◌↔◌}
 use Prim.Native.Nat.{ℕ}
 use Rattle.words.specs.Decides.{Each}
 use Rattle.words.proofs.Links.{held_linked, linked_held}
@@ -31,3 +32,7 @@ module _ (n : ℕ) (w : List ℕ) where
         queue =
             filled_queue n (issued_of w) (head_of w) (recycled_len w) (queue_index n w) (queue_version n w) (queue_slot n w) (held_of n w) c.head c.recycled r c.issued x.waiting;
       }
+
+  -- where all else is found, the last check decides
+  pub last_of : EntityPartSized n w → CountsFit n w → Each (len_of w) (LiveOk n w) → Each (recycled_len w) (WaitsOk n w) → IndexesOk n w ↔ EntityPartSound n w
+  last_of z c l r = (λ x. sound_of z c l r x, indexes_of)

@@ -17,22 +17,10 @@ fn counts_ok(part: &[u32], n: usize) -> bool
     ensures { Decides result (CountsFit n part.now) }
 {
     let issued = part[words::ISSUED] as usize;
-    if n < issued {
-        return false;
-    }
     let live = part[words::LIVE_LEN] as usize;
-    if n < live {
-        return false;
-    }
     let head = part[words::QUEUE_HEAD] as usize;
-    if n <= head {
-        return false;
-    }
     let recycled = part[words::RECYCLED_LEN] as usize;
-    if n < recycled {
-        return false;
-    }
-    true
+    issued <= n && live <= n && head < n && recycled <= n
 }
 
 // The live list's place i has an issued index, whose lookup points back.
@@ -41,27 +29,15 @@ fn live_ok(part: &[u32], n: usize, i: usize) -> bool
     ensures { Decides result (LiveOk n part.now i) }
 {
     let index = part[words::LIVE_LIST + 2 * i] as usize;
-    let issued = part[words::ISSUED] as usize;
-    if issued <= index {
-        return false;
-    }
     if n <= index {
         return false;
     }
+    let issued = part[words::ISSUED] as usize;
     let version = part[words::LIVE_LIST + 2 * i + 1];
-    if version < 1 {
-        return false;
-    }
     let slot = words::LIVE_LIST + 2 * n + 2 * index;
     let place = part[slot] as usize;
-    if place != i {
-        return false;
-    }
     let held = part[slot + 1];
-    if held != version {
-        return false;
-    }
-    true
+    index < issued && 1 <= version && place == i && held == version
 }
 
 fn live_list_ok(part: &[u32], n: usize) -> bool
@@ -70,14 +46,7 @@ fn live_list_ok(part: &[u32], n: usize) -> bool
     ensures { Decides result (Each (len_of part.now) (LiveOk n part.now)) }
 {
     let k = part[words::LIVE_LEN] as usize;
-    let mut i = 0;
-    while i < k {
-        if !live_ok(part, n, i) {
-            return false;
-        }
-        i += 1;
-    }
-    true
+    (0..k).all(|i| live_ok(part, n, i))
 }
 
 // The number that waits behind j others is issued and not live, and its index says where it waits.
@@ -94,18 +63,9 @@ fn waits_ok(part: &[u32], n: usize, j: usize) -> bool
         return false;
     }
     let version = part[at + 1];
-    if version < 1 {
-        return false;
-    }
     let slot = part[words::LIVE_LIST + 6 * n + index] as usize;
-    if slot != place + 1 {
-        return false;
-    }
     let held = part[words::LIVE_LIST + 2 * n + 2 * index + 1];
-    if held != 0 {
-        return false;
-    }
-    true
+    1 <= version && slot == place + 1 && held == 0
 }
 
 fn queue_ok(part: &[u32], n: usize) -> bool
@@ -114,14 +74,7 @@ fn queue_ok(part: &[u32], n: usize) -> bool
     ensures { Decides result (Each (recycled_len part.now) (WaitsOk n part.now)) }
 {
     let k = part[words::RECYCLED_LEN] as usize;
-    let mut j = 0;
-    while j < k {
-        if !waits_ok(part, n, j) {
-            return false;
-        }
-        j += 1;
-    }
-    true
+    (0..k).all(|j| waits_ok(part, n, j))
 }
 
 // How many indexes say that they wait. No branch on what they say.
@@ -131,10 +84,8 @@ fn count_waiting(part: &[u32], n: usize) -> u32
 {
     let from = words::LIVE_LIST + 6 * n;
     let mut count = 0u32;
-    let mut x = 0;
-    while x < n {
+    for x in 0..n {
         count += (0 < part[from + x]) as u32;
-        x += 1;
     }
     count
 }
@@ -145,14 +96,8 @@ fn indexes_ok(part: &[u32], n: usize) -> bool
     ensures { Decides result (IndexesOk n part.now) }
 {
     let live = words::count_held(part, words::LIVE_LIST + 2 * n, n);
-    if live != part[words::LIVE_LEN] {
-        return false;
-    }
     let waiting = count_waiting(part, n);
-    if waiting != part[words::RECYCLED_LEN] {
-        return false;
-    }
-    true
+    live == part[words::LIVE_LEN] && waiting == part[words::RECYCLED_LEN]
 }
 
 // Whether a part is a sound entity part of capacity n.
@@ -160,25 +105,12 @@ pub fn is_sound(part: &[u32], n: usize) -> bool
     requires { n ≤ MAX_ENTITIES }
     ensures { Decides result (EntityPartSound n part.now) }
 {
-    if n < 1 {
-        return false;
-    }
-    if part.len() != model::ENTITY_LEN * n {
-        return false;
-    }
-    if !counts_ok(part, n) {
-        return false;
-    }
-    if !live_list_ok(part, n) {
-        return false;
-    }
-    if !queue_ok(part, n) {
-        return false;
-    }
-    if !indexes_ok(part, n) {
-        return false;
-    }
-    true
+    1 <= n
+        && part.len() == model::ENTITY_LEN * n
+        && counts_ok(part, n)
+        && live_list_ok(part, n)
+        && queue_ok(part, n)
+        && indexes_ok(part, n)
 }
 
 // Whether the words have a sound entity part.

@@ -1,4 +1,4 @@
-use Prim.Native.Nat.{ℕ, ◌-◌}
+use Prim.Native.Nat.{ℕ}
 use lib.Dec.{ltb}
 use Rattle.words.proofs.Counted.{Counting}
 use Rattle.entity.specs.Meaning.{queue_slot}
@@ -6,6 +6,3 @@ use Rattle.sound_entities.proofs.count_waiting.Given as goal
 
 abbrev pub invariant-loop-x : goal.invariant-loop-x
 invariant-loop-x l = Counting (λ (y : ℕ). ltb 0 (queue_slot l.n l.part y)) l.n l.x l.count
-
-abbrev pub decreases-loop-x : goal.decreases-loop-x
-decreases-loop-x l = l.n - l.x
