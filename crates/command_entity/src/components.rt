@@ -6,9 +6,8 @@ ghost use Rattle.memory.specs.Meaning.{meaning};
 ghost use Rattle.command.specs.Acted.{Ready, Acted};
 
 use command::answers::{ack, refuse};
-use entity::Found;
 use model::refusals::DEAD;
-use words::Entity;
+use words::{Entity, Found};
 
 // PUT: the staged components go into a live entity.
 pub fn put(words: &mut [u32], e: Entity, out: &mut [u8], at: usize) -> usize

@@ -8,9 +8,8 @@ ghost use Rattle.memory.specs.Meaning.{meaning};
 ghost use Rattle.command.specs.Acted.{Ready, Written, Acted};
 
 use command::answers::{ack, ack_count, ack_number, refuse};
-use entity::Found;
 use model::refusals::{DEAD, FULL};
-use words::Entity;
+use words::{Entity, Found};
 
 // KILL: a live entity goes, with all its components. The staged ones stay.
 pub fn kill(words: &mut [u32], e: Entity, out: &mut [u8], at: usize) -> usize

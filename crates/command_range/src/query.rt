@@ -9,8 +9,8 @@ ghost use Rattle.memory.specs.Arranged.{Arranged, Sound};
 ghost use Rattle.group_info.specs.Describes.{InfoOfKind, ViewOf, range_of};
 ghost use Rattle.command_range.specs.Query.{QueryOf, KindAdded, KindsBetween};
 
-use component::Found;
 use group_info::{FoundInfo, FoundQuery, GroupInfo, GroupRange, QueryGroupInfo, ViewGroupInfo};
+use words::Found;
 
 // The group info of a kind, by the head of its column.
 fn info_of(words: &[u32], kind: usize) -> FoundInfo

@@ -18,10 +18,9 @@ ghost use Rattle.command_take.specs.Take.{TakesKind, TakesStaged, Takes};
 
 use command::answers::{ack, refuse};
 use component::Removed;
-use entity::Found;
 use model::refusals::DEAD;
 use values::Value;
-use words::{Entity, Shape};
+use words::{Entity, Found, Shape};
 use world::component_set;
 
 // The byte held and the bytes of the value's d words, at `at`.

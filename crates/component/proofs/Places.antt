@@ -13,7 +13,7 @@ use Rattle.model.proofs.ListLaws.{get_d_place, place_first}
 use Rattle.model.specs.Model.{Entity, SparseSet, same_entity, no_entity, no_row, keys, entity_of, at, held, insert_row, remove_row, swap_to, entity}
 use Rattle.model.proofs.SparseSets.{entity_eq, entity_same}
 use Rattle.words.specs.declared.Shape.{Shape}
-use Rattle.component.specs.declared.Found.TheVariants as found
+use Rattle.words.specs.declared.Found.TheVariants as found
 use Rattle.component.specs.SparseSet.{length_of, index_at, version_at, place_of, held_of, rows, ColumnSound}
 use Rattle.component.specs.Stored.{Current, swap_rows, Absent, valued}
 use Rattle.component.specs.Answers.{HeldAt, Finds}

@@ -1,8 +1,8 @@
 -- What a search and a removal answer, for each case of their enums. Assumes nothing.
 use Rattle.std.specs.Prelude.{◌≡◌, true, false, List, ℕ, ◌<◌, length, get_or}
 use Rattle.model.specs.Model.{Entity, SparseSet, no_row, at, held, remove_row}
-use Rattle.component.specs.declared.Found.{Found}
-use Rattle.component.specs.declared.Found.TheVariants as found
+use Rattle.words.specs.declared.Found.{Found}
+use Rattle.words.specs.declared.Found.TheVariants as found
 use Rattle.component.specs.declared.Removed.{Removed}
 use Rattle.component.specs.declared.Removed.TheVariants as removed
 use Rattle.words.specs.declared.Shape.{Shape}

@@ -9,8 +9,8 @@ ghost use Rattle.component.specs.Columns.{rows_of};
 ghost use Rattle.component.specs.Changes.{Lent, Only};
 ghost use Rattle.component.specs.Start.{LentFrom, SwapsFrom};
 
-use crate::{Found, component_sparse_set};
-use words::{Entity, Shape};
+use crate::component_sparse_set;
+use words::{Entity, Found, Shape};
 
 // Where the entity's row is, of an index that there is room for and a version that was issued: two tests fewer than sparse_vec::find.
 fn find_issued(part: &[u32], z: Shape, e: Entity) -> Found
@@ -43,10 +43,7 @@ pub fn holds_from(words: &[u32], z: Shape, base: usize, e: Entity) -> bool
     ensures { (s : ℕ) → base ≡ column_start z s → result ≡ held (entity e.index e.version) (rows_of z s words.now) }
 {
     let found = find_from(words, z, base, e);
-    let Found::At(place) = found else {
-        return false;
-    };
-    true
+    matches!(found, Found::At(_))
 }
 
 // Where the row is of an entity that has one: nothing is to be tested.

@@ -10,11 +10,11 @@ ghost use Rattle.component.specs.SparseSet.{length_of, index_at, version_at, row
 ghost use Rattle.component.specs.Stored.{ColumnSized, RowsChanged, swap_rows, Current, row_entity, entity_stores, Absent, valued, popped};
 ghost use Rattle.component.specs.Answers.{Removes};
 
+use crate::Removed;
 use crate::sparse_vec::{clear_lookup, find, place_of, put_lookup, put_place};
 use crate::values_part::{put_value, swap_values, value_of};
-use crate::{Found, Removed};
 use values::Value;
-use words::{Entity, Shape};
+use words::{Entity, Found, Shape};
 
 // The entity of row i.
 fn entity_at(part: &[u32], z: Shape, i: usize) -> Entity

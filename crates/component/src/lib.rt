@@ -9,13 +9,6 @@ pub mod values_part;
 
 use values::Value;
 
-// Where what was looked up is: an entity's row in a sparse set, or a kind's own group among the groups.
-#[derive(Drop)]
-pub enum Found {
-    At(usize),
-    Nothing,
-}
-
 // A value that was held.
 #[derive(Drop)]
 pub enum Removed {

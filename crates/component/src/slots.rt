@@ -7,9 +7,9 @@ ghost use Rattle.component.specs.Answers.{Finds};
 ghost use Rattle.component.specs.Columns.{rows_of, Columns};
 ghost use Rattle.component.specs.Changes.{Lent, Only, RemovesIn, Changes};
 
-use crate::{Found, Removed, component_sparse_set, sparse_vec};
+use crate::{Removed, component_sparse_set, sparse_vec};
 use values::Value;
-use words::{Entity, Shape};
+use words::{Entity, Found, Shape};
 
 pub fn len_in(words: &[u32], z: Shape, slot: usize) -> usize
     requires { Lent z slot words.now }
@@ -35,10 +35,7 @@ pub fn holds_in(words: &[u32], z: Shape, slot: usize, e: Entity) -> bool
     ensures { result ≡ held (entity e.index e.version) (rows_of z slot words.now) }
 {
     let found = find_in(words, z, slot, e);
-    let Found::At(place) = found else {
-        return false;
-    };
-    true
+    matches!(found, Found::At(_))
 }
 
 pub fn value_in(words: &[u32], z: Shape, slot: usize, place: usize) -> Value

@@ -6,8 +6,7 @@ ghost use Rattle.component.specs.Stored.{ColumnSized, lookup_stores, place_store
 ghost use Rattle.component.specs.Answers.{HeldAt, Finds};
 ghost use Rattle.model.specs.Model.{held, entity};
 
-use crate::Found;
-use words::{Entity, Shape};
+use words::{Entity, Found, Shape};
 
 // Has index x's lookup say the place p.
 pub fn put_place(part: &mut [u32], z: Shape, x: u32, p: usize)

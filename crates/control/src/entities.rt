@@ -8,8 +8,8 @@ ghost use Rattle.memory.specs.Meaning.{meaning};
 ghost use Rattle.memory.specs.Arranged.{Arranged, Becomes};
 ghost use Rattle.control.specs.Entities.{Capacity, Creates};
 
-use entity::{Found, entity_allocator, entity_sparse_set, in_words, sparse_vec};
-use words::{CAPACITY, ENTITIES, Entity};
+use entity::{entity_allocator, entity_sparse_set, in_words, sparse_vec};
+use words::{CAPACITY, ENTITIES, Entity, Found};
 
 // How many entities there is room for.
 pub fn capacity(words: &[u32]) -> usize

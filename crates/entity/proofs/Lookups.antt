@@ -16,7 +16,7 @@ use Rattle.model.specs.Snapshot.{live_version as version_in}
 use Rattle.model.proofs.SparseSets.{entity_eq, entity_same}
 use Rattle.model.proofs.BoolLaws.{bool_cases}
 use Rattle.words.proofs.Tables.{length_table, get_d_table}
-use Rattle.entity.specs.declared.Found.TheVariants.{At, Nothing}
+use Rattle.words.specs.declared.Found.TheVariants.{At, Nothing}
 use Rattle.entity.specs.Meaning.{EntityPartSound, entities_of, entity_at, waiting_at, len_of, issued_of, recycled_len, live_index_at, live_version_at, place_of, held_of}
 use Rattle.entity.specs.Answers.{found_of, pick_found}
 

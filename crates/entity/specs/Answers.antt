@@ -3,8 +3,8 @@ use Rattle.std.specs.Prelude.{◌≡◌, Bool, true, false, List, ℕ, ◌≤◌
 use Rattle.model.specs.Lists.{place}
 use Rattle.model.specs.Model.{Entity, Entities, no_entity, same_entity, is_live, create, entity}
 use Rattle.words.specs.declared.Entity.{Entity as Answer}
-use Rattle.entity.specs.declared.Found.{Found}
-use Rattle.entity.specs.declared.Found.TheVariants.{At, Nothing}
+use Rattle.words.specs.declared.Found.{Found}
+use Rattle.words.specs.declared.Found.TheVariants.{At, Nothing}
 use Rattle.entity.specs.Meaning.{entities_of, entities_in}
 use Rattle.entity.specs.Change.{Idle, EntitiesChanged, EntityChange, unqueued, numbered, allocated}
 

@@ -5,8 +5,8 @@ ghost use Rattle.entity.specs.Meaning.{EntityPartSound, entities_of};
 ghost use Rattle.entity.specs.Change.{EntitiesChanged};
 ghost use Rattle.entity.specs.Answers.{LiveAt, EntityCreated};
 
-use crate::{Found, entity_allocator, entity_sparse_set, sparse_vec};
-use words::Entity;
+use crate::{entity_allocator, entity_sparse_set, sparse_vec};
+use words::{Entity, Found};
 
 // Whether the entity is live.
 pub fn contains(part: &[u32], n: usize, e: Entity) -> bool
@@ -14,10 +14,7 @@ pub fn contains(part: &[u32], n: usize, e: Entity) -> bool
     ensures { result ≡ is_live (entity e.index e.version) (entities_of n part.now) }
 {
     let found = sparse_vec::get(part, n, e);
-    let Found::At(place) = found else {
-        return false;
-    };
-    true
+    matches!(found, Found::At(_))
 }
 
 // A new entity. The caller has seen that there is a number left.

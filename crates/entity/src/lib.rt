@@ -7,10 +7,3 @@ pub mod entity_sparse_set;
 pub mod entity_storage;
 pub mod in_words;
 pub mod sparse_vec;
-
-// Where an entity is in the live list.
-#[derive(Drop)]
-pub enum Found {
-    At(usize),
-    Nothing,
-}

@@ -5,8 +5,7 @@ ghost use Rattle.model.specs.Model.{entity};
 ghost use Rattle.entity.specs.Meaning.{EntityPartSound, entities_of};
 ghost use Rattle.entity.specs.Answers.{found_of};
 
-use crate::Found;
-use words::Entity;
+use words::{Entity, Found};
 
 // Where the entity is in the live list.
 pub fn get(part: &[u32], n: usize, e: Entity) -> Found

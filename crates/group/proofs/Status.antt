@@ -15,8 +15,8 @@ use Rattle.words.specs.Part.{between}
 use Rattle.words.proofs.Part.{between_none, between_split, between_step, between_in}
 use Rattle.words.specs.declared.Shape.{Shape}
 use Rattle.component.specs.Answers.{Finds}
-use Rattle.component.specs.declared.Found.{Found}
-use Rattle.component.specs.declared.Found.TheVariants.{At, Nothing}
+use Rattle.words.specs.declared.Found.{Found}
+use Rattle.words.specs.declared.Found.TheVariants.{At, Nothing}
 use Rattle.layout.specs.declared.group_metadata.GroupMetadata.{GroupMetadata}
 use Rattle.group.specs.declared.group_status.GroupStatus.TheVariants.{Incomplete, Ungrouped, Grouped}
 use Rattle.group.specs.Flat.{status_at}

@@ -10,9 +10,8 @@ ghost use Rattle.group.specs.Metadata.{order_of, PlacesKnown, Describes};
 ghost use Rattle.group.specs.Steps.{status_in};
 
 use crate::group_metadata::{count, kind_at};
-use component::Found;
 use layout::group_metadata::GroupMetadata;
-use words::{Entity, Shape};
+use words::{Entity, Found, Shape};
 
 #[derive(Drop)]
 pub enum GroupStatus {

@@ -10,10 +10,9 @@ ghost use Rattle.group.specs.Steps.{status_in};
 ghost use Rattle.group_tables.specs.Tables.{Starts};
 
 use crate::tables::{find_at, holds_at};
-use component::Found;
 use group::group_status::GroupStatus;
 use layout::group_metadata::GroupMetadata;
-use words::{Entity, Shape};
+use words::{Entity, Found, Shape};
 
 // Does the entity hold each of the layout's kinds from start to end?
 fn holds_all(words: &[u32], z: Shape, starts: &[usize], start: usize, end: usize, e: Entity) -> bool

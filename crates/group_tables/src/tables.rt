@@ -13,10 +13,9 @@ ghost use Rattle.kinds.specs.Kinds.{kind_set};
 ghost use Rattle.group.specs.Metadata.{order_of};
 ghost use Rattle.group_tables.specs.Tables.{kind_no, Starts};
 
-use component::Found;
 use group::group_metadata::kind_at;
 use layout::starts::start_of;
-use words::{Entity, LAYOUT_KIND_ENDS, Shape};
+use words::{Entity, Found, LAYOUT_KIND_ENDS, Shape};
 
 // How many kinds the layout has.
 fn width(words: &[u32]) -> usize

@@ -3,8 +3,8 @@ use Rattle.std.specs.Prelude.{◌≡◌, List, [], map, ℕ, suc}
 use Rattle.model.specs.Model.{Entity, SparseSet, Storage, set_of, remove_row}
 use Rattle.model.specs.Store.{on_set, on_storage}
 use Rattle.words.specs.Shape.{shape_of}
-use Rattle.component.specs.declared.Found.{Found}
-use Rattle.component.specs.declared.Found.TheVariants as found
+use Rattle.words.specs.declared.Found.{Found}
+use Rattle.words.specs.declared.Found.TheVariants as found
 use Rattle.component.specs.declared.Removed.{Removed}
 use Rattle.component.specs.Answers.{Gives}
 use Rattle.memory.specs.Header.{slot_of}

@@ -19,9 +19,9 @@ ghost use Rattle.memory.specs.Arranged.{Arranged, Becomes};
 ghost use Rattle.kinds.specs.Kinds.{kind_set, OwnGroup, RemovesKind, emptied};
 ghost use Rattle.kinds.specs.Steps.{InSlot, head_word, with_head};
 
-use component::{Found, Removed};
+use component::Removed;
 use values::Value;
-use words::{Entity, Shape};
+use words::{Entity, Found, Shape};
 
 // 255 in the table says that the kind has no column.
 pub fn is_registered(words: &[u32], kind: usize) -> bool

@@ -15,8 +15,7 @@ ghost use Rattle.kinds.specs.Kinds.{kind_set};
 ghost use Rattle.snapshot.specs.Rising.{Lists, rows_in, Counted};
 ghost use Rattle.snapshot.specs.Wrote.{one_bytes, entry_for, index_bytes, WrittenUntil};
 
-use component::Found;
-use words::{Entity, Shape};
+use words::{Entity, Found, Shape};
 
 // The rows of a kind's column, none where the kind has no column.
 fn set_length(words: &[u32], kind: usize) -> usize

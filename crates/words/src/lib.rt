@@ -97,7 +97,7 @@ pub const PLACE_IN_FAMILY: usize = 3;
 pub const ROWS: usize = model::COLUMN_HEAD;
 
 // What a column is made for: so many entities, and so many words for each value.
-#[derive(Clone, Copy)]
+#[derive(Clone, Copy, PartialEq, Eq, Debug)]
 pub struct Shape {
     pub capacity: usize,
     pub stride: usize,
@@ -156,10 +156,18 @@ pub fn column_start(z: Shape, s: usize) -> usize
 }
 
 // An entity (01: card): an index and a version. Versions start at 1.
-#[derive(Clone, Copy)]
+#[derive(Clone, Copy, PartialEq, Eq, Debug)]
 pub struct Entity {
     pub index: u32,
     pub version: u32,
+}
+
+// Where what was looked up is: an entity in the live list, its row in a sparse set, or a kind's own group among the groups. An enum of its own and no
+// Option, by a rule of the project: the steps of status, PUT and RANGE read `let Found::At(place) = found else`.
+#[derive(Clone, Copy, PartialEq, Eq, Debug)]
+pub enum Found {
+    At(usize),
+    Nothing,
 }
 
 // The word at i, as a number for counting.
@@ -176,10 +184,8 @@ pub fn count_held(words: &[u32], from: usize, n: usize) -> u32
     ensures { result ≡ filled n (λ x. get_or words.now (from + 2 * x + 1) 0) }
 {
     let mut count = 0u32;
-    let mut x = 0;
-    while x < n {
+    for x in 0..n {
         count += (0 < words[from + 2 * x + 1]) as u32;
-        x += 1;
     }
     count
 }

@@ -9,9 +9,8 @@ ghost use Rattle.memory.specs.Arranged.{Arranged};
 ghost use Rattle.world.specs.Walked.{lowest_of, walk_positions};
 ghost use Rattle.world.specs.Remove.{Staged};
 
-use component::Found;
 use masks::group_mask::GroupMask;
-use words::Shape;
+use words::{Found, Shape};
 
 // What is walked for a kind: all groups of its family where it goes in, those that have it where it goes out.
 #[derive(Clone, Copy)]

@@ -5,7 +5,7 @@ use native.Mathlib.Omega.{arith}
 use lib.ListN.{length, length-set}
 use Rattle.model.specs.Snapshot.{value_at}
 use Rattle.model.specs.Model.{entity}
-use Rattle.component.specs.declared.Found.{Found}
+use Rattle.words.specs.declared.Found.{Found}
 use Rattle.values.specs.Values.{value_of}
 use Rattle.component.specs.Answers.{Finds, HeldAt}
 use Rattle.words.specs.declared.Shape.{Shape}

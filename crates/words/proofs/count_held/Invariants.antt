@@ -1,4 +1,4 @@
-use Prim.Native.Nat.{ℕ, ◌+◌, ◌*◌, ◌-◌}
+use Prim.Native.Nat.{ℕ, ◌+◌, ◌*◌}
 use lib.Dec.{ltb}
 use lib.ListN.{get_or}
 use Rattle.words.proofs.Counted.{Counting}
@@ -6,6 +6,3 @@ use Rattle.words.proofs.count_held.Given as goal
 
 abbrev pub invariant-loop-x : goal.invariant-loop-x
 invariant-loop-x l = Counting (λ (y : ℕ). ltb 0 (get_or l.words (l.from + 2 * y + 1) 0)) l.n l.x l.count
-
-abbrev pub decreases-loop-x : goal.decreases-loop-x
-decreases-loop-x l = l.n - l.x

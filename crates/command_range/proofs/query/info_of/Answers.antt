@@ -3,7 +3,7 @@ use Prim.Native.Nat.{ℕ}
 use native.Mathlib.Omega.{arith}
 use Rattle.words.specs.Offsets.{VALUE_WIDTH}
 use Rattle.kinds.proofs.Slot.{header_long}
-use Rattle.component.specs.declared.Found.{Found}
+use Rattle.words.specs.declared.Found.{Found}
 use Rattle.kinds.specs.Kinds.{OwnGroup}
 use Rattle.kinds.proofs.Owned.{Owned, own_group, no_group}
 use Rattle.group_info.specs.Info.{KindInfo}

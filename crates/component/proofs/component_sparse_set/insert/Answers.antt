@@ -3,7 +3,7 @@ use native.Mathlib.Omega.{arith}
 use mathlib.Core.List.{[], ◌∷◌, ◌++◌}
 use Rattle.model.specs.Model.{SparseSet, insert_row, entity}
 use Rattle.values.specs.Values.{value_of}
-use Rattle.component.specs.declared.Found.{Found}
+use Rattle.words.specs.declared.Found.{Found}
 use Rattle.component.specs.Answers.{Finds}
 use Rattle.component.specs.SparseSet.{rows}
 use Rattle.component.specs.Stored.{valued}

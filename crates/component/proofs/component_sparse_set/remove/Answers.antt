@@ -3,7 +3,7 @@ use Prim.Native.Nat.{ℕ}
 use lib.ListN.{get_or}
 use Rattle.model.specs.Lists.{cut_at}
 use Rattle.model.specs.Model.{no_row, remove_row, entity}
-use Rattle.component.specs.declared.Found.{Found}
+use Rattle.words.specs.declared.Found.{Found}
 use Rattle.component.specs.Answers.{Finds}
 use Rattle.component.specs.SparseSet.{rows}
 use Rattle.component.proofs.Moves.{changed_none, changed_as}

@@ -1,7 +1,7 @@
 use mathlib.Core.Path.{ap, sym, ◌∙◌, subst}
 use Prim.Native.Nat.{ℕ, ◌-◌, ◌≤◌, ◌<◌}
 use Rattle.masks.specs.Masks.{up_from}
-use Rattle.component.specs.declared.Found.{Found}
+use Rattle.words.specs.declared.Found.{Found}
 use Rattle.kinds.specs.Kinds.{OwnGroup}
 use Rattle.kinds.proofs.Owned.{Owned, own_group}
 use Rattle.world.proofs.Owning.{own_below, mask_some, mask_is, mask_nothing}
