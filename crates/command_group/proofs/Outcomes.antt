@@ -1,5 +1,6 @@
 -- GROUP, by the answer that the draft by value got. Assumes nothing.
 use mathlib.Core.Path.{◌≡◌, refl, sym, ap, ◌∙◌}
+use mathlib.Core.Bool.{Bool}
 use mathlib.Core.List.{List}
 use Prim.Native.Nat.{ℕ}
 use Rattle.model.specs.Store.{Store, with_control, with_draft, empty_staged}
@@ -9,7 +10,8 @@ use Rattle.model.proofs.Outcomes.{group_does}
 use Rattle.model.specs.Theorems.{grouped}
 use Rattle.layout.specs.declared.group_layout.Answer.{Answer}
 use Rattle.layout.specs.declared.group_layout.Layout.{Layout}
-use Rattle.layout.specs.declared.group_layout.Outcome.{Outcome}
+use Rattle.std.specs.Prelude.{Result}
+use Rattle.model.specs.declared.refusals.Refusal.{Refusal}
 use Rattle.layout.specs.ByValue as layout
 use Rattle.layout.specs.Add.{model_of}
 use Rattle.memory.specs.Meaning.{meaning}
@@ -19,8 +21,8 @@ use Rattle.control.specs.Draft.{drafting}
 use Rattle.command_group.specs.Drafts.{Drafts}
 
 -- the command's outcome is the answer's
-pub group_as : (s : Store) (r : Answer) (o : Outcome) → Drafts s r → r.outcome ≡ o → does GROUP s ≡ grouped s (model_of o (layout.layout_meaning r.layout))
-group_as s r o D e = group_does s ∙ ap (grouped s) (sym D.says) ∙ ap (λ (x : Outcome). grouped s (model_of x (layout.layout_meaning r.layout))) e
+pub group_as : (s : Store) (r : Answer) (o : Result Bool Refusal) → Drafts s r → r.outcome ≡ o → does GROUP s ≡ grouped s (model_of o (layout.layout_meaning r.layout))
+group_as s r o D e = group_does s ∙ ap (grouped s) (sym D.says) ∙ ap (λ (x : Result Bool Refusal). grouped s (model_of x (layout.layout_meaning r.layout))) e
 
 -- the draft set, and then the staged list emptied
 pub drafted_emptied : {w₀ w w' : List ℕ} (l : Layout) → Becomes w₀ w (drafting l (meaning w₀)) → Becomes w w' (with_control (meaning w) (empty_staged (meaning w).control))

@@ -11,8 +11,7 @@ ghost use Rattle.command.specs.Acted.{Ready, Acted};
 ghost use Rattle.command_group.specs.Drafts.{StagedBytes, Drafts};
 
 use command::answers::{ack_byte, refuse};
-use layout::group_layout::{Answer, Outcome};
-use model::refusals::{CLASH, MANY};
+use layout::group_layout::Answer;
 
 // The staged kinds as bytes, in the front of `kinds`. Answers how many.
 fn staged_kinds(words: &[u32], kinds: &mut [u8]) -> usize
@@ -47,19 +46,16 @@ pub fn group(words: &mut [u32], out: &mut [u8], at: usize) -> usize
     ensures { Acted words.old words.new out.old out.new at result (does GROUP (meaning words.old)) }
 {
     let answer = add_staged(words);
-    let outcome = answer.outcome;
-    match outcome {
-        Outcome::Nothing => {
+    match answer.outcome {
+        Ok(false) => {
             control::staged::clear_staged(words);
             ack_byte(out, at, 0)
         }
-        Outcome::Added => {
-            let draft = answer.layout;
-            control::draft::set_draft(words, draft);
+        Ok(true) => {
+            control::draft::set_draft(words, answer.layout);
             control::staged::clear_staged(words);
             ack_byte(out, at, 1)
         }
-        Outcome::Clash => refuse(words, out, at, CLASH),
-        Outcome::Many => refuse(words, out, at, MANY),
+        Err(refusal) => refuse(words, out, at, u8::from(refusal)),
     }
 }

@@ -1,6 +1,8 @@
 -- What adding a group answers, in document 01's numbers and in the model's terms. Assumes nothing.
-use Rattle.std.specs.Prelude.{◌≡◌, List, ℕ, ◌≤◌, length}
-use Rattle.model.specs.Numbers.{CLASH, MANY, MAX_GROUP_ARITY}
+use Rattle.std.specs.Prelude.{◌≡◌, Bool, true, false, List, ℕ, ◌≤◌, length, Result, Ok, Err}
+use Rattle.model.specs.declared.refusals.Refusal.{Refusal}
+use Rattle.model.specs.Codes.{refusal_code}
+use Rattle.model.specs.Numbers.{MAX_GROUP_ARITY}
 use Rattle.model.specs.Model.{Family}
 use Rattle.model.specs.Adding.{Added, nothing, added, refused, add_group}
 use Rattle.layout.specs.Layout.{KindSet}
@@ -10,23 +12,17 @@ use Rattle.layout.specs.declared.group_layout.Fit.{Fit}
 use Rattle.layout.specs.declared.group_layout.Fit.TheVariants.{Fresh}
 use Rattle.layout.specs.declared.group_layout.Layout.{Layout}
 use Rattle.layout.specs.declared.group_layout.Answer.{Answer}
-use Rattle.layout.specs.declared.group_layout.Outcome.{Outcome}
-use Rattle.layout.specs.declared.group_layout.Outcome.TheVariants as outcome
 
--- the number of the refusal (01: CLASH, MANY), 0 where the command is accepted
-abbrev pub refusal_of : Outcome → ℕ
-refusal_of outcome.Nothing = 0
-refusal_of outcome.Added = 0
-refusal_of outcome.Clash = CLASH
-refusal_of outcome.Many = MANY
+-- the number of the refusal, 0 where the command is accepted
+abbrev pub refusal_of : Result Bool Refusal → ℕ
+refusal_of (Ok told) = 0
+refusal_of (Err refusal) = refusal_code refusal
 
--- 01: "a definition gives this paper's number and values for each of the enum's cases". The outcome with the families after it, as the model answers: GROUP's
--- byte is 0 for `nothing` and 1 for `added`, and a refusal has its number
-abbrev pub model_of : Outcome → List Family → Added
-model_of outcome.Nothing fs = nothing
-model_of outcome.Added fs = added fs
-model_of outcome.Clash fs = refused (refusal_of outcome.Clash)
-model_of outcome.Many fs = refused (refusal_of outcome.Many)
+-- The outcome with the families after it, as the model answers: GROUP's byte is 0 for `nothing` and 1 for `added`, and a refusal has its number
+abbrev pub model_of : Result Bool Refusal → List Family → Added
+model_of (Ok false) fs = nothing
+model_of (Ok true) fs = added fs
+model_of (Err refusal) fs = refused (refusal_of (Err refusal))
 
 -- the staged kinds, two to sixteen of them, stand so to the layout's families
 pub record Fitting (l : Layout) (staged : List ℕ) (x : Fit) : Type 0 where
@@ -40,4 +36,4 @@ pub record Fitting (l : Layout) (staged : List ℕ) (x : Fit) : Type 0 where
 pub record AddsGroup (l : Layout) (staged : List ℕ) (r : Answer) : Type 0 where
   pub formed : Formed r.layout
   pub says : model_of r.outcome (layout_meaning r.layout) ≡ add_group staged (layout_meaning l)
-  pub kept : (r.outcome ≡ outcome.Added → ⊥) → r.layout ≡ l
+  pub kept : (r.outcome ≡ Ok true → ⊥) → r.layout ≡ l

@@ -1,16 +1,20 @@
 // The layout of groups by value, and a group added to it.
-ghost use Rattle.std.specs.Prelude.{◌≡◌, [], ◌+◌, ◌-◌, ◌≤◌, ◌<◌, leb, length, take};
+ghost use Rattle.std.specs.Prelude.{◌≡◌, cond, [], ◌+◌, ◌-◌, ◌≤◌, ◌<◌, leb, length, take};
 ghost use Rattle.model.specs.Numbers.{LIST_CAPACITY, MAX_GROUP_COUNT, MAX_KINDS};
 ghost use Rattle.model.specs.Model.{mem, within, meets, same_set, is_group, without, common};
-ghost use Rattle.layout.specs.Layout.{KindSet, groups_from, arrays_in, families_of, start_of};
-ghost use Rattle.layout.specs.ByValue.{Formed};
+ghost use Rattle.layout.specs.Layout.{KindSet, groups_from, start_of};
+ghost use Rattle.layout.specs.ByValue.{Formed, arrays_of, layout_meaning};
 ghost use Rattle.layout.specs.Fit.{chain_place, part_of, join_fit, fit_from, GroupAsk, FamilyAsk, FitAsk};
 ghost use Rattle.layout.specs.Grow.{Appended, Spread, Raised, RaiseAsk, merged_kinds, FillAsk, FillDone, opened_of, FreshAsk, FreshDone, OntoAsk, OntoDone};
 ghost use Rattle.layout.specs.Add.{Fitting, AddsGroup};
 
+use kind_list::KindList;
+use model::LIST_CAPACITY;
+use model::refusals::Refusal;
+
 // The families one after another: their kinds in order, their groups' arities, and where each family's kinds and groups end.
 // The group of arity a is the first a kinds of its family.
-#[derive(Drop)]
+#[derive(Clone, PartialEq, Eq, Debug, Drop)]
 pub struct Layout {
     pub kinds: [u8; model::MAX_KINDS],
     pub arities: [u8; words::GROUP_PLACES],
@@ -23,7 +27,7 @@ pub struct Layout {
 }
 
 // How staged kinds stand to one family.
-#[derive(Drop)]
+#[derive(Clone, Copy, PartialEq, Eq, Debug)]
 pub enum Part {
     // No kind in common.
     Apart,
@@ -36,7 +40,7 @@ pub enum Part {
 }
 
 // How they stand to all families.
-#[derive(Drop)]
+#[derive(Clone, Copy, PartialEq, Eq, Debug)]
 pub enum Fit {
     Fresh,
     Present,
@@ -45,18 +49,10 @@ pub enum Fit {
     Clash,
 }
 
-#[derive(Drop)]
-pub enum Outcome {
-    Nothing,
-    Added,
-    Clash,
-    Many,
-}
-
-// A layout, with what became of the group.
-#[derive(Drop)]
+// A layout, with what became of the group: was it added, or why was it refused? The layout that came was given away, so it comes back whatever became of it.
+#[derive(Clone, PartialEq, Eq, Debug, Drop)]
 pub struct Answer {
-    pub outcome: Outcome,
+    pub outcome: Result<bool, Refusal>,
     pub layout: Layout,
 }
 
@@ -64,36 +60,21 @@ pub struct Answer {
 pub fn among(kinds: &[u8], kind: u8) -> bool
     ensures { result ≡ mem kind kinds.now }
 {
-    for i in 0..kinds.len() {
-        if kind == kinds[i] {
-            return true;
-        }
-    }
-    false
+    kinds.contains(&kind)
 }
 
 // Are all of ks among js?
 pub fn all_among(ks: &[u8], js: &[u8]) -> bool
     ensures { result ≡ within ks.now js.now }
 {
-    for i in 0..ks.len() {
-        if !among(js, ks[i]) {
-            return false;
-        }
-    }
-    true
+    ks.iter().all(|&k| among(js, k))
 }
 
 // Is one of ks among js?
 pub fn some_among(ks: &[u8], js: &[u8]) -> bool
     ensures { result ≡ meets ks.now js.now }
 {
-    for i in 0..ks.len() {
-        if among(js, ks[i]) {
-            return true;
-        }
-    }
-    false
+    ks.iter().any(|&k| among(js, k))
 }
 
 // Are the staged kinds the first a of the kinds?
@@ -101,10 +82,7 @@ fn group_is(kinds: &[u8], a: usize, staged: &[u8]) -> bool
     requires { GroupAsk kinds.now a staged.now }
     ensures { result ≡ same_set staged.now (take a kinds.now) }
 {
-    if a != staged.len() {
-        return false;
-    }
-    all_among(&kinds[..a], staged)
+    a == staged.len() && all_among(&kinds[..a], staged)
 }
 
 // Are they one of the family's groups?
@@ -112,8 +90,8 @@ fn same_group(kinds: &[u8], arities: &[u8], staged: &[u8]) -> bool
     requires { FamilyAsk kinds.now arities.now staged.now }
     ensures { result ≡ is_group staged.now [] (groups_from [] 0 kinds.now 0 arities.now) }
 {
-    for j in 0..arities.len() {
-        if group_is(kinds, arities[j] as usize, staged) {
+    for &arity in arities {
+        if group_is(kinds, arity as usize, staged) {
             return true;
         }
     }
@@ -125,8 +103,8 @@ fn place_of(kinds: &[u8], arities: &[u8], staged: &[u8]) -> Part
     requires { FamilyAsk kinds.now arities.now staged.now }
     ensures { result ≡ chain_place staged.now (groups_from [] 0 kinds.now 0 arities.now) }
 {
-    for j in 0..arities.len() {
-        let group = &kinds[..arities[j] as usize];
+    for (j, &arity) in arities.iter().enumerate() {
+        let group = &kinds[..arity as usize];
         if !all_among(group, staged) {
             if all_among(staged, group) {
                 return Part::At(j);
@@ -152,46 +130,36 @@ fn part_of(kinds: &[u8], arities: &[u8], staged: &[u8]) -> Part
 }
 
 // How they stand to the families so far, with family f.
-fn joined(acc: Fit, f: usize, p: Part) -> Fit
-    ensures { result ≡ join_fit acc f p }
+fn joined(so_far: Fit, f: usize, part: Part) -> Fit
+    ensures { result ≡ join_fit so_far f part }
 {
-    match p {
-        Part::Apart => acc,
+    match part {
+        Part::Apart => so_far,
         Part::Same => Fit::Present,
-        Part::At(at) => match acc {
+        Part::At(at) => match so_far {
             Fit::Fresh => Fit::Onto(f, at),
             Fit::Present => Fit::Present,
-            Fit::Onto(_, _) => Fit::Clash,
-            Fit::Clash => Fit::Clash,
+            Fit::Onto(_, _) | Fit::Clash => Fit::Clash,
         },
-        Part::Cross => match acc {
-            Fit::Fresh => Fit::Clash,
+        Part::Cross => match so_far {
             Fit::Present => Fit::Present,
-            Fit::Onto(_, _) => Fit::Clash,
-            Fit::Clash => Fit::Clash,
+            Fit::Fresh | Fit::Onto(_, _) | Fit::Clash => Fit::Clash,
         },
     }
 }
 
-// How the staged kinds stand to the families that the arrays list.
-fn fit_of<'a>(
-    kinds: &'a [u8],
-    arities: &'a [u8],
-    kind_ends: &'a [u8],
-    ends: &'a [u8],
-    families: usize,
-    staged: &[u8],
-) -> Fit
-    requires { FitAsk (arrays_in kinds.now arities.now kind_ends.now ends.now families) staged.now }
-    ensures { result ≡ fit_from staged.now 0 Fit.Fresh (families_of [] (arrays_in kinds.now arities.now kind_ends.now ends.now families)) }
+// How the staged kinds stand to the layout's families.
+fn fit_of(l: &Layout, staged: &[u8]) -> Fit
+    requires { FitAsk (arrays_of l.now) staged.now }
+    ensures { result ≡ fit_from staged.now 0 Fit.Fresh (layout_meaning l.now) }
 {
     let mut acc = Fit::Fresh;
     let mut k: usize = 0;
     let mut g: usize = 0;
-    for f in 0..families {
-        let ke = kind_ends[f] as usize;
-        let ge = ends[f] as usize;
-        let p = part_of(&kinds[k..ke], &arities[g..ge], staged);
+    for f in 0..l.families {
+        let ke = l.kind_ends[f] as usize;
+        let ge = l.ends[f] as usize;
+        let p = part_of(&l.kinds[k..ke], &l.arities[g..ge], staged);
         acc = joined(acc, f, p);
         k = ke;
         g = ge;
@@ -204,10 +172,9 @@ fn append(dst: &mut [u8], at: usize, src: &[u8]) -> usize
     requires { at + length src.now ≤ length dst.old }
     ensures { Appended dst.old at src.now dst.new result }
 {
-    for i in 0..src.len() {
-        dst[at + i] = src[i];
-    }
-    at + src.len()
+    let end = at + src.len();
+    dst[at..end].copy_from_slice(src);
+    end
 }
 
 // Writes src into dst, with more in the place of its part from..to.
@@ -226,52 +193,26 @@ fn raise(ends: &mut [u8], from: usize, to: usize, by: u8)
     ensures { Raised ends.old from to by ends.new }
 {
     for i in from..to {
-        ends[i] = ends[i] + by;
+        ends[i] += by;
     }
 }
 
-// Kinds in the front of an array.
-#[derive(Drop)]
-struct Kinds16 {
-    kinds: [u8; model::LIST_CAPACITY],
-    count: usize,
-}
-
-// The kinds of the second list that the first lacks, in their order.
-fn missing(ks: &[u8], staged: &[u8]) -> Kinds16
-    requires { length staged.now ≤ LIST_CAPACITY }
-    ensures { (take result.count result.kinds ≡ without staged.now ks.now) × (result.count ≤ length staged.now) }
-{
-    let mut kinds = [0u8; model::LIST_CAPACITY];
-    let mut n: usize = 0;
-    for i in 0..staged.len() {
-        let kind = staged[i];
-        if !among(ks, kind) {
-            kinds[n] = kind;
-            n += 1;
-        }
-    }
-    Kinds16 { kinds, count: n }
-}
-
-// The kinds of the first list that the second has, in their order.
-fn shared(ks: &[u8], staged: &[u8]) -> Kinds16
+// The kinds of a list that another one has, if they are wanted, or lacks, in their order.
+fn picked(ks: &[u8], others: &[u8], wanted: bool) -> KindList<LIST_CAPACITY>
     requires { length ks.now ≤ LIST_CAPACITY }
-    ensures { (take result.count result.kinds ≡ common ks.now staged.now) × (result.count ≤ length ks.now) }
+    ensures { result ≡ cond wanted (common ks.now others.now) (without ks.now others.now) }
 {
-    let mut kinds = [0u8; model::LIST_CAPACITY];
-    let mut n: usize = 0;
-    for i in 0..ks.len() {
-        let kind = ks[i];
-        if among(staged, kind) {
-            kinds[n] = kind;
-            n += 1;
+    let mut picked = KindList::new();
+    for &kind in ks {
+        if among(others, kind) == wanted {
+            picked.push(kind);
         }
     }
-    Kinds16 { kinds, count: n }
+    picked
 }
 
-// Where number f starts: where the one before ends.
+// Where number f starts: where the one before ends. `starts::start_of` says it of words from an offset on; one function for both
+// would be over a type parameter that becomes a `usize`, and longer than the two.
 fn start_of(ends: &[u8], f: usize) -> usize
     requires { f ≤ length ends.now }
     ensures { result ≡ start_of ends.now f }
@@ -284,44 +225,27 @@ fn start_of(ends: &[u8], f: usize) -> usize
 }
 
 // The layout with an empty family at its end, for `filled` to fill.
-fn opened(l: Layout) -> Layout
+fn opened(mut l: Layout) -> Layout
     requires { (l.families < MAX_GROUP_COUNT) × (l.width ≤ MAX_KINDS) × (l.groups ≤ MAX_GROUP_COUNT) }
     ensures { result ≡ opened_of l }
 {
-    let families = l.families;
-    let mut kind_ends = l.kind_ends;
-    kind_ends[families] = l.width as u8;
-    let mut ends = l.ends;
-    ends[families] = l.groups as u8;
-    let kinds = l.kinds;
-    let arities = l.arities;
-    Layout {
-        kinds,
-        arities,
-        kind_ends,
-        ends,
-        families: families + 1,
-        width: l.width,
-        groups: l.groups,
-    }
+    l.kind_ends[l.families] = l.width as u8;
+    l.ends[l.families] = l.groups as u8;
+    l.families += 1;
+    l
 }
 
 // A family's kinds and the staged ones: its kinds that are staged, the staged ones that it lacks, its others.
-fn merged(ks: &[u8], staged: &[u8]) -> Kinds16
+fn merged(ks: &[u8], staged: &[u8]) -> KindList<LIST_CAPACITY>
     requires { (length ks.now ≤ LIST_CAPACITY) × (length staged.now ≤ LIST_CAPACITY) × (length (merged_kinds ks.now staged.now) ≤ LIST_CAPACITY) }
-    ensures { (take result.count result.kinds ≡ merged_kinds ks.now staged.now) × (result.count ≤ LIST_CAPACITY) }
+    ensures { result ≡ merged_kinds ks.now staged.now }
 {
-    let held = shared(ks, staged);
-    let new = missing(ks, staged);
-    let others = missing(staged, ks);
-    let first = held.kinds;
-    let second = new.kinds;
-    let third = others.kinds;
-    let mut kinds = [0u8; model::LIST_CAPACITY];
-    let a = append(&mut kinds, 0, &first[..held.count]);
-    let b = append(&mut kinds, a, &second[..new.count]);
-    let count = append(&mut kinds, b, &third[..others.count]);
-    Kinds16 { kinds, count }
+    let mut merged = picked(ks, staged, true);
+    let new = picked(staged, ks, false);
+    let others = picked(ks, staged, false);
+    merged.extend_from_slice(new.as_slice());
+    merged.extend_from_slice(others.as_slice());
+    merged
 }
 
 // Family f with other kinds, no fewer than its own, and a group more, at a place among its groups.
@@ -375,10 +299,8 @@ fn grown(l: Layout, f: usize, at: usize, staged: &[u8]) -> Layout
     let kind_ends = l.kind_ends;
     let k = start_of(&kind_ends, f);
     let ke = kind_ends[f] as usize;
-    let m = merged(&kinds[k..ke], staged);
-    let all = m.kinds;
-    let n = m.count;
-    filled(l, f, &all[..n], at, staged.len() as u8)
+    let all = merged(&kinds[k..ke], staged);
+    filled(l, f, all.as_slice(), at, staged.len() as u8)
 }
 
 // Are there as many groups as there may be?
@@ -395,14 +317,13 @@ fn add_fresh(l: Layout, staged: &[u8]) -> Answer
 {
     if has_most_groups(l.groups) {
         return Answer {
-            outcome: Outcome::Many,
+            outcome: Err(Refusal::Many),
             layout: l,
         };
     }
-    let layout = fresh(l, staged);
     Answer {
-        outcome: Outcome::Added,
-        layout,
+        outcome: Ok(true),
+        layout: fresh(l, staged),
     }
 }
 
@@ -413,43 +334,34 @@ fn add_onto(l: Layout, f: usize, at: usize, staged: &[u8]) -> Answer
 {
     if has_most_groups(l.groups) {
         return Answer {
-            outcome: Outcome::Many,
+            outcome: Err(Refusal::Many),
             layout: l,
         };
     }
-    let layout = grown(l, f, at, staged);
     Answer {
-        outcome: Outcome::Added,
-        layout,
+        outcome: Ok(true),
+        layout: grown(l, f, at, staged),
     }
 }
 
-// Adds a group of the staged kinds, which are no more than a group may have.
+// Adds a group of the staged kinds, which are no more than a group may have. Too few to be a group, or a group that is there: nothing is added.
 pub fn add_group(l: Layout, staged: &[u8]) -> Answer
     requires { Formed l × KindSet staged.now × (length staged.now ≤ LIST_CAPACITY) }
     ensures { AddsGroup l staged.now result }
 {
     if staged.len() < 2 {
         return Answer {
-            outcome: Outcome::Nothing,
+            outcome: Ok(false),
             layout: l,
         };
     }
-    let stand = fit_of(
-        &l.kinds,
-        &l.arities,
-        &l.kind_ends,
-        &l.ends,
-        l.families,
-        staged,
-    );
-    match stand {
+    match fit_of(&l, staged) {
         Fit::Present => Answer {
-            outcome: Outcome::Nothing,
+            outcome: Ok(false),
             layout: l,
         },
         Fit::Clash => Answer {
-            outcome: Outcome::Clash,
+            outcome: Err(Refusal::Clash),
             layout: l,
         },
         Fit::Fresh => add_fresh(l, staged),

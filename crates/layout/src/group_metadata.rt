@@ -9,7 +9,7 @@ use words::{LAYOUT_ARITIES, LAYOUT_ENDS, LAYOUT_KIND_ENDS};
 // Say a family is made of two groups, (A, B) and (A, B, C, D). The larger has the kinds A B C D, which are new from C on:
 // storage_start is A's place among the layout's kinds, new_storage_start C's, storage_end the one past D's. The family's groups are
 // numbered from first to top - 1.
-#[derive(Clone, Copy)]
+#[derive(Clone, Copy, PartialEq, Eq, Debug)]
 pub struct GroupMetadata {
     pub storage_start: usize,
     pub new_storage_start: usize,

@@ -17,8 +17,8 @@ returns-then-has_most_groups c =
       kept = λ n. refl;
     }
 
-pub fresh-layout-requires : goal.fresh-layout-requires
-fresh-layout-requires c =
+pub fresh-requires : goal.fresh-requires
+fresh-requires c =
     let z : ArraysSized (arrays_of c.args.l) = search rules in
     fresh_ask c.args.l c.args.staged.now (group_kinds _ _ _ c.requires (told_room _ c.args.l.groups _ c.has_most_groups.ensures c.if-has_most_groups.false)) z (fit_says _ _ _ c.requires.fits)
 
@@ -26,7 +26,7 @@ pub returns : goal.returns
 returns c =
     let z : ArraysSized (arrays_of c.args.l) = search rules in
     let p = c.requires in
-    let r = c.fresh-layout.ensures in
+    let r = c.fresh.ensures in
     record {
       formed = r.formed;
       says = ap added r.means ∙ sym (fresh_added c.args.staged.now (layout_meaning c.args.l) p.least p.most (fit_says _ _ _ p.fits) (omega (arith, counted_groups c.args.l p.formed z, told_room _ c.args.l.groups _ c.has_most_groups.ensures c.if-has_most_groups.false)));

@@ -13,7 +13,7 @@ returns-in-Present c =
     let m = layout_meaning c.args.l in
     record {
       formed = c.requires.0;
-      says = sym (add_present hs m c.if-staged-lt2.false (staged_narrow _ c.requires.2) (fit_says hs m _ (sym c.fit_of-stand.ensures ∙ c.in-Present.is)));
+      says = sym (add_present hs m c.if-staged-lt2.false (staged_narrow _ c.requires.2) (fit_says hs m _ (sym c.fit_of.ensures ∙ c.in-Present.is)));
       kept = λ n. refl;
     }
 
@@ -23,6 +23,6 @@ returns-in-Clash c =
     let m = layout_meaning c.args.l in
     record {
       formed = c.requires.0;
-      says = sym (add_clash hs m c.if-staged-lt2.false (staged_narrow _ c.requires.2) (fit_says hs m _ (sym c.fit_of-stand.ensures ∙ c.in-Clash.is)));
+      says = sym (add_clash hs m c.if-staged-lt2.false (staged_narrow _ c.requires.2) (fit_says hs m _ (sym c.fit_of.ensures ∙ c.in-Clash.is)));
       kept = λ n. refl;
     }

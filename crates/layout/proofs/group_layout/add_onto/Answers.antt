@@ -17,8 +17,8 @@ returns-then-has_most_groups c =
       kept = λ n. refl;
     }
 
-pub grown-layout-requires : goal.grown-layout-requires
-grown-layout-requires c =
+pub grown-requires : goal.grown-requires
+grown-requires c =
     let z : ArraysSized (arrays_of c.args.l) = search rules in
     onto_ask c.args.l c.args.staged.now (group_kinds _ _ _ c.requires (told_room _ c.args.l.groups _ c.has_most_groups.ensures c.if-has_most_groups.false)) z _ _ (onto_target _ _ _ _ (fit_says _ _ _ c.requires.fits))
 
@@ -26,7 +26,7 @@ pub returns : goal.returns
 returns c =
     let z : ArraysSized (arrays_of c.args.l) = search rules in
     let p = c.requires in
-    let r = c.grown-layout.ensures in
+    let r = c.grown.ensures in
     let room = told_room _ c.args.l.groups _ c.has_most_groups.ensures c.if-has_most_groups.false in
     let on = fit_says _ _ _ p.fits in
     record {

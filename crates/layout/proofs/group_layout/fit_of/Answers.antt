@@ -3,7 +3,8 @@ use Prim.Native.Nat.{ℕ, ◌+◌}
 use mathlib.Core.List.{[]}
 use lib.ListN.{get_or, drop}
 use Rattle.words.specs.Part.{between}
-use Rattle.layout.specs.Layout.{arrays_in, groups_from, families_of}
+use Rattle.layout.specs.Layout.{groups_from}
+use Rattle.layout.specs.ByValue.{arrays_of, layout_meaning}
 use Rattle.layout.specs.Fit.{part_of, join_fit, fit_from}
 use Rattle.layout.specs.declared.group_layout.Fit.{Fit}
 use Rattle.layout.proofs.Family.{start_next}
@@ -25,20 +26,18 @@ part_of-p-requires c =
 
 pub loop-f-preserved : goal.loop-f-preserved
 loop-f-preserved c =
-    let a = c.args in
+    let a = c.args.l.now in
     let l = c.loop-f in
-    let hs = a.staged.now in
-    let arrays = arrays_in a.kinds.now a.arities.now a.kind_ends.now a.ends.now a.families in (
+    let hs = c.args.staged.now in (
       omega arith,
-      sym (start_next a.kind_ends.now l.f),
-      sym (start_next a.ends.now l.f),
-      l.invariant.3 ∙ fit_step arrays hs l.f l.acc c.loop-f-test.true
-          ∙ ap (λ (r : Fit). fit_from hs (l.f + 1) r (drop (l.f + 1) (families_of [] arrays)))
-          (sym (c.joined-acc.ensures ∙ ap (join_fit l.acc l.f) (c.part_of-p.ensures ∙ ap₂ (λ (k g : ℕ). part_of hs (groups_from [] 0 (between k (get_or a.kind_ends.now l.f 0) a.kinds.now) 0 (between g (get_or a.ends.now l.f 0) a.arities.now))) l.invariant.1 l.invariant.2))),
+      sym (start_next a.kind_ends l.f),
+      sym (start_next a.ends l.f),
+      l.invariant.3 ∙ fit_step (arrays_of a) hs l.f l.acc c.loop-f-test.true
+          ∙ ap (λ (r : Fit). fit_from hs (l.f + 1) r (drop (l.f + 1) (layout_meaning a)))
+          (sym (c.joined-acc.ensures ∙ ap (join_fit l.acc l.f) (c.part_of-p.ensures ∙ ap₂ (λ (k g : ℕ). part_of hs (groups_from [] 0 (between k (get_or a.kind_ends l.f 0) a.kinds) 0 (between g (get_or a.ends l.f 0) a.arities))) l.invariant.1 l.invariant.2))),
     )
 
 pub returns : goal.returns
 returns c =
-    let a = c.args in
     let l = c.loop-f in
-    sym (l.invariant.3 ∙ fit_end (arrays_in a.kinds.now a.arities.now a.kind_ends.now a.ends.now a.families) a.staged.now l.f l.acc (omega arith))
+    sym (l.invariant.3 ∙ fit_end (arrays_of c.args.l.now) c.args.staged.now l.f l.acc (omega arith))

@@ -10,11 +10,11 @@ returns-then-a-staged c =
     let p = c.requires in
     let a = c.args in
     let e = length-take-le a.a a.kinds.now p.inside in
-    sym (same_set_law a.staged.now (take a.a a.kinds.now) p.staged (set_take a.a a.kinds.now p.kinds) ∙ rw (e, ne_eqb a.a (length a.staged.now) c.if-a-staged.true))
+    c.all_among.ensures ∙ sym (same_set_law a.staged.now (take a.a a.kinds.now) p.staged (set_take a.a a.kinds.now p.kinds) ∙ rw (e, eq-eqb a.a (length a.staged.now) c.if-a-staged.true))
 
-pub returns : goal.returns
-returns c =
+pub returns-else-a-staged : goal.returns-else-a-staged
+returns-else-a-staged c =
     let p = c.requires in
     let a = c.args in
     let e = length-take-le a.a a.kinds.now p.inside in
-    c.all_among.ensures ∙ sym (same_set_law a.staged.now (take a.a a.kinds.now) p.staged (set_take a.a a.kinds.now p.kinds) ∙ rw (e, eq-eqb a.a (length a.staged.now) c.if-a-staged.false))
+    sym (same_set_law a.staged.now (take a.a a.kinds.now) p.staged (set_take a.a a.kinds.now p.kinds) ∙ rw (e, ne_eqb a.a (length a.staged.now) c.if-a-staged.false))

@@ -22,8 +22,8 @@ slice_bounds-merged-end c =
     let z : ArraysSized (arrays_of c.args.l) = search rules in
     omega (arith, bounds (arrays_of c.args.l) c.requires.group.formed.good z c.args.f c.requires.inside)
 
-pub merged-m-requires : goal.merged-m-requires
-merged-m-requires c =
+pub merged-all-requires : goal.merged-all-requires
+merged-all-requires c =
     let z : ArraysSized (arrays_of c.args.l) = search rules in
     let l = c.args.l in
     let f = c.args.f in
@@ -38,12 +38,12 @@ pub filled-requires : goal.filled-requires
 filled-requires c =
     let z : ArraysSized (arrays_of c.args.l) = search rules in
     let hs = c.args.staged.now in
-    let same = c.merged-m.ensures.0 ∙ ap (λ (ks : List ℕ). merged_kinds ks hs) (part_kinds c.args.l c.args.f _ c.start_of-k.ensures) in
+    let same = c.as_slice.ensures ∙ c.merged-all.ensures ∙ ap (λ (ks : List ℕ). merged_kinds ks hs) (part_kinds c.args.l c.args.f _ c.start_of-k.ensures) in
     rw same (onto_places c.args.l c.args.f c.args.at hs c.requires z)
 
 pub returns : goal.returns
 returns c =
     let z : ArraysSized (arrays_of c.args.l) = search rules in
     let hs = c.args.staged.now in
-    let same = c.merged-m.ensures.0 ∙ ap (λ (ks : List ℕ). merged_kinds ks hs) (part_kinds c.args.l c.args.f _ c.start_of-k.ensures) in
+    let same = c.as_slice.ensures ∙ c.merged-all.ensures ∙ ap (λ (ks : List ℕ). merged_kinds ks hs) (part_kinds c.args.l c.args.f _ c.start_of-k.ensures) in
     onto_done c.args.l c.args.f c.args.at hs c.requires z c.filled.result (rw same at c.filled.ensures)
