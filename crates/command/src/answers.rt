@@ -41,7 +41,7 @@ pub fn ack_count(out: &mut [u8], at: usize, count: u32) -> usize
     ensures { Written out.old out.new at result (0 ∷ bytes_of 2 count) }
 {
     out[at] = 0;
-    codec::put_u16(out, at + 1, count);
+    codec::put::<2>(out, at + 1, count);
     3
 }
 
@@ -51,6 +51,6 @@ pub fn ack_number(out: &mut [u8], at: usize, number: u32) -> usize
     ensures { Written out.old out.new at result (0 ∷ bytes_of 4 number) }
 {
     out[at] = 0;
-    codec::put_u32(out, at + 1, number);
+    codec::put::<4>(out, at + 1, number);
     5
 }

@@ -30,7 +30,7 @@ fn ack_entity(out: &mut [u8], at: usize, e: Entity) -> usize
     ensures { Written out.old out.new at result (0 ∷ bytes_of 4 e.index ++ bytes_of 4 e.version) }
 {
     ack_number(out, at, e.index);
-    codec::put_u32(out, at + 5, e.version);
+    codec::put::<4>(out, at + 5, e.version);
     9
 }
 

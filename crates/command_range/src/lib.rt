@@ -19,8 +19,8 @@ fn ack_range(out: &mut [u8], at: usize, found: u8, start: u32, end: u32) -> usiz
     ensures { Written out.old out.new at result (0 ∷ found ∷ bytes_of 4 start ++ bytes_of 4 end) }
 {
     ack_byte(out, at, found);
-    codec::put_u32(out, at + 2, start);
-    codec::put_u32(out, at + 6, end);
+    codec::put::<4>(out, at + 2, start);
+    codec::put::<4>(out, at + 6, end);
     10
 }
 

@@ -59,7 +59,7 @@ fn are_same_words(words: &[u32], bytes: &[u8]) -> bool
     }
     let mut i = 0;
     while i < words.len() {
-        if words[i] != codec::get_u32(bytes, 4 * i) {
+        if words[i] != codec::get::<4>(bytes, 4 * i) {
             return false;
         }
         i += 1;

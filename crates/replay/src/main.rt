@@ -116,7 +116,7 @@ fn replay_file(rt: &impl Print, file: &[u8]) -> io::Result<()> {
     if !file.starts_with(b"TAPES 2\n") {
         return println!(rt; "no recorded answers");
     }
-    report(rt, replay(file, codec::get_u32(file, 8)))
+    report(rt, replay(file, codec::get::<4>(file, 8)))
 }
 
 // The file's bytes, as many as there is room for. Where a read fails, those before it stand at the front.

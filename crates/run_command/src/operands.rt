@@ -40,8 +40,8 @@ pub fn on_entity(
     requires given { Given words.old op tape.now at out.old to }
     ensures { Acted words.old words.new out.old out.new to result (does (command_in op tape.now at (meaning words.old)) (meaning words.old)) }
 {
-    let index = codec::get_u32(tape, at);
-    let version = codec::get_u32(tape, at + 4);
+    let index = codec::get::<4>(tape, at);
+    let version = codec::get::<4>(tape, at + 4);
     let e = Entity { index, version };
     match op {
         commands::PUT => command_entity::components::put(words, e, out, to),
@@ -63,7 +63,7 @@ pub fn tray(words: &mut [u32], tape: &[u8], at: usize, out: &mut [u8], to: usize
     requires { Given words.old TRAY_BYTE tape.now at out.old to }
     ensures { Acted words.old words.new out.old out.new to result (does (command_in TRAY_BYTE tape.now at (meaning words.old)) (meaning words.old)) }
 {
-    let count = codec::get_u16(tape, at);
+    let count = codec::get::<2>(tape, at);
     command_entity::entities::tray(words, count, out, to)
 }
 

@@ -116,8 +116,8 @@ fn write_entity(words: &[u32], z: Shape, list: &[u8], e: Entity, out: &mut [u8],
     requires version_in_bounds { at + length (entry_bytes (4 * z.stride) (entry_for words.now e.index e.version)) ≤ length out.old }
     ensures { WrittenUntil out.old out.new at result (entry_bytes (4 * z.stride) (entry_for words.now e.index e.version)) }
 {
-    codec::put_u32(out, at, e.index);
-    codec::put_u32(out, at + 4, e.version);
+    codec::put::<4>(out, at, e.index);
+    codec::put::<4>(out, at + 4, e.version);
     let start = at + 9;
     let end = write_components(words, z, list, e, out, start);
     out[at + 8] = ((end - start) / (1 + model::WORD_BYTES * z.stride)) as u8;
@@ -177,6 +177,6 @@ pub fn write_snapshot(words: &[u32], out: &mut [u8]) -> usize
     let mut list = [0u8; model::MAX_KINDS];
     let count = rising_kinds(words, &mut list);
     let live = control::entities::live_len(words);
-    codec::put_u32(out, 0, live as u32);
+    codec::put::<4>(out, 0, live as u32);
     write_entities(words, z, &list[..count], out, 4)
 }

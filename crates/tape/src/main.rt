@@ -31,9 +31,9 @@ fn put_numbers(out: &mut [u8], stop: u8, commands: usize, read: usize, written: 
     ensures { (result ≡ written + 13) × (out.new ≡ sets out.old written (numbers stop commands read written)) }
 {
     out[written] = stop;
-    codec::put_u32(out, written + 1, commands as u32);
-    codec::put_u32(out, written + 5, read as u32);
-    codec::put_u32(out, written + 9, written as u32);
+    codec::put::<4>(out, written + 1, commands as u32);
+    codec::put::<4>(out, written + 5, read as u32);
+    codec::put::<4>(out, written + 9, written as u32);
     written + 13
 }
 

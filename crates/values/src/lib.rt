@@ -73,8 +73,8 @@ pub fn get_bytes(bytes: &[u8], at: usize, d: usize) -> Value
     requires { TwoOrFour d × (at + 4 * d ≤ length bytes.now) }
     ensures { value_of d result ≡ number (take (4 * d) (drop at bytes.now)) }
 {
-    let first = codec::get_u32(bytes, at);
-    let second = codec::get_u32(bytes, at + 4);
+    let first = codec::get::<4>(bytes, at);
+    let second = codec::get::<4>(bytes, at + 4);
     if d == 2 {
         return Value {
             first,
@@ -83,8 +83,8 @@ pub fn get_bytes(bytes: &[u8], at: usize, d: usize) -> Value
             fourth: 0,
         };
     }
-    let third = codec::get_u32(bytes, at + 8);
-    let fourth = codec::get_u32(bytes, at + 12);
+    let third = codec::get::<4>(bytes, at + 8);
+    let fourth = codec::get::<4>(bytes, at + 12);
     Value {
         first,
         second,
@@ -98,11 +98,11 @@ pub fn put_bytes(out: &mut [u8], at: usize, d: usize, x: Value)
     requires { TwoOrFour d × (at + 4 * d ≤ length out.old) }
     ensures { out.new ≡ sets out.old at (bytes_of (4 * d) (value_of d x)) }
 {
-    codec::put_u32(out, at, x.first);
-    codec::put_u32(out, at + 4, x.second);
+    codec::put::<4>(out, at, x.first);
+    codec::put::<4>(out, at + 4, x.second);
     if d == 2 {
         return;
     }
-    codec::put_u32(out, at + 8, x.third);
-    codec::put_u32(out, at + 12, x.fourth);
+    codec::put::<4>(out, at + 8, x.third);
+    codec::put::<4>(out, at + 12, x.fourth);
 }

@@ -6,6 +6,6 @@ pub returns : goal.returns
 returns c =
     let a = c.args in
     record {
-      bytes = range_bytes_law a.out.now a.at a.found a.start a.end c.ack_byte.ensures.bytes c.put_u32.ensures c.put_u32-2.ensures;
+      bytes = range_bytes_law a.out.now a.at a.found a.start a.end c.ack_byte.ensures.bytes c.put.ensures c.put-2.ensures;
       count = refl;
     }

@@ -17,7 +17,7 @@ use Rattle.snapshot.proofs.write_entity.Goals as goal
 pub write_components-end-requires : goal.write_components-end-requires
 write_components-end-requires c =
     let a = c.args in
-    record { arranged = c.requires.arranged; shape_is = c.requires.shape_is; list_value = c.requires.list_value; words_in_bounds = omega (arith, (entry_room (4 * a.z.stride) (entry_for a.words.now a.e.index a.e.version) a.at (length a.out.now) c.requires.version_in_bounds).1, c.put_u32.auto.out, c.put_u32-2.auto.out) }
+    record { arranged = c.requires.arranged; shape_is = c.requires.shape_is; list_value = c.requires.list_value; words_in_bounds = omega (arith, (entry_room (4 * a.z.stride) (entry_for a.words.now a.e.index a.e.version) a.at (length a.out.now) c.requires.version_in_bounds).1, c.put.auto.out, c.put-2.auto.out) }
 
 pub overflow_mul-out : goal.overflow_mul-out
 overflow_mul-out c =
@@ -37,10 +37,10 @@ overflow_cast-out c =
     omega (arith, entry_count (4 * a.z.stride) (components_of e 0 ss) c.write_components-end.ensures, few_components e ss (sets_wide a.words.now))
 
 pub shape_of-out : goal.shape_of-out
-shape_of-out c = simp length-set (c.write_components-end.auto.out ∙ c.put_u32-2.auto.out ∙ c.put_u32.auto.out)
+shape_of-out c = simp length-set (c.write_components-end.auto.out ∙ c.put-2.auto.out ∙ c.put.auto.out)
 
 pub returns : goal.returns
 returns c =
     let a = c.args in
     let t = entry_for a.words.now a.e.index a.e.version in
-    entry_written (4 * a.z.stride) t c.put_u32.ensures c.put_u32-2.ensures c.write_components-end.ensures refl (entry_count (4 * a.z.stride) t.components c.write_components-end.ensures)
+    entry_written (4 * a.z.stride) t c.put.ensures c.put-2.ensures c.write_components-end.ensures refl (entry_count (4 * a.z.stride) t.components c.write_components-end.ensures)

@@ -23,8 +23,8 @@ overflow_cast-live c =
     let w = c.args.words.now in
     omega (arith, c.live_len-live.ensures, live_most w c.requires.arranged, capacity_most w c.requires.arranged)
 
-pub put_u32-requires : goal.put_u32-requires
-put_u32-requires c =
+pub put-requires-clause-room : goal.put-requires-clause-room
+put-requires-clause-room c =
     let width : 4 * c.shape_of-z.result.stride ≡ (meaning c.args.words.now).settings.value_bytes = ap (λ (z : Shape). 4 * z.stride) c.shape_of-z.ensures.is ∙ stride_bytes c.args.words.now c.requires.arranged in
     let whole : length (snapshot (meaning c.args.words.now)) ≡ 4 + length (flat (4 * c.shape_of-z.result.stride) (listing (meaning c.args.words.now))) = snapshot_length (meaning c.args.words.now) (4 * c.shape_of-z.result.stride) (width) in
     omega (arith, whole, c.requires.words_in_bounds)
@@ -38,9 +38,9 @@ pub write_entities-requires : goal.write_entities-requires
 write_entities-requires c =
     let width : 4 * c.shape_of-z.result.stride ≡ (meaning c.args.words.now).settings.value_bytes = ap (λ (z : Shape). 4 * z.stride) c.shape_of-z.ensures.is ∙ stride_bytes c.args.words.now c.requires.arranged in
     let whole : length (snapshot (meaning c.args.words.now)) ≡ 4 + length (flat (4 * c.shape_of-z.result.stride) (listing (meaning c.args.words.now))) = snapshot_length (meaning c.args.words.now) (4 * c.shape_of-z.result.stride) (width) in
-    record { arranged = c.requires.arranged; shape_is = c.shape_of-z.ensures.is; list_value = c.rising_kinds-count.ensures.is; words_in_bounds = omega (arith, whole, c.requires.words_in_bounds, c.put_u32.auto.out) }
+    record { arranged = c.requires.arranged; shape_is = c.shape_of-z.ensures.is; list_value = c.rising_kinds-count.ensures.is; words_in_bounds = omega (arith, whole, c.requires.words_in_bounds, c.put.auto.out) }
 
 pub returns : goal.returns
 returns c =
     let width : 4 * c.shape_of-z.result.stride ≡ (meaning c.args.words.now).settings.value_bytes = ap (λ (z : Shape). 4 * z.stride) c.shape_of-z.ensures.is ∙ stride_bytes c.args.words.now c.requires.arranged in
-    snapshot_written (meaning c.args.words.now) (4 * c.shape_of-z.result.stride) width c.live_len-live.result c.live_len-live.ensures c.put_u32.ensures c.write_entities.ensures
+    snapshot_written (meaning c.args.words.now) (4 * c.shape_of-z.result.stride) width c.live_len-live.result c.live_len-live.ensures c.put.ensures c.write_entities.ensures

@@ -13,8 +13,8 @@ returns-then-d-eq2 c =
     let a = c.args in
     let x = a.x in
     let h : Words (x.first ∷ x.second ∷ []) = (search rules, (search rules, tt)) in
-    c.put_u32-2.ensures
-    ∙ ap (λ (l : List ℕ). sets l (a.at + 4) (bytes_of 4 x.second)) c.put_u32.ensures
+    c.put-2.ensures
+    ∙ ap (λ (l : List ℕ). sets l (a.at + 4) (bytes_of 4 x.second)) c.put.ensures
     ∙ rw c.if-d-eq2.true (written_number a.out.now a.at 2 x.first (x.second ∷ []) refl h)
 
 pub returns : goal.returns
@@ -23,8 +23,8 @@ returns c =
     let x = a.x in
     let e : a.d ≡ 4 = omega arith in
     let h : Words (x.first ∷ x.second ∷ x.third ∷ x.fourth ∷ []) = (search rules, (search rules, (search rules, (search rules, tt)))) in
-    c.put_u32-4.ensures
-    ∙ ap (λ (l : List ℕ). sets l (a.at + 12) (bytes_of 4 x.fourth)) c.put_u32-3.ensures
-    ∙ ap (λ (l : List ℕ). sets (sets l (a.at + 8) (bytes_of 4 x.third)) (a.at + 12) (bytes_of 4 x.fourth)) c.put_u32-2.ensures
-    ∙ ap (λ (l : List ℕ). written l a.at 4 (x.second ∷ x.third ∷ x.fourth ∷ [])) c.put_u32.ensures
+    c.put-4.ensures
+    ∙ ap (λ (l : List ℕ). sets l (a.at + 12) (bytes_of 4 x.fourth)) c.put-3.ensures
+    ∙ ap (λ (l : List ℕ). sets (sets l (a.at + 8) (bytes_of 4 x.third)) (a.at + 12) (bytes_of 4 x.fourth)) c.put-2.ensures
+    ∙ ap (λ (l : List ℕ). written l a.at 4 (x.second ∷ x.third ∷ x.fourth ∷ [])) c.put.ensures
     ∙ rw e (written_number a.out.now a.at 4 x.first (x.second ∷ x.third ∷ x.fourth ∷ []) refl h)

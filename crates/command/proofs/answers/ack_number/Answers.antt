@@ -4,11 +4,11 @@ use lib.ListN.{length-set}
 use mathlib.Core.Path.{refl, ◌∙◌}
 use Rattle.command.proofs.answers.ack_number.Goals as goal
 
-pub put_u32-requires : goal.put_u32-requires
-put_u32-requires c = simp length-set (omega arith)
+pub put-requires-clause-room : goal.put-requires-clause-room
+put-requires-clause-room c = simp length-set (omega arith)
 
 pub shape_of-out : goal.shape_of-out
-shape_of-out c = c.put_u32.auto.out ∙ simp length-set
+shape_of-out c = c.put.auto.out ∙ simp length-set
 
 pub returns : goal.returns
-returns c = rw c.put_u32.ensures (record { bytes = simp towards_suc; count = refl })
+returns c = rw c.put.ensures (record { bytes = simp towards_suc; count = refl })

@@ -10,6 +10,6 @@ pub returns : goal.returns
 returns c =
     let a = c.args in
     record {
-      bytes = c.put_u32.ensures ∙ ap (λ (l : List ℕ). sets l (a.at + 5) (bytes_of 4 a.e.version)) c.ack_number.ensures.bytes ∙ sets_join a.out.now a.at (0 ∷ bytes_of 4 a.e.index) (bytes_of 4 a.e.version);
+      bytes = c.put.ensures ∙ ap (λ (l : List ℕ). sets l (a.at + 5) (bytes_of 4 a.e.version)) c.ack_number.ensures.bytes ∙ sets_join a.out.now a.at (0 ∷ bytes_of 4 a.e.index) (bytes_of 4 a.e.version);
       count = refl;
     }

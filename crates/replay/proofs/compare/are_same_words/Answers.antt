@@ -16,14 +16,14 @@ loop-i-init c = (four_each _ _ c.if-bytes-ne0.false c.if-bytes-words.false, star
 pub overflow_mul-i : goal.overflow_mul-i
 overflow_mul-i c = omega (arith, c.loop-i.invariant.0)
 
-pub get_u32-requires : goal.get_u32-requires
-get_u32-requires c = omega (arith, c.loop-i.invariant.0, c.loop-i-test.true)
+pub get-requires-clause-room : goal.get-requires-clause-room
+get-requires-clause-room c = omega (arith, c.loop-i.invariant.0, c.loop-i-test.true)
 
 pub returns-then-words-i : goal.returns-then-words-i
-returns-then-words-i c = λ g. c.if-words-i.true (g.each c.loop-i.i c.loop-i-test.true ∙ sym c.get_u32.ensures)
+returns-then-words-i c = λ g. c.if-words-i.true (g.each c.loop-i.i c.loop-i-test.true ∙ sym c.get.ensures)
 
 pub loop-i-preserved : goal.loop-i-preserved
-loop-i-preserved c = (c.loop-i.invariant.0, passes c.loop-i.invariant.1 (c.if-words-i.false ∙ c.get_u32.ensures))
+loop-i-preserved c = (c.loop-i.invariant.0, passes c.loop-i.invariant.1 (c.if-words-i.false ∙ c.get.ensures))
 
 pub returns : goal.returns
 returns c = record { size = c.loop-i.invariant.0; each = ends_each c.loop-i.invariant.1 c.loop-i-test.false }

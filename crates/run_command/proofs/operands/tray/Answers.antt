@@ -7,4 +7,4 @@ pub shape_of-out : goal.shape_of-out
 shape_of-out c = c.tray.auto.out
 
 pub returns : goal.returns
-returns c = rw (← c.get_u16-count.ensures) c.tray.ensures
+returns c = rw (← c.get-count.ensures) c.tray.ensures
