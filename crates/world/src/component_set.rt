@@ -1,6 +1,6 @@
 // Components go into an entity and out of it, with the groups kept right (component_set.rs). Insertion: all staged components go in, then the
-// touched families' groups are walked upward. Removal: before any component goes, the entity leaves the groups that have one of the kinds. z is the store's shape,
-// read once for a command.
+// touched families' groups are walked upward. Removal: before any component goes, the entity leaves the groups that have one of the kinds. z is the store's shape:
+// it is read once for a command, and by a tray, which goes kind by kind, once more for each kind.
 ghost use Rattle.std.specs.Prelude.{◌≡◌, true, ◌<◌, length, get_or, drop};
 ghost use Rattle.model.specs.Model.{is_live, insert_components, remove, entity};
 ghost use Rattle.model.specs.Store.{staged_kinds, on_storage};
@@ -34,17 +34,15 @@ pub fn insert_staged(words: &mut [u32], z: Shape, e: Entity)
     ensures { Becomes words.old words.new (on_storage (inserted (entity e.index e.version) (meaning words.old).control.staged) (meaning words.old)) }
 {
     let n = control::staged::staged_len(words);
-    let mut i = 0;
-    while i < n {
+    for i in 0..n {
         insert_one(words, z, i, e);
-        i += 1;
     }
 }
 
 // The staged components go into a live entity.
 pub fn insert(words: &mut [u32], e: Entity)
     requires sound { Sound words.old }
-    requires words_value { is_live (entity e.index e.version) (meaning words.old).entities ≡ true }
+    requires live { is_live (entity e.index e.version) (meaning words.old).entities ≡ true }
     ensures { Becomes words.old words.new (on_storage (insert_components (entity e.index e.version) (meaning words.old).control.staged) (meaning words.old)) }
 {
     let z = words::shape_of(words);
@@ -63,11 +61,9 @@ fn insert_column(words: &mut [u32], i: usize, start: usize)
     let c = control::staged::staged_at(words, z, i);
     let slot = kinds::slot_of(words, c.kind);
     let len = control::entities::live_len(words);
-    let mut place = start;
-    while place < len {
+    for place in start..len {
         let e = control::entities::live_at(words, place);
         component::slots::insert_in(words, z, slot, e, c.value);
-        place += 1;
     }
 }
 
@@ -77,10 +73,8 @@ pub fn insert_each(words: &mut [u32], start: usize)
     ensures { Becomes words.old words.new (on_storage (inserted_each (drop start (meaning words.old).entities.live) (meaning words.old).control.staged) (meaning words.old)) }
 {
     let n = control::staged::staged_len(words);
-    let mut i = 0;
-    while i < n {
+    for i in 0..n {
         insert_column(words, i, start);
-        i += 1;
     }
 }
 
@@ -112,10 +106,8 @@ fn delete_staged(words: &mut [u32], z: Shape, e: Entity)
     ensures { Becomes words.old words.new (on_storage (removed (entity e.index e.version) (staged_kinds (meaning words.old))) (meaning words.old)) }
 {
     let n = control::staged::staged_len(words);
-    let mut i = 0;
-    while i < n {
+    for i in 0..n {
         remove_one(words, z, i, e);
-        i += 1;
     }
 }
 

@@ -28,10 +28,8 @@ fn strip_sets(words: &mut [u32], z: Shape, e: Entity)
     ensures { Becomes words.old words.new (on_storage (removed (entity e.index e.version) (meaning words.old).kinds) (meaning words.old)) }
 {
     let m = words::word(words, words::REGISTERED);
-    let mut slot = 0;
-    while slot < m {
+    for slot in 0..m {
         strip_slot(words, z, slot, e);
-        slot += 1;
     }
 }
 
@@ -51,10 +49,8 @@ fn clear_counts(words: &mut [u32])
     ensures { Becomes words.old words.new (on_storage (λ (s : Storage). with_layout s (map (map zero_count) s.layout)) (meaning words.old)) }
 {
     let n = group::group_metadata::group_count(words);
-    let mut g = 0;
-    while g < n {
+    for g in 0..n {
         group::group_metadata::set_count(words, g, 0);
-        g += 1;
     }
 }
 

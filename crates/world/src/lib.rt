@@ -19,7 +19,7 @@ use words::Entity;
 // A new entity with the staged components. The caller has seen that there is a number left.
 pub fn create(words: &mut [u32]) -> Entity
     requires sound { Sound words.old }
-    requires words_value { is_full (meaning words.old).settings.capacity (meaning words.old).entities ≡ false }
+    requires not_full { is_full (meaning words.old).settings.capacity (meaning words.old).entities ≡ false }
     ensures { NewEntity words.old words.new result }
 {
     let e = control::entities::create(words);
@@ -33,10 +33,8 @@ fn create_each(words: &mut [u32], count: usize)
     requires count_bound { count ≤ free_numbers (meaning words.old).settings.capacity (meaning words.old).entities }
     ensures { Becomes words.old words.new (with_created count (meaning words.old)) }
 {
-    let mut left = count;
-    while 0 < left {
+    for done in 0..count {
         control::entities::create(words);
-        left -= 1;
     }
 }
 

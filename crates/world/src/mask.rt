@@ -13,7 +13,9 @@ use masks::group_mask::GroupMask;
 use words::{Found, Shape};
 
 // What is walked for a kind: all groups of its family where it goes in, those that have it where it goes out.
-#[derive(Clone, Copy)]
+// Two names and not a rule that the caller lends: the contracts say which of the model's two walks is meant, and of a closure
+// they would have to ask that it gives one of just these two.
+#[derive(Clone, Copy, PartialEq, Eq, Debug)]
 pub enum Walk {
     Insert,
     Delete,
@@ -24,12 +26,8 @@ fn lowest(walk: Walk, first: usize, own: usize) -> usize
     ensures { result ≡ lowest_of walk first own }
 {
     match walk {
-        Walk::Insert => {
-            return first;
-        }
-        Walk::Delete => {
-            return own;
-        }
+        Walk::Insert => first,
+        Walk::Delete => own,
     }
 }
 
@@ -67,11 +65,9 @@ pub fn staged_mask(words: &[u32], z: Shape, walk: Walk) -> GroupMask
 {
     let n = control::staged::staged_len(words);
     let mut mask = GroupMask::empty();
-    let mut i = 0;
-    while i < n {
+    for i in 0..n {
         let more = mask_at(words, z, walk, i);
         mask = mask.union(more);
-        i += 1;
     }
     mask
 }

@@ -1,22 +1,5 @@
-use mathlib.Core.Path.{◌∙◌}
-use native.Mathlib.Omega.{arith}
-use Rattle.words.specs.Offsets.{VALUE_WIDTH}
-use Rattle.kinds.proofs.Slot.{header_long}
-use Rattle.world.proofs.Whole.{staged_sound}
 use Rattle.world.proofs.Extending.{each_insertable, each_made, each_below, each_ready, each_extended}
 use Rattle.world.proofs.extend.Goals as goal
-
-pub shape_of-z-requires : goal.shape_of-z-requires
-shape_of-z-requires c = header_long c.args.words.now c.requires.sound.arranged VALUE_WIDTH (omega arith)
-
-pub staged_mask-mask-requires : goal.staged_mask-mask-requires
-staged_mask-mask-requires c = record { staged = staged_sound c.args.words.now c.requires.sound; shape_is = c.shape_of-z.ensures.is }
-
-pub live_len-start-requires : goal.live_len-start-requires
-live_len-start-requires c = c.requires.sound.arranged
-
-pub create_each-requires : goal.create_each-requires
-create_each-requires c = record { arranged = c.requires.sound.arranged; count_bound = c.requires.count_bound }
 
 pub insert_each-requires : goal.insert_each-requires
 insert_each-requires c =
@@ -32,9 +15,6 @@ group_each-requires c =
     let d = c.create_each in
     let i = c.insert_each in
     let made = each_made w c.requires.sound n c.requires.count_bound l.result l.ensures d.new.words d.ensures i.new.words i.ensures in record { arranged = i.ensures.arranged; below = each_below w c.requires.sound n c.requires.count_bound l.result l.ensures m.result.0 m.ensures i.new.words made; ready_each = each_ready w c.requires.sound n c.requires.count_bound l.result l.ensures m.result.0 m.ensures i.new.words made }
-
-pub shape_of-words : goal.shape_of-words
-shape_of-words c = c.group_each.auto.words ∙ c.insert_each.auto.words ∙ c.create_each.auto.words
 
 pub returns : goal.returns
 returns c =

@@ -29,7 +29,7 @@ returns-in_default c =
 pub insert-requires : goal.insert-requires
 insert-requires c =
     let a = c.args in
-    record { sound = c.requires.sound; words_value = (found_live (entity a.e.index a.e.version) (meaning a.words.now).entities _ (sym c.get-found.ensures ∙ c.in-At.is)).0 }
+    record { sound = c.requires.sound; live = (found_live (entity a.e.index a.e.version) (meaning a.words.now).entities _ (sym c.get-found.ensures ∙ c.in-At.is)).0 }
 
 pub clear_staged-requires : goal.clear_staged-requires
 clear_staged-requires c = c.insert.ensures.arranged

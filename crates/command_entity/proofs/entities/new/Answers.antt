@@ -18,7 +18,7 @@ pub returns-then-is_full : goal.returns-then-is_full
 returns-then-is_full c = refused_by_law (new_full (meaning c.args.words.now) (sym c.is_full.ensures ∙ c.if-is_full.true)) c.refuse.ensures
 
 pub create-e-requires : goal.create-e-requires
-create-e-requires c = record { sound = c.requires.sound; words_value = sym c.is_full.ensures ∙ c.if-is_full.false }
+create-e-requires c = record { sound = c.requires.sound; not_full = sym c.is_full.ensures ∙ c.if-is_full.false }
 
 pub clear_staged-requires : goal.clear_staged-requires
 clear_staged-requires c = c.create-e.ensures.becomes.arranged

@@ -1,20 +1,11 @@
 use mathlib.Core.Path.{sym, ◌∙◌}
-use native.Mathlib.Omega.{arith}
 use Rattle.model.specs.Store.{staged_kinds}
-use Rattle.words.specs.Offsets.{VALUE_WIDTH}
 use Rattle.memory.specs.Meaning.{meaning}
-use Rattle.kinds.proofs.Slot.{header_long}
 use Rattle.group.proofs.Storing.{shape_kept}
 use Rattle.world.specs.Remove.{ungrouped}
 use Rattle.world.proofs.Whole.{staged_after, delete_whole}
 use Rattle.model.specs.Model.{entity}
 use Rattle.world.proofs.component_set.delete.Goals as goal
-
-pub shape_of-z-requires : goal.shape_of-z-requires
-shape_of-z-requires c = header_long c.args.words.now c.requires.arranged VALUE_WIDTH (omega arith)
-
-pub ungroup_staged-requires : goal.ungroup_staged-requires
-ungroup_staged-requires c = record { sound = c.requires; shape_is = c.shape_of-z.ensures.is }
 
 pub delete_staged-requires : goal.delete_staged-requires
 delete_staged-requires c =

@@ -1,44 +1,19 @@
-use borrow.Author.Count.{falls}
 use mathlib.Core.Path.{ap, subst}
 use Prim.Native.Nat.{ℕ, ◌<◌, ◌≤◌}
-use native.Mathlib.Omega.{arith}
-use lib.ListN.{length}
-use Rattle.words.specs.Offsets.{VALUE_WIDTH}
 use Rattle.words.specs.declared.Shape.{Shape}
 use Rattle.words.specs.Shape.{shape_of}
 use Rattle.values.specs.Values.{value_of}
 use Rattle.memory.specs.Meaning.{meaning}
 use Rattle.component.specs.Changes.{Only}
 use Rattle.model.specs.Model.{kind_of, insert_row, entity}
-use Rattle.kinds.proofs.Slot.{header_long}
-use Rattle.group.proofs.Storing.{live_same}
 use Rattle.world.proofs.Removing.{staged_in_law}
-use Rattle.world.proofs.Columns.{filling_start, filling_lent, filling_bounds, filling_current, filling_turn, filling_end}
+use Rattle.world.proofs.Columns.{filling_lent, filling_bounds, filling_current, filling_turn, filling_end}
 use Rattle.world.proofs.component_set.insert_column.Goals as goal
 
-pub shape_of-z-requires : goal.shape_of-z-requires
-shape_of-z-requires c = header_long c.args.words.now c.requires.all_insertable.arranged VALUE_WIDTH (omega arith)
-
-pub staged_at-c-requires : goal.staged_at-c-requires
-staged_at-c-requires c = record { arranged = c.requires.all_insertable.arranged; shape_is = c.shape_of-z.ensures.is; i_in_bounds = c.requires.i_in_bounds }
-
-pub slot_of-slot-requires : goal.slot_of-slot-requires
-slot_of-slot-requires c =
+pub slot_of-slot-requires-clause-kind_known : goal.slot_of-slot-requires-clause-kind_known
+slot_of-slot-requires-clause-kind_known c =
     let p = c.staged_at-c in
-    record { arranged = c.requires.all_insertable.arranged; kind_known = staged_in_law (meaning c.args.words.now) c.requires.all_insertable.known c.args.i p.result.kind c.requires.i_in_bounds (ap kind_of p.ensures) }
-
-pub live_len-len-requires : goal.live_len-len-requires
-live_len-len-requires c = c.requires.all_insertable.arranged
-
-pub loop-place-init : goal.loop-place-init
-loop-place-init c =
-    let p = c.staged_at-c.result in
-    filling_start c.args.words.now p.kind (value_of (shape_of c.args.words.now).stride p.value) c.args.start c.requires.all_insertable
-
-pub live_at-e-requires : goal.live_at-e-requires
-live_at-e-requires c =
-    let l = c.loop-place in
-    record { arranged = l.invariant.so_far.arranged; place_in_bounds = omega (arith, c.live_len-len.ensures, c.loop-place-test.true, ap length (live_same l.invariant.so_far)) }
+    staged_in_law (meaning c.args.words.now) c.requires.all_insertable.known c.args.i p.result.kind c.requires.i_in_bounds (ap kind_of p.ensures)
 
 pub insert_in-requires : goal.insert_in-requires
 insert_in-requires c =
@@ -54,9 +29,6 @@ insert_in-requires c =
     let A = c.requires.all_insertable.arranged in
     let known = staged_in_law (meaning w) c.requires.all_insertable.known c.args.i p.result.kind c.requires.i_in_bounds (ap kind_of p.ensures) in record { lent = filling_lent w k v c.args.start l.words l.place l.invariant A known n.result t.result n.ensures.is t.ensures; index_lt_capacity = filling_bounds w k v c.args.start l.words l.place l.invariant A known n.result t.result n.ensures.is t.ensures e.index e.version h c.live_at-e.ensures; current = filling_current w k v c.args.start l.words l.place l.invariant A known n.result t.result n.ensures.is t.ensures e.index e.version h c.live_at-e.ensures }
 
-pub loop-place-smaller : goal.loop-place-smaller
-loop-place-smaller c = falls _ _ c.loop-place-test.true
-
 pub loop-place-preserved : goal.loop-place-preserved
 loop-place-preserved c =
     let w = c.args.words.now in
@@ -69,9 +41,6 @@ loop-place-preserved c =
     let known = staged_in_law (meaning w) c.requires.all_insertable.known c.args.i p.result.kind c.requires.i_in_bounds (ap kind_of p.ensures) in
     filling_turn w p.result.kind (value_of (shape_of c.args.words.now).stride p.result.value) c.args.start l.words l.place l.invariant c.requires.all_insertable.arranged known n.result t.result n.ensures.is t.ensures e.index e.version h c.live_at-e.ensures c.insert_in.new.words
     (subst (λ (y : Shape). Only n.result t.result (insert_row (entity e.index e.version) (value_of y.stride p.result.value)) l.words c.insert_in.new.words) n.ensures.is c.insert_in.ensures)
-
-pub shape_of-words : goal.shape_of-words
-shape_of-words c = c.loop-place.invariant.so_far.size
 
 pub returns : goal.returns
 returns c =

@@ -6,15 +6,9 @@ use Rattle.world.proofs.Removing.{kind_at_law, staged_in_law}
 use Rattle.model.specs.Model.{entity}
 use Rattle.world.proofs.component_set.remove_one.Goals as goal
 
-pub staged_kind-kind-requires : goal.staged_kind-kind-requires
-staged_kind-kind-requires c = record { arranged = c.requires.staged.arranged; i_in_bounds = c.requires.i_in_bounds }
-
-pub remove-requires : goal.remove-requires
-remove-requires c =
-    record { arranged = c.requires.staged.arranged; shape_is = c.requires.shape_is; kind_known = staged_in_law (meaning c.args.words.now) c.requires.staged.known c.args.i c.staged_kind-kind.result c.requires.i_in_bounds c.staged_kind-kind.ensures }
-
-pub shape_of-words : goal.shape_of-words
-shape_of-words c = c.remove.auto.words
+pub remove-requires-clause-kind_known : goal.remove-requires-clause-kind_known
+remove-requires-clause-kind_known c =
+    staged_in_law (meaning c.args.words.now) c.requires.staged.known c.args.i c.staged_kind-kind.result c.requires.i_in_bounds c.staged_kind-kind.ensures
 
 pub returns : goal.returns
 returns c =

@@ -1,9 +1,6 @@
-use Rattle.world.proofs.Whole.{staged_sound, delete_inside, delete_ready, ungroup_whole}
+use Rattle.world.proofs.Whole.{delete_inside, delete_ready, ungroup_whole}
 use Rattle.model.specs.Model.{entity}
 use Rattle.world.proofs.component_set.ungroup_staged.Goals as goal
-
-pub staged_mask-mask-requires : goal.staged_mask-mask-requires
-staged_mask-mask-requires c = record { staged = staged_sound c.args.words.now c.requires.sound; shape_is = c.requires.shape_is }
 
 pub ungroup-requires : goal.ungroup-requires
 ungroup-requires c =
@@ -11,9 +8,6 @@ ungroup-requires c =
     let m = c.staged_mask-mask in
     let e = entity a.e.index a.e.version in
     record { arranged = c.requires.sound.arranged; shape_is = c.requires.shape_is; below = delete_inside a.words.now c.requires.sound e m.result.0 m.ensures; ready_down = delete_ready a.words.now c.requires.sound e m.result.0 m.ensures }
-
-pub shape_of-words : goal.shape_of-words
-shape_of-words c = c.ungroup.auto.words
 
 pub returns : goal.returns
 returns c =

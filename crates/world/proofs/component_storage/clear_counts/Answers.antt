@@ -1,17 +1,10 @@
-use lib.Dec.{lit<}
-use native.Mathlib.Nat.{lt_of_le_of_lt}
 use mathlib.Core.Path.{subst}
 use Prim.Native.Nat.{◌≤◌, ℕ, ◌<◌, zero-le}
 use native.Mathlib.Omega.{arith}
 use native.Mathlib.Numerals.{add-one-le}
-use borrow.Author.Count.{falls}
-use Rattle.component.proofs.Sums.{next_fits}
 use Rattle.group.proofs.InWords.{groups_few}
 use Rattle.world.proofs.Zeroing.{zeroed_none, zeroed_below, zeroed_turn, zeroed_all}
 use Rattle.world.proofs.component_storage.clear_counts.Goals as goal
-
-pub group_count-n-requires : goal.group_count-n-requires
-group_count-n-requires c = c.requires
 
 pub loop-g-init : goal.loop-g-init
 loop-g-init c =
@@ -23,19 +16,10 @@ set_count-requires c =
     let v = c.loop-g.invariant in
     record { arranged = v.3.arranged; g_bound = zeroed_below c.args.words.now c.loop-g.words c.loop-g.g v.3 (subst (λ (m : ℕ). c.loop-g.g < m) v.2 c.loop-g-test.true); count_bound = omega arith }
 
-pub overflow_add-g : goal.overflow_add-g
-overflow_add-g c = next_fits _ _ c.loop-g-test.true (lt_of_le_of_lt c.loop-g.invariant.1 (lit< tt))
-
-pub loop-g-smaller : goal.loop-g-smaller
-loop-g-smaller c = falls _ _ c.loop-g-test.true
-
 pub loop-g-preserved : goal.loop-g-preserved
 loop-g-preserved c =
     let v = c.loop-g.invariant in
     (add-one-le c.loop-g-test.true, v.1, v.2, zeroed_turn c.args.words.now c.loop-g.words c.set_count.new.words c.loop-g.g (subst (λ (m : ℕ). c.loop-g.g < m) v.2 c.loop-g-test.true) v.3 c.set_count.ensures)
-
-pub shape_of-words : goal.shape_of-words
-shape_of-words c = c.loop-g.invariant.3.size
 
 pub returns : goal.returns
 returns c =

@@ -1,30 +1,21 @@
 use mathlib.Core.Path.{sym, ◌∙◌}
 use mathlib.Core.List.{reverse}
-use native.Mathlib.Omega.{arith}
-use Rattle.words.specs.Offsets.{VALUE_WIDTH}
 use Rattle.masks.specs.Masks.{up_from}
 use Rattle.memory.specs.Meaning.{meaning}
-use Rattle.kinds.proofs.Slot.{header_long}
 use Rattle.group.specs.Flat.{walk_down}
 use Rattle.group.proofs.Storing.{shape_kept}
 use Rattle.world.proofs.Whole.{strip_ready, strip_once, strip_whole}
 use Rattle.model.specs.Model.{groups_of, entity}
 use Rattle.world.proofs.component_storage.strip.Goals as goal
 
-pub shape_of-z-requires : goal.shape_of-z-requires
-shape_of-z-requires c = header_long c.args.words.now c.requires.arranged VALUE_WIDTH (omega arith)
-
-pub ungroup_all-requires : goal.ungroup_all-requires
-ungroup_all-requires c = record { arranged = c.requires.arranged; shape_is = c.shape_of-z.ensures.is; ready_down = strip_ready c.args.words.now c.requires (entity c.args.e.index c.args.e.version) }
+pub ungroup_all-requires-clause-ready_down : goal.ungroup_all-requires-clause-ready_down
+ungroup_all-requires-clause-ready_down c = strip_ready c.args.words.now c.requires (entity c.args.e.index c.args.e.version)
 
 pub strip_sets-requires : goal.strip_sets-requires
 strip_sets-requires c =
     let e = entity c.args.e.index c.args.e.version in
     let u = c.ungroup_all in
     record { arranged = u.ensures.arranged; shape_is = c.shape_of-z.ensures.is ∙ sym (shape_kept c.args.words.now u.new.words (walk_down e (reverse (up_from 0 (groups_of (meaning c.args.words.now).storage.layout)))) u.ensures); distinct = strip_once c.args.words.now c.requires e u.new.words u.ensures }
-
-pub shape_of-words : goal.shape_of-words
-shape_of-words c = c.strip_sets.auto.words ∙ c.ungroup_all.auto.words
 
 pub returns : goal.returns
 returns c =

@@ -1,21 +1,14 @@
-use lib.Dec.{lit<}
 use mathlib.Core.Path.{◌≡◌, ap, sym, ◌∙◌, subst}
 use Prim.Native.Nat.{◌≤◌, ℕ, ◌<◌, zero-le}
 use native.Mathlib.Numerals.{add-one-le}
-use borrow.Author.Count.{falls}
 use lib.ListN.{length, get_or}
 use Rattle.model.specs.Store.{Store}
 use Rattle.model.specs.Model.{entity}
-use Rattle.words.specs.Offsets.{REGISTERED}
-use Rattle.component.proofs.Sums.{next_fits}
 use Rattle.memory.specs.Meaning.{meaning}
 use Rattle.memory.proofs.Becomes.{kinds_count}
-use Rattle.kinds.proofs.Slot.{header_long, known_small}
+use Rattle.kinds.proofs.Slot.{known_small}
 use Rattle.world.proofs.Removing.{gone_none, gone_shape, gone_turn, gone_all}
 use Rattle.world.proofs.component_storage.strip_sets.Goals as goal
-
-pub word-m-requires : goal.word-m-requires
-word-m-requires c = header_long c.args.words.now c.requires.arranged REGISTERED (lit< tt)
 
 pub loop-slot-init : goal.loop-slot-init
 loop-slot-init c =
@@ -30,12 +23,6 @@ strip_slot-requires c =
     let k : length (meaning l.words).kinds ≡ length (meaning a.words.now).kinds = ap (λ (m : Store). length m.kinds) v.2.means in
     record { arranged = v.2.arranged; shape_is = c.requires.shape_is ∙ gone_shape a.words.now (entity a.e.index a.e.version) (meaning a.words.now).kinds l.words l.slot v.2; slot_in_bounds = subst (λ (m : ℕ). l.slot < m) (v.1 ∙ sym k) c.loop-slot-test.true }
 
-pub overflow_add-slot : goal.overflow_add-slot
-overflow_add-slot c = next_fits _ _ c.loop-slot-test.true c.word-m.ensures.small
-
-pub loop-slot-smaller : goal.loop-slot-smaller
-loop-slot-smaller c = falls _ _ c.loop-slot-test.true
-
 pub loop-slot-preserved : goal.loop-slot-preserved
 loop-slot-preserved c =
     let a = c.args in
@@ -44,9 +31,6 @@ loop-slot-preserved c =
     let t = c.loop-slot-test.true in
     let same = ap (λ (m : Store). get_or m.kinds l.slot 0) v.2.means in
     (add-one-le t, v.1, gone_turn a.words.now (entity a.e.index a.e.version) (meaning a.words.now).kinds l.words c.strip_slot.new.words l.slot (get_or (meaning l.words).kinds l.slot 0) (subst (λ (m : ℕ). l.slot < m) v.1 t) same v.2 c.strip_slot.ensures)
-
-pub shape_of-words : goal.shape_of-words
-shape_of-words c = c.loop-slot.invariant.2.size
 
 pub returns : goal.returns
 returns c =

@@ -5,9 +5,6 @@ use Rattle.world.proofs.component_storage.strip_slot.Goals as goal
 pub remove_in-requires : goal.remove_in-requires
 remove_in-requires c = slot_lent c.args.words.now c.requires.arranged c.args.z c.args.slot c.requires.shape_is c.requires.slot_in_bounds
 
-pub shape_of-words : goal.shape_of-words
-shape_of-words c = c.remove_in.auto.words
-
 pub returns : goal.returns
 returns c =
     let a = c.args in

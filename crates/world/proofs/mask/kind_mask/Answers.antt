@@ -7,21 +7,18 @@ use Rattle.kinds.proofs.Owned.{Owned, own_group}
 use Rattle.world.proofs.Owning.{own_below, mask_some, mask_is, mask_nothing}
 use Rattle.world.proofs.mask.kind_mask.Goals as goal
 
-pub own_group-found-requires : goal.own_group-found-requires
-own_group-found-requires c = record { arranged = c.requires.arranged; shape_is = c.requires.shape_is; kind_known = c.requires.kind_known }
-
 pub returns-in_default : goal.returns-in_default
 returns-in_default c =
     let a = c.args in
     c.empty.ensures
     ∙ sym (mask_nothing a.words.now c.requires.arranged a.kind (subst (λ (r : Found). OwnGroup a.words.now a.kind r) c.in_default.is c.own_group-found.ensures) a.walk)
 
-pub metadata-metadata-requires : goal.metadata-metadata-requires
-metadata-metadata-requires c =
+pub metadata-metadata-requires-clause-g_bound : goal.metadata-metadata-requires-clause-g_bound
+metadata-metadata-requires-clause-g_bound c =
     let owned : Owned c.args.words.now c.args.kind c.in-At.place = (
     let a = c.args in
     own_group a.words.now c.requires.arranged a.kind c.in-At.place c.requires.kind_known (subst (λ (r : Found). OwnGroup a.words.now a.kind r) c.in-At.is c.own_group-found.ensures)) in
-    record { arranged = c.requires.arranged; g_bound = own_below c.args.words.now c.requires.arranged c.args.kind c.in-At.place owned }
+    own_below c.args.words.now c.requires.arranged c.args.kind c.in-At.place owned
 
 pub some_from_to-requires : goal.some_from_to-requires
 some_from_to-requires c =

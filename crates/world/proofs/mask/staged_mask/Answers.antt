@@ -1,36 +1,20 @@
-use lib.Dec.{lit<}
-use native.Mathlib.Nat.{lt_of_le_of_lt}
-use borrow.Author.Count.{falls}
 use native.Mathlib.Numerals.{add-one-le}
 use mathlib.Core.Path.{subst, ◌∙◌, sym}
 use Prim.Native.Nat.{ℕ, ◌≤◌, zero-le, ◌<◌}
 use lib.ListN.{length-map}
 use Rattle.model.specs.Model.{kind_of}
 use Rattle.model.specs.Store.{staged_kinds}
-use Rattle.component.proofs.Sums.{next_fits}
 use Rattle.memory.specs.Meaning.{meaning}
 use Rattle.group.proofs.InWords.{groups_few}
 use Rattle.world.proofs.Masking.{mask_none, mask_turn, mask_all, no_kinds, more_kinds}
 use Rattle.world.proofs.mask.staged_mask.Invariants.{at}
 use Rattle.world.proofs.mask.staged_mask.Goals as goal
 
-pub staged_len-n-requires : goal.staged_len-n-requires
-staged_len-n-requires c = c.requires.staged.arranged
-
 pub loop-i-init : goal.loop-i-init
 loop-i-init c =
     let a = c.args in
     let w = a.words.now in
     (zero-le, c.staged_len-n.ensures.is, mask_none (at w a.walk) (no_kinds a.walk (meaning w).storage.layout) (more_kinds a.walk (meaning w).storage.layout (groups_few w c.requires.staged.arranged)) (staged_kinds (meaning w)) c.empty-mask.result.0 c.empty-mask.ensures)
-
-pub mask_at-more-requires : goal.mask_at-more-requires
-mask_at-more-requires c = record { staged = c.requires.staged; shape_is = c.requires.shape_is; i_in_bounds = subst (λ (m : ℕ). c.loop-i.i < m) c.loop-i.invariant.1 c.loop-i-test.true }
-
-pub overflow_add-i : goal.overflow_add-i
-overflow_add-i c = next_fits _ _ c.loop-i-test.true (lt_of_le_of_lt c.staged_len-n.ensures.few (lit< tt))
-
-pub loop-i-smaller : goal.loop-i-smaller
-loop-i-smaller c = falls _ _ c.loop-i-test.true
 
 pub loop-i-preserved : goal.loop-i-preserved
 loop-i-preserved c =

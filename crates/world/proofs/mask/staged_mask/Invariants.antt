@@ -1,6 +1,6 @@
 use mathlib.Core.Path.{◌≡◌}
 use mathlib.Core.List.{List}
-use Prim.Native.Nat.{ℕ, ◌≤◌, ◌-◌}
+use Prim.Native.Nat.{ℕ, ◌≤◌}
 use lib.ListN.{length, take}
 use Rattle.model.specs.Store.{staged_kinds}
 use Rattle.masks.specs.Masks.{bits_of}
@@ -14,6 +14,3 @@ at w walk ks = walk_positions walk ks (meaning w).storage.layout
 
 abbrev pub invariant-loop-i : goal.invariant-loop-i
 invariant-loop-i l = (l.i ≤ l.n) × (l.n ≡ length (meaning l.words).control.staged) × (bits_of 64 l.mask.0 ≡ at l.words l.walk (take l.i (staged_kinds (meaning l.words))))
-
-abbrev pub decreases-loop-i : goal.decreases-loop-i
-decreases-loop-i l = l.n - l.i
