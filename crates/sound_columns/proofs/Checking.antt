@@ -2,6 +2,7 @@
 use mathlib.Core.Path.{◌≡◌, sym, subst, ◌∙◌}
 use mathlib.Core.Bool.{true}
 use mathlib.Core.List.{List}
+use mathlib.Core.Logic.{◌↔◌}
 use Prim.Native.Nat.{ℕ, ◌+◌, ◌≤◌}
 use native.Mathlib.Omega.{arith}
 use lib.ListN.{get_or}
@@ -37,6 +38,10 @@ module _ (z : Shape) (e w : List ℕ) where
   pub set_held : LiveSet z e w → filled z.capacity (held_of z w) ≡ length_of w
   set_held s = linked_held z.capacity (length_of w) (index_at w) (version_at w) (place_of z w) (held_of z w) s.sound.linked
 
+  -- where all rows are in order, a count m of the held lookups decides
+  pub live_counted : (m : ℕ) → m ≡ filled z.capacity (held_of z w) → ColumnSized z w → length_of w ≤ z.capacity → Each (length_of w) (RowOk z e w) → (m ≡ length_of w) ↔ LiveSet z e w
+  live_counted m q l r o = (λ p. live_set l r o (sym q ∙ p), λ s. q ∙ set_held s)
+
 -- slot s's column, which starts at b
 module _ (z : Shape) (reg s b l : ℕ) (w : List ℕ) (q : b ≡ column_start z s) (m : l ≡ column_len z) where
   abbrev Alive : Entity → Type 0
@@ -66,3 +71,7 @@ module _ (z : Shape) (reg s b l : ℕ) (w : List ℕ) (q : b ≡ column_start z 
 
   pub column_vacant : ColumnOk z reg w s → reg ≤ s → get_or w b 0 ≡ 0
   column_vacant C h = length_read z s b w q ∙ C.vacant h
+
+  -- where a slot that no kind has is empty, the rest is the column's soundness
+  pub column_live : (reg ≤ s → get_or w b 0 ≡ 0) → LiveAt ↔ ColumnOk z reg w s
+  column_live v = (λ P. column_of_law P v, column_set)

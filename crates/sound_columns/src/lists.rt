@@ -12,12 +12,9 @@ pub fn is_list(words: &[u32], at: usize, len: usize) -> bool
     requires { (at + LIST_CAPACITY ≤ length words.now) × (STAGED_KINDS ≤ length words.now) }
     ensures { Decides result (ListOk words.now at len) }
 {
-    if model::LIST_CAPACITY < len {
-        return false;
-    }
-    let end = at + len;
-    if !kinds_ok(&words[at..end], &words[words::TABLE..words::STAGED_KINDS]) {
-        return false;
-    }
-    true
+    len <= model::LIST_CAPACITY
+        && kinds_ok(
+            &words[at..at + len],
+            &words[words::TABLE..words::STAGED_KINDS],
+        )
 }

@@ -4,6 +4,7 @@ ghost use Rattle.entity.specs.Change.{SoundIn};
 ghost use Rattle.sound_columns.specs.Slots.{Slot, Room};
 ghost use Rattle.sound_columns.specs.Rows.{ColumnOk};
 
+use crate::sparse_set::is_sound;
 use words::Shape;
 
 // A slot that no kind has is empty.
@@ -15,16 +16,9 @@ fn column_ok(words: &[u32], z: Shape, registered: usize, s: usize) -> bool
     let base = words::column_start(z, s);
     let end = base + words::column_len(z);
     let entities = words::ENTITIES + model::ENTITY_LEN * z.capacity;
-    if !crate::sparse_set::is_sound(&words[base..end], &words[words::ENTITIES..entities], z) {
-        return false;
-    }
-    if s < registered {
-        return true;
-    }
-    if 0 < words[base] {
-        return false;
-    }
-    true
+    let rows = words[base];
+    (s < registered || rows == 0)
+        && is_sound(&words[base..end], &words[words::ENTITIES..entities], z)
 }
 
 // Are all k columns so?
@@ -33,12 +27,5 @@ pub fn are_columns(words: &[u32], z: Shape, k: usize, registered: usize) -> bool
     requires sound_in { SoundIn z.capacity words.now }
     ensures { Decides result (Each k (ColumnOk z registered words.now)) }
 {
-    let mut s = 0;
-    while s < k {
-        if !column_ok(words, z, registered, s) {
-            return false;
-        }
-        s += 1;
-    }
-    true
+    (0..k).all(|s| column_ok(words, z, registered, s))
 }

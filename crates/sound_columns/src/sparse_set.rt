@@ -12,25 +12,16 @@ fn row_tied(part: &[u32], z: Shape, i: usize) -> bool
     requires { ColumnSized z part.now × (i < z.capacity) }
     ensures { Decides result (RowTied z part.now i) }
 {
-    let c = words::entity_place(i);
-    let x = part[c] as usize;
-    if z.capacity <= x {
+    let at = words::entity_place(i);
+    let index = part[at] as usize;
+    if z.capacity <= index {
         return false;
     }
-    let v = part[c + 1];
-    if v < 1 {
-        return false;
-    }
-    let s = words::lookup_place(z, x);
-    let p = part[s] as usize;
-    if p != i {
-        return false;
-    }
-    let h = part[s + 1];
-    if h != v {
-        return false;
-    }
-    true
+    let version = part[at + 1];
+    let lookup = words::lookup_place(z, index);
+    let place = part[lookup] as usize;
+    let held = part[lookup + 1];
+    1 <= version && place == i && held == version
 }
 
 // Do row i and its index's lookup agree, and is its entity live?
@@ -39,18 +30,12 @@ fn row_ok(part: &[u32], entities: &[u32], z: Shape, i: usize) -> bool
     requires entity_part_sound { EntityPartSound z.capacity entities.now }
     ensures { Decides result (RowOk z entities.now part.now i) }
 {
-    if !row_tied(part, z, i) {
-        return false;
-    }
-    let c = words::entity_place(i);
+    let at = words::entity_place(i);
     let e = Entity {
-        index: part[c],
-        version: part[c + 1],
+        index: part[at],
+        version: part[at + 1],
     };
-    if !contains(entities, z.capacity, e) {
-        return false;
-    }
-    true
+    row_tied(part, z, i) && contains(entities, z.capacity, e)
 }
 
 fn rows_ok(part: &[u32], entities: &[u32], z: Shape, k: usize) -> bool
@@ -58,14 +43,7 @@ fn rows_ok(part: &[u32], entities: &[u32], z: Shape, k: usize) -> bool
     requires entity_part_sound { EntityPartSound z.capacity entities.now }
     ensures { Decides result (Each k (RowOk z entities.now part.now)) }
 {
-    let mut i = 0;
-    while i < k {
-        if !row_ok(part, entities, z, i) {
-            return false;
-        }
-        i += 1;
-    }
-    true
+    (0..k).all(|i| row_ok(part, entities, z, i))
 }
 
 // Whether a part is a sound sparse set of entities that are live, by the entity part. Where all rows agree with their lookups, no other index is held
@@ -76,16 +54,8 @@ pub fn is_sound(part: &[u32], entities: &[u32], z: Shape) -> bool
     ensures { Decides result (LiveSet z entities.now part.now) }
 {
     let k = part[words::ROWS_LEN] as usize;
-    if z.capacity < k {
-        return false;
-    }
-    if !rows_ok(part, entities, z, k) {
-        return false;
-    }
     let lookups = words::lookup_place(z, 0);
-    let held = words::count_held(part, lookups, z.capacity) as usize;
-    if held != k {
-        return false;
-    }
-    true
+    k <= z.capacity
+        && rows_ok(part, entities, z, k)
+        && words::count_held(part, lookups, z.capacity) as usize == k
 }

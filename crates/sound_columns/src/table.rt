@@ -25,16 +25,8 @@ fn kind_ok(words: &[u32], z: Shape, registered: usize, kind: usize) -> bool
     ensures { Decides result (KindOk z registered words.now kind) }
 {
     let s = words[words::TABLE + kind] as usize;
-    if s == words::UNREGISTERED as usize {
-        return true;
-    }
-    if registered <= s {
-        return false;
-    }
-    if head(words, z, s, words::COLUMN_KIND) != kind {
-        return false;
-    }
-    true
+    s == words::UNREGISTERED as usize
+        || (s < registered && head(words, z, s, words::COLUMN_KIND) == kind)
 }
 
 // A slot in use says a kind, and the table says the slot.
@@ -43,42 +35,21 @@ fn slot_ok(words: &[u32], z: Shape, s: usize) -> bool
     ensures { Decides result (SlotOk z words.now s) }
 {
     let kind = head(words, z, s, words::COLUMN_KIND);
-    if model::MAX_KINDS <= kind {
-        return false;
-    }
-    let back = words[words::TABLE + kind] as usize;
-    if back != s {
-        return false;
-    }
-    true
+    kind < model::MAX_KINDS && words[words::TABLE + kind] as usize == s
 }
 
 fn kinds_ok(words: &[u32], z: Shape, registered: usize) -> bool
     requires { Room z registered words.now }
     ensures { Decides result (Each MAX_KINDS (KindOk z registered words.now)) }
 {
-    let mut kind = 0;
-    while kind < model::MAX_KINDS {
-        if !kind_ok(words, z, registered, kind) {
-            return false;
-        }
-        kind += 1;
-    }
-    true
+    (0..model::MAX_KINDS).all(|kind| kind_ok(words, z, registered, kind))
 }
 
 fn slots_ok(words: &[u32], z: Shape, registered: usize) -> bool
     requires { Room z registered words.now }
     ensures { Decides result (Each registered (SlotOk z words.now)) }
 {
-    let mut s = 0;
-    while s < registered {
-        if !slot_ok(words, z, s) {
-            return false;
-        }
-        s += 1;
-    }
-    true
+    (0..registered).all(|s| slot_ok(words, z, s))
 }
 
 // Are at most k kinds registered, each with a column of its own?
@@ -87,14 +58,5 @@ pub fn is_table(words: &[u32], z: Shape, k: usize) -> bool
     ensures { Decides result (TableOk z k words.now) }
 {
     let registered = words[words::REGISTERED] as usize;
-    if k < registered {
-        return false;
-    }
-    if !kinds_ok(words, z, registered) {
-        return false;
-    }
-    if !slots_ok(words, z, registered) {
-        return false;
-    }
-    true
+    registered <= k && kinds_ok(words, z, registered) && slots_ok(words, z, registered)
 }

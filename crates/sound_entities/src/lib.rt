@@ -96,8 +96,7 @@ fn indexes_ok(part: &[u32], n: usize) -> bool
     ensures { Decides result (IndexesOk n part.now) }
 {
     let live = words::count_held(part, words::LIVE_LIST + 2 * n, n);
-    let waiting = count_waiting(part, n);
-    live == part[words::LIVE_LEN] && waiting == part[words::RECYCLED_LEN]
+    live == part[words::LIVE_LEN] && count_waiting(part, n) == part[words::RECYCLED_LEN]
 }
 
 // Whether a part is a sound entity part of capacity n.

@@ -1,23 +1,16 @@
-use native.Mathlib.Omega.{arith}
-use Rattle.words.proofs.Passes.{starts, stops_each, goes, ends_each}
+use borrow.Author.Rules.{rules}
+use borrow.Author.Tests.{tests}
+use Rattle.std.proofs.lemmas.Iterator.{serves_from_Range}
+use Rattle.words.proofs.Asked.{each_from_all}
 use Rattle.sound_columns.proofs.SlotLaws.{slot_of_law}
-use Rattle.std.proofs.lemmas.Bool.{not_from_false, not_from_true}
+use Rattle.sound_columns.specs.Slots.{Slot}
+use Rattle.sound_columns.specs.Rows.{ColumnOk}
 use Rattle.sound_columns.proofs.slots.are_columns.Goals as goal
 
-pub loop-s-init : goal.loop-s-init
-loop-s-init c = starts _
-
-pub column_ok-requires : goal.column_ok-requires
-column_ok-requires c =
+pub all-requires-clause-callable : goal.all-requires-clause-callable
+all-requires-clause-callable c =
     let a = c.args in
-    let l = c.loop-s in
-    record { slot = slot_of_law a.z a.k a.words.now c.requires.room l.s (omega arith); sound_in = c.requires.sound_in }
-
-pub returns-then-not-column_ok : goal.returns-then-not-column_ok
-returns-then-not-column_ok c = stops_each c.loop-s.invariant c.loop-s-test.true c.column_ok.result c.column_ok.ensures (not_from_false _ c.if-not-column_ok.true)
-
-pub loop-s-preserved : goal.loop-s-preserved
-loop-s-preserved c = goes c.loop-s.invariant c.column_ok.result c.column_ok.ensures (not_from_true _ c.if-not-column_ok.false)
+    serves_from_Range (λ x q k. search rules) (λ x from below. let slot : Slot a.z x a.words.now = slot_of_law a.z a.k a.words.now c.requires.room x below in search rules)
 
 pub returns : goal.returns
-returns c = ends_each c.loop-s.invariant c.loop-s-test.false
+returns c = let a = c.args in each_from_all (ColumnOk a.z a.registered a.words.now) _ _ _ c.all.result c.all.ensures.ran (cc) (λ x q k. search (rules, tests)) (λ x q k. search (rules, tests))

@@ -1,42 +1,23 @@
+use mathlib.Core.Logic.{inl, inr}
 use native.Mathlib.Omega.{arith}
-use Rattle.words.proofs.Decides.{granted, denied}
-use Rattle.sound_columns.proofs.Checking.{LiveAt, column_of_law, column_set, column_vacant}
-use Rattle.std.proofs.lemmas.Bool.{not_from_false, not_from_true}
+use borrow.Author.Rules.{rules}
+use borrow.Author.Tests.{tests}
+use Rattle.words.proofs.Decides.{decides_on}
+use Rattle.sound_columns.specs.Rows.{ColumnOk}
+use Rattle.sound_columns.proofs.Checking.{column_live, column_vacant}
 use Rattle.sound_columns.proofs.slots.column_ok.Goals as goal
 
-pub returns-then-not-is_sound : goal.returns-then-not-is_sound
-returns-then-not-is_sound c =
+pub returns-then-rows-eq0 : goal.returns-then-rows-eq0
+returns-then-rows-eq0 c =
     let a = c.args in
     let b = c.column_start-base in
     let m = c.column_len in
-    let r = c.is_sound in
-    λ C.
-    denied {P = LiveAt a.z a.registered a.s b.result m.result a.words.now b.ensures.is m.ensures.is} r.result r.ensures (not_from_false _ c.if-not-is_sound.true)
-    (column_set a.z a.registered a.s b.result m.result a.words.now b.ensures.is m.ensures.is C)
+    decides_on _ (column_live a.z a.registered a.s b.result m.result a.words.now b.ensures.is m.ensures.is (λ h. elim c.if-rows-eq0.either [ inl l ↦ absurd (omega arith) | inr r ↦ r.1 ])) c.is_sound.ensures
 
-pub returns-then-s-registered : goal.returns-then-s-registered
-returns-then-s-registered c =
+pub returns-else-rows-eq0 : goal.returns-else-rows-eq0
+returns-else-rows-eq0 c =
     let a = c.args in
     let b = c.column_start-base in
     let m = c.column_len in
-    let r = c.is_sound in
-    column_of_law a.z a.registered a.s b.result m.result a.words.now b.ensures.is m.ensures.is
-    (granted {P = LiveAt a.z a.registered a.s b.result m.result a.words.now b.ensures.is m.ensures.is} r.result r.ensures (not_from_true _ c.if-not-is_sound.false))
-    (λ h. absurd (omega (arith, c.if-s-registered.true)))
-
-pub returns-then-words-base-gt0 : goal.returns-then-words-base-gt0
-returns-then-words-base-gt0 c =
-    let a = c.args in
-    let b = c.column_start-base in
-    let m = c.column_len in
-    λ C. omega (arith, c.if-words-base-gt0.true, column_vacant a.z a.registered a.s b.result m.result a.words.now b.ensures.is m.ensures.is C c.if-s-registered.false)
-
-pub returns : goal.returns
-returns c =
-    let a = c.args in
-    let b = c.column_start-base in
-    let m = c.column_len in
-    let r = c.is_sound in
-    column_of_law a.z a.registered a.s b.result m.result a.words.now b.ensures.is m.ensures.is
-    (granted {P = LiveAt a.z a.registered a.s b.result m.result a.words.now b.ensures.is m.ensures.is} r.result r.ensures (not_from_true _ c.if-not-is_sound.false))
-    (λ h. omega (arith, c.if-words-base-gt0.false))
+    let no : ColumnOk a.z a.registered a.words.now a.s → ⊥ = λ C. c.if-rows-eq0.false.1 (column_vacant a.z a.registered a.s b.result m.result a.words.now b.ensures.is m.ensures.is C c.if-rows-eq0.false.0) in
+    search (rules, tests)
