@@ -10,6 +10,7 @@ use native.Mathlib.Omega.{arith}
 use borrow.Author.Tests.{eq-eqb, ne_eqb, lt-ltb, le-ltb}
 use lib.Dec.{eqb, ltb}
 use lib.ListN.{length, get_or, take, length-append}
+use Rattle.std.specs.Prelude.{Option, Some, None}
 use Rattle.model.specs.Model.{Storage, mem, within}
 use Rattle.model.proofs.KindLists.{mem_append, all_in, mem_take_le, in_one}
 use Rattle.model.proofs.BoolLaws.{or_cases, not_true, by-eq}
@@ -23,16 +24,12 @@ use Rattle.layout.proofs.Arrays.{groups_inside, family_kinds, family_rising, ari
 use Rattle.group_info.specs.Info.{places_of, info_of, KindInfo, Joined, Both, BothAdded, ViewAdded, GroupsInside, InsideFound}
 use Rattle.group_info.specs.Describes.{Placed, GroupedKinds, Ungrouped, InfoOfKind, ViewOf, DescribesQuery, Scattered, InfoOfKinds}
 use Rattle.group_info.specs.declared.GroupInfo.{GroupInfo}
-use Rattle.group_info.specs.declared.FoundInfo.{FoundInfo}
 use Rattle.group_info.specs.declared.ViewGroupInfo.{ViewGroupInfo}
 use Rattle.group_info.specs.declared.QueryGroupInfo.{QueryGroupInfo}
-use Rattle.group_info.specs.declared.FoundQuery.{FoundQuery}
 use Rattle.group_info.proofs.Places.{place_of, place_at, mem_part}
 use Rattle.group_info.proofs.Families.{elsewhere}
 use Rattle.group_info.proofs.Ranges.{same_family, in_kinds_law, few_kinds, arity_of_law}
-use Rattle.group_info.specs.declared.FoundInfo.TheVariants as info
 use Rattle.group_info.specs.declared.QueryGroupInfo.TheVariants as query
-use Rattle.group_info.specs.declared.FoundQuery.TheVariants as added
 
 module _ (a : Arrays) (good : WellFormed a) (sized : ArraysSized a) where
   -- ---- one kind
@@ -146,9 +143,9 @@ module _ (a : Arrays) (good : WellFormed a) (sized : ArraysSized a) where
   outside hs js f k m n = not_true (within (hs ++ js) (kinds_at a f)) (λ t. true≢false (sym (all_in (λ z. mem z (kinds_at a f)) (hs ++ js) t k m) ∙ n))
 
   -- what a query's info says of its kinds, where it has one kind or more
-  abbrev Holds : List ℕ → FoundInfo → Type 0
-  Holds hs (info.Info i) = GroupedKinds a hs i
-  Holds hs info.Nothing = (k : ℕ) × (mem k hs ≡ true) × Ungrouped a k
+  abbrev Holds : List ℕ → Option GroupInfo → Type 0
+  Holds hs (Some i) = GroupedKinds a hs i
+  Holds hs None = (k : ℕ) × (mem k hs ≡ true) × Ungrouped a k
 
   left_in : (k : ℕ) (hs js : List ℕ) → mem k hs ≡ true → mem k (hs ++ js) ≡ true
   left_in k hs js m = mem_append k hs js ∙ rw m
@@ -156,11 +153,11 @@ module _ (a : Arrays) (good : WellFormed a) (sized : ArraysSized a) where
   right_in : (k : ℕ) (hs js : List ℕ) → mem k js ≡ true → mem k (hs ++ js) ≡ true
   right_in k hs js m = mem_append k hs js ∙ rw m (or-true (mem k hs))
 
-  both_scatter : (hs js : List ℕ) (p q : FoundInfo) → 2 ≤ length (hs ++ js) → Holds hs p → Holds js q
-      → ((i j : GroupInfo) → p ≡ info.Info i → q ≡ info.Info j → i.group_start ≢ j.group_start) → Scattered a (hs ++ js)
-  both_scatter hs js info.Nothing q l x y n = record { many = l; nowhere = λ f h. outside hs js f x.0 (left_in x.0 hs js x.1) (x.2 f h) }
-  both_scatter hs js (info.Info i) info.Nothing l x y n = record { many = l; nowhere = λ f h. outside hs js f y.0 (right_in y.0 hs js y.1) (y.2 f h) }
-  both_scatter hs js (info.Info i) (info.Info j) l x y n =
+  both_scatter : (hs js : List ℕ) (p q : Option GroupInfo) → 2 ≤ length (hs ++ js) → Holds hs p → Holds js q
+      → ((i j : GroupInfo) → p ≡ Some i → q ≡ Some j → i.group_start ≢ j.group_start) → Scattered a (hs ++ js)
+  both_scatter hs js None q l x y n = record { many = l; nowhere = λ f h. outside hs js f x.0 (left_in x.0 hs js x.1) (x.2 f h) }
+  both_scatter hs js (Some i) None l x y n = record { many = l; nowhere = λ f h. outside hs js f y.0 (right_in y.0 hs js y.1) (y.2 f h) }
+  both_scatter hs js (Some i) (Some j) l x y n =
       record {
         many = l;
         nowhere = λ f h. by-eq f x.family
@@ -170,35 +167,35 @@ module _ (a : Arrays) (good : WellFormed a) (sized : ArraysSized a) where
             (λ d. outside hs js f x.kinds.top (left_in x.kinds.top hs js x.kinds.top_in) (elsewhere a good x.kinds.top x.family f x.kinds.inside h d (in_kinds_law a good sized x.family hs i x.kinds x.kinds.top x.kinds.top_in)));
       }
 
-  both_join : (hs js : List ℕ) (p q : FoundInfo) (r : GroupInfo) → Holds hs p → Holds js q → Both p q r → GroupedKinds a (hs ++ js) r
+  both_join : (hs js : List ℕ) (p q : Option GroupInfo) (r : GroupInfo) → Holds hs p → Holds js q → Both p q r → GroupedKinds a (hs ++ js) r
   both_join hs js p q r x y w =
       let x' : GroupedKinds a hs w.left = subst (Holds hs) w.is_left x in
       let y' : GroupedKinds a js w.right = subst (Holds js) w.is_right y in
       let same : y'.family ≡ x'.family = same_family a good sized y'.family x'.family y'.kinds.inside x'.kinds.inside (sym y'.kinds.first ∙ sym w.joined.same ∙ x'.kinds.first) in
       record { family = x'.family; kinds = joined_kinds x'.family hs js w.left w.right r x'.kinds (subst (λ (f : ℕ). InfoOfKinds a f js w.right) same y'.kinds) w.joined }
 
-  of_view : (k : ℕ) (x : FoundInfo) → InfoOfKind a k x → Holds (k ∷ []) x
-  of_view k (info.Info i) g = g
-  of_view k info.Nothing u = (k, rw (eq-eqb k k refl), u)
+  of_view : (k : ℕ) (x : Option GroupInfo) → InfoOfKind a k x → Holds (k ∷ []) x
+  of_view k (Some i) g = g
+  of_view k None u = (k, rw (eq-eqb k k refl), u)
 
   module _ (s : Storage) where
     -- what became of the query
-    abbrev Next : List ℕ → FoundQuery → Type 0
-    Next hs (added.Query q) = DescribesQuery a s hs q
-    Next hs added.Nothing = Scattered a hs
+    abbrev Next : List ℕ → Option QueryGroupInfo → Type 0
+    Next hs (Some q) = DescribesQuery a s hs q
+    Next hs None = Scattered a hs
 
-    next_both : (hs : List ℕ) (k : ℕ) (p q : FoundInfo) (r : FoundQuery) → 1 ≤ length hs → Holds hs p → Holds (k ∷ []) q → BothAdded p q r → Next (hs ++ (k ∷ [])) r
-    next_both hs k p q (added.Query query.Empty) l x y w = absurd w
-    next_both hs k p q (added.Query (query.One v)) l x y w = absurd w
-    next_both hs k p q (added.Query (query.Many i)) l x y w = record { many = omega (arith, length-append hs (k ∷ [])); grouped = both_join hs (k ∷ []) p q i x y w }
-    next_both hs k p q added.Nothing l x y w = both_scatter hs (k ∷ []) p q (omega (arith, length-append hs (k ∷ []))) x y w
+    next_both : (hs : List ℕ) (k : ℕ) (p q : Option GroupInfo) (r : Option QueryGroupInfo) → 1 ≤ length hs → Holds hs p → Holds (k ∷ []) q → BothAdded p q r → Next (hs ++ (k ∷ [])) r
+    next_both hs k p q (Some query.Empty) l x y w = absurd w
+    next_both hs k p q (Some (query.One v)) l x y w = absurd w
+    next_both hs k p q (Some (query.Many i)) l x y w = record { many = omega (arith, length-append hs (k ∷ [])); grouped = both_join hs (k ∷ []) p q i x y w }
+    next_both hs k p q None l x y w = both_scatter hs (k ∷ []) p q (omega (arith, length-append hs (k ∷ []))) x y w
 
-    pub describes_more : (hs : List ℕ) (k : ℕ) (q : QueryGroupInfo) (v : ViewGroupInfo) (r : FoundQuery) → DescribesQuery a s hs q → ViewOf a s k v → ViewAdded q v r → Next (hs ++ (k ∷ [])) r
+    pub describes_more : (hs : List ℕ) (k : ℕ) (q : QueryGroupInfo) (v : ViewGroupInfo) (r : Option QueryGroupInfo) → DescribesQuery a s hs q → ViewOf a s k v → ViewAdded q v r → Next (hs ++ (k ∷ [])) r
     describes_more hs k query.Empty v r d x w =
         subst (Next (hs ++ (k ∷ []))) (sym w) (record { kind = k; alone = ap (λ (l : List ℕ). l ++ (k ∷ [])) d; view = x })
     describes_more hs k (query.One u) v r d x w =
         next_both hs k u.info v.info r (omega (arith, ap length d.alone)) (subst (λ (l : List ℕ). Holds l u.info) (sym d.alone) (of_view d.kind u.info d.view.grouping)) (of_view k v.info x.grouping) w
-    describes_more hs k (query.Many i) v r d x w = next_both hs k (info.Info i) v.info r (omega (arith, d.many)) d.grouped (of_view k v.info x.grouping) w
+    describes_more hs k (query.Many i) v r d x w = next_both hs k (Some i) v.info r (omega (arith, d.many)) d.grouped (of_view k v.info x.grouping) w
 
     -- ---- its groups stand in the arrays
 
@@ -226,9 +223,9 @@ module _ (a : Arrays) (good : WellFormed a) (sized : ArraysSized a) where
             let e : start_of a.ends f + (g - start_of a.ends f) ≡ g = omega (arith, x.first) in
             ap (λ (m : ℕ). get_or a.arities m 0) (sym e) ∙ arity_of_law a good sized f (g - start_of a.ends f) x.inside (local g l h)
 
-    inside_kind : (k : ℕ) (x : FoundInfo) → InfoOfKind a k x → InsideFound a.arities x
-    inside_kind k (info.Info i) g = inside g.family (k ∷ []) i g.kinds
-    inside_kind k info.Nothing u = tt
+    inside_kind : (k : ℕ) (x : Option GroupInfo) → InfoOfKind a k x → InsideFound a.arities x
+    inside_kind k (Some i) g = inside g.family (k ∷ []) i g.kinds
+    inside_kind k None u = tt
 
     -- what `group_range` asks of a query that describes kinds
     pub describes_inside : (hs : List ℕ) (q : QueryGroupInfo) → DescribesQuery a s hs q → InsideFound a.arities (info_of q)

@@ -7,6 +7,7 @@ use native.Mathlib.Nat.{sub-zero}
 use native.Mathlib.Decide.{dec_lt}
 use native.Mathlib.Omega.{arith}
 use lib.ListN.{length, get_or, take, drop}
+use Rattle.std.specs.Prelude.{Option, Some, None}
 use Rattle.model.specs.Numbers.{MAX_GROUP_ARITY}
 use Rattle.model.specs.Model.{Family, none, found, mem, same_set, kinds_of, range_at, range_in, range_all}
 use Rattle.model.proofs.KindLists.{mem_take, mem_take_le, not_in_take, same_to, same_from}
@@ -26,7 +27,6 @@ use Rattle.group_info.specs.declared.GroupRange.{GroupRange}
 use Rattle.group_info.proofs.Places.{place_of, mem_part, places_of_part, part_of_places}
 use Rattle.group_info.proofs.Families.{lacks_staged, lacks_excluded, all_none, only_one, elsewhere, next_kind, at_group, empty_none, next_new_kinds, no_next}
 use Rattle.layout.proofs.Groups as groups
-use Rattle.group_info.specs.declared.GroupRange.TheVariants as ranged
 
 -- ---- one family: which group its own is
 
@@ -191,11 +191,11 @@ module _ (a : Arrays) (good : WellFormed a) (sized : ArraysSized a) where
       last_arity : get_or a.arities (i.group_end - 1) 0 ≡ get_or (arities_at a f) x.own 0
       last_arity = ap (λ (j : ℕ). get_or a.arities j 0) last_group ∙ arity_of_law f x.own x.inside x.group
 
-      pub include_range : (r : GroupRange) → IncludeSays a.arities counts i r → range_of r ≡ range_all hs [] fs
-      include_range (ranged.Found p q) w =
+      pub include_range : (r : Option GroupRange) → IncludeSays a.arities counts i r → range_of r ≡ range_all hs [] fs
+      include_range (Some r) w =
           let e = places_group f hs i x x.own x.group (w.places ∙ ap (up_from 0) last_arity) in
           ap₂ found w.from (w.to ∙ ap (λ (j : ℕ). get_or counts j 0) last_group) ∙ sym (family_range f hs [] i x ∙ rw e)
-      include_range ranged.Nothing w =
+      include_range None w =
           let e = not_true (same_set hs (take (get_or (arities_at a f) x.own 0) (kinds_at a f))) (λ t. w (group_places f hs i x x.own x.group t ∙ ap (up_from 0) (sym last_arity))) in
           sym (family_range f hs [] i x ∙ rw e)
 
@@ -262,11 +262,11 @@ module _ (a : Arrays) (good : WellFormed a) (sized : ArraysSized a) where
                   by-eq h f (λ q. q)
                   (λ ne. absurd (true≢false (sym (in_kinds_law h (b ∷ bs) e y y.top y.top_in) ∙ elsewhere a good y.top f h x.inside y.inside ne m)))
 
-      pub exclude_range : (r : GroupRange) → ExcludeSays a.arities counts i e r → range_of r ≡ range_all hs (b ∷ bs) fs
-      exclude_range (ranged.Found p q) w =
+      pub exclude_range : (r : Option GroupRange) → ExcludeSays a.arities counts i e r → range_of r ≡ range_all hs (b ∷ bs) fs
+      exclude_range (Some r) w =
           let same : h ≡ f = same_family h f y.inside x.inside (sym y.first ∙ sym w.next.same ∙ x.first) in
-          next_found (subst (λ (z : ℕ). InfoOfKinds a z (b ∷ bs) e) same y) p q w
-      exclude_range ranged.Nothing w =
+          next_found (subst (λ (z : ℕ). InfoOfKinds a z (b ∷ bs) e) same y) r.start r.end w
+      exclude_range None w =
           sym (family_range f hs (b ∷ bs) i x
           ∙ bool_cases (same_set hs (take (get_or (arities_at a f) x.own 0) (kinds_at a f)))
           (λ t. rw t (elim (dec_lt (suc x.own) (length (arities_at a f))) [

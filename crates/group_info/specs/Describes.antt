@@ -1,17 +1,14 @@
 -- What a query info says of a list of kinds, over a well-formed layout, and that the range found is the model's RANGE. Assumes nothing.
-use Rattle.std.specs.Prelude.{◌≡◌, true, false, ◌&&◌, List, [], ◌∷◌, ℕ, ◌+◌, ◌≤◌, ◌<◌, ltb, length, get_or, take}
+use Rattle.std.specs.Prelude.{◌≡◌, true, false, ◌&&◌, List, [], ◌∷◌, ℕ, ◌+◌, ◌≤◌, ◌<◌, ltb, length, get_or, take, Option, Some, None}
 use Rattle.model.specs.Model.{Storage, Range, none, found, mem, within, set_of, range_for}
 use Rattle.masks.specs.Masks.{has}
 use Rattle.layout.specs.Layout.{Arrays, start_of, kinds_at, arities_at, families_of, WellFormed}
 use Rattle.layout.specs.ByValue.{ArraysSized}
 use Rattle.group_info.specs.declared.GroupInfo.{GroupInfo}
-use Rattle.group_info.specs.declared.FoundInfo.{FoundInfo}
-use Rattle.group_info.specs.declared.FoundInfo.TheVariants as info
 use Rattle.group_info.specs.declared.ViewGroupInfo.{ViewGroupInfo}
 use Rattle.group_info.specs.declared.QueryGroupInfo.{QueryGroupInfo}
 use Rattle.group_info.specs.declared.QueryGroupInfo.TheVariants as query
 use Rattle.group_info.specs.declared.GroupRange.{GroupRange}
-use Rattle.group_info.specs.declared.GroupRange.TheVariants as ranged
 use Rattle.group_info.specs.Info.{places_of}
 
 -- kind k is at a place of family f, among the new kinds of the family's group number own
@@ -43,9 +40,9 @@ pub record GroupedKinds (a : Arrays) (hs : List ℕ) (i : GroupInfo) : Type 0 wh
 abbrev pub Ungrouped : Arrays → ℕ → Type 0
 Ungrouped a k = (f : ℕ) → f < a.families → mem k (kinds_at a f) ≡ false
 
-abbrev pub InfoOfKind : Arrays → ℕ → FoundInfo → Type 0
-InfoOfKind a k (info.Info i) = GroupedKinds a (k ∷ []) i
-InfoOfKind a k info.Nothing = Ungrouped a k
+abbrev pub InfoOfKind : Arrays → ℕ → Option GroupInfo → Type 0
+InfoOfKind a k (Some i) = GroupedKinds a (k ∷ []) i
+InfoOfKind a k None = Ungrouped a k
 
 -- the view of a kind: the length of its sparse set, and its group info
 pub record ViewOf (a : Arrays) (s : Storage) (k : ℕ) (v : ViewGroupInfo) : Type 0 where
@@ -72,9 +69,9 @@ pub record Scattered (a : Arrays) (hs : List ℕ) : Type 0 where
   pub nowhere : (f : ℕ) → f < a.families → within hs (kinds_at a f) ≡ false
 
 -- the model's range for the answer (01: 1 byte found, start, end; zeros if none)
-abbrev pub range_of : GroupRange → Range
-range_of (ranged.Found a b) = found a b
-range_of ranged.Nothing = none
+abbrev pub range_of : Option GroupRange → Range
+range_of (Some r) = found r.start r.end
+range_of None = none
 
 -- a layout in force with its arities and counts, and queries that describe hand and bar
 pub record RangeQuery (ars counts : List ℕ) (include exclude : QueryGroupInfo) : Type 0 where
@@ -89,5 +86,5 @@ pub record RangeQuery (ars counts : List ℕ) (include exclude : QueryGroupInfo)
   pub included : DescribesQuery arrays storage staged include
   pub excludes : DescribesQuery arrays storage excluded exclude
 
-abbrev pub RangeSays : List ℕ → List ℕ → QueryGroupInfo → QueryGroupInfo → GroupRange → Type 0
+abbrev pub RangeSays : List ℕ → List ℕ → QueryGroupInfo → QueryGroupInfo → Option GroupRange → Type 0
 RangeSays ars counts include exclude r = (q : RangeQuery ars counts include exclude) → range_of r ≡ range_for q.staged q.excluded q.storage

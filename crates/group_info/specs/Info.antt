@@ -1,18 +1,13 @@
 -- What the functions on group infos do, by their numbers and the positions of their masks. Assumes nothing.
-use Rattle.std.specs.Prelude.{◌≡◌, ◌≢◌, List, [], ◌∷◌, ℕ, ◌+◌, ◌-◌, ◌≤◌, ◌<◌, max, length, get_or}
+use Rattle.std.specs.Prelude.{◌≡◌, ◌≢◌, List, [], ◌∷◌, ℕ, ◌+◌, ◌-◌, ◌≤◌, ◌<◌, max, length, get_or, Option, Some, None}
 use Rattle.model.specs.Numbers.{MAX_GROUP_ARITY, MAX_GROUP_COUNT}
 use Rattle.words.specs.Offsets.{GROUP_PLACES}
 use Rattle.masks.specs.Masks.{bits_of, up_from, union_of}
 use Rattle.group_info.specs.declared.GroupInfo.{GroupInfo}
-use Rattle.group_info.specs.declared.FoundInfo.{FoundInfo}
-use Rattle.group_info.specs.declared.FoundInfo.TheVariants as info
 use Rattle.group_info.specs.declared.ViewGroupInfo.{ViewGroupInfo}
 use Rattle.group_info.specs.declared.QueryGroupInfo.{QueryGroupInfo}
 use Rattle.group_info.specs.declared.QueryGroupInfo.TheVariants as query
-use Rattle.group_info.specs.declared.FoundQuery.{FoundQuery}
-use Rattle.group_info.specs.declared.FoundQuery.TheVariants as added
 use Rattle.group_info.specs.declared.GroupRange.{GroupRange}
-use Rattle.group_info.specs.declared.GroupRange.TheVariants as ranged
 
 -- the places of its kinds in their family
 abbrev pub places_of : GroupInfo → List ℕ
@@ -34,38 +29,38 @@ pub record Joined (i j r : GroupInfo) : Type 0 where
   pub places : places_of r ≡ union_of 16 (places_of i) (places_of j)
 
 -- none where they are of different families
-abbrev pub JoinedBy : GroupInfo → GroupInfo → FoundInfo → Type 0
-JoinedBy i j (info.Info r) = Joined i j r
-JoinedBy i j info.Nothing = i.group_start ≢ j.group_start
+abbrev pub JoinedBy : GroupInfo → GroupInfo → Option GroupInfo → Type 0
+JoinedBy i j (Some r) = Joined i j r
+JoinedBy i j None = i.group_start ≢ j.group_start
 
 -- ---- a view more
 
 -- the info of a query, if it has one
-abbrev pub info_of : QueryGroupInfo → FoundInfo
-info_of query.Empty = info.Nothing
+abbrev pub info_of : QueryGroupInfo → Option GroupInfo
+info_of query.Empty = None
 info_of (query.One v) = v.info
-info_of (query.Many i) = info.Info i
+info_of (query.Many i) = Some i
 
 -- both views have an info, and r is the two together
-pub record Both (a b : FoundInfo) (r : GroupInfo) : Type 0 where
+pub record Both (a b : Option GroupInfo) (r : GroupInfo) : Type 0 where
   pub left : GroupInfo
   pub right : GroupInfo
-  pub is_left : a ≡ info.Info left
-  pub is_right : b ≡ info.Info right
+  pub is_left : a ≡ Some left
+  pub is_right : b ≡ Some right
   pub joined : Joined left right r
 
 -- a query of two views or more has the info of all; none where one view has none, or where two are of different families
-abbrev pub BothAdded : FoundInfo → FoundInfo → FoundQuery → Type 0
-BothAdded a b (added.Query query.Empty) = ⊥
-BothAdded a b (added.Query (query.One v)) = ⊥
-BothAdded a b (added.Query (query.Many r)) = Both a b r
-BothAdded a b added.Nothing = (i j : GroupInfo) → a ≡ info.Info i → b ≡ info.Info j → i.group_start ≢ j.group_start
+abbrev pub BothAdded : Option GroupInfo → Option GroupInfo → Option QueryGroupInfo → Type 0
+BothAdded a b (Some query.Empty) = ⊥
+BothAdded a b (Some (query.One v)) = ⊥
+BothAdded a b (Some (query.Many r)) = Both a b r
+BothAdded a b None = (i j : GroupInfo) → a ≡ Some i → b ≡ Some j → i.group_start ≢ j.group_start
 
 -- what a query is with the view v added
-abbrev pub ViewAdded : QueryGroupInfo → ViewGroupInfo → FoundQuery → Type 0
-ViewAdded query.Empty v r = r ≡ added.Query (query.One v)
+abbrev pub ViewAdded : QueryGroupInfo → ViewGroupInfo → Option QueryGroupInfo → Type 0
+ViewAdded query.Empty v r = r ≡ Some (query.One v)
 ViewAdded (query.One w) v r = BothAdded w.info v.info r
-ViewAdded (query.Many i) v r = BothAdded (info.Info i) v.info r
+ViewAdded (query.Many i) v r = BothAdded (Some i) v.info r
 
 -- ---- the range of an info
 
@@ -77,9 +72,9 @@ pub record GroupsInside (ars : List ℕ) (i : GroupInfo) : Type 0 where
   pub rising : (g : ℕ) → i.group_start < g → g < i.group_end → get_or ars (g - 1) 0 ≤ get_or ars g 0
 
 -- so where there is an info
-abbrev pub InsideFound : List ℕ → FoundInfo → Type 0
-InsideFound ars (info.Info i) = GroupsInside ars i
-InsideFound ars info.Nothing = Unit {0}
+abbrev pub InsideFound : List ℕ → Option GroupInfo → Type 0
+InsideFound ars (Some i) = GroupsInside ars i
+InsideFound ars None = Unit {0}
 
 -- the arrays of arities and counts, a number for each of 64 groups
 pub record Tables (ars counts : List ℕ) : Type 0 where
@@ -93,9 +88,9 @@ pub record WholeGroup (ars counts : List ℕ) (i : GroupInfo) (a b : ℕ) : Type
   pub places : places_of i ≡ up_from 0 (get_or ars (i.group_end - 1) 0)
 
 -- "a hand equal to a group gives 0 to its count"; none where i is not equal to the group that it reaches up to
-abbrev pub IncludeSays : List ℕ → List ℕ → GroupInfo → GroupRange → Type 0
-IncludeSays ars counts i (ranged.Found a b) = WholeGroup ars counts i a b
-IncludeSays ars counts i ranged.Nothing = places_of i ≡ up_from 0 (get_or ars (i.group_end - 1) 0) → ⊥
+abbrev pub IncludeSays : List ℕ → List ℕ → GroupInfo → Option GroupRange → Type 0
+IncludeSays ars counts i (Some r) = WholeGroup ars counts i r.start r.end
+IncludeSays ars counts i None = places_of i ≡ up_from 0 (get_or ars (i.group_end - 1) 0) → ⊥
 
 -- the largest group of the two infos
 abbrev pub top_of : GroupInfo → GroupInfo → ℕ
@@ -115,24 +110,24 @@ pub record NextGroupRange (ars counts : List ℕ) (i e : GroupInfo) (a b : ℕ) 
   pub to : b ≡ get_or counts (top_of i e - 1) 0
 
 -- none otherwise
-abbrev pub ExcludeSays : List ℕ → List ℕ → GroupInfo → GroupInfo → GroupRange → Type 0
-ExcludeSays ars counts i e (ranged.Found a b) = NextGroupRange ars counts i e a b
-ExcludeSays ars counts i e ranged.Nothing = NextGroup ars i e → ⊥
+abbrev pub ExcludeSays : List ℕ → List ℕ → GroupInfo → GroupInfo → Option GroupRange → Type 0
+ExcludeSays ars counts i e (Some r) = NextGroupRange ars counts i e r.start r.end
+ExcludeSays ars counts i e None = NextGroup ars i e → ⊥
 
 -- none too where the staged kinds or the excluded ones have no info
-abbrev pub ExcludedSays : List ℕ → List ℕ → FoundInfo → FoundInfo → GroupRange → Type 0
-ExcludedSays ars counts (info.Info i) (info.Info e) r = ExcludeSays ars counts i e r
-ExcludedSays ars counts (info.Info i) info.Nothing r = r ≡ ranged.Nothing
-ExcludedSays ars counts info.Nothing e r = r ≡ ranged.Nothing
+abbrev pub ExcludedSays : List ℕ → List ℕ → Option GroupInfo → Option GroupInfo → Option GroupRange → Type 0
+ExcludedSays ars counts (Some i) (Some e) r = ExcludeSays ars counts i e r
+ExcludedSays ars counts (Some i) None r = r ≡ None
+ExcludedSays ars counts None e r = r ≡ None
 
 -- "RANGE, bar empty": none for an empty hand, "0 to that column's length" for one kind, and by the groups for more
-abbrev pub IncludedSays : List ℕ → List ℕ → QueryGroupInfo → GroupRange → Type 0
-IncludedSays ars counts query.Empty r = r ≡ ranged.Nothing
-IncludedSays ars counts (query.One v) r = r ≡ ranged.Found 0 v.len
+abbrev pub IncludedSays : List ℕ → List ℕ → QueryGroupInfo → Option GroupRange → Type 0
+IncludedSays ars counts query.Empty r = r ≡ None
+IncludedSays ars counts (query.One v) r = r ≡ Some (record { start = 0; end = v.len })
 IncludedSays ars counts (query.Many i) r = IncludeSays ars counts i r
 
 -- RANGE: q is the query of the staged kinds, and beside it stands that of the excluded ones
-abbrev pub RangeBy : List ℕ → List ℕ → QueryGroupInfo → QueryGroupInfo → GroupRange → Type 0
+abbrev pub RangeBy : List ℕ → List ℕ → QueryGroupInfo → QueryGroupInfo → Option GroupRange → Type 0
 RangeBy ars counts q query.Empty r = IncludedSays ars counts q r
 RangeBy ars counts q (query.One v) r = ExcludedSays ars counts (info_of q) v.info r
-RangeBy ars counts q (query.Many e) r = ExcludedSays ars counts (info_of q) (info.Info e) r
+RangeBy ars counts q (query.Many e) r = ExcludedSays ars counts (info_of q) (Some e) r

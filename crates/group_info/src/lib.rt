@@ -1,7 +1,7 @@
 // Grouping information of the kinds of a query (group_info.rs), and the range that a query gets (ComponentStorage::group_range).
 #![tactic(auto)]
 
-ghost use Rattle.std.specs.Prelude.{◌≡◌, ◌+◌, ◌<◌, max};
+ghost use Rattle.std.specs.Prelude.{◌≡◌, ◌+◌, ◌<◌};
 ghost use Rattle.words.specs.Offsets.{GROUP_PLACES};
 ghost use Rattle.group_info.specs.Info.{KindInfo, JoinedBy, info_of, BothAdded, ViewAdded, GroupsInside, InsideFound, Tables, IncludeSays, ExcludeSays, ExcludedSays, IncludedSays};
 ghost use Rattle.group_info.specs.Describes.{RangeSays};
@@ -10,54 +10,32 @@ use masks::group_mask::QueryMask;
 use masks::storage_mask::StorageMask;
 
 // Kinds of one family: its first group, one past the largest of their own groups, and their places among the family's kinds.
-#[derive(Drop)]
+#[derive(Clone, Copy, Debug, PartialEq, Eq)]
 pub struct GroupInfo {
     pub group_start: usize,
     pub group_end: usize,
     pub storage_mask: StorageMask,
 }
 
-// A kind in no group has no info.
-#[derive(Drop)]
-pub enum FoundInfo {
-    Info(GroupInfo),
-    Nothing,
-}
-
-// One kind of a query: its group info, and the length of its sparse set.
-#[derive(Drop)]
+// One kind of a query: its group info, if it is in a group, and the length of its sparse set.
+#[derive(Clone, Copy, Debug, PartialEq, Eq)]
 pub struct ViewGroupInfo {
-    pub info: FoundInfo,
+    pub info: Option<GroupInfo>,
     pub len: usize,
 }
 
-#[derive(Drop)]
+#[derive(Clone, Copy, Debug, PartialEq, Eq)]
 pub enum QueryGroupInfo {
     Empty,
     One(ViewGroupInfo),
     Many(GroupInfo),
 }
 
-// Kinds that are not of one family have no query info.
-#[derive(Drop)]
-pub enum FoundQuery {
-    Query(QueryGroupInfo),
-    Nothing,
-}
-
-#[derive(Drop)]
-pub enum GroupRange {
-    Found(usize, usize),
-    Nothing,
-}
-
-fn larger(a: usize, b: usize) -> usize
-    ensures { result ≡ max a b }
-{
-    if a < b {
-        return b;
-    }
-    a
+// Rows of a group's columns, from `start` up to `end`.
+#[derive(Clone, Copy, Debug, PartialEq, Eq)]
+pub struct GroupRange {
+    pub start: usize,
+    pub end: usize,
 }
 
 impl GroupInfo {
@@ -75,144 +53,126 @@ impl GroupInfo {
     }
 
     // Of both, where they are of one family.
-    pub fn add_group(self, other: GroupInfo) -> FoundInfo
+    pub fn add_group(self, other: GroupInfo) -> Option<GroupInfo>
         ensures { JoinedBy self other result }
     {
         if self.group_start != other.group_start {
-            return FoundInfo::Nothing;
+            return None;
         }
-        let group_end = larger(self.group_end, other.group_end);
-        let mask = self.storage_mask;
-        let storage_mask = mask.union(other.storage_mask);
-        FoundInfo::Info(GroupInfo {
+        Some(GroupInfo {
             group_start: self.group_start,
-            group_end,
-            storage_mask,
+            group_end: self.group_end.max(other.group_end),
+            storage_mask: self.storage_mask.union(other.storage_mask),
         })
     }
 }
 
 // Both infos, if there are two and they are of one family.
-fn both(a: FoundInfo, b: FoundInfo) -> FoundQuery
+fn both(a: Option<GroupInfo>, b: Option<GroupInfo>) -> Option<QueryGroupInfo>
     ensures { BothAdded a b result }
 {
-    let FoundInfo::Info(x) = a else {
-        return FoundQuery::Nothing;
-    };
-    let FoundInfo::Info(y) = b else {
-        return FoundQuery::Nothing;
-    };
-    let FoundInfo::Info(r) = x.add_group(y) else {
-        return FoundQuery::Nothing;
-    };
-    FoundQuery::Query(QueryGroupInfo::Many(r))
+    let joined = a?.add_group(b?)?;
+    Some(QueryGroupInfo::Many(joined))
 }
 
 impl QueryGroupInfo {
-    // The query with one kind more.
-    pub fn add_view(self, view: ViewGroupInfo) -> FoundQuery
+    // The query with one kind more; none where its kinds are not of one family.
+    pub fn add_view(self, view: ViewGroupInfo) -> Option<QueryGroupInfo>
         ensures { ViewAdded self view result }
     {
         match self {
-            QueryGroupInfo::Empty => FoundQuery::Query(QueryGroupInfo::One(view)),
-            QueryGroupInfo::One(old) => {
-                let a = old.info;
-                let b = view.info;
-                both(a, b)
-            }
-            QueryGroupInfo::Many(old) => {
-                let b = view.info;
-                both(FoundInfo::Info(old), b)
-            }
+            QueryGroupInfo::Empty => Some(QueryGroupInfo::One(view)),
+            QueryGroupInfo::One(old) => both(old.info, view.info),
+            QueryGroupInfo::Many(old) => both(Some(old), view.info),
         }
     }
 
-    pub fn group_info(self) -> FoundInfo
+    pub fn group_info(self) -> Option<GroupInfo>
         ensures { result ≡ info_of self }
     {
         match self {
-            QueryGroupInfo::Empty => FoundInfo::Nothing,
+            QueryGroupInfo::Empty => None,
             QueryGroupInfo::One(view) => view.info,
-            QueryGroupInfo::Many(info) => FoundInfo::Info(info),
+            QueryGroupInfo::Many(info) => Some(info),
         }
     }
 }
 
 // The kinds are a whole group: its range.
-fn include_group_range(include: GroupInfo, arities: &[u32], counts: &[u32]) -> GroupRange
-    requires { Tables arities.now counts.now × GroupsInside arities.now include }
+#[tactic(auto, using(crate::proofs::Masking::differ))]
+fn include_group_range(include: GroupInfo, arities: &[u32], counts: &[u32]) -> Option<GroupRange>
+    requires tables { Tables arities.now counts.now }
+    requires include_inside { GroupsInside arities.now include }
     ensures { IncludeSays arities.now counts.now include result }
 {
     let g = include.group_end - 1;
     let group = QueryMask::include(arities[g] as usize);
-    let mask = include.storage_mask;
-    let whole = group.include;
-    if mask.0 != whole.0 {
-        return GroupRange::Nothing;
+    if include.storage_mask != group.include {
+        return None;
     }
-    GroupRange::Found(0, counts[g] as usize)
+    let end = counts[g] as usize;
+    Some(GroupRange { start: 0, end })
 }
 
 // They are a whole group, and the excluded kinds those that the next larger group adds: what the larger leaves of its range.
+#[tactic(auto, using(crate::proofs::Masking::differ))]
 fn exclude_group_range(
     include: GroupInfo,
     exclude: GroupInfo,
     arities: &[u32],
     counts: &[u32],
-) -> GroupRange
-    requires { Tables arities.now counts.now × GroupsInside arities.now include × GroupsInside arities.now exclude }
+) -> Option<GroupRange>
+    requires tables { Tables arities.now counts.now }
+    requires include_inside { GroupsInside arities.now include }
+    requires exclude_inside { GroupsInside arities.now exclude }
     ensures { ExcludeSays arities.now counts.now include exclude result }
 {
     let start = include.group_start;
     if start != exclude.group_start {
-        return GroupRange::Nothing;
+        return None;
     }
-    let child = larger(include.group_end, exclude.group_end) - 1;
+    let child = include.group_end.max(exclude.group_end) - 1;
     if child <= start {
-        return GroupRange::Nothing;
+        return None;
     }
     let parent = child - 1;
     let group = QueryMask::exclude(arities[parent] as usize, arities[child] as usize);
-    let mask = include.storage_mask;
-    let whole = group.include;
-    if mask.0 != whole.0 {
-        return GroupRange::Nothing;
+    if include.storage_mask != group.include {
+        return None;
     }
-    let outside = exclude.storage_mask;
-    let new_kinds = group.exclude;
-    if outside.0 != new_kinds.0 {
-        return GroupRange::Nothing;
+    if exclude.storage_mask != group.exclude {
+        return None;
     }
-    let from = counts[child] as usize;
-    let to = counts[parent] as usize;
-    GroupRange::Found(from, to)
+    let start = counts[child] as usize;
+    let end = counts[parent] as usize;
+    Some(GroupRange { start, end })
 }
 
 fn excluded_range(
-    include: FoundInfo,
-    exclude: FoundInfo,
+    include: Option<GroupInfo>,
+    exclude: Option<GroupInfo>,
     arities: &[u32],
     counts: &[u32],
-) -> GroupRange
-    requires { Tables arities.now counts.now × InsideFound arities.now include × InsideFound arities.now exclude }
+) -> Option<GroupRange>
+    requires tables { Tables arities.now counts.now }
+    requires include_inside { InsideFound arities.now include }
+    requires exclude_inside { InsideFound arities.now exclude }
     ensures { ExcludedSays arities.now counts.now include exclude result }
 {
-    let FoundInfo::Info(x) = include else {
-        return GroupRange::Nothing;
-    };
-    let FoundInfo::Info(y) = exclude else {
-        return GroupRange::Nothing;
-    };
-    exclude_group_range(x, y, arities, counts)
+    exclude_group_range(include?, exclude?, arities, counts)
 }
 
-fn included_range(include: QueryGroupInfo, arities: &[u32], counts: &[u32]) -> GroupRange
-    requires { Tables arities.now counts.now × InsideFound arities.now (info_of include) }
+fn included_range(include: QueryGroupInfo, arities: &[u32], counts: &[u32]) -> Option<GroupRange>
+    requires tables { Tables arities.now counts.now }
+    requires include_inside { InsideFound arities.now (info_of include) }
     ensures { IncludedSays arities.now counts.now include result }
 {
     match include {
-        QueryGroupInfo::Empty => GroupRange::Nothing,
-        QueryGroupInfo::One(view) => GroupRange::Found(0, view.len),
+        QueryGroupInfo::Empty => None,
+        QueryGroupInfo::One(view) => Some(GroupRange {
+            start: 0,
+            end: view.len,
+        }),
         QueryGroupInfo::Many(info) => include_group_range(info, arities, counts),
     }
 }
@@ -223,19 +183,23 @@ pub fn group_range(
     exclude: QueryGroupInfo,
     arities: &[u32],
     counts: &[u32],
-) -> GroupRange
-    requires { Tables arities.now counts.now × InsideFound arities.now (info_of include) × InsideFound arities.now (info_of exclude) }
+) -> Option<GroupRange>
+    requires tables { Tables arities.now counts.now }
+    requires include_inside { InsideFound arities.now (info_of include) }
+    requires exclude_inside { InsideFound arities.now (info_of exclude) }
     ensures { RangeSays arities.now counts.now include exclude result }
 {
     match exclude {
         QueryGroupInfo::Empty => included_range(include, arities, counts),
-        QueryGroupInfo::One(view) => {
-            let outside = view.info;
-            excluded_range(include.group_info(), outside, arities, counts)
-        }
+        QueryGroupInfo::One(view) => excluded_range(
+            include.group_info(),
+            view.info,
+            arities,
+            counts,
+        ),
         QueryGroupInfo::Many(info) => excluded_range(
             include.group_info(),
-            FoundInfo::Info(info),
+            Some(info),
             arities,
             counts,
         ),
