@@ -4,6 +4,7 @@ use mathlib.Core.List.{List, [], ◌∷◌, ◌++◌}
 use Prim.Native.Nat.{ℕ, ◌+◌, ◌≤◌, ◌<◌}
 use native.Mathlib.Omega.{arith}
 use lib.ListN.{length, get_or}
+use Rattle.std.specs.Prelude.{Option, Some, None}
 use Rattle.words.specs.Offsets.{ARITIES, ENTITIES, EXCLUDED_KINDS, GROUP_COUNTS, GROUP_FAMILIES, KIND_ENDS, LAYOUT, LAYOUT_ARITIES, LAYOUT_KIND_ENDS, STAGED_KINDS}
 use Rattle.model.specs.Model.{none, range_for}
 use Rattle.model.specs.Sound.{In}
@@ -20,13 +21,11 @@ use Rattle.group_info.specs.Info.{ViewAdded, InsideFound, info_of, Tables}
 use Rattle.group_info.specs.Describes.{ViewOf, DescribesQuery, Scattered, range_of, RangeSays}
 use Rattle.group_info.specs.declared.ViewGroupInfo.{ViewGroupInfo}
 use Rattle.group_info.specs.declared.QueryGroupInfo.{QueryGroupInfo}
-use Rattle.group_info.specs.declared.FoundQuery.{FoundQuery}
 use Rattle.group_info.specs.declared.GroupRange.{GroupRange}
 use Rattle.group_info.proofs.Describing.{describes_more, describes_inside}
 use Rattle.group_info.proofs.Answers.{scattered_staged, scattered_excluded, scattered_more}
 use Rattle.command_range.specs.Query.{QueryOf, KindAdded, KindsBetween}
 use Rattle.group_info.specs.declared.QueryGroupInfo.TheVariants as query
-use Rattle.group_info.specs.declared.FoundQuery.TheVariants as added
 
 module _ (w : List ℕ) (A : Arranged w) where
   abbrev a : Arrays
@@ -34,19 +33,19 @@ module _ (w : List ℕ) (A : Arranged w) where
 
   -- ---- one kind more
 
-  pub added_more : (k : ℕ) (q : QueryGroupInfo) (v : ViewGroupInfo) (r : FoundQuery) → ViewOf (layout_arrays w) (meaning w).storage k v → ViewAdded q v r → KindAdded w (added.Query q) k r
-  added_more k q v (added.Query p) x y hs d = describes_more a A.layout.formed (layout_sized w A) (meaning w).storage hs k q v (added.Query p) d x y
-  added_more k q v added.Nothing x y hs d = describes_more a A.layout.formed (layout_sized w A) (meaning w).storage hs k q v added.Nothing d x y
+  pub added_more : (k : ℕ) (q : QueryGroupInfo) (v : ViewGroupInfo) (r : Option QueryGroupInfo) → ViewOf (layout_arrays w) (meaning w).storage k v → ViewAdded q v r → KindAdded w (Some q) k r
+  added_more k q v (Some p) x y hs d = describes_more a A.layout.formed (layout_sized w A) (meaning w).storage hs k q v (Some p) d x y
+  added_more k q v None x y hs d = describes_more a A.layout.formed (layout_sized w A) (meaning w).storage hs k q v None d x y
 
-  pub added_none : (k : ℕ) → KindAdded w added.Nothing k added.Nothing
+  pub added_none : (k : ℕ) → KindAdded w None k None
   added_none k hs d = scattered_more a hs (k ∷ []) d
 
   -- ---- the loop
 
-  pub query_start : (i : ℕ) → QueryOf w (between i i w) (added.Query query.Empty)
+  pub query_start : (i : ℕ) → QueryOf w (between i i w) (Some query.Empty)
   query_start i = between_none i w
 
-  pub query_turn : (start i : ℕ) (k : ℕ) (q r : FoundQuery) → start ≤ i → i < length w → k ≡ get_or w i 0 → QueryOf w (between start i w) q → KindAdded w q k r → QueryOf w (between start (i + 1) w) r
+  pub query_turn : (start i : ℕ) (k : ℕ) (q r : Option QueryGroupInfo) → start ≤ i → i < length w → k ≡ get_or w i 0 → QueryOf w (between start i w) q → KindAdded w q k r → QueryOf w (between start (i + 1) w) r
   query_turn start i k q r h l e d more =
       subst (λ (hs : List ℕ). QueryOf w hs r) (ap (λ (x : ℕ). between start i w ++ (x ∷ [])) e ∙ sym (between_more start i w h l)) (more (between start i w) d)
 
@@ -64,7 +63,7 @@ module _ (w : List ℕ) (A : Arranged w) where
   pub query_inside : (hs : List ℕ) (q : QueryGroupInfo) → DescribesQuery (layout_arrays w) (meaning w).storage hs q → InsideFound (between LAYOUT_ARITIES LAYOUT_KIND_ENDS w) (info_of q)
   query_inside hs q d = subst (λ (l : List ℕ). InsideFound l (info_of q)) arities_are (describes_inside a A.layout.formed (layout_sized w A) (meaning w).storage hs q d)
 
-  pub both_queries : (hs bs : List ℕ) (p q : QueryGroupInfo) (r : GroupRange) → DescribesQuery (layout_arrays w) (meaning w).storage hs p → DescribesQuery (layout_arrays w) (meaning w).storage bs q
+  pub both_queries : (hs bs : List ℕ) (p q : QueryGroupInfo) (r : Option GroupRange) → DescribesQuery (layout_arrays w) (meaning w).storage hs p → DescribesQuery (layout_arrays w) (meaning w).storage bs q
       → RangeSays (between LAYOUT_ARITIES LAYOUT_KIND_ENDS w) (between GROUP_COUNTS ENTITIES w) p q r → range_of r ≡ range_for hs bs (meaning w).storage
   both_queries hs bs p q r d e says =
       says

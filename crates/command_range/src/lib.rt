@@ -11,7 +11,6 @@ ghost use Rattle.memory.specs.Meaning.{meaning};
 ghost use Rattle.command.specs.Acted.{Ready, Written, Acted};
 
 use command::answers::ack_byte;
-use group_info::GroupRange;
 
 // Accepted, with a range to tell.
 fn ack_range(out: &mut [u8], at: usize, found: u8, start: u32, end: u32) -> usize
@@ -31,8 +30,8 @@ pub fn range(words: &mut [u32], out: &mut [u8], at: usize) -> usize
 {
     let found = query::range_under(words);
     control::staged::clear_lists(words);
-    let GroupRange::Found(start, end) = found else {
+    let Some(rows) = found else {
         return ack_range(out, at, 0, 0, 0);
     };
-    ack_range(out, at, 1, start as u32, end as u32)
+    ack_range(out, at, 1, rows.start as u32, rows.end as u32)
 }

@@ -9,11 +9,11 @@ ghost use Rattle.memory.specs.Arranged.{Arranged, Sound};
 ghost use Rattle.group_info.specs.Describes.{InfoOfKind, ViewOf, range_of};
 ghost use Rattle.command_range.specs.Query.{QueryOf, KindAdded, KindsBetween};
 
-use group_info::{FoundInfo, FoundQuery, GroupInfo, GroupRange, QueryGroupInfo, ViewGroupInfo};
+use group_info::{GroupInfo, GroupRange, QueryGroupInfo, ViewGroupInfo};
 use words::Found;
 
 // The group info of a kind, by the head of its column.
-fn info_of(words: &[u32], kind: usize) -> FoundInfo
+fn info_of(words: &[u32], kind: usize) -> Option<GroupInfo>
     requires arranged { Arranged words.now }
     requires kind_known { In (meaning words.now).kinds kind }
     ensures { InfoOfKind (layout_arrays words.now) kind result }
@@ -21,11 +21,11 @@ fn info_of(words: &[u32], kind: usize) -> FoundInfo
     let z = words::shape_of(words);
     let found = kinds::own_group(words, z, kind);
     let Found::At(place) = found else {
-        return FoundInfo::Nothing;
+        return None;
     };
     let metadata = group::group_metadata::metadata(words, place);
     let storage_place = kinds::place_in_family(words, z, kind);
-    FoundInfo::Info(GroupInfo::of_kind(metadata.first, place, storage_place))
+    Some(GroupInfo::of_kind(metadata.first, place, storage_place))
 }
 
 pub fn view_of(words: &[u32], kind: usize) -> ViewGroupInfo
@@ -39,35 +39,29 @@ pub fn view_of(words: &[u32], kind: usize) -> ViewGroupInfo
 }
 
 // The query with one kind more.
-fn add_kind(words: &[u32], found: FoundQuery, kind: usize) -> FoundQuery
+fn add_kind(words: &[u32], found: Option<QueryGroupInfo>, kind: usize) -> Option<QueryGroupInfo>
     requires arranged { Arranged words.now }
     requires kind_known { In (meaning words.now).kinds kind }
     ensures { KindAdded words.now found kind result }
 {
-    let FoundQuery::Query(query) = found else {
-        return FoundQuery::Nothing;
-    };
-    let view = view_of(words, kind);
-    query.add_view(view)
+    found?.add_view(view_of(words, kind))
 }
 
 // The query of the kinds that the words from start to end are.
-fn query_of(words: &[u32], start: usize, end: usize) -> FoundQuery
+fn query_of(words: &[u32], start: usize, end: usize) -> Option<QueryGroupInfo>
     requires arranged { Arranged words.now }
     requires kinds_between { KindsBetween words.now start end }
     ensures { QueryOf words.now (between start end words.now) result }
 {
-    let mut found = FoundQuery::Query(QueryGroupInfo::Empty);
-    let mut i = start;
-    while i < end {
-        let kind = words::word(words, i);
+    let mut found = Some(QueryGroupInfo::Empty);
+    for at in start..end {
+        let kind = words::word(words, at);
         found = add_kind(words, found, kind);
-        i += 1;
     }
     found
 }
 
-pub fn staged_query(words: &[u32]) -> FoundQuery
+pub fn staged_query(words: &[u32]) -> Option<QueryGroupInfo>
     requires { Sound words.now }
     ensures { QueryOf words.now (staged_kinds (meaning words.now)) result }
 {
@@ -75,7 +69,7 @@ pub fn staged_query(words: &[u32]) -> FoundQuery
     query_of(words, words::STAGED_KINDS, words::STAGED_KINDS + count)
 }
 
-pub fn excluded_query(words: &[u32]) -> FoundQuery
+pub fn excluded_query(words: &[u32]) -> Option<QueryGroupInfo>
     requires { Sound words.now }
     ensures { QueryOf words.now (meaning words.now).control.excluded result }
 {
@@ -84,33 +78,25 @@ pub fn excluded_query(words: &[u32]) -> FoundQuery
 }
 
 // 01, RANGE: the range of the staged kinds without the excluded ones.
-pub fn group_range(words: &[u32]) -> GroupRange
+pub fn group_range(words: &[u32]) -> Option<GroupRange>
     requires { Sound words.now }
     ensures { range_of result ≡ range_for (staged_kinds (meaning words.now)) (meaning words.now).control.excluded (meaning words.now).storage }
 {
-    let found = staged_query(words);
-    let FoundQuery::Query(include) = found else {
-        return GroupRange::Nothing;
-    };
-    let found = excluded_query(words);
-    let FoundQuery::Query(exclude) = found else {
-        return GroupRange::Nothing;
-    };
     group_info::group_range(
-        include,
-        exclude,
+        staged_query(words)?,
+        excluded_query(words)?,
         &words[words::LAYOUT_ARITIES..words::LAYOUT_KIND_ENDS],
         &words[words::GROUP_COUNTS..words::ENTITIES],
     )
 }
 
 // 02, No. 8: by the store's rule. The newer finds nothing for two or more excluded kinds.
-pub fn range_under(words: &[u32]) -> GroupRange
+pub fn range_under(words: &[u32]) -> Option<GroupRange>
     requires { Sound words.now }
     ensures { range_of result ≡ range_under (meaning words.now).settings.newer (staged_kinds (meaning words.now)) (meaning words.now).control.excluded (meaning words.now).storage }
 {
     if control::rule::is_newer(words) && 1 < control::excluded::excluded_len(words) {
-        return GroupRange::Nothing;
+        return None;
     }
     group_range(words)
 }

@@ -1,8 +1,5 @@
 use mathlib.Core.Path.{subst}
 use Prim.Native.Nat.{ℕ}
-use native.Mathlib.Omega.{arith}
-use Rattle.words.specs.Offsets.{VALUE_WIDTH}
-use Rattle.kinds.proofs.Slot.{header_long}
 use Rattle.words.specs.declared.Found.{Found}
 use Rattle.kinds.specs.Kinds.{OwnGroup}
 use Rattle.kinds.proofs.Owned.{Owned, own_group, no_group}
@@ -10,26 +7,17 @@ use Rattle.group_info.specs.Info.{KindInfo}
 use Rattle.command_range.proofs.Views.{ungrouped, real, small, grouped}
 use Rattle.command_range.proofs.query.info_of.Goals as goal
 
-pub shape_of-z-requires : goal.shape_of-z-requires
-shape_of-z-requires c = header_long c.args.words.now c.requires.arranged VALUE_WIDTH (omega arith)
-
-pub own_group-found-requires : goal.own_group-found-requires
-own_group-found-requires c = record { arranged = c.requires.arranged; shape_is = c.shape_of-z.ensures.is; kind_known = c.requires.kind_known }
-
 pub returns-in_default : goal.returns-in_default
 returns-in_default c =
     let w = c.args.words.now in
     ungrouped w c.requires.arranged c.args.kind (no_group w c.requires.arranged c.args.kind (subst (λ (r : Found). OwnGroup w c.args.kind r) c.in_default.is c.own_group-found.ensures))
 
-pub metadata-metadata-requires : goal.metadata-metadata-requires
-metadata-metadata-requires c =
+pub metadata-metadata-requires-clause-g_bound : goal.metadata-metadata-requires-clause-g_bound
+metadata-metadata-requires-clause-g_bound c =
     let owned : Owned c.args.words.now c.args.kind c.in-At.place = (
     let w = c.args.words.now in
     own_group w c.requires.arranged c.args.kind c.in-At.place c.requires.kind_known (subst (λ (r : Found). OwnGroup w c.args.kind r) c.in-At.is c.own_group-found.ensures)) in
-    record { arranged = c.requires.arranged; g_bound = real c.args.words.now c.requires.arranged c.args.kind c.in-At.place owned }
-
-pub place_in_family-storage_place-requires : goal.place_in_family-storage_place-requires
-place_in_family-storage_place-requires c = record { arranged = c.requires.arranged; shape_is = c.shape_of-z.ensures.is; kind_known = c.requires.kind_known }
+    real c.args.words.now c.requires.arranged c.args.kind c.in-At.place owned
 
 pub of_kind-requires : goal.of_kind-requires
 of_kind-requires c =
