@@ -1,5 +1,5 @@
 -- What a command leaves, from what its function's callees leave. Assumes nothing.
-use mathlib.Core.Path.{◌≡◌}
+use mathlib.Core.Path.{◌≡◌, subst, sym}
 use mathlib.Core.List.{List, ◌∷◌}
 use Prim.Native.Nat.{ℕ}
 use native.Mathlib.Omega.{arith}
@@ -15,8 +15,9 @@ use Rattle.command.specs.Acted.{Written, Acted}
 use Rattle.model.specs.Theorems.{SameSettings}
 use Rattle.memory.proofs.Becomes.{becomes_next}
 
-pub refused_by_law : {w w' o o' : List ℕ} {at r n : ℕ} {x : Outcome} → x ≡ refuses n → Acted w w' o o' at r (refuses n) → Acted w w' o o' at r x
-refused_by_law e a = rw e a
+-- refused by the number that the refusal converts to
+pub refused_by_law : {w w' o o' : List ℕ} {at r n : ℕ} {x : Outcome} → x ≡ refuses n → (m : ℕ) × (m ≡ n) × Acted w w' o o' at r (refuses m) → Acted w w' o o' at r x
+refused_by_law {w} {w'} {o} {o'} {at} {r} {x = x} e a = subst (λ m. Acted w w' o o' at r (refuses m) → Acted w w' o o' at r x) (sym a.1) (λ b. rw e b) a.2
 
 clash : (s : Store) (a : List ℕ) (n : ℕ) → accepts s a ≡ refuses n → ⊥
 clash s a n e = let z : ◌≡◌ {A = ℕ} 0 1 = cc in omega arith

@@ -1,18 +1,19 @@
 // Answers: a refusal's number, or a 0 byte and what an accepted command tells.
-ghost use Rattle.std.specs.Prelude.{[], ◌∷◌, ◌+◌, ◌<◌, ◌≤◌, length};
+ghost use Rattle.std.specs.Prelude.{[], ◌∷◌, ℕ, ◌+◌, ◌<◌, ◌≤◌, length};
 ghost use Rattle.model.specs.Store.{bytes_of};
 ghost use Rattle.model.specs.Run.{refuses};
 ghost use Rattle.memory.specs.Arranged.{Arranged};
 ghost use Rattle.command.specs.Acted.{Written, Acted};
 
-// The number is the answer, and the caller's count of refusals grows, or stays at its largest. No other word changes.
-pub fn refuse(words: &mut [u32], out: &mut [u8], at: usize, number: u8) -> usize
+// The refusal's number is the answer, and the caller's count of refusals grows, or stays at its largest. No other word changes. A plain number
+// is taken as well as a `Refusal`.
+pub fn refuse<R: Into<u8>>(words: &mut [u32], out: &mut [u8], at: usize, refusal: R) -> usize
     requires arranged { Arranged words.old }
     requires at_in_bounds { at < length out.old }
-    ensures { Acted words.old words.new out.old out.new at result (refuses number) }
+    ensures { (n : ℕ) × R.converts refusal n × Acted words.old words.new out.old out.new at result (refuses n) }
 {
     control::refusals::count_refusal(words);
-    out[at] = number;
+    out[at] = refusal.into();
     1
 }
 

@@ -6,7 +6,7 @@ ghost use Rattle.memory.specs.Meaning.{meaning};
 ghost use Rattle.command.specs.Acted.{Ready, Acted};
 
 use command::answers::{ack, refuse};
-use model::refusals::DEAD;
+use model::refusals::Refusal;
 use words::{Entity, Found};
 
 // PUT: the staged components go into a live entity.
@@ -16,7 +16,7 @@ pub fn put(words: &mut [u32], e: Entity, out: &mut [u8], at: usize) -> usize
 {
     let found = control::entities::get(words, e);
     let Found::At(place) = found else {
-        return refuse(words, out, at, DEAD);
+        return refuse(words, out, at, Refusal::Dead);
     };
     world::component_set::insert(words, e);
     control::staged::clear_staged(words);
@@ -30,7 +30,7 @@ pub fn drop(words: &mut [u32], e: Entity, out: &mut [u8], at: usize) -> usize
 {
     let found = control::entities::get(words, e);
     let Found::At(place) = found else {
-        return refuse(words, out, at, DEAD);
+        return refuse(words, out, at, Refusal::Dead);
     };
     world::component_set::delete(words, e);
     control::staged::clear_staged(words);

@@ -8,7 +8,7 @@ ghost use Rattle.memory.specs.Meaning.{meaning};
 ghost use Rattle.command.specs.Acted.{Ready, Written, Acted};
 
 use command::answers::{ack, ack_count, ack_number, refuse};
-use model::refusals::{DEAD, FULL};
+use model::refusals::Refusal;
 use words::{Entity, Found};
 
 // KILL: a live entity goes, with all its components. The staged ones stay.
@@ -18,7 +18,7 @@ pub fn kill(words: &mut [u32], e: Entity, out: &mut [u8], at: usize) -> usize
 {
     let found = control::entities::get(words, e);
     let Found::At(place) = found else {
-        return refuse(words, out, at, DEAD);
+        return refuse(words, out, at, Refusal::Dead);
     };
     world::destroy(words, place, e);
     ack(out, at)
@@ -40,7 +40,7 @@ pub fn new(words: &mut [u32], out: &mut [u8], at: usize) -> usize
     ensures { Acted words.old words.new out.old out.new at result (does NEW (meaning words.old)) }
 {
     if control::entities::is_full(words) {
-        return refuse(words, out, at, FULL);
+        return refuse(words, out, at, Refusal::Full);
     }
     let e = world::create(words);
     control::staged::clear_staged(words);
@@ -54,7 +54,7 @@ pub fn tray(words: &mut [u32], count: u32, out: &mut [u8], at: usize) -> usize
 {
     let many = count as usize;
     if control::entities::free_numbers(words) < many {
-        return refuse(words, out, at, FULL);
+        return refuse(words, out, at, Refusal::Full);
     }
     world::extend(words, many);
     control::staged::clear_staged(words);

@@ -56,6 +56,6 @@ pub fn group(words: &mut [u32], out: &mut [u8], at: usize) -> usize
             control::staged::clear_staged(words);
             ack_byte(out, at, 1)
         }
-        Err(refusal) => refuse(words, out, at, u8::from(refusal)),
+        Err(refusal) => refuse(words, out, at, refusal),
     }
 }

@@ -5,7 +5,7 @@ ghost use Rattle.memory.specs.Meaning.{meaning};
 ghost use Rattle.command.specs.Acted.{Ready, Acted};
 
 use command::answers::{ack, ack_number, refuse};
-use model::refusals::CALLER;
+use model::refusals::Refusal;
 
 // SETCALLER: the caller for what follows.
 pub fn set_caller(words: &mut [u32], caller: u8, out: &mut [u8], at: usize) -> usize
@@ -14,7 +14,7 @@ pub fn set_caller(words: &mut [u32], caller: u8, out: &mut [u8], at: usize) -> u
 {
     let c = caller as u32;
     if model::LAST_CALLER < c {
-        return refuse(words, out, at, CALLER);
+        return refuse(words, out, at, Refusal::Caller);
     }
     control::refusals::set_caller(words, c);
     ack(out, at)

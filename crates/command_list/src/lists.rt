@@ -10,7 +10,7 @@ ghost use Rattle.memory.specs.Arranged.{Arranged};
 ghost use Rattle.command.specs.Acted.{Ready, Acted};
 
 use command::answers::{ack, refuse};
-use model::refusals::{AGAIN, HANDFUL, KIND};
+use model::refusals::Refusal;
 use values::Value;
 
 // Whether a kind is above 127 or unregistered.
@@ -34,13 +34,13 @@ pub fn hold(words: &mut [u32], kind: u8, x: Value, out: &mut [u8], at: usize) ->
 {
     let k = kind as usize;
     if is_unknown(words, k) {
-        return refuse(words, out, at, KIND);
+        return refuse(words, out, at, Refusal::Kind);
     }
     if control::staged::is_staged(words, k) {
-        return refuse(words, out, at, AGAIN);
+        return refuse(words, out, at, Refusal::Again);
     }
     if model::LIST_CAPACITY <= control::staged::staged_len(words) {
-        return refuse(words, out, at, HANDFUL);
+        return refuse(words, out, at, Refusal::Handful);
     }
     control::staged::stage(words, k, x);
     ack(out, at)
@@ -53,13 +53,13 @@ pub fn bar(words: &mut [u32], kind: u8, out: &mut [u8], at: usize) -> usize
 {
     let k = kind as usize;
     if is_unknown(words, k) {
-        return refuse(words, out, at, KIND);
+        return refuse(words, out, at, Refusal::Kind);
     }
     if control::excluded::is_excluded(words, k) {
-        return refuse(words, out, at, AGAIN);
+        return refuse(words, out, at, Refusal::Again);
     }
     if model::LIST_CAPACITY <= control::excluded::excluded_len(words) {
-        return refuse(words, out, at, HANDFUL);
+        return refuse(words, out, at, Refusal::Handful);
     }
     control::excluded::exclude(words, k);
     ack(out, at)

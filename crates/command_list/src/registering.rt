@@ -7,7 +7,7 @@ ghost use Rattle.memory.specs.Arranged.{Arranged};
 ghost use Rattle.command.specs.Acted.{Ready, Acted};
 
 use command::answers::{ack_byte, refuse};
-use model::refusals::{KIND, KINDS};
+use model::refusals::Refusal;
 
 // Whether K kinds are registered.
 fn no_slot(words: &[u32]) -> bool
@@ -29,13 +29,13 @@ pub fn reg(words: &mut [u32], kind: u8, out: &mut [u8], at: usize) -> usize
 {
     let k = kind as usize;
     if model::LAST_KIND < k {
-        return refuse(words, out, at, KIND);
+        return refuse(words, out, at, Refusal::Kind);
     }
     if kinds::is_registered(words, k) {
         return ack_byte(out, at, 0);
     }
     if no_slot(words) {
-        return refuse(words, out, at, KINDS);
+        return refuse(words, out, at, Refusal::Kinds);
     }
     kinds::register(words, k);
     ack_byte(out, at, 1)

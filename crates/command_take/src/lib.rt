@@ -18,7 +18,7 @@ ghost use Rattle.command_take.specs.Take.{TakesKind, TakesStaged, Takes};
 
 use command::answers::{ack, refuse};
 use component::Removed;
-use model::refusals::DEAD;
+use model::refusals::Refusal;
 use values::Value;
 use words::{Entity, Found, Shape};
 use world::component_set;
@@ -84,7 +84,7 @@ pub fn take(words: &mut [u32], e: Entity, out: &mut [u8], at: usize) -> usize
 {
     let found = control::entities::get(words, e);
     let Found::At(place) = found else {
-        return refuse(words, out, at, DEAD);
+        return refuse(words, out, at, Refusal::Dead);
     };
     ack(out, at);
     let written = take_out(words, e, out, at + 1);

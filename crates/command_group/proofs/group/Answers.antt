@@ -1,7 +1,6 @@
-use mathlib.Core.Path.{◌≡◌, ◌∙◌, sym, ap}
+use mathlib.Core.Path.{◌≡◌}
 use mathlib.Core.Bool.{true, false}
 use Rattle.std.specs.Prelude.{Ok, Err}
-use Rattle.model.specs.Run.{refuses}
 use Rattle.memory.specs.Meaning.{meaning}
 use Rattle.command.proofs.Acts.{refused_by_law, accepted_by}
 use Rattle.command_group.proofs.Outcomes.{group_as, drafted_emptied}
@@ -22,4 +21,4 @@ returns-in-Ok-true c =
 pub returns-in-Err : goal.returns-in-Err
 returns-in-Err c =
     let r = c.add_staged-answer in
-    refused_by_law (group_as (meaning c.args.words.now) r.result (Err c.in-Err.refusal) r.ensures c.in-Err.is ∙ ap refuses (sym c.from.ensures)) c.refuse.ensures
+    refused_by_law (group_as (meaning c.args.words.now) r.result (Err c.in-Err.refusal) r.ensures c.in-Err.is) c.refuse.ensures
