@@ -17,7 +17,6 @@ ghost use Rattle.command.specs.Acted.{Ready, Acted};
 ghost use Rattle.command_take.specs.Take.{TakesKind, TakesStaged, Takes};
 
 use command::answers::{ack, refuse};
-use component::Removed;
 use model::refusals::Refusal;
 use values::Value;
 use words::{Entity, Found, Shape};
@@ -41,12 +40,10 @@ fn take_one(words: &mut [u32], z: Shape, i: usize, e: Entity, out: &mut [u8], at
     requires stride_in_bounds { at + (1 + 4 * z.stride) ≤ length out.old }
     ensures { TakesKind words.old words.new out.old out.new (entity e.index e.version) (get_or (staged_kinds (meaning words.old)) i 0) at }
 {
-    let removed = component_set::remove_one(words, z, i, e);
-    let Removed::Value(x) = removed else {
-        put_held(out, at, z.stride, 0, values::zero());
-        return;
-    };
-    put_held(out, at, z.stride, 1, x);
+    match component_set::remove_one(words, z, i, e) {
+        Some(x) => put_held(out, at, z.stride, 1, x),
+        None => put_held(out, at, z.stride, 0, values::zero()),
+    }
 }
 
 // Its components of all staged kinds go, and are written out; no group is walked.

@@ -331,13 +331,15 @@ module _ (z : Shape) (w : List ℕ) (s : ColumnSound z w) (some : 1 ≤ length_o
 pub clear_none : (z : Shape) (w : List ℕ) → ColumnSound z w → RowsChanged z (take (length_of w)) w w
 clear_none z w s = changed_none z (take (length_of w)) w s (sym (take_all (length_of w) (rows z w) (omega (arith, length_rows z w))))
 
-pub clear_more : (z : Shape) (k : ℕ) (w₀ w w' : List ℕ) → k ≡ length_of w → 1 ≤ k → RowsChanged z (take k) w₀ w → RowsChanged z popped w w' → RowsChanged z (take (k - 1)) w₀ w'
-clear_more z k w₀ w w' e h c d =
-    let a : length (take k (rows z w₀)) ≡ k = ap length (sym c.becomes) ∙ length_rows z w ∙ sym e in
-    changed_as z (λ (rs : SparseSet). popped (take k rs)) (take (k - 1)) w₀ w' (changed_then z (take k) popped w₀ w w' c d)
-    (ap (λ (j : ℕ). take (j - 1) (take k (rows z w₀))) a ∙ take-take (k - 1) k (rows z w₀) (omega arith))
-
-pub clear_left : (z : Shape) (k : ℕ) (w₀ w w' : List ℕ) → k ≡ length_of w → 1 ≤ k → RowsChanged z (take k) w₀ w → RowsChanged z popped w w' → k - 1 ≡ length_of w'
-clear_left z k w₀ w w' e h c d =
-    let a : length (rows z w) ≡ k = length_rows z w ∙ sym e in
-    sym (length-take-le (k - 1) (rows z w) (omega arith)) ∙ ap (λ (j : ℕ). length (take (j - 1) (rows z w))) (sym a) ∙ ap length (sym d.becomes) ∙ length_rows z w'
+-- one row more goes: how many are left, and which
+pub clear_more : (z : Shape) (w₀ w w' : List ℕ) → 1 ≤ length_of w → RowsChanged z (take (length_of w)) w₀ w → RowsChanged z popped w w'
+    → (length_of w' ≡ length_of w - 1) × RowsChanged z (take (length_of w')) w₀ w'
+clear_more z w₀ w w' h c d =
+    let k = length_of w in
+    let b : length (rows z w) ≡ k = length_rows z w in
+    let a : length (take k (rows z w₀)) ≡ k = ap length (sym c.becomes) ∙ b in
+    let left : length_of w' ≡ k - 1 = sym (length_rows z w') ∙ ap length d.becomes ∙ ap (λ (j : ℕ). length (take (j - 1) (rows z w))) b ∙ length-take-le (k - 1) (rows z w) (omega arith) in (
+      left,
+      changed_as z (λ (rs : SparseSet). popped (take k rs)) (take (length_of w')) w₀ w' (changed_then z (take k) popped w₀ w w' c d)
+          (ap (λ (j : ℕ). take (j - 1) (take k (rows z w₀))) a ∙ take-take (k - 1) k (rows z w₀) (omega arith) ∙ ap (λ (j : ℕ). take j (rows z w₀)) (sym left)),
+    )

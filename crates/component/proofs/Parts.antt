@@ -16,7 +16,7 @@ use Rattle.words.specs.Shape.{column_len, column_start}
 use Rattle.words.proofs.Offsets.{column_start_apart, column_start_mono}
 use Rattle.component.specs.SparseSet.{rows, ColumnSound}
 use Rattle.component.specs.Stored.{RowsChanged}
-use Rattle.component.specs.Columns.{column_of, Columns}
+use Rattle.component.specs.Columns.{column_of, SlotBounds, Columns}
 use Rattle.component.specs.Changes.{Lent, Only}
 
 pub lent : (z : Shape) (m s : ℕ) (w : List ℕ) → Columns z m w → s < m → Lent z s w
@@ -98,3 +98,12 @@ part_is z s b l w q r = rw (q, r)
 pub only_at : (z : Shape) (s b l : ℕ) (f : SparseSet → SparseSet) (w ys : List ℕ) → b ≡ column_start z s → l ≡ column_len z → Lent z s w
     → RowsChanged z f (between b (b + l) w) ys → Only z s f w (patch b (b + l) w ys)
 only_at z s b l f w ys q r t c = rw (q, r) (only z s f w ys t (rw (part_is z s b l w q r) at c))
+
+-- the same, from the bounds that the code has of it
+pub part_within : (z : Shape) (s : ℕ) (r : ℕ × ℕ) (w : List ℕ) → SlotBounds z s r → between r.0 r.1 w ≡ column_of z s w
+unfolding column_of
+part_within z s r w b = rw (b.starts, b.ends)
+
+pub only_within : (z : Shape) (s : ℕ) (r : ℕ × ℕ) (f : SparseSet → SparseSet) (w ys : List ℕ) → SlotBounds z s r → Lent z s w
+    → RowsChanged z f (between r.0 r.1 w) ys → Only z s f w (patch r.0 r.1 w ys)
+only_within z s r f w ys b t c = rw (b.starts, b.ends) (only z s f w ys t (rw (part_within z s r w b) at c))

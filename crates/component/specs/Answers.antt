@@ -1,10 +1,8 @@
--- What a search and a removal answer, for each case of their enums. Assumes nothing.
-use Rattle.std.specs.Prelude.{◌≡◌, true, false, List, ℕ, ◌<◌, length, get_or}
+-- What a search and a removal answer, for each case of what they hand back. Assumes nothing.
+use Rattle.std.specs.Prelude.{◌≡◌, true, false, Option, Some, None, List, ℕ, ◌<◌, length, get_or}
 use Rattle.model.specs.Model.{Entity, SparseSet, no_row, at, held, remove_row}
 use Rattle.words.specs.declared.Found.{Found}
 use Rattle.words.specs.declared.Found.TheVariants as found
-use Rattle.component.specs.declared.Removed.{Removed}
-use Rattle.component.specs.declared.Removed.TheVariants as removed
 use Rattle.words.specs.declared.Shape.{Shape}
 use Rattle.values.specs.declared.Value.{Value}
 use Rattle.values.specs.Values.{value_of}
@@ -29,11 +27,11 @@ pub record Gave (d : ℕ) (e : Entity) (rs : SparseSet) (x : Value) : Type 0 whe
   pub value : value_of d x ≡ (get_or rs (at e rs) no_row).value
 
 -- 01, TAKE: "1 byte held, value 8 (zeros if not held)"
-abbrev pub Gives : ℕ → Entity → SparseSet → Removed → Type 0
-Gives d e rs (removed.Value x) = Gave d e rs x
-Gives d e rs removed.Nothing = held e rs ≡ false
+abbrev pub Gives : ℕ → Entity → SparseSet → Option Value → Type 0
+Gives d e rs (Some x) = Gave d e rs x
+Gives d e rs None = held e rs ≡ false
 
 -- 01: "Removal puts the last row in the gap"
-pub record Removes (z : Shape) (e : Entity) (w w' : List ℕ) (r : Removed) : Type 0 where
+pub record Removes (z : Shape) (e : Entity) (w w' : List ℕ) (r : Option Value) : Type 0 where
   pub change : RowsChanged z (remove_row e) w w'
   pub answer : Gives z.stride e (rows z w) r

@@ -1,5 +1,5 @@
 -- What a function on one slot asks of the words, and what a change of one column leaves. Working vocabulary. Assumes nothing.
-use Rattle.std.specs.Prelude.{◌≡◌, ◌≢◌, List, ℕ, ◌+◌, ◌≤◌, ◌<◌, length, get_or, take, drop}
+use Rattle.std.specs.Prelude.{◌≡◌, ◌≢◌, Option, List, ℕ, ◌+◌, ◌≤◌, ◌<◌, length, get_or, take, drop}
 use Rattle.model.specs.Numbers.{MAX_KINDS}
 use Rattle.model.specs.Model.{Entity, SparseSet, remove_row}
 use Rattle.words.specs.Offsets.{ROWS}
@@ -7,7 +7,7 @@ use Rattle.words.specs.declared.Shape.{Shape}
 use Rattle.words.specs.Shape.{Shaped, column_len, column_start}
 use Rattle.component.specs.SparseSet.{ColumnSound}
 use Rattle.component.specs.Answers.{Gives}
-use Rattle.component.specs.declared.Removed.{Removed}
+use Rattle.values.specs.declared.Value.{Value}
 use Rattle.component.specs.Columns.{column_of, rows_of, Columns}
 
 -- what a function on one slot asks of the words: the slot's part is there, and is sound
@@ -37,7 +37,7 @@ abbrev pub Only : Shape → ℕ → (SparseSet → SparseSet) → List ℕ → L
 Only z s f w w' = (m : ℕ) → s < m → Columns z m w → One z m s f w w'
 
 -- a removal in slot s, and its answer
-pub record RemovesIn (z : Shape) (s : ℕ) (e : Entity) (w w' : List ℕ) (r : Removed) : Type 0 where
+pub record RemovesIn (z : Shape) (s : ℕ) (e : Entity) (w w' : List ℕ) (r : Option Value) : Type 0 where
   pub change : Only z s (remove_row e) w w'
   pub answer : Gives z.stride e (rows_of z s w) r
 

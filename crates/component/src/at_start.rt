@@ -9,31 +9,18 @@ ghost use Rattle.component.specs.Columns.{rows_of};
 ghost use Rattle.component.specs.Changes.{Lent, Only};
 ghost use Rattle.component.specs.Start.{LentFrom, SwapsFrom};
 
-use crate::component_sparse_set;
+use crate::{component_sparse_set, sparse_vec};
 use words::{Entity, Found, Shape};
 
-// Where the entity's row is, of an index that there is room for and a version that was issued: two tests fewer than sparse_vec::find.
-fn find_issued(part: &[u32], z: Shape, e: Entity) -> Found
-    requires column_sound { ColumnSound z part.now }
-    requires index_lt_capacity { (e.index < z.capacity) × (1 ≤ e.version) }
-    ensures { Finds z (entity e.index e.version) (rows z part.now) result }
-{
-    let s = words::lookup_place(z, e.index as usize);
-    let v = part[s + 1];
-    if v != e.version {
-        return Found::Nothing;
-    }
-    Found::At(part[s] as usize)
-}
-
-// The same in the column that starts at base.
+// Where the entity's row is, in the column that starts at base. Beside slots::find_in, since it makes two tests fewer: of an index that there is room for
+// and a version that was issued.
 pub fn find_from(words: &[u32], z: Shape, base: usize, e: Entity) -> Found
     requires lent_from { LentFrom z base words.now }
     requires index_lt_capacity { (e.index < z.capacity) × (1 ≤ e.version) }
     ensures { (s : ℕ) → base ≡ column_start z s → Finds z (entity e.index e.version) (rows_of z s words.now) result }
 {
     let end = base + words::column_len(z);
-    find_issued(&words[base..end], z, e)
+    sparse_vec::find_issued(&words[base..end], z, e)
 }
 
 // Whether the column's rows have the entity.
@@ -46,31 +33,11 @@ pub fn holds_from(words: &[u32], z: Shape, base: usize, e: Entity) -> bool
     matches!(found, Found::At(_))
 }
 
-// Where the row is of an entity that has one: nothing is to be tested.
-fn place_held(part: &[u32], z: Shape, e: Entity) -> usize
-    requires column_sound { ColumnSound z part.now }
-    requires part_value { held (entity e.index e.version) (rows z part.now) ≡ true }
-    ensures { HeldAt z (entity e.index e.version) (rows z part.now) result }
-{
-    let s = words::lookup_place(z, e.index as usize);
-    part[s] as usize
-}
-
-// Exchanges its row with the one at place.
-fn swap_held(part: &mut [u32], z: Shape, e: Entity, place: usize)
-    requires column_sound { ColumnSound z part.old }
-    requires part_value { (held (entity e.index e.version) (rows z part.old) ≡ true) × (place < length (rows z part.old)) }
-    ensures { RowsChanged z (swap_to (entity e.index e.version) place) part.old part.new }
-{
-    let at = place_held(part, z, e);
-    component_sparse_set::swap(part, z, at, place, e);
-}
-
-// The same in the column that starts at base.
+// Exchanges the entity's row with the one at place, in the column that starts at base.
 pub fn swap_to_from(words: &mut [u32], z: Shape, base: usize, e: Entity, place: usize)
     requires { SwapsFrom z base (entity e.index e.version) place words.old }
     ensures { (s : ℕ) → base ≡ column_start z s → Lent z s words.old → Only z s (swap_to (entity e.index e.version) place) words.old words.new }
 {
     let end = base + words::column_len(z);
-    swap_held(&mut words[base..end], z, e, place);
+    component_sparse_set::swap_to(&mut words[base..end], z, e, place);
 }

@@ -10,7 +10,6 @@ ghost use Rattle.component.specs.SparseSet.{length_of, index_at, version_at, row
 ghost use Rattle.component.specs.Stored.{ColumnSized, RowsChanged, swap_rows, Current, row_entity, entity_stores, Absent, valued, popped};
 ghost use Rattle.component.specs.Answers.{Removes};
 
-use crate::Removed;
 use crate::sparse_vec::{clear_lookup, find, place_of, put_lookup, put_place};
 use crate::values_part::{put_value, swap_values, value_of};
 use values::Value;
@@ -137,17 +136,17 @@ fn remove_at(part: &mut [u32], z: Shape, place: usize, index: u32)
 }
 
 // The entity's row goes, if it has one, and its value is handed back.
-pub fn remove(part: &mut [u32], z: Shape, e: Entity) -> Removed
+pub fn remove(part: &mut [u32], z: Shape, e: Entity) -> Option<Value>
     requires { ColumnSound z part.old }
     ensures { Removes z (entity e.index e.version) part.old part.new result }
 {
     let found = find(part, z, e);
     let Found::At(place) = found else {
-        return Removed::Nothing;
+        return None;
     };
     let x = value_at(part, z, place);
     remove_at(part, z, place, e.index);
-    Removed::Value(x)
+    Some(x)
 }
 
 // The last row goes.
@@ -166,9 +165,7 @@ pub fn clear(part: &mut [u32], z: Shape)
     requires { ColumnSound z part.old }
     ensures { RowsChanged z (λ (rs : SparseSet). []) part.old part.new }
 {
-    let mut k = part[words::ROWS_LEN];
-    while 0 < k {
+    for done in 0..part[words::ROWS_LEN] {
         pop(part, z);
-        k -= 1;
     }
 }

@@ -6,12 +6,3 @@ pub mod component_sparse_set;
 pub mod slots;
 pub mod sparse_vec;
 pub mod values_part;
-
-use values::Value;
-
-// A value that was held.
-#[derive(Drop)]
-pub enum Removed {
-    Value(Value),
-    Nothing,
-}

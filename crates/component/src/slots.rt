@@ -1,32 +1,41 @@
 // The sparse sets of a store, each reached by the slot that it lies in: its part of the words is lent on.
 ghost use Rattle.std.specs.Prelude.{◌≡◌, true, [], ℕ, ◌<◌, ◌≤◌, length, get_or};
 ghost use Rattle.model.specs.Model.{SparseSet, no_row, held, insert_row, swap_to, entity};
+ghost use Rattle.model.specs.Numbers.{MAX_KINDS};
+ghost use Rattle.words.specs.Shape.{Shaped};
 ghost use Rattle.values.specs.Values.{value_of};
 ghost use Rattle.component.specs.Stored.{Current};
 ghost use Rattle.component.specs.Answers.{Finds};
-ghost use Rattle.component.specs.Columns.{rows_of, Columns};
+ghost use Rattle.component.specs.Columns.{rows_of, SlotBounds, Columns};
 ghost use Rattle.component.specs.Changes.{Lent, Only, RemovesIn, Changes};
 
-use crate::{Removed, component_sparse_set, sparse_vec};
+use crate::{at_start, component_sparse_set, sparse_vec};
 use values::Value;
 use words::{Entity, Found, Shape};
+
+// Where the slot's part starts and ends.
+fn bounds(z: Shape, slot: usize) -> (usize, usize)
+    requires { Shaped z × (slot < MAX_KINDS) }
+    ensures { SlotBounds z slot result }
+{
+    let start = words::column_start(z, slot);
+    (start, start + words::column_len(z))
+}
 
 pub fn len_in(words: &[u32], z: Shape, slot: usize) -> usize
     requires { Lent z slot words.now }
     ensures { length (rows_of z slot words.now) ≡ result }
 {
-    let base = words::column_start(z, slot);
-    let end = base + words::column_len(z);
-    component_sparse_set::len(&words[base..end])
+    let (start, end) = bounds(z, slot);
+    component_sparse_set::len(&words[start..end])
 }
 
 pub fn find_in(words: &[u32], z: Shape, slot: usize, e: Entity) -> Found
     requires { Lent z slot words.now }
     ensures { Finds z (entity e.index e.version) (rows_of z slot words.now) result }
 {
-    let base = words::column_start(z, slot);
-    let end = base + words::column_len(z);
-    sparse_vec::find(&words[base..end], z, e)
+    let (start, end) = bounds(z, slot);
+    sparse_vec::find(&words[start..end], z, e)
 }
 
 // Whether the slot's rows have the entity.
@@ -43,9 +52,8 @@ pub fn value_in(words: &[u32], z: Shape, slot: usize, place: usize) -> Value
     requires place_in_bounds { place < length (rows_of z slot words.now) }
     ensures { value_of z.stride result ≡ (get_or (rows_of z slot words.now) place no_row).value }
 {
-    let base = words::column_start(z, slot);
-    let end = base + words::column_len(z);
-    component_sparse_set::value_at(&words[base..end], z, place)
+    let (start, end) = bounds(z, slot);
+    component_sparse_set::value_at(&words[start..end], z, place)
 }
 
 pub fn insert_in(words: &mut [u32], z: Shape, slot: usize, e: Entity, x: Value)
@@ -54,18 +62,16 @@ pub fn insert_in(words: &mut [u32], z: Shape, slot: usize, e: Entity, x: Value)
     requires current { Current e.index e.version (rows_of z slot words.old) }
     ensures { Only z slot (insert_row (entity e.index e.version) (value_of z.stride x)) words.old words.new }
 {
-    let base = words::column_start(z, slot);
-    let end = base + words::column_len(z);
-    component_sparse_set::insert(&mut words[base..end], z, e, x);
+    let (start, end) = bounds(z, slot);
+    component_sparse_set::insert(&mut words[start..end], z, e, x);
 }
 
-pub fn remove_in(words: &mut [u32], z: Shape, slot: usize, e: Entity) -> Removed
+pub fn remove_in(words: &mut [u32], z: Shape, slot: usize, e: Entity) -> Option<Value>
     requires { Lent z slot words.old }
     ensures { RemovesIn z slot (entity e.index e.version) words.old words.new result }
 {
-    let base = words::column_start(z, slot);
-    let end = base + words::column_len(z);
-    component_sparse_set::remove(&mut words[base..end], z, e)
+    let (start, end) = bounds(z, slot);
+    component_sparse_set::remove(&mut words[start..end], z, e)
 }
 
 pub fn swap_to_in(words: &mut [u32], z: Shape, slot: usize, e: Entity, place: usize)
@@ -73,18 +79,15 @@ pub fn swap_to_in(words: &mut [u32], z: Shape, slot: usize, e: Entity, place: us
     requires words_value { (held (entity e.index e.version) (rows_of z slot words.old) ≡ true) × (place < length (rows_of z slot words.old)) }
     ensures { Only z slot (swap_to (entity e.index e.version) place) words.old words.new }
 {
-    let base = words::column_start(z, slot);
-    let end = base + words::column_len(z);
-    component_sparse_set::swap_to(&mut words[base..end], z, e, place);
+    at_start::swap_to_from(words, z, words::column_start(z, slot), e, place);
 }
 
 pub fn clear_in(words: &mut [u32], z: Shape, slot: usize)
     requires { Lent z slot words.old }
     ensures { Only z slot (λ (rs : SparseSet). []) words.old words.new }
 {
-    let base = words::column_start(z, slot);
-    let end = base + words::column_len(z);
-    component_sparse_set::clear(&mut words[base..end], z);
+    let (start, end) = bounds(z, slot);
+    component_sparse_set::clear(&mut words[start..end], z);
 }
 
 // Every slot's rows go: 01's WIPE, as far as the sparse sets are concerned.
@@ -92,9 +95,7 @@ pub fn clear_all(words: &mut [u32], z: Shape, m: usize)
     requires { Columns z m words.old }
     ensures { Changes z m (λ (s : ℕ) (rs : SparseSet). []) words.old words.new }
 {
-    let mut slot = 0;
-    while slot < m {
+    for slot in 0..m {
         clear_in(words, z, slot);
-        slot += 1;
     }
 }

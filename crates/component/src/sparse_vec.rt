@@ -1,5 +1,5 @@
 // The lookups by index: an entity's place among the rows, and the version held, 0 where the index is not held (sparse_vec.rs).
-ghost use Rattle.std.specs.Prelude.{◌≡◌, true, ◌<◌};
+ghost use Rattle.std.specs.Prelude.{◌≡◌, true, ◌<◌, ◌≤◌};
 ghost use Rattle.words.specs.Stores.{stores};
 ghost use Rattle.component.specs.SparseSet.{rows, ColumnSound};
 ghost use Rattle.component.specs.Stored.{ColumnSized, lookup_stores, place_stores, clear_stores};
@@ -47,22 +47,27 @@ pub fn place_of(part: &[u32], z: Shape, e: Entity) -> usize
     part[s] as usize
 }
 
-// Any index and version may be asked for.
-pub fn find(part: &[u32], z: Shape, e: Entity) -> Found
-    requires { ColumnSound z part.now }
+// Where the entity's row is, of an index that there is room for and a version that was issued.
+pub fn find_issued(part: &[u32], z: Shape, e: Entity) -> Found
+    requires column_sound { ColumnSound z part.now }
+    requires index_lt_capacity { (e.index < z.capacity) × (1 ≤ e.version) }
     ensures { Finds z (entity e.index e.version) (rows z part.now) result }
 {
-    let x = e.index as usize;
-    if z.capacity <= x {
-        return Found::Nothing;
-    }
-    if e.version == 0 {
-        return Found::Nothing;
-    }
-    let s = words::lookup_place(z, x);
+    let s = words::lookup_place(z, e.index as usize);
     let v = part[s + 1];
     if v != e.version {
         return Found::Nothing;
     }
     Found::At(part[s] as usize)
+}
+
+// Any index and version may be asked for.
+pub fn find(part: &[u32], z: Shape, e: Entity) -> Found
+    requires { ColumnSound z part.now }
+    ensures { Finds z (entity e.index e.version) (rows z part.now) result }
+{
+    if z.capacity <= e.index as usize || e.version == 0 {
+        return Found::Nothing;
+    }
+    find_issued(part, z, e)
 }

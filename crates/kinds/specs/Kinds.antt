@@ -1,11 +1,11 @@
 -- A kind's sparse set by way of the table of kinds, and what a change of it leaves. Assumes nothing.
-use Rattle.std.specs.Prelude.{◌≡◌, List, [], map, ℕ, suc}
+use Rattle.std.specs.Prelude.{◌≡◌, Option, List, [], map, ℕ, suc}
 use Rattle.model.specs.Model.{Entity, SparseSet, Storage, set_of, remove_row}
 use Rattle.model.specs.Store.{on_set, on_storage}
 use Rattle.words.specs.Shape.{shape_of}
 use Rattle.words.specs.declared.Found.{Found}
 use Rattle.words.specs.declared.Found.TheVariants as found
-use Rattle.component.specs.declared.Removed.{Removed}
+use Rattle.values.specs.declared.Value.{Value}
 use Rattle.component.specs.Answers.{Gives}
 use Rattle.memory.specs.Header.{slot_of}
 use Rattle.memory.specs.Meaning.{own_at, meaning}
@@ -21,7 +21,7 @@ OwnGroup w k (found.At g) = own_at w (slot_of w k) ≡ suc g
 OwnGroup w k found.Nothing = own_at w (slot_of w k) ≡ 0
 
 -- 01: "Removal puts the last row in the gap", in kind k's sparse set, and the answer
-pub record RemovesKind (w w' : List ℕ) (k : ℕ) (e : Entity) (r : Removed) : Type 0 where
+pub record RemovesKind (w w' : List ℕ) (k : ℕ) (e : Entity) (r : Option Value) : Type 0 where
   pub becomes : Becomes w w' (on_storage (on_set k (remove_row e)) (meaning w))
   pub gives : Gives (shape_of w).stride e (kind_set w k) r
 

@@ -19,7 +19,6 @@ ghost use Rattle.memory.specs.Arranged.{Arranged, Becomes};
 ghost use Rattle.kinds.specs.Kinds.{kind_set, OwnGroup, RemovesKind, emptied};
 ghost use Rattle.kinds.specs.Steps.{InSlot, head_word, with_head};
 
-use component::Removed;
 use values::Value;
 use words::{Entity, Found, Shape};
 
@@ -103,7 +102,7 @@ pub fn insert(words: &mut [u32], z: Shape, kind: usize, e: Entity, x: Value)
 }
 
 // The entity's row goes, if it has one, and its value is handed back.
-pub fn remove(words: &mut [u32], z: Shape, kind: usize, e: Entity) -> Removed
+pub fn remove(words: &mut [u32], z: Shape, kind: usize, e: Entity) -> Option<Value>
     requires arranged { Arranged words.old }
     requires shape_is { z ≡ shape_of words.old }
     requires kind_known { In (meaning words.old).kinds kind }

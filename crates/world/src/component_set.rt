@@ -13,7 +13,7 @@ ghost use Rattle.world.specs.Insert.{Insertable, insert_one, inserted, AllInsert
 ghost use Rattle.world.specs.Remove.{Staged, ungrouped, removed};
 
 use crate::mask::{Walk, staged_mask};
-use component::Removed;
+use values::Value;
 use words::{Entity, Shape};
 
 // The staged component at i goes into the entity.
@@ -89,7 +89,7 @@ pub fn ungroup_staged(words: &mut [u32], z: Shape, e: Entity)
 }
 
 // The entity's component of the staged kind at i goes, if it has one, and its value is handed back.
-pub fn remove_one(words: &mut [u32], z: Shape, i: usize, e: Entity) -> Removed
+pub fn remove_one(words: &mut [u32], z: Shape, i: usize, e: Entity) -> Option<Value>
     requires staged { Staged words.old }
     requires shape_is { z ≡ shape_of words.old }
     requires i_in_bounds { i < length (meaning words.old).control.staged }

@@ -2,8 +2,8 @@ use Rattle.model.specs.Model.{swap_to, entity}
 use Rattle.component.proofs.Parts.{part_is, only_at}
 use Rattle.component.proofs.at_start.swap_to_from.Goals as goal
 
-pub swap_held-requires : goal.swap_held-requires
-swap_held-requires c =
+pub swap_to-requires : goal.swap_to-requires
+swap_to-requires c =
     let a = c.args in
     let L = c.requires.from in
     rw (part_is a.z L.slot a.base c.column_len.result a.words.now L.starts c.column_len.ensures.is) record { column_sound = L.lent.sound; part_value = (c.requires.holds, c.requires.room) }
@@ -11,4 +11,4 @@ swap_held-requires c =
 pub returns : goal.returns
 returns c =
     let a = c.args in
-    λ s q l. only_at a.z s a.base c.column_len.result (swap_to (entity a.e.index a.e.version) a.place) a.words.now c.swap_held.new.part q c.column_len.ensures.is l c.swap_held.ensures
+    λ s q l. only_at a.z s a.base c.column_len.result (swap_to (entity a.e.index a.e.version) a.place) a.words.now c.swap_to.new.part q c.column_len.ensures.is l c.swap_to.ensures

@@ -1,7 +1,5 @@
-use Rattle.component.proofs.Parts.{part_is}
+use Rattle.component.proofs.Parts.{part_within}
 use Rattle.component.proofs.slots.len_in.Goals as goal
 
 pub returns : goal.returns
-returns c =
-    let a = c.args in
-    rw (part_is a.z a.slot c.column_start-base.result c.column_len.result a.words.now c.column_start-base.ensures.is c.column_len.ensures.is) at (c.len.ensures a.z)
+returns c = rw (part_within c.args.z c.args.slot c.bounds-start.result c.args.words.now c.bounds-start.ensures) at (c.len.ensures c.args.z)

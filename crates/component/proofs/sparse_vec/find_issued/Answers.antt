@@ -4,7 +4,7 @@ use native.Mathlib.Omega.{arith}
 use lib.ListN.{get_or}
 use Rattle.component.specs.SparseSet.{held_of}
 use Rattle.component.proofs.Places.{finds_at, finds_nothing}
-use Rattle.component.proofs.at_start.find_issued.Goals as goal
+use Rattle.component.proofs.sparse_vec.find_issued.Goals as goal
 
 pub returns-then-v-e : goal.returns-then-v-e
 returns-then-v-e c =
