@@ -3,7 +3,7 @@ use mathlib.Core.Path.{◌≡◌, refl, sym, ap, ap₂, ◌∙◌, subst}
 use mathlib.Core.Bool.{Bool, true, false, cond, or-true, true≢false}
 use mathlib.Core.List.{List, [], ◌∷◌, ◌++◌, append_assoc, append-nil}
 use Prim.Native.Nat.{ℕ, zero, suc, ◌+◌, ◌-◌, ◌≤◌, ◌<◌}
-use native.Mathlib.Nat.{zero-add, add-zero}
+use native.Mathlib.Nat.{add-zero}
 use native.Mathlib.Omega.{arith}
 use lib.Dec.{eqb}
 use lib.ListN.{length, get_or, take, drop, length-append, take-append-drop}
@@ -18,7 +18,7 @@ use Rattle.model.proofs.Draft.{chains_rest, holds_staged}
 use Rattle.words.specs.Part.{between}
 use Rattle.words.proofs.Part.{between_join, between_drop, between_front, between_rest, last_part, drop_take}
 use Rattle.layout.specs.Layout.{start_of, groups_from, KindSet, AritiesRising}
-use Rattle.layout.specs.Fit.{pick_part, place_in, chain_place}
+use Rattle.layout.specs.Fit.{pick_part, place_in}
 use Rattle.layout.specs.declared.group_layout.Part.{Part}
 use Rattle.layout.specs.declared.group_layout.Part.TheVariants.{At, Cross}
 use Rattle.layout.specs.Grow.{put_in, merged_kinds}
@@ -64,9 +64,6 @@ module _ (hs ks ars : List ℕ) where
   -- with j arities behind
   abbrev pub place_at_law : ℕ → Part
   place_at_law j = place_from hs j (take (start_of ars j) ks) (groups_from [] 0 ks (start_of ars j) (drop j ars))
-
-  pub place_start : chain_place hs (groups_from [] 0 ks 0 ars) ≡ place_at_law 0
-  place_start = ap (λ (i : ℕ). pick_part (chains hs [] (groups_from [] 0 ks 0 ars)) (At i) Cross) (sym (zero-add (place_in hs [] (groups_from [] 0 ks 0 ars))))
 
   pub place_end : place_at_law (length ars) ≡ At (length ars)
   unfolding groups_from

@@ -1,5 +1,5 @@
 pub mod KindSets
-pub mod Append
+pub mod Raising
 pub mod Family
 pub mod Fits
 pub mod Arrays

@@ -1,5 +1,6 @@
 -- What the loops of the check know, and why a refused block is not sound. Assumes nothing.
 use mathlib.Core.Path.{◌≡◌, refl, sym, ap, ◌∙◌, subst}
+use mathlib.Core.Bool.{Bool, true, false}
 use mathlib.Core.List.{List, [], ◌∷◌}
 use Prim.Native.Nat.{ℕ, ◌+◌, ◌≤◌, ◌<◌}
 use native.Mathlib.Omega.{arith}
@@ -11,10 +12,11 @@ use Rattle.model.specs.Numbers.{MAX_GROUP_COUNT, MAX_KINDS}
 use Rattle.words.specs.Offsets.{ARITIES, BLOCK_LEN, ENDS, KIND_ENDS, UNREGISTERED}
 use Rattle.model.specs.Lists.{one, count_of}
 use Rattle.model.proofs.ListLaws.{count_next, drop_step}
+use Rattle.words.specs.Decides.{Decides}
 use Rattle.words.specs.Part.{between}
 use Rattle.model.proofs.BoolLaws.{by-eq}
-use Rattle.layout.specs.Layout.{Arrays, arrays_in, block_arrays, start_of, AritiesRising, FamilyFormed, WellFormed}
-use Rattle.layout.proofs.Family.{start_next, rising_head}
+use Rattle.layout.specs.Layout.{Arrays, arrays_in, start_of, AritiesRising, FamilyFormed}
+use Rattle.layout.proofs.Family.{rising_head}
 use Rattle.layout.proofs.Arrays.{end_inside}
 use Rattle.layout_block.specs.Checks.{BlockSound, KindsOk, FamilyInside, FamiliesFormed}
 
@@ -29,9 +31,6 @@ pub record RisesSoFar (ars : List ℕ) (n b j : ℕ) : Type 0 where
   pub below : j ≤ length ars
   pub goes : AritiesRising 1 n ars → AritiesRising b n (drop j ars)
   pub back : AritiesRising b n (drop j ars) → AritiesRising 1 n ars
-
-pub rises_none : (ars : List ℕ) (n : ℕ) → RisesSoFar ars n 1 0
-rises_none ars n = record { below = omega arith; goes = λ r. r; back = λ r. r }
 
 pub rises_more : (ars : List ℕ) (n b j : ℕ) → j < length ars → b < get_or ars j 0 → RisesSoFar ars n b j → RisesSoFar ars n (get_or ars j 0) (j + 1)
 rises_more ars n b j h l r =
@@ -55,11 +54,14 @@ end_rising : (ars : List ℕ) (n b j : ℕ) → length ars ≡ j → b ≡ n →
 unfolding AritiesRising
 end_rising ars n b j e r = subst (AritiesRising b n) (sym (ap (λ (i : ℕ). drop i ars) (sym e) ∙ drop-length ars)) r
 
-pub rises_short : (ars : List ℕ) (n b j : ℕ) → length ars ≡ j → (b ≡ n → ⊥) → RisesSoFar ars n b j → AritiesRising 1 n ars → ⊥
+rises_short : (ars : List ℕ) (n b j : ℕ) → length ars ≡ j → (b ≡ n → ⊥) → RisesSoFar ars n b j → AritiesRising 1 n ars → ⊥
 rises_short ars n b j e ne r all = ne (rising_end ars n b j e (r.goes all))
 
-pub rises_done : (ars : List ℕ) (n b j : ℕ) → length ars ≡ j → b ≡ n → RisesSoFar ars n b j → AritiesRising 1 n ars
+rises_done : (ars : List ℕ) (n b j : ℕ) → length ars ≡ j → b ≡ n → RisesSoFar ars n b j → AritiesRising 1 n ars
 rises_done ars n b j e q r = r.back (end_rising ars n b j e q)
+
+pub rises_decided : (ars : List ℕ) (n b j : ℕ) → length ars ≡ j → RisesSoFar ars n b j → Decides (eqb b n) (AritiesRising 1 n ars)
+rises_decided ars n b j e r = by-eq b n (λ q. rw (eq-eqb b n q) (rises_done ars n b j e q r)) (λ ne. rw (ne_eqb b n ne) (rises_short ars n b j e ne r))
 
 -- ---- families
 
@@ -75,9 +77,6 @@ family_inside a f h all =
       rising = x.rising;
     }
 
-pub inside_family : (a : Arrays) (f : ℕ) → FamilyInside a.arities (start_of a.kind_ends f) (get_or a.kind_ends f 0) (start_of a.ends f) (get_or a.ends f 0) → FamilyFormed a f
-inside_family a f x = record { least = x.least; most = x.most; some = x.some; rising = x.rising }
-
 -- the families before f are formed, and end at k and g
 pub record FormedSoFar (a : Arrays) (k g f : ℕ) : Type 0 where
   pub below : f ≤ a.families
@@ -87,63 +86,38 @@ pub record FormedSoFar (a : Arrays) (k g f : ℕ) : Type 0 where
   pub many : g ≤ MAX_GROUP_COUNT
   pub family : (i : ℕ) → i < f → FamilyFormed a i
 
-pub formed_none : (a : Arrays) → FormedSoFar a 0 0 0
-formed_none a =
-    record { below = omega arith; kinds = refl; groups = refl; wide = omega arith; many = omega arith; family = λ i h. absurd (omega arith) }
-
-pub formed_more : (a : Arrays) (k g f : ℕ) → f < a.families → FormedSoFar a k g f → FamilyInside a.arities k (get_or a.kind_ends f 0) g (get_or a.ends f 0)
-    → FormedSoFar a (get_or a.kind_ends f 0) (get_or a.ends f 0) (f + 1)
-formed_more a k g f h s x =
-    record {
-      below = omega arith;
-      kinds = sym (start_next a.kind_ends f);
-      groups = sym (start_next a.ends f);
-      wide = x.wide;
-      many = x.many;
-      family = λ i l. by-eq i f (λ e. rw e (inside_family a f (rw (s.kinds, s.groups) at x))) (λ ne. s.family i (omega arith));
-    }
-
 pub formed_stop : (a : Arrays) (k g f : ℕ) → f < a.families → FormedSoFar a k g f → (FamilyInside a.arities k (get_or a.kind_ends f 0) g (get_or a.ends f 0) → ⊥) → FamiliesFormed a → ⊥
 formed_stop a k g f h s n all = n (rw (s.kinds, s.groups) (family_inside a f h all))
 
-pub formed_done : (a : Arrays) (k g f : ℕ) → a.families ≤ f → FormedSoFar a k g f → FamiliesFormed a
-formed_done a k g f h s =
-    let e : f ≡ a.families = omega (arith, s.below) in
-    record {
-      wide = omega (arith, s.kinds, s.wide, ap (start_of a.kind_ends) e);
-      many = omega (arith, s.groups, s.many, ap (start_of a.ends) e);
-      family = λ i l. s.family i (omega arith);
-    }
-
 -- ---- kinds
 
--- the kinds before i are sound, and the table marks them
-pub record SeenSoFar (table l seen : List ℕ) (i : ℕ) : Type 0 where
+-- the kinds before i are sound, and those that were seen are they
+pub record SeenSoFar (table l : List ℕ) (seen : List Bool) (i : ℕ) : Type 0 where
   pub below : i ≤ length l
   pub size : length seen ≡ MAX_KINDS
-  pub marks : (k : ℕ) → k < MAX_KINDS → get_or seen k 0 ≡ count_of eqb k (take i l)
+  pub marks : (k : ℕ) → k < MAX_KINDS → one (get_or seen k false) ≡ count_of eqb k (take i l)
   pub sound : KindsOk table (take i l)
 
-pub seen_none : (table l : List ℕ) → SeenSoFar table l (replicate MAX_KINDS 0) 0
+pub seen_none : (table l : List ℕ) → SeenSoFar table l (replicate MAX_KINDS false) 0
 seen_none table l =
     record {
       below = omega arith;
       size = refl;
-      marks = λ k h. get_or-replicate MAX_KINDS k 0 0 h;
+      marks = λ k h. ap one (get_or-replicate MAX_KINDS k false false h);
       sound = record { once = record { once = λ k. omega arith; known = λ k h. refl }; registered = λ k h. absurd (omega arith) };
     }
 
-pub seen_more : (table l seen : List ℕ) (i : ℕ) → i < length l → get_or l i 0 < MAX_KINDS → (get_or seen (get_or l i 0) 0 ≡ 1 → ⊥) → (get_or table (get_or l i 0) 0 ≡ UNREGISTERED → ⊥)
-    → SeenSoFar table l seen i → SeenSoFar table l (set seen (get_or l i 0) 1) (i + 1)
+pub seen_more : (table l : List ℕ) (seen : List Bool) (i : ℕ) → i < length l → get_or l i 0 < MAX_KINDS → get_or seen (get_or l i 0) false ≡ false → (get_or table (get_or l i 0) 0 ≡ UNREGISTERED → ⊥)
+    → SeenSoFar table l seen i → SeenSoFar table l (set seen (get_or l i 0) true) (i + 1)
 seen_more table l seen i h small new reg s =
     let v = get_or l i 0 in
-    let z : count_of eqb v (take i l) ≡ 0 = omega (arith, s.marks v small, s.sound.once.once v) in
+    let z : count_of eqb v (take i l) ≡ 0 = sym (s.marks v small) ∙ ap one new in
     record {
       below = omega arith;
-      size = length-set seen v 1 ∙ s.size;
+      size = length-set seen v true ∙ s.size;
       marks = λ k hk. by-eq k v
-          (λ e. rw e (get_or-set_same seen v 1 0 (omega (arith, s.size)) ∙ sym (count_next v l i h ∙ omega (arith, z, ap one (eq-eqb v v refl)))))
-          (λ ne. get_or-set_other seen v k 1 0 ne ∙ s.marks k hk ∙ sym (count_next k l i h ∙ omega (arith, ap one (ne_eqb k v ne))));
+          (λ e. rw e (ap one (get_or-set_same seen v true false (omega (arith, s.size))) ∙ sym (count_next v l i h ∙ omega (arith, z, ap one (eq-eqb v v refl)))))
+          (λ ne. ap one (get_or-set_other seen v k true false ne) ∙ s.marks k hk ∙ sym (count_next k l i h ∙ omega (arith, ap one (ne_eqb k v ne))));
       sound = record {
         once = record {
           once = λ k. by-eq k v
@@ -155,15 +129,10 @@ seen_more table l seen i h small new reg s =
       };
     }
 
--- ---- the whole block
+pub seen_before : (seen : Bool) (n : ℕ) → seen ≡ true → one seen ≡ n → n ≡ 1
+seen_before seen n e m = sym m ∙ ap one e
 
-pub families_of_law : (w : List ℕ) (n : ℕ) → WellFormed (block_arrays w n) → FamiliesFormed (arrays_in [] (between ARITIES KIND_ENDS w) (between KIND_ENDS ENDS w) (between ENDS BLOCK_LEN w) n)
-families_of_law w n good =
-    record {
-      wide = good.wide;
-      many = good.many;
-      family = λ f h. let x = good.family f h in record { least = x.least; most = x.most; some = x.some; rising = x.rising };
-    }
+-- ---- the whole block
 
 kinds_front : (w : List ℕ) (n m : ℕ) → n ≤ MAX_KINDS → n ≡ m → take m (between 0 ARITIES w) ≡ take n w
 kinds_front w n m h e = ap (λ (k : ℕ). take k (between 0 ARITIES w)) (sym e) ∙ take-take n MAX_KINDS w h

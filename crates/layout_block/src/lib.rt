@@ -19,8 +19,8 @@ fn fetch(dst: &mut [u8], src: &[u32])
     requires { FetchAsk dst.old src.now }
     ensures { Fetched dst.old src.now dst.new }
 {
-    for i in 0..src.len() {
-        dst[i] = src[i] as u8;
+    for (i, &word) in src.iter().enumerate() {
+        dst[i] = word as u8;
     }
 }
 
@@ -29,8 +29,8 @@ fn put(dst: &mut [u32], at: usize, src: &[u8])
     requires { at + length src.now ≤ length dst.old }
     ensures { PutAt dst.old at src.now dst.new }
 {
-    for i in 0..src.len() {
-        dst[at + i] = src[i] as u32;
+    for (i, &byte) in src.iter().enumerate() {
+        dst[at + i] = u32::from(byte);
     }
 }
 
@@ -67,17 +67,10 @@ pub fn write_layout(block: &mut [u32], l: Layout)
     requires { Formed l × (length block.old ≡ BLOCK_LEN) }
     ensures { WrittenTo l block.new }
 {
-    let families = l.families;
-    let width = l.width;
-    let groups = l.groups;
-    let kinds = l.kinds;
-    put(&mut *block, 0, &kinds[..width]);
-    let arities = l.arities;
-    put(&mut *block, ARITIES, &arities[..groups]);
-    let kind_ends = l.kind_ends;
-    put(&mut *block, KIND_ENDS, &kind_ends[..families]);
-    let ends = l.ends;
-    put(&mut *block, ENDS, &ends[..families]);
+    put(block, 0, &l.kinds[..l.width]);
+    put(block, ARITIES, &l.arities[..l.groups]);
+    put(block, KIND_ENDS, &l.kind_ends[..l.families]);
+    put(block, ENDS, &l.ends[..l.families]);
 }
 
 // Do the arities rise strictly, from 2 or more to n?
@@ -85,17 +78,14 @@ fn rises(arities: &[u32], n: usize) -> bool
     ensures { Decides result (AritiesRising 1 n arities.now) }
 {
     let mut before: usize = 1;
-    for j in 0..arities.len() {
-        let a = arities[j] as usize;
+    for &arity in arities {
+        let a = arity as usize;
         if a <= before {
             return false;
         }
         before = a;
     }
-    if before != n {
-        return false;
-    }
-    true
+    before == n
 }
 
 // Is there a family from kind k to ke and from group g to ge?
@@ -103,25 +93,12 @@ fn family_ok(arities: &[u32], k: usize, ke: usize, g: usize, ge: usize) -> bool
     requires { (length arities.now ≡ GROUP_PLACES) × (k ≤ MAX_KINDS) }
     ensures { Decides result (FamilyInside arities.now k ke g ge) }
 {
-    if ke < k + 2 {
-        return false;
-    }
-    if k + model::MAX_GROUP_ARITY < ke {
-        return false;
-    }
-    if model::MAX_KINDS < ke {
-        return false;
-    }
-    if ge <= g {
-        return false;
-    }
-    if model::MAX_GROUP_COUNT < ge {
-        return false;
-    }
-    if !rises(&arities[g..ge], ke - k) {
-        return false;
-    }
-    true
+    k + 2 <= ke
+        && ke <= k + model::MAX_GROUP_ARITY
+        && ke <= model::MAX_KINDS
+        && g < ge
+        && ge <= model::MAX_GROUP_COUNT
+        && rises(&arities[g..ge], ke - k)
 }
 
 // Are there families up to each of the ends?
@@ -153,19 +130,13 @@ pub fn kinds_ok(kinds: &[u32], table: &[u32]) -> bool
     requires { length table.now ≡ MAX_KINDS }
     ensures { Decides result (KindsOk table.now kinds.now) }
 {
-    let mut seen = [0u8; model::MAX_KINDS];
-    for i in 0..kinds.len() {
-        let k = kinds[i] as usize;
-        if model::MAX_KINDS <= k {
+    let mut seen = [false; model::MAX_KINDS];
+    for &kind in kinds {
+        let k = kind as usize;
+        if model::MAX_KINDS <= k || seen[k] || table[k] == words::UNREGISTERED {
             return false;
         }
-        if seen[k] == 1 {
-            return false;
-        }
-        if table[k] == words::UNREGISTERED {
-            return false;
-        }
-        seen[k] = 1;
+        seen[k] = true;
     }
     true
 }
@@ -175,24 +146,12 @@ pub fn block_ok(block: &[u32], families: usize, groups: usize, table: &[u32]) ->
     requires { (length block.now ≡ BLOCK_LEN) × (length table.now ≡ MAX_KINDS) }
     ensures { Decides result (BlockSound block.now table.now families groups) }
 {
-    if model::MAX_GROUP_COUNT < families {
+    let arities = &block[ARITIES..KIND_ENDS];
+    let kind_ends = &block[KIND_ENDS..ENDS];
+    let ends = &block[ENDS..BLOCK_LEN];
+    if model::MAX_GROUP_COUNT < families || !families_ok(arities, kind_ends, ends, families) {
         return false;
     }
-    if !families_ok(
-        &block[ARITIES..KIND_ENDS],
-        &block[KIND_ENDS..ENDS],
-        &block[ENDS..BLOCK_LEN],
-        families,
-    ) {
-        return false;
-    }
-    let count = start_of(&block[ENDS..BLOCK_LEN], 0, families);
-    if count != groups {
-        return false;
-    }
-    let width = start_of(&block[KIND_ENDS..ENDS], 0, families);
-    if !kinds_ok(&block[..width], table) {
-        return false;
-    }
-    true
+    let width = start_of(kind_ends, 0, families);
+    start_of(ends, 0, families) == groups && kinds_ok(&block[..width], table)
 }

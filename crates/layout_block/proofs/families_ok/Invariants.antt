@@ -1,4 +1,3 @@
-use Prim.Native.Nat.{◌-◌}
 use mathlib.Core.List.{[]}
 use Rattle.layout.specs.Layout.{arrays_in}
 use Rattle.layout_block.proofs.Checking.{FormedSoFar}
@@ -6,6 +5,3 @@ use Rattle.layout_block.proofs.families_ok.Given as goal
 
 abbrev pub invariant-loop-f : goal.invariant-loop-f
 invariant-loop-f l = FormedSoFar (arrays_in [] l.arities l.kind_ends l.ends l.families) l.k l.g l.f
-
-abbrev pub decreases-loop-f : goal.decreases-loop-f
-decreases-loop-f l = l.families - l.f

@@ -1,4 +1,4 @@
-use Rattle.layout.proofs.Append.{Raising}
+use Rattle.layout.proofs.Raising.{Raising}
 use Rattle.layout.proofs.group_layout.raise.Given as goal
 
 abbrev pub invariant-loop-i : goal.invariant-loop-i
