@@ -12,35 +12,14 @@ ghost use Rattle.memory.specs.Fresh.{Cleared, TableCleared, Made};
 pub fn is_width(v: usize) -> bool
     ensures { Decides result (EightOrSixteen v) }
 {
-    if v == model::VALUE_BYTES {
-        return true;
-    }
-    if v == model::LONG_VALUE_BYTES {
-        return true;
-    }
-    false
+    v == model::VALUE_BYTES || v == model::LONG_VALUE_BYTES
 }
 
 // N from 1 to 4,096, K from 1 to 128, and 8 or 16 bytes for a value.
 pub fn within_limits(n: usize, k: usize, v: usize) -> bool
     ensures { Decides result (Limits n k v) }
 {
-    if !is_width(v) {
-        return false;
-    }
-    if n < 1 {
-        return false;
-    }
-    if model::MAX_ENTITIES < n {
-        return false;
-    }
-    if k < 1 {
-        return false;
-    }
-    if model::MAX_KINDS < k {
-        return false;
-    }
-    true
+    is_width(v) && 1 <= n && n <= model::MAX_ENTITIES && 1 <= k && k <= model::MAX_KINDS
 }
 
 // Zeros up to `end`.
@@ -48,11 +27,7 @@ fn clear(words: &mut [u32], end: usize)
     requires { end ≤ length words.old }
     ensures { Cleared words.old end words.new }
 {
-    let mut i = 0;
-    while i < end {
-        words[i] = 0;
-        i += 1;
-    }
+    words[..end].fill(0);
 }
 
 // The table of 128 kinds, all unregistered.
@@ -60,12 +35,7 @@ fn put_table(words: &mut [u32])
     requires { STAGED_KINDS ≤ length words.old }
     ensures { TableCleared words.old MAX_KINDS words.new }
 {
-    let table = [255u32; 128];
-    let mut k = 0;
-    while k < model::MAX_KINDS {
-        words[words::TABLE + k] = table[k];
-        k += 1;
-    }
+    words[words::TABLE..words::STAGED_KINDS].copy_from_slice(&[255u32; 128]);
 }
 
 // The empty store of n entities and k kinds with values of v bytes, under the rule that is told.
