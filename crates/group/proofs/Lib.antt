@@ -16,3 +16,6 @@ pub mod Stepping
 pub mod Walking
 pub mod Each
 pub mod EachReady
+pub mod Order
+pub mod Kept
+pub mod Live

@@ -33,6 +33,10 @@ shape_kept w₀ w f B = sym (shape_means w) ∙ ap (λ (m : Store). shape m.sett
 abbrev pub SoFar : List ℕ → List ℕ → Type 0
 SoFar w₀ w = Becomes w₀ w (on_storage (λ (s : Storage). (meaning w).storage) (meaning w₀))
 
+-- what some change of the storage left
+pub changed_so_far : {w w' : List ℕ} (f : Storage → Storage) → Becomes w w' (on_storage f (meaning w)) → SoFar w w'
+changed_so_far {w} {w'} f B = storage_becomes w w' (meaning w) f (λ (s : Storage). (meaning w').storage) (sym (ap (λ (m : Store). m.storage) B.means)) B
+
 module _ {w₀ w : List ℕ} (B : SoFar w₀ w) where
   -- one step more
   pub so_far_next : {w' : List ℕ} (f : Storage → Storage) → Becomes w w' (on_storage f (meaning w)) → SoFar w₀ w'

@@ -9,23 +9,25 @@ use lib.ListN.{length, get_or, set}
 use Rattle.model.specs.Model.{Entity, SparseSet, Storage, mem, set_of, held, swap_to}
 use Rattle.model.specs.Store.{on_set, on_storage, Store}
 use Rattle.model.specs.Sound.{In, Distinct}
+use Rattle.model.proofs.Shape.{plain}
 use Rattle.model.proofs.KindLists.{in_left, not_both, distinct_apart}
 use Rattle.words.specs.Part.{between}
 use Rattle.words.proofs.Part.{between_none, between_split, between_more, between_in}
-use Rattle.words.specs.declared.Shape.{Shape}
 use Rattle.words.specs.Shape.{shape_of}
-use Rattle.component.specs.Columns.{rows_of}
-use Rattle.component.specs.Changes.{Lent, Only}
+use Rattle.component.specs.Changes.{Only}
+use Rattle.memory.specs.Header.{slot_of}
 use Rattle.memory.specs.Meaning.{meaning}
 use Rattle.memory.specs.Arranged.{Arranged, Becomes}
 use Rattle.memory.proofs.Becomes.{stays, sets_wide}
+use Rattle.kinds.specs.Kinds.{kind_set}
 use Rattle.kinds.specs.Steps.{InSlot}
-use Rattle.kinds.proofs.Slot.{known_small, lent_at, rows_at, only_becomes}
+use Rattle.kinds.proofs.Slot.{known_small, known_slot, only_becomes}
 use Rattle.group.specs.Ready.{Swappable}
 use Rattle.group.specs.Metadata.{order_of, PlacesKnown}
+use Rattle.group.specs.Places.{kind_no, Placed, SameLayout}
 use Rattle.group.specs.Steps.{swap_kinds}
 use Rattle.group.proofs.EachKind.{each_kind, each_append, set_of_each, each_kinds}
-use Rattle.group.proofs.Storing.{becomes_then, shape_kept}
+use Rattle.group.proofs.Storing.{SoFar, becomes_then, changed_so_far}
 use Rattle.group.proofs.InWords.{order_part_once}
 
 abbrev pub each_swap : Entity → ℕ → List ℕ → Storage → Storage
@@ -80,44 +82,44 @@ module _ {w₀ : List ℕ} {e : Entity} {start end c : ℕ} (A : Arranged w₀) 
           ∙ set_of_each (swap_to e c) before (meaning w₀).storage.sets (order_part_once w₀ A start p) (small p S.low S.high) k
           ∙ ap (λ (b : Bool). cond b (swap_to e c (set_of (meaning w₀).storage.sets k)) (set_of (meaning w₀).storage.sets k)) fresh
 
-      pub place_there : p < length (order_of (meaning w))
-      place_there = let n : length (order_of (meaning w)) ≡ length (order_of (meaning w₀)) = ap (λ (m : Store). length (order_of m)) S.so_far.means in omega (arith, L.within)
+      there : p < length (order_of (meaning w))
+      there = let n : length (order_of (meaning w)) ≡ length (order_of (meaning w₀)) = ap (λ (m : Store). length (order_of m)) S.so_far.means in omega (arith, L.within)
 
-      module _ {j : ℕ} (q : j ≡ get_or (order_of (meaning w)) p 0) where
-        is_kind_law : j ≡ k
-        is_kind_law = q ∙ kind_is
+      pub swap_placed : Placed w p
+      swap_placed =
+          record {
+            within = there;
+            known = subst (λ (m : Store). In m.kinds (kind_no w p)) (sym S.so_far.means) (subst (In (meaning w₀).kinds) (sym kind_is) (L.known k inside));
+          }
 
-        pub swap_known : In (meaning w).kinds j
-        swap_known = subst (λ (m : Store). In m.kinds j) (sym S.so_far.means) (subst (In (meaning w₀).kinds) (sym is_kind_law) (L.known k inside))
+      rows : kind_set w (kind_no w p) ≡ set_of (meaning w₀).storage.sets k
+      rows = ap (set_of (meaning w).storage.sets) kind_is ∙ same_set_law
 
-        -- z is the columns' shape, as it was read before the loop
-        module _ {z : Shape} {slot : ℕ} (m : z ≡ shape_of w₀) (at : InSlot w j slot) where
-          still : z ≡ shape_of w
-          still = m ∙ sym (shape_kept w₀ w (each_swap e c before) S.so_far)
+      pub swap_asks : (held e (kind_set w (kind_no w p)) ≡ true) × (c < length (kind_set w (kind_no w p)))
+      swap_asks = rw rows (R.holds k inside, R.room k inside)
 
-          rows : rows_of z slot w ≡ set_of (meaning w₀).storage.sets k
-          rows = rows_at w z j slot still at ∙ ap (set_of (meaning w).storage.sets) is_kind_law ∙ same_set_law
+      pub swap_turn : {w' : List ℕ} → Only (shape_of w) (slot_of w (kind_no w p)) (swap_to e c) w w' → Swapping w₀ e start end c w' (p + 1)
+      swap_turn {w'} o =
+          let j : ℕ = kind_no w p in
+          let at : InSlot w j (slot_of w j) = known_slot w S.so_far.arranged j swap_placed.known in
+          let C : Becomes w w' (on_storage (on_set j (swap_to e c)) (meaning w)) = only_becomes w (shape_of w) j (slot_of w j) refl at w' (swap_to e c) S.so_far.arranged o in
+          let was : List SparseSet = each_kind (swap_to e c) before (meaning w₀).storage.sets in
+          let sets : set was j (swap_to e c (set_of was j)) ≡ each_kind (swap_to e c) (between start (p + 1) (order_of (meaning w₀))) (meaning w₀).storage.sets =
+          ap (λ (x : ℕ). set was x (swap_to e c (set_of was x))) kind_is
+          ∙ sym (ap (λ (ks : List ℕ). each_kind (swap_to e c) ks (meaning w₀).storage.sets) more ∙ each_append (swap_to e c) before (k ∷ []) (meaning w₀).storage.sets) in
+          record {
+            low = omega (arith, S.low);
+            high = omega arith;
+            so_far =
+                subst (λ (ss : List SparseSet). Becomes w₀ w' (on_storage (λ (s : Storage). record { sets = ss; layout = s.layout }) (meaning w₀))) sets
+                (becomes_then w₀ w w' (each_swap e c before) (on_storage (on_set j (swap_to e c))) S.so_far C);
+          }
 
-          pub swap_lent : Lent z slot w
-          swap_lent = lent_at w z j slot still at
+    pub swap_so_far : SoFar w₀ w
+    swap_so_far = changed_so_far (each_swap e c (between start p (order_of (meaning w₀)))) S.so_far
 
-          pub swap_asks : (held e (rows_of z slot w) ≡ true) × (c < length (rows_of z slot w))
-          swap_asks = rw rows (R.holds k inside, R.room k inside)
-
-          pub swap_turn : {w' : List ℕ} → Only z slot (swap_to e c) w w' → Swapping w₀ e start end c w' (p + 1)
-          swap_turn {w'} o =
-              let C : Becomes w w' (on_storage (on_set j (swap_to e c)) (meaning w)) = only_becomes w z j slot still at w' (swap_to e c) S.so_far.arranged o in
-              let was : List SparseSet = each_kind (swap_to e c) before (meaning w₀).storage.sets in
-              let sets : set was j (swap_to e c (set_of was j)) ≡ each_kind (swap_to e c) (between start (p + 1) (order_of (meaning w₀))) (meaning w₀).storage.sets =
-              ap (λ (x : ℕ). set was x (swap_to e c (set_of was x))) is_kind_law
-              ∙ sym (ap (λ (ks : List ℕ). each_kind (swap_to e c) ks (meaning w₀).storage.sets) more ∙ each_append (swap_to e c) before (k ∷ []) (meaning w₀).storage.sets) in
-              record {
-                low = omega (arith, S.low);
-                high = omega arith;
-                so_far =
-                    subst (λ (ss : List SparseSet). Becomes w₀ w' (on_storage (λ (s : Storage). record { sets = ss; layout = s.layout }) (meaning w₀))) sets
-                    (becomes_then w₀ w w' (each_swap e c before) (on_storage (on_set j (swap_to e c))) S.so_far C);
-              }
+    pub swap_same : SameLayout w₀ w
+    swap_same = ap (λ (m : Store). plain m.storage.layout) S.so_far.means
 
     pub swap_done : end ≤ p → Becomes w₀ w (on_storage (swap_kinds e c (between start end (order_of (meaning w₀)))) (meaning w₀))
     swap_done h =

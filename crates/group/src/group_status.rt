@@ -1,19 +1,18 @@
 // Whether an entity holds a group's kinds, and whether it is inside the group (group.rs).
 ghost use Rattle.std.specs.Prelude.{◌≡◌, ◌<◌};
-ghost use Rattle.model.specs.Model.{all_held, groups_of, entity};
+ghost use Rattle.model.specs.Model.{all_held, entity};
 ghost use Rattle.words.specs.Part.{between};
-ghost use Rattle.words.specs.Shape.{shape_of};
 ghost use Rattle.memory.specs.Meaning.{meaning};
 ghost use Rattle.memory.specs.Arranged.{Arranged};
 ghost use Rattle.group.specs.Flat.{status_at};
-ghost use Rattle.group.specs.Metadata.{order_of, PlacesKnown, Describes};
+ghost use Rattle.group.specs.Metadata.{order_of, PlacesKnown, Stands};
 ghost use Rattle.group.specs.Steps.{status_in};
 
-use crate::group_metadata::{count, kind_at};
+use crate::lookups::Lookups;
 use layout::group_metadata::GroupMetadata;
-use words::{Entity, Found, Shape};
+use words::{Entity, Found};
 
-#[derive(Drop)]
+#[derive(Clone, Copy, Debug, PartialEq, Eq)]
 pub enum GroupStatus {
     Incomplete,
     Ungrouped,
@@ -22,44 +21,42 @@ pub enum GroupStatus {
 }
 
 // Does the entity hold each of the layout's kinds from start to end?
-fn holds_all(words: &[u32], z: Shape, start: usize, end: usize, e: Entity) -> bool
+fn holds_all<L: Lookups>(words: &[u32], lookups: &L, start: usize, end: usize, e: Entity) -> bool
     requires arranged { Arranged words.now }
-    requires shape_is { z ≡ shape_of words.now }
+    requires lookups { L.valid lookups.now words.now }
     requires places_known { PlacesKnown (meaning words.now) start end }
+    requires covered { L.covers lookups.now (entity e.index e.version) }
     ensures { result ≡ all_held (entity e.index e.version) (between start end (order_of (meaning words.now))) (meaning words.now).storage.sets }
 {
-    let mut place = start;
-    while place < end {
-        let kind = kind_at(words, place);
-        if !kinds::holds(words, z, kind, e) {
+    for place in start..end {
+        if !lookups.holds(words, place, e) {
             return false;
         }
-        place += 1;
     }
     true
 }
 
 // The status of an entity in the group whose new kinds stand from start to end and whose count is group_len.
-fn get_group_status(
+fn get_group_status<L: Lookups>(
     words: &[u32],
-    z: Shape,
+    lookups: &L,
     start: usize,
     end: usize,
     group_len: usize,
     e: Entity,
 ) -> GroupStatus
     requires arranged { Arranged words.now }
-    requires shape_is { z ≡ shape_of words.now }
+    requires lookups { L.valid lookups.now words.now }
     requires places_known { PlacesKnown (meaning words.now) start end }
     requires start_lt_end { start < end }
+    requires covered { L.covers lookups.now (entity e.index e.version) }
     ensures { result ≡ status_in (entity e.index e.version) (between start end (order_of (meaning words.now))) group_len (meaning words.now).storage.sets }
 {
-    let first = kind_at(words, start);
-    let found = kinds::find(words, z, first, e);
+    let found = lookups.find(words, start, e);
     let Found::At(place) = found else {
         return GroupStatus::Incomplete;
     };
-    if !holds_all(words, z, start + 1, end, e) {
+    if !holds_all(words, lookups, start + 1, end, e) {
         return GroupStatus::Incomplete;
     }
     if place < group_len {
@@ -69,26 +66,21 @@ fn get_group_status(
 }
 
 // The entity's status in group g, by the group's metadata and its count.
-pub fn status_in(
+pub fn status_in<L: Lookups>(
     words: &[u32],
-    z: Shape,
+    lookups: &L,
     g: usize,
     metadata: GroupMetadata,
+    group_len: usize,
     e: Entity,
 ) -> GroupStatus
     requires arranged { Arranged words.now }
-    requires shape_is { z ≡ shape_of words.now }
-    requires g_bound { g < groups_of (meaning words.now).storage.layout }
-    requires describes { Describes (meaning words.now) g metadata }
+    requires lookups { L.valid lookups.now words.now }
+    requires stands { Stands (meaning words.now) g metadata group_len }
+    requires covered { L.covers lookups.now (entity e.index e.version) }
     ensures { result ≡ status_at (entity e.index e.version) g (meaning words.now).storage }
 {
-    let group_len = count(words, g);
-    get_group_status(
-        words,
-        z,
-        metadata.new_storage_start,
-        metadata.storage_end,
-        group_len,
-        e,
-    )
+    let start = metadata.new_storage_start;
+    let end = metadata.storage_end;
+    get_group_status(words, lookups, start, end, group_len, e)
 }

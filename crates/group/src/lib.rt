@@ -3,6 +3,8 @@
 
 pub mod group_metadata;
 pub mod group_status;
+pub mod in_words;
+pub mod lookups;
 
 ghost use Rattle.std.specs.Prelude.{◌≡◌, reverse, ◌-◌, ◌<◌, ◌≤◌, drop};
 ghost use Rattle.model.specs.Model.{groups_of, entity};
@@ -20,44 +22,47 @@ ghost use Rattle.group.specs.Steps.{swap_kinds, Below, StepsUp};
 
 use crate::group_metadata::{count, group_count, kind_at, metadata, set_count};
 use crate::group_status::{GroupStatus, status_in};
+use crate::in_words::InWords;
+use crate::lookups::Lookups;
 use layout::group_metadata::GroupMetadata;
 use masks::group_mask::GroupMask;
 use words::{Entity, Shape};
 
 // Swaps the entity to a place in every sparse set of a group.
-fn swap_kinds(words: &mut [u32], z: Shape, metadata: GroupMetadata, e: Entity, swap_index: usize)
+fn swap_kinds<L: Lookups>(
+    words: &mut [u32],
+    lookups: &L,
+    metadata: GroupMetadata,
+    e: Entity,
+    swap_index: usize,
+)
     requires arranged { Arranged words.old }
-    requires shape_is { z ≡ shape_of words.old }
+    requires lookups { L.valid lookups.now words.old }
     requires places_known { PlacesKnown (meaning words.old) metadata.storage_start metadata.storage_end }
     requires swappable { Swappable (entity e.index e.version) (between metadata.storage_start metadata.storage_end (order_of (meaning words.old))) swap_index (meaning words.old).storage.sets }
     ensures { Becomes words.old words.new (on_storage (swap_kinds (entity e.index e.version) swap_index (between metadata.storage_start metadata.storage_end (order_of (meaning words.old)))) (meaning words.old)) }
 {
-    let end = metadata.storage_end;
-    let mut place = metadata.storage_start;
-    while place < end {
-        let kind = kind_at(words, place);
-        let slot = kinds::slot_of(words, kind);
-        component::slots::swap_to_in(words, z, slot, e, swap_index);
-        place += 1;
+    for place in metadata.storage_start..metadata.storage_end {
+        lookups.swap(words, place, e, swap_index);
     }
 }
 
 // Brings the entity into the group, in every sparse set of the group.
-fn group_components(
+fn group_components<L: Lookups>(
     words: &mut [u32],
-    z: Shape,
+    lookups: &L,
     metadata: GroupMetadata,
     g: usize,
     group_len: usize,
     e: Entity,
 )
     requires arranged { Arranged words.old }
-    requires shape_is { z ≡ shape_of words.old }
+    requires lookups { L.valid lookups.now words.old }
     requires stands { Stands (meaning words.old) g metadata group_len }
     requires swappable { Swappable (entity e.index e.version) (located (meaning words.old).storage.layout g).kinds (located (meaning words.old).storage.layout g).count (meaning words.old).storage.sets }
     ensures { Becomes words.old words.new (on_storage (group_at (entity e.index e.version) g) (meaning words.old)) }
 {
-    swap_kinds(words, z, metadata, e, group_len);
+    swap_kinds(words, lookups, metadata, e, group_len);
     set_count(words, g, group_len + 1);
 }
 
@@ -84,37 +89,58 @@ fn ungroup_components(
         set_count(words, g, swap_index);
         return;
     }
-    swap_kinds(words, z, metadata, e, swap_index);
+    let lookups = InWords { shape: z };
+    swap_kinds(words, &lookups, metadata, e, swap_index);
     set_count(words, g, swap_index);
 }
 
 // One group of the walk upward; answers what is left of the groups after it.
-fn group_step(words: &mut [u32], z: Shape, g: usize, rest: GroupMask, e: Entity) -> GroupMask
+fn group_step<L: Lookups>(
+    words: &mut [u32],
+    lookups: &L,
+    g: usize,
+    rest: GroupMask,
+    e: Entity,
+) -> GroupMask
     requires arranged { Arranged words.old }
-    requires shape_is { z ≡ shape_of words.old }
+    requires lookups { L.valid lookups.now words.old }
     requires g_bound { g < groups_of (meaning words.old).storage.layout }
     requires ready_in { ReadyIn (status_at (entity e.index e.version) g (meaning words.old).storage) (entity e.index e.version) (located (meaning words.old).storage.layout g) (meaning words.old).storage.sets }
+    requires covered { L.covers lookups.now (entity e.index e.version) }
     ensures { StepsUp words.old words.new (entity e.index e.version) g rest.0 result.0 }
 {
-    let metadata = metadata(words, g);
-    let status = status_in(words, z, g, metadata, e);
+    let metadata = lookups.metadata(words, g);
+    let group_len = count(words, g);
+    let status = status_in(words, lookups, g, metadata, group_len, e);
     match status {
         GroupStatus::Incomplete => {
-            let skip = GroupMask::skip_from_to(g, metadata.top);
-            return rest.intersection(skip);
+            let skip = lookups.left_after(words, g, metadata);
+            rest.intersection(skip)
         }
         GroupStatus::Ungrouped => {
-            let group_len = count(words, g);
-            group_components(words, z, metadata, g, group_len, e);
-            return rest;
+            group_components(words, lookups, metadata, g, group_len, e);
+            rest
         }
-        GroupStatus::Grouped(place) => {
-            return rest;
-        }
+        GroupStatus::Grouped(_) => rest,
     }
 }
 
-// The walk upward over the groups of a mask, lowest first.
+// The walk upward over the groups of a mask, lowest first, by such lookups.
+fn group_by<L: Lookups>(words: &mut [u32], lookups: &L, mask: GroupMask, e: Entity)
+    requires arranged { Arranged words.old }
+    requires lookups { L.valid lookups.now words.old }
+    requires below { Below (bits_of 64 mask.0) (meaning words.old).storage }
+    requires ready_up { ReadyUp (entity e.index e.version) 0 (bits_of 64 mask.0) (meaning words.old).storage }
+    requires covered { L.covers lookups.now (entity e.index e.version) }
+    ensures { Becomes words.old words.new (on_storage (walk_up (entity e.index e.version) 0 (bits_of 64 mask.0)) (meaning words.old)) }
+{
+    let mut left = mask;
+    while let Some((g, rest)) = left.next() {
+        left = group_step(words, lookups, g as usize, rest, e);
+    }
+}
+
+// The walk upward, with everything read of the words.
 pub fn group(words: &mut [u32], z: Shape, mask: GroupMask, e: Entity)
     requires arranged { Arranged words.old }
     requires shape_is { z ≡ shape_of words.old }
@@ -122,30 +148,39 @@ pub fn group(words: &mut [u32], z: Shape, mask: GroupMask, e: Entity)
     requires ready_up { ReadyUp (entity e.index e.version) 0 (bits_of 64 mask.0) (meaning words.old).storage }
     ensures { Becomes words.old words.new (on_storage (walk_up (entity e.index e.version) 0 (bits_of 64 mask.0)) (meaning words.old)) }
 {
-    let mut left = mask;
-    while let Some((g, rest)) = left.next() {
-        left = group_step(words, z, g as usize, rest, e);
+    let lookups = InWords { shape: z };
+    group_by(words, &lookups, mask, e);
+}
+
+// Each live entity from place start on is walked upward over the groups of a mask, one after another, by such lookups.
+pub fn group_each_by<L: Lookups>(words: &mut [u32], lookups: &L, mask: GroupMask, start: usize)
+    requires arranged { Arranged words.old }
+    requires lookups { L.valid lookups.now words.old }
+    requires below { Below (bits_of 64 mask.0) (meaning words.old).storage }
+    requires ready_each { ReadyEach (drop start (meaning words.old).entities.live) (bits_of 64 mask.0) (meaning words.old).storage }
+    ensures { Becomes words.old words.new (on_storage (walk_each (drop start (meaning words.old).entities.live) (bits_of 64 mask.0)) (meaning words.old)) }
+{
+    let len = control::entities::live_len(words);
+    for place in start..len {
+        let entity = control::entities::live_at(words, place);
+        group_by(words, lookups, mask, entity);
     }
 }
 
-// Each live entity from place start on is walked upward over the groups of a mask, one after another.
+// The same, with everything read of the words: for a few entities, which do not pay for tables.
 pub fn group_each(words: &mut [u32], mask: GroupMask, start: usize)
     requires arranged { Arranged words.old }
     requires below { Below (bits_of 64 mask.0) (meaning words.old).storage }
     requires ready_each { ReadyEach (drop start (meaning words.old).entities.live) (bits_of 64 mask.0) (meaning words.old).storage }
     ensures { Becomes words.old words.new (on_storage (walk_each (drop start (meaning words.old).entities.live) (bits_of 64 mask.0)) (meaning words.old)) }
 {
-    if mask.0 == 0 {
+    if mask == GroupMask::empty() {
         return;
     }
-    let z = words::shape_of(words);
-    let len = control::entities::live_len(words);
-    let mut place = start;
-    while place < len {
-        let entity = control::entities::live_at(words, place);
-        group(words, z, mask, entity);
-        place += 1;
-    }
+    let lookups = InWords {
+        shape: words::shape_of(words),
+    };
+    group_each_by(words, &lookups, mask, start);
 }
 
 // One group of the walk downward.
@@ -157,19 +192,11 @@ fn ungroup_step(words: &mut [u32], z: Shape, g: usize, e: Entity)
     ensures { Becomes words.old words.new (on_storage (step_down (status_at (entity e.index e.version) g (meaning words.old).storage) (entity e.index e.version) g) (meaning words.old)) }
 {
     let metadata = metadata(words, g);
-    let status = status_in(words, z, g, metadata, e);
-    match status {
-        GroupStatus::Incomplete => {
-            return;
-        }
-        GroupStatus::Ungrouped => {
-            return;
-        }
-        GroupStatus::Grouped(place) => {
-            let group_len = count(words, g);
-            ungroup_components(words, z, metadata, g, group_len, place, e);
-            return;
-        }
+    let group_len = count(words, g);
+    let lookups = InWords { shape: z };
+    let status = status_in(words, &lookups, g, metadata, group_len, e);
+    if let GroupStatus::Grouped(place) = status {
+        ungroup_components(words, z, metadata, g, group_len, place, e);
     }
 }
 

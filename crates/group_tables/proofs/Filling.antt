@@ -1,7 +1,7 @@
 -- The loops that fill the tables. Assumes nothing.
 use mathlib.Core.Path.{◌≡◌, refl, ap, sym, ◌∙◌, subst}
-use mathlib.Core.List.{List, [], ◌∷◌}
-use Prim.Native.Nat.{ℕ, ◌+◌, ◌*◌, ◌≤◌, ◌<◌}
+use mathlib.Core.List.{List}
+use Prim.Native.Nat.{ℕ, ◌+◌, ◌≤◌, ◌<◌}
 use native.Mathlib.Omega.{arith}
 use lib.ListN.{length, get_or, set, length-set}
 use lib.Seq.{get_or-set_same, get_or-set_other}
@@ -9,10 +9,9 @@ use Rattle.model.specs.Numbers.{MAX_GROUP_COUNT, MAX_KINDS}
 use Rattle.model.specs.Model.{groups_of}
 use Rattle.model.proofs.BoolLaws.{by-eq}
 use Rattle.masks.specs.Masks.{bits_of, skipping}
+use Rattle.masks.specs.declared.group_mask.GroupMask.{GroupMask}
 use Rattle.words.specs.declared.Shape.{Shape}
 use Rattle.words.specs.Shape.{column_start, shape_of}
-use Rattle.words.specs.Stores.{stores}
-use Rattle.words.proofs.Stores.{length_stores, miss, hit}
 use Rattle.layout.specs.declared.group_metadata.GroupMetadata.{GroupMetadata}
 use Rattle.memory.specs.Header.{slot_of}
 use Rattle.memory.specs.Meaning.{meaning}
@@ -20,7 +19,8 @@ use Rattle.memory.specs.Arranged.{Arranged}
 use Rattle.group.specs.Flat.{located}
 use Rattle.group.specs.Metadata.{order_of, Describes}
 use Rattle.group.proofs.InWords.{groups_few, order_wide}
-use Rattle.group_tables.specs.Tables.{kind_no, Starts, GROUP_LEN, metadata_in, Puts, Groups, Skips}
+use Rattle.group.specs.Places.{kind_no}
+use Rattle.group.specs.Tables.{Starts, Groups, Skips}
 
 -- the places before p are filled
 pub record Filled (w : List ℕ) (z : Shape) (was starts : List ℕ) (p : ℕ) : Type 0 where
@@ -51,83 +51,58 @@ module _ (w : List ℕ) (A : Arranged w) (z : Shape) (was : List ℕ) (room : MA
 
 -- ---- the groups
 
--- the groups before g are described
-pub record Listed (w was t : List ℕ) (g : ℕ) : Type 0 where
+-- those before g are described
+pub record Listed (w : List ℕ) (was t : List GroupMetadata) (g : ℕ) : Type 0 where
   pub size : length t ≡ length was
   pub within : g ≤ groups_of (meaning w).storage.layout
-  pub each : (i : ℕ) → i < g → Describes (meaning w) i (metadata_in t i)
+  pub each : (i : ℕ) → i < g → (none : GroupMetadata) → Describes (meaning w) i (get_or t i none)
 
-pub listed_start : (w was : List ℕ) → Listed w was was 0
-listed_start w was = record { size = refl; within = omega arith; each = λ i h. absurd (omega arith) }
+pub listed_start : (w : List ℕ) (was : List GroupMetadata) → Listed w was was 0
+listed_start w was = record { size = refl; within = omega arith; each = λ i h none. absurd (omega arith) }
 
-module _ (w : List ℕ) (A : Arranged w) (was : List ℕ) (room : GROUP_LEN * MAX_GROUP_COUNT ≤ length was) (t : List ℕ) (g : ℕ) (L : Listed w was t g) where
-  pub listed_room : g < groups_of (meaning w).storage.layout → GROUP_LEN * g + GROUP_LEN ≤ length t
+module _ (w : List ℕ) (A : Arranged w) (was : List GroupMetadata) (room : MAX_GROUP_COUNT ≤ length was) (t : List GroupMetadata) (g : ℕ) (L : Listed w was t g) where
+  pub listed_room : g < groups_of (meaning w).storage.layout → g < length t
   listed_room h = omega (arith, L.size, groups_few w A)
 
-  pub listed_turn : (d : GroupMetadata) (t' : List ℕ) → g < groups_of (meaning w).storage.layout → Describes (meaning w) g d → Puts g d t t' → Listed w was t' (g + 1)
-  listed_turn d t' h D P =
+  pub listed_turn : (d : GroupMetadata) → g < groups_of (meaning w).storage.layout → Describes (meaning w) g d → Listed w was (set t g d) (g + 1)
+  listed_turn d h D =
       record {
-        size = P.size ∙ L.size;
+        size = length-set t g d ∙ L.size;
         within = omega arith;
-        each = λ i l.
+        each = λ i l none.
             by-eq i g
-            (λ e. rw e (subst (Describes (meaning w) g) (sym P.is) D))
-            (λ ne.
-            let b : (j : ℕ) → j < GROUP_LEN → get_or t (GROUP_LEN * i + j) 0 ≡ get_or t' (GROUP_LEN * i + j) 0 = λ j s. sym (P.before (GROUP_LEN * i + j) (omega arith)) in
-            let z : get_or t (GROUP_LEN * i) 0 ≡ get_or t' (GROUP_LEN * i) 0 = sym (P.before (GROUP_LEN * i) (omega arith)) in
-            subst (Describes (meaning w) i)
-            (λ k. record { storage_start = z k; new_storage_start = b 1 (omega arith) k; storage_end = b 2 (omega arith) k; first = b 3 (omega arith) k; top = b 4 (omega arith) k })
-            (L.each i (omega arith)));
+            (λ e. rw e (subst (Describes (meaning w) g) (sym (get_or-set_same t g d none (listed_room h))) D))
+            (λ ne. subst (Describes (meaning w) i) (sym (get_or-set_other t g i d none ne)) (L.each i (omega arith) none));
       }
 
   pub listed_end : groups_of (meaning w).storage.layout ≤ g → Groups w t
-  listed_end h = record { room = omega (arith, L.size, groups_few w A); each = λ i l. L.each i (omega arith) }
-
--- a group's five stores
-abbrev pub metadata_stores : ℕ → GroupMetadata → List (ℕ × ℕ)
-metadata_stores g d =
-    (GROUP_LEN * g, d.storage_start) ∷ (GROUP_LEN * g + 1, d.new_storage_start) ∷ (GROUP_LEN * g + 2, d.storage_end) ∷ (GROUP_LEN * g + 3, d.first) ∷ (GROUP_LEN * g + 4, d.top) ∷ []
-
-pub puts : (g : ℕ) (d : GroupMetadata) (t : List ℕ) → GROUP_LEN * g + GROUP_LEN ≤ length t → Puts g d t (stores t (metadata_stores g d))
-puts g d t h =
-    let ss = metadata_stores g d in
-    record {
-      size = length_stores t ss;
-      is =
-          let a : get_or (stores t ss) (GROUP_LEN * g) 0 ≡ d.storage_start = hit t ss 0 _ _ (omega arith) (omega arith) in
-          let b : get_or (stores t ss) (GROUP_LEN * g + 1) 0 ≡ d.new_storage_start = hit t ss 1 _ _ (omega arith) (omega arith) in
-          let c : get_or (stores t ss) (GROUP_LEN * g + 2) 0 ≡ d.storage_end = hit t ss 2 _ _ (omega arith) (omega arith) in
-          let e : get_or (stores t ss) (GROUP_LEN * g + 3) 0 ≡ d.first = hit t ss 3 _ _ (omega arith) (omega arith) in
-          let f : get_or (stores t ss) (GROUP_LEN * g + 4) 0 ≡ d.top = hit t ss 4 _ _ (omega arith) (omega arith) in
-          λ k. record { storage_start = a k; new_storage_start = b k; storage_end = c k; first = e k; top = f k };
-      before = λ i l. miss t ss i (omega arith);
-    }
+  listed_end h = record { room = omega (arith, L.size, groups_few w A); each = λ i l none. L.each i (omega arith) none }
 
 -- ---- the masks
 
 -- those of the groups before g are filled
-pub record Skipping (w was t : List ℕ) (g : ℕ) : Type 0 where
+pub record Skipping (w : List ℕ) (was t : List GroupMask) (g : ℕ) : Type 0 where
   pub size : length t ≡ length was
   pub within : g ≤ groups_of (meaning w).storage.layout
-  pub each : (i : ℕ) → i < g → bits_of 64 (get_or t i 0) ≡ skipping 64 i (located (meaning w).storage.layout i).top
+  pub each : (i : ℕ) → i < g → (none : GroupMask) → bits_of 64 (get_or t i none).0 ≡ skipping 64 i (located (meaning w).storage.layout i).top
 
-pub skipping_start : (w was : List ℕ) → Skipping w was was 0
-skipping_start w was = record { size = refl; within = omega arith; each = λ i h. absurd (omega arith) }
+pub skipping_start : (w : List ℕ) (was : List GroupMask) → Skipping w was was 0
+skipping_start w was = record { size = refl; within = omega arith; each = λ i h none. absurd (omega arith) }
 
-module _ (w : List ℕ) (A : Arranged w) (was : List ℕ) (room : MAX_GROUP_COUNT ≤ length was) (t : List ℕ) (g : ℕ) (K : Skipping w was t g) where
+module _ (w : List ℕ) (A : Arranged w) (was : List GroupMask) (room : MAX_GROUP_COUNT ≤ length was) (t : List GroupMask) (g : ℕ) (K : Skipping w was t g) where
   pub skipping_room : g < groups_of (meaning w).storage.layout → g < length t
   skipping_room h = omega (arith, K.size, groups_few w A)
 
-  pub skipping_turn : (v : ℕ) → g < groups_of (meaning w).storage.layout → bits_of 64 v ≡ skipping 64 g (located (meaning w).storage.layout g).top → Skipping w was (set t g v) (g + 1)
+  pub skipping_turn : (v : GroupMask) → g < groups_of (meaning w).storage.layout → bits_of 64 v.0 ≡ skipping 64 g (located (meaning w).storage.layout g).top → Skipping w was (set t g v) (g + 1)
   skipping_turn v h q =
       record {
         size = length-set t g v ∙ K.size;
         within = omega arith;
-        each = λ i l.
+        each = λ i l none.
             by-eq i g
-            (λ e. rw e (ap (bits_of 64) (get_or-set_same t g v 0 (skipping_room h)) ∙ q))
-            (λ ne. ap (bits_of 64) (get_or-set_other t g i v 0 ne) ∙ K.each i (omega arith));
+            (λ e. rw e (ap (λ (m : GroupMask). bits_of 64 m.0) (get_or-set_same t g v none (skipping_room h)) ∙ q))
+            (λ ne. ap (λ (m : GroupMask). bits_of 64 m.0) (get_or-set_other t g i v none ne) ∙ K.each i (omega arith) none);
       }
 
   pub skipping_end : groups_of (meaning w).storage.layout ≤ g → Skips w t
-  skipping_end h = record { room = omega (arith, K.size, groups_few w A); each = λ i l. K.each i (omega arith) }
+  skipping_end h = record { room = omega (arith, K.size, groups_few w A); each = λ i l none. K.each i (omega arith) none }

@@ -1,85 +1,61 @@
-// Where the columns of the layout's kinds start, by the kinds' places: made once, and lent to what goes over many entities.
-ghost use Rattle.std.specs.Prelude.{◌≡◌, true, ◌<◌, ◌≤◌, length};
-ghost use Rattle.model.specs.Numbers.{MAX_KINDS};
-ghost use Rattle.model.specs.Model.{held, swap_to, entity};
-ghost use Rattle.words.specs.Shape.{shape_of};
-ghost use Rattle.component.specs.Answers.{Finds};
-ghost use Rattle.component.specs.Columns.{rows_of};
-ghost use Rattle.component.specs.Changes.{Only};
-ghost use Rattle.memory.specs.Header.{slot_of};
+// Three tables of the layout in force, made once and lent to the walk of many entities: where the columns of its kinds start, by the kinds' places;
+// its groups' metadata, and for each group the mask of what is left to walk where an entity lacks one of the group's new kinds.
+ghost use Rattle.std.specs.Prelude.{◌<◌, ◌≤◌};
+ghost use Rattle.model.specs.Model.{Storage};
 ghost use Rattle.memory.specs.Meaning.{meaning};
-ghost use Rattle.memory.specs.Arranged.{Arranged};
-ghost use Rattle.kinds.specs.Kinds.{kind_set};
-ghost use Rattle.group.specs.Metadata.{order_of};
-ghost use Rattle.group_tables.specs.Tables.{kind_no, Starts};
+ghost use Rattle.group.specs.Tables.{Tables};
+ghost use Rattle.group.proofs.Kept.{tables_kept};
+ghost use Rattle.group.proofs.Live.{live_issued};
 
-use group::group_metadata::kind_at;
-use layout::starts::start_of;
-use words::{Entity, Found, LAYOUT_KIND_ENDS, Shape};
+use group::lookups::Lookups;
+use layout::group_metadata::GroupMetadata;
+use masks::group_mask::GroupMask;
+use words::{Entity, Found, Shape};
 
-// How many kinds the layout has.
-fn width(words: &[u32]) -> usize
-    requires { Arranged words.now }
-    ensures { result ≡ length (order_of (meaning words.now)) }
-{
-    let families = words::word(words, words::LAYOUT_FAMILIES);
-    start_of(words, LAYOUT_KIND_ENDS, families)
+#[derive(Drop)]
+pub struct WalkTables {
+    pub shape: Shape,
+    pub starts: [usize; model::MAX_KINDS],
+    pub groups: [GroupMetadata; model::MAX_GROUP_COUNT],
+    pub skips: [GroupMask; model::MAX_GROUP_COUNT],
 }
 
-// The starts, from the front of a table that has room for all kinds.
-pub fn fill_starts(words: &[u32], z: Shape, starts: &mut [usize])
-    requires arranged { Arranged words.now }
-    requires shape_is { z ≡ shape_of words.now }
-    requires in_bounds { MAX_KINDS ≤ length starts.old }
-    ensures { Starts words.now z starts.new }
-{
-    let end = width(words);
-    let mut place = 0;
-    while place < end {
-        let kind = kind_at(words, place);
-        let slot = kinds::slot_of(words, kind);
-        starts[place] = words::column_start(z, slot);
-        place += 1;
+// What a table has where no group is.
+pub const NO_GROUP: GroupMetadata = GroupMetadata {
+    storage_start: 0,
+    new_storage_start: 0,
+    storage_end: 0,
+    first: 0,
+    top: 0,
+};
+
+// Of an entity with an index that there is room for and a version that was issued, a lookup is read without a test.
+impl Lookups for WalkTables {
+    ghost valid = { λ l w. Tables w l.shape l.starts l.groups l.skips };
+
+    ghost covers = { λ l e. (e.index < l.shape.capacity) × (1 ≤ e.version) };
+
+    fn metadata(&self, words: &[u32], g: usize) -> GroupMetadata {
+        self.groups[g]
     }
-}
 
-// Where the entity stands in the sparse set of the kind at a place.
-pub fn find_at(words: &[u32], z: Shape, starts: &[usize], place: usize, e: Entity) -> Found
-    requires arranged { Arranged words.now }
-    requires starts { Starts words.now z starts.now }
-    requires place_in_bounds { place < length (order_of (meaning words.now)) }
-    requires index_lt_capacity { (e.index < z.capacity) × (1 ≤ e.version) }
-    ensures { Finds z (entity e.index e.version) (kind_set words.now (kind_no words.now place)) result }
-{
-    component::at_start::find_from(words, z, starts[place], e)
-}
+    fn left_after(&self, words: &[u32], g: usize, metadata: GroupMetadata) -> GroupMask {
+        self.skips[g]
+    }
 
-// Whether the entity holds the kind at a place.
-pub fn holds_at(words: &[u32], z: Shape, starts: &[usize], place: usize, e: Entity) -> bool
-    requires arranged { Arranged words.now }
-    requires starts { Starts words.now z starts.now }
-    requires place_in_bounds { place < length (order_of (meaning words.now)) }
-    requires index_lt_capacity { (e.index < z.capacity) × (1 ≤ e.version) }
-    ensures { result ≡ held (entity e.index e.version) (kind_set words.now (kind_no words.now place)) }
-{
-    component::at_start::holds_from(words, z, starts[place], e)
-}
+    fn find(&self, words: &[u32], place: usize, e: Entity) -> Found {
+        component::at_start::find_from(words, self.shape, self.starts[place], e)
+    }
 
-// Exchanges the entity's row with the one at swap_index, in the column of the kind at a place.
-pub fn swap_at(
-    words: &mut [u32],
-    z: Shape,
-    starts: &[usize],
-    place: usize,
-    e: Entity,
-    swap_index: usize,
-)
-    requires arranged { Arranged words.old }
-    requires starts { Starts words.old z starts.now }
-    requires place_in_bounds { place < length (order_of (meaning words.old)) }
-    requires words_value { held (entity e.index e.version) (rows_of z (slot_of words.old (kind_no words.old place)) words.old) ≡ true }
-    requires swap_index_in_bounds { swap_index < length (rows_of z (slot_of words.old (kind_no words.old place)) words.old) }
-    ensures { Only z (slot_of words.old (kind_no words.old place)) (swap_to (entity e.index e.version) swap_index) words.old words.new }
-{
-    component::at_start::swap_to_from(words, z, starts[place], e, swap_index);
+    fn holds(&self, words: &[u32], place: usize, e: Entity) -> bool {
+        component::at_start::holds_from(words, self.shape, self.starts[place], e)
+    }
+
+    fn swap(&self, words: &mut [u32], place: usize, e: Entity, swap_index: usize) {
+        component::at_start::swap_to_from(words, self.shape, self.starts[place], e, swap_index);
+    }
+
+    ghost kept = { λ l w w' arranged becomes same valid. tables_kept w w' l.shape l.starts (λ (s : Storage). (meaning w').storage) arranged becomes same l.groups l.skips valid };
+
+    ghost covers_live = { λ l w i x y arranged valid within is. live_issued w arranged i x y within is valid.columns.shape };
 }

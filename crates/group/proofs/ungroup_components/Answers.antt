@@ -27,7 +27,7 @@ returns-then-place-swap_index c =
 pub swap_kinds-requires : goal.swap_kinds-requires
 swap_kinds-requires c =
     let last : c.args.group_len - 1 ≡ (located (meaning c.args.words.now).storage.layout c.args.g).count - 1 = ap (λ (n : ℕ). n - 1) c.requires.stands.counted in
-    record { arranged = c.requires.arranged; shape_is = c.requires.shape_is; places_known = c.requires.stands.metadata.listed; swappable = swaps c.requires.arranged c.requires.stands c.requires.swappable last }
+    record { arranged = c.requires.arranged; lookups = c.requires.shape_is; places_known = c.requires.stands.metadata.listed; swappable = swaps c.requires.arranged c.requires.stands c.requires.swappable last }
 
 pub set_count-requires-2 : goal.set_count-requires-2
 set_count-requires-2 c =

@@ -1,25 +1,8 @@
 use mathlib.Core.Path.{sym, ◌∙◌}
 use native.Mathlib.Omega.{arith}
-use Rattle.memory.proofs.Becomes.{stays}
 use Rattle.group.proofs.Stepping.{steps_down, ready_out}
 use Rattle.model.specs.Model.{entity}
 use Rattle.group.proofs.ungroup_step.Goals as goal
-
-pub metadata-metadata-requires : goal.metadata-metadata-requires
-metadata-metadata-requires c = record { arranged = c.requires.arranged; g_bound = c.requires.g_bound }
-
-pub status_in-status-requires : goal.status_in-status-requires
-status_in-status-requires c = record { arranged = c.requires.arranged; shape_is = c.requires.shape_is; g_bound = c.requires.g_bound; describes = c.metadata-metadata.ensures }
-
-pub returns-in-Incomplete : goal.returns-in-Incomplete
-returns-in-Incomplete c =
-    let a = c.args in
-    steps_down (entity a.e.index a.e.version) a.g (sym c.in-Incomplete.is ∙ c.status_in-status.ensures) (stays c.requires.arranged)
-
-pub returns-in-Ungrouped : goal.returns-in-Ungrouped
-returns-in-Ungrouped c =
-    let a = c.args in
-    steps_down (entity a.e.index a.e.version) a.g (sym c.in-Ungrouped.is ∙ c.status_in-status.ensures) (stays c.requires.arranged)
 
 pub count-group_len-requires : goal.count-group_len-requires
 count-group_len-requires c = record { arranged = c.requires.arranged; g_bound = c.requires.g_bound }

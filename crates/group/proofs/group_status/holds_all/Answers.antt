@@ -2,41 +2,28 @@ use mathlib.Core.Path.{◌≡◌, refl, sym, ◌∙◌}
 use native.Mathlib.Omega.{arith}
 use Rattle.model.specs.Model.{entity}
 use Rattle.memory.specs.Meaning.{meaning}
-use Rattle.group.proofs.Status.{kind_known, all_next, all_end}
+use Rattle.group.proofs.Status.{place_known, all_next, all_end}
 use Rattle.group.proofs.group_status.holds_all.Goals as goal
 
-pub loop-place-init : goal.loop-place-init
-loop-place-init c = (omega arith, c.requires.places_known.rising, refl)
-
-pub kind_at-kind-requires : goal.kind_at-kind-requires
-kind_at-kind-requires c = record { arranged = c.requires.arranged; place_in_bounds = omega (arith, c.requires.places_known.within) }
-
-pub holds-requires : goal.holds-requires
-holds-requires c =
-    record { arranged = c.requires.arranged; shape_is = c.requires.shape_is; kind_known = kind_known c.requires.places_known c.loop-place-test.true c.kind_at-kind.ensures c.loop-place.invariant.0 }
+pub holds-requires-clause-placed : goal.holds-requires-clause-placed
+holds-requires-clause-placed g c = place_known c.requires.places_known c.loop-place.invariant.0 c.loop-place-test.true
 
 pub returns-then-not-holds : goal.returns-then-not-holds
-returns-then-not-holds c =
-    sym (c.loop-place.invariant.2
-    ∙ all_next c.requires.places_known c.loop-place-test.true c.kind_at-kind.ensures (entity c.args.e.index c.args.e.version) (sym c.holds.ensures ∙ c.if-not-holds.true))
-
-pub overflow_add-place : goal.overflow_add-place
-overflow_add-place c = omega (arith, c.loop-place-test)
-
-pub loop-place-smaller : goal.loop-place-smaller
-loop-place-smaller c = omega (arith, c.loop-place-test)
+returns-then-not-holds g c =
+    let a = c.args in
+    sym (c.loop-place.invariant.2 ∙ all_next c.requires.places_known c.loop-place-test.true refl (entity a.e.index a.e.version) (sym c.holds.ensures ∙ c.if-not-holds.true))
 
 pub loop-place-preserved : goal.loop-place-preserved
-loop-place-preserved c =
+loop-place-preserved g c =
+    let a = c.args in
     let i = c.loop-place in (
       omega (arith, i.invariant.0),
       omega (arith, c.loop-place-test),
-      i.invariant.2
-          ∙ all_next c.requires.places_known c.loop-place-test.true c.kind_at-kind.ensures (entity c.args.e.index c.args.e.version) (sym c.holds.ensures ∙ c.if-not-holds.false),
+      i.invariant.2 ∙ all_next c.requires.places_known c.loop-place-test.true refl (entity a.e.index a.e.version) (sym c.holds.ensures ∙ c.if-not-holds.false),
     )
 
 pub returns : goal.returns
-returns c =
+returns g c =
     let a = c.args in
     let i = c.loop-place in
     let q : i.place ≡ a.end = omega (arith, i.invariant.1, c.loop-place-test) in
