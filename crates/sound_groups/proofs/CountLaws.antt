@@ -1,19 +1,23 @@
 -- A group's numbers as they were read; the first rows of two columns, word by word and entity by entity. Assumes nothing.
-use mathlib.Core.Path.{◌≡◌, sym, ap, ap₂, ◌∙◌}
-use mathlib.Core.Bool.{Bool, true, false, not}
+use mathlib.Core.Path.{◌≡◌, sym, ap, ap₂, subst, ◌∙◌}
+use mathlib.Core.Bool.{Bool, true, false, not, ◌&&◌}
 use mathlib.Core.List.{List}
 use Prim.Native.Nat.{ℕ, ◌+◌, ◌*◌, ◌/◌, ◌%◌, ◌≤◌, ◌<◌}
 use native.Mathlib.Omega.{arith}
 use borrow.Author.Tests.{eqb-true, eq-eqb, not-false}
 use lib.Dec.{eqb}
-use lib.ListN.{length, get_or}
-use Rattle.model.specs.Numbers.{MAX_KINDS}
+use lib.ListN.{length, get_or, drop}
+use Rattle.model.specs.Numbers.{MAX_GROUP_COUNT, MAX_KINDS}
 use Rattle.model.specs.Model.{Entity}
-use Rattle.words.specs.Offsets.{COLUMN_KIND, GROUP_COUNTS, ROWS, ENTITIES, GROUP_PLACES, LAYOUT}
+use Rattle.words.specs.Offsets.{COLUMN_KIND, GROUP_COUNTS, ROWS, ENTITIES, GROUP_PLACES, LAYOUT, LAYOUT_ARITIES, LAYOUT_ENDS}
 use Rattle.words.specs.Part.{between}
 use Rattle.model.proofs.BoolLaws.{by-eq}
 use Rattle.words.specs.Counted.{how_many}
 use Rattle.words.specs.Decides.{Decides, Each}
+use Rattle.std.proofs.Common.{is_le, is_lt, nat_cmp}
+use Rattle.std.proofs.lemmas.Bool.Decides.{nat_tests}
+use Rattle.words.proofs.Decides.{decides_on}
+use mathlib.Core.Logic.{◌↔◌}
 use Rattle.words.proofs.Counted.{none_counted, counted_none}
 use Rattle.words.specs.Shape.{column_start}
 use Rattle.words.specs.declared.Shape.{Shape}
@@ -21,15 +25,15 @@ use Rattle.component.specs.Columns.{rows_of}
 use Rattle.component.specs.Changes.{Lent}
 use Rattle.sound_columns.specs.Rows.{entity_in, key_at}
 use Rattle.layout.specs.Layout.{start_of}
-use Rattle.layout.specs.Group.{prior_of}
-use Rattle.layout.specs.Reading.{ReadPrior, ReadMetadata}
+use Rattle.layout.specs.Group.{InFamily, prior_of}
+use Rattle.layout.specs.Reading.{ReadPrior, ReadMetadata, word_arrays}
 use Rattle.layout.specs.declared.group_metadata.GroupMetadata.{GroupMetadata}
-use Rattle.memory.specs.Header.{slot_of, count_at}
+use Rattle.memory.specs.Header.{slot_of, count_at, layout_families}
 use Rattle.memory.specs.Meaning.{layout_arrays}
-use Rattle.memory.proofs.LayoutWords.{prior_count_word}
+use Rattle.memory.proofs.LayoutWords.{prior_count_word, metadata_words, start_word, end_word}
 use Rattle.sound_columns.specs.Slots.{head_at, Over}
-use Rattle.sound_groups.specs.Spans.{first_at, HeadOk, NewOk, OwnOk, Marked, SeenOk}
-use Rattle.sound_groups.specs.Counts.{SameWord, rows_at, CountOk, GroupCounted}
+use Rattle.sound_groups.specs.Spans.{first_at, KindAt, KindsAt, Force, HeadOk, NewOk, OwnOk, Marked, SeenOk}
+use Rattle.sound_groups.specs.Counts.{SameWord, EvenOk, rows_at, CountOk, GroupCounted}
 use Rattle.sound_columns.proofs.SlotLaws.{key_word}
 
 -- ---- a group's numbers, as they were read
@@ -47,6 +51,46 @@ count_moved z w g f r whole prior h R e q b d =
     ∙ ap₂ (λ (s x : ℕ). prior_of (between GROUP_COUNTS ENTITIES w) s g x) R.first (sym e ∙ ap (λ (i : ℕ). length (rows_at z w (LAYOUT + i))) R.start) in
     rw (o, R.new, R.end, R.start) at d
 
+-- where a group of the layout in force stands, by its numbers as they were read
+pub record Located (z : Shape) (w : List ℕ) (f g : ℕ) (r : GroupMetadata) : Type 0 where
+  pub read : ReadMetadata (layout_arrays w) f g r
+  pub low : LAYOUT + r.storage_start < LAYOUT_ARITIES
+  pub first : KindAt z w (LAYOUT + r.storage_start)
+  pub new : KindsAt z w (LAYOUT + r.new_storage_start) (LAYOUT + r.storage_end)
+  pub family : f < GROUP_PLACES
+  pub upward : r.storage_start ≤ r.new_storage_start
+
+pub located : (z : Shape) (w : List ℕ) (families f g : ℕ) (r : GroupMetadata) → Force z families w → g < GROUP_PLACES → InFamily (layout_arrays w) f g → ReadMetadata (word_arrays w) f g r → Located z w f g r
+located z w families f g r F hg I R =
+    let hf : f < GROUP_PLACES = omega (arith, F.few, F.is, I.family) in
+    let m = metadata_words w f g r hf hg R in
+    let s = F.spans f g I in
+    record {
+      read = m;
+      low = rw m.start s.low;
+      first = subst (λ (x : ℕ). KindAt z w (LAYOUT + x)) (sym m.start) s.first;
+      new = rw (m.new, m.end) s.new;
+      family = hf;
+      upward = omega (arith, m.start, m.new);
+    }
+
+-- what `(a..b).contains(&x)` answers
+range_decided : (a b x : ℕ) (r : Bool) → r ≡ (is_le (nat_cmp a x) && is_lt (nat_cmp x b)) → Decides r ((a ≤ x) × (x < b))
+range_decided a b x true e = grind (arith, nat_tests)
+range_decided a b x false e = λ p. grind (arith, nat_tests)
+
+-- a group is of a family that the layout has, between its first group and the next family's
+pub in_family : (w : List ℕ) (f g families start : ℕ) → families ≡ layout_families w → families ≤ MAX_GROUP_COUNT → f < families → start ≡ start_of (drop LAYOUT_ENDS w) f
+    → (b : Bool) → b ≡ (is_le (nat_cmp start g) && is_lt (nat_cmp g (get_or w (LAYOUT_ENDS + f) 0))) → Decides b (InFamily (layout_arrays w) f g)
+in_family w f g families start is few h q b e =
+    let low = start_word w f (omega arith) in
+    let high = end_word w f (omega arith) in
+    decides_on b (
+      (λ p. record { family = omega (arith, is); low = omega (arith, low, q, p.0); high = omega (arith, high, p.1) }),
+      (λ G. (omega (arith, low, q, G.low), omega (arith, high, G.high))),
+    )
+    (range_decided start (get_or w (LAYOUT_ENDS + f) 0) g b e)
+
 -- ---- words that differ, counted
 
 module _ (w : List ℕ) (a b : ℕ) where
@@ -58,6 +102,13 @@ module _ (w : List ℕ) (a b : ℕ) where
 
   pub same_counted : (e : ℕ) → Each e (SameWord w a b) → how_many e differs ≡ 0
   same_counted e f = counted_none differs e (λ i h. ap not (eq-eqb (get_or w (a + i) 0) (get_or w (b + i) 0) (f i h)))
+
+  pub rows_same : (e n : ℕ) → n ≡ how_many e differs → (n ≡ 0) ↔ Each e (SameWord w a b)
+  rows_same e n q = (λ none. none_differ e (sym q ∙ none), λ same. q ∙ same_counted e same)
+
+pub decides_not : (P : Type 0) (b : Bool) → Decides b P → Decides (not b) (P → ⊥)
+decides_not P true holds = λ denied. denied holds
+decides_not P false denied = denied
 
 -- ---- entities and their words
 
@@ -105,9 +156,18 @@ module _ (z : Shape) (s h c x y : ℕ) (w : List ℕ) (ex : x ≡ column_start z
   pub words_even : Each (2 * c) (SameWord w (x + ROWS) (y + ROWS)) → Each c (λ i. key_at z w s i ≡ key_at z w h i)
   words_even f i lt = at_first i lt ∙ words_entities w (x + ROWS) (y + ROWS) c f i lt ∙ sym (at_second i lt)
 
+-- the kind at word j, whose slot is s
+pub even_decided : (z : Shape) (w : List ℕ) (h c j s x y : ℕ) → s ≡ slot_of w (get_or w j 0) → x ≡ column_start z s → y ≡ column_start z h → Lent z s w → Lent z h w
+    → c ≤ length (rows_of z s w) → c ≤ length (rows_of z h w) → (b : Bool) → Decides b (Each (2 * c) (SameWord w (x + ROWS) (y + ROWS))) → Decides b (EvenOk z w h c j)
+even_decided z w h c j s x y is ex ey S H cs ch b =
+    decides_on b (
+      (λ same. record { fits = subst (λ (k : ℕ). c ≤ length (rows_of z k w)) is cs; even = subst (λ (k : ℕ). Each c (λ i. key_at z w k i ≡ key_at z w h i)) is (words_even z s h c x y w ex ey S H cs ch same) }),
+      (λ E. even_words z s h c x y w ex ey S H cs ch (subst (λ (k : ℕ). Each c (λ i. key_at z w k i ≡ key_at z w h i)) (sym is) E.even)),
+    )
+
 -- ---- a table of the kinds seen
 
-pub seen_own : (z : Shape) (w seen kinds : List ℕ) (reg : ℕ) → Marked seen kinds → ((s : ℕ) → s < reg → head_at z w s COLUMN_KIND < MAX_KINDS)
+pub seen_own : (z : Shape) (w : List ℕ) (seen : List Bool) (kinds : List ℕ) (reg : ℕ) → Marked seen kinds → ((s : ℕ) → s < reg → head_at z w s COLUMN_KIND < MAX_KINDS)
     → (b : Bool) → Decides b (Each reg (SeenOk z w seen)) → Decides b (Each reg (OwnOk z w kinds))
-seen_own z w seen kinds reg M small true O = λ s h o. sym (M (head_at z w s COLUMN_KIND) (small s h)) ∙ eq-eqb _ _ (O s h o)
-seen_own z w seen kinds reg M small false N = λ O. N (λ s h o. eqb-true (get_or seen (head_at z w s COLUMN_KIND) 0) 1 (M (head_at z w s COLUMN_KIND) (small s h) ∙ O s h o))
+seen_own z w seen kinds reg M small true O = λ s h o. sym (M (head_at z w s COLUMN_KIND) (small s h)) ∙ O s h o
+seen_own z w seen kinds reg M small false N = λ O. N (λ s h o. M (head_at z w s COLUMN_KIND) (small s h) ∙ O s h o)

@@ -1,5 +1,5 @@
 -- The layout in force as words (docs/WORDS.md): where a group's new kinds stand among them, and what the columns' heads say. Assumes nothing.
-use Rattle.std.specs.Prelude.{◌≡◌, List, ℕ, suc, ◌+◌, ◌-◌, ◌≤◌, ◌<◌, eqb, length, get_or}
+use Rattle.std.specs.Prelude.{◌≡◌, Bool, true, false, List, ℕ, suc, ◌+◌, ◌-◌, ◌≤◌, ◌<◌, length, get_or}
 use Rattle.model.specs.Numbers.{MAX_GROUP_COUNT, MAX_KINDS}
 use Rattle.words.specs.Offsets.{COLUMN_KIND, ENTITIES, LAYOUT, LAYOUT_ARITIES, OWN_GROUP, PLACE_IN_FAMILY}
 use Rattle.words.specs.declared.Shape.{Shape}
@@ -63,10 +63,10 @@ pub record HeadsOk (z : Shape) (w : List ℕ) (g : ℕ) : Type 0 where
 abbrev pub OwnOk : Shape → List ℕ → List ℕ → ℕ → Type 0
 OwnOk z w kinds s = 1 ≤ head_at z w s OWN_GROUP → In kinds (head_at z w s COLUMN_KIND)
 
--- the table has 1 for the kinds of the list, and for no others
-abbrev pub Marked : List ℕ → List ℕ → Type 0
-Marked seen kinds = (k : ℕ) → k < MAX_KINDS → eqb (get_or seen k 0) 1 ≡ mem k kinds
+-- the table marks the kinds of the list, and no others
+abbrev pub Marked : List Bool → List ℕ → Type 0
+Marked seen kinds = (k : ℕ) → k < MAX_KINDS → get_or seen k false ≡ mem k kinds
 
 -- the same of a column, by the table
-abbrev pub SeenOk : Shape → List ℕ → List ℕ → ℕ → Type 0
-SeenOk z w seen s = 1 ≤ head_at z w s OWN_GROUP → get_or seen (head_at z w s COLUMN_KIND) 0 ≡ 1
+abbrev pub SeenOk : Shape → List ℕ → List Bool → ℕ → Type 0
+SeenOk z w seen s = 1 ≤ head_at z w s OWN_GROUP → get_or seen (head_at z w s COLUMN_KIND) false ≡ true

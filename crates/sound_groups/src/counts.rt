@@ -1,7 +1,7 @@
 // The groups' counts: a group's first places hold the same entities in each of its columns, and past them each lacks a kind.
-ghost use Rattle.std.specs.Prelude.{◌+◌, ◌*◌, ◌<◌, ◌≤◌, length};
+ghost use Rattle.std.specs.Prelude.{◌≡◌, true, ◌+◌, ◌*◌, ◌<◌, ◌≤◌, length};
 ghost use Rattle.model.specs.Numbers.{MAX_ENTITIES, MAX_GROUP_COUNT};
-ghost use Rattle.model.specs.Model.{entity};
+ghost use Rattle.model.specs.Model.{entity, held};
 ghost use Rattle.words.specs.Offsets.{GROUP_PLACES, LAYOUT_ARITIES};
 ghost use Rattle.words.specs.Decides.{Decides, Each};
 ghost use Rattle.component.specs.Columns.{rows_of};
@@ -12,8 +12,9 @@ ghost use Rattle.memory.specs.Meaning.{layout_arrays};
 ghost use Rattle.sound_columns.specs.Slots.{Over};
 ghost use Rattle.sound_groups.specs.Spans.{KindAt, KindsAt, Force};
 ghost use Rattle.sound_columns.specs.Rows.{key_at};
-ghost use Rattle.sound_groups.specs.Counts.{SameWord, EvenOk, HoldsAll, CountOk, GroupCounted, CountedOk};
+ghost use Rattle.sound_groups.specs.Counts.{SameWord, EvenOk, rows_at, HoldsAll, CountOk, CountedOk};
 
+use crate::slot_at;
 use layout::starts::prior_of;
 use words::{Entity, Shape};
 
@@ -22,17 +23,11 @@ fn same_rows(words: &[u32], a: usize, b: usize, c: usize) -> bool
     requires { (a + 2 * c ≤ length words.now) × (b + 2 * c ≤ length words.now) × (c ≤ MAX_ENTITIES) }
     ensures { Decides result (Each (2 * c) (SameWord words.now a b)) }
 {
-    let end = 2 * c;
     let mut differ = 0u32;
-    let mut i = 0;
-    while i < end {
+    for i in 0..2 * c {
         differ += (words[a + i] != words[b + i]) as u32;
-        i += 1;
     }
-    if 0 < differ {
-        return false;
-    }
-    true
+    differ == 0
 }
 
 // Has the kind at word j the entities of slot h in its first c rows?
@@ -41,18 +36,10 @@ fn even_ok(words: &[u32], z: Shape, h: usize, c: usize, j: usize) -> bool
     requires kind_at { KindAt z words.now j }
     ensures { Decides result (EvenOk z words.now h c j) }
 {
-    let kind = words[j] as usize;
-    let s = words[words::TABLE + kind] as usize;
-    let len = component::slots::len_in(words, z, s);
-    if len < c {
-        return false;
-    }
+    let s = slot_at(words, j);
     let a = words::column_start(z, s) + words::ROWS;
     let b = words::column_start(z, h) + words::ROWS;
-    if !same_rows(words, a, b, c) {
-        return false;
-    }
-    true
+    c <= component::slots::len_in(words, z, s) && same_rows(words, a, b, c)
 }
 
 fn span_even(words: &[u32], z: Shape, h: usize, c: usize, from: usize, to: usize) -> bool
@@ -60,14 +47,16 @@ fn span_even(words: &[u32], z: Shape, h: usize, c: usize, from: usize, to: usize
     requires kinds_at { KindsAt z words.now from to }
     ensures { Decides result (Over from to (EvenOk z words.now h c)) }
 {
-    let mut j = from;
-    while j < to {
-        if !even_ok(words, z, h, c, j) {
-            return false;
-        }
-        j += 1;
-    }
-    true
+    (from..to).all(|j| even_ok(words, z, h, c, j))
+}
+
+// Has the entity the kind at word j?
+fn holds_at(words: &[u32], z: Shape, e: Entity, j: usize) -> bool
+    requires in_bounds { (LAYOUT_ARITIES ≤ length words.now) × (j < LAYOUT_ARITIES) }
+    requires kind_at { KindAt z words.now j }
+    ensures { Decides result (held (entity e.index e.version) (rows_at z words.now j) ≡ true) }
+{
+    component::slots::holds_in(words, z, slot_at(words, j), e)
 }
 
 // Has the entity the kinds at the words from `from` on, below `to`?
@@ -76,16 +65,7 @@ fn holds_all(words: &[u32], z: Shape, e: Entity, from: usize, to: usize) -> bool
     requires kinds_at { KindsAt z words.now from to }
     ensures { Decides result (HoldsAll z words.now from to (entity e.index e.version)) }
 {
-    let mut j = from;
-    while j < to {
-        let kind = words[j] as usize;
-        let s = words[words::TABLE + kind] as usize;
-        if !component::slots::holds_in(words, z, s, e) {
-            return false;
-        }
-        j += 1;
-    }
-    true
+    (from..to).all(|j| holds_at(words, z, e, j))
 }
 
 // Does the entity in row i of slot h lack one of the kinds?
@@ -99,10 +79,7 @@ fn lacks(words: &[u32], z: Shape, h: usize, from: usize, to: usize, i: usize) ->
         index: words[at],
         version: words[at + 1],
     };
-    if holds_all(words, z, e, from, to) {
-        return false;
-    }
-    true
+    !holds_all(words, z, e, from, to)
 }
 
 fn rows_lack(words: &[u32], z: Shape, h: usize, from: usize, to: usize, c: usize, b: usize) -> bool
@@ -110,14 +87,7 @@ fn rows_lack(words: &[u32], z: Shape, h: usize, from: usize, to: usize, c: usize
     requires kinds_at { KindsAt z words.now from to }
     ensures { Decides result (Over c b (λ i. HoldsAll z words.now from to (key_at z words.now h i) → ⊥)) }
 {
-    let mut i = c;
-    while i < b {
-        if !lacks(words, z, h, from, to, i) {
-            return false;
-        }
-        i += 1;
-    }
-    true
+    (c..b).all(|i| lacks(words, z, h, from, to, i))
 }
 
 // Is c the count of the group with these new kinds, b being that of the next smaller one?
@@ -126,30 +96,22 @@ fn count_ok(words: &[u32], z: Shape, h: usize, from: usize, to: usize, b: usize,
     requires kinds_at { KindsAt z words.now from to }
     ensures { Decides result (CountOk z words.now h from to b c) }
 {
-    if b < c {
-        return false;
-    }
-    if component::slots::len_in(words, z, h) < b {
-        return false;
-    }
-    if !span_even(words, z, h, c, from, to) {
-        return false;
-    }
-    if !rows_lack(words, z, h, from, to, c, b) {
-        return false;
-    }
-    true
+    c <= b
+        && b <= component::slots::len_in(words, z, h)
+        && span_even(words, z, h, c, from, to)
+        && rows_lack(words, z, h, from, to, c, b)
 }
 
-fn group_counted(words: &[u32], z: Shape, families: usize, g: usize, f: usize) -> bool
+// Is the count of group g right?
+fn group_counted(words: &[u32], z: Shape, families: usize, g: usize) -> bool
     requires force { Force z families words.now }
-    requires g_bound { (g < GROUP_PLACES) × InFamily (layout_arrays words.now) f g }
-    ensures { Decides result (GroupCounted z words.now f g) }
+    requires g_bound { (g < GROUP_PLACES) × InFamily (layout_arrays words.now) (group_family_at words.now g) g }
+    ensures { Decides result (CountedOk z words.now g) }
 {
+    let f = words[words::GROUP_FAMILIES + g] as usize;
     let metadata = layout::group_metadata::read(words, g, f);
     let first = words::LAYOUT + metadata.storage_start;
-    let kind = words[first] as usize;
-    let h = words[words::TABLE + kind] as usize;
+    let h = slot_at(words, first);
     let whole = component::slots::len_in(words, z, h);
     let b = prior_of(words, words::GROUP_COUNTS, metadata.first, g, whole);
     count_ok(
@@ -169,18 +131,5 @@ pub fn are_counts(words: &[u32], z: Shape, families: usize, groups: usize) -> bo
     requires groups_bound { (groups ≤ MAX_GROUP_COUNT) × Each groups (λ g. InFamily (layout_arrays words.now) (group_family_at words.now g) g) }
     ensures { Decides result (Each groups (CountedOk z words.now)) }
 {
-    let mut g = 0;
-    while g < groups {
-        if !group_counted(
-            words,
-            z,
-            families,
-            g,
-            words[words::GROUP_FAMILIES + g] as usize,
-        ) {
-            return false;
-        }
-        g += 1;
-    }
-    true
+    (0..groups).all(|g| group_counted(words, z, families, g))
 }

@@ -10,6 +10,7 @@ ghost use Rattle.memory.specs.Meaning.{layout_arrays};
 ghost use Rattle.sound_columns.specs.Slots.{Slot, Room, head_at, Over};
 ghost use Rattle.sound_groups.specs.Spans.{KindAt, KindsAt, Force, HeadOk, NewOk, HeadsOk, OwnOk, Marked, SeenOk};
 
+use crate::slot_at;
 use layout::starts::start_of;
 use sound_columns::table::head;
 use words::Shape;
@@ -20,15 +21,9 @@ fn head_ok(words: &[u32], z: Shape, g: usize, first: usize, j: usize) -> bool
     requires kind_at { KindAt z words.now j }
     ensures { Decides result (HeadOk z words.now g first j) }
 {
-    let kind = words[j] as usize;
-    let s = words[words::TABLE + kind] as usize;
-    if head(words, z, s, words::OWN_GROUP) != g + 1 {
-        return false;
-    }
-    if head(words, z, s, words::PLACE_IN_FAMILY) != j - first {
-        return false;
-    }
-    true
+    let s = slot_at(words, j);
+    head(words, z, s, words::OWN_GROUP) == g + 1
+        && head(words, z, s, words::PLACE_IN_FAMILY) == j - first
 }
 
 fn span_ok(words: &[u32], z: Shape, g: usize, first: usize, from: usize, to: usize) -> bool
@@ -36,14 +31,7 @@ fn span_ok(words: &[u32], z: Shape, g: usize, first: usize, from: usize, to: usi
     requires kinds_at { KindsAt z words.now from to }
     ensures { Decides result (Over from to (HeadOk z words.now g first)) }
 {
-    let mut j = from;
-    while j < to {
-        if !head_ok(words, z, g, first, j) {
-            return false;
-        }
-        j += 1;
-    }
-    true
+    (from..to).all(|j| head_ok(words, z, g, first, j))
 }
 
 // The heads of the new kinds of group g of family f.
@@ -72,14 +60,8 @@ fn family_ok(words: &[u32], families: usize, g: usize, f: usize) -> bool
         return false;
     }
     let start = start_of(words, words::LAYOUT_ENDS, f);
-    if g < start {
-        return false;
-    }
     let end = words[words::LAYOUT_ENDS + f] as usize;
-    if end <= g {
-        return false;
-    }
-    true
+    (start..end).contains(&g)
 }
 
 fn group_ok(words: &[u32], z: Shape, families: usize, g: usize) -> bool
@@ -88,13 +70,7 @@ fn group_ok(words: &[u32], z: Shape, families: usize, g: usize) -> bool
     ensures { Decides result (HeadsOk z words.now g) }
 {
     let f = words[words::GROUP_FAMILIES + g] as usize;
-    if !family_ok(words, families, g, f) {
-        return false;
-    }
-    if !new_ok(words, z, families, g, f) {
-        return false;
-    }
-    true
+    family_ok(words, families, g, f) && new_ok(words, z, families, g, f)
 }
 
 // Are the groups' families and the heads of the grouped kinds right?
@@ -103,58 +79,36 @@ pub fn are_heads(words: &[u32], z: Shape, families: usize, groups: usize) -> boo
     requires groups_bound { groups ≤ MAX_GROUP_COUNT }
     ensures { Decides result (Each groups (HeadsOk z words.now)) }
 {
-    let mut g = 0;
-    while g < groups {
-        if !group_ok(words, z, families, g) {
-            return false;
-        }
-        g += 1;
-    }
-    true
+    (0..groups).all(|g| group_ok(words, z, families, g))
 }
 
 // A table of the kinds that stand in the list.
-fn mark(kinds: &[u32]) -> [u8; model::MAX_KINDS]
+fn mark(kinds: &[u32]) -> [bool; model::MAX_KINDS]
     requires { (i : ℕ) → i < length kinds.now → get_or kinds.now i 0 < MAX_KINDS }
     ensures { Marked result kinds.now }
 {
-    let mut seen = [0u8; model::MAX_KINDS];
-    for i in 0..kinds.len() {
-        let k = kinds[i] as usize;
-        seen[k] = 1;
+    let mut seen = [false; model::MAX_KINDS];
+    for &kind in kinds {
+        seen[kind as usize] = true;
     }
     seen
 }
 
 // A column that says a group has a kind that was seen.
-fn own_ok(words: &[u32], z: Shape, seen: &[u8; model::MAX_KINDS], s: usize) -> bool
+fn own_ok(words: &[u32], z: Shape, seen: &[bool; model::MAX_KINDS], s: usize) -> bool
     requires slot { Slot z s words.now }
     requires s_bound { head_at z words.now s COLUMN_KIND < MAX_KINDS }
     ensures { Decides result (SeenOk z words.now seen.now s) }
 {
-    if head(words, z, s, words::OWN_GROUP) < 1 {
-        return true;
-    }
-    let kind = head(words, z, s, words::COLUMN_KIND);
-    if seen[kind] != 1 {
-        return false;
-    }
-    true
+    head(words, z, s, words::OWN_GROUP) == 0 || seen[head(words, z, s, words::COLUMN_KIND)]
 }
 
-fn own_all_ok(words: &[u32], z: Shape, seen: &[u8; model::MAX_KINDS], registered: usize) -> bool
+fn own_all_ok(words: &[u32], z: Shape, seen: &[bool; model::MAX_KINDS], registered: usize) -> bool
     requires room { Room z registered words.now }
     requires by_index { (s : ℕ) → s < registered → head_at z words.now s COLUMN_KIND < MAX_KINDS }
     ensures { Decides result (Each registered (SeenOk z words.now seen.now)) }
 {
-    let mut s = 0;
-    while s < registered {
-        if !own_ok(words, z, seen, s) {
-            return false;
-        }
-        s += 1;
-    }
-    true
+    (0..registered).all(|s| own_ok(words, z, seen, s))
 }
 
 // Does a column say a group only if its kind is one of the layout's, which has so many?

@@ -3,7 +3,8 @@ use Prim.Native.Nat.{ℕ, ◌+◌, ◌*◌}
 use native.Mathlib.Omega.{arith}
 use Rattle.words.specs.Offsets.{ROWS}
 use Rattle.sound_columns.proofs.SlotLaws.{rows_most, key_word}
-use Rattle.words.proofs.Decides.{yes_of, no_of}
+use Rattle.sound_groups.proofs.CountLaws.{decides_not}
+use Rattle.words.specs.Decides.{Decides}
 use Rattle.sound_columns.specs.Rows.{entity_in, key_at}
 use Rattle.sound_groups.specs.Counts.{HoldsAll}
 use Rattle.sound_groups.proofs.counts.lacks.Goals as goal
@@ -29,8 +30,9 @@ offset_bounds-words-at-2 c = let a = c.args in let m = rows_most a.z a.h a.words
 pub bounds-words-at-2 : goal.bounds-words-at-2
 bounds-words-at-2 c = let a = c.args in let m = rows_most a.z a.h a.words.now c.requires.in_bounds.1 in omega (arith, m, c.requires.in_bounds, c.column_start.ensures.is)
 
-pub returns-then-holds_all : goal.returns-then-holds_all
-returns-then-holds_all c = let a = c.args in let w = a.words.now in let k : key_at a.z w a.h a.i ≡ entity_in w (c.column_start.result + ROWS + 2 * a.i) = key_word a.z a.h w c.requires.in_bounds.1 a.i c.requires.in_bounds.2 ∙ ap (λ (b : ℕ). entity_in w (b + ROWS + 2 * a.i)) (sym c.column_start.ensures.is) in λ no. no (subst (HoldsAll a.z w a.from a.to) (sym k) (yes_of {P = HoldsAll a.z w a.from a.to (entity_in w (c.column_start.result + ROWS + 2 * a.i))} c.holds_all.result c.holds_all.ensures c.if-holds_all.true))
-
 pub returns : goal.returns
-returns c = let a = c.args in let w = a.words.now in let k : key_at a.z w a.h a.i ≡ entity_in w (c.column_start.result + ROWS + 2 * a.i) = key_word a.z a.h w c.requires.in_bounds.1 a.i c.requires.in_bounds.2 ∙ ap (λ (b : ℕ). entity_in w (b + ROWS + 2 * a.i)) (sym c.column_start.ensures.is) in λ H. no_of {P = HoldsAll a.z w a.from a.to (entity_in w (c.column_start.result + ROWS + 2 * a.i))} c.holds_all.result c.holds_all.ensures c.if-holds_all.false (subst (HoldsAll a.z w a.from a.to) k H)
+returns c =
+    let a = c.args in
+    let w = a.words.now in
+    let k : key_at a.z w a.h a.i ≡ entity_in w (c.column_start.result + ROWS + 2 * a.i) = key_word a.z a.h w c.requires.in_bounds.1 a.i c.requires.in_bounds.2 ∙ ap (λ (b : ℕ). entity_in w (b + ROWS + 2 * a.i)) (sym c.column_start.ensures.is) in
+    decides_not _ c.holds_all.result (subst (λ x. Decides c.holds_all.result (HoldsAll a.z w a.from a.to x)) (sym k) c.holds_all.ensures)

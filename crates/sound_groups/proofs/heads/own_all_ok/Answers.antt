@@ -1,23 +1,16 @@
-use native.Mathlib.Omega.{arith}
-use Rattle.words.proofs.Passes.{starts, stops_each, goes, ends_each}
+use borrow.Author.Rules.{rules}
+use borrow.Author.Tests.{tests}
+use Rattle.std.proofs.lemmas.Iterator.{serves_from_Range}
+use Rattle.words.proofs.Asked.{each_from_all}
 use Rattle.sound_columns.proofs.SlotLaws.{slot_of_law}
-use Rattle.std.proofs.lemmas.Bool.{not_from_false, not_from_true}
+use Rattle.sound_columns.specs.Slots.{Slot}
+use Rattle.sound_groups.specs.Spans.{SeenOk}
 use Rattle.sound_groups.proofs.heads.own_all_ok.Goals as goal
 
-pub loop-s-init : goal.loop-s-init
-loop-s-init c = starts _
-
-pub own_ok-requires : goal.own_ok-requires
-own_ok-requires c =
+pub all-requires-clause-callable : goal.all-requires-clause-callable
+all-requires-clause-callable c =
     let a = c.args in
-    let l = c.loop-s in
-    record { slot = slot_of_law a.z a.registered a.words.now c.requires.room l.s (omega arith); s_bound = c.requires.by_index l.s (omega arith) }
-
-pub returns-then-not-own_ok : goal.returns-then-not-own_ok
-returns-then-not-own_ok c = stops_each c.loop-s.invariant c.loop-s-test.true c.own_ok.result c.own_ok.ensures (not_from_false _ c.if-not-own_ok.true)
-
-pub loop-s-preserved : goal.loop-s-preserved
-loop-s-preserved c = goes c.loop-s.invariant c.own_ok.result c.own_ok.ensures (not_from_true _ c.if-not-own_ok.false)
+    serves_from_Range (λ x q k. search rules) (λ x from below. let slot : Slot a.z x a.words.now = slot_of_law a.z a.registered a.words.now c.requires.room x below in search rules)
 
 pub returns : goal.returns
-returns c = ends_each c.loop-s.invariant c.loop-s-test.false
+returns c = let a = c.args in each_from_all (SeenOk a.z a.words.now a.seen.now) _ _ _ c.all.result c.all.ensures.ran (cc) (λ x q k. search (rules, tests)) (λ x q k. search (rules, tests))

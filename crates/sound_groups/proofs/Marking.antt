@@ -1,6 +1,6 @@
 -- A table that marks the kinds of a list as they are passed. Assumes nothing.
 use mathlib.Core.Path.{◌≡◌, ap, sym, ◌∙◌}
-use mathlib.Core.Bool.{false, ◌||◌, or-false, or-true}
+use mathlib.Core.Bool.{Bool, true, false, ◌||◌, or-false, or-true}
 use mathlib.Core.List.{List, [], ◌∷◌}
 use Prim.Native.Nat.{ℕ, ◌+◌, ◌<◌}
 use native.Mathlib.Numerals.{add-one}
@@ -15,19 +15,19 @@ use Rattle.model.proofs.KindLists.{mem_append}
 use Rattle.model.proofs.BoolLaws.{by-eq}
 
 -- the table marks what stands before i
-abbrev pub Marks : List ℕ → List ℕ → ℕ → Type 0
-Marks seen l i = (k : ℕ) → k < MAX_KINDS → eqb (get_or seen k 0) 1 ≡ mem k (take i l)
+abbrev pub Marks : List Bool → List ℕ → ℕ → Type 0
+Marks seen l i = (k : ℕ) → k < MAX_KINDS → get_or seen k false ≡ mem k (take i l)
 
-pub marks_more : (seen l : List ℕ) (i : ℕ) → length seen ≡ MAX_KINDS → i < length l → get_or l i 0 < MAX_KINDS → Marks seen l i → Marks (set seen (get_or l i 0) 1) l (i + 1)
+pub marks_more : (seen : List Bool) (l : List ℕ) (i : ℕ) → length seen ≡ MAX_KINDS → i < length l → get_or l i 0 < MAX_KINDS → Marks seen l i → Marks (set seen (get_or l i 0) true) l (i + 1)
 marks_more seen l i e h s m k hk =
     let v = get_or l i 0 in
     let to : mem k (take (i + 1) l) ≡ (mem k (take i l) || (eqb k v || false)) =
     ap (λ (n : ℕ). mem k (take n l)) (add-one i) ∙ ap (mem k) (take-suc l i 0 h) ∙ mem_append k (take i l) (v ∷ []) in
     by-eq k v
     (λ p.
-    eq-eqb (get_or (set seen v 1) k 0) 1 (ap (λ (x : ℕ). get_or (set seen v 1) x 0) p ∙ get_or-set_same seen v 1 0 (omega arith))
+    ap (λ (x : ℕ). get_or (set seen v true) x false) p ∙ get_or-set_same seen v true false (omega arith)
     ∙ sym (to ∙ rw (eq-eqb k v p) (or-true (mem k (take i l)))))
-    (λ n. ap (λ (x : ℕ). eqb x 1) (get_or-set_other seen v k 1 0 n) ∙ m k hk ∙ sym (to ∙ rw (ne_eqb k v n) (or-false (mem k (take i l)))))
+    (λ n. get_or-set_other seen v k true false n ∙ m k hk ∙ sym (to ∙ rw (ne_eqb k v n) (or-false (mem k (take i l)))))
 
-pub marks_none : (l : List ℕ) → Marks (replicate MAX_KINDS 0) l 0
-marks_none l k h = rw (get_or-replicate {A = ℕ} MAX_KINDS k 0 0 h)
+pub marks_none : (l : List ℕ) → Marks (replicate MAX_KINDS false) l 0
+marks_none l k h = rw (get_or-replicate {A = Bool} MAX_KINDS k false false h)
