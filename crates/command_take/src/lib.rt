@@ -25,7 +25,7 @@ use world::component_set;
 // The byte held and the bytes of the value's d words, at `at`.
 fn put_held(out: &mut [u8], at: usize, d: usize, held: u8, x: Value)
     requires two_or_four { TwoOrFour d }
-    requires d_in_bounds { at + (1 + 4 * d) ≤ length out.old }
+    requires room { at + (1 + 4 * d) ≤ length out.old }
     ensures { out.new ≡ sets out.old at (held ∷ bytes_of (4 * d) (value_of d x)) }
 {
     out[at] = held;
@@ -37,7 +37,7 @@ fn take_one(words: &mut [u32], z: Shape, i: usize, e: Entity, out: &mut [u8], at
     requires staged { Staged words.old }
     requires shape_is { z ≡ shape_of words.old }
     requires i_in_bounds { i < length (meaning words.old).control.staged }
-    requires stride_in_bounds { at + (1 + 4 * z.stride) ≤ length out.old }
+    requires room { at + (1 + 4 * z.stride) ≤ length out.old }
     ensures { TakesKind words.old words.new out.old out.new (entity e.index e.version) (get_or (staged_kinds (meaning words.old)) i 0) at }
 {
     match component_set::remove_one(words, z, i, e) {
@@ -50,15 +50,13 @@ fn take_one(words: &mut [u32], z: Shape, i: usize, e: Entity, out: &mut [u8], at
 fn take_staged(words: &mut [u32], z: Shape, e: Entity, out: &mut [u8], at: usize) -> usize
     requires staged { Staged words.old }
     requires shape_is { z ≡ shape_of words.old }
-    requires words_in_bounds { at + (1 + (meaning words.old).settings.value_bytes) * length (meaning words.old).control.staged ≤ length out.old }
+    requires room { at + (1 + (meaning words.old).settings.value_bytes) * length (meaning words.old).control.staged ≤ length out.old }
     ensures { TakesStaged words.old words.new out.old out.new (entity e.index e.version) at result }
 {
     let n = control::staged::staged_len(words);
     let len = 1 + model::WORD_BYTES * z.stride;
-    let mut i = 0;
-    while i < n {
+    for i in 0..n {
         take_one(words, z, i, e, out, at + len * i);
-        i += 1;
     }
     len * n
 }
@@ -66,7 +64,7 @@ fn take_staged(words: &mut [u32], z: Shape, e: Entity, out: &mut [u8], at: usize
 // The groups that have a staged kind are left; then the components go, and are written out.
 fn take_out(words: &mut [u32], e: Entity, out: &mut [u8], at: usize) -> usize
     requires sound { Sound words.old }
-    requires words_in_bounds { at + (1 + (meaning words.old).settings.value_bytes) * length (meaning words.old).control.staged ≤ length out.old }
+    requires room { at + (1 + (meaning words.old).settings.value_bytes) * length (meaning words.old).control.staged ≤ length out.old }
     ensures { Takes words.old words.new out.old out.new (entity e.index e.version) at result }
 {
     let z = words::shape_of(words);

@@ -9,18 +9,6 @@ use native.Mathlib.Omega.{arith}
 use mathlib.Core.Path.{refl, sym, ◌∙◌}
 use Rattle.command_take.proofs.take.Goals as goal
 
-pub get-found-requires : goal.get-found-requires
-get-found-requires c = c.requires.sound.arranged
-
-pub refuse-requires : goal.refuse-requires
-refuse-requires c = record { arranged = c.requires.sound.arranged; at_in_bounds = omega (arith, c.requires.room) }
-
-pub shape_of-words-in_default : goal.shape_of-words-in_default
-shape_of-words-in_default c = c.refuse.auto.words
-
-pub shape_of-out-in_default : goal.shape_of-out-in_default
-shape_of-out-in_default c = c.refuse.auto.out
-
 pub returns-in_default : goal.returns-in_default
 returns-in_default c =
     let a = c.args in

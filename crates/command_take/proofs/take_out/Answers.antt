@@ -1,8 +1,5 @@
 use mathlib.Core.Path.{ap, sym, ◌∙◌}
-use native.Mathlib.Omega.{arith}
-use Rattle.words.specs.Offsets.{VALUE_WIDTH}
 use Rattle.memory.specs.Meaning.{meaning}
-use Rattle.kinds.proofs.Slot.{header_long}
 use Rattle.group.proofs.Storing.{shape_kept}
 use Rattle.world.specs.Remove.{ungrouped}
 use Rattle.world.proofs.Whole.{staged_after, count_after}
@@ -11,12 +8,6 @@ use Rattle.model.specs.Model.{entity}
 use Rattle.model.specs.Store.{Store, staged_kinds}
 use Rattle.command_take.proofs.take_out.Goals as goal
 
-pub shape_of-z-requires : goal.shape_of-z-requires
-shape_of-z-requires c = header_long c.args.words.now c.requires.sound.arranged VALUE_WIDTH (omega arith)
-
-pub ungroup_staged-requires : goal.ungroup_staged-requires
-ungroup_staged-requires c = record { sound = c.requires.sound; shape_is = c.shape_of-z.ensures.is }
-
 pub take_staged-requires : goal.take_staged-requires
 take_staged-requires c =
     let w = c.args.words.now in
@@ -24,13 +15,7 @@ take_staged-requires c =
     let u = c.ungroup_staged in
     let n = count_after w c.requires.sound e u.new.words u.ensures in
     let v = ap (λ (m : Store). m.settings.value_bytes) u.ensures.means in
-    record { staged = staged_after w c.requires.sound e u.new.words u.ensures; shape_is = c.shape_of-z.ensures.is ∙ sym (shape_kept w u.new.words (ungrouped e (staged_kinds (meaning w))) u.ensures); words_in_bounds = rw (v, n) c.requires.words_in_bounds }
-
-pub shape_of-words : goal.shape_of-words
-shape_of-words c = c.take_staged.auto.words ∙ c.ungroup_staged.auto.words
-
-pub shape_of-out : goal.shape_of-out
-shape_of-out c = c.take_staged.auto.out
+    record { staged = staged_after w c.requires.sound e u.new.words u.ensures; shape_is = c.shape_of-z.ensures.is ∙ sym (shape_kept w u.new.words (ungrouped e (staged_kinds (meaning w))) u.ensures); room = rw (v, n) c.requires.room }
 
 pub returns : goal.returns
 returns c =

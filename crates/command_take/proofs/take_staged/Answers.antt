@@ -4,7 +4,6 @@ use Prim.Native.Nat.{ℕ, ◌+◌, ◌*◌, ◌≤◌}
 use native.Mathlib.Omega.{arith}
 use lib.ListN.{length}
 use Rattle.model.specs.Model.{entity}
-use Rattle.model.proofs.Widths.{held_fit}
 use Rattle.model.specs.Store.{staged_kinds}
 use Rattle.words.specs.declared.Shape.{Shape}
 use Rattle.words.specs.Shape.{TwoOrFour, shape_of}
@@ -12,7 +11,7 @@ use Rattle.memory.specs.Meaning.{meaning}
 use Rattle.memory.specs.Arranged.{Arranged}
 use Rattle.memory.proofs.Becomes.{stride_bytes}
 use Rattle.world.proofs.Removing.{gone_shape}
-use Rattle.command_take.proofs.Taking.{taken_none, taken_staged, taken_count, taken_length, taken_turn, taken_all, turn_room}
+use Rattle.command_take.proofs.Taking.{taken_staged, taken_count, taken_length, taken_turn, taken_all, turn_room}
 use Rattle.command_take.proofs.take_staged.Goals as goal
 
 -- two words or four
@@ -28,32 +27,6 @@ room : (w : List ℕ) (z : Shape) (len n at total : ℕ) → Arranged w → z �
     → at + (1 + (meaning w).settings.value_bytes) * length (meaning w).control.staged ≤ total → at + len * n ≤ total
 room w z len n at total A e l en h = rw (wide w z len A e l, en) h
 
-pub staged_len-n-requires : goal.staged_len-n-requires
-staged_len-n-requires c = c.requires.staged.arranged
-
-pub overflow_mul-len : goal.overflow_mul-len
-overflow_mul-len c = omega (arith, (narrow c.args.words.now c.args.z c.requires.staged.arranged c.requires.shape_is).most)
-
-pub overflow_add-len : goal.overflow_add-len
-overflow_add-len c = omega (arith, (narrow c.args.words.now c.args.z c.requires.staged.arranged c.requires.shape_is).most)
-
-pub loop-i-init : goal.loop-i-init
-loop-i-init c =
-    let a = c.args in
-    (omega arith, c.staged_len-n.ensures.few, c.staged_len-n.ensures.is, taken_none a.words.now a.out.now (entity a.e.index a.e.version) a.at c.requires.staged, c.requires.shape_is, omega arith)
-
-pub overflow_mul-len-in-loop-i : goal.overflow_mul-len-in-loop-i
-overflow_mul-len-in-loop-i c =
-    let v = c.loop-i.invariant in
-    let d = (narrow c.args.words.now c.args.z c.requires.staged.arranged v.4).most in
-    omega (arith, held_fit (4 * c.args.z.stride) c.loop-i.i (omega (arith, d)) (omega (arith, v.0, v.1)), v.5)
-
-pub overflow_add-at : goal.overflow_add-at
-overflow_add-at c =
-    let v = c.loop-i.invariant in
-    let r = room c.args.words.now c.args.z _ _ c.args.at (length c.args.out.now) c.requires.staged.arranged v.4 v.5 v.2 c.requires.words_in_bounds in
-    omega (arith, turn_room c.args.at _ c.loop-i.i c.staged_len-n.result (length c.args.out.now) (omega (arith, c.loop-i-test)) r)
-
 pub take_one-requires : goal.take_one-requires
 take_one-requires c =
     let a = c.args in
@@ -63,7 +36,7 @@ take_one-requires c =
     let n : length (meaning l.words).control.staged ≡ length (meaning a.words.now).control.staged = taken_count a.words.now a.out.now e a.at l.words l.out l.i v.3 in
     let o : length l.out ≡ length a.out.now = taken_length a.words.now a.out.now e a.at l.words l.out l.i v.3 in
     let z = v.4 ∙ gone_shape a.words.now e (staged_kinds (meaning a.words.now)) l.words l.i v.3.gone in
-    let r = room a.words.now c.args.z _ _ a.at (length a.out.now) c.requires.staged.arranged v.4 v.5 v.2 c.requires.words_in_bounds in record { staged = taken_staged a.words.now a.out.now e a.at l.words l.out l.i c.requires.staged v.3; shape_is = z; i_in_bounds = omega (arith, n, v.2, c.loop-i-test); stride_in_bounds = omega (arith, o, v.5, turn_room a.at _ l.i c.staged_len-n.result (length a.out.now) (omega (arith, c.loop-i-test)) r) }
+    let r = room a.words.now c.args.z _ _ a.at (length a.out.now) c.requires.staged.arranged v.4 v.5 v.2 c.requires.room in record { staged = taken_staged a.words.now a.out.now e a.at l.words l.out l.i c.requires.staged v.3; shape_is = z; i_in_bounds = omega (arith, n, v.2, c.loop-i-test); room = omega (arith, o, v.5, turn_room a.at _ l.i c.staged_len-n.result (length a.out.now) (omega (arith, c.loop-i-test)) r) }
 
 pub loop-i-preserved : goal.loop-i-preserved
 loop-i-preserved c =
@@ -78,21 +51,6 @@ loop-i-preserved c =
       v.4,
       v.5,
     )
-
-pub overflow_mul-result : goal.overflow_mul-result
-overflow_mul-result c =
-    let v = c.loop-i.invariant in
-    let d = (narrow c.args.words.now c.args.z c.requires.staged.arranged v.4).most in
-    omega (arith, held_fit (4 * c.args.z.stride) _ (omega (arith, d)) v.1, v.5)
-
-pub shape_of-words : goal.shape_of-words
-shape_of-words c = c.loop-i.invariant.3.gone.size
-
-pub shape_of-out : goal.shape_of-out
-shape_of-out c =
-    let a = c.args in
-    let l = c.loop-i in
-    taken_length a.words.now a.out.now (entity a.e.index a.e.version) a.at l.words l.out l.i l.invariant.3
 
 pub returns : goal.returns
 returns c =

@@ -1,5 +1,5 @@
 use mathlib.Core.Path.{◌≡◌}
-use Prim.Native.Nat.{◌+◌, ◌*◌, ◌-◌, ◌≤◌}
+use Prim.Native.Nat.{◌+◌, ◌*◌, ◌≤◌}
 use lib.ListN.{length}
 use Rattle.model.specs.Numbers.{LIST_CAPACITY}
 use Rattle.model.specs.Model.{entity}
@@ -11,6 +11,3 @@ use Rattle.command_take.proofs.take_staged.Given as goal
 abbrev pub invariant-loop-i : goal.invariant-loop-i
 invariant-loop-i l =
     (l.i ≤ l.n) × (l.n ≤ LIST_CAPACITY) × (l.n ≡ length (meaning l.initial.words).control.staged) × Taken l.initial.words l.initial.out (entity l.e.index l.e.version) l.at l.words l.out l.i × (l.z ≡ shape_of l.initial.words) × (l.len ≡ 1 + 4 * l.z.stride)
-
-abbrev pub decreases-loop-i : goal.decreases-loop-i
-decreases-loop-i l = l.n - l.i
