@@ -3,11 +3,5 @@ use Rattle.command_entity.proofs.Made.{applies}
 use Rattle.memory.specs.Meaning.{meaning}
 use Rattle.command_entity.proofs.applying.apply.Goals as goal
 
-pub shape_of-words : goal.shape_of-words
-shape_of-words c = c.set_layout.auto.words
-
-pub shape_of-out : goal.shape_of-out
-shape_of-out c = c.ack.auto.out
-
 pub returns : goal.returns
 returns c = accepted_by (applies (meaning c.args.words.now)) c.set_layout.ensures c.ack.ensures
