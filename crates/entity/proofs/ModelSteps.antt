@@ -1,12 +1,12 @@
 -- The model's create and destroy, made of their steps. Assumes nothing.
 use mathlib.Core.Path.{◌≡◌, refl, sym, ap}
-use mathlib.Core.Bool.{Bool, true, false, cond, ◌&&◌}
+use mathlib.Core.Bool.{Bool, true, false, cond}
 use mathlib.Core.List.{List, [], ◌∷◌, ◌++◌}
 use Prim.Native.Nat.{ℕ, suc, ◌+◌, ◌≤◌, ◌<◌}
 use native.Mathlib.Omega.{arith}
 use native.Mathlib.Nat.{not-suc-le-zero}
-use borrow.Author.Tests.{lt-ltb, le-ltb, le-leb, lt-leb, eq-eqb, ne_eqb, leb-false}
-use lib.Dec.{ltb, eqb}
+use borrow.Author.Tests.{lt-ltb, le-ltb, eq-eqb, ne_eqb, leb-false}
+use lib.Dec.{ltb}
 use lib.ListN.{length, get_or, drop}
 use Rattle.model.specs.Lists.{place}
 use Rattle.model.specs.Model.{Entity, Entities, no_entity, same_entity, last_version, create, create_with, destroy, entity, is_full}
@@ -79,16 +79,6 @@ module _ (s : Entities) where
   module _ (n : ℕ) where
     pub full_waiting : (length s.recycled ≡ 0 → ⊥) → false ≡ is_full n s
     full_waiting h = rw (ne_eqb (length s.recycled) 0 h)
-
-    pub full_left : s.issued < n → false ≡ is_full n s
-    full_left h = rw (lt-leb n s.issued h) (go (eqb (length s.recycled) 0))
-      where
-        go : (b : Bool) → false ≡ b && false
-        go true = refl
-        go false = refl
-
-    pub full_none : length s.recycled ≡ 0 → n ≤ s.issued → true ≡ is_full n s
-    full_none e h = rw (eq-eqb (length s.recycled) 0 e, le-leb n s.issued h)
 
     -- where none waits and it is not full, an index is left
     pub not_full : is_full n s ≡ false → length s.recycled ≡ 0 → s.issued < n

@@ -21,14 +21,7 @@ pub fn is_full(part: &[u32], n: usize) -> bool
     requires { EntityPartSound n part.now }
     ensures { result ≡ is_full n (entities_of n part.now) }
 {
-    if part[words::RECYCLED_LEN] != 0 {
-        return false;
-    }
-    let count = part[words::ISSUED] as usize;
-    if count < n {
-        return false;
-    }
-    true
+    part[words::RECYCLED_LEN] == 0 && n <= part[words::ISSUED] as usize
 }
 
 // How many numbers are left: those that wait, and those not yet issued.
@@ -46,16 +39,13 @@ pub fn wrap(n: usize, k: usize) -> usize
     requires { k < n + n }
     ensures { (result ≡ wrapped n k) × (result < n) }
 {
-    if k < n {
-        return k;
-    }
-    k - n
+    if k < n { k } else { k - n }
 }
 
 // The longest waiting number, which waits no more.
 fn pop_front(part: &mut [u32], n: usize) -> Entity
-    requires entity_part_sound { EntityPartSound n part.old }
-    requires bound { 1 ≤ recycled_len part.old }
+    requires sound { EntityPartSound n part.old }
+    requires waiting { 1 ≤ recycled_len part.old }
     ensures { Unqueued n part.old part.new result }
 {
     let head = part[words::QUEUE_HEAD] as usize;
@@ -72,7 +62,7 @@ fn pop_front(part: &mut [u32], n: usize) -> Entity
 
 // The number waits behind all others.
 fn push_back(part: &mut [u32], n: usize, e: Entity)
-    requires entity_part_sound { EntityPartSound n part.old }
+    requires sound { EntityPartSound n part.old }
     requires idle { Idle n part.old e.index × (1 ≤ e.version) }
     ensures { EntitiesChanged n (queued (entity e.index e.version)) part.old part.new }
 {
@@ -87,8 +77,8 @@ fn push_back(part: &mut [u32], n: usize, e: Entity)
 
 // The next index, at version 1.
 fn issue(part: &mut [u32], n: usize) -> Entity
-    requires entity_part_sound { EntityPartSound n part.old }
-    requires part_bound { issued_of part.old < n }
+    requires sound { EntityPartSound n part.old }
+    requires room { issued_of part.old < n }
     ensures { Issued n part.old part.new result }
 {
     let index = part[words::ISSUED];
@@ -98,30 +88,28 @@ fn issue(part: &mut [u32], n: usize) -> Entity
 
 // A number for a new entity: the longest waiting one, else the next index at version 1.
 pub fn allocate(part: &mut [u32], n: usize) -> Entity
-    requires entity_part_sound { EntityPartSound n part.old }
-    requires part_value { is_full n (entities_of n part.old) ≡ false }
+    requires sound { EntityPartSound n part.old }
+    requires room { is_full n (entities_of n part.old) ≡ false }
     ensures { Allocated n part.old part.new result }
 {
-    if part[words::RECYCLED_LEN] < 1 {
-        return issue(part, n);
+    if part[words::RECYCLED_LEN] == 0 {
+        issue(part, n)
+    } else {
+        pop_front(part, n)
     }
-    pop_front(part, n)
 }
 
 // The number waits with its version plus one, or is retired if there is none.
 pub fn recycle(part: &mut [u32], n: usize, e: Entity)
-    requires entity_part_sound { EntityPartSound n part.old }
+    requires sound { EntityPartSound n part.old }
     requires idle { Idle n part.old e.index }
     ensures { EntitiesChanged n (recycled_as (entity e.index e.version)) part.old part.new }
 {
     if e.version < model::LAST_VERSION {
-        push_back(
-            part,
-            n,
-            Entity {
-                index: e.index,
-                version: e.version + 1,
-            },
-        );
+        let next = Entity {
+            index: e.index,
+            version: e.version + 1,
+        };
+        push_back(part, n, next);
     }
 }

@@ -19,8 +19,8 @@ pub fn len(part: &[u32], n: usize) -> usize
 
 // The live list's entity at place.
 pub fn live_at(part: &[u32], n: usize, place: usize) -> Entity
-    requires entity_part_sound { EntityPartSound n part.now }
-    requires place_in_bounds { place < length (entities_of n part.now).live }
+    requires sound { EntityPartSound n part.now }
+    requires in_range { place < length (entities_of n part.now).live }
     ensures { entity_of_answer result ≡ get_or (entities_of n part.now).live place no_entity }
 {
     let at = words::LIVE_LIST + 2 * place;
@@ -32,8 +32,8 @@ pub fn live_at(part: &[u32], n: usize, place: usize) -> Entity
 
 // Has the live list's place say the entity, and the index's lookup the place.
 fn put(part: &mut [u32], n: usize, place: usize, e: Entity)
-    requires entity_part_sized { EntityPartSized n part.old }
-    requires place_lt_n { (place < n) × (e.index < n) }
+    requires sized { EntityPartSized n part.old }
+    requires in_range { (place < n) × (e.index < n) }
     ensures { part.new ≡ stores part.old (put_stores n place e.index e.version) }
 {
     let at = words::LIVE_LIST + 2 * place;
@@ -46,7 +46,7 @@ fn put(part: &mut [u32], n: usize, place: usize, e: Entity)
 
 // The entity joins the live list at its end.
 pub fn insert(part: &mut [u32], n: usize, e: Entity)
-    requires entity_part_sound { EntityPartSound n part.old }
+    requires sound { EntityPartSound n part.old }
     requires idle { Idle n part.old e.index × (1 ≤ e.version) }
     ensures { EntitiesChanged n (joined (entity e.index e.version)) part.old part.new }
 {
@@ -57,8 +57,8 @@ pub fn insert(part: &mut [u32], n: usize, e: Entity)
 
 // The entity at place leaves the live list, and the list's last takes its place.
 pub fn remove(part: &mut [u32], n: usize, place: usize)
-    requires entity_part_sound { EntityPartSound n part.old }
-    requires place_bound { place < len_of part.old }
+    requires sound { EntityPartSound n part.old }
+    requires in_range { place < len_of part.old }
     ensures { EntitiesChanged n (left place) part.old part.new × Idle n part.new (live_index_at part.old place) }
 {
     let k = part[words::LIVE_LEN] - 1;

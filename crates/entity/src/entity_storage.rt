@@ -19,8 +19,8 @@ pub fn contains(part: &[u32], n: usize, e: Entity) -> bool
 
 // A new entity. The caller has seen that there is a number left.
 pub fn create(part: &mut [u32], n: usize) -> Entity
-    requires entity_part_sound { EntityPartSound n part.old }
-    requires part_value { is_full n (entities_of n part.old) ≡ false }
+    requires sound { EntityPartSound n part.old }
+    requires room { is_full n (entities_of n part.old) ≡ false }
     ensures { EntityCreated n part.old part.new result }
 {
     let entity = entity_allocator::allocate(part, n);
@@ -30,7 +30,7 @@ pub fn create(part: &mut [u32], n: usize) -> Entity
 
 // Destroys a live entity, whose place in the live list the caller has looked up.
 pub fn destroy(part: &mut [u32], n: usize, place: usize, e: Entity)
-    requires entity_part_sound { EntityPartSound n part.old }
+    requires sound { EntityPartSound n part.old }
     requires live_at { LiveAt (entity e.index e.version) place (entities_of n part.old) }
     ensures { EntitiesChanged n (destroy (entity e.index e.version)) part.old part.new }
 {

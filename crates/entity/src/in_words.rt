@@ -10,8 +10,8 @@ use words::Entity;
 
 // A new entity. The caller has seen that there is a number left.
 pub fn create_in(words: &mut [u32], n: usize) -> Entity
-    requires sound_in { SoundIn n words.old }
-    requires words_value { is_full n (entities_in n words.old) ≡ false }
+    requires sound { SoundIn n words.old }
+    requires room { is_full n (entities_in n words.old) ≡ false }
     ensures { CreatedIn n words.old words.new result }
 {
     let end = words::ENTITIES + model::ENTITY_LEN * n;
@@ -20,7 +20,7 @@ pub fn create_in(words: &mut [u32], n: usize) -> Entity
 
 // Destroys a live entity, whose place in the live list the caller has looked up.
 pub fn destroy_in(words: &mut [u32], n: usize, place: usize, e: Entity)
-    requires sound_in { SoundIn n words.old }
+    requires sound { SoundIn n words.old }
     requires live_at { LiveAt (entity e.index e.version) place (entities_in n words.old) }
     ensures { EntityChange n (destroy (entity e.index e.version)) words.old words.new }
 {

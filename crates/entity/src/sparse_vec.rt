@@ -12,16 +12,12 @@ pub fn get(part: &[u32], n: usize, e: Entity) -> Found
     requires { EntityPartSound n part.now }
     ensures { result ≡ found_of (entity e.index e.version) (entities_of n part.now) }
 {
-    let x = e.index as usize;
-    if n <= x {
+    let index = e.index as usize;
+    if n <= index || e.version < 1 {
         return Found::Nothing;
     }
-    if e.version < 1 {
-        return Found::Nothing;
-    }
-    let slot = words::LIVE_LIST + 2 * n + 2 * x;
-    let held = part[slot + 1];
-    if held != e.version {
+    let slot = words::LIVE_LIST + 2 * n + 2 * index;
+    if part[slot + 1] != e.version {
         return Found::Nothing;
     }
     Found::At(part[slot] as usize)
@@ -29,8 +25,8 @@ pub fn get(part: &[u32], n: usize, e: Entity) -> Found
 
 // The version of the live entity with this index, 0 where there is none.
 pub fn version_at(part: &[u32], n: usize, index: usize) -> u32
-    requires entity_part_sound { EntityPartSound n part.now }
-    requires index_lt_n { index < n }
+    requires sound { EntityPartSound n part.now }
+    requires in_range { index < n }
     ensures { result ≡ live_version index (entities_of n part.now).live }
 {
     part[words::LIVE_LIST + 2 * n + 2 * index + 1]

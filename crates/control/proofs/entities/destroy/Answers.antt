@@ -10,7 +10,7 @@ destroy_in-requires c =
     let w = c.args.words.now in
     let n = c.capacity-n.result in
     let C = c.capacity-n.ensures in
-    record { sound_in = sound_in w n C c.requires.arranged; live_at = rw (entities_read w n C) c.requires.live_at }
+    record { sound = sound_in w n C c.requires.arranged; live_at = rw (entities_read w n C) c.requires.live_at }
 
 pub shape_of-words : goal.shape_of-words
 shape_of-words c = c.destroy_in.auto.words

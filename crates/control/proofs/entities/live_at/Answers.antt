@@ -28,7 +28,7 @@ live_at-requires c =
     let w = c.args.words.now in
     let n = c.capacity-n.result in
     let C = c.capacity-n.ensures in
-    record { entity_part_sound = (sound_in w n C c.requires.arranged).sound; place_in_bounds = rw (entities_read w n C) c.requires.place_in_bounds }
+    record { sound = (sound_in w n C c.requires.arranged).sound; in_range = rw (entities_read w n C) c.requires.place_in_bounds }
 
 pub returns : goal.returns
 returns c =

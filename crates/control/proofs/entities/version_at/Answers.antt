@@ -29,7 +29,7 @@ version_at-requires c =
     let w = c.args.words.now in
     let n = c.capacity-n.result in
     let C = c.capacity-n.ensures in
-    record { entity_part_sound = (sound_in w n C c.requires.arranged).sound; index_lt_n = omega (arith, c.requires.index_bound, C.is) }
+    record { sound = (sound_in w n C c.requires.arranged).sound; in_range = omega (arith, c.requires.index_bound, C.is) }
 
 pub returns : goal.returns
 returns c =

@@ -7,18 +7,18 @@ use Rattle.entity.proofs.ModelSteps.{allocated_none, entity_none, allocated_some
 use Rattle.entity.specs.Meaning.{entities_of}
 use Rattle.entity.proofs.entity_allocator.allocate.Goals as goal
 
-pub issue-requires : goal.issue-requires
-issue-requires c =
+pub issue-requires-clause-room : goal.issue-requires-clause-room
+issue-requires-clause-room c =
     let a = c.args in
     let t = entities_of a.n a.part.now in
-    let e : length t.recycled ≡ 0 = omega (arith, length_recycled a.n a.part.now, c.if-part-lt1.true) in
-    record { entity_part_sound = c.requires.entity_part_sound; part_bound = omega (arith, not_full t a.n c.requires.part_value e, issued_is a.n a.part.now) }
+    let e : length t.recycled ≡ 0 = omega (arith, length_recycled a.n a.part.now, c.if-part-eq0.true) in
+    omega (arith, not_full t a.n c.requires.room e, issued_is a.n a.part.now)
 
-pub returns-then-part-lt1 : goal.returns-then-part-lt1
-returns-then-part-lt1 c =
+pub returns-then-part-eq0 : goal.returns-then-part-eq0
+returns-then-part-eq0 c =
     let a = c.args in
     let t = entities_of a.n a.part.now in
-    let e : length t.recycled ≡ 0 = omega (arith, length_recycled a.n a.part.now, c.if-part-lt1.true) in
+    let e : length t.recycled ≡ 0 = omega (arith, length_recycled a.n a.part.now, c.if-part-eq0.true) in
     let r = c.issue.ensures in
     record {
       changed = record { sound = r.changed.sound; size = r.changed.size; becomes = r.changed.becomes ∙ allocated_none t e };
@@ -27,11 +27,11 @@ returns-then-part-lt1 c =
       positive = r.positive;
     }
 
-pub returns : goal.returns
-returns c =
+pub returns-else-part-eq0 : goal.returns-else-part-eq0
+returns-else-part-eq0 c =
     let a = c.args in
     let t = entities_of a.n a.part.now in
-    let e : 1 ≤ length t.recycled = omega (arith, length_recycled a.n a.part.now, c.if-part-lt1.false) in
+    let e : 1 ≤ length t.recycled = omega (arith, length_recycled a.n a.part.now, c.if-part-eq0.false) in
     let r = c.pop_front.ensures in
     record {
       changed = record { sound = r.changed.sound; size = r.changed.size; becomes = r.changed.becomes ∙ allocated_some t e };

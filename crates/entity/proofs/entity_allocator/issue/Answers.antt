@@ -10,8 +10,8 @@ pub returns : goal.returns
 returns c =
     let a = c.args in
     record {
-      changed = numbered_changed a.n a.part.now c.requires.entity_part_sound c.requires.part_bound;
+      changed = numbered_changed a.n a.part.now c.requires.sound c.requires.room;
       entity = ap (λ (x : ℕ). entity x 1) (sym (issued_is a.n a.part.now));
-      idle = numbered_idle a.n a.part.now c.requires.entity_part_sound c.requires.part_bound;
+      idle = numbered_idle a.n a.part.now c.requires.sound c.requires.room;
       positive = omega arith;
     }

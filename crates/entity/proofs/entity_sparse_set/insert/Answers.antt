@@ -6,9 +6,9 @@ pub put-requires : goal.put-requires
 put-requires c =
     let a = c.args in
     let d = c.requires.idle.0 in
-    record { entity_part_sized = c.requires.entity_part_sound.sized; place_lt_n = (live_room a.n a.part.now c.requires.entity_part_sound a.e.index a.e.version d c.requires.idle.1, omega (arith, d.below, c.requires.entity_part_sound.few)) }
+    record { sized = c.requires.sound.sized; in_range = (live_room a.n a.part.now c.requires.sound a.e.index a.e.version d c.requires.idle.1, omega (arith, d.below, c.requires.sound.few)) }
 
 pub returns : goal.returns
 returns c =
     let a = c.args in
-    rw c.put.ensures (joined_changed a.n a.part.now c.requires.entity_part_sound a.e.index a.e.version c.requires.idle.0 c.requires.idle.1)
+    rw c.put.ensures (joined_changed a.n a.part.now c.requires.sound a.e.index a.e.version c.requires.idle.0 c.requires.idle.1)

@@ -4,26 +4,26 @@ use Rattle.entity.proofs.Lookups.{length_live, get_d_live}
 use Rattle.entity.proofs.entity_sparse_set.live_at.Goals as goal
 
 pub overflow_mul-at : goal.overflow_mul-at
-overflow_mul-at c = omega (arith, length_live c.args.n c.args.part.now, c.requires.place_in_bounds, c.requires.entity_part_sound.linked.room)
+overflow_mul-at c = omega (arith, length_live c.args.n c.args.part.now, c.requires.in_range, c.requires.sound.linked.room)
 
 pub overflow_add-at : goal.overflow_add-at
-overflow_add-at c = omega (arith, length_live c.args.n c.args.part.now, c.requires.place_in_bounds, c.requires.entity_part_sound.linked.room)
+overflow_add-at c = omega (arith, length_live c.args.n c.args.part.now, c.requires.in_range, c.requires.sound.linked.room)
 
 pub offset_bounds-part-at : goal.offset_bounds-part-at
-offset_bounds-part-at c = omega (arith, length_live c.args.n c.args.part.now, c.requires.place_in_bounds, c.requires.entity_part_sound.linked.room)
+offset_bounds-part-at c = omega (arith, length_live c.args.n c.args.part.now, c.requires.in_range, c.requires.sound.linked.room)
 
 pub bounds-part-at : goal.bounds-part-at
-bounds-part-at c = omega (arith, length_live c.args.n c.args.part.now, c.requires.place_in_bounds, c.requires.entity_part_sound.linked.room)
+bounds-part-at c = omega (arith, length_live c.args.n c.args.part.now, c.requires.in_range, c.requires.sound.linked.room)
 
 pub overflow_add-result : goal.overflow_add-result
-overflow_add-result c = omega (arith, length_live c.args.n c.args.part.now, c.requires.place_in_bounds, c.requires.entity_part_sound.linked.room)
+overflow_add-result c = omega (arith, length_live c.args.n c.args.part.now, c.requires.in_range, c.requires.sound.linked.room)
 
 pub offset_bounds-part-at-2 : goal.offset_bounds-part-at-2
-offset_bounds-part-at-2 c = omega (arith, length_live c.args.n c.args.part.now, c.requires.place_in_bounds, c.requires.entity_part_sound.linked.room)
+offset_bounds-part-at-2 c = omega (arith, length_live c.args.n c.args.part.now, c.requires.in_range, c.requires.sound.linked.room)
 
 pub bounds-part-at-2 : goal.bounds-part-at-2
-bounds-part-at-2 c = omega (arith, length_live c.args.n c.args.part.now, c.requires.place_in_bounds, c.requires.entity_part_sound.linked.room)
+bounds-part-at-2 c = omega (arith, length_live c.args.n c.args.part.now, c.requires.in_range, c.requires.sound.linked.room)
 
 pub returns : goal.returns
 returns c =
-    sym (get_d_live c.args.n c.args.part.now c.args.place (omega (arith, length_live c.args.n c.args.part.now, c.requires.place_in_bounds)))
+    sym (get_d_live c.args.n c.args.part.now c.args.place (omega (arith, length_live c.args.n c.args.part.now, c.requires.in_range)))

@@ -10,17 +10,14 @@ use Rattle.entity.proofs.entity_storage.destroy.Goals as goal
 pub remove-requires : goal.remove-requires
 remove-requires c =
     let a = c.args in
-    record { entity_part_sound = c.requires.entity_part_sound; place_bound = (found_place a.n a.part.now a.e.index a.e.version a.place c.requires.live_at).0 }
+    record { sound = c.requires.sound; in_range = (found_place a.n a.part.now a.e.index a.e.version a.place c.requires.live_at).0 }
 
 pub recycle-requires : goal.recycle-requires
 recycle-requires c =
     let a = c.args in
     let q = found_place a.n a.part.now a.e.index a.e.version a.place c.requires.live_at in
     let r = c.remove.ensures in
-    record { entity_part_sound = r.0.sound; idle = rw q.1 at r.1 }
-
-pub shape_of-part : goal.shape_of-part
-shape_of-part c = c.recycle.auto.part ∙ c.remove.auto.part
+    record { sound = r.0.sound; idle = rw q.1 at r.1 }
 
 pub returns : goal.returns
 returns c =

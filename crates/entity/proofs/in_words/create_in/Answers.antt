@@ -7,6 +7,6 @@ returns c =
     let a = c.args in
     let r = c.create.ensures in
     record {
-      changed = changed_in a.n with_created a.words.now c.create.new.part c.requires.sound_in.fits r.changed;
+      changed = changed_in a.n with_created a.words.now c.create.new.part c.requires.sound.fits r.changed;
       entity = r.entity;
     }

@@ -5,4 +5,4 @@ use Rattle.entity.proofs.in_words.destroy_in.Goals as goal
 pub returns : goal.returns
 returns c =
     let a = c.args in
-    changed_in a.n (destroy (entity a.e.index a.e.version)) a.words.now c.destroy.new.part c.requires.sound_in.fits c.destroy.ensures
+    changed_in a.n (destroy (entity a.e.index a.e.version)) a.words.now c.destroy.new.part c.requires.sound.fits c.destroy.ensures
