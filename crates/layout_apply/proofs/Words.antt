@@ -1,10 +1,11 @@
 -- The header while the draft becomes the layout. Assumes nothing.
 use mathlib.Core.Path.{◌≡◌, refl, sym, ap, ◌∙◌}
-use mathlib.Core.List.{List, [], ◌∷◌}
-use Prim.Native.Nat.{ℕ, zero, suc, ◌+◌, ◌≤◌, ◌<◌}
+use mathlib.Core.List.{List, [], ◌∷◌, ◌++◌}
+use Prim.Native.Nat.{ℕ, zero, suc, ◌+◌, ◌-◌, ◌≤◌, ◌<◌}
 use native.Mathlib.Omega.{arith}
-use lib.ListN.{length, get_or, set, drop, length-set}
-use lib.Seq.{get_or-set_same, get_or-set_other, get_or-drop}
+use lib.ListN.{length, get_or, take, drop, length-append, length-drop}
+use lib.Seq.{length-take-le, get_or-drop, get_or-take}
+use Rattle.std.proofs.lemmas.List.{get_or_append_left, get_or-append_right}
 use Rattle.model.specs.Numbers.{MAX_GROUP_COUNT}
 use Rattle.words.specs.Offsets.{BLOCK_LEN, CALLER, DRAFT, DRAFT_FAMILIES, DRAFT_GROUPS, ENDS, ENTITIES, GROUP_COUNTS, GROUP_FAMILIES, GROUP_PLACES, LAYOUT, LAYOUT_ENDS, LAYOUT_FAMILIES, LAYOUT_GROUPS}
 use Rattle.model.proofs.BoolLaws.{by-eq}
@@ -21,33 +22,29 @@ use Rattle.layout.proofs.Groups as groups
 
 -- ---- the loops
 
-pub fill_none : (w : List ℕ) (a v : ℕ) → Filled w a a v w
-fill_none w a v = record { size = refl; here = λ i l h. absurd (omega arith); before = λ i h. refl; after = λ i h. refl }
-
-pub fill_more : (w₀ w : List ℕ) (a i v : ℕ) → a ≤ i → i < length w → Filled w₀ a i v w → Filled w₀ a (i + 1) v (set w i v)
-fill_more w₀ w a i v l h F =
+-- the words before LAYOUT end with the draft's block: a copy of it stands behind them, and then what stood behind the layout's block
+pub copied_block : (w before behind block : List ℕ) → ENTITIES ≤ length w → before ≡ take LAYOUT w → behind ≡ drop LAYOUT w → block ≡ take (length before - DRAFT) (drop DRAFT before)
+    → Copied w BLOCK_LEN (before ++ (block ++ drop BLOCK_LEN behind))
+copied_block w before behind block l eb ee ek =
+    let lb : length before ≡ LAYOUT = ap length eb ∙ length-take-le LAYOUT w (omega arith) in
+    let lk : length block ≡ BLOCK_LEN = ap length ek ∙ length-take-le (length before - DRAFT) (drop DRAFT before) (omega (arith, length-drop DRAFT before)) ∙ omega arith in
+    let rest = drop BLOCK_LEN behind in
+    let before_at : (i : ℕ) → i < LAYOUT → get_or before i 0 ≡ get_or w i 0 = λ i h. ap (λ (t : List ℕ). get_or t i 0) eb ∙ get_or-take LAYOUT w i 0 h in
+    let block_is : (i : ℕ) → i < BLOCK_LEN → get_or block i 0 ≡ get_or w (DRAFT + i) 0 =
+    λ i h. ap (λ (t : List ℕ). get_or t i 0) ek ∙ get_or-take (length before - DRAFT) (drop DRAFT before) i 0 (omega arith) ∙ get_or-drop DRAFT before i 0 ∙ before_at (DRAFT + i) (omega arith) in
     record {
-      size = length-set w i v ∙ F.size;
-      here = λ j lj hj. by-eq j i (λ e. rw e (get_or-set_same w i v 0 h)) (λ ne. get_or-set_other w i j v 0 ne ∙ F.here j lj (omega arith));
-      before = λ j hj. get_or-set_other w i j v 0 (omega arith) ∙ F.before j hj;
-      after = λ j hj. get_or-set_other w i j v 0 (omega arith) ∙ F.after j (omega arith);
-    }
-
-pub copy_none : (w : List ℕ) → Copied w 0 w
-copy_none w = record { size = refl; here = λ i h. absurd (omega arith); before = λ i h. refl; after = λ i h. refl }
-
-pub copy_more : (w₀ w : List ℕ) (i : ℕ) → i < BLOCK_LEN → ENTITIES ≤ length w → Copied w₀ i w → Copied w₀ (i + 1) (set w (LAYOUT + i) (get_or w (DRAFT + i) 0))
-copy_more w₀ w i h l C =
-    let v = get_or w (DRAFT + i) 0 in
-    record {
-      size = length-set w (LAYOUT + i) v ∙ C.size;
+      size = omega (arith, length-append before (block ++ rest), length-append block rest, length-drop BLOCK_LEN behind, ap length ee, length-drop LAYOUT w);
       here =
-          λ j hj.
-          by-eq j i
-          (λ e. rw e (get_or-set_same w (LAYOUT + i) v 0 (omega arith) ∙ C.before (DRAFT + i) (omega arith)))
-          (λ ne. get_or-set_other w (LAYOUT + i) (LAYOUT + j) v 0 (omega arith) ∙ C.here j (omega arith));
-      before = λ j hj. get_or-set_other w (LAYOUT + i) j v 0 (omega arith) ∙ C.before j hj;
-      after = λ j hj. get_or-set_other w (LAYOUT + i) j v 0 (omega arith) ∙ C.after j (omega arith);
+          λ i h.
+          let here : LAYOUT + i - LAYOUT ≡ i = omega arith in
+          get_or-append_right before (block ++ rest) LAYOUT (LAYOUT + i) 0 lb (omega arith) ∙ ap (λ (k : ℕ). get_or (block ++ rest) k 0) here ∙ get_or_append_left block rest 0 i (omega arith) ∙ block_is i h;
+      before = λ i h. get_or_append_left before (block ++ rest) 0 i (omega arith) ∙ before_at i h;
+      after =
+          λ i h.
+          let there : LAYOUT + (BLOCK_LEN + (i - LAYOUT - BLOCK_LEN)) ≡ i = omega arith in
+          get_or-append_right before (block ++ rest) LAYOUT i 0 lb (omega arith) ∙ get_or-append_right block rest BLOCK_LEN (i - LAYOUT) 0 lk (omega arith)
+          ∙ ap (λ (t : List ℕ). get_or (drop BLOCK_LEN t) (i - LAYOUT - BLOCK_LEN) 0) ee ∙ get_or-drop BLOCK_LEN (drop LAYOUT w) (i - LAYOUT - BLOCK_LEN) 0
+          ∙ get_or-drop LAYOUT w (BLOCK_LEN + (i - LAYOUT - BLOCK_LEN)) 0 ∙ ap (λ (k : ℕ). get_or w k 0) there;
     }
 
 pub number_none : (w : List ℕ) → Numbered w 0 w

@@ -29,11 +29,7 @@ fn fill(words: &mut [u32], start: usize, end: usize, value: usize)
     requires value_bound { value < 4294967296 }
     ensures { Filled words.old start end value words.new }
 {
-    let mut i = start;
-    while i < end {
-        words[i] = value as u32;
-        i += 1;
-    }
+    words[start..end].fill(value as u32);
 }
 
 // The draft's block becomes the layout's.
@@ -41,11 +37,8 @@ fn copy_block(words: &mut [u32])
     requires { ENTITIES ≤ length words.old }
     ensures { Copied words.old BLOCK_LEN words.new }
 {
-    let mut i = 0;
-    while i < words::BLOCK_LEN {
-        words[words::LAYOUT + i] = words[words::DRAFT + i];
-        i += 1;
-    }
+    let (before, layout) = words.split_at_mut(words::LAYOUT);
+    layout[..words::BLOCK_LEN].copy_from_slice(&before[words::DRAFT..]);
 }
 
 // Each group gets the number of its family.
@@ -53,8 +46,7 @@ fn number_groups(words: &mut [u32], families: usize)
     requires { FamilyEndsAsk words.old families }
     ensures { Numbered words.old families words.new }
 {
-    let mut f = 0;
-    while f < families {
+    for f in 0..families {
         let start = start_of(words, LAYOUT_ENDS, f);
         let end = words::word(words, LAYOUT_ENDS + f);
         fill(
@@ -63,7 +55,6 @@ fn number_groups(words: &mut [u32], families: usize)
             words::GROUP_FAMILIES + end,
             f,
         );
-        f += 1;
     }
 }
 
@@ -106,10 +97,8 @@ fn clear_heads(words: &mut [u32], z: Shape, m: usize)
     requires { Columns z m words.old }
     ensures { ClearsHeads z m words.old words.new }
 {
-    let mut slot = 0;
-    while slot < m {
+    for slot in 0..m {
         put_own(words, z, slot, 0, 0);
-        slot += 1;
     }
 }
 
@@ -137,10 +126,8 @@ fn put_group(words: &mut [u32], z: Shape, f: usize, g: usize, prior: usize) -> u
 {
     let start = start_of(words, LAYOUT_KIND_ENDS, f);
     let arity = words::word(words, LAYOUT_ARITIES + g);
-    let mut j = prior;
-    while j < arity {
+    for j in prior..arity {
         put_member(words, z, start + j, g, j);
-        j += 1;
     }
     arity
 }
@@ -153,12 +140,11 @@ fn put_family(words: &mut [u32], z: Shape, f: usize)
     requires upto { Upto words.old (start_of (layout_arrays words.old).kind_ends f) }
     ensures { HeadedUpto words.old words.new (get_or (layout_arrays words.old).kind_ends f 0) }
 {
-    let mut prior = 0;
-    let mut g = start_of(words, LAYOUT_ENDS, f);
+    let start = start_of(words, LAYOUT_ENDS, f);
     let end = words::word(words, LAYOUT_ENDS + f);
-    while g < end {
+    let mut prior = 0;
+    for g in start..end {
         prior = put_group(words, z, f, g, prior);
-        g += 1;
     }
 }
 
@@ -170,10 +156,8 @@ fn put_heads(words: &mut [u32], z: Shape)
     ensures { HeadedUpto words.old words.new (width_of (layout_arrays words.old)) }
 {
     let families = words::word(words, words::LAYOUT_FAMILIES);
-    let mut f = 0;
-    while f < families {
+    for f in 0..families {
         put_family(words, z, f);
-        f += 1;
     }
 }
 

@@ -1,30 +1,23 @@
-use Prim.Native.Nat.{ℕ}
-use mathlib.Core.Path.{◌≡◌, subst}
+use mathlib.Core.Path.{◌∙◌, sym}
 use native.Mathlib.Omega.{arith}
-use Rattle.words.specs.Offsets.{BLOCK_LEN}
-use Rattle.layout_apply.specs.Steps.{Copied}
-use Rattle.layout_apply.proofs.Words.{copy_none, copy_more}
+use lib.ListN.{length, drop, length-drop}
+use lib.Seq.{length-take-le}
+use Prim.Native.Nat.{◌-◌}
+use Rattle.words.specs.Offsets.{BLOCK_LEN, DRAFT}
+use Rattle.layout_apply.proofs.Words.{copied_block}
 use Rattle.layout_apply.proofs.copy_block.Goals as goal
 
-pub loop-i-init : goal.loop-i-init
-loop-i-init c = (omega arith, copy_none _)
+pub slice_bounds-copy_from_slice-end-2 : goal.slice_bounds-copy_from_slice-end-2
+slice_bounds-copy_from_slice-end-2 c = sym (length-take-le _ _ (omega (arith, c.requires, c.split_at_mut-before.ensures.back_len)))
 
-pub bounds-words-i : goal.bounds-words-i
-bounds-words-i c = omega (arith, c.requires, c.loop-i.invariant.1.size)
-
-pub bounds-words-i-in-loop-i : goal.bounds-words-i-in-loop-i
-bounds-words-i-in-loop-i c = omega (arith, c.requires, c.loop-i.invariant.1.size)
-
-pub loop-i-preserved : goal.loop-i-preserved
-loop-i-preserved c =
-    let l = c.loop-i in
-    (omega arith, copy_more c.args.words.now l.words l.i (omega arith) (omega (arith, c.requires, l.invariant.1.size)) l.invariant.1)
-
-pub shape_of-words : goal.shape_of-words
-shape_of-words c = c.loop-i.invariant.1.size
+pub copy_from_slice-requires : goal.copy_from_slice-requires
+copy_from_slice-requires c =
+    let parts = c.split_at_mut-before in
+    let before = parts.result.0.now in
+    length-take-le BLOCK_LEN parts.result.1.now (omega (arith, c.requires, parts.ensures.back_len))
+    ∙ sym (length-take-le (length before - DRAFT) (drop DRAFT before) (omega (arith, length-drop DRAFT before)) ∙ omega (arith, parts.ensures.front_len))
 
 pub returns : goal.returns
 returns c =
-    let l = c.loop-i in
-    let e : l.i ≡ BLOCK_LEN = omega (arith, l.invariant.0) in
-    subst (λ (k : ℕ). Copied c.args.words.now k l.words) e l.invariant.1
+    let parts = c.split_at_mut-before in
+    copied_block c.args.words.now _ _ _ c.requires parts.ensures.front parts.ensures.back c.copy_from_slice.ensures.after

@@ -1,16 +1,7 @@
 use mathlib.Core.Path.{sym, ◌∙◌}
-use native.Mathlib.Omega.{arith}
 use Rattle.layout_apply.proofs.InForce.{ready₁, clear_asks, cleared, heads₂, ready₂, upto₂, heads_set}
 use Rattle.layout_apply.proofs.HeadSteps.{shape_same}
 use Rattle.layout_apply.proofs.install.Goals as goal
-
-pub shape_of-z-requires : goal.shape_of-z-requires
-shape_of-z-requires c =
-    omega (arith, (ready₁ c.args.words.now c.prepare.new.words c.requires.arranged c.requires.store_sound c.prepare.ensures).long)
-
-pub word-m-requires : goal.word-m-requires
-word-m-requires c =
-    omega (arith, (ready₁ c.args.words.now c.prepare.new.words c.requires.arranged c.requires.store_sound c.prepare.ensures).long)
 
 pub clear_heads-requires : goal.clear_heads-requires
 clear_heads-requires c =
@@ -23,9 +14,6 @@ put_heads-requires c =
     let w₂ = c.clear_heads.new.words in
     let C = cleared w₀ w₁ c.requires.arranged c.requires.store_sound c.prepare.ensures c.shape_of-z.result c.word-m.result c.shape_of-z.ensures.is c.word-m.ensures.is w₂ c.clear_heads.ensures in
     let R = ready₁ w₀ w₁ c.requires.arranged c.requires.store_sound c.prepare.ensures in record { heads_ready = ready₂ w₀ w₁ c.requires.arranged c.requires.store_sound c.prepare.ensures w₂ C; shape_is = c.shape_of-z.ensures.is ∙ sym (shape_same w₁ w₂ R (heads₂ w₀ w₁ c.requires.arranged c.requires.store_sound c.prepare.ensures w₂ C)); upto = upto₂ w₀ w₁ c.requires.arranged c.requires.store_sound c.prepare.ensures w₂ C }
-
-pub shape_of-words : goal.shape_of-words
-shape_of-words c = c.put_heads.auto.words ∙ c.clear_heads.auto.words ∙ c.prepare.auto.words
 
 pub returns : goal.returns
 returns c =

@@ -1,4 +1,3 @@
-use mathlib.Core.Path.{◌∙◌}
 use native.Mathlib.Omega.{arith}
 use Rattle.memory.proofs.Frames.{long}
 use Rattle.layout_apply.proofs.Words.{ends_ask, prepared}
@@ -7,23 +6,16 @@ use Rattle.layout_apply.proofs.prepare.Goals as goal
 pub copy_block-requires : goal.copy_block-requires
 copy_block-requires c = long c.args.words.now c.requires
 
-pub word-families-requires : goal.word-families-requires
-word-families-requires c = omega (arith, long c.args.words.now c.requires, c.copy_block.ensures.size)
-
 pub number_groups-requires : goal.number_groups-requires
 number_groups-requires c =
     ends_ask c.args.words.now c.requires c.copy_block.new.words c.copy_block.ensures c.word-families.result c.word-families.ensures.is
 
-pub fill-requires : goal.fill-requires
-fill-requires c =
-    record { start_le_end = (omega arith, omega (arith, long c.args.words.now c.requires, c.copy_block.ensures.size, c.number_groups.ensures.size)); value_bound = omega arith }
+pub fill-requires-clause-start_le_end : goal.fill-requires-clause-start_le_end
+fill-requires-clause-start_le_end c = (omega arith, omega (arith, long c.args.words.now c.requires, c.copy_block.ensures.size, c.number_groups.ensures.size))
 
 pub switch-requires : goal.switch-requires
 switch-requires c =
     omega (arith, long c.args.words.now c.requires, c.copy_block.ensures.size, c.number_groups.ensures.size, c.fill.ensures.size)
-
-pub shape_of-words : goal.shape_of-words
-shape_of-words c = c.switch.auto.words ∙ c.fill.auto.words ∙ c.number_groups.auto.words ∙ c.copy_block.auto.words
 
 pub returns : goal.returns
 returns c =

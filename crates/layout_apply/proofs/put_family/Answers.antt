@@ -8,19 +8,10 @@ use Rattle.layout_apply.proofs.HeadSteps.{ready_kept, shape_same}
 use Rattle.layout_apply.proofs.HeadLoops.{family_none, family_group, family_prior, family_upto, family_more, family_done}
 use Rattle.layout_apply.proofs.put_family.Goals as goal
 
-pub start_of-g-requires : goal.start_of-g-requires
-start_of-g-requires c = omega (arith, c.requires.heads_ready.long, c.requires.heads_ready.formed.few, c.requires.f_bound)
-
-pub overflow_add-f : goal.overflow_add-f
-overflow_add-f c = omega (arith, c.requires.heads_ready.formed.few, c.requires.f_bound)
-
-pub word-end-requires : goal.word-end-requires
-word-end-requires c = omega (arith, c.requires.heads_ready.long, c.requires.heads_ready.formed.few, c.requires.f_bound)
-
 pub loop-g-init : goal.loop-g-init
 loop-g-init c =
     let w = c.args.words.now in
-    family_none w c.requires.heads_ready c.args.f c.requires.f_bound c.start_of-g.result (c.start_of-g.ensures.is ∙ sym (start_word w c.args.f (omega (arith, c.requires.heads_ready.formed.few, c.requires.f_bound)))) c.requires.upto
+    family_none w c.requires.heads_ready c.args.f c.requires.f_bound c.start_of-start.result (c.start_of-start.ensures.is ∙ sym (start_word w c.args.f (omega (arith, c.requires.heads_ready.formed.few, c.requires.f_bound)))) c.requires.upto
 
 pub put_group-prior-requires : goal.put_group-prior-requires
 put_group-prior-requires c =
@@ -37,9 +28,6 @@ loop-g-preserved c =
     let hf = c.requires.f_bound in
     let h : l.g < get_or (layout_arrays w).ends c.args.f 0 = omega (arith, c.word-end.ensures.is, end_word w c.args.f (omega (arith, c.requires.heads_ready.formed.few, hf)), c.loop-g-test.true) in
     family_more w c.requires.heads_ready c.args.f hf l.words l.g l.prior l.invariant h c.put_group-prior.new.words c.put_group-prior.result c.put_group-prior.ensures
-
-pub shape_of-words : goal.shape_of-words
-shape_of-words c = c.loop-g.invariant.headed.heads.size
 
 pub returns : goal.returns
 returns c =

@@ -1,10 +1,6 @@
 use native.Mathlib.Omega.{arith}
-use Rattle.layout_apply.proofs.HeadLoops.{group_few, family_few, group_none, next_kind, group_more, group_done}
+use Rattle.layout_apply.proofs.HeadLoops.{group_few, group_none, next_kind, group_more, group_done}
 use Rattle.layout_apply.proofs.put_group.Goals as goal
-
-pub start_of-start-requires : goal.start_of-start-requires
-start_of-start-requires c =
-    omega (arith, c.requires.heads_ready.long, family_few c.args.words.now c.requires.heads_ready c.args.f c.args.g c.requires.in_family)
 
 pub overflow_add-g : goal.overflow_add-g
 overflow_add-g c =
@@ -19,9 +15,6 @@ loop-j-init c =
     let a = c.args in
     group_none a.words.now a.z a.f a.g a.prior c.start_of-start.result c.word-arity.result c.requires.heads_ready c.requires.shape_is c.requires.in_family c.requires.prior_value c.requires.upto c.start_of-start.ensures c.word-arity.ensures.is
 
-pub overflow_add-start : goal.overflow_add-start
-overflow_add-start c = let l = c.loop-j in omega (arith, (next_kind _ _ _ _ _ _ l.words l.j l.invariant c.loop-j-test.true).small)
-
 pub put_member-requires : goal.put_member-requires
 put_member-requires c =
     let l = c.loop-j in
@@ -30,9 +23,6 @@ put_member-requires c =
 
 pub loop-j-preserved : goal.loop-j-preserved
 loop-j-preserved c = let l = c.loop-j in group_more _ _ _ _ _ _ l.words l.j l.invariant c.loop-j-test.true c.put_member.new.words c.put_member.ensures
-
-pub shape_of-words : goal.shape_of-words
-shape_of-words c = c.loop-j.invariant.headed.heads.size
 
 pub returns : goal.returns
 returns c = let l = c.loop-j in group_done _ _ _ _ _ _ l.words l.j l.invariant c.loop-j-test.false

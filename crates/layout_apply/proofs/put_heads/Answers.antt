@@ -5,14 +5,8 @@ use Rattle.layout.specs.Layout.{start_of}
 use Rattle.memory.specs.Meaning.{layout_arrays}
 use Rattle.layout_apply.specs.Heads.{HeadedUpto}
 use Rattle.layout_apply.proofs.HeadSteps.{ready_kept, shape_same}
-use Rattle.layout_apply.proofs.HeadLoops.{families_none, families_here, families_upto, families_more}
+use Rattle.layout_apply.proofs.HeadLoops.{families_here, families_upto, families_more}
 use Rattle.layout_apply.proofs.put_heads.Goals as goal
-
-pub word-families-requires : goal.word-families-requires
-word-families-requires c = omega (arith, c.requires.heads_ready.long)
-
-pub loop-f-init : goal.loop-f-init
-loop-f-init c = (omega arith, families_none c.args.words.now c.requires.heads_ready c.requires.upto)
 
 pub put_family-requires : goal.put_family-requires
 put_family-requires c =
@@ -25,9 +19,6 @@ pub loop-f-preserved : goal.loop-f-preserved
 loop-f-preserved c =
     let l = c.loop-f in
     (omega arith, families_more c.args.words.now c.requires.heads_ready l.words l.f l.invariant.1 c.put_family.new.words c.put_family.ensures)
-
-pub shape_of-words : goal.shape_of-words
-shape_of-words c = c.loop-f.invariant.1.heads.size
 
 pub returns : goal.returns
 returns c =

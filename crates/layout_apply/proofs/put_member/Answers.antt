@@ -9,12 +9,10 @@ pub word-slot-requires : goal.word-slot-requires
 word-slot-requires c =
     omega (arith, c.requires.heads_ready.long, kind_small_law c.args.words.now c.requires.heads_ready c.args.p c.requires.p_bound c.word-kind.result c.word-kind.ensures.is)
 
-pub put_own-requires : goal.put_own-requires
-put_own-requires c =
-    let a = c.args in record { lent = member_lent a.words.now c.requires.heads_ready a.p c.requires.p_bound a.z c.word-kind.result c.word-slot.result c.requires.shape_is c.word-kind.ensures.is c.word-slot.ensures.is; own_bound = (omega (arith, c.requires.g_bound), omega (arith, c.requires.g_bound)) }
-
-pub shape_of-words : goal.shape_of-words
-shape_of-words c = c.put_own.auto.words
+pub put_own-requires-clause-lent : goal.put_own-requires-clause-lent
+put_own-requires-clause-lent c =
+    let a = c.args in
+    member_lent a.words.now c.requires.heads_ready a.p c.requires.p_bound a.z c.word-kind.result c.word-slot.result c.requires.shape_is c.word-kind.ensures.is c.word-slot.ensures.is
 
 pub returns : goal.returns
 returns c =

@@ -5,24 +5,15 @@ use native.Mathlib.Omega.{arith}
 use Rattle.masks.specs.Masks.{bits_of, up_from}
 use Rattle.memory.specs.Meaning.{meaning}
 use Rattle.group.proofs.InWords.{groups_few}
-use Rattle.layout_apply.proofs.Regrouping.{all_below, all_ready, all_regrouped}
+use Rattle.layout_apply.proofs.Regrouping.{all_below, all_regrouped}
 use Rattle.layout_apply.proofs.regroup.Goals as goal
-
-pub group_count-groups-requires : goal.group_count-groups-requires
-group_count-groups-requires c = c.requires.arranged
 
 pub from_to-mask-requires : goal.from_to-mask-requires
 from_to-mask-requires c = record { rising = zero-le; inside = omega (arith, c.group_count-groups.ensures, groups_few c.args.words.now c.requires.arranged) }
 
-pub group_each-requires : goal.group_each-requires
-group_each-requires c =
-    let w = c.args.words.now in
-    let ps = bits_of 64 c.from_to-mask.result.0 in
-    let b = c.from_to-mask.ensures ∙ ap (up_from 0) (sub-zero c.group_count-groups.result ∙ c.group_count-groups.ensures) in
-    record { arranged = c.requires.arranged; below = all_below w ps b; ready_each = all_ready w ps b (meaning w).entities.live c.requires.ready_each }
-
-pub shape_of-words : goal.shape_of-words
-shape_of-words c = c.group_each.auto.words
+pub group_each-requires-clause-below : goal.group_each-requires-clause-below
+group_each-requires-clause-below c =
+    all_below c.args.words.now (bits_of 64 c.from_to-mask.result.0) (c.from_to-mask.ensures ∙ ap (up_from 0) (sub-zero c.group_count-groups.result ∙ c.group_count-groups.ensures))
 
 pub returns : goal.returns
 returns c =
