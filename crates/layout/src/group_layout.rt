@@ -12,8 +12,12 @@ use kind_list::KindList;
 use model::LIST_CAPACITY;
 use model::refusals::Refusal;
 
-// The families one after another: their kinds in order, their groups' arities, and where each family's kinds and groups end.
-// The group of arity a is the first a kinds of its family.
+/// The families one after another: their kinds in order, their groups' arities, and where each family's kinds and
+/// groups end. The group of arity a is the first a kinds of its family. A library with no heap has it by value, with
+/// arrays of full length.
+///
+/// That it is well formed (`Formed`) is a clause where it is needed, and not a fact of the struct: `opened` makes one
+/// whose last family is still empty, for `filled`.
 #[derive(Clone, PartialEq, Eq, Debug, Drop)]
 pub struct Layout {
     pub kinds: [u8; model::MAX_KINDS],
@@ -21,56 +25,57 @@ pub struct Layout {
     pub kind_ends: [u8; words::GROUP_PLACES],
     pub ends: [u8; words::GROUP_PLACES],
     pub families: usize,
-    // How many kinds and groups there are.
+    /// How many kinds and groups there are.
     pub width: usize,
     pub groups: usize,
 }
 
-// How staged kinds stand to one family.
+/// How staged kinds stand to one family.
 #[derive(Clone, Copy, PartialEq, Eq, Debug)]
 pub enum Part {
-    // No kind in common.
+    /// No kind in common.
     Apart,
-    // They are one of the family's groups.
+    /// They are one of the family's groups.
     Same,
-    // They are a chain with its groups: behind so many of them, which they hold.
+    /// They are a chain with its groups: behind so many of them, which they hold.
     At(usize),
-    // Anything else.
+    /// Anything else.
     Cross,
 }
 
-// How they stand to all families.
+/// How they stand to all families.
 #[derive(Clone, Copy, PartialEq, Eq, Debug)]
 pub enum Fit {
     Fresh,
     Present,
-    // The family, and the place among its groups.
+    /// The family, and the place among its groups.
     Onto(usize, usize),
     Clash,
 }
 
-// A layout, with what became of the group: was it added, or why was it refused? The layout that came was given away, so it comes back whatever became of it.
+/// Was the group added, or why was it refused? With the layout that there is then: the one that came, unless the
+/// group was added.
 #[derive(Clone, PartialEq, Eq, Debug, Drop)]
 pub struct Answer {
     pub outcome: Result<bool, Refusal>,
     pub layout: Layout,
 }
 
-// Is the kind among the kinds?
+/// Is the kind among the kinds?
 pub fn among(kinds: &[u8], kind: u8) -> bool
     ensures { result ≡ mem kind kinds.now }
 {
     kinds.contains(&kind)
 }
 
-// Are all of ks among js?
+/// Are all of ks among js?
 pub fn all_among(ks: &[u8], js: &[u8]) -> bool
     ensures { result ≡ within ks.now js.now }
 {
     ks.iter().all(|&k| among(js, k))
 }
 
-// Is one of ks among js?
+/// Is one of ks among js?
 pub fn some_among(ks: &[u8], js: &[u8]) -> bool
     ensures { result ≡ meets ks.now js.now }
 {
@@ -98,7 +103,8 @@ fn same_group(kinds: &[u8], arities: &[u8], staged: &[u8]) -> bool
     false
 }
 
-// Their place among the family's groups: behind those that they hold, if the next one holds them, as each later one then does.
+// Their place among the family's groups: behind those that they hold, if the next one holds them, as each later one
+// then does.
 fn place_of(kinds: &[u8], arities: &[u8], staged: &[u8]) -> Part
     requires { FamilyAsk kinds.now arities.now staged.now }
     ensures { result ≡ chain_place staged.now (groups_from [] 0 kinds.now 0 arities.now) }
@@ -187,13 +193,13 @@ fn spread(dst: &mut [u8], src: &[u8], from: usize, to: usize, more: &[u8])
     append(&mut *dst, second, &src[to..]);
 }
 
-// Adds to each number of a part.
-fn raise(ends: &mut [u8], from: usize, to: usize, by: u8)
-    requires { RaiseAsk ends.old from to by }
-    ensures { Raised ends.old from to by ends.new }
+// Adds to each of the numbers.
+fn raise(ends: &mut [u8], by: u8)
+    requires { RaiseAsk ends.old 0 (length ends.old) by }
+    ensures { Raised ends.old 0 (length ends.old) by ends.new }
 {
-    for i in from..to {
-        ends[i] += by;
+    for end in ends.iter_mut() {
+        *end += by;
     }
 }
 
@@ -211,8 +217,8 @@ fn picked(ks: &[u8], others: &[u8], wanted: bool) -> KindList<LIST_CAPACITY>
     picked
 }
 
-// Where number f starts: where the one before ends. `starts::start_of` says it of words from an offset on; one function for both
-// would be over a type parameter that becomes a `usize`, and longer than the two.
+// Where number f starts: where the one before ends. `starts::start_of` says it of words from an offset on; one
+// function for both would be over a type parameter that becomes a `usize`, and longer than the two.
 fn start_of(ends: &[u8], f: usize) -> usize
     requires { f ≤ length ends.now }
     ensures { result ≡ start_of ends.now f }
@@ -253,28 +259,24 @@ fn filled(l: Layout, f: usize, kinds: &[u8], at: usize, arity: u8) -> Layout
     requires { FillAsk l f kinds.now at arity }
     ensures { FillDone l f kinds.now at arity result }
 {
-    let families = l.families;
-    let mut kind_ends = l.kind_ends;
-    let mut ends = l.ends;
-    let k = start_of(&kind_ends, f);
-    let ke = kind_ends[f] as usize;
+    let k = start_of(&l.kind_ends, f);
+    let ke = l.kind_ends[f] as usize;
     let more = kinds.len() - (ke - k);
-    let old = l.kinds;
     let mut all = [0u8; model::MAX_KINDS];
-    spread(&mut all, &old[..l.width], k, ke, kinds);
-    let g = start_of(&ends, f) + at;
-    let sizes = l.arities;
-    let one = [arity; 1];
+    spread(&mut all, &l.kinds[..l.width], k, ke, kinds);
+    let g = start_of(&l.ends, f) + at;
     let mut arities = [0u8; words::GROUP_PLACES];
-    spread(&mut arities, &sizes[..l.groups], g, g, &one);
-    raise(&mut kind_ends, f, families, more as u8);
-    raise(&mut ends, f, families, 1);
+    spread(&mut arities, &l.arities[..l.groups], g, g, &[arity]);
+    let mut kind_ends = l.kind_ends;
+    raise(&mut kind_ends[f..l.families], more as u8);
+    let mut ends = l.ends;
+    raise(&mut ends[f..l.families], 1);
     Layout {
         kinds: all,
         arities,
         kind_ends,
         ends,
-        families,
+        families: l.families,
         width: l.width + more,
         groups: l.groups + 1,
     }
@@ -286,8 +288,7 @@ fn fresh(l: Layout, staged: &[u8]) -> Layout
     ensures { FreshDone l staged.now result }
 {
     let f = l.families;
-    let open = opened(l);
-    filled(open, f, staged, 0, staged.len() as u8)
+    filled(opened(l), f, staged, 0, staged.len() as u8)
 }
 
 // The staged kinds as a group of family f, at their place.
@@ -295,11 +296,9 @@ fn grown(l: Layout, f: usize, at: usize, staged: &[u8]) -> Layout
     requires { OntoAsk l f at staged.now }
     ensures { OntoDone l f staged.now result }
 {
-    let kinds = l.kinds;
-    let kind_ends = l.kind_ends;
-    let k = start_of(&kind_ends, f);
-    let ke = kind_ends[f] as usize;
-    let all = merged(&kinds[k..ke], staged);
+    let k = start_of(&l.kind_ends, f);
+    let ke = l.kind_ends[f] as usize;
+    let all = merged(&l.kinds[k..ke], staged);
     filled(l, f, all.as_slice(), at, staged.len() as u8)
 }
 
@@ -344,7 +343,8 @@ fn add_onto(l: Layout, f: usize, at: usize, staged: &[u8]) -> Answer
     }
 }
 
-// Adds a group of the staged kinds, which are no more than a group may have. Too few to be a group, or a group that is there: nothing is added.
+/// Adds a group of the staged kinds, which are no more than a group may have. Where they are too few to be a group,
+/// or are one of the layout's, nothing is added.
 pub fn add_group(l: Layout, staged: &[u8]) -> Answer
     requires { Formed l × KindSet staged.now × (length staged.now ≤ LIST_CAPACITY) }
     ensures { AddsGroup l staged.now result }

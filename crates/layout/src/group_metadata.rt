@@ -6,9 +6,9 @@ ghost use Rattle.layout.specs.Reading.{word_arrays, ReadMetadata};
 use crate::starts::{prior_of, start_of};
 use words::{LAYOUT_ARITIES, LAYOUT_ENDS, LAYOUT_KIND_ENDS};
 
-// Say a family is made of two groups, (A, B) and (A, B, C, D). The larger has the kinds A B C D, which are new from C on:
-// storage_start is A's place among the layout's kinds, new_storage_start C's, storage_end the one past D's. The family's groups are
-// numbered from first to top - 1.
+/// Say a family is made of two groups, (A, B) and (A, B, C, D). The larger has the kinds A B C D, which are new from
+/// C on: storage_start is A's place among the layout's kinds, new_storage_start C's, storage_end the one past D's.
+/// The family's groups are numbered from first to top - 1.
 #[derive(Clone, Copy, PartialEq, Eq, Debug)]
 pub struct GroupMetadata {
     pub storage_start: usize,
@@ -18,7 +18,7 @@ pub struct GroupMetadata {
     pub top: usize,
 }
 
-// That of group g of family f, as the words have it.
+/// That of group g of family f, as the words have it.
 pub fn read(words: &[u32], g: usize, f: usize) -> GroupMetadata
     requires { (ENTITIES ≤ length words.now) × (g < GROUP_PLACES) × (f < GROUP_PLACES) }
     ensures { ReadMetadata (word_arrays words.now) f g result }

@@ -1,8 +1,9 @@
-// Where a family's kinds or groups start, and what stands for the group before a group, in words that have such numbers from a word on.
+// Where a family's kinds or groups start, and what stands for the group before a group, in words that have such
+// numbers from a word on.
 ghost use Rattle.std.specs.Prelude.{◌+◌, ◌≤◌, ◌<◌, length};
 ghost use Rattle.layout.specs.Reading.{ReadStart, ReadPrior};
 
-// Where number f starts, of the ends that stand from `at` on: where the one before ends.
+/// Where number f starts, of the ends that stand from `at` on: where the one before ends.
 pub fn start_of(words: &[u32], at: usize, f: usize) -> usize
     requires { at + f ≤ length words.now }
     ensures { ReadStart words.now at f result }
@@ -13,7 +14,8 @@ pub fn start_of(words: &[u32], at: usize, f: usize) -> usize
     words::word(words, at + (f - 1))
 }
 
-// What stands for the group before g, of the arities or counts from `at` on; `none` where g is `start`, its family's smallest.
+/// What stands for the group before g, of the arities or counts from `at` on; `none` where g is `start`, its family's
+/// smallest.
 pub fn prior_of(words: &[u32], at: usize, start: usize, g: usize, none: usize) -> usize
     requires { (at + g ≤ length words.now) × (none < 4294967296) }
     ensures { ReadPrior words.now at start g none result }

@@ -161,7 +161,7 @@ fn put_heads(words: &mut [u32], z: Shape)
     }
 }
 
-// The draft becomes the layout in force, with no entity in its groups yet, and no draft is left.
+/// The draft becomes the layout in force, with no entity in its groups yet, and no draft is left.
 pub fn install(words: &mut [u32])
     requires arranged { Arranged words.old }
     requires store_sound { StoreSound (meaning words.old) }
@@ -185,7 +185,7 @@ fn regroup(words: &mut [u32])
     group_tables::group_each(words, mask, 0);
 }
 
-// 01's APPLY.
+/// APPLY: the draft becomes the layout in force, and its groups take in the live entities that belong to them.
 pub fn set_layout(words: &mut [u32])
     requires arranged { Arranged words.old }
     requires store_sound { StoreSound (meaning words.old) }

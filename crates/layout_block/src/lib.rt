@@ -1,4 +1,5 @@
-// A layout's block of 320 words: read into the struct, written from it, and checked. The draft and the layout in force are such blocks.
+// A layout's block of 320 words: read into the struct, written from it, and checked. The draft and the layout in
+// force are such blocks.
 #![tactic(auto)]
 
 ghost use Rattle.std.specs.Prelude.{◌≡◌, [], ◌+◌, ◌-◌, ◌≤◌, ◌<◌, length};
@@ -34,7 +35,7 @@ fn put(dst: &mut [u32], at: usize, src: &[u8])
     }
 }
 
-// The layout of a well-formed block.
+/// The layout of a well-formed block.
 pub fn read_layout(block: &[u32], families: usize, groups: usize) -> Layout
     requires { BlockFormed block.now families groups }
     ensures { ReadFrom block.now families groups result }
@@ -62,7 +63,7 @@ pub fn read_layout(block: &[u32], families: usize, groups: usize) -> Layout
     }
 }
 
-// Writes a layout into a block.
+/// Writes a layout into a block.
 pub fn write_layout(block: &mut [u32], l: Layout)
     requires { Formed l × (length block.old ≡ BLOCK_LEN) }
     ensures { WrittenTo l block.new }
@@ -125,7 +126,7 @@ fn families_ok<'a>(
     true
 }
 
-// Are the kinds registered, and none there twice? A table of what was seen saves the scan.
+/// Are the kinds registered, and none there twice? A table of what was seen saves the scan.
 pub fn kinds_ok(kinds: &[u32], table: &[u32]) -> bool
     requires { length table.now ≡ MAX_KINDS }
     ensures { Decides result (KindsOk table.now kinds.now) }
@@ -141,7 +142,7 @@ pub fn kinds_ok(kinds: &[u32], table: &[u32]) -> bool
     true
 }
 
-// Is the block such as commands can build, of registered kinds?
+/// Is the block such as commands can build, of registered kinds?
 pub fn block_ok(block: &[u32], families: usize, groups: usize, table: &[u32]) -> bool
     requires { (length block.now ≡ BLOCK_LEN) × (length table.now ≡ MAX_KINDS) }
     ensures { Decides result (BlockSound block.now table.now families groups) }

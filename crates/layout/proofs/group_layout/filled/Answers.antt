@@ -8,6 +8,7 @@ use lib.Seq.{length-take-le}
 use Rattle.layout.specs.ByValue.{arrays_of, ArraysSized}
 use Rattle.layout.proofs.Arrays.{end_inside}
 use Rattle.layout.proofs.Placing.{kind_inside, group_inside, kind_room, changes, family_other, family_here, width_after, groups_after, well_formed_after}
+use Rattle.layout.proofs.Raising.{part_asked, whole_raised}
 use native.Mathlib.Omega.{arith}
 use borrow.Author.Rules.{rules}
 use Rattle.layout.proofs.group_layout.filled.Goals as goal
@@ -57,20 +58,22 @@ raise-requires c =
     let a = arrays_of c.args.l in
     let k = c.start_of-k.ensures in
     let room = kind_room a c.args.f p.loose z c.args.kinds.now p.kind_set in
-    record {
+    part_asked a.kind_ends c.args.f a.families _ (omega (arith, p.loose.inside))
+    (record {
       within = omega (arith, p.loose.few, z.kind_ends);
       fits = λ i lo hi. omega (arith, end_inside a.kind_ends a.families p.loose.kind_order i hi, p.loose.kind_order c.args.f p.loose.inside, p.more, kind_inside a c.args.f p.loose z);
-    }
+    })
 
 pub raise-requires-2 : goal.raise-requires-2
 raise-requires-2 c =
     let z : ArraysSized (arrays_of c.args.l) = search rules in
     let p = c.requires in
     let a = arrays_of c.args.l in
-    record {
+    part_asked a.ends c.args.f a.families 1 (omega (arith, p.loose.inside))
+    (record {
       within = omega (arith, p.loose.few, z.ends);
       fits = λ i lo hi. omega (arith, end_inside a.ends a.families p.loose.order i hi, p.loose.many);
-    }
+    })
 
 pub returns : goal.returns
 returns c =
@@ -83,7 +86,10 @@ returns c =
     let k = c.start_of-k.ensures in
     let room = kind_room a f p.loose z kinds p.kind_set in
     let o = p.loose.kind_order f p.loose.inside in
-    let C = changes a f p.loose z kinds c.args.at c.args.arity _ _ _ _ _ _ _ _ k c.start_of.ensures p.more p.place (rw p.width at c.spread.ensures) (rw p.groups at c.spread-2.ensures) c.raise.ensures c.raise-2.ensures in
+    let few : f ≤ a.families = omega (arith, p.loose.inside) in
+    let kinds_raised = whole_raised a.kind_ends _ f a.families _ few (omega (arith, p.loose.few, z.kind_ends)) c.raise.ensures in
+    let groups_raised = whole_raised a.ends _ f a.families 1 few (omega (arith, p.loose.few, z.ends)) c.raise-2.ensures in
+    let C = changes a f p.loose z kinds c.args.at c.args.arity _ _ _ _ _ _ _ _ k c.start_of.ensures p.more p.place (rw p.width at c.spread.ensures) (rw p.groups at c.spread-2.ensures) kinds_raised groups_raised in
     record {
       formed = record {
         good = well_formed_after a f kinds c.args.at c.args.arity _ C p.least p.most p.rising (omega (arith, room, o, p.more, kind_inside a f p.loose z)) p.kind_set;

@@ -8,8 +8,8 @@ use native.Mathlib.Omega.{arith}
 use borrow.Author.Rules.{rules}
 use Rattle.layout.proofs.group_layout.fresh.Goals as goal
 
-pub opened-open-requires : goal.opened-open-requires
-opened-open-requires c =
+pub opened-requires : goal.opened-requires
+opened-requires c =
     let z : ArraysSized (arrays_of c.args.l) = search rules in
     let g = c.requires.group.formed in
     (few c.args.l c.args.staged.now c.requires z, omega (arith, g.width, g.good.wide), omega (arith, c.requires.group.room))
@@ -17,10 +17,10 @@ opened-open-requires c =
 pub filled-requires : goal.filled-requires
 filled-requires c =
     let z : ArraysSized (arrays_of c.args.l) = search rules in
-    subst (λ (r : Layout). FillAsk r c.args.l.families c.args.staged.now 0 (length c.args.staged.now)) (sym c.opened-open.ensures) (fresh_places c.args.l c.args.staged.now c.requires z)
+    subst (λ (r : Layout). FillAsk r c.args.l.families c.args.staged.now 0 (length c.args.staged.now)) (sym c.opened.ensures) (fresh_places c.args.l c.args.staged.now c.requires z)
 
 pub returns : goal.returns
 returns c =
     let z : ArraysSized (arrays_of c.args.l) = search rules in
     fresh_done c.args.l c.args.staged.now c.requires z c.filled.result
-    (subst (λ (r : Layout). FillDone r c.args.l.families c.args.staged.now 0 (length c.args.staged.now) c.filled.result) c.opened-open.ensures c.filled.ensures)
+    (subst (λ (r : Layout). FillDone r c.args.l.families c.args.staged.now 0 (length c.args.staged.now) c.filled.result) c.opened.ensures c.filled.ensures)
