@@ -7,7 +7,7 @@ ghost use Rattle.std.proofs.lemmas.List.Edits.{sets};
 ghost use Rattle.model.specs.Store.{staged_kinds, bytes_of};
 ghost use Rattle.model.specs.Commands.{TAKE};
 ghost use Rattle.model.specs.Run.{does};
-ghost use Rattle.words.specs.Shape.{TwoOrFour, shape_of};
+ghost use Rattle.words.specs.Shape.{words_in, shape_of};
 ghost use Rattle.values.specs.Values.{value_of};
 ghost use Rattle.model.specs.Model.{entity};
 ghost use Rattle.memory.specs.Meaning.{meaning};
@@ -19,17 +19,16 @@ ghost use Rattle.command_take.specs.Take.{TakesKind, TakesStaged, Takes};
 use command::answers::{ack, refuse};
 use model::refusals::Refusal;
 use values::Value;
-use words::{Entity, Found, Shape};
+use words::{Entity, Found, Shape, Width};
 use world::component_set;
 
-// The byte held and the bytes of the value's d words, at `at`.
-fn put_held(out: &mut [u8], at: usize, d: usize, held: u8, x: Value)
-    requires two_or_four { TwoOrFour d }
-    requires room { at + (1 + 4 * d) ≤ length out.old }
-    ensures { out.new ≡ sets out.old at (held ∷ bytes_of (4 * d) (value_of d x)) }
+// The byte held and the bytes of the value's words, at `at`.
+fn put_held(out: &mut [u8], at: usize, width: Width, held: u8, x: Value)
+    requires { at + (1 + 4 * words_in width) ≤ length out.old }
+    ensures { out.new ≡ sets out.old at (held ∷ bytes_of (4 * words_in width) (value_of (words_in width) x)) }
 {
     out[at] = held;
-    values::put_bytes(out, at + 1, d, x);
+    values::put_bytes(out, at + 1, width, x);
 }
 
 // The entity's component of the staged kind at i goes, and is written out; z is the store's shape.
@@ -41,8 +40,8 @@ fn take_one(words: &mut [u32], z: Shape, i: usize, e: Entity, out: &mut [u8], at
     ensures { TakesKind words.old words.new out.old out.new (entity e.index e.version) (get_or (staged_kinds (meaning words.old)) i 0) at }
 {
     match component_set::remove_one(words, z, i, e) {
-        Some(x) => put_held(out, at, z.stride, 1, x),
-        None => put_held(out, at, z.stride, 0, values::zero()),
+        Some(x) => put_held(out, at, z.width(), 1, x),
+        None => put_held(out, at, z.width(), 0, values::zero()),
     }
 }
 

@@ -12,7 +12,7 @@ pub fn value_of(part: &[u32], z: Shape, i: usize) -> Value
     ensures { value_of z.stride result ≡ value_at z part.now i }
 {
     let v = words::value_place(z, i);
-    values::get(part, v, z.stride)
+    values::get(part, v, z.width())
 }
 
 pub fn put_value(part: &mut [u32], z: Shape, i: usize, x: Value)
@@ -20,7 +20,7 @@ pub fn put_value(part: &mut [u32], z: Shape, i: usize, x: Value)
     ensures { PutsValue z i (value_of z.stride x) part.old part.new }
 {
     let v = words::value_place(z, i);
-    values::put(part, v, z.stride, x);
+    values::put(part, v, z.width(), x);
 }
 
 // Exchanges the values of two rows.

@@ -43,7 +43,7 @@ pub fn staged_at(words: &[u32], z: Shape, i: usize) -> Component
     ensures { component_of (shape_of words.now).stride result ≡ get_or (meaning words.now).control.staged i no_component }
 {
     let kind = words::word(words, STAGED_KINDS + i);
-    let value = values::get(words, STAGED_VALUES + STAGED_VALUE_LEN * i, z.stride);
+    let value = values::get(words, STAGED_VALUES + STAGED_VALUE_LEN * i, z.width());
     Component { kind, value }
 }
 
@@ -67,7 +67,7 @@ pub fn stage(words: &mut [u32], kind: usize, x: Value)
     let at = STAGED_VALUES + STAGED_VALUE_LEN * (count as usize);
     words[STAGED_LEN] = count + 1;
     words[STAGED_KINDS + (count as usize)] = kind as u32;
-    values::put(words, at, z.stride, x);
+    values::put(words, at, z.width(), x);
 }
 
 // None is staged.

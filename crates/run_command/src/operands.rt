@@ -23,7 +23,7 @@ pub fn hold(words: &mut [u32], tape: &[u8], at: usize, out: &mut [u8], to: usize
 {
     let kind = tape[at];
     let z = words::shape_of(words);
-    let x = values::get_bytes(tape, at + 1, z.stride);
+    let x = values::get_bytes(tape, at + 1, z.width());
     command_list::lists::hold(words, kind, x, out, to)
 }
 

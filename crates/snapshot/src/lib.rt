@@ -81,7 +81,7 @@ fn write_one(words: &[u32], z: Shape, kind: usize, e: Entity, out: &mut [u8], at
     };
     let value = kinds::value_of(words, z, kind, place);
     out[at] = kind as u8;
-    values::put_bytes(out, at + 1, z.stride, value);
+    values::put_bytes(out, at + 1, z.width(), value);
     at + 1 + model::WORD_BYTES * z.stride
 }
 

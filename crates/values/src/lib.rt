@@ -5,11 +5,13 @@
 ghost use Rattle.std.specs.Prelude.{◌≡◌, ℕ, ◌+◌, ◌*◌, ◌≤◌, length, take, drop};
 ghost use Rattle.std.proofs.lemmas.List.Edits.{sets};
 ghost use Rattle.model.specs.Store.{bytes_of, number};
-ghost use Rattle.words.specs.Shape.{TwoOrFour};
+ghost use Rattle.words.specs.Shape.{words_in};
 ghost use Rattle.values.specs.Values.{words_of, value_of};
 
+use words::Width;
+
 // A value, its lowest word first. One of two words has them first, and then zeros.
-#[derive(Clone, Copy)]
+#[derive(Clone, Copy, PartialEq, Eq, Debug)]
 pub struct Value {
     pub first: u32,
     pub second: u32,
@@ -29,80 +31,74 @@ pub fn zero() -> Value
     }
 }
 
-// The value in the d words at `at`.
-pub fn get(words: &[u32], at: usize, d: usize) -> Value
-    requires { TwoOrFour d × (at + d ≤ length words.now) }
-    ensures { words_of d result ≡ take d (drop at words.now) }
+// The value in the words at `at`.
+pub fn get(words: &[u32], at: usize, width: Width) -> Value
+    requires { at + words_in width ≤ length words.now }
+    ensures { words_of (words_in width) result ≡ take (words_in width) (drop at words.now) }
 {
     let first = words[at];
     let second = words[at + 1];
-    if d == 2 {
-        return Value {
+    match width {
+        Width::Short => Value {
             first,
             second,
             third: 0,
             fourth: 0,
-        };
-    }
-    let third = words[at + 2];
-    let fourth = words[at + 3];
-    Value {
-        first,
-        second,
-        third,
-        fourth,
+        },
+        Width::Long => Value {
+            first,
+            second,
+            third: words[at + 2],
+            fourth: words[at + 3],
+        },
     }
 }
 
-// The d words of x, at `at`.
-pub fn put(words: &mut [u32], at: usize, d: usize, x: Value)
-    requires { TwoOrFour d × (at + d ≤ length words.old) }
-    ensures { words.new ≡ sets words.old at (words_of d x) }
+// The words of x, at `at`.
+pub fn put(words: &mut [u32], at: usize, width: Width, x: Value)
+    requires { at + words_in width ≤ length words.old }
+    ensures { words.new ≡ sets words.old at (words_of (words_in width) x) }
 {
     words[at] = x.first;
     words[at + 1] = x.second;
-    if d == 2 {
-        return;
+    if width == Width::Long {
+        words[at + 2] = x.third;
+        words[at + 3] = x.fourth;
     }
-    words[at + 2] = x.third;
-    words[at + 3] = x.fourth;
 }
 
-// The value in the bytes at `at`, four for each of its d words.
-pub fn get_bytes(bytes: &[u8], at: usize, d: usize) -> Value
-    requires { TwoOrFour d × (at + 4 * d ≤ length bytes.now) }
-    ensures { value_of d result ≡ number (take (4 * d) (drop at bytes.now)) }
+// The value in the bytes at `at`, four for each of its words.
+pub fn get_bytes(bytes: &[u8], at: usize, width: Width) -> Value
+    requires { at + 4 * words_in width ≤ length bytes.now }
+    ensures { value_of (words_in width) result ≡ number (take (4 * words_in width) (drop at bytes.now)) }
 {
     let first = codec::get::<4>(bytes, at);
     let second = codec::get::<4>(bytes, at + 4);
-    if d == 2 {
-        return Value {
+    match width {
+        Width::Short => Value {
             first,
             second,
             third: 0,
             fourth: 0,
-        };
-    }
-    let third = codec::get::<4>(bytes, at + 8);
-    let fourth = codec::get::<4>(bytes, at + 12);
-    Value {
-        first,
-        second,
-        third,
-        fourth,
+        },
+        Width::Long => Value {
+            first,
+            second,
+            third: codec::get::<4>(bytes, at + 8),
+            fourth: codec::get::<4>(bytes, at + 12),
+        },
     }
 }
 
-// The bytes of x, four for each of its d words, at `at`.
-pub fn put_bytes(out: &mut [u8], at: usize, d: usize, x: Value)
-    requires { TwoOrFour d × (at + 4 * d ≤ length out.old) }
-    ensures { out.new ≡ sets out.old at (bytes_of (4 * d) (value_of d x)) }
+// The bytes of x, four for each of its words, at `at`.
+pub fn put_bytes(out: &mut [u8], at: usize, width: Width, x: Value)
+    requires { at + 4 * words_in width ≤ length out.old }
+    ensures { out.new ≡ sets out.old at (bytes_of (4 * words_in width) (value_of (words_in width) x)) }
 {
     codec::put::<4>(out, at, x.first);
     codec::put::<4>(out, at + 4, x.second);
-    if d == 2 {
-        return;
+    if width == Width::Long {
+        codec::put::<4>(out, at + 8, x.third);
+        codec::put::<4>(out, at + 12, x.fourth);
     }
-    codec::put::<4>(out, at + 8, x.third);
-    codec::put::<4>(out, at + 12, x.fourth);
 }

@@ -3,6 +3,8 @@
 use Rattle.std.specs.Prelude.{◌≡◌, ◌≢◌, List, ℕ, ◌+◌, ◌*◌, ◌≤◌, ◌<◌, get_or}
 use Rattle.model.specs.Numbers.{ENTITY_LEN, HEADER_LEN, LINKS_LEN, MAX_ENTITIES, stride_of}
 use Rattle.words.specs.declared.Shape.{Shape}
+use Rattle.words.specs.declared.Width.{Width}
+use Rattle.words.specs.declared.Width.TheVariants.{Short, Long}
 use Rattle.words.specs.Offsets.{CAPACITY, ROWS, VALUE_WIDTH}
 
 -- a value has two words or four. A record and not a sum, so that omega reads it
@@ -10,6 +12,11 @@ pub record TwoOrFour (d : ℕ) : Type 0 where
   pub least : 2 ≤ d
   pub most : d ≤ 4
   pub even : d ≢ 3
+
+-- and so has a value of each width
+abbrev pub words_in : Width → ℕ
+words_in Short = 2
+words_in Long = 4
 
 -- what columns may be made for
 pub record Shaped (z : Shape) : Type 0 where

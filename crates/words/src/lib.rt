@@ -5,7 +5,7 @@
 ghost use Rattle.std.specs.Prelude.{◌≡◌, ◌+◌, ◌*◌, ◌<◌, ◌≤◌, length, get_or};
 ghost use Rattle.model.specs.Numbers.{MAX_ENTITIES, MAX_KINDS};
 ghost use Rattle.words.specs.Offsets.{VALUE_WIDTH};
-ghost use Rattle.words.specs.Shape.{Shaped, entity_place, lookup_place, value_place, column_len, column_start, Shapes, InColumn, InWords};
+ghost use Rattle.words.specs.Shape.{TwoOrFour, words_in, Shaped, entity_place, lookup_place, value_place, column_len, column_start, Shapes, InColumn, InWords};
 ghost use Rattle.words.specs.Counted.{filled};
 ghost use Rattle.words.specs.Word.{Word};
 
@@ -101,6 +101,27 @@ pub const ROWS: usize = model::COLUMN_HEAD;
 pub struct Shape {
     pub capacity: usize,
     pub stride: usize,
+}
+
+// How long a value is: two words or, where 02's No. 13 asks for sixteen bytes, four.
+#[derive(Clone, Copy, PartialEq, Eq, Debug)]
+pub enum Width {
+    Short,
+    Long,
+}
+
+impl Shape {
+    // How long the values of a column are. The stride stays a number beside it, since lent words that are unsound have a shape too.
+    pub fn width(self) -> Width
+        requires { TwoOrFour self.stride }
+        ensures { words_in result ≡ self.stride }
+    {
+        if self.stride == 2 {
+            Width::Short
+        } else {
+            Width::Long
+        }
+    }
 }
 
 // What the columns of a store are made for.

@@ -24,7 +24,7 @@ returns-in-Some c =
     record {
       becomes = c.remove_one.ensures.becomes;
       bytes =
-          c.put_held.ensures
+          (rw c.width.ensures at c.put_held.ensures)
           ∙ ap₂ (λ (n : ℕ) (y : Shape). sets a.out.now a.at (1 ∷ bytes_of n (value_of y.stride c.in-Some.x))) wide c.requires.shape_is
           ∙ ap (sets a.out.now a.at) (bytes_held v e (kind_set w k) _ g.holds g.value);
     }
@@ -41,7 +41,7 @@ returns-in-None c =
     record {
       becomes = c.remove_one.ensures.becomes;
       bytes =
-          c.put_held-in-None.ensures
+          (rw c.width-in-None.ensures at c.put_held-in-None.ensures)
           ∙ ap₂ (λ (n x : ℕ). sets a.out.now a.at (0 ∷ bytes_of n x)) wide (c.zero.ensures a.z.stride)
           ∙ ap (sets a.out.now a.at) (bytes_none v e (kind_set w k) g);
     }

@@ -44,6 +44,9 @@ bounds-out-at c =
     value_held (entity a.e.index a.e.version) (kind_set a.words.now a.kind) c.in-At.place (value_of a.z.stride c.value_of-value.result) f.holds f.place (ap (λ (y : Shape). value_of y.stride c.value_of-value.result) c.requires.shape_is ∙ c.value_of-value.ensures)) in
     omega (arith, one_room (4 * c.args.z.stride) c.args.at c.args.kind shown c.requires.kind_in_bounds)
 
+pub width-requires : goal.width-requires
+width-requires c = stride_words c.args.words.now c.requires.arranged c.args.z.stride (ap (λ (y : Shape). y.stride) c.requires.shape_is)
+
 pub put_bytes-requires : goal.put_bytes-requires
 put_bytes-requires c =
     let found_at : HeldAt (shape_of c.args.words.now) (entity c.args.e.index c.args.e.version) (kind_set c.args.words.now c.args.kind) c.in-At.place = (
@@ -53,7 +56,7 @@ put_bytes-requires c =
     let a = c.args in
     let f = found_at in
     value_held (entity a.e.index a.e.version) (kind_set a.words.now a.kind) c.in-At.place (value_of a.z.stride c.value_of-value.result) f.holds f.place (ap (λ (y : Shape). value_of y.stride c.value_of-value.result) c.requires.shape_is ∙ c.value_of-value.ensures)) in
-    (stride_words c.args.words.now c.requires.arranged c.args.z.stride (ap (λ (y : Shape). y.stride) c.requires.shape_is), simp length-set (omega (arith, one_room (4 * c.args.z.stride) c.args.at c.args.kind shown c.requires.kind_in_bounds)))
+    simp length-set (omega (arith, one_room (4 * c.args.z.stride) c.args.at c.args.kind shown c.requires.kind_in_bounds))
 
 pub overflow_mul-result : goal.overflow_mul-result
 overflow_mul-result c =
@@ -91,4 +94,4 @@ returns c =
     let a = c.args in
     let f = found_at in
     value_held (entity a.e.index a.e.version) (kind_set a.words.now a.kind) c.in-At.place (value_of a.z.stride c.value_of-value.result) f.holds f.place (ap (λ (y : Shape). value_of y.stride c.value_of-value.result) c.requires.shape_is ∙ c.value_of-value.ensures)) in
-    let a = c.args in one_written (4 * a.z.stride) a.out.now a.at a.kind shown c.put_bytes.ensures
+    let a = c.args in one_written (4 * a.z.stride) a.out.now a.at a.kind shown (rw c.width.ensures at c.put_bytes.ensures)

@@ -37,11 +37,14 @@ bounds-words-count c =
     let inside : (staged_len c.args.words.now < LIST_CAPACITY) × (ENTITIES ≤ length c.args.words.now) = (omega (arith, staged_length c.args.words.now, c.requires.words_len_bound, c.requires.kind_bound), long c.args.words.now c.requires.arranged) in
     simp length-set (omega (arith, inside))
 
+pub width-requires : goal.width-requires
+width-requires c = subst (λ (y : Shape). TwoOrFour y.stride) (sym c.shape_of-z.ensures.is) c.requires.arranged.columns.shaped.words
+
 pub put-requires : goal.put-requires
 put-requires c =
     let inside : (staged_len c.args.words.now < LIST_CAPACITY) × (ENTITIES ≤ length c.args.words.now) = (omega (arith, staged_length c.args.words.now, c.requires.words_len_bound, c.requires.kind_bound), long c.args.words.now c.requires.arranged) in
     let t : TwoOrFour c.shape_of-z.result.stride = subst (λ (y : Shape). TwoOrFour y.stride) (sym c.shape_of-z.ensures.is) c.requires.arranged.columns.shaped.words in
-    (t, simp length-set (omega (arith, t.most, inside)))
+    simp length-set (omega (arith, t.most, inside))
 
 pub shape_of-words : goal.shape_of-words
 shape_of-words c = simp length-set at c.put.auto.words
@@ -54,5 +57,5 @@ returns c =
     let n = staged_len w in
     let v = set (set w STAGED_LEN (n + 1)) (STAGED_KINDS + n) a.kind in
     let e : c.put.new.words ≡ sets v (STAGED_VALUES + STAGED_VALUE_LEN * n) (words_of (shape_of w).stride a.x) =
-    c.put.ensures ∙ ap (λ (y : Shape). sets v (STAGED_VALUES + STAGED_VALUE_LEN * n) (words_of y.stride a.x)) c.shape_of-z.ensures.is in
+    (rw c.width.ensures at c.put.ensures) ∙ ap (λ (y : Shape). sets v (STAGED_VALUES + STAGED_VALUE_LEN * n) (words_of y.stride a.x)) c.shape_of-z.ensures.is in
     subst (λ (u : List ℕ). Becomes w u (staging a.kind (value_of (shape_of w).stride a.x) (meaning w))) (sym e) (stage_becomes w c.requires.arranged a.kind a.x inside.0)

@@ -32,11 +32,14 @@ overflow_add-i-2 c =
     let inside : (c.args.i < LIST_CAPACITY) × (ENTITIES ≤ length c.args.words.now) = (omega (arith, c.requires.i_in_bounds, staged_few c.args.words.now c.requires.arranged), long c.args.words.now c.requires.arranged) in
     omega (arith, inside)
 
+pub width-requires : goal.width-requires
+width-requires c = subst (λ (y : Shape). TwoOrFour y.stride) (sym c.requires.shape_is) c.requires.arranged.columns.shaped.words
+
 pub get-value-requires : goal.get-value-requires
 get-value-requires c =
     let inside : (c.args.i < LIST_CAPACITY) × (ENTITIES ≤ length c.args.words.now) = (omega (arith, c.requires.i_in_bounds, staged_few c.args.words.now c.requires.arranged), long c.args.words.now c.requires.arranged) in
     let t : TwoOrFour c.args.z.stride = subst (λ (y : Shape). TwoOrFour y.stride) (sym c.requires.shape_is) c.requires.arranged.columns.shaped.words in
-    (t, omega (arith, t.most, inside))
+    omega (arith, t.most, inside)
 
 pub returns : goal.returns
 returns c =
@@ -44,5 +47,5 @@ returns c =
     let w = a.words.now in
     let p = STAGED_VALUES + STAGED_VALUE_LEN * a.i in
     let e : value_of (shape_of w).stride c.get-value.result ≡ staged_value_at w a.i =
-    subst (λ (y : Shape). digits (words_of y.stride c.get-value.result) ≡ digits (take y.stride (drop p w))) c.requires.shape_is (ap digits c.get-value.ensures) in
+    subst (λ (y : Shape). digits (words_of y.stride c.get-value.result) ≡ digits (take y.stride (drop p w))) c.requires.shape_is (ap digits (rw c.width.ensures at c.get-value.ensures)) in
     (λ j. record { kind = c.word-kind.ensures.is j; value = e j }) ∙ sym (staged_read w a.i c.requires.i_in_bounds)
