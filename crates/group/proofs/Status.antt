@@ -1,11 +1,12 @@
 -- Whether an entity is inside a group: a lookup in the first new kind's sparse set, then one in each other's. Assumes nothing.
-use mathlib.Core.Path.{◌≡◌, ap, ap₂, sym, ◌∙◌, subst}
+use mathlib.Core.Path.{◌≡◌, refl, ap, ap₂, sym, ◌∙◌, subst}
 use mathlib.Core.Bool.{Bool, true, false, ◌&&◌}
 use mathlib.Core.List.{List, ◌∷◌}
-use Prim.Native.Nat.{ℕ, ◌+◌, ◌≤◌, ◌<◌}
+use Prim.Native.Nat.{ℕ, zero, suc, ◌+◌, ◌-◌, ◌≤◌, ◌<◌}
 use native.Mathlib.Omega.{arith}
 use borrow.Author.Tests.{lt-ltb, le-ltb}
 use lib.ListN.{get_or}
+use Rattle.std.specs.List.{list_all, range_with_len}
 use Rattle.model.specs.Model.{Entity, SparseSet, set_of, at, held, all_held}
 use Rattle.model.specs.Sound.{In}
 use Rattle.model.proofs.KindLists.{in_right}
@@ -40,8 +41,27 @@ module _ {m : Store} {start end p k : ℕ} (L : PlacesKnown m start end) (lt : p
       ap (λ (ks : List ℕ). all_held e ks m.storage.sets) (between_step p end (order_of m) lt L.within)
       ∙ ap (λ (t : Bool). t && all_held e (between (p + 1) end (order_of m)) m.storage.sets) (subst (λ (j : ℕ). held e (set_of m.storage.sets j) ≡ b) q h)
 
+-- a later start
+pub listed_later : {m : Store} {start p end : ℕ} → start ≤ p → p ≤ end → PlacesKnown m start end → PlacesKnown m p end
+listed_later {m} {start} {p} {end} lo hi L =
+    record {
+      rising = hi;
+      within = L.within;
+      known = λ k i.
+          L.known k (subst (λ (l : List ℕ). In l k) (between_split start p end (order_of m) lo hi) (in_right (between start p (order_of m)) (between p end (order_of m)) k i));
+    }
+
 pub all_end : (m : Store) (e : Entity) {p end : ℕ} → p ≡ end → all_held e (between p end (order_of m)) m.storage.sets ≡ true
 all_end m e {p} {end} q = ap (λ (n : ℕ). all_held e (between n end (order_of m)) m.storage.sets) q ∙ ap (λ (ks : List ℕ). all_held e ks m.storage.sets) (between_none end (order_of m))
+
+-- each of n places from start to end asked in turn
+pub all_places : {m : Store} (e : Entity) (start end n : ℕ) → PlacesKnown m start end → end - start ≡ n
+    → list_all (λ p. held e (set_of m.storage.sets (get_or (order_of m) p 0))) (range_with_len start n) ≡ all_held e (between start end (order_of m)) m.storage.sets
+all_places {m} e start end zero L q = sym (all_end m e (omega (arith, L.rising)))
+all_places {m} e start end (suc n) L q =
+    let here : Bool = held e (set_of m.storage.sets (get_or (order_of m) start 0)) in
+    ap (λ (b : Bool). here && b) (all_places e (start + 1) end n (listed_later (omega arith) (omega arith) L) (omega arith))
+    ∙ sym (all_next L (omega arith) refl e refl)
 
 -- ---- the status, of a group with new kinds from start to end
 
@@ -77,13 +97,3 @@ module _ {m : Store} {start end : ℕ} (e : Entity) (c : ℕ) (some : start < en
 pub status_is : (m : Store) (g : ℕ) (d : GroupMetadata) (len : ℕ) (e : Entity) → Stands m g d len
     → status_in e (between d.new_storage_start d.storage_end (order_of m)) len m.storage.sets ≡ status_at e g m.storage
 status_is m g d len e S = ap₂ (λ (ks : List ℕ) (n : ℕ). status_in e ks n m.storage.sets) S.metadata.new_kinds S.counted
-
--- a later start
-pub listed_later : {m : Store} {start p end : ℕ} → start ≤ p → p ≤ end → PlacesKnown m start end → PlacesKnown m p end
-listed_later {m} {start} {p} {end} lo hi L =
-    record {
-      rising = hi;
-      within = L.within;
-      known = λ k i.
-          L.known k (subst (λ (l : List ℕ). In l k) (between_split start p end (order_of m) lo hi) (in_right (between start p (order_of m)) (between p end (order_of m)) k i));
-    }

@@ -28,12 +28,7 @@ fn holds_all<L: Lookups>(words: &[u32], lookups: &L, start: usize, end: usize, e
     requires covered { L.covers lookups.now (entity e.index e.version) }
     ensures { result ≡ all_held (entity e.index e.version) (between start end (order_of (meaning words.now))) (meaning words.now).storage.sets }
 {
-    for place in start..end {
-        if !lookups.holds(words, place, e) {
-            return false;
-        }
-    }
-    true
+    (start..end).all(|place| lookups.holds(words, place, e))
 }
 
 // The status of an entity in the group whose new kinds stand from start to end and whose count is group_len.

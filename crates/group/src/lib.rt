@@ -1,4 +1,5 @@
-// Groups: the walks that bring an entity into its groups and out of them (group.rs). z is the store's shape, read once for a walk.
+// Groups: the walks that bring an entity into its groups and out of them (group.rs).
+// z is the store's shape, read once for a walk.
 #![tactic(auto)]
 
 pub mod group_metadata;
@@ -66,7 +67,8 @@ fn group_components<L: Lookups>(
     set_count(words, g, group_len + 1);
 }
 
-// Brings it out again. It stands at the same place in every sparse set of the group; at the last counted place it needs no swap.
+// Brings it out again. It stands at the same place in every sparse set of the group;
+// at the last counted place it needs no swap.
 fn ungroup_components(
     words: &mut [u32],
     z: Shape,
@@ -152,7 +154,8 @@ pub fn group(words: &mut [u32], z: Shape, mask: GroupMask, e: Entity)
     group_by(words, &lookups, mask, e);
 }
 
-// Each live entity from place start on is walked upward over the groups of a mask, one after another, by such lookups.
+// Each live entity from place start on is walked upward over the groups of a mask, one after another,
+// by such lookups.
 pub fn group_each_by<L: Lookups>(words: &mut [u32], lookups: &L, mask: GroupMask, start: usize)
     requires arranged { Arranged words.old }
     requires lookups { L.valid lookups.now words.old }
@@ -167,7 +170,8 @@ pub fn group_each_by<L: Lookups>(words: &mut [u32], lookups: &L, mask: GroupMask
     }
 }
 
-// The same, with everything read of the words: for a few entities, which do not pay for tables.
+// The same, with everything read of the words. It stands beside group_tables::group_each, which has the same contract,
+// since a TRAY has few entities, which do not pay for the making of tables.
 pub fn group_each(words: &mut [u32], mask: GroupMask, start: usize)
     requires arranged { Arranged words.old }
     requires below { Below (bits_of 64 mask.0) (meaning words.old).storage }

@@ -1,5 +1,5 @@
-// What a walk looks up of a group, of a column and of an entity, and from where: of the words each time, or of tables that are made once for many
-// entities (the crate group_tables). A walk is one function over either.
+// What a walk looks up of a group, of a column and of an entity, and from where: of the words each time, or of tables
+// that are made once for many entities (the crate group_tables). A walk is one function over either.
 ghost use Rattle.std.specs.Prelude.{◌≡◌, true, List, ℕ, ◌<◌, length, get_or};
 ghost use Rattle.model.specs.Model.{Entity, Storage, groups_of, held, swap_to, entity, no_entity};
 ghost use Rattle.model.specs.Store.{on_storage};

@@ -17,7 +17,8 @@ use crate::fill::fill;
 use crate::tables::{NO_GROUP, WalkTables};
 use masks::group_mask::GroupMask;
 
-// Each live entity from place start on is walked upward over the groups of a mask, one after another: what group::group_each does, for many entities.
+// Each live entity from place start on is walked upward over the groups of a mask, one after another: what
+// group::group_each does, for many entities.
 pub fn group_each(words: &mut [u32], mask: GroupMask, start: usize)
     requires arranged { Arranged words.old }
     requires below { Below (bits_of 64 mask.0) (meaning words.old).storage }

@@ -1,5 +1,6 @@
-// Three tables of the layout in force, made once and lent to the walk of many entities: where the columns of its kinds start, by the kinds' places;
-// its groups' metadata, and for each group the mask of what is left to walk where an entity lacks one of the group's new kinds.
+// Three tables of the layout in force, made once and lent to the walk of many entities: where the columns of its kinds
+// start, by the kinds' places; its groups' metadata; and for each group the mask of what is left to walk where an
+// entity lacks one of the group's new kinds.
 ghost use Rattle.std.specs.Prelude.{◌<◌, ◌≤◌};
 ghost use Rattle.model.specs.Model.{Storage};
 ghost use Rattle.memory.specs.Meaning.{meaning};

@@ -5,7 +5,8 @@ ghost use Rattle.masks.specs.Walk.{Lowest, Highest, Asks};
 
 use crate::storage_mask::StorageMask;
 
-// A tuple struct of its own beside StorageMask, each with its own `from_to`: a rule of the project. A group's number is no place in a family, and so neither mask stands for the other; the widths differ too.
+// A tuple struct of its own beside StorageMask, each with its own `from_to`: a rule of the project.
+// A group's number is no place in a family, so that neither mask stands for the other; the widths differ too.
 #[derive(Clone, Copy, Debug, PartialEq, Eq)]
 pub struct GroupMask(pub u64);
 
@@ -58,7 +59,8 @@ impl GroupMask {
         GroupMask(self.0 & other.0)
     }
 
-    // A step of the walk: the lowest set bit and the mask without it, or None at the end. The position is below 64: eight bits hold it.
+    // A step of the walk: the lowest set bit and the mask without it, or None at the end.
+    // The position is below 64: eight bits hold it.
     pub fn next(self) -> Option<(u32, GroupMask)>
         ensures { Lowest self.0 result }
     {

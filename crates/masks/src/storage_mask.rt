@@ -2,7 +2,8 @@
 ghost use Rattle.std.specs.Prelude.{◌≡◌, [], ◌∷◌, ◌-◌, ◌<◌};
 ghost use Rattle.masks.specs.Masks.{bits_of, up_from, union_of, Ordered};
 
-// A tuple struct of its own beside GroupMask, each with its own `from_to`: a rule of the project. A place in a family is no group's number, and so neither mask stands for the other; the widths differ too.
+// A tuple struct of its own beside GroupMask, each with its own `from_to`: a rule of the project.
+// A place in a family is no group's number, so that neither mask stands for the other; the widths differ too.
 #[derive(Clone, Copy, Debug, PartialEq, Eq)]
 pub struct StorageMask(pub u16);
 

@@ -1,30 +1,23 @@
-use mathlib.Core.Path.{◌≡◌, refl, sym, ◌∙◌}
-use native.Mathlib.Omega.{arith}
-use Rattle.model.specs.Model.{entity}
-use Rattle.memory.specs.Meaning.{meaning}
-use Rattle.group.proofs.Status.{place_known, all_next, all_end}
+use mathlib.Core.Path.{refl, ◌∙◌}
+use Prim.Native.Nat.{ℕ, ◌-◌}
+use borrow.Author.Rules.{rules}
+use borrow.Author.Tests.{tests}
+use Rattle.std.proofs.lemmas.Iterator.{YieldsList-from_range, serves_from_Range}
+use Rattle.std.proofs.lemmas.Iterator.Search.{all_from_yields_List}
+use Rattle.model.specs.Model.{held, entity}
+use Rattle.kinds.specs.Kinds.{kind_set}
+use Rattle.group.specs.Places.{kind_no, Placed}
+use Rattle.group.proofs.Status.{place_known, all_places}
 use Rattle.group.proofs.group_status.holds_all.Goals as goal
 
-pub holds-requires-clause-placed : goal.holds-requires-clause-placed
-holds-requires-clause-placed g c = place_known c.requires.places_known c.loop-place.invariant.0 c.loop-place-test.true
-
-pub returns-then-not-holds : goal.returns-then-not-holds
-returns-then-not-holds g c =
+pub all-requires-clause-callable : goal.all-requires-clause-callable
+all-requires-clause-callable g c =
     let a = c.args in
-    sym (c.loop-place.invariant.2 ∙ all_next c.requires.places_known c.loop-place-test.true refl (entity a.e.index a.e.version) (sym c.holds.ensures ∙ c.if-not-holds.true))
-
-pub loop-place-preserved : goal.loop-place-preserved
-loop-place-preserved g c =
-    let a = c.args in
-    let i = c.loop-place in (
-      omega (arith, i.invariant.0),
-      omega (arith, c.loop-place-test),
-      i.invariant.2 ∙ all_next c.requires.places_known c.loop-place-test.true refl (entity a.e.index a.e.version) (sym c.holds.ensures ∙ c.if-not-holds.false),
-    )
+    serves_from_Range (λ x q k. search rules) (λ x from below. let placed : Placed a.words.now x = place_known c.requires.places_known from below in search rules)
 
 pub returns : goal.returns
 returns g c =
     let a = c.args in
-    let i = c.loop-place in
-    let q : i.place ≡ a.end = omega (arith, i.invariant.1, c.loop-place-test) in
-    sym (i.invariant.2 ∙ all_end (meaning a.words.now) (entity a.e.index a.e.version) q)
+    let e = entity a.e.index a.e.version in
+    all_from_yields_List (λ (p : ℕ). held e (kind_set a.words.now (kind_no a.words.now p))) _ _ c.all.result c.all.ensures.ran (YieldsList-from_range a.start a.end (a.end - a.start) (cc) refl) (λ x b q k. search (rules, tests))
+    ∙ all_places e a.start a.end (a.end - a.start) c.requires.places_known refl
