@@ -5,6 +5,8 @@ use Rattle.words.specs.Offsets.{ENTITIES}
 use Rattle.model.specs.Model.{create}
 use Rattle.model.specs.Store.{with_entities}
 use Rattle.words.specs.declared.Entity.{Entity}
+use Rattle.entity.specs.declared.entity_part.EntityPart.{EntityPart}
+use Rattle.entity.specs.Lent.{entities}
 use Rattle.entity.specs.Answers.{entity_of_answer}
 use Rattle.memory.specs.Header.{capacity_of}
 use Rattle.memory.specs.Meaning.{meaning}
@@ -17,6 +19,11 @@ pub record Capacity (w : List ℕ) (n : ℕ) : Type 0 where
   pub most : n ≤ MAX_ENTITIES
   pub word : n ≡ capacity_of w
   pub fits : ENTITIES + ENTITY_LEN * n ≤ length w
+
+-- the entity part, with its capacity: what it means are the store's entities
+pub record PartLent (w : List ℕ) (p : EntityPart) : Type 0 where
+  pub capacity : p.capacity ≡ (meaning w).settings.capacity
+  pub entities : entities p ≡ (meaning w).entities
 
 -- 01: "A new card takes the longest waiting number, else the next index at version 1, and joins the live list at its end"
 pub record Creates (w w' : List ℕ) (r : Entity) : Type 0 where

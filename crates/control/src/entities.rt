@@ -6,9 +6,9 @@ ghost use Rattle.model.specs.Snapshot.{live_version};
 ghost use Rattle.entity.specs.Answers.{entity_of_answer, found_of, LiveAt};
 ghost use Rattle.memory.specs.Meaning.{meaning};
 ghost use Rattle.memory.specs.Arranged.{Arranged, Becomes};
-ghost use Rattle.control.specs.Entities.{Capacity, Creates};
+ghost use Rattle.control.specs.Entities.{Capacity, PartLent, Creates};
 
-use entity::{entity_allocator, entity_sparse_set, in_words, sparse_vec};
+use entity::{EntityPart, in_words};
 use words::{CAPACITY, ENTITIES, Entity, Found};
 
 // How many entities there is room for.
@@ -19,14 +19,25 @@ pub fn capacity(words: &[u32]) -> usize
     words::word(words, CAPACITY)
 }
 
+// The entity part, lent to read.
+fn entity_part(words: &[u32]) -> EntityPart<'_>
+    requires { Arranged words.now }
+    ensures { PartLent words.now result }
+{
+    let capacity = capacity(words);
+    let end = ENTITIES + model::ENTITY_LEN * capacity;
+    EntityPart {
+        part: &words[ENTITIES..end],
+        capacity,
+    }
+}
+
 // Where the entity is in the live list.
 pub fn get(words: &[u32], e: Entity) -> Found
     requires { Arranged words.now }
     ensures { result ≡ found_of (entity e.index e.version) (meaning words.now).entities }
 {
-    let n = capacity(words);
-    let end = ENTITIES + model::ENTITY_LEN * n;
-    sparse_vec::get(&words[ENTITIES..end], n, e)
+    entity_part(words).get(e)
 }
 
 // Whether no number is left: 01's FULL.
@@ -34,9 +45,7 @@ pub fn is_full(words: &[u32]) -> bool
     requires { Arranged words.now }
     ensures { result ≡ is_full (meaning words.now).settings.capacity (meaning words.now).entities }
 {
-    let n = capacity(words);
-    let end = ENTITIES + model::ENTITY_LEN * n;
-    entity_allocator::is_full(&words[ENTITIES..end], n)
+    entity_part(words).is_full()
 }
 
 // How many numbers are left: those that wait, and those not yet issued.
@@ -44,9 +53,7 @@ pub fn free_numbers(words: &[u32]) -> usize
     requires { Arranged words.now }
     ensures { result ≡ free_numbers (meaning words.now).settings.capacity (meaning words.now).entities }
 {
-    let n = capacity(words);
-    let end = ENTITIES + model::ENTITY_LEN * n;
-    entity_allocator::free_numbers(&words[ENTITIES..end], n)
+    entity_part(words).free_numbers()
 }
 
 // A new entity. The caller has seen that there is a number left.
@@ -74,9 +81,7 @@ pub fn live_len(words: &[u32]) -> usize
     requires { Arranged words.now }
     ensures { result ≡ length (meaning words.now).entities.live }
 {
-    let n = capacity(words);
-    let end = ENTITIES + model::ENTITY_LEN * n;
-    entity_sparse_set::len(&words[ENTITIES..end], n)
+    entity_part(words).len()
 }
 
 // The live list's entity at place.
@@ -85,9 +90,7 @@ pub fn live_at(words: &[u32], place: usize) -> Entity
     requires place_in_bounds { place < length (meaning words.now).entities.live }
     ensures { entity_of_answer result ≡ get_or (meaning words.now).entities.live place no_entity }
 {
-    let n = capacity(words);
-    let end = ENTITIES + model::ENTITY_LEN * n;
-    entity_sparse_set::live_at(&words[ENTITIES..end], n, place)
+    entity_part(words).live_at(place)
 }
 
 // How many numbers are issued.
@@ -95,9 +98,7 @@ pub fn issued(words: &[u32]) -> usize
     requires { Arranged words.now }
     ensures { result ≡ (meaning words.now).entities.issued }
 {
-    let n = capacity(words);
-    let end = ENTITIES + model::ENTITY_LEN * n;
-    entity_allocator::issued(&words[ENTITIES..end], n)
+    entity_part(words).issued()
 }
 
 // The version of the live entity with this index, 0 where there is none.
@@ -106,7 +107,5 @@ pub fn version_at(words: &[u32], index: usize) -> u32
     requires index_bound { index < (meaning words.now).settings.capacity }
     ensures { result ≡ live_version index (meaning words.now).entities.live }
 {
-    let n = capacity(words);
-    let end = ENTITIES + model::ENTITY_LEN * n;
-    sparse_vec::version_at(&words[ENTITIES..end], n, index)
+    entity_part(words).version_at(index)
 }

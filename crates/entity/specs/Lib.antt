@@ -3,3 +3,4 @@ pub mod Meaning
 pub mod Change
 pub mod Answers
 pub mod Stored
+pub mod Lent

@@ -4,35 +4,9 @@ ghost use Rattle.entity.specs.Queue.{wrapped};
 ghost use Rattle.entity.specs.Meaning.{EntityPartSound, entities_of, recycled_len, issued_of};
 ghost use Rattle.entity.specs.Change.{Idle, EntitiesChanged, queued, recycled_as};
 ghost use Rattle.entity.specs.Answers.{Allocated, Unqueued, Issued};
-ghost use Rattle.model.specs.Model.{entity, is_full, free_numbers};
+ghost use Rattle.model.specs.Model.{entity, is_full};
 
 use words::Entity;
-
-// How many numbers are issued.
-pub fn issued(part: &[u32], n: usize) -> usize
-    requires { EntityPartSound n part.now }
-    ensures { result ≡ (entities_of n part.now).issued }
-{
-    part[words::ISSUED] as usize
-}
-
-// Whether no number is left: none waits, and n are issued.
-pub fn is_full(part: &[u32], n: usize) -> bool
-    requires { EntityPartSound n part.now }
-    ensures { result ≡ is_full n (entities_of n part.now) }
-{
-    part[words::RECYCLED_LEN] == 0 && n <= part[words::ISSUED] as usize
-}
-
-// How many numbers are left: those that wait, and those not yet issued.
-pub fn free_numbers(part: &[u32], n: usize) -> usize
-    requires { EntityPartSound n part.now }
-    ensures { result ≡ free_numbers n (entities_of n part.now) }
-{
-    let waiting = part[words::RECYCLED_LEN] as usize;
-    let issued = part[words::ISSUED] as usize;
-    waiting + (n - issued)
-}
 
 // The queue's place k, counted on past the end.
 pub fn wrap(n: usize, k: usize) -> usize

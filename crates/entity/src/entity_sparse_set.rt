@@ -9,27 +9,6 @@ ghost use Rattle.entity.specs.Stored.{put_stores};
 
 use words::Entity;
 
-// How many entities are live.
-pub fn len(part: &[u32], n: usize) -> usize
-    requires { EntityPartSound n part.now }
-    ensures { result ≡ length (entities_of n part.now).live }
-{
-    part[words::LIVE_LEN] as usize
-}
-
-// The live list's entity at place.
-pub fn live_at(part: &[u32], n: usize, place: usize) -> Entity
-    requires sound { EntityPartSound n part.now }
-    requires in_range { place < length (entities_of n part.now).live }
-    ensures { entity_of_answer result ≡ get_or (entities_of n part.now).live place no_entity }
-{
-    let at = words::LIVE_LIST + 2 * place;
-    Entity {
-        index: part[at],
-        version: part[at + 1],
-    }
-}
-
 // Has the live list's place say the entity, and the index's lookup the place.
 fn put(part: &mut [u32], n: usize, place: usize, e: Entity)
     requires sized { EntityPartSized n part.old }

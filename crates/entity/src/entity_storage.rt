@@ -1,21 +1,12 @@
-// Entities: created, looked up, destroyed.
+// Entities: created, destroyed.
 ghost use Rattle.std.specs.Prelude.{◌≡◌, false};
-ghost use Rattle.model.specs.Model.{is_live, destroy, entity, is_full};
+ghost use Rattle.model.specs.Model.{destroy, entity, is_full};
 ghost use Rattle.entity.specs.Meaning.{EntityPartSound, entities_of};
 ghost use Rattle.entity.specs.Change.{EntitiesChanged};
 ghost use Rattle.entity.specs.Answers.{LiveAt, EntityCreated};
 
-use crate::{entity_allocator, entity_sparse_set, sparse_vec};
-use words::{Entity, Found};
-
-// Whether the entity is live.
-pub fn contains(part: &[u32], n: usize, e: Entity) -> bool
-    requires { EntityPartSound n part.now }
-    ensures { result ≡ is_live (entity e.index e.version) (entities_of n part.now) }
-{
-    let found = sparse_vec::get(part, n, e);
-    matches!(found, Found::At(_))
-}
+use crate::{entity_allocator, entity_sparse_set};
+use words::Entity;
 
 // A new entity. The caller has seen that there is a number left.
 pub fn create(part: &mut [u32], n: usize) -> Entity

@@ -3,7 +3,9 @@
 #![tactic(auto)]
 
 pub mod entity_allocator;
+pub mod entity_part;
 pub mod entity_sparse_set;
 pub mod entity_storage;
 pub mod in_words;
-pub mod sparse_vec;
+
+pub use entity_part::EntityPart;

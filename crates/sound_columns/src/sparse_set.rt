@@ -5,7 +5,7 @@ ghost use Rattle.words.specs.Decides.{Decides, Each};
 ghost use Rattle.entity.specs.Meaning.{EntityPartSound};
 ghost use Rattle.sound_columns.specs.Checks.{RowTied, RowOk, LiveSet};
 
-use entity::entity_storage::contains;
+use entity::EntityPart;
 use words::{Entity, Shape};
 
 fn row_tied(part: &[u32], z: Shape, i: usize) -> bool
@@ -35,7 +35,11 @@ fn row_ok(part: &[u32], entities: &[u32], z: Shape, i: usize) -> bool
         index: part[at],
         version: part[at + 1],
     };
-    row_tied(part, z, i) && contains(entities, z.capacity, e)
+    let live = EntityPart {
+        part: entities,
+        capacity: z.capacity,
+    };
+    row_tied(part, z, i) && live.contains(e)
 }
 
 fn rows_ok(part: &[u32], entities: &[u32], z: Shape, k: usize) -> bool
