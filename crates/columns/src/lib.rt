@@ -33,7 +33,8 @@ pub fn refusal(words: &[u32], kind: usize, start: usize, end: usize) -> u8
     0
 }
 
-// Where the words of the kind's row at a place stand: its entity, or its value.
+// Where the words of the kind's row at a place stand: its entity, or its value. `values`, here and below, is the bool that the C interface hands on: an enum
+// would be made of it in each caller, only to be tested here.
 pub fn row_start(words: &[u32], kind: usize, values: bool, place: usize) -> usize
     requires arranged { Arranged words.now }
     requires kind_known { In (meaning words.now).kinds kind }
@@ -77,9 +78,5 @@ pub fn copy(from: &[u32], to: &mut [u32])
     requires { length from.now ≤ length to.old }
     ensures { to.new ≡ from.now ++ drop (length from.now) to.old }
 {
-    let mut i = 0;
-    while i < from.len() {
-        to[i] = from[i];
-        i += 1;
-    }
+    to[..from.len()].copy_from_slice(from);
 }

@@ -28,11 +28,7 @@ pub fn is_registered(words: &[u32], kind: usize) -> bool
     requires kind_bound { kind < MAX_KINDS }
     ensures { result ≡ mem kind (meaning words.now).kinds }
 {
-    let slot = words::word(words, words::TABLE + kind);
-    if slot == words::UNREGISTERED as usize {
-        return false;
-    }
-    true
+    words::word(words, words::TABLE + kind) != words::UNREGISTERED as usize
 }
 
 // The slot of a registered kind's column.

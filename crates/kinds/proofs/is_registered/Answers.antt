@@ -1,15 +1,17 @@
-use mathlib.Core.Path.{sym, ◌∙◌}
-use Prim.Native.Nat.{◌+◌}
+use Rattle.std.proofs.Common.{sym, ap, ◌∙◌, not, ne_eqb, eq-eqb, ◌+◌}
 use native.Mathlib.Omega.{arith}
-use Rattle.words.specs.Offsets.{TABLE}
+use Rattle.model.proofs.BoolLaws.{by-eq}
+use Rattle.words.specs.Offsets.{TABLE, UNREGISTERED}
 use Rattle.kinds.proofs.Slot.{slot_known, unknown, header_long}
 use Rattle.kinds.proofs.is_registered.Goals as goal
 
-pub word-slot-requires : goal.word-slot-requires
-word-slot-requires c = header_long c.args.words.now c.requires.arranged (TABLE + c.args.kind) (omega arith)
-
-pub returns-then-slot : goal.returns-then-slot
-returns-then-slot c = sym (unknown c.args.words.now c.requires.arranged c.args.kind c.requires.kind_bound (sym c.word-slot.ensures.is ∙ c.if-slot.true))
+pub word-requires : goal.word-requires
+word-requires c = header_long c.args.words.now c.requires.arranged (TABLE + c.args.kind) (omega arith)
 
 pub returns : goal.returns
-returns c = sym (slot_known c.args.words.now c.requires.arranged c.args.kind c.requires.kind_bound (λ e. c.if-slot.false (c.word-slot.ensures.is ∙ e)))
+returns c =
+    let w = c.args.words.now in
+    let A = c.requires.arranged in
+    by-eq c.word.result UNREGISTERED
+    (λ e. ap not (eq-eqb c.word.result UNREGISTERED e) ∙ sym (unknown w A c.args.kind c.requires.kind_bound (sym c.word.ensures.is ∙ e)))
+    (λ ne. ap not (ne_eqb c.word.result UNREGISTERED ne) ∙ sym (slot_known w A c.args.kind c.requires.kind_bound (λ e. ne (c.word.ensures.is ∙ e))))
