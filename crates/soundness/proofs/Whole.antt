@@ -1,6 +1,10 @@
 -- The clauses together are soundness: of the words, and of the store that they mean. Assumes nothing.
-use mathlib.Core.Path.{◌≡◌, ap, sym, ◌∙◌, subst}
-use mathlib.Core.Logic.{◌≢◌}
+use mathlib.Core.Bool.{Bool, true, false}
+use lib.Dec.{leb}
+use Rattle.std.proofs.lemmas.Bool.{leb-true, leb-false}
+use Rattle.model.specs.Store.{words_needed}
+use mathlib.Core.Path.{◌≡◌, refl, ap, sym, ◌∙◌, subst}
+use mathlib.Core.Logic.{◌≢◌, ◌↔◌}
 use mathlib.Core.List.{List, [], map}
 use Prim.Native.Nat.{ℕ, ◌+◌, ◌*◌, ◌≤◌, ◌<◌}
 use native.Mathlib.Decide.{dec_le, dec_lt}
@@ -17,12 +21,12 @@ use Rattle.model.proofs.Operations.{live_count, count_live}
 use Rattle.model.proofs.KindLists.{in_count, count_in, at_in}
 use Rattle.model.proofs.Widths.{width_words}
 use Rattle.words.specs.Offsets.{BLOCK_LEN, COLUMN_KIND, DRAFT, ENTITIES, EXCLUDED_KINDS, GROUP_COUNTS, GROUP_FAMILIES, LAYOUT, LAYOUT_ARITIES, LAYOUT_KIND_ENDS, REFUSALS, ROWS, STAGED_KINDS, STAGED_VALUE_LEN, STAGED_VALUES, TABLE, UNREGISTERED}
-use Rattle.words.proofs.Offsets.{column_start_mono, column_start_first, shaped_of}
+use Rattle.words.proofs.Offsets.{column_start_mono, column_start_first, column_start_needed, shaped_of}
 use Rattle.words.specs.Part.{between}
 use Rattle.words.proofs.Part.{get_d_between, length_between, between_below}
 use Rattle.words.specs.Table.{table}
 use Rattle.component.specs.SparseSet.{length_of}
-use Rattle.words.specs.Decides.{Each}
+use Rattle.words.specs.Decides.{Decides, Each}
 use Rattle.component.proofs.Meaning.{length_rows, empty_rows}
 use Rattle.component.specs.Columns.{column_of, rows_of, Columns}
 use Rattle.component.specs.Changes.{Lent}
@@ -47,7 +51,7 @@ use Rattle.sound_columns.specs.Rows.{entity_in, RowLive, ColumnOk}
 use Rattle.sound_columns.specs.Listed.{ListOk}
 use Rattle.sound_groups.specs.Spans.{Force, HeadsOk, OwnOk}
 use Rattle.sound_columns.proofs.SlotLaws.{room_long, room_less, key_word}
-use Rattle.soundness.specs.Parts.{SizeOk, PartsOk, ListsOk, LayoutOk, CountsOk}
+use Rattle.soundness.specs.Parts.{SizeOk, PartsOk, ListsOk, Ground, LayoutOk, CountsOk, Clauses}
 use Rattle.soundness.proofs.TableLaws.{TableLinks, registered_slot, registered_small, slot_registered, kinds_sound, sets_sound, sets_alive}
 use Rattle.soundness.proofs.ColumnLaws.{rows_once, rows_values}
 use Rattle.soundness.proofs.StagedLaws.{staged_sound}
@@ -532,3 +536,44 @@ module _ (w : List ℕ) where
     pub counts_of_law : CountsOk z w
     counts_of_law =
         are_groups far A.layout.formed kinds_known A M.sets (live_once (entities_in n w) M.entities.single) M.layout M.groups
+
+-- ---- all clauses
+
+pub sound_long : (w : List ℕ) → StoreSound w → ENTITIES ≤ length w
+sound_long w X = size_long (capacity_of w) (kind_capacity_of w) (value_bytes_of w) w (size_of w X)
+
+pub clauses_sound : (w : List ℕ) → Bits w → Clauses w ↔ StoreSound w
+clauses_sound w bits = (
+  (λ c. sound_of w c.ground.size c.ground.parts c.lists c.layout bits c.counts),
+  (λ X. record { ground = record { size = size_of w X; parts = parts_of w X }; lists = lists_of w X; layout = layout_of w X; counts = counts_of_law w X }),
+)
+
+pub counts_left : (w : List ℕ) → (Ground w × ListsOk w) × LayoutOk (shape_of w) w → CountsOk (shape_of w) w ↔ Clauses w
+counts_left w p = ((λ counts. record { ground = p.0.0; lists = p.0.1; layout = p.1; counts = counts }), (λ k. k.counts))
+
+-- ---- the layout, by its width as it was read
+
+pub layout_left : (w : List ℕ) (Z : SizeOk (capacity_of w) (kind_capacity_of w) (value_bytes_of w) w) (P : PartsOk (shape_of w) (kind_capacity_of w) w)
+    → BlockSound (between LAYOUT GROUP_FAMILIES w) (between TABLE STAGED_KINDS w) (layout_families w) (layout_groups w) → Each (layout_groups w) (HeadsOk (shape_of w) w) → (width : ℕ) → width ≡ width_of (layout_arrays w)
+    → Each (registered_of w) (OwnOk (shape_of w) w (between LAYOUT (LAYOUT + width) w)) ↔ LayoutOk (shape_of w) w
+layout_left w Z P block heads width e = (
+  (λ own. record { block = block; heads = heads; own = subst (λ (x : ℕ). Each (registered_of w) (OwnOk (shape_of w) w (between LAYOUT (LAYOUT + x) w))) e own }),
+  (λ L. subst (λ (x : ℕ). Each (registered_of w) (OwnOk (shape_of w) w (between LAYOUT (LAYOUT + x) w))) (sym e) L.own),
+)
+
+-- ---- the parts, by the shape as it was read
+
+pub parts_left : (z : Shape) (w : List ℕ) (k : ℕ) → z ≡ shape_of w → TableOk z k w → entity.EntityPartSound z.capacity (entity_part z.capacity w) → Each k (ColumnOk z (registered_of w) w) ↔ PartsOk (shape_of w) k w
+parts_left z w k e table entities = (
+  (λ columns. subst (λ (x : Shape). PartsOk x k w) e (record { table = table; entities = entities; columns = columns })),
+  (λ P. subst (λ (x : Shape). Each k (ColumnOk x (registered_of w) w)) (sym e) P.columns),
+)
+
+-- ---- the size, by the words needed
+
+by_test : {P : Type 0} (b : Bool) → (b ≡ true → P) → (b ≡ false → P → ⊥) → Decides b P
+by_test true holds fails = holds refl
+by_test false holds fails = fails refl
+
+pub size_left : (n k v : ℕ) (w : List ℕ) (needed : ℕ) → Limits n k v → needed ≡ words_needed n k v → Decides (leb needed (length w)) (SizeOk n k v w)
+size_left n k v w needed limits e = by_test (leb needed (length w)) (λ q. record { limits = limits; enough = omega (arith, column_start_needed n k v, e, leb-true needed (length w) q) }) (λ q Z. omega (arith, column_start_needed n k v, e, leb-false needed (length w) q, Z.enough))

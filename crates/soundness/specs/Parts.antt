@@ -53,3 +53,10 @@ pub record LayoutOk (z : Shape) (w : List ℕ) : Type 0 where
 -- "groups as demand 3 says"
 abbrev pub CountsOk : Shape → List ℕ → Type 0
 CountsOk z w = Each (layout_groups w) (CountedOk z w)
+
+-- all of them
+pub record Clauses (w : List ℕ) : Type 0 where
+  pub ground : Ground w
+  pub lists : ListsOk w
+  pub layout : LayoutOk (shape_of w) w
+  pub counts : CountsOk (shape_of w) w

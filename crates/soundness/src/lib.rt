@@ -1,13 +1,13 @@
 // Whether lent words are a sound store (01), in time linear in the words.
 #![tactic(auto)]
 
-ghost use Rattle.std.specs.Prelude.{◌≡◌, ◌≤◌, length};
+ghost use Rattle.std.specs.Prelude.{◌≤◌, length};
 ghost use Rattle.words.specs.Offsets.{ENTITIES};
 ghost use Rattle.words.specs.Decides.{Decides};
 ghost use Rattle.words.specs.Shape.{shape_of};
-ghost use Rattle.memory.specs.Header.{value_bytes_of};
+ghost use Rattle.memory.specs.Header.{capacity_of, kind_capacity_of, value_bytes_of};
 ghost use Rattle.memory.specs.Arranged.{Sound};
-ghost use Rattle.soundness.specs.Parts.{SizeOk, PartsOk, ListsOk, Ground, LayoutOk, CountsOk};
+ghost use Rattle.soundness.specs.Parts.{SizeOk, PartsOk, ListsOk, Ground, LayoutOk, CountsOk, Clauses};
 
 use layout::starts::start_of;
 use layout_block::block_ok;
@@ -18,40 +18,32 @@ use sound_columns::table::is_table;
 use sound_groups::counts::are_counts;
 use sound_groups::heads::{are_heads, are_own};
 use words::{
-    CALLER, DRAFT, DRAFT_FAMILIES, DRAFT_GROUPS, ENTITIES, EXCLUDED_KINDS, EXCLUDED_LEN,
+    CALLER, CAPACITY, DRAFT, DRAFT_FAMILIES, DRAFT_GROUPS, ENTITIES, EXCLUDED_KINDS, EXCLUDED_LEN,
     GROUP_FAMILIES, KIND_CAPACITY, LAYOUT, LAYOUT_FAMILIES, LAYOUT_GROUPS, LAYOUT_KIND_ENDS, NEWER,
-    REGISTERED, RULE, STAGED_KINDS, STAGED_LEN, Shape, TABLE, VALUE_WIDTH,
+    REGISTERED, RULE, STAGED_KINDS, STAGED_LEN, TABLE, VALUE_WIDTH,
 };
 
 // N, K and the bytes of a value within the limits, and enough words for them.
-fn has_room(words: &[u32], n: usize, k: usize, v: usize) -> bool
-    ensures { Decides result (SizeOk n k v words.now) }
+fn has_room(words: &[u32]) -> bool
+    requires { ENTITIES ≤ length words.now }
+    ensures { Decides result (SizeOk (capacity_of words.now) (kind_capacity_of words.now) (value_bytes_of words.now) words.now) }
 {
-    if !within_limits(n, k, v) {
-        return false;
-    }
-    if words.len() < model::words_needed(n, k, v) {
-        return false;
-    }
-    true
+    let n = words[CAPACITY] as usize;
+    let k = words[KIND_CAPACITY] as usize;
+    let v = words[VALUE_WIDTH] as usize;
+    within_limits(n, k, v) && model::words_needed(n, k, v) <= words.len()
 }
 
 // The table of kinds, the entities, the columns.
-fn has_parts(words: &[u32], z: Shape, k: usize) -> bool
-    requires shape_is { z ≡ shape_of words.now }
-    requires size_ok { SizeOk z.capacity k (value_bytes_of words.now) words.now }
-    ensures { Decides result (PartsOk z k words.now) }
+fn has_parts(words: &[u32]) -> bool
+    requires { SizeOk (capacity_of words.now) (kind_capacity_of words.now) (value_bytes_of words.now) words.now }
+    ensures { Decides result (PartsOk (shape_of words.now) (kind_capacity_of words.now) words.now) }
 {
-    if !is_table(words, z, k) {
-        return false;
-    }
-    if !sound_entities::is_sound_in(words, z.capacity) {
-        return false;
-    }
-    if !are_columns(words, z, k, words[REGISTERED] as usize) {
-        return false;
-    }
-    true
+    let z = words::shape_of(words);
+    let k = words[KIND_CAPACITY] as usize;
+    is_table(words, z, k)
+        && sound_entities::is_sound_in(words, z.capacity)
+        && are_columns(words, z, k, words[REGISTERED] as usize)
 }
 
 // The staged and the excluded kinds, the caller, the rule, and the draft.
@@ -59,29 +51,18 @@ fn has_lists(words: &[u32]) -> bool
     requires { ENTITIES ≤ length words.now }
     ensures { Decides result (ListsOk words.now) }
 {
-    if !is_list(words, STAGED_KINDS, words[STAGED_LEN] as usize) {
-        return false;
-    }
-    if !is_list(words, EXCLUDED_KINDS, words[EXCLUDED_LEN] as usize) {
-        return false;
-    }
-    if model::LAST_CALLER < words[CALLER] {
-        return false;
-    }
-    if NEWER < words[RULE] {
-        return false;
-    }
     let families = words[DRAFT_FAMILIES] as usize;
     let groups = words[DRAFT_GROUPS] as usize;
-    if !block_ok(
-        &words[DRAFT..LAYOUT],
-        families,
-        groups,
-        &words[TABLE..STAGED_KINDS],
-    ) {
-        return false;
-    }
-    true
+    is_list(words, STAGED_KINDS, words[STAGED_LEN] as usize)
+        && is_list(words, EXCLUDED_KINDS, words[EXCLUDED_LEN] as usize)
+        && words[CALLER] <= model::LAST_CALLER
+        && words[RULE] <= NEWER
+        && block_ok(
+            &words[DRAFT..LAYOUT],
+            families,
+            groups,
+            &words[TABLE..STAGED_KINDS],
+        )
 }
 
 // The layout in force, and the heads of the columns that it names.
@@ -100,14 +81,8 @@ fn has_layout(words: &[u32]) -> bool
     ) {
         return false;
     }
-    if !are_heads(words, z, families, groups) {
-        return false;
-    }
     let width = start_of(words, LAYOUT_KIND_ENDS, families);
-    if !are_own(words, z, words[REGISTERED] as usize, width) {
-        return false;
-    }
-    true
+    are_heads(words, z, families, groups) && are_own(words, z, words[REGISTERED] as usize, width)
 }
 
 // The groups' counts.
@@ -125,6 +100,22 @@ fn has_counts(words: &[u32]) -> bool
     )
 }
 
+// What the clauses on the layout stand on.
+fn has_ground(words: &[u32]) -> bool
+    requires { ENTITIES ≤ length words.now }
+    ensures { Decides result (Ground words.now) }
+{
+    has_room(words) && has_parts(words)
+}
+
+// The clauses, each where those before it hold.
+fn has_clauses(words: &[u32]) -> bool
+    requires { ENTITIES ≤ length words.now }
+    ensures { Decides result (Clauses words.now) }
+{
+    has_ground(words) && has_lists(words) && has_layout(words) && has_counts(words)
+}
+
 // Whether the words, however many and whatever they hold, are a sound store.
 pub fn is_sound(words: &[u32]) -> bool
     ensures { Decides result (Sound words.now) }
@@ -132,23 +123,5 @@ pub fn is_sound(words: &[u32]) -> bool
     if words.len() < ENTITIES {
         return false;
     }
-    let z = words::shape_of(words);
-    let k = words[KIND_CAPACITY] as usize;
-    let v = words[VALUE_WIDTH] as usize;
-    if !has_room(words, z.capacity, k, v) {
-        return false;
-    }
-    if !has_parts(words, z, k) {
-        return false;
-    }
-    if !has_lists(words) {
-        return false;
-    }
-    if !has_layout(words) {
-        return false;
-    }
-    if !has_counts(words) {
-        return false;
-    }
-    true
+    has_clauses(words)
 }

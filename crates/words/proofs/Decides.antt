@@ -46,3 +46,16 @@ decides_on false e d = λ q. d (e.1 q)
 pub decides_test : (b t : Bool) → b ≡ t → Decides b (t ≡ true)
 decides_test true t e = sym e
 decides_test false t e = λ h. false≢true (e ∙ h)
+
+-- where a part of it does not hold, the whole does not
+pub decides_less : (P Q : Type 0) (b : Bool) → Decides b P → b ≡ false → (Q → P) → Decides b Q
+decides_less P Q true d e f = absurd (false≢true (sym e))
+decides_less P Q false d e f = λ q. d (f q)
+
+-- where an `&&` joins: v is what the two tests came to
+pub decides_both : (P Q : Type 0) {v : Bool} (a : Bool) → Decides a P → a ≡ true → (b : Bool) → Decides b Q → v ≡ b → Decides v (P × Q)
+decides_both P Q a p e true q j = subst (λ (t : Bool). Decides t (P × Q)) (sym j) (yes_of a p e, q)
+decides_both P Q a p e false q j = subst (λ (t : Bool). Decides t (P × Q)) (sym j) (λ h. q h.1)
+
+pub decides_neither : (P Q : Type 0) {v : Bool} (a : Bool) → Decides a P → a ≡ false → v ≡ a → Decides v (P × Q)
+decides_neither P Q a p e j = subst (λ (t : Bool). Decides t (P × Q)) (sym (j ∙ e)) (λ h. no_of a p e h.0)
