@@ -2,11 +2,11 @@
 use mathlib.Core.Path.{◌≡◌, refl, ap, sym, ◌∙◌}
 use mathlib.Core.Bool.{Bool, true, false, cond}
 use mathlib.Core.Option.{Option, some, none}
-use mathlib.Core.List.{List, [], ◌∷◌, ◌++◌, append-nil}
+use mathlib.Core.List.{List, [], ◌∷◌, ◌++◌, append-nil, append_assoc}
 use Prim.Native.Nat.{ℕ, zero, suc, ◌+◌, ◌-◌, ◌≤◌, ◌<◌}
 use native.Mathlib.Omega.{arith}
 use native.Mathlib.Numerals.{add-one}
-use lib.ListN.{length, get_or, set, take, drop, drop_of_length-le}
+use lib.ListN.{length, get_or, set, drop, drop_of_length-le}
 use lib.Seq.{sets, drop-cons}
 use Rattle.model.specs.Numbers.{MAX_KINDS}
 use Rattle.model.specs.Model.{Entity, SparseSet, Component, no_row, mem, at, held, set_of}
@@ -14,7 +14,6 @@ use Rattle.model.specs.Listed.{rising_from, rising_kinds}
 use Rattle.model.specs.Sound.{In}
 use Rattle.model.specs.Store.{bytes_of}
 use Rattle.model.specs.Snapshot.{value_at, add_component, components_of, component_bytes}
-use Rattle.model.proofs.ListLaws.{put_next}
 use Rattle.model.proofs.Lengths.{bytes_of_length}
 use Rattle.snapshot.specs.Wrote.{one_bytes, WrittenUntil}
 
@@ -30,17 +29,16 @@ module _ (ks : List ℕ) where
       let e : MAX_KINDS - k ≡ suc (MAX_KINDS - (k + 1)) = omega arith in
       ap (λ (n : ℕ). rising_from ks n k) e ∙ ap (λ (j : ℕ). cond (mem k ks) (k ∷ rising_from ks (MAX_KINDS - (k + 1)) j) (rising_from ks (MAX_KINDS - (k + 1)) j)) (sym (add-one k))
 
-  pub lists_none : (l : List ℕ) (n k : ℕ) → k < MAX_KINDS → mem k ks ≡ false → take n l ++ later k ≡ take n l ++ later (k + 1)
-  lists_none l n k h f = ap (λ (r : List ℕ). take n l ++ r) (later_turn k h ∙ rw f)
+  pub lists_none : (l : List ℕ) (k : ℕ) → k < MAX_KINDS → mem k ks ≡ false → l ++ later k ≡ l ++ later (k + 1)
+  lists_none l k h f = ap (λ (r : List ℕ). l ++ r) (later_turn k h ∙ rw f)
 
-  pub lists_one : (l : List ℕ) (n k : ℕ) → n < length l → k < MAX_KINDS → mem k ks ≡ true → take n l ++ later k ≡ take (n + 1) (set l n k) ++ later (k + 1)
-  lists_one l n k b h t =
-      ap (λ (r : List ℕ). take n l ++ r) (later_turn k h ∙ rw t) ∙ put_next l (later (k + 1)) n k b
+  pub lists_one : (l : List ℕ) (k : ℕ) → k < MAX_KINDS → mem k ks ≡ true → l ++ later k ≡ (l ++ (k ∷ [])) ++ later (k + 1)
+  lists_one l k h t = ap (λ (r : List ℕ). l ++ r) (later_turn k h ∙ rw t) ∙ sym (append_assoc l (k ∷ []) (later (k + 1)))
 
-  pub lists_end : (l : List ℕ) (n k : ℕ) → MAX_KINDS ≤ k → take n l ++ later k ≡ take n l
-  lists_end l n k h =
+  pub lists_end : (l : List ℕ) (k : ℕ) → MAX_KINDS ≤ k → l ++ later k ≡ l
+  lists_end l k h =
       let e : MAX_KINDS - k ≡ 0 = omega arith in
-      ap (λ (m : ℕ). take n l ++ rising_from ks m k) e ∙ append-nil (take n l)
+      ap (λ (m : ℕ). l ++ rising_from ks m k) e ∙ append-nil l
 
   -- only registered kinds are listed
   from_in : (n k i : ℕ) → i < length (rising_from ks n k) → In ks (get_or (rising_from ks n k) i 0)

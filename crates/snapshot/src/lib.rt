@@ -12,9 +12,11 @@ ghost use Rattle.words.specs.Shape.{shape_of};
 ghost use Rattle.memory.specs.Meaning.{meaning};
 ghost use Rattle.memory.specs.Arranged.{Arranged, Sound};
 ghost use Rattle.kinds.specs.Kinds.{kind_set};
-ghost use Rattle.snapshot.specs.Rising.{Lists, rows_in, Counted};
+ghost use Rattle.snapshot.specs.Rising.{rows_in, Counted};
 ghost use Rattle.snapshot.specs.Wrote.{one_bytes, entry_for, index_bytes, WrittenUntil};
 
+use kind_list::KindList;
+use model::MAX_KINDS;
 use words::{Entity, Found, Shape};
 
 // The rows of a kind's column, none where the kind has no column.
@@ -35,7 +37,7 @@ fn count_components(words: &[u32]) -> usize
     ensures { Counted result (rows_in (meaning words.now).storage.sets) (MAX_ENTITIES * MAX_KINDS) }
 {
     let mut total = 0;
-    for kind in 0..model::MAX_KINDS {
+    for kind in 0..MAX_KINDS {
         total += set_length(words, kind);
     }
     total
@@ -51,20 +53,18 @@ pub fn snapshot_length(words: &[u32]) -> usize
     4 + 9 * live + (1 + width) * count_components(words)
 }
 
-// The registered kinds, rising, at the front of list.
-fn rising_kinds(words: &[u32], list: &mut [u8]) -> usize
-    requires arranged { Arranged words.now }
-    requires in_bounds { MAX_KINDS ≤ length list.old }
-    ensures { Lists list.new result (meaning words.now).kinds }
+// The registered kinds, rising.
+fn rising_kinds(words: &[u32]) -> KindList<MAX_KINDS>
+    requires { Arranged words.now }
+    ensures { result ≡ rising_kinds (meaning words.now).kinds }
 {
-    let mut count = 0;
-    for kind in 0..model::MAX_KINDS {
+    let mut list = KindList::new();
+    for kind in 0..MAX_KINDS {
         if kinds::is_registered(words, kind) {
-            list[count] = kind as u8;
-            count += 1;
+            list.push(kind as u8);
         }
     }
-    count
+    list
 }
 
 // One component, if the entity holds the kind. Here and below z is the shape of the store.
@@ -72,7 +72,7 @@ fn write_one(words: &[u32], z: Shape, kind: usize, e: Entity, out: &mut [u8], at
     requires arranged { Arranged words.now }
     requires shape_is { z ≡ shape_of words.now }
     requires kind_known { In (meaning words.now).kinds kind }
-    requires kind_in_bounds { at + length (one_bytes (4 * z.stride) (value_at (entity e.index e.version) (kind_set words.now kind)) kind) ≤ length out.old }
+    requires room { at + length (one_bytes (4 * z.stride) (value_at (entity e.index e.version) (kind_set words.now kind)) kind) ≤ length out.old }
     ensures { WrittenUntil out.old out.new at result (one_bytes (4 * z.stride) (value_at (entity e.index e.version) (kind_set words.now kind)) kind) }
 {
     let found = kinds::find(words, z, kind, e);
@@ -96,14 +96,13 @@ fn write_components(
 ) -> usize
     requires arranged { Arranged words.now }
     requires shape_is { z ≡ shape_of words.now }
-    requires list_value { list.now ≡ rising_kinds (meaning words.now).kinds }
-    requires words_in_bounds { at + length (component_bytes (4 * z.stride) (components_of (entity e.index e.version) 0 (meaning words.now).storage.sets)) ≤ length out.old }
+    requires rising { list.now ≡ rising_kinds (meaning words.now).kinds }
+    requires room { at + length (component_bytes (4 * z.stride) (components_of (entity e.index e.version) 0 (meaning words.now).storage.sets)) ≤ length out.old }
     ensures { WrittenUntil out.old out.new at result (component_bytes (4 * z.stride) (components_of (entity e.index e.version) 0 (meaning words.now).storage.sets)) }
 {
     let mut next = at;
-    for i in 0..list.len() {
-        let kind = list[i] as usize;
-        next = write_one(words, z, kind, e, out, next);
+    for &kind in list {
+        next = write_one(words, z, kind as usize, e, out, next);
     }
     next
 }
@@ -112,8 +111,8 @@ fn write_components(
 fn write_entity(words: &[u32], z: Shape, list: &[u8], e: Entity, out: &mut [u8], at: usize) -> usize
     requires arranged { Arranged words.now }
     requires shape_is { z ≡ shape_of words.now }
-    requires list_value { list.now ≡ rising_kinds (meaning words.now).kinds }
-    requires version_in_bounds { at + length (entry_bytes (4 * z.stride) (entry_for words.now e.index e.version)) ≤ length out.old }
+    requires rising { list.now ≡ rising_kinds (meaning words.now).kinds }
+    requires room { at + length (entry_bytes (4 * z.stride) (entry_for words.now e.index e.version)) ≤ length out.old }
     ensures { WrittenUntil out.old out.new at result (entry_bytes (4 * z.stride) (entry_for words.now e.index e.version)) }
 {
     codec::put::<4>(out, at, e.index);
@@ -135,9 +134,9 @@ fn write_index(
 ) -> usize
     requires arranged { Arranged words.now }
     requires shape_is { z ≡ shape_of words.now }
-    requires list_value { list.now ≡ rising_kinds (meaning words.now).kinds }
+    requires rising { list.now ≡ rising_kinds (meaning words.now).kinds }
     requires index_bound { index < (meaning words.now).settings.capacity }
-    requires index_in_bounds { at + length (index_bytes (4 * z.stride) words.now index) ≤ length out.old }
+    requires room { at + length (index_bytes (4 * z.stride) words.now index) ≤ length out.old }
     ensures { WrittenUntil out.old out.new at result (index_bytes (4 * z.stride) words.now index) }
 {
     let version = control::entities::version_at(words, index);
@@ -155,8 +154,8 @@ fn write_index(
 fn write_entities(words: &[u32], z: Shape, list: &[u8], out: &mut [u8], at: usize) -> usize
     requires arranged { Arranged words.now }
     requires shape_is { z ≡ shape_of words.now }
-    requires list_value { list.now ≡ rising_kinds (meaning words.now).kinds }
-    requires words_in_bounds { at + length (flat (4 * z.stride) (listing (meaning words.now))) ≤ length out.old }
+    requires rising { list.now ≡ rising_kinds (meaning words.now).kinds }
+    requires room { at + length (flat (4 * z.stride) (listing (meaning words.now))) ≤ length out.old }
     ensures { WrittenUntil out.old out.new at result (flat (4 * z.stride) (listing (meaning words.now))) }
 {
     let issued = control::entities::issued(words);
@@ -170,13 +169,12 @@ fn write_entities(words: &[u32], z: Shape, list: &[u8], out: &mut [u8], at: usiz
 // The snapshot, at the front of bytes that have room for it.
 pub fn write_snapshot(words: &[u32], out: &mut [u8]) -> usize
     requires arranged { Arranged words.now }
-    requires words_in_bounds { length (snapshot (meaning words.now)) ≤ length out.old }
+    requires room { length (snapshot (meaning words.now)) ≤ length out.old }
     ensures { WrittenUntil out.old out.new 0 result (snapshot (meaning words.now)) }
 {
     let z = words::shape_of(words);
-    let mut list = [0u8; model::MAX_KINDS];
-    let count = rising_kinds(words, &mut list);
+    let list = rising_kinds(words);
     let live = control::entities::live_len(words);
     codec::put::<4>(out, 0, live as u32);
-    write_entities(words, z, &list[..count], out, 4)
+    write_entities(words, z, list.as_slice(), out, 4)
 }

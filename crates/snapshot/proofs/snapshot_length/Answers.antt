@@ -3,16 +3,11 @@ use Prim.Native.Nat.{ℕ, ◌+◌, ◌*◌, ◌≤◌}
 use native.Mathlib.Omega.{arith}
 use native.Mathlib.Nat.{mul-le-mul}
 use Rattle.model.specs.Numbers.{LONG_VALUE_BYTES, MAX_ENTITIES, MAX_KINDS}
-use Rattle.words.specs.Offsets.{VALUE_WIDTH}
 use Rattle.memory.specs.Meaning.{meaning}
-use Rattle.kinds.proofs.Slot.{header_long}
 use Rattle.snapshot.specs.Rising.{rows_in}
 use Rattle.snapshot.proofs.Known.{capacity_most, live_most, bytes_most, bytes_mean}
 use Rattle.snapshot.proofs.Sizes.{snapshot_size}
 use Rattle.snapshot.proofs.snapshot_length.Goals as goal
-
-pub word-width-requires : goal.word-width-requires
-word-width-requires c = header_long c.args.words.now c.requires.arranged VALUE_WIDTH (omega arith)
 
 pub overflow_mul-result : goal.overflow_mul-result
 overflow_mul-result c =
@@ -27,21 +22,6 @@ overflow_add-result c =
     let w = c.args.words.now in
     (omega (arith, c.live_len-live.ensures, live_most w c.requires.arranged, capacity_most w c.requires.arranged), omega (arith, c.word-width.ensures.is, bytes_most w c.requires.arranged))) in
     omega (arith, few)
-
-pub overflow_add-result-2 : goal.overflow_add-result-2
-overflow_add-result-2 c =
-    let few : (c.live_len-live.result ≤ MAX_ENTITIES) × (c.word-width.result ≤ LONG_VALUE_BYTES) = (
-    let w = c.args.words.now in
-    (omega (arith, c.live_len-live.ensures, live_most w c.requires.arranged, capacity_most w c.requires.arranged), omega (arith, c.word-width.ensures.is, bytes_most w c.requires.arranged))) in
-    omega (arith, few)
-
-pub overflow_mul-result-2 : goal.overflow_mul-result-2
-overflow_mul-result-2 c =
-    let few : (c.live_len-live.result ≤ MAX_ENTITIES) × (c.word-width.result ≤ LONG_VALUE_BYTES) = (
-    let w = c.args.words.now in
-    (omega (arith, c.live_len-live.ensures, live_most w c.requires.arranged, capacity_most w c.requires.arranged), omega (arith, c.word-width.ensures.is, bytes_most w c.requires.arranged))) in
-    let few_bytes : (1 + c.word-width.result) * c.count_components.result ≤ (1 + LONG_VALUE_BYTES) * (MAX_ENTITIES * MAX_KINDS) = let h : 1 + c.word-width.result ≤ 1 + LONG_VALUE_BYTES = omega (arith, (few).1) in mul-le-mul h c.count_components.ensures.few in
-    omega (arith, few_bytes)
 
 pub overflow_add-result-3 : goal.overflow_add-result-3
 overflow_add-result-3 c =

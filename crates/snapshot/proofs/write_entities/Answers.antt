@@ -3,16 +3,10 @@ use native.Mathlib.Omega.{arith}
 use lib.ListN.{length}
 use Rattle.memory.specs.Meaning.{meaning}
 use Rattle.snapshot.specs.Wrote.{index_bytes}
-use Rattle.snapshot.proofs.Writing.{writing_start, writing_turn, writing_end, writing_room}
+use Rattle.snapshot.proofs.Writing.{writing_turn, writing_end, writing_room}
 use Rattle.snapshot.proofs.Known.{issued_most}
 use Rattle.snapshot.proofs.Parts.{from, from_turn, from_none, from_start}
 use Rattle.snapshot.proofs.write_entities.Goals as goal
-
-pub issued-issued-requires : goal.issued-issued-requires
-issued-issued-requires c = c.requires.arranged
-
-pub loop-index-init : goal.loop-index-init
-loop-index-init c = let a = c.args in (writing_start a.out.now a.at (from (4 * a.z.stride) a.words.now 0), omega arith)
 
 pub write_index-next-requires : goal.write_index-next-requires
 write_index-next-requires c =
@@ -21,8 +15,8 @@ write_index-next-requires c =
     let v = 4 * a.z.stride in
     let i = c.loop-index.index in
     let h : i < (meaning w).entities.issued = omega (arith, c.loop-index-test, c.issued-issued.ensures) in
-    let room : a.at + length (from v w 0) ≤ length a.out.now = rw (from_start v w) at c.requires.words_in_bounds in
-    record { arranged = c.requires.arranged; shape_is = c.requires.shape_is; list_value = c.requires.list_value; index_bound = omega (arith, issued_most w c.requires.arranged); index_in_bounds = writing_room (index_bytes v w i) (from v w (i + 1)) c.loop-index.invariant.0 (from_turn v w i h) room }
+    let room : a.at + length (from v w 0) ≤ length a.out.now = rw (from_start v w) at c.requires.room in
+    record { arranged = c.requires.arranged; shape_is = c.requires.shape_is; rising = c.requires.rising; index_bound = omega (arith, issued_most w c.requires.arranged); room = writing_room (index_bytes v w i) (from v w (i + 1)) c.loop-index.invariant.0 (from_turn v w i h) room }
 
 pub loop-index-preserved : goal.loop-index-preserved
 loop-index-preserved c =
@@ -32,9 +26,6 @@ loop-index-preserved c =
     let i = c.loop-index.index in
     let h : i < (meaning w).entities.issued = omega (arith, c.loop-index-test, c.issued-issued.ensures) in
     (writing_turn (index_bytes v w i) (from v w (i + 1)) c.loop-index.invariant.0 (from_turn v w i h) c.write_index-next.ensures, omega arith)
-
-pub shape_of-out : goal.shape_of-out
-shape_of-out c = c.loop-index.invariant.0.size
 
 pub returns : goal.returns
 returns c =

@@ -1,8 +1,8 @@
 use mathlib.Core.Path.{◌≡◌, ap, ◌∙◌, subst}
 use mathlib.Core.Option.{some}
-use Prim.Native.Nat.{◌+◌, ◌*◌, ◌≤◌}
+use Prim.Native.Nat.{◌*◌}
 use native.Mathlib.Omega.{arith}
-use lib.ListN.{length, length-set}
+use lib.ListN.{length-set}
 use Rattle.model.specs.Snapshot.{value_at}
 use Rattle.model.specs.Model.{entity}
 use Rattle.words.specs.declared.Found.{Found}
@@ -13,36 +13,11 @@ use Rattle.words.specs.Shape.{shape_of}
 use Rattle.kinds.specs.Kinds.{kind_set}
 use Rattle.kinds.proofs.Slot.{known_small}
 use Rattle.snapshot.proofs.Known.{stride_words}
-use Rattle.snapshot.proofs.Listed.{value_held, value_none, none_written, one_room, one_written}
+use Rattle.snapshot.proofs.Listed.{value_held, one_room, one_written}
 use Rattle.snapshot.proofs.write_one.Goals as goal
-
-pub returns-in_default : goal.returns-in_default
-returns-in_default c =
-    let a = c.args in
-    let e = entity a.e.index a.e.version in
-    let rs = kind_set a.words.now a.kind in
-    none_written (4 * a.z.stride) a.kind (value_none e rs (subst (λ (r : Found). Finds (shape_of a.words.now) e rs r) c.in_default.is c.find-found.ensures))
-
-pub value_of-value-requires : goal.value_of-value-requires
-value_of-value-requires c =
-    let found_at : HeldAt (shape_of c.args.words.now) (entity c.args.e.index c.args.e.version) (kind_set c.args.words.now c.args.kind) c.in-At.place = (
-    let a = c.args in
-    subst (λ (r : Found). Finds (shape_of a.words.now) (entity a.e.index a.e.version) (kind_set a.words.now a.kind) r) c.in-At.is c.find-found.ensures) in
-    record { arranged = c.requires.arranged; shape_is = c.requires.shape_is; kind_known = c.requires.kind_known; place_in_bounds = found_at.inside }
 
 pub overflow_cast-out : goal.overflow_cast-out
 overflow_cast-out c = omega (arith, known_small c.args.words.now c.requires.arranged c.args.kind c.requires.kind_known)
-
-pub bounds-out-at : goal.bounds-out-at
-bounds-out-at c =
-    let found_at : HeldAt (shape_of c.args.words.now) (entity c.args.e.index c.args.e.version) (kind_set c.args.words.now c.args.kind) c.in-At.place = (
-    let a = c.args in
-    subst (λ (r : Found). Finds (shape_of a.words.now) (entity a.e.index a.e.version) (kind_set a.words.now a.kind) r) c.in-At.is c.find-found.ensures) in
-    let shown : value_at (entity c.args.e.index c.args.e.version) (kind_set c.args.words.now c.args.kind) ≡ some (value_of c.args.z.stride c.value_of-value.result) = (
-    let a = c.args in
-    let f = found_at in
-    value_held (entity a.e.index a.e.version) (kind_set a.words.now a.kind) c.in-At.place (value_of a.z.stride c.value_of-value.result) f.holds f.place (ap (λ (y : Shape). value_of y.stride c.value_of-value.result) c.requires.shape_is ∙ c.value_of-value.ensures)) in
-    omega (arith, one_room (4 * c.args.z.stride) c.args.at c.args.kind shown c.requires.kind_in_bounds)
 
 pub width-requires : goal.width-requires
 width-requires c = stride_words c.args.words.now c.requires.arranged c.args.z.stride (ap (λ (y : Shape). y.stride) c.requires.shape_is)
@@ -56,34 +31,7 @@ put_bytes-requires c =
     let a = c.args in
     let f = found_at in
     value_held (entity a.e.index a.e.version) (kind_set a.words.now a.kind) c.in-At.place (value_of a.z.stride c.value_of-value.result) f.holds f.place (ap (λ (y : Shape). value_of y.stride c.value_of-value.result) c.requires.shape_is ∙ c.value_of-value.ensures)) in
-    simp length-set (omega (arith, one_room (4 * c.args.z.stride) c.args.at c.args.kind shown c.requires.kind_in_bounds))
-
-pub overflow_mul-result : goal.overflow_mul-result
-overflow_mul-result c =
-    let found_at : HeldAt (shape_of c.args.words.now) (entity c.args.e.index c.args.e.version) (kind_set c.args.words.now c.args.kind) c.in-At.place = (
-    let a = c.args in
-    subst (λ (r : Found). Finds (shape_of a.words.now) (entity a.e.index a.e.version) (kind_set a.words.now a.kind) r) c.in-At.is c.find-found.ensures) in
-    let shown : value_at (entity c.args.e.index c.args.e.version) (kind_set c.args.words.now c.args.kind) ≡ some (value_of c.args.z.stride c.value_of-value.result) = (
-    let a = c.args in
-    let f = found_at in
-    value_held (entity a.e.index a.e.version) (kind_set a.words.now a.kind) c.in-At.place (value_of a.z.stride c.value_of-value.result) f.holds f.place (ap (λ (y : Shape). value_of y.stride c.value_of-value.result) c.requires.shape_is ∙ c.value_of-value.ensures)) in
-    let room : (c.args.at + 1 + 4 * c.args.z.stride ≤ length c.args.out.now) = one_room (4 * c.args.z.stride) c.args.at c.args.kind (shown) c.requires.kind_in_bounds in
-    omega (arith, room)
-
-pub overflow_add-result-2 : goal.overflow_add-result-2
-overflow_add-result-2 c =
-    let found_at : HeldAt (shape_of c.args.words.now) (entity c.args.e.index c.args.e.version) (kind_set c.args.words.now c.args.kind) c.in-At.place = (
-    let a = c.args in
-    subst (λ (r : Found). Finds (shape_of a.words.now) (entity a.e.index a.e.version) (kind_set a.words.now a.kind) r) c.in-At.is c.find-found.ensures) in
-    let shown : value_at (entity c.args.e.index c.args.e.version) (kind_set c.args.words.now c.args.kind) ≡ some (value_of c.args.z.stride c.value_of-value.result) = (
-    let a = c.args in
-    let f = found_at in
-    value_held (entity a.e.index a.e.version) (kind_set a.words.now a.kind) c.in-At.place (value_of a.z.stride c.value_of-value.result) f.holds f.place (ap (λ (y : Shape). value_of y.stride c.value_of-value.result) c.requires.shape_is ∙ c.value_of-value.ensures)) in
-    let room : (c.args.at + 1 + 4 * c.args.z.stride ≤ length c.args.out.now) = one_room (4 * c.args.z.stride) c.args.at c.args.kind (shown) c.requires.kind_in_bounds in
-    omega (arith, room)
-
-pub shape_of-out : goal.shape_of-out
-shape_of-out c = c.put_bytes.auto.out ∙ simp length-set
+    simp length-set (omega (arith, one_room (4 * c.args.z.stride) c.args.at c.args.kind shown c.requires.room))
 
 pub returns : goal.returns
 returns c =

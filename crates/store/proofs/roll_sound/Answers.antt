@@ -10,7 +10,7 @@ returns-then-out-snapshot_length c =
     short_roll c.args.words.now c.args.out.now c.requires (omega (arith, c.snapshot_length.ensures, c.if-out-snapshot_length.true))
 
 pub write_snapshot-written-requires : goal.write_snapshot-written-requires
-write_snapshot-written-requires c = record { arranged = c.requires.arranged; words_in_bounds = omega (arith, c.snapshot_length.ensures, c.if-out-snapshot_length.false) }
+write_snapshot-written-requires c = record { arranged = c.requires.arranged; room = omega (arith, c.snapshot_length.ensures, c.if-out-snapshot_length.false) }
 
 pub returns : goal.returns
 returns c =
