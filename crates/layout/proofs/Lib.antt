@@ -1,3 +1,4 @@
+pub mod Propositions
 pub mod KindSets
 pub mod Raising
 pub mod Family

@@ -1,5 +1,5 @@
 -- How staged kinds stand to the families of a layout: the cases of the rule for a new group (02, No. 1). Assumes nothing.
-use Rattle.std.specs.Prelude.{Bool, true, false, cond, List, [], ◌∷◌, ◌++◌, ℕ, suc, ◌+◌, ◌≤◌, length}
+use Rattle.std.specs.Prelude.{Bool, true, false, cond, List, [], ◌∷◌, ◌++◌, ℕ, suc, ◌+◌, length}
 use Rattle.model.specs.Model.{Family, meets, within, kinds_of, is_group, chains}
 use Rattle.layout.specs.Layout.{Arrays, WellFormed, KindSet, AritiesRising}
 use Rattle.layout.specs.ByValue.{ArraysSized}
@@ -55,12 +55,6 @@ fit_from ks f acc [] = acc
 fit_from ks f acc (x ∷ xs) = fit_from ks (f + 1) (join_fit acc f (part_of ks x)) xs
 
 -- ---- what the functions on one family and on all ask
-
--- a group, which is the first a of a family's kinds ks, and the staged kinds hs
-pub record GroupAsk (ks : List ℕ) (a : ℕ) (hs : List ℕ) : Type 0 where
-  pub inside : a ≤ length ks
-  pub kinds : KindSet ks
-  pub staged : KindSet hs
 
 -- a family of kinds ks whose groups have the arities ars, and the staged kinds hs
 pub record FamilyAsk (ks ars hs : List ℕ) : Type 0 where

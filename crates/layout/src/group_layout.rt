@@ -2,9 +2,9 @@
 ghost use Rattle.std.specs.Prelude.{◌≡◌, cond, [], ◌+◌, ◌-◌, ◌≤◌, ◌<◌, leb, length, take};
 ghost use Rattle.model.specs.Numbers.{LIST_CAPACITY, MAX_GROUP_COUNT, MAX_KINDS};
 ghost use Rattle.model.specs.Model.{mem, within, meets, same_set, is_group, without, common};
-ghost use Rattle.layout.specs.Layout.{KindSet, groups_from, start_of};
+ghost use Rattle.layout.specs.Layout.{KindSet, AritiesRising, groups_from, start_of};
 ghost use Rattle.layout.specs.ByValue.{Formed, arrays_of, layout_meaning};
-ghost use Rattle.layout.specs.Fit.{chain_place, part_of, join_fit, fit_from, GroupAsk, FamilyAsk, FitAsk};
+ghost use Rattle.layout.specs.Fit.{chain_place, part_of, join_fit, fit_from, FitAsk};
 ghost use Rattle.layout.specs.Grow.{Appended, Spread, Raised, RaiseAsk, merged_kinds, FillAsk, FillDone, opened_of, FreshAsk, FreshDone, OntoAsk, OntoDone};
 ghost use Rattle.layout.specs.Add.{Fitting, AddsGroup};
 
@@ -82,57 +82,69 @@ pub fn some_among(ks: &[u8], js: &[u8]) -> bool
     ks.iter().any(|&k| among(js, k))
 }
 
-// Are the staged kinds the first a of the kinds?
-fn group_is(kinds: &[u8], a: usize, staged: &[u8]) -> bool
-    requires { GroupAsk kinds.now a staged.now }
-    ensures { result ≡ same_set staged.now (take a kinds.now) }
-{
-    a == staged.len() && all_among(&kinds[..a], staged)
+// A family: its kinds in order, each once, and the arities of its groups, which rise to the number of its kinds.
+#[derive(Clone, Copy)]
+struct Family<'a> {
+    kinds: &'a [u8],
+    arities: &'a [u8],
+    ghost once: { KindSet kinds.now },
+    ghost rising: { ∥ AritiesRising 0 (length kinds.now) arities.now ∥₁ },
 }
 
-// Are they one of the family's groups?
-fn same_group(kinds: &[u8], arities: &[u8], staged: &[u8]) -> bool
-    requires { FamilyAsk kinds.now arities.now staged.now }
-    ensures { result ≡ is_group staged.now [] (groups_from [] 0 kinds.now 0 arities.now) }
-{
-    for &arity in arities {
-        if group_is(kinds, arity as usize, staged) {
-            return true;
-        }
+impl<'a> Family<'a> {
+    // Are the staged kinds its first a kinds?
+    fn starts_with(&self, a: usize, staged: &[u8]) -> bool
+        requires inside { a ≤ length self.now.kinds.now }
+        requires staged_once { KindSet staged.now }
+        ensures { result ≡ same_set staged.now (take a self.now.kinds.now) }
+    {
+        a == staged.len() && all_among(&self.kinds[..a], staged)
     }
-    false
-}
 
-// Their place among the family's groups: behind those that they hold, if the next one holds them, as each later one
-// then does.
-fn place_of(kinds: &[u8], arities: &[u8], staged: &[u8]) -> Part
-    requires { FamilyAsk kinds.now arities.now staged.now }
-    ensures { result ≡ chain_place staged.now (groups_from [] 0 kinds.now 0 arities.now) }
-{
-    for (j, &arity) in arities.iter().enumerate() {
-        let group = &kinds[..arity as usize];
-        if !all_among(group, staged) {
-            if all_among(staged, group) {
-                return Part::At(j);
+    // Are they one of its groups?
+    fn has_group(&self, staged: &[u8]) -> bool
+        requires { KindSet staged.now }
+        ensures { result ≡ is_group staged.now [] (groups_from [] 0 self.now.kinds.now 0 self.now.arities.now) }
+    {
+        for &arity in self.arities {
+            if self.starts_with(arity as usize, staged) {
+                return true;
             }
-            return Part::Cross;
         }
+        false
     }
-    Part::At(arities.len())
-}
 
-// How they stand to one family.
-fn part_of(kinds: &[u8], arities: &[u8], staged: &[u8]) -> Part
-    requires { FamilyAsk kinds.now arities.now staged.now }
-    ensures { result ≡ part_of staged.now (groups_from [] 0 kinds.now 0 arities.now) }
-{
-    if same_group(kinds, arities, staged) {
-        return Part::Same;
+    // Their place among its groups: behind those that they hold, if the next one holds them, as each later one then
+    // does.
+    fn place_of(&self, staged: &[u8]) -> Part
+        requires { KindSet staged.now }
+        ensures { result ≡ chain_place staged.now (groups_from [] 0 self.now.kinds.now 0 self.now.arities.now) }
+    {
+        for (j, &arity) in self.arities.iter().enumerate() {
+            let group = &self.kinds[..arity as usize];
+            if !all_among(group, staged) {
+                if all_among(staged, group) {
+                    return Part::At(j);
+                }
+                return Part::Cross;
+            }
+        }
+        Part::At(self.arities.len())
     }
-    if !some_among(staged, kinds) {
-        return Part::Apart;
+
+    // How they stand to it.
+    fn part_of(&self, staged: &[u8]) -> Part
+        requires { KindSet staged.now }
+        ensures { result ≡ part_of staged.now (groups_from [] 0 self.now.kinds.now 0 self.now.arities.now) }
+    {
+        if self.has_group(staged) {
+            return Part::Same;
+        }
+        if !some_among(staged, self.kinds) {
+            return Part::Apart;
+        }
+        self.place_of(staged)
     }
-    place_of(kinds, arities, staged)
 }
 
 // How they stand to the families so far, with family f.
@@ -165,8 +177,11 @@ fn fit_of(l: &Layout, staged: &[u8]) -> Fit
     for f in 0..l.families {
         let ke = l.kind_ends[f] as usize;
         let ge = l.ends[f] as usize;
-        let p = part_of(&l.kinds[k..ke], &l.arities[g..ge], staged);
-        acc = joined(acc, f, p);
+        let family = Family {
+            kinds: &l.kinds[k..ke],
+            arities: &l.arities[g..ge],
+        };
+        acc = joined(acc, f, family.part_of(staged));
         k = ke;
         g = ge;
     }
