@@ -38,7 +38,8 @@ fn put_table(words: &mut [u32])
     words[words::TABLE..words::STAGED_KINDS].copy_from_slice(&[255u32; 128]);
 }
 
-// The empty store of n entities and k kinds with values of v bytes, under the rule that is told.
+// The empty store of n entities and k kinds with values of v bytes, under the rule that is told. C hands the settings
+// over one by one, and one by one they are written: a struct of them would be built for this call alone.
 pub fn make(words: &mut [u32], n: usize, k: usize, v: usize, newer: bool)
     requires limits { Limits n k v }
     requires k_in_bounds { column_start (shape n v) k ≤ length words.old }

@@ -1,5 +1,5 @@
-// Clauses of a sound store (01), each decided on the lent words by one pass over the words that it speaks of: the table of kinds, the columns, the
-// lists of kinds.
+// Clauses of a sound store, each decided on the lent words by one pass over the words that it speaks of: the table of
+// kinds, the columns, the lists of kinds.
 #![tactic(auto)]
 
 pub mod lists;
