@@ -25,8 +25,8 @@ use words::{LAYOUT_ARITIES, LAYOUT_ENDS, LAYOUT_KIND_ENDS, Shape};
 
 // One value from start to end.
 fn fill(words: &mut [u32], start: usize, end: usize, value: usize)
-    requires start_le_end { (start ≤ end) × (end ≤ length words.old) }
-    requires value_bound { value < 4294967296 }
+    requires inside { (start ≤ end) × (end ≤ length words.old) }
+    requires one_word { value < 4294967296 }
     ensures { Filled words.old start end value words.new }
 {
     words[start..end].fill(value as u32);
@@ -81,10 +81,13 @@ fn prepare(words: &mut [u32])
     switch(words);
 }
 
+// Here and below z is the store's shape, read once. A struct of the words and their shape would have `shape_is` for
+// itself, and in its place each of these functions would say that the struct still lends the same words.
+
 // A column's own group plus one, 0 where it is in none, and its place in its family.
 fn put_own(words: &mut [u32], z: Shape, slot: usize, own: usize, place: usize)
     requires lent { Lent z slot words.old }
-    requires own_bound { (own < 4294967296) × (place < 4294967296) }
+    requires one_word { (own < 4294967296) × (place < 4294967296) }
     ensures { words.new ≡ with_own z slot own place words.old }
 {
     let base = words::column_start(z, slot);
@@ -106,8 +109,8 @@ fn clear_heads(words: &mut [u32], z: Shape, m: usize)
 fn put_member(words: &mut [u32], z: Shape, p: usize, g: usize, j: usize)
     requires heads_ready { HeadsReady words.old }
     requires shape_is { z ≡ shape_of words.old }
-    requires p_bound { p < width_of (layout_arrays words.old) }
-    requires g_bound { (g < GROUP_PLACES) × (j < MAX_KINDS) }
+    requires kind_inside { p < width_of (layout_arrays words.old) }
+    requires group_inside { (g < GROUP_PLACES) × (j < MAX_KINDS) }
     ensures { words.new ≡ with_own z (slot_no words.old p) (g + 1) j words.old }
 {
     let kind = words::word(words, words::LAYOUT + p);
@@ -120,7 +123,7 @@ fn put_group(words: &mut [u32], z: Shape, f: usize, g: usize, prior: usize) -> u
     requires heads_ready { HeadsReady words.old }
     requires shape_is { z ≡ shape_of words.old }
     requires in_family { InFamily (layout_arrays words.old) f g }
-    requires prior_value { prior ≡ prior_arity (layout_arrays words.old) f g }
+    requires prior_is { prior ≡ prior_arity (layout_arrays words.old) f g }
     requires upto { Upto words.old (place_no (layout_arrays words.old) f prior) }
     ensures { HeadsGroup words.old words.new f g result }
 {
@@ -136,7 +139,7 @@ fn put_group(words: &mut [u32], z: Shape, f: usize, g: usize, prior: usize) -> u
 fn put_family(words: &mut [u32], z: Shape, f: usize)
     requires heads_ready { HeadsReady words.old }
     requires shape_is { z ≡ shape_of words.old }
-    requires f_bound { f < (layout_arrays words.old).families }
+    requires family_inside { f < (layout_arrays words.old).families }
     requires upto { Upto words.old (start_of (layout_arrays words.old).kind_ends f) }
     ensures { HeadedUpto words.old words.new (get_or (layout_arrays words.old).kind_ends f 0) }
 {

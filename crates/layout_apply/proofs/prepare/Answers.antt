@@ -10,8 +10,8 @@ pub number_groups-requires : goal.number_groups-requires
 number_groups-requires c =
     ends_ask c.args.words.now c.requires c.copy_block.new.words c.copy_block.ensures c.word-families.result c.word-families.ensures.is
 
-pub fill-requires-clause-start_le_end : goal.fill-requires-clause-start_le_end
-fill-requires-clause-start_le_end c = (omega arith, omega (arith, long c.args.words.now c.requires, c.copy_block.ensures.size, c.number_groups.ensures.size))
+pub fill-requires-clause-inside : goal.fill-requires-clause-inside
+fill-requires-clause-inside c = (omega arith, omega (arith, long c.args.words.now c.requires, c.copy_block.ensures.size, c.number_groups.ensures.size))
 
 pub switch-requires : goal.switch-requires
 switch-requires c =

@@ -13,13 +13,13 @@ word-arity-requires c =
 pub loop-j-init : goal.loop-j-init
 loop-j-init c =
     let a = c.args in
-    group_none a.words.now a.z a.f a.g a.prior c.start_of-start.result c.word-arity.result c.requires.heads_ready c.requires.shape_is c.requires.in_family c.requires.prior_value c.requires.upto c.start_of-start.ensures c.word-arity.ensures.is
+    group_none a.words.now a.z a.f a.g a.prior c.start_of-start.result c.word-arity.result c.requires.heads_ready c.requires.shape_is c.requires.in_family c.requires.prior_is c.requires.upto c.start_of-start.ensures c.word-arity.ensures.is
 
 pub put_member-requires : goal.put_member-requires
 put_member-requires c =
     let l = c.loop-j in
     let k = next_kind _ _ _ _ _ _ l.words l.j l.invariant c.loop-j-test.true in
-    record { heads_ready = k.ready; shape_is = k.shape; p_bound = k.place; g_bound = (k.group, k.local) }
+    record { heads_ready = k.ready; shape_is = k.shape; kind_inside = k.place; group_inside = (k.group, k.local) }
 
 pub loop-j-preserved : goal.loop-j-preserved
 loop-j-preserved c = let l = c.loop-j in group_more _ _ _ _ _ _ l.words l.j l.invariant c.loop-j-test.true c.put_member.new.words c.put_member.ensures

@@ -13,7 +13,7 @@ put_family-requires c =
     let l = c.loop-f in
     let w = c.args.words.now in
     let R = c.requires.heads_ready in
-    let H = l.invariant.1.heads in record { heads_ready = ready_kept w l.words R H; shape_is = c.requires.shape_is ∙ sym (shape_same w l.words R H); f_bound = families_here w R l.words l.f l.invariant.1 (omega (arith, c.word-families.ensures.is, c.loop-f-test.true)); upto = families_upto w R l.words l.f l.invariant.1 }
+    let H = l.invariant.1.heads in record { heads_ready = ready_kept w l.words R H; shape_is = c.requires.shape_is ∙ sym (shape_same w l.words R H); family_inside = families_here w R l.words l.f l.invariant.1 (omega (arith, c.word-families.ensures.is, c.loop-f-test.true)); upto = families_upto w R l.words l.f l.invariant.1 }
 
 pub loop-f-preserved : goal.loop-f-preserved
 loop-f-preserved c =

@@ -7,16 +7,16 @@ use Rattle.layout_apply.proofs.put_member.Goals as goal
 
 pub word-slot-requires : goal.word-slot-requires
 word-slot-requires c =
-    omega (arith, c.requires.heads_ready.long, kind_small_law c.args.words.now c.requires.heads_ready c.args.p c.requires.p_bound c.word-kind.result c.word-kind.ensures.is)
+    omega (arith, c.requires.heads_ready.long, kind_small_law c.args.words.now c.requires.heads_ready c.args.p c.requires.kind_inside c.word-kind.result c.word-kind.ensures.is)
 
 pub put_own-requires-clause-lent : goal.put_own-requires-clause-lent
 put_own-requires-clause-lent c =
     let a = c.args in
-    member_lent a.words.now c.requires.heads_ready a.p c.requires.p_bound a.z c.word-kind.result c.word-slot.result c.requires.shape_is c.word-kind.ensures.is c.word-slot.ensures.is
+    member_lent a.words.now c.requires.heads_ready a.p c.requires.kind_inside a.z c.word-kind.result c.word-slot.result c.requires.shape_is c.word-kind.ensures.is c.word-slot.ensures.is
 
 pub returns : goal.returns
 returns c =
     let a = c.args in
     c.put_own.ensures
     ∙ ap (λ (t : ℕ). with_own a.z t (a.g + 1) a.j a.words.now)
-    (slot_is a.words.now c.requires.heads_ready a.p c.requires.p_bound c.word-kind.result c.word-slot.result c.word-kind.ensures.is c.word-slot.ensures.is)
+    (slot_is a.words.now c.requires.heads_ready a.p c.requires.kind_inside c.word-kind.result c.word-slot.result c.word-kind.ensures.is c.word-slot.ensures.is)
