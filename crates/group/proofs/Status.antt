@@ -21,16 +21,10 @@ use Rattle.words.specs.declared.Found.TheVariants.{At, Nothing}
 use Rattle.layout.specs.declared.group_metadata.GroupMetadata.{GroupMetadata}
 use Rattle.group.specs.declared.group_status.GroupStatus.TheVariants.{Incomplete, Ungrouped, Grouped}
 use Rattle.group.specs.Flat.{status_at}
-use Rattle.memory.specs.Meaning.{meaning}
 use Rattle.group.specs.Metadata.{order_of, PlacesKnown, Stands}
-use Rattle.group.specs.Places.{kind_no, Placed}
 use Rattle.group.specs.Steps.{status_in}
 
 -- ---- the kinds from start to end; the kind k is the one at place p
-
-pub place_known : {w : List ℕ} {start end p : ℕ} → PlacesKnown (meaning w) start end → start ≤ p → p < end → Placed w p
-place_known {w} {start} {end} {p} L le lt =
-    record { within = omega (arith, L.within); known = L.known (kind_no w p) (between_in start end p (order_of (meaning w)) le lt L.within) }
 
 module _ {m : Store} {start end p k : ℕ} (L : PlacesKnown m start end) (lt : p < end) (q : k ≡ get_or (order_of m) p 0) where
   pub kind_known : start ≤ p → In m.kinds k

@@ -24,7 +24,7 @@ use Rattle.kinds.specs.Steps.{InSlot}
 use Rattle.kinds.proofs.Slot.{known_small, known_slot, only_becomes}
 use Rattle.group.specs.Ready.{Swappable}
 use Rattle.group.specs.Metadata.{order_of, PlacesKnown}
-use Rattle.group.specs.Places.{kind_no, Placed, SameLayout}
+use Rattle.group.specs.Places.{kind_no, SameLayout}
 use Rattle.group.specs.Steps.{swap_kinds}
 use Rattle.group.proofs.EachKind.{each_kind, each_append, set_of_each, each_kinds}
 use Rattle.group.proofs.Storing.{SoFar, becomes_then, changed_so_far}
@@ -82,15 +82,11 @@ module _ {w₀ : List ℕ} {e : Entity} {start end c : ℕ} (A : Arranged w₀) 
           ∙ set_of_each (swap_to e c) before (meaning w₀).storage.sets (order_part_once w₀ A start p) (small p S.low S.high) k
           ∙ ap (λ (b : Bool). cond b (swap_to e c (set_of (meaning w₀).storage.sets k)) (set_of (meaning w₀).storage.sets k)) fresh
 
-      there : p < length (order_of (meaning w))
-      there = let n : length (order_of (meaning w)) ≡ length (order_of (meaning w₀)) = ap (λ (m : Store). length (order_of m)) S.so_far.means in omega (arith, L.within)
+      pub swap_there : p < length (order_of (meaning w))
+      swap_there = let n : length (order_of (meaning w)) ≡ length (order_of (meaning w₀)) = ap (λ (m : Store). length (order_of m)) S.so_far.means in omega (arith, L.within)
 
-      pub swap_placed : Placed w p
-      swap_placed =
-          record {
-            within = there;
-            known = subst (λ (m : Store). In m.kinds (kind_no w p)) (sym S.so_far.means) (subst (In (meaning w₀).kinds) (sym kind_is) (L.known k inside));
-          }
+      known : In (meaning w).kinds (kind_no w p)
+      known = subst (λ (m : Store). In m.kinds (kind_no w p)) (sym S.so_far.means) (subst (In (meaning w₀).kinds) (sym kind_is) (L.known k inside))
 
       rows : kind_set w (kind_no w p) ≡ set_of (meaning w₀).storage.sets k
       rows = ap (set_of (meaning w).storage.sets) kind_is ∙ same_set_law
@@ -101,7 +97,7 @@ module _ {w₀ : List ℕ} {e : Entity} {start end c : ℕ} (A : Arranged w₀) 
       pub swap_turn : {w' : List ℕ} → Only (shape_of w) (slot_of w (kind_no w p)) (swap_to e c) w w' → Swapping w₀ e start end c w' (p + 1)
       swap_turn {w'} o =
           let j : ℕ = kind_no w p in
-          let at : InSlot w j (slot_of w j) = known_slot w S.so_far.arranged j swap_placed.known in
+          let at : InSlot w j (slot_of w j) = known_slot w S.so_far.arranged j known in
           let C : Becomes w w' (on_storage (on_set j (swap_to e c)) (meaning w)) = only_becomes w (shape_of w) j (slot_of w j) refl at w' (swap_to e c) S.so_far.arranged o in
           let was : List SparseSet = each_kind (swap_to e c) before (meaning w₀).storage.sets in
           let sets : set was j (swap_to e c (set_of was j)) ≡ each_kind (swap_to e c) (between start (p + 1) (order_of (meaning w₀))) (meaning w₀).storage.sets =

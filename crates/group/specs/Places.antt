@@ -1,18 +1,12 @@
 -- The kinds of the layout in force by their places, and what a walk leaves of the layout. Assumes nothing.
-use Rattle.std.specs.Prelude.{◌≡◌, List, map, ℕ, ◌<◌, length, get_or}
+use Rattle.std.specs.Prelude.{◌≡◌, List, map, ℕ, get_or}
 use Rattle.model.specs.Model.{zero_count}
-use Rattle.model.specs.Sound.{In}
 use Rattle.memory.specs.Meaning.{meaning}
 use Rattle.group.specs.Metadata.{order_of}
 
 -- the kind at place p of the layout's
 abbrev pub kind_no : List ℕ → ℕ → ℕ
 kind_no w p = get_or (order_of (meaning w)) p 0
-
--- there is a kind at place p, and it is registered
-pub record Placed (w : List ℕ) (p : ℕ) : Type 0 where
-  pub within : p < length (order_of (meaning w))
-  pub known : In (meaning w).kinds (kind_no w p)
 
 -- the layout is as it was, but for its counts
 abbrev pub SameLayout : List ℕ → List ℕ → Type 0

@@ -1,16 +1,19 @@
 // Whether an entity holds a group's kinds, and whether it is inside the group (group.rs).
 ghost use Rattle.std.specs.Prelude.{◌≡◌, ◌<◌};
-ghost use Rattle.model.specs.Model.{all_held, entity};
+ghost use Rattle.model.specs.Model.{all_held, groups_of, entity};
 ghost use Rattle.words.specs.Part.{between};
+ghost use Rattle.words.specs.Shape.{shape_of};
 ghost use Rattle.memory.specs.Meaning.{meaning};
 ghost use Rattle.memory.specs.Arranged.{Arranged};
 ghost use Rattle.group.specs.Flat.{status_at};
-ghost use Rattle.group.specs.Metadata.{order_of, PlacesKnown, Stands};
+ghost use Rattle.group.specs.Metadata.{order_of, PlacesKnown, Describes, Stands};
 ghost use Rattle.group.specs.Steps.{status_in};
 
+use crate::group_metadata::count;
+use crate::in_words::InWords;
 use crate::lookups::Lookups;
 use layout::group_metadata::GroupMetadata;
-use words::{Entity, Found};
+use words::{Entity, Found, Shape};
 
 #[derive(Clone, Copy, Debug, PartialEq, Eq)]
 pub enum GroupStatus {
@@ -60,8 +63,8 @@ fn get_group_status<L: Lookups>(
     GroupStatus::Ungrouped
 }
 
-// The entity's status in group g, by the group's metadata and its count.
-pub fn status_in<L: Lookups>(
+// The entity's status in group g, by the group's metadata and its count, by such lookups.
+pub fn status_by<L: Lookups>(
     words: &[u32],
     lookups: &L,
     g: usize,
@@ -78,4 +81,23 @@ pub fn status_in<L: Lookups>(
     let start = metadata.new_storage_start;
     let end = metadata.storage_end;
     get_group_status(words, lookups, start, end, group_len, e)
+}
+
+// The same, with everything read of the words.
+pub fn status_in(
+    words: &[u32],
+    z: Shape,
+    g: usize,
+    metadata: GroupMetadata,
+    e: Entity,
+) -> GroupStatus
+    requires arranged { Arranged words.now }
+    requires shape_is { z ≡ shape_of words.now }
+    requires g_bound { g < groups_of (meaning words.now).storage.layout }
+    requires describes { Describes (meaning words.now) g metadata }
+    ensures { result ≡ status_at (entity e.index e.version) g (meaning words.now).storage }
+{
+    let group_len = count(words, g);
+    let lookups = InWords { shape: z };
+    status_by(words, &lookups, g, metadata, group_len, e)
 }

@@ -22,7 +22,7 @@ ghost use Rattle.group.specs.Metadata.{order_of, PlacesKnown, Stands};
 ghost use Rattle.group.specs.Steps.{swap_kinds, Below, StepsUp};
 
 use crate::group_metadata::{count, group_count, kind_at, metadata, set_count};
-use crate::group_status::{GroupStatus, status_in};
+use crate::group_status::{GroupStatus, status_by, status_in};
 use crate::in_words::InWords;
 use crate::lookups::Lookups;
 use layout::group_metadata::GroupMetadata;
@@ -113,7 +113,7 @@ fn group_step<L: Lookups>(
 {
     let metadata = lookups.metadata(words, g);
     let group_len = count(words, g);
-    let status = status_in(words, lookups, g, metadata, group_len, e);
+    let status = status_by(words, lookups, g, metadata, group_len, e);
     match status {
         GroupStatus::Incomplete => {
             let skip = lookups.left_after(words, g, metadata);
@@ -196,10 +196,9 @@ fn ungroup_step(words: &mut [u32], z: Shape, g: usize, e: Entity)
     ensures { Becomes words.old words.new (on_storage (step_down (status_at (entity e.index e.version) g (meaning words.old).storage) (entity e.index e.version) g) (meaning words.old)) }
 {
     let metadata = metadata(words, g);
-    let group_len = count(words, g);
-    let lookups = InWords { shape: z };
-    let status = status_in(words, &lookups, g, metadata, group_len, e);
+    let status = status_in(words, z, g, metadata, e);
     if let GroupStatus::Grouped(place) = status {
+        let group_len = count(words, g);
         ungroup_components(words, z, metadata, g, group_len, place, e);
     }
 }

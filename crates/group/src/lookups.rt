@@ -3,7 +3,6 @@
 ghost use Rattle.std.specs.Prelude.{◌≡◌, true, List, ℕ, ◌<◌, length, get_or};
 ghost use Rattle.model.specs.Model.{Entity, Storage, groups_of, held, swap_to, entity, no_entity};
 ghost use Rattle.model.specs.Store.{on_storage};
-ghost use Rattle.model.specs.Sound.{In};
 ghost use Rattle.words.specs.Shape.{shape_of};
 ghost use Rattle.masks.specs.Masks.{bits_of, skipping};
 ghost use Rattle.component.specs.Answers.{Finds};
@@ -14,7 +13,7 @@ ghost use Rattle.memory.specs.Arranged.{Arranged, Becomes};
 ghost use Rattle.kinds.specs.Kinds.{kind_set};
 ghost use Rattle.group.specs.Flat.{located};
 ghost use Rattle.group.specs.Metadata.{order_of, Describes};
-ghost use Rattle.group.specs.Places.{kind_no, SameLayout, Placed};
+ghost use Rattle.group.specs.Places.{kind_no, SameLayout};
 
 use layout::group_metadata::GroupMetadata;
 use masks::group_mask::GroupMask;
@@ -45,7 +44,7 @@ pub trait Lookups {
     fn find(&self, words: &[u32], place: usize, e: Entity) -> Found
         requires arranged { Arranged words.now }
         requires lookups { valid self.now words.now }
-        requires placed { Placed words.now place }
+        requires place_in_bounds { place < length (order_of (meaning words.now)) }
         requires covered { covers self.now (entity e.index e.version) }
         ensures { Finds (shape_of words.now) (entity e.index e.version) (kind_set words.now (kind_no words.now place)) result };
 
@@ -53,7 +52,7 @@ pub trait Lookups {
     fn holds(&self, words: &[u32], place: usize, e: Entity) -> bool
         requires arranged { Arranged words.now }
         requires lookups { valid self.now words.now }
-        requires placed { Placed words.now place }
+        requires place_in_bounds { place < length (order_of (meaning words.now)) }
         requires covered { covers self.now (entity e.index e.version) }
         ensures { result ≡ held (entity e.index e.version) (kind_set words.now (kind_no words.now place)) };
 
@@ -61,7 +60,7 @@ pub trait Lookups {
     fn swap(&self, words: &mut [u32], place: usize, e: Entity, swap_index: usize)
         requires arranged { Arranged words.old }
         requires lookups { valid self.now words.old }
-        requires placed { Placed words.old place }
+        requires place_in_bounds { place < length (order_of (meaning words.old)) }
         requires holds { held (entity e.index e.version) (kind_set words.old (kind_no words.old place)) ≡ true }
         requires room { swap_index < length (kind_set words.old (kind_no words.old place)) }
         ensures { Only (shape_of words.old) (slot_of words.old (kind_no words.old place)) (swap_to (entity e.index e.version) swap_index) words.old words.new };

@@ -1,4 +1,4 @@
-use Rattle.group.proofs.Swapping.{swap_start, swap_placed, swap_asks, swap_turn, swap_so_far, swap_same, swap_done}
+use Rattle.group.proofs.Swapping.{swap_start, swap_there, swap_asks, swap_turn, swap_so_far, swap_same, swap_done}
 use Rattle.group.proofs.swap_kinds.Goals as goal
 
 pub loop-place-init : goal.loop-place-init
@@ -11,7 +11,7 @@ swap-requires g c =
     record {
       arranged = i.invariant.so_far.arranged;
       lookups = g.met.L.Lookups.kept c.args.lookups.now c.args.words.now i.words c.requires.arranged (swap_so_far c.requires.arranged c.requires.places_known c.requires.swappable i.invariant) (swap_same c.requires.arranged c.requires.places_known c.requires.swappable i.invariant) c.requires.lookups;
-      placed = swap_placed c.requires.arranged c.requires.places_known c.requires.swappable i.invariant c.loop-place-test.true;
+      place_in_bounds = swap_there c.requires.arranged c.requires.places_known c.requires.swappable i.invariant c.loop-place-test.true;
       holds = asks.0;
       room = asks.1;
     }

@@ -2,11 +2,8 @@ use mathlib.Core.Path.{refl, sym, ◌∙◌}
 use native.Mathlib.Omega.{arith}
 use Rattle.model.specs.Model.{entity}
 use Rattle.words.specs.Shape.{shape_of}
-use Rattle.group.proofs.Status.{place_known, status_first, status_others, status_in_law, status_out, listed_later}
+use Rattle.group.proofs.Status.{status_first, status_others, status_in_law, status_out, listed_later}
 use Rattle.group.proofs.group_status.get_group_status.Goals as goal
-
-pub find-found-requires-clause-placed : goal.find-found-requires-clause-placed
-find-found-requires-clause-placed g c = place_known c.requires.places_known (omega arith) c.requires.start_lt_end
 
 pub returns-in_default : goal.returns-in_default
 returns-in_default g c =

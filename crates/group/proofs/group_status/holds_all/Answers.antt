@@ -1,19 +1,23 @@
 use mathlib.Core.Path.{refl, ◌∙◌}
-use Prim.Native.Nat.{ℕ, ◌-◌}
+use Prim.Native.Nat.{ℕ, ◌-◌, ◌<◌}
+use native.Mathlib.Omega.{arith}
+use lib.ListN.{length}
 use borrow.Author.Rules.{rules}
 use borrow.Author.Tests.{tests}
 use Rattle.std.proofs.lemmas.Iterator.{YieldsList-from_range, serves_from_Range}
 use Rattle.std.proofs.lemmas.Iterator.Search.{all_from_yields_List}
 use Rattle.model.specs.Model.{held, entity}
 use Rattle.kinds.specs.Kinds.{kind_set}
-use Rattle.group.specs.Places.{kind_no, Placed}
-use Rattle.group.proofs.Status.{place_known, all_places}
+use Rattle.memory.specs.Meaning.{meaning}
+use Rattle.group.specs.Metadata.{order_of}
+use Rattle.group.specs.Places.{kind_no}
+use Rattle.group.proofs.Status.{all_places}
 use Rattle.group.proofs.group_status.holds_all.Goals as goal
 
 pub all-requires-clause-callable : goal.all-requires-clause-callable
 all-requires-clause-callable g c =
     let a = c.args in
-    serves_from_Range (λ x q k. search rules) (λ x from below. let placed : Placed a.words.now x = place_known c.requires.places_known from below in search rules)
+    serves_from_Range (λ x q k. search rules) (λ x from below. let within : x < length (order_of (meaning a.words.now)) = omega (arith, below, c.requires.places_known.within) in search rules)
 
 pub returns : goal.returns
 returns g c =

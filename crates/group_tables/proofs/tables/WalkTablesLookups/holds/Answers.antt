@@ -6,9 +6,9 @@ use Rattle.group_tables.proofs.tables.WalkTablesLookups.holds.Goals as goal
 pub holds_from-requires-clause-lent_from : goal.holds_from-requires-clause-lent_from
 holds_from-requires-clause-lent_from c =
     let a = c.args in
-    lent_from a.words.now a.self.now.shape a.self.now.starts c.requires.arranged c.requires.lookups.columns a.place c.requires.placed
+    lent_from a.words.now a.self.now.shape a.self.now.starts c.requires.arranged c.requires.lookups.columns a.place c.requires.place_in_bounds
 
 pub returns : goal.returns
 returns c =
     let a = c.args in
-    of_kind a.words.now a.self.now.shape a.self.now.starts c.requires.arranged c.requires.lookups.columns a.place c.requires.placed (λ (rs : SparseSet). c.holds_from.result ≡ held (entity a.e.index a.e.version) rs) c.holds_from.ensures
+    of_kind a.words.now a.self.now.shape a.self.now.starts c.requires.arranged c.requires.lookups.columns a.place c.requires.place_in_bounds (λ (rs : SparseSet). c.holds_from.result ≡ held (entity a.e.index a.e.version) rs) c.holds_from.ensures
