@@ -4,7 +4,8 @@ ghost use Rattle.entity.specs.Change.{SoundIn};
 ghost use Rattle.sound_columns.specs.Slots.{Slot, Room};
 ghost use Rattle.sound_columns.specs.Rows.{ColumnOk};
 
-use crate::sparse_set::is_sound;
+use crate::sparse_set::Column;
+use entity::EntityPart;
 use words::Shape;
 
 // A slot that no kind has is empty.
@@ -16,9 +17,16 @@ fn column_ok(words: &[u32], z: Shape, registered: usize, s: usize) -> bool
     let base = words::column_start(z, s);
     let end = base + words::column_len(z);
     let entities = words::ENTITIES + model::ENTITY_LEN * z.capacity;
+    let column = Column {
+        part: &words[base..end],
+        shape: z,
+        entities: EntityPart {
+            part: &words[words::ENTITIES..entities],
+            capacity: z.capacity,
+        },
+    };
     let rows = words[base];
-    (s < registered || rows == 0)
-        && is_sound(&words[base..end], &words[words::ENTITIES..entities], z)
+    (s < registered || rows == 0) && column.is_sound()
 }
 
 // Are all k columns so?

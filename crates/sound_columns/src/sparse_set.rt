@@ -1,65 +1,68 @@
-// Whether a part is a sound sparse set of live entities, in time linear in its words.
-ghost use Rattle.std.specs.Prelude.{◌<◌, ◌≤◌};
+// Whether a column's part is a sound sparse set of live entities, in time linear in its words.
+ghost use Rattle.std.specs.Prelude.{◌≡◌, ◌<◌, ◌≤◌};
 ghost use Rattle.component.specs.Stored.{ColumnSized};
 ghost use Rattle.words.specs.Decides.{Decides, Each};
-ghost use Rattle.entity.specs.Meaning.{EntityPartSound};
 ghost use Rattle.sound_columns.specs.Checks.{RowTied, RowOk, LiveSet};
 
 use entity::EntityPart;
 use words::{Entity, Shape};
 
-fn row_tied(part: &[u32], z: Shape, i: usize) -> bool
-    requires { ColumnSized z part.now × (i < z.capacity) }
-    ensures { Decides result (RowTied z part.now i) }
-{
-    let at = words::entity_place(i);
-    let index = part[at] as usize;
-    if z.capacity <= index {
-        return false;
+// Words of a column's length, whatever they hold, and the entities that its rows may have.
+#[derive(Clone, Copy)]
+pub struct Column<'a> {
+    pub part: &'a [u32],
+    pub shape: Shape,
+    pub entities: EntityPart<'a>,
+    ghost sized: { ColumnSized shape part.now },
+    ghost same_capacity: { entities.capacity ≡ shape.capacity },
+}
+
+impl Column<'_> {
+    fn row_tied(&self, i: usize) -> bool
+        requires { i < self.now.shape.capacity }
+        ensures { Decides result (RowTied self.now.shape self.now.part.now i) }
+    {
+        let at = words::entity_place(i);
+        let index = self.part[at] as usize;
+        if self.shape.capacity <= index {
+            return false;
+        }
+        let version = self.part[at + 1];
+        let lookup = words::lookup_place(self.shape, index);
+        let place = self.part[lookup] as usize;
+        let held = self.part[lookup + 1];
+        1 <= version && place == i && held == version
     }
-    let version = part[at + 1];
-    let lookup = words::lookup_place(z, index);
-    let place = part[lookup] as usize;
-    let held = part[lookup + 1];
-    1 <= version && place == i && held == version
-}
 
-// Do row i and its index's lookup agree, and is its entity live?
-fn row_ok(part: &[u32], entities: &[u32], z: Shape, i: usize) -> bool
-    requires column_sized { ColumnSized z part.now × (i < z.capacity) }
-    requires entity_part_sound { EntityPartSound z.capacity entities.now }
-    ensures { Decides result (RowOk z entities.now part.now i) }
-{
-    let at = words::entity_place(i);
-    let e = Entity {
-        index: part[at],
-        version: part[at + 1],
-    };
-    let live = EntityPart {
-        part: entities,
-        capacity: z.capacity,
-    };
-    row_tied(part, z, i) && live.contains(e)
-}
+    // Do row i and its index's lookup agree, and is its entity live?
+    fn row_ok(&self, i: usize) -> bool
+        requires { i < self.now.shape.capacity }
+        ensures { Decides result (RowOk self.now.shape self.now.entities.part.now self.now.part.now i) }
+    {
+        let at = words::entity_place(i);
+        let e = Entity {
+            index: self.part[at],
+            version: self.part[at + 1],
+        };
+        self.row_tied(i) && self.entities.contains(e)
+    }
 
-fn rows_ok(part: &[u32], entities: &[u32], z: Shape, k: usize) -> bool
-    requires column_sized { ColumnSized z part.now × (k ≤ z.capacity) }
-    requires entity_part_sound { EntityPartSound z.capacity entities.now }
-    ensures { Decides result (Each k (RowOk z entities.now part.now)) }
-{
-    (0..k).all(|i| row_ok(part, entities, z, i))
-}
+    fn rows_ok(&self, k: usize) -> bool
+        requires { k ≤ self.now.shape.capacity }
+        ensures { Decides result (Each k (RowOk self.now.shape self.now.entities.part.now self.now.part.now)) }
+    {
+        (0..k).all(|i| self.row_ok(i))
+    }
 
-// Whether a part is a sound sparse set of entities that are live, by the entity part. Where all rows agree with their lookups, no other index is held
-// exactly if as many are held as there are rows.
-pub fn is_sound(part: &[u32], entities: &[u32], z: Shape) -> bool
-    requires column_sized { ColumnSized z part.now }
-    requires entity_part_sound { EntityPartSound z.capacity entities.now }
-    ensures { Decides result (LiveSet z entities.now part.now) }
-{
-    let k = part[words::ROWS_LEN] as usize;
-    let lookups = words::lookup_place(z, 0);
-    k <= z.capacity
-        && rows_ok(part, entities, z, k)
-        && words::count_held(part, lookups, z.capacity) as usize == k
+    // Where all rows agree with their lookups, no other index is held exactly if as many are held as there are rows.
+    pub fn is_sound(&self) -> bool
+        ensures { Decides result (LiveSet self.now.shape self.now.entities.part.now self.now.part.now) }
+    {
+        let k = self.part[words::ROWS_LEN] as usize;
+        let capacity = self.shape.capacity;
+        let lookups = words::lookup_place(self.shape, 0);
+        k <= capacity
+            && self.rows_ok(k)
+            && words::count_held(self.part, lookups, capacity) as usize == k
+    }
 }
