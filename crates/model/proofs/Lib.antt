@@ -20,6 +20,7 @@ pub mod Values
 pub mod Held
 pub mod Operations
 pub mod Counts
+pub mod Codes
 pub mod Lines
 pub mod Outcomes
 pub mod Extending

@@ -6,6 +6,9 @@ use native.Mathlib.Omega.{arith}
 use native.Mathlib.Nat.{zero-add, add_assoc, sub-zero}
 use lib.ListN.{length, get_or, take, drop, length-drop, drop_of_length-le, take-append-drop}
 use lib.Seq.{sets, length-sets, drop-drop, length-take-le}
+use Rattle.std.specs.Prelude.{Ok, Err}
+use Rattle.model.specs.Codes.{refusal_code}
+use Rattle.model.specs.declared.refusals.Refusal.{Refusal}
 use Rattle.model.specs.Store.{Store}
 use Rattle.model.specs.Run.{Step, stops, goes, step, Ran, halt, more, run_for, run}
 use Rattle.model.specs.Theorems.{StepFits, SameSettings}
@@ -17,8 +20,8 @@ use Rattle.memory.specs.Meaning.{meaning}
 use Rattle.memory.specs.Arranged.{Sound, Becomes}
 use Rattle.run_command.specs.Given.{command_in}
 use Rattle.run.specs.Run.{Refused, Traced}
-use Rattle.run.specs.Stepping.{step_at, result_of, Stepped, Completed}
-use Rattle.run.specs.declared.Went.TheVariants.{Done, Stop}
+use Rattle.run.specs.Stepping.{step_at, ResultOf, Stepped, Completed}
+use Rattle.run.specs.declared.Progress.{Progress}
 use Rattle.run.proofs.Traces.{traced_end, traced_stop, traced_more}
 
 -- ---- the model's run, unrolled once
@@ -65,13 +68,13 @@ pub record WentOn (at p a b : ℕ) (x : Step) : Type 0 where
   pub next_at : a ≡ at + size
   pub free : b ≡ p + length answer
 
-went_on : (at p a b : ℕ) (x : Step) → Done a b ≡ result_of at p x → WentOn at p a b x
-went_on at p a b (stops n) e = let z : ◌≡◌ {A = ℕ} 0 1 = cc in absurd (omega arith)
-went_on at p a b (goes k l s) e = record { size = k; answer = l; store = s; is = refl; next_at = cc; free = cc }
+went_on : (at p : ℕ) (d : Progress) (x : Step) → ResultOf at p x (Ok d) → WentOn at p d.read d.written x
+went_on at p d (stops n) e = absurd e
+went_on at p d (goes k l s) e = record { size = k; answer = l; store = s; is = refl; next_at = cc; free = cc }
 
-was_stopped : (at p n : ℕ) (x : Step) → Stop n ≡ result_of at p x → x ≡ stops n
-was_stopped at p n (stops m) e = cc
-was_stopped at p n (goes k l s) e = let z : ◌≡◌ {A = ℕ} 0 1 = cc in absurd (omega arith)
+was_stopped : (at p : ℕ) (r : Refusal) (x : Step) → ResultOf at p x (Err r) → x ≡ stops (refusal_code r)
+was_stopped at p r (stops m) e = ap stops (sym e)
+was_stopped at p r (goes k l s) e = let z : ◌≡◌ {A = ℕ} 0 1 = cc in absurd (omega arith)
 
 -- a command reads at least its byte, and no more than is there
 step_size : (s : Store) (t : List ℕ) (at room k : ℕ) (a : List ℕ) (s' : Store) → at < length t → step_at s t at room ≡ goes k a s' → (0 < k) × (at + k ≤ length t)
@@ -146,19 +149,20 @@ module _ {w₀ t o₀ w o : List ℕ} {at p k : ℕ} (g : Going w₀ t o₀ w o 
       rw (fuel h) (run_more (length t - (k + 1)) (meaning w) t at (length o - p) h)
 
 module _ {w₀ t o₀ w o w₁ o₁ : List ℕ} {at p k : ℕ} (g : Going w₀ t o₀ w o at p k) (h : at < length t) where
-  pub stops_here : (n : ℕ) → Stepped w w₁ t o o₁ at p (Stop n) (step_at (meaning w) t at (length o - p))
-      → Completed w₀ w₁ t o₀ o₁ (record { stop = n; commands = k; read = at; written = p }) (run t (length o₀) (meaning w₀))
-  stops_here n s =
-      let x : step_at (meaning w) t at (length o - p) ≡ stops n = was_stopped at p n _ s.result in
+  pub stops_here : (r : Refusal) → Stepped w w₁ t o o₁ at p (Err r) (step_at (meaning w) t at (length o - p))
+      → Completed w₀ w₁ t o₀ o₁ (record { stop = refusal_code r; commands = k; read = at; written = p }) (run t (length o₀) (meaning w₀))
+  stops_here r s =
+      let n = refusal_code r in
+      let x : step_at (meaning w) t at (length o - p) ≡ stops n = was_stopped at p r _ s.result in
       let e : run_for (length t - k) (drop at t) (length o - p) (meaning w) ≡ halt n (meaning w) = unrolled g h ∙ rw x in
       let T : Traced (length t - k) (drop at t) (length o - p) w w₁ =
       rw (fuel g h) (traced_stop (length t - (k + 1)) (length o - p) w w₁ t at h n x (rw x at s.kept)) in
       finished g n w₁ o₁ e s.sound (rw x at s.becomes) T (rw x at s.bytes)
 
-  goes_by : (n : ℕ) (l : List ℕ) (s' : Store) (a b : ℕ) → step_at (meaning w) t at (length o - p) ≡ goes n l s' → a ≡ at + n → b ≡ p + length l
-      → Stepped w w₁ t o o₁ at p (Done a b) (step_at (meaning w) t at (length o - p))
-      → Going w₀ t o₀ w₁ o₁ a b (k + 1)
-  goes_by n l s' a b is next_at free s =
+  goes_by : (n : ℕ) (l : List ℕ) (s' : Store) (d : Progress) → step_at (meaning w) t at (length o - p) ≡ goes n l s' → d.read ≡ at + n → d.written ≡ p + length l
+      → Stepped w w₁ t o o₁ at p (Ok d) (step_at (meaning w) t at (length o - p))
+      → Going w₀ t o₀ w₁ o₁ d.read d.written (k + 1)
+  goes_by n l s' d is next_at free s =
       let f : p + length l ≤ length o = rw is at s.within in
       let q : o₁ ≡ sets o p l = rw is at s.bytes in
       let B : Becomes w w₁ s' = rw is at s.becomes in
@@ -191,14 +195,14 @@ module _ {w₀ t o₀ w o w₁ o₁ : List ℕ} {at p k : ℕ} (g : Going w₀ t
             (rw (length-sets o p l, u, ← drop-drop n at t) at T)));
       })
 
-  pub goes_on : (a b : ℕ) → Stepped w w₁ t o o₁ at p (Done a b) (step_at (meaning w) t at (length o - p)) → Going w₀ t o₀ w₁ o₁ a b (k + 1)
-  goes_on a b s =
-      let v = went_on at p a b (step_at (meaning w) t at (length o - p)) s.result in
-      goes_by v.size v.answer v.store a b v.is v.next_at v.free s
+  pub goes_on : (d : Progress) → Stepped w w₁ t o o₁ at p (Ok d) (step_at (meaning w) t at (length o - p)) → Going w₀ t o₀ w₁ o₁ d.read d.written (k + 1)
+  goes_on d s =
+      let v = went_on at p d (step_at (meaning w) t at (length o - p)) s.result in
+      goes_by v.size v.answer v.store d v.is v.next_at v.free s
 
   -- the place moves on
-  pub moves : (a b : ℕ) → Stepped w w₁ t o o₁ at p (Done a b) (step_at (meaning w) t at (length o - p)) → at < a
-  moves a b s =
-      let v = went_on at p a b (step_at (meaning w) t at (length o - p)) s.result in
+  pub moves : (d : Progress) → Stepped w w₁ t o o₁ at p (Ok d) (step_at (meaning w) t at (length o - p)) → at < d.read
+  moves d s =
+      let v = went_on at p d (step_at (meaning w) t at (length o - p)) s.result in
       let z = step_size (meaning w) t at (length o - p) v.size v.answer v.store h v.is in
       omega (arith, z.0, v.next_at)

@@ -1,12 +1,13 @@
 // Commands with operands: they are read off the tape, at `at`.
-ghost use Rattle.std.specs.Prelude.{◌≤◌};
+ghost use Rattle.std.specs.Prelude.{◌≡◌, ◌+◌, ◌≤◌, length, take, drop};
 ghost use Rattle.model.specs.Numbers.{REG_BYTE, HOLD_BYTE, BAR_BYTE, TRAY_BYTE, SETCALLER_BYTE};
+ghost use Rattle.model.specs.Model as model;
+ghost use Rattle.model.specs.Commands.{entity_of_bytes};
 ghost use Rattle.model.specs.Run.{does};
 ghost use Rattle.memory.specs.Meaning.{meaning};
 ghost use Rattle.command.specs.Acted.{Acted};
 ghost use Rattle.run_command.specs.Given.{command_in, Given};
 
-use model::commands;
 use words::Entity;
 
 pub fn reg(words: &mut [u32], tape: &[u8], at: usize, out: &mut [u8], to: usize) -> usize
@@ -27,27 +28,14 @@ pub fn hold(words: &mut [u32], tape: &[u8], at: usize, out: &mut [u8], to: usize
     command_list::lists::hold(words, kind, x, out, to)
 }
 
-// PUT, TAKE, DROP and KILL, of bytes 4 to 7: on the entity whose index and version stand there.
-pub fn on_entity(
-    words: &mut [u32],
-    op: u8,
-    tape: &[u8],
-    at: usize,
-    out: &mut [u8],
-    to: usize,
-) -> usize
-    requires le_op { (4 ≤ op) × (op ≤ 7) }
-    requires given { Given words.old op tape.now at out.old to }
-    ensures { Acted words.old words.new out.old out.new to result (does (command_in op tape.now at (meaning words.old)) (meaning words.old)) }
+// PUT's, TAKE's, DROP's and KILL's: the entity whose index and version stand there.
+pub fn entity(tape: &[u8], at: usize) -> Entity
+    requires { at + 8 ≤ length tape.now }
+    ensures { model.entity result.index result.version ≡ entity_of_bytes (take 8 (drop at tape.now)) }
 {
-    let index = codec::get::<4>(tape, at);
-    let version = codec::get::<4>(tape, at + 4);
-    let e = Entity { index, version };
-    match op {
-        commands::PUT => command_entity::components::put(words, e, out, to),
-        commands::TAKE => command_take::take(words, e, out, to),
-        commands::DROP => command_entity::components::drop(words, e, out, to),
-        _ => command_entity::entities::kill(words, e, out, to),
+    Entity {
+        index: codec::get::<4>(tape, at),
+        version: codec::get::<4>(tape, at + 4),
     }
 }
 

@@ -29,7 +29,7 @@ pub loop-at-init : goal.loop-at-init
 loop-at-init c = (start c.requires, c.widths_of-lengths.ensures)
 
 pub step-requires : goal.step-requires
-step-requires c = record { step_ready = record { sound = c.loop-at.invariant.0.sound; more = c.loop-at-test.true; within = c.loop-at.invariant.0.within }; lengths_value = (still c.loop-at.invariant.0 c.loop-at.invariant.1, refl) }
+step-requires c = record { step_ready = record { sound = c.loop-at.invariant.0.sound; more = c.loop-at-test.true; within = c.loop-at.invariant.0.within }; tables = (still c.loop-at.invariant.0 c.loop-at.invariant.1, refl) }
 
 pub overflow_add-done : goal.overflow_add-done
 overflow_add-done c =
@@ -37,19 +37,19 @@ overflow_add-done c =
     Fits-le (one_more _ _ _ c.loop-at.invariant.0.few c.loop-at-test.true) tape-fits
 
 pub loop-at-smaller : goal.loop-at-smaller
-loop-at-smaller c = less _ _ _ (moves c.loop-at.invariant.0 c.loop-at-test.true c.in-Done.next c.in-Done.end (rw c.in-Done.is at c.step.ensures)) c.loop-at-test.true
+loop-at-smaller c = less _ _ _ (moves c.loop-at.invariant.0 c.loop-at-test.true c.in-Ok.next (rw c.in-Ok.is at c.step.ensures)) c.loop-at-test.true
 
 pub loop-at-preserved : goal.loop-at-preserved
-loop-at-preserved c = (goes_on c.loop-at.invariant.0 c.loop-at-test.true c.in-Done.next c.in-Done.end (rw c.in-Done.is at c.step.ensures), c.loop-at.invariant.1)
+loop-at-preserved c = (goes_on c.loop-at.invariant.0 c.loop-at-test.true c.in-Ok.next (rw c.in-Ok.is at c.step.ensures), c.loop-at.invariant.1)
 
-pub shape_of-words-in-Stop : goal.shape_of-words-in-Stop
-shape_of-words-in-Stop c = c.step.auto.words ∙ c.loop-at.invariant.0.becomes.size
+pub shape_of-words-in-Err : goal.shape_of-words-in-Err
+shape_of-words-in-Err c = c.step.auto.words ∙ c.loop-at.invariant.0.becomes.size
 
-pub shape_of-out-in-Stop : goal.shape_of-out-in-Stop
-shape_of-out-in-Stop c = c.step.auto.out ∙ c.loop-at.invariant.0.same_out
+pub shape_of-out-in-Err : goal.shape_of-out-in-Err
+shape_of-out-in-Err c = c.step.auto.out ∙ c.loop-at.invariant.0.same_out
 
-pub returns-in-Stop : goal.returns-in-Stop
-returns-in-Stop c = stops_here c.loop-at.invariant.0 c.loop-at-test.true c.in-Stop.number (rw c.in-Stop.is at c.step.ensures)
+pub returns-in-Err : goal.returns-in-Err
+returns-in-Err c = rw c.from.ensures (stops_here c.loop-at.invariant.0 c.loop-at-test.true c.in-Err.refusal (rw c.in-Err.is at c.step.ensures))
 
 pub shape_of-words : goal.shape_of-words
 shape_of-words c = c.loop-at.invariant.0.becomes.size
