@@ -1,5 +1,5 @@
 -- The loop that takes an entity's components of the staged kinds out and writes their bytes, one kind after another. Assumes nothing.
-use mathlib.Core.Path.{◌≡◌, refl, ap, ap₂, sym, ◌∙◌}
+use mathlib.Core.Path.{◌≡◌, ap, ap₂, sym, ◌∙◌}
 use mathlib.Core.Bool.{true, false}
 use mathlib.Core.List.{List, [], ◌∷◌, ◌++◌, append-nil, append_assoc}
 use Prim.Native.Nat.{ℕ, suc, ◌+◌, ◌*◌, ◌≤◌, ◌<◌}
@@ -16,7 +16,7 @@ use Rattle.model.proofs.ListLaws.{sets_join}
 use Rattle.memory.specs.Meaning.{meaning}
 use Rattle.world.specs.Remove.{Staged}
 use Rattle.command_take.specs.Take.{TakesKind, TakesStaged}
-use Rattle.world.proofs.Removing.{Gone, each_gone, gone_none, gone_next, gone_turn, gone_all, staged_kept, staged_small}
+use Rattle.world.proofs.Removing.{Gone, each_gone, gone_next, gone_turn, gone_all, staged_kept, staged_small}
 
 pub bytes_none : (v : ℕ) (e : Entity) (rows : SparseSet) → held e rows ≡ false → 0 ∷ bytes_of v 0 ≡ taken_bytes v e rows
 bytes_none v e rows h = rw h
@@ -56,9 +56,6 @@ module _ (w₀ out₀ : List ℕ) (e : Entity) (a : ℕ) where
   pub record Taken (w out : List ℕ) (i : ℕ) : Type 0 where
     pub gone : Gone w₀ e (staged_kinds (meaning w₀)) w i
     pub bytes : out ≡ sets out₀ a (held_bytes (meaning w₀).settings.value_bytes e (take i (staged_kinds (meaning w₀))) (meaning w₀).storage)
-
-  pub taken_none : Staged w₀ → Taken w₀ out₀ 0
-  taken_none S = record { gone = gone_none w₀ e kinds S.arranged; bytes = refl }
 
   module _ (w out : List ℕ) (i : ℕ) where
     pub taken_staged : Staged w₀ → Taken w out i → Staged w

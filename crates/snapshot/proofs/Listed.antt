@@ -2,7 +2,7 @@
 use mathlib.Core.Path.{◌≡◌, refl, ap, sym, ◌∙◌}
 use mathlib.Core.Bool.{Bool, true, false, cond}
 use mathlib.Core.Option.{Option, some, none}
-use mathlib.Core.List.{List, [], ◌∷◌, ◌++◌, append-nil, append_assoc}
+use mathlib.Core.List.{List, [], ◌∷◌, ◌++◌, append_assoc}
 use Prim.Native.Nat.{ℕ, zero, suc, ◌+◌, ◌-◌, ◌≤◌, ◌<◌}
 use native.Mathlib.Omega.{arith}
 use native.Mathlib.Numerals.{add-one}
@@ -35,11 +35,6 @@ module _ (ks : List ℕ) where
   pub lists_one : (l : List ℕ) (k : ℕ) → k < MAX_KINDS → mem k ks ≡ true → l ++ later k ≡ (l ++ (k ∷ [])) ++ later (k + 1)
   lists_one l k h t = ap (λ (r : List ℕ). l ++ r) (later_turn k h ∙ rw t) ∙ sym (append_assoc l (k ∷ []) (later (k + 1)))
 
-  pub lists_end : (l : List ℕ) (k : ℕ) → MAX_KINDS ≤ k → l ++ later k ≡ l
-  lists_end l k h =
-      let e : MAX_KINDS - k ≡ 0 = omega arith in
-      ap (λ (m : ℕ). l ++ rising_from ks m k) e ∙ append-nil l
-
   -- only registered kinds are listed
   from_in : (n k i : ℕ) → i < length (rising_from ks n k) → In ks (get_or (rising_from ks n k) i 0)
   from_in zero k i h = absurd (omega arith)
@@ -64,14 +59,8 @@ value_held e rows p a t q v =
     let n : (get_or rows (at e rows) no_row).value ≡ a = sym (v ∙ ap (λ (i : ℕ). (get_or rows i no_row).value) q) in
     rw (t, n)
 
-pub value_none : (e : Entity) (rows : SparseSet) → held e rows ≡ false → value_at e rows ≡ none
-value_none e rows h = rw h
-
 value_bare : (e : Entity) (rows : SparseSet) → rows ≡ [] → value_at e rows ≡ none
 value_bare e rows h = rw h
-
-pub none_written : {o : List ℕ} {p : ℕ} {y : Option ℕ} (v k : ℕ) → y ≡ none → WrittenUntil o o p p (one_bytes v y k)
-none_written v k e = rw e (record { bytes = refl; next = omega arith })
 
 pub one_room : {x n : ℕ} {y : Option ℕ} (v p k : ℕ) → y ≡ some x → p + length (one_bytes v y k) ≤ n → p + 1 + v ≤ n
 one_room {x} {n} v p k e h =

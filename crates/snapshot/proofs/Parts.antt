@@ -33,9 +33,6 @@ entry_length v t =
       bytes_length v t.components,
     )
 
-pub entry_room : (v : ℕ) (t : Entry) (p n : ℕ) → p + length (entry_bytes v t) ≤ n → (p + 9 ≤ n) × (p + 9 + length (component_bytes v t.components) ≤ n)
-entry_room v t p n h = (omega (arith, entry_length v t), omega (arith, entry_length v t, bytes_length v t.components))
-
 -- the number of components, from the place after their bytes
 pub entry_count : {o o' : List ℕ} {p r : ℕ} (v : ℕ) (ps : List Component) → WrittenUntil o o' p r (component_bytes v ps) → (r - p) / (1 + v) ≡ length ps
 entry_count v ps w = div-eq_of_eq-mul_right (omega arith) (omega (arith, w.next, bytes_length v ps))
@@ -59,22 +56,13 @@ entry_written {o} {o₁} {o₂} {o₃} {o₄} {p} {r} {n} v t a b d c m =
 
 -- ---- one index
 
-no_entry : (v i m : ℕ) (ss : List SparseSet) → m ≡ 0 → flat v (entry_of m i ss) ≡ []
-no_entry v i m ss e = rw e
-
 an_entry : (v i m : ℕ) (ss : List SparseSet) → 1 ≤ m → flat v (entry_of m i ss) ≡ entry_bytes v (record { entity = entity i m; components = components_of (entity i m) 0 ss })
 an_entry v i zero ss h = absurd (omega arith)
 an_entry v i (suc m) ss h = append-nil (entry_bytes v (record { entity = entity i (suc m); components = components_of (entity i (suc m)) 0 ss }))
 
 module _ (v : ℕ) (w : List ℕ) (i m : ℕ) (is : m ≡ live_version i (meaning w).entities.live) where
-  index_none : m ≡ 0 → index_bytes v w i ≡ []
-  index_none h = no_entry v i (live_version i (meaning w).entities.live) (meaning w).storage.sets (sym is ∙ h)
-
   pub index_some : (m ≡ 0 → ⊥) → index_bytes v w i ≡ entry_bytes v (entry_for w i m)
   index_some h = rw (← is) (an_entry v i m (meaning w).storage.sets (omega arith))
-
-  pub none_at : {o : List ℕ} {p : ℕ} → m ≡ 0 → WrittenUntil o o p p (index_bytes v w i)
-  none_at h = rw (index_none h) (record { bytes = refl; next = omega arith })
 
 -- ---- one index after another
 

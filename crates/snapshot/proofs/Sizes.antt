@@ -7,10 +7,8 @@ use mathlib.Core.Option.{some, none}
 use mathlib.Core.List.{List, [], ◌∷◌, ◌++◌, append-nil}
 use Prim.Native.Nat.{ℕ, zero, suc, ◌+◌, ◌*◌, ◌≤◌, ◌<◌}
 use native.Mathlib.Omega.{arith}
-use native.Mathlib.Numerals.{add-one}
 use borrow.Author.Tests.{eq-eqb, ne_eqb}
-use lib.ListN.{length, get_or, drop, drop_of_length-le, length-append, length-map}
-use lib.Seq.{drop-cons}
+use lib.ListN.{length, get_or, length-append, length-map}
 use Rattle.model.specs.Lists.{one}
 use Rattle.model.proofs.ListLaws.{count_length}
 use Rattle.model.specs.Model.{Entity, SparseSet, same_entity, entity_of, no_row, at, held, set_of}
@@ -153,9 +151,3 @@ module _ (s : Store) (S : StoreSound s) where
       )
 
 -- ---- counting kind by kind
-
-pub rows_turn : (ss : List SparseSet) (k : ℕ) → k < length ss → rows_in (drop k ss) ≡ length (set_of ss k) + rows_in (drop (k + 1) ss)
-rows_turn ss k h = ap rows_in (drop-cons ss k [] h ∙ ap (λ (j : ℕ). set_of ss k ∷ drop j ss) (sym (add-one k)))
-
-pub rows_end : (ss : List SparseSet) (k : ℕ) → length ss ≤ k → rows_in (drop k ss) ≡ 0
-rows_end ss k h = ap rows_in (drop_of_length-le ss h)

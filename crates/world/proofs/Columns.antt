@@ -29,7 +29,7 @@ use Rattle.component.specs.Changes.{Lent, Only}
 use Rattle.component.specs.Columns.{rows_of}
 use Rattle.memory.specs.Meaning.{meaning}
 use Rattle.memory.specs.Arranged.{Arranged, Becomes}
-use Rattle.memory.proofs.Becomes.{stays, sets_wide}
+use Rattle.memory.proofs.Becomes.{sets_wide}
 use Rattle.kinds.specs.Steps.{InSlot}
 use Rattle.kinds.proofs.Slot.{known_slot, known_small, slot_alike, lent_at, rows_at, only_becomes}
 use Rattle.group.proofs.Storing.{becomes_then, shape_kept, SoFar, so_far_next, so_far_is, live_same, live_next}
@@ -117,9 +117,6 @@ pub record Filling (w₀ : List ℕ) (k v start : ℕ) (w : List ℕ) (i : ℕ) 
   pub still : on_set k (insert_rows (drop i (meaning w₀).entities.live) v) (meaning w).storage ≡ on_set k (insert_rows (drop start (meaning w₀).entities.live) v) (meaning w₀).storage
   pub live : OnlyLive (meaning w)
 
-pub filling_start : (w : List ℕ) (k v start : ℕ) → AllInsertable w → Filling w k v start w start
-filling_start w k v start E = record { so_far = stays E.arranged; still = refl; live = E.live }
-
 module _ (w₀ : List ℕ) (k v start : ℕ) (w : List ℕ) (i : ℕ) (F : Filling w₀ k v start w i) where
   abbrev all : List Entity
   all = (meaning w₀).entities.live
@@ -184,9 +181,6 @@ columns_snoc es (q ∷ ps) p sets = columns_snoc es ps p (set sets q.kind (inser
 pub record FillingAll (w₀ : List ℕ) (start : ℕ) (w : List ℕ) (i : ℕ) : Type 0 where
   pub so_far : Becomes w₀ w (on_storage (inserted_each (drop start (meaning w₀).entities.live) (take i (meaning w₀).control.staged)) (meaning w₀))
   pub can : AllInsertable w
-
-pub all_start : (w : List ℕ) (start : ℕ) → AllInsertable w → FillingAll w start w 0
-all_start w start E = record { so_far = stays E.arranged; can = E }
 
 module _ (w₀ : List ℕ) (start : ℕ) (w : List ℕ) (i : ℕ) (F : FillingAll w₀ start w i) where
   abbrev staged : List Component

@@ -14,8 +14,8 @@ use Rattle.model.proofs.Behind.{pending}
 use Rattle.model.proofs.Extending.{new_entities, with_new, each_created, new_live, new_last, new_fresh, new_entities_sound, room_left, one_fewer}
 use Rattle.masks.specs.Masks.{bits_of}
 use Rattle.memory.specs.Meaning.{meaning}
-use Rattle.memory.specs.Arranged.{Arranged, Sound, Becomes}
-use Rattle.memory.proofs.Becomes.{stays, becomes_next}
+use Rattle.memory.specs.Arranged.{Sound, Becomes}
+use Rattle.memory.proofs.Becomes.{becomes_next}
 use Rattle.group.specs.Flat.{insert_positions, walk_each}
 use Rattle.group.specs.Ready.{ReadyEach}
 use Rattle.group.specs.Steps.{Below}
@@ -31,9 +31,6 @@ pub record Creating (w₀ : List ℕ) (count : ℕ) (w : List ℕ) (left : ℕ) 
   pub so_far : Becomes w₀ w (with_entities (meaning w₀) (meaning w).entities)
   pub still : create_each left [] (meaning w).entities (meaning w₀).storage ≡ create_each count [] (meaning w₀).entities (meaning w₀).storage
   pub room : left ≤ free_numbers (meaning w).settings.capacity (meaning w).entities
-
-pub creating_start : (w : List ℕ) (count : ℕ) → Arranged w → count ≤ free_numbers (meaning w).settings.capacity (meaning w).entities → Creating w count w count
-creating_start w count A room = record { so_far = stays A; still = refl; room = room }
 
 module _ (w₀ : List ℕ) (count : ℕ) (w : List ℕ) (left : ℕ) (C : Creating w₀ count w left) where
   pub creating_end : left ≤ 0 → Becomes w₀ w (with_created count (meaning w₀))

@@ -7,7 +7,6 @@ use Rattle.model.specs.Model.{Entity, insert_components, remove, create, destroy
 use Rattle.model.specs.Store.{Store, on_storage, with_entities}
 use Rattle.model.specs.Sound as model
 use Rattle.model.proofs.Operations.{create_sound, create_is_live}
-use Rattle.entity.specs.Answers.{LiveAt}
 use Rattle.memory.specs.Meaning.{meaning}
 use Rattle.memory.specs.Arranged.{Sound, Becomes}
 use Rattle.memory.proofs.Becomes.{becomes_next}
@@ -15,11 +14,7 @@ use Rattle.group.proofs.Storing.{becomes_then}
 use Rattle.world.specs.World.{created, killed}
 
 module _ (w : List ℕ) where
-  module _ (e : Entity) (p : ℕ) (found : LiveAt e p (meaning w).entities) (w₁ : List ℕ) (B : Becomes w w₁ (on_storage (remove e (meaning w).kinds) (meaning w))) where
-    -- the components go, and the live list stays
-    pub still_at : LiveAt e p (meaning w₁).entities
-    still_at = subst (λ (s : Store). LiveAt e p s.entities) (sym B.means) found
-
+  module _ (e : Entity) (w₁ : List ℕ) (B : Becomes w w₁ (on_storage (remove e (meaning w).kinds) (meaning w))) where
     pub destroyed_whole : (w₂ : List ℕ) → Becomes w₁ w₂ (with_entities (meaning w₁) (destroy e (meaning w₁).entities)) → Becomes w w₂ (killed e (meaning w))
     destroyed_whole w₂ C = becomes_then w w₁ w₂ (remove e (meaning w).kinds) (λ (s : Store). with_entities s (destroy e s.entities)) B C
 

@@ -1,9 +1,12 @@
 use Rattle.std.proofs.Common.{rules, ◌≡◌, false, ap, ap₂, ◌∙◌, ◌∷◌, ℕ, ◌*◌, get_or}
 use lib.Seq.{sets}
+use mathlib.Core.Path.{sym, subst}
+use mathlib.Core.List.{List}
+use Rattle.world.specs.Remove.{Staged}
 use Rattle.model.specs.Store.{staged_kinds, bytes_of}
 use Rattle.model.specs.Model.{held, entity}
 use Rattle.words.specs.declared.Shape.{Shape}
-use Rattle.words.specs.Shape.{shape_of}
+use Rattle.words.specs.Shape.{TwoOrFour, shape_of}
 use Rattle.values.specs.Values.{value_of}
 use Rattle.memory.proofs.Becomes.{stride_bytes}
 use Rattle.component.specs.Answers.{Gave}
@@ -11,6 +14,16 @@ use Rattle.memory.specs.Meaning.{meaning}
 use Rattle.kinds.specs.Kinds.{kind_set}
 use Rattle.command_take.proofs.Taking.{bytes_none, bytes_held}
 use Rattle.command_take.proofs.take_one.Goals as goal
+
+-- two words or four
+narrow : (w : List ℕ) (z : Shape) → Staged w → z ≡ shape_of w → TwoOrFour z.stride
+narrow w z S e = subst (λ (y : Shape). TwoOrFour y.stride) (sym e) S.arranged.columns.shaped.words
+
+pub width-requires : goal.width-requires
+width-requires c = narrow c.args.words.now c.args.z c.requires.staged c.requires.shape_is
+
+pub width-requires-in-None : goal.width-requires-in-None
+width-requires-in-None c = narrow c.args.words.now c.args.z c.requires.staged c.requires.shape_is
 
 pub returns-in-Some : goal.returns-in-Some
 returns-in-Some c =

@@ -1,4 +1,4 @@
-use mathlib.Core.Path.{◌≡◌, ap, sym, ◌∙◌, subst}
+use mathlib.Core.Path.{◌≡◌, ap, ◌∙◌}
 use mathlib.Core.List.{List}
 use Prim.Native.Nat.{ℕ, ◌+◌, ◌*◌, ◌≤◌}
 use native.Mathlib.Omega.{arith}
@@ -6,17 +6,13 @@ use lib.ListN.{length}
 use Rattle.model.specs.Model.{entity}
 use Rattle.model.specs.Store.{staged_kinds}
 use Rattle.words.specs.declared.Shape.{Shape}
-use Rattle.words.specs.Shape.{TwoOrFour, shape_of}
+use Rattle.words.specs.Shape.{shape_of}
 use Rattle.memory.specs.Meaning.{meaning}
 use Rattle.memory.specs.Arranged.{Arranged}
 use Rattle.memory.proofs.Becomes.{stride_bytes}
 use Rattle.world.proofs.Removing.{gone_shape}
 use Rattle.command_take.proofs.Taking.{taken_staged, taken_count, taken_length, taken_turn, taken_all, turn_room}
 use Rattle.command_take.proofs.take_staged.Goals as goal
-
--- two words or four
-narrow : (w : List ℕ) (z : Shape) → Arranged w → z ≡ shape_of w → TwoOrFour z.stride
-narrow w z A e = subst (λ (y : Shape). TwoOrFour y.stride) (sym e) A.columns.shaped.words
 
 -- a component's bytes: 1 and the value's
 wide : (w : List ℕ) (z : Shape) (len : ℕ) → Arranged w → z ≡ shape_of w → len ≡ 1 + 4 * z.stride → len ≡ 1 + (meaning w).settings.value_bytes

@@ -4,4 +4,4 @@ use Rattle.world.proofs.destroy.Goals as goal
 
 pub returns : goal.returns
 returns c =
-    destroyed_whole c.args.words.now (entity c.args.e.index c.args.e.version) c.args.place c.requires.live_at c.strip.new.words c.strip.ensures c.destroy.new.words c.destroy.ensures
+    destroyed_whole c.args.words.now (entity c.args.e.index c.args.e.version) c.strip.new.words c.strip.ensures c.destroy.new.words c.destroy.ensures
