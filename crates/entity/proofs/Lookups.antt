@@ -70,6 +70,10 @@ module _ (n : ℕ) (w : List ℕ) where
   unfolding entities_of
   issued_is = refl
 
+  -- the live list is no longer than there is room for
+  pub live_most : EntityPartSound n w → length (entities_of n w).live ≤ n
+  live_most s = omega (arith, length_live, s.linked.room)
+
   module _ (s : EntityPartSound n w) where
     -- the live list's place i with index x is what x's lookup says
     looked_up : (i x : ℕ) → i < length (entities_of n w).live → (get_or (entities_of n w).live i no_entity).index ≡ x → (place_of n w x ≡ i) × (held_of n w x ≡ live_version_at w i) × (1 ≤ live_version_at w i)

@@ -27,6 +27,7 @@ impl EntityPart<'_> {
     }
 
     // The live list's entity at place.
+    #[tactic(auto, using(crate::proofs::Lookups::live_most))]
     pub fn live_at(&self, place: usize) -> Entity
         requires in_range { place < length (entities self.now).live }
         ensures { entity_of_answer result ≡ get_or (entities self.now).live place no_entity }
