@@ -171,21 +171,21 @@ fn fit_of(l: &Layout, staged: &[u8]) -> Fit
     requires { FitAsk (arrays_of l.now) staged.now }
     ensures { result ≡ fit_from staged.now 0 Fit.Fresh (layout_meaning l.now) }
 {
-    let mut acc = Fit::Fresh;
-    let mut k: usize = 0;
-    let mut g: usize = 0;
+    let mut fit = Fit::Fresh;
+    let mut kind_start: usize = 0;
+    let mut group_start: usize = 0;
     for f in 0..l.families {
-        let ke = l.kind_ends[f] as usize;
-        let ge = l.ends[f] as usize;
+        let kind_end = l.kind_ends[f] as usize;
+        let group_end = l.ends[f] as usize;
         let family = Family {
-            kinds: &l.kinds[k..ke],
-            arities: &l.arities[g..ge],
+            kinds: &l.kinds[kind_start..kind_end],
+            arities: &l.arities[group_start..group_end],
         };
-        acc = joined(acc, f, family.part_of(staged));
-        k = ke;
-        g = ge;
+        fit = joined(fit, f, family.part_of(staged));
+        kind_start = kind_end;
+        group_start = group_end;
     }
-    acc
+    fit
 }
 
 // Writes src into dst from at on; what lies before stays.
@@ -274,14 +274,14 @@ fn filled(l: Layout, f: usize, kinds: &[u8], at: usize, arity: u8) -> Layout
     requires { FillAsk l f kinds.now at arity }
     ensures { FillDone l f kinds.now at arity result }
 {
-    let k = start_of(&l.kind_ends, f);
-    let ke = l.kind_ends[f] as usize;
-    let more = kinds.len() - (ke - k);
+    let kind_start = start_of(&l.kind_ends, f);
+    let kind_end = l.kind_ends[f] as usize;
+    let more = kinds.len() - (kind_end - kind_start);
     let mut all = [0u8; model::MAX_KINDS];
-    spread(&mut all, &l.kinds[..l.width], k, ke, kinds);
-    let g = start_of(&l.ends, f) + at;
+    spread(&mut all, &l.kinds[..l.width], kind_start, kind_end, kinds);
+    let place = start_of(&l.ends, f) + at;
     let mut arities = [0u8; words::GROUP_PLACES];
-    spread(&mut arities, &l.arities[..l.groups], g, g, &[arity]);
+    spread(&mut arities, &l.arities[..l.groups], place, place, &[arity]);
     let mut kind_ends = l.kind_ends;
     raise(&mut kind_ends[f..l.families], more as u8);
     let mut ends = l.ends;
@@ -311,9 +311,9 @@ fn grown(l: Layout, f: usize, at: usize, staged: &[u8]) -> Layout
     requires { OntoAsk l f at staged.now }
     ensures { OntoDone l f staged.now result }
 {
-    let k = start_of(&l.kind_ends, f);
-    let ke = l.kind_ends[f] as usize;
-    let all = merged(&l.kinds[k..ke], staged);
+    let kind_start = start_of(&l.kind_ends, f);
+    let kind_end = l.kind_ends[f] as usize;
+    let all = merged(&l.kinds[kind_start..kind_end], staged);
     filled(l, f, all.as_slice(), at, staged.len() as u8)
 }
 

@@ -89,17 +89,23 @@ fn rises(arities: &[u32], n: usize) -> bool
     before == n
 }
 
-// Is there a family from kind k to ke and from group g to ge?
-fn family_ok(arities: &[u32], k: usize, ke: usize, g: usize, ge: usize) -> bool
-    requires { (length arities.now ≡ GROUP_PLACES) × (k ≤ MAX_KINDS) }
-    ensures { Decides result (FamilyInside arities.now k ke g ge) }
+// Is there a family of the kinds from one place to another, and of the groups?
+fn family_ok(
+    arities: &[u32],
+    kind_start: usize,
+    kind_end: usize,
+    group_start: usize,
+    group_end: usize,
+) -> bool
+    requires { (length arities.now ≡ GROUP_PLACES) × (kind_start ≤ MAX_KINDS) }
+    ensures { Decides result (FamilyInside arities.now kind_start kind_end group_start group_end) }
 {
-    k + 2 <= ke
-        && ke <= k + model::MAX_GROUP_ARITY
-        && ke <= model::MAX_KINDS
-        && g < ge
-        && ge <= model::MAX_GROUP_COUNT
-        && rises(&arities[g..ge], ke - k)
+    kind_start + 2 <= kind_end
+        && kind_end <= kind_start + model::MAX_GROUP_ARITY
+        && kind_end <= model::MAX_KINDS
+        && group_start < group_end
+        && group_end <= model::MAX_GROUP_COUNT
+        && rises(&arities[group_start..group_end], kind_end - kind_start)
 }
 
 // Are there families up to each of the ends?
@@ -112,16 +118,16 @@ fn families_ok<'a>(
     requires { EndsAsk arities.now kind_ends.now ends.now families }
     ensures { Decides result (FamiliesFormed (arrays_in [] arities.now kind_ends.now ends.now families)) }
 {
-    let mut k: usize = 0;
-    let mut g: usize = 0;
+    let mut kind_start: usize = 0;
+    let mut group_start: usize = 0;
     for f in 0..families {
-        let ke = kind_ends[f] as usize;
-        let ge = ends[f] as usize;
-        if !family_ok(arities, k, ke, g, ge) {
+        let kind_end = kind_ends[f] as usize;
+        let group_end = ends[f] as usize;
+        if !family_ok(arities, kind_start, kind_end, group_start, group_end) {
             return false;
         }
-        k = ke;
-        g = ge;
+        kind_start = kind_end;
+        group_start = group_end;
     }
     true
 }

@@ -26,15 +26,15 @@ spread-requires c =
     let p = c.requires in
     let a = arrays_of c.args.l in
     let f = c.args.f in
-    let k = c.start_of-k.ensures in
+    let k = c.start_of-kind_start.ensures in
     let long : length (take c.args.l.width c.args.l.kinds) ≡ c.args.l.width = length-take-le _ _ (kinds_long c.requires z) in (
       omega (arith, k, p.loose.kind_order f p.loose.inside),
       omega (arith, kind_inside a f p.loose z, p.width),
       omega (arith, k, p.width, kind_room a f p.loose z c.args.kinds.now p.kind_set),
     )
 
-pub overflow_add-g : goal.overflow_add-g
-overflow_add-g c =
+pub overflow_add-place : goal.overflow_add-place
+overflow_add-place c =
     let z : ArraysSized (arrays_of c.args.l) = search rules in
     omega (arith, c.start_of.ensures, c.requires.place, group_inside (arrays_of c.args.l) c.args.f c.requires.loose z, c.requires.loose.many)
 
@@ -56,7 +56,7 @@ raise-requires c =
     let z : ArraysSized (arrays_of c.args.l) = search rules in
     let p = c.requires in
     let a = arrays_of c.args.l in
-    let k = c.start_of-k.ensures in
+    let k = c.start_of-kind_start.ensures in
     let room = kind_room a c.args.f p.loose z c.args.kinds.now p.kind_set in
     part_asked a.kind_ends c.args.f a.families _ (omega (arith, p.loose.inside))
     (record {
@@ -83,7 +83,7 @@ returns c =
     let a = arrays_of l in
     let f = c.args.f in
     let kinds = c.args.kinds.now in
-    let k = c.start_of-k.ensures in
+    let k = c.start_of-kind_start.ensures in
     let room = kind_room a f p.loose z kinds p.kind_set in
     let o = p.loose.kind_order f p.loose.inside in
     let few : f ≤ a.families = omega (arith, p.loose.inside) in

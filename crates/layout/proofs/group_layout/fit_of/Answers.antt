@@ -23,7 +23,7 @@ invariant_of-family c =
     let p = c.requires in
     let l = c.loop-f in
     let a = c.args.l.now in
-    let asked : FamilyAsk (between l.k (get_or a.kind_ends l.f 0) a.kinds) (between l.g (get_or a.ends l.f 0) a.arities) c.args.staged.now =
+    let asked : FamilyAsk (between l.kind_start (get_or a.kind_ends l.f 0) a.kinds) (between l.group_start (get_or a.ends l.f 0) a.arities) c.args.staged.now =
     rw (l.invariant.1, l.invariant.2) (family_ask _ p.good p.sized _ p.staged l.f c.loop-f-test.true) in
     record { once = asked.kinds; rising = ∣ asked.rising ∣₁ }
 
@@ -35,12 +35,12 @@ loop-f-preserved c =
       omega arith,
       sym (start_next a.kind_ends l.f),
       sym (start_next a.ends l.f),
-      l.invariant.3 ∙ fit_step (arrays_of a) hs l.f l.acc c.loop-f-test.true
+      l.invariant.3 ∙ fit_step (arrays_of a) hs l.f l.fit c.loop-f-test.true
           ∙ ap (λ (r : Fit). fit_from hs (l.f + 1) r (drop (l.f + 1) (layout_meaning a)))
-          (sym (c.joined-acc.ensures ∙ ap (join_fit l.acc l.f) (c.part_of.ensures ∙ ap₂ (λ (k g : ℕ). part_of hs (groups_from [] 0 (between k (get_or a.kind_ends l.f 0) a.kinds) 0 (between g (get_or a.ends l.f 0) a.arities))) l.invariant.1 l.invariant.2))),
+          (sym (c.joined-fit.ensures ∙ ap (join_fit l.fit l.f) (c.part_of.ensures ∙ ap₂ (λ (k g : ℕ). part_of hs (groups_from [] 0 (between k (get_or a.kind_ends l.f 0) a.kinds) 0 (between g (get_or a.ends l.f 0) a.arities))) l.invariant.1 l.invariant.2))),
     )
 
 pub returns : goal.returns
 returns c =
     let l = c.loop-f in
-    sym (l.invariant.3 ∙ fit_end (arrays_of c.args.l.now) c.args.staged.now l.f l.acc (omega arith))
+    sym (l.invariant.3 ∙ fit_end (arrays_of c.args.l.now) c.args.staged.now l.f l.fit (omega arith))

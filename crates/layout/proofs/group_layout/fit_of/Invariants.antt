@@ -8,5 +8,5 @@ use Rattle.layout.proofs.group_layout.fit_of.Given as goal
 
 abbrev pub invariant-loop-f : goal.invariant-loop-f
 invariant-loop-f l =
-    (l.f ≤ l.l.families) × (l.k ≡ start_of l.l.kind_ends l.f) × (l.g ≡ start_of l.l.ends l.f)
-    × (fit_from l.staged 0 l.initial.acc (layout_meaning l.l) ≡ fit_from l.staged l.f l.acc (drop l.f (layout_meaning l.l)))
+    (l.f ≤ l.l.families) × (l.kind_start ≡ start_of l.l.kind_ends l.f) × (l.group_start ≡ start_of l.l.ends l.f)
+    × (fit_from l.staged 0 l.initial.fit (layout_meaning l.l) ≡ fit_from l.staged l.f l.fit (drop l.f (layout_meaning l.l)))

@@ -28,7 +28,7 @@ merged-all-requires c =
     let l = c.args.l in
     let f = c.args.f in
     let hs = c.args.staged.now in
-    let e = part_kinds c.args.l c.args.f _ c.start_of-k.ensures in (
+    let e = part_kinds c.args.l c.args.f _ c.start_of-kind_start.ensures in (
       rw e (omega (arith, own_length l f c.args.at hs c.requires z, (c.requires.group.formed.good.family f c.requires.inside).most)),
       omega (arith, c.requires.group.most),
       rw e (omega (arith, all_most l f c.args.at hs c.requires z)),
@@ -38,12 +38,12 @@ pub filled-requires : goal.filled-requires
 filled-requires c =
     let z : ArraysSized (arrays_of c.args.l) = search rules in
     let hs = c.args.staged.now in
-    let same = c.as_slice.ensures ∙ c.merged-all.ensures ∙ ap (λ (ks : List ℕ). merged_kinds ks hs) (part_kinds c.args.l c.args.f _ c.start_of-k.ensures) in
+    let same = c.as_slice.ensures ∙ c.merged-all.ensures ∙ ap (λ (ks : List ℕ). merged_kinds ks hs) (part_kinds c.args.l c.args.f _ c.start_of-kind_start.ensures) in
     rw same (onto_places c.args.l c.args.f c.args.at hs c.requires z)
 
 pub returns : goal.returns
 returns c =
     let z : ArraysSized (arrays_of c.args.l) = search rules in
     let hs = c.args.staged.now in
-    let same = c.as_slice.ensures ∙ c.merged-all.ensures ∙ ap (λ (ks : List ℕ). merged_kinds ks hs) (part_kinds c.args.l c.args.f _ c.start_of-k.ensures) in
+    let same = c.as_slice.ensures ∙ c.merged-all.ensures ∙ ap (λ (ks : List ℕ). merged_kinds ks hs) (part_kinds c.args.l c.args.f _ c.start_of-kind_start.ensures) in
     onto_done c.args.l c.args.f c.args.at hs c.requires z c.filled.result (rw same at c.filled.ensures)
