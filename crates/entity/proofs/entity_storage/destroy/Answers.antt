@@ -7,17 +7,14 @@ use Rattle.entity.specs.Change.{left, recycled_as}
 use Rattle.model.specs.Model.{entity}
 use Rattle.entity.proofs.entity_storage.destroy.Goals as goal
 
-pub remove-requires : goal.remove-requires
-remove-requires c =
-    let a = c.args in
-    record { sound = c.requires.sound; in_range = (found_place a.n a.part.now a.e.index a.e.version a.place c.requires.live_at).0 }
+pub remove-requires-clause-in_range : goal.remove-requires-clause-in_range
+remove-requires-clause-in_range c = let a = c.args in (found_place a.n a.part.now a.e.index a.e.version a.place c.requires.live_at).0
 
-pub recycle-requires : goal.recycle-requires
-recycle-requires c =
+pub recycle-requires-clause-idle : goal.recycle-requires-clause-idle
+recycle-requires-clause-idle c =
     let a = c.args in
     let q = found_place a.n a.part.now a.e.index a.e.version a.place c.requires.live_at in
-    let r = c.remove.ensures in
-    record { sound = r.0.sound; idle = rw q.1 at r.1 }
+    rw q.1 at c.remove.ensures.1
 
 pub returns : goal.returns
 returns c =
