@@ -67,103 +67,93 @@ fn rising_kinds(words: &[u32]) -> KindList<MAX_KINDS>
     list
 }
 
-// One component, if the entity holds the kind. Here and below z is the shape of the store.
-fn write_one(words: &[u32], z: Shape, kind: usize, e: Entity, out: &mut [u8], at: usize) -> usize
-    requires arranged { Arranged words.now }
-    requires shape_is { z ≡ shape_of words.now }
-    requires kind_known { In (meaning words.now).kinds kind }
-    requires room { at + length (one_bytes (4 * z.stride) (value_at (entity e.index e.version) (kind_set words.now kind)) kind) ≤ length out.old }
-    ensures { WrittenUntil out.old out.new at result (one_bytes (4 * z.stride) (value_at (entity e.index e.version) (kind_set words.now kind)) kind) }
-{
-    let found = kinds::find(words, z, kind, e);
-    let Found::At(place) = found else {
-        return at;
-    };
-    let value = kinds::value_of(words, z, kind, place);
-    out[at] = kind as u8;
-    values::put_bytes(out, at + 1, z.width(), value);
-    at + 1 + model::WORD_BYTES * z.stride
+// What a snapshot is read from: the words of a store, its shape, and its registered kinds, rising. That the words are well arranged
+// is a clause of each method, and no ghost field: it goes by cases, and a field takes a fact that has one proof at most.
+#[derive(Drop)]
+struct Roll<'a> {
+    words: &'a [u32],
+    shape: Shape,
+    kinds: &'a [u8],
+    ghost shape_is: { shape ≡ shape_of words.now },
+    ghost rising: { kinds.now ≡ rising_kinds (meaning words.now).kinds },
 }
 
-// The entity's components.
-fn write_components(
-    words: &[u32],
-    z: Shape,
-    list: &[u8],
-    e: Entity,
-    out: &mut [u8],
-    at: usize,
-) -> usize
-    requires arranged { Arranged words.now }
-    requires shape_is { z ≡ shape_of words.now }
-    requires rising { list.now ≡ rising_kinds (meaning words.now).kinds }
-    requires room { at + length (component_bytes (4 * z.stride) (components_of (entity e.index e.version) 0 (meaning words.now).storage.sets)) ≤ length out.old }
-    ensures { WrittenUntil out.old out.new at result (component_bytes (4 * z.stride) (components_of (entity e.index e.version) 0 (meaning words.now).storage.sets)) }
-{
-    let mut next = at;
-    for &kind in list {
-        next = write_one(words, z, kind as usize, e, out, next);
+impl Roll<'_> {
+    // One component, if the entity holds the kind.
+    fn write_one(&self, kind: usize, e: Entity, out: &mut [u8], at: usize) -> usize
+        requires arranged { Arranged self.now.words.now }
+        requires kind_known { In (meaning self.now.words.now).kinds kind }
+        requires room { at + length (one_bytes (4 * self.now.shape.stride) (value_at (entity e.index e.version) (kind_set self.now.words.now kind)) kind) ≤ length out.old }
+        ensures { WrittenUntil out.old out.new at result (one_bytes (4 * self.now.shape.stride) (value_at (entity e.index e.version) (kind_set self.now.words.now kind)) kind) }
+    {
+        let found = kinds::find(self.words, self.shape, kind, e);
+        let Found::At(place) = found else {
+            return at;
+        };
+        let value = kinds::value_of(self.words, self.shape, kind, place);
+        out[at] = kind as u8;
+        values::put_bytes(out, at + 1, self.shape.width(), value);
+        at + 1 + model::WORD_BYTES * self.shape.stride
     }
-    next
-}
 
-// One entity: its numbers, how many components it has, and these.
-fn write_entity(words: &[u32], z: Shape, list: &[u8], e: Entity, out: &mut [u8], at: usize) -> usize
-    requires arranged { Arranged words.now }
-    requires shape_is { z ≡ shape_of words.now }
-    requires rising { list.now ≡ rising_kinds (meaning words.now).kinds }
-    requires room { at + length (entry_bytes (4 * z.stride) (entry_for words.now e.index e.version)) ≤ length out.old }
-    ensures { WrittenUntil out.old out.new at result (entry_bytes (4 * z.stride) (entry_for words.now e.index e.version)) }
-{
-    codec::put::<4>(out, at, e.index);
-    codec::put::<4>(out, at + 4, e.version);
-    let start = at + 9;
-    let end = write_components(words, z, list, e, out, start);
-    out[at + 8] = ((end - start) / (1 + model::WORD_BYTES * z.stride)) as u8;
-    end
-}
-
-// The live entity with this index, if there is one.
-fn write_index(
-    words: &[u32],
-    z: Shape,
-    list: &[u8],
-    index: usize,
-    out: &mut [u8],
-    at: usize,
-) -> usize
-    requires arranged { Arranged words.now }
-    requires shape_is { z ≡ shape_of words.now }
-    requires rising { list.now ≡ rising_kinds (meaning words.now).kinds }
-    requires index_bound { index < (meaning words.now).settings.capacity }
-    requires room { at + length (index_bytes (4 * z.stride) words.now index) ≤ length out.old }
-    ensures { WrittenUntil out.old out.new at result (index_bytes (4 * z.stride) words.now index) }
-{
-    let version = control::entities::version_at(words, index);
-    if version == 0 {
-        return at;
+    // The entity's components.
+    fn write_components(&self, e: Entity, out: &mut [u8], at: usize) -> usize
+        requires arranged { Arranged self.now.words.now }
+        requires room { at + length (component_bytes (4 * self.now.shape.stride) (components_of (entity e.index e.version) 0 (meaning self.now.words.now).storage.sets)) ≤ length out.old }
+        ensures { WrittenUntil out.old out.new at result (component_bytes (4 * self.now.shape.stride) (components_of (entity e.index e.version) 0 (meaning self.now.words.now).storage.sets)) }
+    {
+        let mut next = at;
+        for &kind in self.kinds {
+            next = self.write_one(kind as usize, e, out, next);
+        }
+        next
     }
-    let e = Entity {
-        index: index as u32,
-        version,
-    };
-    write_entity(words, z, list, e, out, at)
-}
 
-// All live entities.
-fn write_entities(words: &[u32], z: Shape, list: &[u8], out: &mut [u8], at: usize) -> usize
-    requires arranged { Arranged words.now }
-    requires shape_is { z ≡ shape_of words.now }
-    requires rising { list.now ≡ rising_kinds (meaning words.now).kinds }
-    requires room { at + length (flat (4 * z.stride) (listing (meaning words.now))) ≤ length out.old }
-    ensures { WrittenUntil out.old out.new at result (flat (4 * z.stride) (listing (meaning words.now))) }
-{
-    let issued = control::entities::issued(words);
-    let mut next = at;
-    for index in 0..issued {
-        next = write_index(words, z, list, index, out, next);
+    // One entity: its numbers, how many components it has, and these.
+    fn write_entity(&self, e: Entity, out: &mut [u8], at: usize) -> usize
+        requires arranged { Arranged self.now.words.now }
+        requires room { at + length (entry_bytes (4 * self.now.shape.stride) (entry_for self.now.words.now e.index e.version)) ≤ length out.old }
+        ensures { WrittenUntil out.old out.new at result (entry_bytes (4 * self.now.shape.stride) (entry_for self.now.words.now e.index e.version)) }
+    {
+        codec::put::<4>(out, at, e.index);
+        codec::put::<4>(out, at + 4, e.version);
+        let start = at + 9;
+        let end = self.write_components(e, out, start);
+        out[at + 8] = ((end - start) / (1 + model::WORD_BYTES * self.shape.stride)) as u8;
+        end
     }
-    next
+
+    // The live entity with this index, if there is one.
+    fn write_index(&self, index: usize, out: &mut [u8], at: usize) -> usize
+        requires arranged { Arranged self.now.words.now }
+        requires index_bound { index < (meaning self.now.words.now).settings.capacity }
+        requires room { at + length (index_bytes (4 * self.now.shape.stride) self.now.words.now index) ≤ length out.old }
+        ensures { WrittenUntil out.old out.new at result (index_bytes (4 * self.now.shape.stride) self.now.words.now index) }
+    {
+        let version = control::entities::version_at(self.words, index);
+        if version == 0 {
+            return at;
+        }
+        let e = Entity {
+            index: index as u32,
+            version,
+        };
+        self.write_entity(e, out, at)
+    }
+
+    // All live entities.
+    fn write_entities(&self, out: &mut [u8], at: usize) -> usize
+        requires arranged { Arranged self.now.words.now }
+        requires room { at + length (flat (4 * self.now.shape.stride) (listing (meaning self.now.words.now))) ≤ length out.old }
+        ensures { WrittenUntil out.old out.new at result (flat (4 * self.now.shape.stride) (listing (meaning self.now.words.now))) }
+    {
+        let issued = control::entities::issued(self.words);
+        let mut next = at;
+        for index in 0..issued {
+            next = self.write_index(index, out, next);
+        }
+        next
+    }
 }
 
 // The snapshot, at the front of bytes that have room for it.
@@ -172,9 +162,14 @@ pub fn write_snapshot(words: &[u32], out: &mut [u8]) -> usize
     requires room { length (snapshot (meaning words.now)) ≤ length out.old }
     ensures { WrittenUntil out.old out.new 0 result (snapshot (meaning words.now)) }
 {
-    let z = words::shape_of(words);
+    let shape = words::shape_of(words);
     let list = rising_kinds(words);
     let live = control::entities::live_len(words);
     codec::put::<4>(out, 0, live as u32);
-    write_entities(words, z, list.as_slice(), out, 4)
+    let roll = Roll {
+        words,
+        shape,
+        kinds: list.as_slice(),
+    };
+    roll.write_entities(out, 4)
 }

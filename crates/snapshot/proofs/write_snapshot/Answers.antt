@@ -17,17 +17,17 @@ overflow_cast-live c =
 
 pub put-requires-clause-room : goal.put-requires-clause-room
 put-requires-clause-room c =
-    let width : 4 * c.shape_of-z.result.stride ≡ (meaning c.args.words.now).settings.value_bytes = ap (λ (z : Shape). 4 * z.stride) c.shape_of-z.ensures.is ∙ stride_bytes c.args.words.now c.requires.arranged in
-    let whole : length (snapshot (meaning c.args.words.now)) ≡ 4 + length (flat (4 * c.shape_of-z.result.stride) (listing (meaning c.args.words.now))) = snapshot_length (meaning c.args.words.now) (4 * c.shape_of-z.result.stride) (width) in
+    let width : 4 * c.shape_of-shape.result.stride ≡ (meaning c.args.words.now).settings.value_bytes = ap (λ (z : Shape). 4 * z.stride) c.shape_of-shape.ensures.is ∙ stride_bytes c.args.words.now c.requires.arranged in
+    let whole : length (snapshot (meaning c.args.words.now)) ≡ 4 + length (flat (4 * c.shape_of-shape.result.stride) (listing (meaning c.args.words.now))) = snapshot_length (meaning c.args.words.now) (4 * c.shape_of-shape.result.stride) (width) in
     omega (arith, whole, c.requires.room)
 
 pub write_entities-requires-clause-room : goal.write_entities-requires-clause-room
 write_entities-requires-clause-room c =
-    let width : 4 * c.shape_of-z.result.stride ≡ (meaning c.args.words.now).settings.value_bytes = ap (λ (z : Shape). 4 * z.stride) c.shape_of-z.ensures.is ∙ stride_bytes c.args.words.now c.requires.arranged in
-    let whole : length (snapshot (meaning c.args.words.now)) ≡ 4 + length (flat (4 * c.shape_of-z.result.stride) (listing (meaning c.args.words.now))) = snapshot_length (meaning c.args.words.now) (4 * c.shape_of-z.result.stride) (width) in
+    let width : 4 * c.shape_of-shape.result.stride ≡ (meaning c.args.words.now).settings.value_bytes = ap (λ (z : Shape). 4 * z.stride) c.shape_of-shape.ensures.is ∙ stride_bytes c.args.words.now c.requires.arranged in
+    let whole : length (snapshot (meaning c.args.words.now)) ≡ 4 + length (flat (4 * c.shape_of-shape.result.stride) (listing (meaning c.args.words.now))) = snapshot_length (meaning c.args.words.now) (4 * c.shape_of-shape.result.stride) (width) in
     omega (arith, whole, c.requires.room, c.put.auto.out)
 
 pub returns : goal.returns
 returns c =
-    let width : 4 * c.shape_of-z.result.stride ≡ (meaning c.args.words.now).settings.value_bytes = ap (λ (z : Shape). 4 * z.stride) c.shape_of-z.ensures.is ∙ stride_bytes c.args.words.now c.requires.arranged in
-    snapshot_written (meaning c.args.words.now) (4 * c.shape_of-z.result.stride) width c.live_len-live.result c.live_len-live.ensures c.put.ensures c.write_entities.ensures
+    let width : 4 * c.shape_of-shape.result.stride ≡ (meaning c.args.words.now).settings.value_bytes = ap (λ (z : Shape). 4 * z.stride) c.shape_of-shape.ensures.is ∙ stride_bytes c.args.words.now c.requires.arranged in
+    snapshot_written (meaning c.args.words.now) (4 * c.shape_of-shape.result.stride) width c.live_len-live.result c.live_len-live.ensures c.put.ensures c.write_entities.ensures
