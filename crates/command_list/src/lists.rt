@@ -1,15 +1,17 @@
 // HOLD, BAR and EMPTY: the staged components and the excluded kinds.
 ghost use Rattle.std.specs.Prelude.{◌≡◌};
 ghost use Rattle.model.specs.Commands.{HOLD, BAR, EMPTY};
-ghost use Rattle.model.specs.Refusals.{unknown_kind};
+ghost use Rattle.model.specs.Refusals.{first_line, unknown_kind};
 ghost use Rattle.model.specs.Run.{does};
 ghost use Rattle.words.specs.Shape.{shape_of};
 ghost use Rattle.values.specs.Values.{value_of};
 ghost use Rattle.memory.specs.Meaning.{meaning};
 ghost use Rattle.memory.specs.Arranged.{Arranged};
 ghost use Rattle.command.specs.Acted.{Ready, Acted};
+ghost use Rattle.command_list.specs.Listing.{list_lines, number_of};
 
 use command::answers::{ack, refuse};
+use control::lists::{Excluded, KindsInWords, Staged};
 use model::refusals::Refusal;
 use values::Value;
 
@@ -18,13 +20,24 @@ pub fn is_unknown(words: &[u32], kind: usize) -> bool
     requires { Arranged words.now }
     ensures { result ≡ unknown_kind kind (meaning words.now) }
 {
-    if model::LAST_KIND < kind {
-        return true;
+    model::LAST_KIND < kind || !kinds::is_registered(words, kind)
+}
+
+// Why the list takes no such kind, if it does not: the first line that holds, in the table's order.
+fn refusal<L: KindsInWords>(words: &[u32], kind: usize) -> Option<Refusal>
+    requires { Arranged words.now }
+    ensures { number_of result ≡ first_line (list_lines L.kinds L.count kind) (meaning words.now) }
+{
+    if is_unknown(words, kind) {
+        return Some(Refusal::Kind);
     }
-    if kinds::is_registered(words, kind) {
-        return false;
+    if L::contains(words, kind) {
+        return Some(Refusal::Again);
     }
-    true
+    if model::LIST_CAPACITY <= L::len(words) {
+        return Some(Refusal::Handful);
+    }
+    None
 }
 
 // HOLD: a kind with its value, staged.
@@ -32,17 +45,11 @@ pub fn hold(words: &mut [u32], kind: u8, x: Value, out: &mut [u8], at: usize) ->
     requires { Ready words.old out.old at (HOLD kind (value_of (shape_of words.old).stride x)) }
     ensures { Acted words.old words.new out.old out.new at result (does (HOLD kind (value_of (shape_of words.old).stride x)) (meaning words.old)) }
 {
-    let k = kind as usize;
-    if is_unknown(words, k) {
-        return refuse(words, out, at, Refusal::Kind);
+    let kind = kind as usize;
+    if let Some(refusal) = refusal::<Staged>(words, kind) {
+        return refuse(words, out, at, refusal);
     }
-    if control::staged::is_staged(words, k) {
-        return refuse(words, out, at, Refusal::Again);
-    }
-    if model::LIST_CAPACITY <= control::staged::staged_len(words) {
-        return refuse(words, out, at, Refusal::Handful);
-    }
-    control::staged::stage(words, k, x);
+    control::staged::stage(words, kind, x);
     ack(out, at)
 }
 
@@ -51,17 +58,11 @@ pub fn bar(words: &mut [u32], kind: u8, out: &mut [u8], at: usize) -> usize
     requires { Ready words.old out.old at (BAR kind) }
     ensures { Acted words.old words.new out.old out.new at result (does (BAR kind) (meaning words.old)) }
 {
-    let k = kind as usize;
-    if is_unknown(words, k) {
-        return refuse(words, out, at, Refusal::Kind);
+    let kind = kind as usize;
+    if let Some(refusal) = refusal::<Excluded>(words, kind) {
+        return refuse(words, out, at, refusal);
     }
-    if control::excluded::is_excluded(words, k) {
-        return refuse(words, out, at, Refusal::Again);
-    }
-    if model::LIST_CAPACITY <= control::excluded::excluded_len(words) {
-        return refuse(words, out, at, Refusal::Handful);
-    }
-    control::excluded::exclude(words, k);
+    control::excluded::exclude(words, kind);
     ack(out, at)
 }
 

@@ -14,12 +14,7 @@ fn no_slot(words: &[u32]) -> bool
     requires { Arranged words.now }
     ensures { result ≡ leb (meaning words.now).settings.kind_capacity (length (meaning words.now).kinds) }
 {
-    let most = words::word(words, words::KIND_CAPACITY);
-    let count = words::word(words, words::REGISTERED);
-    if most <= count {
-        return true;
-    }
-    false
+    words::word(words, words::KIND_CAPACITY) <= words::word(words, words::REGISTERED)
 }
 
 // Told 1 where the kind is new, 0 where it is known.

@@ -5,17 +5,17 @@ use Prim.Native.Nat.{ℕ, ◌+◌, ◌≤◌, ◌<◌}
 use native.Mathlib.Omega.{arith}
 use lib.ListN.{length, get_or}
 use Rattle.std.specs.Prelude.{Option, Some, None}
-use Rattle.words.specs.Offsets.{ARITIES, ENTITIES, EXCLUDED_KINDS, GROUP_COUNTS, GROUP_FAMILIES, KIND_ENDS, LAYOUT, LAYOUT_ARITIES, LAYOUT_KIND_ENDS, STAGED_KINDS}
+use Rattle.words.specs.Offsets.{ARITIES, ENTITIES, GROUP_COUNTS, GROUP_FAMILIES, KIND_ENDS, LAYOUT, LAYOUT_ARITIES, LAYOUT_KIND_ENDS}
 use Rattle.model.specs.Model.{none, range_for}
 use Rattle.model.specs.Sound.{In}
+use Rattle.model.specs.Store.{Store}
 use Rattle.words.specs.Part.{between}
 use Rattle.words.proofs.Part.{length_between, between_none, between_part, between_more, between_in}
 use Rattle.layout.specs.Layout.{Arrays}
-use Rattle.memory.specs.Header.{staged_len, excluded_len}
 use Rattle.memory.specs.Meaning.{layout_arrays, meaning}
 use Rattle.memory.specs.Arranged.{Arranged, Sound}
+use Rattle.memory.specs.KindLists.{KeptAt}
 use Rattle.memory.proofs.Frames.{long, layout_sized}
-use Rattle.control.proofs.Control.{staged_kinds_law, excluded_kinds}
 use Rattle.group.proofs.InWords.{layout_means}
 use Rattle.group_info.specs.Info.{ViewAdded, InsideFound, info_of, Tables}
 use Rattle.group_info.specs.Describes.{ViewOf, DescribesQuery, Scattered, range_of, RangeSays}
@@ -24,7 +24,7 @@ use Rattle.group_info.specs.declared.QueryGroupInfo.{QueryGroupInfo}
 use Rattle.group_info.specs.declared.GroupRange.{GroupRange}
 use Rattle.group_info.proofs.Describing.{describes_more, describes_inside}
 use Rattle.group_info.proofs.Answers.{scattered_staged, scattered_excluded, scattered_more}
-use Rattle.command_range.specs.Query.{QueryOf, KindAdded, KindsBetween}
+use Rattle.command_range.specs.Query.{QueryOf, KindAdded}
 use Rattle.group_info.specs.declared.QueryGroupInfo.TheVariants as query
 
 module _ (w : List ℕ) (A : Arranged w) where
@@ -49,8 +49,15 @@ module _ (w : List ℕ) (A : Arranged w) where
   query_turn start i k q r h l e d more =
       subst (λ (hs : List ℕ). QueryOf w hs r) (ap (λ (x : ℕ). between start i w ++ (x ∷ [])) e ∙ sym (between_more start i w h l)) (more (between start i w) d)
 
-  pub kind_known : (start end i k : ℕ) → KindsBetween w start end → start ≤ i → i < end → k ≡ get_or w i 0 → In (meaning w).kinds k
-  kind_known start end i k K h l e = K.known k (subst (In (between start end w)) (sym e) (between_in start end i w h l K.within))
+  -- a kind of the list is registered
+  pub kind_known : Sound w → (len first : ℕ) (kinds : Store → List ℕ) (count : Store → ℕ) → KeptAt len first kinds count → (n i k : ℕ) → n ≡ count (meaning w) → first ≤ i → i < first + n → k ≡ get_or w i 0 → In (meaning w).kinds k
+  kind_known S len first kinds count kept n i k is h l e =
+      let many : n ≡ get_or w len 0 = is ∙ kept.counted w A in
+      let listed : In (between first (first + get_or w len 0) w) (get_or w i 0) = between_in first (first + get_or w len 0) i w h (omega arith) (omega (arith, kept.few w A, kept.inside, long w A)) in
+      kept.known (meaning w) S.means k (subst (λ (l : List ℕ). In l k) (sym (kept.read w A)) (rw e listed))
+
+  pub all_listed : (len first : ℕ) (kinds : Store → List ℕ) (count : Store → ℕ) → KeptAt len first kinds count → (n : ℕ) → n ≡ count (meaning w) → between first (first + n) w ≡ kinds (meaning w)
+  all_listed len first kinds count kept n is = rw (is, kept.counted w A) (sym (kept.read w A))
 
   -- ---- the range
 
@@ -85,21 +92,3 @@ module _ (w : List ℕ) (A : Arranged w) where
 
   pub no_excluded : (hs bs : List ℕ) → Scattered (layout_arrays w) bs → none ≡ range_for hs bs (meaning w).storage
   no_excluded hs bs x = sym (scattered_excluded a (meaning w).storage (between GROUP_COUNTS ENTITIES w) A.layout.formed (layout_sized w A) (layout_means w A) hs bs x)
-
--- ---- the lists in the words
-
-pub staged_in_law : (w : List ℕ) → Sound w → (n : ℕ) → n ≡ staged_len w → KindsBetween w STAGED_KINDS (STAGED_KINDS + n)
-staged_in_law w S n e =
-    record {
-      rising = omega arith;
-      within = omega (arith, S.arranged.staged, long w S.arranged);
-      known = λ k i. S.means.staged.known k (subst (λ (l : List ℕ). In l k) (ap (λ (m : ℕ). between STAGED_KINDS (STAGED_KINDS + m) w) e ∙ sym (staged_kinds_law w S.arranged)) i);
-    }
-
-pub excluded_in_law : (w : List ℕ) → Sound w → (n : ℕ) → n ≡ excluded_len w → KindsBetween w EXCLUDED_KINDS (EXCLUDED_KINDS + n)
-excluded_in_law w S n e =
-    record {
-      rising = omega arith;
-      within = omega (arith, S.arranged.excluded, long w S.arranged);
-      known = λ k i. S.means.excluded.known k (subst (λ (l : List ℕ). In l k) (ap (λ (m : ℕ). between EXCLUDED_KINDS (EXCLUDED_KINDS + m) w) e ∙ sym (excluded_kinds w S.arranged)) i);
-    }

@@ -1,8 +1,6 @@
 -- What the queries of the staged and of the excluded kinds say, over the words. Assumes nothing.
-use Rattle.std.specs.Prelude.{List, [], ◌∷◌, ◌++◌, ℕ, ◌≤◌, length, Option, Some, None}
+use Rattle.std.specs.Prelude.{List, [], ◌∷◌, ◌++◌, ℕ, Option, Some, None}
 use Rattle.model.specs.Model.{Storage}
-use Rattle.model.specs.Sound.{In}
-use Rattle.words.specs.Part.{between}
 use Rattle.layout.specs.Layout.{Arrays}
 use Rattle.memory.specs.Meaning.{layout_arrays, meaning}
 use Rattle.group_info.specs.Describes.{DescribesQuery, Scattered}
@@ -20,9 +18,3 @@ QueryOf w hs r = QuerySays (layout_arrays w) (meaning w).storage hs r
 -- what a kind more makes of it
 abbrev pub KindAdded : List ℕ → Option QueryGroupInfo → ℕ → Option QueryGroupInfo → Type 0
 KindAdded w q k r = (hs : List ℕ) → QueryOf w hs q → QueryOf w (hs ++ (k ∷ [])) r
-
--- the words from start to end are registered kinds
-pub record KindsBetween (w : List ℕ) (start end : ℕ) : Type 0 where
-  pub rising : start ≤ end
-  pub within : end ≤ length w
-  pub known : (k : ℕ) → In (between start end w) k → In (meaning w).kinds k

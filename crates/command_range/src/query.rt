@@ -3,12 +3,12 @@ ghost use Rattle.std.specs.Prelude.{◌≡◌};
 ghost use Rattle.model.specs.Model.{range_for, range_under};
 ghost use Rattle.model.specs.Sound.{In};
 ghost use Rattle.model.specs.Store.{staged_kinds};
-ghost use Rattle.words.specs.Part.{between};
 ghost use Rattle.memory.specs.Meaning.{layout_arrays, meaning};
 ghost use Rattle.memory.specs.Arranged.{Arranged, Sound};
 ghost use Rattle.group_info.specs.Describes.{InfoOfKind, ViewOf, range_of};
-ghost use Rattle.command_range.specs.Query.{QueryOf, KindAdded, KindsBetween};
+ghost use Rattle.command_range.specs.Query.{QueryOf, KindAdded};
 
+use control::lists::{Excluded, KindsInWords, Staged};
 use group_info::{GroupInfo, GroupRange, QueryGroupInfo, ViewGroupInfo};
 use words::Found;
 
@@ -47,34 +47,16 @@ fn add_kind(words: &[u32], found: Option<QueryGroupInfo>, kind: usize) -> Option
     found?.add_view(view_of(words, kind))
 }
 
-// The query of the kinds that the words from start to end are.
-fn query_of(words: &[u32], start: usize, end: usize) -> Option<QueryGroupInfo>
-    requires arranged { Arranged words.now }
-    requires kinds_between { KindsBetween words.now start end }
-    ensures { QueryOf words.now (between start end words.now) result }
+// The query of a list's kinds.
+pub fn listed_query<L: KindsInWords>(words: &[u32]) -> Option<QueryGroupInfo>
+    requires { Sound words.now }
+    ensures { QueryOf words.now (L.kinds (meaning words.now)) result }
 {
     let mut found = Some(QueryGroupInfo::Empty);
-    for at in start..end {
-        let kind = words::word(words, at);
-        found = add_kind(words, found, kind);
+    for at in L::KINDS_AT..L::KINDS_AT + L::len(words) {
+        found = add_kind(words, found, words::word(words, at));
     }
     found
-}
-
-pub fn staged_query(words: &[u32]) -> Option<QueryGroupInfo>
-    requires { Sound words.now }
-    ensures { QueryOf words.now (staged_kinds (meaning words.now)) result }
-{
-    let count = words::word(words, words::STAGED_LEN);
-    query_of(words, words::STAGED_KINDS, words::STAGED_KINDS + count)
-}
-
-pub fn excluded_query(words: &[u32]) -> Option<QueryGroupInfo>
-    requires { Sound words.now }
-    ensures { QueryOf words.now (meaning words.now).control.excluded result }
-{
-    let count = words::word(words, words::EXCLUDED_LEN);
-    query_of(words, words::EXCLUDED_KINDS, words::EXCLUDED_KINDS + count)
 }
 
 // 01, RANGE: the range of the staged kinds without the excluded ones.
@@ -83,8 +65,8 @@ pub fn group_range(words: &[u32]) -> Option<GroupRange>
     ensures { range_of result ≡ range_for (staged_kinds (meaning words.now)) (meaning words.now).control.excluded (meaning words.now).storage }
 {
     group_info::group_range(
-        staged_query(words)?,
-        excluded_query(words)?,
+        listed_query::<Staged>(words)?,
+        listed_query::<Excluded>(words)?,
         &words[words::LAYOUT_ARITIES..words::LAYOUT_KIND_ENDS],
         &words[words::GROUP_COUNTS..words::ENTITIES],
     )
@@ -95,7 +77,7 @@ pub fn range_under(words: &[u32]) -> Option<GroupRange>
     requires { Sound words.now }
     ensures { range_of result ≡ range_under (meaning words.now).settings.newer (staged_kinds (meaning words.now)) (meaning words.now).control.excluded (meaning words.now).storage }
 {
-    if control::rule::is_newer(words) && 1 < control::excluded::excluded_len(words) {
+    if control::rule::is_newer(words) && 1 < Excluded::len(words) {
         return None;
     }
     group_range(words)

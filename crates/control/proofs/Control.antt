@@ -12,15 +12,14 @@ use lib.ListN.{length, get_or, set, take, drop}
 use lib.Seq.{sets, length-sets, set-get_or, get_or-set_same, get_or-set_other}
 use Rattle.model.specs.Numbers.{CALLERS, LAST_CALLER, LIST_CAPACITY, MAX_REFUSALS, MAX_KINDS, stride_of}
 use Rattle.words.specs.Offsets.{CALLER, DRAFT, DRAFT_FAMILIES, DRAFT_GROUPS, ENTITIES, EXCLUDED_KINDS, EXCLUDED_LEN, MORE_SETTINGS, REFUSALS, STAGED_KINDS, STAGED_LEN, STAGED_VALUE_LEN, STAGED_VALUES, TABLE, VALUE_WIDTH}
-use Rattle.model.specs.Model.{Component, Family, kind_of}
+use Rattle.model.specs.Model.{Component, Family}
 use Rattle.model.specs.Sound.{no_component}
-use Rattle.model.specs.Store.{Counts, Control, staged_kinds, with_control, with_counts, with_caller, empty_staged, empty_both, own_refusals, one_more, counted}
+use Rattle.model.specs.Store.{Counts, Control, with_control, with_counts, with_caller, empty_staged, empty_both, own_refusals, one_more, counted}
 use Rattle.model.proofs.Counts.{one_more_up, one_more_full}
 use Rattle.words.specs.Table.{table}
-use Rattle.words.proofs.Tables.{length_table, get_d_table, table_same, table_set, table_snoc, words_table, map_table}
+use Rattle.words.proofs.Tables.{length_table, get_d_table, table_same, table_set, table_snoc}
 use Rattle.words.specs.Stores.{stores}
 use Rattle.words.proofs.Stores.{length_stores, miss, hit, Misses, StoresBelow, drop_stores}
-use Rattle.words.specs.Part.{between}
 use Rattle.words.specs.Shape.{shape_of}
 use Rattle.values.specs.declared.Value.{Value}
 use Rattle.values.specs.Values.{value_of, digits, words_of}
@@ -32,38 +31,20 @@ use Rattle.memory.specs.Meaning.{draft_arrays, draft_in, staged_at, staged_in, e
 use Rattle.memory.specs.Arranged.{Arranged, Becomes}
 use Rattle.memory.proofs.Frames.{draft_arrays_same, staged_same, excluded_same, counts_kept, long}
 use Rattle.memory.proofs.Becomes.{Static, control_becomes}
+use Rattle.memory.proofs.KindLists.{staged_length}
 use Rattle.control.specs.Lists.{staging, excluding}
 use Rattle.control.specs.Refusals.{Caller, CountsRefusal}
 
 -- ---- what is read
 
 module _ (w : List ℕ) where
-  pub staged_length : length (meaning w).control.staged ≡ staged_len w
-  unfolding meaning staged_in
-  staged_length = length_table (staged_len w) (staged_at w)
-
   pub staged_read : (i : ℕ) → i < length (meaning w).control.staged → get_or (meaning w).control.staged i no_component ≡ staged_at w i
   unfolding meaning staged_in
   staged_read i h = get_d_table (staged_len w) (staged_at w) i no_component (omega (arith, length_table (staged_len w) (staged_at w)))
 
-  pub excluded_length : length (meaning w).control.excluded ≡ excluded_len w
-  unfolding meaning excluded_in
-  excluded_length = length_table (excluded_len w) (excluded_at w)
-
   module _ (A : Arranged w) where
     pub staged_few : length (meaning w).control.staged ≤ LIST_CAPACITY
-    staged_few = omega (arith, staged_length, A.staged)
-
-    pub excluded_few : length (meaning w).control.excluded ≤ LIST_CAPACITY
-    excluded_few = omega (arith, excluded_length, A.excluded)
-
-    pub staged_kinds_law : staged_kinds (meaning w) ≡ between STAGED_KINDS (STAGED_KINDS + staged_len w) w
-    unfolding meaning staged_in
-    staged_kinds_law = map_table kind_of (staged_len w) (staged_at w) ∙ words_table w STAGED_KINDS (staged_len w) (omega (arith, A.staged, long w A))
-
-    pub excluded_kinds : (meaning w).control.excluded ≡ between EXCLUDED_KINDS (EXCLUDED_KINDS + excluded_len w) w
-    unfolding meaning excluded_in
-    excluded_kinds = words_table w EXCLUDED_KINDS (excluded_len w) (omega (arith, A.excluded, long w A))
+    staged_few = omega (arith, staged_length w, A.staged)
 
 -- a kind is a word
 pub kind_fits : (k : ℕ) → k < MAX_KINDS → Fits w32 k

@@ -1,15 +1,9 @@
 -- The staged components and the excluded kinds: what the functions on them answer and do, in the model's terms. Assumes nothing.
-use Rattle.std.specs.Prelude.{◌≡◌, List, [], ◌∷◌, ◌++◌, ℕ, ◌≤◌, length}
-use Rattle.model.specs.Numbers.{LIST_CAPACITY}
+use Rattle.std.specs.Prelude.{[], ◌∷◌, ◌++◌, ℕ}
 use Rattle.model.specs.Model.{Component}
 use Rattle.model.specs.Store.{Store, with_control, with_staged, with_excluded}
 use Rattle.values.specs.Values.{value_of}
 use Rattle.control.specs.declared.staged.Component.{Component as Answer}
-
--- 01: a hand has "up to 16 distinct kinds with values", a bar "up to 16 distinct kinds"
-pub record Few {A : Type 0} (l : List A) (r : ℕ) : Type 0 where
-  pub is : r ≡ length l
-  pub few : r ≤ LIST_CAPACITY
 
 -- the answered component, its value having d words, as the model has it
 abbrev pub component_of : ℕ → Answer → Component

@@ -4,7 +4,7 @@
 pub mod draft;
 pub mod entities;
 pub mod excluded;
-mod lists;
+pub mod lists;
 pub mod refusals;
 pub mod rule;
 pub mod staged;

@@ -1,16 +1,15 @@
 // The staged components: 01's hand.
 ghost use Rattle.std.specs.Prelude.{◌≡◌, ◌<◌, length, get_or};
 ghost use Rattle.model.specs.Numbers.{LIST_CAPACITY, MAX_KINDS};
-ghost use Rattle.model.specs.Model.{mem};
 ghost use Rattle.model.specs.Sound.{no_component};
 ghost use Rattle.model.specs.Store.{staged_kinds, with_control, empty_staged, empty_both};
 ghost use Rattle.words.specs.Shape.{shape_of};
 ghost use Rattle.values.specs.Values.{value_of};
 ghost use Rattle.memory.specs.Meaning.{meaning};
 ghost use Rattle.memory.specs.Arranged.{Arranged, Becomes};
-ghost use Rattle.control.specs.Lists.{Few, component_of, staging};
+ghost use Rattle.control.specs.Lists.{component_of, staging};
 
-use crate::lists;
+use crate::lists::{self, Staged};
 use values::Value;
 use words::{EXCLUDED_LEN, STAGED_KINDS, STAGED_LEN, STAGED_VALUE_LEN, STAGED_VALUES, Shape};
 
@@ -19,13 +18,6 @@ use words::{EXCLUDED_LEN, STAGED_KINDS, STAGED_LEN, STAGED_VALUE_LEN, STAGED_VAL
 pub struct Component {
     pub kind: usize,
     pub value: Value,
-}
-
-pub fn staged_len(words: &[u32]) -> usize
-    requires { Arranged words.now }
-    ensures { Few (meaning words.now).control.staged result }
-{
-    words::word(words, STAGED_LEN)
 }
 
 pub fn staged_kind(words: &[u32], i: usize) -> usize
@@ -47,26 +39,16 @@ pub fn staged_at(words: &[u32], z: Shape, i: usize) -> Component
     Component { kind, value }
 }
 
-pub fn is_staged(words: &[u32], kind: usize) -> bool
-    requires { Arranged words.now }
-    ensures { result ≡ mem kind (staged_kinds (meaning words.now)) }
-{
-    let end = STAGED_KINDS + words[STAGED_LEN] as usize;
-    lists::among(&words[STAGED_KINDS..end], kind)
-}
-
 // One component more.
 pub fn stage(words: &mut [u32], kind: usize, x: Value)
     requires arranged { Arranged words.old }
-    requires words_len_bound { length (meaning words.old).control.staged < LIST_CAPACITY }
+    requires room { length (meaning words.old).control.staged < LIST_CAPACITY }
     requires kind_bound { kind < MAX_KINDS }
     ensures { Becomes words.old words.new (staging kind (value_of (shape_of words.old).stride x) (meaning words.old)) }
 {
     let z = words::shape_of(words);
-    let count = words[STAGED_LEN];
-    let at = STAGED_VALUES + STAGED_VALUE_LEN * (count as usize);
-    words[STAGED_LEN] = count + 1;
-    words[STAGED_KINDS + (count as usize)] = kind as u32;
+    let place = lists::push::<Staged>(words, kind);
+    let at = STAGED_VALUES + STAGED_VALUE_LEN * place;
     values::put(words, at, z.width(), x);
 }
 

@@ -4,3 +4,4 @@ pub mod Becomes
 pub mod LayoutWords
 pub mod Steps
 pub mod EmptyStore
+pub mod KindLists
