@@ -1,11 +1,11 @@
--- The staged kinds: bytes in the front of an array, kinds once each. Assumes nothing.
+-- The staged kinds: bytes, kinds once each. Assumes nothing.
 use mathlib.Core.Path.{◌≡◌, sym, ◌∙◌}
-use mathlib.Core.List.{List}
+use mathlib.Core.List.{[], ◌∷◌, ◌++◌}
 use Prim.Native.Nat.{ℕ, ◌+◌, ◌<◌}
 use native.Mathlib.Numerals.{add-one}
 use native.Mathlib.Omega.{arith}
-use lib.ListN.{length, get_or, take, set, length-map, get_or-map}
-use lib.Seq.{take-suc-set, take-suc, take_all}
+use lib.ListN.{length, get_or, take, length-map, get_or-map}
+use lib.Seq.{take-suc, take_all}
 use Rattle.model.specs.Model.{kind_of, mem}
 use Rattle.model.specs.Sound.{no_component, StoreSound}
 use Rattle.model.specs.Store.{Store, staged_kinds}
@@ -35,10 +35,10 @@ module _ (s : Store) where
     kind_byte S = omega (arith, kind_read, kind_small_law (staged_kinds s) (staged_set S) i (omega (arith, staged_width)))
 
     -- a turn of the loop
-    pub kind_put : (b : List ℕ) → i < length b → take i b ≡ take i (staged_kinds s) → take (i + 1) (set b i k) ≡ take (i + 1) (staged_kinds s)
-    kind_put b hb q =
+    pub kind_more : take i (staged_kinds s) ++ (k ∷ []) ≡ take (i + 1) (staged_kinds s)
+    kind_more =
         let hs : i < length (staged_kinds s) = omega (arith, staged_width) in
-        rw (add-one i, take-suc-set b i k, take-suc (staged_kinds s) i 0, q, kind_read)
+        rw (add-one i, take-suc (staged_kinds s) i 0, kind_read)
 
-  pub kinds_all : (b : List ℕ) (n : ℕ) → n ≡ length s.control.staged → take n b ≡ take n (staged_kinds s) → take n b ≡ staged_kinds s
-  kinds_all b n e q = q ∙ take_all n (staged_kinds s) (omega (arith, staged_width))
+  pub kinds_all : (n : ℕ) → n ≡ length s.control.staged → take n (staged_kinds s) ≡ staged_kinds s
+  kinds_all n e = take_all n (staged_kinds s) (omega (arith, staged_width))

@@ -1,32 +1,31 @@
 // GROUP: the staged kinds go into the draft. The draft is a layout by value: read from the words, added to, and written back.
 #![tactic(auto)]
 
-ghost use Rattle.std.specs.Prelude.{◌≤◌, length};
-ghost use Rattle.model.specs.Numbers.{LIST_CAPACITY};
+ghost use Rattle.std.specs.Prelude.{◌≡◌};
 ghost use Rattle.model.specs.Commands.{GROUP};
+ghost use Rattle.model.specs.Store.{staged_kinds};
 ghost use Rattle.model.specs.Run.{does};
 ghost use Rattle.memory.specs.Meaning.{meaning};
 ghost use Rattle.memory.specs.Arranged.{Sound};
 ghost use Rattle.command.specs.Acted.{Ready, Acted};
-ghost use Rattle.command_group.specs.Drafts.{StagedBytes, Drafts};
+ghost use Rattle.command_group.specs.Drafts.{Drafts};
 
 use command::answers::{ack_byte, refuse};
+use control::lists::{KindsInWords, StagedKinds};
+use kind_list::KindList;
 use layout::group_layout::Answer;
+use model::LIST_CAPACITY;
 
-// The staged kinds as bytes, in the front of `kinds`. Answers how many.
-fn staged_kinds(words: &[u32], kinds: &mut [u8]) -> usize
-    requires sound { Sound words.now }
-    requires in_bounds { LIST_CAPACITY ≤ length kinds.old }
-    ensures { StagedBytes (meaning words.now) kinds.new result }
+// The staged kinds, in their order.
+fn staged_kinds(words: &[u32]) -> KindList<LIST_CAPACITY>
+    requires { Sound words.now }
+    ensures { result ≡ staged_kinds (meaning words.now) }
 {
-    let n = control::staged::staged_len(words);
-    let mut i = 0;
-    while i < n {
-        let kind = control::staged::staged_kind(words, i);
-        kinds[i] = kind as u8;
-        i += 1;
+    let mut kinds = KindList::new();
+    for i in 0..StagedKinds::len(words) {
+        kinds.push(control::staged::staged_kind(words, i) as u8);
     }
-    n
+    kinds
 }
 
 // The draft with a group of the staged kinds, by value; no word changes.
@@ -34,10 +33,8 @@ fn add_staged(words: &[u32]) -> Answer
     requires { Sound words.now }
     ensures { Drafts (meaning words.now) result }
 {
-    let mut kinds = [0u8; model::LIST_CAPACITY];
-    let n = staged_kinds(words, &mut kinds);
     let draft = control::draft::draft(words);
-    layout::group_layout::add_group(draft, &kinds[..n])
+    layout::group_layout::add_group(draft, staged_kinds(words).as_slice())
 }
 
 // Told 1 where a group is added, 0 where nothing is.

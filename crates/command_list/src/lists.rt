@@ -11,7 +11,7 @@ ghost use Rattle.command.specs.Acted.{Ready, Acted};
 ghost use Rattle.command_list.specs.Listing.{list_lines, number_of};
 
 use command::answers::{ack, refuse};
-use control::lists::{Excluded, KindsInWords, Staged};
+use control::lists::{ExcludedKinds, KindsInWords, StagedKinds};
 use model::refusals::Refusal;
 use values::Value;
 
@@ -46,7 +46,7 @@ pub fn hold(words: &mut [u32], kind: u8, x: Value, out: &mut [u8], at: usize) ->
     ensures { Acted words.old words.new out.old out.new at result (does (HOLD kind (value_of (shape_of words.old).stride x)) (meaning words.old)) }
 {
     let kind = kind as usize;
-    if let Some(refusal) = refusal::<Staged>(words, kind) {
+    if let Some(refusal) = refusal::<StagedKinds>(words, kind) {
         return refuse(words, out, at, refusal);
     }
     control::staged::stage(words, kind, x);
@@ -59,7 +59,7 @@ pub fn bar(words: &mut [u32], kind: u8, out: &mut [u8], at: usize) -> usize
     ensures { Acted words.old words.new out.old out.new at result (does (BAR kind) (meaning words.old)) }
 {
     let kind = kind as usize;
-    if let Some(refusal) = refusal::<Excluded>(words, kind) {
+    if let Some(refusal) = refusal::<ExcludedKinds>(words, kind) {
         return refuse(words, out, at, refusal);
     }
     control::excluded::exclude(words, kind);

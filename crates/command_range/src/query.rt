@@ -8,7 +8,7 @@ ghost use Rattle.memory.specs.Arranged.{Arranged, Sound};
 ghost use Rattle.group_info.specs.Describes.{InfoOfKind, ViewOf, range_of};
 ghost use Rattle.command_range.specs.Query.{QueryOf, KindAdded};
 
-use control::lists::{Excluded, KindsInWords, Staged};
+use control::lists::{ExcludedKinds, KindsInWords, StagedKinds};
 use group_info::{GroupInfo, GroupRange, QueryGroupInfo, ViewGroupInfo};
 use words::Found;
 
@@ -65,8 +65,8 @@ pub fn group_range(words: &[u32]) -> Option<GroupRange>
     ensures { range_of result ≡ range_for (staged_kinds (meaning words.now)) (meaning words.now).control.excluded (meaning words.now).storage }
 {
     group_info::group_range(
-        listed_query::<Staged>(words)?,
-        listed_query::<Excluded>(words)?,
+        listed_query::<StagedKinds>(words)?,
+        listed_query::<ExcludedKinds>(words)?,
         &words[words::LAYOUT_ARITIES..words::LAYOUT_KIND_ENDS],
         &words[words::GROUP_COUNTS..words::ENTITIES],
     )
@@ -77,7 +77,7 @@ pub fn range_under(words: &[u32]) -> Option<GroupRange>
     requires { Sound words.now }
     ensures { range_of result ≡ range_under (meaning words.now).settings.newer (staged_kinds (meaning words.now)) (meaning words.now).control.excluded (meaning words.now).storage }
 {
-    if control::rule::is_newer(words) && 1 < Excluded::len(words) {
+    if control::rule::is_newer(words) && 1 < ExcludedKinds::len(words) {
         return None;
     }
     group_range(words)

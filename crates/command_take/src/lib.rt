@@ -17,6 +17,7 @@ ghost use Rattle.command.specs.Acted.{Ready, Acted};
 ghost use Rattle.command_take.specs.Take.{TakesKind, TakesStaged, Takes};
 
 use command::answers::{ack, refuse};
+use control::lists::{KindsInWords, StagedKinds};
 use model::refusals::Refusal;
 use values::Value;
 use words::{Entity, Found, Shape, Width};
@@ -52,7 +53,7 @@ fn take_staged(words: &mut [u32], z: Shape, e: Entity, out: &mut [u8], at: usize
     requires room { at + (1 + (meaning words.old).settings.value_bytes) * length (meaning words.old).control.staged ≤ length out.old }
     ensures { TakesStaged words.old words.new out.old out.new (entity e.index e.version) at result }
 {
-    let n = control::staged::staged_len(words);
+    let n = StagedKinds::len(words);
     let len = 1 + model::WORD_BYTES * z.stride;
     for i in 0..n {
         take_one(words, z, i, e, out, at + len * i);

@@ -5,7 +5,7 @@ ghost use Rattle.memory.specs.Meaning.{meaning};
 ghost use Rattle.memory.specs.Arranged.{Arranged, Becomes};
 ghost use Rattle.control.specs.Lists.{excluding};
 
-use crate::lists::{self, Excluded};
+use crate::lists::{self, ExcludedKinds};
 
 // One kind more.
 pub fn exclude(words: &mut [u32], kind: usize)
@@ -14,5 +14,5 @@ pub fn exclude(words: &mut [u32], kind: usize)
     requires kind_bound { kind < MAX_KINDS }
     ensures { Becomes words.old words.new (excluding kind (meaning words.old)) }
 {
-    lists::push::<Excluded>(words, kind);
+    lists::push::<ExcludedKinds>(words, kind);
 }

@@ -52,9 +52,9 @@ pub trait KindsInWords {
 }
 
 /// The staged kinds.
-pub struct Staged;
+pub struct StagedKinds;
 
-impl KindsInWords for Staged {
+impl KindsInWords for StagedKinds {
     const LEN_AT: usize = STAGED_LEN;
 
     const KINDS_AT: usize = STAGED_KINDS;
@@ -71,9 +71,9 @@ impl KindsInWords for Staged {
 }
 
 /// The excluded kinds.
-pub struct Excluded;
+pub struct ExcludedKinds;
 
-impl KindsInWords for Excluded {
+impl KindsInWords for ExcludedKinds {
     const LEN_AT: usize = EXCLUDED_LEN;
 
     const KINDS_AT: usize = EXCLUDED_KINDS;

@@ -9,7 +9,7 @@ ghost use Rattle.memory.specs.Meaning.{meaning};
 ghost use Rattle.memory.specs.Arranged.{Arranged, Becomes};
 ghost use Rattle.control.specs.Lists.{component_of, staging};
 
-use crate::lists::{self, Staged};
+use crate::lists::{self, StagedKinds};
 use values::Value;
 use words::{EXCLUDED_LEN, STAGED_KINDS, STAGED_LEN, STAGED_VALUE_LEN, STAGED_VALUES, Shape};
 
@@ -47,7 +47,7 @@ pub fn stage(words: &mut [u32], kind: usize, x: Value)
     ensures { Becomes words.old words.new (staging kind (value_of (shape_of words.old).stride x) (meaning words.old)) }
 {
     let z = words::shape_of(words);
-    let place = lists::push::<Staged>(words, kind);
+    let place = lists::push::<StagedKinds>(words, kind);
     let at = STAGED_VALUES + STAGED_VALUE_LEN * place;
     values::put(words, at, z.width(), x);
 }

@@ -10,6 +10,7 @@ ghost use Rattle.memory.specs.Meaning.{meaning};
 ghost use Rattle.memory.specs.Arranged.{Arranged, Sound};
 ghost use Rattle.run.specs.Stepping.{answers, StepReady, step_at, Stepped, Completed};
 
+use control::lists::{KindsInWords, StagedKinds};
 use model::commands::{Command, LAST_COMMAND};
 use model::refusals::Refusal;
 use words::VALUE_WIDTH;
@@ -63,7 +64,7 @@ fn answer_bytes(words: &[u32], rooms: &[u8; BYTES], command: Command) -> usize
     let fixed = rooms[u8::from(command) as usize] as usize;
     if command == Command::Take {
         let each = 1 + words::word(words, VALUE_WIDTH);
-        return fixed + each * control::staged::staged_len(words);
+        return fixed + each * StagedKinds::len(words);
     }
     fixed
 }

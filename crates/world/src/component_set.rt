@@ -13,6 +13,7 @@ ghost use Rattle.world.specs.Insert.{Insertable, insert_one, inserted, AllInsert
 ghost use Rattle.world.specs.Remove.{Staged, ungrouped, removed};
 
 use crate::mask::{Walk, staged_mask};
+use control::lists::{KindsInWords, StagedKinds};
 use values::Value;
 use words::{Entity, Shape};
 
@@ -33,7 +34,7 @@ pub fn insert_staged(words: &mut [u32], z: Shape, e: Entity)
     requires shape_is { z ≡ shape_of words.old }
     ensures { Becomes words.old words.new (on_storage (inserted (entity e.index e.version) (meaning words.old).control.staged) (meaning words.old)) }
 {
-    let n = control::staged::staged_len(words);
+    let n = StagedKinds::len(words);
     for i in 0..n {
         insert_one(words, z, i, e);
     }
@@ -72,7 +73,7 @@ pub fn insert_each(words: &mut [u32], start: usize)
     requires { AllInsertable words.old }
     ensures { Becomes words.old words.new (on_storage (inserted_each (drop start (meaning words.old).entities.live) (meaning words.old).control.staged) (meaning words.old)) }
 {
-    let n = control::staged::staged_len(words);
+    let n = StagedKinds::len(words);
     for i in 0..n {
         insert_column(words, i, start);
     }
@@ -105,7 +106,7 @@ fn delete_staged(words: &mut [u32], z: Shape, e: Entity)
     requires shape_is { z ≡ shape_of words.old }
     ensures { Becomes words.old words.new (on_storage (removed (entity e.index e.version) (staged_kinds (meaning words.old))) (meaning words.old)) }
 {
-    let n = control::staged::staged_len(words);
+    let n = StagedKinds::len(words);
     for i in 0..n {
         remove_one(words, z, i, e);
     }

@@ -9,6 +9,7 @@ ghost use Rattle.memory.specs.Arranged.{Arranged};
 ghost use Rattle.world.specs.Walked.{lowest_of, walk_positions};
 ghost use Rattle.world.specs.Remove.{Staged};
 
+use control::lists::{KindsInWords, StagedKinds};
 use masks::group_mask::GroupMask;
 use words::{Found, Shape};
 
@@ -63,7 +64,7 @@ pub fn staged_mask(words: &[u32], z: Shape, walk: Walk) -> GroupMask
     requires shape_is { z ≡ shape_of words.now }
     ensures { bits_of 64 result.0 ≡ walk_positions walk (staged_kinds (meaning words.now)) (meaning words.now).storage.layout }
 {
-    let n = control::staged::staged_len(words);
+    let n = StagedKinds::len(words);
     let mut mask = GroupMask::empty();
     for i in 0..n {
         let more = mask_at(words, z, walk, i);

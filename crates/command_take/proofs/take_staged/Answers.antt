@@ -32,7 +32,7 @@ take_one-requires c =
     let n : length (meaning l.words).control.staged ≡ length (meaning a.words.now).control.staged = taken_count a.words.now a.out.now e a.at l.words l.out l.i v.3 in
     let o : length l.out ≡ length a.out.now = taken_length a.words.now a.out.now e a.at l.words l.out l.i v.3 in
     let z = v.4 ∙ gone_shape a.words.now e (staged_kinds (meaning a.words.now)) l.words l.i v.3.gone in
-    let r = room a.words.now c.args.z _ _ a.at (length a.out.now) c.requires.staged.arranged v.4 v.5 v.2 c.requires.room in record { staged = taken_staged a.words.now a.out.now e a.at l.words l.out l.i c.requires.staged v.3; shape_is = z; i_in_bounds = omega (arith, n, v.2, c.loop-i-test); room = omega (arith, o, v.5, turn_room a.at _ l.i c.staged_len-n.result (length a.out.now) (omega (arith, c.loop-i-test)) r) }
+    let r = room a.words.now c.args.z _ _ a.at (length a.out.now) c.requires.staged.arranged v.4 v.5 v.2 c.requires.room in record { staged = taken_staged a.words.now a.out.now e a.at l.words l.out l.i c.requires.staged v.3; shape_is = z; i_in_bounds = omega (arith, n, v.2, c.loop-i-test); room = omega (arith, o, v.5, turn_room a.at _ l.i c.len-n.result (length a.out.now) (omega (arith, c.loop-i-test)) r) }
 
 pub loop-i-preserved : goal.loop-i-preserved
 loop-i-preserved c =

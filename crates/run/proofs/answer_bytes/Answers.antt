@@ -18,8 +18,8 @@ width_of w v e = e
 pub returns-then-eq : goal.returns-then-eq
 returns-then-eq c =
     let b = command_byte c.args.command in
-    let n = c.staged_len.result in
+    let n = c.len.result in
     let is_take : b ≡ TAKE_BYTE = search rules in
     let entry : get_or c.args.rooms.now c.from.result 0 ≡ get_or answers b 0 = ap₂ (λ (l : List ℕ) (i : ℕ). get_or l i 0) c.requires.rooms_value c.from.ensures in
     λ ops. ap (λ (m : ℕ). m + (1 + c.word-each.result) * n) entry ∙ ap (λ (v : ℕ). get_or answers b 0 + (1 + v) * n) (width_of c.args.words.now c.word-each.result c.word-each.ensures.is)
-    ∙ take_answer (meaning c.args.words.now) ops b n is_take c.staged_len.ensures.is
+    ∙ take_answer (meaning c.args.words.now) ops b n is_take c.len.ensures.is

@@ -11,7 +11,7 @@ use Rattle.world.proofs.component_set.delete_staged.Goals as goal
 pub loop-i-init : goal.loop-i-init
 loop-i-init c =
     let a = c.args in
-    (zero-le, c.staged_len-n.ensures.is ∙ sym (length-map (meaning a.words.now).control.staged kind_of), gone_none a.words.now (entity a.e.index a.e.version) (staged_kinds (meaning a.words.now)) c.requires.staged.arranged)
+    (zero-le, c.len-n.ensures.is ∙ sym (length-map (meaning a.words.now).control.staged kind_of), gone_none a.words.now (entity a.e.index a.e.version) (staged_kinds (meaning a.words.now)) c.requires.staged.arranged)
 
 pub remove_one-requires : goal.remove_one-requires
 remove_one-requires c =

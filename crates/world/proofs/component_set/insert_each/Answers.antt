@@ -7,4 +7,4 @@ pub loop-i-preserved : goal.loop-i-preserved
 loop-i-preserved c =
     let a = c.args in
     let l = c.loop-i in
-    all_turn a.words.now a.start l.words l.i l.invariant (subst (λ (m : ℕ). l.i < m) c.staged_len-n.ensures.is c.loop-i-test.true) c.insert_column.new.words c.insert_column.ensures
+    all_turn a.words.now a.start l.words l.i l.invariant (subst (λ (m : ℕ). l.i < m) c.len-n.ensures.is c.loop-i-test.true) c.insert_column.new.words c.insert_column.ensures

@@ -12,7 +12,7 @@ use Rattle.world.proofs.component_set.insert_staged.Goals as goal
 pub loop-i-init : goal.loop-i-init
 loop-i-init c =
     let a = c.args in
-    (zero-le, c.staged_len-n.ensures.is, insert_none a.words.now a.e.index a.e.version c.requires.insertable)
+    (zero-le, c.len-n.ensures.is, insert_none a.words.now a.e.index a.e.version c.requires.insertable)
 
 pub insert_one-requires : goal.insert_one-requires
 insert_one-requires c =

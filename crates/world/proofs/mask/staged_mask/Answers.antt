@@ -14,7 +14,7 @@ pub loop-i-init : goal.loop-i-init
 loop-i-init c =
     let a = c.args in
     let w = a.words.now in
-    (zero-le, c.staged_len-n.ensures.is, mask_none (at w a.walk) (no_kinds a.walk (meaning w).storage.layout) (more_kinds a.walk (meaning w).storage.layout (groups_few w c.requires.staged.arranged)) (staged_kinds (meaning w)) c.empty-mask.result.0 c.empty-mask.ensures)
+    (zero-le, c.len-n.ensures.is, mask_none (at w a.walk) (no_kinds a.walk (meaning w).storage.layout) (more_kinds a.walk (meaning w).storage.layout (groups_few w c.requires.staged.arranged)) (staged_kinds (meaning w)) c.empty-mask.result.0 c.empty-mask.ensures)
 
 pub loop-i-preserved : goal.loop-i-preserved
 loop-i-preserved c =
