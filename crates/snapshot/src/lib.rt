@@ -69,6 +69,8 @@ fn rising_kinds(words: &[u32]) -> KindList<MAX_KINDS>
 
 // What a snapshot is read from: the words of a store, its shape, and its registered kinds, rising. That the words are well arranged
 // is a clause of each method, and no ghost field: it goes by cases, and a field takes a fact that has one proof at most.
+// The bytes and the place in them stay two parameters: of a struct that holds lent bytes each method would have to say as well
+// that they are still the same lent ones.
 #[derive(Drop)]
 struct Roll<'a> {
     words: &'a [u32],
