@@ -18,38 +18,46 @@ pub fn head(words: &[u32], z: Shape, s: usize, i: usize) -> usize
     words[base + i] as usize
 }
 
-// A registered kind has a slot in use, whose column says the kind.
-fn kind_ok(words: &[u32], z: Shape, registered: usize, kind: usize) -> bool
-    requires room { Room z registered words.now }
-    requires kind_bound { kind < MAX_KINDS }
-    ensures { Decides result (KindOk z registered words.now kind) }
-{
-    let s = words[words::TABLE + kind] as usize;
-    s == words::UNREGISTERED as usize
-        || (s < registered && head(words, z, s, words::COLUMN_KIND) == kind)
+// The columns in use, among words that hold anything else.
+#[derive(Clone, Copy)]
+struct Columns<'a> {
+    words: &'a [u32],
+    shape: Shape,
+    registered: usize,
+    ghost room: { Room shape registered words.now },
 }
 
-// A slot in use says a kind, and the table says the slot.
-fn slot_ok(words: &[u32], z: Shape, s: usize) -> bool
-    requires { Slot z s words.now }
-    ensures { Decides result (SlotOk z words.now s) }
-{
-    let kind = head(words, z, s, words::COLUMN_KIND);
-    kind < model::MAX_KINDS && words[words::TABLE + kind] as usize == s
-}
+impl Columns<'_> {
+    // A registered kind has a slot in use, whose column says the kind.
+    fn kind_ok(&self, kind: usize) -> bool
+        requires { kind < MAX_KINDS }
+        ensures { Decides result (KindOk self.now.shape self.now.registered self.now.words.now kind) }
+    {
+        let s = self.words[words::TABLE + kind] as usize;
+        s == words::UNREGISTERED as usize
+            || (s < self.registered && head(self.words, self.shape, s, words::COLUMN_KIND) == kind)
+    }
 
-fn kinds_ok(words: &[u32], z: Shape, registered: usize) -> bool
-    requires { Room z registered words.now }
-    ensures { Decides result (Each MAX_KINDS (KindOk z registered words.now)) }
-{
-    (0..model::MAX_KINDS).all(|kind| kind_ok(words, z, registered, kind))
-}
+    // A slot in use says a kind, and the table says the slot.
+    fn slot_ok(&self, s: usize) -> bool
+        requires { s < self.now.registered }
+        ensures { Decides result (SlotOk self.now.shape self.now.words.now s) }
+    {
+        let kind = head(self.words, self.shape, s, words::COLUMN_KIND);
+        kind < model::MAX_KINDS && self.words[words::TABLE + kind] as usize == s
+    }
 
-fn slots_ok(words: &[u32], z: Shape, registered: usize) -> bool
-    requires { Room z registered words.now }
-    ensures { Decides result (Each registered (SlotOk z words.now)) }
-{
-    (0..registered).all(|s| slot_ok(words, z, s))
+    fn kinds_ok(&self) -> bool
+        ensures { Decides result (Each MAX_KINDS (KindOk self.now.shape self.now.registered self.now.words.now)) }
+    {
+        (0..model::MAX_KINDS).all(|kind| self.kind_ok(kind))
+    }
+
+    fn slots_ok(&self) -> bool
+        ensures { Decides result (Each self.now.registered (SlotOk self.now.shape self.now.words.now)) }
+    {
+        (0..self.registered).all(|s| self.slot_ok(s))
+    }
 }
 
 // Are at most k kinds registered, each with a column of its own?
@@ -58,5 +66,13 @@ pub fn is_table(words: &[u32], z: Shape, k: usize) -> bool
     ensures { Decides result (TableOk z k words.now) }
 {
     let registered = words[words::REGISTERED] as usize;
-    registered <= k && kinds_ok(words, z, registered) && slots_ok(words, z, registered)
+    if k < registered {
+        return false;
+    }
+    let columns = Columns {
+        words,
+        shape: z,
+        registered,
+    };
+    columns.kinds_ok() && columns.slots_ok()
 }
