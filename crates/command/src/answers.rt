@@ -1,4 +1,6 @@
 // Answers: a refusal's number, or a 0 byte and what an accepted command tells.
+// The bytes and the place in them stay two parameters, here and in each command: of a struct that holds lent bytes every
+// function would have to say as well that they are still the same lent ones.
 ghost use Rattle.std.specs.Prelude.{[], ◌∷◌, ℕ, ◌+◌, ◌<◌, ◌≤◌, length};
 ghost use Rattle.model.specs.Store.{bytes_of};
 ghost use Rattle.model.specs.Run.{refuses};

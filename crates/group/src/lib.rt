@@ -1,5 +1,5 @@
 // Groups: the walks that bring an entity into its groups and out of them (group.rs).
-// z is the store's shape, read once for a walk.
+// z is the store's shape, read once for a walk; it goes beside the words for the reason that the crate `kinds` gives.
 #![tactic(auto)]
 
 pub mod group_metadata;

@@ -1,5 +1,8 @@
 // The table of kinds (component_storage.rs): a kind's sparse set, reached by the slot that the table has for it. z is the store's shape,
 // which the caller has read.
+// The shape and the words stay two parameters, and their facts clauses: that words are well arranged goes by cases, and a
+// type's fact has one proof at most; a struct over words that are written would have to show its facts again at each write.
+// That a kind is registered, and that a version was issued, are facts of the words as well, and go with them.
 #![tactic(auto)]
 
 ghost use Rattle.std.specs.Prelude.{◌≡◌, true, false, [], ◌∷◌, ◌++◌, ◌<◌, ◌≤◌, length, get_or};

@@ -1,4 +1,5 @@
-// Commands with operands: they are read off the tape, at `at`.
+// Commands with operands: they are read off the tape, at `at`. The two stay two parameters: what a run says of its tape, in
+// its stops and in its clauses, is by places on the whole of it.
 ghost use Rattle.std.specs.Prelude.{◌≡◌, ◌+◌, ◌≤◌, length, take, drop};
 ghost use Rattle.model.specs.Numbers.{REG_BYTE, HOLD_BYTE, BAR_BYTE, TRAY_BYTE, SETCALLER_BYTE};
 ghost use Rattle.model.specs.Model as model;

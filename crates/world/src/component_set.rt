@@ -1,6 +1,7 @@
 // Components go into an entity and out of it, with the groups kept right (component_set.rs). Insertion: all staged components go in, then the
 // touched families' groups are walked upward. Removal: before any component goes, the entity leaves the groups that have one of the kinds. z is the store's shape:
-// it is read once for a command, and by a tray, which goes kind by kind, once more for each kind.
+// it is read once for a command, and by a tray, which goes kind by kind, once more for each kind. It goes beside the words for the
+// reason that the crate `kinds` gives.
 ghost use Rattle.std.specs.Prelude.{◌≡◌, true, ◌<◌, length, get_or, drop};
 ghost use Rattle.model.specs.Model.{is_live, insert_components, remove, entity};
 ghost use Rattle.model.specs.Store.{staged_kinds, on_storage};
