@@ -18,6 +18,7 @@ ghost use Rattle.command_take.specs.Take.{TakesKind, TakesStaged, Takes};
 
 use command::answers::{ack, refuse};
 use control::lists::{KindsInWords, StagedKinds};
+use model::WORD_BYTES;
 use model::refusals::Refusal;
 use values::Value;
 use words::{Entity, Found, Shape, Width};
@@ -25,8 +26,8 @@ use world::component_set;
 
 // The byte held and the bytes of the value's words, at `at`.
 fn put_held(out: &mut [u8], at: usize, width: Width, held: u8, x: Value)
-    requires { at + (1 + 4 * words_in width) ≤ length out.old }
-    ensures { out.new ≡ sets out.old at (held ∷ bytes_of (4 * words_in width) (value_of (words_in width) x)) }
+    requires { at + (1 + WORD_BYTES * words_in width) ≤ length out.old }
+    ensures { out.new ≡ sets out.old at (held ∷ bytes_of (WORD_BYTES * words_in width) (value_of (words_in width) x)) }
 {
     out[at] = held;
     values::put_bytes(out, at + 1, width, x);
@@ -37,7 +38,7 @@ fn take_one(words: &mut [u32], z: Shape, i: usize, e: Entity, out: &mut [u8], at
     requires staged { Staged words.old }
     requires shape_is { z ≡ shape_of words.old }
     requires i_in_bounds { i < length (meaning words.old).control.staged }
-    requires room { at + (1 + 4 * z.stride) ≤ length out.old }
+    requires room { at + (1 + WORD_BYTES * z.stride) ≤ length out.old }
     ensures { TakesKind words.old words.new out.old out.new (entity e.index e.version) (get_or (staged_kinds (meaning words.old)) i 0) at }
 {
     match component_set::remove_one(words, z, i, e) {
@@ -54,7 +55,7 @@ fn take_staged(words: &mut [u32], z: Shape, e: Entity, out: &mut [u8], at: usize
     ensures { TakesStaged words.old words.new out.old out.new (entity e.index e.version) at result }
 {
     let n = StagedKinds::len(words);
-    let len = 1 + model::WORD_BYTES * z.stride;
+    let len = 1 + WORD_BYTES * z.stride;
     for i in 0..n {
         take_one(words, z, i, e, out, at + len * i);
     }

@@ -16,7 +16,7 @@ ghost use Rattle.snapshot.specs.Rising.{rows_in, Counted};
 ghost use Rattle.snapshot.specs.Wrote.{one_bytes, entry_for, index_bytes, WrittenUntil};
 
 use kind_list::KindList;
-use model::MAX_KINDS;
+use model::{MAX_KINDS, WORD_BYTES};
 use words::{Entity, Found, Shape};
 
 // The rows of a kind's column, none where the kind has no column.
@@ -67,10 +67,10 @@ fn rising_kinds(words: &[u32]) -> KindList<MAX_KINDS>
     list
 }
 
-// What a snapshot is read from: the words of a store, its shape, and its registered kinds, rising. That the words are well arranged
-// is a clause of each method, and no ghost field: it goes by cases, and a field takes a fact that has one proof at most.
-// The bytes and the place in them stay two parameters: of a struct that holds lent bytes each method would have to say as well
-// that they are still the same lent ones.
+// What a snapshot is read from: the words of a store, its shape, and its registered kinds, rising.
+// That the words are well arranged is a clause of each method, and no ghost field: it goes by cases, and a field takes a
+// fact that has one proof at most. The bytes and the place in them stay two parameters: of a struct that holds lent bytes
+// each method would have to say as well that they are still the same lent ones.
 #[derive(Drop)]
 struct Roll<'a> {
     words: &'a [u32],
@@ -85,8 +85,8 @@ impl Roll<'_> {
     fn write_one(&self, kind: usize, e: Entity, out: &mut [u8], at: usize) -> usize
         requires arranged { Arranged self.now.words.now }
         requires kind_known { In (meaning self.now.words.now).kinds kind }
-        requires room { at + length (one_bytes (4 * self.now.shape.stride) (value_at (entity e.index e.version) (kind_set self.now.words.now kind)) kind) ≤ length out.old }
-        ensures { WrittenUntil out.old out.new at result (one_bytes (4 * self.now.shape.stride) (value_at (entity e.index e.version) (kind_set self.now.words.now kind)) kind) }
+        requires room { at + length (one_bytes (WORD_BYTES * self.now.shape.stride) (value_at (entity e.index e.version) (kind_set self.now.words.now kind)) kind) ≤ length out.old }
+        ensures { WrittenUntil out.old out.new at result (one_bytes (WORD_BYTES * self.now.shape.stride) (value_at (entity e.index e.version) (kind_set self.now.words.now kind)) kind) }
     {
         let found = kinds::find(self.words, self.shape, kind, e);
         let Found::At(place) = found else {
@@ -95,14 +95,14 @@ impl Roll<'_> {
         let value = kinds::value_of(self.words, self.shape, kind, place);
         out[at] = kind as u8;
         values::put_bytes(out, at + 1, self.shape.width(), value);
-        at + 1 + model::WORD_BYTES * self.shape.stride
+        at + 1 + WORD_BYTES * self.shape.stride
     }
 
     // The entity's components.
     fn write_components(&self, e: Entity, out: &mut [u8], at: usize) -> usize
         requires arranged { Arranged self.now.words.now }
-        requires room { at + length (component_bytes (4 * self.now.shape.stride) (components_of (entity e.index e.version) 0 (meaning self.now.words.now).storage.sets)) ≤ length out.old }
-        ensures { WrittenUntil out.old out.new at result (component_bytes (4 * self.now.shape.stride) (components_of (entity e.index e.version) 0 (meaning self.now.words.now).storage.sets)) }
+        requires room { at + length (component_bytes (WORD_BYTES * self.now.shape.stride) (components_of (entity e.index e.version) 0 (meaning self.now.words.now).storage.sets)) ≤ length out.old }
+        ensures { WrittenUntil out.old out.new at result (component_bytes (WORD_BYTES * self.now.shape.stride) (components_of (entity e.index e.version) 0 (meaning self.now.words.now).storage.sets)) }
     {
         let mut next = at;
         for &kind in self.kinds {
@@ -114,14 +114,14 @@ impl Roll<'_> {
     // One entity: its numbers, how many components it has, and these.
     fn write_entity(&self, e: Entity, out: &mut [u8], at: usize) -> usize
         requires arranged { Arranged self.now.words.now }
-        requires room { at + length (entry_bytes (4 * self.now.shape.stride) (entry_for self.now.words.now e.index e.version)) ≤ length out.old }
-        ensures { WrittenUntil out.old out.new at result (entry_bytes (4 * self.now.shape.stride) (entry_for self.now.words.now e.index e.version)) }
+        requires room { at + length (entry_bytes (WORD_BYTES * self.now.shape.stride) (entry_for self.now.words.now e.index e.version)) ≤ length out.old }
+        ensures { WrittenUntil out.old out.new at result (entry_bytes (WORD_BYTES * self.now.shape.stride) (entry_for self.now.words.now e.index e.version)) }
     {
         codec::put::<4>(out, at, e.index);
         codec::put::<4>(out, at + 4, e.version);
         let start = at + 9;
         let end = self.write_components(e, out, start);
-        out[at + 8] = ((end - start) / (1 + model::WORD_BYTES * self.shape.stride)) as u8;
+        out[at + 8] = ((end - start) / (1 + WORD_BYTES * self.shape.stride)) as u8;
         end
     }
 
@@ -129,8 +129,8 @@ impl Roll<'_> {
     fn write_index(&self, index: usize, out: &mut [u8], at: usize) -> usize
         requires arranged { Arranged self.now.words.now }
         requires index_bound { index < (meaning self.now.words.now).settings.capacity }
-        requires room { at + length (index_bytes (4 * self.now.shape.stride) self.now.words.now index) ≤ length out.old }
-        ensures { WrittenUntil out.old out.new at result (index_bytes (4 * self.now.shape.stride) self.now.words.now index) }
+        requires room { at + length (index_bytes (WORD_BYTES * self.now.shape.stride) self.now.words.now index) ≤ length out.old }
+        ensures { WrittenUntil out.old out.new at result (index_bytes (WORD_BYTES * self.now.shape.stride) self.now.words.now index) }
     {
         let version = control::entities::version_at(self.words, index);
         if version == 0 {
@@ -146,8 +146,8 @@ impl Roll<'_> {
     // All live entities.
     fn write_entities(&self, out: &mut [u8], at: usize) -> usize
         requires arranged { Arranged self.now.words.now }
-        requires room { at + length (flat (4 * self.now.shape.stride) (listing (meaning self.now.words.now))) ≤ length out.old }
-        ensures { WrittenUntil out.old out.new at result (flat (4 * self.now.shape.stride) (listing (meaning self.now.words.now))) }
+        requires room { at + length (flat (WORD_BYTES * self.now.shape.stride) (listing (meaning self.now.words.now))) ≤ length out.old }
+        ensures { WrittenUntil out.old out.new at result (flat (WORD_BYTES * self.now.shape.stride) (listing (meaning self.now.words.now))) }
     {
         let issued = control::entities::issued(self.words);
         let mut next = at;

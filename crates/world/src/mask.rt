@@ -14,8 +14,8 @@ use masks::group_mask::GroupMask;
 use words::{Found, Shape};
 
 // What is walked for a kind: all groups of its family where it goes in, those that have it where it goes out.
-// Two names and not a rule that the caller lends: the contracts say which of the model's two walks is meant, and of a closure
-// they would have to ask that it gives one of just these two.
+// Two names and not a rule that the caller lends: the contracts say which of the model's two walks is meant, and of a
+// closure they would have to ask that it gives one of just these two.
 #[derive(Clone, Copy, PartialEq, Eq, Debug)]
 pub enum Walk {
     Insert,
