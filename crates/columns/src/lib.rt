@@ -65,7 +65,7 @@ fn item_words(words: &[u32], values: bool) -> usize
 // The entities, or the values, of the rows from start to end, which column accepts: where they lie in the words.
 pub fn rows(words: &[u32], kind: usize, values: bool, start: usize, end: usize) -> &[u32]
     requires arranged { Arranged words.now }
-    requires words_value { column_refusal kind start end (meaning words.now) ≡ none }
+    requires accepted { column_refusal kind start end (meaning words.now) ≡ none }
     ensures { RowsPart words.entry result values kind start end }
 {
     let first = row_start(words, kind, values, start);

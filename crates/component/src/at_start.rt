@@ -16,7 +16,7 @@ use words::{Entity, Found, Shape};
 // and a version that was issued.
 pub fn find_from(words: &[u32], z: Shape, base: usize, e: Entity) -> Found
     requires lent_from { LentFrom z base words.now }
-    requires index_lt_capacity { (e.index < z.capacity) × (1 ≤ e.version) }
+    requires issued { (e.index < z.capacity) × (1 ≤ e.version) }
     ensures { (s : ℕ) → base ≡ column_start z s → Finds z (entity e.index e.version) (rows_of z s words.now) result }
 {
     let end = base + words::column_len(z);
@@ -26,7 +26,7 @@ pub fn find_from(words: &[u32], z: Shape, base: usize, e: Entity) -> Found
 // Whether the column's rows have the entity.
 pub fn holds_from(words: &[u32], z: Shape, base: usize, e: Entity) -> bool
     requires lent_from { LentFrom z base words.now }
-    requires index_lt_capacity { (e.index < z.capacity) × (1 ≤ e.version) }
+    requires issued { (e.index < z.capacity) × (1 ≤ e.version) }
     ensures { (s : ℕ) → base ≡ column_start z s → result ≡ held (entity e.index e.version) (rows_of z s words.now) }
 {
     let found = find_from(words, z, base, e);

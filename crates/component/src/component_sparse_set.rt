@@ -55,8 +55,8 @@ pub fn value_at(part: &[u32], z: Shape, place: usize) -> Value
 // Exchanges the row at a, which is the entity's, with the one at b. The lookups keep their versions.
 pub fn swap(part: &mut [u32], z: Shape, a: usize, b: usize, e: Entity)
     requires column_sound { ColumnSound z part.old }
-    requires a_in_bounds { (a < length_of part.old) × (b < length_of part.old) }
-    requires a_value { (index_at part.old a ≡ e.index) × (version_at part.old a ≡ e.version) }
+    requires in_bounds { (a < length_of part.old) × (b < length_of part.old) }
+    requires entity_at_a { (index_at part.old a ≡ e.index) × (version_at part.old a ≡ e.version) }
     ensures { RowsChanged z (swap_rows a b) part.old part.new }
 {
     if a == b {
@@ -73,7 +73,8 @@ pub fn swap(part: &mut [u32], z: Shape, a: usize, b: usize, e: Entity)
 // Exchanges the entity's row with the one at place.
 pub fn swap_to(part: &mut [u32], z: Shape, e: Entity, place: usize)
     requires column_sound { ColumnSound z part.old }
-    requires part_value { (held (entity e.index e.version) (rows z part.old) ≡ true) × (place < length (rows z part.old)) }
+    requires holds { held (entity e.index e.version) (rows z part.old) ≡ true }
+    requires place_in_bounds { place < length (rows z part.old) }
     ensures { RowsChanged z (swap_to (entity e.index e.version) place) part.old part.new }
 {
     let at = place_of(part, z, e);
@@ -83,7 +84,7 @@ pub fn swap_to(part: &mut [u32], z: Shape, e: Entity, place: usize)
 // One more row, of an index that no row has.
 fn append(part: &mut [u32], z: Shape, e: Entity, x: Value)
     requires column_sound { ColumnSound z part.old }
-    requires index_lt_capacity { (e.index < z.capacity) × (1 ≤ e.version) }
+    requires issued { (e.index < z.capacity) × (1 ≤ e.version) }
     requires absent { Absent e.index (rows z part.old) }
     ensures { RowsChanged z (λ (rs : SparseSet). rs ++ (row e.index e.version (value_of z.stride x) ∷ [])) part.old part.new }
 {
@@ -107,7 +108,7 @@ fn replace(part: &mut [u32], z: Shape, place: usize, x: Value)
 // Puts a value with an entity: in the entity's row, or in a new one at the end.
 pub fn insert(part: &mut [u32], z: Shape, e: Entity, x: Value)
     requires column_sound { ColumnSound z part.old }
-    requires index_lt_capacity { (e.index < z.capacity) × (1 ≤ e.version) }
+    requires issued { (e.index < z.capacity) × (1 ≤ e.version) }
     requires current { Current e.index e.version (rows z part.old) }
     ensures { RowsChanged z (insert_row (entity e.index e.version) (value_of z.stride x)) part.old part.new }
 {
@@ -152,7 +153,7 @@ pub fn remove(part: &mut [u32], z: Shape, e: Entity) -> Option<Value>
 // The last row goes.
 fn pop(part: &mut [u32], z: Shape)
     requires column_sound { ColumnSound z part.old }
-    requires in_bounds { 1 ≤ length_of part.old }
+    requires some_row { 1 ≤ length_of part.old }
     ensures { RowsChanged z popped part.old part.new }
 {
     let k = part[words::ROWS_LEN] - 1;

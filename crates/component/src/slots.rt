@@ -58,7 +58,7 @@ pub fn value_in(words: &[u32], z: Shape, slot: usize, place: usize) -> Value
 
 pub fn insert_in(words: &mut [u32], z: Shape, slot: usize, e: Entity, x: Value)
     requires lent { Lent z slot words.old }
-    requires index_lt_capacity { (e.index < z.capacity) × (1 ≤ e.version) }
+    requires issued { (e.index < z.capacity) × (1 ≤ e.version) }
     requires current { Current e.index e.version (rows_of z slot words.old) }
     ensures { Only z slot (insert_row (entity e.index e.version) (value_of z.stride x)) words.old words.new }
 {
@@ -76,7 +76,8 @@ pub fn remove_in(words: &mut [u32], z: Shape, slot: usize, e: Entity) -> Option<
 
 pub fn swap_to_in(words: &mut [u32], z: Shape, slot: usize, e: Entity, place: usize)
     requires lent { Lent z slot words.old }
-    requires words_value { (held (entity e.index e.version) (rows_of z slot words.old) ≡ true) × (place < length (rows_of z slot words.old)) }
+    requires holds { held (entity e.index e.version) (rows_of z slot words.old) ≡ true }
+    requires place_in_bounds { place < length (rows_of z slot words.old) }
     ensures { Only z slot (swap_to (entity e.index e.version) place) words.old words.new }
 {
     at_start::swap_to_from(words, z, words::column_start(z, slot), e, place);

@@ -40,7 +40,7 @@ pub fn clear_lookup(part: &mut [u32], z: Shape, x: u32, k: u32)
 // The place of an entity that the rows have: no test is needed (`get_sparse_unchecked`).
 pub fn place_of(part: &[u32], z: Shape, e: Entity) -> usize
     requires column_sound { ColumnSound z part.now }
-    requires part_value { held (entity e.index e.version) (rows z part.now) ≡ true }
+    requires holds { held (entity e.index e.version) (rows z part.now) ≡ true }
     ensures { HeldAt z (entity e.index e.version) (rows z part.now) result }
 {
     let s = words::lookup_place(z, e.index as usize);
@@ -50,7 +50,7 @@ pub fn place_of(part: &[u32], z: Shape, e: Entity) -> usize
 // Where the entity's row is, of an index that there is room for and a version that was issued.
 pub fn find_issued(part: &[u32], z: Shape, e: Entity) -> Found
     requires column_sound { ColumnSound z part.now }
-    requires index_lt_capacity { (e.index < z.capacity) × (1 ≤ e.version) }
+    requires issued { (e.index < z.capacity) × (1 ≤ e.version) }
     ensures { Finds z (entity e.index e.version) (rows z part.now) result }
 {
     let s = words::lookup_place(z, e.index as usize);

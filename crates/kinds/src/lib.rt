@@ -92,7 +92,7 @@ pub fn insert(words: &mut [u32], z: Shape, kind: usize, e: Entity, x: Value)
     requires arranged { Arranged words.old }
     requires shape_is { z ≡ shape_of words.old }
     requires kind_known { In (meaning words.old).kinds kind }
-    requires index_bound { (e.index < capacity_of words.old) × (1 ≤ e.version) }
+    requires issued { (e.index < capacity_of words.old) × (1 ≤ e.version) }
     requires current { Current e.index e.version (kind_set words.old kind) }
     ensures { Becomes words.old words.new (on_storage (on_set kind (insert_row (entity e.index e.version) (value_of (shape_of words.old).stride x))) (meaning words.old)) }
 {
@@ -174,8 +174,8 @@ fn put_head(words: &mut [u32], z: Shape, slot: usize, kind: usize)
 pub fn register(words: &mut [u32], kind: usize)
     requires arranged { Arranged words.old }
     requires kind_bound { kind < MAX_KINDS }
-    requires words_value { mem kind (meaning words.old).kinds ≡ false }
-    requires words_len_bound { length (meaning words.old).kinds < (meaning words.old).settings.kind_capacity }
+    requires unregistered { mem kind (meaning words.old).kinds ≡ false }
+    requires room { length (meaning words.old).kinds < (meaning words.old).settings.kind_capacity }
     ensures { Becomes words.old words.new (with_kinds (meaning words.old) ((meaning words.old).kinds ++ (kind ∷ []))) }
 {
     let z = words::shape_of(words);

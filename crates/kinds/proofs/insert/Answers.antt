@@ -12,7 +12,7 @@ pub insert_in-requires : goal.insert_in-requires
 insert_in-requires c =
     let a = c.args in
     let slot = c.slot_of-slot.result in
-    record { lent = lent_at a.words.now a.z a.kind slot c.requires.shape_is c.slot_of-slot.ensures; index_lt_capacity = (rw c.requires.shape_is c.requires.index_bound.0, c.requires.index_bound.1); current = rw (rows_at a.words.now a.z a.kind slot c.requires.shape_is c.slot_of-slot.ensures) c.requires.current }
+    record { lent = lent_at a.words.now a.z a.kind slot c.requires.shape_is c.slot_of-slot.ensures; issued = (rw c.requires.shape_is c.requires.issued.0, c.requires.issued.1); current = rw (rows_at a.words.now a.z a.kind slot c.requires.shape_is c.slot_of-slot.ensures) c.requires.current }
 
 pub returns : goal.returns
 returns c =

@@ -15,7 +15,7 @@ word-slot-requires c = header_long c.args.words.now c.requires.arranged REGISTER
 pub put_head-requires : goal.put_head-requires
 put_head-requires c =
     let w = c.args.words.now in
-    record { lent = vacant_lent w c.shape_of-z.result c.word-slot.result c.requires.arranged c.shape_of-z.ensures.is c.word-slot.ensures.is (vacancy w c.requires.words_len_bound); kind_bound = c.requires.kind_bound }
+    record { lent = vacant_lent w c.shape_of-z.result c.word-slot.result c.requires.arranged c.shape_of-z.ensures.is c.word-slot.ensures.is (vacancy w c.requires.room); kind_bound = c.requires.kind_bound }
 
 pub bounds-words-kind : goal.bounds-words-kind
 bounds-words-kind c =
@@ -29,5 +29,5 @@ pub returns : goal.returns
 returns c =
     let a = c.args in
     let w = a.words.now in
-    registered w c.shape_of-z.result c.word-slot.result a.kind c.requires.arranged c.requires.kind_bound c.requires.words_value (vacancy w c.requires.words_len_bound) c.shape_of-z.ensures.is
+    registered w c.shape_of-z.result c.word-slot.result a.kind c.requires.arranged c.requires.kind_bound c.requires.unregistered (vacancy w c.requires.room) c.shape_of-z.ensures.is
     c.word-slot.ensures.is c.put_head.new.words c.put_head.ensures

@@ -18,7 +18,7 @@ pub rows-requires : goal.rows-requires
 rows-requires c =
     let a = c.args in
     let G : Given a.words.now a.kind a.start a.end = given_of a.words.now a.kind a.start a.end c.column_number.result c.column_number.ensures c.if-column_number-ne0.false in
-    record { arranged = G.sound.arranged; words_value = G.taken }
+    record { arranged = G.sound.arranged; accepted = G.taken }
 
 pub returns : goal.returns
 returns c =

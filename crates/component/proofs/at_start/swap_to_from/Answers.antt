@@ -6,7 +6,7 @@ pub swap_to-requires : goal.swap_to-requires
 swap_to-requires c =
     let a = c.args in
     let L = c.requires.from in
-    rw (part_is a.z L.slot a.base c.column_len.result a.words.now L.starts c.column_len.ensures.is) record { column_sound = L.lent.sound; part_value = (c.requires.holds, c.requires.room) }
+    rw (part_is a.z L.slot a.base c.column_len.result a.words.now L.starts c.column_len.ensures.is) record { column_sound = L.lent.sound; holds = c.requires.holds; place_in_bounds = c.requires.room }
 
 pub returns : goal.returns
 returns c =

@@ -18,7 +18,7 @@ append-requires c =
     let e = entity a.e.index a.e.version in
     let rs = rows a.z a.part.now in
     let f = subst (λ (r : Found). Finds a.z e rs r) c.in_default.is c.find-found.ensures in
-    record { column_sound = c.requires.column_sound; index_lt_capacity = c.requires.index_lt_capacity; absent = absent a.e.index a.e.version rs c.requires.current f }
+    record { column_sound = c.requires.column_sound; issued = c.requires.issued; absent = absent a.e.index a.e.version rs c.requires.current f }
 
 pub returns-in_default : goal.returns-in_default
 returns-in_default c =

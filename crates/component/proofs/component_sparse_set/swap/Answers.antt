@@ -17,17 +17,17 @@ returns-then-a-b c =
 pub put_place-requires : goal.put_place-requires
 put_place-requires c =
     let a = c.args in
-    (record { size = omega (arith, c.requires.column_sound.size, c.put_entity.auto.part, c.put_entity-2.auto.part); shaped = c.requires.column_sound.shaped }, omega (arith, c.requires.a_value.0, (c.requires.column_sound.linked.tied a.a c.requires.a_in_bounds.0).below), omega (arith, c.requires.a_in_bounds, c.requires.column_sound.linked.room))
+    (record { size = omega (arith, c.requires.column_sound.size, c.put_entity.auto.part, c.put_entity-2.auto.part); shaped = c.requires.column_sound.shaped }, omega (arith, c.requires.entity_at_a.0, (c.requires.column_sound.linked.tied a.a c.requires.in_bounds.0).below), omega (arith, c.requires.in_bounds, c.requires.column_sound.linked.room))
 
 pub put_place-requires-2 : goal.put_place-requires-2
 put_place-requires-2 c =
     let a = c.args in
-    let q : c.entity_at-other.result.index < a.z.capacity = subst (λ (x : ℕ). x < a.z.capacity) (sym (ap (λ (r : Entity). r.index) c.entity_at-other.ensures)) (c.requires.column_sound.linked.tied a.b c.requires.a_in_bounds.1).below in
-    (record { size = omega (arith, c.requires.column_sound.size, c.put_entity.auto.part, c.put_entity-2.auto.part, c.put_place.auto.part); shaped = c.requires.column_sound.shaped }, q, omega (arith, c.requires.a_in_bounds, c.requires.column_sound.linked.room))
+    let q : c.entity_at-other.result.index < a.z.capacity = subst (λ (x : ℕ). x < a.z.capacity) (sym (ap (λ (r : Entity). r.index) c.entity_at-other.ensures)) (c.requires.column_sound.linked.tied a.b c.requires.in_bounds.1).below in
+    (record { size = omega (arith, c.requires.column_sound.size, c.put_entity.auto.part, c.put_entity-2.auto.part, c.put_place.auto.part); shaped = c.requires.column_sound.shaped }, q, omega (arith, c.requires.in_bounds, c.requires.column_sound.linked.room))
 
 pub returns : goal.returns
 returns c =
     let a = c.args in
-    swapped_by a.z a.part.now c.requires.column_sound a.a a.b c.requires.a_in_bounds.0 c.requires.a_in_bounds.1 c.if-a-b.false
+    swapped_by a.z a.part.now c.requires.column_sound a.a a.b c.requires.in_bounds.0 c.requires.in_bounds.1 c.if-a-b.false
     c.put_entity.new.part c.put_entity-2.new.part c.put_place.new.part c.put_place-2.new.part c.swap_values.new.part a.e.index a.e.version c.entity_at-other.result
-    c.requires.a_value.0 c.requires.a_value.1 c.entity_at-other.ensures c.put_entity.ensures c.put_entity-2.ensures c.put_place.ensures c.put_place-2.ensures c.swap_values.ensures
+    c.requires.entity_at_a.0 c.requires.entity_at_a.1 c.entity_at-other.ensures c.put_entity.ensures c.put_entity-2.ensures c.put_place.ensures c.put_place-2.ensures c.swap_values.ensures

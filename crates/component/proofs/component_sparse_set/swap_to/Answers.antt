@@ -11,7 +11,7 @@ pub swap-requires : goal.swap-requires
 swap-requires c =
     let a = c.args in
     let h = held_at a.z a.part.now c.requires.column_sound a.e.index a.e.version c.place_of-at.result c.place_of-at.ensures in
-    record { column_sound = c.requires.column_sound; a_in_bounds = (h.0, omega (arith, c.requires.part_value.1, length_rows a.z a.part.now)); a_value = (h.1, h.2) }
+    record { column_sound = c.requires.column_sound; in_bounds = (h.0, omega (arith, c.requires.place_in_bounds, length_rows a.z a.part.now)); entity_at_a = (h.1, h.2) }
 
 pub returns : goal.returns
 returns c =

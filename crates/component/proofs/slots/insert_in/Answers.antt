@@ -5,7 +5,7 @@ use Rattle.component.proofs.slots.insert_in.Goals as goal
 
 pub insert-requires : goal.insert-requires
 insert-requires c =
-    rw (part_within c.args.z c.args.slot c.bounds-start.result c.args.words.now c.bounds-start.ensures) record { column_sound = c.requires.lent.sound; index_lt_capacity = c.requires.index_lt_capacity; current = c.requires.current }
+    rw (part_within c.args.z c.args.slot c.bounds-start.result c.args.words.now c.bounds-start.ensures) record { column_sound = c.requires.lent.sound; issued = c.requires.issued; current = c.requires.current }
 
 pub returns : goal.returns
 returns c =

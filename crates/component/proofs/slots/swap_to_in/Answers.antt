@@ -4,8 +4,8 @@ pub swap_to_from-requires : goal.swap_to_from-requires
 swap_to_from-requires c =
     record {
       from = record { slot = c.args.slot; starts = c.column_start.ensures.is; lent = c.requires.lent };
-      holds = c.requires.words_value.0;
-      room = c.requires.words_value.1;
+      holds = c.requires.holds;
+      room = c.requires.place_in_bounds;
     }
 
 pub returns : goal.returns

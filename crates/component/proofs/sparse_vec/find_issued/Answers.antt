@@ -19,4 +19,4 @@ pub returns : goal.returns
 returns c =
     let a = c.args in
     let e : get_or a.part.now (c.lookup_place-s.result + 1) 0 ≡ held_of a.z a.part.now a.e.index = ap (λ (i : ℕ). get_or a.part.now (i + 1) 0) c.lookup_place-s.ensures.is in
-    rw c.lookup_place-s.ensures.is (finds_at a.z a.part.now c.requires.column_sound a.e.index a.e.version c.requires.index_lt_capacity.0 c.requires.index_lt_capacity.1 (omega (arith, e)))
+    rw c.lookup_place-s.ensures.is (finds_at a.z a.part.now c.requires.column_sound a.e.index a.e.version c.requires.issued.0 c.requires.issued.1 (omega (arith, e)))

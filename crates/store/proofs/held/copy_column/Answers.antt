@@ -16,7 +16,7 @@ pub rows-part-requires : goal.rows-part-requires
 rows-part-requires c =
     let a = c.args in
     let G : Given a.words.now a.kind a.start a.end = given_of a.words.now a.kind a.start a.end c.column_number-number.result c.column_number-number.ensures c.if-number-ne0.false in
-    record { arranged = G.sound.arranged; words_value = G.taken }
+    record { arranged = G.sound.arranged; accepted = G.taken }
 
 pub returns-then-out-count : goal.returns-then-out-count
 returns-then-out-count c =

@@ -27,7 +27,7 @@ insert_in-requires c =
     let t = c.slot_of-slot in
     let h = subst (λ (m : ℕ). l.place < m) c.live_len-len.ensures c.loop-place-test.true in
     let A = c.requires.all_insertable.arranged in
-    let known = staged_in_law (meaning w) c.requires.all_insertable.known c.args.i p.result.kind c.requires.i_in_bounds (ap kind_of p.ensures) in record { lent = filling_lent w k v c.args.start l.words l.place l.invariant A known n.result t.result n.ensures.is t.ensures; index_lt_capacity = filling_bounds w k v c.args.start l.words l.place l.invariant A known n.result t.result n.ensures.is t.ensures e.index e.version h c.live_at-e.ensures; current = filling_current w k v c.args.start l.words l.place l.invariant A known n.result t.result n.ensures.is t.ensures e.index e.version h c.live_at-e.ensures }
+    let known = staged_in_law (meaning w) c.requires.all_insertable.known c.args.i p.result.kind c.requires.i_in_bounds (ap kind_of p.ensures) in record { lent = filling_lent w k v c.args.start l.words l.place l.invariant A known n.result t.result n.ensures.is t.ensures; issued = filling_bounds w k v c.args.start l.words l.place l.invariant A known n.result t.result n.ensures.is t.ensures e.index e.version h c.live_at-e.ensures; current = filling_current w k v c.args.start l.words l.place l.invariant A known n.result t.result n.ensures.is t.ensures e.index e.version h c.live_at-e.ensures }
 
 pub loop-place-preserved : goal.loop-place-preserved
 loop-place-preserved c =
