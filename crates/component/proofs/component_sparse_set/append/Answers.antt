@@ -1,4 +1,3 @@
-use mathlib.Core.Path.{◌∙◌}
 use native.Mathlib.Omega.{arith}
 use lib.ListN.{length-set}
 use Rattle.component.proofs.Meaning.{absent_room}
@@ -20,9 +19,6 @@ pub put_value-requires : goal.put_value-requires
 put_value-requires c =
     let a = c.args in
     (record { size = simp length-set (omega (arith, c.requires.column_sound.size, c.put_lookup.auto.part, c.put_entity.auto.part)); shaped = c.requires.column_sound.shaped }, absent_room a.z a.part.now c.requires.column_sound a.e.index c.requires.issued.0 c.requires.absent)
-
-pub shape_of-part : goal.shape_of-part
-shape_of-part c = (simp length-set at c.put_value.auto.part) ∙ c.put_lookup.auto.part ∙ c.put_entity.auto.part
 
 pub returns : goal.returns
 returns c =

@@ -12,9 +12,6 @@ returns-then-v-e c =
     let e : get_or a.part.now (c.lookup_place-s.result + 1) 0 ≡ held_of a.z a.part.now a.e.index = ap (λ (i : ℕ). get_or a.part.now (i + 1) 0) c.lookup_place-s.ensures.is in
     finds_nothing a.z a.part.now c.requires.column_sound a.e.index a.e.version (omega (arith, e))
 
-pub overflow_cast-result : goal.overflow_cast-result
-overflow_cast-result c = omega (arith, c.shared_slice_known-2-1.given c.lookup_place-s.result)
-
 pub returns : goal.returns
 returns c =
     let a = c.args in

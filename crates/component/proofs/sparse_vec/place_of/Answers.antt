@@ -14,9 +14,6 @@ bounds-part-s c =
     let h = held_index a.z a.part.now c.requires.column_sound a.e.index a.e.version c.requires.holds in
     omega (arith, h, c.requires.column_sound.size, c.lookup_place-s.ensures.is)
 
-pub overflow_cast-result : goal.overflow_cast-result
-overflow_cast-result c = omega (arith, c.type_inv.part c.lookup_place-s.result)
-
 pub returns : goal.returns
 returns c =
     let a = c.args in
