@@ -1,7 +1,7 @@
 // Commands of the tape, one run each.
 ghost use Rattle.flips.specs.Trial.{Keeps};
 
-use model::commands::HOLD;
+use model::commands::Command;
 
 // Whether the tape was served to its end. Sound words stay sound.
 pub fn feed(words: &mut [u32], tape: &[u8]) -> bool
@@ -12,35 +12,33 @@ pub fn feed(words: &mut [u32], tape: &[u8]) -> bool
     ran.stop == 0
 }
 
-pub fn command(words: &mut [u32], byte: u8) -> bool
+pub fn command(words: &mut [u32], which: Command) -> bool
     ensures { Keeps words.old words.new }
 {
-    feed(words, &[byte])
+    feed(words, &[u8::from(which)])
 }
 
 // A command on an entity.
-pub fn command_on(words: &mut [u32], byte: u8, index: u8, version: u8) -> bool
+pub fn command_on(words: &mut [u32], which: Command, index: u8, version: u8) -> bool
     ensures { Keeps words.old words.new }
 {
-    feed(words, &[byte, index, 0, 0, 0, version, 0, 0, 0])
+    feed(words, &[u8::from(which), index, 0, 0, 0, version, 0, 0, 0])
 }
 
 // HOLD of each kind, with a value of its own.
 pub fn hold(words: &mut [u32], kinds: &[u8])
     ensures { Keeps words.old words.new }
 {
-    let mut i = 0;
-    while i < kinds.len() {
-        let kind = kinds[i];
-        feed(words, &[HOLD, kind, kind, 0, 0, 0, 1, 0, 0, 0]);
-        i += 1;
+    let byte = u8::from(Command::Hold);
+    for &kind in kinds {
+        feed(words, &[byte, kind, kind, 0, 0, 0, 1, 0, 0, 0]);
     }
 }
 
 // A command with these kinds staged.
-pub fn command_with(words: &mut [u32], kinds: &[u8], byte: u8) -> bool
+pub fn command_with(words: &mut [u32], kinds: &[u8], which: Command) -> bool
     ensures { Keeps words.old words.new }
 {
     hold(words, kinds);
-    command(words, byte)
+    command(words, which)
 }

@@ -7,7 +7,7 @@ mod setup;
 mod trial;
 
 use std::io;
-use trial::{Counts, WORDS, add, flip_part};
+use trial::{Counts, WORDS, flip_part};
 
 // The store has six entities and five kinds.
 const CAPACITY: usize = 6;
@@ -60,5 +60,5 @@ fn main(rt: HostRuntime) -> io::Result<()> {
     report(&rt, "entities", entities)?;
     report(&rt, "columns", columns)?;
     report(&rt, "beyond the store", beyond)?;
-    report(&rt, "all", add(add(header, entities), add(columns, beyond)))
+    report(&rt, "all", (header + entities) + (columns + beyond))
 }

@@ -4,16 +4,17 @@ ghost use Rattle.memory.specs.Arranged.{Sound};
 ghost use Rattle.flips.specs.Trial.{Keeps, Most, Tried, Summed};
 
 use crate::feed::{command, command_on, command_with, hold};
-use model::commands::{APPLY, EMPTY, KILL, NEW, PUT, RANGE, TAKE, WIPE};
+use model::commands::Command;
 use std::fmt;
+use std::ops::Add;
 
 // 1,024 + 16 × 6 + 5 × (8 + 6 × 6), and four words that are lent beyond the store.
 pub const WORDS: usize = 1344;
 // How many values a word is changed to.
-const VALUES: u32 = 8;
+const VALUES: usize = 8;
 
 // Of the changed stores: how many are refused, and how many are sound; of these, how many serve commands, and are sound after them.
-#[derive(Clone, Copy)]
+#[derive(Clone, Copy, Default)]
 pub struct Counts {
     pub refused: u32,
     pub sound: u32,
@@ -36,16 +37,20 @@ impl fmt::Display for Counts {
     }
 }
 
-pub fn add(a: Counts, b: Counts) -> Counts
-    requires most { Most a 1000000 }
-    requires most_2 { Most b 1000000 }
-    ensures { Summed a b result }
-{
-    Counts {
-        refused: a.refused + b.refused,
-        sound: a.sound + b.sound,
-        served: a.served + b.served,
-        stayed: a.stayed + b.stayed,
+impl Add for Counts {
+    type Output = Counts;
+
+    ghost can_add = { λ a b. Most a 1000000 × Most b 1000000 };
+
+    ghost add_gives = { Summed };
+
+    fn add(self, other: Counts) -> Counts {
+        Counts {
+            refused: self.refused + other.refused,
+            sound: self.sound + other.sound,
+            served: self.served + other.served,
+            stayed: self.stayed + other.stayed,
+        }
     }
 }
 
@@ -53,9 +58,9 @@ pub fn add(a: Counts, b: Counts) -> Counts
 fn serves_queries(words: &mut [u32]) -> bool
     ensures { Keeps words.old words.new }
 {
-    let emptied = command(words, EMPTY);
-    let ranged = command_with(words, b"\x01\x02", RANGE);
-    let created = command_with(words, b"\x01\x02\x03", NEW);
+    let emptied = command(words, Command::Empty);
+    let ranged = command_with(words, b"\x01\x02", Command::Range);
+    let created = command_with(words, b"\x01\x02\x03", Command::New);
     emptied & ranged & created
 }
 
@@ -64,10 +69,10 @@ fn serves_entities(words: &mut [u32]) -> bool
     ensures { Keeps words.old words.new }
 {
     hold(words, b"\x03\x09");
-    let inserted = command_on(words, PUT, 1, 2);
+    let inserted = command_on(words, Command::Put, 1, 2);
     hold(words, b"\x01\x02");
-    let removed = command_on(words, TAKE, 2, 1);
-    let destroyed = command_on(words, KILL, 3, 1);
+    let removed = command_on(words, Command::Take, 2, 1);
+    let destroyed = command_on(words, Command::Kill, 3, 1);
     inserted & removed & destroyed
 }
 
@@ -77,8 +82,8 @@ fn serves(words: &mut [u32]) -> bool
 {
     let queries = serves_queries(words);
     let entities = serves_entities(words);
-    let applied = command(words, APPLY);
-    let cleared = command(words, WIPE);
+    let applied = command(words, Command::Apply);
+    let cleared = command(words, Command::Wipe);
     queries & entities & applied & cleared
 }
 
@@ -91,10 +96,10 @@ fn try_commands(words: [u32; WORDS]) -> Counts
     let served = serves(&mut after);
     let stayed = soundness::is_sound(&after);
     Counts {
-        refused: 0,
         sound: 1,
-        served: served as u32,
-        stayed: stayed as u32,
+        served: u32::from(served),
+        stayed: u32::from(stayed),
+        ..Counts::default()
     }
 }
 
@@ -107,9 +112,7 @@ fn try_store(words: [u32; WORDS]) -> Counts
     }
     Counts {
         refused: 1,
-        sound: 0,
-        served: 0,
-        stayed: 0,
+        ..Counts::default()
     }
 }
 
@@ -119,47 +122,35 @@ fn flip(words: [u32; WORDS], at: usize, value: u32) -> Counts
     ensures { Most result 1 }
 {
     if words[at] == value {
-        return Counts {
-            refused: 0,
-            sound: 0,
-            served: 0,
-            stayed: 0,
-        };
+        return Counts::default();
     }
     let mut changed = words;
     changed[at] = value;
     try_store(changed)
 }
 
-// Small numbers, the largest, and what is near the word's own value.
-fn value_of(old: u32, which: u32) -> u32 {
-    match which {
-        0 => 0,
-        1 => 1,
-        2 => 2,
-        3 => 255,
-        4 => std::num::wrapping_add_u32(old, 1),
-        5 => std::num::wrapping_sub_u32(old, 1),
-        6 => old ^ 2147483648,
-        _ => 4294967295,
-    }
+// What a word is changed to: small numbers, the largest, and what is near the word's own value.
+fn values_for(old: u32) -> [u32; VALUES] {
+    [
+        0,
+        1,
+        2,
+        255,
+        old.wrapping_add(1),
+        old.wrapping_sub(1),
+        old ^ 2147483648,
+        u32::MAX,
+    ]
 }
 
 fn flip_word(words: [u32; WORDS], at: usize) -> Counts
     requires { at < 1344 }
     ensures { Most result 8 }
 {
-    let mut counts = Counts {
-        refused: 0,
-        sound: 0,
-        served: 0,
-        stayed: 0,
-    };
-    let old = words[at];
-    let mut which = 0;
-    while which < VALUES {
-        counts = add(counts, flip(words, at, value_of(old, which)));
-        which += 1;
+    let mut counts = Counts::default();
+    let values = values_for(words[at]);
+    for &value in &values {
+        counts = counts + flip(words, at, value);
     }
     counts
 }
@@ -169,16 +160,9 @@ pub fn flip_part(words: [u32; WORDS], from: usize, to: usize) -> Counts
     requires { (from ≤ to) × (to ≤ 1344) }
     ensures { Most result (8 * (to - from)) }
 {
-    let mut counts = Counts {
-        refused: 0,
-        sound: 0,
-        served: 0,
-        stayed: 0,
-    };
-    let mut at = from;
-    while at < to {
-        counts = add(counts, flip_word(words, at));
-        at += 1;
+    let mut counts = Counts::default();
+    for at in from..to {
+        counts = counts + flip_word(words, at);
     }
     counts
 }
