@@ -40,7 +40,7 @@ fn refusal<L: KindsInWords>(words: &[u32], kind: usize) -> Option<Refusal>
     None
 }
 
-// HOLD: a kind with its value, staged.
+// HOLD: a kind with its value, staged. It stays beside BAR, which has no value: two commands with other operands, and one `refusal`.
 pub fn hold(words: &mut [u32], kind: u8, x: Value, out: &mut [u8], at: usize) -> usize
     requires { Ready words.old out.old at (HOLD kind (value_of (shape_of words.old).stride x)) }
     ensures { Acted words.old words.new out.old out.new at result (does (HOLD kind (value_of (shape_of words.old).stride x)) (meaning words.old)) }

@@ -20,6 +20,7 @@ fn info_of(words: &[u32], kind: usize) -> Option<GroupInfo>
 {
     let z = words::shape_of(words);
     let found = kinds::own_group(words, z, kind);
+    // A rule of the project: a range step goes on from the place that was found, and stops where there is none.
     let Found::At(place) = found else {
         return None;
     };

@@ -39,7 +39,7 @@ pub fn staged_at(words: &[u32], z: Shape, i: usize) -> Component
     Component { kind, value }
 }
 
-// One component more.
+// One component more. `exclude` stays beside it: a staged kind has a value, an excluded one has none, and one `push` serves both.
 pub fn stage(words: &mut [u32], kind: usize, x: Value)
     requires arranged { Arranged words.old }
     requires room { length (meaning words.old).control.staged < LIST_CAPACITY }
