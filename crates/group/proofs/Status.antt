@@ -1,5 +1,5 @@
 -- Whether an entity is inside a group: a lookup in the first new kind's sparse set, then one in each other's. Assumes nothing.
-use mathlib.Core.Path.{◌≡◌, refl, ap, ap₂, sym, ◌∙◌, subst}
+use mathlib.Core.Path.{◌≡◌, refl, ap, sym, ◌∙◌, subst}
 use mathlib.Core.Bool.{Bool, true, false, ◌&&◌}
 use mathlib.Core.List.{List, ◌∷◌}
 use Prim.Native.Nat.{ℕ, zero, suc, ◌+◌, ◌-◌, ◌≤◌, ◌<◌}
@@ -18,10 +18,8 @@ use Rattle.words.specs.declared.Shape.{Shape}
 use Rattle.component.specs.Answers.{Finds}
 use Rattle.words.specs.declared.Found.{Found}
 use Rattle.words.specs.declared.Found.TheVariants.{At, Nothing}
-use Rattle.layout.specs.declared.group_metadata.GroupMetadata.{GroupMetadata}
 use Rattle.group.specs.declared.group_status.GroupStatus.TheVariants.{Incomplete, Ungrouped, Grouped}
-use Rattle.group.specs.Flat.{status_at}
-use Rattle.group.specs.Metadata.{order_of, PlacesKnown, Stands}
+use Rattle.group.specs.Metadata.{order_of, PlacesKnown}
 use Rattle.group.specs.Steps.{status_in}
 
 -- ---- the kinds from start to end; the kind k is the one at place p
@@ -85,9 +83,3 @@ module _ {m : Store} {start end : ℕ} (e : Entity) (c : ℕ) (some : start < en
 
     pub status_out : {p : ℕ} → r ≡ At p → all_held e (between (start + 1) end (order_of m)) sets ≡ true → c ≤ p → Ungrouped ≡ status_in e (between start end (order_of m)) c sets
     status_out {p} z a l = let h = first (At p) z in rw (parts, h.holds, a, le-ltb (at e (set_of sets k)) c (omega (arith, h.place)))
-
--- ---- of a group of the layout
-
-pub status_is : (m : Store) (g : ℕ) (d : GroupMetadata) (len : ℕ) (e : Entity) → Stands m g d len
-    → status_in e (between d.new_storage_start d.storage_end (order_of m)) len m.storage.sets ≡ status_at e g m.storage
-status_is m g d len e S = ap₂ (λ (ks : List ℕ) (n : ℕ). status_in e ks n m.storage.sets) S.metadata.new_kinds S.counted

@@ -9,7 +9,7 @@ use Rattle.model.specs.Model.{Entity, SparseSet, Storage, no_row, set_of, at, on
 use Rattle.model.specs.Store.{on_storage, with_layout, Store}
 use Rattle.model.specs.Sound.{In}
 use Rattle.model.proofs.ListLaws.{swap_equal}
-use Rattle.masks.specs.Masks.{bits_of, Ordered}
+use Rattle.masks.specs.Masks.{Ordered}
 use Rattle.words.specs.Part.{between}
 use Rattle.component.proofs.Meaning.{length_rows}
 use Rattle.component.specs.Columns.{column_of, rows_of}
@@ -19,10 +19,10 @@ use Rattle.memory.specs.Arranged.{Arranged, Becomes}
 use Rattle.kinds.proofs.Slot.{known_slot}
 use Rattle.layout.specs.declared.group_metadata.GroupMetadata.{GroupMetadata}
 use Rattle.group.specs.declared.group_status.GroupStatus.{GroupStatus}
-use Rattle.group.specs.Flat.{located, set_count, moved_to, status_at, step_up, step_down}
+use Rattle.group.specs.Flat.{located, set_count, moved_to, status_at, step_down}
 use Rattle.group.specs.Ready.{Swappable, StandsAt, ReadyIn, ReadyOut}
 use Rattle.group.specs.Metadata.{order_of, Describes, Stands}
-use Rattle.group.specs.Steps.{swap_kinds, left_after, StepsUp}
+use Rattle.group.specs.Steps.{swap_kinds}
 use Rattle.group.proofs.Counts.{placed}
 use Rattle.words.proofs.Part.{between_in}
 use Rattle.words.specs.Shape.{shape_of}
@@ -83,14 +83,6 @@ skip_ordered m g d h D =
     record { rising = omega (arith, P.1, D.top); inside = omega (arith, D.few) }
 
 -- ---- the steps, by status
-
-pub steps_up : {w w' : List ℕ} {e : Entity} {g rest left : ℕ} {t : GroupStatus} → t ≡ status_at e g (meaning w).storage → Becomes w w' (on_storage (step_up t e g) (meaning w))
-    → bits_of 64 left ≡ left_after t g (located (meaning w).storage.layout g).top (bits_of 64 rest) → StepsUp w w' e g rest left
-steps_up {w} {w'} {e} {g} {rest} {left} q B b =
-    record {
-      becomes = subst (λ (x : GroupStatus). Becomes w w' (on_storage (step_up x e g) (meaning w))) q B;
-      remains = subst (λ (x : GroupStatus). bits_of 64 left ≡ left_after x g (located (meaning w).storage.layout g).top (bits_of 64 rest)) q b;
-    }
 
 pub steps_down : {w w' : List ℕ} (e : Entity) (g : ℕ) {t : GroupStatus} → t ≡ status_at e g (meaning w).storage → Becomes w w' (on_storage (step_down t e g) (meaning w))
     → Becomes w w' (on_storage (step_down (status_at e g (meaning w).storage) e g) (meaning w))

@@ -57,9 +57,6 @@ pub record Listed (w : List ℕ) (was t : List GroupMetadata) (g : ℕ) : Type 0
   pub within : g ≤ groups_of (meaning w).storage.layout
   pub each : (i : ℕ) → i < g → (none : GroupMetadata) → Describes (meaning w) i (get_or t i none)
 
-pub listed_start : (w : List ℕ) (was : List GroupMetadata) → Listed w was was 0
-listed_start w was = record { size = refl; within = omega arith; each = λ i h none. absurd (omega arith) }
-
 module _ (w : List ℕ) (A : Arranged w) (was : List GroupMetadata) (room : MAX_GROUP_COUNT ≤ length was) (t : List GroupMetadata) (g : ℕ) (L : Listed w was t g) where
   pub listed_room : g < groups_of (meaning w).storage.layout → g < length t
   listed_room h = omega (arith, L.size, groups_few w A)
@@ -85,9 +82,6 @@ pub record Skipping (w : List ℕ) (was t : List GroupMask) (g : ℕ) : Type 0 w
   pub size : length t ≡ length was
   pub within : g ≤ groups_of (meaning w).storage.layout
   pub each : (i : ℕ) → i < g → (none : GroupMask) → bits_of 64 (get_or t i none).0 ≡ skipping 64 i (located (meaning w).storage.layout i).top
-
-pub skipping_start : (w : List ℕ) (was : List GroupMask) → Skipping w was was 0
-skipping_start w was = record { size = refl; within = omega arith; each = λ i h none. absurd (omega arith) }
 
 module _ (w : List ℕ) (A : Arranged w) (was : List GroupMask) (room : MAX_GROUP_COUNT ≤ length was) (t : List GroupMask) (g : ℕ) (K : Skipping w was t g) where
   pub skipping_room : g < groups_of (meaning w).storage.layout → g < length t
