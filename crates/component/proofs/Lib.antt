@@ -5,6 +5,5 @@ pub mod Parts
 pub mod Several
 pub mod Frames
 pub mod Fresh
-pub mod Sums
 pub mod Valued
 pub mod Held

@@ -119,9 +119,6 @@ module _ (z : Shape) (e : Entity) (rs : SparseSet) where
   pub insert_free : held e rs ≡ false → (v : ℕ) → rs ++ (record { entity = e; value = v } ∷ []) ≡ insert_row e v rs
   insert_free f v = rw f
 
-  pub remove_free : held e rs ≡ false → rs ≡ remove_row e rs
-  remove_free f = rw f
-
 -- an entity that is not held, while its index has no other version
 pub absent : (x v : ℕ) (rs : SparseSet) → Current x v rs → held (entity x v) rs ≡ false → Absent x rs
 absent x v rs c f i hi q =

@@ -4,14 +4,13 @@ use mathlib.Core.List.{List}
 use Prim.Native.Nat.{ℕ, ◌<◌}
 use lib.ListN.{length}
 use lib.Seq.{sets}
-use Rattle.model.proofs.BoolLaws.{by-eq}
 use Rattle.words.specs.declared.Shape.{Shape}
 use Rattle.words.specs.Shape.{value_place}
 use Rattle.values.specs.declared.Value.{Value}
-use Rattle.values.specs.Values.{words_of, value_of, value_at}
+use Rattle.values.specs.Values.{words_of, value_of}
 use Rattle.values.proofs.Numbers.{length_words_of}
 use Rattle.values.proofs.Places.{value_hit, value_miss, links_miss}
-use Rattle.component.specs.Stored.{ColumnSized, PutsValue, SwapsValues}
+use Rattle.component.specs.Stored.{ColumnSized, PutsValue}
 
 pub puts_value : (z : Shape) (w w' : List ℕ) (i v : ℕ) (x : Value) → ColumnSized z w → i < z.capacity → v ≡ value_place z i → length w' ≡ length w
     → w' ≡ sets w v (words_of z.stride x) → PutsValue z i (value_of z.stride x) w w'
@@ -22,13 +21,4 @@ puts_value z w w' i v x l h p size e =
       front = record { size = size; same = λ j b. rw q (links_miss z w (words_of z.stride x) i j b) };
       here = rw q (value_hit z w (words_of z.stride x) i n l.size h);
       others = λ j b ne. rw q (value_miss z w (words_of z.stride x) i n j ne);
-    }
-
-pub swaps_values : (z : Shape) (a b : ℕ) (w w₁ w₂ : List ℕ) (f s : ℕ) → a < z.capacity → f ≡ value_at z w a → s ≡ value_at z w b → PutsValue z a s w w₁ → PutsValue z b f w₁ w₂ → SwapsValues z a b w w₂
-swaps_values z a b w w₁ w₂ f s ha ef es p q =
-    record {
-      front = record { size = q.front.size ∙ p.front.size; same = λ j h. q.front.same j h ∙ p.front.same j h };
-      first = by-eq a b (λ e. ap (value_at z w₂) e ∙ q.here ∙ ef ∙ ap (value_at z w) e) (λ ne. q.others a ha ne ∙ p.here ∙ es);
-      second = q.here ∙ ef;
-      others = λ j h na nb. q.others j h nb ∙ p.others j h na;
     }
