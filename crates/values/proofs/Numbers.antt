@@ -1,17 +1,17 @@
 -- A value's words as one number, and as bytes: laws over how many words there are. Assumes nothing.
-use mathlib.Core.Path.{◌≡◌, refl, sym, ap, ◌∙◌, subst}
+use mathlib.Core.Path.{◌≡◌, refl, sym, ap, ◌∙◌}
 use mathlib.Core.List.{List, [], ◌∷◌, ◌++◌}
 use Prim.Native.Nat.{ℕ, zero, suc, ◌+◌, ◌*◌, ◌^◌, ◌≤◌, ◌<◌}
 use native.Mathlib.Omega.{arith}
 use native.Mathlib.Nat.{pow-suc, add-zero}
 use lib.Dec.{lit<}
 use lib.ListN.{length, get_or, take, drop, replicate, length-drop}
-use lib.Seq.{sets, take-length, length-take-le, get_or-drop, take-take}
+use lib.Seq.{sets, length-take-le, get_or-drop, take-take}
 use Rattle.model.specs.Store.{bytes_of, number}
 use Rattle.model.proofs.ListLaws.{sets_join, halves}
 use Rattle.codec.proofs.Numbers.{bytes_of_join, number_join}
 use Rattle.values.specs.declared.Value.{Value}
-use Rattle.values.specs.Values.{digits, words_of, value_of}
+use Rattle.values.specs.Values.{digits, words_of}
 
 -- ---- words
 
@@ -54,13 +54,6 @@ pub digits_take : (d : ℕ) (ws : List ℕ) → Words ws → digits (take d ws) 
 digits_take zero ws h = lit< tt
 digits_take (suc d) [] h = some_power (suc d)
 digits_take (suc d) (x ∷ ws) h = rw (more d) (omega (arith, h.0, digits_take d ws h.1))
-
-pub digits_small : (ws : List ℕ) → Words ws → digits ws < 256 ^ (4 * length ws)
-digits_small ws h = subst (λ (l : List ℕ). digits l < 256 ^ (4 * length ws)) (take-length ws) (digits_take (length ws) ws h)
-
--- a value of two words from its low and its high word
-pub value_two : (x : Value) → value_of 2 x ≡ x.first + 4294967296 * x.second
-value_two x = omega arith
 
 -- ---- written as bytes
 

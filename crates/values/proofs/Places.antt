@@ -7,7 +7,7 @@ use native.Mathlib.Omega.{arith}
 use native.Mathlib.Decide.{dec_lt}
 use lib.ListN.{length, get_or, set, take, drop, length-take, length-drop}
 use lib.Seq.{sets, sets-eq, take_at, drop_at, length-take-le, take-set-le, drop-set-lt, get_or-set_other, get_or-take, get_or-drop, ext_get_or}
-use Rattle.model.proofs.ListLaws.{set_before, drop_later}
+use Rattle.model.proofs.ListLaws.{drop_later}
 use Rattle.words.specs.declared.Shape.{Shape}
 use Rattle.words.specs.Offsets.{ROWS}
 use Rattle.words.specs.Shape.{value_place, column_len}
@@ -15,7 +15,6 @@ use Rattle.words.specs.Stores.{stores}
 use Rattle.words.proofs.Part.{between_front}
 use Rattle.words.proofs.Offsets.{values_len_apart}
 use Rattle.words.proofs.Stores.{StoresBelow, drop_stores}
-use Rattle.codec.proofs.Front.{take_part}
 use Rattle.values.specs.Values.{digits, value_at}
 use Rattle.values.proofs.Numbers.{digits_take, words_from}
 
@@ -62,12 +61,6 @@ run_same w w' p d e f =
     let b : i < d = omega (arith, length-take d (drop p w')) in
     get_or-take d (drop p w') i 0 b ∙ get_or-drop p w' i 0 ∙ f (p + i) (omega arith) (omega arith) ∙ sym (get_or-drop p w i 0) ∙ sym (get_or-take d (drop p w) i 0 b))
 
--- stores before a run are as well done first
-pub stores_run : (w : List ℕ) (ss : List (ℕ × ℕ)) (xs : List ℕ) (k p : ℕ) → k ≤ p → StoresBelow k ss → stores (sets w p xs) ss ≡ sets (stores w ss) p xs
-stores_run w [] xs k p h b = refl
-stores_run w (s ∷ ss) xs k p h b =
-    ap (λ (l : List ℕ). stores l ss) (set_before xs w s.0 p s.1 (omega arith)) ∙ stores_run (set w s.0 s.1) ss xs k p h b.1
-
 -- ---- in a column
 
 module _ (z : Shape) where
@@ -91,10 +84,6 @@ module _ (z : Shape) where
     pub links_miss : (q : ℕ) → q < ROWS + 4 * z.capacity → get_or (sets w (value_place z i) xs) q 0 ≡ get_or w q 0
     links_miss q h = word_before xs w (value_place z i) q (omega arith)
 
-    -- stores there are as well done first
-    pub stores_put : (ss : List (ℕ × ℕ)) → StoresBelow (ROWS + 4 * z.capacity) ss → stores (sets w (value_place z i) xs) ss ≡ sets (stores w ss) (value_place z i) xs
-    stores_put ss b = stores_run w ss xs (ROWS + 4 * z.capacity) (value_place z i) (omega arith) b
-
   module _ (w w' : List ℕ) (i : ℕ) where
     -- the values of lists that agree from the values on
     pub value_rest : drop (ROWS + 4 * z.capacity) w' ≡ drop (ROWS + 4 * z.capacity) w → value_at z w' i ≡ value_at z w i
@@ -110,7 +99,3 @@ module _ (z : Shape) where
   -- a value has no more bytes than its words
   pub value_small : (w : List ℕ) → ((q : ℕ) → get_or w q 0 < 4294967296) → (i : ℕ) → value_at z w i < 256 ^ (4 * z.stride)
   value_small w f i = digits_take z.stride (drop (value_place z i) w) (words_from (value_place z i) w f)
-
--- the two words at p, low and high
-pub digits_two : (w : List ℕ) (p : ℕ) → p + 2 ≤ length w → digits (take 2 (drop p w)) ≡ get_or w p 0 + 4294967296 * get_or w (p + 1) 0
-digits_two w p h = rw (take_part 2 w p h) (let e : suc p ≡ p + 1 = omega arith in rw e (omega arith))
