@@ -10,7 +10,8 @@ ghost use Rattle.values.specs.Values.{words_of, value_of};
 
 use words::Width;
 
-// A value, its lowest word first. One of two words has them first, and then zeros.
+// A value, its lowest word first. One of two words has them first, and then zeros. Four fields and no array: that there are four is in the type, where an
+// array's length would be one more fact of each proof, and a value goes by value wherever a row moves.
 #[derive(Clone, Copy, PartialEq, Eq, Debug)]
 pub struct Value {
     pub first: u32,
