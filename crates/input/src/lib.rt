@@ -30,6 +30,7 @@ pub fn read_up_to<R: Read>(reader: &mut R, buffer: &mut [u8]) -> io::Result<usiz
     ensures err { OnErr result (Lost (R.remaining reader.old) (R.remaining reader.new) buffer.new) }
 {
     let mut n = 0;
+    // a `while`: how far a read came is known only after it
     while n < buffer.len() {
         let more = read_at(reader, buffer, n)?;
         if more == 0 {

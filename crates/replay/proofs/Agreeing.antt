@@ -9,6 +9,7 @@ use mir.Val.{bool_byte}
 use borrow.Author.Tests.{eqb-true}
 use lib.ListN.{length, get_or, take, drop, length-append}
 use lib.Seq.{length-take-le}
+use Rattle.std.specs.Prelude.{None}
 use denote.Ref.{Bor}
 use Rattle.model.specs.Store.{Settings, Store, empty_with}
 use Rattle.model.specs.Entries.{Started, refuses_start, makes, start_with, roll}
@@ -245,7 +246,7 @@ module _ (f w w₁ w₂ : List ℕ) (at z : ℕ) (runs roll columns : Step) (siz
 abbrev pub Going : List ℕ → Tally → ℕ → ℕ → Type 0
 Going f t at i = (t.cases ≡ i) × ((t.agree ≤ t.cases) × ((at ≤ length f) × (t.agree ≡ t.cases → CasesAgree f 12 i at)))
 
-pub no_cases_law : (f : List ℕ) → 12 ≤ length f → Going f (record { cases = 0; agree = 0; first = 0 }) 12 0
+pub no_cases_law : (f : List ℕ) → 12 ≤ length f → Going f (record { cases = 0; agree = 0; first = None }) 12 0
 no_cases_law f h = (refl, (omega arith, (h, λ e. no_cases)))
 
 pub more_cases_law : (f : List ℕ) (t r : Tally) (at i : ℕ) (s : Step) → Going f t at i → CaseStepped f at s → CountedCase t s.agrees r → Going f r s.at (i + 1)

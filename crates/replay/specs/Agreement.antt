@@ -1,6 +1,7 @@
 -- What the functions of the replay promise: where they say that a part agrees, the model agrees with what is recorded. Assumes nothing.
-use Rattle.std.specs.Prelude.{◌≡◌, Bool, true, cond, List, ℕ, ◌+◌, ◌≤◌, eqb, length, get_or, take, drop}
+use Rattle.std.specs.Prelude.{◌≡◌, Bool, true, cond, List, ℕ, ◌+◌, ◌≤◌, length, get_or, take, drop, Some}
 use mir.Val.{bool_byte}
+use Rattle.std.specs.Option.{option_or}
 use Rattle.memory.specs.Arranged.{Sound}
 use Rattle.run.specs.declared.Ran.{Ran}
 use Rattle.store.specs.declared.Rolled.{Rolled}
@@ -37,11 +38,11 @@ pub record CaseStepped (f : List ℕ) (at : ℕ) (r : Step) : Type 0 where
   pub within : r.at ≤ length f
   pub agreed : r.agrees ≡ true → CaseAgrees f at r.at
 
--- one case more, which agrees or does not; `first` is the first that does not, 0 if there is none
+-- one case more, which agrees or does not; `first` is the first that does not, if there is one
 pub record CountedCase (t : Tally) (agrees : Bool) (r : Tally) : Type 0 where
   pub cases : r.cases ≡ t.cases + 1
   pub agree : r.agree ≡ t.agree + bool_byte agrees
-  pub first : r.first ≡ cond agrees t.first (cond (eqb t.first 0) (t.cases + 1) t.first)
+  pub first : r.first ≡ cond agrees t.first (option_or t.first (Some (t.cases + 1)))
 
 -- all cases of the file, n of them
 pub record Replayed (f : List ℕ) (n : ℕ) (r : Tally) : Type 0 where

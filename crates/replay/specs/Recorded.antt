@@ -53,10 +53,14 @@ pub record RollAgrees (f : List ℕ) (at : ℕ) (s : Store) (e : ℕ) : Type 0 w
 
 -- ---- the columns
 
--- words and their bytes, four each, lowest first
+-- the word at i is the number in its four bytes, lowest first
+abbrev pub SameWord : List ℕ → List ℕ → ℕ → Type 0
+SameWord w b i = get_or w i 0 ≡ number (take 4 (drop (4 * i) b))
+
+-- words and their bytes, four each
 pub record SameWords (w b : List ℕ) : Type 0 where
   pub size : length b ≡ 4 * length w
-  pub each : (i : ℕ) → i < length w → get_or w i 0 ≡ number (take 4 (drop (4 * i) b))
+  pub each : (i : ℕ) → i < length w → SameWord w b i
 
 -- n rows of kind k: *column* hands back its entities or its values, which are the bytes b, and has no row more
 pub record SameColumn (s : Store) (k : ℕ) (values : Bool) (n : ℕ) (b : List ℕ) : Type 0 where

@@ -56,12 +56,10 @@ fn replay_runs(words: &mut [u32], file: &[u8], at: usize, runs: u8, out: &mut [u
 {
     let mut next = at;
     let mut agrees = true;
-    let mut i = 0;
-    while i < runs {
+    for done in 0..runs {
         let step = replay_run(words, file, next, out);
         next = step.at;
-        agrees = agrees & step.agrees;
-        i += 1;
+        agrees &= step.agrees;
     }
     Step { at: next, agrees }
 }
@@ -118,15 +116,12 @@ fn replay_columns(words: &[u32], file: &[u8], at: usize, width: u8) -> Step
     if file.len() == at {
         return cut(file);
     }
-    let kinds = file[at];
     let mut next = at + 1;
     let mut agrees = true;
-    let mut i = 0;
-    while i < kinds {
+    for done in 0..file[at] {
         let step = replay_column(words, file, next, width);
         next = step.at;
-        agrees = agrees & step.agrees;
-        i += 1;
+        agrees &= step.agrees;
     }
     Step { at: next, agrees }
 }

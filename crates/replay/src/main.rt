@@ -26,12 +26,12 @@ const BYTES: usize = 4096;
 // The file's first bytes, and the number of its cases after them.
 const HEAD: usize = 12;
 
-// How many cases there are, how many of them agree, and the first that does not. Cases count from 1; 0 is none.
-#[derive(Drop)]
+// How many cases there are, how many of them agree, and the first that does not. Cases count from 1.
+#[derive(Drop, Default)]
 struct Tally {
     cases: u32,
     agree: u32,
-    first: u32,
+    first: Option<u32>,
 }
 
 // One case more.
@@ -48,17 +48,10 @@ fn counted(tally: Tally, agrees: bool) -> Tally
             first: tally.first,
         };
     }
-    if tally.first == 0 {
-        return Tally {
-            cases,
-            agree: tally.agree,
-            first: cases,
-        };
-    }
     Tally {
         cases,
         agree: tally.agree,
-        first: tally.first,
+        first: tally.first.or(Some(cases)),
     }
 }
 
@@ -68,18 +61,12 @@ fn replay_cases(words: &mut [u32], file: &[u8], cases: u32, out: &mut [u8]) -> T
     requires in_bounds { 12 ≤ length file.now }
     ensures { Replayed file.now cases result }
 {
-    let mut tally = Tally {
-        cases: 0,
-        agree: 0,
-        first: 0,
-    };
+    let mut tally = Tally::default();
     let mut at = HEAD;
-    let mut i = 0;
-    while i < cases {
+    for done in 0..cases {
         let step = cases::replay_case(words, file, at, out);
         at = step.at;
         tally = counted(tally, step.agrees);
-        i += 1;
     }
     tally
 }
@@ -102,7 +89,7 @@ fn report(rt: &impl Print, tally: Tally) -> io::Result<()> {
         first,
     } = tally;
     println!(rt; "{agree} of {cases} recorded cases agree")?;
-    if first != 0 {
+    if let Some(first) = first {
         println!(rt; "the first that does not is case {first}")?;
     }
     Ok(())
@@ -110,10 +97,7 @@ fn report(rt: &impl Print, tally: Tally) -> io::Result<()> {
 
 // A file that is none of recorded answers is refused.
 fn replay_file(rt: &impl Print, file: &[u8]) -> io::Result<()> {
-    if file.len() < HEAD {
-        return println!(rt; "no recorded answers");
-    }
-    if !file.starts_with(b"TAPES 2\n") {
+    if file.len() < HEAD || !file.starts_with(b"TAPES 2\n") {
         return println!(rt; "no recorded answers");
     }
     report(rt, replay(file, codec::get::<4>(file, 8)))

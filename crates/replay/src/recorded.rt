@@ -24,7 +24,5 @@ pub fn short_at(file: &[u8], at: usize) -> usize
     requires { at + 2 ≤ length file.now }
     ensures { (result ≡ short file.now at) × (result < 65536) }
 {
-    let low = file[at] as usize;
-    let high = file[at + 1] as usize;
-    low + 256 * high
+    usize::from(file[at]) + 256 * usize::from(file[at + 1])
 }

@@ -1,40 +1,28 @@
+use Rattle.std.proofs.Common.{◌≡◌, rules, None}
 use mathlib.Core.Path.{refl, ◌∙◌}
 use native.Mathlib.Omega.{arith}
 use Rattle.replay.proofs.Agreeing.{no_cases_law, more_cases_law, all_cases}
 use Rattle.replay.proofs.replay_cases.Goals as goal
 
-pub loop-i-init : goal.loop-i-init
-loop-i-init c = (omega arith, (refl, (refl, no_cases_law _ c.requires.in_bounds)))
+pub loop-done-init : goal.loop-done-init
+loop-done-init c =
+    let zeros : c.default-tally.result ≡ record { cases = 0; agree = 0; first = None } = search rules in
+    record { words_len = refl; out_len = refl; going = rw zeros (no_cases_law c.args.file.now c.requires.in_bounds) }
 
 pub replay_case-step-requires : goal.replay_case-step-requires
-replay_case-step-requires c = record { words_len = c.loop-i.invariant.1.0 ∙ c.requires.words_len; at_in_bounds = c.loop-i.invariant.1.1.1.1.1.0 }
+replay_case-step-requires c = let l = c.loop-done.invariant in record { words_len = l.words_len ∙ c.requires.words_len; at_in_bounds = l.going.1.1.0 }
 
 pub counted-tally-requires : goal.counted-tally-requires
-counted-tally-requires c = record { cases_bound = omega (arith, c.loop-i-test.true, c.loop-i.invariant.1.1.1.0); agree_le_cases = c.loop-i.invariant.1.1.1.1.0 }
+counted-tally-requires c = let l = c.loop-done.invariant in record { cases_bound = omega (arith, c.loop-done-test.true, l.going.0); agree_le_cases = l.going.1.0 }
 
-pub overflow_add-i : goal.overflow_add-i
-overflow_add-i c = omega (arith, c.loop-i-test.true)
-
-pub loop-i-smaller : goal.loop-i-smaller
-loop-i-smaller c = omega (arith, c.loop-i-test.true)
-
-pub loop-i-preserved : goal.loop-i-preserved
-loop-i-preserved c = (
-  omega (arith, c.loop-i-test.true),
-  (
-    c.replay_case-step.auto.words ∙ c.loop-i.invariant.1.0,
-    (
-      c.replay_case-step.auto.out ∙ c.loop-i.invariant.1.1.0,
-      more_cases_law _ _ _ _ _ c.replay_case-step.result c.loop-i.invariant.1.1.1 c.replay_case-step.ensures c.counted-tally.ensures,
-    ),
-  ),
-)
-
-pub shape_of-words : goal.shape_of-words
-shape_of-words c = c.loop-i.invariant.1.0
-
-pub shape_of-out : goal.shape_of-out
-shape_of-out c = c.loop-i.invariant.1.1.0
+pub loop-done-preserved : goal.loop-done-preserved
+loop-done-preserved c =
+    let l = c.loop-done.invariant in
+    record {
+      words_len = c.replay_case-step.auto.words ∙ l.words_len;
+      out_len = c.replay_case-step.auto.out ∙ l.out_len;
+      going = more_cases_law _ _ _ _ _ c.replay_case-step.result l.going c.replay_case-step.ensures c.counted-tally.ensures;
+    }
 
 pub returns : goal.returns
-returns c = all_cases _ _ _ _ _ c.loop-i.invariant.1.1.1 (omega (arith, c.loop-i.invariant.0, c.loop-i-test.false))
+returns c = all_cases _ _ _ _ _ c.loop-done.invariant.going (omega (arith, c.loop-done-test.false))
