@@ -59,7 +59,7 @@ pub fn free_numbers(words: &[u32]) -> usize
 // A new entity. The caller has seen that there is a number left.
 pub fn create(words: &mut [u32]) -> Entity
     requires arranged { Arranged words.old }
-    requires words_value { is_full (meaning words.old).settings.capacity (meaning words.old).entities ≡ false }
+    requires number_left { is_full (meaning words.old).settings.capacity (meaning words.old).entities ≡ false }
     ensures { Creates words.old words.new result }
 {
     let n = capacity(words);

@@ -8,7 +8,7 @@ pub create-requires : goal.create-requires
 create-requires c =
     let a = c.args in
     let l = c.loop-done in
-    record { arranged = l.invariant.so_far.arranged; words_value = number_left a.words.now a.count l.words (a.count - l.done) l.invariant (omega (arith, c.loop-done-test.true)) }
+    record { arranged = l.invariant.so_far.arranged; number_left = number_left a.words.now a.count l.words (a.count - l.done) l.invariant (omega (arith, c.loop-done-test.true)) }
 
 pub loop-done-preserved : goal.loop-done-preserved
 loop-done-preserved c =

@@ -9,7 +9,7 @@ create_in-requires c =
     let w = c.args.words.now in
     let n = c.capacity-n.result in
     let C = c.capacity-n.ensures in
-    record { sound = sound_in w n C c.requires.arranged; room = rw (entities_read w n C, C.is) c.requires.words_value }
+    record { sound = sound_in w n C c.requires.arranged; room = rw (entities_read w n C, C.is) c.requires.number_left }
 
 pub shape_of-words : goal.shape_of-words
 shape_of-words c = c.create_in.auto.words
