@@ -8,6 +8,7 @@ ghost use Rattle.std.specs.Io.KnownBytes.{Appends};
 ghost use Rattle.tape.specs.Output.{numbers, output, Served};
 ghost use Rattle.tape.specs.Played.{Played, CutShort, Unanswered};
 
+use run::Ran;
 use std::io::{Read, Write};
 use std::process::ExitCode;
 use std::{fmt, io};
@@ -23,18 +24,19 @@ const MOST: usize = 16384;
 const OUTPUT: usize = 16397;
 
 // The run's four numbers, at the end of its answers.
-fn put_numbers(out: &mut [u8], stop: u8, commands: usize, read: usize, written: usize) -> usize
-    requires commands_bound { commands < 4294967296 }
-    requires read_bound { read < 4294967296 }
-    requires written_bound { written < 4294967296 }
-    requires written_in_bounds { written + 13 ≤ length out.old }
-    ensures { (result ≡ written + 13) × (out.new ≡ sets out.old written (numbers stop commands read written)) }
+fn put_numbers(out: &mut [u8], ran: Ran) -> usize
+    requires commands_fit { ran.commands < 4294967296 }
+    requires read_fits { ran.read < 4294967296 }
+    requires written_fits { ran.written < 4294967296 }
+    requires room { ran.written + 13 ≤ length out.old }
+    ensures { (result ≡ ran.written + 13) × (out.new ≡ sets out.old ran.written (numbers ran.stop ran.commands ran.read ran.written)) }
 {
-    out[written] = stop;
-    codec::put::<4>(out, written + 1, commands as u32);
-    codec::put::<4>(out, written + 5, read as u32);
-    codec::put::<4>(out, written + 9, written as u32);
-    written + 13
+    let at = ran.written;
+    out[at] = ran.stop;
+    codec::put::<4>(out, at + 1, ran.commands as u32);
+    codec::put::<4>(out, at + 5, ran.read as u32);
+    codec::put::<4>(out, at + 9, ran.written as u32);
+    at + 13
 }
 
 // All that the program writes for a tape, and how long it is.
@@ -46,7 +48,7 @@ fn serve(tape: &[u8], out: &mut [u8]) -> usize
     let mut words = [0u32; WORDS];
     store::start(&mut words, ENTITIES, KINDS);
     let ran = store::run(&mut words, tape, &mut out[..MOST]);
-    put_numbers(out, ran.stop, ran.commands, ran.read, ran.written)
+    put_numbers(out, ran)
 }
 
 // Which end failed.
@@ -72,6 +74,7 @@ fn write_out<W: Write>(bytes: &[u8], writer: &mut W) -> io::Result<()>
     ensures err { OnErr result (CutShort (W.contents writer.old) (W.contents writer.new) bytes.now) }
 {
     let mut n = 0;
+    // a `while`: how far a write came is known only after it
     while n < bytes.len() {
         let more = writer.write(&bytes[n..])?;
         if more == 0 {
