@@ -1,6 +1,5 @@
 -- The numbers of refusals, and the bytes of commands. Assumes nothing.
-use mathlib.Core.Path.{◌≡◌}
-use Prim.Native.Nat.{ℕ, ◌≤◌}
+use Prim.Native.Nat.{◌≤◌}
 use native.Mathlib.Omega.{arith}
 use Rattle.model.specs.Numbers.{LAST_COMMAND}
 use Rattle.model.specs.Codes.{command_byte}

@@ -8,7 +8,7 @@ use native.Mathlib.Omega.{arith}
 use native.Mathlib.Nat.{le_of_suc-le-suc, not-suc-le-zero, suc-add, add-suc, add-zero, zero-add}
 use native.Mathlib.Decide.{ℕ_discrete}
 use lib.ListN.{length, take, drop, get_or, set, replicate, length-set, take-append-drop, length-map, get_or-map, get_or-append, length-drop, length-append}
-use lib.Seq.{set-set, set-append_left, take-set-lt, take-set-le, get_or-take, get_or-set_same, get_or-set_other, take-suc, take-suc-set, set-get_or, lt-length-set, length-take-le, take_all, sets, take-take, drop-drop, drop-cons, get_or-drop, ext_get_or, sets-eq, take_at, drop_at, take-add, set_comm, paste, paste-suc, take-length, append_snoc, drop-append-le}
+use lib.Seq.{set-set, set-append_left, take-set-lt, take-set-le, get_or-take, get_or-set_same, get_or-set_other, take-suc, take-suc-set, set-get_or, lt-length-set, length-take-le, take_all, sets, take-take, drop-drop, drop-cons, get_or-drop, ext_get_or, sets-eq, take_at, drop_at, take-add, set_comm, append_snoc, drop-append-le}
 use borrow.Author.Tests.{eq-eqb, eqb-true}
 use lib.Dec.{eqb}
 use native.Mathlib.Numerals.{add-one}
@@ -448,17 +448,6 @@ halves t at n m h =
 pub set_before : (b l : List ℕ) (i j x : ℕ) → i < j → set (sets l j b) i x ≡ sets (set l i x) j b
 set_before [] l i j x h = refl
 set_before (a ∷ b) l i j x h = set_before b (set l j a) i (suc j) x (omega arith) ∙ ap (λ (m : List ℕ). sets m (suc j) b) (set_comm l j i a x (omega arith))
-
--- the loop that copies: a turn, and the end
-pub copy_turn : (d s : List ℕ) (j : ℕ) → j < length d → j < length s → set (paste d 0 s j) j (get_or s j 0) ≡ paste d 0 s (j + 1)
-copy_turn d s j hd hs =
-    ap (λ (n : ℕ). set (paste d 0 s j) n (get_or s j 0)) (sym (zero-add j))
-    ∙ paste-suc d 0 s j 0 (rw (zero-add j) hd) hs
-    ∙ ap (λ (n : ℕ). paste d 0 s n) (sym (add-one j))
-
-pub copy_end : (d s : List ℕ) (j : ℕ) → j ≡ length s → paste d 0 s j ≡ s ++ drop (length s) d
-copy_end d s j e =
-    ap (λ (n : ℕ). paste d 0 s n) e ∙ (λ i. take-length s i ++ drop (zero-add (length s) i) d)
 
 -- what is stored from the front on stands before the rest
 pub front_sets : (o a : List ℕ) → length a ≤ length o → sets o 0 a ≡ a ++ drop (length a) o

@@ -7,37 +7,37 @@ use crate::refusals::Refusal;
 /// A command, without its operands.
 #[derive(Clone, Copy, PartialEq, Eq, Debug)]
 pub enum Command {
-    /// 01: registers a kind.
+    /// Byte 1: registers a kind.
     Register,
-    /// 02: puts a kind and its value into the staged list.
+    /// Byte 2: puts a kind and its value into the staged list.
     Hold,
-    /// 03: makes an entity with the staged components.
+    /// Byte 3: makes an entity with the staged components.
     New,
-    /// 04: gives an entity the staged components.
+    /// Byte 4: gives an entity the staged components.
     Put,
-    /// 05: takes the staged kinds from an entity, and answers their values.
+    /// Byte 5: takes the staged kinds from an entity, and answers their values.
     Take,
-    /// 06: takes the staged kinds from an entity.
+    /// Byte 6: takes the staged kinds from an entity.
     Drop,
-    /// 07: destroys an entity.
+    /// Byte 7: destroys an entity.
     Kill,
-    /// 08: takes all components from all entities.
+    /// Byte 8: takes all components from all entities.
     Wipe,
-    /// 09: makes a group of the staged kinds, in the draft.
+    /// Byte 9: makes a group of the staged kinds, in the draft.
     Group,
-    /// 0A: makes the draft the layout.
+    /// Byte 10: makes the draft the layout.
     Apply,
-    /// 0B: puts a kind into the excluded list.
+    /// Byte 11: puts a kind into the excluded list.
     Bar,
-    /// 0C: answers where the rows stand that hold the staged kinds and not the excluded.
+    /// Byte 12: answers where the rows stand that hold the staged kinds and not the excluded.
     Range,
-    /// 0D: empties both lists.
+    /// Byte 13: empties both lists.
     Empty,
-    /// 0E: answers the caller's count of refusals.
+    /// Byte 14: answers the caller's count of refusals.
     Tally,
-    /// 0F: makes as many entities with the staged components as it is told.
+    /// Byte 15: makes as many entities with the staged components as it is told.
     Tray,
-    /// 10: says who calls from here on.
+    /// Byte 16: says who calls from here on.
     SetCaller,
 }
 

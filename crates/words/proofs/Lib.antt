@@ -6,5 +6,4 @@ pub mod Pigeon
 pub mod Counted
 pub mod Offsets
 pub mod Decides
-pub mod Passes
 pub mod Asked

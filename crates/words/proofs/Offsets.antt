@@ -3,7 +3,7 @@
 use mathlib.Core.Path.{◌≡◌, refl, ap}
 use mathlib.Core.Logic.{inl, inr}
 use Prim.Native.Nat.{ℕ, suc, ◌+◌, ◌*◌, ◌≤◌, ◌<◌}
-use native.Mathlib.Nat.{add-mul, mul-le-mul_right, mul-le-mul_left, mul-le-mul, suc-mul, mul-suc, mul-zero, zero-mul}
+use native.Mathlib.Nat.{add-mul, mul-le-mul_right, mul-le-mul_left, mul-le-mul, suc-mul, mul-suc, zero-mul}
 use native.Mathlib.Omega.{arith}
 use Rattle.model.specs.Numbers.{COLUMN_HEAD, ENTITY_LEN, HEADER_LEN, LINKS_LEN, MAX_ENTITIES, MAX_KINDS, row_len, stride_of}
 use Rattle.model.specs.Store.{words_needed}
@@ -30,10 +30,6 @@ words_fit z i s h = let k : i ≤ 4096 = omega (arith, s.small) in mul-le-mul s.
 pub values_len_fits : (z : Shape) (i : ℕ) → Shaped z → i ≤ z.capacity → values_len z.stride i ≤ 16384
 unfolding values_len
 values_len_fits z i s h = words_fit z i s h
-
-pub values_len_none : (d : ℕ) → values_len d 0 ≡ 0
-unfolding values_len
-values_len_none d = mul-zero d
 
 -- as a product
 pub values_len_is : (d i : ℕ) → values_len d i ≡ d * i

@@ -103,7 +103,7 @@ pub struct Shape {
     pub stride: usize,
 }
 
-// How long a value is: two words or, where 02's No. 13 asks for sixteen bytes, four.
+// How long a store's values are: two words each or, in a store that is started so, four.
 #[derive(Clone, Copy, PartialEq, Eq, Debug)]
 pub enum Width {
     Short,
