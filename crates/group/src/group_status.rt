@@ -24,11 +24,11 @@ pub enum GroupStatus {
 }
 
 // Does the entity hold each of the layout's kinds from start to end?
-fn holds_all<L: Lookups>(words: &[u32], lookups: &L, start: usize, end: usize, e: Entity) -> bool
+fn holds_all<L: Lookups>(words: &[u32], lookups: L, start: usize, end: usize, e: Entity) -> bool
     requires arranged { Arranged words.now }
-    requires lookups { L.valid lookups.now words.now }
+    requires lookups { L.valid lookups words.now }
     requires places_known { PlacesKnown (meaning words.now) start end }
-    requires covered { L.covers lookups.now (entity e.index e.version) }
+    requires covered { L.covers lookups (entity e.index e.version) }
     ensures { result ≡ all_held (entity e.index e.version) (between start end (order_of (meaning words.now))) (meaning words.now).storage.sets }
 {
     (start..end).all(|place| lookups.holds(words, place, e))
@@ -37,17 +37,17 @@ fn holds_all<L: Lookups>(words: &[u32], lookups: &L, start: usize, end: usize, e
 // The status of an entity in the group whose new kinds stand from start to end and whose count is group_len.
 fn get_group_status<L: Lookups>(
     words: &[u32],
-    lookups: &L,
+    lookups: L,
     start: usize,
     end: usize,
     group_len: usize,
     e: Entity,
 ) -> GroupStatus
     requires arranged { Arranged words.now }
-    requires lookups { L.valid lookups.now words.now }
+    requires lookups { L.valid lookups words.now }
     requires places_known { PlacesKnown (meaning words.now) start end }
     requires start_lt_end { start < end }
-    requires covered { L.covers lookups.now (entity e.index e.version) }
+    requires covered { L.covers lookups (entity e.index e.version) }
     ensures { result ≡ status_in (entity e.index e.version) (between start end (order_of (meaning words.now))) group_len (meaning words.now).storage.sets }
 {
     let found = lookups.find(words, start, e);
@@ -66,16 +66,16 @@ fn get_group_status<L: Lookups>(
 // The entity's status in group g, by the group's metadata and its count, by such lookups.
 pub fn status_by<L: Lookups>(
     words: &[u32],
-    lookups: &L,
+    lookups: L,
     g: usize,
     metadata: GroupMetadata,
     group_len: usize,
     e: Entity,
 ) -> GroupStatus
     requires arranged { Arranged words.now }
-    requires lookups { L.valid lookups.now words.now }
+    requires lookups { L.valid lookups words.now }
     requires stands { Stands (meaning words.now) g metadata group_len }
-    requires covered { L.covers lookups.now (entity e.index e.version) }
+    requires covered { L.covers lookups (entity e.index e.version) }
     ensures { result ≡ status_at (entity e.index e.version) g (meaning words.now).storage }
 {
     let start = metadata.new_storage_start;
@@ -99,5 +99,5 @@ pub fn status_in(
 {
     let group_len = count(words, g);
     let lookups = InWords { shape: z };
-    status_by(words, &lookups, g, metadata, group_len, e)
+    status_by(words, lookups, g, metadata, group_len, e)
 }

@@ -22,25 +22,25 @@ impl Lookups for InWords {
 
     ghost covers = { λ l e. Unit {0} };
 
-    fn metadata(&self, words: &[u32], g: usize) -> GroupMetadata {
+    fn metadata(self, words: &[u32], g: usize) -> GroupMetadata {
         metadata(words, g)
     }
 
-    fn left_after(&self, words: &[u32], g: usize, metadata: GroupMetadata) -> GroupMask {
+    fn left_after(self, words: &[u32], g: usize, metadata: GroupMetadata) -> GroupMask {
         GroupMask::skip_from_to(g, metadata.top)
     }
 
-    fn find(&self, words: &[u32], place: usize, e: Entity) -> Found {
+    fn find(self, words: &[u32], place: usize, e: Entity) -> Found {
         let kind = kind_at(words, place);
         kinds::find(words, self.shape, kind, e)
     }
 
-    fn holds(&self, words: &[u32], place: usize, e: Entity) -> bool {
+    fn holds(self, words: &[u32], place: usize, e: Entity) -> bool {
         let kind = kind_at(words, place);
         kinds::holds(words, self.shape, kind, e)
     }
 
-    fn swap(&self, words: &mut [u32], place: usize, e: Entity, swap_index: usize) {
+    fn swap(self, words: &mut [u32], place: usize, e: Entity, swap_index: usize) {
         let kind = kind_at(words, place);
         let slot = kinds::slot_of(words, kind);
         component::slots::swap_to_in(words, self.shape, slot, e, swap_index);

@@ -32,13 +32,13 @@ use words::{Entity, Shape};
 // Swaps the entity to a place in every sparse set of a group.
 fn swap_kinds<L: Lookups>(
     words: &mut [u32],
-    lookups: &L,
+    lookups: L,
     metadata: GroupMetadata,
     e: Entity,
     swap_index: usize,
 )
     requires arranged { Arranged words.old }
-    requires lookups { L.valid lookups.now words.old }
+    requires lookups { L.valid lookups words.old }
     requires places_known { PlacesKnown (meaning words.old) metadata.storage_start metadata.storage_end }
     requires swappable { Swappable (entity e.index e.version) (between metadata.storage_start metadata.storage_end (order_of (meaning words.old))) swap_index (meaning words.old).storage.sets }
     ensures { Becomes words.old words.new (on_storage (swap_kinds (entity e.index e.version) swap_index (between metadata.storage_start metadata.storage_end (order_of (meaning words.old)))) (meaning words.old)) }
@@ -51,14 +51,14 @@ fn swap_kinds<L: Lookups>(
 // Brings the entity into the group, in every sparse set of the group.
 fn group_components<L: Lookups>(
     words: &mut [u32],
-    lookups: &L,
+    lookups: L,
     metadata: GroupMetadata,
     g: usize,
     group_len: usize,
     e: Entity,
 )
     requires arranged { Arranged words.old }
-    requires lookups { L.valid lookups.now words.old }
+    requires lookups { L.valid lookups words.old }
     requires stands { Stands (meaning words.old) g metadata group_len }
     requires swappable { Swappable (entity e.index e.version) (located (meaning words.old).storage.layout g).kinds (located (meaning words.old).storage.layout g).count (meaning words.old).storage.sets }
     ensures { Becomes words.old words.new (on_storage (group_at (entity e.index e.version) g) (meaning words.old)) }
@@ -92,23 +92,23 @@ fn ungroup_components(
         return;
     }
     let lookups = InWords { shape: z };
-    swap_kinds(words, &lookups, metadata, e, swap_index);
+    swap_kinds(words, lookups, metadata, e, swap_index);
     set_count(words, g, swap_index);
 }
 
 // One group of the walk upward; answers what is left of the groups after it.
 fn group_step<L: Lookups>(
     words: &mut [u32],
-    lookups: &L,
+    lookups: L,
     g: usize,
     rest: GroupMask,
     e: Entity,
 ) -> GroupMask
     requires arranged { Arranged words.old }
-    requires lookups { L.valid lookups.now words.old }
+    requires lookups { L.valid lookups words.old }
     requires g_bound { g < groups_of (meaning words.old).storage.layout }
     requires ready_in { ReadyIn (status_at (entity e.index e.version) g (meaning words.old).storage) (entity e.index e.version) (located (meaning words.old).storage.layout g) (meaning words.old).storage.sets }
-    requires covered { L.covers lookups.now (entity e.index e.version) }
+    requires covered { L.covers lookups (entity e.index e.version) }
     ensures { StepsUp words.old words.new (entity e.index e.version) g rest.0 result.0 }
 {
     let metadata = lookups.metadata(words, g);
@@ -128,12 +128,12 @@ fn group_step<L: Lookups>(
 }
 
 // The walk upward over the groups of a mask, lowest first, by such lookups.
-fn group_by<L: Lookups>(words: &mut [u32], lookups: &L, mask: GroupMask, e: Entity)
+fn group_by<L: Lookups>(words: &mut [u32], lookups: L, mask: GroupMask, e: Entity)
     requires arranged { Arranged words.old }
-    requires lookups { L.valid lookups.now words.old }
+    requires lookups { L.valid lookups words.old }
     requires below { Below (bits_of 64 mask.0) (meaning words.old).storage }
     requires ready_up { ReadyUp (entity e.index e.version) 0 (bits_of 64 mask.0) (meaning words.old).storage }
-    requires covered { L.covers lookups.now (entity e.index e.version) }
+    requires covered { L.covers lookups (entity e.index e.version) }
     ensures { Becomes words.old words.new (on_storage (walk_up (entity e.index e.version) 0 (bits_of 64 mask.0)) (meaning words.old)) }
 {
     let mut left = mask;
@@ -151,14 +151,14 @@ pub fn group(words: &mut [u32], z: Shape, mask: GroupMask, e: Entity)
     ensures { Becomes words.old words.new (on_storage (walk_up (entity e.index e.version) 0 (bits_of 64 mask.0)) (meaning words.old)) }
 {
     let lookups = InWords { shape: z };
-    group_by(words, &lookups, mask, e);
+    group_by(words, lookups, mask, e);
 }
 
 // Each live entity from place start on is walked upward over the groups of a mask, one after another,
 // by such lookups.
-pub fn group_each_by<L: Lookups>(words: &mut [u32], lookups: &L, mask: GroupMask, start: usize)
+pub fn group_each_by<L: Lookups>(words: &mut [u32], lookups: L, mask: GroupMask, start: usize)
     requires arranged { Arranged words.old }
-    requires lookups { L.valid lookups.now words.old }
+    requires lookups { L.valid lookups words.old }
     requires below { Below (bits_of 64 mask.0) (meaning words.old).storage }
     requires ready_each { ReadyEach (drop start (meaning words.old).entities.live) (bits_of 64 mask.0) (meaning words.old).storage }
     ensures { Becomes words.old words.new (on_storage (walk_each (drop start (meaning words.old).entities.live) (bits_of 64 mask.0)) (meaning words.old)) }
@@ -184,7 +184,7 @@ pub fn group_each(words: &mut [u32], mask: GroupMask, start: usize)
     let lookups = InWords {
         shape: words::shape_of(words),
     };
-    group_each_by(words, &lookups, mask, start);
+    group_each_by(words, lookups, mask, start);
 }
 
 // One group of the walk downward.

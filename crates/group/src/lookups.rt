@@ -1,5 +1,6 @@
 // What a walk looks up of a group, of a column and of an entity, and from where: of the words each time, or of tables
 // that are made once for many entities (the crate group_tables). A walk is one function over either.
+// It is handed on by value, so that what it has of the words need not be read again behind each write.
 ghost use Rattle.std.specs.Prelude.{◌≡◌, true, List, ℕ, ◌<◌, length, get_or};
 ghost use Rattle.model.specs.Model.{Entity, Storage, groups_of, held, swap_to, entity, no_entity};
 ghost use Rattle.model.specs.Store.{on_storage};
@@ -19,47 +20,47 @@ use layout::group_metadata::GroupMetadata;
 use masks::group_mask::GroupMask;
 use words::{Entity, Found};
 
-pub trait Lookups {
+pub trait Lookups: Copy {
     // What it has of the words is so.
     ghost valid: { Self → List ℕ → Type 0 };
 
     // The entities that it may be asked for.
     ghost covers: { Self → Entity → Type 0 };
 
-    fn metadata(&self, words: &[u32], g: usize) -> GroupMetadata
+    fn metadata(self, words: &[u32], g: usize) -> GroupMetadata
         requires arranged { Arranged words.now }
-        requires lookups { valid self.now words.now }
+        requires lookups { valid self words.now }
         requires g_bound { g < groups_of (meaning words.now).storage.layout }
         ensures { Describes (meaning words.now) g result };
 
     // The groups left to walk where an entity lacks one of g's new kinds: all but those from g to its family's last.
-    fn left_after(&self, words: &[u32], g: usize, metadata: GroupMetadata) -> GroupMask
+    fn left_after(self, words: &[u32], g: usize, metadata: GroupMetadata) -> GroupMask
         requires arranged { Arranged words.now }
-        requires lookups { valid self.now words.now }
+        requires lookups { valid self words.now }
         requires g_bound { g < groups_of (meaning words.now).storage.layout }
         requires describes { Describes (meaning words.now) g metadata }
         ensures { bits_of 64 result.0 ≡ skipping 64 g (located (meaning words.now).storage.layout g).top };
 
     // Where the entity stands in the sparse set of the kind at a place of the layout's.
-    fn find(&self, words: &[u32], place: usize, e: Entity) -> Found
+    fn find(self, words: &[u32], place: usize, e: Entity) -> Found
         requires arranged { Arranged words.now }
-        requires lookups { valid self.now words.now }
+        requires lookups { valid self words.now }
         requires place_in_bounds { place < length (order_of (meaning words.now)) }
-        requires covered { covers self.now (entity e.index e.version) }
+        requires covered { covers self (entity e.index e.version) }
         ensures { Finds (shape_of words.now) (entity e.index e.version) (kind_set words.now (kind_no words.now place)) result };
 
     // Whether the entity holds the kind at a place.
-    fn holds(&self, words: &[u32], place: usize, e: Entity) -> bool
+    fn holds(self, words: &[u32], place: usize, e: Entity) -> bool
         requires arranged { Arranged words.now }
-        requires lookups { valid self.now words.now }
+        requires lookups { valid self words.now }
         requires place_in_bounds { place < length (order_of (meaning words.now)) }
-        requires covered { covers self.now (entity e.index e.version) }
+        requires covered { covers self (entity e.index e.version) }
         ensures { result ≡ held (entity e.index e.version) (kind_set words.now (kind_no words.now place)) };
 
     // Exchanges the entity's row with the one at swap_index, in the column of the kind at a place.
-    fn swap(&self, words: &mut [u32], place: usize, e: Entity, swap_index: usize)
+    fn swap(self, words: &mut [u32], place: usize, e: Entity, swap_index: usize)
         requires arranged { Arranged words.old }
-        requires lookups { valid self.now words.old }
+        requires lookups { valid self words.old }
         requires place_in_bounds { place < length (order_of (meaning words.old)) }
         requires holds { held (entity e.index e.version) (kind_set words.old (kind_no words.old place)) ≡ true }
         requires room { swap_index < length (kind_set words.old (kind_no words.old place)) }

@@ -14,7 +14,7 @@ ghost use Rattle.group.specs.Ready.{ReadyEach};
 ghost use Rattle.group.specs.Steps.{Below};
 
 use crate::fill::fill;
-use crate::tables::{NO_GROUP, WalkTables};
+use crate::tables::{InTables, NO_GROUP, WalkTables};
 use masks::group_mask::GroupMask;
 
 // Each live entity from place start on is walked upward over the groups of a mask, one after another: what
@@ -35,5 +35,6 @@ pub fn group_each(words: &mut [u32], mask: GroupMask, start: usize)
         skips: [GroupMask(0); model::MAX_GROUP_COUNT],
     };
     fill(words, &mut tables);
-    group::group_each_by(words, &tables, mask, start);
+    let lookups = InTables { tables: &tables };
+    group::group_each_by(words, lookups, mask, start);
 }

@@ -30,33 +30,45 @@ pub const NO_GROUP: GroupMetadata = GroupMetadata {
     top: 0,
 };
 
-// Of an entity with an index that there is room for and a version that was issued, a lookup is read without a test.
-impl Lookups for WalkTables {
-    ghost valid = { λ l w. Tables w l.shape l.starts l.groups l.skips };
+// The tables, lent to a walk.
+#[derive(Clone, Copy)]
+pub struct InTables<'a> {
+    pub tables: &'a WalkTables,
+}
 
-    ghost covers = { λ l e. (e.index < l.shape.capacity) × (1 ≤ e.version) };
+// Of an entity with an index that there is room for and a version that was issued, a lookup is read without a test. Each
+// table is read as a slice, since it is of a slice's length that `Tables` speaks.
+impl Lookups for InTables<'_> {
+    ghost valid = { λ l w. Tables w l.tables.now.shape l.tables.now.starts l.tables.now.groups l.tables.now.skips };
 
-    fn metadata(&self, words: &[u32], g: usize) -> GroupMetadata {
-        self.groups[g]
+    ghost covers = { λ l e. (e.index < l.tables.now.shape.capacity) × (1 ≤ e.version) };
+
+    fn metadata(self, words: &[u32], g: usize) -> GroupMetadata {
+        let groups = &self.tables.groups[..];
+        groups[g]
     }
 
-    fn left_after(&self, words: &[u32], g: usize, metadata: GroupMetadata) -> GroupMask {
-        self.skips[g]
+    fn left_after(self, words: &[u32], g: usize, metadata: GroupMetadata) -> GroupMask {
+        let skips = &self.tables.skips[..];
+        skips[g]
     }
 
-    fn find(&self, words: &[u32], place: usize, e: Entity) -> Found {
-        component::at_start::find_from(words, self.shape, self.starts[place], e)
+    fn find(self, words: &[u32], place: usize, e: Entity) -> Found {
+        let starts = &self.tables.starts[..];
+        component::at_start::find_from(words, self.tables.shape, starts[place], e)
     }
 
-    fn holds(&self, words: &[u32], place: usize, e: Entity) -> bool {
-        component::at_start::holds_from(words, self.shape, self.starts[place], e)
+    fn holds(self, words: &[u32], place: usize, e: Entity) -> bool {
+        let starts = &self.tables.starts[..];
+        component::at_start::holds_from(words, self.tables.shape, starts[place], e)
     }
 
-    fn swap(&self, words: &mut [u32], place: usize, e: Entity, swap_index: usize) {
-        component::at_start::swap_to_from(words, self.shape, self.starts[place], e, swap_index);
+    fn swap(self, words: &mut [u32], place: usize, e: Entity, swap_index: usize) {
+        let starts = &self.tables.starts[..];
+        component::at_start::swap_to_from(words, self.tables.shape, starts[place], e, swap_index);
     }
 
-    ghost kept = { λ l w w' arranged becomes same valid. tables_kept w w' l.shape l.starts (λ (s : Storage). (meaning w').storage) arranged becomes same l.groups l.skips valid };
+    ghost kept = { λ l w w' arranged becomes same valid. tables_kept w w' l.tables.now.shape l.tables.now.starts (λ (s : Storage). (meaning w').storage) arranged becomes same l.tables.now.groups l.tables.now.skips valid };
 
     ghost covers_live = { λ l w i x y arranged valid within is. live_issued w arranged i x y within is valid.columns.shape };
 }

@@ -20,7 +20,7 @@ group_step-left-requires g c =
     let q = up_asks _ i.invariant.0 lowest in
     record {
       arranged = i.invariant.0.so_far.arranged;
-      lookups = g.met.L.Lookups.kept c.args.lookups.now c.args.words.now i.words c.requires.arranged i.invariant.0.so_far i.invariant.1 c.requires.lookups;
+      lookups = g.met.L.Lookups.kept c.args.lookups c.args.words.now i.words c.requires.arranged i.invariant.0.so_far i.invariant.1 c.requires.lookups;
       g_bound = q.0;
       ready_in = q.1;
       covered = c.requires.covered;

@@ -25,13 +25,13 @@ group_by-requires g c =
     let l = c.loop-place in
     let e = c.live_at-entity.result in
     let h = subst (λ (m : ℕ). l.place < m) c.live_len-len.ensures c.loop-place-test.true in
-    let valid = g.met.L.Lookups.kept a.lookups.now a.words.now l.words c.requires.arranged l.invariant.0.so_far l.invariant.1 c.requires.lookups in
+    let valid = g.met.L.Lookups.kept a.lookups a.words.now l.words c.requires.arranged l.invariant.0.so_far l.invariant.1 c.requires.lookups in
     record {
       arranged = l.invariant.0.so_far.arranged;
       lookups = valid;
       below = l.invariant.0.below;
       ready_up = grouping_ask a.words.now (bits_of 64 a.mask.0) a.start l.words l.place l.invariant.0 (entity e.index e.version) h c.live_at-entity.ensures;
-      covered = g.met.L.Lookups.covers_live a.lookups.now l.words l.place e.index e.version l.invariant.0.so_far.arranged valid (omega (arith, h, ap length (live_same l.invariant.0.so_far))) c.live_at-entity.ensures;
+      covered = g.met.L.Lookups.covers_live a.lookups l.words l.place e.index e.version l.invariant.0.so_far.arranged valid (omega (arith, h, ap length (live_same l.invariant.0.so_far))) c.live_at-entity.ensures;
     }
 
 pub loop-place-preserved : goal.loop-place-preserved

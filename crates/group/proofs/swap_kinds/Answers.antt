@@ -10,7 +10,7 @@ swap-requires g c =
     let asks = swap_asks c.requires.arranged c.requires.places_known c.requires.swappable i.invariant c.loop-place-test.true in
     record {
       arranged = i.invariant.so_far.arranged;
-      lookups = g.met.L.Lookups.kept c.args.lookups.now c.args.words.now i.words c.requires.arranged (swap_so_far c.requires.arranged c.requires.places_known c.requires.swappable i.invariant) (swap_same c.requires.arranged c.requires.places_known c.requires.swappable i.invariant) c.requires.lookups;
+      lookups = g.met.L.Lookups.kept c.args.lookups c.args.words.now i.words c.requires.arranged (swap_so_far c.requires.arranged c.requires.places_known c.requires.swappable i.invariant) (swap_same c.requires.arranged c.requires.places_known c.requires.swappable i.invariant) c.requires.lookups;
       place_in_bounds = swap_there c.requires.arranged c.requires.places_known c.requires.swappable i.invariant c.loop-place-test.true;
       holds = asks.0;
       room = asks.1;
