@@ -4,6 +4,7 @@
 ghost use Rattle.std.specs.Prelude.{◌≡◌, ◌++◌, ◌≤◌, length, drop};
 ghost use Rattle.std.proofs.Math.Option.{none};
 ghost use Rattle.model.specs.Refusals.{number_of};
+ghost use Rattle.columns.specs.Refused.{refusal_number};
 ghost use Rattle.model.specs.Entries.{item_words, column_refusal};
 ghost use Rattle.model.specs.Sound.{In};
 ghost use Rattle.memory.specs.Meaning.{meaning};
@@ -11,26 +12,26 @@ ghost use Rattle.memory.specs.Arranged.{Arranged};
 ghost use Rattle.kinds.specs.Kinds.{kind_set};
 ghost use Rattle.columns.specs.Parts.{RowStart, RowsPart};
 
-use model::refusals::{BEYOND, KIND};
+use model::refusals::Refusal;
 
-// Why column refuses, 0 where it does not.
-pub fn refusal(words: &[u32], kind: usize, start: usize, end: usize) -> u8
+// Why column refuses, if it does.
+pub fn refusal(words: &[u32], kind: usize, start: usize, end: usize) -> Option<Refusal>
     requires { Arranged words.now }
-    ensures { result ≡ number_of (column_refusal kind start end (meaning words.now)) }
+    ensures { refusal_number result ≡ number_of (column_refusal kind start end (meaning words.now)) }
 {
     if model::LAST_KIND < kind {
-        return KIND;
+        return Some(Refusal::Kind);
     }
     if !kinds::is_registered(words, kind) {
-        return KIND;
+        return Some(Refusal::Kind);
     }
     if end < start {
-        return BEYOND;
+        return Some(Refusal::Beyond);
     }
     if kinds::set_len(words, kind) < end {
-        return BEYOND;
+        return Some(Refusal::Beyond);
     }
-    0
+    None
 }
 
 // Where the words of the kind's row at a place stand: its entity, or its value. `values`, here and below, is the bool that the C interface hands on: an enum

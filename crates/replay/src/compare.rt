@@ -7,11 +7,10 @@ ghost use Rattle.replay.specs.Recorded.{short, SameWord, SameWords, SameColumn};
 ghost use Rattle.replay.specs.Agreement.{GaveSame, RolledSame};
 
 use crate::recorded::short_at;
-use model::refusals::BEYOND;
+use model::refusals::Refusal;
 use run::Ran;
 use store::Rolled;
 
-// BEYOND of 01's table.
 // A run, with its answers at the front of `out`, beside its numbers and answers, recorded at `at`.
 pub fn is_same_run(file: &[u8], at: usize, ran: Ran, out: &[u8]) -> bool
     requires at_in_bounds { at + 7 + short file.now (at + 5) ≤ length file.now }
@@ -59,7 +58,7 @@ pub fn is_same_column(words: &[u32], kind: u8, values: bool, length: usize, byte
     requires { length ≤ 65535 }
     ensures { result ≡ true → Sound words.now → SameColumn (meaning words.now) kind values length bytes.now }
 {
-    store::column_number(words, kind, values, 0, length) == 0
-        && store::column_number(words, kind, values, 0, length + 1) == BEYOND
+    store::column_number(words, kind, values, 0, length).is_none()
+        && store::column_number(words, kind, values, 0, length + 1) == Some(Refusal::Beyond)
         && are_same_words(store::column(words, kind, values, 0, length), bytes)
 }

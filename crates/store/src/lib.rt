@@ -2,9 +2,11 @@
 // 02. None asks anything of its caller; those of `held` do, and `roll_sound`. The crate `store_c` exports them to C.
 #![tactic(auto)]
 
+// C has run, column's entries and roll twice: the plain one asks nothing and tests the words, that of `held` (`roll_sound` for roll) asks that they are sound.
 pub mod held;
 
 ghost use Rattle.model.specs.Numbers.{VALUE_BYTES};
+ghost use Rattle.columns.specs.Refused.{refusal_number};
 ghost use Rattle.model.specs.Store.{told};
 ghost use Rattle.memory.specs.Arranged.{Sound};
 ghost use Rattle.store.specs.Entries.{Needs, Starts, StartsWith, Runs, ColumnNumbered, ColumnPart, Rolls};
@@ -12,10 +14,10 @@ ghost use Rattle.store.specs.Linked.{ColumnPlaced, ColumnCopied};
 
 use memory::empty;
 use memory::empty::within_limits;
-use model::refusals::{NOROOM, SHORT, SIZE, UNSOUND};
+use model::refusals::Refusal;
 use run::Ran;
 
-// What roll answers: 0 and how many bytes, or the number of a refusal and 0.
+// What roll answers: 0 and how many bytes, or the number of a refusal and 0. C gets it by value, so that it keeps C's layout and a number for the refusal.
 #[repr(C)]
 #[derive(Drop)]
 pub struct Rolled {
@@ -23,7 +25,7 @@ pub struct Rolled {
     pub written: usize,
 }
 
-// What other entries that write answer: 0 and how many words or bytes, or the number of a refusal and 0.
+// What other entries that write answer: 0 and how many words or bytes, or the number of a refusal and 0. C gets it by value, as it does Rolled.
 #[repr(C)]
 #[derive(Drop)]
 pub struct Reply {
@@ -60,10 +62,10 @@ pub fn start_with(words: &mut [u32], n: usize, k: usize, v: usize, newer: bool) 
     ensures { StartsWith (told n k v newer) words.old words.new result }
 {
     if !within_limits(n, k, v) {
-        return SIZE;
+        return u8::from(Refusal::Size);
     }
     if words.len() < model::words_needed(n, k, v) {
-        return SHORT;
+        return u8::from(Refusal::Short);
     }
     empty::make(words, n, k, v, newer);
     0
@@ -75,7 +77,7 @@ pub fn run(words: &mut [u32], tape: &[u8], out: &mut [u8]) -> Ran
 {
     if !soundness::is_sound(words) {
         return Ran {
-            stop: UNSOUND,
+            stop: u8::from(Refusal::Unsound),
             commands: 0,
             read: 0,
             written: 0,
@@ -84,12 +86,18 @@ pub fn run(words: &mut [u32], tape: &[u8], out: &mut [u8]) -> Ran
     run::run_sound(words, tape, out)
 }
 
-// Why column refuses, 0 where it does not.
-pub fn column_number(words: &[u32], kind: u8, values: bool, start: usize, end: usize) -> u8
-    ensures { ColumnNumbered words.now kind start end result }
+// Why column refuses, if it does.
+pub fn column_number(
+    words: &[u32],
+    kind: u8,
+    values: bool,
+    start: usize,
+    end: usize,
+) -> Option<Refusal>
+    ensures { ColumnNumbered words.now kind start end (refusal_number result) }
 {
     if !soundness::is_sound(words) {
-        return UNSOUND;
+        return Some(Refusal::Unsound);
     }
     columns::refusal(words, kind as usize, start, end)
 }
@@ -98,7 +106,7 @@ pub fn column_number(words: &[u32], kind: u8, values: bool, start: usize, end: u
 pub fn column(words: &[u32], kind: u8, values: bool, start: usize, end: usize) -> &[u32]
     ensures { ColumnPart words.entry result values kind start end }
 {
-    if column_number(words, kind, values, start, end) != 0 {
+    if column_number(words, kind, values, start, end).is_some() {
         return &words[0..0];
     }
     columns::rows(words, kind as usize, values, start, end)
@@ -127,7 +135,7 @@ pub fn copy_column(
 {
     if !soundness::is_sound(words) {
         return Reply {
-            number: UNSOUND,
+            number: u8::from(Refusal::Unsound),
             written: 0,
         };
     }
@@ -140,7 +148,7 @@ pub fn roll(words: &[u32], out: &mut [u8]) -> Rolled
 {
     if !soundness::is_sound(words) {
         return Rolled {
-            number: UNSOUND,
+            number: u8::from(Refusal::Unsound),
             written: 0,
         };
     }
@@ -154,7 +162,7 @@ pub fn roll_sound(words: &[u32], out: &mut [u8]) -> Rolled
 {
     if out.len() < snapshot::snapshot_length(words) {
         return Rolled {
-            number: NOROOM,
+            number: u8::from(Refusal::NoRoom),
             written: 0,
         };
     }

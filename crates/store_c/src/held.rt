@@ -13,13 +13,7 @@ pub extern "C" fn yirbarn_held_run(words: &mut [u32], tape: &[u8], out: &mut [u8
     requires { Sound words.old }
     ensures { Runs words.old words.new tape.now out.old out.new (as_ran result) }
 {
-    let ran = store::held::run(words, tape, out);
-    ExportedRan {
-        stop: ran.stop,
-        commands: ran.commands,
-        read: ran.read,
-        written: ran.written,
-    }
+    ExportedRan::from(store::held::run(words, tape, out))
 }
 
 #[unsafe(no_mangle)]
@@ -33,7 +27,7 @@ pub extern "C" fn yirbarn_held_column_number(
     requires { Sound words.now }
     ensures { ColumnNumbered words.now kind start end result }
 {
-    store::held::column_number(words, kind, values, start, end)
+    crate::number_of(store::held::column_number(words, kind, values, start, end))
 }
 
 #[unsafe(no_mangle)]

@@ -3,17 +3,22 @@
 // place in the words, and as a copy.
 #![tactic(auto)]
 
+// Two exports for each of run, column's entries and roll: the plain one asks nothing and tests the words, that of `held` asks that they are sound.
 pub mod held;
 
+ghost use Rattle.std.specs.Prelude.{◌≡◌};
 ghost use Rattle.model.specs.Numbers.{VALUE_BYTES};
+ghost use Rattle.columns.specs.Refused.{refusal_number};
 ghost use Rattle.model.specs.Store.{told};
 ghost use Rattle.store.specs.Entries.{Needs, Starts, StartsWith, Runs, ColumnNumbered, Rolls};
 ghost use Rattle.store.specs.Linked.{ColumnPlaced, ColumnCopied};
 ghost use Rattle.store_c.specs.Exported.{as_ran};
 
+use model::refusals::Refusal;
+use run::Ran;
 use store::{Reply, Rolled};
 
-// What run answers, with C's layout.
+// What run answers: C gets it by value, so that it has C's layout and a number for the refusal.
 #[repr(C)]
 #[derive(Drop)]
 pub struct ExportedRan {
@@ -21,6 +26,29 @@ pub struct ExportedRan {
     pub commands: usize,
     pub read: usize,
     pub written: usize,
+}
+
+impl From<Ran> for ExportedRan {
+    ghost from_gives = { λ ran exported. as_ran exported ≡ ran };
+
+    fn from(ran: Ran) -> ExportedRan {
+        ExportedRan {
+            stop: ran.stop,
+            commands: ran.commands,
+            read: ran.read,
+            written: ran.written,
+        }
+    }
+}
+
+// A refusal's number, 0 where there is none, as C is told it.
+fn number_of(refusal: Option<Refusal>) -> u8
+    ensures { result ≡ refusal_number refusal }
+{
+    match refusal {
+        Some(refusal) => u8::from(refusal),
+        None => 0,
+    }
 }
 
 #[unsafe(no_mangle)]
@@ -61,13 +89,7 @@ pub extern "C" fn yirbarn_start_with(
 pub extern "C" fn yirbarn_run(words: &mut [u32], tape: &[u8], out: &mut [u8]) -> ExportedRan
     ensures { Runs words.old words.new tape.now out.old out.new (as_ran result) }
 {
-    let ran = store::run(words, tape, out);
-    ExportedRan {
-        stop: ran.stop,
-        commands: ran.commands,
-        read: ran.read,
-        written: ran.written,
-    }
+    ExportedRan::from(store::run(words, tape, out))
 }
 
 #[unsafe(no_mangle)]
@@ -80,7 +102,7 @@ pub extern "C" fn yirbarn_column_number(
 ) -> u8
     ensures { ColumnNumbered words.now kind start end result }
 {
-    store::column_number(words, kind, values, start, end)
+    number_of(store::column_number(words, kind, values, start, end))
 }
 
 // Where the part that column hands back stands in the words.

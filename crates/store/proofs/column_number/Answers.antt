@@ -1,3 +1,4 @@
+use Rattle.columns.specs.Refused.{refusal_number}
 use Rattle.memory.specs.Arranged.{Sound}
 use Rattle.words.proofs.Decides.{granted, denied}
 use Rattle.store.proofs.Handing.{unsound_number, sound_number}
@@ -19,4 +20,4 @@ pub returns : goal.returns
 returns c =
     let a = c.args in
     let S : Sound a.words.now = granted {P = Sound a.words.now} c.is_sound.result c.is_sound.ensures (not_from_true _ c.if-not-is_sound.false) in
-    sound_number a.words.now a.kind a.start a.end c.refusal.result S c.refusal.ensures
+    sound_number a.words.now a.kind a.start a.end (refusal_number c.refusal.result) S c.refusal.ensures

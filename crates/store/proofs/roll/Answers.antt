@@ -7,7 +7,7 @@ use Rattle.store.proofs.roll.Goals as goal
 pub returns-then-not-is_sound : goal.returns-then-not-is_sound
 returns-then-not-is_sound c =
     let a = c.args in
-    refused_roll a.words.now a.out.now (denied {P = Sound a.words.now} c.is_sound.result c.is_sound.ensures (not_from_false _ c.if-not-is_sound.true))
+    rw c.from.ensures (refused_roll a.words.now a.out.now (denied {P = Sound a.words.now} c.is_sound.result c.is_sound.ensures (not_from_false _ c.if-not-is_sound.true)))
 
 pub roll_sound-requires : goal.roll_sound-requires
 roll_sound-requires c = granted {P = Sound c.args.words.now} c.is_sound.result c.is_sound.ensures (not_from_true _ c.if-not-is_sound.false)

@@ -7,7 +7,7 @@ snapshot_length-requires c = c.requires
 
 pub returns-then-out-snapshot_length : goal.returns-then-out-snapshot_length
 returns-then-out-snapshot_length c =
-    short_roll c.args.words.now c.args.out.now c.requires (omega (arith, c.snapshot_length.ensures, c.if-out-snapshot_length.true))
+    rw c.from.ensures (short_roll c.args.words.now c.args.out.now c.requires (omega (arith, c.snapshot_length.ensures, c.if-out-snapshot_length.true)))
 
 pub write_snapshot-written-requires : goal.write_snapshot-written-requires
 write_snapshot-written-requires c = record { arranged = c.requires.arranged; room = omega (arith, c.snapshot_length.ensures, c.if-out-snapshot_length.false) }

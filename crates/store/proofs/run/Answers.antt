@@ -9,7 +9,7 @@ use Rattle.store.proofs.run.Goals as goal
 pub returns-then-not-is_sound : goal.returns-then-not-is_sound
 returns-then-not-is_sound c =
     let a = c.args in
-    refused_run a.words.now a.tape.now a.out.now (denied {P = Sound a.words.now} c.is_sound.result c.is_sound.ensures (not_from_false _ c.if-not-is_sound.true)) (bytes_all a.tape.now (λ j. omega (arith, c.type_inv.tape j)))
+    rw c.from.ensures (refused_run a.words.now a.tape.now a.out.now (denied {P = Sound a.words.now} c.is_sound.result c.is_sound.ensures (not_from_false _ c.if-not-is_sound.true)) (bytes_all a.tape.now (λ j. omega (arith, c.type_inv.tape j))))
 
 pub run_sound-requires : goal.run_sound-requires
 run_sound-requires c =

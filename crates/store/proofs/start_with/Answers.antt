@@ -12,7 +12,7 @@ use Rattle.store.proofs.start_with.Goals as goal
 pub returns-then-not-within_limits : goal.returns-then-not-within_limits
 returns-then-not-within_limits c =
     let a = c.args in
-    refused_start (told a.n a.k a.v a.newer) 1 a.words.now (start_size (told a.n a.k a.v a.newer) (length a.words.now) (denied {P = Limits a.n a.k a.v} c.within_limits.result c.within_limits.ensures (not_from_false _ c.if-not-within_limits.true)))
+    rw c.from.ensures (refused_start (told a.n a.k a.v a.newer) 1 a.words.now (start_size (told a.n a.k a.v a.newer) (length a.words.now) (denied {P = Limits a.n a.k a.v} c.within_limits.result c.within_limits.ensures (not_from_false _ c.if-not-within_limits.true))))
 
 pub words_needed-requires : goal.words_needed-requires
 words_needed-requires c =
@@ -24,7 +24,7 @@ pub returns-then-words-words_needed : goal.returns-then-words-words_needed
 returns-then-words-words_needed c =
     let a = c.args in
     let l : Limits a.n a.k a.v = granted {P = Limits a.n a.k a.v} c.within_limits.result c.within_limits.ensures (not_from_true _ c.if-not-within_limits.false) in
-    refused_start (told a.n a.k a.v a.newer) 2 a.words.now (start_short (told a.n a.k a.v a.newer) (length a.words.now) l (omega (arith, c.words_needed.ensures, c.if-words-words_needed.true)))
+    rw c.from-then-words-words_needed.ensures (refused_start (told a.n a.k a.v a.newer) 2 a.words.now (start_short (told a.n a.k a.v a.newer) (length a.words.now) l (omega (arith, c.words_needed.ensures, c.if-words-words_needed.true))))
 
 pub make-requires : goal.make-requires
 make-requires c =

@@ -1,3 +1,4 @@
+use Rattle.columns.specs.Refused.{refusal_number}
 use Rattle.store.proofs.Handing.{sound_number}
 use Rattle.store.proofs.held.column_number.Goals as goal
 
@@ -7,4 +8,4 @@ refusal-requires c = c.requires.arranged
 pub returns : goal.returns
 returns c =
     let a = c.args in
-    sound_number a.words.now a.kind a.start a.end c.refusal.result c.requires c.refusal.ensures
+    sound_number a.words.now a.kind a.start a.end (refusal_number c.refusal.result) c.requires c.refusal.ensures
