@@ -2,7 +2,7 @@
 // 02. None asks anything of its caller; those of `held` do, and `roll_sound`. The crate `store_c` exports them to C.
 #![tactic(auto)]
 
-// C has run, column's entries and roll twice: the plain one asks nothing and tests the words, that of `held` (`roll_sound` for roll) asks that they are sound.
+// Two exports to C for each of run, column and roll: the plain one asks nothing and tests, that of `held` (or `roll_sound`) asks that the words are sound.
 pub mod held;
 
 ghost use Rattle.model.specs.Numbers.{VALUE_BYTES};
