@@ -47,22 +47,22 @@ impl From<Refusal> for u8 {
 
     fn from(refusal: Refusal) -> u8 {
         match refusal {
-            Refusal::Size => 1,
-            Refusal::Short => 2,
-            Refusal::Unsound => 3,
-            Refusal::Unknown => 4,
-            Refusal::Cut => 5,
-            Refusal::NoRoom => 6,
-            Refusal::Kind => 7,
-            Refusal::Kinds => 8,
-            Refusal::Again => 9,
-            Refusal::Handful => 10,
-            Refusal::Dead => 11,
-            Refusal::Full => 12,
-            Refusal::Clash => 14,
-            Refusal::Many => 15,
-            Refusal::Beyond => 16,
-            Refusal::Caller => 19,
+            Refusal::Size => SIZE,
+            Refusal::Short => SHORT,
+            Refusal::Unsound => UNSOUND,
+            Refusal::Unknown => UNKNOWN,
+            Refusal::Cut => CUT,
+            Refusal::NoRoom => NOROOM,
+            Refusal::Kind => KIND,
+            Refusal::Kinds => KINDS,
+            Refusal::Again => AGAIN,
+            Refusal::Handful => HANDFUL,
+            Refusal::Dead => DEAD,
+            Refusal::Full => FULL,
+            Refusal::Clash => CLASH,
+            Refusal::Many => MANY,
+            Refusal::Beyond => BEYOND,
+            Refusal::Caller => CALLER,
         }
     }
 }
