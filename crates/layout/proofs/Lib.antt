@@ -1,5 +1,6 @@
 pub mod Propositions
 pub mod KindSets
+pub mod Append
 pub mod Raising
 pub mod Family
 pub mod Fits

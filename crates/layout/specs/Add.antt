@@ -13,12 +13,13 @@ use Rattle.layout.specs.declared.group_layout.Fit.TheVariants.{Fresh}
 use Rattle.layout.specs.declared.group_layout.Layout.{Layout}
 use Rattle.layout.specs.declared.group_layout.Answer.{Answer}
 
--- the number of the refusal, 0 where the command is accepted
+-- the number of the refusal (01: CLASH, MANY), 0 where the command is accepted
 abbrev pub refusal_of : Result Bool Refusal → ℕ
 refusal_of (Ok told) = 0
 refusal_of (Err refusal) = refusal_code refusal
 
--- The outcome with the families after it, as the model answers: GROUP's byte is 0 for `nothing` and 1 for `added`, and a refusal has its number
+-- 01: "a definition gives this paper's number and values for each of the enum's cases". The outcome with the families after it, as the model answers: GROUP's
+-- byte is 0 for `nothing` and 1 for `added`, and a refusal has its number
 abbrev pub model_of : Result Bool Refusal → List Family → Added
 model_of (Ok false) fs = nothing
 model_of (Ok true) fs = added fs

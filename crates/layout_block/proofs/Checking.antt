@@ -15,7 +15,7 @@ use Rattle.model.proofs.ListLaws.{count_next, drop_step}
 use Rattle.words.specs.Decides.{Decides}
 use Rattle.words.specs.Part.{between}
 use Rattle.model.proofs.BoolLaws.{by-eq}
-use Rattle.layout.specs.Layout.{Arrays, arrays_in, start_of, AritiesRising, FamilyFormed}
+use Rattle.layout.specs.Layout.{Arrays, arrays_in, block_arrays, start_of, AritiesRising, FamilyFormed, WellFormed}
 use Rattle.layout.proofs.Family.{rising_head}
 use Rattle.layout.proofs.Arrays.{end_inside}
 use Rattle.layout_block.specs.Checks.{BlockSound, KindsOk, FamilyInside, FamiliesFormed}
@@ -133,6 +133,14 @@ pub seen_before : (seen : Bool) (n : ℕ) → seen ≡ true → one seen ≡ n �
 seen_before seen n e m = sym m ∙ ap one e
 
 -- ---- the whole block
+
+pub families_of_law : (w : List ℕ) (n : ℕ) → WellFormed (block_arrays w n) → FamiliesFormed (arrays_in [] (between ARITIES KIND_ENDS w) (between KIND_ENDS ENDS w) (between ENDS BLOCK_LEN w) n)
+families_of_law w n good =
+    record {
+      wide = good.wide;
+      many = good.many;
+      family = λ f h. let x = good.family f h in record { least = x.least; most = x.most; some = x.some; rising = x.rising };
+    }
 
 kinds_front : (w : List ℕ) (n m : ℕ) → n ≤ MAX_KINDS → n ≡ m → take m (between 0 ARITIES w) ≡ take n w
 kinds_front w n m h e = ap (λ (k : ℕ). take k (between 0 ARITIES w)) (sym e) ∙ take-take n MAX_KINDS w h

@@ -4,7 +4,7 @@ use mathlib.Core.Bool.{Bool, true, false, cond, false≢true, ◌&&◌, or-true,
 use mathlib.Core.List.{List, [], ◌∷◌, ◌++◌, append-nil}
 use Prim.Native.Nat.{ℕ, zero, suc, ◌+◌, ◌≤◌, ◌<◌, zero-le}
 use native.Mathlib.Omega.{arith}
-use borrow.Author.Tests.{eqb-true, eq-eqb, leb-true}
+use borrow.Author.Tests.{eqb-true, eq-eqb, ne_eqb, leb-true}
 use lib.Dec.{eqb, leb}
 use lib.ListN.{length, get_or, take, drop, set, take-append-drop, length-append}
 use lib.Seq.{drop-cons, take-take, drop-length}
@@ -329,6 +329,12 @@ pub differ_right : (ks js : List ℕ) (k : ℕ) → In js k → mem k ks ≡ fal
 differ_right ks js k i n = not_true (same_set ks js) (λ t. true≢false (sym (same_from ks js t k i) ∙ n))
 
 -- ---- a turn of a loop over a slice: what is left is `drop i l`
+
+pub mem_hit : (x : ℕ) (l : List ℕ) (i : ℕ) → i < length l → x ≡ get_or l i 0 → mem x (drop i l) ≡ true
+mem_hit x l i h e = rw (drop_step l i 0 h, eq-eqb x (get_or l i 0) e)
+
+pub mem_miss : (x : ℕ) (l : List ℕ) (i : ℕ) → i < length l → (x ≡ get_or l i 0 → ⊥) → mem x (drop i l) ≡ mem x (drop (i + 1) l)
+mem_miss x l i h e = rw (drop_step l i 0 h, ne_eqb x (get_or l i 0) e)
 
 pub all_hit : (p : ℕ → Bool) (l : List ℕ) (i : ℕ) → i < length l → p (get_or l i 0) ≡ true → all_of p (drop i l) ≡ all_of p (drop (i + 1) l)
 all_hit p l i h e = rw (drop_step l i 0 h, e)

@@ -5,7 +5,7 @@ use mathlib.Core.List.{[], ◌∷◌, ◌++◌}
 use Prim.Native.Nat.{ℕ}
 use lib.Dec.{leb, ltb}
 use lib.ListN.{length}
-use Rattle.model.specs.Numbers.{CALLER, DEAD, FULL, KIND, KINDS, LAST_CALLER, LAST_KIND, LIST_CAPACITY, MAX_GROUP_ARITY, MAX_GROUP_COUNT}
+use Rattle.model.specs.Numbers.{AGAIN, CALLER, DEAD, FULL, HANDFUL, KIND, KINDS, LAST_CALLER, LAST_KIND, LIST_CAPACITY, MAX_GROUP_ARITY, MAX_GROUP_COUNT}
 use Rattle.model.specs.Model.{Entity, mem, is_full, free_numbers, is_live, groups_of, adds_nothing, joins, destroy, insert_components, remove}
 use Rattle.model.specs.Adding.{add_group}
 use Rattle.model.specs.Store.{Store, bytes_of, staged_kinds, is_kind, with_control, with_storage, with_all, with_kinds, with_staged, with_excluded, with_caller, own_refusals, empty_staged, empty_both}
@@ -36,11 +36,35 @@ module _ (s : Store) where
 
   -- ---- HOLD
 
+  pub hold_unknown : (k v : ℕ) → unknown_kind k s ≡ true → does (HOLD k v) s ≡ refuses KIND
+  unfolding does lines_of
+  hold_unknown k v h = rw h
+
+  pub hold_again : (k v : ℕ) → unknown_kind k s ≡ false → mem k (staged_kinds s) ≡ true → does (HOLD k v) s ≡ refuses AGAIN
+  unfolding does lines_of
+  hold_again k v h i = rw (h, i)
+
+  pub hold_full : (k v : ℕ) → unknown_kind k s ≡ false → mem k (staged_kinds s) ≡ false → leb LIST_CAPACITY (length s.control.staged) ≡ true → does (HOLD k v) s ≡ refuses HANDFUL
+  unfolding does lines_of
+  hold_full k v h i j = rw (h, i, j)
+
   pub hold_staged : (k v : ℕ) → unknown_kind k s ≡ false → mem k (staged_kinds s) ≡ false → leb LIST_CAPACITY (length s.control.staged) ≡ false → does (HOLD k v) s ≡ accepts (with_control s (with_staged s.control (s.control.staged ++ (record { kind = k; value = v } ∷ [])))) []
   unfolding does lines_of accepted
   hold_staged k v h i j = rw (h, i, j)
 
   -- ---- BAR
+
+  pub bar_unknown : (k : ℕ) → unknown_kind k s ≡ true → does (BAR k) s ≡ refuses KIND
+  unfolding does lines_of
+  bar_unknown k h = rw h
+
+  pub bar_again : (k : ℕ) → unknown_kind k s ≡ false → mem k s.control.excluded ≡ true → does (BAR k) s ≡ refuses AGAIN
+  unfolding does lines_of
+  bar_again k h i = rw (h, i)
+
+  pub bar_full : (k : ℕ) → unknown_kind k s ≡ false → mem k s.control.excluded ≡ false → leb LIST_CAPACITY (length s.control.excluded) ≡ true → does (BAR k) s ≡ refuses HANDFUL
+  unfolding does lines_of
+  bar_full k h i j = rw (h, i, j)
 
   pub bar_excluded : (k : ℕ) → unknown_kind k s ≡ false → mem k s.control.excluded ≡ false → leb LIST_CAPACITY (length s.control.excluded) ≡ false → does (BAR k) s ≡ accepts (with_control s (with_excluded s.control (s.control.excluded ++ (k ∷ [])))) []
   unfolding does lines_of accepted

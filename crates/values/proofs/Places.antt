@@ -7,7 +7,7 @@ use native.Mathlib.Omega.{arith}
 use native.Mathlib.Decide.{dec_lt}
 use lib.ListN.{length, get_or, set, take, drop, length-take, length-drop}
 use lib.Seq.{sets, sets-eq, take_at, drop_at, length-take-le, take-set-le, drop-set-lt, get_or-set_other, get_or-take, get_or-drop, ext_get_or}
-use Rattle.model.proofs.ListLaws.{drop_later}
+use Rattle.model.proofs.ListLaws.{set_before, drop_later}
 use Rattle.words.specs.declared.Shape.{Shape}
 use Rattle.words.specs.Offsets.{ROWS}
 use Rattle.words.specs.Shape.{value_place, column_len}
@@ -61,6 +61,12 @@ run_same w w' p d e f =
     let b : i < d = omega (arith, length-take d (drop p w')) in
     get_or-take d (drop p w') i 0 b ∙ get_or-drop p w' i 0 ∙ f (p + i) (omega arith) (omega arith) ∙ sym (get_or-drop p w i 0) ∙ sym (get_or-take d (drop p w) i 0 b))
 
+-- stores before a run are as well done first
+pub stores_run : (w : List ℕ) (ss : List (ℕ × ℕ)) (xs : List ℕ) (k p : ℕ) → k ≤ p → StoresBelow k ss → stores (sets w p xs) ss ≡ sets (stores w ss) p xs
+stores_run w [] xs k p h b = refl
+stores_run w (s ∷ ss) xs k p h b =
+    ap (λ (l : List ℕ). stores l ss) (set_before xs w s.0 p s.1 (omega arith)) ∙ stores_run (set w s.0 s.1) ss xs k p h b.1
+
 -- ---- in a column
 
 module _ (z : Shape) where
@@ -83,6 +89,10 @@ module _ (z : Shape) where
     -- the head, the entities and the lookups
     pub links_miss : (q : ℕ) → q < ROWS + 4 * z.capacity → get_or (sets w (value_place z i) xs) q 0 ≡ get_or w q 0
     links_miss q h = word_before xs w (value_place z i) q (omega arith)
+
+    -- stores there are as well done first
+    pub stores_put : (ss : List (ℕ × ℕ)) → StoresBelow (ROWS + 4 * z.capacity) ss → stores (sets w (value_place z i) xs) ss ≡ sets (stores w ss) (value_place z i) xs
+    stores_put ss b = stores_run w ss xs (ROWS + 4 * z.capacity) (value_place z i) (omega arith) b
 
   module _ (w w' : List ℕ) (i : ℕ) where
     -- the values of lists that agree from the values on

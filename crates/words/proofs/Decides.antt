@@ -2,6 +2,8 @@
 use mathlib.Core.Bool.{Bool, true, false, not, false≢true}
 use mathlib.Core.Path.{◌≡◌, refl, sym, subst, ◌∙◌}
 use borrow.Author.Tests.{not-true, not-false}
+use mathlib.Core.List.{List}
+use Prim.Native.Nat.{ℕ}
 use mathlib.Core.Logic.{◌↔◌}
 use Rattle.words.specs.Decides.{Decides}
 
@@ -24,6 +26,11 @@ pub decides_true : {P : Type 0} (b : Bool) → Decides b P → P → b ≡ true
 decides_true true d p = refl
 decides_true false d p = absurd (d p)
 
+-- a test that is true exactly if two lists are the same decides what comes to the same
+pub decides_equal : (P : Type 0) (x y : List ℕ) (b : Bool) → (b ≡ true → x ≡ y) × (x ≡ y → b ≡ true) → (x ≡ y → P) → (P → x ≡ y) → Decides b P
+decides_equal P x y true h to from = to (h.0 refl)
+decides_equal P x y false h to from = λ p. false≢true (h.1 (from p))
+
 pub decides_same : {P Q : Type 0} (b c : Bool) → Decides b P → Decides c Q → P ↔ Q → b ≡ c
 decides_same true true p q e = refl
 decides_same true false p q e = absurd (q (e.0 p))
@@ -34,6 +41,11 @@ decides_same false false p q e = refl
 pub decides_on : {P Q : Type 0} (b : Bool) → P ↔ Q → Decides b P → Decides b Q
 decides_on true e d = e.0 d
 decides_on false e d = λ q. d (e.1 q)
+
+-- a check whose answer is a test's decides that the test is true
+pub decides_test : (b t : Bool) → b ≡ t → Decides b (t ≡ true)
+decides_test true t e = sym e
+decides_test false t e = λ h. false≢true (e ∙ h)
 
 -- where a part of it does not hold, the whole does not
 pub decides_less : (P Q : Type 0) (b : Bool) → Decides b P → b ≡ false → (Q → P) → Decides b Q

@@ -6,4 +6,5 @@ pub mod Pigeon
 pub mod Counted
 pub mod Offsets
 pub mod Decides
+pub mod Passes
 pub mod Asked
