@@ -8,7 +8,8 @@ ghost use Rattle.memory.specs.Meaning.{meaning};
 ghost use Rattle.memory.specs.Arranged.{Arranged, Becomes};
 ghost use Rattle.control.specs.Entities.{Capacity, PartLent, Creates};
 
-use entity::{EntityPart, in_words};
+use entity::entity_part::EntityPart;
+use entity::in_words;
 use words::{CAPACITY, ENTITIES, Entity, Found};
 
 // How many entities there is room for.

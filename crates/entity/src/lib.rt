@@ -7,5 +7,3 @@ pub mod entity_part;
 pub mod entity_sparse_set;
 pub mod entity_storage;
 pub mod in_words;
-
-pub use entity_part::EntityPart;

@@ -5,7 +5,7 @@ ghost use Rattle.sound_columns.specs.Slots.{Slot, Room};
 ghost use Rattle.sound_columns.specs.Rows.{ColumnOk};
 
 use crate::sparse_set::Column;
-use entity::EntityPart;
+use entity::entity_part::EntityPart;
 use words::Shape;
 
 // A slot that no kind has is empty.

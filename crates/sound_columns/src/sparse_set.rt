@@ -4,7 +4,7 @@ ghost use Rattle.component.specs.Stored.{ColumnSized};
 ghost use Rattle.words.specs.Decides.{Decides, Each};
 ghost use Rattle.sound_columns.specs.Checks.{RowTied, RowOk, LiveSet};
 
-use entity::EntityPart;
+use entity::entity_part::EntityPart;
 use words::{Entity, Shape};
 
 // Words of a column's length, whatever they hold, and the entities that its rows may have.
