@@ -17,8 +17,10 @@ use words::VALUE_WIDTH;
 
 // How many bytes there are up to the last command's.
 const BYTES: usize = LAST_COMMAND as usize + 1;
-// Operand bytes by command byte; HOLD has a value's beside them.
-const WIDTHS: [u8; BYTES] = [0, 1, 1, 0, 8, 8, 8, 8, 0, 0, 0, 1, 0, 0, 0, 2, 1];
+// Operand bytes by command byte, where a value has 8 bytes, and where it has 16: const arrays, by a rule of the project.
+const WIDTHS: [u8; BYTES] = [0, 1, 9, 0, 8, 8, 8, 8, 0, 0, 0, 1, 0, 0, 0, 2, 1];
+
+const LONG_WIDTHS: [u8; BYTES] = [0, 1, 17, 0, 8, 8, 8, 8, 0, 0, 0, 1, 0, 0, 0, 2, 1];
 // Bytes of the accepted answer by command byte. TAKE has one more, and a value's, for each staged component.
 const ANSWERS: [u8; BYTES] = [5, 2, 1, 9, 1, 1, 1, 1, 1, 2, 1, 1, 10, 1, 5, 3, 1];
 
@@ -43,9 +45,10 @@ fn widths_of(words: &[u32]) -> [u8; BYTES]
     requires { Arranged words.now }
     ensures { result ≡ widths (meaning words.now).settings.value_bytes }
 {
-    let mut lengths = WIDTHS;
-    lengths[u8::from(Command::Hold) as usize] += words[VALUE_WIDTH] as u8;
-    lengths
+    if words[VALUE_WIDTH] as usize == model::LONG_VALUE_BYTES {
+        return LONG_WIDTHS;
+    }
+    WIDTHS
 }
 
 fn operand_bytes(lengths: &[u8; BYTES], command: Command) -> usize
