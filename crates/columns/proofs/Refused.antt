@@ -1,11 +1,12 @@
 -- The number of a refusal, and of none. Assumes nothing.
-use mathlib.Core.Path.{◌≡◌, refl}
+use mathlib.Core.Path.{◌≡◌, refl, ap}
 use mathlib.Core.Bool.{true, false}
 use Prim.Native.Nat.{ℕ, ◌≤◌}
 use native.Mathlib.Omega.{arith}
 use Rattle.std.specs.Prelude as std
 use Rattle.columns.specs.Refused.{refusal_number}
 use Rattle.model.specs.Codes.{refusal_code}
+use Rattle.model.proofs.Codes.{code_injective}
 use Rattle.model.specs.declared.refusals.Refusal.{Refusal}
 use Rattle.model.specs.declared.refusals.Refusal.TheVariants as refusals
 
@@ -37,3 +38,10 @@ some_refused (std.Some e) q = λ z. omega (arith, z, code_least e)
 pub none_accepted : (r : std.Option Refusal) → std.is_some r ≡ false → refusal_number r ≡ 0
 none_accepted std.None q = refl
 none_accepted (std.Some e) q = let z : ◌≡◌ {A = ℕ} 0 1 = cc in absurd (omega arith)
+
+-- the number says whether there is a refusal, and which
+pub number_injective : (r q : std.Option Refusal) → refusal_number r ≡ refusal_number q → r ≡ q
+number_injective std.None std.None e = refl
+number_injective std.None (std.Some q) e = absurd (omega (arith, e, code_least q))
+number_injective (std.Some r) std.None e = absurd (omega (arith, e, code_least r))
+number_injective (std.Some r) (std.Some q) e = ap std.Some (code_injective r q e)

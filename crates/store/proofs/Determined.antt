@@ -11,6 +11,8 @@ use lib.ListN.{length, take, drop}
 use lib.Seq.{take_at}
 use denote.Ref.{Bor}
 use Rattle.model.specs.Store.{Settings, Store}
+use Rattle.std.specs.Prelude as std
+use Rattle.model.specs.declared.refusals.Refusal.{Refusal}
 use Rattle.model.specs.Refusals.{number_of}
 use Rattle.model.specs.Entries.{Started, refuses_start, makes, start_with, column_refusal, Emitted, roll}
 use Rattle.model.specs.Sound.{Limits}
@@ -26,6 +28,8 @@ use Rattle.store.specs.declared.Rolled.{Rolled}
 use Rattle.store.specs.declared.Reply.{Reply}
 use Rattle.store.specs.Entries.{Needs, start_number, StartLeaves, StartsWith, column_refused, ColumnNumbered, column_words, part_place, ColumnPart, ran_of, Answered, RunLeaves, Runs, emitted_over, EmitsOver, Rolls}
 use Rattle.store.specs.Linked.{ColumnPlaced, copy_told, copied, ColumnCopied}
+use Rattle.columns.specs.Refused.{refusal_number}
+use Rattle.columns.proofs.Refused.{number_injective}
 use Rattle.columns.proofs.Columns.{row_alike}
 use Rattle.store.proofs.Starting.{start_number_law}
 use Rattle.model.specs.Run as model
@@ -60,6 +64,11 @@ pub column_number_determined : (w v : List ℕ) (k a e r q : ℕ) → Alike w v 
 column_number_determined w v k a e r q A R Q =
     let b : R.sound ≡ Q.sound = decides_same R.sound Q.sound R.decides Q.decides A.sound in
     R.number ∙ (λ i. number_of (column_refused (b i) k a e (A.means i))) ∙ sym Q.number
+
+-- of the entries of `store`, which answer the refusal itself
+pub column_refusal_determined : (w v : List ℕ) (k a e : ℕ) (r q : std.Option Refusal) → Alike w v → ColumnNumbered w k a e (refusal_number r) → ColumnNumbered v k a e (refusal_number q) → r ≡ q
+column_refusal_determined w v k a e r q A R Q =
+    number_injective r q (column_number_determined w v k a e (refusal_number r) (refusal_number q) A R Q)
 
 -- the same words, and of one store the same part of it
 pub column_determined : (u v r q : Bor (List ℕ)) (values : Bool) (k a e : ℕ) → Alike u.now v.now → ColumnPart u r values k a e → ColumnPart v q values k a e → r.now ≡ q.now
