@@ -39,7 +39,9 @@ pub fn view_of(words: &[u32], kind: usize) -> ViewGroupInfo
     ViewGroupInfo { info, len }
 }
 
-// The query with one kind more.
+// The query with one kind more. It comes into the loop of each list: as a call of its own it hands each query over in
+// memory, and a RANGE of sixteen kinds took 1.6 times as long.
+#[inline(always)]
 fn add_kind(words: &[u32], found: Option<QueryGroupInfo>, kind: usize) -> Option<QueryGroupInfo>
     requires arranged { Arranged words.now }
     requires kind_known { In (meaning words.now).kinds kind }

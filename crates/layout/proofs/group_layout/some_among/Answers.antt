@@ -1,9 +1,0 @@
-use Rattle.std.proofs.Common.{◌∙◌, rules, tests}
-use Rattle.std.proofs.lemmas.Iterator.{YieldsList-from_slice}
-use Rattle.std.proofs.lemmas.Iterator.Search.{any_from_yields_List}
-use Rattle.model.specs.Model.{mem}
-use Rattle.model.proofs.Members.{any_is_any_of}
-use Rattle.layout.proofs.group_layout.some_among.Goals as goal
-
-pub returns : goal.returns
-returns c = any_from_yields_List (λ k. mem k c.args.js.now) _ _ _ c.any.ensures.ran (YieldsList-from_slice c.args.ks.now cc) (λ x b q k. search (rules, tests)) ∙ any_is_any_of (λ k. mem k c.args.js.now) c.args.ks.now
